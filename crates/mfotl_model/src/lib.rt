@@ -1,0 +1,23 @@
+//! Metric first-order temporal logic on logs of events: its types, and what a formula means, which
+//! the readers, the evaluators and the monitor above name in their contracts.
+#![tactic(auto)]
+
+mod event;
+mod formula;
+mod interval;
+mod partial;
+mod policy;
+mod row;
+mod term;
+mod text;
+mod value;
+
+pub use event::{Db, Event, TimePoint};
+pub use formula::{Bound, Formula};
+pub use interval::Interval;
+pub use partial::Partial;
+pub use policy::{Policy, Sort, Var, Vars};
+pub use row::{Row, RowList};
+pub use term::{Atom, Comparison, Sign, Term, Terms};
+pub use text::{Name, Text};
+pub use value::Value;

@@ -1,0 +1,117 @@
+//! Terms, and the formulas that hold or fail at one time-point alone.
+ghost use Rattle.std.specs.Prelude.{◌≡◌, IfOk};
+
+use crate::value::Value;
+use std::alloc::{AllocError, Global};
+use std::marker::Model;
+
+/// A variable, by its number, or a constant.
+#[derive(Debug, Drop)]
+pub enum Term {
+    Var(u32),
+    Const(Value),
+}
+
+impl Term {
+    pub fn copy(&self, alloc: Global) -> Result<Self, AllocError>
+        ensures { IfOk result (λ term. term ≡ self.now) }
+    {
+        match self {
+            Term::Var(number) => Ok(Term::Var(*number)),
+            Term::Const(value) => Ok(Term::Const(value.copy(alloc)?)),
+        }
+    }
+}
+
+/// The arguments of an atom, in order.
+#[derive(Debug, Drop)]
+pub struct Terms {
+    items: Vec<Term>,
+}
+
+impl Model for Terms {
+    ghost use Rattle.std.specs.Prelude.{List};
+    ghost use Rattle.mfotl_model.specs.declared.term.Term.{Term};
+
+    ghost Value = { List Term };
+
+    ghost view = { λ t. t.items.items };
+}
+
+impl Terms {
+    pub fn new(terms: Vec<Term>) -> Self
+        ensures { result ≡ terms.items }
+    {
+        Terms { items: terms }
+    }
+
+    pub fn as_slice(&self) -> &[Term]
+        ensures { result.now ≡ self.now }
+    {
+        self.items.as_slice()
+    }
+
+    pub fn into_vec(self) -> Vec<Term>
+        ensures { result.items ≡ self }
+    {
+        self.items
+    }
+
+    pub fn copy(&self, alloc: Global) -> Result<Self, AllocError>
+        ensures { IfOk result (λ terms. terms ≡ self.now) }
+    {
+        let mut items = Vec::with_capacity(alloc, self.items.len())?;
+        for term in self.as_slice() {
+            items.push(term.copy(alloc)?)?;
+        }
+        Ok(Terms { items })
+    }
+}
+
+/// A predicate, by its number, at arguments.
+#[derive(Debug, Drop)]
+pub struct Atom {
+    pub pred: u32,
+    pub args: Terms,
+}
+
+impl Atom {
+    pub fn copy(&self, alloc: Global) -> Result<Self, AllocError>
+        ensures { IfOk result (λ atom. atom ≡ self.now) }
+    {
+        Ok(Atom {
+            pred: self.pred,
+            args: self.args.copy(alloc)?,
+        })
+    }
+}
+
+/// How two values compare.
+#[derive(Clone, Copy, Debug, PartialEq, Eq)]
+pub enum Sign {
+    Equal,
+    Less,
+    LessEqual,
+    Greater,
+    GreaterEqual,
+}
+
+/// A comparison of two terms.
+#[derive(Debug, Drop)]
+pub struct Comparison {
+    pub sign: Sign,
+    pub left: Term,
+    pub right: Term,
+}
+
+impl Comparison {
+    pub fn copy(&self, alloc: Global) -> Result<Self, AllocError>
+        ensures { IfOk result (λ comparison. comparison ≡ self.now) }
+    {
+        Ok(Comparison {
+            sign: self.sign,
+            left: self.left.copy(alloc)?,
+            right: self.right.copy(alloc)?,
+        })
+    }
+}

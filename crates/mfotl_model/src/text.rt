@@ -1,0 +1,98 @@
+//! Texts and names.
+ghost use Rattle.std.specs.Prelude.{◌≡◌, IfOk, length, refl};
+ghost use Rattle.std.specs.Cmp.{eq_by_cmp_equiv, partial_equiv_from_equiv, partial_order_from_agreeing_total};
+ghost use Rattle.std.specs.Ordering.{as_partial_cmp, eq_by_cmp};
+ghost use Rattle.mfotl_model.specs.Values.{text_cmp, text_total};
+
+use std::alloc::{AllocError, Global};
+use std::cmp::Ordering;
+use std::marker::Model;
+
+/// A text of a log or a policy: its bytes, without quotes.
+#[derive(Debug, Drop)]
+pub struct Text {
+    bytes: Vec<u8>,
+}
+
+/// The name of a predicate or of a variable.
+pub type Name = Text;
+
+impl Model for Text {
+    ghost use Rattle.std.specs.Prelude.{List, ℕ};
+
+    ghost Value = { List ℕ };
+
+    ghost view = { λ t. t.bytes.items };
+}
+
+impl Text {
+    pub fn new(bytes: Vec<u8>) -> Self
+        ensures { result ≡ bytes.items }
+    {
+        Text { bytes }
+    }
+
+    pub fn from_slice(bytes: &[u8], alloc: Global) -> Result<Self, AllocError>
+        ensures { IfOk result (λ text. text ≡ bytes.now) }
+    {
+        Ok(Text {
+            bytes: Vec::from_slice(alloc, bytes)?,
+        })
+    }
+
+    pub fn as_bytes(&self) -> &[u8]
+        ensures { result.now ≡ self.now }
+    {
+        self.bytes.as_slice()
+    }
+
+    pub fn into_vec(self) -> Vec<u8>
+        ensures { result.items ≡ self }
+    {
+        self.bytes
+    }
+
+    pub fn copy(&self, alloc: Global) -> Result<Self, AllocError>
+        ensures { IfOk result (λ text. text ≡ self.now) }
+    {
+        Text::from_slice(self.as_bytes(), alloc)
+    }
+}
+
+impl PartialEq for Text {
+    ghost eq = { eq_by_cmp text_cmp };
+
+    ghost laws = { partial_equiv_from_equiv (eq_by_cmp_equiv text_total) };
+
+    fn eq(&self, other: &Text) -> bool {
+        self.cmp(other).is_eq()
+    }
+}
+
+impl Eq for Text {
+    ghost laws = { eq_by_cmp_equiv text_total };
+}
+
+impl PartialOrd for Text {
+    ghost partial_cmp = { as_partial_cmp text_cmp };
+
+    ghost laws = { partial_order_from_agreeing_total text_cmp text_total (λ x y. refl) (λ x y. refl) };
+
+    fn partial_cmp(&self, other: &Text) -> Option<Ordering> {
+        Some(self.cmp(other))
+    }
+}
+
+impl Ord for Text {
+    ghost cmp = { text_cmp };
+
+    ghost total = { text_total };
+
+    ghost matches_partial_cmp = { λ x y. refl };
+
+    ghost matches_eq = { λ x y. refl };
+
+    fn cmp(&self, other: &Text) -> Ordering {
+        self.as_bytes().cmp(other.as_bytes())
+    }
+}
