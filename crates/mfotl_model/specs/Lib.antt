@@ -2,3 +2,10 @@ pub mod Values
 pub mod Events
 pub mod Formulas
 pub mod Log
+pub mod Intervals
+pub mod Satisfaction
+pub mod FreeVariables
+pub mod ActiveDomain
+pub mod Settled
+pub mod Violations
+pub mod VerdictText
