@@ -1,0 +1,38 @@
+-- What the calls of an input do to the rest of the open file, where it is told.
+use Rattle.std.specs.Prelude.{◌≡◌, ℕ, ◌<◌, List, [], ◌++◌, length, take, Some, None}
+use Rattle.std.specs.declared.option.Option.{Option}
+use Rattle.mon_outside.specs.Files.{Files, content, ToldFiles}
+pub use Rattle.std.specs.Io.KnownBytes.{Consumes}
+
+-- The named file is open, and nothing of it was read.
+abbrev pub Opens : Option Files → List ℕ → Option (List ℕ) → Type 0
+Opens files name rest = ToldFiles files (λ files. rest ≡ Some (content files name))
+
+-- A read moved the first `count` bytes of the rest to the front of the buffer.
+pub record MovesFrom (old : List ℕ) (new : Option (List ℕ)) (buffer : List ℕ) (count : ℕ) : Type 0 where
+  pub left : List ℕ
+  pub new_is : new ≡ Some left
+  pub next : old ≡ take count buffer ++ left
+  -- no byte comes only at the end,
+  pub end : count ≡ 0 → old ≡ []
+  -- and before it at least one
+  pub goes_on : 0 < length old → 0 < count
+
+-- the same, where the rest is told
+abbrev pub Moves : Option (List ℕ) → Option (List ℕ) → List ℕ → ℕ → Type 0
+Moves None new buffer count = Unit {0}
+Moves (Some old) new buffer count = MovesFrom old new buffer count
+
+-- The reads between two moments gave bytes, which stand behind those that were there.
+pub record Gave (old new : Option (List ℕ)) (before after : List ℕ) : Type 0 where
+  pub given : List ℕ
+  pub appended : after ≡ before ++ given
+  pub taken : Consumes old new given
+
+-- These are all bytes of the named file.
+abbrev pub Loads : Option Files → List ℕ → List ℕ → Type 0
+Loads files name bytes = ToldFiles files (λ files. bytes ≡ content files name)
+
+-- The named file has more bytes than this.
+abbrev pub IsLonger : Option Files → List ℕ → ℕ → Type 0
+IsLonger files name limit = ToldFiles files (λ files. limit < length (content files name))

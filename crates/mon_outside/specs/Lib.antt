@@ -1,0 +1,5 @@
+-- The definitions that the contracts cite, in reading order.
+pub mod Causes
+pub mod Files
+pub mod Inputs
+pub mod Sink

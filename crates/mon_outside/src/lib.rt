@@ -1,0 +1,15 @@
+//! The outside of the monitor as its layers see it: files to read, a sink to write to and a gate to pass,
+//! each of which tells a fault only where its count of faults has risen.
+#![tactic(auto)]
+
+mod fault;
+mod gate;
+mod inputs;
+mod loading;
+mod sink;
+
+pub use fault::{Failed, LoadFault, ReadFault};
+pub use gate::{Gate, OpenGate};
+pub use inputs::Inputs;
+pub use loading::{load, read_more, read_to_end};
+pub use sink::{Sink, write_whole};
