@@ -1,0 +1,4 @@
+pub mod Digits
+pub mod Utf8
+pub mod BlankLoop
+pub mod ScanLemmas

@@ -1,0 +1,26 @@
+-- The numbers that Integers write.
+use Rattle.std.specs.Prelude.{ℕ, zero, suc, ◌+◌, ◌-◌, ◌*◌, ◌^◌, Bool, List, [], ◌∷◌, Option, Some, None, ℤ, pos, negsuc, neg_ℤ, nat_lt, nat_le, ◌==◌, if◌then◌else◌}
+use Rattle.mfotl_lex.specs.Bytes.{minus}
+
+-- the number that the digits write, when they follow those of n
+unfoldable pub digits_value : ℕ → List ℕ → ℕ
+digits_value n [] = n
+digits_value n (b ∷ bytes) = digits_value (10 * n + (b - 48)) bytes
+
+-- the number that an optional `-` and digits write
+unfoldable pub integer_value : List ℕ → ℤ
+integer_value [] = pos 0
+integer_value (b ∷ bytes) =
+    if b == minus then neg_ℤ (pos (digits_value 0 bytes)) else pos (digits_value 0 (b ∷ bytes))
+
+-- at least -2^63 and below 2^63
+abbrev pub is_int64 : ℤ → Bool
+is_int64 (pos n) = nat_lt n (2 ^ 63)
+is_int64 (negsuc n) = nat_lt n (2 ^ 63)
+
+-- a number of 64 bits, or none
+abbrev pub int64_of : ℤ → Option ℤ
+int64_of z = if is_int64 z then Some z else None
+
+abbrev pub at_most : ℕ → ℕ → Option ℕ
+at_most limit n = if nat_le n limit then Some n else None

@@ -1,0 +1,18 @@
+-- Where a lexer stands.
+use Rattle.std.specs.Prelude.{ℕ, ◌+◌, Bool, true, List, drop}
+use Rattle.mfotl_lex.specs.declared.kind.Mode.{Mode}
+
+-- the bytes from the offset `at` on; `ended` says that they are all that come
+pub record Place : Type 0 where
+  pub mode : Mode
+  pub at : ℕ
+  pub rest : List ℕ
+  pub ended : Bool
+
+-- the beginning of bytes that are all there are
+abbrev pub beginning : Mode → List ℕ → Place
+beginning mode bytes = record { mode = mode; at = 0; rest = bytes; ended = true }
+
+-- so many bytes further on
+abbrev pub moved : Place → ℕ → Place
+moved p n = record { mode = p.mode; at = p.at + n; rest = drop n p.rest; ended = p.ended }

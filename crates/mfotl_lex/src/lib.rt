@@ -1,0 +1,17 @@
+//! The tokens of policies, signatures, strategies and logs: readers above take them one by one, each a
+//! slice of its source with its kind and offset, up to the first lexical fault.
+#![tactic(auto)]
+
+mod bytes;
+mod fault;
+mod kind;
+mod lexer;
+mod number;
+mod scan;
+mod token;
+
+pub use fault::{LexFault, LexFaultKind};
+pub use kind::{Kind, Mode};
+pub use lexer::Lexer;
+pub use number::read_integer;
+pub use token::Token;
