@@ -1,10 +1,12 @@
--- What the laws of the logic share: functions that agree, tests, lists of variables.
-use Rattle.std.proofs.Common.{◌≡◌, ℕ, Bool, true, false, not, ◌&&◌, ◌||◌, nat_eq, List, [], ◌∷◌, refl, sym, ap, ◌∙◌}
-use Rattle.std.proofs.lemmas.Bool.{or_left, eq-eqb, eqb-true}
+-- What the laws of the logic share: functions that agree, tests, ranges of positions, lists of variables.
+use Rattle.std.proofs.Common.{◌≡◌, ℕ, zero, suc, ◌+◌, ◌<◌, ◌≤◌, Bool, true, false, not, ◌&&◌, ◌||◌, nat_eq, List, [], ◌∷◌, ◌++◌, map, refl, sym, ap, ap₂, ◌∙◌, inl, inr, arith, zero-add, add-zero, suc-add, map-id}
+use Rattle.std.proofs.lemmas.Bool.{or_left, or_right, or_cases, and_parts, and_from, eq-eqb, eqb-true, cases_eq}
 use Rattle.std.proofs.lemmas.List.Folds.{list_any-append}
+use Rattle.std.proofs.lemmas.List.FromFn.{get_or-map-range_with_len, map-range_with_len_more}
 use Rattle.std.proofs.lemmas.Map.Views.{any-filter_same}
-use Rattle.std.specs.List.{list_any, list_all, filter}
+use Rattle.std.specs.List.{list_any, list_all, filter, flat_map, range_with_len}
 use Rattle.mfotl_model.specs.FreeVariables.{among, without, joined, distinct}
+use Rattle.mfotl_model.specs.Satisfaction.{truth_at, truths}
 
 -- functions with the same values are the same
 pub funext : {A B : Type 0} (f g : A → B) → ((x : A) → f x ≡ g x) → f ≡ g
@@ -58,3 +60,90 @@ among_distinct y (x ∷ xs) =
     among_joined y (x ∷ []) (distinct xs)
     ∙ or_nothing (nat_eq y x) (among y (distinct xs))
     ∙ ap (λ b. nat_eq y x || b) (among_distinct y xs)
+
+-- a test that holds at each number of a range holds at one of them
+pub all_in : (p : ℕ → Bool) (a n k : ℕ) → list_all p (range_with_len a n) ≡ true → a ≤ k → k < a + n → p k ≡ true
+all_in p a zero k h low high = absurd (omega arith)
+all_in p a (suc n) k h low high =
+    elim (cases_eq a k) [
+      | inl e ↦ ap p (sym e) ∙ (and_parts (p a) (list_all p (range_with_len (a + 1) n)) h).0
+      | inr ne ↦ all_in p (a + 1) n k (and_parts (p a) (list_all p (range_with_len (a + 1) n)) h).1 (omega arith) (omega arith)
+    ]
+
+-- a test that holds at each number of a range holds of the whole
+pub all_from : (p : ℕ → Bool) (a n : ℕ) → ((k : ℕ) → a ≤ k → k < a + n → p k ≡ true) → list_all p (range_with_len a n) ≡ true
+all_from p a zero h = refl
+all_from p a (suc n) h =
+    and_from (p a) (list_all p (range_with_len (a + 1) n)) (h a (omega arith) (omega arith))
+    (all_from p (a + 1) n (λ k low high. h k (omega arith) (omega arith)))
+
+-- where a test finds something in a range, there is a number at which it holds
+pub any_in : (p : ℕ → Bool) (a n : ℕ) → list_any p (range_with_len a n) ≡ true
+    → (k : ℕ) × (a ≤ k) × (k < a + n) × (p k ≡ true)
+any_in p a zero h = cc
+any_in p a (suc n) h =
+    elim (or_cases (p a) (list_any p (range_with_len (a + 1) n)) h) [
+      | inl e ↦ (a, omega arith, omega arith, e)
+      | inr e ↦
+          let w = any_in p (a + 1) n e in
+          (w.0, omega arith, omega arith, w.3)
+    ]
+
+-- a number of a range at which a test holds is found
+pub any_from : (p : ℕ → Bool) (a n k : ℕ) → a ≤ k → k < a + n → p k ≡ true → list_any p (range_with_len a n) ≡ true
+any_from p a zero k low high h = absurd (omega arith)
+any_from p a (suc n) k low high h =
+    elim (cases_eq a k) [
+      | inl e ↦ or_left (p a) (list_any p (range_with_len (a + 1) n)) (ap p e ∙ h)
+      | inr ne ↦ or_right (p a) (list_any p (range_with_len (a + 1) n)) (any_from p (a + 1) n k (omega arith) (omega arith) h)
+    ]
+
+-- tests that agree on a range find alike there
+pub any_same : (p q : ℕ → Bool) (a n : ℕ) → ((k : ℕ) → a ≤ k → k < a + n → p k ≡ q k)
+    → list_any p (range_with_len a n) ≡ list_any q (range_with_len a n)
+any_same p q a zero h = refl
+any_same p q a (suc n) h =
+    ap₂ (λ b c. b || c) (h a (omega arith) (omega arith))
+    (any_same p q (a + 1) n (λ k low high. h k (omega arith) (omega arith)))
+
+pub all_same : (p q : ℕ → Bool) (a n : ℕ) → ((k : ℕ) → a ≤ k → k < a + n → p k ≡ q k)
+    → list_all p (range_with_len a n) ≡ list_all q (range_with_len a n)
+all_same p q a zero h = refl
+all_same p q a (suc n) h =
+    ap₂ (λ b c. b && c) (h a (omega arith) (omega arith))
+    (all_same p q (a + 1) n (λ k low high. h k (omega arith) (omega arith)))
+
+-- a range ends in its last number
+pub range_suc : (a n : ℕ) → range_with_len a (n + 1) ≡ range_with_len a n ++ (a + n) ∷ []
+range_suc a n = sym (map-id (range_with_len a (n + 1))) ∙ map-range_with_len_more (λ k. k) a n (a + n) refl ∙ ap (λ xs. xs ++ (a + n) ∷ []) (map-id (range_with_len a n))
+
+-- a range splits after its first m numbers
+pub range_front : (a m n : ℕ) → range_with_len a (m + n) ≡ range_with_len a m ++ range_with_len (a + m) n
+range_front a zero n = rw (zero-add n) (rw (add-zero a) refl)
+range_front a (suc m) n = rw (suc-add m n) (ap (λ xs. a ∷ xs) (range_front (a + 1) m n ∙ ap (λ b. range_with_len (a + 1) m ++ range_with_len b n) (omega arith)))
+
+-- the truth value at a position
+pub truth_is : (p : ℕ → Bool) (n j : ℕ) → j < n → truth_at (truths n p) j ≡ p j
+truth_is p n j l = get_or-map-range_with_len p 0 n j j false l (omega arith)
+
+-- one position more has one truth value more
+pub truths_more : (n : ℕ) (p : ℕ → Bool) → truths (n + 1) p ≡ truths n p ++ p n ∷ []
+truths_more n p = map-range_with_len_more p 0 n n (omega arith)
+
+-- what is found in a mapped list
+pub any_map : {X Y : Type 0} (p : Y → Bool) (f : X → Y) (xs : List X) → list_any p (map f xs) ≡ list_any (λ x. p (f x)) xs
+any_map p f [] = refl
+any_map p f (x ∷ xs) = ap (λ b. p (f x) || b) (any_map p f xs)
+
+-- what is found in lists joined end to end
+pub any_flat_map : {X Y : Type 0} (p : Y → Bool) (f : X → List Y) (xs : List X)
+    → list_any p (flat_map f xs) ≡ list_any (λ x. list_any p (f x)) xs
+any_flat_map p f [] = refl
+any_flat_map p f (x ∷ xs) =
+    list_any-append p (f x) (flat_map f xs) ∙ ap (λ b. list_any p (f x) || b) (any_flat_map p f xs)
+
+-- a test that implies the other
+pub absorbed : (b c : Bool) → (c ≡ true → b ≡ true) → (b && c) ≡ c
+absorbed true c h = refl
+absorbed false true h = h refl
+absorbed false false h = refl

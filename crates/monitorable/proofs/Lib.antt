@@ -1,0 +1,3 @@
+pub mod SettledLemmas
+pub mod Coincidence
+pub mod NormalFormLaws

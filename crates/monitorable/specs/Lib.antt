@@ -1,0 +1,2 @@
+pub mod NormalForm
+pub mod Laws

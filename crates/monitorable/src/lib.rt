@@ -1,0 +1,7 @@
+//! Which policies can be monitored, and the normal form that the monitor works on: the layer above
+//! makes a policy's core, or learns the first reason why it has none.
+#![tactic(auto)]
+
+mod laws;
+
+pub use laws::{normal_form_holds, normal_form_settled, only_free_variables_matter};
