@@ -1,2 +1,3 @@
 pub mod Words
 pub mod NamesIn
+pub mod Atom
