@@ -3,3 +3,4 @@ pub mod Causes
 pub mod Files
 pub mod Inputs
 pub mod Sink
+pub mod Memory

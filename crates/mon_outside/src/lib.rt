@@ -2,14 +2,19 @@
 //! each of which tells a fault only where its count of faults has risen.
 #![tactic(auto)]
 
+mod calls;
 mod fault;
 mod gate;
 mod inputs;
 mod loading;
+mod mem_inputs;
+mod mem_sink;
 mod sink;
 
 pub use fault::{Failed, LoadFault, ReadFault};
 pub use gate::{Gate, OpenGate};
 pub use inputs::Inputs;
 pub use loading::{load, read_more, read_to_end};
+pub use mem_inputs::{MemInputs, NamedFile};
+pub use mem_sink::MemSink;
 pub use sink::{Sink, write_whole};

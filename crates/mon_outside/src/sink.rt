@@ -19,7 +19,7 @@ pub trait Sink {
     /// has some has failed.
     fn write(&mut self, piece: &[u8]) -> Result<usize, Failed>
         ensures within { IfOk result (λ count. count ≤ length piece.now) }
-        ensures some { 0 < length piece.now → IfOk result (λ count. 0 < count) }
+        ensures some { IfOk result (λ count. 0 < length piece.now → 0 < count) }
         ensures appends { IfOk result (λ count.
             Appends (written self.old) (written self.new) (take count piece.now)) }
         ensures failed { OnErr result (written self.new ≡ written self.old) }
