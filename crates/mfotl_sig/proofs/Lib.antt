@@ -1,0 +1,3 @@
+pub mod PredLemmas
+pub mod DraftLemmas
+pub mod ReadingLemmas

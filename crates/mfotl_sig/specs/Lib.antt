@@ -1,0 +1,3 @@
+pub mod Preds
+pub mod Reading
+pub mod Answers

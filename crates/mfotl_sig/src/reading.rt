@@ -1,0 +1,117 @@
+//! A signature, token by token.
+
+ghost use Rattle.std.specs.Prelude.{◌≡◌, None};
+ghost use Rattle.mfotl_lex.specs.Lexemes.{lexeme};
+ghost use Rattle.mfotl_sig.specs.Answers.{Gives};
+ghost use Rattle.mfotl_sig.specs.Reading.{step, begins, at_end, reading, nothing_read};
+
+use crate::draft::{Draft, Progress, Stage};
+use crate::fault::SigFault;
+use crate::signature::Signature;
+use mfotl_lex::{Kind, Lexer, Mode, Token};
+use std::alloc::Global;
+use std::marker::Model;
+
+/// How many predicates a signature may have.
+const MAX_PREDICATES: usize = 256;
+
+/// The whole predicates read so far, and a part of the one behind them.
+#[derive(Drop)]
+struct Reader<'a> {
+    done: Signature,
+    draft: Option<Draft<'a>>,
+}
+
+impl<'a> Model for Reader<'a> {
+    ghost use Rattle.std.specs.Prelude.{option_map};
+    ghost use Rattle.mfotl_sig.specs.Answers.{draft_of};
+    ghost use Rattle.mfotl_sig.specs.Reading.{Partial, IsFresh};
+
+    ghost Value = { Partial };
+
+    ghost view = { λ r. record { done = r.done; draft = option_map draft_of r.draft } };
+
+    ghost invariant = { λ r. IsFresh r.done (option_map draft_of r.draft) };
+}
+
+impl<'a> Reader<'a> {
+    fn new(alloc: Global) -> Self
+        ensures { result ≡ nothing_read }
+    {
+        Reader {
+            done: Signature::new(alloc),
+            draft: None,
+        }
+    }
+
+    /// Takes the next token.
+    #[tactic(auto, unfolding(crate::specs::Reading::step))]
+    fn step(&mut self, token: &Token<'a>, alloc: Global) -> Result<(), SigFault>
+        ensures { Gives (λ _. self.new) result (step self.old (lexeme token.now)) }
+    {
+        match self.draft.take() {
+            None => self.begin(token, alloc),
+            Some(draft) => {
+                match draft.step(token)? {
+                    Progress::Open(draft) => self.draft = Some(draft),
+                    Progress::Closed(draft) => self.done.add(draft.name, draft.sorts, alloc)?,
+                }
+                Ok(())
+            }
+        }
+    }
+
+    /// Takes a predicate's name.
+    fn begin(&mut self, token: &Token<'a>, alloc: Global) -> Result<(), SigFault>
+        requires { self.old.draft ≡ None }
+        ensures { Gives (λ _. self.new) result (begins self.old.done (lexeme token.now) token.now.kind) }
+    {
+        match token.kind {
+            Kind::Word => {
+                if self.done.find(token.text).is_some() {
+                    return Err(SigFault::RepeatedName(token.at as u64));
+                }
+                if self.done.len() >= MAX_PREDICATES {
+                    return Err(SigFault::TooMany(token.at as u64));
+                }
+                self.draft = Some(Draft {
+                    name: token.text,
+                    sorts: Vec::new(alloc),
+                    stage: Stage::AfterName,
+                });
+                Ok(())
+            }
+            _ => Err(SigFault::Syntax(token.at as u64)),
+        }
+    }
+
+    /// The signature, where the input's end stands at `end`.
+    fn finish(self, end: u64) -> Result<Signature, SigFault>
+        ensures { Gives (λ s. s) result (at_end end self.entry.done self.entry.draft) }
+    {
+        match self.draft {
+            None => Ok(self.done),
+            Some(_) => Err(SigFault::Syntax(end)),
+        }
+    }
+}
+
+/// The signature of a text.
+///
+/// `SigFault` is the first fault from left to right, each shown by one token: `UnknownSort` of a Word
+/// that might be a label by the token behind it.
+pub fn read_signature(bytes: &[u8], alloc: Global) -> Result<Signature, SigFault>
+    ensures { Gives (λ s. s) result (reading bytes.now) }
+{
+    let mut lexer = Lexer::new(bytes, Mode::Plain);
+    let mut reader = Reader::new(alloc);
+    // Each token takes a byte, so there are no more of them than bytes.
+    for _ in 0..bytes.len() + 1 {
+        match lexer.next() {
+            Ok(Some(token)) => reader.step(&token, alloc)?,
+            Ok(None) => break,
+            Err(fault) => return Err(SigFault::Lex(fault)),
+        }
+    }
+    reader.finish(bytes.len() as u64)
+}

@@ -1,0 +1,71 @@
+ghost use Rattle.std.specs.Prelude.{◌≡◌, ◌++◌, ◌∷◌, [], ◌<◌, ◌^◌, List, map, length, option_map, None, OnOk};
+ghost use Rattle.std.specs.List.{AllByRecursion};
+ghost use Rattle.std.specs.Option.{option_copied};
+ghost use Rattle.mfotl_sig.specs.Preds.{PredOf, pred_of, named, KeyedByName};
+
+use crate::pred::Pred;
+use indexmap::IndexMap;
+use mfotl_model::{Name, Sort};
+use std::alloc::{AllocError, Global};
+use std::marker::Model;
+
+/// The predicates of a signature, in the order of its text.
+#[derive(Drop)]
+pub struct Signature {
+    preds: IndexMap<Vec<u8>, Pred>,
+}
+
+impl Model for Signature {
+    ghost Value = { List PredOf };
+
+    ghost view = { λ s. map (λ e. pred_of e.1) s.preds.entries };
+
+    ghost invariant = { λ s. AllByRecursion KeyedByName s.preds.entries };
+}
+
+impl Signature {
+    /// A signature without predicates.
+    pub(crate) fn new(alloc: Global) -> Self
+        ensures { result ≡ [] }
+    {
+        Signature {
+            preds: IndexMap::new(alloc),
+        }
+    }
+
+    /// How many predicates there are.
+    pub(crate) fn len(&self) -> usize
+        ensures { result ≡ length self.now }
+    {
+        self.preds.len()
+    }
+
+    /// The predicate of this name.
+    pub fn find(&self, name: &[u8]) -> Option<&Pred>
+        ensures { option_map pred_of (option_copied result) ≡ named name.now self.now }
+    {
+        self.preds.get(name)
+    }
+
+    /// Adds a predicate at the end, with the next number.
+    pub(crate) fn add(
+        &mut self,
+        name: &[u8],
+        sorts: Vec<Sort>,
+        alloc: Global,
+    ) -> Result<(), AllocError>
+        requires absent { named name.now self.old ≡ None }
+        requires room { length self.old < 2 ^ 32 }
+        ensures { OnOk result (self.new ≡ self.old ++ record { number = length self.old; name = name.now; sorts = sorts.items } ∷ []) }
+    {
+        let number = self.len() as u32;
+        let key = Vec::from_slice(alloc, name)?;
+        let pred = Pred {
+            number,
+            name: Name::new(Vec::from_slice(alloc, name)?),
+            sorts,
+        };
+        self.preds.insert(key, pred)?;
+        Ok(())
+    }
+}
