@@ -1,1 +1,3 @@
 pub mod LogicLemmas
+pub mod AscendingLemmas
+pub mod RowLemmas

@@ -1,6 +1,6 @@
 -- Values and rows in their order: integers by number, then texts by bytes; rows by their first values,
 -- then by the next.
-use Rattle.std.specs.Prelude.{◌≡◌, ℕ, ℤ, List, refl}
+use Rattle.std.specs.Prelude.{◌≡◌, ℕ, List, refl}
 use Rattle.std.specs.Cmp.{IsTotalOrder, int_cmp_total, nat_cmp_total}
 use Rattle.std.specs.Cmp.Lexicographic.{slice_cmp, lists_total}
 use Rattle.std.specs.declared.cmp.Ordering.{Ordering}

@@ -1,0 +1,102 @@
+-- Rows and events: what compares as equal is equal, and which rows there are over a domain.
+use Rattle.std.proofs.Common.{◌≡◌, ℕ, zero, suc, Bool, true, false, ◌&&◌, nat_eq, List, [], ◌∷◌, length, map, refl, sym, ap, ◌∙◌}
+use Rattle.std.proofs.Math.Dec.{eqb-suc-zero, eqb-zero-suc, eqb-suc-suc}
+use Rattle.std.proofs.lemmas.Map.Lookups.{CmpEqualImpliesEq, exact_signed, exact_unsigned, exact_bytes}
+use Rattle.std.specs.FinMap.{slice_cmp-IsAntisymmetric}
+use Rattle.std.specs.List.{list_any, list_all}
+use Rattle.std.specs.Ordering.{eq_by_cmp, is_eq, ordering_then, nat_cmp}
+use Rattle.std.specs.declared.cmp.Ordering.{Ordering}
+use Rattle.std.specs.declared.cmp.Ordering.TheVariants.{Less, Equal, Greater}
+use Rattle.mfotl_model.specs.Events.{event_cmp}
+use Rattle.mfotl_model.specs.Values.{value_cmp, row_cmp}
+use Rattle.mfotl_model.specs.Violations.{all_rows}
+use Rattle.mfotl_model.specs.declared.event.Event.{Event}
+use Rattle.mfotl_model.specs.declared.value.Value.{Value}
+use Rattle.mfotl_model.specs.declared.value.Value.TheVariants.{Int, Text}
+use Rattle.mfotl_model.proofs.LogicLemmas.{any_alike, any_map, any_flat_map}
+
+-- values that compare as equal are one
+pub value_exact : CmpEqualImpliesEq value_cmp
+value_exact (Int x) (Int y) h = ap Int (exact_signed x y h)
+value_exact (Int x) (Text t) h = cc
+value_exact (Text s) (Int y) h = cc
+value_exact (Text s) (Text t) h = ap Text (exact_bytes s t h)
+
+pub row_exact : CmpEqualImpliesEq row_cmp
+row_exact = slice_cmp-IsAntisymmetric value_exact
+
+-- the first of two orders, where both together find no difference
+first_equal : (a b : Ordering) → ordering_then a b ≡ Equal → a ≡ Equal
+first_equal Less b h = h
+first_equal Equal b h = refl
+first_equal Greater b h = h
+
+-- the second
+second_equal : (a b : Ordering) → ordering_then a b ≡ Equal → b ≡ Equal
+second_equal Less b h = cc
+second_equal Equal b h = h
+second_equal Greater b h = cc
+
+same_event : (a b : Event) → a.pred ≡ b.pred → a.args ≡ b.args → a ≡ b
+same_event a b pred args = λ i. record { pred = pred i; args = args i }
+
+pub event_exact : CmpEqualImpliesEq event_cmp
+event_exact a b h =
+    same_event a b (exact_unsigned a.pred b.pred (first_equal (nat_cmp a.pred b.pred) (row_cmp a.args b.args) h))
+    (row_exact a.args b.args (second_equal (nat_cmp a.pred b.pred) (row_cmp a.args b.args) h))
+
+-- both parts equal
+pub eq_then : (a b : Ordering) → is_eq (ordering_then a b) ≡ (is_eq a && is_eq b)
+eq_then Less b = refl
+eq_then Equal b = refl
+eq_then Greater b = refl
+
+any_none : {X : Type 0} (xs : List X) → list_any (λ x. false) xs ≡ false
+any_none [] = refl
+any_none (x ∷ xs) = any_none xs
+
+any_and : {X : Type 0} (b : Bool) (p : X → Bool) (xs : List X) → list_any (λ x. b && p x) xs ≡ (b && list_any p xs)
+any_and true p xs = refl
+any_and false p xs = any_none xs
+
+and_turned : (a b : Bool) → (a && b) ≡ (b && a)
+and_turned true true = refl
+and_turned true false = refl
+and_turned false true = refl
+and_turned false false = refl
+
+any_and_last : {X : Type 0} (b : Bool) (p : X → Bool) (xs : List X) → list_any (λ x. p x && b) xs ≡ (list_any p xs && b)
+any_and_last b p xs = any_alike (λ x. p x && b) (λ x. b && p x) xs (λ x. and_turned (p x) b) ∙ any_and b p xs ∙ and_turned b (list_any p xs)
+
+and_moved : (a b c : Bool) → (a && (b && c)) ≡ (b && (a && c))
+and_moved true b c = refl
+and_moved false true c = refl
+and_moved false false c = refl
+
+-- whether a value is in the domain
+abbrev pub in_domain : List Value → Value → Bool
+in_domain dom a = list_any (eq_by_cmp value_cmp a) dom
+
+-- a row is among the rows of n values of a domain exactly if it has n values, each in the domain
+pub member_all_rows : (n : ℕ) (dom : List Value) (q : List Value)
+    → list_any (eq_by_cmp row_cmp q) (all_rows n dom) ≡ (nat_eq (length q) n && list_all (in_domain dom) q)
+member_all_rows zero dom [] = refl
+member_all_rows zero dom (b ∷ s) = sym (ap (λ t. t && list_all (in_domain dom) (b ∷ s)) (eqb-suc-zero (length s)))
+member_all_rows (suc n) dom [] =
+    any_flat_map (eq_by_cmp row_cmp []) (λ a. map (λ row. a ∷ row) (all_rows n dom)) dom
+    ∙ any_alike (λ a. list_any (eq_by_cmp row_cmp []) (map (λ row. a ∷ row) (all_rows n dom))) (λ a. false) dom
+    (λ a. any_map (eq_by_cmp row_cmp []) (λ row. a ∷ row) (all_rows n dom) ∙ any_none (all_rows n dom))
+    ∙ any_none dom
+    ∙ sym (ap (λ t. t && true) (eqb-zero-suc n))
+member_all_rows (suc n) dom (b ∷ s) =
+    any_flat_map (eq_by_cmp row_cmp (b ∷ s)) (λ a. map (λ row. a ∷ row) (all_rows n dom)) dom
+    ∙ any_alike (λ a. list_any (eq_by_cmp row_cmp (b ∷ s)) (map (λ row. a ∷ row) (all_rows n dom)))
+    (λ a. eq_by_cmp value_cmp b a && list_any (eq_by_cmp row_cmp s) (all_rows n dom)) dom
+    (λ a. any_map (eq_by_cmp row_cmp (b ∷ s)) (λ row. a ∷ row) (all_rows n dom)
+    ∙ any_alike (λ row. eq_by_cmp row_cmp (b ∷ s) (a ∷ row)) (λ row. eq_by_cmp value_cmp b a && eq_by_cmp row_cmp s row) (all_rows n dom)
+    (λ row. eq_then (value_cmp b a) (row_cmp s row))
+    ∙ any_and (eq_by_cmp value_cmp b a) (eq_by_cmp row_cmp s) (all_rows n dom))
+    ∙ any_and_last (list_any (eq_by_cmp row_cmp s) (all_rows n dom)) (eq_by_cmp value_cmp b) dom
+    ∙ ap (λ t. in_domain dom b && t) (member_all_rows n dom s)
+    ∙ and_moved (in_domain dom b) (nat_eq (length s) n) (list_all (in_domain dom) s)
+    ∙ sym (ap (λ t. t && (in_domain dom b && list_all (in_domain dom) s)) (eqb-suc-suc (length s) n))
