@@ -1,3 +1,4 @@
 pub mod LogicLemmas
 pub mod AscendingLemmas
 pub mod RowLemmas
+pub mod VariableLemmas

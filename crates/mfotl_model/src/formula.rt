@@ -60,35 +60,21 @@ impl Formula {
             Formula::False => Ok(Formula::False),
             Formula::Atom(atom) => Ok(Formula::Atom(atom.copy(alloc)?)),
             Formula::Compare(comparison) => Ok(Formula::Compare(comparison.copy(alloc)?)),
-            Formula::Not(inner) => Ok(Formula::Not(inner.boxed(alloc)?)),
-            Formula::And(left, right) => {
-                Ok(Formula::And(left.boxed(alloc)?, right.boxed(alloc)?))
-            }
-            Formula::Or(left, right) => Ok(Formula::Or(left.boxed(alloc)?, right.boxed(alloc)?)),
-            Formula::Implies(left, right) => {
-                Ok(Formula::Implies(left.boxed(alloc)?, right.boxed(alloc)?))
-            }
-            Formula::Equiv(left, right) => {
-                Ok(Formula::Equiv(left.boxed(alloc)?, right.boxed(alloc)?))
-            }
-            Formula::Exists(bound, inner) => {
-                Ok(Formula::Exists(bound.copy(alloc)?, inner.boxed(alloc)?))
-            }
-            Formula::Forall(bound, inner) => {
-                Ok(Formula::Forall(bound.copy(alloc)?, inner.boxed(alloc)?))
-            }
-            Formula::Previous(at, inner) => Ok(Formula::Previous(*at, inner.boxed(alloc)?)),
-            Formula::Next(at, inner) => Ok(Formula::Next(*at, inner.boxed(alloc)?)),
-            Formula::Once(at, inner) => Ok(Formula::Once(*at, inner.boxed(alloc)?)),
-            Formula::Historically(at, inner) => Ok(Formula::Historically(*at, inner.boxed(alloc)?)),
-            Formula::Eventually(at, inner) => Ok(Formula::Eventually(*at, inner.boxed(alloc)?)),
-            Formula::Always(at, inner) => Ok(Formula::Always(*at, inner.boxed(alloc)?)),
-            Formula::Since(at, left, right) => {
-                Ok(Formula::Since(*at, left.boxed(alloc)?, right.boxed(alloc)?))
-            }
-            Formula::Until(at, left, right) => {
-                Ok(Formula::Until(*at, left.boxed(alloc)?, right.boxed(alloc)?))
-            }
+            Formula::Not(f) => Ok(Formula::Not(f.boxed(alloc)?)),
+            Formula::And(f, g) => Ok(Formula::And(f.boxed(alloc)?, g.boxed(alloc)?)),
+            Formula::Or(f, g) => Ok(Formula::Or(f.boxed(alloc)?, g.boxed(alloc)?)),
+            Formula::Implies(f, g) => Ok(Formula::Implies(f.boxed(alloc)?, g.boxed(alloc)?)),
+            Formula::Equiv(f, g) => Ok(Formula::Equiv(f.boxed(alloc)?, g.boxed(alloc)?)),
+            Formula::Exists(x, f) => Ok(Formula::Exists(x.copy(alloc)?, f.boxed(alloc)?)),
+            Formula::Forall(x, f) => Ok(Formula::Forall(x.copy(alloc)?, f.boxed(alloc)?)),
+            Formula::Previous(i, f) => Ok(Formula::Previous(*i, f.boxed(alloc)?)),
+            Formula::Next(i, f) => Ok(Formula::Next(*i, f.boxed(alloc)?)),
+            Formula::Once(i, f) => Ok(Formula::Once(*i, f.boxed(alloc)?)),
+            Formula::Historically(i, f) => Ok(Formula::Historically(*i, f.boxed(alloc)?)),
+            Formula::Eventually(i, f) => Ok(Formula::Eventually(*i, f.boxed(alloc)?)),
+            Formula::Always(i, f) => Ok(Formula::Always(*i, f.boxed(alloc)?)),
+            Formula::Since(i, f, g) => Ok(Formula::Since(*i, f.boxed(alloc)?, g.boxed(alloc)?)),
+            Formula::Until(i, f, g) => Ok(Formula::Until(*i, f.boxed(alloc)?, g.boxed(alloc)?)),
         }
     }
 
@@ -96,6 +82,18 @@ impl Formula {
     fn boxed(&self, alloc: Global) -> Result<Box<Self>, AllocError>
         ensures { IfOk result (λ formula. form formula.value ≡ form self.now) }
     {
-        Ok(Box::new(alloc, self.copy(alloc)?)?)
+        stored(self.copy(alloc), alloc)
+    }
+}
+
+// A chain may be thousands of operands deep: what this call needs of the stack is free again before
+// the recursion goes on.
+#[inline(never)]
+fn stored(copy: Result<Formula, AllocError>, alloc: Global) -> Result<Box<Formula>, AllocError>
+    ensures { IfOk result (λ formula. copy ≡ Ok formula.value) }
+{
+    match copy {
+        Ok(formula) => Ok(Box::new(alloc, formula)?),
+        Err(error) => Err(error),
     }
 }

@@ -12,6 +12,8 @@ pub struct Interval {
 }
 
 impl Interval {
+    ghost use Rattle.mfotl_model.specs.Intervals.{in_interval};
+
     pub fn new(lo: u64, hi: Option<u64>) -> Option<Interval>
         ensures empty { IsNone result ↔ IsSomeAnd hi (λ h. h < lo) }
         ensures lower { IfSome result (λ interval. interval.lo ≡ lo) }
@@ -21,5 +23,11 @@ impl Interval {
             Some(h) if h < lo => None,
             _ => Some(Interval { lo, hi }),
         }
+    }
+
+    pub fn contains(&self, d: u64) -> bool
+        ensures { result ≡ in_interval self.now d }
+    {
+        self.lo <= d && self.hi.is_none_or(|h| d <= h)
     }
 }

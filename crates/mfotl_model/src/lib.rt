@@ -4,6 +4,7 @@
 
 mod event;
 mod formula;
+mod free_variables;
 mod interval;
 mod partial;
 mod policy;
@@ -21,3 +22,6 @@ pub use row::{Row, RowList};
 pub use term::{Atom, Comparison, Sign, Term, Terms};
 pub use text::{Name, Text};
 pub use value::Value;
+
+#[cfg(test)]
+mod tests;

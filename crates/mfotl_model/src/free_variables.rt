@@ -1,0 +1,111 @@
+//! The free variables of a formula.
+ghost use Rattle.std.specs.Prelude.{◌≡◌, [], ◌∷◌, not, IfOk, OnOk};
+ghost use Rattle.std.specs.List.{filter};
+ghost use Rattle.mfotl_model.specs.Formulas.{form};
+ghost use Rattle.mfotl_model.specs.FreeVariables.{among, fv, joined, variable_in, variables_in, without};
+
+use crate::formula::Formula;
+use crate::term::{Comparison, Term};
+use std::alloc::{AllocError, Global};
+
+impl Formula {
+    /// The free variables by number, each once, in the order in which they first occur.
+    #[tactic(auto, unfolding(crate::specs::FreeVariables::fv))]
+    pub fn free_vars(&self, alloc: Global) -> Result<Vec<u32>, AllocError>
+        ensures { IfOk result (λ vars. vars.items ≡ fv (form self.now)) }
+    {
+        match self {
+            Formula::True | Formula::False => Ok(Vec::new(alloc)),
+            Formula::Atom(atom) => variables_in(atom.args.as_slice(), alloc),
+            Formula::Compare(comparison) => compared_variables(comparison, alloc),
+            Formula::Not(f)
+            | Formula::Previous(_, f)
+            | Formula::Next(_, f)
+            | Formula::Once(_, f)
+            | Formula::Historically(_, f)
+            | Formula::Eventually(_, f)
+            | Formula::Always(_, f) => f.free_vars(alloc),
+            Formula::And(f, g)
+            | Formula::Or(f, g)
+            | Formula::Implies(f, g)
+            | Formula::Equiv(f, g)
+            | Formula::Since(_, f, g)
+            | Formula::Until(_, f, g) => {
+                joined(f.free_vars(alloc)?, g.free_vars(alloc)?.as_slice(), alloc)
+            }
+            Formula::Exists(x, f) | Formula::Forall(x, f) => {
+                without(x.number, f.free_vars(alloc)?.as_slice(), alloc)
+            }
+        }
+    }
+}
+
+// The variables of both lists: first those of `vars`, then those of `more` that are none of them.
+fn joined(mut vars: Vec<u32>, more: &[u32], alloc: Global) -> Result<Vec<u32>, AllocError>
+    ensures { IfOk result (λ both. both.items ≡ joined vars.items more.now) }
+{
+    let others = others(vars.as_slice(), more, alloc)?;
+    vars.extend_from_slice(others.as_slice())?;
+    Ok(vars)
+}
+
+fn others(vars: &[u32], more: &[u32], alloc: Global) -> Result<Vec<u32>, AllocError>
+    ensures { IfOk result (λ new. new.items ≡ filter (λ y. not (among y vars.now)) more.now) }
+{
+    more.iter()
+        .copied()
+        .filter(|y| !is_among(*y, vars))
+        .collect(alloc)
+}
+
+fn is_among(x: u32, vars: &[u32]) -> bool
+    ensures { result ≡ among x vars.now }
+{
+    vars.iter().any(|y| x == *y)
+}
+
+// The variables but `x`.
+fn without(x: u32, vars: &[u32], alloc: Global) -> Result<Vec<u32>, AllocError>
+    ensures { IfOk result (λ others. others.items ≡ without x vars.now) }
+{
+    vars.iter().copied().filter(|y| *y != x).collect(alloc)
+}
+
+fn variables_in(terms: &[Term], alloc: Global) -> Result<Vec<u32>, AllocError>
+    ensures { IfOk result (λ vars. vars.items ≡ variables_in terms.now) }
+{
+    let mut vars = Vec::new(alloc);
+    for term in terms {
+        add_variable(&mut vars, term)?;
+    }
+    Ok(vars)
+}
+
+fn compared_variables(comparison: &Comparison, alloc: Global) -> Result<Vec<u32>, AllocError>
+    ensures { IfOk result (λ vars. vars.items
+        ≡ variables_in (comparison.now.left ∷ comparison.now.right ∷ [])) }
+{
+    let mut vars = Vec::new(alloc);
+    add_variable(&mut vars, &comparison.left)?;
+    add_variable(&mut vars, &comparison.right)?;
+    Ok(vars)
+}
+
+fn add_variable(vars: &mut Vec<u32>, term: &Term) -> Result<(), AllocError>
+    ensures { OnOk result (vars.new.items ≡ joined vars.old.items (variable_in term.now)) }
+{
+    match term {
+        Term::Var(x) => add(vars, *x),
+        Term::Const(_) => Ok(()),
+    }
+}
+
+fn add(vars: &mut Vec<u32>, x: u32) -> Result<(), AllocError>
+    ensures { OnOk result (vars.new.items ≡ joined vars.old.items (x ∷ [])) }
+{
+    if is_among(x, vars.as_slice()) {
+        return Ok(());
+    }
+    vars.push(x)?;
+    Ok(())
+}
