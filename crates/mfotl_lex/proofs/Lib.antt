@@ -1,4 +1,9 @@
 pub mod Digits
 pub mod Utf8
 pub mod BlankLoop
+pub mod BlankLemmas
 pub mod ScanLemmas
+pub mod Growth
+pub mod Sequence
+pub mod GrowingLemmas
+pub mod CoveringLemmas

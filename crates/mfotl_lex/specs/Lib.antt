@@ -5,3 +5,6 @@ pub mod Contents
 pub mod Scans
 pub mod Places
 pub mod Lexemes
+pub mod Growing
+pub mod Covering
+pub mod FaultTexts

@@ -1,3 +1,6 @@
+use std::error::Error;
+use std::fmt;
+
 /// What is wrong with the bytes at a place.
 #[derive(Clone, Copy, Debug, PartialEq, Eq)]
 pub enum LexFaultKind {
@@ -19,3 +22,33 @@ pub struct LexFault {
     pub kind: LexFaultKind,
     pub at: u64,
 }
+
+impl fmt::Display for LexFaultKind {
+    ghost use Rattle.std.specs.Prelude.{Some};
+    ghost use Rattle.mfotl_lex.specs.FaultTexts.{kind_name};
+
+    ghost output = { λ kind. Some (kind_name kind) };
+
+    fn fmt<W: fmt::Write>(&self, f: &mut fmt::Formatter<W>) -> fmt::Result {
+        match self {
+            LexFaultKind::BadByte => f.write_str("BadByte"),
+            LexFaultKind::OpenText => f.write_str("OpenText"),
+            LexFaultKind::NumberRange => f.write_str("NumberRange"),
+            LexFaultKind::TextLong => f.write_str("TextLong"),
+            LexFaultKind::BadUtf8 => f.write_str("BadUtf8"),
+        }
+    }
+}
+
+impl fmt::Display for LexFault {
+    ghost use Rattle.std.specs.Prelude.{Some};
+    ghost use Rattle.mfotl_lex.specs.FaultTexts.{fault_text};
+
+    ghost output = { λ fault. Some (fault_text fault) };
+
+    fn fmt<W: fmt::Write>(&self, f: &mut fmt::Formatter<W>) -> fmt::Result {
+        write!(f, "{} at {}", self.kind, self.at)
+    }
+}
+
+impl Error for LexFault {}

@@ -1,4 +1,4 @@
-ghost use Rattle.std.specs.Prelude.{◌≡◌, ◌+◌, ◌<◌, ◌^◌, length, OnErr};
+ghost use Rattle.std.specs.Prelude.{◌≡◌, ◌+◌, ◌<◌, ◌^◌, length, true, IsTrue, OnErr, ◌↔◌};
 
 use crate::bytes::blank_len;
 use crate::fault::LexFault;
@@ -30,6 +30,7 @@ impl<'a> Model for Lexer<'a> {
 impl<'a> Lexer<'a> {
     ghost use Rattle.mfotl_lex.specs.Places.{beginning};
     ghost use Rattle.mfotl_lex.specs.Lexemes.{seen, next_token, after};
+    ghost use Rattle.mfotl_lex.specs.Covering.{AreBlanks};
 
     /// Over bytes that are all there are.
     pub fn new(bytes: &'a [u8], mode: Mode) -> Lexer<'a>
@@ -71,6 +72,7 @@ impl<'a> Lexer<'a> {
         ensures found { seen result ≡ next_token self.old }
         ensures after { self.new ≡ after self.old }
         ensures again { OnErr result (self.new ≡ self.old) }
+        ensures end { IsTrue self.old.ended → (result ≡ Ok None) ↔ AreBlanks true self.old.rest }
     {
         let (blanks, rest) = self.rest.split_at(blank_len(self.rest, self.ended));
         let at = self.at + blanks.len();

@@ -5,6 +5,7 @@
 mod bytes;
 mod fault;
 mod kind;
+mod laws;
 mod lexer;
 mod number;
 mod scan;
@@ -12,6 +13,7 @@ mod token;
 
 pub use fault::{LexFault, LexFaultKind};
 pub use kind::{Kind, Mode};
+pub use laws::{more_bytes_change_nothing, tokens_are_the_bytes};
 pub use lexer::Lexer;
 pub use number::read_integer;
 pub use token::Token;

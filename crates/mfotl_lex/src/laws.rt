@@ -1,0 +1,12 @@
+ghost use Rattle.mfotl_lex.specs.Growing.{MoreBytesChangeNothing};
+ghost use Rattle.mfotl_lex.specs.Covering.{TokensAreTheBytes};
+
+/// More bytes never change a token or a fault that is shown, so bytes may come in any pieces.
+pub fn more_bytes_change_nothing()
+    ensures { MoreBytesChangeNothing }
+{}
+
+/// The tokens and what lies between them are the bytes, in order.
+pub fn tokens_are_the_bytes()
+    ensures { TokensAreTheBytes }
+{}
