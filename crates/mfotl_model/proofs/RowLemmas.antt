@@ -51,7 +51,8 @@ eq_then Less b = refl
 eq_then Equal b = refl
 eq_then Greater b = refl
 
-any_none : {X : Type 0} (xs : List X) → list_any (λ x. false) xs ≡ false
+-- nothing passes a test that is never true
+pub any_none : {X : Type 0} (xs : List X) → list_any (λ x. false) xs ≡ false
 any_none [] = refl
 any_none (x ∷ xs) = any_none xs
 
@@ -59,7 +60,7 @@ any_and : {X : Type 0} (b : Bool) (p : X → Bool) (xs : List X) → list_any (�
 any_and true p xs = refl
 any_and false p xs = any_none xs
 
-and_turned : (a b : Bool) → (a && b) ≡ (b && a)
+pub and_turned : (a b : Bool) → (a && b) ≡ (b && a)
 and_turned true true = refl
 and_turned true false = refl
 and_turned false true = refl
