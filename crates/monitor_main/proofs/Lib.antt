@@ -1,2 +1,4 @@
 pub mod WordsLemmas
 pub mod NegatedAtom
+pub mod AtomLemmas
+pub mod PolicyLemmas

@@ -2,4 +2,11 @@
 //! status out.
 #![tactic(auto)]
 
+pub mod atom;
+pub mod policy;
+pub mod real;
+mod status;
+pub mod verdicts;
 pub mod words;
+
+pub use status::Status;
