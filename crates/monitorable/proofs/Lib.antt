@@ -1,3 +1,4 @@
+pub mod BudgetLemmas
 pub mod SettledLemmas
 pub mod Coincidence
 pub mod NormalFormLaws

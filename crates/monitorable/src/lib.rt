@@ -2,6 +2,12 @@
 //! makes a policy's core, or learns the first reason why it has none.
 #![tactic(auto)]
 
+mod count;
+mod fault;
+mod fragment;
 mod laws;
+mod normal;
+mod scope;
 
+pub use fault::{FragmentFault, Variable};
 pub use laws::{normal_form_holds, normal_form_settled, only_free_variables_matter};

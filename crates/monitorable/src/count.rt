@@ -1,0 +1,82 @@
+//! The size of a normal form, told without building it.
+ghost use Rattle.std.specs.Prelude.{◌≡◌};
+ghost use Rattle.mfotl_model.specs.Formulas.{form};
+ghost use Rattle.monitorable.specs.NodeCount.{nodes};
+ghost use Rattle.monitorable.specs.NormalForm.{positive, negative};
+ghost use Rattle.monitorable.specs.Budget.{spent};
+
+use mfotl_model::Formula;
+
+/// What is left of a budget of nodes after so many were spent.
+fn pay(count: u32, budget: Option<u32>) -> Option<u32>
+    ensures { result ≡ spent count budget }
+{
+    match budget {
+        Some(budget) => budget.checked_sub(count),
+        None => None,
+    }
+}
+
+/// What is left of the budget after the nodes of the formula's normal form.
+#[cycle(counting)]
+#[tactic(auto, unfolding(crate::specs::NormalForm::positive, crate::specs::NodeCount::nodes), using(crate::proofs::BudgetLemmas::spent_twice))]
+pub fn pay_for(formula: &Formula, budget: Option<u32>) -> Option<u32>
+    ensures { result ≡ spent (nodes (positive (form formula.now))) budget }
+{
+    if budget.is_none() {
+        return None;
+    }
+    match formula {
+        Formula::True | Formula::False | Formula::Atom(_) | Formula::Compare(_) => pay(1, budget),
+        Formula::Not(inner) => pay_for_denied(inner, budget),
+        Formula::And(left, right) => pay_for(right, pay_for(left, pay(1, budget))),
+        Formula::Or(left, right) => pay_for(right, pay_for(left, pay(1, budget))),
+        Formula::Implies(left, right) => pay_for(right, pay_for_denied(left, pay(1, budget))),
+        Formula::Equiv(left, right) => {
+            let forth = pay_for(right, pay_for_denied(left, pay(2, budget)));
+            pay_for(left, pay_for_denied(right, pay(1, forth)))
+        }
+        Formula::Exists(_, inner) => pay_for(inner, pay(1, budget)),
+        Formula::Forall(_, inner) => pay_for_denied(inner, pay(2, budget)),
+        Formula::Previous(_, inner) => pay_for(inner, pay(1, budget)),
+        Formula::Next(_, inner) => pay_for(inner, pay(1, budget)),
+        Formula::Once(_, inner) => pay_for(inner, pay(2, budget)),
+        Formula::Historically(_, inner) => pay_for_denied(inner, pay(3, budget)),
+        Formula::Eventually(_, inner) => pay_for(inner, pay(2, budget)),
+        Formula::Always(_, inner) => pay_for_denied(inner, pay(3, budget)),
+        Formula::Since(_, left, right) => pay_for(right, pay_for(left, pay(1, budget))),
+        Formula::Until(_, left, right) => pay_for(right, pay_for(left, pay(1, budget))),
+    }
+}
+
+/// What is left of the budget after the nodes of the normal form of the formula's negation.
+#[cycle(counting)]
+#[tactic(auto, unfolding(crate::specs::NormalForm::negative, crate::specs::NodeCount::nodes), using(crate::proofs::BudgetLemmas::spent_twice))]
+pub fn pay_for_denied(formula: &Formula, budget: Option<u32>) -> Option<u32>
+    ensures { result ≡ spent (nodes (negative (form formula.now))) budget }
+{
+    if budget.is_none() {
+        return None;
+    }
+    match formula {
+        Formula::True | Formula::False | Formula::Atom(_) | Formula::Compare(_) => pay(2, budget),
+        Formula::Not(inner) => pay_for(inner, budget),
+        Formula::And(left, right) => pay_for(right, pay_for(left, pay(2, budget))),
+        Formula::Or(left, right) => pay_for_denied(right, pay_for_denied(left, pay(1, budget))),
+        Formula::Implies(left, right) => pay_for_denied(right, pay_for(left, pay(1, budget))),
+        Formula::Equiv(left, right) => {
+            let forth = pay_for(right, pay_for_denied(left, pay(3, budget)));
+            pay_for(left, pay_for_denied(right, pay(1, forth)))
+        }
+        Formula::Exists(_, inner) => pay_for(inner, pay(2, budget)),
+        Formula::Forall(_, inner) => pay_for_denied(inner, pay(1, budget)),
+        Formula::Previous(_, inner) => pay_for(inner, pay(2, budget)),
+        Formula::Next(_, inner) => pay_for(inner, pay(2, budget)),
+        Formula::Once(_, inner) => pay_for(inner, pay(3, budget)),
+        Formula::Historically(_, inner) => pay_for_denied(inner, pay(2, budget)),
+        Formula::Eventually(_, inner) => pay_for(inner, pay(3, budget)),
+        Formula::Always(_, inner) => pay_for_denied(inner, pay(2, budget)),
+        Formula::Since(_, left, right) => pay_for(right, pay_for(left, pay(2, budget))),
+        Formula::Until(_, left, right) => pay_for(right, pay_for(left, pay(2, budget))),
+    }
+}

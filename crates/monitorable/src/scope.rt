@@ -1,0 +1,40 @@
+//! The names of a policy's variables.
+ghost use Rattle.std.specs.Prelude.{◌≡◌, IfOk};
+ghost use Rattle.monitorable.specs.Fragment.{free_names, named};
+ghost use Rattle.monitorable.specs.Scope.{scope_names};
+
+use crate::fault::Variable;
+use mfotl_model::{Bound, Name, Var};
+use std::alloc::{AllocError, Global};
+
+/// Which variables have a name where a formula stands: the innermost quantifier's first.
+pub enum Scope<'a> {
+    Free(&'a [Var]),
+    Under(&'a Bound, &'a Scope<'a>),
+}
+
+impl Scope<'_> {
+    /// The variable with its name.
+    pub fn variable(&self, number: u32, alloc: Global) -> Result<Variable, AllocError>
+        ensures { IfOk result (λ variable. variable ≡ named (scope_names self.now) number) }
+    {
+        match self {
+            Scope::Under(bound, _) if bound.number == number => Ok(Variable {
+                number,
+                name: bound.name.copy(alloc)?,
+            }),
+            Scope::Under(_, outer) => outer.variable(number, alloc),
+            Scope::Free(vars) => free_variable(vars, number, alloc),
+        }
+    }
+}
+
+fn free_variable(vars: &[Var], number: u32, alloc: Global) -> Result<Variable, AllocError>
+    ensures { IfOk result (λ variable. variable ≡ named (free_names vars.now) number) }
+{
+    let name = match vars.get(number as usize) {
+        Some(var) => var.name.copy(alloc)?,
+        None => Name::new(Vec::new(alloc)),
+    };
+    Ok(Variable { number, name })
+}
