@@ -1,19 +1,17 @@
 -- Which normal forms can be monitored, and else the first reason why one can't (this project's own).
 -- Each variable is to be bound by something that has finitely many rows at a time-point: an atom, or
 -- an equation with a constant.
-use Rattle.std.specs.Prelude.{ℕ, Bool, true, false, not, ◌&&◌, nat_lt, nat_eq, cond, List, [], ◌∷◌, ◌++◌, map, Option, Some, None, slice_index_or}
-use Rattle.std.specs.List.{filter}
+use Rattle.std.specs.Prelude.{ℕ, Bool, true, false, ◌&&◌, nat_lt, nat_eq, cond, List, [], ◌∷◌, ◌++◌, map, Option, Some, None, slice_index_or}
 use Rattle.mfotl_model.specs.Formulas.{Form}
 use Rattle.mfotl_model.specs.Formulas.Form.{True, False, Atom, Compare, Not, And, Or, Exists, Previous, Next, Since, Until}
 use Rattle.mfotl_model.specs.declared.formula.Bound.{Bound}
 use Rattle.mfotl_model.specs.declared.policy.Var.{Var as FreeVar}
-use Rattle.mfotl_model.specs.declared.policy.Policy.{Policy}
 use Rattle.mfotl_model.specs.declared.term.Comparison.{Comparison}
 use Rattle.mfotl_model.specs.declared.term.Sign.{Sign}
 use Rattle.mfotl_model.specs.declared.term.Sign.TheVariants.{Equal, Less, LessEqual, Greater, GreaterEqual}
 use Rattle.mfotl_model.specs.declared.term.Term.{Term}
 use Rattle.mfotl_model.specs.declared.term.Term.TheVariants.{Var, Const}
-use Rattle.mfotl_model.specs.FreeVariables.{fv, among, variables_in}
+use Rattle.mfotl_model.specs.FreeVariables.{fv, among}
 use Rattle.monitorable.specs.NodeCount.{nodes, node_limit}
 use Rattle.monitorable.specs.NormalForm.{negative}
 use Rattle.monitorable.specs.declared.fault.Variable.{Variable}
@@ -93,11 +91,13 @@ guards names f = at_variable (λ y. Unguarded (named names y)) (first_outside (b
 abbrev pub evens : Form → Form → Option FragmentFault
 evens f g =
     first (at_variable (λ y. Uneven) (first_outside (fv f) (fv g)))
-        (at_variable (λ y. Uneven) (first_outside (fv g) (fv f)))
+    (at_variable (λ y. Uneven) (first_outside (fv g) (fv f)))
 
 -- whether a quantified variable is free in the formula
 abbrev pub uses : Bound → Form → Option FragmentFault
-uses x f = at_variable (λ y. UnusedBound (record { number = x.number; name = x.name })) (first_outside (fv f) (x.number ∷ []))
+uses x f =
+    at_variable (λ y. UnusedBound (record { number = y; name = x.name }))
+    (first_outside (fv f) (x.number ∷ []))
 
 -- whether the left operand's variables are free in the right operand
 abbrev pub covers : Names → Form → Form → Option FragmentFault
@@ -153,7 +153,7 @@ fault_in names role (Not f) =
     first (fault_in names (under_not role) f) (asked (judges_not role) (guards names (Not f)))
 fault_in names role (And f g) =
     first (fault_in names Part f)
-        (first (fault_in names Part g) (asked (is_conjunction role) (guards names (And f g))))
+    (first (fault_in names Part g) (asked (is_conjunction role) (guards names (And f g))))
 fault_in names role (Or f g) =
     first (fault_in names Whole f) (first (fault_in names Whole g) (evens f g))
 fault_in names role (Exists x f) = first (fault_in (with_name names x) Whole f) (uses x f)
@@ -163,7 +163,7 @@ fault_in names role (Since interval f g) =
     first (fault_in names Left f) (first (fault_in names Whole g) (covers names f g))
 fault_in names role (Until interval f g) =
     first (fault_in names Left f)
-        (first (fault_in names Whole g) (first (looks_within interval.hi) (covers names f g)))
+    (first (fault_in names Whole g) (first (looks_within interval.hi) (covers names f g)))
 fault_in names role f = Some TooLarge
 
 -- the first fault of a normal form

@@ -8,6 +8,7 @@ mod fragment;
 mod laws;
 mod normal;
 mod scope;
+mod variables;
 
 pub use fault::{FragmentFault, Variable};
 pub use laws::{normal_form_holds, normal_form_settled, only_free_variables_matter};

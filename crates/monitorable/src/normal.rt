@@ -31,7 +31,10 @@ pub fn normal(formula: &Formula, alloc: Global) -> Result<Formula, AllocError>
         }
         Formula::Exists(x, inner) => Ok(Formula::Exists(x.copy(alloc)?, boxed(inner, alloc)?)),
         Formula::Forall(x, inner) => {
-            not(Formula::Exists(x.copy(alloc)?, boxed_denied(inner, alloc)?), alloc)
+            not(
+                Formula::Exists(x.copy(alloc)?, boxed_denied(inner, alloc)?),
+                alloc,
+            )
         }
         Formula::Previous(at, inner) => Ok(Formula::Previous(*at, boxed(inner, alloc)?)),
         Formula::Next(at, inner) => Ok(Formula::Next(*at, boxed(inner, alloc)?)),
@@ -65,7 +68,10 @@ pub fn denied(formula: &Formula, alloc: Global) -> Result<Formula, AllocError>
         Formula::Compare(comparison) => not(Formula::Compare(comparison.copy(alloc)?), alloc),
         Formula::Not(inner) => normal(inner, alloc),
         Formula::And(left, right) => {
-            not(Formula::And(boxed(left, alloc)?, boxed(right, alloc)?), alloc)
+            not(
+                Formula::And(boxed(left, alloc)?, boxed(right, alloc)?),
+                alloc,
+            )
         }
         Formula::Or(left, right) => {
             Ok(Formula::And(boxed_denied(left, alloc)?, boxed_denied(right, alloc)?))
@@ -91,10 +97,16 @@ pub fn denied(formula: &Formula, alloc: Global) -> Result<Formula, AllocError>
         Formula::Eventually(at, inner) => not(eventually(*at, boxed(inner, alloc)?, alloc)?, alloc),
         Formula::Always(at, inner) => eventually(*at, boxed_denied(inner, alloc)?, alloc),
         Formula::Since(at, left, right) => {
-            not(Formula::Since(*at, boxed(left, alloc)?, boxed(right, alloc)?), alloc)
+            not(
+                Formula::Since(*at, boxed(left, alloc)?, boxed(right, alloc)?),
+                alloc,
+            )
         }
         Formula::Until(at, left, right) => {
-            not(Formula::Until(*at, boxed(left, alloc)?, boxed(right, alloc)?), alloc)
+            not(
+                Formula::Until(*at, boxed(left, alloc)?, boxed(right, alloc)?),
+                alloc,
+            )
         }
     }
 }

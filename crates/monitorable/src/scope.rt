@@ -8,6 +8,7 @@ use mfotl_model::{Bound, Name, Var};
 use std::alloc::{AllocError, Global};
 
 /// Which variables have a name where a formula stands: the innermost quantifier's first.
+#[derive(Clone, Copy)]
 pub enum Scope<'a> {
     Free(&'a [Var]),
     Under(&'a Bound, &'a Scope<'a>),
