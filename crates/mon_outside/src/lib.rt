@@ -10,6 +10,8 @@ mod loading;
 mod mem_inputs;
 mod mem_sink;
 mod sink;
+#[cfg(test)]
+mod tests;
 
 pub use fault::{Failed, LoadFault, ReadFault};
 pub use gate::{Gate, OpenGate};
