@@ -17,3 +17,6 @@ pub use laws::{more_bytes_change_nothing, tokens_are_the_bytes};
 pub use lexer::Lexer;
 pub use number::read_integer;
 pub use token::Token;
+
+#[cfg(test)]
+mod tests;
