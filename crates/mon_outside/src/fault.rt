@@ -1,7 +1,6 @@
 //! What a call of the outside answers where it does not do its work.
 
-ghost use Rattle.std.specs.Prelude.{◌≡◌};
-
+use std::alloc::AllocError;
 use thiserror::Error;
 
 /// The outside failed, and has counted it.
@@ -20,6 +19,17 @@ pub enum ReadFault {
     Memory,
 }
 
+impl From<AllocError> for ReadFault {
+    ghost use Rattle.std.specs.Prelude.{◌≡◌};
+    ghost use Rattle.mon_outside.specs.declared.fault.ReadFault.TheVariants.{Memory};
+
+    ghost from_gives = { λ _ fault. fault ≡ Memory };
+
+    fn from(_: AllocError) -> Self {
+        ReadFault::Memory
+    }
+}
+
 /// Why a file was not loaded.
 #[derive(Clone, Copy, Debug, PartialEq, Eq, Error)]
 pub enum LoadFault {
@@ -32,4 +42,15 @@ pub enum LoadFault {
     /// The memory for the bytes was refused.
     #[error("Memory")]
     Memory,
+}
+
+impl From<AllocError> for LoadFault {
+    ghost use Rattle.std.specs.Prelude.{◌≡◌};
+    ghost use Rattle.mon_outside.specs.declared.fault.LoadFault.TheVariants.{Memory};
+
+    ghost from_gives = { λ _ fault. fault ≡ Memory };
+
+    fn from(_: AllocError) -> Self {
+        LoadFault::Memory
+    }
 }

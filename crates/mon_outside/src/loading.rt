@@ -31,9 +31,7 @@ pub fn read_more<I: Inputs>(
     ensures cause { IsErrOf result ReadFault.Failed
         → Rose (I.faults inputs.old) (I.faults inputs.new) }
 {
-    if bytes.reserve(buffer.len()).is_err() {
-        return Err(ReadFault::Memory);
-    }
+    bytes.reserve(buffer.len())?;
     match inputs.read(buffer) {
         Ok(count) => {
             bytes.extend_from_slice(&buffer[..count]).unwrap();
@@ -63,10 +61,8 @@ pub fn read_to_end<I: Inputs>(
     ensures cause { IsErrOf result LoadFault.Failed
         → Rose (I.faults inputs.old) (I.faults inputs.new) }
 {
-    match vec![in alloc; 0u8; BUFFER] {
-        Ok(mut buffer) => read_through(inputs, &mut buffer, bytes, limit),
-        Err(_) => Err(LoadFault::Memory),
-    }
+    let mut buffer = vec![in alloc; 0u8; BUFFER]?;
+    read_through(inputs, &mut buffer, bytes, limit)
 }
 
 /// Opens the file of this name and reads it whole.
@@ -88,10 +84,8 @@ pub fn load<I: Inputs>(
         return Err(LoadFault::Failed);
     }
     let mut bytes = Vec::new(alloc);
-    match read_to_end(inputs, &mut bytes, limit, alloc) {
-        Ok(()) => Ok(bytes),
-        Err(fault) => Err(fault),
-    }
+    read_to_end(inputs, &mut bytes, limit, alloc)?;
+    Ok(bytes)
 }
 
 // Reads to the end through this buffer.
