@@ -1,3 +1,9 @@
 pub mod PredLemmas
 pub mod DraftLemmas
 pub mod ReadingLemmas
+pub mod RunLemmas
+pub mod Judging
+pub mod RuleLemmas
+pub mod Viability
+pub mod ViableRuns
+pub mod SignatureLaws

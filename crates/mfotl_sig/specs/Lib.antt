@@ -1,3 +1,6 @@
 pub mod Preds
+pub mod Grammar
 pub mod Reading
+pub mod Rules
+pub mod Laws
 pub mod Answers

@@ -4,11 +4,13 @@
 
 mod draft;
 mod fault;
+mod laws;
 mod pred;
 mod reading;
 mod signature;
 
 pub use fault::SigFault;
+pub use laws::{exact_syntax, one_answer, read_is_spelled, spelled_is_read};
 pub use pred::Pred;
 pub use reading::read_signature;
 pub use signature::Signature;

@@ -1,0 +1,27 @@
+//! What holds of every text. Each law is a function that does nothing: its clause is the law.
+
+ghost use Rattle.mfotl_sig.specs.Laws.{ReadIsSpelled, SpelledIsRead, OneAnswer, ExactSyntax};
+
+/// A text that is read spells its predicates, and keeps the rules.
+pub fn read_is_spelled()
+    ensures { ReadIsSpelled }
+{
+}
+
+/// A text that spells predicates and keeps the rules is read.
+pub fn spelled_is_read()
+    ensures { SpelledIsRead }
+{
+}
+
+/// A text has exactly one of a value and a first fault.
+pub fn one_answer()
+    ensures { OneAnswer }
+{
+}
+
+/// `Syntax` is shown exactly by the first token that ends viability, or by the input's end.
+pub fn exact_syntax()
+    ensures { ExactSyntax }
+{
+}
