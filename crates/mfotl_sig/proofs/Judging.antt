@@ -99,13 +99,17 @@ module _ (done : List PredOf) (name : List ℕ) where
   pub argument_stops : (sorts : List Sort) (stage : Stage) (argument : List Lexeme) (word : List ℕ) (tail : List Lexeme)
       → TakesWord sorts stage → SpellsArgument argument word → Follows tail → sort_of word ≡ None
       → (at : ℕ) × (run (argument ++ tail) (within done name sorts stage) ≡ Err (UnknownSort at))
-  argument_stops sorts stage (t ∷ []) word tail takes spelled f unknown =
-      (t.at, run-step t tail _ _ (takes t spelled.0)
-      ∙ stops sorts (sort_of t.text) t.at tail f (ap sort_of spelled.1 ∙ unknown))
-  argument_stops sorts stage (l ∷ c ∷ t ∷ []) word tail takes spelled f unknown =
-      (t.at, run-step l (c ∷ t ∷ tail) _ _ (takes l spelled.0)
-      ∙ run-step c (t ∷ tail) _ _ (colon_step done name sorts c (sort_of l.text) l.at spelled.1)
-      ∙ run-fault t tail _ (UnknownSort t.at) (labelled_fault done name sorts t spelled.2.0 (ap sort_of spelled.2.1 ∙ unknown)))
+  argument_stops sorts stage (t ∷ []) word tail takes spelled f unknown = (
+    t.at,
+    run-step t tail _ _ (takes t spelled.0)
+        ∙ stops sorts (sort_of t.text) t.at tail f (ap sort_of spelled.1 ∙ unknown),
+  )
+  argument_stops sorts stage (l ∷ c ∷ t ∷ []) word tail takes spelled f unknown = (
+    t.at,
+    run-step l (c ∷ t ∷ tail) _ _ (takes l spelled.0)
+        ∙ run-step c (t ∷ tail) _ _ (colon_step done name sorts c (sort_of l.text) l.at spelled.1)
+        ∙ run-fault t tail _ (UnknownSort t.at) (labelled_fault done name sorts t spelled.2.0 (ap sort_of spelled.2.1 ∙ unknown)),
+  )
   argument_stops sorts stage _ word tail takes spelled f unknown = absurd spelled
 
   -- the first token of the ninth argument
@@ -144,12 +148,12 @@ module _ (done : List PredOf) (name : List ℕ) (closing : Lexeme) (closes : clo
       → Judged ((length sorts + suc (length words) ≤ 8) × (IsSome (sort_of word) × AllKnown words)) (run ((argument ++ rest) ++ closing ∷ []) (within done name sorts stage)) (closed done name (sorts ++ sorts_of (word ∷ words)))
   judge_argument sorts stage argument rest word words (Some sort) known takes spelled more judge =
       judged_so _ _ _ _
-        (λ k. (omega (arith, k.0, length-append sorts (sort ∷ [])), (known_some word sort known, k.1)))
-        (λ k. (omega (arith, k.0, length-append sorts (sort ∷ [])), k.1.1))
-        (ap (λ ts. run ts (within done name sorts stage)) (append_assoc argument rest (closing ∷ []))
-          ∙ argument_read done name sorts stage argument word (rest ++ closing ∷ []) sort takes spelled (follows rest words closing closes more) known)
-        (ap (closed done name) (with_front sorts word words sort known))
-        (judge sort)
+      (λ k. (omega (arith, k.0, length-append sorts (sort ∷ [])), (known_some word sort known, k.1)))
+      (λ k. (omega (arith, k.0, length-append sorts (sort ∷ [])), k.1.1))
+      (ap (λ ts. run ts (within done name sorts stage)) (append_assoc argument rest (closing ∷ []))
+      ∙ argument_read done name sorts stage argument word (rest ++ closing ∷ []) sort takes spelled (follows rest words closing closes more) known)
+      (ap (closed done name) (with_front sorts word words sort known))
+      (judge sort)
   judge_argument sorts stage argument rest word words None unknown takes spelled more judge =
       let stop = argument_stops done name sorts stage argument word (rest ++ closing ∷ []) takes spelled (follows rest words closing closes more) unknown in
       inr (record {
@@ -161,23 +165,25 @@ module _ (done : List PredOf) (name : List ℕ) (closing : Lexeme) (closes : clo
 
   pub judge_more : (sorts : List Sort) (ts : List Lexeme) (words : List (List ℕ)) → length sorts ≤ 8 → SpellsMore ts words → Rest sorts ts words
   judge_more sorts ts [] short spelled =
-      inl ((omega (arith, short), tt),
+      inl (
+        (omega (arith, short), tt),
         ap (λ x. run (x ++ closing ∷ []) (within done name sorts AfterSort)) spelled
-        ∙ run-step closing [] _ _ (closing_step done name sorts closing closes)
-        ∙ ends (closed done name sorts)
-        ∙ ap (λ x. Ok (closed done name x)) (sym (append-nil sorts)))
+            ∙ run-step closing [] _ _ (closing_step done name sorts closing closes)
+            ∙ ends (closed done name sorts)
+            ∙ ap (λ x. Ok (closed done name x)) (sym (append-nil sorts)),
+      )
   judge_more sorts ts (word ∷ words) short spelled =
       let argument = spelled.1 in
       let rest = spelled.2 in
       let start : run (ts ++ closing ∷ []) (within done name sorts AfterSort) ≡ run ((argument ++ rest) ++ closing ∷ []) (within done name sorts AfterComma) =
-        ap (λ x. run (x ++ closing ∷ []) (within done name sorts AfterSort)) spelled.3
-        ∙ run-step spelled.0 ((argument ++ rest) ++ closing ∷ []) _ _ (comma_step done name sorts spelled.0 spelled.4) in
+      ap (λ x. run (x ++ closing ∷ []) (within done name sorts AfterSort)) spelled.3
+      ∙ run-step spelled.0 ((argument ++ rest) ++ closing ∷ []) _ _ (comma_step done name sorts spelled.0 spelled.4) in
       elim (cases_lt (length sorts) 8) [
         | inl room ↦
             judged_so _ _ _ _ (λ k. k) (λ k. k) start refl
-              (judge_argument sorts AfterComma argument rest word words (sort_of word) refl
-                (λ t kind. next_step done name sorts t kind room) spelled.5 spelled.6
-                (λ sort. judge_more (sorts ++ sort ∷ []) rest words (omega (arith, room, length-append sorts (sort ∷ []))) spelled.6))
+            (judge_argument sorts AfterComma argument rest word words (sort_of word) refl
+            (λ t kind. next_step done name sorts t kind room) spelled.5 spelled.6
+            (λ sort. judge_more (sorts ++ sort ∷ []) rest words (omega (arith, room, length-append sorts (sort ∷ []))) spelled.6))
         | inr over ↦
             let stop = argument_over done name sorts argument word (rest ++ closing ∷ []) over spelled.5 in
             inr (record {
@@ -191,16 +197,18 @@ module _ (done : List PredOf) (name : List ℕ) (closing : Lexeme) (closes : clo
   pub judge_inside : (ts : List Lexeme) (words : List (List ℕ)) → SpellsArguments ts words
       → Judged ((length words ≤ 8) × AllKnown words) (run (ts ++ closing ∷ []) (within done name [] AfterOpen)) (closed done name (sorts_of words))
   judge_inside ts [] spelled =
-      inl ((omega arith, tt),
+      inl (
+        (omega arith, tt),
         ap (λ x. run (x ++ closing ∷ []) (within done name [] AfterOpen)) spelled
-        ∙ run-step closing [] _ _ (empty_step done name [] closing closes)
-        ∙ ends (closed done name []))
+            ∙ run-step closing [] _ _ (empty_step done name [] closing closes)
+            ∙ ends (closed done name []),
+      )
   judge_inside ts (word ∷ words) spelled =
       judged_so _ _ _ _ (λ k. (omega (arith, k.0), k.1)) (λ k. (omega (arith, k.0), k.1))
-        (ap (λ x. run (x ++ closing ∷ []) (within done name [] AfterOpen)) spelled.2) refl
-        (judge_argument [] AfterOpen spelled.0 spelled.1 word words (sort_of word) refl
-          (λ t kind. first_step done name [] t kind) spelled.3 spelled.4
-          (λ sort. judge_more (sort ∷ []) spelled.1 words (omega arith) spelled.4))
+      (ap (λ x. run (x ++ closing ∷ []) (within done name [] AfterOpen)) spelled.2) refl
+      (judge_argument [] AfterOpen spelled.0 spelled.1 word words (sort_of word) refl
+      (λ t kind. first_step done name [] t kind) spelled.3 spelled.4
+      (λ sort. judge_more (sort ∷ []) spelled.1 words (omega arith) spelled.4))
 
 -- a predicate behind others keeps the rules
 abbrev pub KeepsOne : List PredOf → Written → Type 0
@@ -246,7 +254,7 @@ module _ (done : List PredOf) (ts : List Lexeme) (w : Written) (s : SpellsPredic
       elim (cases_lt (length done) 256) [
         | inl room ↦
             judged_so _ _ _ _ (λ k. (sym named_so ∙ absent, room, k.0, k.1)) (λ k. (k.2, k.3)) (opened absent room) refl
-              (judge_inside done w.name s.closing s.closes s.inside w.sorts s.arguments)
+            (judge_inside done w.name s.closing s.closes s.inside w.sorts s.arguments)
         | inr over ↦ shows (TooMany s.name.at) tt (too_many done s.name s.named.0 absent over) (λ k. omega (arith, over, k.1))
       ]
 
@@ -273,12 +281,12 @@ judge_all done ts [] spelled =
 judge_all done ts (w ∷ ws) spelled =
     let rest = spelled.1 in
     let start : run ts (between done) ≡ (run spelled.0 (between done) >>= λ q. run rest q) =
-      ap (λ x. run x (between done)) spelled.2 ∙ run-append spelled.0 rest (between done) in
+    ap (λ x. run x (between done)) spelled.2 ∙ run-append spelled.0 rest (between done) in
     elim (judge_predicate done spelled.0 w spelled.3) [
       | inl kept ↦
           judged_so _ _ _ _ (λ k. (kept.0, k)) (λ k. k.1)
-            (start ∙ ap (λ r. r >>= λ q. run rest q) kept.1) (ap between (one_more done w ws))
-            (judge_all (done ++ pred_behind done w ∷ []) rest ws spelled.4)
+          (start ∙ ap (λ r. r >>= λ q. run rest q) kept.1) (ap between (one_more done w ws))
+          (judge_all (done ++ pred_behind done w ∷ []) rest ws spelled.4)
       | inr breaks ↦
           inr (record {
             broken = λ k. breaks.broken k.0;

@@ -1,4 +1,5 @@
 pub mod PredLemmas
+pub mod NamedLemmas
 pub mod DraftLemmas
 pub mod ReadingLemmas
 pub mod RunLemmas

@@ -134,7 +134,7 @@ run_stops front back t q fault e stop =
 unviable : (front : List Lexeme) (t : Lexeme) (q : Partial) (at : ℕ) → run front nothing_read ≡ Ok q → step q t ≡ Err (Syntax at) → IsViable (front ++ t ∷ []) → ⊥
 unviable front t q at e stop viable =
     unspelled (front ++ t ∷ viable.0) viable.1.0 at (run_stops front viable.0 t q (Syntax at) e stop)
-      (subst (λ ts. Spells ts viable.1.0) (append_assoc front (t ∷ []) viable.0) viable.1.1)
+    (subst (λ ts. Spells ts viable.1.0) (append_assoc front (t ∷ []) viable.0) viable.1.1)
 
 at_token : (front : List Lexeme) (t : Lexeme) (q : Partial) (at : ℕ) → run front nothing_read ≡ Ok q → step q t ≡ Err (Syntax at) → at ≡ t.at
 at_token front t q at e stop =
@@ -195,7 +195,7 @@ token_shows : (bytes : List ℕ) (at : ℕ) → EndsViability (tokens_of bytes).
 token_shows bytes at s =
     let q = s.sound.0 in
     let stop : step q s.token ≡ Err (Syntax s.token.at) =
-      elim (syntax_or_viable s.front q s.token s.sound.1) [ inl stops ↦ stops | inr viable ↦ absurd (s.ends viable) ] in
+    elim (syntax_or_viable s.front q s.token s.sound.1) [ inl stops ↦ stops | inr viable ↦ absurd (s.ends viable) ] in
     reading_is bytes
     ∙ ap (λ ts. run ts nothing_read >>= λ x. ended (length bytes) (tokens_of bytes).fault x) s.parts
     ∙ ap (λ r. r >>= λ x. ended (length bytes) (tokens_of bytes).fault x) (run_stops s.front s.back s.token q (Syntax s.token.at) s.sound.1 stop)

@@ -172,20 +172,26 @@ nothing = ([], refl)
 pub completes : (stage : Stage) → (ts : List Lexeme) × Behind stage ts
 unfolding of_kind no_more
 completes AfterName =
-    let open_it = of_kind OpenParen in let close_it = of_kind CloseParen in
-    (open_it ∷ close_it ∷ [], step_back AfterName open_it (close_it ∷ []) OpenParen refl
-      (step_back AfterOpen close_it [] CloseParen refl nothing))
+    let open_it = of_kind OpenParen in let close_it = of_kind CloseParen in (
+      open_it ∷ close_it ∷ [],
+      step_back AfterName open_it (close_it ∷ []) OpenParen refl
+          (step_back AfterOpen close_it [] CloseParen refl nothing),
+    )
 completes AfterOpen = (of_kind CloseParen ∷ [], step_back AfterOpen (of_kind CloseParen) [] CloseParen refl nothing)
 completes (AfterWord sort at) = (of_kind CloseParen ∷ [], step_back (AfterWord sort at) (of_kind CloseParen) [] CloseParen refl nothing)
 completes AfterLabel =
-    let word = of_kind Word in let close_it = of_kind CloseParen in
-    (word ∷ close_it ∷ [], step_back AfterLabel word (close_it ∷ []) Word refl
-      (step_back AfterSort close_it [] CloseParen refl nothing))
+    let word = of_kind Word in let close_it = of_kind CloseParen in (
+      word ∷ close_it ∷ [],
+      step_back AfterLabel word (close_it ∷ []) Word refl
+          (step_back AfterSort close_it [] CloseParen refl nothing),
+    )
 completes AfterSort = (of_kind CloseParen ∷ [], step_back AfterSort (of_kind CloseParen) [] CloseParen refl nothing)
 completes AfterComma =
-    let word = of_kind Word in let close_it = of_kind CloseParen in
-    (word ∷ close_it ∷ [], step_back AfterComma word (close_it ∷ []) Word refl
-      (step_back (word_stage word) close_it [] CloseParen refl nothing))
+    let word = of_kind Word in let close_it = of_kind CloseParen in (
+      word ∷ close_it ∷ [],
+      step_back AfterComma word (close_it ∷ []) Word refl
+          (step_back (word_stage word) close_it [] CloseParen refl nothing),
+    )
 
 -- what may stand behind what was read
 abbrev pub BehindDraft : Option DraftOf → List Lexeme → Type 0
@@ -204,7 +210,7 @@ name_back t ts kind b =
     let pred : Written = record { name = t.text; sorts = o.inside.words } in
     let first = t ∷ o.opening ∷ (inside ++ b.closing ∷ []) in
     let parts : t ∷ ts ≡ first ++ b.others =
-      ap (λ x. t ∷ x) (b.parts ∙ ap (λ x. x ++ b.closing ∷ b.others) o.parts ∙ ap (λ x. o.opening ∷ x) (sym (append_assoc inside (b.closing ∷ []) b.others))) in
+    ap (λ x. t ∷ x) (b.parts ∙ ap (λ x. x ++ b.closing ∷ b.others) o.parts ∙ ap (λ x. o.opening ∷ x) (sym (append_assoc inside (b.closing ∷ []) b.others))) in
     let spelled : SpellsPredicate first pred = record {
       name = t;
       opening = o.opening;

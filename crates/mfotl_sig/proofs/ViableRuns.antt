@@ -109,8 +109,8 @@ continues done None t ts = name_goes done t ts t.kind refl
 continues done (Some d) t ts =
     let n = next d.stage t t.kind in
     then_back (step_from done (Some d) t) (λ q. BehindDraft q.draft ts → BehindNext n ts) (Continues (Some d) t ts)
-      (λ q f b. step_back d.stage t ts t.kind refl (f b))
-      (draft_goes done t ts (next d.stage t t.kind) (stage_step d t d.stage) (agrees d d.stage t t.kind refl))
+    (λ q f b. step_back d.stage t ts t.kind refl (f b))
+    (draft_goes done t ts (next d.stage t t.kind) (stage_step d t d.stage) (agrees d d.stage t t.kind refl))
 
 pub bind_ok : {A B : Type 0} (r : Result A SigFault) (f : A → Result B SigFault) (y : B) → (r >>= f) ≡ Ok y → (x : A) × (r ≡ Ok x) × (f x ≡ Ok y)
 bind_ok (Ok x) f y e = (x, refl, e)

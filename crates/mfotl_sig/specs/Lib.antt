@@ -4,3 +4,4 @@ pub mod Reading
 pub mod Rules
 pub mod Laws
 pub mod Answers
+pub mod FaultTexts

@@ -5,9 +5,11 @@ ghost use Rattle.mfotl_sig.specs.declared.fault.SigFault.TheVariants.{Memory};
 
 use mfotl_lex::LexFault;
 use std::alloc::{AllocError, AllocFailed};
+use std::fmt;
+use thiserror::Error;
 
 /// The first fault of a signature. Each offset counts bytes from the start of the text.
-#[derive(Clone, Copy, Debug, Drop)]
+#[derive(Clone, Copy, Debug, PartialEq, Eq, Error)]
 pub enum SigFault {
     /// The bytes form no token.
     Lex(LexFault),
@@ -23,6 +25,26 @@ pub enum SigFault {
     TooMany(u64),
     /// Want of memory.
     Memory,
+}
+
+// By hand, since a derived `Display` says nothing of its bytes to a contract.
+impl fmt::Display for SigFault {
+    ghost use Rattle.std.specs.Prelude.{Some};
+    ghost use Rattle.mfotl_sig.specs.FaultTexts.{fault_text};
+
+    ghost output = { λ fault. Some (fault_text fault) };
+
+    fn fmt<W: fmt::Write>(&self, f: &mut fmt::Formatter<W>) -> fmt::Result {
+        match self {
+            SigFault::Lex(fault) => write!(f, "Lex {fault}"),
+            SigFault::Syntax(at) => write!(f, "Syntax at {at}"),
+            SigFault::RepeatedName(at) => write!(f, "RepeatedName at {at}"),
+            SigFault::UnknownSort(at) => write!(f, "UnknownSort at {at}"),
+            SigFault::Arity(at) => write!(f, "Arity at {at}"),
+            SigFault::TooMany(at) => write!(f, "TooMany at {at}"),
+            SigFault::Memory => f.write_str("Memory"),
+        }
+    }
 }
 
 impl From<AllocError> for SigFault {

@@ -5,23 +5,19 @@ ghost use Rattle.mfotl_sig.specs.Laws.{ReadIsSpelled, SpelledIsRead, OneAnswer, 
 /// A text that is read spells its predicates, and keeps the rules.
 pub fn read_is_spelled()
     ensures { ReadIsSpelled }
-{
-}
+{}
 
 /// A text that spells predicates and keeps the rules is read.
 pub fn spelled_is_read()
     ensures { SpelledIsRead }
-{
-}
+{}
 
 /// A text has exactly one of a value and a first fault.
 pub fn one_answer()
     ensures { OneAnswer }
-{
-}
+{}
 
 /// `Syntax` is shown exactly by the first token that ends viability, or by the input's end.
 pub fn exact_syntax()
     ensures { ExactSyntax }
-{
-}
+{}

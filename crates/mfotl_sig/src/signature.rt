@@ -1,4 +1,4 @@
-ghost use Rattle.std.specs.Prelude.{◌≡◌, ◌++◌, ◌∷◌, [], ◌<◌, ◌^◌, List, map, length, option_map, None, OnOk};
+ghost use Rattle.std.specs.Prelude.{◌≡◌, ◌≢◌, ◌↔◌, All, Contains, IsNone, IfSome, ◌++◌, ◌∷◌, [], ◌<◌, ◌^◌, List, map, length, option_map, None, OnOk};
 ghost use Rattle.std.specs.List.{AllByRecursion};
 ghost use Rattle.std.specs.Option.{option_copied};
 ghost use Rattle.mfotl_sig.specs.Preds.{PredOf, pred_of, named, KeyedByName};
@@ -42,7 +42,10 @@ impl Signature {
 
     /// The predicate of this name.
     pub fn find(&self, name: &[u8]) -> Option<&Pred>
-        ensures { option_map pred_of (option_copied result) ≡ named name.now self.now }
+        ensures found { option_map pred_of (option_copied result) ≡ named name.now self.now }
+        ensures none { IsNone result ↔ All (λ p. p.name ≢ name.now) self.now }
+        ensures name { IfSome result (λ p. p.now.name ≡ name.now) }
+        ensures member { IfSome result (λ p. Contains self.now (pred_of p.now)) }
     {
         self.preds.get(name)
     }
