@@ -4,4 +4,8 @@ pub mod Budget
 pub mod Fragment
 pub mod Judging
 pub mod Scope
+pub mod Renaming
+pub mod RenamingScope
+pub mod Atoms
+pub mod CoreForm
 pub mod Laws

@@ -6,9 +6,14 @@ mod count;
 mod fault;
 mod fragment;
 mod laws;
+mod making;
 mod normal;
+mod policy_core;
+mod renaming;
 mod scope;
 mod variables;
 
 pub use fault::{FragmentFault, Variable};
 pub use laws::{normal_form_holds, normal_form_settled, only_free_variables_matter};
+pub use making::to_core;
+pub use policy_core::Core;

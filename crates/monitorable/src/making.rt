@@ -1,0 +1,130 @@
+//! The core of a policy.
+ghost use Rattle.std.specs.Prelude.{◌≡◌, ◌++◌, IfOk, OnOk, option_copied};
+ghost use Rattle.mfotl_model.specs.Formulas.{form};
+ghost use Rattle.mfotl_model.specs.FreeVariables.{fv};
+ghost use Rattle.monitorable.specs.Atoms.{atoms_of, only_atom};
+ghost use Rattle.monitorable.specs.CoreForm.{core_form};
+ghost use Rattle.monitorable.specs.Fragment.{frag_fault, free_names};
+ghost use Rattle.monitorable.specs.Judging.{Judges};
+ghost use Rattle.monitorable.specs.NormalForm.{negative};
+ghost use Rattle.monitorable.specs.Renaming.{apart_form};
+
+use crate::count::pay_for_denied;
+use crate::fault::FragmentFault;
+use crate::fragment::{Role, judge};
+use crate::normal::denied;
+use crate::policy_core::Core;
+use crate::renaming::apart;
+use crate::scope::Scope;
+use mfotl_model::{Atom, Formula, Policy};
+use std::alloc::{AllocError, Global};
+
+/// The most nodes that a monitored normal form has.
+const NODE_LIMIT: u32 = 1024;
+
+impl Core {
+    fn new(formula: Formula, alloc: Global) -> Result<Self, AllocError>
+        ensures { IfOk result (λ core. core_form core ≡ form formula) }
+    {
+        let vars = formula.free_vars(alloc)?;
+        let atoms = atoms_of(&formula, alloc)?;
+        Ok(Core {
+            formula,
+            vars,
+            atoms,
+        })
+    }
+
+    /// The formula, which has no derived operator.
+    pub fn formula(&self) -> &Formula
+        ensures { form result.now ≡ core_form self.now }
+    {
+        &self.formula
+    }
+
+    /// The free variables by number, each once, in the order in which they first occur.
+    pub fn vars(&self) -> &[u32]
+        ensures { result.now ≡ fv (core_form self.now) }
+    {
+        self.vars.as_slice()
+    }
+
+    /// The atoms from left to right.
+    pub fn atoms(&self) -> &[Atom]
+        ensures { result.now ≡ atoms_of (core_form self.now) }
+    {
+        self.atoms.as_slice()
+    }
+
+    /// The atom that the core is, if it is nothing else.
+    pub fn as_atom(&self) -> Option<&Atom>
+        ensures { option_copied result ≡ only_atom (core_form self.now) }
+    {
+        match &self.formula {
+            Formula::Atom(atom) => Some(atom),
+            _ => None,
+        }
+    }
+
+    pub fn copy(&self, alloc: Global) -> Result<Self, AllocError>
+        ensures { IfOk result (λ core. core_form core ≡ core_form self.now) }
+    {
+        Core::new(self.formula.copy(alloc)?, alloc)
+    }
+}
+
+#[tactic(auto, unfolding(crate::specs::Atoms::atoms_of))]
+fn atoms_of(formula: &Formula, alloc: Global) -> Result<Vec<Atom>, AllocError>
+    ensures { IfOk result (λ atoms. atoms.items ≡ atoms_of (form formula.now)) }
+{
+    let mut atoms = Vec::new(alloc);
+    add_atoms(formula, &mut atoms, alloc)?;
+    Ok(atoms)
+}
+
+#[tactic(auto, unfolding(crate::specs::Atoms::atoms_of))]
+fn add_atoms(formula: &Formula, atoms: &mut Vec<Atom>, alloc: Global) -> Result<(), AllocError>
+    ensures { OnOk result (atoms.new.items ≡ atoms.old.items ++ atoms_of (form formula.now)) }
+{
+    match formula {
+        Formula::True | Formula::False | Formula::Compare(_) => Ok(()),
+        Formula::Atom(atom) => Ok(atoms.push(atom.copy(alloc)?)?),
+        Formula::Not(inner)
+        | Formula::Exists(_, inner)
+        | Formula::Forall(_, inner)
+        | Formula::Previous(_, inner)
+        | Formula::Next(_, inner)
+        | Formula::Once(_, inner)
+        | Formula::Historically(_, inner)
+        | Formula::Eventually(_, inner)
+        | Formula::Always(_, inner) => add_atoms(inner, atoms, alloc),
+        Formula::And(left, right)
+        | Formula::Or(left, right)
+        | Formula::Implies(left, right)
+        | Formula::Equiv(left, right)
+        | Formula::Since(_, left, right)
+        | Formula::Until(_, left, right) => {
+            add_atoms(left, atoms, alloc)?;
+            add_atoms(right, atoms, alloc)
+        }
+    }
+}
+
+/// The core of a policy, or the first reason why it can't be monitored.
+#[tactic(auto)]
+pub fn to_core(policy: &Policy, alloc: Global) -> Result<Core, FragmentFault>
+    ensures judged { Judges result (frag_fault (free_names policy.now.vars) (form policy.now.formula)) }
+    ensures core { IfOk result (λ core. core_form core ≡ apart_form (negative (form policy.now.formula))) }
+{
+    if pay_for_denied(&policy.formula, Some(NODE_LIMIT)).is_none() {
+        return Err(FragmentFault::TooLarge);
+    }
+    let normal = denied(&policy.formula, alloc)?;
+    judge(
+        &normal,
+        Role::Whole,
+        &Scope::Free(policy.vars.as_slice()),
+        alloc,
+    )?;
+    Ok(Core::new(apart(&normal, alloc)?, alloc)?)
+}
