@@ -101,7 +101,7 @@ impl<'a> Reader<'a> {
 /// `SigFault` is the first fault from left to right, each shown by one token: `UnknownSort` of a Word
 /// that might be a label by the token behind it.
 pub fn read_signature(bytes: &[u8], alloc: Global) -> Result<Signature, SigFault>
-    ensures exact { Gives (λ s. s) result (reading bytes.now) }
+    ensures { Gives (λ s. s) result (reading bytes.now) }
 {
     let mut lexer = Lexer::new(bytes, Mode::Plain);
     let mut reader = Reader::new(alloc);
