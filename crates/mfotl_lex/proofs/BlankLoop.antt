@@ -18,12 +18,18 @@ mutual
   pub blanks_within : (ended : Bool) (bytes : List ℕ) → blank_len ended bytes ≤ length bytes
   blanks_within ended [] = omega arith
   blanks_within ended (b ∷ bytes) =
-      cond_both (is_space b) (suc (blank_len ended bytes)) (cond (b == hash) (comment_len ended 1 bytes) 0) (λ n. n ≤ suc (length bytes))
+      cond_both (is_space b) (suc (blank_len ended bytes))
+      (cond (b == hash) (comment_len ended 1 bytes) 0) (λ n. n ≤ suc (length bytes))
       (λ _. omega (arith, blanks_within ended bytes))
-      (λ _. cond_both (b == hash) (comment_len ended 1 bytes) 0 (λ n. n ≤ suc (length bytes)) (λ _. omega (arith, comment_within ended 1 bytes)) (λ _. omega arith))
+      (λ _. cond_both (b == hash) (comment_len ended 1 bytes) 0 (λ n. n ≤ suc (length bytes))
+      (λ _. omega (arith, comment_within ended 1 bytes)) (λ _. omega arith))
 
-  pub comment_within : (ended : Bool) (count : ℕ) (bytes : List ℕ) → comment_len ended count bytes ≤ count + length bytes
-  comment_within ended count [] = cond_both ended count 0 (λ n. n ≤ count + 0) (λ _. omega arith) (λ _. omega arith)
+  pub comment_within : (ended : Bool) (count : ℕ) (bytes : List ℕ)
+      → comment_len ended count bytes ≤ count + length bytes
+  comment_within ended count [] = cond_both ended count 0 (λ n. n ≤ count + 0) (λ _. omega arith)
+      (λ _. omega arith)
   comment_within ended count (b ∷ bytes) =
-      cond_both (b == line_feed) (suc count + blank_len ended bytes) (comment_len ended (suc count) bytes) (λ n. n ≤ count + suc (length bytes))
-      (λ _. omega (arith, blanks_within ended bytes)) (λ _. omega (arith, comment_within ended (suc count) bytes))
+      cond_both (b == line_feed) (suc count + blank_len ended bytes)
+      (comment_len ended (suc count) bytes) (λ n. n ≤ count + suc (length bytes))
+      (λ _. omega (arith, blanks_within ended bytes))
+      (λ _. omega (arith, comment_within ended (suc count) bytes))

@@ -7,3 +7,4 @@ pub mod Growth
 pub mod Sequence
 pub mod GrowingLemmas
 pub mod CoveringLemmas
+pub mod ShorteningLemmas

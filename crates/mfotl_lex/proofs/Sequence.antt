@@ -1,7 +1,10 @@
 -- The tokens one after another: any fuel that suffices gives the same.
-use Rattle.std.proofs.Common.{◌≡◌, ℕ, zero, suc, ◌≤◌, ◌<◌, [], ◌∷◌, length, Option, Some, None, Result, Ok, Err, refl, sym, ap, ◌∙◌, arith}
+use Rattle.std.proofs.Common.{◌≡◌, ℕ, zero, suc, ◌≤◌, ◌<◌, [], ◌∷◌, length, take, subst, Option, Some, None, Result, Ok, Err, refl, sym, ap, ◌∙◌, arith}
 use Rattle.std.proofs.lemmas.List.{length-drop}
 use Rattle.mfotl_lex.specs.declared.fault.LexFault.{LexFault}
+use Rattle.std.specs.Prelude.{IsTrue}
+use Rattle.mfotl_lex.specs.declared.kind.Kind.TheVariants.{Integer}
+use Rattle.mfotl_lex.specs.Numbers.{integer_value, is_int64}
 use Rattle.mfotl_lex.specs.declared.scan.Scan.{Scan}
 use Rattle.mfotl_lex.specs.declared.scan.Scan.TheVariants.{Unshown, Takes, Fails}
 use Rattle.mfotl_lex.specs.Blanks.{blank_len}
@@ -20,38 +23,49 @@ past_within p = omega (arith, length-drop (blank_len p.ended p.rest) p.rest)
 
 -- ---- one token
 
-followed_same : (p q : Place) (s : Scan) (f g : Place → Tokens) → IsWithin q.rest s → length q.rest ≤ length p.rest
-    → ((r : Place) → length r.rest < length p.rest → f r ≡ g r) → followed (token_at q s) (f (place_after p q s)) ≡ followed (token_at q s) (g (place_after p q s))
+followed_same : (p q : Place) (s : Scan) (f g : Place → Tokens) → IsWithin q.rest s
+    → length q.rest ≤ length p.rest
+    → ((r : Place) → length r.rest < length p.rest → f r ≡ g r) → followed (token_at q s)
+    (f (place_after p q s)) ≡ followed (token_at q s) (g (place_after p q s))
 followed_same p q Unshown f g w le same = refl
 followed_same p q (Takes kind n) f g w le same =
-    let shorter : length (moved q n).rest < length p.rest = omega (arith, w.0, w.1, length-drop n q.rest) in
+    let shorter : length (moved q n).rest < length p.rest = omega
+    (arith, w.0, w.1, length-drop n q.rest) in
     rw (same (moved q n) shorter) refl
 followed_same p q (Fails fault n) f g w le same = refl
 
-stopped_same : (p q : Place) (s : Scan) (f g : Place → Place) → IsWithin q.rest s → length q.rest ≤ length p.rest
-    → ((r : Place) → length r.rest < length p.rest → f r ≡ g r) → stop_or (token_at q s) (place_after p q s) (f (place_after p q s)) ≡ stop_or (token_at q s) (place_after p q s) (g (place_after p q s))
+stopped_same : (p q : Place) (s : Scan) (f g : Place → Place) → IsWithin q.rest s
+    → length q.rest ≤ length p.rest
+    → ((r : Place) → length r.rest < length p.rest → f r ≡ g r) → stop_or (token_at q s)
+    (place_after p q s) (f (place_after p q s)) ≡ stop_or (token_at q s) (place_after p q s)
+    (g (place_after p q s))
 stopped_same p q Unshown f g w le same = refl
 stopped_same p q (Takes kind n) f g w le same =
-    let shorter : length (moved q n).rest < length p.rest = omega (arith, w.0, w.1, length-drop n q.rest) in
+    let shorter : length (moved q n).rest < length p.rest = omega
+    (arith, w.0, w.1, length-drop n q.rest) in
     same (moved q n) shorter
 stopped_same p q (Fails fault n) f g w le same = refl
 
 -- ---- any fuel
 
-fuel : (m n : ℕ) (p : Place) → length p.rest < m → length p.rest < n → tokens_within m p ≡ tokens_within n p
+fuel : (m n : ℕ) (p : Place) → length p.rest < m → length p.rest < n
+    → tokens_within m p ≡ tokens_within n p
 unfolding tokens_within next_token after
 fuel zero n p lt lt' = absurd (omega arith)
 fuel (suc m) zero p lt lt' = absurd (omega arith)
 fuel (suc m) (suc n) p lt lt' =
-    followed_same p (past_blanks p) (scan_at p) (tokens_within m) (tokens_within n) (scan_within p.mode p.ended (past_blanks p).rest) (past_within p)
+    followed_same p (past_blanks p) (scan_at p) (tokens_within m) (tokens_within n)
+    (scan_within p.mode p.ended (past_blanks p).rest) (past_within p)
     (λ r shorter. fuel m n r (omega arith) (omega arith))
 
-stop_fuel : (m n : ℕ) (p : Place) → length p.rest < m → length p.rest < n → stopped_within m p ≡ stopped_within n p
+stop_fuel : (m n : ℕ) (p : Place) → length p.rest < m → length p.rest < n
+    → stopped_within m p ≡ stopped_within n p
 unfolding stopped_within next_token after
 stop_fuel zero n p lt lt' = absurd (omega arith)
 stop_fuel (suc m) zero p lt lt' = absurd (omega arith)
 stop_fuel (suc m) (suc n) p lt lt' =
-    stopped_same p (past_blanks p) (scan_at p) (stopped_within m) (stopped_within n) (scan_within p.mode p.ended (past_blanks p).rest) (past_within p)
+    stopped_same p (past_blanks p) (scan_at p) (stopped_within m) (stopped_within n)
+    (scan_within p.mode p.ended (past_blanks p).rest) (past_within p)
     (λ r shorter. stop_fuel m n r (omega arith) (omega arith))
 
 -- any fuel beyond the length gives all tokens
@@ -63,26 +77,33 @@ tokens_fuel n p lt = fuel n (suc (length p.rest)) p lt (omega arith)
 pub tokens_step : (p : Place) → tokens p ≡ followed (next_token p) (tokens (after p))
 unfolding tokens tokens_within next_token after
 tokens_step p =
-    followed_same p (past_blanks p) (scan_at p) (tokens_within (length p.rest)) tokens (scan_within p.mode p.ended (past_blanks p).rest) (past_within p)
+    followed_same p (past_blanks p) (scan_at p) (tokens_within (length p.rest)) tokens
+    (scan_within p.mode p.ended (past_blanks p).rest) (past_within p)
     (λ r shorter. tokens_fuel (length p.rest) r shorter)
 
 pub stopped_step : (p : Place) → stopped p ≡ stop_or (next_token p) (after p) (stopped (after p))
 unfolding stopped stopped_within next_token after
 stopped_step p =
-    stopped_same p (past_blanks p) (scan_at p) (stopped_within (length p.rest)) stopped (scan_within p.mode p.ended (past_blanks p).rest) (past_within p)
+    stopped_same p (past_blanks p) (scan_at p) (stopped_within (length p.rest)) stopped
+    (scan_within p.mode p.ended (past_blanks p).rest) (past_within p)
     (λ r shorter. stop_fuel (length p.rest) (suc (length r.rest)) r shorter (omega arith))
 
 -- a token first
-pub tokens_token : (p : Place) (t : Lexeme) → next_token p ≡ Ok (Some t) → tokens p ≡ record { list = t ∷ (tokens (after p)).list; fault = (tokens (after p)).fault }
-tokens_token p t e = tokens_step p ∙ ap (λ (r : Result (Option Lexeme) LexFault). followed r (tokens (after p))) e
+pub tokens_token : (p : Place) (t : Lexeme) → next_token p ≡ Ok (Some t)
+    → tokens p ≡ record { list = t ∷ (tokens (after p)).list; fault = (tokens (after p)).fault }
+tokens_token p t e = tokens_step p ∙ ap
+    (λ (r : Result (Option Lexeme) LexFault). followed r (tokens (after p))) e
 
 -- no token
 pub tokens_none : (p : Place) → next_token p ≡ Ok None → tokens p ≡ record { list = []; fault = None }
-tokens_none p e = tokens_step p ∙ ap (λ (r : Result (Option Lexeme) LexFault). followed r (tokens (after p))) e
+tokens_none p e = tokens_step p ∙ ap
+    (λ (r : Result (Option Lexeme) LexFault). followed r (tokens (after p))) e
 
 -- a fault
-pub tokens_fault : (p : Place) (fault : LexFault) → next_token p ≡ Err fault → tokens p ≡ record { list = []; fault = Some fault }
-tokens_fault p fault e = tokens_step p ∙ ap (λ (r : Result (Option Lexeme) LexFault). followed r (tokens (after p))) e
+pub tokens_fault : (p : Place) (fault : LexFault) → next_token p ≡ Err fault
+    → tokens p ≡ record { list = []; fault = Some fault }
+tokens_fault p fault e = tokens_step p ∙ ap
+    (λ (r : Result (Option Lexeme) LexFault). followed r (tokens (after p))) e
 
 -- ---- where the place behind is
 
@@ -94,15 +115,18 @@ pub after_is : (p : Place) → after p ≡ place_after p (past_blanks p) (scan_a
 unfolding after
 after_is p = refl
 
-shorter : (p q : Place) (s : Scan) (t : Lexeme) → IsWithin q.rest s → length q.rest ≤ length p.rest → token_at q s ≡ Ok (Some t) → length (place_after p q s).rest < length p.rest
+shorter : (p q : Place) (s : Scan) (t : Lexeme) → IsWithin q.rest s → length q.rest ≤ length p.rest
+    → token_at q s ≡ Ok (Some t) → length (place_after p q s).rest < length p.rest
 shorter p q Unshown t w le e = absurd cc
 shorter p q (Takes kind n) t w le e = omega (arith, w.0, w.1, length-drop n q.rest)
 shorter p q (Fails fault n) t w le e = absurd cc
 
 -- a token takes a byte at least
-pub after_shorter : (p : Place) (t : Lexeme) → next_token p ≡ Ok (Some t) → length (after p).rest < length p.rest
+pub after_shorter : (p : Place) (t : Lexeme) → next_token p ≡ Ok (Some t) → length
+    (after p).rest < length p.rest
 after_shorter p t e =
-    rw after_is (shorter p (past_blanks p) (scan_at p) t (scan_within p.mode p.ended (past_blanks p).rest) (past_within p) (sym (next_is p) ∙ e))
+    rw after_is (shorter p (past_blanks p) (scan_at p) t
+    (scan_within p.mode p.ended (past_blanks p).rest) (past_within p) (sym (next_is p) ∙ e))
 
 same_end : (p : Place) (s : Scan) → (place_after p (past_blanks p) s).ended ≡ p.ended
 same_end p Unshown = refl
@@ -137,11 +161,32 @@ unshown q (Takes kind n) e = absurd cc
 unshown q (Fails fault n) e = absurd cc
 
 -- where reading stops, by the next token
-pub stopped_at_token : (p : Place) (t : Lexeme) → next_token p ≡ Ok (Some t) → stopped p ≡ stopped (after p)
-stopped_at_token p t e = stopped_step p ∙ ap (λ (x : Result (Option Lexeme) LexFault). stop_or x (after p) (stopped (after p))) e
+pub stopped_at_token : (p : Place) (t : Lexeme) → next_token p ≡ Ok (Some t) → stopped p ≡ stopped
+    (after p)
+stopped_at_token p t e = stopped_step p ∙ ap
+    (λ (x : Result (Option Lexeme) LexFault). stop_or x (after p) (stopped (after p))) e
 
 pub stopped_at_none : (p : Place) → next_token p ≡ Ok None → stopped p ≡ past_blanks p
-stopped_at_none p e = stopped_step p ∙ ap (λ (x : Result (Option Lexeme) LexFault). stop_or x (after p) (stopped (after p))) e ∙ nothing_after p e
+stopped_at_none p e = stopped_step p ∙ ap
+    (λ (x : Result (Option Lexeme) LexFault). stop_or x (after p) (stopped (after p))) e
+    ∙ nothing_after p e
 
 pub stopped_at_fault : (p : Place) (f : LexFault) → next_token p ≡ Err f → stopped p ≡ p
-stopped_at_fault p f e = stopped_step p ∙ ap (λ (x : Result (Option Lexeme) LexFault). stop_or x (after p) (stopped (after p))) e ∙ fault_after p f e
+stopped_at_fault p f e = stopped_step p ∙ ap
+    (λ (x : Result (Option Lexeme) LexFault). stop_or x (after p) (stopped (after p))) e
+    ∙ fault_after p f e
+
+found_fits : (q : Place) (s : Scan) (t : Lexeme) → IsWithin q.rest s → token_at q s ≡ Ok (Some t)
+    → t.kind ≡ Integer → IsTrue (is_int64 (integer_value t.text))
+found_fits q Unshown t w e = absurd cc
+found_fits q (Takes kind n) t w e =
+    let made : Lexeme = record { kind = kind; at = q.at; text = take n q.rest } in
+    let is : made ≡ t = cc in
+    subst (λ (x : Lexeme). x.kind ≡ Integer → IsTrue (is_int64 (integer_value x.text))) is w.2
+found_fits q (Fails fault n) t w e = absurd cc
+
+-- an Integer has 64 bits
+pub integer_fits : (p : Place) (t : Lexeme) → next_token p ≡ Ok (Some t) → t.kind ≡ Integer → IsTrue
+    (is_int64 (integer_value t.text))
+integer_fits p t e = found_fits (past_blanks p) (scan_at p) t
+    (scan_within p.mode p.ended (past_blanks p).rest) (sym (next_is p) ∙ e)

@@ -6,5 +6,6 @@ pub mod Scans
 pub mod Places
 pub mod Lexemes
 pub mod Growing
+pub mod Shortening
 pub mod Covering
 pub mod FaultTexts

@@ -62,8 +62,8 @@ pub fn text_len(bytes: &[u8]) -> usize
     bytes.iter().take_while(|b| in_text(**b)).count()
 }
 
-#[tactic(auto, using(crate::proofs::BlankLoop::blanks_within), unfolding(crate::specs::Blanks::blank_len))]
 /// How many bytes of whitespace and comments stand at the front.
+#[tactic(auto, using(crate::proofs::BlankLoop::blanks_within), unfolding(crate::specs::Blanks::blank_len))]
 pub fn blank_len(bytes: &[u8], ended: bool) -> usize
     ensures count { result ≡ blank_len ended bytes.now }
     ensures within { result ≤ length bytes.now }

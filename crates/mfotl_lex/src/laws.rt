@@ -1,4 +1,5 @@
 ghost use Rattle.mfotl_lex.specs.Growing.{MoreBytesChangeNothing};
+ghost use Rattle.mfotl_lex.specs.Shortening.{OpenCommentsShorten};
 ghost use Rattle.mfotl_lex.specs.Covering.{TokensAreTheBytes};
 
 /// More bytes never change a token or a fault that is shown, so bytes may come in any pieces.
@@ -9,4 +10,9 @@ pub fn more_bytes_change_nothing()
 /// The tokens and what lies between them are the bytes, in order.
 pub fn tokens_are_the_bytes()
     ensures { TokensAreTheBytes }
+{}
+
+/// Of a comment that isn't at its end a reader needs the `#` alone, in the place of its last byte.
+pub fn open_comments_shorten()
+    ensures { OpenCommentsShorten }
 {}

@@ -65,9 +65,9 @@ impl<'a> Lexer<'a> {
         self.at
     }
 
-    #[tactic(auto, unfolding(crate::specs::Lexemes::next_token, crate::specs::Lexemes::after))]
     /// The next whole token, or the fault that stands in its place. `None` where neither is shown: at
     /// the end, or where more bytes have to come.
+    #[tactic(auto, unfolding(crate::specs::Lexemes::next_token, crate::specs::Lexemes::after))]
     pub fn next(&mut self) -> Result<Option<Token<'a>>, LexFault>
         ensures found { seen result ≡ next_token self.old }
         ensures after { self.new ≡ after self.old }

@@ -289,3 +289,10 @@ fn a_fault_comes_again(rt: HostRuntime) {
     assert_eq!(rt; lexer.next().err(), Some(fault));
     assert_eq!(rt; lexer.next().err(), Some(fault));
 }
+
+#[test]
+fn the_laws_are_called() {
+    more_bytes_change_nothing();
+    open_comments_shorten();
+    tokens_are_the_bytes();
+}
