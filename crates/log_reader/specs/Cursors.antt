@@ -1,0 +1,102 @@
+-- How a reader moves through the bytes of a log, from an offset and what was read before it.
+use Rattle.std.specs.Prelude.{◌≡◌, ◌+◌, ◌-◌, ◌<◌, ◌≤◌, ℕ, List, [], ◌∷◌, length, drop, Bool, true, false, Option, Some, None, Result, Ok, Err}
+use Rattle.mfotl_lex.specs.Lexemes.{next_token}
+use Rattle.mfotl_lex.specs.Places.{Place}
+use Rattle.mfotl_lex.specs.declared.kind.Mode.TheVariants.{Log}
+use Rattle.mfotl_model.specs.declared.event.TimePoint.{TimePoint}
+use Rattle.mfotl_sig.specs.Preds.{PredOf}
+use Rattle.log_reader.specs.declared.cursor.Turn.{Turn}
+use Rattle.log_reader.specs.declared.cursor.Turn.TheVariants.{Took, Completed, Empty}
+use Rattle.log_reader.specs.declared.fault.LogFault.{LogFault}
+use Rattle.log_reader.specs.declared.fault.LogFault.TheVariants.{Memory}
+use Rattle.log_reader.specs.declared.limits.Limits.{Limits}
+use Rattle.log_reader.specs.declared.next.Next.{Next}
+use Rattle.log_reader.specs.declared.next.Next.TheVariants.{Point}
+use Rattle.log_reader.specs.declared.stage.Stage.{Stage}
+use Rattle.log_reader.specs.declared.stage.Stage.TheVariants.{Between}
+use Rattle.log_reader.specs.Partials.{Partial, finished}
+use Rattle.log_reader.specs.Readings.{Reading, behind, stopped, run_from}
+
+-- an offset within the bytes that are looked at
+abbrev pub place_in : List ℕ → Bool → ℕ → Place
+place_in looked ended at = record { mode = Log; at = at; rest = drop at looked; ended = ended }
+
+-- what is known of the end later: once told, it stays so
+abbrev pub IsLater : Bool → Bool → Type 0
+IsLater true later = later ≡ true
+IsLater false later = Unit {0}
+
+-- how many time-points are begun and not completed
+abbrev pub open_count : Stage → ℕ
+open_count Between = 0
+open_count _ = 1
+
+-- how many time-points are completed
+abbrev pub given_of : Partial → ℕ
+given_of p = p.points - open_count p.stage
+
+abbrev pub IsCounted : Partial → Type 0
+IsCounted p = open_count p.stage ≤ p.points
+
+-- the reading from p on is these time-points, and then the reading from q on, whatever is told later
+pub record Leads (sig : List PredOf) (limits : Limits) (looked : List ℕ) (ended : Bool)
+    (at : ℕ) (p : Partial) (points : List TimePoint) (at' : ℕ) (q : Partial) : Type 0 where
+  pub reads : (later : Bool) → IsLater ended later → (last : Partial → Reading) →
+      run_from sig limits last p (place_in looked later at)
+      ≡ behind points (run_from sig limits last q (place_in looked later at'))
+  pub within : at' ≤ length looked
+  pub counted : IsCounted q
+  pub given : given_of q ≡ given_of p + length points
+
+-- a fault stands here, and nothing is moved
+pub record Halts (sig : List PredOf) (limits : Limits) (looked : List ℕ) (ended : Bool)
+    (at : ℕ) (p : Partial) (fault : LogFault) (at' : ℕ) (q : Partial) : Type 0 where
+  pub reads : (last : Partial → Reading) →
+      run_from sig limits last p (place_in looked ended at) ≡ stopped fault
+  pub same_at : at' ≡ at
+  pub same : q ≡ p
+
+-- no whole token is left, and nothing is moved
+pub record Rests (looked : List ℕ) (ended : Bool)
+    (at : ℕ) (p : Partial) (at' : ℕ) (q : Partial) : Type 0 where
+  pub empty : next_token (place_in looked ended at) ≡ Ok None
+  pub same_at : at' ≡ at
+  pub same : q ≡ p
+
+abbrev pub HaltsBy : List PredOf → Limits → List ℕ → Bool → ℕ → Partial → LogFault → ℕ → Partial → Type 0
+HaltsBy sig limits looked ended at p Memory at' q = Unit {0}
+HaltsBy sig limits looked ended at p fault at' q = Halts sig limits looked ended at p fault at' q
+
+-- what one token does
+abbrev pub Turns : List PredOf → Limits → List ℕ → Bool → ℕ → Partial → Result Turn LogFault → ℕ → Partial → Type 0
+Turns sig limits looked ended at p (Ok Took) at' q = Leads sig limits looked ended at p [] at' q × (at < at')
+Turns sig limits looked ended at p (Ok (Completed point)) at' q = Leads sig limits looked ended at p (point ∷ []) at' q
+Turns sig limits looked ended at p (Ok Empty) at' q = Rests looked ended at p at' q
+Turns sig limits looked ended at p (Err fault) at' q = HaltsBy sig limits looked ended at p fault at' q
+
+-- these time-points were read, and no whole token is left
+pub record Exhausts (sig : List PredOf) (limits : Limits) (looked : List ℕ) (ended : Bool)
+    (at : ℕ) (p : Partial) (at' : ℕ) (q : Partial) : Type 0 where
+  pub leads : Leads sig limits looked ended at p [] at' q
+  pub empty : next_token (place_in looked ended at') ≡ Ok None
+
+-- tokens were read up to a fault, which stands there again
+pub record Breaks (sig : List PredOf) (limits : Limits) (looked : List ℕ) (ended : Bool)
+    (at : ℕ) (p : Partial) (fault : LogFault) (at' : ℕ) (q : Partial) : Type 0 where
+  pub leads : Leads sig limits looked ended at p [] at' q
+  pub again : (last : Partial → Reading) → run_from sig limits last q (place_in looked ended at') ≡ stopped fault
+
+abbrev pub BreaksBy : List PredOf → Limits → List ℕ → Bool → ℕ → Partial → LogFault → ℕ → Partial → Type 0
+BreaksBy sig limits looked ended at p Memory at' q = Unit {0}
+BreaksBy sig limits looked ended at p fault at' q = Breaks sig limits looked ended at p fault at' q
+
+-- what the tokens up to the next time-point do
+abbrev pub Advances : List PredOf → Limits → List ℕ → Bool → ℕ → Partial → Result (Option TimePoint) LogFault → ℕ → Partial → Type 0
+Advances sig limits looked ended at p (Ok (Some point)) at' q = Leads sig limits looked ended at p (point ∷ []) at' q
+Advances sig limits looked ended at p (Ok None) at' q = Exhausts sig limits looked ended at p at' q
+Advances sig limits looked ended at p (Err fault) at' q = BreaksBy sig limits looked ended at p fault at' q
+
+-- a time-point that is given is done with
+abbrev pub behind_answer : Partial → Result Next LogFault → Partial
+behind_answer p (Ok (Point point)) = finished p
+behind_answer p _ = p

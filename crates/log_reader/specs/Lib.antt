@@ -1,0 +1,11 @@
+pub mod Symbols
+pub mod Stages
+pub mod Given
+pub mod ValuesRead
+pub mod Partials
+pub mod Steps
+pub mod Readings
+pub mod Progress
+pub mod Cursors
+pub mod Soundness
+pub mod FaultTexts

@@ -1,0 +1,22 @@
+-- What a reader keeps true of the bytes, the offset and what was read before it.
+use Rattle.std.specs.Prelude.{◌≡◌, ◌≤◌, ℕ, List, [], length, take, Bool, false}
+use Rattle.mfotl_sig.specs.Preds.{PredOf}
+use Rattle.log_reader.specs.declared.limits.Limits.{Limits}
+use Rattle.log_reader.specs.Cursors.{IsLater, IsCounted, given_of}
+use Rattle.log_reader.specs.Partials.{Partial}
+use Rattle.log_reader.specs.Progress.{skipped}
+use Rattle.log_reader.specs.Readings.{reading, run_from, nothing_left, place_at}
+
+-- what remains computes the rest of the reading
+pub record Remains (sig : List PredOf) (limits : Limits) (bytes : List ℕ) (ended : Bool)
+    (given at : ℕ) (p : Partial) : Type 0 where
+  pub rest : skipped given (reading sig limits bytes ended)
+      ≡ run_from sig limits (nothing_left limits bytes ended) p (place_at limits bytes ended at)
+  pub few : given ≤ length (reading sig limits bytes ended).points
+
+pub record IsSound (sig : List PredOf) (limits : Limits) (bytes : List ℕ) (is_fed is_ended : Bool)
+    (at : ℕ) (p : Partial) : Type 0 where
+  pub within : at ≤ length (take limits.bytes bytes)
+  pub counted : IsCounted p
+  pub unfed : is_fed ≡ false → bytes ≡ []
+  pub remains : (later : Bool) → IsLater is_ended later → Remains sig limits bytes later (given_of p) at p

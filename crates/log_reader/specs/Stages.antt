@@ -1,0 +1,47 @@
+-- The grammar of logs as an automaton over symbols: where each symbol may stand, and what it leads to.
+use Rattle.std.specs.Prelude.{ℕ, Bool, true, false, ◌&&◌, Option, Some, None, if◌then◌else◌}
+use Rattle.mfotl_lex.specs.declared.kind.Kind.{Kind}
+use Rattle.mfotl_lex.specs.declared.kind.Kind.TheVariants.{Semicolon}
+use Rattle.log_reader.specs.declared.stage.Stage.{Stage}
+use Rattle.log_reader.specs.declared.stage.Stage.TheVariants.{Between, AfterAt, AfterStamp, AfterName, AfterOpen, AfterValue, AfterComma, AfterClose}
+use Rattle.log_reader.specs.Symbols.{Symbol, AtSign, Opening, Closing, Separator, Terminator, Says, Bare, is_digits}
+
+-- the stage behind a symbol; none where the grammar can't go on with it
+abbrev pub goes : Stage → Symbol → Option Stage
+goes Between AtSign = Some AfterAt
+goes AfterAt (Says (Bare word)) = if is_digits word then Some AfterStamp else None
+goes AfterStamp (Says (Bare word)) = Some AfterName
+goes AfterStamp Terminator = Some Between
+goes AfterStamp AtSign = Some AfterAt
+goes AfterName Opening = Some AfterOpen
+goes AfterOpen (Says value) = Some AfterValue
+goes AfterOpen Closing = Some AfterClose
+goes AfterValue Separator = Some AfterComma
+goes AfterValue Closing = Some AfterClose
+goes AfterComma (Says value) = Some AfterValue
+goes AfterClose Opening = Some AfterOpen
+goes AfterClose (Says (Bare word)) = Some AfterName
+goes AfterClose Terminator = Some Between
+goes AfterClose AtSign = Some AfterAt
+goes _ _ = None
+
+-- whether the present time-point is whole, if nothing more of it comes
+abbrev pub is_whole : Stage → Bool
+is_whole AfterStamp = true
+is_whole AfterClose = true
+is_whole _ = false
+
+-- a symbol behind which no more of the present time-point comes
+abbrev pub ends_point : Symbol → Bool
+ends_point AtSign = true
+ends_point Terminator = true
+ends_point _ = false
+
+-- whether a symbol completes the present time-point
+abbrev pub completes : Stage → Symbol → Bool
+completes stage symbol = is_whole stage && ends_point symbol
+
+-- where reading goes on behind a time-point that a token completes: an `@` is read again
+abbrev pub read_on : Kind → ℕ → ℕ → ℕ
+read_on Semicolon before behind = behind
+read_on _ before behind = before

@@ -1,0 +1,107 @@
+ghost use Rattle.std.specs.Prelude.{◌≡◌, ◌≤◌, ◌<◌, ◌^◌, length};
+ghost use Rattle.log_reader.specs.Partials.{blank};
+ghost use Rattle.log_reader.specs.Cursors.{Turns, Advances, IsCounted, place_in};
+
+use crate::fault::LogFault;
+use crate::grammar::read_on;
+use crate::limits::Limits;
+use crate::partial::Partial;
+use mfotl_lex::{Lexer, Mode};
+use mfotl_model::TimePoint;
+use mfotl_sig::Signature;
+use std::alloc::Global;
+
+/// What a token did.
+#[derive(Drop)]
+pub enum Turn {
+    /// It was taken.
+    Took,
+    /// It completed a time-point.
+    Completed(TimePoint),
+    /// There is no whole token.
+    Empty,
+}
+
+/// An offset in the bytes of a log, and what was read before it.
+#[derive(Drop)]
+pub struct Cursor<'a> {
+    pub at: usize,
+    pub partial: Partial<'a>,
+}
+
+fn lexer_at(looked: &[u8], at: usize, ended: bool) -> Lexer<'_>
+    requires { at ≤ length looked.now }
+    ensures { result ≡ place_in looked.now ended at }
+{
+    let (_, rest) = looked.split_at(at);
+    Lexer::resume(rest, Mode::Log, at, ended)
+}
+
+impl<'a> Cursor<'a> {
+    pub fn new(alloc: Global) -> Self
+        ensures at { result.at ≡ 0 }
+        ensures partial { result.partial ≡ blank }
+    {
+        Cursor {
+            at: 0,
+            partial: Partial::new(alloc),
+        }
+    }
+
+    fn take_token(
+        &mut self,
+        looked: &[u8],
+        ended: bool,
+        sig: &'a Signature,
+        limits: &Limits,
+        alloc: Global,
+    ) -> Result<Turn, LogFault>
+        requires within { self.old.at ≤ length looked.now }
+        requires counted { IsCounted self.old.partial }
+        ensures { Turns sig.now limits.now looked.now ended self.old.at self.old.partial result
+            self.new.at self.new.partial }
+    {
+        let mut lexer = lexer_at(looked, self.at, ended);
+        let token = match lexer.next() {
+            Ok(Some(token)) => token,
+            Ok(None) => return Ok(Turn::Empty),
+            Err(fault) => return Err(LogFault::Lex(fault)),
+        };
+        if self.partial.is_completed_by(&token) {
+            self.at = read_on(token.kind, self.at, lexer.offset());
+            return Ok(Turn::Completed(self.partial.finish(alloc)));
+        }
+        match self.partial.step(sig, limits, &token, alloc) {
+            Ok(()) => {
+                self.at = lexer.offset();
+                Ok(Turn::Took)
+            }
+            Err(fault) => Err(fault),
+        }
+    }
+
+    /// Takes tokens until one completes a time-point, or no whole one is left. A fault leaves the cursor
+    /// before the token that shows it.
+    pub fn advance(
+        &mut self,
+        looked: &[u8],
+        ended: bool,
+        sig: &'a Signature,
+        limits: &Limits,
+        alloc: Global,
+    ) -> Result<Option<TimePoint>, LogFault>
+        requires within { self.old.at ≤ length looked.now }
+        requires counted { IsCounted self.old.partial }
+        ensures { Advances sig.now limits.now looked.now ended self.old.at self.old.partial result
+            self.new.at self.new.partial }
+    {
+        loop {
+            match self.take_token(looked, ended, sig, limits, alloc) {
+                Ok(Turn::Took) => {}
+                Ok(Turn::Completed(point)) => return Ok(Some(point)),
+                Ok(Turn::Empty) => return Ok(None),
+                Err(fault) => return Err(fault),
+            }
+        }
+    }
+}

@@ -1,0 +1,248 @@
+ghost use Rattle.std.specs.Prelude.{◌≡◌, ◌^◌, ◌<◌, ◌≤◌, OnErr, Ok, Err, IsTrue};
+ghost use Rattle.mfotl_lex.specs.Lexemes.{lexeme};
+ghost use Rattle.log_reader.specs.Given.{Moves};
+ghost use Rattle.log_reader.specs.Stages.{completes};
+ghost use Rattle.log_reader.specs.Symbols.{symbol, written};
+ghost use Rattle.mfotl_sig.specs.Preds.{named};
+
+use crate::fault::LogFault;
+use crate::grammar::{ends_point, is_whole, stage_behind};
+use crate::limits::Limits;
+use crate::next::Next;
+use crate::stage::Stage;
+use crate::values::{timestamp_of, value_at};
+use mfotl_lex::Token;
+use mfotl_model::{Db, Event, Row, Sort, TimePoint, Value};
+use mfotl_sig::Signature;
+use std::alloc::Global;
+use std::marker::Model;
+use std::mem;
+
+/// What has been read of a log.
+#[derive(Drop)]
+pub struct Partial<'a> {
+    stage: Stage,
+    points: u32,
+    time: u64,
+    events: Db,
+    groups: u32,
+    pred: u32,
+    sorts: &'a [Sort],
+    args: Vec<Value>,
+    due: &'a [Sort],
+}
+
+impl<'a> Model for Partial<'a> {
+    ghost use Rattle.log_reader.specs.Partials.{Partial as PartialOf};
+
+    ghost Value = { PartialOf };
+
+    ghost view = { λ p. record {
+      stage = p.stage;
+      points = p.points;
+      time = p.time;
+      events = p.events;
+      groups = p.groups;
+      pred = p.pred;
+      sorts = p.sorts.now;
+      args = p.args.items;
+      due = p.due.now;
+    } };
+}
+
+impl<'a> Partial<'a> {
+    ghost use Rattle.log_reader.specs.Partials.{blank, point_of, finished};
+    ghost use Rattle.log_reader.specs.Progress.{answer_of};
+    ghost use Rattle.log_reader.specs.Readings.{nothing_left};
+    ghost use Rattle.log_reader.specs.Cursors.{behind_answer};
+    ghost use Rattle.log_reader.specs.Steps.{opened, stamped, naming, grouped, valued, closed, timestamp_of, step};
+
+    pub fn new(alloc: Global) -> Self
+        ensures { result ≡ blank }
+    {
+        Partial {
+            stage: Stage::Between,
+            points: 0,
+            time: 0,
+            events: Db::new(alloc),
+            groups: 0,
+            pred: 0,
+            sorts: &[],
+            args: Vec::new(alloc),
+            due: &[],
+        }
+    }
+
+    /// Takes the present time-point out.
+    pub fn finish(&mut self, alloc: Global) -> TimePoint
+        ensures point { result ≡ point_of self.old }
+        ensures after { self.new ≡ finished self.old }
+    {
+        self.stage = Stage::Between;
+        self.groups = 0;
+        TimePoint {
+            ts: self.time,
+            db: mem::replace(&mut self.events, Db::new(alloc)),
+        }
+    }
+
+    fn open(&mut self, limits: &Limits, at: u64, alloc: Global) -> Result<(), LogFault>
+        ensures { Moves self.old self.new result (opened limits.now at self.old) }
+    {
+        if self.points >= limits.points {
+            return Err(LogFault::TooManyPoints(at));
+        }
+        self.stage = Stage::AfterAt;
+        self.points += 1;
+        self.events = Db::new(alloc);
+        self.groups = 0;
+        Ok(())
+    }
+
+    fn stamp(&mut self, at: u64, digits: &[u8]) -> Result<(), LogFault>
+        ensures { Moves self.old self.new result (stamped at self.old (timestamp_of digits.now)) }
+    {
+        match timestamp_of(digits) {
+            None => Err(LogFault::TimestampRange(at)),
+            Some(time) if time < self.time => Err(LogFault::FallingTime {
+                before: self.time,
+                now: time,
+                at,
+            }),
+            Some(time) => {
+                self.stage = Stage::AfterStamp;
+                self.time = time;
+                Ok(())
+            }
+        }
+    }
+
+    fn name(&mut self, sig: &'a Signature, at: u64, name: &[u8]) -> Result<(), LogFault>
+        ensures { Moves self.old self.new result (naming at self.old (named name.now sig.now)) }
+    {
+        match sig.find(name) {
+            None => Err(LogFault::UnknownPredicate(at)),
+            Some(pred) => {
+                self.stage = Stage::AfterName;
+                self.pred = pred.number;
+                self.sorts = pred.sorts.as_slice();
+                Ok(())
+            }
+        }
+    }
+
+    fn begin_group(&mut self, limits: &Limits, at: u64) -> Result<(), LogFault>
+        ensures { Moves self.old self.new result (grouped limits.now at self.old) }
+    {
+        if self.groups >= limits.events {
+            return Err(LogFault::TooManyEvents(at));
+        }
+        self.stage = Stage::AfterOpen;
+        self.groups += 1;
+        self.due = self.sorts;
+        Ok(())
+    }
+
+    fn take_value(&mut self, token: &Token, alloc: Global) -> Result<(), LogFault>
+        ensures { Moves self.old self.new result
+            (valued token.now.at (written (lexeme token.now)) self.old self.old.due) }
+    {
+        let at = token.at as u64;
+        match self.due {
+            [] => Err(LogFault::WrongArity(at)),
+            [sort, due @ ..] => {
+                let value = value_at(*sort, at, token.kind, token.content(), alloc)?;
+                self.args.push(value)?;
+                self.stage = Stage::AfterValue;
+                self.due = due;
+                Ok(())
+            }
+        }
+    }
+
+    fn end_group(&mut self, at: u64, alloc: Global) -> Result<(), LogFault>
+        ensures { Moves self.old self.new result (closed at self.old self.old.due) }
+    {
+        if !self.due.is_empty() {
+            return Err(LogFault::WrongArity(at));
+        }
+        let args = Row::new(mem::replace(&mut self.args, Vec::new(alloc)));
+        self.events.insert(Event {
+            pred: self.pred,
+            args,
+        })?;
+        self.stage = Stage::AfterClose;
+        Ok(())
+    }
+
+    /// Whether a token completes the present time-point.
+    pub fn is_completed_by(&self, token: &Token) -> bool
+        ensures { result ≡ completes self.now.stage (symbol (lexeme token.now)) }
+    {
+        is_whole(self.stage) && ends_point(token.kind, token.content())
+    }
+
+    /// Takes a token. A fault that it shows leaves everything as it is.
+    #[tactic(auto, unfolding(crate::specs::Steps::step))]
+    pub fn step(
+        &mut self,
+        sig: &'a Signature,
+        limits: &Limits,
+        token: &Token,
+        alloc: Global,
+    ) -> Result<(), LogFault>
+        ensures { Moves self.old self.new result (step sig.now limits.now self.old (lexeme token.now)) }
+    {
+        let at = token.at as u64;
+        let content = token.content();
+        match stage_behind(self.stage, token.kind, content) {
+            None => Err(LogFault::Syntax(at)),
+            Some(Stage::AfterAt) => self.open(limits, at, alloc),
+            Some(Stage::AfterStamp) => self.stamp(at, content),
+            Some(Stage::AfterName) => self.name(sig, at, content),
+            Some(Stage::AfterOpen) => self.begin_group(limits, at),
+            Some(Stage::AfterValue) => self.take_value(token, alloc),
+            Some(Stage::AfterComma) => self.separate(),
+            Some(Stage::AfterClose) => self.end_group(at, alloc),
+            Some(Stage::Between) => self.leave(alloc),
+        }
+    }
+
+    fn separate(&mut self) -> Result<(), LogFault>
+        ensures { Moves self.old self.new result (Ok (record self.old { stage = Stage.AfterComma })) }
+    {
+        self.stage = Stage::AfterComma;
+        Ok(())
+    }
+
+    fn leave(&mut self, alloc: Global) -> Result<(), LogFault>
+        ensures { Moves self.old self.new result (Ok (finished self.old)) }
+    {
+        let _ = self.finish(alloc);
+        Ok(())
+    }
+
+    /// What is due where no whole token is left of the bytes.
+    pub fn end(
+        &mut self,
+        limits: &Limits,
+        bytes: &[u8],
+        ended: bool,
+        alloc: Global,
+    ) -> Result<Next, LogFault>
+        ensures answer { result ≡ answer_of ended (nothing_left limits.now bytes.now ended self.old) }
+        ensures after { self.new ≡ behind_answer self.old result }
+    {
+        if limits.is_long(bytes) {
+            return Err(LogFault::TooLong(limits.bytes));
+        }
+        if !ended {
+            return Ok(Next::More);
+        }
+        match self.stage {
+            Stage::Between => Ok(Next::End),
+            Stage::AfterStamp | Stage::AfterClose => Ok(Next::Point(self.finish(alloc))),
+            _ => Err(LogFault::Syntax(bytes.len() as u64)),
+        }
+    }
+}
