@@ -8,4 +8,5 @@ pub mod Renaming
 pub mod RenamingScope
 pub mod Atoms
 pub mod CoreForm
+pub mod Domains
 pub mod Laws

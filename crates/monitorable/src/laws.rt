@@ -1,5 +1,5 @@
 //! Laws of the logic, each stated by the contract of a function that does nothing.
-ghost use Rattle.monitorable.specs.Laws.{Coincidence, NormalFormHolds, NormalFormSettled};
+ghost use Rattle.monitorable.specs.Laws.{ApartMeansTheSame, ApartVariables, Coincidence, NormalFormConstants, NormalFormHolds, NormalFormSettled, NormalFormVariables};
 
 /// Whether a formula holds hangs on its free variables alone.
 pub fn only_free_variables_matter()
@@ -15,4 +15,24 @@ pub fn normal_form_holds()
 /// Both normal forms are settled exactly where the formula is.
 pub fn normal_form_settled()
     ensures { NormalFormSettled }
+{}
+
+/// With its quantifiers apart, a formula holds where it did and is settled where it was.
+pub fn apart_means_the_same()
+    ensures { ApartMeansTheSame }
+{}
+
+/// With its quantifiers apart, a formula has the same free variables, and no variable stands for two.
+pub fn apart_variables()
+    ensures { ApartVariables }
+{}
+
+/// Both normal forms have the formula's free variables, in the same order.
+pub fn normal_form_variables()
+    ensures { NormalFormVariables }
+{}
+
+/// Both normal forms have the formula's constants.
+pub fn normal_form_constants()
+    ensures { NormalFormConstants }
 {}

@@ -14,6 +14,9 @@ mod scope;
 mod variables;
 
 pub use fault::{FragmentFault, Variable};
-pub use laws::{normal_form_holds, normal_form_settled, only_free_variables_matter};
+pub use laws::{
+    apart_means_the_same, apart_variables, normal_form_constants, normal_form_holds,
+    normal_form_settled, normal_form_variables, only_free_variables_matter,
+};
 pub use making::to_core;
 pub use policy_core::Core;

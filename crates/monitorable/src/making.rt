@@ -1,13 +1,13 @@
 //! The core of a policy.
-ghost use Rattle.std.specs.Prelude.{◌≡◌, ◌++◌, IfOk, OnOk, option_copied};
+ghost use Rattle.std.specs.Prelude.{◌≡◌, ◌++◌, IfOk, IsTrue, OnOk, option_copied};
 ghost use Rattle.mfotl_model.specs.Formulas.{form};
 ghost use Rattle.mfotl_model.specs.FreeVariables.{fv};
 ghost use Rattle.monitorable.specs.Atoms.{atoms_of, only_atom};
-ghost use Rattle.monitorable.specs.CoreForm.{core_form};
+ghost use Rattle.monitorable.specs.CoreForm.{Denies, SettlesWith, core_form};
 ghost use Rattle.monitorable.specs.Fragment.{frag_fault, free_names};
 ghost use Rattle.monitorable.specs.Judging.{Judges};
 ghost use Rattle.monitorable.specs.NormalForm.{negative};
-ghost use Rattle.monitorable.specs.Renaming.{apart_form};
+ghost use Rattle.monitorable.specs.Renaming.{all_apart, apart_form, binders};
 
 use crate::count::pay_for_denied;
 use crate::fault::FragmentFault;
@@ -110,9 +110,8 @@ fn add_atoms(formula: &Formula, atoms: &mut Vec<Atom>, alloc: Global) -> Result<
     }
 }
 
-/// The core of a policy, or the first reason why it can't be monitored.
-#[tactic(auto)]
-pub fn to_core(policy: &Policy, alloc: Global) -> Result<Core, FragmentFault>
+// The core, by the definitions of its parts.
+fn made(policy: &Policy, alloc: Global) -> Result<Core, FragmentFault>
     ensures judged { Judges result (frag_fault (free_names policy.now.vars) (form policy.now.formula)) }
     ensures core { IfOk result (λ core. core_form core ≡ apart_form (negative (form policy.now.formula))) }
 {
@@ -127,4 +126,17 @@ pub fn to_core(policy: &Policy, alloc: Global) -> Result<Core, FragmentFault>
         alloc,
     )?;
     Ok(Core::new(apart(&normal, alloc)?, alloc)?)
+}
+
+/// The core of a policy, or the first reason why it can't be monitored. TooLarge is found before any
+/// other, and without building the normal form.
+pub fn to_core(policy: &Policy, alloc: Global) -> Result<Core, FragmentFault>
+    ensures judged { Judges result (frag_fault (free_names policy.now.vars) (form policy.now.formula)) }
+    ensures core { IfOk result (λ core. core_form core ≡ apart_form (negative (form policy.now.formula))) }
+    ensures denies { IfOk result (λ core. Denies (core_form core) (form policy.now.formula)) }
+    ensures settles { IfOk result (λ core. SettlesWith (core_form core) (form policy.now.formula)) }
+    ensures variables { IfOk result (λ core. fv (core_form core) ≡ fv (form policy.now.formula)) }
+    ensures apart { IfOk result (λ core. IsTrue (all_apart (fv (core_form core) ++ binders (core_form core)))) }
+{
+    made(policy, alloc)
 }
