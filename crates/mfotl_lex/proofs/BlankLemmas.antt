@@ -8,8 +8,8 @@ use Rattle.mfotl_lex.specs.Blanks.{blank_len, comment_len}
 
 -- ---- one byte
 
-blank_space : (ended : Bool) (b : ℕ) (bytes : List ℕ) → is_space b ≡ true → blank_len ended
-    (b ∷ bytes) ≡ suc (blank_len ended bytes)
+blank_space : (ended : Bool) (b : ℕ) (bytes : List ℕ) → is_space b ≡ true
+    → blank_len ended (b ∷ bytes) ≡ suc (blank_len ended bytes)
 unfolding blank_len
 blank_space ended b bytes h = cond-true (is_space b) _ _ h
 
@@ -62,9 +62,9 @@ GoesOn ended count bytes more m =
 
 mutual
   -- the blanks go on where those of the front end
-  pub blank_len-append : (ended : Bool) (bytes more : List ℕ) → blank_len ended
-      (bytes ++ more) ≡ blank_len false bytes + blank_len ended
-      (drop (blank_len false bytes) bytes ++ more)
+  pub blank_len-append : (ended : Bool) (bytes more : List ℕ)
+      → blank_len ended (bytes ++ more)
+      ≡ blank_len false bytes + blank_len ended (drop (blank_len false bytes) bytes ++ more)
   blank_len-append ended [] more = rw blank_nil (sym (zero-add (blank_len ended more)))
   blank_len-append ended (b ∷ bytes) more =
       elim (cases_Bool (is_space b)) [
@@ -83,23 +83,22 @@ mutual
                   blank_hash ended b (bytes ++ more) h k,
                   blank_hash false b bytes h k,
                   w.1,
-                  drop_from
-                      (m - 1) m b bytes (omega arith),
+                  drop_from (m - 1) m b bytes (omega arith),
                 ) refl
           ]
           | inr k ↦ rw (blank_other false b bytes h k) (sym (zero-add _))
         ]
       ]
 
-  comment_len-append : (ended : Bool) (count : ℕ) (bytes more : List ℕ) → GoesOn ended count bytes more
-      (comment_len false count bytes)
+  comment_len-append : (ended : Bool) (count : ℕ) (bytes more : List ℕ)
+      → GoesOn ended count bytes more (comment_len false count bytes)
   comment_len-append ended count [] more = inl (comment_end count)
   comment_len-append ended count (b ∷ bytes) more =
       elim (cases_Bool (b == line_feed)) [
         | inl h ↦
             let n = blank_len false bytes in
-            let e : comment_len ended count (b ∷ bytes ++ more) ≡ suc count + n + blank_len ended
-            (drop (suc count + n - count) (b ∷ bytes) ++ more) =
+            let e : comment_len ended count (b ∷ bytes ++ more)
+            ≡ suc count + n + blank_len ended (drop (suc count + n - count) (b ∷ bytes) ++ more) =
             rw (
               comment_closed ended count b (bytes ++ more) h,
               blank_len-append ended bytes more,
@@ -118,8 +117,7 @@ mutual
                     omega arith,
                     rw (
                       comment_open ended count b (bytes ++ more) h,
-                      drop_from
-                          (m - suc count) (m - count) b bytes (omega arith),
+                      drop_from (m - suc count) (m - count) b bytes (omega arith),
                     ) w.1,
                   )
             ] in
@@ -136,14 +134,14 @@ mutual
   blanks_before_end (b ∷ bytes) lt =
       elim (cases_Bool (is_space b)) [
         | inl h ↦
-            let lt' : suc (blank_len true bytes) < suc (length bytes) = rw
-            (blank_space true b bytes h) at lt in
+            let lt' : suc (blank_len true bytes) < suc (length bytes) =
+            rw (blank_space true b bytes h) at lt in
             rw (blank_space false b bytes h, blank_space true b bytes h)
             (ap suc (blanks_before_end bytes (omega arith)))
         | inr h ↦ elim (cases_Bool (b == hash)) [
           | inl k ↦
-              let lt' : comment_len true 1 bytes < suc (length bytes) = rw
-              (blank_hash true b bytes h k) at lt in
+              let lt' : comment_len true 1 bytes < suc (length bytes) =
+              rw (blank_hash true b bytes h k) at lt in
               rw (blank_hash false b bytes h k, blank_hash true b bytes h k)
               (comment_before_end 1 bytes (omega arith))
           | inr k ↦ rw (blank_other false b bytes h k, blank_other true b bytes h k) refl
@@ -157,13 +155,13 @@ mutual
   comment_before_end count (b ∷ bytes) lt =
       elim (cases_Bool (b == line_feed)) [
         | inl h ↦
-            let lt' : suc count + blank_len true bytes < count + suc (length bytes) = rw
-            (comment_closed true count b bytes h) at lt in
+            let lt' : suc count + blank_len true bytes < count + suc (length bytes) =
+            rw (comment_closed true count b bytes h) at lt in
             rw (comment_closed false count b bytes h, comment_closed true count b bytes h)
             (ap (λ (n : ℕ). suc count + n) (blanks_before_end bytes (omega arith)))
         | inr h ↦
-            let lt' : comment_len true (suc count) bytes < count + suc (length bytes) = rw
-            (comment_open true count b bytes h) at lt in
+            let lt' : comment_len true (suc count) bytes < count + suc (length bytes) =
+            rw (comment_open true count b bytes h) at lt in
             rw (comment_open false count b bytes h, comment_open true count b bytes h)
             (comment_before_end (suc count) bytes (omega arith))
       ]
@@ -175,8 +173,8 @@ Counted count bytes m = (m ≡ 0) ⊎ ((count < m) × (comment_len false count (
 
 mutual
   -- the blanks alone are counted whole
-  pub blank_len-take : (bytes : List ℕ) → blank_len false
-      (take (blank_len false bytes) bytes) ≡ blank_len false bytes
+  pub blank_len-take : (bytes : List ℕ)
+      → blank_len false (take (blank_len false bytes) bytes) ≡ blank_len false bytes
   blank_len-take [] = rw blank_nil (blank_nil false)
   blank_len-take (b ∷ bytes) =
       elim (cases_Bool (is_space b)) [
@@ -230,11 +228,11 @@ mutual
 
 -- ---- what stands behind the blanks
 
-blank_len-all : (ended : Bool) (bytes : List ℕ) → length bytes ≤ blank_len ended bytes → blank_len ended
-    (drop (blank_len ended bytes) bytes) ≡ 0
+blank_len-all : (ended : Bool) (bytes : List ℕ) → length bytes ≤ blank_len ended bytes
+    → blank_len ended (drop (blank_len ended bytes) bytes) ≡ 0
 blank_len-all ended bytes le =
-    let e : drop (blank_len ended bytes) bytes ≡ [] = nil_from_length _
-    (omega (arith, length-drop (blank_len ended bytes) bytes)) in
+    let e : drop (blank_len ended bytes) bytes ≡ [] =
+    nil_from_length _ (omega (arith, length-drop (blank_len ended bytes) bytes)) in
     rw e (blank_nil ended)
 
 blank_len-drop_open : (ended : Bool) (bytes : List ℕ) → blank_len ended bytes ≡ blank_len false bytes
@@ -242,13 +240,13 @@ blank_len-drop_open : (ended : Bool) (bytes : List ℕ) → blank_len ended byte
 blank_len-drop_open ended bytes e =
     let more : blank_len ended (bytes ++ []) ≡ blank_len false bytes + blank_len ended
     (drop (blank_len false bytes) bytes ++ []) = blank_len-append ended bytes [] in
-    let more' : blank_len ended bytes ≡ blank_len false bytes + blank_len ended
-    (drop (blank_len false bytes) bytes) = simp append-nil at more in
+    let more' : blank_len ended bytes
+    ≡ blank_len false bytes + blank_len ended (drop (blank_len false bytes) bytes) = simp append-nil at more in
     rw e (omega (arith, more', e))
 
 -- no blank stands there
-pub blank_len-drop : (ended : Bool) (bytes : List ℕ) → blank_len ended
-    (drop (blank_len ended bytes) bytes) ≡ 0
+pub blank_len-drop : (ended : Bool) (bytes : List ℕ)
+    → blank_len ended (drop (blank_len ended bytes) bytes) ≡ 0
 blank_len-drop false bytes = blank_len-drop_open false bytes refl
 blank_len-drop true bytes =
     elim (cases_lt (blank_len true bytes) (length bytes)) [
@@ -294,8 +292,8 @@ blank_len-none ended b bytes h k = blank_other ended b bytes h k
 
 -- ---- a comment that stays open
 
-blank_at_hash : (ended : Bool) (bytes : List ℕ) → blank_len ended
-    (hash ∷ bytes) ≡ comment_len ended 1 bytes
+blank_at_hash : (ended : Bool) (bytes : List ℕ)
+    → blank_len ended (hash ∷ bytes) ≡ comment_len ended 1 bytes
 blank_at_hash ended bytes = blank_hash ended hash bytes refl refl
 
 comment_goes_on : (ended : Bool) (count : ℕ) (comment more : List ℕ)
@@ -306,11 +304,11 @@ comment_goes_on ended count (b ∷ comment) more none =
     elim (cases_Bool (b == line_feed)) [
       | inl h ↦ absurd (omega (arith, sym (comment_closed false count b comment h) ∙ none))
       | inr h ↦
-          let more_on = comment_goes_on ended (suc count) comment more
-          (sym (comment_open false count b comment h) ∙ none) in
+          let more_on =
+          comment_goes_on ended (suc count) comment more (sym (comment_open false count b comment h) ∙ none) in
           let e : length comment + suc count ≡ suc (length comment) + count = omega arith in
-          comment_open ended count b (comment ++ more) h ∙ more_on ∙ ap
-          (λ (n : ℕ). comment_len ended n more) e
+          comment_open ended count b (comment ++ more) h ∙ more_on
+          ∙ ap (λ (n : ℕ). comment_len ended n more) e
     ]
 
 -- a comment that began k bytes earlier is k bytes longer, if it is closed or at the end
@@ -322,8 +320,8 @@ Longer ended k count bytes =
 
 comment_longer : (ended : Bool) (k count : ℕ) (bytes : List ℕ) → 0 < count → Longer ended k count bytes
 comment_longer false k count [] some = inl (comment_end count, comment_end (k + count))
-comment_longer true k count [] some = inr
-    (rw comment_end_told some, rw (comment_end_told (k + count), comment_end_told count) refl)
+comment_longer true k count [] some =
+    inr (rw comment_end_told some, rw (comment_end_told (k + count), comment_end_told count) refl)
 comment_longer ended k count (b ∷ bytes) some =
     elim (cases_Bool (b == line_feed)) [
       | inl h ↦ inr (

@@ -26,8 +26,8 @@ mutual
 
   pub comment_within : (ended : Bool) (count : ℕ) (bytes : List ℕ)
       → comment_len ended count bytes ≤ count + length bytes
-  comment_within ended count [] = cond_both ended count 0 (λ n. n ≤ count + 0) (λ _. omega arith)
-      (λ _. omega arith)
+  comment_within ended count [] =
+      cond_both ended count 0 (λ n. n ≤ count + 0) (λ _. omega arith) (λ _. omega arith)
   comment_within ended count (b ∷ bytes) =
       cond_both (b == line_feed) (suc count + blank_len ended bytes)
       (comment_len ended (suc count) bytes) (λ n. n ≤ count + suc (length bytes))

@@ -24,8 +24,8 @@ use Rattle.mfotl_lex.proofs.Sequence.{scan_at, next_is, after_is, after_shorter,
 
 -- ---- the blanks at the front
 
-len_front : (ended : Bool) (bytes : List ℕ) → length
-    (take (blank_len ended bytes) bytes) ≡ blank_len ended bytes
+len_front : (ended : Bool) (bytes : List ℕ)
+    → length (take (blank_len ended bytes) bytes) ≡ blank_len ended bytes
 len_front ended bytes = length-take-le (blank_len ended bytes) bytes (blanks_within ended bytes)
 
 -- blanks whose end isn't needed are blanks at the end too
@@ -36,8 +36,8 @@ blanks_at_end blanks e =
     (drop (blank_len false blanks) blanks ++ []) = blank_len-append true blanks [] in
     let more' : blank_len true blanks ≡ blank_len false blanks + blank_len true
     (drop (blank_len false blanks) blanks) = simp append-nil at more in
-    let none : drop (blank_len false blanks) blanks ≡ [] = nil_from_length _
-    (omega (arith, e, length-drop (blank_len false blanks) blanks)) in
+    let none : drop (blank_len false blanks) blanks ≡ [] =
+    nil_from_length _ (omega (arith, e, length-drop (blank_len false blanks) blanks)) in
     let nothing : blank_len true (drop (blank_len false blanks) blanks) ≡ 0 = rw none (blank_nil true)
     in
     omega (arith, more', nothing, e)
@@ -63,8 +63,8 @@ record Found (p : Place) (t : Lexeme) : Type 0 where
   offset : t.at ≡ p.at + length (take (blank_len p.ended p.rest) p.rest)
   next : (after p).at ≡ t.at + length t.text
 
-found_at : (p : Place) (s : Scan) (t : Lexeme) → IsWithin (past_blanks p).rest s → token_at
-    (past_blanks p) s ≡ Ok (Some t)
+found_at : (p : Place) (s : Scan) (t : Lexeme) → IsWithin (past_blanks p).rest s
+    → token_at (past_blanks p) s ≡ Ok (Some t)
     → (t.text ++ (place_after p (past_blanks p) s).rest ≡ (past_blanks p).rest) ×
     (t.at ≡ (past_blanks p).at)
     × ((place_after p (past_blanks p) s).at ≡ t.at + length t.text) × (0 < length (past_blanks p).rest)
@@ -73,8 +73,8 @@ found_at p (Takes kind n) t w e =
     let q = past_blanks p in
     let made : Lexeme = record { kind = kind; at = q.at; text = take n q.rest } in
     let is : made ≡ t = cc in
-    subst (λ (x : Lexeme). (x.text ++ drop n q.rest ≡ q.rest) × (x.at ≡ q.at) ×
-    (q.at + n ≡ x.at + length x.text) × (0 < length q.rest)) is (
+    subst (λ (x : Lexeme). (x.text ++ drop n q.rest ≡ q.rest)
+    × (x.at ≡ q.at) × (q.at + n ≡ x.at + length x.text) × (0 < length q.rest)) is (
       take-append-drop n q.rest,
       refl,
       ap (λ (k : ℕ). q.at + k) (sym (length-take-le n q.rest w.1)),
@@ -99,8 +99,8 @@ found p t e =
 -- ---- all tokens
 
 spread_step : (p : Place) (r : Result (Option Lexeme) LexFault) → next_token p ≡ r
-    → ((t : Lexeme) → next_token p ≡ Ok (Some t) → AreSpread p.ended (after p).at (after p).rest
-    (tokens (after p)).list (stopped (after p)).rest)
+    → ((t : Lexeme) → next_token p ≡ Ok (Some t)
+    → AreSpread p.ended (after p).at (after p).rest (tokens (after p)).list (stopped (after p)).rest)
     → AreSpread p.ended p.at p.rest (tokens p).list (stopped p).rest
 spread_step p (Ok (Some t)) e behind =
     let f = found p t e in
@@ -118,11 +118,11 @@ spread_step p (Ok None) e behind =
     let n = blank_len p.ended p.rest in
     rw (tokens_none p e, stopped_at_none p e)
     (take n p.rest, front_is_blank p.ended p.rest, sym (take-append-drop n p.rest))
-spread_step p (Err f) e behind = rw (tokens_fault p f e, stopped_at_fault p f e)
-    ([], blank_nil p.ended, refl)
+spread_step p (Err f) e behind =
+    rw (tokens_fault p f e, stopped_at_fault p f e) ([], blank_nil p.ended, refl)
 
-spread_within : (n : ℕ) (p : Place) → length p.rest < n → AreSpread p.ended p.at p.rest (tokens p).list
-    (stopped p).rest
+spread_within : (n : ℕ) (p : Place) → length p.rest < n
+    → AreSpread p.ended p.at p.rest (tokens p).list (stopped p).rest
 spread_within zero p lt = absurd (omega arith)
 spread_within (suc n) p lt =
     spread_step p (next_token p) refl
@@ -135,12 +135,12 @@ spread_within (suc n) p lt =
 nothing_left : (mode : Mode) (front : List ℕ) → blank_len true front ≡ 0
     → scan mode true front ≡ Unshown → front ≡ []
 nothing_left mode [] none e = refl
-nothing_left mode (b ∷ bytes) none e = absurd
-    (subst IsShown e (shown_at_end mode b bytes (no_hash b bytes none)))
+nothing_left mode (b ∷ bytes) none e =
+    absurd (subst IsShown e (shown_at_end mode b bytes (no_hash b bytes none)))
 
-told_at : (mode : Mode) (at : ℕ) (bytes : List ℕ) → next_token
-    (record { mode = mode; at = at; rest = bytes; ended = true }) ≡ Ok None → drop
-    (blank_len true bytes) bytes ≡ []
+told_at : (mode : Mode) (at : ℕ) (bytes : List ℕ)
+    → next_token (record { mode = mode; at = at; rest = bytes; ended = true }) ≡ Ok None
+    → drop (blank_len true bytes) bytes ≡ []
 told_at mode at bytes e =
     let p : Place = record { mode = mode; at = at; rest = bytes; ended = true } in
     nothing_left mode (drop (blank_len true bytes) bytes) (blank_len-drop true bytes)
@@ -150,8 +150,8 @@ told_at mode at bytes e =
 left_at_end : (p : Place) → p.ended ≡ true → next_token p ≡ Ok None → (past_blanks p).rest ≡ []
 left_at_end p told =
     subst (λ (b : Bool). next_token
-    (record { mode = p.mode; at = p.at; rest = p.rest; ended = b }) ≡ Ok None → drop
-    (blank_len b p.rest) p.rest ≡ []) (sym told) (told_at p.mode p.at p.rest)
+    (record { mode = p.mode; at = p.at; rest = p.rest; ended = b }) ≡ Ok None
+    → drop (blank_len b p.rest) p.rest ≡ []) (sym told) (told_at p.mode p.at p.rest)
 
 whole_step : (p : Place) (r : Result (Option Lexeme) LexFault) → next_token p ≡ r → p.ended ≡ true
     → ((t : Lexeme) → next_token p ≡ Ok (Some t) → (tokens (after p)).fault ≡ None →
@@ -184,8 +184,8 @@ covering p = record {
 blanks_left : (p : Place) → p.ended ≡ true → next_token p ≡ Ok None → AreBlanks true p.rest
 blanks_left p told e =
     let none : length (drop (blank_len p.ended p.rest) p.rest) ≡ 0 = ap length (left_at_end p told e) in
-    let all : blank_len p.ended p.rest ≡ length p.rest = omega
-    (arith, length-drop (blank_len p.ended p.rest) p.rest, blanks_within p.ended p.rest) in
+    let all : blank_len p.ended p.rest ≡ length p.rest =
+    omega (arith, length-drop (blank_len p.ended p.rest) p.rest, blanks_within p.ended p.rest) in
     subst (λ (b : Bool). blank_len b p.rest ≡ length p.rest) told all
 
 scan_nil : (mode : Mode) (ended : Bool) → scan mode ended [] ≡ Unshown
@@ -195,10 +195,10 @@ scan_nil Log ended = refl
 
 only_blanks : (p : Place) → p.ended ≡ true → AreBlanks true p.rest → next_token p ≡ Ok None
 only_blanks p told all =
-    let all' : blank_len p.ended p.rest ≡ length p.rest = subst
-    (λ (b : Bool). blank_len b p.rest ≡ length p.rest) (sym told) all in
-    let none : (past_blanks p).rest ≡ [] = nil_from_length _
-    (omega (arith, all', length-drop (blank_len p.ended p.rest) p.rest)) in
+    let all' : blank_len p.ended p.rest ≡ length p.rest =
+    subst (λ (b : Bool). blank_len b p.rest ≡ length p.rest) (sym told) all in
+    let none : (past_blanks p).rest ≡ [] =
+    nil_from_length _ (omega (arith, all', length-drop (blank_len p.ended p.rest) p.rest)) in
     let s : scan_at p ≡ Unshown = ap (λ (bytes : List ℕ). scan p.mode p.ended bytes) none
     ∙ scan_nil p.mode p.ended in
     next_is p ∙ ap (token_at (past_blanks p)) s

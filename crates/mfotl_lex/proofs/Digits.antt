@@ -9,8 +9,8 @@ grows n [] = omega arith
 grows n (b ∷ bytes) = omega (arith, grows (10 * n + (b - 48)) bytes)
 
 -- one more digit
-digit_step : (n i : ℕ) (bytes : List ℕ) → i < length bytes → digits_value n
-    (drop i bytes) ≡ digits_value (10 * n + (get_or bytes i 0 - 48)) (drop (i + 1) bytes)
+digit_step : (n i : ℕ) (bytes : List ℕ) → i < length bytes
+    → digits_value n (drop i bytes) ≡ digits_value (10 * n + (get_or bytes i 0 - 48)) (drop (i + 1) bytes)
 unfolding digits_value
 digit_step n i bytes lt = rw (add-one, drop-cons bytes i 0) refl
 
@@ -22,6 +22,6 @@ pub passes_limit : (limit n digit i : ℕ) (bytes : List ℕ) → i < length byt
 passes_limit limit n digit i bytes lt e so_far above =
     let next = 10 * n + (get_or bytes i 0 - 48) in
     let more : next ≤ digits_value next (drop (i + 1) bytes) = grows next (drop (i + 1) bytes) in
-    let same : digits_value next (drop (i + 1) bytes) ≡ digits_value 0 bytes = sym
-    (digit_step n i bytes lt) ∙ so_far in
+    let same : digits_value next (drop (i + 1) bytes) ≡ digits_value 0 bytes =
+    sym (digit_step n i bytes lt) ∙ so_far in
     rw (lt-leb (digits_value 0 bytes) limit (omega arith)) refl

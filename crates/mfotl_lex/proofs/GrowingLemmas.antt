@@ -31,8 +31,8 @@ shown_by_fault q (Fails fault n) f e = tt
 
 -- ---- where something is shown
 
-grown_token : (q : Place) (more : List ℕ) (ended : Bool) (s : Scan) → IsWithin q.rest s → token_at
-    (grown q more ended) s ≡ token_at q s
+grown_token : (q : Place) (more : List ℕ) (ended : Bool) (s : Scan) → IsWithin q.rest s
+    → token_at (grown q more ended) s ≡ token_at q s
 grown_token q more ended Unshown w = refl
 grown_token q more ended (Takes kind n) w = rw (take-append-le n q.rest more w.1) refl
 grown_token q more ended (Fails fault n) w = refl
@@ -44,20 +44,20 @@ grown_after p q more ended Unshown t w e = absurd cc
 grown_after p q more ended (Takes kind n) t w e = rw (drop-append-le n q.rest more w.1) refl
 grown_after p q more ended (Fails fault n) t w e = absurd cc
 
-past_same : (mode : Mode) (at : ℕ) (bytes more : List ℕ) (ended : Bool) → IsShown
-    (scan_at (open_at mode at bytes))
-    → past_blanks (grown (open_at mode at bytes) more ended) ≡ grown
-    (past_blanks (open_at mode at bytes)) more ended
+past_same : (mode : Mode) (at : ℕ) (bytes more : List ℕ) (ended : Bool)
+    → IsShown (scan_at (open_at mode at bytes))
+    → past_blanks (grown (open_at mode at bytes) more ended)
+    ≡ grown (past_blanks (open_at mode at bytes)) more ended
 past_same mode at bytes more ended shown =
     let n = blank_len false bytes in
-    let none : blank_len ended (drop n bytes ++ more) ≡ 0 = no_blank_before mode
-    (drop n bytes) more ended (blank_len-drop false bytes) shown in
-    let count : blank_len ended (bytes ++ more) ≡ n = omega
-    (arith, blank_len-append ended bytes more, none) in
+    let none : blank_len ended (drop n bytes ++ more) ≡ 0 =
+    no_blank_before mode (drop n bytes) more ended (blank_len-drop false bytes) shown in
+    let count : blank_len ended (bytes ++ more) ≡ n =
+    omega (arith, blank_len-append ended bytes more, none) in
     rw (count, drop-append-le n bytes more (blanks_within false bytes)) refl
 
-scan_same : (mode : Mode) (at : ℕ) (bytes more : List ℕ) (ended : Bool) → IsShown
-    (scan_at (open_at mode at bytes))
+scan_same : (mode : Mode) (at : ℕ) (bytes more : List ℕ) (ended : Bool)
+    → IsShown (scan_at (open_at mode at bytes))
     → scan_at (grown (open_at mode at bytes) more ended) ≡ scan_at (open_at mode at bytes)
 scan_same mode at bytes more ended shown =
     let front = drop (blank_len false bytes) bytes in
@@ -65,21 +65,21 @@ scan_same mode at bytes more ended shown =
     ∙ keeps_shown (scan mode false front) (scan mode ended (front ++ more))
     (scan_keeps mode ended front more) shown
 
-next_same : (mode : Mode) (at : ℕ) (bytes more : List ℕ) (ended : Bool) → IsShown
-    (scan_at (open_at mode at bytes))
+next_same : (mode : Mode) (at : ℕ) (bytes more : List ℕ) (ended : Bool)
+    → IsShown (scan_at (open_at mode at bytes))
     → next_token (grown (open_at mode at bytes) more ended) ≡ next_token (open_at mode at bytes)
 next_same mode at bytes more ended shown =
     let p = open_at mode at bytes in
     let q = past_blanks p in
     let within = scan_within mode false q.rest in
-    next_is (grown p more ended) ∙ rw
-    (past_same mode at bytes more ended shown, scan_same mode at bytes more ended shown)
+    next_is (grown p more ended)
+    ∙ rw (past_same mode at bytes more ended shown, scan_same mode at bytes more ended shown)
     (grown_token q more ended (scan_at p) within) ∙ sym (next_is p)
 
-after_same : (mode : Mode) (at : ℕ) (bytes more : List ℕ) (ended : Bool) (t : Lexeme) → next_token
-    (open_at mode at bytes) ≡ Ok (Some t)
-    → after (grown (open_at mode at bytes) more ended) ≡ grown
-    (after (open_at mode at bytes)) more ended
+after_same : (mode : Mode) (at : ℕ) (bytes more : List ℕ) (ended : Bool) (t : Lexeme)
+    → next_token (open_at mode at bytes) ≡ Ok (Some t)
+    → after (grown (open_at mode at bytes) more ended)
+    ≡ grown (after (open_at mode at bytes)) more ended
 after_same mode at bytes more ended t e =
     let p = open_at mode at bytes in
     let q = past_blanks p in
@@ -100,13 +100,13 @@ any_before a b q (Takes kind n) = refl
 any_before a b q (Fails fault n) = refl
 
 past_again : (mode : Mode) (at : ℕ) (bytes more : List ℕ) (ended : Bool)
-    → past_blanks (grown (open_at mode at bytes) more ended) ≡ past_blanks
-    (grown (past_blanks (open_at mode at bytes)) more ended)
+    → past_blanks (grown (open_at mode at bytes) more ended)
+    ≡ past_blanks (grown (past_blanks (open_at mode at bytes)) more ended)
 past_again mode at bytes more ended =
     let n = blank_len false bytes in
     let m = blank_len ended (drop n bytes ++ more) in
-    let e : drop (n + m) (bytes ++ more) ≡ drop m (drop n bytes ++ more) = rw
-    (← drop-append-le n bytes more (blanks_within false bytes))
+    let e : drop (n + m) (bytes ++ more) ≡ drop m (drop n bytes ++ more) =
+    rw (← drop-append-le n bytes more (blanks_within false bytes))
     (sym (drop-drop _ n (bytes ++ more))) in
     rw (blank_len-append ended bytes more, e, add_assoc at n m) refl
 
@@ -121,8 +121,8 @@ tokens_same p q e =
 
 -- ---- the law
 
-reads_on_open : (mode : Mode) (at : ℕ) (bytes more : List ℕ) (ended : Bool) → ReadsOn
-    (open_at mode at bytes) more ended
+reads_on_open : (mode : Mode) (at : ℕ) (bytes more : List ℕ) (ended : Bool)
+    → ReadsOn (open_at mode at bytes) more ended
 reads_on_open mode at bytes more ended =
     let p = open_at mode at bytes in
     record {
@@ -134,8 +134,8 @@ reads_on_open mode at bytes more ended =
       none = λ e.
           let here : after p ≡ past_blanks p = nothing_after p e in
           tokens_same (grown p more ended) (grown (past_blanks p) more ended)
-          (past_again mode at bytes more ended) ∙ ap (λ (r : Place). tokens (grown r more ended))
-          (sym here);
+          (past_again mode at bytes more ended)
+          ∙ ap (λ (r : Place). tokens (grown r more ended)) (sym here);
     }
 
 -- a place whose end isn't told reads on
@@ -153,8 +153,8 @@ joined_cons t list (Some f) more = refl
 -- the tokens with more bytes, where the next one of the front is known
 joined_step : (p : Place) (more : List ℕ) (ended : Bool) (r : Result (Option Lexeme) LexFault)
     → ReadsOn p more ended → next_token p ≡ r
-    → ((t : Lexeme) → next_token p ≡ Ok (Some t) → tokens (grown (after p) more ended) ≡ joined
-    (tokens (after p)) (tokens (grown (stopped (after p)) more ended)))
+    → ((t : Lexeme) → next_token p ≡ Ok (Some t) → tokens (grown (after p) more ended)
+    ≡ joined (tokens (after p)) (tokens (grown (stopped (after p)) more ended)))
     → tokens (grown p more ended) ≡ joined (tokens p) (tokens (grown (stopped p) more ended))
 joined_step p more ended (Ok (Some t)) on e behind =
     rw (

@@ -30,15 +30,15 @@ keeps_same Unshown = tt
 keeps_same (Takes kind n) = refl
 keeps_same (Fails fault n) = refl
 
-keeps_cond : (b : Bool) (x y x' y' : Scan) → (b ≡ true → Keeps x x') → (b ≡ false → Keeps y y') → Keeps
-    (cond b x y) (cond b x' y')
+keeps_cond : (b : Bool) (x y x' y' : Scan) → (b ≡ true → Keeps x x') → (b ≡ false → Keeps y y')
+    → Keeps (cond b x y) (cond b x' y')
 keeps_cond true x y x' y' p q = p refl
 keeps_cond false x y x' y' p q = q refl
 
 -- ---- the longest front that passes
 
-prefix_len-append-le : (p : ℕ → Bool) (bytes more : List ℕ) → prefix_len p bytes ≤ prefix_len p
-    (bytes ++ more)
+prefix_len-append-le : (p : ℕ → Bool) (bytes more : List ℕ)
+    → prefix_len p bytes ≤ prefix_len p (bytes ++ more)
 prefix_len-append-le p [] more = omega arith
 prefix_len-append-le p (b ∷ bytes) more =
     elim (cases_Bool (p b)) [
@@ -59,8 +59,8 @@ prefix_len-append p (b ∷ bytes) more lt =
 -- ---- tokens
 
 word_keeps : (ended : Bool) (limit count count' len len' : ℕ) → count ≤ count' →
-    (count < len → count' ≡ count) → len ≤ len' → Keeps (word_scan false limit count len)
-    (word_scan ended limit count' len')
+    (count < len → count' ≡ count) → len ≤ len'
+    → Keeps (word_scan false limit count len) (word_scan ended limit count' len')
 word_keeps ended limit count count' len len' le same longer =
     elim (cases_lt limit count) [
       | inl long ↦ rw (lt-ltb limit count long, lt-ltb limit count' (omega arith)) refl
@@ -78,8 +78,8 @@ word_keeps ended limit count count' len len' le same longer =
     ]
 
 number_keeps : (ended : Bool) (count count' : ℕ) (bytes more : List ℕ) →
-    (count < length bytes → count' ≡ count) → Keeps (number_scan false count bytes)
-    (number_scan ended count' (bytes ++ more))
+    (count < length bytes → count' ≡ count)
+    → Keeps (number_scan false count bytes) (number_scan ended count' (bytes ++ more))
 number_keeps ended count count' bytes more same =
     elim (cases_lt count (length bytes)) [
       | inl lt ↦
@@ -96,8 +96,8 @@ number_keeps ended count count' bytes more same =
       | inr past ↦ rw (le-ltb count (length bytes) past) tt
     ]
 
-minus_keeps : (ended : Bool) (bytes more : List ℕ) → Keeps (minus_scan false bytes)
-    (minus_scan ended (bytes ++ more))
+minus_keeps : (ended : Bool) (bytes more : List ℕ)
+    → Keeps (minus_scan false bytes) (minus_scan ended (bytes ++ more))
 unfolding minus_scan
 minus_keeps ended [] more = tt
 minus_keeps ended (b ∷ bytes) more =
@@ -106,14 +106,14 @@ minus_keeps ended (b ∷ bytes) more =
     (suc (prefix_len is_ascii_digit (b ∷ bytes ++ more))) (minus ∷ b ∷ bytes) more
     (λ lt. ap suc (prefix_len-append is_ascii_digit (b ∷ bytes) more (omega arith)))) (λ h. refl)
 
-end_keeps : (ended : Bool) (content behind more : List ℕ) → Keeps (text_end false content behind)
-    (text_end ended content (behind ++ more))
+end_keeps : (ended : Bool) (content behind more : List ℕ)
+    → Keeps (text_end false content behind) (text_end ended content (behind ++ more))
 unfolding text_end
 end_keeps ended content [] more = tt
 end_keeps ended content (b ∷ behind) more = keeps_same _
 
-text_keeps : (ended : Bool) (bytes more : List ℕ) → Keeps (text_scan false bytes)
-    (text_scan ended (bytes ++ more))
+text_keeps : (ended : Bool) (bytes more : List ℕ)
+    → Keeps (text_scan false bytes) (text_scan ended (bytes ++ more))
 unfolding text_scan text_end
 text_keeps ended bytes more =
     let count = prefix_len in_text bytes in
@@ -140,21 +140,21 @@ text_keeps ended bytes more =
       ]
     ]
 
-order_keeps : (ended : Bool) (alone with_equal : Kind) (bytes more : List ℕ) → Keeps
-    (order_scan false alone with_equal bytes) (order_scan ended alone with_equal (bytes ++ more))
+order_keeps : (ended : Bool) (alone with_equal : Kind) (bytes more : List ℕ)
+    → Keeps (order_scan false alone with_equal bytes) (order_scan ended alone with_equal (bytes ++ more))
 unfolding order_scan
 order_keeps ended alone with_equal [] more = tt
 order_keeps ended alone with_equal (b ∷ bytes) more = keeps_same _
 
-run_keeps : (ended : Bool) (limit : ℕ) (p : ℕ → Bool) (bytes more : List ℕ) → Keeps
-    (word_scan false limit (prefix_len p bytes) (length bytes))
+run_keeps : (ended : Bool) (limit : ℕ) (p : ℕ → Bool) (bytes more : List ℕ)
+    → Keeps (word_scan false limit (prefix_len p bytes) (length bytes))
     (word_scan ended limit (prefix_len p (bytes ++ more)) (length (bytes ++ more)))
 run_keeps ended limit p bytes more =
     word_keeps ended limit _ _ _ _ (prefix_len-append-le p bytes more) (prefix_len-append p bytes more)
     (omega (arith, length-append bytes more))
 
-plain_keeps : (ended : Bool) (bytes more : List ℕ) → Keeps (plain_scan false bytes)
-    (plain_scan ended (bytes ++ more))
+plain_keeps : (ended : Bool) (bytes more : List ℕ)
+    → Keeps (plain_scan false bytes) (plain_scan ended (bytes ++ more))
 unfolding plain_scan
 plain_keeps ended [] more = tt
 plain_keeps ended (b ∷ bytes) more =
@@ -168,8 +168,8 @@ plain_keeps ended (b ∷ bytes) more =
     (λ _. keeps_cond (b == 62) _ _ _ _ (λ _. order_keeps ended Greater GreaterEqual bytes more)
     (λ _. keeps_same _)))))))
 
-log_keeps : (ended : Bool) (bytes more : List ℕ) → Keeps (log_scan false bytes)
-    (log_scan ended (bytes ++ more))
+log_keeps : (ended : Bool) (bytes more : List ℕ)
+    → Keeps (log_scan false bytes) (log_scan ended (bytes ++ more))
 unfolding log_scan
 log_keeps ended [] more = tt
 log_keeps ended (b ∷ bytes) more =
@@ -178,8 +178,8 @@ log_keeps ended (b ∷ bytes) more =
     (λ _. keeps_cond (b == hash) _ _ _ _ (λ _. tt) (λ _. keeps_same _)))
 
 -- what is shown stays, whatever follows the bytes
-pub scan_keeps : (mode : Mode) (ended : Bool) (bytes more : List ℕ) → Keeps (scan mode false bytes)
-    (scan mode ended (bytes ++ more))
+pub scan_keeps : (mode : Mode) (ended : Bool) (bytes more : List ℕ)
+    → Keeps (scan mode false bytes) (scan mode ended (bytes ++ more))
 scan_keeps Plain ended bytes more = plain_keeps ended bytes more
 scan_keeps Log ended bytes more = log_keeps ended bytes more
 
@@ -196,13 +196,13 @@ scan_hash Plain ended bytes = refl
 scan_hash Log ended bytes = refl
 
 -- an open comment shows nothing
-pub shown_no_hash : (mode : Mode) (ended : Bool) (b : ℕ) (bytes : List ℕ) → IsShown
-    (scan mode ended (b ∷ bytes)) → (b == hash) ≡ false
+pub shown_no_hash : (mode : Mode) (ended : Bool) (b : ℕ) (bytes : List ℕ)
+    → IsShown (scan mode ended (b ∷ bytes)) → (b == hash) ≡ false
 shown_no_hash mode ended b bytes shown =
     elim (cases_Bool (b == hash)) [
       | inl k ↦
-          let e : scan mode ended (b ∷ bytes) ≡ Unshown = ap
-          (λ (first : ℕ). scan mode ended (first ∷ bytes)) (eqb-true b hash k)
+          let e : scan mode ended (b ∷ bytes) ≡ Unshown =
+          ap (λ (first : ℕ). scan mode ended (first ∷ bytes)) (eqb-true b hash k)
           ∙ scan_hash mode ended bytes in
           absurd (subst IsShown e shown)
       | inr k ↦ k
@@ -212,8 +212,8 @@ word_at_end : (limit count len : ℕ) → IsShown (word_scan true limit count le
 word_at_end limit count len = cond_both (nat_lt limit count) _ _ IsShown (λ _. tt) (λ _. tt)
 
 number_at_end : (count : ℕ) (bytes : List ℕ) → IsShown (number_scan true count bytes)
-number_at_end count bytes = cond_both (is_int64 (integer_value (take count bytes))) _ _ IsShown
-    (λ _. tt) (λ _. tt)
+number_at_end count bytes =
+    cond_both (is_int64 (integer_value (take count bytes))) _ _ IsShown (λ _. tt) (λ _. tt)
 
 minus_at_end : (bytes : List ℕ) → IsShown (minus_scan true bytes)
 unfolding minus_scan
@@ -228,16 +228,16 @@ closed_is_shown content = cond_both (is_utf8 content) _ _ IsShown (λ _. tt) (λ
 end_at_end : (content behind : List ℕ) → IsShown (text_end true content behind)
 unfolding text_end
 end_at_end content [] = tt
-end_at_end content (b ∷ behind) = cond_both (b == quote) _ _ IsShown (λ _. closed_is_shown content)
-    (λ _. tt)
+end_at_end content (b ∷ behind) =
+    cond_both (b == quote) _ _ IsShown (λ _. closed_is_shown content) (λ _. tt)
 
 text_at_end : (bytes : List ℕ) → IsShown (text_scan true bytes)
 unfolding text_scan
-text_at_end bytes = cond_both (nat_lt 4096 (prefix_len in_text bytes)) _ _ IsShown (λ _. tt)
-    (λ _. end_at_end _ _)
+text_at_end bytes =
+    cond_both (nat_lt 4096 (prefix_len in_text bytes)) _ _ IsShown (λ _. tt) (λ _. end_at_end _ _)
 
-order_at_end : (alone with_equal : Kind) (bytes : List ℕ) → IsShown
-    (order_scan true alone with_equal bytes)
+order_at_end : (alone with_equal : Kind) (bytes : List ℕ)
+    → IsShown (order_scan true alone with_equal bytes)
 unfolding order_scan
 order_at_end alone with_equal [] = tt
 order_at_end alone with_equal (b ∷ bytes) = cond_both (b == equals_sign) _ _ IsShown (λ _. tt) (λ _. tt)
@@ -270,8 +270,8 @@ log_at_end b bytes no_comment =
     (λ _. mark_is_shown (log_mark b))))
 
 -- at the end every byte behind the blanks shows a token or a fault
-pub shown_at_end : (mode : Mode) (b : ℕ) (bytes : List ℕ) → (b == hash) ≡ false → IsShown
-    (scan mode true (b ∷ bytes))
+pub shown_at_end : (mode : Mode) (b : ℕ) (bytes : List ℕ) → (b == hash) ≡ false
+    → IsShown (scan mode true (b ∷ bytes))
 shown_at_end Plain b bytes h = plain_at_end b bytes h
 shown_at_end Log b bytes h = log_at_end b bytes h
 

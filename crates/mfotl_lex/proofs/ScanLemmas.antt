@@ -48,8 +48,8 @@ number_within bytes ended count some le =
 
 minus_within : (ended : Bool) (bytes : List ℕ) → IsWithin (minus ∷ bytes) (minus_scan ended bytes)
 unfolding minus_scan
-minus_within ended [] = cond_both ended (Fails BadByte 0) Unshown (IsWithin (minus ∷ []))
-    (λ _. omega arith) (λ _. tt)
+minus_within ended [] =
+    cond_both ended (Fails BadByte 0) Unshown (IsWithin (minus ∷ [])) (λ _. omega arith) (λ _. tt)
 minus_within ended (b ∷ bytes) =
     let count = suc (prefix_len is_ascii_digit (b ∷ bytes)) in
     let le : prefix_len is_ascii_digit (b ∷ bytes) ≤ length (b ∷ bytes) =
@@ -66,31 +66,31 @@ closed_within first bytes content le =
     (IsWithin (first ∷ bytes)) (λ _. (omega arith, le, λ e. absurd cc)) (λ _. omega arith)
 
 end_within : (first : ℕ) (bytes content behind : List ℕ) (ended : Bool)
-    → length content + length behind ≡ length bytes → IsWithin (first ∷ bytes)
-    (text_end ended content behind)
+    → length content + length behind ≡ length bytes
+    → IsWithin (first ∷ bytes) (text_end ended content behind)
 unfolding text_end
-end_within first bytes content [] ended e = cond_both ended (Fails OpenText 0) Unshown
-    (IsWithin (first ∷ bytes)) (λ _. omega arith) (λ _. tt)
+end_within first bytes content [] ended e =
+    cond_both ended (Fails OpenText 0) Unshown (IsWithin (first ∷ bytes)) (λ _. omega arith) (λ _. tt)
 end_within first bytes content (b ∷ behind) ended e =
     cond_both (b == quote) (closed_text content) (Fails BadByte (length content + 1))
     (IsWithin (first ∷ bytes))
     (λ _. closed_within first bytes content (omega arith)) (λ _. omega arith)
 
-text_within : (first : ℕ) (bytes : List ℕ) (ended : Bool) → IsWithin (first ∷ bytes)
-    (text_scan ended bytes)
+text_within : (first : ℕ) (bytes : List ℕ) (ended : Bool)
+    → IsWithin (first ∷ bytes) (text_scan ended bytes)
 unfolding text_scan
 text_within first bytes ended =
     let count = prefix_len in_text bytes in
     let le : count ≤ length bytes = prefix_len-le-length in_text bytes in
-    let parts : length (take count bytes) + length (drop count bytes) ≡ length bytes = omega
-    (arith, length-take count bytes, length-drop count bytes) in
+    let parts : length (take count bytes) + length (drop count bytes) ≡ length bytes =
+    omega (arith, length-take count bytes, length-drop count bytes) in
     cond_both (nat_lt 4096 count) (Fails TextLong 0)
     (text_end ended (take count bytes) (drop count bytes)) (IsWithin (first ∷ bytes))
     (λ _. omega arith) (λ _. end_within first bytes (take count bytes) (drop count bytes) ended parts)
 
 order_within : (first : ℕ) (bytes : List ℕ) (ended : Bool) (alone with_equal : Kind) →
-    (alone ≡ Integer → ⊥) → (with_equal ≡ Integer → ⊥) → IsWithin (first ∷ bytes)
-    (order_scan ended alone with_equal bytes)
+    (alone ≡ Integer → ⊥) → (with_equal ≡ Integer → ⊥)
+    → IsWithin (first ∷ bytes) (order_scan ended alone with_equal bytes)
 unfolding order_scan
 order_within first [] ended alone with_equal p q = cond_both ended (Takes alone 1) Unshown
     (IsWithin (first ∷ [])) (λ _. (omega arith, omega arith, λ e. absurd (p e))) (λ _. tt)
@@ -104,13 +104,13 @@ abbrev IsMark : Option Kind → Type 0
 IsMark None = Unit {0}
 IsMark (Some kind) = kind ≡ Integer → ⊥
 
-mark_within : (first : ℕ) (bytes : List ℕ) (mark : Option Kind) → IsMark mark → IsWithin (first ∷ bytes)
-    (mark_scan mark)
+mark_within : (first : ℕ) (bytes : List ℕ) (mark : Option Kind) → IsMark mark
+    → IsWithin (first ∷ bytes) (mark_scan mark)
 mark_within first bytes None m = omega arith
 mark_within first bytes (Some kind) m = (omega arith, omega arith, λ e. absurd (m e))
 
-mark_or : (b : Bool) (kind : Kind) (other : Option Kind) → (kind ≡ Integer → ⊥) → IsMark other → IsMark
-    (cond b (Some kind) other)
+mark_or : (b : Bool) (kind : Kind) (other : Option Kind) → (kind ≡ Integer → ⊥) → IsMark other
+    → IsMark (cond b (Some kind) other)
 mark_or b kind other p rest = cond_both b (Some kind) other IsMark (λ _. p) (λ _. rest)
 
 plain_mark_is : (b : ℕ) → IsMark (plain_mark b)

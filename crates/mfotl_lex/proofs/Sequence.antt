@@ -1,6 +1,6 @@
 -- The tokens one after another: any fuel that suffices gives the same.
-use Rattle.std.proofs.Common.{◌≡◌, ℕ, zero, suc, ◌≤◌, ◌<◌, [], ◌∷◌, length, take, subst, Option, Some, None, Result, Ok, Err, refl, sym, ap, ◌∙◌, arith}
-use Rattle.std.proofs.lemmas.List.{length-drop}
+use Rattle.std.proofs.Common.{◌≡◌, ℕ, zero, suc, ◌≤◌, ◌<◌, [], ◌∷◌, length, take, subst, ◌+◌, add_assoc, add-zero, Option, Some, None, Result, Ok, Err, refl, sym, ap, ◌∙◌, arith}
+use Rattle.std.proofs.lemmas.List.{length-drop, drop-drop}
 use Rattle.mfotl_lex.specs.declared.fault.LexFault.{LexFault}
 use Rattle.std.specs.Prelude.{IsTrue}
 use Rattle.mfotl_lex.specs.declared.kind.Kind.TheVariants.{Integer}
@@ -9,9 +9,10 @@ use Rattle.mfotl_lex.specs.declared.scan.Scan.{Scan}
 use Rattle.mfotl_lex.specs.declared.scan.Scan.TheVariants.{Unshown, Takes, Fails}
 use Rattle.mfotl_lex.specs.Blanks.{blank_len}
 use Rattle.mfotl_lex.specs.Scans.{scan, IsWithin}
-use Rattle.mfotl_lex.specs.Places.{Place, moved}
+use Rattle.mfotl_lex.specs.Places.{Place, MovesOn, moved}
 use Rattle.mfotl_lex.specs.Lexemes.{Lexeme, Tokens, past_blanks, token_at, place_after, next_token, after, followed, tokens_within, tokens}
 use Rattle.mfotl_lex.specs.Growing.{stop_or, stopped_within, stopped}
+use Rattle.mfotl_lex.proofs.BlankLoop.{blanks_within}
 use Rattle.mfotl_lex.proofs.ScanLemmas.{scan_within}
 
 -- what is scanned at a place
@@ -25,24 +26,24 @@ past_within p = omega (arith, length-drop (blank_len p.ended p.rest) p.rest)
 
 followed_same : (p q : Place) (s : Scan) (f g : Place → Tokens) → IsWithin q.rest s
     → length q.rest ≤ length p.rest
-    → ((r : Place) → length r.rest < length p.rest → f r ≡ g r) → followed (token_at q s)
-    (f (place_after p q s)) ≡ followed (token_at q s) (g (place_after p q s))
+    → ((r : Place) → length r.rest < length p.rest → f r ≡ g r)
+    → followed (token_at q s) (f (place_after p q s)) ≡ followed (token_at q s) (g (place_after p q s))
 followed_same p q Unshown f g w le same = refl
 followed_same p q (Takes kind n) f g w le same =
-    let shorter : length (moved q n).rest < length p.rest = omega
-    (arith, w.0, w.1, length-drop n q.rest) in
+    let shorter : length (moved q n).rest < length p.rest =
+    omega (arith, w.0, w.1, length-drop n q.rest) in
     rw (same (moved q n) shorter) refl
 followed_same p q (Fails fault n) f g w le same = refl
 
 stopped_same : (p q : Place) (s : Scan) (f g : Place → Place) → IsWithin q.rest s
     → length q.rest ≤ length p.rest
-    → ((r : Place) → length r.rest < length p.rest → f r ≡ g r) → stop_or (token_at q s)
-    (place_after p q s) (f (place_after p q s)) ≡ stop_or (token_at q s) (place_after p q s)
-    (g (place_after p q s))
+    → ((r : Place) → length r.rest < length p.rest → f r ≡ g r)
+    → stop_or (token_at q s) (place_after p q s) (f (place_after p q s))
+    ≡ stop_or (token_at q s) (place_after p q s) (g (place_after p q s))
 stopped_same p q Unshown f g w le same = refl
 stopped_same p q (Takes kind n) f g w le same =
-    let shorter : length (moved q n).rest < length p.rest = omega
-    (arith, w.0, w.1, length-drop n q.rest) in
+    let shorter : length (moved q n).rest < length p.rest =
+    omega (arith, w.0, w.1, length-drop n q.rest) in
     same (moved q n) shorter
 stopped_same p q (Fails fault n) f g w le same = refl
 
@@ -91,19 +92,19 @@ stopped_step p =
 -- a token first
 pub tokens_token : (p : Place) (t : Lexeme) → next_token p ≡ Ok (Some t)
     → tokens p ≡ record { list = t ∷ (tokens (after p)).list; fault = (tokens (after p)).fault }
-tokens_token p t e = tokens_step p ∙ ap
-    (λ (r : Result (Option Lexeme) LexFault). followed r (tokens (after p))) e
+tokens_token p t e = tokens_step p
+    ∙ ap (λ (r : Result (Option Lexeme) LexFault). followed r (tokens (after p))) e
 
 -- no token
 pub tokens_none : (p : Place) → next_token p ≡ Ok None → tokens p ≡ record { list = []; fault = None }
-tokens_none p e = tokens_step p ∙ ap
-    (λ (r : Result (Option Lexeme) LexFault). followed r (tokens (after p))) e
+tokens_none p e = tokens_step p
+    ∙ ap (λ (r : Result (Option Lexeme) LexFault). followed r (tokens (after p))) e
 
 -- a fault
 pub tokens_fault : (p : Place) (fault : LexFault) → next_token p ≡ Err fault
     → tokens p ≡ record { list = []; fault = Some fault }
-tokens_fault p fault e = tokens_step p ∙ ap
-    (λ (r : Result (Option Lexeme) LexFault). followed r (tokens (after p))) e
+tokens_fault p fault e = tokens_step p
+    ∙ ap (λ (r : Result (Option Lexeme) LexFault). followed r (tokens (after p))) e
 
 -- ---- where the place behind is
 
@@ -122,8 +123,8 @@ shorter p q (Takes kind n) t w le e = omega (arith, w.0, w.1, length-drop n q.re
 shorter p q (Fails fault n) t w le e = absurd cc
 
 -- a token takes a byte at least
-pub after_shorter : (p : Place) (t : Lexeme) → next_token p ≡ Ok (Some t) → length
-    (after p).rest < length p.rest
+pub after_shorter : (p : Place) (t : Lexeme) → next_token p ≡ Ok (Some t)
+    → length (after p).rest < length p.rest
 after_shorter p t e =
     rw after_is (shorter p (past_blanks p) (scan_at p) t
     (scan_within p.mode p.ended (past_blanks p).rest) (past_within p) (sym (next_is p) ∙ e))
@@ -161,19 +162,19 @@ unshown q (Takes kind n) e = absurd cc
 unshown q (Fails fault n) e = absurd cc
 
 -- where reading stops, by the next token
-pub stopped_at_token : (p : Place) (t : Lexeme) → next_token p ≡ Ok (Some t) → stopped p ≡ stopped
-    (after p)
-stopped_at_token p t e = stopped_step p ∙ ap
-    (λ (x : Result (Option Lexeme) LexFault). stop_or x (after p) (stopped (after p))) e
+pub stopped_at_token : (p : Place) (t : Lexeme) → next_token p ≡ Ok (Some t) → stopped p
+    ≡ stopped (after p)
+stopped_at_token p t e = stopped_step p
+    ∙ ap (λ (x : Result (Option Lexeme) LexFault). stop_or x (after p) (stopped (after p))) e
 
 pub stopped_at_none : (p : Place) → next_token p ≡ Ok None → stopped p ≡ past_blanks p
-stopped_at_none p e = stopped_step p ∙ ap
-    (λ (x : Result (Option Lexeme) LexFault). stop_or x (after p) (stopped (after p))) e
+stopped_at_none p e = stopped_step p
+    ∙ ap (λ (x : Result (Option Lexeme) LexFault). stop_or x (after p) (stopped (after p))) e
     ∙ nothing_after p e
 
 pub stopped_at_fault : (p : Place) (f : LexFault) → next_token p ≡ Err f → stopped p ≡ p
-stopped_at_fault p f e = stopped_step p ∙ ap
-    (λ (x : Result (Option Lexeme) LexFault). stop_or x (after p) (stopped (after p))) e
+stopped_at_fault p f e = stopped_step p
+    ∙ ap (λ (x : Result (Option Lexeme) LexFault). stop_or x (after p) (stopped (after p))) e
     ∙ fault_after p f e
 
 found_fits : (q : Place) (s : Scan) (t : Lexeme) → IsWithin q.rest s → token_at q s ≡ Ok (Some t)
@@ -186,7 +187,22 @@ found_fits q (Takes kind n) t w e =
 found_fits q (Fails fault n) t w e = absurd cc
 
 -- an Integer has 64 bits
-pub integer_fits : (p : Place) (t : Lexeme) → next_token p ≡ Ok (Some t) → t.kind ≡ Integer → IsTrue
-    (is_int64 (integer_value t.text))
+pub integer_fits : (p : Place) (t : Lexeme) → next_token p ≡ Ok (Some t) → t.kind ≡ Integer
+    → IsTrue (is_int64 (integer_value t.text))
 integer_fits p t e = found_fits (past_blanks p) (scan_at p) t
     (scan_within p.mode p.ended (past_blanks p).rest) (sym (next_is p) ∙ e)
+
+moves_by : (p : Place) (s : Scan) → IsWithin (past_blanks p).rest s → MovesOn p (place_after p (past_blanks p) s)
+moves_by p Unshown w = record { count = blank_len p.ended p.rest; within = blanks_within p.ended p.rest; place = refl }
+moves_by p (Takes kind n) w =
+    let m = blank_len p.ended p.rest in
+    record {
+      count = m + n;
+      within = omega (arith, w.1, length-drop m p.rest, blanks_within p.ended p.rest);
+      place = rw (drop-drop n m p.rest, add_assoc p.at m n) refl;
+    }
+moves_by p (Fails fault n) w = record { count = 0; within = omega arith; place = rw add-zero refl }
+
+-- a place moves on within its bytes
+pub moves_on : (p : Place) → MovesOn p (after p)
+moves_on p = rw after_is (moves_by p (scan_at p) (scan_within p.mode p.ended (past_blanks p).rest))

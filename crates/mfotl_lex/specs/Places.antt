@@ -1,5 +1,5 @@
 -- Where a lexer stands.
-use Rattle.std.specs.Prelude.{ℕ, ◌+◌, Bool, true, List, drop}
+use Rattle.std.specs.Prelude.{◌≡◌, ◌≤◌, length, ℕ, ◌+◌, Bool, true, List, drop}
 use Rattle.mfotl_lex.specs.declared.kind.Mode.{Mode}
 
 -- the bytes from the offset `at` on; `ended` says that they are all that come
@@ -16,3 +16,9 @@ beginning mode bytes = record { mode = mode; at = 0; rest = bytes; ended = true 
 -- so many bytes further on
 abbrev pub moved : Place → ℕ → Place
 moved p n = record { mode = p.mode; at = p.at + n; rest = drop n p.rest; ended = p.ended }
+
+-- the new place is so many bytes further on, within the bytes of the old one
+pub record MovesOn (old new : Place) : Type 0 where
+  pub count : ℕ
+  pub within : count ≤ length old.rest
+  pub place : new ≡ moved old count

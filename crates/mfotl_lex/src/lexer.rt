@@ -28,7 +28,7 @@ impl<'a> Model for Lexer<'a> {
 }
 
 impl<'a> Lexer<'a> {
-    ghost use Rattle.mfotl_lex.specs.Places.{beginning};
+    ghost use Rattle.mfotl_lex.specs.Places.{MovesOn, beginning};
     ghost use Rattle.mfotl_lex.specs.Lexemes.{seen, next_token, after};
     ghost use Rattle.mfotl_lex.specs.Covering.{AreBlanks};
 
@@ -71,6 +71,7 @@ impl<'a> Lexer<'a> {
     pub fn next(&mut self) -> Result<Option<Token<'a>>, LexFault>
         ensures found { seen result ≡ next_token self.old }
         ensures after { self.new ≡ after self.old }
+        ensures within { MovesOn self.old self.new }
         ensures again { OnErr result (self.new ≡ self.old) }
         ensures end { IsTrue self.old.ended → (result ≡ Ok None) ↔ AreBlanks true self.old.rest }
     {

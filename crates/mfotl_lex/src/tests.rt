@@ -220,7 +220,7 @@ fn check_rows(rt: &impl Abort, alloc: Global, rows: &[Row], mode: Mode) -> Resul
     for row in rows {
         let text = text_of(alloc, row)?;
         let found = listing(alloc, &text, mode)?;
-        assert_eq!(rt; found.trim_end(), row.3, "{text:?}");
+        assert_eq!(rt; found.trim_end(), row.3, "in {text:?}");
     }
     Ok(())
 }
@@ -275,7 +275,7 @@ fn an_open_end_holds_back_what_is_not_whole(rt: HostRuntime) {
             Ok(at),
             "{text:?}"
         );
-        assert_eq!(rt; lexer.offset(), offset, "{text:?}");
+        assert_eq!(rt; lexer.offset(), offset, "in {text:?}");
     }
 }
 
