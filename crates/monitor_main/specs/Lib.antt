@@ -5,3 +5,11 @@ pub mod Atom
 pub mod Real
 pub mod PolicyForm
 pub mod PolicyViews
+pub mod AtomText
+pub mod TextLaw
+pub mod FaultLines
+pub mod Refusals
+pub mod Answer
+pub mod Outcomes
+pub mod PlanFaults
+pub mod Plans

@@ -3,8 +3,11 @@
 #![tactic(auto)]
 
 pub mod atom;
+mod laws;
+pub mod plan;
 pub mod policy;
 pub mod real;
+pub mod refusal;
 mod status;
 pub mod verdicts;
 pub mod words;

@@ -1,0 +1,14 @@
+-- The lines in which faults are told.
+use Rattle.std.specs.Prelude.{List, ℕ, ◌++◌, codes}
+use Rattle.monitor_main.specs.declared.refusal.InputFile.{InputFile}
+use Rattle.monitor_main.specs.declared.refusal.InputFile.TheVariants.{Signature, Policy, Log}
+
+-- an input's name
+abbrev pub file_text : InputFile → List ℕ
+file_text Signature = codes "signature"
+file_text Policy = codes "policy"
+file_text Log = codes "log"
+
+-- the line of an input's fault
+abbrev pub fault_line : List ℕ → List ℕ → List ℕ
+fault_line input fault = input ++ codes ": " ++ fault ++ codes "\n"

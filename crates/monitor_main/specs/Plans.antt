@@ -1,0 +1,42 @@
+-- What is made of the words, the signature and the policy.
+use Rattle.std.specs.Prelude.{◌≡◌, ℕ, List, is_some, IsTrue, Result, Ok, Err}
+use Rattle.clap.specs.Words.{Text}
+use Rattle.mon_outside.specs.Causes.{Rose}
+use Rattle.mon_outside.specs.Files.{Files, content}
+use Rattle.monitor_main.specs.declared.plan.Plan.{Plan}
+use Rattle.monitor_main.specs.declared.refusal.InputFile.{InputFile}
+use Rattle.monitor_main.specs.declared.refusal.Refusal.{Refusal}
+use Rattle.monitor_main.specs.declared.refusal.Refusal.TheVariants.{Usage, LongSignature, Signature}
+use Rattle.monitor_main.specs.declared.refusal.Refusal.TheVariants.{Policy, Log, Read, Write, Memory}
+use Rattle.monitor_main.specs.Answer.{Task, bytes_at, bytes_of, task_at, task_of}
+use Rattle.monitor_main.specs.Words.{Names}
+use Rattle.monitor_main.specs.declared.words.WordsFault.{WordsFault}
+use Rattle.monitor_main.specs.declared.words.WordsFault.TheVariants as fault
+use Rattle.monitor_main.specs.PolicyViews.{atom_of}
+
+-- the plan as it is with these files
+abbrev pub task_in : Plan → Files → Task
+task_in plan files =
+    record { sig = plan.sig; atom = atom_of plan.atom; log = content files plan.log.now }
+
+-- why there is no task in the files of these names
+abbrev pub HasNoTask : Names → Files → Refusal → Type 0
+HasNoTask names files Memory = Unit {0}
+HasNoTask names files (Read file) = IsTrue (is_some (bytes_at names files file))
+HasNoTask names files r = task_at names files ≡ Err r
+
+-- why there is no plan
+abbrev pub HasNoPlan : List Text → Files → Refusal → Type 0
+HasNoPlan words files Memory = Unit {0}
+HasNoPlan words files (Read file) = IsTrue (is_some (bytes_of words files file))
+HasNoPlan words files r = task_of words files ≡ Err r
+
+-- a failed read shows in the count
+abbrev pub HasReadCause : Refusal → ℕ → ℕ → Type 0
+HasReadCause (Read file) before now = Rose before now
+HasReadCause r before now = Unit {0}
+
+-- the refusal for words
+abbrev pub words_refusal : WordsFault → Refusal
+words_refusal fault.Usage = Usage
+words_refusal fault.Memory = Memory

@@ -1,0 +1,33 @@
+-- What a run answers where it refuses: the status, and the line that says why.
+use Rattle.std.specs.Prelude.{ℕ, List, ◌++◌, codes}
+use Rattle.monitor_main.specs.declared.status.Status.{Status}
+use Rattle.monitor_main.specs.declared.status.Status.TheVariants as status
+use Rattle.monitor_main.specs.declared.refusal.Refusal.{Refusal}
+use Rattle.monitor_main.specs.declared.refusal.Refusal.TheVariants.{Usage, LongSignature, Signature}
+use Rattle.monitor_main.specs.declared.refusal.Refusal.TheVariants.{Policy, Log, Read, Write, Memory}
+use Rattle.monitor_main.specs.FaultLines.{fault_line, file_text}
+use Rattle.mfotl_sig.specs.FaultTexts.{fault_text as sig_text}
+use Rattle.log_reader.specs.FaultTexts.{fault_text as log_text}
+
+abbrev pub status_of : Refusal → Status
+status_of Usage = status.Usage
+status_of LongSignature = status.Signature
+status_of (Signature fault) = status.Signature
+status_of Policy = status.Policy
+status_of (Log fault) = status.Log
+status_of (Read file) = status.Read
+status_of Write = status.Write
+status_of Memory = status.Memory
+
+unfoldable pub usage_line : List ℕ
+usage_line = codes "usage: run --sig F --policy F --log F [--strategy S] [--changes F] [--threads T] or check --sig F --policy F or demo SEED\n"
+
+unfoldable pub line_of : Refusal → List ℕ
+line_of Usage = usage_line
+line_of LongSignature = codes "signature: TooLong at 1048576\n"
+line_of (Signature fault) = fault_line (codes "signature") (sig_text fault)
+line_of Policy = codes "policy: Later\n"
+line_of (Log fault) = fault_line (codes "log") (log_text fault)
+line_of (Read file) = codes "read: " ++ file_text file ++ codes "\n"
+line_of Write = codes "write\n"
+line_of Memory = codes "memory\n"
