@@ -5,3 +5,4 @@ pub mod Rules
 pub mod Laws
 pub mod Answers
 pub mod FaultTexts
+pub mod WorkedTexts

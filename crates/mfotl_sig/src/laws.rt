@@ -1,6 +1,7 @@
 //! What holds of every text. Each law is a function that does nothing: its clause is the law.
 
 ghost use Rattle.mfotl_sig.specs.Laws.{ReadIsSpelled, SpelledIsRead, OneAnswer, ExactSyntax};
+ghost use Rattle.mfotl_sig.specs.WorkedTexts.{WorkedValues, WorkedFaults};
 
 /// A text that is read spells its predicates, and keeps the rules.
 pub fn read_is_spelled()
@@ -20,4 +21,10 @@ pub fn one_answer()
 /// `Syntax` is shown exactly by the first token that ends viability, or by the input's end.
 pub fn exact_syntax()
     ensures { ExactSyntax }
+{}
+
+/// Texts worked out by hand, and what is read of them.
+pub fn worked_texts()
+    ensures values { WorkedValues }
+    ensures faults { WorkedFaults }
 {}

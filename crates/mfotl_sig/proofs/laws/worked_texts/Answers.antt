@@ -1,0 +1,30 @@
+use Rattle.std.proofs.Common.{refl}
+use Rattle.mfotl_lex.specs.Blanks.{blank_len, comment_len}
+use Rattle.mfotl_lex.specs.Scans.{plain_scan, minus_scan, text_scan, order_scan}
+use Rattle.mfotl_lex.specs.Lexemes.{next_token, after, tokens, tokens_within}
+use Rattle.mfotl_sig.specs.Reading.{step, run, reading}
+use Rattle.mfotl_sig.proofs.laws.worked_texts.Goals as goal
+
+pub returns-clause-values : goal.returns-clause-values
+unfolding reading run step tokens tokens_within next_token after plain_scan minus_scan text_scan order_scan blank_len comment_len
+returns-clause-values c = record {
+  empty = refl;
+  no_argument = refl;
+  two = refl;
+  label_is_no_sort = refl;
+  any_word = refl;
+}
+
+pub returns-clause-faults : goal.returns-clause-faults
+unfolding reading run step tokens tokens_within next_token after plain_scan minus_scan text_scan order_scan blank_len comment_len
+returns-clause-faults c = record {
+  repeated = refl;
+  unknown = refl;
+  shown_by_the_next_token = refl;
+  not_shown_by_the_end = refl;
+  syntax_before = refl;
+  behind_a_label = refl;
+  nine = refl;
+  at_the_end = refl;
+  comma_before_nothing = refl;
+}
