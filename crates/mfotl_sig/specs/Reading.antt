@@ -13,7 +13,7 @@ use Rattle.mfotl_sig.specs.declared.fault.SigFault.{SigFault}
 use Rattle.mfotl_sig.specs.declared.fault.SigFault.TheVariants.{Lex, Syntax, RepeatedName, UnknownSort, Arity, TooMany}
 use Rattle.mfotl_sig.specs.declared.draft.Stage.{Stage}
 use Rattle.mfotl_sig.specs.declared.draft.Stage.TheVariants.{AfterName, AfterOpen, AfterWord, AfterLabel, AfterSort, AfterComma}
-use Rattle.mfotl_sig.specs.Preds.{PredOf, named}
+use Rattle.mfotl_sig.specs.Preds.{PredOf, named, with_pred}
 
 -- the sort that a Word names
 abbrev pub sort_of : List ℕ → Option Sort
@@ -50,6 +50,10 @@ syntax_at t = Err (Syntax t.at)
 abbrev pub goes_on : DraftOf → Stage → Result ProgressOf SigFault
 goes_on d stage = Ok (Open (record d { stage = stage }))
 
+-- behind a Word, which a `:` may make a label
+abbrev pub with_word : DraftOf → Lexeme → DraftOf
+with_word d t = record d { stage = AfterWord (sort_of t.text) t.at }
+
 -- one more argument, whose sort's Word stands at the offset
 abbrev pub with_sort : DraftOf → Option Sort → ℕ → Result DraftOf SigFault
 with_sort d (Some sort) at = Ok (record d { sorts = d.sorts ++ sort ∷ [] })
@@ -60,7 +64,7 @@ after_name d t OpenParen = goes_on d AfterOpen
 after_name d t _ = syntax_at t
 
 abbrev pub after_open : DraftOf → Lexeme → Kind → Result ProgressOf SigFault
-after_open d t Word = goes_on d (AfterWord (sort_of t.text) t.at)
+after_open d t Word = Ok (Open (with_word d t))
 after_open d t CloseParen = Ok (Closed d)
 after_open d t _ = syntax_at t
 
@@ -83,7 +87,7 @@ after_sort d t _ = syntax_at t
 abbrev pub after_comma : DraftOf → Lexeme → Kind → Result ProgressOf SigFault
 after_comma d t Word =
     if nat_le 8 (length d.sorts) then Err (Arity t.at)
-    else goes_on d (AfterWord (sort_of t.text) t.at)
+    else Ok (Open (with_word d t))
 after_comma d t _ = syntax_at t
 
 -- what the next token makes of a draft
@@ -112,9 +116,7 @@ begins done t _ = syntax_at t
 -- a draft that a `)` has ended is the last predicate
 abbrev pub settled : List PredOf → ProgressOf → Partial
 settled done (Open d) = record { done = done; draft = Some d }
-settled done (Closed d) =
-    let pred : PredOf = record { number = length done; name = d.name; sorts = d.sorts } in
-    record { done = done ++ pred ∷ []; draft = None }
+settled done (Closed d) = record { done = with_pred done d.name d.sorts; draft = None }
 
 abbrev pub step_from : List PredOf → Option DraftOf → Lexeme → Result Partial SigFault
 step_from done None t = begins done t t.kind

@@ -3,7 +3,8 @@
 ghost use Rattle.std.specs.Prelude.{◌≡◌};
 ghost use Rattle.mfotl_lex.specs.Lexemes.{lexeme};
 ghost use Rattle.mfotl_sig.specs.Answers.{Gives, draft_of, progress_of};
-ghost use Rattle.mfotl_sig.specs.Reading.{sort_of, with_sort, draft_step, after_name, after_open, after_word, after_label, after_sort, after_comma};
+ghost use Rattle.mfotl_sig.specs.Reading.{sort_of, with_sort, with_word, draft_step};
+ghost use Rattle.mfotl_sig.specs.Reading.{after_name, after_open, after_word, after_label, after_sort, after_comma};
 
 use crate::fault::SigFault;
 use mfotl_lex::{Kind, Token};
@@ -69,7 +70,8 @@ impl<'a> Draft<'a> {
     }
 
     fn after_name(self, token: &Token<'a>) -> Result<Progress<'a>, SigFault>
-        ensures { Gives progress_of result (after_name (draft_of self.entry) (lexeme token.now) token.now.kind) }
+        ensures { Gives progress_of result
+            (after_name (draft_of self.entry) (lexeme token.now) token.now.kind) }
     {
         match token.kind {
             Kind::OpenParen => Ok(Progress::Open(self.at(Stage::AfterOpen))),
@@ -78,13 +80,11 @@ impl<'a> Draft<'a> {
     }
 
     fn after_open(self, token: &Token<'a>) -> Result<Progress<'a>, SigFault>
-        ensures { Gives progress_of result (after_open (draft_of self.entry) (lexeme token.now) token.now.kind) }
+        ensures { Gives progress_of result
+            (after_open (draft_of self.entry) (lexeme token.now) token.now.kind) }
     {
         match token.kind {
-            Kind::Word => {
-                let stage = Stage::AfterWord(sort_named(token.text), token.at as u64);
-                Ok(Progress::Open(self.at(stage)))
-            }
+            Kind::Word => Ok(Progress::Open(self.with_word(token))),
             Kind::CloseParen => Ok(Progress::Closed(self)),
             _ => Err(SigFault::Syntax(token.at as u64)),
         }
@@ -96,7 +96,8 @@ impl<'a> Draft<'a> {
         at: u64,
         token: &Token<'a>,
     ) -> Result<Progress<'a>, SigFault>
-        ensures { Gives progress_of result (after_word (draft_of self.entry) sort at (lexeme token.now) token.now.kind) }
+        ensures { Gives progress_of result
+            (after_word (draft_of self.entry) sort at (lexeme token.now) token.now.kind) }
     {
         match token.kind {
             Kind::Colon => Ok(Progress::Open(self.at(Stage::AfterLabel))),
@@ -110,7 +111,8 @@ impl<'a> Draft<'a> {
     }
 
     fn after_label(self, token: &Token<'a>) -> Result<Progress<'a>, SigFault>
-        ensures { Gives progress_of result (after_label (draft_of self.entry) (lexeme token.now) token.now.kind) }
+        ensures { Gives progress_of result
+            (after_label (draft_of self.entry) (lexeme token.now) token.now.kind) }
     {
         match token.kind {
             Kind::Word => {
@@ -122,7 +124,8 @@ impl<'a> Draft<'a> {
     }
 
     fn after_sort(self, token: &Token<'a>) -> Result<Progress<'a>, SigFault>
-        ensures { Gives progress_of result (after_sort (draft_of self.entry) (lexeme token.now) token.now.kind) }
+        ensures { Gives progress_of result
+            (after_sort (draft_of self.entry) (lexeme token.now) token.now.kind) }
     {
         match token.kind {
             Kind::Comma => Ok(Progress::Open(self.at(Stage::AfterComma))),
@@ -132,18 +135,25 @@ impl<'a> Draft<'a> {
     }
 
     fn after_comma(self, token: &Token<'a>) -> Result<Progress<'a>, SigFault>
-        ensures { Gives progress_of result (after_comma (draft_of self.entry) (lexeme token.now) token.now.kind) }
+        ensures { Gives progress_of result
+            (after_comma (draft_of self.entry) (lexeme token.now) token.now.kind) }
     {
         match token.kind {
             Kind::Word => {
                 if self.sorts.len() >= MAX_ARGUMENTS {
                     return Err(SigFault::Arity(token.at as u64));
                 }
-                let stage = Stage::AfterWord(sort_named(token.text), token.at as u64);
-                Ok(Progress::Open(self.at(stage)))
+                Ok(Progress::Open(self.with_word(token)))
             }
             _ => Err(SigFault::Syntax(token.at as u64)),
         }
+    }
+
+    /// The draft behind a Word, which a `:` may make a label.
+    fn with_word(self, token: &Token<'a>) -> Draft<'a>
+        ensures { draft_of result ≡ with_word (draft_of self.entry) (lexeme token.now) }
+    {
+        self.at(Stage::AfterWord(sort_named(token.text), token.at as u64))
     }
 
     /// The draft at another place.

@@ -14,3 +14,6 @@ pub use laws::{exact_syntax, one_answer, read_is_spelled, spelled_is_read, worke
 pub use pred::Pred;
 pub use reading::read_signature;
 pub use signature::Signature;
+
+#[cfg(test)]
+mod tests;

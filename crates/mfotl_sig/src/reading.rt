@@ -64,7 +64,8 @@ impl<'a> Reader<'a> {
     /// Takes a predicate's name.
     fn begin(&mut self, token: &Token<'a>, alloc: Global) -> Result<(), SigFault>
         requires { self.old.draft ≡ None }
-        ensures { Gives (λ _. self.new) result (begins self.old.done (lexeme token.now) token.now.kind) }
+        ensures { Gives (λ _. self.new) result
+            (begins self.old.done (lexeme token.now) token.now.kind) }
     {
         match token.kind {
             Kind::Word => {

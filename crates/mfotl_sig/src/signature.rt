@@ -1,7 +1,8 @@
-ghost use Rattle.std.specs.Prelude.{◌≡◌, ◌≢◌, ◌↔◌, All, Contains, IsNone, IfSome, ◌++◌, ◌∷◌, [], ◌<◌, ◌^◌, List, map, length, option_map, None, OnOk};
+ghost use Rattle.std.specs.Prelude.{◌≡◌, ◌≢◌, ◌↔◌, ◌<◌, ◌^◌, List, [], map, length, All, Contains};
+ghost use Rattle.std.specs.Prelude.{None, option_map, IsNone, IfSome, OnOk};
 ghost use Rattle.std.specs.List.{AllByRecursion};
 ghost use Rattle.std.specs.Option.{option_copied};
-ghost use Rattle.mfotl_sig.specs.Preds.{PredOf, pred_of, named, KeyedByName};
+ghost use Rattle.mfotl_sig.specs.Preds.{PredOf, pred_of, named, with_pred, KeyedByName};
 
 use crate::pred::Pred;
 use indexmap::IndexMap;
@@ -59,7 +60,7 @@ impl Signature {
     ) -> Result<(), AllocError>
         requires absent { named name.now self.old ≡ None }
         requires room { length self.old < 2 ^ 32 }
-        ensures { OnOk result (self.new ≡ self.old ++ record { number = length self.old; name = name.now; sorts = sorts.items } ∷ []) }
+        ensures { OnOk result (self.new ≡ with_pred self.old name.now sorts.items) }
     {
         let number = self.len() as u32;
         let key = Vec::from_slice(alloc, name)?;
