@@ -1,5 +1,10 @@
 pub mod BudgetLemmas
 pub mod SettledLemmas
+pub mod TemporalLemmas
+pub mod FinalityLaw
+pub mod DomainLemmas
+pub mod FragmentLemmas
+pub mod DomainLaw
 pub mod Coincidence
 pub mod NormalFormLaws
 pub mod NormalFormVariables

@@ -1,13 +1,16 @@
 -- What is always true of the logic.
-use Rattle.std.specs.Prelude.{◌≡◌, ℕ, true, not, List, ◌++◌}
+use Rattle.std.specs.Prelude.{◌≡◌, ℕ, ◌+◌, true, not, List, ◌++◌, None}
 use Rattle.mfotl_model.specs.Formulas.{Form}
 use Rattle.mfotl_model.specs.Satisfaction.{Valuation, sat}
 use Rattle.mfotl_model.specs.declared.event.TimePoint.{TimePoint}
 use Rattle.mfotl_model.specs.declared.value.Value.{Value}
 use Rattle.mfotl_model.specs.FreeVariables.{fv, among}
 use Rattle.mfotl_model.specs.Settled.{settled}
-use Rattle.mfotl_model.specs.ActiveDomain.{constants}
-use Rattle.monitorable.specs.Domains.{within}
+use Rattle.mfotl_model.specs.ActiveDomain.{constants, log_values}
+use Rattle.mfotl_model.specs.Log.{times}
+use Rattle.monitorable.specs.Domains.{Includes, within}
+use Rattle.monitorable.specs.Fragment.{Names, frag}
+use Rattle.monitorable.specs.Times.{NeverFalls}
 use Rattle.monitorable.specs.NormalForm.{positive, negative}
 use Rattle.monitorable.specs.Renaming.{apart_form, all_apart, binders}
 
@@ -57,3 +60,27 @@ NormalFormConstants =
     (f : Form) (a : Value)
     → (within (constants (positive f)) a ≡ within (constants f) a)
     × (within (constants (negative f)) a ≡ within (constants f) a)
+
+-- what is settled holds or fails so in every longer log whose timestamps never fall
+abbrev pub Finality : Type 0
+Finality =
+    (log more : List TimePoint) (dom : List Value) (f : Form) (v : Valuation) (i : ℕ)
+    → NeverFalls (times (log ++ more)) → settled (times log) f i ≡ true
+    → sat log dom v i f ≡ sat (log ++ more) dom v i f
+
+-- the settled positions are the first ones
+abbrev pub SettledBefore : Type 0
+SettledBefore =
+    (times : List ℕ) → NeverFalls times → (f : Form) (i : ℕ)
+    → settled times f (i + 1) ≡ true → settled times f i ≡ true
+
+-- What the fragment accepts is satisfied only by values of the domain, for each base that has the
+-- values of the log and the constants of the formula; and it holds alike over all domains that
+-- include the base, whatever their order and repeats.
+abbrev pub Domain : Type 0
+Domain =
+    (log : List TimePoint) (base : List Value) (names : Names) (f : Form)
+    → frag names f ≡ None → Includes base (log_values log) → Includes base (constants f)
+    → (v : Valuation) (i : ℕ)
+    → ((dom : List Value) (y : ℕ) → sat log dom v i f ≡ true → among y (fv f) ≡ true → within base (v y) ≡ true)
+    × ((a b : List Value) → Includes a base → Includes b base → sat log a v i f ≡ sat log b v i f)

@@ -9,4 +9,5 @@ pub mod RenamingScope
 pub mod Atoms
 pub mod CoreForm
 pub mod Domains
+pub mod Times
 pub mod Laws

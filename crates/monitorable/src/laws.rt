@@ -1,5 +1,5 @@
 //! Laws of the logic, each stated by the contract of a function that does nothing.
-ghost use Rattle.monitorable.specs.Laws.{ApartMeansTheSame, ApartVariables, Coincidence, NormalFormConstants, NormalFormHolds, NormalFormSettled, NormalFormVariables};
+ghost use Rattle.monitorable.specs.Laws.{ApartMeansTheSame, ApartVariables, Coincidence, Domain, Finality, NormalFormConstants, NormalFormHolds, NormalFormSettled, NormalFormVariables, SettledBefore};
 
 /// Whether a formula holds hangs on its free variables alone.
 pub fn only_free_variables_matter()
@@ -35,4 +35,19 @@ pub fn normal_form_variables()
 /// Both normal forms have the formula's constants.
 pub fn normal_form_constants()
     ensures { NormalFormConstants }
+{}
+
+/// What is settled stays as it is in every longer log.
+pub fn settled_is_final()
+    ensures { Finality }
+{}
+
+/// The settled positions are the first ones.
+pub fn settled_before()
+    ensures { SettledBefore }
+{}
+
+/// What the fragment accepts has its values in the domain, and hangs on no larger domain.
+pub fn domain_is_enough()
+    ensures { Domain }
 {}

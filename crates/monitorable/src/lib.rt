@@ -15,8 +15,9 @@ mod variables;
 
 pub use fault::{FragmentFault, Variable};
 pub use laws::{
-    apart_means_the_same, apart_variables, normal_form_constants, normal_form_holds,
-    normal_form_settled, normal_form_variables, only_free_variables_matter,
+    apart_means_the_same, apart_variables, domain_is_enough, normal_form_constants,
+    normal_form_holds, normal_form_settled, normal_form_variables, only_free_variables_matter,
+    settled_before, settled_is_final,
 };
 pub use making::to_core;
 pub use policy_core::Core;
