@@ -1,5 +1,5 @@
-use std::error::Error;
 use std::fmt;
+use thiserror::Error;
 
 /// What is wrong with the bytes at a place.
 #[derive(Clone, Copy, Debug, PartialEq, Eq)]
@@ -17,12 +17,13 @@ pub enum LexFaultKind {
 }
 
 /// The first fault of the bytes, and the offset at which it stands.
-#[derive(Clone, Copy, Debug, PartialEq, Eq)]
+#[derive(Clone, Copy, Debug, PartialEq, Eq, Error)]
 pub struct LexFault {
     pub kind: LexFaultKind,
     pub at: u64,
 }
 
+// By hand, since a derived `Display` says nothing of its bytes to a contract.
 impl fmt::Display for LexFaultKind {
     ghost use Rattle.std.specs.Prelude.{Some};
     ghost use Rattle.mfotl_lex.specs.FaultTexts.{kind_name};
@@ -50,5 +51,3 @@ impl fmt::Display for LexFault {
         write!(f, "{} at {}", self.kind, self.at)
     }
 }
-
-impl Error for LexFault {}
