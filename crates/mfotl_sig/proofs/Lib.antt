@@ -8,3 +8,4 @@ pub mod RuleLemmas
 pub mod Viability
 pub mod ViableRuns
 pub mod SignatureLaws
+pub mod LexLaw

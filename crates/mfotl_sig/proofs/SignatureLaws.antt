@@ -15,7 +15,7 @@ use Rattle.mfotl_sig.proofs.Judging.{IsRule, Judged, KeepsOn, judge_all}
 use Rattle.mfotl_sig.proofs.RuleLemmas.{rules_kept, kept_rules}
 use Rattle.mfotl_sig.proofs.ViableRuns.{bind_ok, viable_run, accepted_run, syntax_or_viable}
 
-reading_is : (bytes : List ℕ) → reading bytes ≡ reading_on (length bytes) (tokens_of bytes) nothing_read
+pub reading_is : (bytes : List ℕ) → reading bytes ≡ reading_on (length bytes) (tokens_of bytes) nothing_read
 unfolding reading
 reading_is bytes = refl
 

@@ -1,8 +1,9 @@
 -- What a reader of signatures may rely on, said of every text.
-use Rattle.std.specs.Prelude.{◌≡◌, ◌↔◌, ◌⊎◌, ℕ, List, [], ◌∷◌, ◌++◌, length, None, Ok, Err}
+use Rattle.std.specs.Prelude.{◌≡◌, ◌↔◌, ◌⊎◌, ℕ, List, [], ◌∷◌, ◌++◌, length, None, Ok, Err, Some}
+use Rattle.mfotl_lex.specs.declared.fault.LexFault.{LexFault}
 use Rattle.mfotl_lex.specs.Lexemes.{Lexeme}
 use Rattle.mfotl_sig.specs.declared.fault.SigFault.{SigFault}
-use Rattle.mfotl_sig.specs.declared.fault.SigFault.TheVariants.{Syntax}
+use Rattle.mfotl_sig.specs.declared.fault.SigFault.TheVariants.{Lex, Syntax}
 use Rattle.mfotl_sig.specs.Grammar.{IsAccepted, IsViable}
 use Rattle.mfotl_sig.specs.Preds.{PredOf}
 use Rattle.mfotl_sig.specs.Reading.{Partial, run, nothing_read, reading}
@@ -64,3 +65,8 @@ pub record EndsTooEarly (bytes : List ℕ) (at : ℕ) : Type 0 where
 abbrev pub ExactSyntax : Type 0
 ExactSyntax = (bytes : List ℕ) (at : ℕ)
     → (IsFirstFault bytes (Syntax at)) ↔ (EndsViability (tokens_of bytes).list at ⊎ EndsTooEarly bytes at)
+
+-- a fault of the lexer is shown behind all whole tokens, where they show none, and only there
+abbrev pub ExactLex : Type 0
+ExactLex = (bytes : List ℕ) (fault : LexFault)
+    → (IsFirstFault bytes (Lex fault)) ↔ (AreSound (tokens_of bytes).list × ((tokens_of bytes).fault ≡ Some fault))

@@ -1,6 +1,6 @@
 //! What holds of every text. Each law is a function that does nothing: its clause is the law.
 
-ghost use Rattle.mfotl_sig.specs.Laws.{ReadIsSpelled, SpelledIsRead, OneAnswer, ExactSyntax};
+ghost use Rattle.mfotl_sig.specs.Laws.{ReadIsSpelled, SpelledIsRead, OneAnswer, ExactSyntax, ExactLex};
 ghost use Rattle.mfotl_sig.specs.WorkedTexts.{WorkedValues, WorkedFaults};
 
 /// A text that is read spells its predicates, and keeps the rules.
@@ -21,6 +21,11 @@ pub fn one_answer()
 /// `Syntax` is shown exactly by the first token that ends viability, or by the input's end.
 pub fn exact_syntax()
     ensures { ExactSyntax }
+{}
+
+/// `Lex` is shown exactly behind the whole tokens, where they show no fault.
+pub fn exact_lex()
+    ensures { ExactLex }
 {}
 
 /// Texts worked out by hand, and what is read of them.

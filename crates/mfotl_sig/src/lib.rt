@@ -10,7 +10,9 @@ mod reading;
 mod signature;
 
 pub use fault::SigFault;
-pub use laws::{exact_syntax, one_answer, read_is_spelled, spelled_is_read, worked_texts};
+pub use laws::{
+    exact_lex, exact_syntax, one_answer, read_is_spelled, spelled_is_read, worked_texts,
+};
 pub use pred::Pred;
 pub use reading::read_signature;
 pub use signature::Signature;
