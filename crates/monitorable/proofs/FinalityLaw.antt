@@ -18,14 +18,14 @@ use Rattle.monitorable.proofs.TemporalLemmas.{Same, since_same, until_same}
 use Rattle.monitorable.specs.Laws.{Finality}
 use Rattle.monitorable.specs.Times.{NeverFalls}
 
-within_log : (log : List TimePoint) (f : Form) (j : ℕ) → settled (times log) f j ≡ true → j < length log
+pub within_log : (log : List TimePoint) (f : Form) (j : ℕ) → settled (times log) f j ≡ true → j < length log
 within_log log f j h =
     let l : j < length (times log) = ltb-true j (length (times log)) (settled_within (times log) f j h) in
     let e : length (times log) ≡ length log = length-map log (λ p. p.ts) in
     omega arith
 
 module _ (log more : List TimePoint) where
-  time_same : (j : ℕ) → j < length log → time_at (times log) j ≡ time_at (times (log ++ more)) j
+  pub time_same : (j : ℕ) → j < length log → time_at (times log) j ≡ time_at (times (log ++ more)) j
   time_same j l =
       let e : length (times log) ≡ length log = length-map log (λ p. p.ts) in
       sym (ap (λ t. time_at t j) (map-append (λ p. p.ts) log more)

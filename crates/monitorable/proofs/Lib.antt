@@ -5,6 +5,9 @@ pub mod FinalityLaw
 pub mod DomainLemmas
 pub mod FragmentLemmas
 pub mod DomainLaw
+pub mod SettledStays
+pub mod ViolationsFinal
+pub mod TextFinal
 pub mod Coincidence
 pub mod NormalFormLaws
 pub mod NormalFormVariables

@@ -7,7 +7,7 @@ use Rattle.mfotl_model.specs.Formulas.{Form}
 use Rattle.mfotl_model.specs.Formulas.Form.{True, False, Atom, Compare, Not, And, Or, Implies, Equiv, Exists, Forall, Previous, Next, Once, Historically, Eventually, Always, Since, Until}
 use Rattle.mfotl_model.specs.Satisfaction.{time_at}
 use Rattle.mfotl_model.specs.Settled.{settled, previous_settled, next_settled, since_settled, until_settled}
-use Rattle.monitorable.specs.Laws.{SettledBefore}
+use Rattle.monitorable.specs.Laws.{SettledBefore, SettledWithin}
 use Rattle.monitorable.specs.Times.{NeverFalls}
 
 -- the operands of SINCE are ready at each position up to i
@@ -167,3 +167,6 @@ settled_before times rising (Until interval f g) i h =
     let p = and_parts (settled times f (j + 1)) (settled times g (j + 1)) k in
     and_from (settled times f j) (settled times g j) (settled_before times rising f j p.0) (settled_before times rising g j p.1))
     h
+
+pub settled_in_log : SettledWithin
+settled_in_log times f i h = ltb-true i (length times) (settled_within times f i h)

@@ -1,5 +1,5 @@
 -- What is always true of the logic.
-use Rattle.std.specs.Prelude.{◌≡◌, ℕ, ◌+◌, true, not, List, ◌++◌, None}
+use Rattle.std.specs.Prelude.{◌≡◌, ℕ, ◌+◌, ◌<◌, Bool, true, not, List, ◌++◌, length, None}
 use Rattle.mfotl_model.specs.Formulas.{Form}
 use Rattle.mfotl_model.specs.Satisfaction.{Valuation, sat}
 use Rattle.mfotl_model.specs.declared.event.TimePoint.{TimePoint}
@@ -8,8 +8,10 @@ use Rattle.mfotl_model.specs.FreeVariables.{fv, among}
 use Rattle.mfotl_model.specs.Settled.{settled}
 use Rattle.mfotl_model.specs.ActiveDomain.{constants, log_values}
 use Rattle.mfotl_model.specs.Log.{times}
+use Rattle.mfotl_model.specs.VerdictText.{text}
+use Rattle.mfotl_model.specs.Violations.{viol}
 use Rattle.monitorable.specs.Domains.{Includes, within}
-use Rattle.monitorable.specs.Fragment.{Names, frag}
+use Rattle.monitorable.specs.Fragment.{Names, frag, frag_fault}
 use Rattle.monitorable.specs.Times.{NeverFalls}
 use Rattle.monitorable.specs.NormalForm.{positive, negative}
 use Rattle.monitorable.specs.Renaming.{apart_form, all_apart, binders}
@@ -84,3 +86,29 @@ Domain =
     → (v : Valuation) (i : ℕ)
     → ((dom : List Value) (y : ℕ) → sat log dom v i f ≡ true → among y (fv f) ≡ true → within base (v y) ≡ true)
     × ((a b : List Value) → Includes a base → Includes b base → sat log a v i f ≡ sat log b v i f)
+
+-- what is settled lies within the log
+abbrev pub SettledWithin : Type 0
+SettledWithin = (times : List ℕ) (f : Form) (i : ℕ) → settled times f i ≡ true → i < length times
+
+-- what is settled is settled in every longer log
+abbrev pub SettledStays : Type 0
+SettledStays =
+    (times more : List ℕ) → NeverFalls (times ++ more) → (f : Form) (i : ℕ)
+    → settled times f i ≡ true → settled (times ++ more) f i ≡ true
+
+-- the violations of a monitored policy at a settled position are the same in every longer log
+abbrev pub ViolationsFinal : Type 0
+ViolationsFinal =
+    (log more : List TimePoint) (names : Names) (f : Form) (i : ℕ)
+    → NeverFalls (times (log ++ more)) → frag names (negative f) ≡ None → settled (times log) f i ≡ true
+    → viol log f i ≡ viol (log ++ more) f i
+
+-- the text of a log is a prefix of the text of every longer one, where the policy can be monitored
+abbrev pub TextFinal : Type 0
+TextFinal =
+    (log more : List TimePoint) (closed closed' : Bool) (names : Names) (f : Form)
+    → NeverFalls (times (log ++ more)) → frag_fault names f ≡ None
+    → (rest : List ℕ)
+    × (text (record { points = log ++ more; closed = closed' }) f
+    ≡ text (record { points = log; closed = closed }) f ++ rest)

@@ -1,5 +1,5 @@
 //! Laws of the logic, each stated by the contract of a function that does nothing.
-ghost use Rattle.monitorable.specs.Laws.{ApartMeansTheSame, ApartVariables, Coincidence, Domain, Finality, NormalFormConstants, NormalFormHolds, NormalFormSettled, NormalFormVariables, SettledBefore};
+ghost use Rattle.monitorable.specs.Laws.{ApartMeansTheSame, ApartVariables, Coincidence, Domain, Finality, NormalFormConstants, NormalFormHolds, NormalFormSettled, NormalFormVariables, SettledBefore, SettledStays, SettledWithin, TextFinal, ViolationsFinal};
 
 /// Whether a formula holds hangs on its free variables alone.
 pub fn only_free_variables_matter()
@@ -50,4 +50,24 @@ pub fn settled_before()
 /// What the fragment accepts has its values in the domain, and hangs on no larger domain.
 pub fn domain_is_enough()
     ensures { Domain }
+{}
+
+/// What is settled lies within the log.
+pub fn settled_within()
+    ensures { SettledWithin }
+{}
+
+/// What is settled is settled in every longer log.
+pub fn settled_stays()
+    ensures { SettledStays }
+{}
+
+/// The violations of a monitored policy at a settled position are the same in every longer log.
+pub fn violations_are_final()
+    ensures { ViolationsFinal }
+{}
+
+/// The text of a log is a prefix of the text of every longer one, where the policy can be monitored.
+pub fn text_is_final()
+    ensures { TextFinal }
 {}

@@ -1,0 +1,73 @@
+-- The text of a log is a prefix of the text of every longer one.
+use Rattle.std.proofs.Common.{◌≡◌, ℕ, zero, suc, ◌+◌, ◌≤◌, Bool, true, false, cond, nat_lt, List, [], ◌∷◌, ◌++◌, map, length, Option, Some, None, refl, sym, ap, ap₂, ◌∙◌, subst, inl, inr, arith, length-append}
+use Rattle.std.proofs.lemmas.Bool.{cases_Bool, cond-true, cond-false}
+use Rattle.std.proofs.lemmas.Grind.{flat_map-append}
+use Rattle.std.proofs.lemmas.List.{map-append}
+use Rattle.std.proofs.lemmas.List.Sums.{take_while-cons}
+use Rattle.std.specs.List.{flat_map, range_with_len, take_while}
+use Rattle.mfotl_model.specs.Log.{times}
+use Rattle.mfotl_model.specs.Settled.{settled}
+use Rattle.mfotl_model.specs.VerdictText.{VerdictOf, line_of, verdict_at, verdicts}
+use Rattle.monitorable.proofs.FinalityLaw.{time_same, within_log}
+use Rattle.monitorable.proofs.SettledStays.{settled_stays}
+use Rattle.monitorable.proofs.ViolationsFinal.{violations_final}
+use Rattle.monitorable.specs.Fragment.{frag}
+use Rattle.monitorable.specs.Laws.{TextFinal}
+use Rattle.monitorable.specs.NodeCount.{node_limit, nodes}
+use Rattle.monitorable.specs.NormalForm.{negative}
+use Rattle.monitorable.specs.Times.{NeverFalls}
+use Rattle.monitorable.specs.declared.fault.FragmentFault.{FragmentFault}
+use Rattle.monitorable.specs.declared.fault.FragmentFault.TheVariants.{TooLarge}
+
+-- two lists of verdicts, each as far as its test holds, where the second test holds wherever the first does
+module _ (p q : ℕ → Bool) (v w : ℕ → VerdictOf) (follows : (i : ℕ) → p i ≡ true → q i ≡ true)
+    (same : (i : ℕ) → p i ≡ true → v i ≡ w i) where
+  longer : (a n m : ℕ) → n ≤ m
+      → (rest : List VerdictOf)
+      × (map w (take_while q (range_with_len a m)) ≡ map v (take_while p (range_with_len a n)) ++ rest)
+  longer a zero m l = (map w (take_while q (range_with_len a m)), refl)
+  longer a (suc n) zero l = absurd (omega arith)
+  longer a (suc n) (suc m) l =
+      elim (cases_Bool (p a)) [
+        | inl e ↦
+            let r = longer (a + 1) n m (omega arith) in (
+              r.0,
+              ap (map w) (take_while-cons q a (range_with_len (a + 1) m)
+                  ∙ cond-true (q a) (a ∷ take_while q (range_with_len (a + 1) m)) [] (follows a e))
+                  ∙ ap₂ (λ x xs. x ∷ xs) (sym (same a e)) r.1
+                  ∙ ap (λ xs. map v xs ++ r.0)
+                  (sym (take_while-cons p a (range_with_len (a + 1) n)
+                  ∙ cond-true (p a) (a ∷ take_while p (range_with_len (a + 1) n)) [] e)),
+            )
+        | inr e ↦ (
+          map w (take_while q (range_with_len a (suc m))),
+          ap (λ xs. map v xs ++ map w (take_while q (range_with_len a (suc m))))
+              (sym (take_while-cons p a (range_with_len (a + 1) n)
+              ∙ cond-false (p a) (a ∷ take_while p (range_with_len (a + 1) n)) [] e)),
+        )
+      ]
+
+small : (b : Bool) (fault : Option FragmentFault) → cond b (Some TooLarge) fault ≡ None → fault ≡ None
+small true fault h = cc
+small false fault h = h
+
+pub text_final : TextFinal
+text_final log more closed closed' names f rising accepted =
+    let p : ℕ → Bool = settled (times log) f in
+    let q : ℕ → Bool = settled (times (log ++ more)) f in
+    let fits : frag names (negative f) ≡ None = small (nat_lt node_limit (nodes (negative f))) (frag names (negative f)) accepted in
+    let joined : times (log ++ more) ≡ times log ++ times more = map-append (λ t. t.ts) log more in
+    let r = longer p q (verdict_at log f) (verdict_at (log ++ more) f)
+    (λ i h. ap (λ t. settled t f i) joined
+    ∙ settled_stays (times log) (times more) (rises (times (log ++ more)) (times log ++ times more) joined rising) f i h)
+    (λ i h. ap₂ (λ t rows. record { point = i; ts = t; rows = rows })
+    (time_same log more i (within_log log f i h))
+    (violations_final log more names f i rising fits h))
+    0 (length log) (length (log ++ more)) (omega (arith, length-append log more)) in (
+      flat_map line_of r.0,
+      ap (flat_map line_of) r.1
+          ∙ flat_map-append line_of (verdicts (record { points = log; closed = closed }) f) r.0,
+    )
+  where
+    rises : (t u : List ℕ) → t ≡ u → NeverFalls t → NeverFalls u
+    rises t u e h = subst NeverFalls e h
