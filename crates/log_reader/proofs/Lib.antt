@@ -1,3 +1,10 @@
 pub mod Lexing
 pub mod Turning
 pub mod Keeping
+pub mod Paths
+pub mod Walks
+pub mod SyntaxLaw
+pub mod Judging
+pub mod PointJudging
+pub mod LogJudging
+pub mod LogLaws

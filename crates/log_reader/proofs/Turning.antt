@@ -127,15 +127,15 @@ turned AfterClose (Says (Bare w)) g e h = to AfterName g (keeps refl refl (λ f.
 turned AfterClose _ g e h = absurd cc
 
 -- the new stage is the one that the grammar leads to, and an `@` counts
-abbrev one_if_at : Stage → ℕ
+abbrev pub one_if_at : Stage → ℕ
 one_if_at AfterAt = 1
 one_if_at _ = 0
 
-record Reached (g : Stage) (p q : Partial) : Type 0 where
+pub record Reached (g : Stage) (p q : Partial) : Type 0 where
   pub stage : q.stage ≡ g
   pub points : q.points ≡ p.points + one_if_at g
 
-abbrev Reaches : Stage → Partial → Result Partial LogFault → Type 0
+abbrev pub Reaches : Stage → Partial → Result Partial LogFault → Type 0
 Reaches g p r = (q : Partial) → r ≡ Ok q → Reached g p q
 
 -- a step that doesn't fail here
@@ -166,7 +166,7 @@ stamped_reaches at p (Some time) =
     cond_both (nat_lt time p.time) _ _ (Reaches AfterStamp p) (λ _. failed AfterStamp p _) (λ _. done AfterStamp p _ (record { stage = refl; points = omega arith }))
 stamped_reaches at p None = failed AfterStamp p _
 
-stepped_reaches : (sig : List PredOf) (limits : Limits) (p : Partial) (t : Lexeme) (g : Stage) → Reaches g p (stepped sig limits p t (Some g))
+pub stepped_reaches : (sig : List PredOf) (limits : Limits) (p : Partial) (t : Lexeme) (g : Stage) → Reaches g p (stepped sig limits p t (Some g))
 stepped_reaches sig limits p t AfterAt =
     cond_both (nat_lt p.points limits.points) _ _ (Reaches AfterAt p) (λ _. done AfterAt p _ (record { stage = refl; points = refl })) (λ _. failed AfterAt p _)
 stepped_reaches sig limits p t AfterStamp = stamped_reaches t.at p (timestamp_of (content t))

@@ -9,3 +9,6 @@ pub mod Progress
 pub mod Cursors
 pub mod Soundness
 pub mod FaultTexts
+pub mod Grammar
+pub mod Rules
+pub mod Laws

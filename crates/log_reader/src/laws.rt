@@ -1,0 +1,23 @@
+//! What holds of every log. Each law is a function that does nothing: its clause is the law.
+
+ghost use Rattle.log_reader.specs.Laws.{ReadIsSpelled, SpelledIsRead, OneAnswer, ExactSyntax};
+
+/// A log that is read to its end spells its time-points, and keeps the rules.
+pub fn read_is_spelled()
+    ensures { ReadIsSpelled }
+{}
+
+/// A log that spells time-points and keeps the rules is read to its end.
+pub fn spelled_is_read()
+    ensures { SpelledIsRead }
+{}
+
+/// A log has exactly one of a value and a first fault.
+pub fn one_answer()
+    ensures { OneAnswer }
+{}
+
+/// `Syntax` is shown exactly by the first token that ends viability, or by the input's end.
+pub fn exact_syntax()
+    ensures { ExactSyntax }
+{}
