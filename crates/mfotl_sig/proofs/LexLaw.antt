@@ -7,7 +7,7 @@ use Rattle.mfotl_lex.specs.declared.kind.Kind.TheVariants.{Word, OpenParen, Clos
 use Rattle.mfotl_lex.specs.Lexemes.{Lexeme}
 use Rattle.mfotl_model.specs.declared.policy.Sort.{Sort}
 use Rattle.mfotl_sig.specs.declared.fault.SigFault.{SigFault}
-use Rattle.mfotl_sig.specs.declared.fault.SigFault.TheVariants.{Lex, RepeatedName, TooMany, Arity}
+use Rattle.mfotl_sig.specs.declared.fault.SigFault.TheVariants.{Lex, Memory, RepeatedName, TooMany, Arity}
 use Rattle.mfotl_sig.specs.declared.draft.Stage.{Stage}
 use Rattle.mfotl_sig.specs.declared.draft.Stage.TheVariants.{AfterName, AfterOpen, AfterWord, AfterLabel, AfterSort, AfterComma}
 use Rattle.mfotl_sig.specs.Laws.{ExactLex, AreSound, IsFirstFault}
@@ -16,12 +16,13 @@ use Rattle.mfotl_sig.specs.Reading.{Partial, DraftOf, Open, Closed, ◌>>=◌, s
 use Rattle.mfotl_sig.specs.Rules.{tokens_of}
 use Rattle.mfotl_sig.proofs.SignatureLaws.{reading_is}
 
--- no fault of the lexer
-abbrev IsOwn : SigFault → Type 0
+-- no fault of the lexer, and no want of memory
+abbrev pub IsOwn : SigFault → Type 0
 IsOwn (Lex fault) = ⊥
+IsOwn Memory = ⊥
 IsOwn _ = Unit {0}
 
-abbrev Own : {A : Type 0} → Result A SigFault → Type 0
+abbrev pub Own : {A : Type 0} → Result A SigFault → Type 0
 Own r = IfErr r IsOwn
 
 either_own : {A : Type 0} (b : Bool) (x y : Result A SigFault) → Own x → Own y → Own (cond b x y)
@@ -83,12 +84,12 @@ from_own : (done : List PredOf) (draft : Option DraftOf) (t : Lexeme) → Own (s
 from_own done None t = begins_own done t t.kind
 from_own done (Some d) t = bind_own (stage_step d t d.stage) (λ progress. Ok (settled done progress)) (stage_own d t d.stage) (λ progress. tt)
 
-run_own : (ts : List Lexeme) (p : Partial) → Own (run ts p)
+pub run_own : (ts : List Lexeme) (p : Partial) → Own (run ts p)
 unfolding run step
 run_own [] p = tt
 run_own (t ∷ ts) p = bind_own (step p t) (λ q. run ts q) (from_own p.done p.draft t) (λ q. run_own ts q)
 
-end_own : (end : ℕ) (done : List PredOf) (draft : Option DraftOf) → Own (at_end end done draft)
+pub end_own : (end : ℕ) (done : List PredOf) (draft : Option DraftOf) → Own (at_end end done draft)
 end_own end done None = tt
 end_own end done (Some d) = tt
 

@@ -9,3 +9,6 @@ pub mod Viability
 pub mod ViableRuns
 pub mod SignatureLaws
 pub mod LexLaw
+pub mod CausePlaces
+pub mod CauseSteps
+pub mod CauseLaw

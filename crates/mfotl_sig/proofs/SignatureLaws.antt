@@ -29,7 +29,7 @@ ended_ok : (end : ℕ) (fault : Option LexFault) (q : Partial) (preds : List Pre
 ended_ok end None q preds e = let p = draft_none end q.done q.draft preds e in (refl, p.0, p.1)
 ended_ok end (Some fault) q preds e = absurd cc
 
-done_is : (p q : Partial) (r : Result Partial SigFault) → r ≡ Ok p → r ≡ Ok q → p.done ≡ q.done
+pub done_is : (p q : Partial) (r : Result Partial SigFault) → r ≡ Ok p → r ≡ Ok q → p.done ≡ q.done
 done_is p q r e f = cc (e, f)
 
 value_of : (bytes : List ℕ) (preds : List PredOf) (ws : List Written) (q : Partial) → (tokens_of bytes).fault ≡ None → Spells (tokens_of bytes).list ws
@@ -82,14 +82,14 @@ one_answer bytes = answered bytes (reading bytes) refl
 -- ---- Syntax
 
 -- the token that shows a fault
-record Stopped (ts : List Lexeme) (p : Partial) (fault : SigFault) : Type 0 where
-  front : List Lexeme
-  token : Lexeme
-  back : List Lexeme
-  read : Partial
-  parts : ts ≡ front ++ token ∷ back
-  sound : run front p ≡ Ok read
-  stop : step read token ≡ Err fault
+pub record Stopped (ts : List Lexeme) (p : Partial) (fault : SigFault) : Type 0 where
+  pub front : List Lexeme
+  pub token : Lexeme
+  pub back : List Lexeme
+  pub read : Partial
+  pub parts : ts ≡ front ++ token ∷ back
+  pub sound : run front p ≡ Ok read
+  pub stop : step read token ≡ Err fault
 
 stopped_at : (t : Lexeme) (ts : List Lexeme) (p : Partial) (fault : SigFault) (r : Result Partial SigFault) → step p t ≡ r
     → ((q : Partial) → run ts q ≡ Err fault → Stopped ts q fault) → (r >>= λ q. run ts q) ≡ Err fault → Stopped (t ∷ ts) p fault
@@ -108,7 +108,7 @@ stopped_at t ts p fault (Ok q) e later stops =
 stopped_at t ts p fault (Err other) e later stops =
     record { front = []; token = t; back = ts; read = p; parts = refl; sound = refl; stop = e ∙ cc stops }
 
-stopped : (ts : List Lexeme) (p : Partial) (fault : SigFault) → run ts p ≡ Err fault → Stopped ts p fault
+pub stopped : (ts : List Lexeme) (p : Partial) (fault : SigFault) → run ts p ≡ Err fault → Stopped ts p fault
 unfolding run
 stopped [] p fault e = absurd cc
 stopped (t ∷ ts) p fault e = stopped_at t ts p fault (step p t) refl (λ q. stopped ts q fault) e

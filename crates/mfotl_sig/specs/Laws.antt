@@ -3,7 +3,8 @@ use Rattle.std.specs.Prelude.{◌≡◌, ◌↔◌, ◌⊎◌, ℕ, List, [], �
 use Rattle.mfotl_lex.specs.declared.fault.LexFault.{LexFault}
 use Rattle.mfotl_lex.specs.Lexemes.{Lexeme}
 use Rattle.mfotl_sig.specs.declared.fault.SigFault.{SigFault}
-use Rattle.mfotl_sig.specs.declared.fault.SigFault.TheVariants.{Lex, Syntax}
+use Rattle.mfotl_sig.specs.declared.fault.SigFault.TheVariants.{Lex, Syntax, Memory}
+use Rattle.mfotl_sig.specs.Causes.{IsCause}
 use Rattle.mfotl_sig.specs.Grammar.{IsAccepted, IsViable}
 use Rattle.mfotl_sig.specs.Preds.{PredOf}
 use Rattle.mfotl_sig.specs.Reading.{Partial, run, nothing_read, reading}
@@ -70,3 +71,22 @@ ExactSyntax = (bytes : List ℕ) (at : ℕ)
 abbrev pub ExactLex : Type 0
 ExactLex = (bytes : List ℕ) (fault : LexFault)
     → (IsFirstFault bytes (Lex fault)) ↔ (AreSound (tokens_of bytes).list × ((tokens_of bytes).fault ≡ Some fault))
+
+-- the token that shows that a rule is broken, behind tokens that show no fault
+pub record ShowsBroken (ts : List Lexeme) (fault : SigFault) : Type 0 where
+  pub front : List Lexeme
+  pub token : Lexeme
+  pub back : List Lexeme
+  pub parts : ts ≡ front ++ token ∷ back
+  pub sound : AreSound front
+  pub cause : IsCause front token fault
+
+-- what shows a fault
+abbrev pub IsShown : List ℕ → SigFault → Type 0
+IsShown bytes (Lex fault) = AreSound (tokens_of bytes).list × ((tokens_of bytes).fault ≡ Some fault)
+IsShown bytes (Syntax at) = EndsViability (tokens_of bytes).list at ⊎ EndsTooEarly bytes at
+IsShown bytes Memory = ⊥
+IsShown bytes fault = ShowsBroken (tokens_of bytes).list fault
+
+abbrev pub EachFaultIsShown : Type 0
+EachFaultIsShown = (bytes : List ℕ) (fault : SigFault) → IsFirstFault bytes fault → IsShown bytes fault

@@ -2,6 +2,7 @@ pub mod Preds
 pub mod Grammar
 pub mod Reading
 pub mod Rules
+pub mod Causes
 pub mod Laws
 pub mod Answers
 pub mod FaultTexts

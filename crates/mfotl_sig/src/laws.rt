@@ -1,6 +1,6 @@
 //! What holds of every text. Each law is a function that does nothing: its clause is the law.
 
-ghost use Rattle.mfotl_sig.specs.Laws.{ReadIsSpelled, SpelledIsRead, OneAnswer, ExactSyntax, ExactLex};
+ghost use Rattle.mfotl_sig.specs.Laws.{ReadIsSpelled, SpelledIsRead, OneAnswer, ExactSyntax, ExactLex, EachFaultIsShown};
 ghost use Rattle.mfotl_sig.specs.WorkedTexts.{WorkedValues, WorkedFaults};
 
 /// A text that is read spells its predicates, and keeps the rules.
@@ -26,6 +26,11 @@ pub fn exact_syntax()
 /// `Lex` is shown exactly behind the whole tokens, where they show no fault.
 pub fn exact_lex()
     ensures { ExactLex }
+{}
+
+/// Each fault is shown by what it says: a rule's by the token that breaks it.
+pub fn each_fault_is_shown()
+    ensures { EachFaultIsShown }
 {}
 
 /// Texts worked out by hand, and what is read of them.

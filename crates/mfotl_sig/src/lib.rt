@@ -11,7 +11,8 @@ mod signature;
 
 pub use fault::SigFault;
 pub use laws::{
-    exact_lex, exact_syntax, one_answer, read_is_spelled, spelled_is_read, worked_texts,
+    each_fault_is_shown, exact_lex, exact_syntax, one_answer, read_is_spelled, spelled_is_read,
+    worked_texts,
 };
 pub use pred::Pred;
 pub use reading::read_signature;
