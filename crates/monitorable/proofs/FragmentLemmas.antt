@@ -21,7 +21,7 @@ pub none_first : (a b : Option FragmentFault) → a ≡ None → b ≡ None → 
 none_first None b h k = k
 none_first (Some fault) b h k = cc
 
-no_variable : (fault : ℕ → FragmentFault) (y : Option ℕ) → at_variable fault y ≡ None → y ≡ None
+pub no_variable : (fault : ℕ → FragmentFault) (y : Option ℕ) → at_variable fault y ≡ None → y ≡ None
 no_variable fault None h = refl
 no_variable fault (Some y) h = cc
 

@@ -8,6 +8,8 @@ pub mod DomainLaw
 pub mod SettledStays
 pub mod ViolationsFinal
 pub mod TextFinal
+pub mod FragmentRenamed
+pub mod ConjunctsLaw
 pub mod Coincidence
 pub mod NormalFormLaws
 pub mod NormalFormVariables

@@ -10,6 +10,8 @@ use Rattle.mfotl_model.specs.ActiveDomain.{constants, log_values}
 use Rattle.mfotl_model.specs.Log.{times}
 use Rattle.mfotl_model.specs.VerdictText.{text}
 use Rattle.mfotl_model.specs.Violations.{viol}
+use Rattle.std.specs.List.{list_all}
+use Rattle.monitorable.specs.Conjuncts.{conjuncts_of, part_holds}
 use Rattle.monitorable.specs.Domains.{Includes, within}
 use Rattle.monitorable.specs.Fragment.{Names, frag, frag_fault}
 use Rattle.monitorable.specs.Times.{NeverFalls}
@@ -112,3 +114,14 @@ TextFinal =
     → (rest : List ℕ)
     × (text (record { points = log ++ more; closed = closed' }) f
     ≡ text (record { points = log; closed = closed }) f ++ rest)
+
+-- with its quantifiers apart, a formula that the fragment accepts is accepted, whatever its names
+abbrev pub ApartFragment : Type 0
+ApartFragment =
+    (names names' : Names) (f : Form) → frag names f ≡ None → frag names' (apart_form f) ≡ None
+
+-- a formula holds exactly where all its conjuncts do
+abbrev pub ConjunctsMean : Type 0
+ConjunctsMean =
+    (log : List TimePoint) (dom : List Value) (f : Form) (v : Valuation) (i : ℕ)
+    → sat log dom v i f ≡ list_all (part_holds log dom v i) (conjuncts_of f)

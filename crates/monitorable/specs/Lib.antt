@@ -8,6 +8,8 @@ pub mod Renaming
 pub mod RenamingScope
 pub mod Atoms
 pub mod CoreForm
+pub mod Conjuncts
+pub mod ConjunctView
 pub mod Domains
 pub mod Times
 pub mod Laws

@@ -1,5 +1,5 @@
 //! Laws of the logic, each stated by the contract of a function that does nothing.
-ghost use Rattle.monitorable.specs.Laws.{ApartMeansTheSame, ApartVariables, Coincidence, Domain, Finality, NormalFormConstants, NormalFormHolds, NormalFormSettled, NormalFormVariables, SettledBefore, SettledStays, SettledWithin, TextFinal, ViolationsFinal};
+ghost use Rattle.monitorable.specs.Laws.{ApartFragment, ApartMeansTheSame, ApartVariables, Coincidence, ConjunctsMean, Domain, Finality, NormalFormConstants, NormalFormHolds, NormalFormSettled, NormalFormVariables, SettledBefore, SettledStays, SettledWithin, TextFinal, ViolationsFinal};
 
 /// Whether a formula holds hangs on its free variables alone.
 pub fn only_free_variables_matter()
@@ -70,4 +70,14 @@ pub fn violations_are_final()
 /// The text of a log is a prefix of the text of every longer one, where the policy can be monitored.
 pub fn text_is_final()
     ensures { TextFinal }
+{}
+
+/// With its quantifiers apart, a formula that the fragment accepts is accepted.
+pub fn apart_fragment()
+    ensures { ApartFragment }
+{}
+
+/// A formula holds exactly where all its conjuncts do.
+pub fn conjuncts_mean()
+    ensures { ConjunctsMean }
 {}

@@ -3,7 +3,7 @@ ghost use Rattle.std.specs.Prelude.{◌≡◌, ◌++◌, IfOk, IsTrue, OnOk, opt
 ghost use Rattle.mfotl_model.specs.Formulas.{form};
 ghost use Rattle.mfotl_model.specs.FreeVariables.{fv};
 ghost use Rattle.monitorable.specs.Atoms.{atoms_of, only_atom};
-ghost use Rattle.monitorable.specs.CoreForm.{Denies, SettlesWith, core_form};
+ghost use Rattle.monitorable.specs.CoreForm.{Denies, Fits, SettlesWith, core_form};
 ghost use Rattle.monitorable.specs.Fragment.{frag_fault, free_names};
 ghost use Rattle.monitorable.specs.Judging.{Judges};
 ghost use Rattle.monitorable.specs.NormalForm.{negative};
@@ -135,6 +135,7 @@ pub fn to_core(policy: &Policy, alloc: Global) -> Result<Core, FragmentFault>
     ensures core { IfOk result (λ core. core_form core ≡ apart_form (negative (form policy.now.formula))) }
     ensures denies { IfOk result (λ core. Denies (core_form core) (form policy.now.formula)) }
     ensures settles { IfOk result (λ core. SettlesWith (core_form core) (form policy.now.formula)) }
+    ensures fits { IfOk result (λ core. Fits (core_form core)) }
     ensures variables { IfOk result (λ core. fv (core_form core) ≡ fv (form policy.now.formula)) }
     ensures apart { IfOk result (λ core. IsTrue (all_apart (fv (core_form core) ++ binders (core_form core)))) }
 {
