@@ -9,3 +9,4 @@ pub mod ActiveDomain
 pub mod Settled
 pub mod Violations
 pub mod VerdictText
+pub mod Bindings

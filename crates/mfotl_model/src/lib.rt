@@ -7,6 +7,7 @@ mod formula;
 mod free_variables;
 mod interval;
 mod partial;
+mod plain;
 mod policy;
 mod row;
 mod term;

@@ -1,8 +1,10 @@
 //! Terms, and the formulas that hold or fail at one time-point alone.
 ghost use Rattle.std.specs.Prelude.{◌≡◌, IfOk};
+ghost use Rattle.mfotl_model.specs.Satisfaction.{same_sort};
 
 use crate::value::Value;
 use std::alloc::{AllocError, Global};
+use std::cmp::Ordering;
 use std::marker::Model;
 
 /// A variable, by its number, or a constant.
@@ -94,6 +96,38 @@ pub enum Sign {
     LessEqual,
     Greater,
     GreaterEqual,
+}
+
+impl Sign {
+    ghost use Rattle.mfotl_model.specs.Satisfaction.{compares, meets};
+
+    /// Whether two values compare so. Values of different sorts do by no sign.
+    pub fn compares(self, left: &Value, right: &Value) -> bool
+        ensures { result ≡ compares self left.now right.now }
+    {
+        same_sort(left, right) && self.meets(left.cmp(right))
+    }
+
+    fn meets(self, order: Ordering) -> bool
+        ensures { result ≡ meets self order }
+    {
+        match self {
+            Sign::Equal => order.is_eq(),
+            Sign::Less => order.is_lt(),
+            Sign::LessEqual => order.is_le(),
+            Sign::Greater => order.is_gt(),
+            Sign::GreaterEqual => order.is_ge(),
+        }
+    }
+}
+
+fn same_sort(left: &Value, right: &Value) -> bool
+    ensures { result ≡ same_sort left.now right.now }
+{
+    match (left, right) {
+        (Value::Int(_), Value::Int(_)) | (Value::Text(_), Value::Text(_)) => true,
+        _ => false,
+    }
 }
 
 /// A comparison of two terms.
