@@ -3,3 +3,7 @@ pub mod AscendingLemmas
 pub mod RowLemmas
 pub mod VariableLemmas
 pub mod PlainLemmas
+pub mod SettlingLemmas
+pub mod DomainLemmas
+pub mod PlainRowLemmas
+pub mod LineLemmas

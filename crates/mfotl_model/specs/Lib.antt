@@ -10,3 +10,4 @@ pub mod Settled
 pub mod Violations
 pub mod VerdictText
 pub mod Bindings
+pub mod Examples

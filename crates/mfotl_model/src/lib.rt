@@ -3,6 +3,7 @@
 #![tactic(auto)]
 
 mod event;
+mod examples;
 mod formula;
 mod free_variables;
 mod interval;
@@ -15,9 +16,11 @@ mod text;
 mod value;
 
 pub use event::{Db, Event, TimePoint};
+pub use examples::worked_examples;
 pub use formula::{Bound, Formula};
 pub use interval::Interval;
 pub use partial::Partial;
+pub use plain::{active_domain, holds, is_settled, log_text, violations};
 pub use policy::{Policy, Sort, Var, Vars};
 pub use row::{Row, RowList};
 pub use term::{Atom, Comparison, Sign, Term, Terms};
