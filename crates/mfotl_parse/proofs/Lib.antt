@@ -1,0 +1,4 @@
+pub mod BlankLemmas
+pub mod NamesLemmas
+pub mod ReadingLemmas
+pub mod StackLemmas

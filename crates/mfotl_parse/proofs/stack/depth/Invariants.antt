@@ -1,0 +1,11 @@
+use Rattle.std.proofs.Common.{◌≡◌, ◌+◌, ◌≤◌, length}
+use Rattle.mfotl_parse.specs.States.{depth}
+use Rattle.mfotl_parse.specs.Views.{stack_of}
+use Rattle.mfotl_parse.proofs.stack.depth.Given as goal
+
+abbrev pub invariant-loop-frame : goal.invariant-loop-frame
+invariant-loop-frame l =
+    (l.levels + depth (stack_of l.rest) ≡ depth (stack_of l.frames)) × (l.levels + length l.rest ≤ length l.frames)
+
+abbrev pub decreases-loop-frame : goal.decreases-loop-frame
+decreases-loop-frame l = length l.rest

@@ -1,0 +1,11 @@
+pub mod Classes
+pub mod States
+pub mod Names
+pub mod Reduction
+pub mod Moves
+pub mod Operands
+pub mod Intervals
+pub mod Arguments
+pub mod Reading
+pub mod Views
+pub mod Examples

@@ -1,0 +1,59 @@
+-- What a token does: what is read with it as far as the grammar goes, and the limits and rules that it has
+-- to keep, in the order in which they are tried. No move is a token that the grammar can't go on with.
+use Rattle.std.specs.Prelude.{ℕ, Bool, true, false, not, List, [], ◌∷◌, Option, Some, None, Result, Ok, Err, nat_le, nat_lt, if◌then◌else◌, length}
+use Rattle.mfotl_model.specs.declared.policy.Sort.{Sort}
+use Rattle.mfotl_parse.specs.declared.fault.PolicyFault.{PolicyFault}
+use Rattle.mfotl_parse.specs.declared.fault.PolicyFault.TheVariants.{Syntax, TooDeep, TooManyNodes, WrongArity}
+use Rattle.mfotl_parse.specs.States.{Context, Partial, depth, Frame}
+
+pub record Rule : Type 0 where
+  pub broken : Bool
+  pub fault : PolicyFault
+
+pub record Move : Type 0 where
+  pub rules : List Rule
+  pub next : Partial
+
+abbrev pub goes : List Rule → Partial → Option Move
+goes rules next = Some (record { rules = rules; next = next })
+
+-- one rule before the others
+abbrev pub first_keeps : Rule → Option Move → Option Move
+first_keeps rule None = None
+first_keeps rule (Some m) = Some (record { rules = rule ∷ m.rules; next = m.next })
+
+-- the first rule that is broken
+abbrev pub kept : List Rule → Partial → Result Partial PolicyFault
+kept [] next = Ok next
+kept (rule ∷ rules) next = if rule.broken then Err rule.fault else kept rules next
+
+-- what a token at the offset gives
+abbrev pub given : ℕ → Option Move → Result Partial PolicyFault
+given at None = Err (Syntax at)
+given at (Some m) = kept m.rules m.next
+
+abbrev pub most_open : ℕ
+most_open = 64
+
+abbrev pub most_nodes : ℕ
+most_nodes = 4096
+
+-- one level more fits in the stack
+abbrev pub shallow : ℕ → List Frame → Rule
+shallow at stack = record { broken = nat_le most_open (depth stack); fault = TooDeep at }
+
+-- one node more fits
+abbrev pub few : ℕ → ℕ → Rule
+few at nodes = record { broken = nat_le most_nodes nodes; fault = TooManyNodes at }
+
+abbrev pub is_empty : List Sort → Bool
+is_empty [] = true
+is_empty (sort ∷ rest) = false
+
+-- an argument more is due
+abbrev pub one_due : ℕ → List Sort → Rule
+one_due at rest = record { broken = is_empty rest; fault = WrongArity at }
+
+-- no argument more is due
+abbrev pub none_due : ℕ → List Sort → Rule
+none_due at rest = record { broken = not (is_empty rest); fault = WrongArity at }

@@ -1,0 +1,79 @@
+-- How operators hold their operands. An operand that was read belongs to the innermost frame; an operator
+-- or a `)` behind it closes the frames that hold more tightly than itself.
+use Rattle.std.specs.Prelude.{ℕ, ◌≤◌, Bool, List, [], ◌∷◌, Option, Some, None, nat_lt, max, if◌then◌else◌, ◌+◌}
+use Rattle.mfotl_model.specs.declared.interval.Interval.{Interval}
+use Rattle.mfotl_model.specs.Formulas as forms
+use Rattle.mfotl_model.specs.Formulas.{Form}
+use Rattle.mfotl_parse.specs.declared.class.Operator.{Operator}
+use Rattle.mfotl_parse.specs.declared.class.Operator.TheVariants.{And, Or, Implies, Equiv, Since, Until}
+use Rattle.mfotl_parse.specs.declared.class.Quantifier.{Quantifier}
+use Rattle.mfotl_parse.specs.declared.class.Quantifier.TheVariants.{Exists, Forall}
+use Rattle.mfotl_parse.specs.declared.class.Temporal.{Temporal}
+use Rattle.mfotl_parse.specs.declared.class.Temporal.TheVariants.{Previous, Next, Once, Historically, Eventually, Always}
+use Rattle.mfotl_parse.specs.States.{Frame, Parens, Negation, Moment, Binding, Left}
+use Rattle.mfotl_parse.specs.Names.{most_free}
+
+-- the rule that an operator makes: 1 EQUIV, 2 IMPLIES, 3 OR, 4 AND, 5 SINCE and UNTIL
+abbrev pub level : Operator → ℕ
+level Equiv = 1
+level Implies = 2
+level Or = 3
+level And = 4
+level Since = 5
+level Until = 5
+
+-- the rule of an operator's right operand: IMPLIES, SINCE and UNTIL group to the right, the others to the left
+abbrev pub right_rule : Operator → ℕ
+right_rule Equiv = 2
+right_rule Implies = 2
+right_rule Or = 4
+right_rule And = 5
+right_rule Since = 5
+right_rule Until = 5
+
+-- how tightly a frame holds; a quantifier's body reaches as far as it can
+abbrev pub hold : Frame → ℕ
+hold Parens = 0
+hold (Binding quantifier variable name) = 1
+hold (Left operator interval left) = right_rule operator
+hold Negation = 6
+hold (Moment operator interval) = 6
+
+abbrev pub momentary : Temporal → Interval → Form → Form
+momentary Previous i f = forms.Previous i f
+momentary Next i f = forms.Next i f
+momentary Once i f = forms.Once i f
+momentary Historically i f = forms.Historically i f
+momentary Eventually i f = forms.Eventually i f
+momentary Always i f = forms.Always i f
+
+abbrev pub joined : Operator → Interval → Form → Form → Form
+joined And i f g = forms.And f g
+joined Or i f g = forms.Or f g
+joined Implies i f g = forms.Implies f g
+joined Equiv i f g = forms.Equiv f g
+joined Since i f g = forms.Since i f g
+joined Until i f g = forms.Until i f g
+
+abbrev pub quantified : Quantifier → ℕ → List ℕ → Form → Form
+quantified Exists variable name f = forms.Exists (record { number = most_free + variable; name = name }) f
+quantified Forall variable name f = forms.Forall (record { number = most_free + variable; name = name }) f
+
+-- a frame with its operand
+abbrev pub closed : Frame → Form → Form
+closed Parens f = f
+closed Negation f = forms.Not f
+closed (Moment operator interval) f = momentary operator interval f
+closed (Binding quantifier variable name) f = quantified quantifier variable name f
+closed (Left operator interval left) f = joined operator interval left f
+
+-- an operand, and the frames that are still open
+pub record Reduced : Type 0 where
+  pub form : Form
+  pub stack : List Frame
+
+unfoldable pub reduce : ℕ → Form → List Frame → Reduced
+reduce limit f [] = record { form = f; stack = [] }
+reduce limit f (frame ∷ stack) =
+    if nat_lt limit (hold frame) then reduce limit (closed frame f) stack
+    else record { form = f; stack = frame ∷ stack }

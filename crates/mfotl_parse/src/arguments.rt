@@ -1,0 +1,304 @@
+//! An atom's arguments.
+ghost use Rattle.std.specs.Prelude.{◌≡◌, ◌∷◌, [], ◌-◌, IfOk, IfSome, false};
+ghost use Rattle.mfotl_lex.specs.Lexemes.{lexeme};
+ghost use Rattle.mfotl_model.specs.Formulas.{form};
+ghost use Rattle.mfotl_parse.specs.Arguments as calls;
+ghost use Rattle.mfotl_parse.specs.Moves.{given, goes, one_due, few, is_empty};
+ghost use Rattle.mfotl_parse.specs.Names.{number_of, term_of};
+ghost use Rattle.mfotl_parse.specs.Views.{context_of, call_view, GoesOn};
+
+use crate::class::Class;
+use crate::fault::PolicyFault;
+use crate::frame::MOST_FREE;
+use crate::state::{Call, Context, Now, text_value};
+use crate::term::{Operand, Variable};
+use mfotl_lex::Token;
+use mfotl_model::{Atom, Bound, Formula, Name, Sort, Term, Terms, Value};
+use mfotl_sig::Signature;
+use std::alloc::{AllocError, Global};
+
+fn number_of(variable: Variable) -> Option<u32>
+    ensures { IfSome result (λ number. number ≡ number_of variable) }
+{
+    match variable {
+        Variable::Free(place) => Some(place),
+        Variable::Bound(place) => place.checked_add(MOST_FREE),
+    }
+}
+
+/// The term of an operand.
+pub fn term_of(operand: Operand) -> Result<Term, AllocError>
+    ensures { IfOk result (λ term. term ≡ term_of operand) }
+{
+    match operand {
+        Operand::Variable(variable) => match number_of(variable) {
+            Some(number) => Ok(Term::Var(number)),
+            None => Err(AllocError),
+        },
+        Operand::Constant(value) => Ok(Term::Const(value)),
+    }
+}
+
+impl<'a> Call<'a> {
+    /// The sort of the argument that is due; `int` where none is.
+    fn due(&self) -> Sort
+        ensures { result ≡ calls.due (call_view self.now).rest }
+    {
+        match self.rest {
+            [] => Sort::Int,
+            [sort, ..] => *sort,
+        }
+    }
+
+    fn is_full(&self) -> bool
+        ensures { result ≡ is_empty (call_view self.now).rest }
+    {
+        self.rest.is_empty()
+    }
+
+    /// With one argument more.
+    fn with(self, term: Term) -> Result<Call<'a>, AllocError>
+        ensures { IfOk result (λ call. call_view call ≡ calls.with_argument (call_view self.entry) term) }
+    {
+        let Call {
+            pred,
+            rest,
+            mut args,
+            bound,
+        } = self;
+        args.push(term)?;
+        let rest = match rest {
+            [] => rest,
+            [_, rest @ ..] => rest,
+        };
+        Ok(Call {
+            pred,
+            rest,
+            args,
+            bound,
+        })
+    }
+
+    /// The atom, with EXISTS for each `_`.
+    fn close(self, alloc: Global, bound: u32) -> Result<Formula, AllocError>
+        ensures { IfOk result (λ formula. form formula ≡ calls.atom_of (call_view self.entry) bound) }
+    {
+        let Call {
+            pred,
+            rest: _,
+            args,
+            bound: first,
+        } = self;
+        let atom = Formula::Atom(Atom {
+            pred,
+            args: Terms::new(args),
+        });
+        blanks(alloc, first, bound, atom)
+    }
+}
+
+/// EXISTS around a formula for the variables from `first` up to `end`, the first outermost.
+fn blanks(alloc: Global, first: u32, end: u32, inner: Formula) -> Result<Formula, AllocError>
+    ensures { IfOk result (λ formula. form formula ≡ calls.blanks (end - first) first (form inner)) }
+{
+    let mut whole = inner;
+    let mut place = end;
+    while first < place {
+        place -= 1;
+        let Some(number) = place.checked_add(MOST_FREE) else {
+            return Err(AllocError);
+        };
+        let name = Name::from_slice(b"_", alloc)?;
+        whole = Formula::Exists(Bound { number, name }, Box::new(alloc, whole)?);
+    }
+    Ok(whole)
+}
+
+impl Context {
+    /// Behind an atom's name and `(`.
+    pub fn call<'a>(
+        &mut self,
+        alloc: Global,
+        signature: &'a Signature,
+        name_at: u64,
+        name: &[u8],
+    ) -> Result<Now<'a>, PolicyFault>
+        ensures { GoesOn result self.new (given 0 (calls.called signature.now (context_of self.old) name_at name.now)) }
+    {
+        let Some(pred) = signature.find(name) else {
+            return Err(PolicyFault::UnknownPredicate(name_at));
+        };
+        if self.is_full() {
+            return Err(PolicyFault::TooManyNodes(name_at));
+        }
+        self.nodes += 1;
+        let Ok(bound) = u32::try_from(self.names.bound_sorts.len()) else {
+            return Err(PolicyFault::Memory);
+        };
+        Ok(Now::First(Call {
+            pred: pred.number,
+            rest: pred.sorts.as_slice(),
+            args: Vec::new(alloc),
+            bound,
+        }))
+    }
+
+    fn take_term<'a>(
+        &mut self,
+        call: Call<'a>,
+        at: u64,
+        operand: Operand,
+    ) -> Result<Now<'a>, PolicyFault>
+        ensures { GoesOn result self.new (given 0 (goes [] (calls.term_taken (context_of self.old) (call_view call.entry) at operand))) }
+    {
+        self.names.place(&operand, at, call.due());
+        let term = term_of(operand)?;
+        Ok(Now::Taken(call.with(term)?))
+    }
+
+    fn take_variable<'a>(
+        &mut self,
+        alloc: Global,
+        call: Call<'a>,
+        at: u64,
+        name: &[u8],
+    ) -> Result<Now<'a>, PolicyFault>
+        ensures { GoesOn result self.new (given 0 (goes [] (calls.variable_taken (context_of self.old) (call_view call.entry) at name.now))) }
+    {
+        let variable = self.meet(alloc, name, at)?;
+        self.take_term(call, at, Operand::Variable(variable))
+    }
+
+    fn take_blank<'a>(&mut self, call: Call<'a>, at: u64) -> Result<Now<'a>, PolicyFault>
+        ensures { GoesOn result self.new (given 0 (goes (few at (context_of self.old).nodes ∷ []) (calls.blank_taken (context_of self.old) (call_view call.entry)))) }
+    {
+        if self.is_full() {
+            return Err(PolicyFault::TooManyNodes(at));
+        }
+        self.nodes += 1;
+        let place = self.names.bind(Some(call.due()))?;
+        let Some(number) = place.checked_add(MOST_FREE) else {
+            return Err(PolicyFault::Memory);
+        };
+        Ok(Now::Taken(call.with(Term::Var(number))?))
+    }
+
+    fn take_argument<'a>(
+        &mut self,
+        alloc: Global,
+        call: Call<'a>,
+        token: &Token<'a>,
+        class: Class,
+    ) -> Result<Now<'a>, PolicyFault>
+        requires { is_empty (call_view call).rest ≡ false }
+        ensures { GoesOn result self.new (given token.now.at (calls.argument_move (context_of self.old) (call_view call.entry) (lexeme token.now) class)) }
+    {
+        let at = token.at as u64;
+        match class {
+            Class::Name => self.take_variable(alloc, call, at, token.text),
+            Class::Question => Ok(Now::ArgumentMarked(call, at)),
+            Class::Integer(number) => self.take_term(
+                call,
+                at,
+                Operand::Constant(Value::Int(number)),
+            ),
+            Class::Text => {
+                let value = text_value(alloc, token)?;
+                self.take_term(call, at, Operand::Constant(value))
+            }
+            Class::Blank => self.take_blank(call, at),
+            _ => Err(PolicyFault::Syntax(at)),
+        }
+    }
+
+    /// Where an argument is due.
+    pub fn argument<'a>(
+        &mut self,
+        alloc: Global,
+        call: Call<'a>,
+        token: &Token<'a>,
+        class: Class,
+    ) -> Result<Now<'a>, PolicyFault>
+        ensures { GoesOn result self.new (given token.now.at (calls.argument_move (context_of self.old) (call_view call.entry) (lexeme token.now) class)) }
+    {
+        if !call.is_full() {
+            return self.take_argument(alloc, call, token, class);
+        }
+        let at = token.at as u64;
+        match class {
+            Class::Name => Err(PolicyFault::WrongArity(at)),
+            Class::Question => Err(PolicyFault::WrongArity(at)),
+            Class::Integer(_) => Err(PolicyFault::WrongArity(at)),
+            Class::Text => Err(PolicyFault::WrongArity(at)),
+            Class::Blank => Err(PolicyFault::WrongArity(at)),
+            _ => Err(PolicyFault::Syntax(at)),
+        }
+    }
+
+    fn close_call<'a>(
+        &mut self,
+        alloc: Global,
+        call: Call<'a>,
+        at: u64,
+    ) -> Result<Now<'a>, PolicyFault>
+        ensures { GoesOn result self.new (given 0 (calls.call_closed (context_of self.old) (call_view call.entry) at)) }
+    {
+        if !call.is_full() {
+            return Err(PolicyFault::WrongArity(at));
+        }
+        let Ok(bound) = u32::try_from(self.names.bound_sorts.len()) else {
+            return Err(PolicyFault::Memory);
+        };
+        Ok(Now::Have(call.close(alloc, bound)?))
+    }
+
+    /// Behind an atom's `(`.
+    pub fn first_argument<'a>(
+        &mut self,
+        alloc: Global,
+        call: Call<'a>,
+        token: &Token<'a>,
+        class: Class,
+    ) -> Result<Now<'a>, PolicyFault>
+        ensures { GoesOn result self.new (given token.now.at (calls.first_move (context_of self.old) (call_view call.entry) (lexeme token.now) class)) }
+    {
+        match class {
+            Class::CloseParen => self.close_call(alloc, call, token.at as u64),
+            class => self.argument(alloc, call, token, class),
+        }
+    }
+
+    /// Behind an argument.
+    pub fn after_argument<'a>(
+        &mut self,
+        alloc: Global,
+        call: Call<'a>,
+        token: &Token<'a>,
+        class: Class,
+    ) -> Result<Now<'a>, PolicyFault>
+        ensures { GoesOn result self.new (given token.now.at (calls.taken_move (context_of self.old) (call_view call.entry) (lexeme token.now) class)) }
+    {
+        match class {
+            Class::Comma => Ok(Now::Next(call)),
+            Class::CloseParen => self.close_call(alloc, call, token.at as u64),
+            _ => Err(PolicyFault::Syntax(token.at as u64)),
+        }
+    }
+
+    /// Behind `?` where an argument begins.
+    pub fn marked_argument<'a>(
+        &mut self,
+        alloc: Global,
+        call: Call<'a>,
+        mark: u64,
+        token: &Token<'a>,
+        class: Class,
+    ) -> Result<Now<'a>, PolicyFault>
+        ensures { GoesOn result self.new (given token.now.at (calls.argument_marked_move (context_of self.old) (call_view call.entry) mark (lexeme token.now) class)) }
+    {
+        match class {
+            Class::Name => self.take_variable(alloc, call, mark, token.text),
+            _ => Err(PolicyFault::Syntax(token.at as u64)),
+        }
+    }
+}

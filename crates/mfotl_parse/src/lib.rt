@@ -1,0 +1,22 @@
+//! Reads a policy against a signature: its formula with the free variables in order, or the first fault.
+#![tactic(auto)]
+
+mod arguments;
+mod class;
+mod examples;
+mod fault;
+mod frame;
+mod intervals;
+mod names;
+mod operands;
+mod reading;
+mod stack;
+mod state;
+mod term;
+
+pub use examples::fault_examples;
+pub use fault::PolicyFault;
+pub use reading::read_policy;
+
+#[cfg(test)]
+mod tests;

@@ -1,0 +1,161 @@
+//! Reading from the first token to the end.
+ghost use Rattle.std.specs.Prelude.{◌≡◌};
+ghost use Rattle.mfotl_lex.specs.Lexemes.{lexeme};
+ghost use Rattle.mfotl_model.specs.Formulas.{form};
+ghost use Rattle.mfotl_parse.specs.Reading.{step, ended_at, finished, is_closed, reading};
+ghost use Rattle.mfotl_parse.specs.Reading as reading_words;
+ghost use Rattle.mfotl_parse.specs.Reduction.{reduce};
+ghost use Rattle.mfotl_parse.specs.States.{start};
+ghost use Rattle.mfotl_parse.specs.Views.{context_of, names_of, now_of, partial_of, policy_of, GoesOn, Gives, Steps};
+
+use crate::class::class_of;
+use crate::fault::PolicyFault;
+use crate::names::Names;
+use crate::stack;
+use crate::state::{Context, Now, Parser};
+use mfotl_lex::{Lexer, Mode, Token};
+use mfotl_model::{Formula, Policy};
+use mfotl_sig::Signature;
+use std::alloc::Global;
+use std::mem;
+
+impl<'a> Parser<'a> {
+    fn new(alloc: Global) -> Self
+        ensures { partial_of result ≡ start }
+    {
+        Parser {
+            context: Context::new(alloc),
+            now: Now::Want,
+        }
+    }
+
+    /// Takes the next token.
+    fn step(
+        &mut self,
+        alloc: Global,
+        signature: &'a Signature,
+        token: &Token<'a>,
+    ) -> Result<(), PolicyFault>
+        ensures { Steps result self.new (step signature.now (partial_of self.old) (lexeme token.now)) }
+    {
+        let now = mem::replace(&mut self.now, Now::Want);
+        self.now = advance(&mut self.context, alloc, signature, now, token)?;
+        Ok(())
+    }
+
+    /// The policy, where the text ends at the offset.
+    fn finish(self, alloc: Global, end: u64) -> Result<Policy, PolicyFault>
+        ensures { Gives policy_of result (ended_at (now_of self.entry.now) (context_of self.entry.context) end) }
+    {
+        let Parser { context, now } = self;
+        match now {
+            Now::Have(formula) => close(alloc, context, formula, end),
+            _ => Err(PolicyFault::Syntax(end)),
+        }
+    }
+}
+
+/// What may come behind the next token.
+#[tactic(auto, unfolding(crate::specs::Reading::step, crate::specs::Reading::move_of))]
+fn advance<'a>(
+    context: &mut Context,
+    alloc: Global,
+    signature: &'a Signature,
+    now: Now<'a>,
+    token: &Token<'a>,
+) -> Result<Now<'a>, PolicyFault>
+    ensures { GoesOn result context.new (step signature.now (record { context = context_of context.old; now = now_of now.entry }) (lexeme token.now)) }
+{
+    let class = class_of(token);
+    match now {
+        Now::Want => context.operand(alloc, token, class),
+        Now::Fresh => context.fresh(alloc, token, class),
+        Now::Have(formula) => context.have(alloc, formula, token, class),
+        Now::Word(at, name) => context.word(alloc, signature, at, name, token, class),
+        Now::Blank(at) => context.blank(alloc, signature, at, token, class),
+        Now::Marked(mark) => context.marked(alloc, mark, token, class),
+        Now::Compared(left) => context.compared(left, token, class),
+        Now::Against(left, at, sign) => context.against(alloc, left, at, sign, token, class),
+        Now::AgainstMarked(left, at, sign, mark) => {
+            context.against_marked(alloc, left, at, sign, mark, token, class)
+        }
+        Now::First(call) => context.first_argument(alloc, call, token, class),
+        Now::Next(call) => context.argument(alloc, call, token, class),
+        Now::Taken(call) => context.after_argument(alloc, call, token, class),
+        Now::ArgumentMarked(call, mark) => context.marked_argument(alloc, call, mark, token, class),
+        Now::Binder(quantifier) => context.binder(alloc, quantifier, token, class),
+        Now::BinderMarked(quantifier, _) => context.binder_marked(alloc, quantifier, token, class),
+        Now::Bound(quantifier) => context.bound(quantifier, token, class),
+        Now::Maybe(start) => context.maybe(alloc, start, token, class),
+        Now::MaybeNumber(start, at, number) => context.maybe_number(
+            start, at, number, token, class,
+        ),
+        Now::Low(start) => context.low(start, token, class),
+        Now::LowNumber(start, at, number) => context.low_number(start, at, number, token, class),
+        Now::LowDone(start, low) => context.low_done(start, low, token, class),
+        Now::High(start, low) => context.high(start, low, token, class),
+        Now::HighNumber(start, low, at, number) => {
+            context.high_number(start, low, at, number, token, class)
+        }
+        Now::HighDone(start, low, high) => context.bracket(start, low, high, token, class),
+        Now::Endless(_, low) => context.endless(low, token, class),
+    }
+}
+
+/// The policy whose last operand was read.
+fn close(alloc: Global, context: Context, formula: Formula, end: u64) -> Result<Policy, PolicyFault>
+    ensures { Gives policy_of result (reading_words.ended (context_of context).names
+        (reduce 0 (form formula) (context_of context).stack).form (is_closed (reduce 0 (form formula) (context_of context).stack).stack) end) }
+{
+    let Context {
+        mut frames,
+        nodes: _,
+        names,
+    } = context;
+    let formula = stack::reduce(alloc, &mut frames, 0, formula)?;
+    if stack::is_closed(&frames) {
+        checked(alloc, names, formula)
+    } else {
+        Err(PolicyFault::Syntax(end))
+    }
+}
+
+/// The policy, unless sorts clash or there are too many free variables.
+fn checked(alloc: Global, names: Names, formula: Formula) -> Result<Policy, PolicyFault>
+    ensures { Gives policy_of result (finished (names_of names) (form formula)) }
+{
+    if let Some(at) = names.clash {
+        return Err(PolicyFault::SortClash(at));
+    }
+    if let Some(pair) = names.uneven_pair() {
+        return Err(PolicyFault::SortClash(pair.at));
+    }
+    if let Some(at) = names.ninth_free() {
+        return Err(PolicyFault::TooManyVariables(at));
+    }
+    let vars = names.vars(alloc)?;
+    Ok(Policy { formula, vars })
+}
+
+/// The policy of a text over the predicates of a signature.
+///
+/// `PolicyFault` is the first fault from left to right, each shown by one token or by the end.
+pub fn read_policy<'a>(
+    bytes: &'a [u8],
+    signature: &'a Signature,
+    alloc: Global,
+) -> Result<Policy, PolicyFault>
+    ensures { Gives policy_of result (reading bytes.now signature.now) }
+{
+    let mut lexer = Lexer::new(bytes, Mode::Plain);
+    let mut parser = Parser::new(alloc);
+    // Each token takes a byte, so there are no more of them than bytes.
+    for _ in 0..bytes.len() + 1 {
+        match lexer.next() {
+            Ok(Some(token)) => parser.step(alloc, signature, &token)?,
+            Ok(None) => break,
+            Err(fault) => return Err(PolicyFault::Lex(fault)),
+        }
+    }
+    parser.finish(alloc, bytes.len() as u64)
+}
