@@ -15,10 +15,9 @@ use Rattle.mfotl_model.specs.Formulas.{Form}
 use Rattle.mfotl_sig.specs.Preds.{PredOf, named}
 use Rattle.mfotl_parse.specs.declared.class.Class.{Class}
 use Rattle.mfotl_parse.specs.declared.class.Class.TheVariants as classes
-use Rattle.mfotl_parse.specs.declared.fault.PolicyFault.TheVariants.{UnknownPredicate}
 use Rattle.mfotl_parse.specs.declared.term.Operand.{Operand}
 use Rattle.mfotl_parse.specs.declared.term.Operand.TheVariants as operands
-use Rattle.mfotl_parse.specs.Moves.{Rule, Move, goes, few, one_due, none_due}
+use Rattle.mfotl_parse.specs.Moves.{Unknown, Rule, Move, goes, few, one_due, none_due}
 use Rattle.mfotl_parse.specs.Names.{most_free, variable_of, noted, bound_more, placed, term_of}
 use Rattle.mfotl_parse.specs.States.{Call, Context, Partial, with_now, with_names, counted, Have, First, Next, Taken, ArgumentMarked}
 
@@ -28,7 +27,7 @@ call_of None bound = record { pred = 0; rest = []; args = []; bound = bound }
 call_of (Some pred) bound = record { pred = pred.number; rest = pred.sorts; args = []; bound = bound }
 
 abbrev pub known : ℕ → Option PredOf → Rule
-known at found = record { broken = is_none found; fault = UnknownPredicate at }
+known at found = record { broken = is_none found; limit = Unknown; at = at }
 
 abbrev pub called : List PredOf → Context → ℕ → List ℕ → Option Move
 called sig p at name =

@@ -7,9 +7,8 @@ use Rattle.mfotl_lex.specs.Lexemes.{Lexeme}
 use Rattle.mfotl_model.specs.declared.interval.Interval.{Interval}
 use Rattle.mfotl_parse.specs.declared.class.Class.{Class}
 use Rattle.mfotl_parse.specs.declared.class.Class.TheVariants as classes
-use Rattle.mfotl_parse.specs.declared.fault.PolicyFault.TheVariants.{EmptyInterval, BoundRange}
 use Rattle.mfotl_parse.specs.Classes.{class_of, unit_of}
-use Rattle.mfotl_parse.specs.Moves.{Rule, Move, goes}
+use Rattle.mfotl_parse.specs.Moves.{Range, Empty, Rule, Move, goes}
 use Rattle.mfotl_parse.specs.States.{Frame, Parens, Negation, Moment, Binding, Left, Context, Partial, with_now, with_stack, Want, Low, LowNumber, LowDone, High, HighNumber, HighDone, Endless}
 
 pub endless_ordered : (low : ℕ) → ForSome None (λ h. low ≤ h)
@@ -44,11 +43,11 @@ most_bound = 2 ^ 62
 
 -- a bound may be this long; its number stands at the offset
 abbrev pub in_range : ℕ → ℕ → Rule
-in_range at bound = record { broken = nat_lt most_bound bound; fault = BoundRange at }
+in_range at bound = record { broken = nat_lt most_bound bound; limit = Range; at = at }
 
 -- some number from low on lies below the end
 abbrev pub not_empty : ℕ → ℕ → ℕ → Rule
-not_empty at low end = record { broken = nat_le end low; fault = EmptyInterval at }
+not_empty at low end = record { broken = nat_le end low; limit = Empty; at = at }
 
 -- behind the interval
 abbrev pub timed : Context → ℕ → Option ℕ → Partial

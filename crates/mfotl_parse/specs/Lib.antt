@@ -7,5 +7,6 @@ pub mod Operands
 pub mod Intervals
 pub mod Arguments
 pub mod Reading
+pub mod Viability
 pub mod Views
 pub mod Examples

@@ -3,12 +3,31 @@
 use Rattle.std.specs.Prelude.{ℕ, Bool, true, false, not, List, [], ◌∷◌, Option, Some, None, Result, Ok, Err, nat_le, nat_lt, if◌then◌else◌, length}
 use Rattle.mfotl_model.specs.declared.policy.Sort.{Sort}
 use Rattle.mfotl_parse.specs.declared.fault.PolicyFault.{PolicyFault}
-use Rattle.mfotl_parse.specs.declared.fault.PolicyFault.TheVariants.{Syntax, TooDeep, TooManyNodes, WrongArity}
+use Rattle.mfotl_parse.specs.declared.fault.PolicyFault.TheVariants.{Syntax, EmptyInterval, BoundRange, UnknownPredicate, WrongArity, TooDeep, TooManyNodes}
 use Rattle.mfotl_parse.specs.States.{Context, Partial, depth, Frame}
 
+-- the rules that a token may break where the grammar goes on
+pub data Limit : Type 0 where
+  Empty : Limit
+  Range : Limit
+  Unknown : Limit
+  Arity : Limit
+  Deep : Limit
+  Nodes : Limit
+
+-- a rule that is kept or broken, and the offset at which its fault stands
 pub record Rule : Type 0 where
   pub broken : Bool
-  pub fault : PolicyFault
+  pub limit : Limit
+  pub at : ℕ
+
+abbrev pub fault_of : Limit → ℕ → PolicyFault
+fault_of Empty at = EmptyInterval at
+fault_of Range at = BoundRange at
+fault_of Unknown at = UnknownPredicate at
+fault_of Arity at = WrongArity at
+fault_of Deep at = TooDeep at
+fault_of Nodes at = TooManyNodes at
 
 pub record Move : Type 0 where
   pub rules : List Rule
@@ -25,7 +44,7 @@ first_keeps rule (Some m) = Some (record { rules = rule ∷ m.rules; next = m.ne
 -- the first rule that is broken
 abbrev pub kept : List Rule → Partial → Result Partial PolicyFault
 kept [] next = Ok next
-kept (rule ∷ rules) next = if rule.broken then Err rule.fault else kept rules next
+kept (rule ∷ rules) next = if rule.broken then Err (fault_of rule.limit rule.at) else kept rules next
 
 -- what a token at the offset gives
 abbrev pub given : ℕ → Option Move → Result Partial PolicyFault
@@ -40,11 +59,11 @@ most_nodes = 4096
 
 -- one level more fits in the stack
 abbrev pub shallow : ℕ → List Frame → Rule
-shallow at stack = record { broken = nat_le most_open (depth stack); fault = TooDeep at }
+shallow at stack = record { broken = nat_le most_open (depth stack); limit = Deep; at = at }
 
 -- one node more fits
 abbrev pub few : ℕ → ℕ → Rule
-few at nodes = record { broken = nat_le most_nodes nodes; fault = TooManyNodes at }
+few at nodes = record { broken = nat_le most_nodes nodes; limit = Nodes; at = at }
 
 abbrev pub is_empty : List Sort → Bool
 is_empty [] = true
@@ -52,8 +71,8 @@ is_empty (sort ∷ rest) = false
 
 -- an argument more is due
 abbrev pub one_due : ℕ → List Sort → Rule
-one_due at rest = record { broken = is_empty rest; fault = WrongArity at }
+one_due at rest = record { broken = is_empty rest; limit = Arity; at = at }
 
 -- no argument more is due
 abbrev pub none_due : ℕ → List Sort → Rule
-none_due at rest = record { broken = not (is_empty rest); fault = WrongArity at }
+none_due at rest = record { broken = not (is_empty rest); limit = Arity; at = at }

@@ -58,7 +58,8 @@ impl<'a> Call<'a> {
 
     /// With one argument more.
     fn with(self, term: Term) -> Result<Call<'a>, AllocError>
-        ensures { IfOk result (λ call. call_view call ≡ calls.with_argument (call_view self.entry) term) }
+        ensures { IfOk result (λ call. call_view call
+            ≡ calls.with_argument (call_view self.entry) term) }
     {
         let Call {
             pred,
@@ -81,7 +82,8 @@ impl<'a> Call<'a> {
 
     /// The atom, with EXISTS for each `_`.
     fn close(self, alloc: Global, bound: u32) -> Result<Formula, AllocError>
-        ensures { IfOk result (λ formula. form formula ≡ calls.atom_of (call_view self.entry) bound) }
+        ensures { IfOk result (λ formula. form formula
+            ≡ calls.atom_of (call_view self.entry) bound) }
     {
         let Call {
             pred,
@@ -99,7 +101,8 @@ impl<'a> Call<'a> {
 
 /// EXISTS around a formula for the variables from `first` up to `end`, the first outermost.
 fn blanks(alloc: Global, first: u32, end: u32, inner: Formula) -> Result<Formula, AllocError>
-    ensures { IfOk result (λ formula. form formula ≡ calls.blanks (end - first) first (form inner)) }
+    ensures { IfOk result (λ formula. form formula
+        ≡ calls.blanks (end - first) first (form inner)) }
 {
     let mut whole = inner;
     let mut place = end;
@@ -123,7 +126,8 @@ impl Context {
         name_at: u64,
         name: &[u8],
     ) -> Result<Now<'a>, PolicyFault>
-        ensures { GoesOn result self.new (given 0 (calls.called signature.now (context_of self.old) name_at name.now)) }
+        ensures { GoesOn result self.new
+            (given 0 (calls.called signature.now (context_of self.old) name_at name.now)) }
     {
         let Some(pred) = signature.find(name) else {
             return Err(PolicyFault::UnknownPredicate(name_at));
@@ -149,7 +153,9 @@ impl Context {
         at: u64,
         operand: Operand,
     ) -> Result<Now<'a>, PolicyFault>
-        ensures { GoesOn result self.new (given 0 (goes [] (calls.term_taken (context_of self.old) (call_view call.entry) at operand))) }
+        ensures { GoesOn result self.new
+            (given 0 (goes [] (calls.term_taken (context_of self.old)
+            (call_view call.entry) at operand))) }
     {
         self.names.place(&operand, at, call.due());
         let term = term_of(operand)?;
@@ -163,14 +169,18 @@ impl Context {
         at: u64,
         name: &[u8],
     ) -> Result<Now<'a>, PolicyFault>
-        ensures { GoesOn result self.new (given 0 (goes [] (calls.variable_taken (context_of self.old) (call_view call.entry) at name.now))) }
+        ensures { GoesOn result self.new
+            (given 0 (goes [] (calls.variable_taken (context_of self.old)
+            (call_view call.entry) at name.now))) }
     {
         let variable = self.meet(alloc, name, at)?;
         self.take_term(call, at, Operand::Variable(variable))
     }
 
     fn take_blank<'a>(&mut self, call: Call<'a>, at: u64) -> Result<Now<'a>, PolicyFault>
-        ensures { GoesOn result self.new (given 0 (goes (few at (context_of self.old).nodes ∷ []) (calls.blank_taken (context_of self.old) (call_view call.entry)))) }
+        ensures { GoesOn result self.new
+            (given 0 (goes (few at (context_of self.old).nodes ∷ []) (calls.blank_taken
+            (context_of self.old) (call_view call.entry)))) }
     {
         if self.is_full() {
             return Err(PolicyFault::TooManyNodes(at));
@@ -191,7 +201,9 @@ impl Context {
         class: Class,
     ) -> Result<Now<'a>, PolicyFault>
         requires { is_empty (call_view call).rest ≡ false }
-        ensures { GoesOn result self.new (given token.now.at (calls.argument_move (context_of self.old) (call_view call.entry) (lexeme token.now) class)) }
+        ensures { GoesOn result self.new
+            (given token.now.at (calls.argument_move (context_of self.old)
+            (call_view call.entry) (lexeme token.now) class)) }
     {
         let at = token.at as u64;
         match class {
@@ -219,7 +231,9 @@ impl Context {
         token: &Token<'a>,
         class: Class,
     ) -> Result<Now<'a>, PolicyFault>
-        ensures { GoesOn result self.new (given token.now.at (calls.argument_move (context_of self.old) (call_view call.entry) (lexeme token.now) class)) }
+        ensures { GoesOn result self.new
+            (given token.now.at (calls.argument_move (context_of self.old)
+            (call_view call.entry) (lexeme token.now) class)) }
     {
         if !call.is_full() {
             return self.take_argument(alloc, call, token, class);
@@ -241,7 +255,8 @@ impl Context {
         call: Call<'a>,
         at: u64,
     ) -> Result<Now<'a>, PolicyFault>
-        ensures { GoesOn result self.new (given 0 (calls.call_closed (context_of self.old) (call_view call.entry) at)) }
+        ensures { GoesOn result self.new
+            (given 0 (calls.call_closed (context_of self.old) (call_view call.entry) at)) }
     {
         if !call.is_full() {
             return Err(PolicyFault::WrongArity(at));
@@ -260,7 +275,9 @@ impl Context {
         token: &Token<'a>,
         class: Class,
     ) -> Result<Now<'a>, PolicyFault>
-        ensures { GoesOn result self.new (given token.now.at (calls.first_move (context_of self.old) (call_view call.entry) (lexeme token.now) class)) }
+        ensures { GoesOn result self.new
+            (given token.now.at (calls.first_move (context_of self.old) (call_view call.entry)
+            (lexeme token.now) class)) }
     {
         match class {
             Class::CloseParen => self.close_call(alloc, call, token.at as u64),
@@ -276,7 +293,9 @@ impl Context {
         token: &Token<'a>,
         class: Class,
     ) -> Result<Now<'a>, PolicyFault>
-        ensures { GoesOn result self.new (given token.now.at (calls.taken_move (context_of self.old) (call_view call.entry) (lexeme token.now) class)) }
+        ensures { GoesOn result self.new
+            (given token.now.at (calls.taken_move (context_of self.old) (call_view call.entry)
+            (lexeme token.now) class)) }
     {
         match class {
             Class::Comma => Ok(Now::Next(call)),
@@ -294,7 +313,9 @@ impl Context {
         token: &Token<'a>,
         class: Class,
     ) -> Result<Now<'a>, PolicyFault>
-        ensures { GoesOn result self.new (given token.now.at (calls.argument_marked_move (context_of self.old) (call_view call.entry) mark (lexeme token.now) class)) }
+        ensures { GoesOn result self.new
+            (given token.now.at (calls.argument_marked_move (context_of self.old)
+            (call_view call.entry) mark (lexeme token.now) class)) }
     {
         match class {
             Class::Name => self.take_variable(alloc, call, mark, token.text),

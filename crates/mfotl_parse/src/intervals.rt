@@ -36,7 +36,8 @@ pub fn any_distance() -> Interval
 
 impl Context {
     fn time<'a>(&mut self, low: u64, high: Option<u64>) -> Result<Now<'a>, PolicyFault>
-        ensures { GoesOn result self.new (given 0 (goes [] (timed (context_of self.old) low high))) }
+        ensures { GoesOn result self.new
+            (given 0 (goes [] (timed (context_of self.old) low high))) }
     {
         stack::set_interval(&mut self.frames, distances(low, high))?;
         Ok(Now::Want)
@@ -51,7 +52,8 @@ impl Context {
         token: &Token<'a>,
         class: Class,
     ) -> Result<Now<'a>, PolicyFault>
-        ensures { GoesOn result self.new (given token.now.at (bracket (context_of self.old) start low high class)) }
+        ensures { GoesOn result self.new
+            (given token.now.at (bracket (context_of self.old) start low high class)) }
     {
         match class {
             Class::CloseBracket => {
@@ -76,7 +78,8 @@ impl Context {
         token: &Token<'a>,
         class: Class,
     ) -> Result<Now<'a>, PolicyFault>
-        ensures { GoesOn result self.new (given token.now.at (low_move (context_of self.old) start (lexeme token.now) class)) }
+        ensures { GoesOn result self.new
+            (given token.now.at (low_move (context_of self.old) start (lexeme token.now) class)) }
     {
         let at = token.at as u64;
         match class {
@@ -101,7 +104,9 @@ impl Context {
         token: &Token<'a>,
         class: Class,
     ) -> Result<Now<'a>, PolicyFault>
-        ensures { GoesOn result self.new (given token.now.at (low_number_move (context_of self.old) start number_at number (lexeme token.now) class)) }
+        ensures { GoesOn result self.new
+            (given token.now.at (low_number_move (context_of self.old) start number_at number
+            (lexeme token.now) class)) }
     {
         let at = token.at as u64;
         match class {
@@ -124,7 +129,8 @@ impl Context {
         token: &Token<'a>,
         class: Class,
     ) -> Result<Now<'a>, PolicyFault>
-        ensures { GoesOn result self.new (given token.now.at (low_done_move (context_of self.old) start low class)) }
+        ensures { GoesOn result self.new
+            (given token.now.at (low_done_move (context_of self.old) start low class)) }
     {
         match class {
             Class::Comma => Ok(Now::High(start, low)),
@@ -139,7 +145,9 @@ impl Context {
         token: &Token<'a>,
         class: Class,
     ) -> Result<Now<'a>, PolicyFault>
-        ensures { GoesOn result self.new (given token.now.at (high_move (context_of self.old) start low (lexeme token.now) class)) }
+        ensures { GoesOn result self.new
+            (given token.now.at (high_move (context_of self.old) start low
+            (lexeme token.now) class)) }
     {
         let at = token.at as u64;
         match class {
@@ -166,7 +174,9 @@ impl Context {
         token: &Token<'a>,
         class: Class,
     ) -> Result<Now<'a>, PolicyFault>
-        ensures { GoesOn result self.new (given token.now.at (high_number_move (context_of self.old) start low number_at number (lexeme token.now) class)) }
+        ensures { GoesOn result self.new
+            (given token.now.at (high_number_move
+            (context_of self.old) start low number_at number (lexeme token.now) class)) }
     {
         match class {
             Class::Name => match unit_of(token.text) {
@@ -186,7 +196,8 @@ impl Context {
         token: &Token<'a>,
         class: Class,
     ) -> Result<Now<'a>, PolicyFault>
-        ensures { GoesOn result self.new (given token.now.at (endless_move (context_of self.old) low class)) }
+        ensures { GoesOn result self.new
+            (given token.now.at (endless_move (context_of self.old) low class)) }
     {
         match class {
             Class::CloseParen => self.time(low, None),

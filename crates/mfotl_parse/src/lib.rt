@@ -7,6 +7,7 @@ mod examples;
 mod fault;
 mod frame;
 mod intervals;
+mod laws;
 mod names;
 mod operands;
 mod reading;
@@ -14,8 +15,9 @@ mod stack;
 mod state;
 mod term;
 
-pub use examples::fault_examples;
+pub use examples::{fault_examples, formula_examples};
 pub use fault::PolicyFault;
+pub use laws::first_faults;
 pub use reading::read_policy;
 
 #[cfg(test)]

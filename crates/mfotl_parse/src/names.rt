@@ -28,8 +28,10 @@ pub struct Names {
 
 /// Which of the free variables the name is.
 fn place_in(free: &IndexMap<Vec<u8>, u64>, name: &[u8]) -> Option<usize>
-    ensures place { result ≡ position (λ known. bytes_eq name.now known.0) (map known_of free.now.entries) }
-    ensures found { is_some result ≡ is_some (get_by (λ key. bytes_eq name.now key.items) free.now) }
+    ensures place { result
+        ≡ position (λ known. bytes_eq name.now known.0) (map known_of free.now.entries) }
+    ensures found { is_some result
+        ≡ is_some (get_by (λ key. bytes_eq name.now key.items) free.now) }
 {
     free.get_index_of(name)
 }
@@ -41,7 +43,8 @@ fn add_free(
     at: u64,
 ) -> Result<(), AllocError>
     requires { get_by (λ key. bytes_eq name.now key.items) free.old ≡ None }
-    ensures { OnOk result (map known_of free.new.entries ≡ map known_of free.old.entries ++ (name.now, at) ∷ []) }
+    ensures { OnOk result (map known_of free.new.entries
+        ≡ map known_of free.old.entries ++ (name.now, at) ∷ []) }
 {
     let key = Vec::from_slice(alloc, name)?;
     free.insert(key, at)?;
@@ -142,7 +145,8 @@ impl Names {
     /// One more bound variable.
     pub fn bind(&mut self, sort: Option<Sort>) -> Result<u32, AllocError>
         ensures place { IfOk result (λ place. place ≡ length self.old.bound_sorts.items) }
-        ensures bound { OnOk result (names_of self.new ≡ sorting.bound_more sort (names_of self.old)) }
+        ensures bound { OnOk result (names_of self.new
+            ≡ sorting.bound_more sort (names_of self.old)) }
     {
         let Ok(place) = u32::try_from(self.bound_sorts.len()) else {
             return Err(AllocError);
@@ -239,7 +243,8 @@ impl Names {
 
     /// Where the ninth free variable first occurs.
     pub fn ninth_free(&self) -> Option<u64>
-        ensures { result ≡ option_map (λ known. known.1) (slice_get (names_of self.now).free sorting.most_free) }
+        ensures { result
+            ≡ option_map (λ known. known.1) (slice_get (names_of self.now).free sorting.most_free) }
     {
         match self.free.get_index(8) {
             Some((_, at)) => Some(*at),
@@ -248,7 +253,8 @@ impl Names {
     }
 
     fn var(&self, alloc: Global, place: usize) -> Result<Var, AllocError>
-        ensures { IfOk result (λ var. sorting.var_of (slice_get (names_of self.now).free place) (slice_get self.now.free_sorts.items place) ≡ Some var) }
+        ensures { IfOk result (λ var. sorting.var_of (slice_get (names_of self.now).free place) (slice_get self.now.free_sorts.items place)
+            ≡ Some var) }
     {
         let Some((name, _)) = self.free.get_index(place) else {
             return Err(AllocError);
@@ -264,7 +270,8 @@ impl Names {
 
     /// The free variables with their sorts.
     pub fn vars(&self, alloc: Global) -> Result<Vars, AllocError>
-        ensures { IfOk result (λ vars. vars ≡ sorting.vars_of (names_of self.now).free (names_of self.now).free_sorts) }
+        ensures { IfOk result (λ vars. vars
+            ≡ sorting.vars_of (names_of self.now).free (names_of self.now).free_sorts) }
     {
         let mut vars = Vec::new(alloc);
         for place in 0..self.free.len() {

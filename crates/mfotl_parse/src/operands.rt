@@ -49,7 +49,9 @@ impl Context {
     }
 
     fn truth<'a>(&mut self, at: u64, value: bool) -> Result<Now<'a>, PolicyFault>
-        ensures { GoesOn result self.new (given 0 (goes (few at (context_of self.old).nodes ∷ []) (states.with_now (states.counted (context_of self.old)) (states.Have (operands.truth value))))) }
+        ensures { GoesOn result self.new
+            (given 0 (goes (few at (context_of self.old).nodes ∷ []) (states.with_now
+            (states.counted (context_of self.old)) (states.Have (operands.truth value))))) }
     {
         if self.is_full() {
             return Err(PolicyFault::TooManyNodes(at));
@@ -69,7 +71,9 @@ impl Context {
         token: &Token<'a>,
         class: Class,
     ) -> Result<Now<'a>, PolicyFault>
-        ensures { GoesOn result self.new (given token.now.at (operands.operand_move (context_of self.old) (lexeme token.now) class)) }
+        ensures { GoesOn result self.new
+            (given token.now.at (operands.operand_move (context_of self.old)
+            (lexeme token.now) class)) }
     {
         let at = token.at as u64;
         match class {
@@ -109,7 +113,9 @@ impl Context {
         token: &Token<'a>,
         class: Class,
     ) -> Result<Now<'a>, PolicyFault>
-        ensures { GoesOn result self.new (given token.now.at (operands.fresh_move (context_of self.old) (lexeme token.now) class)) }
+        ensures { GoesOn result self.new
+            (given token.now.at (operands.fresh_move (context_of self.old)
+            (lexeme token.now) class)) }
     {
         match class {
             Class::OpenBracket => Ok(Now::Low(token.at as u64)),
@@ -120,7 +126,8 @@ impl Context {
 
     /// A comparison's sign behind its left side.
     fn sign<'a>(&mut self, left: Side, at: u64, sign: Sign) -> Result<Now<'a>, PolicyFault>
-        ensures { GoesOn result self.new (given 0 (operands.signed (context_of self.old) left at sign)) }
+        ensures { GoesOn result self.new
+            (given 0 (operands.signed (context_of self.old) left at sign)) }
     {
         if self.is_full() {
             return Err(PolicyFault::TooManyNodes(at));
@@ -138,7 +145,9 @@ impl Context {
         token: &Token<'a>,
         class: Class,
     ) -> Result<Now<'a>, PolicyFault>
-        ensures { GoesOn result self.new (given token.now.at (operands.maybe_number_move (context_of self.old) start number_at number (lexeme token.now) class)) }
+        ensures { GoesOn result self.new
+            (given token.now.at (operands.maybe_number_move
+            (context_of self.old) start number_at number (lexeme token.now) class)) }
     {
         let at = token.at as u64;
         match class {
@@ -170,7 +179,9 @@ impl Context {
         token: &Token<'a>,
         class: Class,
     ) -> Result<Now<'a>, PolicyFault>
-        ensures { GoesOn result self.new (given token.now.at (operands.word_move signature.now (context_of self.old) name_at name.now (lexeme token.now) class)) }
+        ensures { GoesOn result self.new
+            (given token.now.at (operands.word_move signature.now
+            (context_of self.old) name_at name.now (lexeme token.now) class)) }
     {
         let at = token.at as u64;
         match class {
@@ -199,7 +210,9 @@ impl Context {
         token: &Token<'a>,
         class: Class,
     ) -> Result<Now<'a>, PolicyFault>
-        ensures { GoesOn result self.new (given token.now.at (operands.blank_move signature.now (context_of self.old) name_at class)) }
+        ensures { GoesOn result self.new
+            (given token.now.at (operands.blank_move signature.now
+            (context_of self.old) name_at class)) }
     {
         match class {
             Class::OpenParen => self.call(alloc, signature, name_at, b"_"),
@@ -215,7 +228,9 @@ impl Context {
         token: &Token<'a>,
         class: Class,
     ) -> Result<Now<'a>, PolicyFault>
-        ensures { GoesOn result self.new (given token.now.at (operands.marked_move (context_of self.old) mark (lexeme token.now) class)) }
+        ensures { GoesOn result self.new
+            (given token.now.at (operands.marked_move (context_of self.old) mark
+            (lexeme token.now) class)) }
     {
         match class {
             Class::Name => {
@@ -236,7 +251,9 @@ impl Context {
         token: &Token<'a>,
         class: Class,
     ) -> Result<Now<'a>, PolicyFault>
-        ensures { GoesOn result self.new (given token.now.at (operands.compared_move (context_of self.old) left (lexeme token.now) class)) }
+        ensures { GoesOn result self.new
+            (given token.now.at (operands.compared_move (context_of self.old) left
+            (lexeme token.now) class)) }
     {
         match class {
             Class::Sign(sign) => self.sign(left, token.at as u64, sign),
@@ -252,7 +269,9 @@ impl Context {
         sign: Sign,
         right: Side,
     ) -> Result<Now<'a>, PolicyFault>
-        ensures { GoesOn result self.new (given 0 (goes [] (operands.comparison_done (context_of self.old) left at sign right.at right.operand))) }
+        ensures { GoesOn result self.new
+            (given 0 (goes [] (operands.comparison_done
+            (context_of self.old) left at sign right.at right.operand))) }
     {
         self.names.compare(&left, at, &right)?;
         let Side {
@@ -277,7 +296,9 @@ impl Context {
         right_at: u64,
         name: &[u8],
     ) -> Result<Now<'a>, PolicyFault>
-        ensures { GoesOn result self.new (given 0 (goes [] (operands.named_done (context_of self.old) left at sign right_at name.now))) }
+        ensures { GoesOn result self.new
+            (given 0 (goes [] (operands.named_done
+            (context_of self.old) left at sign right_at name.now))) }
     {
         let variable = self.meet(alloc, name, right_at)?;
         self.compare(
@@ -301,7 +322,9 @@ impl Context {
         token: &Token<'a>,
         class: Class,
     ) -> Result<Now<'a>, PolicyFault>
-        ensures { GoesOn result self.new (given token.now.at (operands.against_move (context_of self.old) left sign_at sign (lexeme token.now) class)) }
+        ensures { GoesOn result self.new
+            (given token.now.at (operands.against_move (context_of self.old) left sign_at sign
+            (lexeme token.now) class)) }
     {
         let at = token.at as u64;
         match class {
@@ -330,7 +353,9 @@ impl Context {
         token: &Token<'a>,
         class: Class,
     ) -> Result<Now<'a>, PolicyFault>
-        ensures { GoesOn result self.new (given token.now.at (operands.against_marked_move (context_of self.old) left sign_at sign mark (lexeme token.now) class)) }
+        ensures { GoesOn result self.new
+            (given token.now.at (operands.against_marked_move
+            (context_of self.old) left sign_at sign mark (lexeme token.now) class)) }
     {
         match class {
             Class::Name => self.compare_variable(alloc, left, sign_at, sign, mark, token.text),
@@ -344,7 +369,8 @@ impl Context {
         quantifier: Quantifier,
         name: &[u8],
     ) -> Result<Now<'a>, PolicyFault>
-        ensures { GoesOn result self.new (given 0 (goes [] (operands.bound_now (context_of self.old) quantifier name.now))) }
+        ensures { GoesOn result self.new
+            (given 0 (goes [] (operands.bound_now (context_of self.old) quantifier name.now))) }
     {
         let name = Name::from_slice(name, alloc)?;
         let place = self.names.bind(None)?;
@@ -360,7 +386,9 @@ impl Context {
         token: &Token<'a>,
         class: Class,
     ) -> Result<Now<'a>, PolicyFault>
-        ensures { GoesOn result self.new (given token.now.at (operands.binder_move (context_of self.old) quantifier (lexeme token.now) class)) }
+        ensures { GoesOn result self.new
+            (given token.now.at (operands.binder_move (context_of self.old) quantifier
+            (lexeme token.now) class)) }
     {
         let at = token.at as u64;
         match class {
@@ -396,7 +424,9 @@ impl Context {
         token: &Token<'a>,
         class: Class,
     ) -> Result<Now<'a>, PolicyFault>
-        ensures { GoesOn result self.new (given token.now.at (operands.binder_marked_move (context_of self.old) quantifier (lexeme token.now) class)) }
+        ensures { GoesOn result self.new
+            (given token.now.at (operands.binder_marked_move (context_of self.old) quantifier
+            (lexeme token.now) class)) }
     {
         match class {
             Class::Name => self.bind(alloc, quantifier, token.text),
@@ -411,7 +441,8 @@ impl Context {
         token: &Token<'a>,
         class: Class,
     ) -> Result<Now<'a>, PolicyFault>
-        ensures { GoesOn result self.new (given token.now.at (operands.bound_move (context_of self.old) quantifier class)) }
+        ensures { GoesOn result self.new
+            (given token.now.at (operands.bound_move (context_of self.old) quantifier class)) }
     {
         match class {
             Class::Comma => Ok(Now::Binder(quantifier)),
@@ -428,7 +459,8 @@ impl Context {
         number: i64,
         at: u64,
     ) -> Result<Now<'a>, PolicyFault>
-        ensures { GoesOn result self.new (given at (operands.maybe_low (context_of self.old) start number_at number)) }
+        ensures { GoesOn result self.new
+            (given at (operands.maybe_low (context_of self.old) start number_at number)) }
     {
         match u64::try_from(number) {
             Ok(number) => {
@@ -450,7 +482,8 @@ impl Context {
         at: u64,
         word: &[u8],
     ) -> Result<Now<'a>, PolicyFault>
-        ensures { GoesOn result self.new (given at (operands.maybe_word (context_of self.old) start number_at number word.now)) }
+        ensures { GoesOn result self.new
+            (given at (operands.maybe_word (context_of self.old) start number_at number word.now)) }
     {
         match u64::try_from(number) {
             Ok(number) => match unit_of(word) {
@@ -472,7 +505,9 @@ impl Context {
         token: &Token<'a>,
         class: Class,
     ) -> Result<Now<'a>, PolicyFault>
-        ensures { GoesOn result self.new (given token.now.at (operands.maybe_move (context_of self.old) start (lexeme token.now) class)) }
+        ensures { GoesOn result self.new
+            (given token.now.at (operands.maybe_move (context_of self.old) start
+            (lexeme token.now) class)) }
     {
         match class {
             Class::Integer(number) => Ok(Now::MaybeNumber(start, token.at as u64, number)),
@@ -487,7 +522,8 @@ impl Context {
         token: &Token<'a>,
         class: Class,
     ) -> Result<Now<'a>, PolicyFault>
-        ensures { GoesOn result self.new (given token.now.at (first_keeps (shallow start (context_of self.old).stack)
+        ensures { GoesOn result self.new
+            (given token.now.at (first_keeps (shallow start (context_of self.old).stack)
             (operands.operand_move (states.pushed states.Parens (context_of self.old)) (lexeme token.now) class))) }
     {
         if !begins_operand(class) {
@@ -508,7 +544,8 @@ impl Context {
         operator: Operator,
         at: u64,
     ) -> Result<Now<'a>, PolicyFault>
-        ensures { GoesOn result self.new (given 0 (operands.joined_move (context_of self.old) operator
+        ensures { GoesOn result self.new
+            (given 0 (operands.joined_move (context_of self.old) operator
             (reduce (level operator) (form formula) (context_of self.old).stack) at)) }
     {
         let left = stack::reduce(alloc, &mut self.frames, operator.level(), formula)?;
@@ -555,7 +592,9 @@ impl Context {
         token: &Token<'a>,
         class: Class,
     ) -> Result<Now<'a>, PolicyFault>
-        ensures { GoesOn result self.new (given token.now.at (operands.have_move (context_of self.old) (form formula) (lexeme token.now) class)) }
+        ensures { GoesOn result self.new
+            (given token.now.at (operands.have_move (context_of self.old) (form formula)
+            (lexeme token.now) class)) }
     {
         match class {
             Class::Operator(operator) => self.join(alloc, formula, operator, token.at as u64),

@@ -17,13 +17,13 @@ use std::alloc::{AllocError, Global};
 pub fn depth(frames: &[Frame]) -> usize
     ensures { result ≡ depth (stack_of frames.now) }
 {
-    let mut rest = frames;
+    let mut below = frames;
     let mut levels = 0;
-    while let Some((frame, front)) = rest.split_last() {
+    while let Some((frame, front)) = below.split_last() {
         if frame.opens_level() {
             levels += 1;
         }
-        rest = front;
+        below = front;
     }
     levels
 }
@@ -84,7 +84,8 @@ pub fn reduce(
 
 /// Gives the innermost operator this interval.
 pub fn set_interval(frames: &mut Vec<Frame>, interval: Interval) -> Result<(), AllocError>
-    ensures { OnOk result (stack_of frames.new.items ≡ with_interval interval (stack_of frames.old.items)) }
+    ensures { OnOk result (stack_of frames.new.items
+        ≡ with_interval interval (stack_of frames.old.items)) }
 {
     let Some(frame) = frames.pop() else {
         return Ok(());
@@ -95,7 +96,8 @@ pub fn set_interval(frames: &mut Vec<Frame>, interval: Interval) -> Result<(), A
 
 /// Takes the newest frame, and says whether it is a `(`.
 pub fn pop_parens(frames: &mut Vec<Frame>) -> bool
-    ensures { around (stack_of frames.old.items) ≡ (if result then Some (stack_of frames.new.items) else None) }
+    ensures { around (stack_of frames.old.items)
+        ≡ (if result then Some (stack_of frames.new.items) else None) }
 {
     let Some(frame) = frames.pop() else {
         return false;

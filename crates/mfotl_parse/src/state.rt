@@ -125,7 +125,8 @@ impl Context {
     }
 
     pub fn push(&mut self, frame: Frame) -> Result<(), AllocError>
-        ensures { OnOk result (context_of self.new ≡ pushed (frame_of frame) (context_of self.old)) }
+        ensures { OnOk result (context_of self.new
+            ≡ pushed (frame_of frame) (context_of self.old)) }
     {
         stack::push(&mut self.frames, frame)?;
         Ok(())
@@ -135,7 +136,8 @@ impl Context {
     pub fn meet(&mut self, alloc: Global, name: &[u8], at: u64) -> Result<Variable, AllocError>
         ensures variable { IfOk result (λ variable. variable
             ≡ variable_of name.now (context_of self.old).stack (context_of self.old).names) }
-        ensures noted { OnOk result (context_of self.new ≡ with_noted (context_of self.old) name.now at) }
+        ensures noted { OnOk result (context_of self.new
+            ≡ with_noted (context_of self.old) name.now at) }
     {
         Ok(self.names.meet(alloc, name, at, &self.frames)?)
     }
@@ -143,7 +145,8 @@ impl Context {
 
 /// The value that a Text writes.
 pub fn text_value(alloc: Global, token: &Token) -> Result<Value, AllocError>
-    ensures { IfOk result (λ value. value ≡ values.Text (content_of token.now.kind token.now.text.now)) }
+    ensures { IfOk result (λ value. value
+        ≡ values.Text (content_of token.now.kind token.now.text.now)) }
 {
     Ok(Value::Text(Text::from_slice(token.content(), alloc)?))
 }

@@ -5,7 +5,7 @@ use Rattle.mfotl_parse.proofs.stack.depth.Given as goal
 
 abbrev pub invariant-loop-frame : goal.invariant-loop-frame
 invariant-loop-frame l =
-    (l.levels + depth (stack_of l.rest) ≡ depth (stack_of l.frames)) × (l.levels + length l.rest ≤ length l.frames)
+    (l.levels + depth (stack_of l.below) ≡ depth (stack_of l.frames)) × (l.levels + length l.below ≤ length l.frames)
 
 abbrev pub decreases-loop-frame : goal.decreases-loop-frame
-decreases-loop-frame l = length l.rest
+decreases-loop-frame l = length l.below

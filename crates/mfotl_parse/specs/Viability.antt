@@ -1,0 +1,56 @@
+-- Where the grammar alone can go on, whatever rules a token breaks. Tokens are viable where some
+-- continuation of them is accepted.
+use Rattle.std.specs.Prelude.{◌≡◌, ◌↔◌, ℕ, Bool, true, false, IsTrue, List, [], ◌∷◌, ◌++◌, Option, Some, None, Result, Ok, Err}
+use Rattle.mfotl_lex.specs.declared.fault.LexFault.{LexFault}
+use Rattle.mfotl_lex.specs.Lexemes.{Lexeme}
+use Rattle.mfotl_sig.specs.Preds.{PredOf}
+use Rattle.mfotl_parse.specs.declared.fault.PolicyFault.{PolicyFault}
+use Rattle.mfotl_parse.specs.declared.fault.PolicyFault.TheVariants.{Syntax}
+use Rattle.mfotl_parse.specs.Moves.{Move}
+use Rattle.mfotl_parse.specs.Reading.{PolicyOf, move_of, step, run, is_closed, reading}
+use Rattle.mfotl_parse.specs.Reduction.{reduce}
+use Rattle.mfotl_parse.specs.States.{Frame, Now, Partial, Have, start}
+
+abbrev pub if_moved : Option Move → (Partial → Bool) → Bool
+if_moved None test = false
+if_moved (Some m) test = test m.next
+
+-- an operand was read, and nothing else is open
+abbrev pub is_whole : Now → List Frame → Bool
+is_whole (Have f) stack = is_closed (reduce 0 f stack).stack
+is_whole _ stack = false
+
+-- with these tokens behind it the text is whole
+unfoldable pub accepts : List PredOf → List Lexeme → Partial → Bool
+accepts sig [] p = is_whole p.now p.context.stack
+accepts sig (t ∷ ts) p = if_moved (move_of sig p t) (accepts sig ts)
+
+-- the grammar goes on with each of these tokens
+unfoldable pub goes_on : List PredOf → List Lexeme → Partial → Bool
+goes_on sig [] p = true
+goes_on sig (t ∷ ts) p = if_moved (move_of sig p t) (goes_on sig ts)
+
+abbrev pub IsViable : List PredOf → List Lexeme → Type 0
+IsViable sig ts = (more : List Lexeme) × IsTrue (accepts sig (ts ++ more) start)
+
+abbrev pub and_steps : Result Partial PolicyFault → (Partial → Result Partial PolicyFault) → Result Partial PolicyFault
+and_steps (Ok p) next = next p
+and_steps (Err fault) next = Err fault
+
+-- what was read with these tokens, or the first fault that one of them shows
+unfoldable pub steps : List PredOf → List Lexeme → Partial → Result Partial PolicyFault
+steps sig [] p = Ok p
+steps sig (t ∷ ts) p = and_steps (step sig p t) (steps sig ts)
+
+pub record FirstFaults : Type 0 where
+  -- tokens are viable exactly where the grammar goes on with each of them
+  pub viable : (sig : List PredOf) (ts : List Lexeme) → IsTrue (goes_on sig ts start) ↔ IsViable sig ts
+  -- behind tokens that show no fault, a token shows Syntax exactly where it ends viability
+  pub syntax : (sig : List PredOf) (ts : List Lexeme) (p : Partial) (t : Lexeme) → steps sig ts start ≡ Ok p
+      → (step sig p t ≡ Err (Syntax t.at)) ↔ (IsViable sig (ts ++ t ∷ []) → ⊥)
+  -- the first fault that tokens show stays, whatever stands behind them
+  pub stays : (sig : List PredOf) (end : ℕ) (lexical : Option LexFault) (ts more : List Lexeme) (fault : PolicyFault)
+      → steps sig ts start ≡ Err fault → run sig end lexical (ts ++ more) start ≡ Err fault
+  -- a text has one answer: a policy or a fault
+  pub one : (sig : List PredOf) (bytes : List ℕ) (policy : PolicyOf) (fault : PolicyFault)
+      → reading bytes sig ≡ Ok policy → reading bytes sig ≡ Err fault → ⊥
