@@ -18,3 +18,6 @@ pub use laws::{exact_syntax, one_answer, read_is_spelled, spelled_is_read};
 pub use limits::Limits;
 pub use next::Next;
 pub use reader::LogReader;
+
+#[cfg(test)]
+mod tests;
