@@ -143,7 +143,8 @@ abbrev pub asked : Bool → Option FragmentFault → Option FragmentFault
 asked true fault = fault
 asked false fault = None
 
--- the first fault of a formula in its role. No other operator stands in a normal form.
+-- the first fault of a formula in its role. The derived operators stand in no normal form; a formula
+-- with one is refused by the fault that comes from nowhere else here.
 unfoldable pub fault_in : Names → Role → Form → Option FragmentFault
 fault_in names role True = None
 fault_in names role False = None
