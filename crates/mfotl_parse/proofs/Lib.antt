@@ -4,3 +4,4 @@ pub mod ReadingLemmas
 pub mod StackLemmas
 pub mod ViabilityLemmas
 pub mod FaultLemmas
+pub mod LimitLemmas

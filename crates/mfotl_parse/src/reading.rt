@@ -1,5 +1,5 @@
 //! Reading from the first token to the end.
-ghost use Rattle.std.specs.Prelude.{◌≡◌};
+ghost use Rattle.std.specs.Prelude.{◌≡◌, ◌≤◌, length, IfOk};
 ghost use Rattle.mfotl_lex.specs.Lexemes.{lexeme};
 ghost use Rattle.mfotl_model.specs.Formulas.{form};
 ghost use Rattle.mfotl_parse.specs.Reading.{step, ended_at, finished, is_closed, reading};
@@ -137,14 +137,8 @@ fn checked(alloc: Global, names: Names, formula: Formula) -> Result<Policy, Poli
     Ok(Policy { formula, vars })
 }
 
-/// The policy of a text over the predicates of a signature.
-///
-/// `PolicyFault` is the first fault from left to right, each shown by one token or by the end.
-pub fn read_policy<'a>(
-    bytes: &'a [u8],
-    signature: &'a Signature,
-    alloc: Global,
-) -> Result<Policy, PolicyFault>
+/// The policy of a text, token by token.
+fn read<'a>(bytes: &'a [u8], signature: &'a Signature, alloc: Global) -> Result<Policy, PolicyFault>
     ensures { Gives policy_of result (reading bytes.now signature.now) }
 {
     let mut lexer = Lexer::new(bytes, Mode::Plain);
@@ -158,4 +152,20 @@ pub fn read_policy<'a>(
         }
     }
     parser.finish(alloc, bytes.len() as u64)
+}
+
+/// The policy of a text over the predicates of a signature.
+///
+/// `PolicyFault` is the first fault from left to right: each is shown by one token, or by the end of the
+/// text. Behind `(` only the tokens after it tell whether an interval begins, so faults of such a `(` and
+/// of its first number are shown by those.
+pub fn read_policy<'a>(
+    bytes: &'a [u8],
+    signature: &'a Signature,
+    alloc: Global,
+) -> Result<Policy, PolicyFault>
+    ensures exact { Gives policy_of result (reading bytes.now signature.now) }
+    ensures few { IfOk result (λ policy. length policy.vars ≤ 8) }
+{
+    read(bytes, signature, alloc)
 }
