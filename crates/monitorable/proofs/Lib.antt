@@ -10,6 +10,7 @@ pub mod ViolationsFinal
 pub mod TextFinal
 pub mod FragmentRenamed
 pub mod ConjunctsLaw
+pub mod RenamedConstants
 pub mod Coincidence
 pub mod NormalFormLaws
 pub mod NormalFormVariables

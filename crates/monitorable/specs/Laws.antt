@@ -125,3 +125,7 @@ abbrev pub ConjunctsMean : Type 0
 ConjunctsMean =
     (log : List TimePoint) (dom : List Value) (f : Form) (v : Valuation) (i : ℕ)
     → sat log dom v i f ≡ list_all (part_holds log dom v i) (conjuncts_of f)
+
+-- with its quantifiers apart, a formula has the same constants
+abbrev pub ApartConstants : Type 0
+ApartConstants = (f : Form) → constants (apart_form f) ≡ constants f

@@ -1,5 +1,5 @@
 //! Laws of the logic, each stated by the contract of a function that does nothing.
-ghost use Rattle.monitorable.specs.Laws.{ApartFragment, ApartMeansTheSame, ApartVariables, Coincidence, ConjunctsMean, Domain, Finality, NormalFormConstants, NormalFormHolds, NormalFormSettled, NormalFormVariables, SettledBefore, SettledStays, SettledWithin, TextFinal, ViolationsFinal};
+ghost use Rattle.monitorable.specs.Laws.{ApartConstants, ApartFragment, ApartMeansTheSame, ApartVariables, Coincidence, ConjunctsMean, Domain, Finality, NormalFormConstants, NormalFormHolds, NormalFormSettled, NormalFormVariables, SettledBefore, SettledStays, SettledWithin, TextFinal, ViolationsFinal};
 
 /// Whether a formula holds hangs on its free variables alone.
 pub fn only_free_variables_matter()
@@ -80,4 +80,9 @@ pub fn apart_fragment()
 /// A formula holds exactly where all its conjuncts do.
 pub fn conjuncts_mean()
     ensures { ConjunctsMean }
+{}
+
+/// With its quantifiers apart, a formula has the same constants.
+pub fn apart_constants()
+    ensures { ApartConstants }
 {}

@@ -3,8 +3,7 @@ ghost use Rattle.std.specs.Prelude.{◌≡◌, ◌++◌, IfOk, IsTrue, OnOk, opt
 ghost use Rattle.mfotl_model.specs.Formulas.{form};
 ghost use Rattle.mfotl_model.specs.FreeVariables.{fv};
 ghost use Rattle.monitorable.specs.Atoms.{atoms_of, only_atom};
-ghost use Rattle.monitorable.specs.CoreForm.{Denies, Fits, SettlesWith, core_form};
-ghost use Rattle.monitorable.specs.Fragment.{frag_fault, free_names};
+ghost use Rattle.monitorable.specs.CoreForm.{Denies, Fits, HasConstantsOf, SettlesWith, core_form, policy_fault, policy_form};
 ghost use Rattle.monitorable.specs.Judging.{Judges};
 ghost use Rattle.monitorable.specs.NormalForm.{negative};
 ghost use Rattle.monitorable.specs.Renaming.{all_apart, apart_form, binders};
@@ -112,8 +111,8 @@ fn add_atoms(formula: &Formula, atoms: &mut Vec<Atom>, alloc: Global) -> Result<
 
 // The core, by the definitions of its parts.
 fn made(policy: &Policy, alloc: Global) -> Result<Core, FragmentFault>
-    ensures judged { Judges result (frag_fault (free_names policy.now.vars) (form policy.now.formula)) }
-    ensures core { IfOk result (λ core. core_form core ≡ apart_form (negative (form policy.now.formula))) }
+    ensures judged { Judges result (policy_fault policy.now) }
+    ensures core { IfOk result (λ core. core_form core ≡ apart_form (negative (policy_form policy.now))) }
 {
     if pay_for_denied(&policy.formula, Some(NODE_LIMIT)).is_none() {
         return Err(FragmentFault::TooLarge);
@@ -131,12 +130,13 @@ fn made(policy: &Policy, alloc: Global) -> Result<Core, FragmentFault>
 /// The core of a policy, or the first reason why it can't be monitored. TooLarge is found before any
 /// other, and without building the normal form.
 pub fn to_core(policy: &Policy, alloc: Global) -> Result<Core, FragmentFault>
-    ensures judged { Judges result (frag_fault (free_names policy.now.vars) (form policy.now.formula)) }
-    ensures core { IfOk result (λ core. core_form core ≡ apart_form (negative (form policy.now.formula))) }
-    ensures denies { IfOk result (λ core. Denies (core_form core) (form policy.now.formula)) }
-    ensures settles { IfOk result (λ core. SettlesWith (core_form core) (form policy.now.formula)) }
+    ensures judged { Judges result (policy_fault policy.now) }
+    ensures core { IfOk result (λ core. core_form core ≡ apart_form (negative (policy_form policy.now))) }
+    ensures denies { IfOk result (λ core. Denies (core_form core) (policy_form policy.now)) }
+    ensures settles { IfOk result (λ core. SettlesWith (core_form core) (policy_form policy.now)) }
     ensures fits { IfOk result (λ core. Fits (core_form core)) }
-    ensures variables { IfOk result (λ core. fv (core_form core) ≡ fv (form policy.now.formula)) }
+    ensures variables { IfOk result (λ core. fv (core_form core) ≡ fv (policy_form policy.now)) }
+    ensures constants { IfOk result (λ core. HasConstantsOf (core_form core) (policy_form policy.now)) }
     ensures apart { IfOk result (λ core. IsTrue (all_apart (fv (core_form core) ++ binders (core_form core)))) }
 {
     made(policy, alloc)

@@ -1,14 +1,16 @@
 -- What the laws of the normal form and of new numbers say of the core.
-use Rattle.std.proofs.Common.{pos, [], ◌≡◌, ◌++◌, IfOk, Result, Ok, Err, subst, sym, ◌∙◌, IsTrue, Bool, true, false, cond, nat_lt, Option, Some, None}
+use Rattle.std.proofs.Common.{ap, pos, [], ◌≡◌, ◌++◌, IfOk, Result, Ok, Err, subst, sym, ◌∙◌, IsTrue, Bool, true, false, cond, nat_lt, Option, Some, None}
 use Rattle.mfotl_model.specs.FreeVariables.{fv}
 use Rattle.mfotl_model.specs.Formulas.{Form, form}
 use Rattle.mfotl_model.specs.declared.value.Value.TheVariants.{Int}
 use Rattle.monitorable.proofs.NormalFormLaws.{normal_form_holds, normal_form_settled}
-use Rattle.monitorable.proofs.NormalFormVariables.{normal_form_variables}
+use Rattle.monitorable.proofs.NormalFormVariables.{normal_form_constants, normal_form_variables}
+use Rattle.monitorable.proofs.RenamedConstants.{apart_constants}
+use Rattle.monitorable.specs.Domains.{within}
 use Rattle.monitorable.proofs.RenamedMeaning.{apart_means_the_same}
 use Rattle.monitorable.proofs.RenamedVariables.{apart_variables}
 use Rattle.monitorable.proofs.making.to_core.Goals as goal
-use Rattle.monitorable.specs.CoreForm.{Denies, Fits, SettlesWith, core_form}
+use Rattle.monitorable.specs.CoreForm.{Denies, Fits, HasConstantsOf, SettlesWith, core_form}
 use Rattle.monitorable.specs.Fragment.{Names, frag, frag_fault, free_names}
 use Rattle.monitorable.specs.Judging.{Judges}
 use Rattle.monitorable.specs.NodeCount.{node_limit, nodes}
@@ -47,6 +49,9 @@ fits names f (Ok core) judged e =
     λ names'. subst (λ g. frag names' g ≡ None) (sym e) (apart_fragment names names' (negative f) accepted)
 fits names f (Err fault) judged e = tt
 
+same_constants : (f : Form) → HasConstantsOf (apart_form (negative f)) f
+same_constants f a = ap (λ values. within values a) (apart_constants (negative f)) ∙ (normal_form_constants f a).1
+
 pub returns : goal.returns
 returns c =
     let f : Form = form c.args.policy.now.formula in
@@ -57,6 +62,7 @@ returns c =
       settles = carried (λ g. SettlesWith g f) (apart_form (negative f)) _ (settles f) c.made.ensures.core;
       fits = fits (free_names c.args.policy.now.vars) f _ c.made.ensures.judged c.made.ensures.core;
       variables = carried (λ g. fv g ≡ fv f) (apart_form (negative f)) _ (variables f) c.made.ensures.core;
+      constants = carried (λ g. HasConstantsOf g f) (apart_form (negative f)) _ (same_constants f) c.made.ensures.core;
       apart = carried (λ g. IsTrue (all_apart (fv g ++ binders g))) (apart_form (negative f)) _
           (apart_variables (negative f)).1 c.made.ensures.core;
     }
