@@ -4,3 +4,10 @@ pub mod AtomLemmas
 pub mod PolicyLemmas
 pub mod AtomTextLemmas
 pub mod PlanLemmas
+pub mod GrowthLemmas
+pub mod SinkLemmas
+pub mod LogLemmas
+pub mod PointLemmas
+pub mod RunLemmas
+pub mod DecideLemmas
+pub mod ReportLemmas

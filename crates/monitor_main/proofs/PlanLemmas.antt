@@ -7,7 +7,7 @@ use Rattle.mon_outside.specs.Files.{Files, ToldFiles, content}
 use Rattle.mfotl_sig.specs.Preds.{PredOf}
 use Rattle.monitor_main.specs.Answer.{◌>>=◌, Task, bytes_at, bytes_of, ok_value, policy_in, signature_of, task_at, task_of, with_names}
 use Rattle.monitor_main.specs.PlanFaults.{Stops}
-use Rattle.monitor_main.specs.Plans.{HasNoPlan, HasNoTask, HasReadCause, words_refusal}
+use Rattle.monitor_main.specs.Plans.{HasNoPlan, HasNoTask, words_refusal}
 use Rattle.monitor_main.specs.PolicyForm.{AtomOf}
 use Rattle.monitor_main.specs.Words.{Names, names_of}
 use Rattle.monitor_main.specs.declared.words.WordsFault.{WordsFault}
@@ -70,7 +70,7 @@ module _ (names : Names) (o : Option Files) (before now : ℕ) where
   no_signature (Signature fault) h = sig_to_task (Signature fault) h
   no_signature Policy h = sig_to_task Policy h
   no_signature (Log fault) h = sig_to_task (Log fault) h
-  no_signature (Read other) h = told_all o _ (λ files. rw h.0 refl)
+  no_signature (Read other) h = told_all o _ (λ files. rw h.0 (tt, refl))
   no_signature Write h = sig_to_task Write h
   no_signature Memory h = told_all o _ (λ files. tt)
 
@@ -89,7 +89,7 @@ module _ (names : Names) (o : Option Files) (before now : ℕ) where
     no_policy Policy h = policy_to_task Policy h
     no_policy (Log fault) h = policy_to_task (Log fault) h
     no_policy (Read other) h =
-        told_map o _ _ (λ files s. rw h.0 (policy_reached names files sig s)) sig_is
+        told_map o _ _ (λ files s. rw h.0 (tt, policy_reached names files sig s)) sig_is
     no_policy Write h = policy_to_task Write h
     no_policy Memory h = told_all o _ (λ files. tt)
 
@@ -98,17 +98,6 @@ module _ (names : Names) (o : Option Files) (before now : ℕ) where
         → ToldFiles o (λ files. task_at names files
         ≡ Ok (record { sig = sig; atom = atom; log = content files names.log }))
     task_made atom = told_both o _ _ _ (λ files s e. behind_sig names files sig (Ok atom) s e) sig_is
-
--- a failed read of a file has its cause
-pub read_cause : (name : InputFile) (r : Refusal) (before now : ℕ) (due : Type 0) → Stops name r before now due → HasReadCause r before now
-read_cause name Usage before now due h = tt
-read_cause name LongSignature before now due h = tt
-read_cause name (Signature fault) before now due h = tt
-read_cause name Policy before now due h = tt
-read_cause name (Log fault) before now due h = tt
-read_cause name (Read other) before now due h = h.1
-read_cause name Write before now due h = tt
-read_cause name Memory before now due h = tt
 
 module _ (words : List Text) (o : Option Files) (names : Names) (named : names_of words ≡ Some names) where
   task_to_plan : (r : Refusal) → ToldFiles o (λ files. task_at names files ≡ Err r)
@@ -125,7 +114,7 @@ module _ (words : List Text) (o : Option Files) (names : Names) (named : names_o
   no_task (Signature fault) h = task_to_plan (Signature fault) h
   no_task Policy h = task_to_plan Policy h
   no_task (Log fault) h = task_to_plan (Log fault) h
-  no_task (Read other) h = told_map o _ _ (λ files e. rw named e) h
+  no_task (Read other) h = told_map o _ _ (λ files e. (e.0, rw named e.1)) h
   no_task Write h = task_to_plan Write h
   no_task Memory h = told_all o _ (λ files. tt)
 

@@ -13,3 +13,6 @@ pub mod Answer
 pub mod Outcomes
 pub mod PlanFaults
 pub mod Plans
+pub mod Growth
+pub mod LogRuns
+pub mod Decisions

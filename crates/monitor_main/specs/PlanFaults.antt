@@ -27,3 +27,15 @@ abbrev pub Stops : InputFile → Refusal → ℕ → ℕ → Type 0 → Type 0
 Stops file Memory before now due = Unit {0}
 Stops file (Read other) before now due = (other ≡ file) × Rose before now
 Stops file r before now due = due
+
+-- no call of the outside failed
+abbrev pub IsInside : Refusal → Type 0
+IsInside (Read name) = ⊥
+IsInside Write = ⊥
+IsInside r = Unit {0}
+
+-- no output failed, and a failed read shows in the count
+abbrev pub HasReadCause : Refusal → ℕ → ℕ → Type 0
+HasReadCause (Read name) before now = Rose before now
+HasReadCause Write before now = ⊥
+HasReadCause r before now = Unit {0}

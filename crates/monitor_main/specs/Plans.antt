@@ -5,6 +5,7 @@ use Rattle.mon_outside.specs.Causes.{Rose}
 use Rattle.mon_outside.specs.Files.{Files, content}
 use Rattle.monitor_main.specs.declared.plan.Plan.{Plan}
 use Rattle.monitor_main.specs.declared.refusal.InputFile.{InputFile}
+use Rattle.monitor_main.specs.declared.refusal.InputFile.TheVariants as file
 use Rattle.monitor_main.specs.declared.refusal.Refusal.{Refusal}
 use Rattle.monitor_main.specs.declared.refusal.Refusal.TheVariants.{Usage, LongSignature, Signature}
 use Rattle.monitor_main.specs.declared.refusal.Refusal.TheVariants.{Policy, Log, Read, Write, Memory}
@@ -19,22 +20,23 @@ abbrev pub task_in : Plan → Files → Task
 task_in plan files =
     record { sig = plan.sig; atom = atom_of plan.atom; log = content files plan.log.now }
 
+-- the file is read before the log
+abbrev pub IsBeforeLog : InputFile → Type 0
+IsBeforeLog file.Signature = Unit {0}
+IsBeforeLog file.Policy = Unit {0}
+IsBeforeLog file.Log = ⊥
+
 -- why there is no task in the files of these names
 abbrev pub HasNoTask : Names → Files → Refusal → Type 0
 HasNoTask names files Memory = Unit {0}
-HasNoTask names files (Read file) = IsTrue (is_some (bytes_at names files file))
+HasNoTask names files (Read name) = IsBeforeLog name × IsTrue (is_some (bytes_at names files name))
 HasNoTask names files r = task_at names files ≡ Err r
 
 -- why there is no plan
 abbrev pub HasNoPlan : List Text → Files → Refusal → Type 0
 HasNoPlan words files Memory = Unit {0}
-HasNoPlan words files (Read file) = IsTrue (is_some (bytes_of words files file))
+HasNoPlan words files (Read name) = IsBeforeLog name × IsTrue (is_some (bytes_of words files name))
 HasNoPlan words files r = task_of words files ≡ Err r
-
--- a failed read shows in the count
-abbrev pub HasReadCause : Refusal → ℕ → ℕ → Type 0
-HasReadCause (Read file) before now = Rose before now
-HasReadCause r before now = Unit {0}
 
 -- the refusal for words
 abbrev pub words_refusal : WordsFault → Refusal

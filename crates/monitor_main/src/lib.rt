@@ -1,15 +1,20 @@
 //! The monitor's top call: words, signature, policy and log in; verdict lines, a fault line and a
-//! status out.
+//! status out. The programs above make its inputs and its sinks.
 #![tactic(auto)]
 
-pub mod atom;
+mod atom;
 mod laws;
-pub mod plan;
-pub mod policy;
-pub mod real;
-pub mod refusal;
+mod log;
+mod plan;
+mod policy;
+mod real;
+mod refusal;
+mod running;
 mod status;
-pub mod verdicts;
-pub mod words;
+mod verdicts;
+mod words;
 
+pub use real::{RealInputs, RealSink};
+pub use refusal::{InputFile, Refusal};
+pub use running::run;
 pub use status::Status;

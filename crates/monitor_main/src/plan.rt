@@ -3,9 +3,9 @@ ghost use Rattle.std.specs.Prelude.{◌≡◌, ◌≤◌, ◌^◌, ℕ, length, 
 ghost use Rattle.mon_outside.specs.Files.{ToldFiles, content};
 ghost use Rattle.monitor_main.specs.Answer.{signature_of, policy_in, task_at, task_of};
 ghost use Rattle.monitor_main.specs.NamesIn.{names_in};
-ghost use Rattle.monitor_main.specs.Plans.{task_in, HasNoTask, HasNoPlan, HasReadCause, words_refusal};
+ghost use Rattle.monitor_main.specs.Plans.{task_in, HasNoTask, HasNoPlan, words_refusal};
 ghost use Rattle.monitor_main.specs.PolicyViews.{atom_of};
-ghost use Rattle.monitor_main.specs.PlanFaults.{Gives, Stops, sig_refusal};
+ghost use Rattle.monitor_main.specs.PlanFaults.{Gives, HasReadCause, IsInside, Stops, sig_refusal};
 ghost use Rattle.monitor_main.specs.Words.{texts_of};
 
 use crate::policy::{PlainAtom, read_policy};
@@ -40,7 +40,8 @@ fn sig_refusal(fault: SigFault) -> Refusal
 #[tactic(auto, unfolding(crate::specs::Answer::signature_of))]
 fn signature_in(bytes: &[u8], alloc: Global) -> Result<Signature, Refusal>
     requires { length bytes.now ≤ 2 ^ 20 }
-    ensures { Gives (λ s. s) result (signature_of bytes.now) }
+    ensures gives { Gives (λ s. s) result (signature_of bytes.now) }
+    ensures inside { IfErr result IsInside }
 {
     match read_signature(bytes, alloc) {
         Ok(sig) => Ok(sig),
@@ -52,7 +53,8 @@ fn signature_in(bytes: &[u8], alloc: Global) -> Result<Signature, Refusal>
 #[tactic(auto, unfolding(crate::specs::Answer::policy_in))]
 fn policy_in(sig: &Signature, bytes: &[u8], alloc: Global) -> Result<PlainAtom, Refusal>
     requires { length bytes.now ≤ 2 ^ 20 }
-    ensures { Gives atom_of result (policy_in sig.now bytes.now) }
+    ensures gives { Gives atom_of result (policy_in sig.now bytes.now) }
+    ensures inside { IfErr result IsInside }
 {
     match read_policy(bytes, sig, alloc) {
         Ok(Some(atom)) => Ok(atom),
@@ -75,6 +77,8 @@ fn load_signature<I: Inputs>(
     ensures refused { IfErr result (λ r.
         Stops InputFile.Signature r (I.faults inputs.old) (I.faults inputs.new)
         (ToldFiles (I.files inputs.old) (λ files. signature_of (content files name.now) ≡ Err r))) }
+    ensures cause { IfErr result (λ r.
+        HasReadCause r (I.faults inputs.old) (I.faults inputs.new)) }
 {
     match load(inputs, name, MAX_FILE, alloc) {
         Ok(bytes) => signature_in(bytes.as_slice(), alloc),
@@ -100,6 +104,8 @@ fn load_policy<I: Inputs>(
         Stops InputFile.Policy r (I.faults inputs.old) (I.faults inputs.new)
         (ToldFiles (I.files inputs.old) (λ files.
         policy_in sig.now (content files name.now) ≡ Err r))) }
+    ensures cause { IfErr result (λ r.
+        HasReadCause r (I.faults inputs.old) (I.faults inputs.new)) }
 {
     match load(inputs, name, MAX_FILE, alloc) {
         Ok(bytes) => policy_in(sig, bytes.as_slice(), alloc),

@@ -1,0 +1,197 @@
+//! The log: read whole, and monitored time-point by time-point.
+ghost use Rattle.std.specs.Prelude.{◌≡◌, ◌≤◌, ℕ, not, IfOk, IfErr, true, false};
+ghost use Rattle.mon_outside.specs.Causes.{Rose};
+ghost use Rattle.mon_outside.specs.Files.{ToldFiles, content};
+ghost use Rattle.mon_outside.specs.Sink.{AppendsFront};
+ghost use Rattle.log_reader.specs.Readings.{reading};
+ghost use Rattle.monitor_main.specs.Answer.{standard};
+ghost use Rattle.monitor_main.specs.AtomText.{line_at, rows_at};
+ghost use Rattle.monitor_main.specs.PolicyForm.{is_empty};
+ghost use Rattle.monitor_main.specs.LogRuns.{EndsClear, IsGathered, IsOutputFault, StopsBytes};
+ghost use Rattle.monitor_main.specs.LogRuns.{StopsLines, WritesPoint, lines_of, log_refusal, reading_in};
+ghost use Rattle.monitor_main.specs.PolicyViews.{atom_of};
+
+use crate::atom::atom_rows;
+use crate::policy::PlainAtom;
+use crate::refusal::{InputFile, Refusal};
+use crate::verdicts::line;
+use log_reader::{Limits, LogFault, LogReader, Next};
+use mfotl_model::{Row, TimePoint};
+use mfotl_sig::Signature;
+use mon_outside::{Inputs, LoadFault, Sink, read_to_end, write_whole};
+use std::alloc::{AllocError, Global};
+
+/// The bytes that were given of a log, and whether a call failed behind them.
+#[derive(Drop)]
+pub struct Gathered {
+    pub bytes: Vec<u8>,
+    pub failed: bool,
+}
+
+/// Reads the log of this name, up to its end, past the limit or to a failure.
+pub fn gather<I: Inputs>(
+    inputs: &mut I,
+    name: &str,
+    limit: u64,
+    alloc: Global,
+) -> Result<Gathered, Refusal>
+    ensures files { I.files inputs.new ≡ I.files inputs.old }
+    ensures later { I.faults inputs.old ≤ I.faults inputs.new }
+    ensures gathered { IfOk result (λ g. ToldFiles (I.files inputs.old) (λ files.
+        IsGathered limit (content files name.now) g.bytes.items g.failed)) }
+    ensures cause { IfOk result (λ g. g.failed ≡ true
+        → Rose (I.faults inputs.old) (I.faults inputs.new)) }
+    ensures err { IfErr result (λ r. r ≡ Refusal.Memory) }
+{
+    let mut bytes = Vec::new(alloc);
+    if inputs.open(name).is_err() {
+        return Ok(Gathered {
+            bytes,
+            failed: true,
+        });
+    }
+    match read_to_end(inputs, &mut bytes, limit, alloc) {
+        Ok(()) | Err(LoadFault::TooLong) => Ok(Gathered {
+            bytes,
+            failed: false,
+        }),
+        Err(LoadFault::Failed) => Ok(Gathered {
+            bytes,
+            failed: true,
+        }),
+        Err(LoadFault::Memory) => Err(Refusal::Memory),
+    }
+}
+
+// The line of a time-point, and whether it has a row.
+#[derive(Drop)]
+struct PointLine {
+    bytes: Vec<u8>,
+    has_row: bool,
+}
+
+#[tactic(auto, unfolding(crate::specs::AtomText::line_at, crate::specs::AtomText::rows_at))]
+fn point_line(
+    atom: &PlainAtom,
+    number: u64,
+    point: &TimePoint,
+    alloc: Global,
+) -> Result<PointLine, AllocError>
+    ensures line { IfOk result (λ line.
+        line.bytes.items ≡ line_at (atom_of atom.now) number point.now) }
+    ensures row { IfOk result (λ line.
+        line.has_row ≡ not (is_empty (rows_at (atom_of atom.now) point.now))) }
+{
+    let rows = atom_rows(&point.db, atom.pred, atom.arity, alloc)?;
+    Ok(PointLine {
+        bytes: line(number, point.ts, &rows, alloc)?,
+        has_row: !has_none(rows.rows()),
+    })
+}
+
+fn has_none(rows: &[Row]) -> bool
+    ensures { result ≡ is_empty rows.now }
+{
+    match rows {
+        [] => true,
+        _ => false,
+    }
+}
+
+// Writes the line of a time-point, and answers whether it has a row.
+#[tactic(auto, using(crate::proofs::SinkLemmas::whole_front))]
+fn write_point<O: Sink>(
+    atom: &PlainAtom,
+    number: u64,
+    point: &TimePoint,
+    out: &mut O,
+    alloc: Global,
+) -> Result<bool, Refusal>
+    ensures ok { IfOk result (λ has_row. WritesPoint (atom_of atom.now) number point.now
+        (O.written out.old) (O.written out.new) has_row) }
+    ensures fault { IfErr result (λ r.
+        IsOutputFault r (O.faults out.old) (O.faults out.new)) }
+    ensures front { AppendsFront (O.written out.old) (O.written out.new)
+        (line_at (atom_of atom.now) number point.now) }
+    ensures later { O.faults out.old ≤ O.faults out.new }
+{
+    let Ok(line) = point_line(atom, number, point, alloc) else {
+        return Err(Refusal::Memory);
+    };
+    match write_whole(out, line.bytes.as_slice()) {
+        Ok(()) => Ok(line.has_row),
+        Err(_) => Err(Refusal::Write),
+    }
+}
+
+// The refusal for a log's fault.
+fn log_refusal(fault: LogFault) -> Refusal
+    ensures { result ≡ log_refusal fault }
+{
+    match fault {
+        LogFault::Memory => Refusal::Memory,
+        fault => Refusal::Log(fault),
+    }
+}
+
+// Writes the line of each time-point, and answers whether one has a row.
+fn write_points<O: Sink>(
+    reader: &mut LogReader<'_>,
+    atom: &PlainAtom,
+    out: &mut O,
+    alloc: Global,
+) -> Result<bool, Refusal>
+    requires works { reader.old.is_broken ≡ false }
+    requires first { reader.old.given ≡ 0 }
+    ensures ok { IfOk result (λ violated. EndsClear (atom_of atom.now) (reading_in reader.old)
+        (O.written out.old) (O.written out.new) violated) }
+    ensures stops { IfErr result (λ r. StopsLines (atom_of atom.now) (reading_in reader.old)
+        (O.written out.old) (O.written out.new) (O.faults out.old) (O.faults out.new) r) }
+    ensures front { AppendsFront (O.written out.old) (O.written out.new)
+        (lines_of (atom_of atom.now) (reading_in reader.old)) }
+    ensures later { O.faults out.old ≤ O.faults out.new }
+{
+    let mut violated = false;
+    for number in 0..u64::MAX {
+        match reader.next(alloc) {
+            Ok(Next::Point(point)) => match write_point(atom, number, &point, out, alloc) {
+                Ok(has_row) => violated |= has_row,
+                Err(refusal) => return Err(refusal),
+            },
+            Ok(Next::More) => return Ok(violated),
+            Ok(Next::End) => return Ok(violated),
+            Err(fault) => return Err(log_refusal(fault)),
+        }
+    }
+    Err(Refusal::Memory)
+}
+
+/// Monitors a log of which these bytes were given.
+pub fn monitor_bytes<O: Sink>(
+    sig: &Signature,
+    atom: &PlainAtom,
+    log: Gathered,
+    out: &mut O,
+    alloc: Global,
+) -> Result<bool, Refusal>
+    ensures ok { IfOk result (λ violated. (log.failed ≡ false) × EndsClear (atom_of atom.now)
+        (reading sig.now standard log.bytes.items (not log.failed))
+        (O.written out.old) (O.written out.new) violated) }
+    ensures stops { IfErr result (λ r. StopsBytes log.failed (atom_of atom.now)
+        (reading sig.now standard log.bytes.items (not log.failed))
+        (O.written out.old) (O.written out.new) (O.faults out.old) (O.faults out.new) r) }
+    ensures front { AppendsFront (O.written out.old) (O.written out.new) (lines_of
+        (atom_of atom.now) (reading sig.now standard log.bytes.items (not log.failed))) }
+    ensures later { O.faults out.old ≤ O.faults out.new }
+{
+    let mut reader = LogReader::new(sig, Limits::standard(), alloc);
+    reader.feed_owned(alloc, log.bytes);
+    if !log.failed {
+        reader.finish();
+    }
+    match write_points(&mut reader, atom, out, alloc) {
+        Ok(violated) if !log.failed => Ok(violated),
+        Ok(_) => Err(Refusal::Read(InputFile::Log)),
+        Err(refusal) => Err(refusal),
+    }
+}

@@ -1,0 +1,158 @@
+//! The top call.
+ghost use Rattle.std.specs.Prelude.{◌≡◌, ◌≢◌, ◌≤◌, IfOk, IfErr, IsTrue};
+ghost use Rattle.mon_outside.specs.Causes.{Rose, StoodStill};
+ghost use Rattle.mon_outside.specs.Files.{ToldFiles};
+ghost use Rattle.mon_outside.specs.Sink.{AppendsFront};
+ghost use Rattle.monitor_main.specs.Answer.{answer, log_answer};
+ghost use Rattle.monitor_main.specs.Decisions.{Ends, EndsLog, Finishes, HasCauses};
+ghost use Rattle.monitor_main.specs.Outcomes.{FailsToRead, IsDecidedBy, IsGiven, Reports, Tells};
+ghost use Rattle.monitor_main.specs.Outcomes.{is_decided};
+ghost use Rattle.monitor_main.specs.Plans.{task_in};
+ghost use Rattle.monitor_main.specs.Refusals.{line_of};
+ghost use Rattle.monitor_main.specs.Words.{texts_of};
+
+use crate::log::{gather, monitor_bytes};
+use crate::plan::{Plan, make_plan};
+use crate::refusal::Refusal;
+use crate::status::Status;
+use mon_outside::{Gate, Inputs, Sink, write_whole};
+use std::alloc::Global;
+use std::sync::Wait;
+use std::thread::Threads;
+
+const MAX_LOG: u64 = 1 << 40;
+
+// Monitors the log of a plan.
+fn monitor_log<I: Inputs, O: Sink>(
+    plan: &Plan<'_>,
+    inputs: &mut I,
+    out: &mut O,
+    alloc: Global,
+) -> Result<bool, Refusal>
+    ensures files { I.files inputs.new ≡ I.files inputs.old }
+    ensures ok { IfOk result (λ violated. ToldFiles (I.files inputs.old) (λ files.
+        Finishes (log_answer (task_in plan.now files))
+        (O.written out.old) (O.written out.new) violated)) }
+    ensures refused { IfErr result (λ r. ToldFiles (I.files inputs.old) (λ files.
+        EndsLog (task_in plan.now files) (O.written out.old) (O.written out.new) r)) }
+    ensures causes { IfErr result (λ r. HasCauses r (I.faults inputs.old) (I.faults inputs.new)
+        (O.faults out.old) (O.faults out.new)) }
+    ensures front { ToldFiles (I.files inputs.old) (λ files. AppendsFront
+        (O.written out.old) (O.written out.new) (log_answer (task_in plan.now files)).out) }
+    ensures later_in { I.faults inputs.old ≤ I.faults inputs.new }
+    ensures later_out { O.faults out.old ≤ O.faults out.new }
+{
+    match gather(inputs, plan.log, MAX_LOG, alloc) {
+        Ok(log) => monitor_bytes(&plan.sig, &plan.atom, log, out, alloc),
+        Err(refusal) => Err(refusal),
+    }
+}
+
+// What the words and the files come to: whether some line has a row, or why it is refused.
+fn decide<I: Inputs, O: Sink>(
+    words: &[String],
+    inputs: &mut I,
+    out: &mut O,
+    alloc: Global,
+) -> Result<bool, Refusal>
+    ensures files { I.files inputs.new ≡ I.files inputs.old }
+    ensures ok { IfOk result (λ violated. ToldFiles (I.files inputs.old) (λ files.
+        Finishes (answer (texts_of words.now) files)
+        (O.written out.old) (O.written out.new) violated)) }
+    ensures refused { IfErr result (λ r. ToldFiles (I.files inputs.old) (λ files.
+        Ends (texts_of words.now) files (O.written out.old) (O.written out.new) r)) }
+    ensures causes { IfErr result (λ r. HasCauses r (I.faults inputs.old) (I.faults inputs.new)
+        (O.faults out.old) (O.faults out.new)) }
+    ensures front { ToldFiles (I.files inputs.old) (λ files. AppendsFront
+        (O.written out.old) (O.written out.new) (answer (texts_of words.now) files).out) }
+{
+    match make_plan(words, inputs, alloc) {
+        Ok(plan) => monitor_log(&plan, inputs, out, alloc),
+        Err(refusal) => Err(refusal),
+    }
+}
+
+// Writes a line, as far as that can be done.
+#[tactic(auto, using(crate::proofs::SinkLemmas::whole_front))]
+fn tell<E: Sink>(line: &[u8], err: &mut E)
+    ensures { Tells (E.written err.old) (E.written err.new)
+        (E.faults err.old) (E.faults err.new) line.now }
+{
+    match write_whole(err, line) {
+        Ok(()) => (),
+        Err(_) => (),
+    }
+}
+
+// Tells that memory was refused. It takes none.
+#[tactic(auto, unfolding(crate::specs::Refusals::line_of))]
+fn tell_memory<E: Sink>(err: &mut E)
+    ensures { Tells (E.written err.old) (E.written err.new)
+        (E.faults err.old) (E.faults err.new) (line_of Refusal.Memory) }
+{
+    tell(b"memory\n", err);
+}
+
+// Tells the refusal, and answers the status that stands for it.
+#[tactic(auto, using(crate::proofs::ReportLemmas::reported, crate::proofs::ReportLemmas::reported_memory))]
+fn report<E: Sink>(refusal: Refusal, err: &mut E, alloc: Global) -> Status
+    ensures { Reports refusal result (E.written err.old) (E.written err.new)
+        (E.faults err.old) (E.faults err.new) }
+{
+    match refusal.line(alloc) {
+        Ok(line) => {
+            tell(line.as_bytes(), err);
+            refusal.status()
+        }
+        Err(_) => {
+            tell_memory(err);
+            Status::Memory
+        }
+    }
+}
+
+/// Runs the command that the words name. `words` begins with the program's name. Where a call of `err`
+/// fails, the status and the output stay what they are.
+pub fn run<R: Threads + Wait + Sync, I: Inputs, O: Sink, E: Sink, G: Gate + Sync>(
+    rt: &R,
+    alloc: Global,
+    words: Vec<String>,
+    inputs: &mut I,
+    out: &mut O,
+    err: &mut E,
+    gate: &G,
+) -> Status
+    // Without want of memory and without a failed call, the answer is given whole.
+    ensures headline { ToldFiles (I.files inputs.old) (λ files.
+        StoodStill (I.faults inputs.old) (I.faults inputs.new)
+        → StoodStill (O.faults out.old) (O.faults out.new)
+        → StoodStill (E.faults err.old) (E.faults err.new) → result ≢ Status.Memory
+        → IsGiven (answer (texts_of words.items) files) result
+        (O.written out.old) (O.written out.new) (E.written err.old) (E.written err.new)) }
+
+    // Whatever fails outside, a status that the words and the files decide is the answer's.
+    ensures decided { ToldFiles (I.files inputs.old) (λ files. IsTrue (is_decided result)
+        → IsDecidedBy (answer (texts_of words.items) files) result
+        (O.written out.old) (O.written out.new) (E.written err.old) (E.written err.new)
+        (E.faults err.old) (E.faults err.new)) }
+    ensures front { ToldFiles (I.files inputs.old) (λ files. AppendsFront
+        (O.written out.old) (O.written out.new) (answer (texts_of words.items) files).out) }
+
+    // A failed call is told only where its count rose.
+    ensures read_cause { result ≡ Status.Read → Rose (I.faults inputs.old) (I.faults inputs.new) }
+    ensures read { ToldFiles (I.files inputs.old) (λ files. result ≡ Status.Read
+        → FailsToRead (texts_of words.items) files (O.written out.old) (O.written out.new)
+        (E.written err.old) (E.written err.new) (E.faults err.old) (E.faults err.new)) }
+    ensures write_cause { result ≡ Status.Write → Rose (O.faults out.old) (O.faults out.new) }
+    ensures write { result ≡ Status.Write → Tells (E.written err.old) (E.written err.new)
+        (E.faults err.old) (E.faults err.new) (line_of Refusal.Write) }
+    ensures memory { result ≡ Status.Memory → Tells (E.written err.old) (E.written err.new)
+        (E.faults err.old) (E.faults err.new) (line_of Refusal.Memory) }
+    ensures files { I.files inputs.new ≡ I.files inputs.old }
+{
+    match decide(words.as_slice(), inputs, out, alloc) {
+        Ok(true) => Status::Violated,
+        Ok(false) => Status::Clean,
+        Err(refusal) => report(refusal, err, alloc),
+    }
+}

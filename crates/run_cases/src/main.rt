@@ -1,0 +1,88 @@
+//! Runs cases of the monitor over memory, and prints what each run answers.
+#![tactic(auto)]
+
+mod case;
+mod cursor;
+
+use case::{Case, CaseFault, read_case};
+use cursor::Cursor;
+use mon_outside::{MemInputs, MemSink, OpenGate};
+use monitor_main::run;
+use std::alloc::Global;
+use std::io;
+use std::io::{BufWriter, Read, Write};
+use std::process::ExitCode;
+use std::sync::Wait;
+use std::thread::Threads;
+
+// Prints bytes under a heading, with their number.
+fn print_bytes<W: Write>(out: &mut W, heading: &str, bytes: &[u8]) -> io::Result<()> {
+    let length = bytes.len();
+    writeln!(out, "{heading} {length}")?;
+    out.write_all(bytes)?;
+    out.write_all(b"\n")
+}
+
+// Runs a case and prints its answer.
+fn answer<R: Threads + Wait + Sync, W: Write>(
+    rt: &R,
+    case: Case,
+    out: &mut W,
+    alloc: Global,
+) -> io::Result<()> {
+    let words = case.words;
+    let mut inputs = MemInputs::new(case.files.as_slice(), case.piece, case.fail.as_slice());
+    let mut text = MemSink::new(case.fail_out.as_slice(), alloc);
+    let mut errors = MemSink::new(case.fail_err.as_slice(), alloc);
+    let status = run(
+        rt,
+        alloc,
+        words,
+        &mut inputs,
+        &mut text,
+        &mut errors,
+        &OpenGate,
+    );
+    let name = case.name.as_str();
+    let code = status.code();
+    writeln!(out, "case {name}")?;
+    writeln!(out, "status {code}")?;
+    print_bytes(out, "out", text.written())?;
+    print_bytes(out, "err", errors.written())
+}
+
+// Answers case after case, up to one that is malformed.
+fn answer_all<R: Threads + Wait + Sync, W: Write>(
+    rt: &R,
+    cases: &[u8],
+    out: &mut W,
+    alloc: Global,
+) -> io::Result<Option<usize>> {
+    let mut cursor = Cursor::new(cases);
+    for _ in 0..u64::MAX {
+        if cursor.is_at_end() {
+            break;
+        }
+        match read_case(&mut cursor, alloc) {
+            Ok(case) => answer(rt, case, out, alloc)?,
+            Err(CaseFault::Malformed) => return Ok(Some(cursor.line_number())),
+            Err(CaseFault::Memory(e)) => return Err(io::Error::from(e)),
+        }
+    }
+    Ok(None)
+}
+
+fn main(rt: HostRuntime) -> io::Result<ExitCode> {
+    let mut cases = Vec::new(rt.alloc());
+    rt.stdin().read_to_end(&mut cases)?;
+    let mut out = BufWriter::new(rt.alloc(), rt.stdout())?;
+    let malformed = answer_all(&rt, cases.as_slice(), &mut out, rt.alloc());
+    out.flush()?;
+    match malformed? {
+        Some(line) => {
+            eprintln!(rt; "line {line}: no case is written so")?;
+            Ok(ExitCode::from(2))
+        }
+        None => Ok(ExitCode::SUCCESS),
+    }
+}
