@@ -1,0 +1,61 @@
+//! The answer to a case.
+ghost use Rattle.std.specs.Prelude.{◌≡◌, ◌++◌, length, IfOk, OnOk};
+ghost use Rattle.std.specs.List.{range_with_len};
+ghost use Rattle.mfotl_model.specs.Formulas.{form};
+ghost use Rattle.mfotl_model.specs.Log.{times};
+ghost use Rattle.definitions_check.specs.Answers.{answer_text, settled_count, violation_lines};
+
+use crate::cases::Case;
+use crate::lines::{head, put_line};
+use mfotl_model::{Formula, TimePoint, is_settled, violations};
+use std::alloc::{AllocError, Global};
+
+/// The lines that answer a case.
+pub fn answer(case: &Case, alloc: Global) -> Result<Vec<u8>, AllocError>
+    ensures { IfOk result (λ text. text.items
+        ≡ answer_text case.now.number case.now.log.items (form case.now.formula)) }
+{
+    let log = case.log.as_slice();
+    let times = times_of(log, alloc)?;
+    let mut text = head(
+        case.number,
+        settled_count(&case.formula, times.as_slice()),
+        alloc,
+    )?;
+    put_violations(&mut text, &case.formula, log, alloc)?;
+    Ok(text)
+}
+
+fn times_of(log: &[TimePoint], alloc: Global) -> Result<Vec<u64>, AllocError>
+    ensures { IfOk result (λ stamps. stamps.items ≡ times log.now) }
+{
+    log.iter().map(|point| point.ts).collect(alloc)
+}
+
+fn settled_count(formula: &Formula, times: &[u64]) -> usize
+    ensures { result ≡ settled_count times.now (form formula.now) }
+{
+    let mut count = 0;
+    for at in 0..times.len() {
+        if is_settled(formula, times, at) {
+            count += 1;
+        }
+    }
+    count
+}
+
+fn put_violations(
+    text: &mut Vec<u8>,
+    formula: &Formula,
+    log: &[TimePoint],
+    alloc: Global,
+) -> Result<(), AllocError>
+    ensures { OnOk result (text.new.items ≡ text.old.items
+        ++ violation_lines log.now (form formula.now) (range_with_len 0 (length log.now))) }
+{
+    for at in 0..log.len() {
+        let rows = violations(formula, log, at, alloc)?;
+        put_line(text, at, rows.as_slice(), alloc)?;
+    }
+    Ok(())
+}

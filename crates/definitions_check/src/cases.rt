@@ -1,0 +1,176 @@
+//! Cases, read line by line.
+ghost use Rattle.std.specs.Prelude.{◌≡◌, ◌∷◌, ◌++◌, [], IfOk, map};
+ghost use Rattle.std.specs.Fmt.{decimal};
+ghost use Rattle.definitions_check.specs.Values.{spelled_value};
+
+use crate::fault::CaseFault;
+use crate::formula::formula;
+use crate::values::value;
+use crate::words::{Words, natural, small_natural, split_words};
+use mfotl_model::{Db, Event, Formula, Row, TimePoint, Value};
+use std::alloc::Global;
+
+/// A formula that is asked for over a log.
+#[derive(Drop)]
+pub struct Case {
+    pub number: u64,
+    pub log: Vec<TimePoint>,
+    pub formula: Formula,
+}
+
+// What is read of a case so far.
+#[derive(Drop)]
+struct Draft {
+    number: u64,
+    log: Vec<TimePoint>,
+    formula: Option<Formula>,
+}
+
+/// A case under way, or none.
+#[derive(Drop)]
+pub struct CaseReader {
+    draft: Option<Draft>,
+}
+
+impl CaseReader {
+    pub fn new() -> Self {
+        CaseReader { draft: None }
+    }
+
+    /// Takes the next line, without its line feed, and gives the case that ends with it, if one does.
+    pub fn line(&mut self, line: &[u8], alloc: Global) -> Result<Option<Case>, CaseFault> {
+        let words = split_words(line, alloc)?;
+        let mut words = Words::new(words.as_slice());
+        let head = words.next()?;
+        if head == b"end".as_slice() {
+            words.end()?;
+            return Ok(Some(self.ended()?));
+        }
+        self.take(head, &mut words, alloc)?;
+        words.end()?;
+        Ok(None)
+    }
+
+    /// Whether no case is under way.
+    pub fn finish(&self) -> Result<(), CaseFault> {
+        match &self.draft {
+            Some(_) => Err(CaseFault::NoEnd),
+            None => Ok(()),
+        }
+    }
+
+    // Takes a line, of this first word, that ends no case.
+    fn take(&mut self, head: &[u8], words: &mut Words<'_>, alloc: Global) -> Result<(), CaseFault> {
+        match &mut self.draft {
+            Some(draft) => draft.take(head, words, alloc),
+            None => {
+                self.draft = Some(begun(head, words, alloc)?);
+                Ok(())
+            }
+        }
+    }
+
+    fn ended(&mut self) -> Result<Case, CaseFault> {
+        match self.draft.take() {
+            Some(draft) => draft.finished(),
+            None => Err(CaseFault::Misplaced),
+        }
+    }
+}
+
+// The case that begins with a line of this first word.
+fn begun(head: &[u8], words: &mut Words<'_>, alloc: Global) -> Result<Draft, CaseFault> {
+    match head {
+        b"case" => Ok(Draft {
+            number: natural(words.next()?, alloc)?,
+            log: Vec::new(alloc),
+            formula: None,
+        }),
+        b"point" | b"event" | b"formula" => Err(CaseFault::Misplaced),
+        _ => Err(CaseFault::UnknownWord),
+    }
+}
+
+impl Draft {
+    fn finished(self) -> Result<Case, CaseFault> {
+        let Draft {
+            number,
+            log,
+            formula,
+        } = self;
+        match formula {
+            Some(formula) => Ok(Case {
+                number,
+                log,
+                formula,
+            }),
+            None => Err(CaseFault::Misplaced),
+        }
+    }
+
+    fn take(&mut self, head: &[u8], words: &mut Words<'_>, alloc: Global) -> Result<(), CaseFault> {
+        match head {
+            b"point" => self.add_point(words, alloc),
+            b"event" => self.add_event(words, alloc),
+            b"formula" => self.set_formula(words, alloc),
+            b"case" => Err(CaseFault::Misplaced),
+            _ => Err(CaseFault::UnknownWord),
+        }
+    }
+
+    fn add_point(&mut self, words: &mut Words<'_>, alloc: Global) -> Result<(), CaseFault> {
+        let ts = natural(words.next()?, alloc)?;
+        if self.formula.is_some() {
+            return Err(CaseFault::Misplaced);
+        }
+        if self.log.last().is_some_and(|last| ts < last.ts) {
+            return Err(CaseFault::FallingTime);
+        }
+        self.log.push(TimePoint {
+            ts,
+            db: Db::new(alloc),
+        })?;
+        Ok(())
+    }
+
+    fn add_event(&mut self, words: &mut Words<'_>, alloc: Global) -> Result<(), CaseFault> {
+        let event = event(words, alloc)?;
+        if self.formula.is_some() {
+            return Err(CaseFault::Misplaced);
+        }
+        match self.log.last_mut() {
+            Some(point) => Ok(point.db.insert(event)?),
+            None => Err(CaseFault::Misplaced),
+        }
+    }
+
+    fn set_formula(&mut self, words: &mut Words<'_>, alloc: Global) -> Result<(), CaseFault> {
+        let formula = formula(words, alloc)?;
+        if self.formula.is_some() {
+            return Err(CaseFault::Misplaced);
+        }
+        self.formula = Some(formula);
+        Ok(())
+    }
+}
+
+// An event: a predicate's number, and as many values as there are words.
+fn event(words: &mut Words<'_>, alloc: Global) -> Result<Event, CaseFault>
+    ensures { IfOk result (λ event. words.old ≡ decimal event.pred ∷ map spelled_value event.args) }
+{
+    Ok(Event {
+        pred: small_natural(words.next()?, alloc)?,
+        args: Row::new(values(words, alloc)?),
+    })
+}
+
+// All words that are left, as values.
+fn values(words: &mut Words<'_>, alloc: Global) -> Result<Vec<Value>, CaseFault>
+    ensures { IfOk result (λ values. words.old ≡ map spelled_value values.items) }
+{
+    let mut values = Vec::new(alloc);
+    'words: while let Some(word) = words.take() {
+        values.push(value(word, alloc)?)?;
+    }
+    Ok(values)
+}
