@@ -1,9 +1,10 @@
 //! The answer to a case.
-ghost use Rattle.std.specs.Prelude.{◌≡◌, ◌++◌, length, IfOk, OnOk};
+ghost use Rattle.std.specs.Prelude.{◌≡◌, ◌++◌, ◌<◌, length, IfOk, OnOk};
 ghost use Rattle.std.specs.List.{range_with_len};
 ghost use Rattle.mfotl_model.specs.Formulas.{form};
 ghost use Rattle.mfotl_model.specs.Log.{times};
-ghost use Rattle.definitions_check.specs.Answers.{answer_text, settled_count, violation_lines};
+ghost use Rattle.mfotl_model.specs.Violations.{viol};
+ghost use Rattle.definitions_check.specs.Answers.{answer_text, rows_line, settled_count, violation_lines};
 
 use crate::cases::Case;
 use crate::lines::{head, put_line};
@@ -29,9 +30,14 @@ pub fn answer(case: &Case, alloc: Global) -> Result<Vec<u8>, AllocError>
 fn times_of(log: &[TimePoint], alloc: Global) -> Result<Vec<u64>, AllocError>
     ensures { IfOk result (λ stamps. stamps.items ≡ times log.now) }
 {
-    log.iter().map(|point| point.ts).collect(alloc)
+    let mut stamps = Vec::new(alloc);
+    for point in log {
+        stamps.push(point.ts)?;
+    }
+    Ok(stamps)
 }
 
+#[tactic(auto, using(crate::proofs::PositionLemmas::count_from))]
 fn settled_count(formula: &Formula, times: &[u64]) -> usize
     ensures { result ≡ settled_count times.now (form formula.now) }
 {
@@ -54,8 +60,22 @@ fn put_violations(
         ++ violation_lines log.now (form formula.now) (range_with_len 0 (length log.now))) }
 {
     for at in 0..log.len() {
-        let rows = violations(formula, log, at, alloc)?;
-        put_line(text, at, rows.as_slice(), alloc)?;
+        put_violations_at(text, formula, log, at, alloc)?;
     }
     Ok(())
+}
+
+fn put_violations_at(
+    text: &mut Vec<u8>,
+    formula: &Formula,
+    log: &[TimePoint],
+    at: usize,
+    alloc: Global,
+) -> Result<(), AllocError>
+    requires { at < length log.now }
+    ensures { OnOk result (text.new.items
+        ≡ text.old.items ++ rows_line at (viol log.now (form formula.now) at)) }
+{
+    let rows = violations(formula, log, at, alloc)?;
+    put_line(text, at, rows.as_slice(), alloc)
 }

@@ -18,8 +18,6 @@ pub enum CaseFault {
     Number,
     #[error("no value")]
     Value,
-    #[error("no term")]
-    Term,
     #[error("an interval that ends before it begins")]
     EmptyInterval,
     #[error("a formula nested too deep")]

@@ -48,9 +48,9 @@ fn run(rt: &HostRuntime) -> Result<(), Stop> {
 fn answer_lines<W: Write>(input: &[u8], out: &mut W, alloc: Global) -> Result<(), Stop> {
     let mut reader = CaseReader::new();
     let mut number = 0u64;
-    let input = input.strip_suffix(b"\n").unwrap_or(input);
-    for line in input.split(|byte| *byte == b'\n') {
+    for line in input.split_inclusive(|byte| *byte == b'\n') {
         number = number.saturating_add(1);
+        let line = line.strip_suffix(b"\n").unwrap_or(line);
         let case = match reader.line(line, alloc) {
             Ok(case) => case,
             Err(fault) => return Err(Stop::Line(number, fault)),
