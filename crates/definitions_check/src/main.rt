@@ -70,3 +70,6 @@ fn answer_lines<W: Write>(input: &[u8], out: &mut W, alloc: Global) -> Result<()
         Err(fault) => Err(Stop::Line(number, fault)),
     }
 }
+
+#[cfg(test)]
+mod tests;
