@@ -34,7 +34,7 @@ goes_on_front sig (t ∷ ts) more p ends = by_move (move_of sig p t) (λ n so. g
     by_move (Some m) further ends = further m.next ends
 
 -- a step that breaks no rule is the grammar's
-kept_next : (rules : List Rule) (next q : Partial) → kept rules next ≡ Ok q → next ≡ q
+pub kept_next : (rules : List Rule) (next q : Partial) → kept rules next ≡ Ok q → next ≡ q
 kept_next [] next q same = cc
 kept_next (rule ∷ rules) next q same = by_broken rule.broken (kept_next rules next q) same
   where

@@ -5,3 +5,9 @@ pub mod StackLemmas
 pub mod ViabilityLemmas
 pub mod FaultLemmas
 pub mod LimitLemmas
+pub mod SpelledMoves
+pub mod SpelledForms
+pub mod SpelledParts
+pub mod SpelledWords
+pub mod SpelledTrees
+pub mod SpelledLaw

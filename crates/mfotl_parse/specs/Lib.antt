@@ -10,3 +10,6 @@ pub mod Reading
 pub mod Viability
 pub mod Views
 pub mod Examples
+pub mod Grammar
+pub mod Meanings
+pub mod GrammarLaws
