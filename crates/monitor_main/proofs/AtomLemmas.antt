@@ -1,5 +1,5 @@
 -- The rows of one more event.
-use Rattle.std.proofs.Common.{◌≡◌, ◌∙◌, ap, sym, rules, arith, ℕ, Bool, true, false, List, [], ◌∷◌, ◌++◌, refl, map, Bor}
+use Rattle.std.proofs.Common.{◌≡◌, ◌∙◌, ap, sym, ℕ, true, false, List, [], ◌∷◌, ◌++◌, refl, map, Bor}
 use Rattle.std.specs.BTreeSet.{insert_key}
 use Rattle.std.specs.List.{filter}
 use Rattle.std.proofs.lemmas.List.{append-nil, map-append}
@@ -7,7 +7,6 @@ use Rattle.std.proofs.lemmas.List.Elements.{filter-append}
 use Rattle.mfotl_model.specs.ActiveDomain.{ascending}
 use Rattle.mfotl_model.specs.Values.{row_cmp}
 use Rattle.mfotl_model.specs.declared.event.Event.{Event}
-use Rattle.mfotl_model.specs.declared.value.Value.{Value}
 use Rattle.monitor_main.specs.Atom.{is_match, matching_rows}
 use Rattle.monitor_main.proofs.NegatedAtom.{insert_behind}
 

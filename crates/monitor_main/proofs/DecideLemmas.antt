@@ -1,21 +1,20 @@
 -- From the plan and the log to the whole answer.
-use Rattle.std.proofs.Common.{◌≡◌, ◌∙◌, ap, subst, sym, refl, ℕ, Bool, true, false, List, [], ◌++◌, Option, Some, None, is_some}
-use Rattle.std.specs.Prelude.{IsTrue, Result, Ok, Err, option_and_then, option_map}
+use Rattle.std.proofs.Common.{◌≡◌, ◌∙◌, ap, subst, sym, refl, ℕ, Bool, true, List, [], Option, Some, None, is_some}
+use Rattle.std.specs.Prelude.{Result, Ok, Err, option_and_then, option_map}
 use Rattle.clap.specs.Words.{Text}
-use Rattle.mon_outside.specs.Files.{Files, ToldFiles, content}
-use Rattle.mon_outside.specs.Sink.{Appends, AppendsFront}
+use Rattle.mon_outside.specs.Files.{Files}
+use Rattle.mon_outside.specs.Sink.{AppendsFront}
 use Rattle.log_reader.specs.Readings.{Clear, Ending, Reading}
 use Rattle.monitor_main.specs.declared.refusal.InputFile.{InputFile}
 use Rattle.monitor_main.specs.declared.refusal.InputFile.TheVariants as file
 use Rattle.monitor_main.specs.declared.refusal.Refusal.{Refusal}
 use Rattle.monitor_main.specs.declared.refusal.Refusal.TheVariants.{Usage, LongSignature, Signature, Policy, Log, Read, Write, Memory}
-use Rattle.monitor_main.specs.Answer.{Answer, Task, answer, answered, bytes_at, bytes_of, log_answer, ok_value, refused, seen_of, task_at, task_of, text_at_failure, text_before, text_of_seen, text_on, with_names}
+use Rattle.monitor_main.specs.Answer.{Answer, Task, answer, answered, bytes_at, bytes_of, log_answer, ok_value, seen_of, task_at, task_of, text_at_failure, text_before, text_of_seen, text_on, with_names}
 use Rattle.monitor_main.specs.Decisions.{Ends, EndsLog, FailsInLog, Finishes, HasCauses, Refuses}
 use Rattle.monitor_main.specs.Outcomes.{FailsAt}
 use Rattle.monitor_main.specs.Plans.{HasNoPlan}
 use Rattle.monitor_main.specs.PlanFaults.{HasReadCause}
 use Rattle.monitor_main.specs.PolicyForm.{AtomOf}
-use Rattle.monitor_main.specs.Refusals.{line_of, status_of}
 use Rattle.monitor_main.specs.Words.{Names, names_of}
 use Rattle.monitor_main.proofs.SinkLemmas.{appends_none}
 

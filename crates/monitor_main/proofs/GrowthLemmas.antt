@@ -1,10 +1,9 @@
 -- What the front of a log shows stays shown by the whole log.
-use Rattle.std.proofs.Common.{◌≡◌, ◌∙◌, ap, ap₂, sym, refl, rules, arith, ℕ, ◌+◌, ◌-◌, ◌<◌, ◌≤◌, Bool, true, false, not, ◌&&◌, nat_lt, List, [], ◌∷◌, ◌++◌, length, take, drop, Option, Some, None, append_assoc, append-nil}
+use Rattle.std.proofs.Common.{◌≡◌, ◌∙◌, ap, ap₂, sym, refl, arith, ℕ, ◌+◌, ◌-◌, ◌<◌, ◌≤◌, Bool, true, false, not, ◌&&◌, nat_lt, List, [], ◌∷◌, ◌++◌, length, take, drop, Option, Some, None, append_assoc, append-nil}
 use Rattle.std.specs.Prelude.{Result, Ok, Err}
 use Rattle.std.proofs.lemmas.Bool.{le-ltb, ltb-false, ltb-true, lt-ltb}
-use Rattle.mfotl_lex.specs.Growing.{MoreBytesChangeNothing, grown, joined, joined_at, stopped as stopped_at}
+use Rattle.mfotl_lex.specs.Growing.{grown, joined, joined_at, stopped as stopped_at}
 use Rattle.mfotl_lex.specs.Lexemes.{Lexeme, Tokens, tokens}
-use Rattle.mfotl_lex.specs.Places.{Place}
 use Rattle.mfotl_lex.specs.declared.fault.LexFault.{LexFault}
 use Rattle.mfotl_lex.specs.declared.kind.Mode.TheVariants.{Log}
 use Rattle.std.proofs.lemmas.List.{length-append, take-append-le, take_all}
@@ -13,7 +12,7 @@ use Rattle.mfotl_lex.proofs.GrowingLemmas.{more_bytes}
 use Rattle.mfotl_model.specs.declared.event.TimePoint.{TimePoint}
 use Rattle.mfotl_sig.specs.Preds.{PredOf}
 use Rattle.log_reader.specs.Partials.{Partial, blank}
-use Rattle.log_reader.specs.Readings.{Ending, Clear, Reading, Stops, accepted, behind, behind_tokens, is_long, nothing_left, place_at, reading, run, run_from, shown, stopped, went_on}
+use Rattle.log_reader.specs.Readings.{Clear, Reading, accepted, behind, behind_tokens, is_long, nothing_left, place_at, reading, run, shown, went_on}
 use Rattle.monitor_main.specs.Growth.{Keeps, ShownStays}
 use Rattle.log_reader.specs.Steps.{completed, step}
 use Rattle.log_reader.specs.declared.fault.LogFault.{LogFault}

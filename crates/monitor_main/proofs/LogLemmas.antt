@@ -1,11 +1,10 @@
 -- The log's bytes as they are gathered, and its lines as they are written.
-use Rattle.std.proofs.Common.{◌≡◌, ◌∙◌, ◌⊎◌, inl, inr, ap, ap₂, subst, sym, refl, rules, arith, ℕ, ◌+◌, ◌<◌, ◌≤◌, suc, Bool, true, false, not, ◌||◌, List, [], ◌∷◌, ◌++◌, length, take, drop, Option, Some, None, append_assoc, append-nil}
+use Rattle.std.proofs.Common.{◌≡◌, ◌∙◌, inl, inr, ap, subst, sym, refl, ℕ, ◌<◌, Bool, true, false, List, [], ◌++◌, length, Option, Some, None, append-nil}
 use Rattle.std.specs.Prelude.{IfSome}
 use Rattle.mon_outside.specs.Files.{Files, ToldFiles, content}
 use Rattle.mon_outside.specs.Inputs.{Consumes, Gave, Opens}
-use Rattle.mon_outside.specs.Sink.{Appends, AppendsFront}
 use Rattle.monitor_main.specs.LogRuns.{IsGathered}
-use Rattle.monitor_main.proofs.PlanLemmas.{told_all, told_map}
+use Rattle.monitor_main.proofs.PlanLemmas.{told_all}
 
 taken_front : (limit : ℕ) (all : List ℕ) (new : Option (List ℕ)) (bytes given : List ℕ) (failed : Bool)
     → bytes ≡ [] ++ given → Consumes (Some all) new given → (failed ≡ false → limit < length bytes)

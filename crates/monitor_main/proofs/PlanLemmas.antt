@@ -1,18 +1,16 @@
 -- From the ends of the single files to those of the whole plan.
-use Rattle.std.proofs.Common.{◌≡◌, ◌∙◌, ap, sym, subst, refl, ℕ, List, true, is_some, Option, Some, None}
-use Rattle.std.specs.Prelude.{IsTrue, Result, Ok, Err, option_map}
+use Rattle.std.proofs.Common.{◌≡◌, ◌∙◌, ap, refl, ℕ, List, true, is_some, Option, Some, None}
+use Rattle.std.specs.Prelude.{Result, Ok, Err, option_map}
 use Rattle.clap.specs.Words.{Text}
-use Rattle.mon_outside.specs.Causes.{Rose}
 use Rattle.mon_outside.specs.Files.{Files, ToldFiles, content}
 use Rattle.mfotl_sig.specs.Preds.{PredOf}
-use Rattle.monitor_main.specs.Answer.{◌>>=◌, Task, bytes_at, bytes_of, ok_value, policy_in, signature_of, task_at, task_of, with_names}
+use Rattle.monitor_main.specs.Answer.{◌>>=◌, Task, bytes_at, bytes_of, ok_value, policy_in, signature_of, task_at, task_of}
 use Rattle.monitor_main.specs.PlanFaults.{Stops}
 use Rattle.monitor_main.specs.Plans.{HasNoPlan, HasNoTask, words_refusal}
 use Rattle.monitor_main.specs.PolicyForm.{AtomOf}
 use Rattle.monitor_main.specs.Words.{Names, names_of}
 use Rattle.monitor_main.specs.declared.words.WordsFault.{WordsFault}
 use Rattle.monitor_main.specs.declared.words.WordsFault.TheVariants as fault
-use Rattle.monitor_main.specs.declared.refusal.InputFile.{InputFile}
 use Rattle.monitor_main.specs.declared.refusal.InputFile.TheVariants as file
 use Rattle.monitor_main.specs.declared.refusal.Refusal.{Refusal}
 use Rattle.monitor_main.specs.declared.refusal.Refusal.TheVariants.{Usage, LongSignature, Signature, Policy, Log, Read, Write, Memory}

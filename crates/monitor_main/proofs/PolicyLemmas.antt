@@ -1,5 +1,5 @@
 -- The tokens that are left, behind those that were read.
-use Rattle.std.proofs.Common.{◌≡◌, ◌∙◌, ap, sym, refl, rules, arith, ℕ, ◌+◌, ◌-◌, ◌<◌, ◌≤◌, length, suc, zero, List, [], ◌∷◌, ◌++◌, Option, Some, None, append_assoc, append-nil}
+use Rattle.std.proofs.Common.{◌≡◌, ◌∙◌, ap, sym, refl, arith, ℕ, ◌+◌, ◌-◌, ◌<◌, ◌≤◌, length, suc, List, [], ◌∷◌, ◌++◌, Option, Some, None, append_assoc, append-nil}
 use Rattle.std.specs.Prelude.{option_map, Ok, Err}
 use Rattle.mfotl_lex.specs.declared.fault.LexFault.{LexFault}
 use Rattle.mfotl_lex.specs.Lexemes.{Lexeme, after, followed, next_token, tokens, tokens_within}

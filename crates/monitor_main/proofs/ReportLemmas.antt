@@ -1,17 +1,16 @@
 -- What was told, and the clauses of a run.
-use Rattle.std.proofs.Common.{◌≡◌, ◌≢◌, ◌∙◌, ◌⊎◌, inl, inr, ap, subst, sym, refl, rules, arith, ℕ, ◌+◌, ◌-◌, ◌^◌, ◌<◌, ◌≤◌, Bool, true, false, List, [], Option}
-use Rattle.std.specs.Prelude.{IsTrue, min}
+use Rattle.std.proofs.Common.{◌≡◌, ◌≢◌, ◌∙◌, ◌⊎◌, inl, inr, ap, subst, sym, refl, arith, ℕ, Bool, true, false, List, [], Option}
+use Rattle.std.specs.Prelude.{IsTrue}
 use Rattle.clap.specs.Words.{Text}
 use Rattle.mon_outside.specs.Causes.{Rose, StoodStill}
 use Rattle.mon_outside.specs.Files.{Files}
-use Rattle.mon_outside.specs.Sink.{Appends, AppendsFront}
 use Rattle.monitor_main.specs.declared.refusal.Refusal.{Refusal}
 use Rattle.monitor_main.specs.declared.refusal.Refusal.TheVariants.{Usage, LongSignature, Signature, Policy, Log, Read, Write, Memory}
 use Rattle.monitor_main.specs.declared.status.Status.{Status}
 use Rattle.monitor_main.specs.declared.status.Status.TheVariants as status
-use Rattle.monitor_main.specs.Answer.{Answer, answer, verdict_status}
+use Rattle.monitor_main.specs.Answer.{answer, verdict_status}
 use Rattle.monitor_main.specs.Decisions.{Ends, Finishes, HasCauses, Refuses}
-use Rattle.monitor_main.specs.Outcomes.{FailsAt, FailsToRead, IsDecidedBy, IsGiven, Reports, Tells, is_decided, told_line}
+use Rattle.monitor_main.specs.Outcomes.{FailsToRead, IsDecidedBy, IsGiven, Reports, Tells, is_decided, told_line}
 use Rattle.monitor_main.specs.Refusals.{line_of, status_of}
 use Rattle.monitor_main.proofs.SinkLemmas.{appends_none, whole_front}
 

@@ -1,24 +1,20 @@
 -- From the lines that were written to the answer on the log.
-use Rattle.std.proofs.Common.{◌≡◌, ◌∙◌, ◌⊎◌, inl, inr, ap, subst, sym, refl, ℕ, ◌+◌, ◌<◌, ◌^◌, Bool, true, false, not, List, [], ◌++◌, length, Option, Some, append-nil}
-use Rattle.mon_outside.specs.Files.{Files, ToldFiles, content}
+use Rattle.std.proofs.Common.{◌≡◌, ◌∙◌, ◌⊎◌, inl, inr, ap, subst, sym, refl, ℕ, ◌+◌, ◌<◌, ◌^◌, Bool, true, false, not, List, [], ◌++◌, length, Option, append-nil}
 use Rattle.mon_outside.specs.Sink.{Appends, AppendsFront}
 use Rattle.mfotl_sig.specs.Preds.{PredOf}
 use Rattle.log_reader.specs.Readings.{Clear, Ending, Reading, Stops, accepted, reading, shown}
 use Rattle.log_reader.specs.declared.fault.LogFault.{LogFault}
 use Rattle.log_reader.specs.declared.limits.Limits.{Limits}
-use Rattle.monitor_main.specs.declared.refusal.InputFile.TheVariants as file
 use Rattle.monitor_main.specs.declared.refusal.Refusal.{Refusal}
 use Rattle.monitor_main.specs.declared.refusal.Refusal.TheVariants.{Usage, LongSignature, Signature, Policy, Log, Read, Write, Memory}
-use Rattle.monitor_main.specs.Answer.{Answer, Task, ended, log_answer, reading_of, seen_of, standard, text_on, verdict_status, violated_on}
+use Rattle.monitor_main.specs.Answer.{Task, ended, log_answer, reading_of, seen_of, standard, text_on, verdict_status, violated_on}
 use Rattle.monitor_main.specs.AtomText.{lines_from, some_rows}
 use Rattle.monitor_main.specs.Decisions.{EndsLog, FailsInLog, Finishes, Refuses}
 use Rattle.monitor_main.specs.Growth.{Keeps}
-use Rattle.monitor_main.specs.LogRuns.{EndsClear, IsGathered, IsOutputFault, StopsBytes, lines_of}
+use Rattle.monitor_main.specs.LogRuns.{EndsClear, IsGathered, StopsBytes, lines_of}
 use Rattle.monitor_main.specs.PolicyForm.{AtomOf}
-use Rattle.monitor_main.specs.Refusals.{line_of, status_of}
 use Rattle.monitor_main.proofs.AtomTextLemmas.{rows_are_some, text_is_lines}
 use Rattle.monitor_main.proofs.GrowthLemmas.{long_same, shown_stays}
-use Rattle.monitor_main.proofs.PlanLemmas.{told_both, told_map}
 use Rattle.monitor_main.proofs.PointLemmas.{lines_from-append}
 use Rattle.monitor_main.proofs.SinkLemmas.{longer_front}
 

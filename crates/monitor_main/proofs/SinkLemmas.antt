@@ -1,5 +1,5 @@
 -- What was written, piece after piece.
-use Rattle.std.proofs.Common.{◌≡◌, ◌∙◌, ap, sym, refl, ℕ, List, [], ◌++◌, Option, Some, None, append_assoc, append-nil}
+use Rattle.std.proofs.Common.{◌∙◌, ap, sym, refl, ℕ, List, [], ◌++◌, Option, Some, None, append_assoc, append-nil}
 use Rattle.mon_outside.specs.Sink.{Appends, AppendsFront}
 
 pub appends_none : (old : Option (List ℕ)) → Appends old old []

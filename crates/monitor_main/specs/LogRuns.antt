@@ -1,18 +1,16 @@
 -- How the monitoring of a log may end.
 use Rattle.std.specs.Prelude.{◌≡◌, ◌⊎◌, ◌<◌, ◌++◌, ℕ, Bool, true, false, not, List, [], length}
-use Rattle.std.specs.Prelude.{Option, Some}
+use Rattle.std.specs.Prelude.{Option}
 use Rattle.mon_outside.specs.Causes.{Rose}
-use Rattle.mon_outside.specs.Sink.{Appends, AppendsFront}
+use Rattle.mon_outside.specs.Sink.{Appends}
 use Rattle.mfotl_model.specs.declared.event.TimePoint.{TimePoint}
 use Rattle.log_reader.specs.Progress.{Progress}
 use Rattle.log_reader.specs.declared.fault.LogFault.{LogFault}
 use Rattle.log_reader.specs.declared.fault.LogFault.TheVariants as log
 use Rattle.log_reader.specs.Readings.{Clear, Reading, Stops, reading}
-use Rattle.monitor_main.specs.declared.refusal.InputFile.{InputFile}
 use Rattle.monitor_main.specs.declared.refusal.InputFile.TheVariants as file
 use Rattle.monitor_main.specs.declared.refusal.Refusal.{Refusal}
-use Rattle.monitor_main.specs.declared.refusal.Refusal.TheVariants.{Usage, LongSignature, Signature}
-use Rattle.monitor_main.specs.declared.refusal.Refusal.TheVariants.{Policy, Log, Read, Write, Memory}
+use Rattle.monitor_main.specs.declared.refusal.Refusal.TheVariants.{Log, Read, Write, Memory}
 use Rattle.monitor_main.specs.AtomText.{line_at, lines_from, rows_at, some_rows}
 use Rattle.monitor_main.specs.PolicyForm.{AtomOf, is_empty}
 

@@ -5,8 +5,8 @@ use Rattle.mfotl_sig.specs.declared.fault.SigFault.{SigFault}
 use Rattle.mfotl_sig.specs.declared.fault.SigFault.TheVariants as sig
 use Rattle.monitor_main.specs.declared.refusal.InputFile.{InputFile}
 use Rattle.monitor_main.specs.declared.refusal.Refusal.{Refusal}
-use Rattle.monitor_main.specs.declared.refusal.Refusal.TheVariants.{Usage, LongSignature, Signature}
-use Rattle.monitor_main.specs.declared.refusal.Refusal.TheVariants.{Policy, Log, Read, Write, Memory}
+use Rattle.monitor_main.specs.declared.refusal.Refusal.TheVariants.{Signature}
+use Rattle.monitor_main.specs.declared.refusal.Refusal.TheVariants.{Read, Write, Memory}
 
 -- the refusal for a signature's fault
 abbrev pub sig_refusal : SigFault → Refusal

@@ -1,14 +1,13 @@
 -- What is made of the words, the signature and the policy.
-use Rattle.std.specs.Prelude.{◌≡◌, ℕ, List, is_some, IsTrue, Result, Ok, Err}
+use Rattle.std.specs.Prelude.{◌≡◌, List, is_some, IsTrue, Err}
 use Rattle.clap.specs.Words.{Text}
-use Rattle.mon_outside.specs.Causes.{Rose}
 use Rattle.mon_outside.specs.Files.{Files, content}
 use Rattle.monitor_main.specs.declared.plan.Plan.{Plan}
 use Rattle.monitor_main.specs.declared.refusal.InputFile.{InputFile}
 use Rattle.monitor_main.specs.declared.refusal.InputFile.TheVariants as file
 use Rattle.monitor_main.specs.declared.refusal.Refusal.{Refusal}
-use Rattle.monitor_main.specs.declared.refusal.Refusal.TheVariants.{Usage, LongSignature, Signature}
-use Rattle.monitor_main.specs.declared.refusal.Refusal.TheVariants.{Policy, Log, Read, Write, Memory}
+use Rattle.monitor_main.specs.declared.refusal.Refusal.TheVariants.{Usage}
+use Rattle.monitor_main.specs.declared.refusal.Refusal.TheVariants.{Read, Memory}
 use Rattle.monitor_main.specs.Answer.{Task, bytes_at, bytes_of, task_at, task_of}
 use Rattle.monitor_main.specs.Words.{Names}
 use Rattle.monitor_main.specs.declared.words.WordsFault.{WordsFault}

@@ -1,5 +1,5 @@
 -- The words of the command line: the one command, what it takes, and the files that it names.
-use Rattle.std.specs.Prelude.{◌≡◌, ◌&&◌, ◌+◌, ◌==◌, ℕ, Bool, true, false, not, List, [], ◌∷◌}
+use Rattle.std.specs.Prelude.{◌&&◌, ℕ, Bool, true, not, List, [], ◌∷◌}
 use Rattle.std.specs.Prelude.{Option, Some, None, map, string_bytes, codes, count_by, nat_lt, unwrap_or}
 use Rattle.std.specs.Prelude.{option_and_then, option_map, if◌then◌else◌}
 use Rattle.std.specs.Str.{bytes_eq}

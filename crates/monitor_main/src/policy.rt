@@ -171,13 +171,13 @@ fn names_before_end<'a>(
 }
 
 // Whether the tokens are `NOT`, a Word and `(`.
-fn is_head(not: &Token<'_>, name: &Token<'_>, open: &Token<'_>) -> bool
-    ensures { result ≡ is_head (lexeme not.now) (lexeme name.now) (lexeme open.now) }
+fn is_head(not: &Token<'_>, name: &Token<'_>, paren: &Token<'_>) -> bool
+    ensures { result ≡ is_head (lexeme not.now) (lexeme name.now) (lexeme paren.now) }
 {
     not.kind == Kind::Word
         && not.text == b"NOT".as_slice()
         && name.kind == Kind::Word
-        && open.kind == Kind::OpenParen
+        && paren.kind == Kind::OpenParen
 }
 
 // The names in `NOT p(x1, .., xn)`.
@@ -186,8 +186,8 @@ fn names_spelled<'a>(tokens: &[Token<'a>], alloc: Global) -> Result<Option<Names
     ensures { IfOk result (λ r. option_map named_atom r ≡ names_spelled (lexemes tokens.now)) }
 {
     match tokens {
-        [not, name, open, rest @ ..] => {
-            if !is_head(not, name, open) {
+        [not, name, paren, rest @ ..] => {
+            if !is_head(not, name, paren) {
                 return Ok(None);
             }
             match names_before_end(rest, alloc)? {

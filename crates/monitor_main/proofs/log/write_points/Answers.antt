@@ -1,4 +1,4 @@
-use Rattle.std.proofs.Common.{◌≡◌, rules}
+use Rattle.std.proofs.Common.{rules}
 use Rattle.monitor_main.specs.PolicyViews.{atom_of}
 use Rattle.monitor_main.proofs.PointLemmas.{begins, ends_end, ends_more, front, goes_on, part, stops_by}
 use Rattle.monitor_main.proofs.log.write_points.Goals as goal

@@ -1,7 +1,7 @@
-use Rattle.std.proofs.Common.{◌≡◌, ap, Err}
+use Rattle.std.proofs.Common.{ap, Err}
 use Rattle.std.proofs.lemmas.Result.{IfErr-weaker, IfOk-weaker}
 use Rattle.monitor_main.specs.NamesIn.{names_in}
-use Rattle.monitor_main.specs.Plans.{task_in, words_refusal}
+use Rattle.monitor_main.specs.Plans.{task_in}
 use Rattle.monitor_main.specs.Words.{texts_of}
 use Rattle.monitor_main.proofs.PlanLemmas.{no_task, plan_made, words_refused}
 use Rattle.monitor_main.proofs.plan.make_plan.Goals as goal

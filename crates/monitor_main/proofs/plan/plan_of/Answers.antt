@@ -1,5 +1,4 @@
-use Rattle.std.proofs.Common.{◌≡◌, rules}
-use Rattle.std.proofs.lemmas.Result.{IfErr-weaker, IfOk-weaker}
+use Rattle.std.proofs.Common.{rules}
 use Rattle.monitor_main.specs.NamesIn.{names_in}
 use Rattle.monitor_main.specs.PolicyViews.{atom_of}
 use Rattle.monitor_main.proofs.PlanLemmas.{no_policy, no_signature, task_made}

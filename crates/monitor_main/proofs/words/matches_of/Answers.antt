@@ -1,7 +1,6 @@
-use Rattle.std.proofs.Common.{◌≡◌, ◌∙◌, ap, sym, subst, true, rules}
-use Rattle.std.specs.Prelude.{List}
+use Rattle.std.proofs.Common.{◌≡◌, ◌∙◌, ap, subst, rules}
 use Rattle.std.proofs.lemmas.Result.{IfOk-weaker}
-use Rattle.clap.specs.Words.{App, FailsBy, Kinds, app_of, fault_of, is_simple, is_simple_and_free, subcommand_of}
+use Rattle.clap.specs.Words.{App, FailsBy, app_of, fault_of, is_simple, is_simple_and_free, subcommand_of}
 use Rattle.monitor_main.specs.Words.{monitor_app, texts_of, words_fault}
 use Rattle.monitor_main.proofs.WordsLemmas.{monitor_is_free, monitor_is_simple}
 use Rattle.monitor_main.proofs.words.matches_of.Goals as goal
