@@ -11,3 +11,4 @@ pub mod PointLemmas
 pub mod RunLemmas
 pub mod DecideLemmas
 pub mod ReportLemmas
+pub mod UsageLemmas

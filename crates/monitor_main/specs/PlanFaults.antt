@@ -5,7 +5,7 @@ use Rattle.mfotl_sig.specs.declared.fault.SigFault.{SigFault}
 use Rattle.mfotl_sig.specs.declared.fault.SigFault.TheVariants as sig
 use Rattle.monitor_main.specs.declared.refusal.InputFile.{InputFile}
 use Rattle.monitor_main.specs.declared.refusal.Refusal.{Refusal}
-use Rattle.monitor_main.specs.declared.refusal.Refusal.TheVariants.{Signature}
+use Rattle.monitor_main.specs.declared.refusal.Refusal.TheVariants.{Usage, Signature}
 use Rattle.monitor_main.specs.declared.refusal.Refusal.TheVariants.{Read, Write, Memory}
 
 -- the refusal for a signature's fault
@@ -39,3 +39,8 @@ abbrev pub HasReadCause : Refusal → ℕ → ℕ → Type 0
 HasReadCause (Read name) before now = Rose before now
 HasReadCause Write before now = ⊥
 HasReadCause r before now = Unit {0}
+
+-- the words are not at fault
+abbrev pub IsBehindWords : Refusal → Type 0
+IsBehindWords Usage = ⊥
+IsBehindWords r = Unit {0}

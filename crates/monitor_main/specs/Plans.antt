@@ -1,5 +1,5 @@
 -- What is made of the words, the signature and the policy.
-use Rattle.std.specs.Prelude.{◌≡◌, List, is_some, IsTrue, Err}
+use Rattle.std.specs.Prelude.{◌≡◌, List, is_some, IsTrue, Err, None}
 use Rattle.clap.specs.Words.{Text}
 use Rattle.mon_outside.specs.Files.{Files, content}
 use Rattle.monitor_main.specs.declared.plan.Plan.{Plan}
@@ -9,7 +9,7 @@ use Rattle.monitor_main.specs.declared.refusal.Refusal.{Refusal}
 use Rattle.monitor_main.specs.declared.refusal.Refusal.TheVariants.{Usage}
 use Rattle.monitor_main.specs.declared.refusal.Refusal.TheVariants.{Read, Memory}
 use Rattle.monitor_main.specs.Answer.{Task, bytes_at, bytes_of, task_at, task_of}
-use Rattle.monitor_main.specs.Words.{Names}
+use Rattle.monitor_main.specs.Words.{Names, names_of}
 use Rattle.monitor_main.specs.declared.words.WordsFault.{WordsFault}
 use Rattle.monitor_main.specs.declared.words.WordsFault.TheVariants as fault
 use Rattle.monitor_main.specs.PolicyViews.{atom_of}
@@ -41,3 +41,8 @@ HasNoPlan words files r = task_of words files ≡ Err r
 abbrev pub words_refusal : WordsFault → Refusal
 words_refusal fault.Usage = Usage
 words_refusal fault.Memory = Memory
+
+-- words are refused only where they name no files
+abbrev pub HasWordsCause : List Text → Refusal → Type 0
+HasWordsCause words Usage = names_of words ≡ None
+HasWordsCause words r = Unit {0}

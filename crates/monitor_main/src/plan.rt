@@ -3,9 +3,9 @@ ghost use Rattle.std.specs.Prelude.{◌≡◌, ◌≤◌, ◌^◌, ℕ, length, 
 ghost use Rattle.mon_outside.specs.Files.{ToldFiles, content};
 ghost use Rattle.monitor_main.specs.Answer.{signature_of, policy_in, task_at, task_of};
 ghost use Rattle.monitor_main.specs.NamesIn.{names_in};
-ghost use Rattle.monitor_main.specs.Plans.{task_in, HasNoTask, HasNoPlan, words_refusal};
+ghost use Rattle.monitor_main.specs.Plans.{task_in, HasNoTask, HasNoPlan, HasWordsCause, words_refusal};
 ghost use Rattle.monitor_main.specs.PolicyViews.{atom_of};
-ghost use Rattle.monitor_main.specs.PlanFaults.{Gives, HasReadCause, IsInside, Stops, sig_refusal};
+ghost use Rattle.monitor_main.specs.PlanFaults.{Gives, HasReadCause, IsBehindWords, IsInside, Stops, sig_refusal};
 ghost use Rattle.monitor_main.specs.Words.{texts_of};
 
 use crate::policy::{PlainAtom, read_policy};
@@ -79,6 +79,7 @@ fn load_signature<I: Inputs>(
         (ToldFiles (I.files inputs.old) (λ files. signature_of (content files name.now) ≡ Err r))) }
     ensures cause { IfErr result (λ r.
         HasReadCause r (I.faults inputs.old) (I.faults inputs.new)) }
+    ensures behind { IfErr result IsBehindWords }
 {
     match load(inputs, name, MAX_FILE, alloc) {
         Ok(bytes) => signature_in(bytes.as_slice(), alloc),
@@ -106,6 +107,7 @@ fn load_policy<I: Inputs>(
         policy_in sig.now (content files name.now) ≡ Err r))) }
     ensures cause { IfErr result (λ r.
         HasReadCause r (I.faults inputs.old) (I.faults inputs.new)) }
+    ensures behind { IfErr result IsBehindWords }
 {
     match load(inputs, name, MAX_FILE, alloc) {
         Ok(bytes) => policy_in(sig, bytes.as_slice(), alloc),
@@ -139,6 +141,7 @@ fn plan_of<'a, I: Inputs>(
         HasNoTask (names_in names.now) files r)) }
     ensures read { IfErr result (λ r.
         HasReadCause r (I.faults inputs.old) (I.faults inputs.new)) }
+    ensures behind { IfErr result IsBehindWords }
 {
     let sig = match load_signature(inputs, names.sig, alloc) {
         Ok(sig) => sig,
@@ -168,6 +171,7 @@ pub fn make_plan<'a, I: Inputs>(
         HasNoPlan (texts_of words.entry.now) files r)) }
     ensures read { IfErr result (λ r.
         HasReadCause r (I.faults inputs.old) (I.faults inputs.new)) }
+    ensures usage { IfErr result (HasWordsCause (texts_of words.entry.now)) }
 {
     match read_words(alloc, words) {
         Ok(names) => plan_of(&names, inputs, alloc),

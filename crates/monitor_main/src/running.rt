@@ -1,5 +1,5 @@
 //! The top call.
-ghost use Rattle.std.specs.Prelude.{◌≡◌, ◌≢◌, ◌≤◌, IfOk, IfErr, IsTrue};
+ghost use Rattle.std.specs.Prelude.{◌≡◌, ◌≢◌, ◌≤◌, IfOk, IfErr, IsTrue, None};
 ghost use Rattle.mon_outside.specs.Causes.{Rose, StoodStill};
 ghost use Rattle.mon_outside.specs.Files.{ToldFiles};
 ghost use Rattle.mon_outside.specs.Sink.{AppendsFront};
@@ -7,9 +7,10 @@ ghost use Rattle.monitor_main.specs.Answer.{answer, log_answer};
 ghost use Rattle.monitor_main.specs.Decisions.{Ends, EndsLog, Finishes, HasCauses};
 ghost use Rattle.monitor_main.specs.Outcomes.{FailsToRead, IsDecidedBy, IsGiven, Reports, Tells};
 ghost use Rattle.monitor_main.specs.Outcomes.{is_decided};
-ghost use Rattle.monitor_main.specs.Plans.{task_in};
+ghost use Rattle.monitor_main.specs.PlanFaults.{IsBehindWords};
+ghost use Rattle.monitor_main.specs.Plans.{task_in, HasWordsCause};
 ghost use Rattle.monitor_main.specs.Refusals.{line_of};
-ghost use Rattle.monitor_main.specs.Words.{texts_of};
+ghost use Rattle.monitor_main.specs.Words.{names_of, texts_of};
 
 use crate::log::{gather, monitor_bytes};
 use crate::plan::{Plan, make_plan};
@@ -39,6 +40,7 @@ fn monitor_log<I: Inputs, O: Sink>(
         (O.faults out.old) (O.faults out.new)) }
     ensures front { ToldFiles (I.files inputs.old) (λ files. AppendsFront
         (O.written out.old) (O.written out.new) (log_answer (task_in plan.now files)).out) }
+    ensures behind { IfErr result IsBehindWords }
     ensures later_in { I.faults inputs.old ≤ I.faults inputs.new }
     ensures later_out { O.faults out.old ≤ O.faults out.new }
 {
@@ -65,6 +67,7 @@ fn decide<I: Inputs, O: Sink>(
         (O.faults out.old) (O.faults out.new)) }
     ensures front { ToldFiles (I.files inputs.old) (λ files. AppendsFront
         (O.written out.old) (O.written out.new) (answer (texts_of words.now) files).out) }
+    ensures usage { IfErr result (HasWordsCause (texts_of words.now)) }
 {
     match make_plan(words, inputs, alloc) {
         Ok(plan) => monitor_log(&plan, inputs, out, alloc),
@@ -137,6 +140,9 @@ pub fn run<R: Threads + Wait + Sync, I: Inputs, O: Sink, E: Sink, G: Gate + Sync
         (E.faults err.old) (E.faults err.new)) }
     ensures front { ToldFiles (I.files inputs.old) (λ files. AppendsFront
         (O.written out.old) (O.written out.new) (answer (texts_of words.items) files).out) }
+
+    // The words alone decide whether they are refused: told files or not.
+    ensures usage { result ≡ Status.Usage → names_of (texts_of words.items) ≡ None }
 
     // A failed call is told only where its count rose.
     ensures read_cause { result ≡ Status.Read → Rose (I.faults inputs.old) (I.faults inputs.new) }

@@ -3,6 +3,7 @@ use Rattle.monitor_main.specs.Plans.{task_in}
 use Rattle.monitor_main.specs.Words.{texts_of}
 use Rattle.monitor_main.proofs.PlanLemmas.{told_both, told_map}
 use Rattle.monitor_main.proofs.DecideLemmas.{all_finished, causes_of_plan, log_ends, log_front, no_plan_ends}
+use Rattle.monitor_main.proofs.UsageLemmas.{behind_cause}
 use Rattle.monitor_main.proofs.running.decide.Goals as goal
 
 pub returns-in-Ok-clause-ok : goal.returns-in-Ok-clause-ok
@@ -48,3 +49,7 @@ returns-in-Err-clause-refused g c =
 pub returns-in-Err-clause-causes : goal.returns-in-Err-clause-causes
 returns-in-Err-clause-causes g c =
     causes_of_plan c.in-Err.refusal _ _ (g.O.Sink.faults c.args.out.now) (g.O.Sink.faults c.args.out.now) c.in-Err.ensures.read
+
+pub returns-in-Ok-clause-usage : goal.returns-in-Ok-clause-usage
+returns-in-Ok-clause-usage g c =
+    IfErr-weaker c.monitor_log.result _ _ (λ r e. behind_cause (texts_of c.args.words.now) r e) c.monitor_log.ensures.behind

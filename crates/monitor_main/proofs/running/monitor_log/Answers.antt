@@ -2,6 +2,7 @@ use Rattle.std.proofs.lemmas.Result.{IfErr-weaker, IfOk-weaker}
 use Rattle.monitor_main.specs.Plans.{task_in}
 use Rattle.monitor_main.proofs.PlanLemmas.{told_map}
 use Rattle.monitor_main.proofs.RunLemmas.{due_front, ends, finishes}
+use Rattle.monitor_main.proofs.UsageLemmas.{stops_behind}
 use Rattle.monitor_main.proofs.running.monitor_log.Goals as goal
 
 pub returns-in-Ok-clause-ok : goal.returns-in-Ok-clause-ok
@@ -31,3 +32,7 @@ returns-in-Ok-clause-front g c =
     (λ files gathered. due_front (task files) c.in-Ok.log.bytes.items c.in-Ok.log.failed gathered
     (g.O.Sink.written c.args.out.now) (g.O.Sink.written c.monitor_bytes.new.out) c.monitor_bytes.ensures.front)
     c.in-Ok.ensures.gathered
+
+pub returns-in-Ok-clause-behind : goal.returns-in-Ok-clause-behind
+returns-in-Ok-clause-behind g c =
+    IfErr-weaker c.monitor_bytes.result _ _ (λ r e. stops_behind _ _ _ _ _ _ _ r e) c.monitor_bytes.ensures.stops
