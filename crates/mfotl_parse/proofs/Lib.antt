@@ -11,3 +11,7 @@ pub mod SpelledParts
 pub mod SpelledWords
 pub mod SpelledTrees
 pub mod SpelledLaw
+pub mod AcceptedParts
+pub mod AcceptedIntervals
+pub mod AcceptedTrees
+pub mod AcceptedLaw

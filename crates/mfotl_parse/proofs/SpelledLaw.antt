@@ -9,17 +9,18 @@ use Rattle.mfotl_parse.specs.declared.fault.PolicyFault.{PolicyFault}
 use Rattle.mfotl_parse.specs.declared.fault.PolicyFault.TheVariants.{Syntax}
 use Rattle.mfotl_parse.specs.declared.term.Pair.{Pair}
 use Rattle.mfotl_parse.specs.Grammar.{Tree, Fits, spelling, is_shut, IsFormula, BeginsFormula}
-use Rattle.mfotl_parse.specs.GrammarLaws.{FormulaIsAccepted, SpelledIsRead, ValueIsOne, SyntaxIsRight}
+use Rattle.mfotl_parse.specs.GrammarLaws.{AcceptedExactly, SpelledIsRead, ValueIsOne, SyntaxExactly}
 use Rattle.mfotl_parse.specs.Meanings.{no_scope, all_names, value, names_behind, node_count, nesting, KeepsRules, IsValue, tokens_of, policy_of}
 use Rattle.mfotl_parse.specs.Moves.{Rule, Move, goes, kept, given}
 use Rattle.mfotl_parse.specs.Names.{binder_of, most_free, uneven_pair, vars_of}
 use Rattle.mfotl_parse.specs.Reading.{PolicyOf, move_of, step, run, sorted, finished, ended, ended_at, is_closed, reading}
 use Rattle.mfotl_parse.specs.Reduction.{Reduced, reduce}
 use Rattle.mfotl_parse.specs.States.{Frame, Names, no_names, depth, Now, Context, Partial, Have, Want, start}
-use Rattle.mfotl_parse.specs.Viability.{if_moved, is_whole, accepts, and_steps, steps}
-use Rattle.mfotl_parse.proofs.FaultLemmas.{kept_next, syntax_exactly}
+use Rattle.mfotl_parse.specs.Viability.{if_moved, is_whole, accepts, goes_on, IsViable, and_steps, steps}
+use Rattle.mfotl_parse.proofs.FaultLemmas.{kept_next, viable_from, syntax_exactly as by_tokens}
 use Rattle.mfotl_parse.proofs.SpelledMoves.{at_place, behind_move, then_moves, moves, AreKept, run_moves, no_move, same_next}
 use Rattle.mfotl_parse.proofs.SpelledForms.{Takes, reduce_here}
+use Rattle.mfotl_parse.proofs.AcceptedLaw.{accepted_formula}
 use Rattle.mfotl_parse.proofs.SpelledTrees.{Keeps, reads, one_reaches}
 
 -- where the grammar's moves lead, the reader accepts as it does there
@@ -52,9 +53,12 @@ accepted : (sig : List PredOf) (tree : Tree) → Fits 1 tree → accepts sig (sp
 accepted sig tree fits =
     accepts_moves sig (spelling tree) start _ _ (whole sig tree fits).reached ∙ ap (λ (r : Reduced). is_closed r.stack) (all_closed sig tree fits)
 
-pub formula_is_accepted : FormulaIsAccepted
-formula_is_accepted sig ts formula =
+formula_accepted : (sig : List PredOf) (ts : List Lexeme) → IsFormula ts → accepts sig ts start ≡ true
+formula_accepted sig ts formula =
     ap (λ (xs : List Lexeme). accepts sig xs start) formula.2 ∙ accepted sig formula.0 formula.1
+
+pub accepted_exactly : AcceptedExactly
+accepted_exactly sig ts = (λ h. accepted_formula sig ts h, λ formula. formula_accepted sig ts formula)
 
 -- ---- what is spelled is read
 
@@ -93,6 +97,21 @@ value_is_one bytes sig policy other v w =
 
 -- ---- Syntax
 
+-- tokens that show no fault
+goes_on_by : (sig : List PredOf) (at : ℕ) (ts : List Lexeme) (q : Partial) (m : Option Move) → ((p : Partial) → steps sig ts p ≡ Ok q → goes_on sig ts p ≡ true)
+    → and_steps (given at m) (steps sig ts) ≡ Ok q → if_moved m (goes_on sig ts) ≡ true
+goes_on_by sig at ts q None later e = absurd cc
+goes_on_by sig at ts q (Some m) later e = by_rules (kept m.rules m.next) refl e
+  where
+    by_rules : (r : Result Partial PolicyFault) → kept m.rules m.next ≡ r → and_steps r (steps sig ts) ≡ Ok q → goes_on sig ts m.next ≡ true
+    by_rules (Ok p) f g = ap (goes_on sig ts) (kept_next m.rules m.next p f) ∙ later p g
+    by_rules (Err fault) f g = absurd cc
+
+goes_on_read : (sig : List PredOf) (ts : List Lexeme) (p q : Partial) → steps sig ts p ≡ Ok q → goes_on sig ts p ≡ true
+unfolding steps step goes_on
+goes_on_read sig [] p q e = refl
+goes_on_read sig (t ∷ ts) p q e = goes_on_by sig t.at ts q (move_of sig p t) (λ x f. goes_on_read sig ts x q f) e
+
 -- behind tokens that show no fault, the reader accepts where it has an operand and nothing is open
 accepts_read : (sig : List PredOf) (ts : List Lexeme) (q : Partial) (m : Move) (r : Result Partial PolicyFault)
     → ((p : Partial) → steps sig ts p ≡ Ok q → accepts sig ts p ≡ is_whole q.now q.context.stack)
@@ -125,8 +144,29 @@ not_whole : (now : Now) (c : Context) (at : ℕ) → ended_at now c at ≡ Err (
 not_whole (Have f) c at e h = never_ended c.names (reduce 0 f c.stack).form (is_closed (reduce 0 f c.stack).stack) at e h
 not_whole _ c at e h = absurd cc
 
-pub syntax_is_right : SyntaxIsRight
-syntax_is_right = record {
-  token = λ sig ts p t e shown begins. (syntax_exactly sig ts p t e).0 shown (begins.0, formula_is_accepted sig ((ts ++ t ∷ []) ++ begins.0) begins.1);
-  end = λ sig ts p at e shown formula. not_whole p.now p.context at shown (sym (accepts_behind sig ts start p e) ∙ formula_is_accepted sig ts formula);
+viable : (sig : List PredOf) (ts : List Lexeme) → IsViable sig ts → BeginsFormula ts
+viable sig ts v = (v.0, accepted_formula sig (ts ++ v.0) v.1)
+
+begins : (sig : List PredOf) (ts : List Lexeme) → BeginsFormula ts → IsViable sig ts
+begins sig ts b = (b.0, formula_accepted sig (ts ++ b.0) b.1)
+
+shown_ended : (n : Names) (f : Form) (at : ℕ) (closed : Bool) → (closed ≡ true → ⊥) → ended n f closed at ≡ Err (Syntax at)
+shown_ended n f at true never = absurd (never refl)
+shown_ended n f at false never = refl
+
+shown_end : (sig : List PredOf) (now : Now) (c : Context) (at : ℕ) → (is_whole now c.stack ≡ true → ⊥) → ended_at now c at ≡ Err (Syntax at)
+shown_end sig (Have f) c at never = shown_ended c.names (reduce 0 f c.stack).form at (is_closed (reduce 0 f c.stack).stack) never
+shown_end sig _ c at never = refl
+
+pub syntax_exactly : SyntaxExactly
+syntax_exactly = record {
+  sound = λ sig ts p e. viable sig ts (viable_from sig ts start (goes_on_read sig ts start p e));
+  token = λ sig ts p t e. (
+    λ shown b. (by_tokens sig ts p t e).0 shown (begins sig (ts ++ t ∷ []) b),
+    λ none. (by_tokens sig ts p t e).1 (λ v. none (viable sig (ts ++ t ∷ []) v)),
+  );
+  end = λ sig ts p at e. (
+    λ shown formula. not_whole p.now p.context at shown (sym (accepts_behind sig ts start p e) ∙ formula_accepted sig ts formula),
+    λ none. shown_end sig p.now p.context at (λ h. none (accepted_formula sig ts (accepts_behind sig ts start p e ∙ h))),
+  );
 }

@@ -1,9 +1,9 @@
 //! The reader against the grammar. Each law is a function that does nothing: its clause is the law.
-ghost use Rattle.mfotl_parse.specs.GrammarLaws.{FormulaIsAccepted, SpelledIsRead, ValueIsOne, SyntaxIsRight};
+ghost use Rattle.mfotl_parse.specs.GrammarLaws.{AcceptedExactly, SpelledIsRead, ValueIsOne, SyntaxExactly};
 
-/// Tokens that the grammar spells lead the reader to their end, whatever other rules they break.
-pub fn formula_is_accepted()
-    ensures { FormulaIsAccepted }
+/// The reader comes to its end exactly with what the grammar spells, whatever other rules are broken.
+pub fn accepted_exactly()
+    ensures { AcceptedExactly }
 {}
 
 /// A text that spells a formula and keeps the rules is read, as the formula means.
@@ -16,7 +16,7 @@ pub fn value_is_one()
     ensures { ValueIsOne }
 {}
 
-/// Where `Syntax` is shown, no formula of the grammar begins so.
-pub fn syntax_is_right()
-    ensures { SyntaxIsRight }
+/// `Syntax` is shown exactly by the first token with which no formula begins, or by the text's end.
+pub fn syntax_exactly()
+    ensures { SyntaxExactly }
 {}

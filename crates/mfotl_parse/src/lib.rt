@@ -18,7 +18,7 @@ mod term;
 
 pub use examples::{fault_examples, formula_examples};
 pub use fault::PolicyFault;
-pub use grammar_laws::{formula_is_accepted, spelled_is_read, syntax_is_right, value_is_one};
+pub use grammar_laws::{accepted_exactly, spelled_is_read, syntax_exactly, value_is_one};
 pub use laws::first_faults;
 pub use reading::read_policy;
 
