@@ -16,9 +16,6 @@ matching_rows-append pred arity xs ys =
     ap (map (λ e. e.args)) (filter-append (is_match pred arity) xs ys)
     ∙ map-append (λ e. e.args) (filter (is_match pred arity) xs) (filter (is_match pred arity) ys)
 
-shown : List (Bor Event) → List Event
-shown = map (λ e. e.now)
-
 -- an event that the atom can't stand for leaves the rows as they are
 pub event_left : (pred arity : ℕ) (seen : List (Bor Event)) (event : Bor Event)
     → is_match pred arity event.now ≡ false

@@ -47,12 +47,6 @@ policy_reached names files sig s =
     ap (λ (r : Result (List PredOf) Refusal). is_some (option_map (λ sig. content files names.policy) (ok_value r))) s
 
 module _ (names : Names) (o : Option Files) (before now : ℕ) where
-  sig_due : (r : Refusal) → Type 0
-  sig_due r = ToldFiles o (λ files. signature_of (content files names.sig) ≡ Err r)
-
-  task_due : (r : Refusal) → Type 0
-  task_due r = ToldFiles o (λ files. task_at names files ≡ Err r)
-
   sig_to_task : (r : Refusal) → ToldFiles o (λ files. signature_of (content files names.sig) ≡ Err r)
       → ToldFiles o (λ files. task_at names files ≡ Err r)
   unfolding task_at
