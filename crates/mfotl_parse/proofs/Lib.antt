@@ -15,3 +15,4 @@ pub mod AcceptedParts
 pub mod AcceptedIntervals
 pub mod AcceptedTrees
 pub mod AcceptedLaw
+pub mod ReadLaw

@@ -12,12 +12,12 @@ use Rattle.mfotl_parse.specs.declared.class.Operator.{Operator}
 use Rattle.mfotl_parse.specs.declared.term.Operand.TheVariants as operands
 use Rattle.mfotl_parse.specs.Classes.{class_of}
 use Rattle.mfotl_parse.specs.Intervals.{any_distance}
-use Rattle.mfotl_parse.specs.Moves.{Rule, Move, goes, first_keeps, shallow, few}
+use Rattle.mfotl_parse.specs.Moves.{Rule, Move, goes, first_keeps, shallow, few, most_open}
 use Rattle.mfotl_parse.specs.Operands.{operand_move, fresh_move, maybe_move, maybe_number_move, compared_move, signed, have_move, joined_move, enclosed_move, around, deepening, is_timed, now_behind}
 use Rattle.mfotl_parse.specs.Reading.{move_of, move_at}
 use Rattle.mfotl_parse.specs.Reduction.{Reduced, reduce, hold, closed, level, right_rule, joined}
-use Rattle.mfotl_parse.specs.States.{Frame, Parens, Negation, Moment, Binding, Left, deepens, Names, Now, Context, Partial, Want, Fresh, Have, Word, Blank, Marked, Compared, Against, AgainstMarked, First, Next, Taken, ArgumentMarked, Binder, BinderMarked, Bound, Maybe, MaybeNumber, Low, LowNumber, LowDone, High, HighNumber, HighDone, Endless}
-use Rattle.mfotl_parse.proofs.SpelledMoves.{at_place, behind_move, then_moves, moves, move_is, moves_nothing, moves_first, moves_one, moves_both, AreKept, kept_both, no_move, same_next}
+use Rattle.mfotl_parse.specs.States.{Frame, Parens, Negation, Moment, Binding, Left, deepens, depth, Names, Now, Context, Partial, Want, Fresh, Have, Word, Blank, Marked, Compared, Against, AgainstMarked, First, Next, Taken, ArgumentMarked, Binder, BinderMarked, Bound, Maybe, MaybeNumber, Low, LowNumber, LowDone, High, HighNumber, HighDone, Endless}
+use Rattle.mfotl_parse.proofs.SpelledMoves.{at_place, behind_move, then_moves, moves, move_is, moves_nothing, moves_first, moves_one, moves_both, AreKept, Exactly, kept_both, kept_front, kept_back, no_move, same_next}
 use Rattle.mfotl_parse.proofs.StackLemmas.{reduce_loose, reduce_tight}
 
 -- Tokens are read as an operand: they lead to an operand and frames that are, once all is closed that holds
@@ -28,7 +28,7 @@ pub record Takes (sig : List PredOf) (p : Partial) (ts : List Lexeme) (base : Li
   pub rules : List Rule
   pub reached : moves sig ts p ≡ goes rules (at_place (Have form) stack nodes names)
   pub reduces : (j : ℕ) → j < edge → reduce j form stack ≡ reduce j v base
-  pub kept : keeps → AreKept rules
+  pub kept : Exactly (depth p.context.stack) keeps rules
 
 -- the innermost frame doesn't hold more tightly than the rule
 abbrev pub IsLoose : ℕ → List Frame → Type 0
@@ -43,22 +43,27 @@ reduce_here rule f (frame ∷ stack) loose = reduce_loose rule frame stack loose
 module _ (sig : List PredOf) where
   -- tokens that are an operand by themselves
   pub takes_whole : (p : Partial) (ts : List Lexeme) (base : List Frame) (edge : ℕ) (v : Form) (nodes : ℕ) (names : Names) (keeps : Type 0) (rules : List Rule)
-      → moves sig ts p ≡ goes rules (at_place (Have v) base nodes names) → (keeps → AreKept rules) → Takes sig p ts base edge v nodes names keeps
+      → moves sig ts p ≡ goes rules (at_place (Have v) base nodes names) → Exactly (depth p.context.stack) keeps rules → Takes sig p ts base edge v nodes names keeps
   takes_whole p ts base edge v nodes names keeps rules e k =
       record { form = v; stack = base; rules = rules; reached = e; reduces = λ j below. refl; kept = k }
 
   -- tokens before an operand
   pub takes_behind : (p q : Partial) (front ts : List Lexeme) (base : List Frame) (edge : ℕ) (v : Form) (nodes : ℕ) (names : Names) (keeps more : Type 0) (rules : List Rule)
       → moves sig front p ≡ goes rules q → (more → AreKept rules) → (more → keeps)
+      → (depth p.context.stack ≤ most_open → AreKept rules → depth q.context.stack ≤ most_open)
+      → (depth p.context.stack ≤ most_open → AreKept rules → keeps → more)
       → Takes sig q ts base edge v nodes names keeps → Takes sig p (front ++ ts) base edge v nodes names more
-  takes_behind p q front ts base edge v nodes names keeps more rules e k all t =
+  takes_behind p q front ts base edge v nodes names keeps more rules e k all opens back t =
       record {
         form = t.form;
         stack = t.stack;
         rules = rules ++ t.rules;
         reached = moves_both sig front ts p q _ rules t.rules e t.reached;
         reduces = t.reduces;
-        kept = λ m. kept_both rules t.rules (k m) (t.kept (all m));
+        kept = (
+          λ m. kept_both rules t.rules (k m) (t.kept.0 (all m)),
+          λ d a. back d (kept_front rules t.rules a) (t.kept.1 (opens d (kept_front rules t.rules a)) (kept_back rules t.rules a)),
+        );
       }
 
   -- an operand whose frame is closed
@@ -76,15 +81,15 @@ module _ (sig : List PredOf) where
 
   -- a lower edge, and what wants more
   pub takes_less : (p : Partial) (ts : List Lexeme) (base : List Frame) (edge lower : ℕ) (v : Form) (nodes : ℕ) (names : Names) (keeps more : Type 0)
-      → lower ≤ edge → (more → keeps) → Takes sig p ts base edge v nodes names keeps → Takes sig p ts base lower v nodes names more
-  takes_less p ts base edge lower v nodes names keeps more less all t =
+      → lower ≤ edge → (more → keeps) → (depth p.context.stack ≤ most_open → keeps → more) → Takes sig p ts base edge v nodes names keeps → Takes sig p ts base lower v nodes names more
+  takes_less p ts base edge lower v nodes names keeps more less all back t =
       record {
         form = t.form;
         stack = t.stack;
         rules = t.rules;
         reached = t.reached;
         reduces = λ j below. t.reduces j (omega (arith, below, less));
-        kept = λ m. t.kept (all m);
+        kept = (λ m. t.kept.0 (all m), λ d a. back d (t.kept.1 d a));
       }
 
   enclosed : (form : Form) (stack base : List Frame) (v : Form) (nodes : ℕ) (names : Names) (r : Lexeme) → class_of r ≡ classes.CloseParen
@@ -102,7 +107,7 @@ module _ (sig : List PredOf) where
       t.reduces 0 (omega arith) ∙ reduce_here 0 v (Parens ∷ base) (omega arith) in
       takes_whole p (ts ++ r ∷ []) base edge v nodes names keeps (t.rules ++ [])
       (moves_both sig ts (r ∷ []) p _ _ t.rules [] t.reached (moves_one sig r _ _ [] (enclosed t.form t.stack base v nodes names r class all)))
-      (λ k. kept_both t.rules [] (t.kept k) tt)
+      (λ k. kept_both t.rules [] (t.kept.0 k) tt, λ d a. t.kept.1 d (kept_front t.rules [] a))
 
   joins : (form : Form) (stack base : List Frame) (v : Form) (nodes : ℕ) (names : Names) (o : Operator) (t : Lexeme) → class_of t ≡ classes.Operator o
       → reduce (level o) form stack ≡ record { form = v; stack = base }
@@ -117,10 +122,12 @@ module _ (sig : List PredOf) where
       (nodes more : ℕ) (names others : Names) (before behind all : Type 0)
       → class_of t ≡ classes.Operator o → level o < left → edge ≤ right_rule o → IsLoose (level o) base
       → (all → before) → (all → AreKept (deepening (deepens o) t.at base (few t.at nodes ∷ []))) → (all → behind)
+      → (depth p.context.stack ≤ most_open → AreKept (deepening (deepens o) t.at base (few t.at nodes ∷ [])) → depth (Left o any_distance v ∷ base) ≤ most_open)
+      → (AreKept (deepening (deepens o) t.at base (few t.at nodes ∷ [])) → before → behind → all)
       → Takes sig p ls base left v nodes names before
       → Takes sig (at_place (now_behind (is_timed o)) (Left o any_distance v ∷ base) (suc nodes) names) rs (Left o i v ∷ base) edge w more others behind
       → Takes sig p (ls ++ t ∷ rs) base edge (joined o i v w) more others all
-  takes_joined p ls rs t o i base left edge v w nodes more names others before behind all class apart tight loose b k h l r =
+  takes_joined p ls rs t o i base left edge v w nodes more names others before behind all class apart tight loose b k h opens back l r =
       let there : reduce (level o) l.form l.stack ≡ record { form = v; stack = base } = l.reduces (level o) apart ∙ reduce_here (level o) v base loose in
       let whole : Takes sig (at_place (now_behind (is_timed o)) (Left o any_distance v ∷ base) (suc nodes) names) rs base edge (joined o i v w) more others behind =
       takes_closed _ rs (Left o i v) base edge w more others behind tight r in
@@ -128,7 +135,8 @@ module _ (sig : List PredOf) where
       let front : moves sig (ls ++ t ∷ []) p ≡ goes (l.rules ++ rules) (at_place (now_behind (is_timed o)) (Left o any_distance v ∷ base) (suc nodes) names) =
       moves_both sig ls (t ∷ []) p _ _ l.rules rules l.reached (moves_one sig t _ _ rules (joins l.form l.stack base v nodes names o t class there)) in
       rw (← append_assoc ls (t ∷ []) rs)
-      (takes_behind p _ (ls ++ t ∷ []) rs base edge (joined o i v w) more others behind all (l.rules ++ rules) front (λ a. kept_both l.rules rules (l.kept (b a)) (k a)) h whole)
+      (takes_behind p _ (ls ++ t ∷ []) rs base edge (joined o i v w) more others behind all (l.rules ++ rules) front (λ a. kept_both l.rules rules (l.kept.0 (b a)) (k a)) h
+      (λ d a. opens d (kept_back l.rules rules a)) (λ d a e. back (kept_back l.rules rules a) (l.kept.1 d (kept_front l.rules rules a)) e) whole)
 
 -- ---- behind a temporal operator an operand is read as anywhere
 

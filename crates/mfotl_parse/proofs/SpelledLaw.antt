@@ -9,7 +9,7 @@ use Rattle.mfotl_parse.specs.declared.fault.PolicyFault.{PolicyFault}
 use Rattle.mfotl_parse.specs.declared.fault.PolicyFault.TheVariants.{Syntax}
 use Rattle.mfotl_parse.specs.declared.term.Pair.{Pair}
 use Rattle.mfotl_parse.specs.Grammar.{Tree, Fits, spelling, is_shut, IsFormula, BeginsFormula}
-use Rattle.mfotl_parse.specs.GrammarLaws.{AcceptedExactly, SpelledIsRead, ValueIsOne, SyntaxExactly}
+use Rattle.mfotl_parse.specs.GrammarLaws.{AcceptedExactly, SpelledIsRead, SyntaxExactly}
 use Rattle.mfotl_parse.specs.Meanings.{no_scope, all_names, value, names_behind, node_count, nesting, KeepsRules, IsValue, tokens_of, policy_of}
 use Rattle.mfotl_parse.specs.Moves.{Rule, Move, goes, kept, given}
 use Rattle.mfotl_parse.specs.Names.{binder_of, most_free, uneven_pair, vars_of}
@@ -40,12 +40,12 @@ accepts_moves sig [] p q rules e = ap (λ (x : Partial). is_whole x.now x.contex
 accepts_moves sig (t ∷ ts) p q rules e = accepts_by sig ts q rules _ (λ x rest f. accepts_moves sig ts x q rest f) e
 
 -- a formula is read from the start on
-whole : (sig : List PredOf) (tree : Tree) → Fits 1 tree
+pub whole : (sig : List PredOf) (tree : Tree) → Fits 1 tree
     → Takes sig start (spelling tree) [] 1 (value sig tree no_scope no_names) (0 + node_count tree) (all_names sig tree) (Keeps sig tree 0 0)
 unfolding binder_of depth
 whole sig tree fits = reads sig tree 1 1 fits (one_reaches 1 (omega arith)) (λ e. omega arith) [] 0 no_names tt
 
-all_closed : (sig : List PredOf) (tree : Tree) (fits : Fits 1 tree)
+pub all_closed : (sig : List PredOf) (tree : Tree) (fits : Fits 1 tree)
     → reduce 0 (whole sig tree fits).form (whole sig tree fits).stack ≡ record { form = value sig tree no_scope no_names; stack = [] }
 all_closed sig tree fits = (whole sig tree fits).reduces 0 (omega arith) ∙ reduce_here 0 (value sig tree no_scope no_names) [] tt
 
@@ -76,7 +76,7 @@ module _ (sig : List PredOf) (tree : Tree) (rules : KeepsRules sig tree) where
   unfolding run
   read end fits =
       let t = whole sig tree fits in
-      run_moves sig end None (spelling tree) start _ t.rules t.reached (t.kept (omega (arith, rules.few), omega (arith, rules.shallow), rules.parts))
+      run_moves sig end None (spelling tree) start _ t.rules t.reached (t.kept.0 (omega (arith, rules.few), omega (arith, rules.shallow), rules.parts))
       ∙ ap (λ (r : Reduced). ended (all_names sig tree) r.form (is_closed r.stack) end) (all_closed sig tree fits)
       ∙ finishes
 
@@ -87,13 +87,6 @@ spelled_is_read bytes sig policy v =
     ∙ ap (λ (ts : List Lexeme). run sig (length bytes) None ts start) v.spelled
     ∙ read sig v.tree v.rules (length bytes) v.fits
     ∙ ap (λ (x : PolicyOf). Ok x) (sym v.value)
-
-same_policy : (p q : PolicyOf) (r : Result PolicyOf PolicyFault) → r ≡ Ok p → r ≡ Ok q → q ≡ p
-same_policy p q r e f = cc (e, f)
-
-pub value_is_one : ValueIsOne
-value_is_one bytes sig policy other v w =
-    same_policy policy other (reading bytes sig) (spelled_is_read bytes sig policy v) (spelled_is_read bytes sig other w)
 
 -- ---- Syntax
 

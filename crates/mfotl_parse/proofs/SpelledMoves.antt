@@ -8,7 +8,7 @@ use Rattle.mfotl_sig.specs.Preds.{PredOf}
 use Rattle.mfotl_parse.specs.declared.class.Class.{Class}
 use Rattle.mfotl_parse.specs.declared.fault.PolicyFault.{PolicyFault}
 use Rattle.mfotl_parse.specs.Classes.{class_of}
-use Rattle.mfotl_parse.specs.Moves.{Rule, Move, goes, fault_of, kept, given}
+use Rattle.mfotl_parse.specs.Moves.{Rule, Move, goes, fault_of, kept, given, most_open}
 use Rattle.mfotl_parse.specs.Reading.{PolicyOf, move_at, move_of, step, run, and_then}
 use Rattle.mfotl_parse.specs.States.{Frame, Names, Now, Context, Partial}
 
@@ -94,6 +94,10 @@ kept_front (rule ∷ a) b k = (k.0, kept_front a b k.1)
 pub kept_back : (a b : List Rule) → AreKept (a ++ b) → AreKept b
 kept_back [] b k = k
 kept_back (rule ∷ a) b k = kept_back a b k.1
+
+-- the rules are kept exactly where this holds, if no more levels were open before than may be
+abbrev pub Exactly : ℕ → Type 0 → List Rule → Type 0
+Exactly levels keeps rules = (keeps → AreKept rules) × (levels ≤ most_open → AreKept rules → keeps)
 
 pub kept_goes : (rules : List Rule) (p : Partial) → AreKept rules → kept rules p ≡ Ok p
 kept_goes [] p k = refl

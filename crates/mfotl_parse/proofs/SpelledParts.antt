@@ -1,6 +1,6 @@
 -- How atoms, comparisons and intervals are read.
 use Rattle.std.proofs.Common.{◌≡◌, ℕ, ℤ, zero, suc, ◌+◌, ◌*◌, ◌-◌, ◌<◌, ◌≤◌, pos, negsuc, Bool, true, false, List, [], ◌∷◌, ◌++◌, length, Option, Some, None, refl, ap, sym, subst, ◌∙◌, ◌⊎◌, inl, inr, arith}
-use Rattle.std.proofs.lemmas.Bool.{lt-leb, le-ltb}
+use Rattle.std.proofs.lemmas.Bool.{lt-leb, leb-false, le-ltb, ltb-false}
 use Rattle.std.proofs.lemmas.List.{append-nil, append_assoc}
 use Rattle.std.specs.Prelude.{not, codes, cond}
 use Rattle.mfotl_lex.specs.Contents.{content_of}
@@ -24,12 +24,12 @@ use Rattle.mfotl_parse.specs.Grammar.{WrittenVariable, Bare, Asked, WrittenTerm,
 use Rattle.mfotl_parse.specs.Intervals.{any_distance, distances, framed, with_interval, in_range, not_empty, most_bound, low_unit, high_unit, bracket, high_number_move}
 use Rattle.mfotl_parse.specs.Operands.{maybe_unit}
 use Rattle.mfotl_parse.specs.Meanings.{Scope, name_of, place_of_variable, place_of, operand_of, term_names, argument_term, argument_names, arguments_terms, arguments_names, sorts_behind, atom, bound_value, interval_from, interval_of, hidden_count, blank_count, argument_count, HasArity, InRange, EndKeeps, IntervalKeeps}
-use Rattle.mfotl_parse.specs.Moves.{Rule, Move, goes, few, shallow, one_due, none_due, is_empty, most_nodes}
+use Rattle.mfotl_parse.specs.Moves.{Rule, Move, goes, few, shallow, one_due, none_due, is_empty, most_nodes, most_open}
 use Rattle.mfotl_parse.specs.Names.{binder_of, compared, term_of}
 use Rattle.mfotl_parse.specs.Reading.{move_of, move_at}
-use Rattle.mfotl_parse.specs.States.{Frame, Call, Names, Now, Context, Partial, Want, Fresh, Have, Word, Blank, Marked, Compared, Against, AgainstMarked, First, Next, Taken, ArgumentMarked, Maybe, MaybeNumber, Low, LowNumber, LowDone, High, HighNumber, HighDone, Endless}
+use Rattle.mfotl_parse.specs.States.{Frame, Parens, Negation, Moment, Binding, Left, opens_level, depth, Call, Names, Now, Context, Partial, Want, Fresh, Have, Word, Blank, Marked, Compared, Against, AgainstMarked, First, Next, Taken, ArgumentMarked, Maybe, MaybeNumber, Low, LowNumber, LowDone, High, HighNumber, HighDone, Endless}
 use Rattle.mfotl_parse.proofs.SpelledWords.{blank_text, unit_lasts}
-use Rattle.mfotl_parse.proofs.SpelledMoves.{at_place, moves, move_is, moves_nothing, moves_first, moves_one, moves_both, AreKept, kept_both}
+use Rattle.mfotl_parse.proofs.SpelledMoves.{at_place, moves, move_is, moves_nothing, moves_first, moves_one, moves_both, AreKept, kept_both, kept_front, kept_back}
 use Rattle.mfotl_parse.proofs.SpelledForms.{Takes, takes_whole, takes_behind, takes_less, takes_fresh}
 
 abbrev pub scope_of : List Frame → Scope
@@ -49,6 +49,9 @@ first sig p q r t ts c rules others class e f = moves_first sig t ts p q r rules
 
 pub node_fits : (nodes : ℕ) (at : ℕ) → nodes < most_nodes → (few at nodes).broken ≡ false
 node_fits nodes at h = lt-leb most_nodes nodes h
+
+pub node_fitted : (nodes : ℕ) (at : ℕ) → (few at nodes).broken ≡ false → nodes < most_nodes
+node_fitted nodes at h = leb-false most_nodes nodes h
 
 -- ---- arguments
 
@@ -157,6 +160,36 @@ module _ (sig : List PredOf) where
   none_left [] h = refl
   none_left (sort ∷ sorts) h = absurd (omega (arith, h))
 
+  is_due : (sorts : List Sort) (n : ℕ) → is_empty sorts ≡ false → length (after_due sorts) ≡ n → length sorts ≡ suc n
+  is_due [] n h k = absurd cc
+  is_due (sort ∷ sorts) n h k = omega (arith, k)
+
+  none_due_is : (sorts : List Sort) → not (is_empty sorts) ≡ false → length sorts ≡ 0
+  none_due_is [] h = refl
+  none_due_is (sort ∷ sorts) h = absurd cc
+
+  argument_due : (a : WrittenArgument) (sorts : List Sort) (nodes : ℕ) → AreKept (argument_rules a sorts nodes) → is_empty sorts ≡ false
+  argument_due (Given term) sorts nodes k = k.0
+  argument_due (Hidden token) sorts nodes k = k.0
+
+  arguments_due : (xs : WrittenArguments) (sorts : List Sort) (nodes : ℕ) → AreKept (arguments_rules xs sorts nodes) → not (is_empty (sorts_behind xs sorts)) ≡ false → length sorts ≡ argument_count xs
+  arguments_due (LastArgument a) sorts nodes k none = is_due sorts 0 (argument_due a sorts nodes k) (none_due_is (after_due sorts) none)
+  arguments_due (MoreArguments a comma rest) sorts nodes k none =
+      let first_kept = kept_front (argument_rules a sorts nodes) (arguments_rules rest (after_due sorts) (argument_nodes a nodes)) k in
+      let later = kept_back (argument_rules a sorts nodes) (arguments_rules rest (after_due sorts) (argument_nodes a nodes)) k in
+      is_due sorts (argument_count rest) (argument_due a sorts nodes first_kept) (arguments_due rest (after_due sorts) (argument_nodes a nodes) later none)
+
+  argument_few : (a : WrittenArgument) (sorts : List Sort) (nodes : ℕ) → AreKept (argument_rules a sorts nodes) → nodes ≤ most_nodes → argument_nodes a nodes ≤ most_nodes
+  argument_few (Given term) sorts nodes k few_nodes = few_nodes
+  argument_few (Hidden token) sorts nodes k few_nodes = omega (arith, node_fitted nodes token.at k.1.0)
+
+  arguments_few : (xs : WrittenArguments) (sorts : List Sort) (nodes : ℕ) → AreKept (arguments_rules xs sorts nodes) → nodes ≤ most_nodes → arguments_nodes xs nodes ≤ most_nodes
+  arguments_few (LastArgument a) sorts nodes k few_nodes = argument_few a sorts nodes k few_nodes
+  arguments_few (MoreArguments a comma rest) sorts nodes k few_nodes =
+      let first_kept = kept_front (argument_rules a sorts nodes) (arguments_rules rest (after_due sorts) (argument_nodes a nodes)) k in
+      let later = kept_back (argument_rules a sorts nodes) (arguments_rules rest (after_due sorts) (argument_nodes a nodes)) k in
+      arguments_few rest (after_due sorts) (argument_nodes a nodes) later (argument_few a sorts nodes first_kept few_nodes)
+
   pub none_behind : (xs : WrittenArguments) (sorts : List Sort) → length sorts ≡ argument_count xs → is_empty (sorts_behind xs sorts) ≡ true
   none_behind (LastArgument a) sorts h = none_left (after_due sorts) (less_due sorts 0 h)
   none_behind (MoreArguments a comma rest) sorts h = none_behind rest (after_due sorts) (less_due sorts (argument_count rest) h)
@@ -212,6 +245,10 @@ module _ (sig : List PredOf) where
   rest_is None n h = absurd h
   rest_is (Some pred) n h = h
 
+  arity_is : (found : Option PredOf) (n at : ℕ) → (known at found).broken ≡ false → length (call_of found 0).rest ≡ n → HasArity found n
+  arity_is None n at k h = absurd cc
+  arity_is (Some pred) n at k h = h
+
   pub takes_bare : (name opening closing : Lexeme) (stack : List Frame) (nodes edge : ℕ) (names : Names) → IsAtomName name → class_of opening ≡ classes.OpenParen → class_of closing ≡ classes.CloseParen
       → Takes sig (at_place Want stack nodes names) (name ∷ opening ∷ closing ∷ []) stack edge (atom (named name.text sig) [] (length names.bound_sorts) (length names.bound_sorts)) (suc nodes) names
       ((nodes < most_nodes) × HasArity (named name.text sig) 0)
@@ -219,8 +256,10 @@ module _ (sig : List PredOf) where
       let found = named name.text sig in
       takes_whole sig (at_place Want stack nodes names) (name ∷ opening ∷ closing ∷ []) stack edge _ (suc nodes) names ((nodes < most_nodes) × HasArity (named name.text sig) 0)
       (known name.at found ∷ few name.at nodes ∷ none_due closing.at (call_of found 0).rest ∷ [])
-      (moves_both sig (name ∷ opening ∷ []) (closing ∷ []) _ _ _ (known name.at found ∷ few name.at nodes ∷ []) _ (name_read name opening stack nodes names named_so opens) (bare_read found name.at closing stack (suc nodes) names closes))
-      (λ k. (known_kept found 0 name.at k.1, (node_fits nodes name.at k.0, (ap not (none_left (call_of found 0).rest (rest_is found 0 k.1)), tt))))
+      (moves_both sig (name ∷ opening ∷ []) (closing ∷ []) _ _ _ (known name.at found ∷ few name.at nodes ∷ []) _ (name_read name opening stack nodes names named_so opens) (bare_read found name.at closing stack (suc nodes) names closes)) (
+        λ k. (known_kept found 0 name.at k.1, (node_fits nodes name.at k.0, (ap not (none_left (call_of found 0).rest (rest_is found 0 k.1)), tt))),
+        λ d a. (node_fitted nodes name.at a.1.0, arity_is found 0 name.at a.0 (none_due_is (call_of found 0).rest a.1.1.0)),
+      )
 
   pub takes_atom : (name opening : Lexeme) (xs : WrittenArguments) (closing : Lexeme) (stack : List Frame) (nodes edge : ℕ) (names : Names) → IsAtomName name → class_of opening ≡ classes.OpenParen → FitsArguments xs → class_of closing ≡ classes.CloseParen
       → Takes sig (at_place Want stack nodes names) (name ∷ opening ∷ arguments_spelling xs ++ closing ∷ []) stack edge
@@ -232,16 +271,23 @@ module _ (sig : List PredOf) where
       let sorts = (call_of found 0).rest in
       takes_whole sig (at_place Want stack nodes names) (name ∷ opening ∷ arguments_spelling xs ++ closing ∷ []) stack edge _ _ _ ((nodes + suc (blank_count xs) ≤ most_nodes) × HasArity (named name.text sig) (argument_count xs))
       (known name.at found ∷ few name.at nodes ∷ arguments_rules xs sorts (suc nodes) ++ none_due closing.at (sorts_behind xs sorts) ∷ [])
-      (moves_both sig (name ∷ opening ∷ []) (arguments_spelling xs ++ closing ∷ []) _ _ _ (known name.at found ∷ few name.at nodes ∷ []) _ (name_read name opening stack nodes names named_so opens) (closes_read found xs closing stack (suc nodes) names fits closes))
-      (λ k. (
-        known_kept found (argument_count xs) name.at k.1,
-        (
-          node_fits nodes name.at (omega (arith, k.0)),
-          kept_both (arguments_rules xs sorts (suc nodes)) (none_due closing.at (sorts_behind xs sorts) ∷ [])
-              (arguments_kept xs sorts (suc nodes) (rest_is found (argument_count xs) k.1) (omega (arith, k.0)))
-              (ap not (none_behind xs sorts (rest_is found (argument_count xs) k.1)), tt),
+      (moves_both sig (name ∷ opening ∷ []) (arguments_spelling xs ++ closing ∷ []) _ _ _ (known name.at found ∷ few name.at nodes ∷ []) _ (name_read name opening stack nodes names named_so opens) (closes_read found xs closing stack (suc nodes) names fits closes)) (
+        λ k. (
+          known_kept found (argument_count xs) name.at k.1,
+          (
+            node_fits nodes name.at (omega (arith, k.0)),
+            kept_both (arguments_rules xs sorts (suc nodes)) (none_due closing.at (sorts_behind xs sorts) ∷ [])
+                (arguments_kept xs sorts (suc nodes) (rest_is found (argument_count xs) k.1) (omega (arith, k.0)))
+                (ap not (none_behind xs sorts (rest_is found (argument_count xs) k.1)), tt),
+          ),
         ),
-      ))
+        λ d a.
+            let inner = kept_front (arguments_rules xs sorts (suc nodes)) (none_due closing.at (sorts_behind xs sorts) ∷ []) a.1.1 in
+            let last = kept_back (arguments_rules xs sorts (suc nodes)) (none_due closing.at (sorts_behind xs sorts) ∷ []) a.1.1 in (
+              omega (arith, arguments_few xs sorts (suc nodes) inner (omega (arith, node_fitted nodes name.at a.1.0)), arguments_nodes_are xs (suc nodes)),
+              arity_is found (argument_count xs) name.at a.0 (arguments_due xs sorts (suc nodes) inner last.0),
+            ),
+      )
 
   -- ---- comparisons
 
@@ -292,7 +338,7 @@ module _ (sig : List PredOf) where
       (takes_whole sig (at_place Want stack nodes names) ((term_spelling left ++ token ∷ []) ++ term_spelling right) stack edge _ (suc nodes) _ (nodes < most_nodes) (few token.at nodes ∷ [])
       (moves_both sig (term_spelling left ++ token ∷ []) (term_spelling right) _ _ _ (few token.at nodes ∷ []) [] (left_read left token sign stack nodes names fits class)
       (right_read _ token.at sign right stack (suc nodes) (term_names left (scope_of stack) names) fits_too))
-      (λ k. (node_fits nodes token.at k, tt)))
+      (λ k. (node_fits nodes token.at k, tt), λ d a. node_fitted nodes token.at a.0))
 
   -- ---- intervals
 
@@ -308,6 +354,13 @@ module _ (sig : List PredOf) where
   low_kept (Counted token n unit seconds) fits h =
       (in_reach token.at n (omega (arith, h, unit_lasts unit.text seconds n fits.2)), (in_reach token.at (n * seconds) h, tt))
 
+  in_reached : (at n : ℕ) → (in_range at n).broken ≡ false → n ≤ most_bound
+  in_reached at n h = ltb-false most_bound n h
+
+  low_reached : (low : WrittenBound) → AreKept (low_rules low) → InRange low
+  low_reached (Count token n) k = in_reached token.at n k.0
+  low_reached (Counted token n unit seconds) k = in_reached token.at (n * seconds) k.1.0
+
   -- the rules behind `(`, where the number is looked at with its unit
   abbrev above_rules : WrittenBound → List Rule
   above_rules (Count token n) = in_range token.at n ∷ []
@@ -316,6 +369,10 @@ module _ (sig : List PredOf) where
   above_kept : (low : WrittenBound) → InRange low → AreKept (above_rules low)
   above_kept (Count token n) h = (in_reach token.at n h, tt)
   above_kept (Counted token n unit seconds) h = (in_reach token.at (n * seconds) h, tt)
+
+  above_reached : (low : WrittenBound) → AreKept (above_rules low) → InRange low
+  above_reached (Count token n) k = in_reached token.at n k.0
+  above_reached (Counted token n unit seconds) k = in_reached token.at (n * seconds) k.0
 
   low_read : (at : ℕ) (low : WrittenBound) (comma : Lexeme) (stack : List Frame) (nodes : ℕ) (names : Names) → FitsBound low → class_of comma ≡ classes.Comma
       → moves sig (bound_spelling low ++ comma ∷ []) (at_place (Low at) stack nodes names) ≡ goes (low_rules low) (at_place (High at (bound_value low)) stack nodes names)
@@ -372,6 +429,30 @@ module _ (sig : List PredOf) where
       kept_both (low_rules high) _ (low_kept high fits.0 k.0) (lt-leb (bound_value high) low k.1, tt)
   end_kept at low (Unbounded star closing) fits k = tt
 
+  end_reached : (at low : ℕ) (end : WrittenEnd) → AreKept (end_rules at low end) → EndKeeps low end
+  end_reached at low (Included high closing) k =
+      let last = kept_back (low_rules high) (not_empty at low (bound_value high + 1) ∷ []) k in
+      (low_reached high (kept_front (low_rules high) (not_empty at low (bound_value high + 1) ∷ []) k), omega (arith, leb-false (bound_value high + 1) low last.0))
+  end_reached at low (Excluded high closing) k =
+      let last = kept_back (low_rules high) (not_empty at low (bound_value high) ∷ []) k in
+      (low_reached high (kept_front (low_rules high) (not_empty at low (bound_value high) ∷ []) k), leb-false (bound_value high) low last.0)
+  end_reached at low (Unbounded star closing) k = tt
+
+  level_framed : (i : Interval) (frame : Frame) → opens_level (framed i frame) ≡ opens_level frame
+  level_framed i Parens = refl
+  level_framed i Negation = refl
+  level_framed i (Moment operator before) = refl
+  level_framed i (Binding quantifier variable name) = refl
+  level_framed i (Left operator before left) = refl
+
+  depth_framed : (i : Interval) (frame : Frame) (base : List Frame) → depth (framed i frame ∷ base) ≡ depth (frame ∷ base)
+  unfolding depth
+  depth_framed i frame base = ap (λ (b : Bool). cond b (suc (depth base)) (depth base)) (level_framed i frame)
+
+  -- an interval opens no level
+  same_depth : (i : Interval) (frame : Interval → Frame) (base : List Frame) → ((j : Interval) → framed j (frame any_distance) ≡ frame j) → depth (frame any_distance ∷ base) ≤ most_open → depth (frame i ∷ base) ≤ most_open
+  same_depth i frame base frames h = subst (λ (n : ℕ). n ≤ most_open) (sym (depth_framed i (frame any_distance) base) ∙ ap (λ (f : Frame). depth (f ∷ base)) (frames i)) h
+
   end_read : (at low : ℕ) (end : WrittenEnd) (stack : List Frame) (nodes : ℕ) (names : Names) → FitsEnd end
       → moves sig (end_spelling end) (at_place (High at low) stack nodes names) ≡ goes (end_rules at low end) (at_place Want (with_interval (interval_from low end) stack) nodes names)
   end_read at low (Included high closing) stack nodes names fits =
@@ -396,17 +477,21 @@ module _ (sig : List PredOf) where
       → Takes sig (at_place Want (frame (interval_of interval) ∷ base) nodes names) ts lower edge v more others keeps
       → Takes sig (at_place Fresh (frame any_distance ∷ base) nodes names) (interval_spelling interval ++ ts) lower edge v more others (IntervalKeeps interval × keeps)
   takes_timed Omitted frame base lower ts nodes edge more names others v keeps fits frames t =
-      takes_less sig _ ts lower edge edge v more others keeps (IntervalKeeps Omitted × keeps) (omega arith) (λ k. k.1)
+      takes_less sig _ ts lower edge edge v more others keeps (IntervalKeeps Omitted × keeps) (omega arith) (λ k. k.1) (λ d k. (tt, k))
       (takes_fresh sig (frame any_distance ∷ base) nodes names ts lower edge v more others keeps t)
   takes_timed (From opening low comma end) frame base lower ts nodes edge more names others v keeps fits frames t =
       takes_behind sig _ _ (interval_spelling (From opening low comma end)) ts lower edge v more others keeps _ ([] ++ low_rules low ++ end_rules opening.at (bound_value low) end)
       (first sig (at_place Fresh (frame any_distance ∷ base) nodes names) (at_place (Low opening.at) (frame any_distance ∷ base) nodes names) _ opening _ classes.OpenBracket [] _ fits.0 refl
       (inner_read _ opening.at (bound_value low) low comma end (frame any_distance ∷ base) nodes names (low_rules low) (low_read opening.at low comma (frame any_distance ∷ base) nodes names fits.1 fits.2) fits.3)
       ∙ ap (λ (f : Frame). goes (low_rules low ++ end_rules opening.at (bound_value low) end) (at_place Want (f ∷ base) nodes names)) (frames (interval_of (From opening low comma end))))
-      (λ k. kept_both (low_rules low) _ (low_kept low fits.1 k.0.0) (end_kept opening.at (bound_value low) end fits.3 k.0.1)) (λ k. k.1) t
+      (λ k. kept_both (low_rules low) _ (low_kept low fits.1 k.0.0) (end_kept opening.at (bound_value low) end fits.3 k.0.1)) (λ k. k.1)
+      (λ d a. same_depth (interval_of (From opening low comma end)) frame base frames d)
+      (λ d a k. ((low_reached low (kept_front (low_rules low) (end_rules opening.at (bound_value low) end) a), end_reached opening.at (bound_value low) end (kept_back (low_rules low) (end_rules opening.at (bound_value low) end) a)), k)) t
   takes_timed (Above opening low comma end) frame base lower ts nodes edge more names others v keeps fits frames t =
       takes_behind sig _ _ (interval_spelling (Above opening low comma end)) ts lower edge v more others keeps _ ([] ++ above_rules low ++ end_rules opening.at (bound_value low + 1) end)
       (first sig (at_place Fresh (frame any_distance ∷ base) nodes names) (at_place (Maybe opening.at) (frame any_distance ∷ base) nodes names) _ opening _ classes.OpenParen [] _ fits.0 refl
       (inner_read _ opening.at (bound_value low + 1) low comma end (frame any_distance ∷ base) nodes names (above_rules low) (above_read opening.at low comma (frame any_distance ∷ base) nodes names fits.1 fits.2) fits.3)
       ∙ ap (λ (f : Frame). goes (above_rules low ++ end_rules opening.at (bound_value low + 1) end) (at_place Want (f ∷ base) nodes names)) (frames (interval_of (Above opening low comma end))))
-      (λ k. kept_both (above_rules low) _ (above_kept low k.0.0) (end_kept opening.at (bound_value low + 1) end fits.3 k.0.1)) (λ k. k.1) t
+      (λ k. kept_both (above_rules low) _ (above_kept low k.0.0) (end_kept opening.at (bound_value low + 1) end fits.3 k.0.1)) (λ k. k.1)
+      (λ d a. same_depth (interval_of (Above opening low comma end)) frame base frames d)
+      (λ d a k. ((above_reached low (kept_front (above_rules low) (end_rules opening.at (bound_value low + 1) end) a), end_reached opening.at (bound_value low + 1) end (kept_back (above_rules low) (end_rules opening.at (bound_value low + 1) end) a)), k)) t

@@ -1,6 +1,6 @@
 -- How a whole tree is read, by what is written in it.
 use Rattle.std.proofs.Common.{◌≡◌, ℕ, zero, suc, ◌+◌, ◌<◌, ◌≤◌, max, Bool, true, false, List, [], ◌∷◌, ◌++◌, length, Option, Some, None, refl, ap, sym, subst, ◌∙◌, arith}
-use Rattle.std.proofs.lemmas.Bool.{lt-leb}
+use Rattle.std.proofs.lemmas.Bool.{lt-leb, leb-false}
 use Rattle.std.proofs.lemmas.List.{append-nil, append_assoc}
 use Rattle.std.specs.Prelude.{cond}
 use Rattle.mfotl_lex.specs.Lexemes.{Lexeme}
@@ -25,7 +25,7 @@ use Rattle.mfotl_parse.specs.Reduction.{hold, closed, level, right_rule, joined}
 use Rattle.mfotl_parse.specs.States.{Frame, Parens, Negation, Moment, Binding, Left, deepens, depth, Names, Now, Partial, Want, Fresh, Have, Binder, BinderMarked, Bound}
 use Rattle.mfotl_parse.proofs.SpelledMoves.{at_place, moves, moves_both, AreKept, kept_both}
 use Rattle.mfotl_parse.proofs.SpelledForms.{Takes, IsLoose, takes_whole, takes_behind, takes_closed, takes_less, takes_fresh, takes_enclosed, takes_joined}
-use Rattle.mfotl_parse.proofs.SpelledParts.{scope_of, context_at, one, first, node_fits, takes_bare, takes_atom, takes_comparison, takes_timed, arguments_nodes, arguments_nodes_are}
+use Rattle.mfotl_parse.proofs.SpelledParts.{scope_of, context_at, one, first, node_fits, node_fitted, takes_bare, takes_atom, takes_comparison, takes_timed, arguments_nodes, arguments_nodes_are}
 
 -- frames on the edge of a tree of this rule hold more tightly than what lies below
 abbrev pub Reaches : ℕ → ℕ → Type 0
@@ -80,6 +80,9 @@ pub looser : (rule more : ℕ) (stack : List Frame) → rule ≤ more → IsLoos
 looser rule more [] h k = tt
 looser rule more (frame ∷ stack) h k = omega (arith, h, k)
 
+pub depth_fitted : (stack : List Frame) (at : ℕ) → (shallow at stack).broken ≡ false → depth stack < most_open
+depth_fitted stack at h = leb-false most_open (depth stack) h
+
 pub depth_fits : (stack : List Frame) (at : ℕ) → depth stack < most_open → (shallow at stack).broken ≡ false
 depth_fits stack at h = lt-leb most_open (depth stack) h
 
@@ -90,9 +93,9 @@ Keeps sig tree nodes levels = (nodes + node_count tree ≤ most_nodes) × (level
 module _ (sig : List PredOf) where
   -- the same tokens and nodes, written otherwise, and what wants more
   pub takes_as : (p : Partial) (ts us : List Lexeme) (base : List Frame) (edge : ℕ) (v : Form) (nodes more : ℕ) (names : Names) (keeps others : Type 0)
-      → ts ≡ us → nodes ≡ more → (others → keeps) → Takes sig p ts base edge v nodes names keeps → Takes sig p us base edge v more names others
-  takes_as p ts us base edge v nodes more names keeps others spelled same all t =
-      takes_less sig p us base edge edge v more names keeps others (omega arith) all
+      → ts ≡ us → nodes ≡ more → (others → keeps) → (depth p.context.stack ≤ most_open → keeps → others) → Takes sig p ts base edge v nodes names keeps → Takes sig p us base edge v more names others
+  takes_as p ts us base edge v nodes more names keeps others spelled same all back t =
+      takes_less sig p us base edge edge v more names keeps others (omega arith) all back
       (subst (λ (n : ℕ). Takes sig p us base edge v n names keeps) same
       (subst (λ (xs : List Lexeme). Takes sig p xs base edge v nodes names keeps) spelled t))
 
@@ -106,6 +109,11 @@ module _ (sig : List PredOf) where
   unfolding variable_rules
   variable_kept stack (Bare name) nodes h k = (depth_fits stack name.at h, (node_fits nodes name.at k, tt))
   variable_kept stack (Asked mark name) nodes h k = (depth_fits stack mark.at h, (node_fits nodes mark.at k, tt))
+
+  variable_fitted : (stack : List Frame) (v : WrittenVariable) (nodes : ℕ) → AreKept (variable_rules stack v nodes ++ []) → depth stack < most_open
+  unfolding variable_rules
+  variable_fitted stack (Bare name) nodes k = depth_fitted stack name.at k.0
+  variable_fitted stack (Asked mark name) nodes k = depth_fitted stack mark.at k.0
 
   variable_read : (q : Quantifier) (v : WrittenVariable) (stack : List Frame) (nodes : ℕ) (names : Names) → FitsVariable v
       → moves sig (variable_spelling v) (at_place (Binder q) stack nodes names)
@@ -144,24 +152,31 @@ module _ (sig : List PredOf) where
   takes_variables q (LastVariable x) dot ts edge v others count deep parts stack nodes names low fits class body =
       let frame = Binding q (length names.bound_sorts) (name_of x) in
       let inner = takes_closed sig _ ts frame stack edge _ _ _ _ low (body (frame ∷ stack) (suc nodes) (bound_more None names) (omega arith)) in
-      takes_as _ _ _ _ _ _ _ _ _ _ _ (append_assoc (variable_spelling x) (dot ∷ []) ts) (omega arith) (λ k. k)
+      takes_as _ _ _ _ _ _ _ _ _ _ _ (append_assoc (variable_spelling x) (dot ∷ []) ts) (omega arith) (λ k. k) (λ d k. k)
       (takes_behind sig (at_place (Binder q) stack nodes names) _ (variable_spelling x ++ dot ∷ []) ts stack edge _ _ _ _ _ (variable_rules stack x nodes ++ [])
       (bound_read q x dot Want classes.Dot stack nodes names fits class refl)
       (λ k. kept_both (variable_rules stack x nodes) [] (variable_kept stack x nodes (omega (arith, k.1)) (omega (arith, k.0))) tt)
-      (λ k. (omega (arith, k.0), omega (arith, k.1), k.2)) inner)
+      (λ k. (omega (arith, k.0), omega (arith, k.1), k.2))
+      (λ d a. omega (arith, variable_fitted stack x nodes a))
+      (λ d a k. (omega (arith, k.0), omega (arith, k.1), k.2)) inner)
   takes_variables q (MoreVariables x comma rest) dot ts edge v others count deep parts stack nodes names low fits class body =
       let frame = Binding q (length names.bound_sorts) (name_of x) in
       let inner = takes_closed sig _ (variables_spelling rest ++ dot ∷ ts) frame stack edge _ _ _ _ low
       (takes_variables q rest dot ts edge v others count deep parts (frame ∷ stack) (suc nodes) (bound_more None names) low fits.2 class body) in
       takes_as _ _ _ _ _ _ _ _ _ _ _
       (append_assoc (variable_spelling x) (comma ∷ []) (variables_spelling rest ++ dot ∷ ts) ∙ sym (append_assoc (variable_spelling x) (comma ∷ variables_spelling rest) (dot ∷ ts)))
-      (omega arith) (λ k. k)
+      (omega arith) (λ k. k) (λ d k. k)
       (takes_behind sig (at_place (Binder q) stack nodes names) _ (variable_spelling x ++ comma ∷ []) (variables_spelling rest ++ dot ∷ ts) stack edge _ _ _ _ _ (variable_rules stack x nodes ++ [])
       (bound_read q x comma (Binder q) classes.Comma stack nodes names fits.0 fits.1 refl)
       (λ k. kept_both (variable_rules stack x nodes) [] (variable_kept stack x nodes (omega (arith, k.1)) (omega (arith, k.0))) tt)
-      (λ k. (omega (arith, k.0), omega (arith, k.1), k.2)) inner)
+      (λ k. (omega (arith, k.0), omega (arith, k.1), k.2))
+      (λ d a. omega (arith, variable_fitted stack x nodes a))
+      (λ d a k. (omega (arith, k.0), omega (arith, k.1), k.2)) inner)
 
   -- ---- operators
+
+  no_interval_keeps : (interval : WrittenInterval) → interval ≡ Omitted → IntervalKeeps interval
+  no_interval_keeps interval omitted = subst IntervalKeeps (sym omitted) tt
 
   takes_interval : (timed : Bool) (interval : WrittenInterval) (frame : Interval → Frame) (base lower : List Frame) (ts : List Lexeme) (nodes edge more : ℕ) (names others : Names) (v : Form) (keeps : Type 0)
       → FitsOperator timed interval → ((i : Interval) → framed i (frame any_distance) ≡ frame i)
@@ -170,13 +185,21 @@ module _ (sig : List PredOf) where
   takes_interval true interval frame base lower ts nodes edge more names others v keeps fits frames t =
       takes_timed sig interval frame base lower ts nodes edge more names others v keeps fits frames t
   takes_interval false interval frame base lower ts nodes edge more names others v keeps omitted frames t =
-      takes_less sig _ (interval_spelling interval ++ ts) lower edge edge v more others keeps (IntervalKeeps interval × keeps) (omega arith) (λ k. k.1)
+      takes_less sig _ (interval_spelling interval ++ ts) lower edge edge v more others keeps (IntervalKeeps interval × keeps) (omega arith) (λ k. k.1) (λ d k. (no_interval_keeps interval omitted, k))
       (subst (λ (i : WrittenInterval). Takes sig (at_place Want (frame any_distance ∷ base) nodes names) (interval_spelling i ++ ts) lower edge v more others keeps) (sym omitted)
       (subst (λ (i : WrittenInterval). Takes sig (at_place Want (frame (interval_of i) ∷ base) nodes names) ts lower edge v more others keeps) omitted t))
 
   joins_kept : (deep : Bool) (at nodes inner : ℕ) (stack : List Frame) → depth stack + right_levels deep inner ≤ most_open → nodes < most_nodes → AreKept (deepening deep at stack (few at nodes ∷ []))
   joins_kept true at nodes inner stack h k = (depth_fits stack at (omega (arith, h)), (node_fits nodes at k, tt))
   joins_kept false at nodes inner stack h k = (node_fits nodes at k, tt)
+
+  joins_open : (deep : Bool) (at nodes : ℕ) (stack : List Frame) → depth stack ≤ most_open → AreKept (deepening deep at stack (few at nodes ∷ [])) → cond deep (suc (depth stack)) (depth stack) ≤ most_open
+  joins_open true at nodes stack h k = omega (arith, depth_fitted stack at k.0)
+  joins_open false at nodes stack h k = h
+
+  right_fitted : (deep : Bool) (inner levels : ℕ) → cond deep (suc levels) levels + inner ≤ most_open → levels + right_levels deep inner ≤ most_open
+  right_fitted true inner levels h = omega (arith, h)
+  right_fitted false inner levels h = omega (arith, h)
 
   right_fits : (deep : Bool) (inner levels : ℕ) → levels + right_levels deep inner ≤ most_open → cond deep (suc levels) levels + inner ≤ most_open
   right_fits true inner levels h = omega (arith, h)
@@ -192,18 +215,18 @@ module _ (sig : List PredOf) where
       (Keeps sig tree nodes (depth stack))
   unfolding depth binder_of
   reads (Truth token which) rule edge fits reach ends stack nodes names loose =
-      takes_as _ (token ∷ []) (token ∷ []) _ _ _ (suc nodes) _ _ _ _ refl (omega arith) (λ k. k)
+      takes_as _ (token ∷ []) (token ∷ []) _ _ _ (suc nodes) _ _ _ _ refl (omega arith) (λ k. k) (λ d k. k)
       (takes_whole sig (at_place Want stack nodes names) (token ∷ []) stack edge (truth which) (suc nodes) names (Keeps sig (Truth token which) nodes (depth stack)) (few token.at nodes ∷ [])
       (one sig (at_place Want stack nodes names) _ token (classes.Truth which) _ fits refl)
-      (λ k. (node_fits nodes token.at (omega (arith, k.0)), tt)))
+      (λ k. (node_fits nodes token.at (omega (arith, k.0)), tt), λ d a. (omega (arith, node_fitted nodes token.at a.0), omega (arith, d), tt)))
   reads (BareAtom name opening closing) rule edge fits reach ends stack nodes names loose =
-      takes_as _ _ _ _ _ _ (suc nodes) _ _ _ _ refl (omega arith) (λ k. (omega (arith, k.0), k.2))
+      takes_as _ _ _ _ _ _ (suc nodes) _ _ _ _ refl (omega arith) (λ k. (omega (arith, k.0), k.2)) (λ d k. (omega (arith, k.0), omega (arith, d), k.1))
       (takes_bare sig name opening closing stack nodes edge names fits.0 fits.1 fits.2)
   reads (AtomOf name opening arguments closing) rule edge fits reach ends stack nodes names loose =
-      takes_as _ _ _ _ _ _ (arguments_nodes sig arguments (suc nodes)) _ _ _ _ refl (omega (arith, arguments_nodes_are sig arguments (suc nodes))) (λ k. (omega (arith, k.0), k.2))
+      takes_as _ _ _ _ _ _ (arguments_nodes sig arguments (suc nodes)) _ _ _ _ refl (omega (arith, arguments_nodes_are sig arguments (suc nodes))) (λ k. (omega (arith, k.0), k.2)) (λ d k. (omega (arith, k.0), omega (arith, d), k.1))
       (takes_atom sig name opening arguments closing stack nodes edge names fits.0 fits.1 fits.2 fits.3)
   reads (Comparison left token sign right) rule edge fits reach ends stack nodes names loose =
-      takes_as _ _ _ _ _ _ (suc nodes) _ _ _ _ refl (omega arith) (λ k. omega (arith, k.0))
+      takes_as _ _ _ _ _ _ (suc nodes) _ _ _ _ refl (omega arith) (λ k. omega (arith, k.0)) (λ d k. (omega (arith, k), omega (arith, d), tt))
       (takes_comparison sig left token sign right stack nodes edge names fits.0 fits.1 fits.2)
   reads (Enclosed opening body closing) rule edge fits reach ends stack nodes names loose =
       let inner = reads body 1 1 fits.1 (one_reaches 1 (omega arith)) (λ e. omega arith) (Parens ∷ stack) nodes names (omega arith) in
@@ -211,33 +234,39 @@ module _ (sig : List PredOf) where
       takes_behind sig (at_place Want stack nodes names) (at_place Want (Parens ∷ stack) nodes names) (opening ∷ []) (spelling body ++ closing ∷ []) stack edge _ _ _ _ _ (shallow opening.at stack ∷ [])
       (one sig (at_place Want stack nodes names) _ opening classes.OpenParen _ fits.0 refl)
       (λ k. (depth_fits stack opening.at (omega (arith, k.1)), tt))
-      (λ k. (k.0, omega (arith, k.1), k.2)) whole
+      (λ k. (k.0, omega (arith, k.1), k.2))
+      (λ d a. omega (arith, depth_fitted stack opening.at a.0))
+      (λ d a k. (k.0, omega (arith, k.1), k.2)) whole
   reads (Denied token body) rule edge fits reach ends stack nodes names loose =
       let inner = reads body 6 edge fits.1 (unary_reaches rule edge reach) ends (Negation ∷ stack) (suc nodes) names (omega arith) in
       let whole = takes_closed sig _ (spelling body) Negation stack edge _ _ _ _ reach.0 inner in
-      takes_as _ _ _ _ _ _ (suc nodes + node_count body) _ _ _ _ refl (omega arith) (λ k. k)
+      takes_as _ _ _ _ _ _ (suc nodes + node_count body) _ _ _ _ refl (omega arith) (λ k. k) (λ d k. k)
       (takes_behind sig (at_place Want stack nodes names) (at_place Want (Negation ∷ stack) (suc nodes) names) (token ∷ []) (spelling body) stack edge _ _ _ _ (Keeps sig (Denied token body) nodes (depth stack)) (shallow token.at stack ∷ few token.at nodes ∷ [])
       (one sig (at_place Want stack nodes names) _ token classes.Not _ fits.0 refl)
       (λ k. prefix_kept stack token.at nodes (omega (arith, k.1)) (omega (arith, k.0)))
-      (λ k. (omega (arith, k.0), omega (arith, k.1), k.2)) whole)
+      (λ k. (omega (arith, k.0), omega (arith, k.1), k.2))
+      (λ d a. omega (arith, depth_fitted stack token.at a.0))
+      (λ d a k. (omega (arith, k.0), omega (arith, k.1), k.2)) whole)
   reads (Timed token operator interval body) rule edge fits reach ends stack nodes names loose =
       let frame : Interval → Frame = λ i. Moment operator i in
       let i = interval_of interval in
       let inner = reads body 6 edge fits.2 (unary_reaches rule edge reach) ends (Moment operator i ∷ stack) (suc nodes) names (omega arith) in
       let whole = takes_closed sig _ (spelling body) (Moment operator i) stack edge _ _ _ _ reach.0 inner in
       let behind = takes_timed sig interval frame stack stack (spelling body) (suc nodes) edge _ names _ _ _ fits.1 (λ j. refl) whole in
-      takes_as _ _ _ _ _ _ (suc nodes + node_count body) _ _ _ _ refl (omega arith) (λ k. k)
+      takes_as _ _ _ _ _ _ (suc nodes + node_count body) _ _ _ _ refl (omega arith) (λ k. k) (λ d k. k)
       (takes_behind sig (at_place Want stack nodes names) (at_place Fresh (Moment operator any_distance ∷ stack) (suc nodes) names) (token ∷ []) (interval_spelling interval ++ spelling body) stack edge _ _ _ _ (Keeps sig (Timed token operator interval body) nodes (depth stack)) (shallow token.at stack ∷ few token.at nodes ∷ [])
       (one sig (at_place Want stack nodes names) _ token (classes.Temporal operator) _ fits.0 refl)
       (λ k. prefix_kept stack token.at nodes (omega (arith, k.1)) (omega (arith, k.0)))
-      (λ k. (k.2.0, (omega (arith, k.0), omega (arith, k.1), k.2.1))) behind)
+      (λ k. (k.2.0, (omega (arith, k.0), omega (arith, k.1), k.2.1)))
+      (λ d a. omega (arith, depth_fitted stack token.at a.0))
+      (λ d a k. (omega (arith, k.1.0), omega (arith, k.1.1), (k.0, k.1.2))) behind)
   reads (Quantified token quantifier variables dot body) rule edge fits reach ends stack nodes names loose =
       let low : edge ≤ 1 = ends refl in
       let inner : Body (spelling body) edge (value sig body) (names_behind sig body) (node_count body) (nesting body) (PartsKeep sig body) =
       λ s n m l. reads body 1 edge fits.3 (one_reaches edge low) (λ e. low) s n m l in
       takes_behind sig (at_place Want stack nodes names) (at_place (Binder quantifier) stack nodes names) (token ∷ []) (variables_spelling variables ++ dot ∷ spelling body) stack edge _ _ _ _ _ []
       (one sig (at_place Want stack nodes names) _ token (classes.Quantifier quantifier) _ fits.0 refl)
-      (λ k. tt) (λ k. k)
+      (λ k. tt) (λ k. k) (λ d a. d) (λ d a k. k)
       (takes_variables quantifier variables dot (spelling body) edge (value sig body) (names_behind sig body) (node_count body) (nesting body) (PartsKeep sig body) stack nodes names low fits.1 fits.2 inner)
   reads (Joined left token operator interval right) rule edge fits reach ends stack nodes names loose =
       let scope = scope_of stack in
@@ -259,5 +288,7 @@ module _ (sig : List PredOf) where
       (λ k. (omega (arith, k.0), omega (arith, k.1), k.2.0))
       (λ k. joins_kept (deepens operator) token.at middle (nesting right) stack (omega (arith, k.1)) (omega (arith, k.0)))
       (λ k. (k.2.1, (omega (arith, k.0), right_fits (deepens operator) (nesting right) (depth stack) (omega (arith, k.1)), k.2.2)))
+      (λ d a. joins_open (deepens operator) token.at middle stack d a)
+      (λ a b e. (omega (arith, e.1.0), omega (arith, b.1, right_fitted (deepens operator) (nesting right) (depth stack) e.1.1), (b.2, e.0, e.1.2)))
       before behind in
-      takes_as _ _ _ _ _ _ (suc middle + node_count right) _ _ _ _ refl (omega arith) (λ k. k) both
+      takes_as _ _ _ _ _ _ (suc middle + node_count right) _ _ _ _ refl (omega arith) (λ k. k) (λ d k. k) both

@@ -1,5 +1,5 @@
 //! The reader against the grammar. Each law is a function that does nothing: its clause is the law.
-ghost use Rattle.mfotl_parse.specs.GrammarLaws.{AcceptedExactly, SpelledIsRead, ValueIsOne, SyntaxExactly};
+ghost use Rattle.mfotl_parse.specs.GrammarLaws.{AcceptedExactly, SpelledIsRead, ReadIsSpelled, OneAnswer, SyntaxExactly};
 
 /// The reader comes to its end exactly with what the grammar spells, whatever other rules are broken.
 pub fn accepted_exactly()
@@ -11,9 +11,14 @@ pub fn spelled_is_read()
     ensures { SpelledIsRead }
 {}
 
-/// A text has at most one value.
-pub fn value_is_one()
-    ensures { ValueIsOne }
+/// A policy that is read is spelled, keeps the rules, and is what its formula means.
+pub fn read_is_spelled()
+    ensures { ReadIsSpelled }
+{}
+
+/// A text has exactly one of a value and a first fault.
+pub fn one_answer()
+    ensures { OneAnswer }
 {}
 
 /// `Syntax` is shown exactly by the first token with which no formula begins, or by the text's end.
