@@ -1,6 +1,6 @@
 -- All tokens that the reader accepts are a formula.
-use Rattle.std.proofs.Common.{◌≡◌, ℕ, zero, suc, ◌+◌, ◌<◌, ◌≤◌, Bool, true, false, List, [], ◌∷◌, ◌++◌, length, map, Option, Some, None, refl, ap, sym, subst, ◌∙◌, ◌⊎◌, inl, inr, arith}
-use Rattle.std.proofs.lemmas.List.{append-nil, append_assoc, length-append}
+use Rattle.std.proofs.Common.{◌≡◌, ℕ, zero, suc, ◌≤◌, Bool, true, false, List, [], ◌∷◌, ◌++◌, length, map, Some, None, refl, ap, sym, subst, ◌∙◌, ◌⊎◌, inl, inr, arith}
+use Rattle.std.proofs.lemmas.List.{append-nil, append_assoc}
 use Rattle.std.specs.Prelude.{cond}
 use Rattle.mfotl_lex.specs.Lexemes.{Lexeme}
 use Rattle.mfotl_model.specs.Formulas.{Form}
@@ -8,21 +8,18 @@ use Rattle.mfotl_sig.specs.Preds.{PredOf}
 use Rattle.mfotl_parse.specs.declared.class.Class.{Class}
 use Rattle.mfotl_parse.specs.declared.class.Class.TheVariants as classes
 use Rattle.mfotl_parse.specs.declared.class.Operator.{Operator}
-use Rattle.mfotl_parse.specs.declared.class.Operator.TheVariants.{And, Or, Implies, Equiv, Since, Until}
-use Rattle.mfotl_parse.specs.declared.class.Quantifier.{Quantifier}
-use Rattle.mfotl_parse.specs.declared.class.Temporal.{Temporal}
 use Rattle.mfotl_parse.specs.Classes.{class_of}
-use Rattle.mfotl_parse.specs.Grammar.{WrittenTerm, Number, Quoted, WrittenVariables, LastVariable, MoreVariables, WrittenInterval, Omitted, Tree, Truth, Enclosed, variables_spelling, interval_spelling, spelling, FitsOperator, is_shut, Fits, IsFormula}
+use Rattle.mfotl_parse.specs.Grammar.{Number, Quoted, WrittenInterval, Omitted, Tree, Truth, Enclosed, variables_spelling, interval_spelling, spelling, FitsOperator, is_shut, Fits, IsFormula}
 use Rattle.mfotl_parse.specs.Intervals.{any_distance}
 use Rattle.mfotl_parse.specs.Operands.{operand_move, have_move, joined_move, enclosed_move, around, is_parens, is_timed, now_behind}
 use Rattle.mfotl_parse.specs.Reading.{move_of, is_closed}
 use Rattle.mfotl_parse.specs.Reduction.{Reduced, reduce, hold, level, right_rule}
-use Rattle.mfotl_parse.specs.States.{Frame, Parens, Negation, Moment, Binding, Left, Names, Now, Context, Partial, Want, Fresh, Have, Binder, start}
+use Rattle.mfotl_parse.specs.States.{Frame, Parens, Negation, Moment, Binding, Left, Names, Context, start}
 use Rattle.mfotl_parse.specs.Viability.{if_moved, accepts}
 use Rattle.mfotl_parse.proofs.SpelledMoves.{at_place}
 use Rattle.mfotl_parse.proofs.SpelledParts.{context_at}
 use Rattle.mfotl_parse.proofs.AcceptedParts.{refused, Behind, Primary, compared_back, marked_back, word_back, blank_back}
-use Rattle.mfotl_parse.proofs.AcceptedIntervals.{Wanting, Timing, fresh_back, push_ones, Quantifying, binder_back}
+use Rattle.mfotl_parse.proofs.AcceptedIntervals.{Wanting, fresh_back, push_ones, binder_back}
 use Rattle.mfotl_parse.proofs.AcceptedTrees.{Held, HeldParens, HeldNot, HeldTimed, HeldBound, HeldLeft, own_tokens, held_tokens, holds_of, wanted, FitAll, drop_tight, holds_reduced, first_one, level_least, right_least, level_most, Closed, close}
 
 -- the same tokens

@@ -1,7 +1,6 @@
 -- Tokens that the reader accepts begin with what the grammar spells there: terms, atoms, comparisons.
-use Rattle.std.proofs.Common.{◌≡◌, ℕ, ℤ, zero, suc, ◌+◌, ◌*◌, ◌<◌, ◌≤◌, pos, negsuc, Bool, true, false, List, [], ◌∷◌, ◌++◌, length, Option, Some, None, refl, ap, sym, subst, ◌∙◌, ◌⊎◌, inl, inr, arith}
+use Rattle.std.proofs.Common.{◌≡◌, ℕ, zero, suc, ◌<◌, ◌≤◌, true, false, List, [], ◌∷◌, ◌++◌, length, refl, ap, sym, ◌∙◌, inl, inr, arith}
 use Rattle.std.proofs.lemmas.List.{append_assoc, length-append}
-use Rattle.std.specs.Prelude.{codes}
 use Rattle.mfotl_lex.specs.Lexemes.{Lexeme}
 use Rattle.mfotl_model.specs.declared.term.Sign.{Sign}
 use Rattle.mfotl_model.specs.Formulas.{Form}
@@ -11,10 +10,10 @@ use Rattle.mfotl_parse.specs.declared.class.Class.TheVariants as classes
 use Rattle.mfotl_parse.specs.declared.term.Side.{Side}
 use Rattle.mfotl_parse.specs.Arguments.{argument_move, first_move, taken_move, argument_marked_move}
 use Rattle.mfotl_parse.specs.Classes.{class_of}
-use Rattle.mfotl_parse.specs.Grammar.{WrittenVariable, Bare, Asked, WrittenTerm, Named, Number, Quoted, WrittenArgument, Given, Hidden, WrittenArguments, LastArgument, MoreArguments, Tree, BareAtom, AtomOf, Comparison, term_spelling, argument_spelling, arguments_spelling, spelling, FitsTerm, FitsArgument, FitsArguments, IsAtomName, Fits, is_shut}
+use Rattle.mfotl_parse.specs.Grammar.{Bare, Asked, WrittenTerm, Named, Number, Quoted, WrittenArgument, Given, Hidden, WrittenArguments, LastArgument, MoreArguments, Tree, BareAtom, AtomOf, Comparison, term_spelling, argument_spelling, arguments_spelling, spelling, FitsTerm, FitsArgument, FitsArguments, IsAtomName, Fits, is_shut}
 use Rattle.mfotl_parse.specs.Operands.{against_move, against_marked_move, compared_move, word_move, blank_move, marked_move}
-use Rattle.mfotl_parse.specs.Reading.{move_of, move_at}
-use Rattle.mfotl_parse.specs.States.{Frame, Call, Names, Now, Context, Partial, Have, Word, Blank, Marked, Compared, Against, AgainstMarked, First, Next, Taken, ArgumentMarked}
+use Rattle.mfotl_parse.specs.Reading.{move_of}
+use Rattle.mfotl_parse.specs.States.{Frame, Call, Names, Have, Word, Blank, Marked, Compared, Against, AgainstMarked, First, Next, Taken, ArgumentMarked}
 use Rattle.mfotl_parse.specs.Viability.{if_moved, accepts}
 use Rattle.mfotl_parse.proofs.SpelledMoves.{at_place}
 use Rattle.mfotl_parse.proofs.SpelledParts.{context_at}

@@ -1,21 +1,19 @@
 -- What the reader accepts is a formula: what is open is held as trees with a place for their right operand.
-use Rattle.std.proofs.Common.{◌≡◌, ℕ, zero, suc, ◌+◌, ◌<◌, ◌≤◌, Bool, true, false, ltb, List, [], ◌∷◌, ◌++◌, length, map, Option, Some, None, refl, ap, sym, subst, ◌∙◌, ◌⊎◌, inl, inr, arith}
+use Rattle.std.proofs.Common.{◌≡◌, ℕ, ◌<◌, ◌≤◌, Bool, true, false, List, [], ◌∷◌, ◌++◌, map, refl, ap, sym, ◌∙◌, ◌⊎◌, inl, inr, arith}
 use Rattle.std.proofs.lemmas.Bool.{cases_lt, le-ltb, lt-ltb}
-use Rattle.std.proofs.lemmas.List.{append_assoc, length-append}
+use Rattle.std.proofs.lemmas.List.{append_assoc}
 use Rattle.std.specs.Prelude.{cond, nat_lt}
 use Rattle.mfotl_lex.specs.Lexemes.{Lexeme}
 use Rattle.mfotl_model.specs.Formulas.{Form}
-use Rattle.mfotl_sig.specs.Preds.{PredOf}
-use Rattle.mfotl_parse.specs.declared.class.Class.{Class}
 use Rattle.mfotl_parse.specs.declared.class.Class.TheVariants as classes
 use Rattle.mfotl_parse.specs.declared.class.Operator.{Operator}
 use Rattle.mfotl_parse.specs.declared.class.Operator.TheVariants.{And, Or, Implies, Equiv, Since, Until}
 use Rattle.mfotl_parse.specs.declared.class.Quantifier.{Quantifier}
 use Rattle.mfotl_parse.specs.declared.class.Temporal.{Temporal}
 use Rattle.mfotl_parse.specs.Classes.{class_of}
-use Rattle.mfotl_parse.specs.Grammar.{WrittenVariables, LastVariable, MoreVariables, WrittenInterval, Omitted, Tree, Truth, Enclosed, Denied, Timed, Quantified, Joined, variables_spelling, interval_spelling, spelling, FitsVariables, FitsInterval, FitsOperator, left_rule, is_shut, Fits, IsFormula}
+use Rattle.mfotl_parse.specs.Grammar.{WrittenVariables, LastVariable, MoreVariables, WrittenInterval, Tree, Denied, Timed, Quantified, Joined, variables_spelling, interval_spelling, spelling, FitsVariables, FitsInterval, FitsOperator, left_rule, is_shut, Fits}
 use Rattle.mfotl_parse.specs.Operands.{is_timed}
-use Rattle.mfotl_parse.specs.Reduction.{Reduced, reduce, hold, closed, level, right_rule}
+use Rattle.mfotl_parse.specs.Reduction.{reduce, hold, closed, level, right_rule}
 use Rattle.mfotl_parse.specs.States.{Frame}
 use Rattle.mfotl_parse.proofs.AcceptedIntervals.{push_ones}
 

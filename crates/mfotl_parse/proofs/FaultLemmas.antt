@@ -51,7 +51,7 @@ no_syntax Arity at other same = absurd cc
 no_syntax Deep at other same = absurd cc
 no_syntax Nodes at other same = absurd cc
 
-never_syntax : (rules : List Rule) (next : Partial) (at : ℕ) → kept rules next ≡ Err (Syntax at) → ⊥
+pub never_syntax : (rules : List Rule) (next : Partial) (at : ℕ) → kept rules next ≡ Err (Syntax at) → ⊥
 never_syntax [] next at same = absurd cc
 never_syntax (rule ∷ rules) next at same = by_broken rule.broken (never_syntax rules next at) same
   where

@@ -16,3 +16,4 @@ pub mod AcceptedIntervals
 pub mod AcceptedTrees
 pub mod AcceptedLaw
 pub mod ReadLaw
+pub mod SyntaxLaw

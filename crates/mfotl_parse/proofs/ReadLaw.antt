@@ -1,5 +1,5 @@
 -- What is read is spelled and keeps the rules, and a text has one answer.
-use Rattle.std.proofs.Common.{◌≡◌, ℕ, zero, suc, ◌+◌, ◌<◌, ◌≤◌, Bool, true, false, List, [], ◌∷◌, ◌++◌, length, Option, Some, None, Result, Ok, Err, refl, ap, sym, subst, ◌∙◌, ◌⊎◌, inl, inr, arith}
+use Rattle.std.proofs.Common.{◌≡◌, ℕ, ◌≤◌, Bool, true, false, List, [], ◌∷◌, length, Option, Some, None, Result, Ok, Err, refl, ap, sym, subst, ◌∙◌, ◌⊎◌, inl, inr, arith}
 use Rattle.std.proofs.lemmas.Option.{slice_get_cases}
 use Rattle.std.specs.Prelude.{cond, slice_get}
 use Rattle.mfotl_lex.specs.declared.fault.LexFault.{LexFault}
@@ -8,19 +8,18 @@ use Rattle.mfotl_model.specs.Formulas.{Form}
 use Rattle.mfotl_sig.specs.Preds.{PredOf}
 use Rattle.mfotl_parse.specs.declared.fault.PolicyFault.{PolicyFault}
 use Rattle.mfotl_parse.specs.declared.term.Pair.{Pair}
-use Rattle.mfotl_parse.specs.Grammar.{Tree, Fits, spelling, IsFormula}
+use Rattle.mfotl_parse.specs.Grammar.{Tree, Fits, spelling}
 use Rattle.mfotl_parse.specs.GrammarLaws.{ReadIsSpelled, HasValue, HasFault, OneAnswer}
-use Rattle.mfotl_parse.specs.Meanings.{no_scope, all_names, value, KeepsRules, IsValue, tokens_of, policy_of}
+use Rattle.mfotl_parse.specs.Meanings.{no_scope, all_names, value, IsValue, tokens_of, policy_of}
 use Rattle.mfotl_parse.specs.Moves.{Rule, Move, goes, fault_of, kept, given}
 use Rattle.mfotl_parse.specs.Names.{most_free, uneven_pair}
 use Rattle.mfotl_parse.specs.Reading.{PolicyOf, and_then, move_of, step, run, sorted, finished, ended, ended_at, at_end, is_closed, reading}
 use Rattle.mfotl_parse.specs.Reduction.{Reduced, reduce}
-use Rattle.mfotl_parse.specs.States.{Frame, Names, no_names, depth, Now, Context, Partial, Have, start}
+use Rattle.mfotl_parse.specs.States.{Names, no_names, depth, Now, Context, Partial, Have, start}
 use Rattle.mfotl_parse.specs.Viability.{if_moved, is_whole, accepts}
 use Rattle.mfotl_parse.proofs.AcceptedLaw.{accepted_formula}
 use Rattle.mfotl_parse.proofs.FaultLemmas.{kept_next}
-use Rattle.mfotl_parse.proofs.SpelledMoves.{at_place, behind_move, then_moves, moves, AreKept, kept_both, run_moves, no_move, same_next, same_rules}
-use Rattle.mfotl_parse.proofs.SpelledTrees.{Keeps}
+use Rattle.mfotl_parse.proofs.SpelledMoves.{behind_move, then_moves, moves, AreKept, kept_both, run_moves, no_move, same_next, same_rules}
 use Rattle.mfotl_parse.proofs.SpelledLaw.{whole, all_closed, spelled_is_read}
 
 -- a token whose rules are kept

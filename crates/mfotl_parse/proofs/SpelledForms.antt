@@ -1,6 +1,6 @@
 -- How a formula is read from its parts, whatever is open around it.
-use Rattle.std.proofs.Common.{◌≡◌, ℕ, ℤ, zero, suc, ◌+◌, ◌<◌, ◌≤◌, Bool, true, false, List, [], ◌∷◌, ◌++◌, Option, Some, None, refl, ap, sym, subst, ◌∙◌, arith}
-use Rattle.std.proofs.lemmas.List.{append-nil, append_assoc}
+use Rattle.std.proofs.Common.{◌≡◌, ℕ, ℤ, suc, ◌<◌, ◌≤◌, List, [], ◌∷◌, ◌++◌, Option, Some, None, refl, ap, sym, subst, ◌∙◌, arith}
+use Rattle.std.proofs.lemmas.List.{append_assoc}
 use Rattle.mfotl_lex.specs.Lexemes.{Lexeme}
 use Rattle.mfotl_model.specs.declared.interval.Interval.{Interval}
 use Rattle.mfotl_model.specs.declared.value.Value.TheVariants as values
@@ -13,11 +13,11 @@ use Rattle.mfotl_parse.specs.declared.term.Operand.TheVariants as operands
 use Rattle.mfotl_parse.specs.Classes.{class_of}
 use Rattle.mfotl_parse.specs.Intervals.{any_distance}
 use Rattle.mfotl_parse.specs.Moves.{Rule, Move, goes, first_keeps, shallow, few, most_open}
-use Rattle.mfotl_parse.specs.Operands.{operand_move, fresh_move, maybe_move, maybe_number_move, compared_move, signed, have_move, joined_move, enclosed_move, around, deepening, is_timed, now_behind}
-use Rattle.mfotl_parse.specs.Reading.{move_of, move_at}
+use Rattle.mfotl_parse.specs.Operands.{operand_move, fresh_move, maybe_move, maybe_number_move, compared_move, signed, joined_move, enclosed_move, around, deepening, is_timed, now_behind}
+use Rattle.mfotl_parse.specs.Reading.{move_of}
 use Rattle.mfotl_parse.specs.Reduction.{Reduced, reduce, hold, closed, level, right_rule, joined}
-use Rattle.mfotl_parse.specs.States.{Frame, Parens, Negation, Moment, Binding, Left, deepens, depth, Names, Now, Context, Partial, Want, Fresh, Have, Word, Blank, Marked, Compared, Against, AgainstMarked, First, Next, Taken, ArgumentMarked, Binder, BinderMarked, Bound, Maybe, MaybeNumber, Low, LowNumber, LowDone, High, HighNumber, HighDone, Endless}
-use Rattle.mfotl_parse.proofs.SpelledMoves.{at_place, behind_move, then_moves, moves, move_is, moves_nothing, moves_first, moves_one, moves_both, AreKept, Exactly, kept_both, kept_front, kept_back, no_move, same_next}
+use Rattle.mfotl_parse.specs.States.{Frame, Parens, Left, deepens, depth, Names, Now, Context, Partial, Want, Fresh, Have, Compared, Maybe, MaybeNumber}
+use Rattle.mfotl_parse.proofs.SpelledMoves.{at_place, behind_move, then_moves, moves, move_is, moves_one, moves_both, AreKept, Exactly, kept_both, kept_front, kept_back, no_move, same_next}
 use Rattle.mfotl_parse.proofs.StackLemmas.{reduce_loose, reduce_tight}
 
 -- Tokens are read as an operand: they lead to an operand and frames that are, once all is closed that holds

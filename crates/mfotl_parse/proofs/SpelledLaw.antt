@@ -1,24 +1,24 @@
 -- The laws of `specs/GrammarLaws.antt`.
-use Rattle.std.proofs.Common.{◌≡◌, ℕ, zero, suc, ◌+◌, ◌≤◌, Bool, true, false, List, [], ◌∷◌, ◌++◌, length, Option, Some, None, Result, Ok, Err, refl, ap, sym, subst, ◌∙◌, arith}
+use Rattle.std.proofs.Common.{◌≡◌, ℕ, ◌+◌, Bool, true, false, List, [], ◌∷◌, ◌++◌, length, Option, Some, None, Result, Ok, Err, refl, ap, sym, ◌∙◌, arith}
 use Rattle.std.proofs.lemmas.Option.{slice_get_past}
-use Rattle.std.specs.Prelude.{IsTrue, slice_get}
+use Rattle.std.specs.Prelude.{slice_get}
 use Rattle.mfotl_lex.specs.Lexemes.{Lexeme}
 use Rattle.mfotl_model.specs.Formulas.{Form}
 use Rattle.mfotl_sig.specs.Preds.{PredOf}
 use Rattle.mfotl_parse.specs.declared.fault.PolicyFault.{PolicyFault}
 use Rattle.mfotl_parse.specs.declared.fault.PolicyFault.TheVariants.{Syntax}
 use Rattle.mfotl_parse.specs.declared.term.Pair.{Pair}
-use Rattle.mfotl_parse.specs.Grammar.{Tree, Fits, spelling, is_shut, IsFormula, BeginsFormula}
+use Rattle.mfotl_parse.specs.Grammar.{Tree, Fits, spelling, IsFormula, BeginsFormula}
 use Rattle.mfotl_parse.specs.GrammarLaws.{AcceptedExactly, SpelledIsRead, SyntaxExactly}
-use Rattle.mfotl_parse.specs.Meanings.{no_scope, all_names, value, names_behind, node_count, nesting, KeepsRules, IsValue, tokens_of, policy_of}
+use Rattle.mfotl_parse.specs.Meanings.{no_scope, all_names, value, node_count, KeepsRules, tokens_of, policy_of}
 use Rattle.mfotl_parse.specs.Moves.{Rule, Move, goes, kept, given}
 use Rattle.mfotl_parse.specs.Names.{binder_of, most_free, uneven_pair, vars_of}
 use Rattle.mfotl_parse.specs.Reading.{PolicyOf, move_of, step, run, sorted, finished, ended, ended_at, is_closed, reading}
 use Rattle.mfotl_parse.specs.Reduction.{Reduced, reduce}
-use Rattle.mfotl_parse.specs.States.{Frame, Names, no_names, depth, Now, Context, Partial, Have, Want, start}
+use Rattle.mfotl_parse.specs.States.{Names, no_names, depth, Now, Context, Partial, Have, start}
 use Rattle.mfotl_parse.specs.Viability.{if_moved, is_whole, accepts, goes_on, IsViable, and_steps, steps}
 use Rattle.mfotl_parse.proofs.FaultLemmas.{kept_next, viable_from, syntax_exactly as by_tokens}
-use Rattle.mfotl_parse.proofs.SpelledMoves.{at_place, behind_move, then_moves, moves, AreKept, run_moves, no_move, same_next}
+use Rattle.mfotl_parse.proofs.SpelledMoves.{behind_move, then_moves, moves, run_moves, no_move, same_next}
 use Rattle.mfotl_parse.proofs.SpelledForms.{Takes, reduce_here}
 use Rattle.mfotl_parse.proofs.AcceptedLaw.{accepted_formula}
 use Rattle.mfotl_parse.proofs.SpelledTrees.{Keeps, reads, one_reaches}
@@ -123,7 +123,7 @@ unfolding steps step accepts
 accepts_behind sig [] p q e = let same : p ≡ q = cc in ap (λ (x : Partial). is_whole x.now x.context.stack) same
 accepts_behind sig (t ∷ ts) p q e = accepts_step sig t.at ts q (move_of sig p t) (λ x f. accepts_behind sig ts x q f) e
 
-never_sorted : (clash : Option ℕ) (uneven : Option Pair) (ninth : Option (List ℕ × ℕ)) (policy : PolicyOf) (at : ℕ) → sorted clash uneven ninth policy ≡ Err (Syntax at) → ⊥
+pub never_sorted : (clash : Option ℕ) (uneven : Option Pair) (ninth : Option (List ℕ × ℕ)) (policy : PolicyOf) (at : ℕ) → sorted clash uneven ninth policy ≡ Err (Syntax at) → ⊥
 never_sorted (Some place) uneven ninth policy at e = absurd cc
 never_sorted None (Some pair) ninth policy at e = absurd cc
 never_sorted None None (Some known) policy at e = absurd cc

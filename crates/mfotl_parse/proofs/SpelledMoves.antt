@@ -1,16 +1,15 @@
 -- What several tokens do, one behind the other, and the rules that they have to keep.
-use Rattle.std.proofs.Common.{◌≡◌, ℕ, suc, ◌+◌, ◌<◌, ◌≤◌, Bool, true, false, List, [], ◌∷◌, ◌++◌, Option, Some, None, Result, Ok, Err, refl, ap, sym, ◌∙◌, arith}
+use Rattle.std.proofs.Common.{◌≡◌, ℕ, ◌≤◌, false, List, [], ◌∷◌, ◌++◌, Option, Some, None, Ok, Err, refl, ap, sym, ◌∙◌}
 use Rattle.std.proofs.lemmas.List.{append-nil, append_assoc}
 use Rattle.std.specs.Prelude.{cond}
 use Rattle.mfotl_lex.specs.declared.fault.LexFault.{LexFault}
 use Rattle.mfotl_lex.specs.Lexemes.{Lexeme}
 use Rattle.mfotl_sig.specs.Preds.{PredOf}
 use Rattle.mfotl_parse.specs.declared.class.Class.{Class}
-use Rattle.mfotl_parse.specs.declared.fault.PolicyFault.{PolicyFault}
 use Rattle.mfotl_parse.specs.Classes.{class_of}
 use Rattle.mfotl_parse.specs.Moves.{Rule, Move, goes, fault_of, kept, given, most_open}
-use Rattle.mfotl_parse.specs.Reading.{PolicyOf, move_at, move_of, step, run, and_then}
-use Rattle.mfotl_parse.specs.States.{Frame, Names, Now, Context, Partial}
+use Rattle.mfotl_parse.specs.Reading.{move_at, move_of, step, run, and_then}
+use Rattle.mfotl_parse.specs.States.{Frame, Names, Now, Partial}
 
 abbrev pub at_place : Now → List Frame → ℕ → Names → Partial
 at_place now stack nodes names = record { context = record { stack = stack; nodes = nodes; names = names }; now = now }

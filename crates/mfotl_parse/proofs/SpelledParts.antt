@@ -1,8 +1,8 @@
 -- How atoms, comparisons and intervals are read.
-use Rattle.std.proofs.Common.{◌≡◌, ℕ, ℤ, zero, suc, ◌+◌, ◌*◌, ◌-◌, ◌<◌, ◌≤◌, pos, negsuc, Bool, true, false, List, [], ◌∷◌, ◌++◌, length, Option, Some, None, refl, ap, sym, subst, ◌∙◌, ◌⊎◌, inl, inr, arith}
+use Rattle.std.proofs.Common.{◌≡◌, ℕ, suc, ◌+◌, ◌*◌, ◌<◌, ◌≤◌, pos, Bool, true, false, List, [], ◌∷◌, ◌++◌, length, Option, Some, None, refl, ap, sym, subst, ◌∙◌, ◌⊎◌, inl, inr, arith}
 use Rattle.std.proofs.lemmas.Bool.{lt-leb, leb-false, le-ltb, ltb-false}
-use Rattle.std.proofs.lemmas.List.{append-nil, append_assoc}
-use Rattle.std.specs.Prelude.{not, codes, cond}
+use Rattle.std.proofs.lemmas.List.{append_assoc}
+use Rattle.std.specs.Prelude.{not, cond}
 use Rattle.mfotl_lex.specs.Contents.{content_of}
 use Rattle.mfotl_lex.specs.Lexemes.{Lexeme}
 use Rattle.mfotl_model.specs.declared.interval.Interval.{Interval}
@@ -15,21 +15,20 @@ use Rattle.mfotl_model.specs.Formulas.{Form}
 use Rattle.mfotl_sig.specs.Preds.{PredOf, named}
 use Rattle.mfotl_parse.specs.declared.class.Class.{Class}
 use Rattle.mfotl_parse.specs.declared.class.Class.TheVariants as classes
-use Rattle.mfotl_parse.specs.declared.term.Operand.{Operand}
 use Rattle.mfotl_parse.specs.declared.term.Operand.TheVariants as operands
 use Rattle.mfotl_parse.specs.declared.term.Side.{Side}
-use Rattle.mfotl_parse.specs.Arguments.{call_of, known, due, after_due, with_argument, argument_move, first_move, call_closed, called, atom_of}
-use Rattle.mfotl_parse.specs.Classes.{class_of, unit_of}
-use Rattle.mfotl_parse.specs.Grammar.{WrittenVariable, Bare, Asked, WrittenTerm, Named, Number, Quoted, WrittenArgument, Given, Hidden, WrittenArguments, LastArgument, MoreArguments, WrittenBound, Count, Counted, WrittenEnd, Included, Excluded, Unbounded, WrittenInterval, Omitted, From, Above, term_spelling, argument_spelling, arguments_spelling, bound_spelling, end_spelling, interval_spelling, FitsTerm, FitsArgument, FitsArguments, FitsBound, FitsEnd, FitsInterval, IsAtomName}
-use Rattle.mfotl_parse.specs.Intervals.{any_distance, distances, framed, with_interval, in_range, not_empty, most_bound, low_unit, high_unit, bracket, high_number_move}
+use Rattle.mfotl_parse.specs.Arguments.{call_of, known, due, after_due, with_argument, argument_move, first_move, atom_of}
+use Rattle.mfotl_parse.specs.Classes.{class_of}
+use Rattle.mfotl_parse.specs.Grammar.{Bare, Asked, WrittenTerm, Named, Number, Quoted, WrittenArgument, Given, Hidden, WrittenArguments, LastArgument, MoreArguments, WrittenBound, Count, Counted, WrittenEnd, Included, Excluded, Unbounded, WrittenInterval, Omitted, From, Above, term_spelling, argument_spelling, arguments_spelling, bound_spelling, end_spelling, interval_spelling, FitsTerm, FitsArgument, FitsArguments, FitsBound, FitsEnd, FitsInterval, IsAtomName}
+use Rattle.mfotl_parse.specs.Intervals.{any_distance, framed, with_interval, in_range, not_empty, most_bound, low_unit, high_unit, bracket, high_number_move}
 use Rattle.mfotl_parse.specs.Operands.{maybe_unit}
-use Rattle.mfotl_parse.specs.Meanings.{Scope, name_of, place_of_variable, place_of, operand_of, term_names, argument_term, argument_names, arguments_terms, arguments_names, sorts_behind, atom, bound_value, interval_from, interval_of, hidden_count, blank_count, argument_count, HasArity, InRange, EndKeeps, IntervalKeeps}
-use Rattle.mfotl_parse.specs.Moves.{Rule, Move, goes, few, shallow, one_due, none_due, is_empty, most_nodes, most_open}
+use Rattle.mfotl_parse.specs.Meanings.{Scope, place_of, operand_of, term_names, argument_term, argument_names, arguments_terms, arguments_names, sorts_behind, atom, bound_value, interval_from, interval_of, hidden_count, blank_count, argument_count, HasArity, InRange, EndKeeps, IntervalKeeps}
+use Rattle.mfotl_parse.specs.Moves.{Rule, goes, few, one_due, none_due, is_empty, most_nodes, most_open}
 use Rattle.mfotl_parse.specs.Names.{binder_of, compared, term_of}
 use Rattle.mfotl_parse.specs.Reading.{move_of, move_at}
 use Rattle.mfotl_parse.specs.States.{Frame, Parens, Negation, Moment, Binding, Left, opens_level, depth, Call, Names, Now, Context, Partial, Want, Fresh, Have, Word, Blank, Marked, Compared, Against, AgainstMarked, First, Next, Taken, ArgumentMarked, Maybe, MaybeNumber, Low, LowNumber, LowDone, High, HighNumber, HighDone, Endless}
 use Rattle.mfotl_parse.proofs.SpelledWords.{blank_text, unit_lasts}
-use Rattle.mfotl_parse.proofs.SpelledMoves.{at_place, moves, move_is, moves_nothing, moves_first, moves_one, moves_both, AreKept, kept_both, kept_front, kept_back}
+use Rattle.mfotl_parse.proofs.SpelledMoves.{at_place, moves, move_is, moves_first, moves_one, moves_both, AreKept, kept_both, kept_front, kept_back}
 use Rattle.mfotl_parse.proofs.SpelledForms.{Takes, takes_whole, takes_behind, takes_less, takes_fresh}
 
 abbrev pub scope_of : List Frame → Scope

@@ -1,30 +1,28 @@
 -- How a whole tree is read, by what is written in it.
-use Rattle.std.proofs.Common.{◌≡◌, ℕ, zero, suc, ◌+◌, ◌<◌, ◌≤◌, max, Bool, true, false, List, [], ◌∷◌, ◌++◌, length, Option, Some, None, refl, ap, sym, subst, ◌∙◌, arith}
+use Rattle.std.proofs.Common.{◌≡◌, ℕ, suc, ◌+◌, ◌<◌, ◌≤◌, Bool, true, false, List, [], ◌∷◌, ◌++◌, length, None, refl, sym, subst, ◌∙◌, arith}
 use Rattle.std.proofs.lemmas.Bool.{lt-leb, leb-false}
-use Rattle.std.proofs.lemmas.List.{append-nil, append_assoc}
+use Rattle.std.proofs.lemmas.List.{append_assoc}
 use Rattle.std.specs.Prelude.{cond}
 use Rattle.mfotl_lex.specs.Lexemes.{Lexeme}
 use Rattle.mfotl_model.specs.declared.interval.Interval.{Interval}
-use Rattle.mfotl_model.specs.Formulas as forms
 use Rattle.mfotl_model.specs.Formulas.{Form}
-use Rattle.mfotl_sig.specs.Preds.{PredOf, named}
+use Rattle.mfotl_sig.specs.Preds.{PredOf}
 use Rattle.mfotl_parse.specs.declared.class.Class.{Class}
 use Rattle.mfotl_parse.specs.declared.class.Class.TheVariants as classes
 use Rattle.mfotl_parse.specs.declared.class.Operator.{Operator}
 use Rattle.mfotl_parse.specs.declared.class.Operator.TheVariants.{And, Or, Implies, Equiv, Since, Until}
 use Rattle.mfotl_parse.specs.declared.class.Quantifier.{Quantifier}
-use Rattle.mfotl_parse.specs.declared.class.Temporal.{Temporal}
 use Rattle.mfotl_parse.specs.Classes.{class_of}
-use Rattle.mfotl_parse.specs.Grammar.{WrittenVariable, Bare, Asked, WrittenVariables, LastVariable, MoreVariables, WrittenInterval, Omitted, Tree, Truth, BareAtom, AtomOf, Comparison, Enclosed, Denied, Timed, Quantified, Joined, variable_spelling, variables_spelling, interval_spelling, spelling, FitsVariable, FitsVariables, FitsInterval, FitsOperator, Fits, left_rule, is_shut}
+use Rattle.mfotl_parse.specs.Grammar.{WrittenVariable, Bare, Asked, WrittenVariables, LastVariable, MoreVariables, WrittenInterval, Omitted, Tree, Truth, BareAtom, AtomOf, Comparison, Enclosed, Denied, Timed, Quantified, Joined, variable_spelling, variables_spelling, interval_spelling, spelling, FitsVariable, FitsVariables, FitsOperator, Fits, left_rule, is_shut}
 use Rattle.mfotl_parse.specs.Intervals.{any_distance, framed}
-use Rattle.mfotl_parse.specs.Meanings.{Scope, inside, name_of, variables_names, variables_scope, quantify, interval_of, names_behind, value, blank_count, argument_count, variable_count, node_count, right_levels, nesting, HasArity, IntervalKeeps, PartsKeep}
+use Rattle.mfotl_parse.specs.Meanings.{Scope, name_of, variables_names, variables_scope, quantify, interval_of, names_behind, value, variable_count, node_count, right_levels, nesting, IntervalKeeps, PartsKeep}
 use Rattle.mfotl_parse.specs.Moves.{Rule, goes, few, shallow, most_nodes, most_open}
 use Rattle.mfotl_parse.specs.Names.{binder_of, bound_more}
 use Rattle.mfotl_parse.specs.Operands.{bound_move, deepening, is_timed, now_behind, truth}
-use Rattle.mfotl_parse.specs.Reduction.{hold, closed, level, right_rule, joined}
-use Rattle.mfotl_parse.specs.States.{Frame, Parens, Negation, Moment, Binding, Left, deepens, depth, Names, Now, Partial, Want, Fresh, Have, Binder, BinderMarked, Bound}
+use Rattle.mfotl_parse.specs.Reduction.{level, right_rule}
+use Rattle.mfotl_parse.specs.States.{Frame, Parens, Negation, Moment, Binding, Left, deepens, depth, Names, Now, Partial, Want, Fresh, Binder, BinderMarked, Bound}
 use Rattle.mfotl_parse.proofs.SpelledMoves.{at_place, moves, moves_both, AreKept, kept_both}
-use Rattle.mfotl_parse.proofs.SpelledForms.{Takes, IsLoose, takes_whole, takes_behind, takes_closed, takes_less, takes_fresh, takes_enclosed, takes_joined}
+use Rattle.mfotl_parse.proofs.SpelledForms.{Takes, IsLoose, takes_whole, takes_behind, takes_closed, takes_less, takes_enclosed, takes_joined}
 use Rattle.mfotl_parse.proofs.SpelledParts.{scope_of, context_at, one, first, node_fits, node_fitted, takes_bare, takes_atom, takes_comparison, takes_timed, arguments_nodes, arguments_nodes_are}
 
 -- frames on the edge of a tree of this rule hold more tightly than what lies below

@@ -1,5 +1,5 @@
 -- What the grammar says of every text, and the reader.
-use Rattle.std.specs.Prelude.{◌≡◌, ◌↔◌, ◌⊎◌, ℕ, IsTrue, List, [], ◌∷◌, ◌++◌, Ok, Err}
+use Rattle.std.specs.Prelude.{◌≡◌, ◌↔◌, ◌⊎◌, ℕ, IsTrue, List, [], ◌∷◌, ◌++◌, length, None, Ok, Err}
 use Rattle.mfotl_lex.specs.Lexemes.{Lexeme}
 use Rattle.mfotl_sig.specs.Preds.{PredOf}
 use Rattle.mfotl_parse.specs.declared.fault.PolicyFault.{PolicyFault}
@@ -51,3 +51,31 @@ pub record SyntaxExactly : Type 0 where
       → (step sig p t ≡ Err (Syntax t.at)) ↔ (BeginsFormula (ts ++ t ∷ []) → ⊥)
   pub end : (sig : List PredOf) (ts : List Lexeme) (p : Partial) (at : ℕ) → steps sig ts start ≡ Ok p
       → (ended_at p.now p.context at ≡ Err (Syntax at)) ↔ (IsFormula ts → ⊥)
+
+-- the tokens show no fault
+abbrev pub AreSound : List PredOf → List Lexeme → Type 0
+AreSound sig ts = (read : Partial) × (steps sig ts start ≡ Ok read)
+
+-- the first token that ends viability, behind tokens that show no fault
+pub record EndsViability (sig : List PredOf) (ts : List Lexeme) (at : ℕ) : Type 0 where
+  pub front : List Lexeme
+  pub token : Lexeme
+  pub back : List Lexeme
+  pub parts : ts ≡ front ++ token ∷ back
+  pub sound : AreSound sig front
+  pub viable : BeginsFormula front
+  pub ends : BeginsFormula (front ++ token ∷ []) → ⊥
+  pub place : at ≡ token.at
+
+-- the text's end, where viable tokens that show no fault are no formula
+pub record EndsTooEarly (sig : List PredOf) (bytes : List ℕ) (at : ℕ) : Type 0 where
+  pub whole : (tokens_of bytes).fault ≡ None
+  pub sound : AreSound sig (tokens_of bytes).list
+  pub viable : BeginsFormula (tokens_of bytes).list
+  pub unaccepted : IsFormula (tokens_of bytes).list → ⊥
+  pub place : at ≡ length bytes
+
+-- Syntax is shown by the first token that ends viability, or by the text's end, and only there
+abbrev pub ExactSyntax : Type 0
+ExactSyntax = (bytes : List ℕ) (sig : List PredOf) (at : ℕ)
+    → (IsFirstFault bytes sig (Syntax at)) ↔ (EndsViability sig (tokens_of bytes).list at ⊎ EndsTooEarly sig bytes at)

@@ -1,5 +1,5 @@
 //! The reader against the grammar. Each law is a function that does nothing: its clause is the law.
-ghost use Rattle.mfotl_parse.specs.GrammarLaws.{AcceptedExactly, SpelledIsRead, ReadIsSpelled, OneAnswer, SyntaxExactly};
+ghost use Rattle.mfotl_parse.specs.GrammarLaws.{AcceptedExactly, SpelledIsRead, ReadIsSpelled, OneAnswer, SyntaxExactly, ExactSyntax};
 
 /// The reader comes to its end exactly with what the grammar spells, whatever other rules are broken.
 pub fn accepted_exactly()
@@ -21,7 +21,12 @@ pub fn one_answer()
     ensures { OneAnswer }
 {}
 
-/// `Syntax` is shown exactly by the first token with which no formula begins, or by the text's end.
+/// Behind tokens that show no fault, a token or the end shows `Syntax` exactly where no formula goes on so.
 pub fn syntax_exactly()
     ensures { SyntaxExactly }
+{}
+
+/// `Syntax` is a text's first fault exactly where its first token that ends viability stands, or its end.
+pub fn exact_syntax()
+    ensures { ExactSyntax }
 {}
