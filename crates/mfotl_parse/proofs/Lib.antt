@@ -17,3 +17,4 @@ pub mod AcceptedTrees
 pub mod AcceptedLaw
 pub mod ReadLaw
 pub mod SyntaxLaw
+pub mod LexLaw

@@ -20,20 +20,20 @@ use Rattle.mfotl_parse.proofs.FaultLemmas.{never_syntax}
 use Rattle.mfotl_parse.proofs.SpelledLaw.{never_sorted, syntax_exactly}
 
 -- the token that shows a fault
-record Stopped (sig : List PredOf) (ts : List Lexeme) (p : Partial) (fault : PolicyFault) : Type 0 where
-  front : List Lexeme
-  token : Lexeme
-  back : List Lexeme
-  read : Partial
-  parts : ts ≡ front ++ token ∷ back
-  sound : steps sig front p ≡ Ok read
-  stop : step sig read token ≡ Err fault
+pub record Stopped (sig : List PredOf) (ts : List Lexeme) (p : Partial) (fault : PolicyFault) : Type 0 where
+  pub front : List Lexeme
+  pub token : Lexeme
+  pub back : List Lexeme
+  pub read : Partial
+  pub parts : ts ≡ front ++ token ∷ back
+  pub sound : steps sig front p ≡ Ok read
+  pub stop : step sig read token ≡ Err fault
 
 -- the end, where no token does
-record Ended (sig : List PredOf) (end : ℕ) (lexical : Option LexFault) (ts : List Lexeme) (p : Partial) (fault : PolicyFault) : Type 0 where
-  read : Partial
-  sound : steps sig ts p ≡ Ok read
-  stop : at_end lexical end read ≡ Err fault
+pub record Ended (sig : List PredOf) (end : ℕ) (lexical : Option LexFault) (ts : List Lexeme) (p : Partial) (fault : PolicyFault) : Type 0 where
+  pub read : Partial
+  pub sound : steps sig ts p ≡ Ok read
+  pub stop : at_end lexical end read ≡ Err fault
 
 shown_by : (sig : List PredOf) (end : ℕ) (lexical : Option LexFault) (t : Lexeme) (ts : List Lexeme) (p : Partial) (fault : PolicyFault) (r : Result Partial PolicyFault) → step sig p t ≡ r
     → ((q : Partial) → run sig end lexical ts q ≡ Err fault → Stopped sig ts q fault ⊎ Ended sig end lexical ts q fault)
@@ -56,7 +56,7 @@ shown_by sig end lexical t ts p fault (Ok q) e later f =
       | inr s ↦ inr (record { read = s.read; sound = ap (λ (r : Result Partial PolicyFault). and_steps r (steps sig ts)) e ∙ s.sound; stop = s.stop })
     ]
 
-shown : (sig : List PredOf) (end : ℕ) (lexical : Option LexFault) (ts : List Lexeme) (p : Partial) (fault : PolicyFault)
+pub shown : (sig : List PredOf) (end : ℕ) (lexical : Option LexFault) (ts : List Lexeme) (p : Partial) (fault : PolicyFault)
     → run sig end lexical ts p ≡ Err fault → Stopped sig ts p fault ⊎ Ended sig end lexical ts p fault
 unfolding run steps
 shown sig end lexical [] p fault e = inr (record { read = p; sound = refl; stop = e })
@@ -69,7 +69,7 @@ run_step : (sig : List PredOf) (end : ℕ) (lexical : Option LexFault) (ts more 
 run_step sig end lexical ts more q (Ok p) later e = later p e
 run_step sig end lexical ts more q (Err fault) later e = absurd cc
 
-run_behind : (sig : List PredOf) (end : ℕ) (lexical : Option LexFault) (ts more : List Lexeme) (p q : Partial)
+pub run_behind : (sig : List PredOf) (end : ℕ) (lexical : Option LexFault) (ts more : List Lexeme) (p q : Partial)
     → steps sig ts p ≡ Ok q → run sig end lexical (ts ++ more) p ≡ run sig end lexical more q
 unfolding steps run
 run_behind sig end lexical [] more p q e = let same : p ≡ q = cc in ap (run sig end lexical more) same

@@ -1,9 +1,10 @@
 -- What the grammar says of every text, and the reader.
-use Rattle.std.specs.Prelude.{◌≡◌, ◌↔◌, ◌⊎◌, ℕ, IsTrue, List, [], ◌∷◌, ◌++◌, length, None, Ok, Err}
+use Rattle.std.specs.Prelude.{◌≡◌, ◌↔◌, ◌⊎◌, ℕ, IsTrue, List, [], ◌∷◌, ◌++◌, length, Some, None, Ok, Err}
+use Rattle.mfotl_lex.specs.declared.fault.LexFault.{LexFault}
 use Rattle.mfotl_lex.specs.Lexemes.{Lexeme}
 use Rattle.mfotl_sig.specs.Preds.{PredOf}
 use Rattle.mfotl_parse.specs.declared.fault.PolicyFault.{PolicyFault}
-use Rattle.mfotl_parse.specs.declared.fault.PolicyFault.TheVariants.{Syntax}
+use Rattle.mfotl_parse.specs.declared.fault.PolicyFault.TheVariants.{Lex, Syntax}
 use Rattle.mfotl_parse.specs.Grammar.{IsFormula, BeginsFormula}
 use Rattle.mfotl_parse.specs.Meanings.{IsValue, tokens_of}
 use Rattle.mfotl_parse.specs.Reading.{PolicyOf, step, ended_at, reading}
@@ -79,3 +80,8 @@ pub record EndsTooEarly (sig : List PredOf) (bytes : List ℕ) (at : ℕ) : Type
 abbrev pub ExactSyntax : Type 0
 ExactSyntax = (bytes : List ℕ) (sig : List PredOf) (at : ℕ)
     → (IsFirstFault bytes sig (Syntax at)) ↔ (EndsViability sig (tokens_of bytes).list at ⊎ EndsTooEarly sig bytes at)
+
+-- a fault of the lexer is shown behind all whole tokens, where they show none, and only there
+abbrev pub ExactLex : Type 0
+ExactLex = (bytes : List ℕ) (sig : List PredOf) (fault : LexFault)
+    → (IsFirstFault bytes sig (Lex fault)) ↔ (AreSound sig (tokens_of bytes).list × ((tokens_of bytes).fault ≡ Some fault))

@@ -1,5 +1,5 @@
 //! The reader against the grammar. Each law is a function that does nothing: its clause is the law.
-ghost use Rattle.mfotl_parse.specs.GrammarLaws.{AcceptedExactly, SpelledIsRead, ReadIsSpelled, OneAnswer, SyntaxExactly, ExactSyntax};
+ghost use Rattle.mfotl_parse.specs.GrammarLaws.{AcceptedExactly, SpelledIsRead, ReadIsSpelled, OneAnswer, SyntaxExactly, ExactSyntax, ExactLex};
 
 /// The reader comes to its end exactly with what the grammar spells, whatever other rules are broken.
 pub fn accepted_exactly()
@@ -29,4 +29,9 @@ pub fn syntax_exactly()
 /// `Syntax` is a text's first fault exactly where its first token that ends viability stands, or its end.
 pub fn exact_syntax()
     ensures { ExactSyntax }
+{}
+
+/// A fault of the lexer is the first one exactly where the whole tokens before it show none.
+pub fn exact_lex()
+    ensures { ExactLex }
 {}

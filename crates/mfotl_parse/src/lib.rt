@@ -19,7 +19,8 @@ mod term;
 pub use examples::{fault_examples, formula_examples};
 pub use fault::PolicyFault;
 pub use grammar_laws::{
-    accepted_exactly, exact_syntax, one_answer, read_is_spelled, spelled_is_read, syntax_exactly,
+    accepted_exactly, exact_lex, exact_syntax, one_answer, read_is_spelled, spelled_is_read,
+    syntax_exactly,
 };
 pub use laws::first_faults;
 pub use reading::read_policy;
