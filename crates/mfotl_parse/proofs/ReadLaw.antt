@@ -129,11 +129,11 @@ module _ (bytes : List ℕ) (sig : List PredOf) (policy : PolicyOf) (read : read
         spelled = spelled;
         rules = record {
           parts = keeps.2;
-          few = omega (arith, keeps.0);
-          shallow = omega (arith, keeps.1);
+          few_nodes = omega (arith, keeps.0);
+          few_levels = omega (arith, keeps.1);
           unclashed = u.unclashed;
           even = u.even;
-          closed = at_most (all_names sig tree).free u.few;
+          few_free = at_most (all_names sig tree).free u.few;
         };
         value = u.same;
       }

@@ -156,9 +156,6 @@ first_first rule q r (Some m) f = by_rest (f m.next)
     by_rest None = refl
     by_rest (Some n) = refl
 
-abbrev Leads : List PredOf → Option Move → List Lexeme → List Rule → Partial → Type 0
-Leads sig m ts rules q = then_moves m (moves sig ts) ≡ goes rules q
-
 nothing_leads : {rules : List Rule} {q : Partial} → None ≡ goes rules q → (P : Type 0) → P
 nothing_leads e P = absurd (no_move e)
 

@@ -64,7 +64,7 @@ accepted_exactly sig ts = (λ h. accepted_formula sig ts h, λ formula. formula_
 
 module _ (sig : List PredOf) (tree : Tree) (rules : KeepsRules sig tree) where
   none_ninth : slice_get (all_names sig tree).free most_free ≡ None
-  none_ninth = slice_get_past (all_names sig tree).free most_free rules.closed
+  none_ninth = slice_get_past (all_names sig tree).free most_free rules.few_free
 
   finishes : finished (all_names sig tree) (value sig tree no_scope no_names) ≡ Ok (policy_of sig tree)
   finishes =
@@ -76,7 +76,7 @@ module _ (sig : List PredOf) (tree : Tree) (rules : KeepsRules sig tree) where
   unfolding run
   read end fits =
       let t = whole sig tree fits in
-      run_moves sig end None (spelling tree) start _ t.rules t.reached (t.kept.0 (omega (arith, rules.few), omega (arith, rules.shallow), rules.parts))
+      run_moves sig end None (spelling tree) start _ t.rules t.reached (t.kept.0 (omega (arith, rules.few_nodes), omega (arith, rules.few_levels), rules.parts))
       ∙ ap (λ (r : Reduced). ended (all_names sig tree) r.form (is_closed r.stack) end) (all_closed sig tree fits)
       ∙ finishes
 

@@ -395,9 +395,6 @@ module _ (sig : List PredOf) where
       (ap (maybe_unit (context_at stack nodes names) at token.at n) fits.2)
       (one sig (at_place (LowDone at (n * seconds + 1)) stack nodes names) _ comma classes.Comma [] class refl))
 
-  abbrev high_rules : WrittenBound → List Rule
-  high_rules bound = low_rules bound
-
   -- an upper bound, and the bracket behind it
   high_read : (at low : ℕ) (high : WrittenBound) (closing : Lexeme) (stack : List Frame) (nodes : ℕ) (names : Names) (c : Class) (rules : List Rule) (q : Partial)
       → FitsBound high → class_of closing ≡ c → (c ≡ classes.CloseBracket) ⊎ (c ≡ classes.CloseParen)

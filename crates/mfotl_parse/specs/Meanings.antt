@@ -243,14 +243,14 @@ all_names sig tree = names_behind sig tree no_scope no_names
 pub record KeepsRules (sig : List PredOf) (tree : Tree) : Type 0 where
   pub parts : PartsKeep sig tree
   -- at most 4,096 nodes
-  pub few : node_count tree ≤ most_nodes
+  pub few_nodes : node_count tree ≤ most_nodes
   -- at most 64 levels open at once
-  pub shallow : nesting tree ≤ most_open
+  pub few_levels : nesting tree ≤ most_open
   -- no two occurrences or constants clash, and no two compared variables
   pub unclashed : (all_names sig tree).clash ≡ None
   pub even : uneven_pair (all_names sig tree) ≡ None
   -- at most 8 free variables
-  pub closed : length (all_names sig tree).free ≤ most_free
+  pub few_free : length (all_names sig tree).free ≤ most_free
 
 abbrev pub tokens_of : List ℕ → Tokens
 tokens_of bytes = tokens (beginning Plain bytes)
