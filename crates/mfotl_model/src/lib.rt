@@ -14,6 +14,7 @@ mod row;
 mod term;
 mod text;
 mod value;
+mod verdict_text;
 
 pub use event::{Db, Event, TimePoint};
 pub use examples::worked_examples;
@@ -26,6 +27,7 @@ pub use row::{Row, RowList};
 pub use term::{Atom, Comparison, Sign, Term, Terms};
 pub use text::{Name, Text};
 pub use value::Value;
+pub use verdict_text::{push_rows, verdict_line};
 
 #[cfg(test)]
 mod tests;

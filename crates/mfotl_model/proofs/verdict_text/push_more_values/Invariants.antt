@@ -1,6 +1,6 @@
 use Rattle.std.proofs.Common.{◌≡◌, ◌++◌, drop}
 use Rattle.mfotl_model.specs.VerdictText.{more_values}
-use Rattle.mfotl_model.proofs.plain.lines.push_more.Given as goal
+use Rattle.mfotl_model.proofs.verdict_text.push_more_values.Given as goal
 
 abbrev pub invariant-loop-value : goal.invariant-loop-value
 invariant-loop-value l =
