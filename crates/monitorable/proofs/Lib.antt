@@ -1,4 +1,5 @@
 pub mod BudgetLemmas
+pub mod ShownNames
 pub mod SettledLemmas
 pub mod TemporalLemmas
 pub mod FinalityLaw

@@ -3,6 +3,7 @@ pub mod NodeCount
 pub mod Budget
 pub mod Fragment
 pub mod Judging
+pub mod FaultTexts
 pub mod Scope
 pub mod Renaming
 pub mod RenamingScope

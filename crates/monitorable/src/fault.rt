@@ -3,7 +3,7 @@ ghost use Rattle.std.specs.Prelude.{◌≡◌};
 ghost use Rattle.monitorable.specs.declared.fault.FragmentFault.TheVariants.{Memory};
 
 use mfotl_model::Name;
-use std::alloc::{AllocError, AllocFailed};
+use std::alloc::{AllocError, AllocFailed, Global};
 use std::fmt;
 use thiserror::Error;
 
@@ -14,12 +14,37 @@ pub struct Variable {
     pub name: Name,
 }
 
-impl fmt::Display for Variable {
-    fn fmt<W: fmt::Write>(&self, f: &mut fmt::Formatter<W>) -> fmt::Result {
+impl Variable {
+    ghost use Rattle.std.specs.Prelude.{◌++◌, IfOk};
+    ghost use Rattle.monitorable.specs.FaultTexts.{shown_name};
+
+    // The name where it is UTF-8, and else nothing.
+    fn shown(&self) -> &str
+        ensures { result.now ≡ shown_name self.now.name }
+    {
         match str::from_utf8(self.name.as_bytes()) {
-            Ok(name) => f.write_str(name),
-            Err(_) => Ok(()),
+            Ok(name) => name,
+            Err(_) => "",
         }
+    }
+
+    fn text_after(&self, kind: &[u8], alloc: Global) -> Result<Vec<u8>, AllocError>
+        ensures { IfOk result (λ text. text.items ≡ kind.now ++ self.now.name) }
+    {
+        let mut text = Vec::from_slice(alloc, kind)?;
+        text.extend_from_slice(self.name.as_bytes())?;
+        Ok(text)
+    }
+}
+
+impl fmt::Display for Variable {
+    ghost use Rattle.std.specs.Prelude.{Some};
+    ghost use Rattle.monitorable.specs.FaultTexts.{shown_name};
+
+    ghost output = { λ variable. Some (shown_name variable.name) };
+
+    fn fmt<W: fmt::Write>(&self, f: &mut fmt::Formatter<W>) -> fmt::Result {
+        f.write_str(self.shown())
     }
 }
 
@@ -27,26 +52,59 @@ impl fmt::Display for Variable {
 #[derive(Debug, Drop, Error)]
 pub enum FragmentFault {
     /// The normal form has more than 1,024 nodes.
-    #[error("TooLarge")]
     TooLarge,
     /// An UNTIL, EVENTUALLY or ALWAYS has no greatest distance.
-    #[error("UnboundedFuture")]
     UnboundedFuture,
     /// No other part of a conjunction binds the variable of a NOT or a comparison.
-    #[error("Unguarded {0}")]
     Unguarded(Variable),
     /// The sides of an OR have different free variables.
-    #[error("Uneven")]
     Uneven,
     /// A free variable of the left side of SINCE or UNTIL isn't free in the right one.
-    #[error("LooseLeft {0}")]
     LooseLeft(Variable),
     /// A quantified variable isn't free in what follows.
-    #[error("UnusedBound {0}")]
     UnusedBound(Variable),
     /// There was no memory.
-    #[error("Memory")]
     Memory,
+}
+
+impl FragmentFault {
+    ghost use Rattle.std.specs.Prelude.{IfOk};
+    ghost use Rattle.monitorable.specs.FaultTexts.{fault_text};
+
+    /// What is printed of the fault, whatever bytes the variable's name has.
+    pub fn text(&self, alloc: Global) -> Result<Vec<u8>, AllocError>
+        ensures { IfOk result (λ text. text.items ≡ fault_text self.now) }
+    {
+        match self {
+            FragmentFault::TooLarge => Vec::from_slice(alloc, b"TooLarge"),
+            FragmentFault::UnboundedFuture => Vec::from_slice(alloc, b"UnboundedFuture"),
+            FragmentFault::Unguarded(variable) => variable.text_after(b"Unguarded ", alloc),
+            FragmentFault::Uneven => Vec::from_slice(alloc, b"Uneven"),
+            FragmentFault::LooseLeft(variable) => variable.text_after(b"LooseLeft ", alloc),
+            FragmentFault::UnusedBound(variable) => variable.text_after(b"UnusedBound ", alloc),
+            FragmentFault::Memory => Vec::from_slice(alloc, b"Memory"),
+        }
+    }
+}
+
+// By hand, since a derived `Display` says nothing of its bytes to a contract.
+impl fmt::Display for FragmentFault {
+    ghost use Rattle.std.specs.Prelude.{Some};
+    ghost use Rattle.monitorable.specs.FaultTexts.{shown_fault};
+
+    ghost output = { λ fault. Some (shown_fault fault) };
+
+    fn fmt<W: fmt::Write>(&self, f: &mut fmt::Formatter<W>) -> fmt::Result {
+        match self {
+            FragmentFault::TooLarge => f.write_str("TooLarge"),
+            FragmentFault::UnboundedFuture => f.write_str("UnboundedFuture"),
+            FragmentFault::Unguarded(variable) => write!(f, "Unguarded {variable}"),
+            FragmentFault::Uneven => f.write_str("Uneven"),
+            FragmentFault::LooseLeft(variable) => write!(f, "LooseLeft {variable}"),
+            FragmentFault::UnusedBound(variable) => write!(f, "UnusedBound {variable}"),
+            FragmentFault::Memory => f.write_str("Memory"),
+        }
+    }
 }
 
 impl From<AllocError> for FragmentFault {
