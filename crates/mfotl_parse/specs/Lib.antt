@@ -13,3 +13,4 @@ pub mod Examples
 pub mod Grammar
 pub mod Meanings
 pub mod GrammarLaws
+pub mod FaultTexts

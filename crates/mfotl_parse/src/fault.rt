@@ -4,44 +4,58 @@ ghost use Rattle.mfotl_parse.specs.declared.fault.PolicyFault.TheVariants.{Memor
 
 use mfotl_lex::LexFault;
 use std::alloc::{AllocError, AllocFailed};
+use std::fmt;
 use thiserror::Error;
 
 /// The first fault of a policy. Each offset counts bytes from the start of the text.
 #[derive(Clone, Copy, Debug, Error)]
 pub enum PolicyFault {
     /// The bytes form no token.
-    #[error("Lex {0}")]
     Lex(LexFault),
     /// The grammar can't go on with this token, or the text ends too early.
-    #[error("Syntax at {0}")]
     Syntax(u64),
     /// An interval without a number in it, at its bracket.
-    #[error("EmptyInterval at {0}")]
     EmptyInterval(u64),
     /// An interval's bound above 2^62, at its number.
-    #[error("BoundRange at {0}")]
     BoundRange(u64),
     /// The signature has no predicate of this name.
-    #[error("UnknownPredicate at {0}")]
     UnknownPredicate(u64),
     /// An argument past the predicate's last, or the `)` of too few.
-    #[error("WrongArity at {0}")]
     WrongArity(u64),
     /// A variable or a constant where another sort stands.
-    #[error("SortClash at {0}")]
     SortClash(u64),
     /// The ninth free variable.
-    #[error("TooManyVariables at {0}")]
     TooManyVariables(u64),
     /// The 65th of the operands that are open at once.
-    #[error("TooDeep at {0}")]
     TooDeep(u64),
     /// The 4,097th node.
-    #[error("TooManyNodes at {0}")]
     TooManyNodes(u64),
     /// Want of memory.
-    #[error("Memory")]
     Memory,
+}
+
+// By hand, since a derived `Display` says nothing of its bytes to a contract.
+impl fmt::Display for PolicyFault {
+    ghost use Rattle.std.specs.Prelude.{Some};
+    ghost use Rattle.mfotl_parse.specs.FaultTexts.{fault_text};
+
+    ghost output = { λ fault. Some (fault_text fault) };
+
+    fn fmt<W: fmt::Write>(&self, f: &mut fmt::Formatter<W>) -> fmt::Result {
+        match self {
+            PolicyFault::Lex(fault) => write!(f, "Lex {fault}"),
+            PolicyFault::Syntax(at) => write!(f, "Syntax at {at}"),
+            PolicyFault::EmptyInterval(at) => write!(f, "EmptyInterval at {at}"),
+            PolicyFault::BoundRange(at) => write!(f, "BoundRange at {at}"),
+            PolicyFault::UnknownPredicate(at) => write!(f, "UnknownPredicate at {at}"),
+            PolicyFault::WrongArity(at) => write!(f, "WrongArity at {at}"),
+            PolicyFault::SortClash(at) => write!(f, "SortClash at {at}"),
+            PolicyFault::TooManyVariables(at) => write!(f, "TooManyVariables at {at}"),
+            PolicyFault::TooDeep(at) => write!(f, "TooDeep at {at}"),
+            PolicyFault::TooManyNodes(at) => write!(f, "TooManyNodes at {at}"),
+            PolicyFault::Memory => f.write_str("Memory"),
+        }
+    }
 }
 
 impl From<AllocError> for PolicyFault {

@@ -1,0 +1,19 @@
+-- How a fault is printed: `Lex BadByte at 4`, `SortClash at 16`.
+use Rattle.std.specs.Prelude.{ℕ, List, ◌++◌, codes}
+use Rattle.std.specs.Fmt.{decimal}
+use Rattle.mfotl_lex.specs.FaultTexts as lex
+use Rattle.mfotl_parse.specs.declared.fault.PolicyFault.{PolicyFault}
+use Rattle.mfotl_parse.specs.declared.fault.PolicyFault.TheVariants.{Lex, Syntax, EmptyInterval, BoundRange, UnknownPredicate, WrongArity, SortClash, TooManyVariables, TooDeep, TooManyNodes, Memory}
+
+abbrev pub fault_text : PolicyFault → List ℕ
+fault_text (Lex fault) = codes "Lex " ++ lex.fault_text fault
+fault_text (Syntax at) = codes "Syntax at " ++ decimal at
+fault_text (EmptyInterval at) = codes "EmptyInterval at " ++ decimal at
+fault_text (BoundRange at) = codes "BoundRange at " ++ decimal at
+fault_text (UnknownPredicate at) = codes "UnknownPredicate at " ++ decimal at
+fault_text (WrongArity at) = codes "WrongArity at " ++ decimal at
+fault_text (SortClash at) = codes "SortClash at " ++ decimal at
+fault_text (TooManyVariables at) = codes "TooManyVariables at " ++ decimal at
+fault_text (TooDeep at) = codes "TooDeep at " ++ decimal at
+fault_text (TooManyNodes at) = codes "TooManyNodes at " ++ decimal at
+fault_text Memory = codes "Memory"
