@@ -88,7 +88,7 @@ module _ (sig : List PredOf) (limits : Limits) (bytes : List ℕ) where
       }
 
   module _ (is_fed is_ended : Bool) where
-    pub sound_leads : (at at' : ℕ) (p q : Partial) (points : List TimePoint) → IsSound sig limits bytes is_fed is_ended at p
+    sound_leads : (at at' : ℕ) (p q : Partial) (points : List TimePoint) → IsSound sig limits bytes is_fed is_ended at p
         → Leads sig limits (take limits.bytes bytes) (is_ended && not (is_long limits bytes)) at p points at' q
         → IsSound sig limits bytes is_fed is_ended at' q
     sound_leads at at' p q points s l = record {
@@ -121,7 +121,7 @@ module _ (sig : List PredOf) (limits : Limits) (bytes : List ℕ) where
               rw more (moves later (given_of p) at at p (finished p) (point_of p ∷ []) (s.remains later is) both);
         }
 
-    pub sound_end : (at : ℕ) (p q : Partial) (answer : Result Next LogFault) → IsSound sig limits bytes is_fed is_ended at p
+    sound_end : (at : ℕ) (p q : Partial) (answer : Result Next LogFault) → IsSound sig limits bytes is_fed is_ended at p
         → next_token (place_in (take limits.bytes bytes) (is_ended && not (is_long limits bytes)) at) ≡ Ok None
         → answer ≡ answer_of is_ended (nothing_left limits bytes is_ended p) → q ≡ behind_answer p answer
         → IsSound sig limits bytes is_fed is_ended at q
@@ -133,15 +133,15 @@ module _ (sig : List PredOf) (limits : Limits) (bytes : List ℕ) where
     sound_end at p q (Err fault) s empty e is = rw is s
 
     -- what is due is what the rest gives
-    pub due_rest : (at : ℕ) (p : Partial) → IsSound sig limits bytes is_fed is_ended at p
+    due_rest : (at : ℕ) (p : Partial) → IsSound sig limits bytes is_fed is_ended at p
         → answer_of is_ended (skipped (given_of p) (reading sig limits bytes is_ended))
         ≡ answer_of is_ended (run_from sig limits (nothing_left limits bytes is_ended) p (place_at limits bytes is_ended at))
     due_rest at p s = ap (answer_of is_ended) (s.remains is_ended (later_self is_ended)).rest
 
-    pub due_none : (at at' : ℕ) (p q : Partial) → IsSound sig limits bytes is_fed is_ended at p
+    due_exhausted : (at at' : ℕ) (p q : Partial) → IsSound sig limits bytes is_fed is_ended at p
         → Exhausts sig limits (take limits.bytes bytes) (is_ended && not (is_long limits bytes)) at p at' q
         → answer_of is_ended (skipped (given_of p) (reading sig limits bytes is_ended)) ≡ answer_of is_ended (nothing_left limits bytes is_ended q)
-    due_none at at' p q s x =
+    due_exhausted at at' p q s x =
         let last = nothing_left limits bytes is_ended in
         due_rest at p s ∙ ap (answer_of is_ended)
         (x.leads.reads (is_ended && not (is_long limits bytes)) (later_self (is_ended && not (is_long limits bytes))) last
@@ -184,16 +184,31 @@ gives_due (Ok next) due e = e
 gives_due (Err Memory) due e = tt
 gives_due (Err fault) due e = e
 
--- what an advance gave, at what its arguments are
-module _ (sig : List PredOf) (limits : Limits) (looked looked' : List ℕ) (ended ended' : Bool) (at : ℕ) (p : Partial)
+-- behind what an advance gave, at what its arguments are
+module _ (sig : List PredOf) (limits : Limits) (bytes looked : List ℕ) (is_fed is_ended told : Bool) (at : ℕ) (p : Partial)
     (result : Result (Option TimePoint) LogFault) (at' : ℕ) (q : Partial)
-    (look : looked ≡ looked') (end : ended ≡ ended') (a : Advances sig limits looked ended at p result at' q) where
-  pub advanced_point : (point : TimePoint) → result ≡ Ok (Some point) → Leads sig limits looked' ended' at p (point ∷ []) at' q
-  advanced_point point is =
-      let b : Advances sig limits looked' ended' at p result at' q = subst (λ (x : Bool). Advances sig limits looked' x at p result at' q) end (subst (λ (x : List ℕ). Advances sig limits x ended at p result at' q) look a) in
-      subst (λ (r : Result (Option TimePoint) LogFault). Advances sig limits looked' ended' at p r at' q) is b
+    (look : looked ≡ take limits.bytes bytes) (end : told ≡ (is_ended && not (is_long limits bytes)))
+    (a : Advances sig limits looked told at p result at' q) (s : IsSound sig limits bytes is_fed is_ended at p) where
+  abbrev AdvancesTo : Result (Option TimePoint) LogFault → Type 0
+  AdvancesTo r = Advances sig limits (take limits.bytes bytes) (is_ended && not (is_long limits bytes)) at p r at' q
 
-  pub advanced_none : result ≡ Ok None → Exhausts sig limits looked' ended' at p at' q
-  advanced_none is =
-      let b : Advances sig limits looked' ended' at p result at' q = subst (λ (x : Bool). Advances sig limits looked' x at p result at' q) end (subst (λ (x : List ℕ). Advances sig limits x ended at p result at' q) look a) in
-      subst (λ (r : Result (Option TimePoint) LogFault). Advances sig limits looked' ended' at p r at' q) is b
+  advanced : AdvancesTo result
+  advanced = subst (λ (x : Bool). Advances sig limits (take limits.bytes bytes) x at p result at' q) end
+      (subst (λ (x : List ℕ). Advances sig limits x told at p result at' q) look a)
+
+  pub sound_point : (point : TimePoint) → result ≡ Ok (Some point) → IsSound sig limits bytes is_fed is_ended at' q
+  sound_point point is = sound_leads sig limits bytes is_fed is_ended at at' p q (point ∷ []) s (subst AdvancesTo is advanced)
+
+  -- where no whole token is left, the end gives the answer
+  module _ (is : result ≡ Ok None) (answer : Result Next LogFault) (r : Partial)
+      (e : answer ≡ answer_of is_ended (nothing_left limits bytes is_ended q)) (m : r ≡ behind_answer q answer) where
+    exhausted : Exhausts sig limits (take limits.bytes bytes) (is_ended && not (is_long limits bytes)) at p at' q
+    exhausted = subst AdvancesTo is advanced
+
+    pub sound_none : IsSound sig limits bytes is_fed is_ended at' r
+    sound_none =
+        let sound : IsSound sig limits bytes is_fed is_ended at' q = sound_leads sig limits bytes is_fed is_ended at at' p q [] s exhausted.leads in
+        sound_end sig limits bytes is_fed is_ended at' q r answer sound exhausted.empty e m
+
+    pub due_none : answer_of is_ended (skipped (given_of p) (reading sig limits bytes is_ended)) ≡ answer
+    due_none = due_exhausted sig limits bytes is_fed is_ended at at' p q s exhausted ∙ sym e

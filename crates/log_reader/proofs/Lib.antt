@@ -1,6 +1,7 @@
 pub mod Lexing
 pub mod Turning
 pub mod Keeping
+pub mod Fewness
 pub mod Paths
 pub mod Walks
 pub mod SyntaxLaw

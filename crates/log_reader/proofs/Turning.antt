@@ -179,11 +179,11 @@ stepped_reaches sig limits p t AfterClose = closed_reaches t.at p p.due
 stepped_reaches sig limits p t Between = done Between p _ (record { stage = refl; points = omega arith })
 
 -- a step that completes nothing keeps the count
-record Counts (p q : Partial) : Type 0 where
+pub record Counts (p q : Partial) : Type 0 where
   pub counted : IsCounted q
   pub given : given_of q ≡ given_of p
 
-none_at : (g : Stage) → (g ≡ AfterAt → ⊥) → one_if_at g ≡ 0
+pub none_at : (g : Stage) → (g ≡ AfterAt → ⊥) → one_if_at g ≡ 0
 none_at AfterAt h = absurd (h refl)
 none_at _ h = refl
 
@@ -198,7 +198,7 @@ counts_by p q s g e (keeps one there not_at) c r =
     let same : one_if_at g ≡ 0 = none_at g not_at in
     record { counted = omega (arith, before, now, same, r.points, c); given = omega (arith, before, now, same, r.points) }
 
-step_counts : (sig : List PredOf) (limits : Limits) (p q : Partial) (t : Lexeme) → IsCounted p → completes p.stage (symbol t) ≡ false → step sig limits p t ≡ Ok q → Counts p q
+pub step_counts : (sig : List PredOf) (limits : Limits) (p q : Partial) (t : Lexeme) → IsCounted p → completes p.stage (symbol t) ≡ false → step sig limits p t ≡ Ok q → Counts p q
 unfolding step
 step_counts sig limits p q t c h e =
     by_stage (goes p.stage (symbol t)) refl e
@@ -209,7 +209,7 @@ step_counts sig limits p q t c h e =
 
 -- ---- turns
 
-completes_cases : (s : Stage) (x : Symbol) → completes s x ≡ true
+pub completes_cases : (s : Stage) (x : Symbol) → completes s x ≡ true
     → (open_count s ≡ 1) × (((x ≡ AtSign) × (goes s x ≡ Some AfterAt)) ⊎ ((x ≡ Terminator) × (goes s x ≡ Some Between)))
 completes_cases AfterStamp AtSign h = (refl, inl (refl, refl))
 completes_cases AfterStamp Terminator h = (refl, inr (refl, refl))
@@ -225,11 +225,11 @@ read_on-terminator : (k : Kind) (c : List ℕ) (before after : ℕ) → symbol_o
 read_on-terminator Semicolon c before after e = refl
 read_on-terminator _ c before after e = absurd cc
 
-completed_none : (p : Partial) (t : Lexeme) → completes p.stage (symbol t) ≡ false → completed p t ≡ []
+pub completed_none : (p : Partial) (t : Lexeme) → completes p.stage (symbol t) ≡ false → completed p t ≡ []
 unfolding completed
 completed_none p t h = ap (λ (b : Bool). cond b (point_of p ∷ []) []) h
 
-completed_one : (p : Partial) (t : Lexeme) → completes p.stage (symbol t) ≡ true → completed p t ≡ point_of p ∷ []
+pub completed_one : (p : Partial) (t : Lexeme) → completes p.stage (symbol t) ≡ true → completed p t ≡ point_of p ∷ []
 unfolding completed
 completed_one p t h = ap (λ (b : Bool). cond b (point_of p ∷ []) []) h
 

@@ -1,4 +1,4 @@
-ghost use Rattle.std.specs.Prelude.{◌≡◌, false, true, OnOk, OnErr};
+ghost use Rattle.std.specs.Prelude.{◌≡◌, ◌≤◌, false, true, OnOk, OnErr};
 ghost use Rattle.log_reader.specs.Given.{Gives};
 
 use crate::cursor::Cursor;
@@ -120,6 +120,7 @@ impl<'a> LogReader<'a> {
         requires { self.old.is_broken ≡ false }
         ensures answer { Gives (λ next. next) result (due self.old) }
         ensures after { Proceeds self.old self.new result }
+        ensures few { OnOk result (self.new.given ≤ self.new.limits.points) }
     {
         let looked = self.limits.looked_at(&self.bytes);
         let ended = self.limits.is_end_told(&self.bytes, self.is_ended);

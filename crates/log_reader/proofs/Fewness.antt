@@ -1,0 +1,160 @@
+-- A reading has no more time-points than the limit.
+use Rattle.std.proofs.Common.{◌≡◌, inl, inr, ℕ, ◌+◌, ◌≤◌, Bool, true, false, List, [], ◌∷◌, length, Option, Some, None, Result, Ok, Err, OnOk, refl, sym, ap, ◌∙◌, arith, nat_lt}
+use Rattle.std.proofs.lemmas.Bool.{cond_both, cases_Bool, ltb-true}
+use Rattle.std.proofs.lemmas.List.{length-append}
+use Rattle.mfotl_lex.specs.Lexemes.{Lexeme, tokens}
+use Rattle.mfotl_lex.specs.declared.fault.LexFault.{LexFault}
+use Rattle.mfotl_sig.specs.Preds.{PredOf}
+use Rattle.log_reader.specs.declared.fault.LogFault.{LogFault}
+use Rattle.log_reader.specs.declared.fault.LogFault.TheVariants.{TooManyPoints}
+use Rattle.log_reader.specs.declared.limits.Limits.{Limits}
+use Rattle.log_reader.specs.declared.stage.Stage.{Stage}
+use Rattle.log_reader.specs.declared.stage.Stage.TheVariants.{Between, AfterAt, AfterStamp, AfterClose}
+use Rattle.log_reader.specs.Cursors.{open_count, given_of, IsCounted}
+use Rattle.log_reader.specs.Partials.{Partial, blank}
+use Rattle.log_reader.specs.Readings.{Reading, went_on, run, behind_tokens, is_long, finish_at, nothing_left, place_at, reading}
+use Rattle.log_reader.specs.Soundness.{IsSound}
+use Rattle.log_reader.specs.Stages.{goes, completes}
+use Rattle.log_reader.specs.Steps.{step, stepped, completed}
+use Rattle.log_reader.specs.Symbols.{symbol}
+use Rattle.log_reader.proofs.Turning.{one_if_at, none_at, stepped_reaches, step_counts, completes_cases, completed_none, completed_one, later_self}
+
+-- no more were begun than the limit
+pub record IsFew (limits : Limits) (p : Partial) : Type 0 where
+  pub counted : IsCounted p
+  pub begun : p.points ≤ limits.points
+
+-- with so many more time-points, no more are given than the limit
+abbrev pub Within : Limits → Partial → ℕ → Type 0
+Within limits p points = given_of p + points ≤ limits.points
+
+-- a time-point that is begun may be given
+one_more : (limits : Limits) (p : Partial) → IsFew limits p → open_count p.stage ≡ 1 → Within limits p 1
+one_more limits p f one = omega (arith, one, f.counted, f.begun)
+
+none_more : (limits : Limits) (p : Partial) → IsFew limits p → Within limits p 0
+none_more limits p f = omega (arith, f.begun)
+
+-- ---- steps
+
+module _ (sig : List PredOf) (limits : Limits) (p : Partial) (t : Lexeme) (f : IsFew limits p) where
+  -- only an `@` begins one more, and only below the limit
+  begun_by : (g : Stage) (q : Partial) → stepped sig limits p t (Some g) ≡ Ok q → q.points ≤ limits.points
+  begun_by AfterAt q e =
+      let r = stepped_reaches sig limits p t AfterAt q e in
+      elim (cases_Bool (nat_lt p.points limits.points)) [
+        | inl below ↦ omega (arith, r.points, ltb-true p.points limits.points below)
+        | inr above ↦ let over : Err (TooManyPoints t.at) ≡ Ok q = rw above at e in absurd cc
+      ]
+  begun_by g q e =
+      let r = stepped_reaches sig limits p t g q e in
+      omega (arith, r.points, none_at g (λ same. absurd cc), f.begun)
+
+  begun_few : (q : Partial) → step sig limits p t ≡ Ok q → q.points ≤ limits.points
+  unfolding step
+  begun_few q e = by_stage (goes p.stage (symbol t)) e
+    where
+      by_stage : (found : Option Stage) → stepped sig limits p t found ≡ Ok q → q.points ≤ limits.points
+      by_stage None e = absurd cc
+      by_stage (Some g) e = begun_by g q e
+
+  -- a step gives what it completes
+  record Gave (q : Partial) : Type 0 where
+    few : IsFew limits q
+    given : given_of q ≡ given_of p + length (completed p t)
+
+  gave_none : (q : Partial) → completes p.stage (symbol t) ≡ false → step sig limits p t ≡ Ok q → Gave q
+  gave_none q h e =
+      let c = step_counts sig limits p q t f.counted h e in
+      record {
+        few = record { counted = c.counted; begun = begun_few q e };
+        given = omega (arith, c.given, ap length (completed_none p t h));
+      }
+
+  gave_one : (g : Stage) (q : Partial) → completes p.stage (symbol t) ≡ true → open_count p.stage ≡ 1 → open_count g ≡ one_if_at g
+      → goes p.stage (symbol t) ≡ Some g → step sig limits p t ≡ Ok q → Gave q
+  unfolding step
+  gave_one g q h one here found e =
+      let r = stepped_reaches sig limits p t g q (sym (ap (stepped sig limits p t) found) ∙ e) in
+      let now : open_count q.stage ≡ one_if_at g = ap open_count r.stage ∙ here in
+      record {
+        few = record { counted = omega (arith, now, r.points); begun = begun_few q e };
+        given = omega (arith, now, r.points, one, f.counted, ap length (completed_one p t h));
+      }
+
+  gave : (q : Partial) → step sig limits p t ≡ Ok q → Gave q
+  gave q e =
+      elim (cases_Bool (completes p.stage (symbol t))) [
+        | inl h ↦
+            let cases = completes_cases p.stage (symbol t) h in
+            elim cases.1 [
+              | inl x ↦ gave_one AfterAt q h cases.0 refl x.1 e
+              | inr x ↦ gave_one Between q h cases.0 refl x.1 e
+            ]
+        | inr h ↦ gave_none q h e
+      ]
+
+  completed_within : Within limits p (length (completed p t))
+  completed_within =
+      elim (cases_Bool (completes p.stage (symbol t))) [
+        | inl h ↦ rw (ap length (completed_one p t h)) (one_more limits p f (completes_cases p.stage (symbol t) h).0)
+        | inr h ↦ rw (ap length (completed_none p t h)) (none_more limits p f)
+      ]
+
+-- ---- readings
+
+-- a reading that is within the limit from each place
+abbrev pub KeepsWithin : Limits → (Partial → Reading) → Type 0
+KeepsWithin limits rest = (p : Partial) → IsFew limits p → Within limits p (length (rest p).points)
+
+module _ (sig : List PredOf) (limits : Limits) where
+  step_few : (rest : Partial → Reading) (p : Partial) (t : Lexeme) → KeepsWithin limits rest → IsFew limits p
+      → (r : Result Partial LogFault) → step sig limits p t ≡ r → Within limits p (length (completed p t) + length (went_on r rest).points)
+  step_few rest p t keeps f (Ok q) e =
+      let g = gave sig limits p t f q e in
+      omega (arith, g.given, keeps q g.few)
+  step_few rest p t keeps f (Err fault) e = omega (arith, completed_within sig limits p t f)
+
+  run_few : (last : Partial → Reading) → KeepsWithin limits last → (ts : List Lexeme) → KeepsWithin limits (λ p. run sig limits last p ts)
+  unfolding run
+  run_few last ends [] p f = ends p f
+  run_few last ends (t ∷ ts) p f =
+      let rest : Partial → Reading = λ q. run sig limits last q ts in
+      rw (length-append (completed p t) (went_on (step sig limits p t) rest).points)
+      (step_few rest p t (run_few last ends ts) f (step sig limits p t) refl)
+
+finish_few : (limits : Limits) (len : ℕ) (p : Partial) (stage : Stage) → p.stage ≡ stage → IsFew limits p
+    → Within limits p (length (finish_at len p stage).points)
+finish_few limits len p AfterStamp e f = one_more limits p f (ap open_count e)
+finish_few limits len p AfterClose e f = one_more limits p f (ap open_count e)
+finish_few limits len p _ e f = none_more limits p f
+
+nothing_few : (limits : Limits) (bytes : List ℕ) (ended : Bool) (p : Partial) → IsFew limits p
+    → Within limits p (length (nothing_left limits bytes ended p).points)
+nothing_few limits bytes ended p f =
+    let few : Reading → Type 0 = λ r. Within limits p (length r.points) in
+    cond_both (is_long limits bytes) _ _ few (λ _. none_more limits p f)
+    (λ _. cond_both ended _ _ few (λ _. finish_few limits (length bytes) p p.stage refl f) (λ _. none_more limits p f))
+
+end_few : (limits : Limits) (bytes : List ℕ) (ended : Bool) (fault : Option LexFault) (p : Partial) → IsFew limits p
+    → Within limits p (length (behind_tokens fault (nothing_left limits bytes ended) p).points)
+end_few limits bytes ended (Some fault) p f = none_more limits p f
+end_few limits bytes ended None p f = nothing_few limits bytes ended p f
+
+pub reading_few : (sig : List PredOf) (limits : Limits) (bytes : List ℕ) (ended : Bool)
+    → length (reading sig limits bytes ended).points ≤ limits.points
+unfolding reading
+reading_few sig limits bytes ended =
+    let ts = tokens (place_at limits bytes ended 0) in
+    let few : IsFew limits blank = record { counted = omega arith; begun = omega arith } in
+    omega (arith, run_few sig limits (behind_tokens ts.fault (nothing_left limits bytes ended)) (end_few limits bytes ended ts.fault) ts.list blank few)
+
+-- so no more are given
+pub sound_few : (sig : List PredOf) (limits : Limits) (bytes : List ℕ) (is_fed is_ended : Bool) (at : ℕ) (p : Partial)
+    → IsSound sig limits bytes is_fed is_ended at p → given_of p ≤ limits.points
+sound_few sig limits bytes is_fed is_ended at p s =
+    omega (arith, (s.remains is_ended (later_self is_ended)).few, reading_few sig limits bytes is_ended)
+
+pub on_ok : {A E : Type 0} (P : Type 0) (result : Result A E) → P → OnOk result P
+on_ok P (Ok x) holds = holds
+on_ok P (Err fault) holds = tt
