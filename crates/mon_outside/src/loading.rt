@@ -30,8 +30,6 @@ pub fn read_more<I: Inputs>(
     ensures later { I.faults inputs.old ≤ I.faults inputs.new }
     ensures cause { IsErrOf result ReadFault.Failed
         → Rose (I.faults inputs.old) (I.faults inputs.new) }
-    ensures still { OnOk result (I.faults inputs.new ≡ I.faults inputs.old) }
-    ensures memory { IsErrOf result ReadFault.Memory → I.faults inputs.new ≡ I.faults inputs.old }
 {
     bytes.reserve(buffer.len())?;
     match inputs.read(buffer) {
@@ -62,8 +60,6 @@ pub fn read_to_end<I: Inputs>(
     ensures later { I.faults inputs.old ≤ I.faults inputs.new }
     ensures cause { IsErrOf result LoadFault.Failed
         → Rose (I.faults inputs.old) (I.faults inputs.new) }
-    ensures still { OnOk result (I.faults inputs.new ≡ I.faults inputs.old) }
-    ensures memory { IsErrOf result LoadFault.Memory → I.faults inputs.new ≡ I.faults inputs.old }
 {
     let mut buffer = vec![in alloc; 0u8; BUFFER]?;
     read_through(inputs, &mut buffer, bytes, limit)
@@ -83,8 +79,6 @@ pub fn load<I: Inputs>(
     ensures later { I.faults inputs.old ≤ I.faults inputs.new }
     ensures cause { IsErrOf result LoadFault.Failed
         → Rose (I.faults inputs.old) (I.faults inputs.new) }
-    ensures still { OnOk result (I.faults inputs.new ≡ I.faults inputs.old) }
-    ensures memory { IsErrOf result LoadFault.Memory → I.faults inputs.new ≡ I.faults inputs.old }
 {
     if inputs.open(name).is_err() {
         return Err(LoadFault::Failed);
@@ -113,8 +107,6 @@ fn read_through<I: Inputs>(
     ensures later { I.faults inputs.old ≤ I.faults inputs.new }
     ensures cause { IsErrOf result LoadFault.Failed
         → Rose (I.faults inputs.old) (I.faults inputs.new) }
-    ensures still { OnOk result (I.faults inputs.new ≡ I.faults inputs.old) }
-    ensures memory { IsErrOf result LoadFault.Memory → I.faults inputs.new ≡ I.faults inputs.old }
 {
     'reads: loop {
         match read_more(inputs, buffer, bytes) {

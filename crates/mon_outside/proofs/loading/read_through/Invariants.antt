@@ -1,4 +1,4 @@
-use Rattle.std.proofs.Common.{◌≡◌, ◌+◌, ◌-◌, vec_len}
+use Rattle.std.proofs.Common.{◌≡◌, ◌+◌, ◌-◌, ◌≤◌, vec_len}
 use Rattle.mon_outside.specs.Inputs.{Gave}
 use Rattle.mon_outside.proofs.loading.read_through.Given as goal
 
@@ -7,7 +7,7 @@ invariant-reads g l = record {
   files : g.I.Inputs.files l.inputs ≡ g.I.Inputs.files l.initial.inputs;
   stays_open : g.I.Inputs.is_open l.inputs ≡ g.I.Inputs.is_open l.initial.inputs;
   gave : Gave (g.I.Inputs.rest l.initial.inputs) (g.I.Inputs.rest l.inputs) l.initial.bytes.items l.bytes.items;
-  still : g.I.Inputs.faults l.inputs ≡ g.I.Inputs.faults l.initial.inputs;
+  later : g.I.Inputs.faults l.initial.inputs ≤ g.I.Inputs.faults l.inputs;
 }
 
 abbrev pub decreases-reads : goal.decreases-reads

@@ -1,4 +1,4 @@
-use Rattle.std.proofs.Common.{◌≡◌, ◌∙◌, ◌-◌, length, take, drop, arith, length-drop}
+use Rattle.std.proofs.Common.{◌≡◌, ◌-◌, length, take, drop, arith, length-drop}
 use Rattle.std.proofs.lemmas.List.{take_all}
 use Rattle.mon_outside.proofs.Pieces.{wrote_more}
 use Rattle.mon_outside.proofs.sink.write_whole.Goals as goal
@@ -11,5 +11,5 @@ loop-rest-preserved g c =
     let tail : take (length rest - count) (drop count rest) ≡ drop count rest = take_all (length rest - count) (drop count rest) (omega (arith, length-drop count rest)) in
     record {
       wrote = rw tail (wrote_more count c.loop-rest.invariant.wrote c.in-Ok.ensures.appends);
-      still = c.in-Ok.ensures.cause.still ∙ c.loop-rest.invariant.still;
+      later = omega (arith, c.in-Ok.ensures.cause.later);
     }
