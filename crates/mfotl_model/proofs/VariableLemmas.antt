@@ -1,10 +1,10 @@
 -- Lists of variables joined one after another.
 use Rattle.std.proofs.Common.{◌≡◌, ℕ, Bool, true, false, not, ◌||◌, ◌&&◌, cond, List, [], ◌∷◌, ◌++◌, refl, ap, sym, ◌∙◌, append_assoc, ◌<◌, ◌+◌, length, get_or, drop, suc, drop-cons, add-one}
 use Rattle.std.proofs.lemmas.List.Elements.{filter-append}
-use Rattle.std.specs.List.{list_any, filter, flat_map}
+use Rattle.std.specs.List.{filter}
 use Rattle.mfotl_model.specs.declared.term.Term.{Term}
 use Rattle.mfotl_model.specs.declared.term.Term.TheVariants.{Var, Const}
-use Rattle.mfotl_model.specs.FreeVariables.{among, joined, distinct, variable_in, variables_in}
+use Rattle.mfotl_model.specs.FreeVariables.{among, joined, variable_in, variables_in}
 use Rattle.mfotl_model.proofs.LogicLemmas.{among_joined}
 
 module _ (p q both : ℕ → Bool) (same : (x : ℕ) → both x ≡ (q x && p x)) where

@@ -1,14 +1,12 @@
 -- Worked examples: the text of a log, in full.
-use Rattle.std.specs.Prelude.{◌≡◌, ℕ, ◌≤◌, ◌-◌, ◌^◌, false, List, [], ◌∷◌, ◌++◌, Some, codes, pos, negsuc}
+use Rattle.std.specs.Prelude.{◌≡◌, ℕ, ◌≤◌, ◌-◌, ◌^◌, false, List, [], ◌∷◌, Some, codes, pos, negsuc}
 use Rattle.std.specs.Option.{ForSome}
 use Rattle.std.proofs.Common.{arith, lit≤}
 use Rattle.std.proofs.lemmas.Option.{same_Some}
 use Rattle.mfotl_model.specs.declared.event.Event.{Event}
 use Rattle.mfotl_model.specs.declared.event.TimePoint.{TimePoint}
 use Rattle.mfotl_model.specs.declared.interval.Interval.{Interval}
-use Rattle.mfotl_model.specs.declared.term.Term.{Term}
 use Rattle.mfotl_model.specs.declared.term.Term.TheVariants.{Var}
-use Rattle.mfotl_model.specs.declared.value.Value.{Value}
 use Rattle.mfotl_model.specs.declared.value.Value.TheVariants.{Int, Text}
 use Rattle.mfotl_model.specs.Formulas.{Form}
 use Rattle.mfotl_model.specs.Formulas.Form.{Atom, Implies, Not, Once, Eventually, Previous, Next, Since, Until}

@@ -3,13 +3,15 @@ ghost use Rattle.std.specs.Prelude.{◌≡◌, ◌<◌, true, not, length, map, 
 ghost use Rattle.std.specs.List.{list_all, list_any};
 ghost use Rattle.mfotl_model.specs.Bindings.{values_of};
 ghost use Rattle.mfotl_model.specs.Formulas.{form};
-ghost use Rattle.mfotl_model.specs.Satisfaction.{compares, database_at, event_of, has_event, sat, term_value, truths, with_value};
+ghost use Rattle.mfotl_model.specs.Log.{times};
+ghost use Rattle.mfotl_model.specs.Satisfaction.{compares, database_at, event_of, has_event, sat, since, term_value, truths, until, with_value};
 ghost use Rattle.mfotl_model.specs.Violations.{valuation};
 
 use super::bindings::{Bindings, event_of, term_value};
 use super::operators::{next, previous, since, until};
 use crate::event::TimePoint;
 use crate::formula::Formula;
+use crate::interval::Interval;
 use crate::partial::Partial;
 use crate::term::{Atom, Comparison};
 use crate::value::Value;
@@ -30,230 +32,203 @@ pub fn holds(
         ≡ sat log.now dom.now (valuation part.now.cols.now part.now.row.now) at (form formula.now)) }
 {
     let bindings = Bindings::Row(part.cols, part.row.values());
-    holds_at(formula, log, dom, &bindings, at, alloc)
+    let interpretation = Interpretation {
+        log,
+        dom,
+        bindings: &bindings,
+    };
+    interpretation.holds(formula, at, alloc)
 }
 
-#[cycle(satisfaction)]
-#[tactic(auto, unfolding(crate::specs::Satisfaction::sat))]
-fn holds_at(
-    formula: &Formula,
-    log: &[TimePoint],
-    dom: &[Value],
-    bindings: &Bindings<'_>,
-    at: usize,
-    alloc: Global,
-) -> Result<bool, AllocError>
-    requires { at < length log.now }
-    ensures { IfOk result (λ held. held
-        ≡ sat log.now dom.now (values_of bindings.now) at (form formula.now)) }
-{
-    match formula {
-        Formula::True => Ok(true),
-        Formula::False => Ok(false),
-        Formula::Atom(atom) => has_event(atom, log, bindings, at, alloc),
-        Formula::Compare(comparison) => Ok(compared(comparison, bindings)),
-        Formula::Not(f) => Ok(!holds_at(f, log, dom, bindings, at, alloc)?),
-        Formula::And(f, g) => {
-            Ok(
-                holds_at(f, log, dom, bindings, at, alloc)?
-                    && holds_at(g, log, dom, bindings, at, alloc)?,
-            )
+// What formulas are true or false of: a log, the values that quantified variables range over, and the
+// values that variables have.
+#[derive(Clone, Copy)]
+struct Interpretation<'a> {
+    log: &'a [TimePoint],
+    dom: &'a [Value],
+    bindings: &'a Bindings<'a>,
+}
+
+impl Interpretation<'_> {
+    #[cycle(satisfaction)]
+    #[tactic(auto, unfolding(crate::specs::Satisfaction::sat))]
+    fn holds(&self, formula: &Formula, at: usize, alloc: Global) -> Result<bool, AllocError>
+        requires { at < length self.now.log.now }
+        ensures { IfOk result (λ held. held ≡ sat self.now.log.now self.now.dom.now
+            (values_of self.now.bindings.now) at (form formula.now)) }
+    {
+        match formula {
+            Formula::True => Ok(true),
+            Formula::False => Ok(false),
+            Formula::Atom(atom) => self.has_event(atom, at, alloc),
+            Formula::Compare(comparison) => Ok(self.compared(comparison)),
+            Formula::Not(f) => Ok(!self.holds(f, at, alloc)?),
+            Formula::And(f, g) => Ok(self.holds(f, at, alloc)? && self.holds(g, at, alloc)?),
+            Formula::Or(f, g) => Ok(self.holds(f, at, alloc)? || self.holds(g, at, alloc)?),
+            Formula::Implies(f, g) => Ok(!self.holds(f, at, alloc)? || self.holds(g, at, alloc)?),
+            Formula::Equiv(f, g) => Ok(self.holds(f, at, alloc)? == self.holds(g, at, alloc)?),
+            Formula::Exists(x, f) => self.holds_for_some(x.number, f, at, alloc),
+            Formula::Forall(x, f) => self.holds_for_every(x.number, f, at, alloc),
+            Formula::Previous(i, f) => {
+                Ok(previous(i, self.log, self.truths(f, alloc)?.as_slice(), at))
+            }
+            Formula::Next(i, f) => Ok(next(i, self.log, self.truths(f, alloc)?.as_slice(), at)),
+            Formula::Once(i, f) => self.once(i, self.truths(f, alloc)?, at, alloc),
+            Formula::Historically(i, f) => {
+                Ok(!self.once(i, self.falsities(f, alloc)?, at, alloc)?)
+            }
+            Formula::Eventually(i, f) => self.eventually(i, self.truths(f, alloc)?, at, alloc),
+            Formula::Always(i, f) => Ok(!self.eventually(i, self.falsities(f, alloc)?, at, alloc)?),
+            Formula::Since(i, f, g) => {
+                let left = self.truths(f, alloc)?;
+                let right = self.truths(g, alloc)?;
+                Ok(since(i, self.log, left.as_slice(), right.as_slice(), at))
+            }
+            Formula::Until(i, f, g) => {
+                let left = self.truths(f, alloc)?;
+                let right = self.truths(g, alloc)?;
+                Ok(until(i, self.log, left.as_slice(), right.as_slice(), at))
+            }
         }
-        Formula::Or(f, g) => {
-            Ok(
-                holds_at(f, log, dom, bindings, at, alloc)?
-                    || holds_at(g, log, dom, bindings, at, alloc)?,
-            )
+    }
+
+    #[cycle(satisfaction)]
+    fn holds_for_some(
+        &self,
+        x: u32,
+        formula: &Formula,
+        at: usize,
+        alloc: Global,
+    ) -> Result<bool, AllocError>
+        requires { at < length self.now.log.now }
+        ensures { IfOk result (λ held. held ≡ list_any (λ a. sat self.now.log.now self.now.dom.now
+            (with_value (values_of self.now.bindings.now) x a) at (form formula.now))
+            self.now.dom.now) }
+    {
+        for value in self.dom {
+            let bindings = Bindings::With(x, &*value, &*self.bindings);
+            let inner = Interpretation {
+                bindings: &bindings,
+                ..*self
+            };
+            if inner.holds(formula, at, alloc)? {
+                return Ok(true);
+            }
         }
-        Formula::Implies(f, g) => {
-            Ok(
-                !holds_at(f, log, dom, bindings, at, alloc)?
-                    || holds_at(g, log, dom, bindings, at, alloc)?,
-            )
+        Ok(false)
+    }
+
+    #[cycle(satisfaction)]
+    fn holds_for_every(
+        &self,
+        x: u32,
+        formula: &Formula,
+        at: usize,
+        alloc: Global,
+    ) -> Result<bool, AllocError>
+        requires { at < length self.now.log.now }
+        ensures { IfOk result (λ held. held ≡ list_all (λ a. sat self.now.log.now self.now.dom.now
+            (with_value (values_of self.now.bindings.now) x a) at (form formula.now))
+            self.now.dom.now) }
+    {
+        for value in self.dom {
+            let bindings = Bindings::With(x, &*value, &*self.bindings);
+            let inner = Interpretation {
+                bindings: &bindings,
+                ..*self
+            };
+            if !inner.holds(formula, at, alloc)? {
+                return Ok(false);
+            }
         }
-        Formula::Equiv(f, g) => {
-            Ok(
-                holds_at(f, log, dom, bindings, at, alloc)?
-                    == holds_at(g, log, dom, bindings, at, alloc)?,
-            )
+        Ok(true)
+    }
+
+    // Whether the formula holds, for each position of the log.
+    #[cycle(satisfaction)]
+    fn truths(&self, formula: &Formula, alloc: Global) -> Result<Vec<bool>, AllocError>
+        ensures { IfOk result (λ values. values.items ≡ truths (length self.now.log.now)
+            (λ j. sat self.now.log.now self.now.dom.now (values_of self.now.bindings.now) j
+            (form formula.now))) }
+    {
+        let mut values = Vec::new(alloc);
+        for at in 0..self.log.len() {
+            values.push(self.holds(formula, at, alloc)?)?;
         }
-        Formula::Exists(x, f) => holds_for_some(x.number, f, log, dom, bindings, at, alloc),
-        Formula::Forall(x, f) => holds_for_every(x.number, f, log, dom, bindings, at, alloc),
-        Formula::Previous(interval, f) => {
-            Ok(previous(
-                interval,
-                log,
-                truths(f, log, dom, bindings, alloc)?.as_slice(),
-                at,
-            ))
+        Ok(values)
+    }
+
+    // Whether the formula fails, for each position of the log.
+    #[cycle(satisfaction)]
+    fn falsities(&self, formula: &Formula, alloc: Global) -> Result<Vec<bool>, AllocError>
+        ensures { IfOk result (λ values. values.items ≡ truths (length self.now.log.now) (λ j. not
+            (sat self.now.log.now self.now.dom.now (values_of self.now.bindings.now) j
+            (form formula.now)))) }
+    {
+        let mut values = Vec::new(alloc);
+        for at in 0..self.log.len() {
+            values.push(!self.holds(formula, at, alloc)?)?;
         }
-        Formula::Next(interval, f) => {
-            Ok(next(
-                interval,
-                log,
-                truths(f, log, dom, bindings, alloc)?.as_slice(),
-                at,
-            ))
-        }
-        Formula::Once(interval, f) => {
-            let every = all_true(log, alloc)?;
-            let right = truths(f, log, dom, bindings, alloc)?;
-            Ok(since(interval, log, every.as_slice(), right.as_slice(), at))
-        }
-        Formula::Historically(interval, f) => {
-            let every = all_true(log, alloc)?;
-            let right = falsities(f, log, dom, bindings, alloc)?;
-            Ok(!since(interval, log, every.as_slice(), right.as_slice(), at))
-        }
-        Formula::Eventually(interval, f) => {
-            let every = all_true(log, alloc)?;
-            let right = truths(f, log, dom, bindings, alloc)?;
-            Ok(until(interval, log, every.as_slice(), right.as_slice(), at))
-        }
-        Formula::Always(interval, f) => {
-            let every = all_true(log, alloc)?;
-            let right = falsities(f, log, dom, bindings, alloc)?;
-            Ok(!until(interval, log, every.as_slice(), right.as_slice(), at))
-        }
-        Formula::Since(interval, f, g) => {
-            let left = truths(f, log, dom, bindings, alloc)?;
-            let right = truths(g, log, dom, bindings, alloc)?;
-            Ok(since(interval, log, left.as_slice(), right.as_slice(), at))
-        }
-        Formula::Until(interval, f, g) => {
-            let left = truths(f, log, dom, bindings, alloc)?;
-            let right = truths(g, log, dom, bindings, alloc)?;
-            Ok(until(interval, log, left.as_slice(), right.as_slice(), at))
-        }
+        Ok(values)
     }
 }
 
-#[cycle(satisfaction)]
-fn holds_for_some(
-    x: u32,
-    formula: &Formula,
-    log: &[TimePoint],
-    dom: &[Value],
-    bindings: &Bindings<'_>,
-    at: usize,
-    alloc: Global,
-) -> Result<bool, AllocError>
-    requires { at < length log.now }
-    ensures { IfOk result (λ held. held ≡ list_any (λ a. sat log.now dom.now
-        (with_value (values_of bindings.now) x a) at (form formula.now)) dom.now) }
-{
-    for value in dom {
-        if holds_at(
-            formula,
-            log,
-            dom,
-            &Bindings::With(x, &*value, &*bindings),
-            at,
-            alloc,
-        )? {
-            return Ok(true);
+impl Interpretation<'_> {
+    fn once(
+        &self,
+        interval: &Interval,
+        when: Vec<bool>,
+        at: usize,
+        alloc: Global,
+    ) -> Result<bool, AllocError>
+        requires { at < length self.now.log.now }
+        ensures { IfOk result (λ held. held ≡ since interval.now (times self.now.log.now)
+            (truths (length self.now.log.now) (λ _. true)) when.items at) }
+    {
+        let every = all_true(self.log, alloc)?;
+        Ok(since(interval, self.log, every.as_slice(), when.as_slice(), at))
+    }
+
+    fn eventually(
+        &self,
+        interval: &Interval,
+        when: Vec<bool>,
+        at: usize,
+        alloc: Global,
+    ) -> Result<bool, AllocError>
+        requires { at < length self.now.log.now }
+        ensures { IfOk result (λ held. held ≡ until interval.now (times self.now.log.now)
+            (truths (length self.now.log.now) (λ _. true)) when.items at) }
+    {
+        let every = all_true(self.log, alloc)?;
+        Ok(until(interval, self.log, every.as_slice(), when.as_slice(), at))
+    }
+
+    fn has_event(&self, atom: &Atom, at: usize, alloc: Global) -> Result<bool, AllocError>
+        ensures { IfOk result (λ found. found ≡ has_event (database_at self.now.log.now at)
+            (event_of (values_of self.now.bindings.now) atom.now)) }
+    {
+        let event = event_of(atom, self.bindings, alloc)?;
+        match self.log.get(at) {
+            Some(point) => Ok(point.db.contains(&event)),
+            None => Ok(false),
         }
     }
-    Ok(false)
-}
 
-#[cycle(satisfaction)]
-fn holds_for_every(
-    x: u32,
-    formula: &Formula,
-    log: &[TimePoint],
-    dom: &[Value],
-    bindings: &Bindings<'_>,
-    at: usize,
-    alloc: Global,
-) -> Result<bool, AllocError>
-    requires { at < length log.now }
-    ensures { IfOk result (λ held. held ≡ list_all (λ a. sat log.now dom.now
-        (with_value (values_of bindings.now) x a) at (form formula.now)) dom.now) }
-{
-    for value in dom {
-        if !holds_at(
-            formula,
-            log,
-            dom,
-            &Bindings::With(x, &*value, &*bindings),
-            at,
-            alloc,
-        )? {
-            return Ok(false);
-        }
+    fn compared(&self, comparison: &Comparison) -> bool
+        ensures { result ≡ compares comparison.now.sign
+            (term_value (values_of self.now.bindings.now) comparison.now.left)
+            (term_value (values_of self.now.bindings.now) comparison.now.right) }
+    {
+        let zero = Value::Int(0);
+        let left = term_value(&comparison.left, self.bindings, &zero);
+        let right = term_value(&comparison.right, self.bindings, &zero);
+        comparison.sign.compares(left, right)
     }
-    Ok(true)
-}
-
-// Whether the formula holds, for each position of the log.
-#[cycle(satisfaction)]
-fn truths(
-    formula: &Formula,
-    log: &[TimePoint],
-    dom: &[Value],
-    bindings: &Bindings<'_>,
-    alloc: Global,
-) -> Result<Vec<bool>, AllocError>
-    ensures { IfOk result (λ values. values.items ≡ truths (length log.now)
-        (λ j. sat log.now dom.now (values_of bindings.now) j (form formula.now))) }
-{
-    let mut values = Vec::new(alloc);
-    for at in 0..log.len() {
-        values.push(holds_at(formula, log, dom, bindings, at, alloc)?)?;
-    }
-    Ok(values)
-}
-
-// Whether the formula fails, for each position of the log.
-#[cycle(satisfaction)]
-fn falsities(
-    formula: &Formula,
-    log: &[TimePoint],
-    dom: &[Value],
-    bindings: &Bindings<'_>,
-    alloc: Global,
-) -> Result<Vec<bool>, AllocError>
-    ensures { IfOk result (λ values. values.items ≡ truths (length log.now) (λ j.
-        not (sat log.now dom.now (values_of bindings.now) j (form formula.now)))) }
-{
-    let mut values = Vec::new(alloc);
-    for at in 0..log.len() {
-        values.push(!holds_at(formula, log, dom, bindings, at, alloc)?)?;
-    }
-    Ok(values)
 }
 
 fn all_true(log: &[TimePoint], alloc: Global) -> Result<Vec<bool>, AllocError>
     ensures { IfOk result (λ values. values.items ≡ truths (length log.now) (λ _. true)) }
 {
     (0..log.len()).map(|_| true).collect(alloc)
-}
-
-fn has_event(
-    atom: &Atom,
-    log: &[TimePoint],
-    bindings: &Bindings<'_>,
-    at: usize,
-    alloc: Global,
-) -> Result<bool, AllocError>
-    ensures { IfOk result (λ found. found ≡ has_event (database_at log.now at)
-        (event_of (values_of bindings.now) atom.now)) }
-{
-    let event = event_of(atom, bindings, alloc)?;
-    match log.get(at) {
-        Some(point) => Ok(point.db.contains(&event)),
-        None => Ok(false),
-    }
-}
-
-fn compared(comparison: &Comparison, bindings: &Bindings<'_>) -> bool
-    ensures { result ≡ compares comparison.now.sign
-        (term_value (values_of bindings.now) comparison.now.left)
-        (term_value (values_of bindings.now) comparison.now.right) }
-{
-    let zero = Value::Int(0);
-    let left = term_value(&comparison.left, bindings, &zero);
-    let right = term_value(&comparison.right, bindings, &zero);
-    comparison.sign.compares(left, right)
 }
