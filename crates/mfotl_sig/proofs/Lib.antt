@@ -12,3 +12,4 @@ pub mod LexLaw
 pub mod CausePlaces
 pub mod CauseSteps
 pub mod CauseLaw
+pub mod AnswerLemmas

@@ -1,9 +1,12 @@
 //! A signature, token by token.
 
-ghost use Rattle.std.specs.Prelude.{◌≡◌, None};
+ghost use Rattle.std.specs.Prelude.{◌≡◌, ◌≢◌, None, IfErr, IfOk};
 ghost use Rattle.mfotl_lex.specs.Lexemes.{lexeme};
+ghost use Rattle.mfotl_sig.specs.declared.fault.SigFault.TheVariants.{Memory};
 ghost use Rattle.mfotl_sig.specs.Answers.{Gives};
+ghost use Rattle.mfotl_sig.specs.Laws.{IsShown};
 ghost use Rattle.mfotl_sig.specs.Reading.{step, begins, at_end, reading, nothing_read};
+ghost use Rattle.mfotl_sig.specs.Rules.{IsValue};
 
 use crate::draft::{Draft, Progress, Stage};
 use crate::fault::SigFault;
@@ -102,6 +105,14 @@ impl<'a> Reader<'a> {
 /// `SigFault` is the first fault from left to right, each shown by one token: `UnknownSort` of a Word
 /// that might be a label by the token behind it.
 pub fn read_signature(bytes: &[u8], alloc: Global) -> Result<Signature, SigFault>
+    ensures reads { Gives (λ s. s) result (reading bytes.now) }
+    ensures value { IfOk result (λ s. IsValue bytes.now s) }
+    ensures shown { IfErr result (λ fault. fault ≢ Memory → IsShown bytes.now fault) }
+{
+    read_tokens(bytes, alloc)
+}
+
+fn read_tokens(bytes: &[u8], alloc: Global) -> Result<Signature, SigFault>
     ensures { Gives (λ s. s) result (reading bytes.now) }
 {
     let mut lexer = Lexer::new(bytes, Mode::Plain);

@@ -1,5 +1,5 @@
 use Rattle.mfotl_sig.proofs.ReadingLemmas.{Leads}
-use Rattle.mfotl_sig.proofs.reading.read_signature.Given as goal
+use Rattle.mfotl_sig.proofs.reading.read_tokens.Given as goal
 
 abbrev pub invariant-loop : goal.invariant-loop
 invariant-loop l = Leads l.bytes l.counter l.lexer l.reader
