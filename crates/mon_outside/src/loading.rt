@@ -30,6 +30,7 @@ pub fn read_more<I: Inputs>(
     ensures later { I.faults inputs.old ≤ I.faults inputs.new }
     ensures cause { IsErrOf result ReadFault.Failed
         → Rose (I.faults inputs.old) (I.faults inputs.new) }
+    ensures memory { IsErrOf result ReadFault.Memory → I.faults inputs.new ≡ I.faults inputs.old }
 {
     bytes.reserve(buffer.len())?;
     match inputs.read(buffer) {
