@@ -1,4 +1,4 @@
-use crate::{conjuncts, to_core};
+use crate::{FragmentFault, Variable, conjuncts, to_core};
 use mfotl_model::{
     Atom, Bound, Comparison, Formula, Interval, Name, Policy, Sign, Sort, Term, Terms, Value, Var,
     Vars,
@@ -6,14 +6,83 @@ use mfotl_model::{
 use std::alloc::Global;
 use std::test::Fail;
 
-const ALWAYS_ON: Interval = Interval { lo: 0, hi: None };
+const EVER: Interval = Interval { lo: 0, hi: None };
+
+const WEEK: Interval = Interval { lo: 0, hi: Some(7) };
 
 fn name(alloc: Global, text: &str) -> Result<Name, Fail> {
     Ok(Name::from_slice(text.as_bytes(), alloc)?)
 }
 
-// A policy whose free variables are x and y.
-fn policy(alloc: Global, formula: Formula) -> Result<Policy, Fail> {
+fn atom(alloc: Global, argument: Term) -> Result<Formula, Fail> {
+    let args = Terms::new(vec![in alloc; argument]?);
+    Ok(Formula::Atom(Atom { pred: 0, args }))
+}
+
+// x compared to an integer.
+fn compared(sign: Sign, right: i64) -> Formula {
+    Formula::Compare(Comparison {
+        sign,
+        left: Term::Var(0),
+        right: Term::Const(Value::Int(right)),
+    })
+}
+
+fn operand(alloc: Global, stack: &mut Vec<Formula>) -> Result<Box<Formula>, Fail> {
+    match stack.pop() {
+        Some(formula) => Ok(Box::new(alloc, formula)?),
+        None => Err(Fail::new("an operand is missing")),
+    }
+}
+
+// The formula that a word makes of those before it.
+fn made(alloc: Global, word: &str, stack: &mut Vec<Formula>) -> Result<Formula, Fail> {
+    match word {
+        "p(1)" => atom(alloc, Term::Const(Value::Int(1))),
+        "p(x)" => atom(alloc, Term::Var(0)),
+        "p(y)" => atom(alloc, Term::Var(1)),
+        "x=5" => Ok(compared(Sign::Equal, 5)),
+        "x>3" => Ok(compared(Sign::Greater, 3)),
+        "NOT" => Ok(Formula::Not(operand(alloc, stack)?)),
+        "PREVIOUS" => Ok(Formula::Previous(EVER, operand(alloc, stack)?)),
+        "ONCE[0,7]" => Ok(Formula::Once(WEEK, operand(alloc, stack)?)),
+        "EVENTUALLY" => Ok(Formula::Eventually(EVER, operand(alloc, stack)?)),
+        "EXISTSx" => quantified(alloc, 0, "x", stack),
+        "EXISTSy" => quantified(alloc, 1, "y", stack),
+        "EXISTSz" => quantified(alloc, 2, "z", stack),
+        _ => joined(alloc, word, stack),
+    }
+}
+
+fn quantified(
+    alloc: Global,
+    number: u32,
+    text: &str,
+    stack: &mut Vec<Formula>,
+) -> Result<Formula, Fail> {
+    let name = name(alloc, text)?;
+    Ok(Formula::Exists(Bound { number, name }, operand(alloc, stack)?))
+}
+
+fn joined(alloc: Global, word: &str, stack: &mut Vec<Formula>) -> Result<Formula, Fail> {
+    let right = operand(alloc, stack)?;
+    let left = operand(alloc, stack)?;
+    match word {
+        "AND" => Ok(Formula::And(left, right)),
+        "OR" => Ok(Formula::Or(left, right)),
+        "IMPLIES" => Ok(Formula::Implies(left, right)),
+        "EQUIV" => Ok(Formula::Equiv(left, right)),
+        _ => Ok(Formula::Since(EVER, left, right)),
+    }
+}
+
+// A policy whose free variables are x and y, of words in postfix notation.
+fn policy(alloc: Global, words: &[&str]) -> Result<Policy, Fail> {
+    let mut stack = Vec::new(alloc);
+    for word in words {
+        let formula = made(alloc, word, &mut stack)?;
+        stack.push(formula)?;
+    }
     let mut vars = Vec::new(alloc);
     for text in ["x", "y"] {
         vars.push(Var {
@@ -22,97 +91,70 @@ fn policy(alloc: Global, formula: Formula) -> Result<Policy, Fail> {
         })?;
     }
     Ok(Policy {
-        formula,
+        formula: Box::into_inner(operand(alloc, &mut stack)?),
         vars: Vars::new(vars),
     })
 }
 
-fn atom(alloc: Global, pred: u32, variable: u32) -> Result<Formula, Fail> {
-    let args = Terms::new(vec![in alloc; Term::Var(variable)]?);
-    Ok(Formula::Atom(Atom { pred, args }))
-}
-
-// An integer constant compared to x.
-fn compared(left: i64, sign: Sign) -> Formula {
-    Formula::Compare(Comparison {
-        sign,
-        left: Term::Const(Value::Int(left)),
-        right: Term::Var(0),
-    })
-}
-
-fn not(alloc: Global, inner: Formula) -> Result<Formula, Fail> {
-    Ok(Formula::Not(Box::new(alloc, inner)?))
-}
-
-fn or(alloc: Global, left: Formula, right: Formula) -> Result<Formula, Fail> {
-    Ok(Formula::Or(Box::new(alloc, left)?, Box::new(alloc, right)?))
-}
-
-fn since(alloc: Global, left: Formula, right: Formula) -> Result<Formula, Fail> {
-    let left = Box::new(alloc, left)?;
-    Ok(Formula::Since(ALWAYS_ON, left, Box::new(alloc, right)?))
-}
-
-// What stands for the answer on a policy in a fault line.
-fn answer(alloc: Global, formula: Formula) -> Result<String, Fail> {
-    match to_core(&policy(alloc, formula)?, alloc) {
+fn answer(alloc: Global, words: &[&str]) -> Result<String, Fail> {
+    match to_core(&policy(alloc, words)?, alloc) {
         Ok(_) => Ok(String::from_str(alloc, "monitorable")?),
         Err(fault) => Ok(format!(in alloc; "{fault}")?),
     }
 }
 
-// p(x), as often as asked, joined from the left.
-fn chain(alloc: Global, operands: u32) -> Result<Formula, Fail> {
-    let mut formula = atom(alloc, 0, 0)?;
-    for _ in 1..operands {
-        let left = Box::new(alloc, formula)?;
-        formula = Formula::And(left, Box::new(alloc, atom(alloc, 0, 0)?)?);
-    }
-    Ok(formula)
-}
-
 #[test]
 fn a_policy_is_refused_for_its_first_fault(rt: HostRuntime) -> Result<(), Fail> {
-    let alloc = rt.alloc();
-    assert_eq!(rt; answer(alloc, atom(alloc, 0, 0)?)?.as_str(), "Unguarded x");
-    let later = Formula::Eventually(ALWAYS_ON, Box::new(alloc, atom(alloc, 1, 0)?)?);
-    let implied = Formula::Implies(
-        Box::new(alloc, atom(alloc, 0, 0)?)?,
-        Box::new(alloc, later)?,
-    );
-    assert_eq!(rt; answer(alloc, implied)?.as_str(), "UnboundedFuture");
-    let uneven = not(alloc, or(alloc, atom(alloc, 0, 0)?, atom(alloc, 1, 1)?)?)?;
-    assert_eq!(rt; answer(alloc, uneven)?.as_str(), "Uneven");
-    let loose = not(alloc, since(alloc, atom(alloc, 0, 0)?, atom(alloc, 1, 1)?)?)?;
-    assert_eq!(rt; answer(alloc, loose)?.as_str(), "LooseLeft x");
+    let rows: [(&[&str], &str); 11] = [
+        (&["p(x)"], "Unguarded x"),
+        (&["x>3", "ONCE[0,7]", "NOT"], "Unguarded x"),
+        (&["x>3", "NOT", "p(x)", "SINCE", "NOT"], "Unguarded x"),
+        (
+            &["p(x)", "p(x)", "EVENTUALLY", "IMPLIES"],
+            "UnboundedFuture",
+        ),
+        (&["p(x)", "p(y)", "OR", "NOT"], "Uneven"),
+        (&["p(x)", "p(y)", "SINCE", "NOT"], "LooseLeft x"),
+        (&["p(x)", "EXISTSz", "NOT"], "UnusedBound z"),
+        (&["p(x)", "EXISTSx", "EXISTSx"], "UnusedBound x"),
+        (&["p(x)", "p(x)", "ONCE[0,7]", "IMPLIES"], "monitorable"),
+        (
+            &["p(x)", "x>3", "AND", "x=5", "NOT", "AND", "NOT"],
+            "monitorable",
+        ),
+        (&["x=5", "p(y)", "EXISTSy", "AND", "NOT"], "monitorable"),
+    ];
+    for (words, expected) in rows {
+        assert_eq!(rt; answer(rt.alloc(), words)?.as_str(), expected);
+    }
     Ok(())
 }
 
+// Policies NOT (p(1) AND p(1) AND ..), where the first p(1) stands under other operators.
 #[test]
-fn a_variable_has_its_name_in_the_text(rt: HostRuntime) -> Result<(), Fail> {
-    let alloc = rt.alloc();
-    let bound = Bound {
-        number: 7,
-        name: name(alloc, "z")?,
-    };
-    let unused = not(
-        alloc,
-        Formula::Exists(bound, Box::new(alloc, atom(alloc, 0, 0)?)?),
-    )?;
-    assert_eq!(rt; answer(alloc, unused)?.as_str(), "UnusedBound z");
-    let once = Formula::Once(ALWAYS_ON, Box::new(alloc, compared(0, Sign::Less))?);
-    assert_eq!(rt; answer(alloc, not(alloc, once)?)?.as_str(), "Unguarded x");
-    let left = not(alloc, compared(3, Sign::Less))?;
-    let compared_left = not(alloc, since(alloc, left, atom(alloc, 0, 0)?)?)?;
-    assert_eq!(rt; answer(alloc, compared_left)?.as_str(), "Unguarded x");
+fn the_normal_form_has_at_most_1024_nodes(rt: HostRuntime) -> Result<(), Fail> {
+    let rows: [(&[&str], u32, &str, &str); 4] = [
+        (&["p(1)", "PREVIOUS"], 512, "AND", "monitorable"),
+        (&["p(1)", "PREVIOUS", "PREVIOUS"], 512, "AND", "TooLarge"),
+        (&["p(1)"], 2048, "OR", "TooLarge"),
+        (&["p(1)"], 200, "EQUIV", "TooLarge"),
+    ];
+    for (first, atoms, join, expected) in rows {
+        let mut words = Vec::from_slice(rt.alloc(), first)?;
+        for _ in 1..atoms {
+            words.push("p(1)")?;
+            words.push(join)?;
+        }
+        words.push("NOT")?;
+        assert_eq!(rt; answer(rt.alloc(), &words)?.as_str(), expected);
+    }
     Ok(())
 }
 
 #[test]
 fn a_core_lends_its_variables_and_atoms(rt: HostRuntime) -> Result<(), Fail> {
     let alloc = rt.alloc();
-    let Ok(core) = to_core(&policy(alloc, not(alloc, atom(alloc, 3, 0)?)?)?, alloc) else {
+    let Ok(core) = to_core(&policy(alloc, &["p(x)", "NOT"])?, alloc) else {
         assert!(rt; false, "it is monitorable");
         return Ok(());
     };
@@ -125,12 +167,12 @@ fn a_core_lends_its_variables_and_atoms(rt: HostRuntime) -> Result<(), Fail> {
 }
 
 #[test]
-fn thousands_of_levels_are_no_strain(rt: HostRuntime) -> Result<(), Fail> {
+fn a_fault_has_a_text_whatever_the_name(rt: HostRuntime) -> Result<(), Fail> {
     let alloc = rt.alloc();
-    let wide = not(alloc, chain(alloc, 512)?)?;
-    assert_eq!(rt; answer(alloc, wide)?.as_str(), "monitorable");
-    let wider = not(alloc, chain(alloc, 513)?)?;
-    assert_eq!(rt; answer(alloc, wider)?.as_str(), "TooLarge");
-    assert_eq!(rt; answer(alloc, chain(alloc, 4000)?)?.as_str(), "TooLarge");
+    let fault = FragmentFault::Unguarded(Variable {
+        number: 0,
+        name: Name::from_slice(b"\xff", alloc)?,
+    });
+    assert_eq!(rt; fault.text(alloc)?.as_slice(), b"Unguarded \xff".as_slice());
     Ok(())
 }
