@@ -6,6 +6,7 @@ pub mod FinalityLaw
 pub mod DomainLemmas
 pub mod FragmentLemmas
 pub mod DomainLaw
+pub mod TooLargeLaw
 pub mod SettledStays
 pub mod ViolationsFinal
 pub mod TextFinal

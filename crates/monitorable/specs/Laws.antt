@@ -1,5 +1,5 @@
 -- What is always true of the logic.
-use Rattle.std.specs.Prelude.{◌≡◌, ℕ, ◌+◌, ◌<◌, Bool, true, not, List, ◌++◌, length, None}
+use Rattle.std.specs.Prelude.{◌≡◌, ◌≢◌, ℕ, ◌+◌, ◌<◌, Bool, true, not, List, ◌++◌, length, Some, None}
 use Rattle.mfotl_model.specs.Formulas.{Form}
 use Rattle.mfotl_model.specs.Satisfaction.{Valuation, sat}
 use Rattle.mfotl_model.specs.declared.event.TimePoint.{TimePoint}
@@ -14,6 +14,7 @@ use Rattle.std.specs.List.{list_all}
 use Rattle.monitorable.specs.Conjuncts.{conjuncts_of, part_holds}
 use Rattle.monitorable.specs.Domains.{Includes, within}
 use Rattle.monitorable.specs.Fragment.{Names, frag, frag_fault}
+use Rattle.monitorable.specs.declared.fault.FragmentFault.TheVariants.{TooLarge}
 use Rattle.monitorable.specs.Times.{NeverFalls}
 use Rattle.monitorable.specs.NormalForm.{positive, negative}
 use Rattle.monitorable.specs.Renaming.{apart_form, all_apart, binders}
@@ -88,6 +89,10 @@ Domain =
     → (v : Valuation) (i : ℕ)
     → ((dom : List Value) (y : ℕ) → sat log dom v i f ≡ true → among y (fv f) ≡ true → within base (v y) ≡ true)
     × ((a b : List Value) → Includes a base → Includes b base → sat log a v i f ≡ sat log b v i f)
+
+-- a policy is too large for its nodes alone: no rule of the fragment says so of a normal form
+abbrev pub TooLargeByNodes : Type 0
+TooLargeByNodes = (names : Names) (f : Form) → frag names (negative f) ≢ Some TooLarge
 
 -- what is settled lies within the log
 abbrev pub SettledWithin : Type 0

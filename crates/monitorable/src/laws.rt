@@ -1,5 +1,5 @@
 //! Laws of the logic, each stated by the contract of a function that does nothing.
-ghost use Rattle.monitorable.specs.Laws.{ApartConstants, ApartFragment, ApartMeansTheSame, ApartVariables, Coincidence, ConjunctsMean, Domain, Finality, NormalFormConstants, NormalFormHolds, NormalFormSettled, NormalFormVariables, SettledBefore, SettledStays, SettledWithin, TextFinal, ViolationsFinal};
+ghost use Rattle.monitorable.specs.Laws.{ApartConstants, ApartFragment, ApartMeansTheSame, ApartVariables, Coincidence, ConjunctsMean, Domain, Finality, NormalFormConstants, NormalFormHolds, NormalFormSettled, NormalFormVariables, SettledBefore, SettledStays, SettledWithin, TextFinal, TooLargeByNodes, ViolationsFinal};
 
 /// Whether a formula holds hangs on its free variables alone.
 pub fn only_free_variables_matter()
@@ -50,6 +50,11 @@ pub fn settled_before()
 /// What the fragment accepts has its values in the domain, and hangs on no larger domain.
 pub fn domain_is_enough()
     ensures { Domain }
+{}
+
+/// A policy is too large for the nodes of its normal form alone.
+pub fn too_large_by_nodes()
+    ensures { TooLargeByNodes }
 {}
 
 /// What is settled lies within the log.
