@@ -12,11 +12,13 @@ use Rattle.mfotl_model.proofs.PlainRowLemmas.{flat_map_more}
 use Rattle.mfotl_model.proofs.RowLemmas.{value_exact}
 
 -- two lists of values, one after the other
-pub added_after : (keys xs ys : List Value) → fold (insert_key value_cmp) (fold (insert_key value_cmp) keys xs) ys ≡ fold (insert_key value_cmp) keys (xs ++ ys)
+pub added_after : (keys xs ys : List Value)
+    → fold (insert_key value_cmp) (fold (insert_key value_cmp) keys xs) ys ≡ fold (insert_key value_cmp) keys (xs ++ ys)
 added_after keys xs ys = sym (fold-append (insert_key value_cmp) keys xs ys)
 
 -- values added to values in ascending order
-pub added_behind : (xs ys : List Value) → fold (insert_key value_cmp) (ascending value_cmp xs) ys ≡ ascending value_cmp (xs ++ ys)
+pub added_behind : (xs ys : List Value)
+    → fold (insert_key value_cmp) (ascending value_cmp xs) ys ≡ ascending value_cmp (xs ++ ys)
 added_behind xs [] = ap (ascending value_cmp) (sym (append-nil xs))
 added_behind xs (y ∷ ys) =
     ap (λ keys. fold (insert_key value_cmp) keys ys) (insert_behind value_total value_exact xs y)
@@ -24,10 +26,16 @@ added_behind xs (y ∷ ys) =
     ∙ ap (ascending value_cmp) (append_assoc xs (y ∷ []) ys)
 
 -- the values of one more time-point
-pub points_more : (log : List TimePoint) (i : ℕ) (point : TimePoint) (keys after : List Value) → i < length log → point ≡ get_or log i point → keys ≡ ascending value_cmp (log_values (take i log)) → after ≡ fold (insert_key value_cmp) keys (flat_map (λ event. event.args) point.db) → after ≡ ascending value_cmp (log_values (take (i + 1) log))
+pub points_more : (log : List TimePoint) (i : ℕ) (point : TimePoint) (keys after : List Value)
+    → i < length log → point ≡ get_or log i point
+    → keys ≡ ascending value_cmp (log_values (take i log))
+    → after ≡ fold (insert_key value_cmp) keys (flat_map (λ event. event.args) point.db)
+    → after ≡ ascending value_cmp (log_values (take (i + 1) log))
 points_more log i point keys after within is was adds =
     let values : TimePoint → List Value = λ p. flat_map (λ event. event.args) p.db in
     adds
     ∙ ap (λ k. fold (insert_key value_cmp) k (values point)) was
     ∙ added_behind (log_values (take i log)) (values point)
-    ∙ ap (ascending value_cmp) (flat_map_more values log i point (log_values (take i log)) (log_values (take i log) ++ values point) within is refl refl)
+    ∙ ap (ascending value_cmp)
+    (flat_map_more values log i point (log_values (take i log))
+    (log_values (take i log) ++ values point) within is refl refl)

@@ -13,13 +13,17 @@ abbrev pub lines_from : List TimePoint → Form → List ℕ → List ℕ
 lines_from log f positions =
     flat_map line_of (map (verdict_at log f) (take_while (settled (times log) f) positions))
 
-taken_first : (p : ℕ → Bool) (x : ℕ) (xs : List ℕ) → p x ≡ true → take_while p (x ∷ xs) ≡ x ∷ take_while p xs
+taken_first : (p : ℕ → Bool) (x : ℕ) (xs : List ℕ) → p x ≡ true
+    → take_while p (x ∷ xs) ≡ x ∷ take_while p xs
 taken_first p x xs h =
     let more : 1 + prefix_len p xs ≡ suc (prefix_len p xs) = omega arith in
     ap (λ b. take (cond b (1 + prefix_len p xs) 0) (x ∷ xs)) h ∙ ap (λ k. take k (x ∷ xs)) more
 
 -- after the line of a settled position was written
-pub line_written : (log : List TimePoint) (f : Form) (i : ℕ) (out after whole : List ℕ) → i < length log → settled (times log) f i ≡ true → after ≡ out ++ line_of (verdict_at log f i) → out ++ lines_from log f (range_with_len i (length log - i)) ≡ whole → after ++ lines_from log f (range_with_len (i + 1) (length log - (i + 1))) ≡ whole
+pub line_written : (log : List TimePoint) (f : Form) (i : ℕ) (out after whole : List ℕ)
+    → i < length log → settled (times log) f i ≡ true → after ≡ out ++ line_of (verdict_at log f i)
+    → out ++ lines_from log f (range_with_len i (length log - i)) ≡ whole
+    → after ++ lines_from log f (range_with_len (i + 1) (length log - (i + 1))) ≡ whole
 line_written log f i out after whole within is adds before =
     let line : List ℕ = line_of (verdict_at log f i) in
     let others : List ℕ = range_with_len (i + 1) (length log - (i + 1)) in
@@ -30,7 +34,9 @@ line_written log f i out after whole within is adds before =
     ∙ before
 
 -- where the next position isn't settled, nothing more is written
-pub text_stopped : (log : List TimePoint) (f : Form) (i : ℕ) (out whole : List ℕ) → i < length log → settled (times log) f i ≡ false → out ++ lines_from log f (range_with_len i (length log - i)) ≡ whole → out ≡ whole
+pub text_stopped : (log : List TimePoint) (f : Form) (i : ℕ) (out whole : List ℕ) → i < length log
+    → settled (times log) f i ≡ false
+    → out ++ lines_from log f (range_with_len i (length log - i)) ≡ whole → out ≡ whole
 text_stopped log f i out whole within is before =
     let others : List ℕ = range_with_len (i + 1) (length log - (i + 1)) in
     sym (append-nil out)
@@ -39,7 +45,8 @@ text_stopped log f i out whole within is before =
     ∙ before
 
 -- nor behind the last position
-pub text_finished : (log : List TimePoint) (f : Form) (i : ℕ) (out whole : List ℕ) → length log ≤ i → out ++ lines_from log f (range_with_len i (length log - i)) ≡ whole → out ≡ whole
+pub text_finished : (log : List TimePoint) (f : Form) (i : ℕ) (out whole : List ℕ) → length log ≤ i
+    → out ++ lines_from log f (range_with_len i (length log - i)) ≡ whole → out ≡ whole
 text_finished log f i out whole past before =
     let none : 0 ≡ length log - i = omega arith in
     sym (append-nil out)

@@ -13,14 +13,17 @@ pub funext : {A B : Type 0} (f g : A → B) → ((x : A) → f x ≡ g x) → f 
 funext f g h = λ i. λ x. h x i
 
 -- both operands of an operation may be replaced
-pub on_both : {A B C : Type 0} (op : A → B → C) (a b : A) (x y : B) → a ≡ b → x ≡ y → op a x ≡ op b y
+pub on_both : {A B C : Type 0} (op : A → B → C) (a b : A) (x y : B) → a ≡ b → x ≡ y
+    → op a x ≡ op b y
 on_both op a b x y e h = ap (λ c. op c x) e ∙ ap (op b) h
 
 -- tests that agree find alike
-pub any_alike : {X : Type 0} (p q : X → Bool) (xs : List X) → ((x : X) → p x ≡ q x) → list_any p xs ≡ list_any q xs
+pub any_alike : {X : Type 0} (p q : X → Bool) (xs : List X) → ((x : X) → p x ≡ q x)
+    → list_any p xs ≡ list_any q xs
 any_alike p q xs h = ap (λ r. list_any r xs) (funext p q h)
 
-pub all_alike : {X : Type 0} (p q : X → Bool) (xs : List X) → ((x : X) → p x ≡ q x) → list_all p xs ≡ list_all q xs
+pub all_alike : {X : Type 0} (p q : X → Bool) (xs : List X) → ((x : X) → p x ≡ q x)
+    → list_all p xs ≡ list_all q xs
 all_alike p q xs h = ap (λ r. list_all r xs) (funext p q h)
 
 -- a number equals itself
@@ -31,7 +34,8 @@ or_grouped : (a b c : Bool) → ((a || b) || c) ≡ (a || (b || c))
 or_grouped true b c = refl
 or_grouped false b c = refl
 
-joined_by : (y : ℕ) (xs ys : List ℕ) (b : Bool) → among y xs ≡ b → among y (joined xs ys) ≡ (b || among y ys)
+joined_by : (y : ℕ) (xs ys : List ℕ) (b : Bool) → among y xs ≡ b
+    → among y (joined xs ys) ≡ (b || among y ys)
 joined_by y xs ys true h = list_any-append (nat_eq y) xs (filter (λ z. not (among z xs)) ys) ∙ or_left (among y xs) _ h
 joined_by y xs ys false h =
     list_any-append (nat_eq y) xs (filter (λ z. not (among z xs)) ys)
@@ -44,7 +48,8 @@ pub among_joined : (y : ℕ) (xs ys : List ℕ) → among y (joined xs ys) ≡ (
 among_joined y xs ys = joined_by y xs ys (among y xs) refl
 
 -- the variables without x
-pub among_without : (y x : ℕ) (xs : List ℕ) → among y (without x xs) ≡ (not (nat_eq y x) && among y xs)
+pub among_without : (y x : ℕ) (xs : List ℕ)
+    → among y (without x xs) ≡ (not (nat_eq y x) && among y xs)
 among_without y x xs =
     any-filter_same (nat_eq y) (λ z. not (nat_eq z x)) (not (nat_eq y x))
     (λ z e. ap (λ w. not (nat_eq w x)) (sym (eqb-true y z e))) xs
@@ -62,7 +67,8 @@ among_distinct y (x ∷ xs) =
     ∙ ap (λ b. nat_eq y x || b) (among_distinct y xs)
 
 -- a test that holds at each number of a range holds at one of them
-pub all_in : (p : ℕ → Bool) (a n k : ℕ) → list_all p (range_with_len a n) ≡ true → a ≤ k → k < a + n → p k ≡ true
+pub all_in : (p : ℕ → Bool) (a n k : ℕ) → list_all p (range_with_len a n) ≡ true → a ≤ k → k < a + n
+    → p k ≡ true
 all_in p a zero k h low high = absurd (omega arith)
 all_in p a (suc n) k h low high =
     elim (cases_eq a k) [
@@ -71,7 +77,8 @@ all_in p a (suc n) k h low high =
     ]
 
 -- a test that holds at each number of a range holds of the whole
-pub all_from : (p : ℕ → Bool) (a n : ℕ) → ((k : ℕ) → a ≤ k → k < a + n → p k ≡ true) → list_all p (range_with_len a n) ≡ true
+pub all_from : (p : ℕ → Bool) (a n : ℕ) → ((k : ℕ) → a ≤ k → k < a + n → p k ≡ true)
+    → list_all p (range_with_len a n) ≡ true
 all_from p a zero h = refl
 all_from p a (suc n) h =
     and_from (p a) (list_all p (range_with_len (a + 1) n)) (h a (omega arith) (omega arith))
@@ -90,7 +97,8 @@ any_in p a (suc n) h =
     ]
 
 -- a number of a range at which a test holds is found
-pub any_from : (p : ℕ → Bool) (a n k : ℕ) → a ≤ k → k < a + n → p k ≡ true → list_any p (range_with_len a n) ≡ true
+pub any_from : (p : ℕ → Bool) (a n k : ℕ) → a ≤ k → k < a + n → p k ≡ true
+    → list_any p (range_with_len a n) ≡ true
 any_from p a zero k low high h = absurd (omega arith)
 any_from p a (suc n) k low high h =
     elim (cases_eq a k) [
@@ -115,12 +123,18 @@ all_same p q a (suc n) h =
 
 -- a range ends in its last number
 pub range_suc : (a n : ℕ) → range_with_len a (n + 1) ≡ range_with_len a n ++ (a + n) ∷ []
-range_suc a n = sym (map-id (range_with_len a (n + 1))) ∙ map-range_with_len_more (λ k. k) a n (a + n) refl ∙ ap (λ xs. xs ++ (a + n) ∷ []) (map-id (range_with_len a n))
+range_suc a n =
+    sym (map-id (range_with_len a (n + 1)))
+    ∙ map-range_with_len_more (λ k. k) a n (a + n) refl
+    ∙ ap (λ xs. xs ++ (a + n) ∷ []) (map-id (range_with_len a n))
 
 -- a range splits after its first m numbers
-pub range_front : (a m n : ℕ) → range_with_len a (m + n) ≡ range_with_len a m ++ range_with_len (a + m) n
+pub range_front : (a m n : ℕ)
+    → range_with_len a (m + n) ≡ range_with_len a m ++ range_with_len (a + m) n
 range_front a zero n = rw (zero-add n) (rw (add-zero a) refl)
-range_front a (suc m) n = rw (suc-add m n) (ap (λ xs. a ∷ xs) (range_front (a + 1) m n ∙ ap (λ b. range_with_len (a + 1) m ++ range_with_len b n) (omega arith)))
+range_front a (suc m) n =
+    rw (suc-add m n) (ap (λ xs. a ∷ xs)
+    (range_front (a + 1) m n ∙ ap (λ b. range_with_len (a + 1) m ++ range_with_len b n) (omega arith)))
 
 -- the truth value at a position
 pub truth_is : (p : ℕ → Bool) (n j : ℕ) → j < n → truth_at (truths n p) j ≡ p j
@@ -131,7 +145,8 @@ pub truths_more : (n : ℕ) (p : ℕ → Bool) → truths (n + 1) p ≡ truths n
 truths_more n p = map-range_with_len_more p 0 n n (omega arith)
 
 -- what is found in a mapped list
-pub any_map : {X Y : Type 0} (p : Y → Bool) (f : X → Y) (xs : List X) → list_any p (map f xs) ≡ list_any (λ x. p (f x)) xs
+pub any_map : {X Y : Type 0} (p : Y → Bool) (f : X → Y) (xs : List X)
+    → list_any p (map f xs) ≡ list_any (λ x. p (f x)) xs
 any_map p f [] = refl
 any_map p f (x ∷ xs) = ap (λ b. p (f x) || b) (any_map p f xs)
 

@@ -25,7 +25,9 @@ pub truths_more : (holds : ℕ → Bool) (n : ℕ) → truths (n + 1) holds ≡ 
 truths_more holds n = map-range_with_len_more holds 0 n n (zero-add n)
 
 -- the truth values after one more was pushed
-pub truths_pushed : (holds : ℕ → Bool) (n : ℕ) (before after : List Bool) (held : Bool) → before ≡ truths n holds → held ≡ holds n → after ≡ before ++ held ∷ [] → after ≡ truths (n + 1) holds
+pub truths_pushed : (holds : ℕ → Bool) (n : ℕ) (before after : List Bool) (held : Bool)
+    → before ≡ truths n holds → held ≡ holds n → after ≡ before ++ held ∷ []
+    → after ≡ truths (n + 1) holds
 truths_pushed holds n before after held was is adds =
     adds
     ∙ ap (λ b. b ++ held ∷ []) was
@@ -34,14 +36,18 @@ truths_pushed holds n before after held was is adds =
 
 module _ (log : List TimePoint) (dom : List Value) (v : Valuation) (i : ℕ) (whole f g left right : Formula) (held : Bool) where
   -- a quantifier, from what was found of its operand
-  pub exists_holds : (x : Bound) → form whole ≡ Exists x (form f) → left ≡ f → held ≡ list_any (λ a. sat log dom (with_value v x.number a) i (form left)) dom → held ≡ sat log dom v i (form whole)
+  pub exists_holds : (x : Bound) → form whole ≡ Exists x (form f) → left ≡ f
+      → held ≡ list_any (λ a. sat log dom (with_value v x.number a) i (form left)) dom
+      → held ≡ sat log dom v i (form whole)
   unfolding sat
   exists_holds x is l h =
       h
       ∙ ap (λ o. sat log dom v i (Exists x (form o))) l
       ∙ ap (sat log dom v i) (sym is)
 
-  pub forall_holds : (x : Bound) → form whole ≡ Forall x (form f) → left ≡ f → held ≡ list_all (λ a. sat log dom (with_value v x.number a) i (form left)) dom → held ≡ sat log dom v i (form whole)
+  pub forall_holds : (x : Bound) → form whole ≡ Forall x (form f) → left ≡ f
+      → held ≡ list_all (λ a. sat log dom (with_value v x.number a) i (form left)) dom
+      → held ≡ sat log dom v i (form whole)
   unfolding sat
   forall_holds x is l h =
       h
@@ -49,7 +55,11 @@ module _ (log : List TimePoint) (dom : List Value) (v : Valuation) (i : ℕ) (wh
       ∙ ap (sat log dom v i) (sym is)
 
   -- a temporal operator of two operands, from the truth values of both
-  pub since_holds : (interval : Interval) (a b : List Bool) → form whole ≡ Since interval (form f) (form g) → left ≡ f → right ≡ g → a ≡ truths (length log) (λ j. sat log dom v j (form left)) → b ≡ truths (length log) (λ j. sat log dom v j (form right)) → held ≡ since interval (times log) a b i → held ≡ sat log dom v i (form whole)
+  pub since_holds : (interval : Interval) (a b : List Bool)
+      → form whole ≡ Since interval (form f) (form g) → left ≡ f → right ≡ g
+      → a ≡ truths (length log) (λ j. sat log dom v j (form left))
+      → b ≡ truths (length log) (λ j. sat log dom v j (form right))
+      → held ≡ since interval (times log) a b i → held ≡ sat log dom v i (form whole)
   unfolding sat
   since_holds interval a b is l r p q h =
       h
@@ -59,7 +69,11 @@ module _ (log : List TimePoint) (dom : List Value) (v : Valuation) (i : ℕ) (wh
       ∙ ap (λ o. sat log dom v i (Since interval (form f) (form o))) r
       ∙ ap (sat log dom v i) (sym is)
 
-  pub until_holds : (interval : Interval) (a b : List Bool) → form whole ≡ Until interval (form f) (form g) → left ≡ f → right ≡ g → a ≡ truths (length log) (λ j. sat log dom v j (form left)) → b ≡ truths (length log) (λ j. sat log dom v j (form right)) → held ≡ until interval (times log) a b i → held ≡ sat log dom v i (form whole)
+  pub until_holds : (interval : Interval) (a b : List Bool)
+      → form whole ≡ Until interval (form f) (form g) → left ≡ f → right ≡ g
+      → a ≡ truths (length log) (λ j. sat log dom v j (form left))
+      → b ≡ truths (length log) (λ j. sat log dom v j (form right))
+      → held ≡ until interval (times log) a b i → held ≡ sat log dom v i (form whole)
   unfolding sat
   until_holds interval a b is l r p q h =
       h
@@ -71,8 +85,12 @@ module _ (log : List TimePoint) (dom : List Value) (v : Valuation) (i : ℕ) (wh
 
 -- the same of answers that may be a want of memory
 module _ (log : List TimePoint) (dom : List Value) (v : Valuation) (i : ℕ) (whole f left : Formula) (x : Bound) (answer : Result Bool AllocError) where
-  pub exists_answers : form whole ≡ Exists x (form f) → left ≡ f → IfOk answer (λ held. held ≡ list_any (λ a. sat log dom (with_value v x.number a) i (form left)) dom) → IfOk answer (λ held. held ≡ sat log dom v i (form whole))
+  pub exists_answers : form whole ≡ Exists x (form f) → left ≡ f
+      → IfOk answer (λ held. held ≡ list_any (λ a. sat log dom (with_value v x.number a) i (form left)) dom)
+      → IfOk answer (λ held. held ≡ sat log dom v i (form whole))
   exists_answers is l h = IfOk-weaker answer _ _ (λ held e. exists_holds log dom v i whole f f left left held x is l e) h
 
-  pub forall_answers : form whole ≡ Forall x (form f) → left ≡ f → IfOk answer (λ held. held ≡ list_all (λ a. sat log dom (with_value v x.number a) i (form left)) dom) → IfOk answer (λ held. held ≡ sat log dom v i (form whole))
+  pub forall_answers : form whole ≡ Forall x (form f) → left ≡ f
+      → IfOk answer (λ held. held ≡ list_all (λ a. sat log dom (with_value v x.number a) i (form left)) dom)
+      → IfOk answer (λ held. held ≡ sat log dom v i (form whole))
   forall_answers is l h = IfOk-weaker answer _ _ (λ held e. forall_holds log dom v i whole f f left left held x is l e) h

@@ -12,7 +12,9 @@ use Rattle.mfotl_model.proofs.AscendingLemmas.{insert_behind}
 use Rattle.mfotl_model.proofs.RowLemmas.{row_exact}
 
 -- what the elements up to one more give
-pub flat_map_more : {X A : Type 0} (g : X → List A) (xs : List X) (i : ℕ) (x : X) (before after : List A) → i < length xs → x ≡ get_or xs i x → before ≡ flat_map g (take i xs) → after ≡ before ++ g x → after ≡ flat_map g (take (i + 1) xs)
+pub flat_map_more : {X A : Type 0} (g : X → List A) (xs : List X) (i : ℕ) (x : X) (before after : List A)
+    → i < length xs → x ≡ get_or xs i x → before ≡ flat_map g (take i xs) → after ≡ before ++ g x
+    → after ≡ flat_map g (take (i + 1) xs)
 flat_map_more g xs i x before after within is was adds =
     adds
     ∙ ap (λ b. b ++ g x) was
@@ -22,7 +24,9 @@ flat_map_more g xs i x before after within is was adds =
     ∙ ap (flat_map g) (sym (take_more xs i x within))
 
 -- one more row that passes the test is one more row in its place
-pub kept_behind : (p : List Value → Bool) (rows : List (List Value)) (row : List Value) (keys : List (List Value)) → p row ≡ true → keys ≡ ascending row_cmp (filter p rows) → insert_key row_cmp keys row ≡ ascending row_cmp (filter p (rows ++ row ∷ []))
+pub kept_behind : (p : List Value → Bool) (rows : List (List Value)) (row : List Value) (keys : List (List Value))
+    → p row ≡ true → keys ≡ ascending row_cmp (filter p rows)
+    → insert_key row_cmp keys row ≡ ascending row_cmp (filter p (rows ++ row ∷ []))
 kept_behind p rows row keys passes was =
     ap (λ k. insert_key row_cmp k row) was
     ∙ insert_behind row_total row_exact (filter p rows) row

@@ -56,7 +56,8 @@ pub any_none : {X : Type 0} (xs : List X) → list_any (λ x. false) xs ≡ fals
 any_none [] = refl
 any_none (x ∷ xs) = any_none xs
 
-any_and : {X : Type 0} (b : Bool) (p : X → Bool) (xs : List X) → list_any (λ x. b && p x) xs ≡ (b && list_any p xs)
+any_and : {X : Type 0} (b : Bool) (p : X → Bool) (xs : List X)
+    → list_any (λ x. b && p x) xs ≡ (b && list_any p xs)
 any_and true p xs = refl
 any_and false p xs = any_none xs
 
@@ -66,8 +67,12 @@ and_turned true false = refl
 and_turned false true = refl
 and_turned false false = refl
 
-any_and_last : {X : Type 0} (b : Bool) (p : X → Bool) (xs : List X) → list_any (λ x. p x && b) xs ≡ (list_any p xs && b)
-any_and_last b p xs = any_alike (λ x. p x && b) (λ x. b && p x) xs (λ x. and_turned (p x) b) ∙ any_and b p xs ∙ and_turned b (list_any p xs)
+any_and_last : {X : Type 0} (b : Bool) (p : X → Bool) (xs : List X)
+    → list_any (λ x. p x && b) xs ≡ (list_any p xs && b)
+any_and_last b p xs =
+    any_alike (λ x. p x && b) (λ x. b && p x) xs (λ x. and_turned (p x) b)
+    ∙ any_and b p xs
+    ∙ and_turned b (list_any p xs)
 
 and_moved : (a b c : Bool) → (a && (b && c)) ≡ (b && (a && c))
 and_moved true b c = refl
