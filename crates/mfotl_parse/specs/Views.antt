@@ -7,7 +7,7 @@ use Rattle.mfotl_parse.specs.declared.fault.PolicyFault.TheVariants.{Memory}
 use Rattle.mfotl_parse.specs.declared.frame.Frame.{Frame as FrameValue}
 use Rattle.mfotl_parse.specs.declared.frame.Frame.TheVariants as frames
 use Rattle.mfotl_parse.specs.declared.names.Names.{Names as NamesValue}
-use Rattle.mfotl_parse.specs.declared.state.Call.{Call as CallValue}
+use Rattle.mfotl_parse.specs.declared.call.Call.{Call as CallValue}
 use Rattle.mfotl_parse.specs.declared.state.Context.{Context as ContextValue}
 use Rattle.mfotl_parse.specs.declared.state.Now.{Now as NowValue}
 use Rattle.mfotl_parse.specs.declared.state.Now.TheVariants as nows

@@ -1,121 +1,20 @@
 //! An atom's arguments.
-ghost use Rattle.std.specs.Prelude.{◌≡◌, ◌∷◌, [], ◌-◌, IfOk, IfSome, false};
+ghost use Rattle.std.specs.Prelude.{◌≡◌, ◌∷◌, [], false};
 ghost use Rattle.mfotl_lex.specs.Lexemes.{lexeme};
-ghost use Rattle.mfotl_model.specs.Formulas.{form};
 ghost use Rattle.mfotl_parse.specs.Arguments as calls;
-ghost use Rattle.mfotl_parse.specs.Moves.{given, goes, one_due, few, is_empty};
-ghost use Rattle.mfotl_parse.specs.Names.{number_of, term_of};
+ghost use Rattle.mfotl_parse.specs.Moves.{given, goes, few, is_empty};
 ghost use Rattle.mfotl_parse.specs.Views.{context_of, call_view, GoesOn};
 
+use crate::call::Call;
 use crate::class::Class;
 use crate::fault::PolicyFault;
 use crate::frame::MOST_FREE;
-use crate::state::{Call, Context, Now, text_value};
-use crate::term::{Operand, Variable};
+use crate::state::{Context, Now, text_value};
+use crate::term::{Operand, term_of};
 use mfotl_lex::Token;
-use mfotl_model::{Atom, Bound, Formula, Name, Sort, Term, Terms, Value};
+use mfotl_model::{Term, Value};
 use mfotl_sig::Signature;
-use std::alloc::{AllocError, Global};
-
-fn number_of(variable: Variable) -> Option<u32>
-    ensures { IfSome result (λ number. number ≡ number_of variable) }
-{
-    match variable {
-        Variable::Free(place) => Some(place),
-        Variable::Bound(place) => place.checked_add(MOST_FREE),
-    }
-}
-
-/// The term of an operand.
-pub fn term_of(operand: Operand) -> Result<Term, AllocError>
-    ensures { IfOk result (λ term. term ≡ term_of operand) }
-{
-    match operand {
-        Operand::Variable(variable) => match number_of(variable) {
-            Some(number) => Ok(Term::Var(number)),
-            None => Err(AllocError),
-        },
-        Operand::Constant(value) => Ok(Term::Const(value)),
-    }
-}
-
-impl<'a> Call<'a> {
-    /// The sort of the argument that is due; `int` where none is.
-    fn due(&self) -> Sort
-        ensures { result ≡ calls.due (call_view self.now).rest }
-    {
-        match self.rest {
-            [] => Sort::Int,
-            [sort, ..] => *sort,
-        }
-    }
-
-    fn is_full(&self) -> bool
-        ensures { result ≡ is_empty (call_view self.now).rest }
-    {
-        self.rest.is_empty()
-    }
-
-    /// With one argument more.
-    fn with(self, term: Term) -> Result<Call<'a>, AllocError>
-        ensures { IfOk result (λ call. call_view call
-            ≡ calls.with_argument (call_view self.entry) term) }
-    {
-        let Call {
-            pred,
-            rest,
-            mut args,
-            bound,
-        } = self;
-        args.push(term)?;
-        let rest = match rest {
-            [] => rest,
-            [_, rest @ ..] => rest,
-        };
-        Ok(Call {
-            pred,
-            rest,
-            args,
-            bound,
-        })
-    }
-
-    /// The atom, with EXISTS for each `_`.
-    fn close(self, alloc: Global, bound: u32) -> Result<Formula, AllocError>
-        ensures { IfOk result (λ formula. form formula
-            ≡ calls.atom_of (call_view self.entry) bound) }
-    {
-        let Call {
-            pred,
-            rest: _,
-            args,
-            bound: first,
-        } = self;
-        let atom = Formula::Atom(Atom {
-            pred,
-            args: Terms::new(args),
-        });
-        blanks(alloc, first, bound, atom)
-    }
-}
-
-/// EXISTS around a formula for the variables from `first` up to `end`, the first outermost.
-fn blanks(alloc: Global, first: u32, end: u32, inner: Formula) -> Result<Formula, AllocError>
-    ensures { IfOk result (λ formula. form formula
-        ≡ calls.blanks (end - first) first (form inner)) }
-{
-    let mut whole = inner;
-    let mut place = end;
-    while first < place {
-        place -= 1;
-        let Some(number) = place.checked_add(MOST_FREE) else {
-            return Err(AllocError);
-        };
-        let name = Name::from_slice(b"_", alloc)?;
-        whole = Formula::Exists(Bound { number, name }, Box::new(alloc, whole)?);
-    }
-    Ok(whole)
-}
+use std::alloc::Global;
 
 impl Context {
     /// Behind an atom's name and `(`.

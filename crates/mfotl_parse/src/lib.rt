@@ -2,16 +2,22 @@
 #![tactic(auto)]
 
 mod arguments;
+mod call;
 mod class;
+mod comparisons;
 mod examples;
 mod fault;
 mod frame;
 mod grammar_laws;
 mod intervals;
 mod laws;
+mod lookahead;
 mod names;
 mod operands;
+mod operators;
+mod quantifiers;
 mod reading;
+mod sorts;
 mod stack;
 mod state;
 mod term;

@@ -1,7 +1,6 @@
-//! The variables that were met, and their sorts.
-ghost use Rattle.std.specs.Prelude.{◌≡◌, IfOk, OnOk, length, slice_get, slice_set, option_map, Some, None, position, find, map, is_some, ◌++◌, ◌∷◌, []};
+//! The variables that were met.
+ghost use Rattle.std.specs.Prelude.{◌≡◌, IfOk, OnOk, length, slice_get, option_map, Some, None, position, map, is_some, ◌++◌, ◌∷◌, []};
 ghost use Rattle.std.specs.Str.{bytes_eq};
-ghost use Rattle.std.specs.Option.{option_copied};
 ghost use Rattle.indexmap.specs.IndexMap.{get_by};
 ghost use Rattle.mfotl_parse.specs.Names as sorting;
 ghost use Rattle.mfotl_parse.specs.States.{no_names};
@@ -9,9 +8,9 @@ ghost use Rattle.mfotl_parse.specs.Views.{known_of, names_of, stack_of};
 
 use crate::frame::Frame;
 use crate::stack::binder_of;
-use crate::term::{Operand, Pair, Side, Variable};
+use crate::term::{Pair, Variable};
 use indexmap::IndexMap;
-use mfotl_model::{Name, Sort, Value, Var, Vars};
+use mfotl_model::{Name, Sort, Var, Vars};
 use std::alloc::{AllocError, Global};
 
 #[derive(Drop)]
@@ -49,45 +48,6 @@ fn add_free(
     let key = Vec::from_slice(alloc, name)?;
     free.insert(key, at)?;
     Ok(())
-}
-
-fn sort_of_value(value: &Value) -> Sort
-    ensures { result ≡ sorting.sort_of_value value.now }
-{
-    match value {
-        Value::Int(_) => Sort::Int,
-        Value::Text(_) => Sort::Text,
-    }
-}
-
-fn same_sort(left: Sort, right: Sort) -> bool
-    ensures { result ≡ sorting.same_sort left right }
-{
-    match (left, right) {
-        (Sort::Int, Sort::Int) => true,
-        (Sort::Int, Sort::Text) => false,
-        (Sort::Text, Sort::Int) => false,
-        (Sort::Text, Sort::Text) => true,
-    }
-}
-
-fn differ(left: Option<Sort>, right: Option<Sort>) -> bool
-    ensures { result ≡ sorting.differ left right }
-{
-    match (left, right) {
-        (Some(left), Some(right)) => !same_sort(left, right),
-        (Some(_), None) => false,
-        (None, _) => false,
-    }
-}
-
-fn given(sorts: &[Option<Sort>], place: u32) -> Option<Sort>
-    ensures { result ≡ sorting.given_at (slice_get sorts.now place) }
-{
-    match sorts.get(place as usize) {
-        Some(sort) => *sort,
-        None => None,
-    }
 }
 
 impl Names {
@@ -155,92 +115,6 @@ impl Names {
         Ok(place)
     }
 
-    fn sort_of(&self, variable: Variable) -> Option<Sort>
-        ensures { result ≡ sorting.sort_of variable (names_of self.now) }
-    {
-        match variable {
-            Variable::Free(place) => given(&self.free_sorts, place),
-            Variable::Bound(place) => given(&self.bound_sorts, place),
-        }
-    }
-
-    fn give_sort(&mut self, variable: Variable, sort: Sort)
-        ensures { names_of self.new ≡ sorting.with_sort variable sort (names_of self.old) }
-    {
-        match variable {
-            Variable::Free(place) => set(&mut self.free_sorts, place, sort),
-            Variable::Bound(place) => set(&mut self.bound_sorts, place, sort),
-        }
-    }
-
-    fn clash_at(&mut self, at: u64)
-        ensures { names_of self.new ≡ sorting.clashed at (names_of self.old) }
-    {
-        if self.clash.is_none() {
-            self.clash = Some(at);
-        }
-    }
-
-    fn agree(&mut self, before: Sort, at: u64, sort: Sort)
-        ensures { names_of self.new ≡ sorting.agreed before at sort (names_of self.old) }
-    {
-        if !same_sort(before, sort) {
-            self.clash_at(at);
-        }
-    }
-
-    fn occur(&mut self, variable: Variable, at: u64, sort: Sort)
-        ensures { names_of self.new ≡ sorting.occurs variable at sort (names_of self.old) }
-    {
-        match self.sort_of(variable) {
-            None => self.give_sort(variable, sort),
-            Some(before) => self.agree(before, at, sort),
-        }
-    }
-
-    /// A term at the offset, where this sort is due.
-    pub fn place(&mut self, operand: &Operand, at: u64, sort: Sort)
-        ensures { names_of self.new ≡ sorting.placed operand.now at sort (names_of self.old) }
-    {
-        match operand {
-            Operand::Variable(variable) => self.occur(*variable, at, sort),
-            Operand::Constant(value) => self.agree(sort_of_value(value), at, sort),
-        }
-    }
-
-    /// The sides of a comparison whose sign stands at the offset.
-    pub fn compare(&mut self, left: &Side, at: u64, right: &Side) -> Result<(), AllocError>
-        ensures { OnOk result (names_of self.new
-            ≡ sorting.compared left.now.operand left.now.at at right.now.operand right.now.at (names_of self.old)) }
-    {
-        match (&left.operand, &right.operand) {
-            (Operand::Variable(left), Operand::Variable(right)) => {
-                self.pairs.push(Pair {
-                    at,
-                    left: *left,
-                    right: *right,
-                })?;
-            }
-            (Operand::Variable(variable), Operand::Constant(value)) => {
-                self.occur(*variable, left.at, sort_of_value(value));
-            }
-            (Operand::Constant(value), Operand::Variable(variable)) => {
-                self.occur(*variable, right.at, sort_of_value(value));
-            }
-            (Operand::Constant(left), Operand::Constant(right)) => {
-                self.agree(sort_of_value(left), at, sort_of_value(right));
-            }
-        }
-        Ok(())
-    }
-
-    /// The first comparison of two variables that have different sorts.
-    pub fn uneven_pair(&self) -> Option<&Pair>
-        ensures { option_copied result ≡ sorting.uneven_pair (names_of self.now) }
-    {
-        self.pairs.iter().find(|pair| differ(self.sort_of(pair.left), self.sort_of(pair.right)))
-    }
-
     /// Where the ninth free variable first occurs.
     pub fn ninth_free(&self) -> Option<u64>
         ensures { result
@@ -279,14 +153,5 @@ impl Names {
             vars.push(var)?;
         }
         Ok(Vars::new(vars))
-    }
-}
-
-fn set(sorts: &mut Vec<Option<Sort>>, place: u32, sort: Sort)
-    ensures { sorts.new.items ≡ slice_set sorts.old.items place (Some sort) }
-{
-    let place = place as usize;
-    if place < sorts.len() {
-        sorts[place] = Some(sort);
     }
 }

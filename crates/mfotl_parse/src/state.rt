@@ -8,25 +8,15 @@ ghost use Rattle.mfotl_parse.specs.Operands.{with_noted};
 ghost use Rattle.mfotl_parse.specs.States.{start, depth, pushed};
 ghost use Rattle.mfotl_parse.specs.Views.{context_of, frame_of};
 
+use crate::call::Call;
 use crate::class::Quantifier;
 use crate::frame::Frame;
 use crate::names::Names;
 use crate::stack;
 use crate::term::{Side, Variable};
 use mfotl_lex::Token;
-use mfotl_model::{Formula, Sign, Sort, Term, Text, Value};
+use mfotl_model::{Formula, Sign, Text, Value};
 use std::alloc::{AllocError, Global};
-
-/// An atom up to its last argument.
-#[derive(Drop)]
-pub struct Call<'a> {
-    pub pred: u32,
-    /// The sorts of the arguments to come.
-    pub rest: &'a [Sort],
-    pub args: Vec<Term>,
-    /// How many variables were bound before it.
-    pub bound: u32,
-}
 
 /// What may come next. Each number is an offset unless its variant says otherwise.
 #[derive(Drop)]

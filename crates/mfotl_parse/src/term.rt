@@ -1,5 +1,10 @@
 //! Variables and constants, as they are met in the text.
-use mfotl_model::Value;
+ghost use Rattle.std.specs.Prelude.{◌≡◌, IfOk, IfSome};
+ghost use Rattle.mfotl_parse.specs.Names.{number_of, term_of};
+
+use crate::frame::MOST_FREE;
+use mfotl_model::{Term, Value};
+use std::alloc::AllocError;
 
 /// The variable that a name stands for at a place: a free one by its order of first occurrence, a
 /// quantified one by the order of its quantifier among all.
@@ -28,4 +33,26 @@ pub struct Pair {
     pub at: u64,
     pub left: Variable,
     pub right: Variable,
+}
+
+fn number_of(variable: Variable) -> Option<u32>
+    ensures { IfSome result (λ number. number ≡ number_of variable) }
+{
+    match variable {
+        Variable::Free(place) => Some(place),
+        Variable::Bound(place) => place.checked_add(MOST_FREE),
+    }
+}
+
+/// The term of an operand.
+pub fn term_of(operand: Operand) -> Result<Term, AllocError>
+    ensures { IfOk result (λ term. term ≡ term_of operand) }
+{
+    match operand {
+        Operand::Variable(variable) => match number_of(variable) {
+            Some(number) => Ok(Term::Var(number)),
+            None => Err(AllocError),
+        },
+        Operand::Constant(value) => Ok(Term::Const(value)),
+    }
 }

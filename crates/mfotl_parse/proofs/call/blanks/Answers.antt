@@ -2,7 +2,7 @@ use Rattle.std.proofs.Common.{◌∙◌, ◌-◌, arith, ap}
 use Rattle.mfotl_model.specs.Formulas.{form}
 use Rattle.mfotl_parse.specs.Arguments.{blanks}
 use Rattle.mfotl_parse.proofs.BlankLemmas.{blanks_step}
-use Rattle.mfotl_parse.proofs.arguments.blanks.Goals as goal
+use Rattle.mfotl_parse.proofs.call.blanks.Goals as goal
 
 pub loop-place-preserved : goal.loop-place-preserved
 loop-place-preserved c =

@@ -1,7 +1,7 @@
 use Rattle.std.proofs.Common.{◌≡◌, ◌-◌, ◌≤◌}
 use Rattle.mfotl_model.specs.Formulas.{form}
 use Rattle.mfotl_parse.specs.Arguments.{blanks}
-use Rattle.mfotl_parse.proofs.arguments.blanks.Given as goal
+use Rattle.mfotl_parse.proofs.call.blanks.Given as goal
 
 abbrev pub invariant-loop-place : goal.invariant-loop-place
 invariant-loop-place l =

@@ -1,0 +1,104 @@
+//! A quantifier's variables.
+ghost use Rattle.std.specs.Prelude.{◌≡◌, ◌∷◌, []};
+ghost use Rattle.mfotl_lex.specs.Lexemes.{lexeme};
+ghost use Rattle.mfotl_parse.specs.Moves.{given, goes};
+ghost use Rattle.mfotl_parse.specs.Operands as operands;
+ghost use Rattle.mfotl_parse.specs.Views.{context_of, GoesOn};
+
+use crate::class::{Class, Quantifier};
+use crate::fault::PolicyFault;
+use crate::frame::Frame;
+use crate::state::{Context, Now};
+use mfotl_lex::Token;
+use mfotl_model::Name;
+use std::alloc::Global;
+
+impl Context {
+    /// Where a quantified variable is due.
+    pub fn binder<'a>(
+        &mut self,
+        alloc: Global,
+        quantifier: Quantifier,
+        token: &Token<'a>,
+        class: Class,
+    ) -> Result<Now<'a>, PolicyFault>
+        ensures { GoesOn result self.new
+            (given token.now.at (operands.binder_move (context_of self.old) quantifier
+            (lexeme token.now) class)) }
+    {
+        let at = token.at as u64;
+        match class {
+            Class::Name => {
+                if self.is_deep() {
+                    return Err(PolicyFault::TooDeep(at));
+                }
+                if self.is_full() {
+                    return Err(PolicyFault::TooManyNodes(at));
+                }
+                self.nodes += 1;
+                self.bind(alloc, quantifier, token.text)
+            }
+            Class::Question => {
+                if self.is_deep() {
+                    return Err(PolicyFault::TooDeep(at));
+                }
+                if self.is_full() {
+                    return Err(PolicyFault::TooManyNodes(at));
+                }
+                self.nodes += 1;
+                Ok(Now::BinderMarked(quantifier, at))
+            }
+            _ => Err(PolicyFault::Syntax(at)),
+        }
+    }
+
+    /// Behind its `?`.
+    pub fn binder_marked<'a>(
+        &mut self,
+        alloc: Global,
+        quantifier: Quantifier,
+        token: &Token<'a>,
+        class: Class,
+    ) -> Result<Now<'a>, PolicyFault>
+        ensures { GoesOn result self.new
+            (given token.now.at (operands.binder_marked_move (context_of self.old) quantifier
+            (lexeme token.now) class)) }
+    {
+        match class {
+            Class::Name => self.bind(alloc, quantifier, token.text),
+            _ => Err(PolicyFault::Syntax(token.at as u64)),
+        }
+    }
+
+    /// Behind a quantified variable.
+    pub fn bound<'a>(
+        &mut self,
+        quantifier: Quantifier,
+        token: &Token<'a>,
+        class: Class,
+    ) -> Result<Now<'a>, PolicyFault>
+        ensures { GoesOn result self.new
+            (given token.now.at (operands.bound_move (context_of self.old) quantifier class)) }
+    {
+        match class {
+            Class::Comma => Ok(Now::Binder(quantifier)),
+            Class::Dot => Ok(Now::Want),
+            _ => Err(PolicyFault::Syntax(token.at as u64)),
+        }
+    }
+
+    fn bind<'a>(
+        &mut self,
+        alloc: Global,
+        quantifier: Quantifier,
+        name: &[u8],
+    ) -> Result<Now<'a>, PolicyFault>
+        ensures { GoesOn result self.new
+            (given 0 (goes [] (operands.bound_now (context_of self.old) quantifier name.now))) }
+    {
+        let name = Name::from_slice(name, alloc)?;
+        let place = self.names.bind(None)?;
+        self.push(Frame::Binding(quantifier, place, name))?;
+        Ok(Now::Bound(quantifier))
+    }
+}
