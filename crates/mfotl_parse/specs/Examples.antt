@@ -1,10 +1,13 @@
 -- Texts with the policy or the first fault that they give.
-use Rattle.std.specs.Prelude.{◌≡◌, ℕ, List, [], ◌∷◌, Option, Some, Result, Ok, Err, codes, pos, negsuc}
+use Rattle.std.specs.Prelude.{◌≡◌, ℕ, List, [], ◌∷◌, Option, Some, None, Result, Ok, Err, codes, pos, negsuc}
 use Rattle.mfotl_lex.specs.declared.fault.LexFaultKind.TheVariants.{BadByte}
+use Rattle.mfotl_model.specs.declared.policy.Sort.{Sort}
 use Rattle.mfotl_model.specs.declared.policy.Sort.TheVariants as sorts
 use Rattle.mfotl_model.specs.declared.formula.Bound.{Bound}
 use Rattle.mfotl_model.specs.declared.policy.Var.{Var}
+use Rattle.mfotl_model.specs.declared.term.Sign.{Sign}
 use Rattle.mfotl_model.specs.declared.term.Sign.TheVariants as signs
+use Rattle.mfotl_model.specs.declared.term.Term.{Term}
 use Rattle.mfotl_model.specs.declared.term.Term.TheVariants as terms
 use Rattle.mfotl_model.specs.declared.value.Value.TheVariants as values
 use Rattle.mfotl_model.specs.Formulas as forms
@@ -15,15 +18,21 @@ use Rattle.mfotl_parse.specs.declared.fault.PolicyFault.{PolicyFault}
 use Rattle.mfotl_parse.specs.declared.fault.PolicyFault.TheVariants.{Lex, Syntax, EmptyInterval, BoundRange, UnknownPredicate, WrongArity, SortClash, TooManyVariables, TooDeep, TooManyNodes}
 use Rattle.mfotl_parse.specs.Reading.{reading}
 
--- p(int) and s(string)
-abbrev pub two_preds : List PredOf
-two_preds =
+abbrev pub eight_integers : List Sort
+eight_integers = sorts.Int ∷ sorts.Int ∷ sorts.Int ∷ sorts.Int ∷ sorts.Int ∷ sorts.Int ∷ sorts.Int ∷ sorts.Int ∷ []
+
+-- p(int), s(string), r(int,int), q of eight integers, and _(int)
+abbrev pub preds : List PredOf
+preds =
     record { number = 0; name = codes "p"; sorts = sorts.Int ∷ [] } ∷
-    record { number = 1; name = codes "s"; sorts = sorts.Text ∷ [] } ∷ []
+    record { number = 1; name = codes "s"; sorts = sorts.Text ∷ [] } ∷
+    record { number = 2; name = codes "r"; sorts = sorts.Int ∷ sorts.Int ∷ [] } ∷
+    record { number = 3; name = codes "q"; sorts = eight_integers } ∷
+    record { number = 4; name = codes "_"; sorts = sorts.Int ∷ [] } ∷ []
 
 -- the text's first fault is this one
 abbrev pub FailsWith : List ℕ → PolicyFault → Type 0
-FailsWith text fault = reading text two_preds ≡ Err fault
+FailsWith text fault = reading text preds ≡ Err fault
 
 pub record FaultExamples : Type 0 where
   pub clash : FailsWith (codes "NOT (p(x) AND s(x))") (SortClash 16)
@@ -40,19 +49,55 @@ pub record FaultExamples : Type 0 where
   pub second_argument : FailsWith (codes "NOT p(1,2 $") (WrongArity 8)
   pub comma_alone : FailsWith (codes "NOT p(1,)") (Syntax 8)
   pub empty_before_bad : FailsWith (codes "NOT ONCE[3,1] $") (EmptyInterval 8)
+  pub bad_behind_comma : FailsWith (codes "NOT p(1,$") (Lex (record { kind = BadByte; at = 8 }))
+  pub too_few : FailsWith (codes "NOT r(1)") (WrongArity 7)
+  pub ninth : FailsWith (codes "NOT (q(a,b,c,d,e,f,g,h) AND p(i))") (TooManyVariables 30)
+  pub too_long : FailsWith (codes "NOT ONCE[0,53375995583651d] p(1)") (BoundRange 11)
+  pub blank_compared : FailsWith (codes "NOT _ = 1") (Syntax 6)
+  pub no_dot : FailsWith (codes "EXISTS x p(x)") (Syntax 9)
+  pub comment_at_end : FailsWith (codes "NOT p(x # no more") (Syntax 17)
+
+-- where sorts clash: occurrences and constants in the order of the text, and then signs between variables
+pub record ClashExamples : Type 0 where
+  pub marked : FailsWith (codes "NOT r(x,?x) OR s(?x)") (SortClash 17)
+  pub constant : FailsWith (codes "NOT p(\"a\")") (SortClash 6)
+  pub compared : FailsWith (codes "x = \"a\" AND p(x)") (SortClash 14)
+  pub constants : FailsWith (codes "1 = \"a\"") (SortClash 2)
+  pub compared_pair : FailsWith (codes "x = y AND p(x) AND s(y)") (SortClash 2)
+  pub occurrence_before_pair : FailsWith (codes "x = y AND p(x) AND s(y) AND s(x)") (SortClash 30)
+  pub hidden : FailsWith (codes "(EXISTS x. p(x)) AND EXISTS x. (s(x) AND p(x))") (SortClash 43)
+  pub before_many : FailsWith (codes "NOT (q(a,b,c,d,e,f,g,h) AND s(i) AND s(a))") (SortClash 39)
 
 -- the text spells this formula over these free variables
 abbrev pub Spells : List ℕ → Form → List Var → Type 0
-Spells text f vars = reading text two_preds ≡ Ok (record { formula = f; vars = vars })
+Spells text f vars = reading text preds ≡ Ok (record { formula = f; vars = vars })
 
 abbrev pub variable : ℕ → Form
 variable number = forms.Atom (record { pred = 0; args = terms.Var number ∷ [] })
 
+abbrev pub text_variable : ℕ → Form
+text_variable number = forms.Atom (record { pred = 1; args = terms.Var number ∷ [] })
+
+abbrev pub pair : ℕ → ℕ → Form
+pair left right = forms.Atom (record { pred = 2; args = terms.Var left ∷ terms.Var right ∷ [] })
+
+abbrev pub int_term : ℕ → Term
+int_term n = terms.Const (values.Int (pos n))
+
+abbrev pub one_and_two : Sign → Form
+one_and_two sign = forms.Compare (record { sign = sign; left = int_term 1; right = int_term 2 })
+
+abbrev pub integer : List ℕ → Var
+integer name = record { name = name; sort = sorts.Int }
+
 abbrev pub first_bound : Bound
 first_bound = record { number = 8; name = codes "x" }
 
+abbrev pub second_bound : Bound
+second_bound = record { number = 9; name = codes "x" }
+
 abbrev pub free_x : List Var
-free_x = record { name = codes "x"; sort = sorts.Int } ∷ []
+free_x = integer (codes "x") ∷ []
 
 pub record FormulaExamples : Type 0 where
   pub and_left : Spells (codes "TRUE AND FALSE AND TRUE") (forms.And (forms.And forms.True forms.False) forms.True) []
@@ -66,3 +111,26 @@ pub record FormulaExamples : Type 0 where
   pub blank : Spells (codes "p(_)") (forms.Exists (record { number = 8; name = codes "_" }) (variable 8)) []
   pub between : Spells (codes "ONCE(1m,2h) TRUE") (forms.Once (distances 61 (Some 7199)) forms.True) []
   pub no_interval : Spells (codes "ONCE (-5 < 3)") (forms.Once any_distance (forms.Compare (record { sign = signs.Less; left = terms.Const (values.Int (negsuc 4)); right = terms.Const (values.Int (pos 3)) }))) []
+  pub since_right : Spells (codes "TRUE SINCE FALSE UNTIL TRUE") (forms.Since any_distance forms.True (forms.Until any_distance forms.False forms.True)) []
+  pub since_in_and : Spells (codes "TRUE AND FALSE SINCE TRUE AND FALSE") (forms.And (forms.And forms.True (forms.Since any_distance forms.False forms.True)) forms.False) []
+  pub equiv_left : Spells (codes "TRUE EQUIV FALSE EQUIV TRUE") (forms.Equiv (forms.Equiv forms.True forms.False) forms.True) []
+  pub implies_in_equiv : Spells (codes "TRUE IMPLIES FALSE EQUIV TRUE OR FALSE") (forms.Equiv (forms.Implies forms.True forms.False) (forms.Or forms.True forms.False)) []
+  pub one_operand : Spells (codes "PREVIOUS NEXT ONCE HISTORICALLY EVENTUALLY ALWAYS NOT TRUE") (forms.Previous any_distance (forms.Next any_distance (forms.Once any_distance (forms.Historically any_distance (forms.Eventually any_distance (forms.Always any_distance (forms.Not forms.True))))))) []
+  pub each_sign : Spells (codes "1 = 2 OR 1 < 2 OR 1 <= 2 OR 1 > 2 OR 1 >= 2") (forms.Or (forms.Or (forms.Or (forms.Or (one_and_two signs.Equal) (one_and_two signs.Less)) (one_and_two signs.LessEqual)) (one_and_two signs.Greater)) (one_and_two signs.GreaterEqual)) []
+  pub each_unit : Spells (codes "ONCE[1s,1m] ONCE[1h,1d] TRUE") (forms.Once (distances 1 (Some 60)) (forms.Once (distances 3600 (Some 86400)) forms.True)) []
+  pub one_number : Spells (codes "ONCE[3,3] ONCE(3,4] TRUE") (forms.Once (distances 3 (Some 3)) (forms.Once (distances 4 (Some 4)) forms.True)) []
+  pub minus_zero : Spells (codes "ONCE[-0,3] TRUE") (forms.Once (distances 0 (Some 3)) forms.True) []
+  pub longest : Spells (codes "ONCE[0,53375995583650d] TRUE") (forms.Once (distances 0 (Some 4611686018427360000)) forms.True) []
+  pub past_longest : Spells (codes "ONCE(4611686018427387904,*) TRUE") (forms.Once (distances 4611686018427387905 None) forms.True) []
+
+-- which variable a name stands for, and its sort
+pub record NameExamples : Type 0 where
+  pub first_occurrence : Spells (codes "r(y,x) AND p(y)") (forms.And (pair 0 1) (variable 0)) (integer (codes "y") ∷ integer (codes "x") ∷ [])
+  pub unsorted : Spells (codes "x = y") (forms.Compare (record { sign = signs.Equal; left = terms.Var 0; right = terms.Var 1 })) (integer (codes "x") ∷ integer (codes "y") ∷ [])
+  pub sorted : Spells (codes "x = y AND s(x)") (forms.And (forms.Compare (record { sign = signs.Equal; left = terms.Var 0; right = terms.Var 1 })) (text_variable 0)) (record { name = codes "x"; sort = sorts.Text } ∷ integer (codes "y") ∷ [])
+  pub several : Spells (codes "FORALL x, y. r(x,y)") (forms.Forall first_bound (forms.Forall (record { number = 9; name = codes "y" }) (pair 8 9))) []
+  pub twice : Spells (codes "EXISTS x, x. p(x)") (forms.Exists first_bound (forms.Exists second_bound (variable 9))) []
+  pub apart : Spells (codes "p(x) AND EXISTS x. s(x)") (forms.And (variable 0) (forms.Exists first_bound (text_variable 8))) free_x
+  pub hidden : Spells (codes "EXISTS x. (EXISTS x. p(x)) AND p(x)") (forms.Exists first_bound (forms.And (forms.Exists second_bound (variable 9)) (variable 8))) []
+  pub blanks : Spells (codes "r(_,_)") (forms.Exists (record { number = 8; name = codes "_" }) (forms.Exists (record { number = 9; name = codes "_" }) (pair 8 9))) []
+  pub blank_name : Spells (codes "_(x)") (forms.Atom (record { pred = 4; args = terms.Var 0 ∷ [] })) free_x

@@ -1,11 +1,21 @@
-ghost use Rattle.mfotl_parse.specs.Examples.{FaultExamples, FormulaExamples};
+ghost use Rattle.mfotl_parse.specs.Examples.{FaultExamples, ClashExamples, FormulaExamples, NameExamples};
 
 /// Texts with the first fault of each.
 pub fn fault_examples()
     ensures { FaultExamples }
 {}
 
+/// Texts in which sorts clash.
+pub fn clash_examples()
+    ensures { ClashExamples }
+{}
+
 /// Texts with the formula of each.
 pub fn formula_examples()
     ensures { FormulaExamples }
+{}
+
+/// Texts with the variables that their names stand for.
+pub fn name_examples()
+    ensures { NameExamples }
 {}

@@ -27,4 +27,11 @@ returns c = record {
   second_argument = refl;
   comma_alone = refl;
   empty_before_bad = refl;
+  bad_behind_comma = refl;
+  too_few = refl;
+  ninth = refl;
+  too_long = refl;
+  blank_compared = refl;
+  no_dot = refl;
+  comment_at_end = refl;
 }

@@ -24,4 +24,15 @@ returns c = record {
   blank = refl;
   between = refl;
   no_interval = refl;
+  since_right = refl;
+  since_in_and = refl;
+  equiv_left = refl;
+  implies_in_equiv = refl;
+  one_operand = refl;
+  each_sign = refl;
+  each_unit = refl;
+  one_number = refl;
+  minus_zero = refl;
+  longest = refl;
+  past_longest = refl;
 }
