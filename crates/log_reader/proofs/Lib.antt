@@ -3,9 +3,12 @@ pub mod Turning
 pub mod Keeping
 pub mod Fewness
 pub mod Paths
+pub mod CauseSteps
 pub mod Walks
 pub mod SyntaxLaw
+pub mod FaultLaw
 pub mod Judging
 pub mod PointJudging
 pub mod LogJudging
 pub mod LogLaws
+pub mod AnswerLemmas

@@ -14,12 +14,13 @@ use Rattle.log_reader.specs.Given.{◌>>=◌}
 use Rattle.log_reader.specs.Grammar.{symbols_of, IsViable}
 use Rattle.log_reader.specs.Laws.{walk, EndsViability, EndsTooEarly, IsFirstFault, ExactSyntax}
 use Rattle.log_reader.specs.Partials.{Partial, blank}
-use Rattle.log_reader.specs.Readings.{Reading, Clear, Stops, finish_at, is_long, nothing_left, behind_tokens, reading}
+use Rattle.log_reader.specs.Readings.{Clear, Stops, finish_at, is_long, nothing_left, behind_tokens}
 use Rattle.log_reader.specs.Rules.{tokens_of}
 use Rattle.log_reader.specs.Stages.{goes}
 use Rattle.log_reader.specs.Symbols.{symbol}
 use Rattle.log_reader.proofs.Paths.{paths, paths-append, accepts, accepted_by, accepted_ends, viable_by, viable_path}
-use Rattle.log_reader.proofs.Walks.{broken, step_stops, step_syntax, walk_paths, ending_of, run_ending, walk-append, walk_stop}
+use Rattle.log_reader.proofs.CauseSteps.{broken, step_why, step_shows}
+use Rattle.log_reader.proofs.Walks.{walk_paths, ending_of, last, ending_is, walk-append, walk_stop}
 
 -- one symbol more on a path
 one_more : (o : Option Stage) → option_and_then (λ g. Some g) o ≡ o
@@ -57,7 +58,7 @@ module _ (sig : List PredOf) (limits : Limits) where
   by_token : (ts : List Lexeme) (at : ℕ) → walk sig limits blank ts ≡ Err (Syntax at) → EndsViability sig limits ts at
   by_token ts at e =
       let s = walk_stop sig limits blank ts (Syntax at) e in
-      let why = step_syntax sig limits s.there s.token at s.stops in
+      let why = step_why sig limits s.there s.token (Syntax at) s.stops in
       record {
         front = s.front;
         token = s.token;
@@ -65,8 +66,8 @@ module _ (sig : List PredOf) (limits : Limits) where
         parts = s.parts;
         sound = (s.there, s.walked);
         viable = viable_by s.front s.there.stage (walk_paths sig limits blank s.there s.front s.walked);
-        ends = unviable s.front s.token s.there s.walked why.0;
-        place = why.1;
+        ends = unviable s.front s.token s.there s.walked why.1;
+        place = why.0;
       }
 
   -- ---- there, so it is shown
@@ -77,7 +78,7 @@ module _ (sig : List PredOf) (limits : Limits) where
       let q = v.sound.0 in
       let none = goes_on v.front v.token q (goes q.stage (symbol v.token)) v.sound.1 refl v.ends in
       ap (walk sig limits blank) v.parts ∙ walk-append sig limits blank q v.front (v.token ∷ v.back) v.sound.1
-      ∙ ap (λ (r : Result Partial LogFault). r >>= λ x. walk sig limits x v.back) (step_stops sig limits q v.token none)
+      ∙ ap (λ (r : Result Partial LogFault). r >>= λ x. walk sig limits x v.back) (step_shows sig limits q v.token (Syntax v.token.at) (refl, none))
       ∙ ap (λ (k : ℕ). broken (Syntax k)) (sym v.place)
 
 -- ---- the end
@@ -101,7 +102,7 @@ not_long limit at e = cc
 not_clear : (fault : LogFault) → Clear ≡ Stops fault → ⊥
 not_clear fault e = cc
 
-same_stop : (fault other : LogFault) → Stops fault ≡ Stops other → fault ≡ other
+pub same_stop : (fault other : LogFault) → Stops fault ≡ Stops other → fault ≡ other
 same_stop fault other e = cc
 
 -- where the bytes at the end show a syntax fault
@@ -125,14 +126,7 @@ module _ (sig : List PredOf) (limits : Limits) (bytes : List ℕ) (ended : Bool)
   abbrev ts : List Lexeme
   ts = (tokens_of limits bytes ended).list
 
-  abbrev last : Partial → Reading
-  last = behind_tokens (tokens_of limits bytes ended).fault (nothing_left limits bytes ended)
-
-  ending_is : (reading sig limits bytes ended).ending ≡ ending_of sig limits last (walk sig limits blank ts)
-  unfolding reading
-  ending_is = run_ending sig limits last blank ts
-
-  shown_there : (w : Result Partial LogFault) → walk sig limits blank ts ≡ w → ending_of sig limits last w ≡ Stops (Syntax at)
+  shown_there : (w : Result Partial LogFault) → walk sig limits blank ts ≡ w → ending_of sig limits (last sig limits bytes ended) w ≡ Stops (Syntax at)
       → EndsViability sig limits ts at ⊎ EndsTooEarly sig limits bytes ended at
   shown_there (Err fault) w e = inl (by_token sig limits ts at (w ∙ ap (λ (f : LogFault). broken f) (same_stop fault (Syntax at) e)))
   shown_there (Ok q) w e =
@@ -155,16 +149,16 @@ module _ (sig : List PredOf) (limits : Limits) (bytes : List ℕ) (ended : Bool)
       let q = x.sound.0 in
       let refused = λ (a : accepts q.stage ≡ true). x.unaccepted (accepted_by ts q.stage (walk_paths sig limits blank q ts x.sound.1) a) in
       let here : (nothing_left limits bytes ended q).ending ≡ Stops (Syntax (length bytes)) = rw (x.short, x.told) (shows_end q.stage q (length bytes) refused) in
-      ending_is ∙ ap (ending_of sig limits last) x.sound.1
+      ending_is sig limits bytes ended ∙ ap (ending_of sig limits (last sig limits bytes ended)) x.sound.1
       ∙ ap (λ (f : Option LexFault). (behind_tokens f (nothing_left limits bytes ended) q).ending) x.whole
       ∙ here ∙ ap (λ (k : ℕ). Stops (Syntax k)) (sym x.place)
 
   there_shown : EndsViability sig limits ts at ⊎ EndsTooEarly sig limits bytes ended at → IsFirstFault sig limits bytes ended (Syntax at)
-  there_shown (inl v) = ending_is ∙ ap (ending_of sig limits last) (token_shows sig limits ts at v)
+  there_shown (inl v) = ending_is sig limits bytes ended ∙ ap (ending_of sig limits (last sig limits bytes ended)) (token_shows sig limits ts at v)
   there_shown (inr x) = early_shows x
 
 pub exact_syntax_law : ExactSyntax
 exact_syntax_law sig limits bytes ended at = (
-  λ e. shown_there sig limits bytes ended at (walk sig limits blank (ts sig limits bytes ended at)) refl (sym (ending_is sig limits bytes ended at) ∙ e),
+  λ e. shown_there sig limits bytes ended at (walk sig limits blank (ts sig limits bytes ended at)) refl (sym (ending_is sig limits bytes ended) ∙ e),
   there_shown sig limits bytes ended at,
 )

@@ -1,26 +1,21 @@
 -- A walk over tokens, and how it ends.
-use Rattle.std.proofs.Common.{◌≡◌, ℕ, List, [], ◌∷◌, ◌++◌, Option, Some, None, Result, Ok, Err, refl, sym, ap, ◌∙◌, nat_lt}
+use Rattle.std.proofs.Common.{◌≡◌, ℕ, Bool, List, [], ◌∷◌, ◌++◌, Option, Some, None, Result, Ok, Err, refl, sym, ap, ◌∙◌}
 use Rattle.std.specs.Prelude.{option_and_then}
-use Rattle.std.proofs.lemmas.Bool.{cond_both}
 use Rattle.mfotl_lex.specs.Lexemes.{Lexeme}
-use Rattle.mfotl_lex.specs.Numbers.{integer_value, is_int64}
-use Rattle.mfotl_model.specs.declared.policy.Sort.{Sort}
-use Rattle.mfotl_model.specs.declared.policy.Sort.TheVariants as sorts
-use Rattle.mfotl_sig.specs.Preds.{PredOf, named}
+use Rattle.mfotl_sig.specs.Preds.{PredOf}
 use Rattle.log_reader.specs.declared.fault.LogFault.{LogFault}
-use Rattle.log_reader.specs.declared.fault.LogFault.TheVariants.{Syntax}
 use Rattle.log_reader.specs.declared.limits.Limits.{Limits}
 use Rattle.log_reader.specs.declared.stage.Stage.{Stage}
-use Rattle.log_reader.specs.declared.stage.Stage.TheVariants.{Between, AfterAt, AfterStamp, AfterName, AfterOpen, AfterValue, AfterComma, AfterClose}
 use Rattle.log_reader.specs.Given.{◌>>=◌}
 use Rattle.log_reader.specs.Grammar.{symbols_of}
 use Rattle.log_reader.specs.Laws.{walk}
-use Rattle.log_reader.specs.Partials.{Partial}
-use Rattle.log_reader.specs.Readings.{Reading, Ending, Stops, went_on, run}
+use Rattle.log_reader.specs.Partials.{Partial, blank}
+use Rattle.log_reader.specs.Readings.{Reading, Ending, Stops, went_on, run, behind_tokens, nothing_left, reading}
+use Rattle.log_reader.specs.Rules.{tokens_of}
 use Rattle.log_reader.specs.Stages.{goes}
-use Rattle.log_reader.specs.Steps.{step, stepped, stamped, naming, valued, closed, timestamp_of}
-use Rattle.log_reader.specs.Symbols.{Written, Bare, Quoted, symbol, content, written}
-use Rattle.log_reader.specs.ValuesRead.{value_at, integer_at, is_number}
+use Rattle.log_reader.specs.Steps.{step, stepped}
+use Rattle.log_reader.specs.Symbols.{symbol}
+use Rattle.log_reader.proofs.CauseSteps.{done}
 use Rattle.log_reader.proofs.Paths.{paths}
 use Rattle.log_reader.proofs.Turning.{stepped_reaches}
 
@@ -34,76 +29,6 @@ step_goes sig limits p q t e = by_stage (goes p.stage (symbol t)) refl e
     by_stage : (found : Option Stage) → goes p.stage (symbol t) ≡ found → stepped sig limits p t found ≡ Ok q → goes p.stage (symbol t) ≡ Some q.stage
     by_stage None f h = absurd cc
     by_stage (Some g) f h = f ∙ ap (λ (s : Stage). Some s) (sym (stepped_reaches sig limits p t g q h).stage)
-
--- where the grammar doesn't go on, a token is a syntax fault
-pub step_stops : (sig : List PredOf) (limits : Limits) (p : Partial) (t : Lexeme) → goes p.stage (symbol t) ≡ None → step sig limits p t ≡ Err (Syntax t.at)
-unfolding step
-step_stops sig limits p t e = ap (stepped sig limits p t) e
-
--- no rule but the grammar gives a syntax fault
-abbrev NoSyntax : {A : Type 0} → Result A LogFault → Type 0
-NoSyntax {A} r = (at : ℕ) → r ≡ Err (Syntax at) → ⊥
-
-integer_rule : (at : ℕ) (word : List ℕ) → NoSyntax (integer_at at word)
-unfolding integer_at
-integer_rule at word =
-    cond_both (is_number word) _ _ NoSyntax
-    (λ _. cond_both (is_int64 (integer_value word)) _ _ NoSyntax (λ _ k e. cc) (λ _ k e. cc))
-    (λ _ k e. cc)
-
-value_rule : (sort : Sort) (at : ℕ) (w : Written) → NoSyntax (value_at sort at w)
-value_rule sorts.Int at (Bare word) = integer_rule at word
-value_rule sorts.Int at (Quoted text) = λ k e. cc
-value_rule sorts.Text at (Bare word) = λ k e. cc
-value_rule sorts.Text at (Quoted text) = λ k e. cc
-
-abbrev pub done : {A : Type 0} → A → Result A LogFault
-done x = Ok x
-
-abbrev pub broken : {A : Type 0} → LogFault → Result A LogFault
-broken fault = Err fault
-
-same_fault : {A : Type 0} (fault other : LogFault) → broken {A = A} fault ≡ broken other → fault ≡ other
-same_fault fault other e = cc
-
-bind_rule : {A B : Type 0} (r : Result A LogFault) (f : A → Result B LogFault) → NoSyntax r → ((x : A) → NoSyntax (f x)) → NoSyntax (r >>= f)
-bind_rule (Ok x) f n m = m x
-bind_rule {A} {B} (Err fault) f n m = λ k e. n k (ap (λ (x : LogFault). broken {A = A} x) (same_fault {A = B} fault (Syntax k) e))
-
-valued_rule : (at : ℕ) (w : Written) (p : Partial) (due : List Sort) → NoSyntax (valued at w p due)
-valued_rule at w p [] = λ k e. cc
-valued_rule at w p (sort ∷ due) = bind_rule (value_at sort at w) _ (value_rule sort at w) (λ v k e. cc)
-
-closed_rule : (at : ℕ) (p : Partial) (due : List Sort) → NoSyntax (closed at p due)
-closed_rule at p [] = λ k e. cc
-closed_rule at p (sort ∷ due) = λ k e. cc
-
-naming_rule : (at : ℕ) (p : Partial) (found : Option PredOf) → NoSyntax (naming at p found)
-naming_rule at p (Some pred) = λ k e. cc
-naming_rule at p None = λ k e. cc
-
-stamped_rule : (at : ℕ) (p : Partial) (time : Option ℕ) → NoSyntax (stamped at p time)
-stamped_rule at p (Some time) = cond_both (nat_lt time p.time) _ _ NoSyntax (λ _ k e. cc) (λ _ k e. cc)
-stamped_rule at p None = λ k e. cc
-
-stepped_rule : (sig : List PredOf) (limits : Limits) (p : Partial) (t : Lexeme) (g : Stage) → NoSyntax (stepped sig limits p t (Some g))
-stepped_rule sig limits p t AfterAt = cond_both (nat_lt p.points limits.points) _ _ NoSyntax (λ _ k e. cc) (λ _ k e. cc)
-stepped_rule sig limits p t AfterStamp = stamped_rule t.at p (timestamp_of (content t))
-stepped_rule sig limits p t AfterName = naming_rule t.at p (named (content t) sig)
-stepped_rule sig limits p t AfterOpen = cond_both (nat_lt p.groups limits.events) _ _ NoSyntax (λ _ k e. cc) (λ _ k e. cc)
-stepped_rule sig limits p t AfterValue = valued_rule t.at (written t) p p.due
-stepped_rule sig limits p t AfterComma = λ k e. cc
-stepped_rule sig limits p t AfterClose = closed_rule t.at p p.due
-stepped_rule sig limits p t Between = λ k e. cc
-
--- a syntax fault is one of the grammar, at the token
-pub step_syntax : (sig : List PredOf) (limits : Limits) (p : Partial) (t : Lexeme) (at : ℕ) → step sig limits p t ≡ Err (Syntax at) → (goes p.stage (symbol t) ≡ None) × (at ≡ t.at)
-unfolding step
-step_syntax sig limits p t at e = by_stage (goes p.stage (symbol t)) refl e
-  where
-    by_stage : (found : Option Stage) → goes p.stage (symbol t) ≡ found → stepped sig limits p t found ≡ Err (Syntax at) → (goes p.stage (symbol t) ≡ None) × (at ≡ t.at)
-    by_stage None f h = (f, cc)
-    by_stage (Some g) f h = absurd (stepped_rule sig limits p t g at h)
 
 -- ---- walks
 
@@ -174,3 +99,14 @@ module _ (sig : List PredOf) (limits : Limits) where
   unfolding walk
   walk_stop p [] fault e = absurd cc
   walk_stop p (t ∷ ts) fault e = stop_step p t ts fault (step sig limits p t) refl e (λ q. walk_stop q ts fault)
+
+-- ---- readings
+
+module _ (sig : List PredOf) (limits : Limits) (bytes : List ℕ) (ended : Bool) where
+  -- what is shown behind the tokens of a log
+  abbrev pub last : Partial → Reading
+  last = behind_tokens (tokens_of limits bytes ended).fault (nothing_left limits bytes ended)
+
+  pub ending_is : (reading sig limits bytes ended).ending ≡ ending_of sig limits last (walk sig limits blank (tokens_of limits bytes ended).list)
+  unfolding reading
+  ending_is = run_ending sig limits last blank (tokens_of limits bytes ended).list

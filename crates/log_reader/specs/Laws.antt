@@ -1,11 +1,12 @@
 -- What holds of every log.
-use Rattle.std.specs.Prelude.{◌≡◌, ◌↔◌, ◌⊎◌, ℕ, List, [], ◌∷◌, ◌++◌, length, Bool, true, false, None, Result, Ok}
+use Rattle.std.specs.Prelude.{◌≡◌, ◌<◌, ◌↔◌, ◌⊎◌, ℕ, List, [], ◌∷◌, ◌++◌, length, Bool, true, false, Some, None, Result, Ok}
 use Rattle.mfotl_lex.specs.Lexemes.{Lexeme}
 use Rattle.mfotl_model.specs.declared.event.TimePoint.{TimePoint}
 use Rattle.mfotl_sig.specs.Preds.{PredOf}
 use Rattle.log_reader.specs.declared.fault.LogFault.{LogFault}
-use Rattle.log_reader.specs.declared.fault.LogFault.TheVariants.{Syntax}
+use Rattle.log_reader.specs.declared.fault.LogFault.TheVariants.{Lex, Syntax, TooLong, Memory}
 use Rattle.log_reader.specs.declared.limits.Limits.{Limits}
+use Rattle.log_reader.specs.Causes.{IsCause}
 use Rattle.log_reader.specs.Given.{◌>>=◌}
 use Rattle.log_reader.specs.Grammar.{IsAccepted, IsViable}
 use Rattle.log_reader.specs.Partials.{Partial, blank}
@@ -80,3 +81,32 @@ abbrev pub ExactSyntax : Type 0
 ExactSyntax = (sig : List PredOf) (limits : Limits) (bytes : List ℕ) (ended : Bool) (at : ℕ)
     → (IsFirstFault sig limits bytes ended (Syntax at))
     ↔ (EndsViability sig limits (tokens_of limits bytes ended).list at ⊎ EndsTooEarly sig limits bytes ended at)
+
+-- the token that shows a fault, behind tokens that show none
+pub record ShowsAt (sig : List PredOf) (limits : Limits) (ts : List Lexeme) (fault : LogFault) : Type 0 where
+  pub front : List Lexeme
+  pub token : Lexeme
+  pub back : List Lexeme
+  pub read : Partial
+  pub parts : ts ≡ front ++ token ∷ back
+  pub sound : walk sig limits blank front ≡ Ok read
+  pub cause : IsCause sig limits read token fault
+
+-- what shows a fault of a log
+abbrev pub IsShown : List PredOf → Limits → List ℕ → Bool → LogFault → Type 0
+-- bytes that are no token, behind all whole tokens
+IsShown sig limits bytes ended (Lex fault) =
+    AreSound sig limits (tokens_of limits bytes ended).list × ((tokens_of limits bytes ended).fault ≡ Some fault)
+IsShown sig limits bytes ended (Syntax at) =
+    EndsViability sig limits (tokens_of limits bytes ended).list at ⊎ EndsTooEarly sig limits bytes ended at
+-- a byte at the limit, behind all tokens of the bytes below it
+IsShown sig limits bytes ended (TooLong at) =
+    (at ≡ limits.bytes) × (limits.bytes < length bytes)
+    × AreSound sig limits (tokens_of limits bytes ended).list × ((tokens_of limits bytes ended).fault ≡ None)
+IsShown sig limits bytes ended Memory = ⊥
+IsShown sig limits bytes ended fault = ShowsAt sig limits (tokens_of limits bytes ended).list fault
+
+-- each fault comes exactly where it is shown
+abbrev pub ExactFaults : Type 0
+ExactFaults = (sig : List PredOf) (limits : Limits) (bytes : List ℕ) (ended : Bool) (fault : LogFault)
+    → IsFirstFault sig limits bytes ended fault ↔ IsShown sig limits bytes ended fault

@@ -11,4 +11,5 @@ pub mod Soundness
 pub mod FaultTexts
 pub mod Grammar
 pub mod Rules
+pub mod Causes
 pub mod Laws

@@ -1,6 +1,6 @@
 //! What holds of every log. Each law is a function that does nothing: its clause is the law.
 
-ghost use Rattle.log_reader.specs.Laws.{ReadIsSpelled, SpelledIsRead, OneAnswer, ExactSyntax};
+ghost use Rattle.log_reader.specs.Laws.{ReadIsSpelled, SpelledIsRead, OneAnswer, ExactSyntax, ExactFaults};
 
 /// A log that is read to its end spells its time-points, and keeps the rules.
 pub fn read_is_spelled()
@@ -20,4 +20,9 @@ pub fn one_answer()
 /// `Syntax` is shown exactly by the first token that ends viability, or by the input's end.
 pub fn exact_syntax()
     ensures { ExactSyntax }
+{}
+
+/// Each fault comes exactly where a token, the bytes behind the tokens or their end show it.
+pub fn exact_faults()
+    ensures { ExactFaults }
 {}

@@ -14,7 +14,7 @@ mod stage;
 mod values;
 
 pub use fault::LogFault;
-pub use laws::{exact_syntax, one_answer, read_is_spelled, spelled_is_read};
+pub use laws::{exact_faults, exact_syntax, one_answer, read_is_spelled, spelled_is_read};
 pub use limits::Limits;
 pub use next::Next;
 pub use reader::LogReader;

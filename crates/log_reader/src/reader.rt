@@ -1,5 +1,10 @@
-ghost use Rattle.std.specs.Prelude.{◌≡◌, ◌≤◌, false, true, OnOk, OnErr};
+ghost use Rattle.std.specs.Prelude.{◌≡◌, ◌≢◌, ◌≤◌, false, true, Ok, OnOk, OnErr, IfErr};
+ghost use Rattle.log_reader.specs.declared.fault.LogFault.TheVariants.{Memory};
+ghost use Rattle.log_reader.specs.declared.next.Next.TheVariants.{End};
 ghost use Rattle.log_reader.specs.Given.{Gives};
+ghost use Rattle.log_reader.specs.Laws.{IsShown};
+ghost use Rattle.log_reader.specs.Readings.{accepted};
+ghost use Rattle.log_reader.specs.Rules.{IsValue};
 
 use crate::cursor::Cursor;
 use crate::fault::LogFault;
@@ -117,6 +122,19 @@ impl<'a> LogReader<'a> {
 
     /// The next time-point, or the first fault, which is answered again at each later call.
     pub fn next(&mut self, alloc: Global) -> Result<Next, LogFault>
+        requires { self.old.is_broken ≡ false }
+        ensures answer { Gives (λ next. next) result (due self.old) }
+        ensures after { Proceeds self.old self.new result }
+        ensures few { OnOk result (self.new.given ≤ self.new.limits.points) }
+        ensures value { result ≡ Ok End → IsValue self.old.sig self.old.limits self.old.bytes
+            (accepted self.old.sig self.old.limits self.old.bytes).points }
+        ensures shown { IfErr result (λ fault. fault ≢ Memory → IsShown self.old.sig
+            self.old.limits self.old.bytes self.old.is_ended fault) }
+    {
+        self.read_point(alloc)
+    }
+
+    fn read_point(&mut self, alloc: Global) -> Result<Next, LogFault>
         requires { self.old.is_broken ≡ false }
         ensures answer { Gives (λ next. next) result (due self.old) }
         ensures after { Proceeds self.old self.new result }
