@@ -1,5 +1,5 @@
 -- Texts with the policy or the first fault that they give.
-use Rattle.std.specs.Prelude.{◌≡◌, ℕ, List, [], ◌∷◌, Option, Some, None, Result, Ok, Err, codes, pos, negsuc}
+use Rattle.std.specs.Prelude.{◌≡◌, ℕ, zero, suc, List, [], ◌∷◌, ◌++◌, Option, Some, None, Result, Ok, Err, codes, pos, negsuc}
 use Rattle.mfotl_lex.specs.declared.fault.LexFaultKind.TheVariants.{BadByte}
 use Rattle.mfotl_model.specs.declared.policy.Sort.{Sort}
 use Rattle.mfotl_model.specs.declared.policy.Sort.TheVariants as sorts
@@ -134,3 +134,28 @@ pub record NameExamples : Type 0 where
   pub hidden : Spells (codes "EXISTS x. (EXISTS x. p(x)) AND p(x)") (forms.Exists first_bound (forms.And (forms.Exists second_bound (variable 9)) (variable 8))) []
   pub blanks : Spells (codes "r(_,_)") (forms.Exists (record { number = 8; name = codes "_" }) (forms.Exists (record { number = 9; name = codes "_" }) (pair 8 9))) []
   pub blank_name : Spells (codes "_(x)") (forms.Atom (record { pred = 4; args = terms.Var 0 ∷ [] })) free_x
+
+-- `NOT ` so many times, and then the text
+abbrev pub denied : ℕ → List ℕ → List ℕ
+denied zero text = text
+denied (suc times) text = codes "NOT " ++ denied times text
+
+-- NOT so many times around the formula
+abbrev pub nots : ℕ → Form → Form
+nots zero f = f
+nots (suc times) f = forms.Not (nots times f)
+
+abbrev pub of_one : Form
+of_one = forms.Atom (record { pred = 0; args = int_term 1 ∷ [] })
+
+-- how much may be open at once
+pub record DepthExamples : Type 0 where
+  pub deepest : Spells (denied 64 (codes "p(1)")) (nots 64 of_one) []
+  pub too_deep : FailsWith (denied 65 (codes "p(1)")) (TooDeep 256)
+  pub blank : Spells (denied 64 (codes "p(_)")) (nots 64 (forms.Exists (record { number = 8; name = codes "_" }) (variable 8))) []
+  pub marked : FailsWith (denied 64 (codes "EXISTS ?x. p(x)")) (TooDeep 263)
+  pub paren : FailsWith (denied 63 (codes "ONCE (p(1))")) (TooDeep 257)
+  pub bad_in_paren : FailsWith (denied 63 (codes "ONCE ($")) (Lex (record { kind = BadByte; at = 258 }))
+  pub bad_behind_number : FailsWith (denied 63 (codes "ONCE (5 $")) (Lex (record { kind = BadByte; at = 260 }))
+  pub compared : FailsWith (denied 63 (codes "ONCE (5 < 6)")) (TooDeep 257)
+  pub interval : Spells (denied 63 (codes "ONCE (5,6] p(1)")) (nots 63 (forms.Once (distances 6 (Some 6)) of_one)) []

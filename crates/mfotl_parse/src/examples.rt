@@ -1,4 +1,4 @@
-ghost use Rattle.mfotl_parse.specs.Examples.{FaultExamples, ClashExamples, FormulaExamples, NameExamples};
+ghost use Rattle.mfotl_parse.specs.Examples.{FaultExamples, ClashExamples, FormulaExamples, NameExamples, DepthExamples};
 
 /// Texts with the first fault of each.
 pub fn fault_examples()
@@ -18,4 +18,9 @@ pub fn formula_examples()
 /// Texts with the variables that their names stand for.
 pub fn name_examples()
     ensures { NameExamples }
+{}
+
+/// Texts at the limit of what may be open at once.
+pub fn depth_examples()
+    ensures { DepthExamples }
 {}

@@ -22,7 +22,9 @@ mod stack;
 mod state;
 mod term;
 
-pub use examples::{clash_examples, fault_examples, formula_examples, name_examples};
+pub use examples::{
+    clash_examples, depth_examples, fault_examples, formula_examples, name_examples,
+};
 pub use fault::PolicyFault;
 pub use grammar_laws::{
     accepted_exactly, exact_lex, exact_syntax, one_answer, read_is_spelled, spelled_is_read,
