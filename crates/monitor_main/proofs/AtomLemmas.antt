@@ -1,40 +1,145 @@
--- The rows of one more event.
-use Rattle.std.proofs.Common.{◌≡◌, ◌∙◌, ap, sym, ℕ, true, false, List, [], ◌∷◌, ◌++◌, refl, map, Bor}
-use Rattle.std.specs.BTreeSet.{insert_key}
-use Rattle.std.specs.List.{filter}
-use Rattle.std.proofs.lemmas.List.{append-nil, map-append}
-use Rattle.std.proofs.lemmas.List.Elements.{filter-append}
-use Rattle.mfotl_model.specs.ActiveDomain.{ascending}
-use Rattle.mfotl_model.specs.Values.{row_cmp}
+-- The terms of an atom beside the values of an event.
+use Rattle.std.proofs.Common.{◌≡◌, ◌∙◌, ap, ap₂, sym, refl, arith, ℕ, suc, ◌+◌, ◌≢◌, Bool, true, false, not, ◌&&◌, ◌||◌, cond, nat_eq, nat_lt, List, [], ◌∷◌, length, map, Option, Some, None, is_some, inl, inr, one-add, slice_get, pos}
+use Rattle.std.specs.Prelude.{option_and_then, unwrap_or}
+use Rattle.std.proofs.Math.Dec.{leb-suc-suc}
+use Rattle.std.proofs.lemmas.Bool.{cases_eq, eq-eqb, lt-ltb, ne_eqb, or_left, or_right}
+use Rattle.std.proofs.lemmas.List.{length-map}
+use Rattle.std.proofs.lemmas.List.Folds.{list_any-append}
+use Rattle.std.proofs.lemmas.Map.Views.{tells_apart}
+use Rattle.std.specs.Cmp.{unsigned_tied}
+use Rattle.std.specs.List.{flat_map, list_all, prefix_len, zip}
+use Rattle.std.specs.Ordering.{eq_by_cmp, nat_cmp}
+use Rattle.mfotl_model.proofs.LogicLemmas.{same_number}
+use Rattle.mfotl_model.proofs.RowLemmas.{eq_then, row_exact}
+use Rattle.mfotl_model.specs.FreeVariables.{among, variable_in}
+use Rattle.mfotl_model.specs.Satisfaction.{term_value}
+use Rattle.mfotl_model.specs.Values.{row_cmp, value_cmp}
 use Rattle.mfotl_model.specs.declared.event.Event.{Event}
-use Rattle.monitor_main.specs.Atom.{is_match, matching_rows}
-use Rattle.monitor_main.proofs.NegatedAtom.{insert_behind}
+use Rattle.mfotl_model.specs.declared.term.Atom.{Atom as OneAtom}
+use Rattle.mfotl_model.specs.declared.term.Term.{Term}
+use Rattle.mfotl_model.specs.declared.term.Term.TheVariants.{Var, Const}
+use Rattle.mfotl_model.specs.declared.value.Value.TheVariants.{Int}
+use Rattle.mfotl_model.specs.declared.value.Value.{Value}
+use Rattle.monitor_main.specs.Atom.{first_value, is_match, is_variable, read_off, reads}
+use Rattle.monitor_main.specs.AtomSteps.{is_first, stands_for}
 
-matching_rows-append : (pred arity : ℕ) (xs ys : List Event)
-    → matching_rows pred arity (xs ++ ys) ≡ matching_rows pred arity xs ++ matching_rows pred arity ys
-matching_rows-append pred arity xs ys =
-    ap (map (λ e. e.args)) (filter-append (is_match pred arity) xs ys)
-    ∙ map-append (λ e. e.args) (filter (is_match pred arity) xs) (filter (is_match pred arity) ys)
+pub or_second : (a b : Bool) → a ≡ false → (a || b) ≡ true → b ≡ true
+or_second false b e h = h
+or_second true b e h = cc
 
--- an event that the atom can't stand for leaves the rows as they are
-pub event_left : (pred arity : ℕ) (seen : List (Bor Event)) (event : Bor Event)
-    → is_match pred arity event.now ≡ false
-    → matching_rows pred arity (map (λ e. e.now) (seen ++ event ∷ []))
-    ≡ matching_rows pred arity (map (λ e. e.now) seen)
-event_left pred arity seen event fails =
-    ap (matching_rows pred arity) (map-append (λ (e : Bor Event). e.now) seen (event ∷ []))
-    ∙ matching_rows-append pred arity (map (λ e. e.now) seen) (event.now ∷ [])
-    ∙ rw fails (append-nil _)
+pub eqb_turned : (x y : ℕ) → nat_eq x y ≡ nat_eq y x
+eqb_turned x y = elim (cases_eq x y) [
+  | inl e ↦ eq-eqb x y e ∙ sym (eq-eqb y x (sym e))
+  | inr ne ↦ ne_eqb x y ne ∙ sym (ne_eqb y x (λ e. ne (sym e)))
+]
 
--- the row of an event that the atom can stand for joins the others
-pub row_taken : (pred arity : ℕ) (seen : List (Bor Event)) (event : Bor Event)
-    → is_match pred arity event.now ≡ true
-    → ascending row_cmp (matching_rows pred arity (map (λ e. e.now) (seen ++ event ∷ [])))
-    ≡ insert_key row_cmp (ascending row_cmp (matching_rows pred arity (map (λ e. e.now) seen))) event.now.args
-row_taken pred arity seen event holds =
-    let rows = matching_rows pred arity (map (λ e. e.now) seen) in
-    let more : matching_rows pred arity (map (λ e. e.now) (seen ++ event ∷ [])) ≡ rows ++ event.now.args ∷ [] =
-    ap (matching_rows pred arity) (map-append (λ (e : Bor Event). e.now) seen (event ∷ []))
-    ∙ matching_rows-append pred arity (map (λ e. e.now) seen) (event.now ∷ [])
-    ∙ rw holds refl in
-    ap (ascending row_cmp) more ∙ sym (insert_behind rows event.now.args)
+-- the first value with one place more in front
+pub first_more : (t : Term) (terms : List Term) (a : Value) (values : List Value) (y : ℕ)
+    → first_value (t ∷ terms) (a ∷ values) y ≡ cond (is_variable y t) (Some a) (first_value terms values y)
+unfolding first_value
+first_more t terms a values y = by (is_variable y t)
+  where
+    k : ℕ
+    k = prefix_len (λ u. not (is_variable y u)) terms
+
+    at : Bool → ℕ → Option Value
+    at b n = option_and_then (slice_get (a ∷ values)) (cond b (Some n) None)
+
+    inside : nat_lt (1 + k) (suc (length terms)) ≡ nat_lt k (length terms)
+    inside = ap (λ n. nat_lt n (suc (length terms))) (one-add k) ∙ leb-suc-suc (suc k) (length terms)
+
+    further : (b : Bool) → at b (suc k) ≡ option_and_then (slice_get values) (cond b (Some k) None)
+    further true = refl
+    further false = refl
+
+    by : (b : Bool)
+        → at (nat_lt (cond (not b) (1 + k) 0) (suc (length terms))) (cond (not b) (1 + k) 0)
+        ≡ cond b (Some a) (option_and_then (slice_get values) (cond (nat_lt k (length terms)) (Some k) None))
+    by true = ap (λ b. at b 0) (lt-ltb 0 (suc (length terms)) (omega arith))
+    by false = ap₂ at inside (one-add k) ∙ further (nat_lt k (length terms))
+
+-- each variable of the terms has a first value, where there are as many values
+pub has_first : (terms : List Term) (values : List Value) (y : ℕ) → length terms ≡ length values
+    → among y (flat_map variable_in terms) ≡ true → is_some (first_value terms values y) ≡ true
+has_first [] values y same h = cc
+has_first (t ∷ terms) [] y same h = absurd (omega arith)
+has_first (Var x ∷ terms) (a ∷ values) y same h =
+    ap is_some (first_more (Var x) terms a values y)
+    ∙ by (nat_eq x y) refl (λ e. has_first terms values y (omega arith)
+    (or_second (nat_eq y x) (among y (flat_map variable_in terms)) (eqb_turned y x ∙ e) h))
+  where
+    by : (b : Bool) → nat_eq x y ≡ b → (nat_eq x y ≡ false → is_some (first_value terms values y) ≡ true)
+        → is_some (cond b (Some a) (first_value terms values y)) ≡ true
+    by true e more = refl
+    by false e more = more e
+has_first (Const c ∷ terms) (a ∷ values) y same h =
+    ap is_some (first_more (Const c) terms a values y) ∙ has_first terms values y (omega arith) h
+
+-- a term stands for a value where its variable is read off as that
+own : (terms : List Term) (values : List Value) (t : Term) (a : Value)
+    → ((y : ℕ) → among y (variable_in t) ≡ true → is_some (first_value terms values y) ≡ true)
+    → stands_for terms values t a ≡ eq_by_cmp value_cmp (term_value (read_off terms values) t) a
+own terms values (Var x) a has =
+    by (first_value terms values x) (has x (or_left (nat_eq x x) false (same_number x)))
+  where
+    by : (o : Option Value) → is_some o ≡ true
+        → is_first o a ≡ eq_by_cmp value_cmp (unwrap_or o (Int (pos 0))) a
+    by (Some b) some = refl
+    by None some = cc
+own terms values (Const c) a has = refl
+
+-- values are equal one by one
+compared : (terms : List Term) (values : List Value) (ts : List Term) (vs : List Value)
+    → length ts ≡ length vs
+    → ((y : ℕ) → among y (flat_map variable_in ts) ≡ true → is_some (first_value terms values y) ≡ true)
+    → list_all (λ p. stands_for terms values p.0 p.1) (zip ts vs)
+    ≡ eq_by_cmp row_cmp (map (term_value (read_off terms values)) ts) vs
+compared terms values [] [] same has = refl
+compared terms values [] (a ∷ vs) same has = absurd (omega arith)
+compared terms values (t ∷ ts) [] same has = absurd (omega arith)
+compared terms values (t ∷ ts) (a ∷ vs) same has =
+    let split : (y : ℕ) → among y (flat_map variable_in (t ∷ ts))
+    ≡ (among y (variable_in t) || among y (flat_map variable_in ts)) =
+    λ y. list_any-append (nat_eq y) (variable_in t) (flat_map variable_in ts) in
+    ap₂ (λ b c. b && c)
+    (own terms values t a (λ y h. has y (split y ∙ or_left (among y (variable_in t)) (among y (flat_map variable_in ts)) h)))
+    (compared terms values ts vs (omega arith)
+    (λ y h. has y (split y ∙ or_right (among y (variable_in t)) (among y (flat_map variable_in ts)) h)))
+    ∙ sym (eq_then (value_cmp (term_value (read_off terms values) t) a) (row_cmp (map (term_value (read_off terms values)) ts) vs))
+
+-- the terms stand for the values: where there are as many of both, and never else
+pub gives_back : (terms : List Term) (values : List Value) → length terms ≡ length values
+    → list_all (λ p. stands_for terms values p.0 p.1) (zip terms values)
+    ≡ eq_by_cmp row_cmp (map (term_value (read_off terms values)) terms) values
+gives_back terms values same = compared terms values terms values same (λ y h. has_first terms values y same h)
+
+pub gives_none_back : (terms : List Term) (values : List Value) → length terms ≢ length values
+    → eq_by_cmp row_cmp (map (term_value (read_off terms values)) terms) values ≡ false
+gives_none_back terms values apart = by (eq_by_cmp row_cmp (map (term_value (read_off terms values)) terms) values) refl
+  where
+    by : (b : Bool) → eq_by_cmp row_cmp (map (term_value (read_off terms values)) terms) values ≡ b → b ≡ false
+    by false e = refl
+    by true e =
+        absurd (apart (sym (length-map terms (term_value (read_off terms values)))
+        ∙ ap length (tells_apart row_exact (map (term_value (read_off terms values)) terms) values e)))
+
+-- an event that an atom stands for, by its parts
+match_parts : (atom : OneAtom) (event : Event)
+    → is_match atom event
+    ≡ (nat_eq atom.pred event.pred && eq_by_cmp row_cmp (map (term_value (reads atom event)) atom.args) event.args)
+unfolding is_match
+match_parts atom event =
+    let args = map (term_value (reads atom event)) atom.args in
+    eq_then (nat_cmp atom.pred event.pred) (row_cmp args event.args)
+    ∙ ap (λ b. b && eq_by_cmp row_cmp args event.args) (unsigned_tied atom.pred event.pred)
+
+pub match_by_terms : (atom : OneAtom) (event : Event) → atom.pred ≡ event.pred
+    → eq_by_cmp row_cmp (map (term_value (reads atom event)) atom.args) event.args ≡ is_match atom event
+match_by_terms atom event same =
+    sym (match_parts atom event
+    ∙ ap (λ b. b && eq_by_cmp row_cmp (map (term_value (reads atom event)) atom.args) event.args) (eq-eqb atom.pred event.pred same))
+
+pub match_by_pred : (atom : OneAtom) (event : Event) → atom.pred ≢ event.pred → is_match atom event ≡ false
+match_by_pred atom event apart =
+    match_parts atom event
+    ∙ ap (λ b. b && eq_by_cmp row_cmp (map (term_value (reads atom event)) atom.args) event.args) (ne_eqb atom.pred event.pred apart)

@@ -11,12 +11,12 @@ use Rattle.log_reader.specs.Readings.{Clear, Ending, Stops}
 use Rattle.log_reader.specs.declared.fault.LogFault.{LogFault}
 use Rattle.log_reader.specs.declared.next.Next.{Next}
 use Rattle.log_reader.specs.declared.next.Next.TheVariants.{Point, More, End}
-use Rattle.monitor_main.specs.AtomText.{line_at, lines_from, rows_at, some_rows}
+use Rattle.monitor_main.specs.Atom.{Query}
+use Rattle.monitor_main.specs.AtomText.{is_empty, line_at, lines_from, rows_at, some_rows}
 use Rattle.monitor_main.specs.LogRuns.{EndsClear, StopsLines, WritesPoint, lines_of, log_refusal, reading_in}
 use Rattle.monitor_main.specs.declared.refusal.Refusal.{Refusal}
 use Rattle.log_reader.specs.Given.{Fails}
 use Rattle.log_reader.specs.declared.fault.LogFault.TheVariants as log
-use Rattle.monitor_main.specs.PolicyForm.{AtomOf, is_empty}
 use Rattle.monitor_main.proofs.SinkLemmas.{appends_more, appends_none, front_behind, longer_front, whole_front}
 
 -- what a reader with these time-points left answers
@@ -70,62 +70,62 @@ take_one (suc n) (q ∷ ps) p rest e = ap (λ xs. q ∷ xs) (take_one n ps p res
 take_none_left : (n : ℕ) (ps : List TimePoint) → drop n ps ≡ [] → take n ps ≡ ps
 take_none_left n ps e = sym (append-nil (take n ps)) ∙ ap (λ xs. take n ps ++ xs) (sym e) ∙ take-append-drop n ps
 
-module _ (atom : AtomOf) where
+module _ (q : Query) where
   pub lines_from-append : (k : ℕ) (xs ys : List TimePoint)
-      → lines_from atom k (xs ++ ys) ≡ lines_from atom k xs ++ lines_from atom (k + length xs) ys
+      → lines_from q k (xs ++ ys) ≡ lines_from q k xs ++ lines_from q (k + length xs) ys
   unfolding lines_from
-  lines_from-append k [] ys = ap (λ n. lines_from atom n ys) (sym (add-zero k))
+  lines_from-append k [] ys = ap (λ n. lines_from q n ys) (sym (add-zero k))
   lines_from-append k (x ∷ xs) ys =
       let count : k + 1 + length xs ≡ k + suc (length xs) = omega arith in
-      ap (λ text. line_at atom k x ++ text)
-      (lines_from-append (k + 1) xs ys ∙ ap (λ n. lines_from atom (k + 1) xs ++ lines_from atom n ys) count)
-      ∙ sym (append_assoc (line_at atom k x) (lines_from atom (k + 1) xs) (lines_from atom (k + suc (length xs)) ys))
+      ap (λ text. line_at q k x ++ text)
+      (lines_from-append (k + 1) xs ys ∙ ap (λ n. lines_from q (k + 1) xs ++ lines_from q n ys) count)
+      ∙ sym (append_assoc (line_at q k x) (lines_from q (k + 1) xs) (lines_from q (k + suc (length xs)) ys))
 
-  one_line : (k : ℕ) (p : TimePoint) → lines_from atom k (p ∷ []) ≡ line_at atom k p
+  one_line : (k : ℕ) (p : TimePoint) → lines_from q k (p ∷ []) ≡ line_at q k p
   unfolding lines_from
-  one_line k p = append-nil (line_at atom k p)
+  one_line k p = append-nil (line_at q k p)
 
   -- the lines of one time-point more
   lines_more : (n : ℕ) (ps : List TimePoint) (p : TimePoint) (rest : List TimePoint) → drop n ps ≡ p ∷ rest
-      → lines_from atom 0 (take (n + 1) ps) ≡ lines_from atom 0 (take n ps) ++ line_at atom n p
+      → lines_from q 0 (take (n + 1) ps) ≡ lines_from q 0 (take n ps) ++ line_at q n p
   lines_more n ps p rest e =
       let inside : n < length ps = drop_length n ps p rest e in
       let count : 0 + length (take n ps) ≡ n = rw (length-take-le n ps (omega arith)) (omega arith) in
-      ap (λ k. lines_from atom 0 (take k ps)) (add-one n)
-      ∙ ap (lines_from atom 0) (take_one n ps p rest e)
+      ap (λ k. lines_from q 0 (take k ps)) (add-one n)
+      ∙ ap (lines_from q 0) (take_one n ps p rest e)
       ∙ lines_from-append 0 (take n ps) (p ∷ [])
-      ∙ ap (λ text. lines_from atom 0 (take n ps) ++ text) (ap (λ k. lines_from atom k (p ∷ [])) count ∙ one_line n p)
+      ∙ ap (λ text. lines_from q 0 (take n ps) ++ text) (ap (λ k. lines_from q k (p ∷ [])) count ∙ one_line n p)
 
   rows_more : (n : ℕ) (ps : List TimePoint) (p : TimePoint) (rest : List TimePoint) → drop n ps ≡ p ∷ rest
-      → some_rows atom (take (n + 1) ps) ≡ (some_rows atom (take n ps) || not (is_empty (rows_at atom p)))
+      → some_rows q (take (n + 1) ps) ≡ (some_rows q (take n ps) || not (is_empty (rows_at q p)))
   unfolding some_rows
   rows_more n ps p rest e =
-      let test = λ (q : TimePoint). not (is_empty (rows_at atom q)) in
-      ap (λ k. some_rows atom (take k ps)) (add-one n)
-      ∙ ap (some_rows atom) (take_one n ps p rest e)
+      let test = λ (r : TimePoint). not (is_empty (rows_at q r)) in
+      ap (λ k. some_rows q (take k ps)) (add-one n)
+      ∙ ap (some_rows q) (take_one n ps p rest e)
       ∙ list_any-append test (take n ps) (p ∷ [])
-      ∙ ap (λ b. some_rows atom (take n ps) || b) (or-false (test p))
+      ∙ ap (λ b. some_rows q (take n ps) || b) (or-false (test p))
 
   -- the lines of the first time-points are a front of all
   front_of_lines : (n : ℕ) (ps : List TimePoint)
-      → lines_from atom 0 ps ≡ lines_from atom 0 (take n ps) ++ lines_from atom (0 + length (take n ps)) (drop n ps)
-  front_of_lines n ps = ap (lines_from atom 0) (sym (take-append-drop n ps)) ∙ lines_from-append 0 (take n ps) (drop n ps)
+      → lines_from q 0 ps ≡ lines_from q 0 (take n ps) ++ lines_from q (0 + length (take n ps)) (drop n ps)
+  front_of_lines n ps = ap (lines_from q 0) (sym (take-append-drop n ps)) ∙ lines_from-append 0 (take n ps) (drop n ps)
 
   -- so many time-points were given, and their lines were written
   pub record SoFar (start reader : Progress) (number : ℕ) (old new : Option (List ℕ)) (violated : Bool) (before now : ℕ) : Type 0 where
     pub reader_is : reader ≡ record start { given = number }
-    pub written : Appends old new (lines_from atom 0 (take number (reading_in start).points))
-    pub some : violated ≡ some_rows atom (take number (reading_in start).points)
+    pub written : Appends old new (lines_from q 0 (take number (reading_in start).points))
+    pub some : violated ≡ some_rows q (take number (reading_in start).points)
     pub later : before ≤ now
 
   module _ (start : Progress) (number : ℕ) (old mid : Option (List ℕ)) (violated : Bool)
-      (written : Appends old mid (lines_from atom 0 (take number (reading_in start).points)))
-      (some : violated ≡ some_rows atom (take number (reading_in start).points)) where
+      (written : Appends old mid (lines_from q 0 (take number (reading_in start).points)))
+      (some : violated ≡ some_rows q (take number (reading_in start).points)) where
     points : List TimePoint
     points = (reading_in start).points
 
     -- what was written is a front of what is due
-    pub front_so_far : AppendsFront old mid (lines_of atom (reading_in start))
+    pub front_so_far : AppendsFront old mid (lines_of q (reading_in start))
     front_so_far =
         rw (front_of_lines number (reading_in start).points)
         (longer_front old mid _ _ (whole_front old mid _ written))
@@ -135,20 +135,20 @@ module _ (atom : AtomOf) where
       given = gives_point start.is_ended (drop number (reading_in start).points) (reading_in start).ending point gives
 
       -- one more line
-      pub one_more : (new : Option (List ℕ)) (has_row : Bool) → WritesPoint atom number point mid new has_row
-          → Appends old new (lines_from atom 0 (take (number + 1) (reading_in start).points))
+      pub one_more : (new : Option (List ℕ)) (has_row : Bool) → WritesPoint q number point mid new has_row
+          → Appends old new (lines_from q 0 (take (number + 1) (reading_in start).points))
       one_more new has_row w =
           rw (lines_more number (reading_in start).points point given.rest given.points_are)
           (appends_more old mid new _ _ written w.written)
 
-      pub one_more_row : (new : Option (List ℕ)) (has_row : Bool) → WritesPoint atom number point mid new has_row
-          → (violated || has_row) ≡ some_rows atom (take (number + 1) (reading_in start).points)
+      pub one_more_row : (new : Option (List ℕ)) (has_row : Bool) → WritesPoint q number point mid new has_row
+          → (violated || has_row) ≡ some_rows q (take (number + 1) (reading_in start).points)
       one_more_row new has_row w =
           ap₂ (λ a b. a || b) some w.row ∙ sym (rows_more number (reading_in start).points point given.rest given.points_are)
 
       -- a part of one more line
-      pub front_of_one_more : (new : Option (List ℕ)) → AppendsFront mid new (line_at atom number point)
-          → AppendsFront old new (lines_of atom (reading_in start))
+      pub front_of_one_more : (new : Option (List ℕ)) → AppendsFront mid new (line_at q number point)
+          → AppendsFront old new (lines_of q (reading_in start))
       front_of_one_more new part =
           rw (
             front_of_lines (number + 1) (reading_in start).points,
@@ -158,18 +158,18 @@ module _ (atom : AtomOf) where
 
     -- nothing is left
     pub ends_clear : GivesEnding (drop number (reading_in start).points) (reading_in start).ending Clear
-        → EndsClear atom (reading_in start) old mid violated
+        → EndsClear q (reading_in start) old mid violated
     ends_clear g = record {
       clear = g.ending_is;
-      written = subst (λ ps. Appends old mid (lines_from atom 0 ps)) (take_none_left number (reading_in start).points g.none) written;
-      some = some ∙ ap (some_rows atom) (take_none_left number (reading_in start).points g.none);
+      written = subst (λ ps. Appends old mid (lines_from q 0 ps)) (take_none_left number (reading_in start).points g.none) written;
+      some = some ∙ ap (some_rows q) (take_none_left number (reading_in start).points g.none);
     }
 
     pub stops_there : (fault : LogFault) → GivesEnding (drop number (reading_in start).points) (reading_in start).ending (Stops fault)
-        → ((reading_in start).ending ≡ Stops fault) × Appends old mid (lines_of atom (reading_in start))
+        → ((reading_in start).ending ≡ Stops fault) × Appends old mid (lines_of q (reading_in start))
     stops_there fault g = (
       g.ending_is,
-      subst (λ ps. Appends old mid (lines_from atom 0 ps)) (take_none_left number (reading_in start).points g.none) written,
+      subst (λ ps. Appends old mid (lines_from q 0 ps)) (take_none_left number (reading_in start).points g.none) written,
     )
 
   -- nothing was given
@@ -188,16 +188,16 @@ module _ (atom : AtomOf) where
     due_is : (answer : Result Next LogFault) → due reader ≡ answer → due (record start { given = number }) ≡ answer
     due_is answer e = subst (λ (r : Progress). due r ≡ answer) so_far.reader_is e
 
-    pub front : AppendsFront old mid (lines_of atom (reading_in start))
+    pub front : AppendsFront old mid (lines_of q (reading_in start))
     front = front_so_far start number old mid violated so_far.written so_far.some
 
     pub part : (point : TimePoint) → due reader ≡ Ok (Point point) → (new : Option (List ℕ))
-        → AppendsFront mid new (line_at atom number point) → AppendsFront old new (lines_of atom (reading_in start))
+        → AppendsFront mid new (line_at q number point) → AppendsFront old new (lines_of q (reading_in start))
     part point e = front_of_one_more start number old mid violated so_far.written so_far.some point (due_is (Ok (Point point)) e)
 
     pub goes_on : (point : TimePoint) → due reader ≡ Ok (Point point) → (next : Progress)
         → next ≡ record reader { given = reader.given + 1 } → (new : Option (List ℕ)) (has_row : Bool)
-        → WritesPoint atom number point mid new has_row → (later_now : ℕ) → now ≤ later_now
+        → WritesPoint q number point mid new has_row → (later_now : ℕ) → now ≤ later_now
         → SoFar start next (number + 1) old new (violated || has_row) before later_now
     goes_on point e next next_is new has_row w later_now not_before = record {
       reader_is = next_is ∙ ap (λ (r : Progress). record r { given = r.given + 1 }) so_far.reader_is;
@@ -206,22 +206,22 @@ module _ (atom : AtomOf) where
       later = omega (arith, so_far.later, not_before);
     }
 
-    pub ends_more : due reader ≡ Ok More → EndsClear atom (reading_in start) old mid violated
+    pub ends_more : due reader ≡ Ok More → EndsClear q (reading_in start) old mid violated
     ends_more e = ends_clear start number old mid violated so_far.written so_far.some
         (gives_more start.is_ended (drop number (reading_in start).points) (reading_in start).ending (due_is (Ok More) e))
 
-    pub ends_end : due reader ≡ Ok End → EndsClear atom (reading_in start) old mid violated
+    pub ends_end : due reader ≡ Ok End → EndsClear q (reading_in start) old mid violated
     ends_end e = ends_clear start number old mid violated so_far.written so_far.some
         (gives_end start.is_ended (drop number (reading_in start).points) (reading_in start).ending (due_is (Ok End) e))
 
     pub stops : (fault : LogFault) → due reader ≡ Err fault
-        → ((reading_in start).ending ≡ Stops fault) × Appends old mid (lines_of atom (reading_in start))
+        → ((reading_in start).ending ≡ Stops fault) × Appends old mid (lines_of q (reading_in start))
     stops fault e = stops_there start number old mid violated so_far.written so_far.some fault
         (gives_fault start.is_ended (drop number (reading_in start).points) (reading_in start).ending fault (due_is (Err fault) e))
 
     -- the fault stops the lines
     pub stops_by : (fault : LogFault) (r : Refusal) → r ≡ log_refusal fault → Fails fault (due reader)
-        → StopsLines atom (reading_in start) old mid before now r
+        → StopsLines q (reading_in start) old mid before now r
     stops_by (log.Lex x) r is e = rw is (stops (log.Lex x) e)
     stops_by (log.Syntax x) r is e = rw is (stops (log.Syntax x) e)
     stops_by (log.UnknownPredicate x) r is e = rw is (stops (log.UnknownPredicate x) e)

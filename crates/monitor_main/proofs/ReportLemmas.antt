@@ -1,7 +1,7 @@
 -- What was told of a refusal.
 use Rattle.std.proofs.Common.{◌≡◌, inl, inr, refl, ℕ, List, Option}
 use Rattle.monitor_main.specs.declared.refusal.Refusal.{Refusal}
-use Rattle.monitor_main.specs.declared.refusal.Refusal.TheVariants.{Usage, LongSignature, Signature, Policy, Log, Read, Write, Memory}
+use Rattle.monitor_main.specs.declared.refusal.Refusal.TheVariants.{Usage, LongSignature, Signature, LongPolicy, Policy, Fragment, Later, Log, Read, Write, Memory}
 use Rattle.monitor_main.specs.declared.status.Status.{Status}
 use Rattle.monitor_main.specs.declared.status.Status.TheVariants as status
 use Rattle.monitor_main.specs.Outcomes.{Reports, Tells, told_line}
@@ -11,7 +11,10 @@ told_under : (r : Refusal) → told_line (status_of r) r ≡ line_of r
 told_under Usage = refl
 told_under LongSignature = refl
 told_under (Signature fault) = refl
-told_under Policy = refl
+told_under LongPolicy = refl
+told_under (Policy fault) = refl
+told_under (Fragment fault) = refl
+told_under Later = refl
 told_under (Log fault) = refl
 told_under (Read name) = refl
 told_under Write = refl

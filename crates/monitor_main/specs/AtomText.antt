@@ -1,29 +1,32 @@
--- The verdicts on the policies that are read so far, time-point by time-point.
-use Rattle.std.specs.Prelude.{ℕ, ◌+◌, Bool, not, List, [], ◌∷◌, ◌++◌}
+-- The verdicts that a query comes to, time-point by time-point.
+use Rattle.std.specs.Prelude.{ℕ, ◌+◌, Bool, true, false, not, List, [], ◌∷◌, ◌++◌}
 use Rattle.std.specs.List.{list_any}
 use Rattle.mfotl_model.specs.ActiveDomain.{ascending}
 use Rattle.mfotl_model.specs.Values.{row_cmp}
 use Rattle.mfotl_model.specs.VerdictText.{line_of}
 use Rattle.mfotl_model.specs.declared.event.TimePoint.{TimePoint}
 use Rattle.mfotl_model.specs.declared.value.Value.{Value}
-use Rattle.monitor_main.specs.Atom.{matching_rows}
-use Rattle.monitor_main.specs.PolicyForm.{AtomOf, is_empty}
+use Rattle.monitor_main.specs.Atom.{Query, matching_rows}
 
--- the violations of NOT p(x1, .., xn) at a time-point
-unfoldable pub rows_at : AtomOf → TimePoint → List (List Value)
-rows_at atom point = ascending row_cmp (matching_rows atom.pred atom.arity point.db)
+abbrev pub is_empty : {X : Type 0} → List X → Bool
+is_empty [] = true
+is_empty (x ∷ xs) = false
+
+-- the query's rows at a time-point
+unfoldable pub rows_at : Query → TimePoint → List (List Value)
+rows_at q point = ascending row_cmp (matching_rows q point.db)
 
 -- the line of the time-point of this number
-unfoldable pub line_at : AtomOf → ℕ → TimePoint → List ℕ
-line_at atom number point =
-    line_of (record { point = number; ts = point.ts; rows = rows_at atom point })
+unfoldable pub line_at : Query → ℕ → TimePoint → List ℕ
+line_at q number point =
+    line_of (record { point = number; ts = point.ts; rows = rows_at q point })
 
 -- the lines of time-points, the first of which has this number
-unfoldable pub lines_from : AtomOf → ℕ → List TimePoint → List ℕ
-lines_from atom number [] = []
-lines_from atom number (point ∷ points) =
-    line_at atom number point ++ lines_from atom (number + 1) points
+unfoldable pub lines_from : Query → ℕ → List TimePoint → List ℕ
+lines_from q number [] = []
+lines_from q number (point ∷ points) =
+    line_at q number point ++ lines_from q (number + 1) points
 
 -- some time-point has a row
-unfoldable pub some_rows : AtomOf → List TimePoint → Bool
-some_rows atom points = list_any (λ point. not (is_empty (rows_at atom point))) points
+unfoldable pub some_rows : Query → List TimePoint → Bool
+some_rows q points = list_any (λ point. not (is_empty (rows_at q point))) points

@@ -11,8 +11,8 @@ use Rattle.log_reader.specs.Readings.{Clear, Reading, Stops, reading}
 use Rattle.monitor_main.specs.declared.refusal.InputFile.TheVariants as file
 use Rattle.monitor_main.specs.declared.refusal.Refusal.{Refusal}
 use Rattle.monitor_main.specs.declared.refusal.Refusal.TheVariants.{Log, Read, Write, Memory}
-use Rattle.monitor_main.specs.AtomText.{line_at, lines_from, rows_at, some_rows}
-use Rattle.monitor_main.specs.PolicyForm.{AtomOf, is_empty}
+use Rattle.monitor_main.specs.Atom.{Query}
+use Rattle.monitor_main.specs.AtomText.{is_empty, line_at, lines_from, rows_at, some_rows}
 
 -- the bytes that were given of a log: all, or more than the limit, unless a call failed
 pub record IsGathered (limit : ℕ) (all bytes : List ℕ) (failed : Bool) : Type 0 where
@@ -21,10 +21,10 @@ pub record IsGathered (limit : ℕ) (all bytes : List ℕ) (failed : Bool) : Typ
   pub whole : failed ≡ false → (left ≡ []) ⊎ (limit < length bytes)
 
 -- the line of a time-point was written
-pub record WritesPoint (atom : AtomOf) (number : ℕ) (point : TimePoint)
+pub record WritesPoint (q : Query) (number : ℕ) (point : TimePoint)
     (old new : Option (List ℕ)) (has_row : Bool) : Type 0 where
-  pub written : Appends old new (line_at atom number point)
-  pub row : has_row ≡ not (is_empty (rows_at atom point))
+  pub written : Appends old new (line_at q number point)
+  pub row : has_row ≡ not (is_empty (rows_at q point))
 
 -- the output failed, which shows in its count, or memory was refused
 abbrev pub IsOutputFault : Refusal → ℕ → ℕ → Type 0
@@ -42,25 +42,25 @@ abbrev pub reading_in : Progress → Reading
 reading_in r = reading r.sig r.limits r.bytes r.is_ended
 
 -- the lines of all time-points of a reading
-abbrev pub lines_of : AtomOf → Reading → List ℕ
-lines_of atom r = lines_from atom 0 r.points
+abbrev pub lines_of : Query → Reading → List ℕ
+lines_of q r = lines_from q 0 r.points
 
 -- all lines were written, and no fault stands behind them
-pub record EndsClear (atom : AtomOf) (r : Reading) (old new : Option (List ℕ)) (violated : Bool)
+pub record EndsClear (q : Query) (r : Reading) (old new : Option (List ℕ)) (violated : Bool)
     : Type 0 where
   pub clear : r.ending ≡ Clear
-  pub written : Appends old new (lines_of atom r)
-  pub some : violated ≡ some_rows atom r.points
+  pub written : Appends old new (lines_of q r)
+  pub some : violated ≡ some_rows q r.points
 
 -- why not all lines were written, or that the fault stands behind them
-abbrev pub StopsLines : AtomOf → Reading → Option (List ℕ) → Option (List ℕ) → ℕ → ℕ → Refusal → Type 0
-StopsLines atom r old new before now (Log fault) =
-    (r.ending ≡ Stops fault) × Appends old new (lines_of atom r)
-StopsLines atom r old new before now refusal = IsOutputFault refusal before now
+abbrev pub StopsLines : Query → Reading → Option (List ℕ) → Option (List ℕ) → ℕ → ℕ → Refusal → Type 0
+StopsLines q r old new before now (Log fault) =
+    (r.ending ≡ Stops fault) × Appends old new (lines_of q r)
+StopsLines q r old new before now refusal = IsOutputFault refusal before now
 
 -- the same where the bytes may be only the front of the log
-abbrev pub StopsBytes : Bool → AtomOf → Reading → Option (List ℕ) → Option (List ℕ) → ℕ → ℕ → Refusal
+abbrev pub StopsBytes : Bool → Query → Reading → Option (List ℕ) → Option (List ℕ) → ℕ → ℕ → Refusal
     → Type 0
-StopsBytes failed atom r old new before now (Read name) =
-    (name ≡ file.Log) × (failed ≡ true) × (r.ending ≡ Clear) × Appends old new (lines_of atom r)
-StopsBytes failed atom r old new before now refusal = StopsLines atom r old new before now refusal
+StopsBytes failed q r old new before now (Read name) =
+    (name ≡ file.Log) × (failed ≡ true) × (r.ending ≡ Clear) × Appends old new (lines_of q r)
+StopsBytes failed q r old new before now refusal = StopsLines q r old new before now refusal

@@ -13,6 +13,7 @@ use Rattle.monitor_main.specs.declared.status.Status.TheVariants.{Signature, Pol
 use Rattle.monitor_main.specs.declared.status.Status.TheVariants.{Read, Write, Memory}
 use Rattle.monitor_main.specs.Answer.{Answer, bytes_of, text_at_failure}
 use Rattle.monitor_main.specs.Refusals.{line_of, status_of}
+use Rattle.monitor_main.specs.Words.{Command, command_of}
 
 -- a status that the words and the files decide, whatever fails outside
 abbrev pub is_decided : Status → Bool
@@ -46,22 +47,29 @@ pub record IsDecidedBy (a : Answer) (status : Status) (out_old out_new err_old e
   pub out : Appends out_old out_new a.out
   pub err : Tells err_old err_new before now a.err
 
--- The file was opened or read in vain: all before it in the order is accepted, `seen` was given of it,
--- and the text that is due by then was written.
-pub record FailsAt (words : List Text) (files : Files) (name : InputFile)
-    (old new : Option (List ℕ)) : Type 0 where
+-- A command's file was opened or read in vain: all before it in the order is accepted, `seen` was
+-- given of it, and the text that is due by then was written.
+pub record CommandFails (command : Command) (files : Files) (old new : Option (List ℕ))
+    (name : InputFile) : Type 0 where
   pub seen : List ℕ
   pub left : List ℕ
-  pub reached : bytes_of words files name ≡ Some (seen ++ left)
+  pub reached : bytes_of command files name ≡ Some (seen ++ left)
   pub text : List ℕ
-  pub due : text_at_failure words files name seen ≡ Some text
+  pub due : text_at_failure command files name seen ≡ Some text
   pub written : Appends old new text
+
+-- the same of the command that the words give
+pub record FailsAt (words : List Text) (files : Files) (old new : Option (List ℕ))
+    (name : InputFile) : Type 0 where
+  pub command : Command
+  pub given : command_of words ≡ Some command
+  pub fails : CommandFails command files old new name
 
 -- the same, and the file was told
 pub record FailsToRead (words : List Text) (files : Files)
     (out_old out_new err_old err_new : Option (List ℕ)) (before now : ℕ) : Type 0 where
   pub name : InputFile
-  pub fails : FailsAt words files name out_old out_new
+  pub fails : FailsAt words files out_old out_new name
   pub told : Tells err_old err_new before now (line_of (refusal.Read name))
 
 -- the line that is told under a status: where memory is refused, that

@@ -3,15 +3,29 @@ use Rattle.std.specs.Prelude.{◌≡◌, ℕ, Result, Ok, Err}
 use Rattle.mon_outside.specs.Causes.{Rose}
 use Rattle.mfotl_sig.specs.declared.fault.SigFault.{SigFault}
 use Rattle.mfotl_sig.specs.declared.fault.SigFault.TheVariants as sig
+use Rattle.mfotl_parse.specs.declared.fault.PolicyFault.{PolicyFault}
+use Rattle.mfotl_parse.specs.declared.fault.PolicyFault.TheVariants as policy
+use Rattle.monitorable.specs.declared.fault.FragmentFault.{FragmentFault}
+use Rattle.monitorable.specs.declared.fault.FragmentFault.TheVariants as fragment
 use Rattle.monitor_main.specs.declared.refusal.InputFile.{InputFile}
 use Rattle.monitor_main.specs.declared.refusal.Refusal.{Refusal}
-use Rattle.monitor_main.specs.declared.refusal.Refusal.TheVariants.{Usage, Signature}
+use Rattle.monitor_main.specs.declared.refusal.Refusal.TheVariants.{Usage, Signature, Policy, Fragment}
 use Rattle.monitor_main.specs.declared.refusal.Refusal.TheVariants.{Read, Write, Memory}
 
 -- the refusal for a signature's fault
 abbrev pub sig_refusal : SigFault → Refusal
 sig_refusal sig.Memory = Memory
 sig_refusal fault = Signature fault
+
+-- the refusal for a policy's fault
+abbrev pub policy_refusal : PolicyFault → Refusal
+policy_refusal policy.Memory = Memory
+policy_refusal fault = Policy fault
+
+-- the refusal for a policy that can't be monitored
+abbrev pub fragment_refusal : FragmentFault → Refusal
+fragment_refusal fragment.Memory = Memory
+fragment_refusal fault = Fragment fault
 
 -- the value or the refusal is the one due; want of memory may come at any time
 abbrev pub Fails : {Y : Type 0} → Refusal → Result Y Refusal → Type 0

@@ -4,16 +4,22 @@ use Rattle.monitor_main.specs.declared.status.Status.{Status}
 use Rattle.monitor_main.specs.declared.status.Status.TheVariants as status
 use Rattle.monitor_main.specs.declared.refusal.Refusal.{Refusal}
 use Rattle.monitor_main.specs.declared.refusal.Refusal.TheVariants.{Usage, LongSignature, Signature}
-use Rattle.monitor_main.specs.declared.refusal.Refusal.TheVariants.{Policy, Log, Read, Write, Memory}
+use Rattle.monitor_main.specs.declared.refusal.Refusal.TheVariants.{LongPolicy, Policy, Fragment, Later}
+use Rattle.monitor_main.specs.declared.refusal.Refusal.TheVariants.{Log, Read, Write, Memory}
 use Rattle.monitor_main.specs.FaultLines.{fault_line, file_text}
 use Rattle.mfotl_sig.specs.FaultTexts.{fault_text as sig_text}
+use Rattle.mfotl_parse.specs.FaultTexts.{fault_text as policy_text}
+use Rattle.monitorable.specs.FaultTexts.{fault_text as fragment_text}
 use Rattle.log_reader.specs.FaultTexts.{fault_text as log_text}
 
 abbrev pub status_of : Refusal → Status
 status_of Usage = status.Usage
 status_of LongSignature = status.Signature
 status_of (Signature fault) = status.Signature
-status_of Policy = status.Policy
+status_of LongPolicy = status.Policy
+status_of (Policy fault) = status.Policy
+status_of (Fragment fault) = status.Policy
+status_of Later = status.Policy
 status_of (Log fault) = status.Log
 status_of (Read file) = status.Read
 status_of Write = status.Write
@@ -26,7 +32,10 @@ unfoldable pub line_of : Refusal → List ℕ
 line_of Usage = usage_line
 line_of LongSignature = codes "signature: TooLong at 1048576\n"
 line_of (Signature fault) = fault_line (codes "signature") (sig_text fault)
-line_of Policy = codes "policy: Later\n"
+line_of LongPolicy = codes "policy: TooLong at 1048576\n"
+line_of (Policy fault) = fault_line (codes "policy") (policy_text fault)
+line_of (Fragment fault) = fault_line (codes "policy") (fragment_text fault)
+line_of Later = codes "policy: Later\n"
 line_of (Log fault) = fault_line (codes "log") (log_text fault)
 line_of (Read file) = codes "read: " ++ file_text file ++ codes "\n"
 line_of Write = codes "write\n"

@@ -1,7 +1,7 @@
--- The words of the command line: the one command, what it takes, and the files that it names.
-use Rattle.std.specs.Prelude.{◌&&◌, ℕ, Bool, true, not, List, [], ◌∷◌}
+-- The words of the command line: the commands, what they take, and the files that they name.
+use Rattle.std.specs.Prelude.{ℕ, Bool, true, List, [], ◌∷◌}
 use Rattle.std.specs.Prelude.{Option, Some, None, map, string_bytes, codes, count_by, nat_lt, unwrap_or}
-use Rattle.std.specs.Prelude.{option_and_then, option_map, if◌then◌else◌}
+use Rattle.std.specs.Prelude.{if◌then◌else◌}
 use Rattle.std.specs.Str.{bytes_eq}
 use Rattle.std.specs.declared.string.String.{String}
 use Rattle.std.specs.declared.alloc.Global.{Global}
@@ -19,10 +19,18 @@ texts_of = map string_bytes
 abbrev pub file_rule : Text → Rule
 file_rule name = record (new_rule name) { long = Some name; action = Some Set; required = true }
 
+-- `NAME --sig F --policy F`
+unfoldable pub sources_app : Text → App
+sources_app name =
+    with_rule (with_rule (new_app name) (file_rule (codes "sig"))) (file_rule (codes "policy"))
+
 -- `run --sig F --policy F --log F`
 unfoldable pub run_app : App
-run_app = with_rule (with_rule (with_rule (new_app (codes "run")) (file_rule (codes "sig")))
-    (file_rule (codes "policy"))) (file_rule (codes "log"))
+run_app = with_rule (sources_app (codes "run")) (file_rule (codes "log"))
+
+-- `check --sig F --policy F`
+unfoldable pub check_app : App
+check_app = sources_app (codes "check")
 
 -- a subcommand is required, and there is neither help nor a version
 abbrev pub strict : Shape → Shape
@@ -35,41 +43,65 @@ strict s = record s {
 
 -- the whole command
 unfoldable pub monitor_app : App
-monitor_app = on_top strict (with_subcommand (new_app (codes "monitor")) run_app.top)
+monitor_app =
+    on_top strict
+    (with_subcommand (with_subcommand (new_app (codes "monitor")) run_app.top) check_app.top)
 
 -- the faults that the command finds in the words: none where it takes them
 unfoldable pub words_fault : List Text → Kinds
 words_fault words = fault_of monitor_app words
 
--- the names of the three files
-pub record Names : Type 0 where
+-- the names of the signature's file and of the policy's
+pub record Sources : Type 0 where
   pub sig : List ℕ
   pub policy : List ℕ
-  pub log : List ℕ
 
--- the value of one option of the subcommand's
-abbrev pub value_of : Text → Option (Text × List Row) → List ℕ
-value_of name found =
-    unwrap_or (option_and_then (first_of name) (option_map (λ p. p.1) found)) []
+-- what is to be done, and with which files: `run` names a log too
+pub data Command : Type 0 where
+  Run : Sources → List ℕ → Command
+  Check : Sources → Command
 
--- the names that the words give
-unfoldable pub given_names : List Text → Names
-given_names words = let found = subcommand_of monitor_app words in record {
-  sig = value_of (codes "sig") found;
-  policy = value_of (codes "policy") found;
-  log = value_of (codes "log") found;
-}
+-- the value of one option
+abbrev pub value_of : Text → List Row → List ℕ
+value_of name options = unwrap_or (first_of name options) []
+
+abbrev pub sources_of : List Row → Sources
+sources_of options =
+    record { sig = value_of (codes "sig") options; policy = value_of (codes "policy") options }
+
+-- the subcommand of this name with these options
+abbrev pub command_named : Text → List Row → Option Command
+command_named name options =
+    if bytes_eq name (codes "run")
+    then Some (Run (sources_of options) (value_of (codes "log") options))
+    else if bytes_eq name (codes "check") then Some (Check (sources_of options)) else None
+
+abbrev pub command_found : Option (Text × List Row) → Option Command
+command_found None = None
+command_found (Some found) = command_named found.0 found.1
+
+-- the command that the words give
+unfoldable pub command_given : List Text → Option Command
+command_given words = command_found (subcommand_of monitor_app words)
 
 -- the name of standard input
 abbrev pub is_input : List ℕ → Bool
 is_input name = bytes_eq name (codes "-")
 
--- standard input stands for more than one file
-abbrev pub shares_input : Names → Bool
-shares_input names =
-    nat_lt 1 (count_by is_input (names.sig ∷ names.policy ∷ names.log ∷ []))
+-- the files that a command names
+abbrev pub files_of : Command → List Text
+files_of (Run sources log) = sources.sig ∷ sources.policy ∷ log ∷ []
+files_of (Check sources) = sources.sig ∷ sources.policy ∷ []
 
--- the names of the files, where the command takes the words and at most one file is `-`
-unfoldable pub names_of : List Text → Option Names
-names_of words = let names = given_names words in
-    if is_empty (words_fault words) && not (shares_input names) then Some names else None
+-- standard input stands for more than one file
+abbrev pub shares_input : Command → Bool
+shares_input command = nat_lt 1 (count_by is_input (files_of command))
+
+-- the command, unless two of its files are standard input
+abbrev pub without_shared : Option Command → Option Command
+without_shared None = None
+without_shared (Some command) = if shares_input command then None else Some command
+
+-- the command, where `clap` takes the words and at most one file is `-`
+unfoldable pub command_of : List Text → Option Command
+command_of words = if is_empty (words_fault words) then without_shared (command_given words) else None

@@ -1,31 +1,127 @@
-//! The rows of the events that an atom stands for.
-ghost use Rattle.std.specs.Prelude.{◌≡◌, IfOk};
+//! The rows that an atom's events give.
+ghost use Rattle.std.specs.Prelude.{◌≡◌, IfOk, map, option_map, position};
+ghost use Rattle.std.specs.List.{list_all, zip};
+ghost use Rattle.std.specs.Ordering.{eq_by_cmp};
 ghost use Rattle.mfotl_model.specs.ActiveDomain.{ascending};
+ghost use Rattle.mfotl_model.specs.Satisfaction.{term_value};
 ghost use Rattle.mfotl_model.specs.Values.{row_cmp};
-ghost use Rattle.monitor_main.specs.Atom.{is_match, matching_rows};
+ghost use Rattle.monitor_main.specs.Atom.{first_value, is_match, is_variable, matching_rows, query_of};
+ghost use Rattle.monitor_main.specs.Atom.{read_off, row_read};
+ghost use Rattle.monitor_main.specs.AtomSteps.{stands_for};
 
-use mfotl_model::{Db, Event, Row, RowList};
+use mfotl_model::{Atom, Db, Event, Row, RowList, Term, Value};
 use std::alloc::{AllocError, Global};
 use std::collections::BTreeSet;
 
-// Whether p(x1, .., xn) can stand for the event.
-fn is_match(event: &Event, pred: u32, arity: usize) -> bool
-    ensures { result ≡ is_match pred arity event.now }
-{
-    event.pred == pred && event.args.values().len() == arity
+/// An atom, and the variables whose values are a row, in the order of its columns.
+#[derive(Clone, Copy)]
+pub struct AtomQuery<'a> {
+    pub atom: &'a Atom,
+    pub columns: &'a [u32],
 }
 
-/// The rows at which NOT p(x1, .., xn) fails at a time-point, in ascending order, where p is the
-/// predicate of this number and n the arity.
-#[tactic(auto, using(crate::proofs::AtomLemmas::row_taken, crate::proofs::AtomLemmas::event_left))]
-pub fn atom_rows(db: &Db, pred: u32, arity: usize, alloc: Global) -> Result<RowList, AllocError>
+fn is_variable(term: &Term, variable: u32) -> bool
+    ensures { result ≡ is_variable variable term.now }
+{
+    match term {
+        Term::Var(number) => *number == variable,
+        Term::Const(_) => false,
+    }
+}
+
+// The first place where the terms have the variable.
+fn first_place(terms: &[Term], variable: u32) -> Option<usize>
+    ensures { result ≡ position (is_variable variable) terms.now }
+{
+    terms.iter().position(|term| is_variable(term, variable))
+}
+
+// The value at this place.
+#[tactic(auto, unfolding(crate::specs::Atom::first_value))]
+fn first_value<'a>(terms: &[Term], values: &'a [Value], variable: u32) -> Option<&'a Value>
+    ensures { option_map (λ value. value.now) result ≡ first_value terms.now values.now variable }
+{
+    match first_place(terms, variable) {
+        Some(place) => values.get(place),
+        None => None,
+    }
+}
+
+// Whether the term stands for the value among these terms and values.
+fn stands_for(term: &Term, value: &Value, terms: &[Term], values: &[Value]) -> bool
+    ensures { result ≡ stands_for terms.now values.now term.now value.now }
+{
+    match term {
+        Term::Const(constant) => constant == value,
+        Term::Var(number) => match first_value(terms, values, *number) {
+            Some(first) => first == value,
+            None => false,
+        },
+    }
+}
+
+fn all_stand(terms: &[Term], values: &[Value]) -> bool
+    ensures { result ≡ list_all (λ p. stands_for terms.now values.now p.0 p.1)
+        (zip terms.now values.now) }
+{
+    terms
+        .iter()
+        .zip(values)
+        .all(|(term, value)| stands_for(term, value, terms, values))
+}
+
+// Whether the terms stand for the values: constants for themselves, and each variable for one value.
+#[tactic(auto, using(crate::proofs::AtomLemmas::gives_none_back))]
+fn give_back(terms: &[Term], values: &[Value]) -> bool
+    ensures { result ≡ eq_by_cmp row_cmp
+        (map (term_value (read_off terms.now values.now)) terms.now) values.now }
+{
+    terms.len() == values.len() && all_stand(terms, values)
+}
+
+#[tactic(auto, using(crate::proofs::AtomLemmas::match_by_pred))]
+fn is_match(atom: &Atom, event: &Event) -> bool
+    ensures { result ≡ is_match atom.now event.now }
+{
+    atom.pred == event.pred && give_back(atom.args.as_slice(), event.args.values())
+}
+
+// The variable's first value, or 0.
+fn value_read(
+    terms: &[Term],
+    values: &[Value],
+    variable: u32,
+    alloc: Global,
+) -> Result<Value, AllocError>
+    ensures { IfOk result (λ value. value ≡ read_off terms.now values.now variable) }
+{
+    match first_value(terms, values, variable) {
+        Some(value) => value.copy(alloc),
+        None => Ok(Value::Int(0)),
+    }
+}
+
+fn row_read(query: &AtomQuery<'_>, event: &Event, alloc: Global) -> Result<Row, AllocError>
+    ensures { IfOk result (λ row. row ≡ row_read (query_of query.now) event.now) }
+{
+    let (terms, values) = (query.atom.args.as_slice(), event.args.values());
+    let mut row = Vec::with_capacity(alloc, query.columns.len())?;
+    for column in query.columns {
+        row.push(value_read(terms, values, *column, alloc)?)?;
+    }
+    Ok(Row::new(row))
+}
+
+/// The rows of the events that the query's atom stands for, in ascending order.
+#[tactic(auto, using(crate::proofs::AtomRows::row_taken, crate::proofs::AtomRows::event_left))]
+pub fn atom_rows(db: &Db, query: &AtomQuery<'_>, alloc: Global) -> Result<RowList, AllocError>
     ensures { IfOk result (λ rows.
-        rows ≡ ascending row_cmp (matching_rows pred arity db.now)) }
+        rows ≡ ascending row_cmp (matching_rows (query_of query.now) db.now)) }
 {
     let mut rows: BTreeSet<Row> = BTreeSet::new(alloc);
     for event in db.events() {
-        if is_match(event, pred, arity) {
-            rows.insert(event.args.copy(alloc)?)?;
+        if is_match(query.atom, event) {
+            rows.insert(row_read(query, event, alloc)?)?;
         }
     }
     Ok(RowList::new(rows.into_iter().collect(alloc)?))

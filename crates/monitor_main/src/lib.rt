@@ -2,11 +2,14 @@
 //! status out. The programs above make its inputs and its sinks.
 #![tactic(auto)]
 
+mod answers;
 mod atom;
+mod check;
 mod laws;
 mod log;
+mod monitoring;
+mod options;
 mod plan;
-mod policy;
 mod real;
 mod refusal;
 mod running;

@@ -5,14 +5,12 @@ ghost use Rattle.mon_outside.specs.Files.{ToldFiles, content};
 ghost use Rattle.mon_outside.specs.Sink.{AppendsFront};
 ghost use Rattle.log_reader.specs.Readings.{reading};
 ghost use Rattle.monitor_main.specs.Answer.{standard};
-ghost use Rattle.monitor_main.specs.AtomText.{line_at, rows_at};
-ghost use Rattle.monitor_main.specs.PolicyForm.{is_empty};
+ghost use Rattle.monitor_main.specs.Atom.{query_of};
+ghost use Rattle.monitor_main.specs.AtomText.{is_empty, line_at, rows_at};
 ghost use Rattle.monitor_main.specs.LogRuns.{EndsClear, IsGathered, IsOutputFault, StopsBytes};
 ghost use Rattle.monitor_main.specs.LogRuns.{StopsLines, WritesPoint, lines_of, log_refusal, reading_in};
-ghost use Rattle.monitor_main.specs.PolicyViews.{atom_of};
 
-use crate::atom::atom_rows;
-use crate::policy::PlainAtom;
+use crate::atom::{AtomQuery, atom_rows};
 use crate::refusal::{InputFile, Refusal};
 use crate::verdicts::line;
 use log_reader::{Limits, LogFault, LogReader, Next};
@@ -72,17 +70,17 @@ struct PointLine {
 
 #[tactic(auto, unfolding(crate::specs::AtomText::line_at, crate::specs::AtomText::rows_at))]
 fn point_line(
-    atom: &PlainAtom,
+    query: &AtomQuery<'_>,
     number: u64,
     point: &TimePoint,
     alloc: Global,
 ) -> Result<PointLine, AllocError>
     ensures line { IfOk result (λ line.
-        line.bytes.items ≡ line_at (atom_of atom.now) number point.now) }
+        line.bytes.items ≡ line_at (query_of query.now) number point.now) }
     ensures row { IfOk result (λ line.
-        line.has_row ≡ not (is_empty (rows_at (atom_of atom.now) point.now))) }
+        line.has_row ≡ not (is_empty (rows_at (query_of query.now) point.now))) }
 {
-    let rows = atom_rows(&point.db, atom.pred, atom.arity, alloc)?;
+    let rows = atom_rows(&point.db, query, alloc)?;
     Ok(PointLine {
         bytes: line(number, point.ts, &rows, alloc)?,
         has_row: !has_none(rows.rows()),
@@ -101,21 +99,21 @@ fn has_none(rows: &[Row]) -> bool
 // Writes the line of a time-point, and answers whether it has a row.
 #[tactic(auto, using(crate::proofs::SinkLemmas::whole_front))]
 fn write_point<O: Sink>(
-    atom: &PlainAtom,
+    query: &AtomQuery<'_>,
     number: u64,
     point: &TimePoint,
     out: &mut O,
     alloc: Global,
 ) -> Result<bool, Refusal>
-    ensures ok { IfOk result (λ has_row. WritesPoint (atom_of atom.now) number point.now
+    ensures ok { IfOk result (λ has_row. WritesPoint (query_of query.now) number point.now
         (O.written out.old) (O.written out.new) has_row) }
     ensures fault { IfErr result (λ r.
         IsOutputFault r (O.faults out.old) (O.faults out.new)) }
     ensures front { AppendsFront (O.written out.old) (O.written out.new)
-        (line_at (atom_of atom.now) number point.now) }
+        (line_at (query_of query.now) number point.now) }
     ensures later { O.faults out.old ≤ O.faults out.new }
 {
-    let Ok(line) = point_line(atom, number, point, alloc) else {
+    let Ok(line) = point_line(query, number, point, alloc) else {
         return Err(Refusal::Memory);
     };
     match write_whole(out, line.bytes.as_slice()) {
@@ -137,24 +135,24 @@ fn log_refusal(fault: LogFault) -> Refusal
 // Writes the line of each time-point, and answers whether one has a row.
 fn write_points<O: Sink>(
     reader: &mut LogReader<'_>,
-    atom: &PlainAtom,
+    query: &AtomQuery<'_>,
     out: &mut O,
     alloc: Global,
 ) -> Result<bool, Refusal>
     requires works { reader.old.is_broken ≡ false }
     requires first { reader.old.given ≡ 0 }
-    ensures ok { IfOk result (λ violated. EndsClear (atom_of atom.now) (reading_in reader.old)
+    ensures ok { IfOk result (λ violated. EndsClear (query_of query.now) (reading_in reader.old)
         (O.written out.old) (O.written out.new) violated) }
-    ensures stops { IfErr result (λ r. StopsLines (atom_of atom.now) (reading_in reader.old)
+    ensures stops { IfErr result (λ r. StopsLines (query_of query.now) (reading_in reader.old)
         (O.written out.old) (O.written out.new) (O.faults out.old) (O.faults out.new) r) }
     ensures front { AppendsFront (O.written out.old) (O.written out.new)
-        (lines_of (atom_of atom.now) (reading_in reader.old)) }
+        (lines_of (query_of query.now) (reading_in reader.old)) }
     ensures later { O.faults out.old ≤ O.faults out.new }
 {
     let mut violated = false;
     for number in 0..u64::MAX {
         match reader.next(alloc) {
-            Ok(Next::Point(point)) => match write_point(atom, number, &point, out, alloc) {
+            Ok(Next::Point(point)) => match write_point(query, number, &point, out, alloc) {
                 Ok(has_row) => violated |= has_row,
                 Err(refusal) => return Err(refusal),
             },
@@ -169,19 +167,19 @@ fn write_points<O: Sink>(
 /// Monitors a log of which these bytes were given.
 pub fn monitor_bytes<O: Sink>(
     sig: &Signature,
-    atom: &PlainAtom,
+    query: &AtomQuery<'_>,
     log: Gathered,
     out: &mut O,
     alloc: Global,
 ) -> Result<bool, Refusal>
-    ensures ok { IfOk result (λ violated. (log.failed ≡ false) × EndsClear (atom_of atom.now)
+    ensures ok { IfOk result (λ violated. (log.failed ≡ false) × EndsClear (query_of query.now)
         (reading sig.now standard log.bytes.items (not log.failed))
         (O.written out.old) (O.written out.new) violated) }
-    ensures stops { IfErr result (λ r. StopsBytes log.failed (atom_of atom.now)
+    ensures stops { IfErr result (λ r. StopsBytes log.failed (query_of query.now)
         (reading sig.now standard log.bytes.items (not log.failed))
         (O.written out.old) (O.written out.new) (O.faults out.old) (O.faults out.new) r) }
     ensures front { AppendsFront (O.written out.old) (O.written out.new) (lines_of
-        (atom_of atom.now) (reading sig.now standard log.bytes.items (not log.failed))) }
+        (query_of query.now) (reading sig.now standard log.bytes.items (not log.failed))) }
     ensures later { O.faults out.old ≤ O.faults out.new }
 {
     let mut reader = LogReader::new(sig, Limits::standard(), alloc);
@@ -189,7 +187,7 @@ pub fn monitor_bytes<O: Sink>(
     if !log.failed {
         reader.finish();
     }
-    match write_points(&mut reader, atom, out, alloc) {
+    match write_points(&mut reader, query, out, alloc) {
         Ok(violated) if !log.failed => Ok(violated),
         Ok(_) => Err(Refusal::Read(InputFile::Log)),
         Err(refusal) => Err(refusal),

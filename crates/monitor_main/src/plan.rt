@@ -1,29 +1,38 @@
-//! What is to be monitored: the words, the signature and the policy, in this order.
+//! The signature and the policy, in this order, and the policy's core.
 ghost use Rattle.std.specs.Prelude.{◌≡◌, ◌≤◌, ◌^◌, ℕ, length, IfOk, IfErr, Ok, Err};
 ghost use Rattle.mon_outside.specs.Files.{ToldFiles, content};
-ghost use Rattle.monitor_main.specs.Answer.{signature_of, policy_in, task_at, task_of};
-ghost use Rattle.monitor_main.specs.NamesIn.{names_in};
-ghost use Rattle.monitor_main.specs.Plans.{task_in, HasNoTask, HasNoPlan, HasWordsCause, words_refusal};
-ghost use Rattle.monitor_main.specs.PolicyViews.{atom_of};
-ghost use Rattle.monitor_main.specs.PlanFaults.{Gives, HasReadCause, IsBehindWords, IsInside, Stops, sig_refusal};
-ghost use Rattle.monitor_main.specs.Words.{texts_of};
+ghost use Rattle.mfotl_parse.specs.Views.{policy_of};
+ghost use Rattle.monitor_main.specs.Answer.{monitorable, policy_at, policy_in, signature_of};
+ghost use Rattle.monitor_main.specs.CommandViews.{sources_in};
+ghost use Rattle.monitor_main.specs.PlanFaults.{Gives, HasReadCause, IsBehindWords, IsInside, Stops};
+ghost use Rattle.monitor_main.specs.PlanFaults.{fragment_refusal, policy_refusal, sig_refusal};
+ghost use Rattle.monitor_main.specs.Plans.{HasNoPolicy, IsCoreOf, judged_of, view_of};
 
-use crate::policy::{PlainAtom, read_policy};
 use crate::refusal::{InputFile, Refusal};
-use crate::words::{FileNames, WordsFault, read_words};
+use crate::words::Sources;
+use mfotl_model::Policy;
+use mfotl_parse::{PolicyFault, read_policy};
 use mfotl_sig::{SigFault, Signature, read_signature};
 use mon_outside::{Inputs, LoadFault, load};
+use monitorable::{Core, FragmentFault, to_core};
 use std::alloc::Global;
 
 /// The most bytes that a signature or a policy has.
 const MAX_FILE: u64 = 1 << 20;
 
-/// A policy over a signature, and the name of a log.
+/// A policy that can be monitored, over a signature.
 #[derive(Drop)]
-pub struct Plan<'a> {
+pub struct Plan {
     pub sig: Signature,
-    pub atom: PlainAtom,
-    pub log: &'a str,
+    pub policy: Policy,
+    pub core: Core,
+}
+
+// A policy with its core.
+#[derive(Drop)]
+struct Monitorable {
+    policy: Policy,
+    core: Core,
 }
 
 // The refusal for a signature's fault.
@@ -33,6 +42,26 @@ fn sig_refusal(fault: SigFault) -> Refusal
     match fault {
         SigFault::Memory => Refusal::Memory,
         fault => Refusal::Signature(fault),
+    }
+}
+
+// The refusal for a policy's fault.
+fn policy_refusal(fault: PolicyFault) -> Refusal
+    ensures { result ≡ policy_refusal fault }
+{
+    match fault {
+        PolicyFault::Memory => Refusal::Memory,
+        fault => Refusal::Policy(fault),
+    }
+}
+
+// The refusal for a policy that can't be monitored.
+fn fragment_refusal(fault: FragmentFault) -> Refusal
+    ensures { result ≡ fragment_refusal fault }
+{
+    match fault {
+        FragmentFault::Memory => Refusal::Memory,
+        fault => Refusal::Fragment(fault),
     }
 }
 
@@ -49,17 +78,29 @@ fn signature_in(bytes: &[u8], alloc: Global) -> Result<Signature, Refusal>
     }
 }
 
+// The policy with its core, where it can be monitored.
+fn with_core(policy: Policy, alloc: Global) -> Result<Monitorable, Refusal>
+    ensures gives { Gives view_of result (monitorable (policy_of policy)) }
+    ensures core { IfOk result (λ m. IsCoreOf m.core (view_of m).formula) }
+    ensures inside { IfErr result IsInside }
+{
+    match to_core(&policy, alloc) {
+        Ok(core) => Ok(Monitorable { policy, core }),
+        Err(fault) => Err(fragment_refusal(fault)),
+    }
+}
+
 // The policy in a file that isn't too long.
 #[tactic(auto, unfolding(crate::specs::Answer::policy_in))]
-fn policy_in(sig: &Signature, bytes: &[u8], alloc: Global) -> Result<PlainAtom, Refusal>
+fn policy_in(sig: &Signature, bytes: &[u8], alloc: Global) -> Result<Monitorable, Refusal>
     requires { length bytes.now ≤ 2 ^ 20 }
-    ensures gives { Gives atom_of result (policy_in sig.now bytes.now) }
+    ensures gives { Gives view_of result (policy_in sig.now bytes.now) }
+    ensures core { IfOk result (λ m. IsCoreOf m.core (view_of m).formula) }
     ensures inside { IfErr result IsInside }
 {
     match read_policy(bytes, sig, alloc) {
-        Ok(Some(atom)) => Ok(atom),
-        Ok(None) => Err(Refusal::Policy),
-        Err(_) => Err(Refusal::Memory),
+        Ok(policy) => with_core(policy, alloc),
+        Err(fault) => Err(policy_refusal(fault)),
     }
 }
 
@@ -96,11 +137,12 @@ fn load_policy<I: Inputs>(
     name: &str,
     sig: &Signature,
     alloc: Global,
-) -> Result<PlainAtom, Refusal>
+) -> Result<Monitorable, Refusal>
     ensures files { I.files inputs.new ≡ I.files inputs.old }
     ensures later { I.faults inputs.old ≤ I.faults inputs.new }
-    ensures ok { IfOk result (λ atom. ToldFiles (I.files inputs.old) (λ files.
-        policy_in sig.now (content files name.now) ≡ Ok (atom_of atom))) }
+    ensures ok { IfOk result (λ m. ToldFiles (I.files inputs.old) (λ files.
+        policy_in sig.now (content files name.now) ≡ Ok (view_of m))) }
+    ensures core { IfOk result (λ m. IsCoreOf m.core (view_of m).formula) }
     ensures refused { IfErr result (λ r.
         Stops InputFile.Policy r (I.faults inputs.old) (I.faults inputs.new)
         (ToldFiles (I.files inputs.old) (λ files.
@@ -111,70 +153,39 @@ fn load_policy<I: Inputs>(
 {
     match load(inputs, name, MAX_FILE, alloc) {
         Ok(bytes) => policy_in(sig, bytes.as_slice(), alloc),
-        Err(LoadFault::TooLong) => Err(Refusal::Policy),
+        Err(LoadFault::TooLong) => Err(Refusal::LongPolicy),
         Err(LoadFault::Failed) => Err(Refusal::Read(InputFile::Policy)),
         Err(LoadFault::Memory) => Err(Refusal::Memory),
     }
 }
 
-// The refusal for words.
-fn words_refusal(fault: WordsFault) -> Refusal
-    ensures { result ≡ words_refusal fault }
-{
-    match fault {
-        WordsFault::Usage => Refusal::Usage,
-        WordsFault::Memory => Refusal::Memory,
-    }
-}
-
-// The plan of the files of these names.
-fn plan_of<'a, I: Inputs>(
-    names: &FileNames<'a>,
+/// The plan of the files of these names.
+pub fn load_plan<I: Inputs>(
+    sources: &Sources<'_>,
     inputs: &mut I,
     alloc: Global,
-) -> Result<Plan<'a>, Refusal>
+) -> Result<Plan, Refusal>
     ensures files { I.files inputs.new ≡ I.files inputs.old }
     ensures later { I.faults inputs.old ≤ I.faults inputs.new }
     ensures ok { IfOk result (λ plan. ToldFiles (I.files inputs.old) (λ files.
-        task_at (names_in names.now) files ≡ Ok (task_in plan files))) }
+        policy_at (sources_in sources.now) files ≡ Ok (judged_of plan))) }
+    ensures core { IfOk result (λ plan. IsCoreOf plan.core (judged_of plan).policy.formula) }
     ensures refused { IfErr result (λ r. ToldFiles (I.files inputs.old) (λ files.
-        HasNoTask (names_in names.now) files r)) }
-    ensures read { IfErr result (λ r.
+        HasNoPolicy (sources_in sources.now) files r)) }
+    ensures cause { IfErr result (λ r.
         HasReadCause r (I.faults inputs.old) (I.faults inputs.new)) }
     ensures behind { IfErr result IsBehindWords }
 {
-    let sig = match load_signature(inputs, names.sig, alloc) {
+    let sig = match load_signature(inputs, sources.sig, alloc) {
         Ok(sig) => sig,
         Err(refusal) => return Err(refusal),
     };
-    match load_policy(inputs, names.policy, &sig, alloc) {
-        Ok(atom) => Ok(Plan {
+    match load_policy(inputs, sources.policy, &sig, alloc) {
+        Ok(judged) => Ok(Plan {
             sig,
-            atom,
-            log: names.log,
+            policy: judged.policy,
+            core: judged.core,
         }),
         Err(refusal) => Err(refusal),
-    }
-}
-
-/// Reads the words, the signature and the policy.
-pub fn make_plan<'a, I: Inputs>(
-    words: &'a [String],
-    inputs: &mut I,
-    alloc: Global,
-) -> Result<Plan<'a>, Refusal>
-    ensures files { I.files inputs.new ≡ I.files inputs.old }
-    ensures later { I.faults inputs.old ≤ I.faults inputs.new }
-    ensures ok { IfOk result (λ plan. ToldFiles (I.files inputs.old) (λ files.
-        task_of (texts_of words.entry.now) files ≡ Ok (task_in plan files))) }
-    ensures refused { IfErr result (λ r. ToldFiles (I.files inputs.old) (λ files.
-        HasNoPlan (texts_of words.entry.now) files r)) }
-    ensures read { IfErr result (λ r.
-        HasReadCause r (I.faults inputs.old) (I.faults inputs.new)) }
-    ensures usage { IfErr result (HasWordsCause (texts_of words.entry.now)) }
-{
-    match read_words(alloc, words) {
-        Ok(names) => plan_of(&names, inputs, alloc),
-        Err(fault) => Err(words_refusal(fault)),
     }
 }

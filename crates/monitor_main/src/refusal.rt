@@ -1,13 +1,17 @@
 //! Why a run ends before the end of a log without faults, and the line that says so.
-ghost use Rattle.std.specs.Prelude.{◌≡◌, ◌++◌, codes, IfOk, string_bytes};
+ghost use Rattle.std.specs.Prelude.{◌≡◌, ◌++◌, codes, IfOk};
 ghost use Rattle.mfotl_sig.specs.FaultTexts.{fault_text as sig_text};
+ghost use Rattle.mfotl_parse.specs.FaultTexts.{fault_text as policy_text};
+ghost use Rattle.monitorable.specs.FaultTexts.{fault_text as fragment_text};
 ghost use Rattle.log_reader.specs.FaultTexts.{fault_text as log_text};
 ghost use Rattle.monitor_main.specs.FaultLines.{fault_line, file_text};
 ghost use Rattle.monitor_main.specs.Refusals.{line_of, status_of};
 
 use crate::status::Status;
 use log_reader::LogFault;
+use mfotl_parse::PolicyFault;
 use mfotl_sig::SigFault;
+use monitorable::FragmentFault;
 use std::alloc::{AllocError, Global};
 
 /// A file that a run reads.
@@ -19,7 +23,7 @@ pub enum InputFile {
 }
 
 /// What is refused, or the cause outside.
-#[derive(Clone, Copy, Debug, Drop)]
+#[derive(Debug, Drop)]
 pub enum Refusal {
     /// The words are no command line.
     Usage,
@@ -27,8 +31,14 @@ pub enum Refusal {
     LongSignature,
     /// The first fault of the signature.
     Signature(SigFault),
-    /// The policy is none that is read so far.
-    Policy,
+    /// The policy file has more bytes than it may have.
+    LongPolicy,
+    /// The first fault of the policy.
+    Policy(PolicyFault),
+    /// The first reason why the policy can't be monitored.
+    Fragment(FragmentFault),
+    /// The policy's core is none that is monitored so far.
+    Later,
     /// The first fault of the log.
     Log(LogFault),
     /// The file could not be opened or read.
@@ -39,8 +49,8 @@ pub enum Refusal {
     Memory,
 }
 
-const USAGE: &str =
-    "usage: run --sig F --policy F --log F [--strategy S] [--changes F] [--threads T] or check --sig F --policy F or demo SEED\n";
+const USAGE: &[u8] =
+    b"usage: run --sig F --policy F --log F [--strategy S] [--changes F] [--threads T] or check --sig F --policy F or demo SEED\n";
 
 fn file_text(file: InputFile) -> &'static str
     ensures { result.now ≡ file_text file }
@@ -53,28 +63,48 @@ fn file_text(file: InputFile) -> &'static str
 }
 
 // The line of a signature's fault.
-fn sig_line(fault: &SigFault, alloc: Global) -> Result<String, AllocError>
+fn sig_line(fault: &SigFault, alloc: Global) -> Result<Vec<u8>, AllocError>
     ensures { IfOk result (λ line.
-        string_bytes line ≡ fault_line (codes "signature") (sig_text fault.now)) }
+        line.items ≡ fault_line (codes "signature") (sig_text fault.now)) }
 {
-    format!(in alloc; "signature: {fault}\n")
+    Ok(format!(in alloc; "signature: {fault}\n")?.into_bytes())
+}
+
+// The line of a policy's fault.
+fn policy_line(fault: &PolicyFault, alloc: Global) -> Result<Vec<u8>, AllocError>
+    ensures { IfOk result (λ line.
+        line.items ≡ fault_line (codes "policy") (policy_text fault.now)) }
+{
+    Ok(format!(in alloc; "policy: {fault}\n")?.into_bytes())
+}
+
+// The line of a policy that can't be monitored, the variable's name as it stands there.
+fn fragment_line(fault: &FragmentFault, alloc: Global) -> Result<Vec<u8>, AllocError>
+    ensures { IfOk result (λ line.
+        line.items ≡ fault_line (codes "policy") (fragment_text fault.now)) }
+{
+    let text = fault.text(alloc)?;
+    let mut line = Vec::from_slice(alloc, b"policy: ")?;
+    line.extend_from_slice(text.as_slice())?;
+    line.push(b'\n')?;
+    Ok(line)
 }
 
 // The line of a log's fault.
-fn log_line(fault: &LogFault, alloc: Global) -> Result<String, AllocError>
+fn log_line(fault: &LogFault, alloc: Global) -> Result<Vec<u8>, AllocError>
     ensures { IfOk result (λ line.
-        string_bytes line ≡ fault_line (codes "log") (log_text fault.now)) }
+        line.items ≡ fault_line (codes "log") (log_text fault.now)) }
 {
-    format!(in alloc; "log: {fault}\n")
+    Ok(format!(in alloc; "log: {fault}\n")?.into_bytes())
 }
 
 // The line of a file that could not be read.
-fn read_line(file: InputFile, alloc: Global) -> Result<String, AllocError>
+fn read_line(file: InputFile, alloc: Global) -> Result<Vec<u8>, AllocError>
     ensures { IfOk result (λ line.
-        string_bytes line ≡ codes "read: " ++ file_text file ++ codes "\n") }
+        line.items ≡ codes "read: " ++ file_text file ++ codes "\n") }
 {
     let name = file_text(file);
-    format!(in alloc; "read: {name}\n")
+    Ok(format!(in alloc; "read: {name}\n")?.into_bytes())
 }
 
 impl Refusal {
@@ -86,7 +116,10 @@ impl Refusal {
             Refusal::Usage => Status::Usage,
             Refusal::LongSignature => Status::Signature,
             Refusal::Signature(_) => Status::Signature,
-            Refusal::Policy => Status::Policy,
+            Refusal::LongPolicy => Status::Policy,
+            Refusal::Policy(_) => Status::Policy,
+            Refusal::Fragment(_) => Status::Policy,
+            Refusal::Later => Status::Policy,
             Refusal::Log(_) => Status::Log,
             Refusal::Read(_) => Status::Read,
             Refusal::Write => Status::Write,
@@ -96,18 +129,21 @@ impl Refusal {
 
     /// The line that says why.
     #[tactic(auto, unfolding(crate::specs::Refusals::line_of, crate::specs::Refusals::usage_line))]
-    pub fn line(&self, alloc: Global) -> Result<String, AllocError>
-        ensures { IfOk result (λ line. string_bytes line ≡ line_of self.now) }
+    pub fn line(&self, alloc: Global) -> Result<Vec<u8>, AllocError>
+        ensures { IfOk result (λ line. line.items ≡ line_of self.now) }
     {
         match self {
-            Refusal::Usage => String::from_str(alloc, USAGE),
-            Refusal::LongSignature => { String::from_str(alloc, "signature: TooLong at 1048576\n") }
+            Refusal::Usage => Vec::from_slice(alloc, USAGE),
+            Refusal::LongSignature => Vec::from_slice(alloc, b"signature: TooLong at 1048576\n"),
             Refusal::Signature(fault) => sig_line(fault, alloc),
-            Refusal::Policy => String::from_str(alloc, "policy: Later\n"),
+            Refusal::LongPolicy => Vec::from_slice(alloc, b"policy: TooLong at 1048576\n"),
+            Refusal::Policy(fault) => policy_line(fault, alloc),
+            Refusal::Fragment(fault) => fragment_line(fault, alloc),
+            Refusal::Later => Vec::from_slice(alloc, b"policy: Later\n"),
             Refusal::Log(fault) => log_line(fault, alloc),
             Refusal::Read(file) => read_line(*file, alloc),
-            Refusal::Write => String::from_str(alloc, "write\n"),
-            Refusal::Memory => String::from_str(alloc, "memory\n"),
+            Refusal::Write => Vec::from_slice(alloc, b"write\n"),
+            Refusal::Memory => Vec::from_slice(alloc, b"memory\n"),
         }
     }
 }

@@ -1,52 +1,57 @@
 //! The top call.
-ghost use Rattle.std.specs.Prelude.{◌≡◌, ◌≢◌, ◌≤◌, IfOk, IfErr, IsTrue, None};
+ghost use Rattle.std.specs.Prelude.{◌≡◌, ◌≢◌, IfErr, IsTrue, None};
 ghost use Rattle.mon_outside.specs.Causes.{Rose, StoodStill};
 ghost use Rattle.mon_outside.specs.Files.{ToldFiles};
 ghost use Rattle.mon_outside.specs.Sink.{AppendsFront};
-ghost use Rattle.monitor_main.specs.Answer.{answer, log_answer};
-ghost use Rattle.monitor_main.specs.Decisions.{Ends, EndsLog, Finishes, HasCauses};
-ghost use Rattle.monitor_main.specs.Outcomes.{FailsToRead, IsDecidedBy, IsGiven, Reports, Tells};
-ghost use Rattle.monitor_main.specs.Outcomes.{is_decided};
+ghost use Rattle.monitor_main.specs.Answer.{answer, command_answer};
+ghost use Rattle.monitor_main.specs.CommandViews.{command_in};
+ghost use Rattle.monitor_main.specs.Decisions.{ComesTo, HasCauses};
+ghost use Rattle.monitor_main.specs.Outcomes.{CommandFails, FailsAt, FailsToRead, IsDecidedBy};
+ghost use Rattle.monitor_main.specs.Outcomes.{IsGiven, Reports, Tells, is_decided};
 ghost use Rattle.monitor_main.specs.PlanFaults.{IsBehindWords};
-ghost use Rattle.monitor_main.specs.Plans.{task_in, HasWordsCause};
+ghost use Rattle.monitor_main.specs.Plans.{HasWordsCause, words_refusal};
 ghost use Rattle.monitor_main.specs.Refusals.{line_of};
-ghost use Rattle.monitor_main.specs.Words.{names_of, texts_of};
+ghost use Rattle.monitor_main.specs.Words.{command_of, texts_of};
 
-use crate::log::{gather, monitor_bytes};
-use crate::plan::{Plan, make_plan};
+use crate::check::check_policy;
+use crate::monitoring::run_policy;
 use crate::refusal::Refusal;
 use crate::status::Status;
+use crate::words::{Command, WordsFault, read_words};
 use mon_outside::{Gate, Inputs, Sink, write_whole};
 use std::alloc::Global;
 use std::sync::Wait;
 use std::thread::Threads;
 
-const MAX_LOG: u64 = 1 << 40;
-
-// Monitors the log of a plan.
-fn monitor_log<I: Inputs, O: Sink>(
-    plan: &Plan<'_>,
+// Does what the command says, and answers whether some line has a row.
+fn obey<I: Inputs, O: Sink>(
+    command: &Command<'_>,
     inputs: &mut I,
     out: &mut O,
     alloc: Global,
 ) -> Result<bool, Refusal>
     ensures files { I.files inputs.new ≡ I.files inputs.old }
-    ensures ok { IfOk result (λ violated. ToldFiles (I.files inputs.old) (λ files.
-        Finishes (log_answer (task_in plan.now files))
-        (O.written out.old) (O.written out.new) violated)) }
-    ensures refused { IfErr result (λ r. ToldFiles (I.files inputs.old) (λ files.
-        EndsLog (task_in plan.now files) (O.written out.old) (O.written out.new) r)) }
+    ensures comes { ToldFiles (I.files inputs.old) (λ files. ComesTo
+        (command_answer (command_in command.now) files)
+        (CommandFails (command_in command.now) files (O.written out.old) (O.written out.new))
+        (O.written out.old) (O.written out.new) result) }
     ensures causes { IfErr result (λ r. HasCauses r (I.faults inputs.old) (I.faults inputs.new)
         (O.faults out.old) (O.faults out.new)) }
-    ensures front { ToldFiles (I.files inputs.old) (λ files. AppendsFront
-        (O.written out.old) (O.written out.new) (log_answer (task_in plan.now files)).out) }
     ensures behind { IfErr result IsBehindWords }
-    ensures later_in { I.faults inputs.old ≤ I.faults inputs.new }
-    ensures later_out { O.faults out.old ≤ O.faults out.new }
 {
-    match gather(inputs, plan.log, MAX_LOG, alloc) {
-        Ok(log) => monitor_bytes(&plan.sig, &plan.atom, log, out, alloc),
-        Err(refusal) => Err(refusal),
+    match command {
+        Command::Run(sources, log) => run_policy(sources, log, inputs, out, alloc),
+        Command::Check(sources) => check_policy(sources, inputs, out, alloc),
+    }
+}
+
+// The refusal for words.
+fn words_refusal(fault: WordsFault) -> Refusal
+    ensures { result ≡ words_refusal fault }
+{
+    match fault {
+        WordsFault::Usage => Refusal::Usage,
+        WordsFault::Memory => Refusal::Memory,
     }
 }
 
@@ -58,20 +63,17 @@ fn decide<I: Inputs, O: Sink>(
     alloc: Global,
 ) -> Result<bool, Refusal>
     ensures files { I.files inputs.new ≡ I.files inputs.old }
-    ensures ok { IfOk result (λ violated. ToldFiles (I.files inputs.old) (λ files.
-        Finishes (answer (texts_of words.now) files)
-        (O.written out.old) (O.written out.new) violated)) }
-    ensures refused { IfErr result (λ r. ToldFiles (I.files inputs.old) (λ files.
-        Ends (texts_of words.now) files (O.written out.old) (O.written out.new) r)) }
+    ensures comes { ToldFiles (I.files inputs.old) (λ files. ComesTo
+        (answer (texts_of words.now) files)
+        (FailsAt (texts_of words.now) files (O.written out.old) (O.written out.new))
+        (O.written out.old) (O.written out.new) result) }
     ensures causes { IfErr result (λ r. HasCauses r (I.faults inputs.old) (I.faults inputs.new)
         (O.faults out.old) (O.faults out.new)) }
-    ensures front { ToldFiles (I.files inputs.old) (λ files. AppendsFront
-        (O.written out.old) (O.written out.new) (answer (texts_of words.now) files).out) }
     ensures usage { IfErr result (HasWordsCause (texts_of words.now)) }
 {
-    match make_plan(words, inputs, alloc) {
-        Ok(plan) => monitor_log(&plan, inputs, out, alloc),
-        Err(refusal) => Err(refusal),
+    match read_words(alloc, words) {
+        Ok(command) => obey(&command, inputs, out, alloc),
+        Err(fault) => Err(words_refusal(fault)),
     }
 }
 
@@ -104,7 +106,7 @@ fn report<E: Sink>(refusal: Refusal, err: &mut E, alloc: Global) -> Status
 {
     match refusal.line(alloc) {
         Ok(line) => {
-            tell(line.as_bytes(), err);
+            tell(line.as_slice(), err);
             refusal.status()
         }
         Err(_) => {
@@ -142,7 +144,7 @@ pub fn run<R: Threads + Wait + Sync, I: Inputs, O: Sink, E: Sink, G: Gate + Sync
         (O.written out.old) (O.written out.new) (answer (texts_of words.items) files).out) }
 
     // The words alone decide whether they are refused: told files or not.
-    ensures usage { result ≡ Status.Usage → names_of (texts_of words.items) ≡ None }
+    ensures usage { result ≡ Status.Usage → command_of (texts_of words.items) ≡ None }
 
     // A failed call is told only where its count rose.
     ensures read_cause { result ≡ Status.Read → Rose (I.faults inputs.old) (I.faults inputs.new) }

@@ -1,11 +1,11 @@
 use Rattle.std.proofs.Common.{rules}
-use Rattle.monitor_main.specs.PolicyViews.{atom_of}
+use Rattle.monitor_main.specs.Atom.{query_of}
 use Rattle.monitor_main.proofs.PointLemmas.{begins, ends_end, ends_more, front, goes_on, part, stops_by}
 use Rattle.monitor_main.proofs.log.write_points.Goals as goal
 
 pub loop-number-init : goal.loop-number-init
 loop-number-init g c =
-    begins (atom_of c.args.atom.now) c.args.reader.now (g.O.Sink.written c.args.out.now) (g.O.Sink.faults c.args.out.now) (search rules)
+    begins (query_of c.args.query.now) c.args.reader.now (g.O.Sink.written c.args.out.now) (g.O.Sink.faults c.args.out.now) (search rules)
 
 pub returns-in-Err-write_point-clause-front : goal.returns-in-Err-write_point-clause-front
 returns-in-Err-write_point-clause-front g c =

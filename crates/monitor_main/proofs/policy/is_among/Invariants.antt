@@ -1,9 +1,0 @@
-use Rattle.std.proofs.Common.{◌≡◌, drop}
-use Rattle.std.specs.List.{list_any}
-use Rattle.std.specs.Str.{bytes_eq}
-use Rattle.monitor_main.specs.PolicyViews.{texts}
-use Rattle.monitor_main.proofs.policy.is_among.Given as goal
-
-abbrev pub invariant-loop-other : goal.invariant-loop-other
-invariant-loop-other l =
-    list_any (bytes_eq l.word) (texts (drop l.other-index l.words)) ≡ list_any (bytes_eq l.word) (texts l.words)

@@ -1,0 +1,12 @@
+-- The command that was read, with the names that it lends.
+use Rattle.monitor_main.specs.Words.{Sources, Command, Run, Check}
+use Rattle.monitor_main.specs.declared.words.Sources.{Sources as SourcesValue}
+use Rattle.monitor_main.specs.declared.words.Command.{Command as CommandValue}
+use Rattle.monitor_main.specs.declared.words.Command.TheVariants as commands
+
+abbrev pub sources_in : SourcesValue → Sources
+sources_in sources = record { sig = sources.sig.now; policy = sources.policy.now }
+
+abbrev pub command_in : CommandValue → Command
+command_in (commands.Run sources log) = Run (sources_in sources) log.now
+command_in (commands.Check sources) = Check (sources_in sources)

@@ -1,0 +1,132 @@
+//! `check`: whether a policy can be monitored, and its free variables.
+ghost use Rattle.std.specs.Prelude.{◌≡◌, ◌++◌, IfOk, IfErr, OnOk, Ok};
+ghost use Rattle.mon_outside.specs.Files.{ToldFiles};
+ghost use Rattle.mon_outside.specs.Sink.{Appends, AppendsFront};
+ghost use Rattle.monitor_main.specs.Answer.{check_answer, command_answer};
+ghost use Rattle.monitor_main.specs.CheckLine.{column, columns, monitorable_line, more_columns};
+ghost use Rattle.monitor_main.specs.CheckLine.{sort_name};
+ghost use Rattle.monitor_main.specs.CommandViews.{sources_in};
+ghost use Rattle.monitor_main.specs.Decisions.{ComesTo, Finishes, HasCauses};
+ghost use Rattle.monitor_main.specs.LogRuns.{IsOutputFault};
+ghost use Rattle.monitor_main.specs.Outcomes.{CommandFails};
+ghost use Rattle.monitor_main.specs.PlanFaults.{IsBehindWords};
+ghost use Rattle.monitor_main.specs.Plans.{judged_of};
+ghost use Rattle.monitor_main.specs.Words.{Check};
+
+use crate::plan::{Plan, load_plan};
+use crate::refusal::Refusal;
+use crate::words::Sources;
+use mfotl_model::{Sort, Var};
+use mon_outside::{Inputs, Sink, write_whole};
+use std::alloc::{AllocError, Global};
+
+fn sort_name(sort: Sort) -> &'static [u8]
+    ensures { result.now ≡ sort_name sort }
+{
+    match sort {
+        Sort::Int => b"int",
+        Sort::Text => b"string",
+    }
+}
+
+// Puts a variable and its sort behind a line.
+fn put_column(line: &mut Vec<u8>, var: &Var) -> Result<(), AllocError>
+    ensures { OnOk result (line.new.items ≡ line.old.items ++ column var.now) }
+{
+    line.extend_from_slice(var.name.as_bytes())?;
+    line.extend_from_slice(b":")?;
+    line.extend_from_slice(sort_name(var.sort))?;
+    Ok(())
+}
+
+// Puts variables behind a line, with a comma before each.
+fn put_more_columns(line: &mut Vec<u8>, vars: &[Var]) -> Result<(), AllocError>
+    ensures { OnOk result (line.new.items ≡ line.old.items ++ more_columns vars.now) }
+{
+    for var in vars {
+        line.extend_from_slice(b",")?;
+        put_column(line, var)?;
+    }
+    Ok(())
+}
+
+// Puts variables behind a line, with a comma between any two.
+fn put_columns(line: &mut Vec<u8>, vars: &[Var]) -> Result<(), AllocError>
+    ensures { OnOk result (line.new.items ≡ line.old.items ++ columns vars.now) }
+{
+    match vars.split_first() {
+        Some((first, more)) => {
+            put_column(line, first)?;
+            put_more_columns(line, more)
+        }
+        None => Ok(()),
+    }
+}
+
+// The line for a policy of these free variables.
+#[tactic(auto, unfolding(crate::specs::CheckLine::monitorable_line))]
+fn monitorable_line(vars: &[Var], alloc: Global) -> Result<Vec<u8>, AllocError>
+    ensures { IfOk result (λ line. line.items ≡ monitorable_line vars.now) }
+{
+    let mut line = Vec::new(alloc);
+    line.extend_from_slice(b"monitorable (")?;
+    put_columns(&mut line, vars)?;
+    line.extend_from_slice(b")\n")?;
+    Ok(line)
+}
+
+// Writes the line for a policy of these free variables.
+#[tactic(auto, using(crate::proofs::SinkLemmas::whole_front))]
+fn write_line<O: Sink>(vars: &[Var], out: &mut O, alloc: Global) -> Result<(), Refusal>
+    ensures ok { IfOk result (λ _. Appends (O.written out.old) (O.written out.new)
+        (monitorable_line vars.now)) }
+    ensures fault { IfErr result (λ r.
+        IsOutputFault r (O.faults out.old) (O.faults out.new)) }
+    ensures front { AppendsFront (O.written out.old) (O.written out.new)
+        (monitorable_line vars.now) }
+{
+    let Ok(line) = monitorable_line(vars, alloc) else {
+        return Err(Refusal::Memory);
+    };
+    match write_whole(out, line.as_slice()) {
+        Ok(()) => Ok(()),
+        Err(_) => Err(Refusal::Write),
+    }
+}
+
+// Writes the line for a plan's policy. No time-point is violated by it.
+fn accept<O: Sink>(plan: &Plan, out: &mut O, alloc: Global) -> Result<bool, Refusal>
+    ensures ok { IfOk result (Finishes (check_answer (Ok (judged_of plan.now)))
+        (O.written out.old) (O.written out.new)) }
+    ensures fault { IfErr result (λ r.
+        IsOutputFault r (O.faults out.old) (O.faults out.new)) }
+    ensures front { AppendsFront (O.written out.old) (O.written out.new)
+        (check_answer (Ok (judged_of plan.now))).out }
+{
+    match write_line(plan.policy.vars.as_slice(), out, alloc) {
+        Ok(()) => Ok(false),
+        Err(refusal) => Err(refusal),
+    }
+}
+
+/// Tells the free variables of the policy, where it can be monitored. No line has a row.
+pub fn check_policy<I: Inputs, O: Sink>(
+    sources: &Sources<'_>,
+    inputs: &mut I,
+    out: &mut O,
+    alloc: Global,
+) -> Result<bool, Refusal>
+    ensures files { I.files inputs.new ≡ I.files inputs.old }
+    ensures comes { ToldFiles (I.files inputs.old) (λ files. ComesTo
+        (command_answer (Check (sources_in sources.now)) files)
+        (CommandFails (Check (sources_in sources.now)) files (O.written out.old) (O.written out.new))
+        (O.written out.old) (O.written out.new) result) }
+    ensures causes { IfErr result (λ r. HasCauses r (I.faults inputs.old) (I.faults inputs.new)
+        (O.faults out.old) (O.faults out.new)) }
+    ensures behind { IfErr result IsBehindWords }
+{
+    match load_plan(sources, inputs, alloc) {
+        Ok(plan) => accept(&plan, out, alloc),
+        Err(refusal) => Err(refusal),
+    }
+}

@@ -1,0 +1,87 @@
+//! The `clap` command: its subcommands and their options.
+ghost use Rattle.std.specs.Prelude.{◌≡◌, IfOk, false};
+ghost use Rattle.clap.specs.Words.{app_of, rule_of, with_rule};
+ghost use Rattle.clap.specs.Simple.{on_top};
+ghost use Rattle.clap.specs.declared.builder.Command.TheViews.{out-Command as fields_of};
+ghost use Rattle.monitor_main.specs.Words.{check_app, file_rule, monitor_app, run_app, sources_app};
+ghost use Rattle.monitor_main.specs.Words.{strict};
+
+use clap::{Arg, ArgAction, Command};
+use std::alloc::{AllocError, Global};
+
+// The required option `--NAME`, of one value.
+fn file_option(alloc: Global, name: &str) -> Arg<'_>
+    ensures rule { rule_of result ≡ file_rule name.entry.now }
+    ensures local { result.global ≡ false }
+{
+    Arg::new(alloc, name)
+        .long(name)
+        .action(ArgAction::Set)
+        .required(true)
+}
+
+// The command with one more file among its options.
+fn with_file<'a>(
+    alloc: Global,
+    command: Command<'a>,
+    name: &'a str,
+) -> Result<Command<'a>, AllocError>
+    requires { (fields_of command).has_globals ≡ false }
+    ensures app { IfOk result (λ r. app_of r
+        ≡ with_rule (app_of command.entry) (file_rule name.entry.now)) }
+    ensures local { IfOk result (λ r. (fields_of r).has_globals ≡ false) }
+{
+    command.arg(file_option(alloc, name))
+}
+
+// The subcommand of this name, with a signature and a policy.
+#[tactic(auto, unfolding(crate::specs::Words::sources_app))]
+fn sources_command<'a>(alloc: Global, name: &'a str) -> Result<Command<'a>, AllocError>
+    ensures app { IfOk result (λ r. app_of r ≡ sources_app name.entry.now) }
+    ensures local { IfOk result (λ r. (fields_of r).has_globals ≡ false) }
+{
+    let command = with_file(alloc, Command::new(alloc, name), "sig")?;
+    with_file(alloc, command, "policy")
+}
+
+// The subcommand `run`.
+#[tactic(auto, unfolding(crate::specs::Words::run_app))]
+fn run_command<'a>(alloc: Global) -> Result<Command<'a>, AllocError>
+    ensures app { IfOk result (λ r. app_of r ≡ run_app) }
+    ensures local { IfOk result (λ r. (fields_of r).has_globals ≡ false) }
+{
+    let command = sources_command(alloc, "run")?;
+    with_file(alloc, command, "log")
+}
+
+// The subcommand `check`.
+#[tactic(auto, unfolding(crate::specs::Words::check_app))]
+fn check_command<'a>(alloc: Global) -> Result<Command<'a>, AllocError>
+    ensures app { IfOk result (λ r. app_of r ≡ check_app) }
+    ensures local { IfOk result (λ r. (fields_of r).has_globals ≡ false) }
+{
+    sources_command(alloc, "check")
+}
+
+// The command, one of whose subcommands is required, with neither help nor a version.
+fn strict(command: Command<'_>) -> Command<'_>
+    ensures { app_of result ≡ on_top strict (app_of command.entry) }
+{
+    command
+        .disable_help_flag(true)
+        .disable_help_subcommand(true)
+        .disable_version_flag(true)
+        .subcommand_required(true)
+}
+
+/// The whole command.
+#[tactic(auto, unfolding(crate::specs::Words::monitor_app))]
+pub fn monitor_command<'a>(alloc: Global) -> Result<Command<'a>, AllocError>
+    ensures app { IfOk result (λ r. app_of r ≡ monitor_app) }
+{
+    let run = run_command(alloc)?;
+    let check = check_command(alloc)?;
+    let command = Command::new(alloc, "monitor").subcommand(run)?;
+    let command = command.subcommand(check)?;
+    Ok(strict(command))
+}
