@@ -21,7 +21,7 @@ use Rattle.mfotl_model.specs.declared.term.Term.TheVariants.{Var, Const}
 use Rattle.mfotl_model.specs.declared.value.Value.TheVariants.{Int}
 use Rattle.mfotl_model.specs.declared.value.Value.{Value}
 use Rattle.monitor_main.specs.Atom.{first_value, is_match, is_variable, read_off, reads}
-use Rattle.monitor_main.specs.AtomSteps.{is_first, stands_for}
+use Rattle.monitor_main.specs.AtomSteps.{give_back, is_first, stands_for}
 
 pub or_second : (a b : Bool) → a ≡ false → (a || b) ≡ true → b ≡ true
 or_second false b e h = h
@@ -109,15 +109,17 @@ compared terms values (t ∷ ts) (a ∷ vs) same has =
 
 -- the terms stand for the values: where there are as many of both, and never else
 pub gives_back : (terms : List Term) (values : List Value) → length terms ≡ length values
-    → list_all (λ p. stands_for terms values p.0 p.1) (zip terms values)
-    ≡ eq_by_cmp row_cmp (map (term_value (read_off terms values)) terms) values
-gives_back terms values same = compared terms values terms values same (λ y h. has_first terms values y same h)
+    → give_back terms values ≡ list_all (λ p. stands_for terms values p.0 p.1) (zip terms values)
+unfolding give_back
+gives_back terms values same =
+    sym (compared terms values terms values same (λ y h. has_first terms values y same h))
 
 pub gives_none_back : (terms : List Term) (values : List Value) → length terms ≢ length values
-    → eq_by_cmp row_cmp (map (term_value (read_off terms values)) terms) values ≡ false
-gives_none_back terms values apart = by (eq_by_cmp row_cmp (map (term_value (read_off terms values)) terms) values) refl
+    → give_back terms values ≡ false
+unfolding give_back
+gives_none_back terms values apart = by (give_back terms values) refl
   where
-    by : (b : Bool) → eq_by_cmp row_cmp (map (term_value (read_off terms values)) terms) values ≡ b → b ≡ false
+    by : (b : Bool) → give_back terms values ≡ b → b ≡ false
     by false e = refl
     by true e =
         absurd (apart (sym (length-map terms (term_value (read_off terms values)))
@@ -125,21 +127,18 @@ gives_none_back terms values apart = by (eq_by_cmp row_cmp (map (term_value (rea
 
 -- an event that an atom stands for, by its parts
 match_parts : (atom : OneAtom) (event : Event)
-    → is_match atom event
-    ≡ (nat_eq atom.pred event.pred && eq_by_cmp row_cmp (map (term_value (reads atom event)) atom.args) event.args)
-unfolding is_match
+    → is_match atom event ≡ (nat_eq atom.pred event.pred && give_back atom.args event.args)
+unfolding is_match give_back
 match_parts atom event =
     let args = map (term_value (reads atom event)) atom.args in
     eq_then (nat_cmp atom.pred event.pred) (row_cmp args event.args)
     ∙ ap (λ b. b && eq_by_cmp row_cmp args event.args) (unsigned_tied atom.pred event.pred)
 
 pub match_by_terms : (atom : OneAtom) (event : Event) → atom.pred ≡ event.pred
-    → eq_by_cmp row_cmp (map (term_value (reads atom event)) atom.args) event.args ≡ is_match atom event
+    → is_match atom event ≡ give_back atom.args event.args
 match_by_terms atom event same =
-    sym (match_parts atom event
-    ∙ ap (λ b. b && eq_by_cmp row_cmp (map (term_value (reads atom event)) atom.args) event.args) (eq-eqb atom.pred event.pred same))
+    match_parts atom event ∙ ap (λ b. b && give_back atom.args event.args) (eq-eqb atom.pred event.pred same)
 
 pub match_by_pred : (atom : OneAtom) (event : Event) → atom.pred ≢ event.pred → is_match atom event ≡ false
 match_by_pred atom event apart =
-    match_parts atom event
-    ∙ ap (λ b. b && eq_by_cmp row_cmp (map (term_value (reads atom event)) atom.args) event.args) (ne_eqb atom.pred event.pred apart)
+    match_parts atom event ∙ ap (λ b. b && give_back atom.args event.args) (ne_eqb atom.pred event.pred apart)

@@ -16,7 +16,7 @@ use Rattle.mfotl_model.specs.Violations.{viol}
 use Rattle.mfotl_model.specs.declared.event.TimePoint.{TimePoint}
 use Rattle.monitor_main.specs.Atom.{IsQueryFor, Query, matching_rows}
 use Rattle.monitor_main.specs.AtomText.{is_empty, line_at, lines_from, rows_at, some_rows}
-use Rattle.monitor_main.specs.TextLaw.{SomeRowsAreSome, TextIsLines}
+use Rattle.monitor_main.specs.TextLaw.{TextIsLines}
 use Rattle.monitor_main.proofs.AtomViolations.{rows_are_violations}
 
 taken_range : (p : ℕ → Bool) (k m : ℕ) → ((i : ℕ) → i < k + m → p i ≡ true)
@@ -102,6 +102,7 @@ text_is_lines f q is points closed =
     ap (flat_map line_of) (verdicts_are f q is points closed) ∙ lines_on f q is [] points
 
 -- some verdict has a row exactly where some time-point has
-pub rows_are_some : SomeRowsAreSome
+pub rows_are_some : (f : Form) (q : Query) → IsQueryFor f q → (points : List TimePoint) (closed : Bool)
+    → list_any (λ v. not (is_empty v.rows)) (verdicts (record { points = points; closed = closed }) f) ≡ some_rows q points
 rows_are_some f q is points closed =
     ap (list_any (λ (v : VerdictOf). not (is_empty v.rows))) (verdicts_are f q is points closed) ∙ rows_on f q is [] points

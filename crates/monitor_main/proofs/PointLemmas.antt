@@ -117,6 +117,7 @@ module _ (q : Query) where
     pub written : Appends old new (lines_from q 0 (take number (reading_in start).points))
     pub some : violated ≡ some_rows q (take number (reading_in start).points)
     pub later : before ≤ now
+    pub few : number ≤ start.limits.points
 
   module _ (start : Progress) (number : ℕ) (old mid : Option (List ℕ)) (violated : Bool)
       (written : Appends old mid (lines_from q 0 (take number (reading_in start).points)))
@@ -181,6 +182,7 @@ module _ (q : Query) where
     written = appends_none old;
     some = refl;
     later = omega arith;
+    few = omega arith;
   }
 
   module _ (start reader : Progress) (number : ℕ) (old mid : Option (List ℕ)) (violated : Bool) (before now : ℕ)
@@ -196,15 +198,20 @@ module _ (q : Query) where
     part point e = front_of_one_more start number old mid violated so_far.written so_far.some point (due_is (Ok (Point point)) e)
 
     pub goes_on : (point : TimePoint) → due reader ≡ Ok (Point point) → (next : Progress)
-        → next ≡ record reader { given = reader.given + 1 } → (new : Option (List ℕ)) (has_row : Bool)
+        → next ≡ record reader { given = reader.given + 1 } → next.given ≤ next.limits.points
+        → (new : Option (List ℕ)) (has_row : Bool)
         → WritesPoint q number point mid new has_row → (later_now : ℕ) → now ≤ later_now
         → SoFar start next (number + 1) old new (violated || has_row) before later_now
-    goes_on point e next next_is new has_row w later_now not_before = record {
-      reader_is = next_is ∙ ap (λ (r : Progress). record r { given = r.given + 1 }) so_far.reader_is;
-      written = one_more start number old mid violated so_far.written so_far.some point (due_is (Ok (Point point)) e) new has_row w;
-      some = one_more_row start number old mid violated so_far.written so_far.some point (due_is (Ok (Point point)) e) new has_row w;
-      later = omega (arith, so_far.later, not_before);
-    }
+    goes_on point e next next_is next_few new has_row w later_now not_before =
+        let next_at : next ≡ record start { given = number + 1 } =
+        next_is ∙ ap (λ (r : Progress). record r { given = r.given + 1 }) so_far.reader_is in
+        record {
+          reader_is = next_at;
+          written = one_more start number old mid violated so_far.written so_far.some point (due_is (Ok (Point point)) e) new has_row w;
+          some = one_more_row start number old mid violated so_far.written so_far.some point (due_is (Ok (Point point)) e) new has_row w;
+          later = omega (arith, so_far.later, not_before);
+          few = subst (λ (r : Progress). r.given ≤ r.limits.points) next_at next_few;
+        }
 
     pub ends_more : due reader ≡ Ok More → EndsClear q (reading_in start) old mid violated
     ends_more e = ends_clear start number old mid violated so_far.written so_far.some

@@ -1,15 +1,14 @@
 -- What a query's rows have to do with a policy.
-use Rattle.std.specs.Prelude.{◌≡◌, ℕ, List, Bool, not}
-use Rattle.std.specs.List.{list_any}
+use Rattle.std.specs.Prelude.{◌≡◌, ℕ, List, Bool}
 use Rattle.mfotl_model.specs.ActiveDomain.{ascending}
 use Rattle.mfotl_model.specs.Formulas.{Form}
 use Rattle.mfotl_model.specs.Satisfaction.{database_at}
 use Rattle.mfotl_model.specs.Values.{row_cmp}
-use Rattle.mfotl_model.specs.VerdictText.{text, verdicts}
+use Rattle.mfotl_model.specs.VerdictText.{text}
 use Rattle.mfotl_model.specs.Violations.{viol}
 use Rattle.mfotl_model.specs.declared.event.TimePoint.{TimePoint}
 use Rattle.monitor_main.specs.Atom.{IsQueryFor, Query, matching_rows}
-use Rattle.monitor_main.specs.AtomText.{is_empty, lines_from, some_rows}
+use Rattle.monitor_main.specs.AtomText.{lines_from}
 
 -- the violations of a policy are the rows of its query
 abbrev pub RowsAreViolations : Type 0
@@ -22,10 +21,3 @@ abbrev pub TextIsLines : Type 0
 TextIsLines =
     (f : Form) (q : Query) → IsQueryFor f q → (points : List TimePoint) (closed : Bool)
     → text (record { points = points; closed = closed }) f ≡ lines_from q 0 points
-
--- some verdict has a row exactly where some time-point has
-abbrev pub SomeRowsAreSome : Type 0
-SomeRowsAreSome =
-    (f : Form) (q : Query) → IsQueryFor f q → (points : List TimePoint) (closed : Bool)
-    → list_any (λ v. not (is_empty v.rows)) (verdicts (record { points = points; closed = closed }) f)
-    ≡ some_rows q points

@@ -1,13 +1,11 @@
 //! The rows that an atom's events give.
-ghost use Rattle.std.specs.Prelude.{◌≡◌, IfOk, map, option_map, position};
+ghost use Rattle.std.specs.Prelude.{◌≡◌, IfOk, option_map, position};
 ghost use Rattle.std.specs.List.{list_all, zip};
-ghost use Rattle.std.specs.Ordering.{eq_by_cmp};
 ghost use Rattle.mfotl_model.specs.ActiveDomain.{ascending};
-ghost use Rattle.mfotl_model.specs.Satisfaction.{term_value};
 ghost use Rattle.mfotl_model.specs.Values.{row_cmp};
 ghost use Rattle.monitor_main.specs.Atom.{first_value, is_match, is_variable, matching_rows, query_of};
 ghost use Rattle.monitor_main.specs.Atom.{read_off, row_read};
-ghost use Rattle.monitor_main.specs.AtomSteps.{stands_for};
+ghost use Rattle.monitor_main.specs.AtomSteps.{give_back, stands_for};
 
 use mfotl_model::{Atom, Db, Event, Row, RowList, Term, Value};
 use std::alloc::{AllocError, Global};
@@ -71,15 +69,14 @@ fn all_stand(terms: &[Term], values: &[Value]) -> bool
 }
 
 // Whether the terms stand for the values: constants for themselves, and each variable for one value.
-#[tactic(auto, using(crate::proofs::AtomLemmas::gives_none_back))]
+#[tactic(auto, using(crate::proofs::AtomLemmas::gives_back, crate::proofs::AtomLemmas::gives_none_back))]
 fn give_back(terms: &[Term], values: &[Value]) -> bool
-    ensures { result ≡ eq_by_cmp row_cmp
-        (map (term_value (read_off terms.now values.now)) terms.now) values.now }
+    ensures { result ≡ give_back terms.now values.now }
 {
     terms.len() == values.len() && all_stand(terms, values)
 }
 
-#[tactic(auto, using(crate::proofs::AtomLemmas::match_by_pred))]
+#[tactic(auto, using(crate::proofs::AtomLemmas::match_by_terms, crate::proofs::AtomLemmas::match_by_pred))]
 fn is_match(atom: &Atom, event: &Event) -> bool
     ensures { result ≡ is_match atom.now event.now }
 {

@@ -14,7 +14,6 @@ mod real;
 mod refusal;
 mod running;
 mod status;
-mod verdicts;
 mod words;
 
 pub use real::{RealInputs, RealSink};

@@ -1,5 +1,5 @@
 //! The log: read whole, and monitored time-point by time-point.
-ghost use Rattle.std.specs.Prelude.{◌≡◌, ◌≤◌, ℕ, not, IfOk, IfErr, true, false};
+ghost use Rattle.std.specs.Prelude.{◌≡◌, ◌-◌, ◌^◌, ◌<◌, ◌≤◌, ℕ, not, IfOk, IfErr, true, false};
 ghost use Rattle.mon_outside.specs.Causes.{Rose};
 ghost use Rattle.mon_outside.specs.Files.{ToldFiles, content};
 ghost use Rattle.mon_outside.specs.Sink.{AppendsFront};
@@ -12,9 +12,8 @@ ghost use Rattle.monitor_main.specs.LogRuns.{StopsLines, WritesPoint, lines_of, 
 
 use crate::atom::{AtomQuery, atom_rows};
 use crate::refusal::{InputFile, Refusal};
-use crate::verdicts::line;
 use log_reader::{Limits, LogFault, LogReader, Next};
-use mfotl_model::{Row, TimePoint};
+use mfotl_model::{Row, TimePoint, verdict_line};
 use mfotl_sig::Signature;
 use mon_outside::{Inputs, LoadFault, Sink, read_to_end, write_whole};
 use std::alloc::{AllocError, Global};
@@ -82,7 +81,7 @@ fn point_line(
 {
     let rows = atom_rows(&point.db, query, alloc)?;
     Ok(PointLine {
-        bytes: line(number, point.ts, &rows, alloc)?,
+        bytes: verdict_line(number, point.ts, rows.rows(), alloc)?,
         has_row: !has_none(rows.rows()),
     })
 }
@@ -141,6 +140,7 @@ fn write_points<O: Sink>(
 ) -> Result<bool, Refusal>
     requires works { reader.old.is_broken ≡ false }
     requires first { reader.old.given ≡ 0 }
+    requires few { reader.old.limits.points < 2 ^ 64 - 1 }
     ensures ok { IfOk result (λ violated. EndsClear (query_of query.now) (reading_in reader.old)
         (O.written out.old) (O.written out.new) violated) }
     ensures stops { IfErr result (λ r. StopsLines (query_of query.now) (reading_in reader.old)
@@ -161,7 +161,8 @@ fn write_points<O: Sink>(
             Err(fault) => return Err(log_refusal(fault)),
         }
     }
-    Err(Refusal::Memory)
+    // No log has so many time-points.
+    unreachable!()
 }
 
 /// Monitors a log of which these bytes were given.

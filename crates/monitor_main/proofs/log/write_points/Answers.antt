@@ -33,8 +33,5 @@ returns-in-Err-clause-front g c = front _ _ _ _ _ _ _ _ _ c.loop-number.invarian
 
 pub loop-number-preserved : goal.loop-number-preserved
 loop-number-preserved g c =
-    goes_on _ _ _ _ _ _ _ _ _ c.loop-number.invariant c.in-Ok-Point.point (search rules) c.next.new.self (search rules)
+    goes_on _ _ _ _ _ _ _ _ _ c.loop-number.invariant c.in-Ok-Point.point (search rules) c.next.new.self (search rules) (search rules)
     (g.O.Sink.written c.write_point.new.out) c.in-Ok.has_row (search rules) (g.O.Sink.faults c.write_point.new.out) c.write_point.ensures.later
-
-pub returns-clause-front : goal.returns-clause-front
-returns-clause-front g c = front _ _ _ _ _ _ _ _ _ c.loop-number.invariant

@@ -1,7 +1,0 @@
-use Rattle.std.proofs.Common.{◌≡◌, ◌++◌, drop}
-use Rattle.mfotl_model.specs.VerdictText.{more_values}
-use Rattle.monitor_main.proofs.verdicts.put_more_values.Given as goal
-
-abbrev pub invariant-loop-value : goal.invariant-loop-value
-invariant-loop-value l =
-    l.line.items ++ more_values (drop l.value-index l.values) ≡ l.fn.line.items ++ more_values l.values

@@ -1,8 +1,0 @@
-use Rattle.std.proofs.Common.{◌≡◌, ◌++◌, drop}
-use Rattle.std.specs.List.{flat_map}
-use Rattle.mfotl_model.specs.VerdictText.{written_row}
-use Rattle.monitor_main.proofs.verdicts.put_rows.Given as goal
-
-abbrev pub invariant-loop-row : goal.invariant-loop-row
-invariant-loop-row l =
-    l.line.items ++ flat_map written_row (drop l.row-index l.rows) ≡ l.fn.line.items ++ flat_map written_row l.rows
