@@ -12,22 +12,22 @@ use mfotl_model::{Formula, TimePoint, is_settled, violations};
 use std::alloc::{AllocError, Global};
 
 /// The lines that answer a case.
-pub fn answer(case: &Case, alloc: Global) -> Result<Vec<u8>, AllocError>
+pub fn answer(alloc: Global, case: &Case) -> Result<Vec<u8>, AllocError>
     ensures { IfOk result (λ text. text.items
         ≡ answer_text case.now.number case.now.log.items (form case.now.formula)) }
 {
     let log = case.log.as_slice();
-    let times = times_of(log, alloc)?;
+    let times = times_of(alloc, log)?;
     let mut text = head(
+        alloc,
         case.number,
         settled_count(&case.formula, times.as_slice()),
-        alloc,
     )?;
-    put_violations(&mut text, &case.formula, log, alloc)?;
+    put_violations(alloc, &mut text, &case.formula, log)?;
     Ok(text)
 }
 
-fn times_of(log: &[TimePoint], alloc: Global) -> Result<Vec<u64>, AllocError>
+fn times_of(alloc: Global, log: &[TimePoint]) -> Result<Vec<u64>, AllocError>
     ensures { IfOk result (λ stamps. stamps.items ≡ times log.now) }
 {
     let mut stamps = Vec::new(alloc);
@@ -51,31 +51,31 @@ fn settled_count(formula: &Formula, times: &[u64]) -> usize
 }
 
 fn put_violations(
+    alloc: Global,
     text: &mut Vec<u8>,
     formula: &Formula,
     log: &[TimePoint],
-    alloc: Global,
 ) -> Result<(), AllocError>
     ensures { OnOk result (text.new.items ≡ text.old.items
         ++ violation_lines log.now (form formula.now) (range_with_len 0 (length log.now))) }
 {
     for at in 0..log.len() {
-        put_violations_at(text, formula, log, at, alloc)?;
+        put_violations_at(alloc, text, formula, log, at)?;
     }
     Ok(())
 }
 
 fn put_violations_at(
+    alloc: Global,
     text: &mut Vec<u8>,
     formula: &Formula,
     log: &[TimePoint],
     at: usize,
-    alloc: Global,
 ) -> Result<(), AllocError>
     requires { at < length log.now }
     ensures { OnOk result (text.new.items
         ≡ text.old.items ++ rows_line at (viol log.now (form formula.now) at)) }
 {
-    let rows = violations(formula, log, at, alloc)?;
-    put_line(text, at, rows.as_slice(), alloc)
+    let rows = violations(alloc, formula, log, at)?;
+    put_line(alloc, text, at, rows.as_slice())
 }

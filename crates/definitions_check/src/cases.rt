@@ -38,15 +38,15 @@ impl CaseReader {
     }
 
     /// Takes the next line, without its line feed, and gives the case that ends with it, if one does.
-    pub fn line(&mut self, line: &[u8], alloc: Global) -> Result<Option<Case>, CaseFault> {
-        let words = split_words(line, alloc)?;
+    pub fn line(&mut self, alloc: Global, line: &[u8]) -> Result<Option<Case>, CaseFault> {
+        let words = split_words(alloc, line)?;
         let mut words = Words::new(words.as_slice());
         let head = words.next()?;
         if head == b"end".as_slice() {
             words.end()?;
             return Ok(Some(self.ended()?));
         }
-        self.take(head, &mut words, alloc)?;
+        self.take(alloc, head, &mut words)?;
         words.end()?;
         Ok(None)
     }
@@ -60,11 +60,11 @@ impl CaseReader {
     }
 
     // Takes a line, of this first word, that ends no case.
-    fn take(&mut self, head: &[u8], words: &mut Words<'_>, alloc: Global) -> Result<(), CaseFault> {
+    fn take(&mut self, alloc: Global, head: &[u8], words: &mut Words<'_>) -> Result<(), CaseFault> {
         match &mut self.draft {
-            Some(draft) => draft.take(head, words, alloc),
+            Some(draft) => draft.take(alloc, head, words),
             None => {
-                self.draft = Some(begun(head, words, alloc)?);
+                self.draft = Some(begun(alloc, head, words)?);
                 Ok(())
             }
         }
@@ -79,10 +79,10 @@ impl CaseReader {
 }
 
 // The case that begins with a line of this first word.
-fn begun(head: &[u8], words: &mut Words<'_>, alloc: Global) -> Result<Draft, CaseFault> {
+fn begun(alloc: Global, head: &[u8], words: &mut Words<'_>) -> Result<Draft, CaseFault> {
     match head {
         b"case" => Ok(Draft {
-            number: natural(words.next()?, alloc)?,
+            number: natural(alloc, words.next()?)?,
             log: Vec::new(alloc),
             formula: None,
         }),
@@ -108,18 +108,18 @@ impl Draft {
         }
     }
 
-    fn take(&mut self, head: &[u8], words: &mut Words<'_>, alloc: Global) -> Result<(), CaseFault> {
+    fn take(&mut self, alloc: Global, head: &[u8], words: &mut Words<'_>) -> Result<(), CaseFault> {
         match head {
-            b"point" => self.add_point(words, alloc),
-            b"event" => self.add_event(words, alloc),
-            b"formula" => self.set_formula(words, alloc),
+            b"point" => self.add_point(alloc, words),
+            b"event" => self.add_event(alloc, words),
+            b"formula" => self.set_formula(alloc, words),
             b"case" => Err(CaseFault::Misplaced),
             _ => Err(CaseFault::UnknownWord),
         }
     }
 
-    fn add_point(&mut self, words: &mut Words<'_>, alloc: Global) -> Result<(), CaseFault> {
-        let ts = natural(words.next()?, alloc)?;
+    fn add_point(&mut self, alloc: Global, words: &mut Words<'_>) -> Result<(), CaseFault> {
+        let ts = natural(alloc, words.next()?)?;
         if self.formula.is_some() {
             return Err(CaseFault::Misplaced);
         }
@@ -133,8 +133,8 @@ impl Draft {
         Ok(())
     }
 
-    fn add_event(&mut self, words: &mut Words<'_>, alloc: Global) -> Result<(), CaseFault> {
-        let event = event(words, alloc)?;
+    fn add_event(&mut self, alloc: Global, words: &mut Words<'_>) -> Result<(), CaseFault> {
+        let event = event(alloc, words)?;
         if self.formula.is_some() {
             return Err(CaseFault::Misplaced);
         }
@@ -144,8 +144,8 @@ impl Draft {
         }
     }
 
-    fn set_formula(&mut self, words: &mut Words<'_>, alloc: Global) -> Result<(), CaseFault> {
-        let formula = formula(words, alloc)?;
+    fn set_formula(&mut self, alloc: Global, words: &mut Words<'_>) -> Result<(), CaseFault> {
+        let formula = formula(alloc, words)?;
         if self.formula.is_some() {
             return Err(CaseFault::Misplaced);
         }
@@ -155,22 +155,22 @@ impl Draft {
 }
 
 // An event: a predicate's number, and as many values as there are words.
-fn event(words: &mut Words<'_>, alloc: Global) -> Result<Event, CaseFault>
+fn event(alloc: Global, words: &mut Words<'_>) -> Result<Event, CaseFault>
     ensures { IfOk result (λ event. words.old ≡ decimal event.pred ∷ map spelled_value event.args) }
 {
     Ok(Event {
-        pred: small_natural(words.next()?, alloc)?,
-        args: Row::new(values(words, alloc)?),
+        pred: small_natural(alloc, words.next()?)?,
+        args: Row::new(values(alloc, words)?),
     })
 }
 
 // All words that are left, as values.
-fn values(words: &mut Words<'_>, alloc: Global) -> Result<Vec<Value>, CaseFault>
+fn values(alloc: Global, words: &mut Words<'_>) -> Result<Vec<Value>, CaseFault>
     ensures { IfOk result (λ values. words.old ≡ map spelled_value values.items) }
 {
     let mut values = Vec::new(alloc);
     'words: while let Some(word) = words.take() {
-        values.push(value(word, alloc)?)?;
+        values.push(value(alloc, word)?)?;
     }
     Ok(values)
 }

@@ -17,48 +17,48 @@ use std::alloc::Global;
 const DEEPEST: u32 = 256;
 
 /// The formula that the words begin with.
-pub fn formula(words: &mut Words<'_>, alloc: Global) -> Result<Formula, CaseFault>
+pub fn formula(alloc: Global, words: &mut Words<'_>) -> Result<Formula, CaseFault>
     ensures { IfOk result (λ f. words.old ≡ spelled (form f) words.new) }
 {
-    nested(words, DEEPEST, alloc)
+    nested(alloc, words, DEEPEST)
 }
 
 #[cycle(formulas)]
 #[tactic(auto, unfolding(crate::specs::Spelling::spelled))]
-fn nested(words: &mut Words<'_>, depth: u32, alloc: Global) -> Result<Formula, CaseFault>
+fn nested(alloc: Global, words: &mut Words<'_>, depth: u32) -> Result<Formula, CaseFault>
     ensures { IfOk result (λ f. words.old ≡ spelled (form f) words.new) }
 {
     match operator_of(words.next()?)? {
         Operator::True => Ok(Formula::True),
         Operator::False => Ok(Formula::False),
-        Operator::Atom => Ok(Formula::Atom(atom(words, alloc)?)),
-        Operator::Compare => Ok(Formula::Compare(comparison(words, alloc)?)),
-        Operator::Not => Ok(Formula::Not(operand(words, depth, alloc)?)),
+        Operator::Atom => Ok(Formula::Atom(atom(alloc, words)?)),
+        Operator::Compare => Ok(Formula::Compare(comparison(alloc, words)?)),
+        Operator::Not => Ok(Formula::Not(operand(alloc, words, depth)?)),
         Operator::And => {
-            let (f, g) = operands(words, depth, alloc)?;
+            let (f, g) = operands(alloc, words, depth)?;
             Ok(Formula::And(f, g))
         }
         Operator::Or => {
-            let (f, g) = operands(words, depth, alloc)?;
+            let (f, g) = operands(alloc, words, depth)?;
             Ok(Formula::Or(f, g))
         }
         Operator::Implies => {
-            let (f, g) = operands(words, depth, alloc)?;
+            let (f, g) = operands(alloc, words, depth)?;
             Ok(Formula::Implies(f, g))
         }
         Operator::Equiv => {
-            let (f, g) = operands(words, depth, alloc)?;
+            let (f, g) = operands(alloc, words, depth)?;
             Ok(Formula::Equiv(f, g))
         }
         Operator::Exists => {
-            let x = bound(words, alloc)?;
-            Ok(Formula::Exists(x, operand(words, depth, alloc)?))
+            let x = bound(alloc, words)?;
+            Ok(Formula::Exists(x, operand(alloc, words, depth)?))
         }
         Operator::Forall => {
-            let x = bound(words, alloc)?;
-            Ok(Formula::Forall(x, operand(words, depth, alloc)?))
+            let x = bound(alloc, words)?;
+            Ok(Formula::Forall(x, operand(alloc, words, depth)?))
         }
-        operator => in_time(operator, words, depth, alloc),
+        operator => in_time(alloc, operator, words, depth),
     }
 }
 
@@ -66,15 +66,15 @@ fn nested(words: &mut Words<'_>, depth: u32, alloc: Global) -> Result<Formula, C
 #[cycle(formulas)]
 #[tactic(auto, unfolding(crate::specs::Spelling::spelled))]
 fn in_time(
+    alloc: Global,
     operator: Operator,
     words: &mut Words<'_>,
     depth: u32,
-    alloc: Global,
 ) -> Result<Formula, CaseFault>
     ensures { IfOk result (λ f. word_of operator ∷ words.old ≡ spelled (form f) words.new) }
 {
-    let interval = interval(words, alloc)?;
-    let f = operand(words, depth, alloc)?;
+    let interval = interval(alloc, words)?;
+    let f = operand(alloc, words, depth)?;
     match operator {
         Operator::Previous => Ok(Formula::Previous(interval, f)),
         Operator::Next => Ok(Formula::Next(interval, f)),
@@ -82,84 +82,84 @@ fn in_time(
         Operator::Historically => Ok(Formula::Historically(interval, f)),
         Operator::Eventually => Ok(Formula::Eventually(interval, f)),
         Operator::Always => Ok(Formula::Always(interval, f)),
-        Operator::Since => Ok(Formula::Since(interval, f, operand(words, depth, alloc)?)),
-        Operator::Until => Ok(Formula::Until(interval, f, operand(words, depth, alloc)?)),
+        Operator::Since => Ok(Formula::Since(interval, f, operand(alloc, words, depth)?)),
+        Operator::Until => Ok(Formula::Until(interval, f, operand(alloc, words, depth)?)),
         _ => Err(CaseFault::UnknownWord),
     }
 }
 
 #[cycle(formulas)]
-fn operand(words: &mut Words<'_>, depth: u32, alloc: Global) -> Result<Box<Formula>, CaseFault>
+fn operand(alloc: Global, words: &mut Words<'_>, depth: u32) -> Result<Box<Formula>, CaseFault>
     ensures { IfOk result (λ f. words.old ≡ spelled (form f.value) words.new) }
 {
     match depth.checked_sub(1) {
-        Some(less) => Ok(Box::new(alloc, nested(words, less, alloc)?)?),
+        Some(less) => Ok(Box::new(alloc, nested(alloc, words, less)?)?),
         None => Err(CaseFault::TooDeep),
     }
 }
 
 #[cycle(formulas)]
 fn operands(
+    alloc: Global,
     words: &mut Words<'_>,
     depth: u32,
-    alloc: Global,
 ) -> Result<(Box<Formula>, Box<Formula>), CaseFault>
     ensures { IfOk result (λ both. words.old
         ≡ spelled (form both.0.value) (spelled (form both.1.value) words.new)) }
 {
-    let left = operand(words, depth, alloc)?;
-    let right = operand(words, depth, alloc)?;
+    let left = operand(alloc, words, depth)?;
+    let right = operand(alloc, words, depth)?;
     Ok((left, right))
 }
 
-fn atom(words: &mut Words<'_>, alloc: Global) -> Result<Atom, CaseFault>
+fn atom(alloc: Global, words: &mut Words<'_>) -> Result<Atom, CaseFault>
     ensures { IfOk result (λ atom. words.old ≡ spelled_atom atom words.new) }
 {
-    let pred = small_natural(words.next()?, alloc)?;
-    let count = natural(words.next()?, alloc)?;
+    let pred = small_natural(alloc, words.next()?)?;
+    let count = natural(alloc, words.next()?)?;
     Ok(Atom {
         pred,
-        args: Terms::new(terms(words, count, alloc)?),
+        args: Terms::new(terms(alloc, words, count)?),
     })
 }
 
 // So many terms.
-fn terms(words: &mut Words<'_>, count: u64, alloc: Global) -> Result<Vec<Term>, CaseFault>
+fn terms(alloc: Global, words: &mut Words<'_>, count: u64) -> Result<Vec<Term>, CaseFault>
     ensures words { IfOk result (λ terms. words.old ≡ map spelled_term terms.items ++ words.new) }
     ensures count { IfOk result (λ terms. length terms.items ≡ count) }
 {
     let mut terms = Vec::new(alloc);
     for _turn in 0..count {
-        terms.push(term(words.next()?, alloc)?)?;
+        terms.push(term(alloc, words.next()?)?)?;
     }
     Ok(terms)
 }
 
-fn comparison(words: &mut Words<'_>, alloc: Global) -> Result<Comparison, CaseFault>
+fn comparison(alloc: Global, words: &mut Words<'_>) -> Result<Comparison, CaseFault>
     ensures { IfOk result (λ comparison. words.old ≡ spelled_comparison comparison words.new) }
 {
     let sign = sign_of(words.next()?)?;
-    let left = term(words.next()?, alloc)?;
-    let right = term(words.next()?, alloc)?;
+    let left = term(alloc, words.next()?)?;
+    let right = term(alloc, words.next()?)?;
     Ok(Comparison { sign, left, right })
 }
 
 // The variable of a quantifier, which has no name but its number.
-fn bound(words: &mut Words<'_>, alloc: Global) -> Result<Bound, CaseFault>
+fn bound(alloc: Global, words: &mut Words<'_>) -> Result<Bound, CaseFault>
     ensures { IfOk result (λ bound. words.old ≡ decimal bound.number ∷ words.new) }
 {
     let word = words.next()?;
     Ok(Bound {
-        number: small_natural(word, alloc)?,
-        name: Name::from_slice(word, alloc)?,
+        number: small_natural(alloc, word)?,
+        name: Name::from_slice(alloc, word)?,
     })
 }
 
-fn interval(words: &mut Words<'_>, alloc: Global) -> Result<Interval, CaseFault>
+fn interval(alloc: Global, words: &mut Words<'_>) -> Result<Interval, CaseFault>
     ensures { IfOk result (λ interval. words.old ≡ spelled_interval interval words.new) }
 {
-    let lo = natural(words.next()?, alloc)?;
-    let hi = upper_end(words.next()?, alloc)?;
+    let lo = natural(alloc, words.next()?)?;
+    let hi = upper_end(alloc, words.next()?)?;
     match Interval::new(lo, hi) {
         Some(interval) => Ok(interval),
         None => Err(CaseFault::EmptyInterval),
@@ -167,11 +167,11 @@ fn interval(words: &mut Words<'_>, alloc: Global) -> Result<Interval, CaseFault>
 }
 
 // A number, or `*` for no end.
-fn upper_end(word: &[u8], alloc: Global) -> Result<Option<u64>, CaseFault>
+fn upper_end(alloc: Global, word: &[u8]) -> Result<Option<u64>, CaseFault>
     ensures { IfOk result (λ hi. upper_word hi ≡ word.now) }
 {
     if word == b"*".as_slice() {
         return Ok(None);
     }
-    Ok(Some(natural(word, alloc)?))
+    Ok(Some(natural(alloc, word)?))
 }

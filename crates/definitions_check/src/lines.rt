@@ -7,7 +7,7 @@ use mfotl_model::{Row, push_rows};
 use std::alloc::{AllocError, Global};
 
 /// The lines above those of the violations.
-pub fn head(number: u64, settled: usize, alloc: Global) -> Result<Vec<u8>, AllocError>
+pub fn head(alloc: Global, number: u64, settled: usize) -> Result<Vec<u8>, AllocError>
     ensures { IfOk result (λ text. text.items
         ≡ codes "case " ++ decimal number ++ codes "\nsettled " ++ decimal settled ++ codes "\n") }
 {
@@ -22,20 +22,20 @@ pub fn head(number: u64, settled: usize, alloc: Global) -> Result<Vec<u8>, Alloc
 
 /// Puts the line of a position with its rows behind a text.
 pub fn put_line(
+    alloc: Global,
     text: &mut Vec<u8>,
     at: usize,
     rows: &[Row],
-    alloc: Global,
 ) -> Result<(), AllocError>
     ensures { OnOk result (text.new.items ≡ text.old.items ++ rows_line at rows.now) }
 {
-    put_position(text, at, alloc)?;
-    push_rows(text, rows, alloc)?;
+    put_position(alloc, text, at)?;
+    push_rows(alloc, text, rows)?;
     text.extend_from_slice(b"\n")?;
     Ok(())
 }
 
-fn put_position(text: &mut Vec<u8>, at: usize, alloc: Global) -> Result<(), AllocError>
+fn put_position(alloc: Global, text: &mut Vec<u8>, at: usize) -> Result<(), AllocError>
     ensures { OnOk result (text.new.items
         ≡ text.old.items ++ (codes "violations " ++ decimal at ++ codes ":")) }
 {

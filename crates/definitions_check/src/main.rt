@@ -37,7 +37,7 @@ fn run(rt: &HostRuntime) -> Result<(), Stop> {
     let Ok(mut out) = BufWriter::new(alloc, io::writer(rt)) else {
         return Err(Stop::Write);
     };
-    let answered = answer_lines(input.as_slice(), &mut out, alloc);
+    let answered = answer_lines(alloc, input.as_slice(), &mut out);
     if out.flush().is_err() {
         return Err(Stop::Write);
     }
@@ -45,18 +45,18 @@ fn run(rt: &HostRuntime) -> Result<(), Stop> {
 }
 
 // Answers the cases up to the first malformed one.
-fn answer_lines<W: Write>(input: &[u8], out: &mut W, alloc: Global) -> Result<(), Stop> {
+fn answer_lines<W: Write>(alloc: Global, input: &[u8], out: &mut W) -> Result<(), Stop> {
     let mut reader = CaseReader::new();
     let mut number = 0u64;
     for line in input.split_inclusive(|byte| *byte == b'\n') {
         number = number.saturating_add(1);
         let line = line.strip_suffix(b"\n").unwrap_or(line);
-        let case = match reader.line(line, alloc) {
+        let case = match reader.line(alloc, line) {
             Ok(case) => case,
             Err(fault) => return Err(Stop::Line(number, fault)),
         };
         if let Some(case) = case {
-            let text = match answer(&case, alloc) {
+            let text = match answer(alloc, &case) {
                 Ok(text) => text,
                 Err(error) => return Err(Stop::Line(number, error.into())),
             };

@@ -38,7 +38,7 @@ const MALFORMED: [(&str, u64, CaseFault); 12] = [
 fn a_malformed_case_is_told_by_its_line(rt: HostRuntime) -> Result<(), Fail> {
     for (cases, line, fault) in MALFORMED {
         let mut out = Vec::new(rt.alloc());
-        let told = answer_lines(cases.as_bytes(), &mut out, rt.alloc());
+        let told = answer_lines(rt.alloc(), cases.as_bytes(), &mut out);
         assert_eq!(rt; told, Err(Stop::Line(line, fault)), "in {cases:?}");
     }
     Ok(())

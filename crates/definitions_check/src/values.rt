@@ -9,14 +9,14 @@ use mfotl_model::{Term, Text, Value};
 use std::alloc::Global;
 
 /// The value of a word: `i` before an integer, or `t` before a text of letters.
-pub fn value(word: &[u8], alloc: Global) -> Result<Value, CaseFault>
+pub fn value(alloc: Global, word: &[u8]) -> Result<Value, CaseFault>
     ensures { IfOk result (λ value. spelled_value value ≡ word.now) }
 {
     match word.split_first() {
-        Some((b'i', digits)) => Ok(Value::Int(integer(digits, alloc)?)),
+        Some((b'i', digits)) => Ok(Value::Int(integer(alloc, digits)?)),
         Some((b't', letters)) => {
             if letters.iter().all(|byte| byte.is_ascii_alphabetic()) {
-                Ok(Value::Text(Text::from_slice(letters, alloc)?))
+                Ok(Value::Text(Text::from_slice(alloc, letters)?))
             } else {
                 Err(CaseFault::Value)
             }
@@ -26,17 +26,17 @@ pub fn value(word: &[u8], alloc: Global) -> Result<Value, CaseFault>
 }
 
 /// The term of a word: `v` before a variable's number, or a value.
-pub fn term(word: &[u8], alloc: Global) -> Result<Term, CaseFault>
+pub fn term(alloc: Global, word: &[u8]) -> Result<Term, CaseFault>
     ensures { IfOk result (λ term. spelled_term term ≡ word.now) }
 {
     match word.split_first() {
-        Some((b'v', digits)) => Ok(Term::Var(small_natural(digits, alloc)?)),
-        _ => Ok(Term::Const(value(word, alloc)?)),
+        Some((b'v', digits)) => Ok(Term::Var(small_natural(alloc, digits)?)),
+        _ => Ok(Term::Const(value(alloc, word)?)),
     }
 }
 
 // The integer that a word writes in decimal digits, behind `-` where it is below 0.
-fn integer(word: &[u8], alloc: Global) -> Result<i64, CaseFault>
+fn integer(alloc: Global, word: &[u8]) -> Result<i64, CaseFault>
     ensures { IfOk result (λ number. signed_decimal number ≡ word.now) }
 {
     let Ok(text) = str::from_utf8(word) else {

@@ -14,7 +14,7 @@ pub struct Words<'a> {
 }
 
 /// The words of a line, each parted from the next by one space.
-pub fn split_words<'a>(line: &'a [u8], alloc: Global) -> Result<Vec<&'a [u8]>, AllocError> {
+pub fn split_words<'a>(alloc: Global, line: &'a [u8]) -> Result<Vec<&'a [u8]>, AllocError> {
     line.split(|byte| *byte == b' ').collect(alloc)
 }
 
@@ -70,7 +70,7 @@ impl<'a> Words<'a> {
 }
 
 /// The number that a word writes in decimal digits, with no zero in front.
-pub fn natural(word: &[u8], alloc: Global) -> Result<u64, CaseFault>
+pub fn natural(alloc: Global, word: &[u8]) -> Result<u64, CaseFault>
     ensures { IfOk result (λ number. decimal number ≡ word.now) }
 {
     let Ok(text) = str::from_utf8(word) else {
@@ -88,10 +88,10 @@ pub fn natural(word: &[u8], alloc: Global) -> Result<u64, CaseFault>
 }
 
 /// The same within 32 bits.
-pub fn small_natural(word: &[u8], alloc: Global) -> Result<u32, CaseFault>
+pub fn small_natural(alloc: Global, word: &[u8]) -> Result<u32, CaseFault>
     ensures { IfOk result (λ number. decimal number ≡ word.now) }
 {
-    let number = natural(word, alloc)?;
+    let number = natural(alloc, word)?;
     match u32::try_from(number) {
         Ok(small) => Ok(small),
         Err(_) => Err(CaseFault::Number),

@@ -50,11 +50,11 @@ impl<'a> Cursor<'a> {
 
     fn take_token(
         &mut self,
+        alloc: Global,
         looked: &[u8],
         ended: bool,
         sig: &'a Signature,
         limits: &Limits,
-        alloc: Global,
     ) -> Result<Turn, LogFault>
         requires within { self.old.at ≤ length looked.now }
         requires counted { IsCounted self.old.partial }
@@ -71,7 +71,7 @@ impl<'a> Cursor<'a> {
             self.at = read_on(token.kind, self.at, lexer.offset());
             return Ok(Turn::Completed(self.partial.finish(alloc)));
         }
-        match self.partial.step(sig, limits, &token, alloc) {
+        match self.partial.step(alloc, sig, limits, &token) {
             Ok(()) => {
                 self.at = lexer.offset();
                 Ok(Turn::Took)
@@ -84,11 +84,11 @@ impl<'a> Cursor<'a> {
     /// before the token that shows it.
     pub fn advance(
         &mut self,
+        alloc: Global,
         looked: &[u8],
         ended: bool,
         sig: &'a Signature,
         limits: &Limits,
-        alloc: Global,
     ) -> Result<Option<TimePoint>, LogFault>
         requires within { self.old.at ≤ length looked.now }
         requires counted { IsCounted self.old.partial }
@@ -96,7 +96,7 @@ impl<'a> Cursor<'a> {
             self.new.at self.new.partial }
     {
         loop {
-            match self.take_token(looked, ended, sig, limits, alloc) {
+            match self.take_token(alloc, looked, ended, sig, limits) {
                 Ok(Turn::Took) => {}
                 Ok(Turn::Completed(point)) => return Ok(Some(point)),
                 Ok(Turn::Empty) => return Ok(None),

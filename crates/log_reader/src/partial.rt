@@ -86,7 +86,7 @@ impl<'a> Partial<'a> {
         }
     }
 
-    fn open(&mut self, limits: &Limits, at: u64, alloc: Global) -> Result<(), LogFault>
+    fn open(&mut self, alloc: Global, limits: &Limits, at: u64) -> Result<(), LogFault>
         ensures { Moves self.old self.new result (opened limits.now at self.old) }
     {
         if self.points >= limits.points {
@@ -143,7 +143,7 @@ impl<'a> Partial<'a> {
         Ok(())
     }
 
-    fn take_value(&mut self, token: &Token, alloc: Global) -> Result<(), LogFault>
+    fn take_value(&mut self, alloc: Global, token: &Token) -> Result<(), LogFault>
         ensures { Moves self.old self.new result
             (valued token.now.at (written (lexeme token.now)) self.old self.old.due) }
     {
@@ -151,7 +151,7 @@ impl<'a> Partial<'a> {
         match self.due {
             [] => Err(LogFault::WrongArity(at)),
             [sort, due @ ..] => {
-                let value = value_at(*sort, at, token.kind, token.content(), alloc)?;
+                let value = value_at(alloc, *sort, at, token.kind, token.content())?;
                 self.args.push(value)?;
                 self.stage = Stage::AfterValue;
                 self.due = due;
@@ -160,7 +160,7 @@ impl<'a> Partial<'a> {
         }
     }
 
-    fn end_group(&mut self, at: u64, alloc: Global) -> Result<(), LogFault>
+    fn end_group(&mut self, alloc: Global, at: u64) -> Result<(), LogFault>
         ensures { Moves self.old self.new result (closed at self.old self.old.due) }
     {
         if !self.due.is_empty() {
@@ -186,10 +186,10 @@ impl<'a> Partial<'a> {
     #[tactic(auto, unfolding(crate::specs::Steps::step))]
     pub fn step(
         &mut self,
+        alloc: Global,
         sig: &'a Signature,
         limits: &Limits,
         token: &Token,
-        alloc: Global,
     ) -> Result<(), LogFault>
         ensures { Moves self.old self.new result (step sig.now limits.now self.old (lexeme token.now)) }
     {
@@ -197,13 +197,13 @@ impl<'a> Partial<'a> {
         let content = token.content();
         match stage_behind(self.stage, token.kind, content) {
             None => Err(LogFault::Syntax(at)),
-            Some(Stage::AfterAt) => self.open(limits, at, alloc),
+            Some(Stage::AfterAt) => self.open(alloc, limits, at),
             Some(Stage::AfterStamp) => self.stamp(at, content),
             Some(Stage::AfterName) => self.name(sig, at, content),
             Some(Stage::AfterOpen) => self.begin_group(limits, at),
-            Some(Stage::AfterValue) => self.take_value(token, alloc),
+            Some(Stage::AfterValue) => self.take_value(alloc, token),
             Some(Stage::AfterComma) => self.separate(),
-            Some(Stage::AfterClose) => self.end_group(at, alloc),
+            Some(Stage::AfterClose) => self.end_group(alloc, at),
             Some(Stage::Between) => self.leave(alloc),
         }
     }
@@ -225,10 +225,10 @@ impl<'a> Partial<'a> {
     /// What is due where no whole token is left of the bytes.
     pub fn end(
         &mut self,
+        alloc: Global,
         limits: &Limits,
         bytes: &[u8],
         ended: bool,
-        alloc: Global,
     ) -> Result<Next, LogFault>
         ensures answer { result ≡ answer_of ended (nothing_left limits.now bytes.now ended self.old) }
         ensures after { self.new ≡ behind_answer self.old result }

@@ -52,7 +52,7 @@ impl<'a> LogReader<'a> {
     ghost use Rattle.log_reader.specs.Progress.{Progress, start, due, Proceeds};
 
     /// A reader of a log over these predicates. It takes no memory.
-    pub fn new(sig: &'a Signature, limits: Limits, alloc: Global) -> Self
+    pub fn new(alloc: Global, sig: &'a Signature, limits: Limits) -> Self
         ensures { result ≡ start sig.now limits }
     {
         LogReader {
@@ -144,13 +144,13 @@ impl<'a> LogReader<'a> {
         let ended = self.limits.is_end_told(&self.bytes, self.is_ended);
         match self
             .cursor
-            .advance(looked, ended, self.sig, &self.limits, alloc)
+            .advance(alloc, looked, ended, self.sig, &self.limits)
         {
             Ok(Some(point)) => Ok(Next::Point(point)),
             Ok(None) => self
                 .cursor
                 .partial
-                .end(&self.limits, &self.bytes, self.is_ended, alloc),
+                .end(alloc, &self.limits, &self.bytes, self.is_ended),
             Err(LogFault::Memory) => {
                 self.is_broken = true;
                 Err(LogFault::Memory)

@@ -65,7 +65,7 @@ fn told_of(
     limits: Limits,
     log: &str,
 ) -> Result<String, AllocError> {
-    let mut reader = LogReader::new(sig, limits, alloc);
+    let mut reader = LogReader::new(alloc, sig, limits);
     reader.feed_owned(alloc, log.as_bytes().to_vec(alloc)?);
     reader.finish();
     told(alloc, &mut reader)
@@ -74,7 +74,7 @@ fn told_of(
 #[test]
 fn logs_tell_their_points_and_how_they_end(rt: HostRuntime) -> Result<(), Fail> {
     let alloc = rt.alloc();
-    let sig = read_signature(SIGNATURE, alloc)?;
+    let sig = read_signature(alloc, SIGNATURE)?;
     for (log, wanted) in LOGS {
         let text = told_of(alloc, &sig, Limits::standard(), log)?;
         assert_eq!(rt; text.as_str(), wanted, "of {log}");
@@ -85,7 +85,7 @@ fn logs_tell_their_points_and_how_they_end(rt: HostRuntime) -> Result<(), Fail> 
 #[test]
 fn smaller_limits_hold_too(rt: HostRuntime) -> Result<(), Fail> {
     let alloc = rt.alloc();
-    let sig = read_signature(SIGNATURE, alloc)?;
+    let sig = read_signature(alloc, SIGNATURE)?;
     for (bytes, points, events, log, wanted) in LIMITED {
         let limits = Limits {
             bytes,
@@ -101,8 +101,8 @@ fn smaller_limits_hold_too(rt: HostRuntime) -> Result<(), Fail> {
 #[test]
 fn more_is_asked_for_until_the_end_is_told(rt: HostRuntime) -> Result<(), Fail> {
     let alloc = rt.alloc();
-    let sig = read_signature(SIGNATURE, alloc)?;
-    let mut reader = LogReader::new(&sig, Limits::standard(), alloc);
+    let sig = read_signature(alloc, SIGNATURE)?;
+    let mut reader = LogReader::new(alloc, &sig, Limits::standard());
     reader.feed(alloc, b"@1 publish(7) @")?;
     assert!(rt; reader.is_fed() && !reader.is_finished());
     assert_eq!(rt; told(alloc, &mut reader)?.as_str(), "1/1 More");

@@ -33,26 +33,26 @@ fn integer_at(at: u64, word: &[u8]) -> Result<Value, LogFault>
     }
 }
 
-fn string_of(content: &[u8], alloc: Global) -> Result<Value, LogFault>
+fn string_of(alloc: Global, content: &[u8]) -> Result<Value, LogFault>
     ensures { Gives (λ v. v) result (Ok (Value.Text content.now)) }
 {
-    Ok(Value::Text(Text::from_slice(content, alloc)?))
+    Ok(Value::Text(Text::from_slice(alloc, content)?))
 }
 
 /// What a Word or a Text stands for at a place of this sort.
 pub fn value_at(
+    alloc: Global,
     sort: Sort,
     at: u64,
     kind: Kind,
     content: &[u8],
-    alloc: Global,
 ) -> Result<Value, LogFault>
     ensures { Gives (λ v. v) result (value_at sort at (written_of kind content.now)) }
 {
     match (sort, kind) {
         (Sort::Int, Kind::Text) => Err(LogFault::WrongSort(at)),
         (Sort::Int, _) => integer_at(at, content),
-        (Sort::Text, _) => string_of(content, alloc),
+        (Sort::Text, _) => string_of(alloc, content),
     }
 }
 

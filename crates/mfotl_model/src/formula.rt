@@ -82,14 +82,14 @@ impl Formula {
     fn boxed(&self, alloc: Global) -> Result<Box<Self>, AllocError>
         ensures { IfOk result (λ formula. form formula.value ≡ form self.now) }
     {
-        stored(self.copy(alloc), alloc)
+        stored(alloc, self.copy(alloc))
     }
 }
 
 // A chain may be thousands of operands deep: what this call needs of the stack is free again before
 // the recursion goes on.
 #[inline(never)]
-fn stored(copy: Result<Formula, AllocError>, alloc: Global) -> Result<Box<Formula>, AllocError>
+fn stored(alloc: Global, copy: Result<Formula, AllocError>) -> Result<Box<Formula>, AllocError>
     ensures { IfOk result (λ formula. copy ≡ Ok formula.value) }
 {
     match copy {

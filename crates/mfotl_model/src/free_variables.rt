@@ -16,8 +16,8 @@ impl Formula {
     {
         match self {
             Formula::True | Formula::False => Ok(Vec::new(alloc)),
-            Formula::Atom(atom) => variables_in(atom.args.as_slice(), alloc),
-            Formula::Compare(comparison) => compared_variables(comparison, alloc),
+            Formula::Atom(atom) => variables_in(alloc, atom.args.as_slice()),
+            Formula::Compare(comparison) => compared_variables(alloc, comparison),
             Formula::Not(f)
             | Formula::Previous(_, f)
             | Formula::Next(_, f)
@@ -31,25 +31,25 @@ impl Formula {
             | Formula::Equiv(f, g)
             | Formula::Since(_, f, g)
             | Formula::Until(_, f, g) => {
-                joined(f.free_vars(alloc)?, g.free_vars(alloc)?.as_slice(), alloc)
+                joined(alloc, f.free_vars(alloc)?, g.free_vars(alloc)?.as_slice())
             }
             Formula::Exists(x, f) | Formula::Forall(x, f) => {
-                without(x.number, f.free_vars(alloc)?.as_slice(), alloc)
+                without(alloc, x.number, f.free_vars(alloc)?.as_slice())
             }
         }
     }
 }
 
 // The variables of both lists: first those of `vars`, then those of `more` that are none of them.
-fn joined(mut vars: Vec<u32>, more: &[u32], alloc: Global) -> Result<Vec<u32>, AllocError>
+fn joined(alloc: Global, mut vars: Vec<u32>, more: &[u32]) -> Result<Vec<u32>, AllocError>
     ensures { IfOk result (λ both. both.items ≡ joined vars.items more.now) }
 {
-    let others = others(vars.as_slice(), more, alloc)?;
+    let others = others(alloc, vars.as_slice(), more)?;
     vars.extend_from_slice(others.as_slice())?;
     Ok(vars)
 }
 
-fn others(vars: &[u32], more: &[u32], alloc: Global) -> Result<Vec<u32>, AllocError>
+fn others(alloc: Global, vars: &[u32], more: &[u32]) -> Result<Vec<u32>, AllocError>
     ensures { IfOk result (λ new. new.items ≡ filter (λ y. not (among y vars.now)) more.now) }
 {
     more.iter()
@@ -65,13 +65,13 @@ fn is_among(x: u32, vars: &[u32]) -> bool
 }
 
 // The variables but `x`.
-fn without(x: u32, vars: &[u32], alloc: Global) -> Result<Vec<u32>, AllocError>
+fn without(alloc: Global, x: u32, vars: &[u32]) -> Result<Vec<u32>, AllocError>
     ensures { IfOk result (λ others. others.items ≡ without x vars.now) }
 {
     vars.iter().copied().filter(|y| *y != x).collect(alloc)
 }
 
-fn variables_in(terms: &[Term], alloc: Global) -> Result<Vec<u32>, AllocError>
+fn variables_in(alloc: Global, terms: &[Term]) -> Result<Vec<u32>, AllocError>
     ensures { IfOk result (λ vars. vars.items ≡ variables_in terms.now) }
 {
     let mut vars = Vec::new(alloc);
@@ -81,7 +81,7 @@ fn variables_in(terms: &[Term], alloc: Global) -> Result<Vec<u32>, AllocError>
     Ok(vars)
 }
 
-fn compared_variables(comparison: &Comparison, alloc: Global) -> Result<Vec<u32>, AllocError>
+fn compared_variables(alloc: Global, comparison: &Comparison) -> Result<Vec<u32>, AllocError>
     ensures { IfOk result (λ vars. vars.items
         ≡ variables_in (comparison.now.left ∷ comparison.now.right ∷ [])) }
 {

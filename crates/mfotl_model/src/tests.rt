@@ -6,7 +6,7 @@ use std::alloc::Global;
 use std::test::Fail;
 
 fn text(alloc: Global, bytes: &[u8]) -> Result<Value, Fail> {
-    Ok(Value::Text(Name::from_slice(bytes, alloc)?))
+    Ok(Value::Text(Name::from_slice(alloc, bytes)?))
 }
 
 fn event(alloc: Global, name: &[u8], number: i64) -> Result<Event, Fail> {
@@ -40,9 +40,9 @@ fn log(alloc: Global) -> Result<Vec<TimePoint>, Fail> {
 fn a_line_of_two_rows(rt: HostRuntime) -> Result<(), Fail> {
     worked_examples();
     let found = log_text(
+        rt.alloc(),
         &denied(rt.alloc())?,
         log(rt.alloc())?.as_slice(),
-        rt.alloc(),
     )?;
     let line = b"@1 (time point 0): (\"a\",-9223372036854775808) (\"b\",2)\n";
     assert_eq!(rt; found.as_slice(), line.as_slice());
@@ -90,7 +90,7 @@ fn chain(alloc: Global, operands: u32) -> Result<Formula, Fail> {
 #[test]
 fn a_chain_of_4000_operands_is_no_strain(rt: HostRuntime) -> Result<(), Fail> {
     let var = Var {
-        name: Name::from_slice(b"x", rt.alloc())?,
+        name: Name::from_slice(rt.alloc(), b"x")?,
         sort: Sort::Text,
     };
     let policy = Policy {

@@ -32,7 +32,7 @@ impl Text {
         Text { bytes }
     }
 
-    pub fn from_slice(bytes: &[u8], alloc: Global) -> Result<Self, AllocError>
+    pub fn from_slice(alloc: Global, bytes: &[u8]) -> Result<Self, AllocError>
         ensures { IfOk result (λ text. text ≡ bytes.now) }
     {
         Ok(Text {
@@ -55,7 +55,7 @@ impl Text {
     pub fn copy(&self, alloc: Global) -> Result<Self, AllocError>
         ensures { IfOk result (λ text. text ≡ self.now) }
     {
-        Text::from_slice(self.as_bytes(), alloc)
+        Text::from_slice(alloc, self.as_bytes())
     }
 }
 

@@ -9,18 +9,18 @@ use crate::value::Value;
 use std::alloc::{AllocError, Global};
 
 /// The line of a verdict: the number of its time-point, its timestamp and its rows in their order.
-pub fn verdict_line(point: u64, ts: u64, rows: &[Row], alloc: Global) -> Result<Vec<u8>, AllocError>
+pub fn verdict_line(alloc: Global, point: u64, ts: u64, rows: &[Row]) -> Result<Vec<u8>, AllocError>
     ensures { IfOk result (λ line. line.items
         ≡ line_of (record { point = point; ts = ts; rows = rows.now })) }
 {
-    let mut line = begun_line(point, ts, alloc)?;
-    push_rows(&mut line, rows, alloc)?;
+    let mut line = begun_line(alloc, point, ts)?;
+    push_rows(alloc, &mut line, rows)?;
     line.extend_from_slice(b"\n")?;
     Ok(line)
 }
 
 // The front of a line: the timestamp and the number of its time-point.
-fn begun_line(point: u64, ts: u64, alloc: Global) -> Result<Vec<u8>, AllocError>
+fn begun_line(alloc: Global, point: u64, ts: u64) -> Result<Vec<u8>, AllocError>
     ensures { IfOk result (λ line. line.items
         ≡ codes "@" ++ decimal ts ++ codes " (time point " ++ decimal point ++ codes "):") }
 {
@@ -34,46 +34,46 @@ fn begun_line(point: u64, ts: u64, alloc: Global) -> Result<Vec<u8>, AllocError>
 }
 
 /// Puts rows behind a text, each in brackets behind a space.
-pub fn push_rows(out: &mut Vec<u8>, rows: &[Row], alloc: Global) -> Result<(), AllocError>
+pub fn push_rows(alloc: Global, out: &mut Vec<u8>, rows: &[Row]) -> Result<(), AllocError>
     ensures { OnOk result (out.new.items ≡ out.old.items ++ flat_map written_row rows.now) }
 {
     for row in rows {
-        push_row(out, row, alloc)?;
+        push_row(alloc, out, row)?;
     }
     Ok(())
 }
 
-fn push_row(out: &mut Vec<u8>, row: &Row, alloc: Global) -> Result<(), AllocError>
+fn push_row(alloc: Global, out: &mut Vec<u8>, row: &Row) -> Result<(), AllocError>
     ensures { OnOk result (out.new.items ≡ out.old.items ++ written_row row.now) }
 {
     out.extend_from_slice(b" (")?;
-    push_values(out, row.values(), alloc)?;
+    push_values(alloc, out, row.values())?;
     out.extend_from_slice(b")")?;
     Ok(())
 }
 
-fn push_values(out: &mut Vec<u8>, values: &[Value], alloc: Global) -> Result<(), AllocError>
+fn push_values(alloc: Global, out: &mut Vec<u8>, values: &[Value]) -> Result<(), AllocError>
     ensures { OnOk result (out.new.items ≡ out.old.items ++ written_values values.now) }
 {
     let Some((first, others)) = values.split_first() else {
         return Ok(());
     };
-    push_value(out, first, alloc)?;
-    push_more_values(out, others, alloc)
+    push_value(alloc, out, first)?;
+    push_more_values(alloc, out, others)
 }
 
 // Puts a comma and the value, for each.
-fn push_more_values(out: &mut Vec<u8>, values: &[Value], alloc: Global) -> Result<(), AllocError>
+fn push_more_values(alloc: Global, out: &mut Vec<u8>, values: &[Value]) -> Result<(), AllocError>
     ensures { OnOk result (out.new.items ≡ out.old.items ++ more_values values.now) }
 {
     for value in values {
         out.extend_from_slice(b",")?;
-        push_value(out, value, alloc)?;
+        push_value(alloc, out, value)?;
     }
     Ok(())
 }
 
-fn push_value(out: &mut Vec<u8>, value: &Value, alloc: Global) -> Result<(), AllocError>
+fn push_value(alloc: Global, out: &mut Vec<u8>, value: &Value) -> Result<(), AllocError>
     ensures { OnOk result (out.new.items ≡ out.old.items ++ written_value value.now) }
 {
     match value {

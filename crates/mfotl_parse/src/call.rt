@@ -92,7 +92,7 @@ fn blanks(alloc: Global, first: u32, end: u32, inner: Formula) -> Result<Formula
         let Some(number) = place.checked_add(MOST_FREE) else {
             return Err(AllocError);
         };
-        let name = Name::from_slice(b"_", alloc)?;
+        let name = Name::from_slice(alloc, b"_")?;
         whole = Formula::Exists(Bound { number, name }, Box::new(alloc, whole)?);
     }
     Ok(whole)

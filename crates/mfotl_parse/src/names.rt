@@ -138,7 +138,7 @@ impl Names {
             Some(None) => Sort::Int,
             None => Sort::Int,
         };
-        let name = Name::from_slice(name, alloc)?;
+        let name = Name::from_slice(alloc, name)?;
         Ok(Var { name, sort })
     }
 

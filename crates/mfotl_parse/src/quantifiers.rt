@@ -96,7 +96,7 @@ impl Context {
         ensures { GoesOn result self.new
             (given 0 (goes [] (operands.bound_now (context_of self.old) quantifier name.now))) }
     {
-        let name = Name::from_slice(name, alloc)?;
+        let name = Name::from_slice(alloc, name)?;
         let place = self.names.bind(None)?;
         self.push(Frame::Binding(quantifier, place, name))?;
         Ok(Now::Bound(quantifier))

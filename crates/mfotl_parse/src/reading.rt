@@ -39,7 +39,7 @@ impl<'a> Parser<'a> {
         ensures { Steps result self.new (step signature.now (partial_of self.old) (lexeme token.now)) }
     {
         let now = mem::replace(&mut self.now, Now::Want);
-        self.now = advance(&mut self.context, alloc, signature, now, token)?;
+        self.now = advance(alloc, &mut self.context, signature, now, token)?;
         Ok(())
     }
 
@@ -58,8 +58,8 @@ impl<'a> Parser<'a> {
 /// What may come behind the next token.
 #[tactic(auto, unfolding(crate::specs::Reading::step, crate::specs::Reading::move_of))]
 fn advance<'a>(
-    context: &mut Context,
     alloc: Global,
+    context: &mut Context,
     signature: &'a Signature,
     now: Now<'a>,
     token: &Token<'a>,
@@ -138,7 +138,7 @@ fn checked(alloc: Global, names: Names, formula: Formula) -> Result<Policy, Poli
 }
 
 /// The policy of a text, token by token.
-fn read<'a>(bytes: &'a [u8], signature: &'a Signature, alloc: Global) -> Result<Policy, PolicyFault>
+fn read<'a>(alloc: Global, bytes: &'a [u8], signature: &'a Signature) -> Result<Policy, PolicyFault>
     ensures { Gives policy_of result (reading bytes.now signature.now) }
 {
     let mut lexer = Lexer::new(bytes, Mode::Plain);
@@ -160,12 +160,12 @@ fn read<'a>(bytes: &'a [u8], signature: &'a Signature, alloc: Global) -> Result<
 /// text. Behind `(` only the tokens after it tell whether an interval begins, so faults of such a `(` and
 /// of its first number are shown by those.
 pub fn read_policy<'a>(
+    alloc: Global,
     bytes: &'a [u8],
     signature: &'a Signature,
-    alloc: Global,
 ) -> Result<Policy, PolicyFault>
     ensures exact { Gives policy_of result (reading bytes.now signature.now) }
     ensures few { IfOk result (λ policy. length policy.vars ≤ 8) }
 {
-    read(bytes, signature, alloc)
+    read(alloc, bytes, signature)
 }

@@ -138,5 +138,5 @@ pub fn text_value(alloc: Global, token: &Token) -> Result<Value, AllocError>
     ensures { IfOk result (λ value. value
         ≡ values.Text (content_of token.now.kind token.now.text.now)) }
 {
-    Ok(Value::Text(Text::from_slice(token.content(), alloc)?))
+    Ok(Value::Text(Text::from_slice(alloc, token.content())?))
 }

@@ -5,7 +5,7 @@ use std::test::Fail;
 
 fn signature(alloc: Global, text: &str) -> Result<Signature, Fail> {
     Ok(
-        read_signature(text.as_bytes(), alloc)
+        read_signature(alloc, text.as_bytes())
             .ok()
             .ok_or("a signature")?,
     )
@@ -15,7 +15,7 @@ fn signature(alloc: Global, text: &str) -> Result<Signature, Fail> {
 fn free_variables_in_order(rt: HostRuntime) -> Result<(), Fail> {
     let signature = signature(rt.alloc(), "p(int) s(string)")?;
     let text = "s(?who) IMPLIES ONCE[0,7] EXISTS x. (p(x) AND p(y) AND s(who))";
-    let policy = read_policy(text.as_bytes(), &signature, rt.alloc())
+    let policy = read_policy(rt.alloc(), text.as_bytes(), &signature)
         .ok()
         .ok_or("a policy")?;
     let vars = policy.vars.as_slice();
@@ -39,14 +39,14 @@ fn chain(alloc: Global, times: usize, last: &str) -> Result<String, Fail> {
 fn the_longest_chain_of_operands(rt: HostRuntime) -> Result<(), Fail> {
     let signature = signature(rt.alloc(), "p(int)")?;
     let longest = chain(rt.alloc(), 2047, "p(1)")?;
-    assert!(rt; read_policy(longest.as_bytes(), &signature, rt.alloc()).is_ok());
+    assert!(rt; read_policy(rt.alloc(), longest.as_bytes(), &signature).is_ok());
     for (last, want) in [
         ("p(1)", "TooManyNodes at 16384"),
         ("zz(1)", "UnknownPredicate at 16384"),
         ("x =", "TooManyNodes at 16386"),
     ] {
         let longer = chain(rt.alloc(), 2048, last)?;
-        let fault = read_policy(longer.as_bytes(), &signature, rt.alloc())
+        let fault = read_policy(rt.alloc(), longer.as_bytes(), &signature)
             .err()
             .ok_or("a fault")?;
         assert_eq!(rt; fault.to_string(rt.alloc())?.as_str(), want, "{last}");

@@ -49,15 +49,15 @@ impl<'a> Reader<'a> {
 
     /// Takes the next token.
     #[tactic(auto, unfolding(crate::specs::Reading::step))]
-    fn step(&mut self, token: &Token<'a>, alloc: Global) -> Result<(), SigFault>
+    fn step(&mut self, alloc: Global, token: &Token<'a>) -> Result<(), SigFault>
         ensures { Gives (λ _. self.new) result (step self.old (lexeme token.now)) }
     {
         match self.draft.take() {
-            None => self.begin(token, alloc),
+            None => self.begin(alloc, token),
             Some(draft) => {
                 match draft.step(token)? {
                     Progress::Open(draft) => self.draft = Some(draft),
-                    Progress::Closed(draft) => self.done.add(draft.name, draft.sorts, alloc)?,
+                    Progress::Closed(draft) => self.done.add(alloc, draft.name, draft.sorts)?,
                 }
                 Ok(())
             }
@@ -65,7 +65,7 @@ impl<'a> Reader<'a> {
     }
 
     /// Takes a predicate's name.
-    fn begin(&mut self, token: &Token<'a>, alloc: Global) -> Result<(), SigFault>
+    fn begin(&mut self, alloc: Global, token: &Token<'a>) -> Result<(), SigFault>
         requires { self.old.draft ≡ None }
         ensures { Gives (λ _. self.new) result
             (begins self.old.done (lexeme token.now) token.now.kind) }
@@ -104,15 +104,15 @@ impl<'a> Reader<'a> {
 ///
 /// `SigFault` is the first fault from left to right, each shown by one token: `UnknownSort` of a Word
 /// that might be a label by the token behind it.
-pub fn read_signature(bytes: &[u8], alloc: Global) -> Result<Signature, SigFault>
+pub fn read_signature(alloc: Global, bytes: &[u8]) -> Result<Signature, SigFault>
     ensures reads { Gives (λ s. s) result (reading bytes.now) }
     ensures value { IfOk result (λ s. IsValue bytes.now s) }
     ensures shown { IfErr result (λ fault. fault ≢ Memory → IsShown bytes.now fault) }
 {
-    read_tokens(bytes, alloc)
+    read_tokens(alloc, bytes)
 }
 
-fn read_tokens(bytes: &[u8], alloc: Global) -> Result<Signature, SigFault>
+fn read_tokens(alloc: Global, bytes: &[u8]) -> Result<Signature, SigFault>
     ensures { Gives (λ s. s) result (reading bytes.now) }
 {
     let mut lexer = Lexer::new(bytes, Mode::Plain);
@@ -120,7 +120,7 @@ fn read_tokens(bytes: &[u8], alloc: Global) -> Result<Signature, SigFault>
     // Each token takes a byte, so there are no more of them than bytes.
     for _ in 0..bytes.len() + 1 {
         match lexer.next() {
-            Ok(Some(token)) => reader.step(&token, alloc)?,
+            Ok(Some(token)) => reader.step(alloc, &token)?,
             Ok(None) => break,
             Err(fault) => return Err(SigFault::Lex(fault)),
         }

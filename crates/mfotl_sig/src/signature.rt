@@ -54,9 +54,9 @@ impl Signature {
     /// Adds a predicate at the end, with the next number.
     pub(crate) fn add(
         &mut self,
+        alloc: Global,
         name: &[u8],
         sorts: Vec<Sort>,
-        alloc: Global,
     ) -> Result<(), AllocError>
         requires absent { named name.now self.old ≡ None }
         requires room { length self.old < 2 ^ 32 }

@@ -19,7 +19,7 @@ const FAULTS: [(&str, &str); 10] = [
 
 #[test]
 fn predicates_are_numbered_as_they_stand(rt: HostRuntime) -> Result<(), Fail> {
-    let signature = read_signature(b"req(id:int,who:string) # two\ntick()", rt.alloc())?;
+    let signature = read_signature(rt.alloc(), b"req(id:int,who:string) # two\ntick()")?;
     let req = signature.find(b"req").ok_or("req is there")?;
     assert_eq!(rt; req.number, 0);
     assert_eq!(rt; req.name.as_bytes(), b"req".as_slice());
@@ -32,7 +32,7 @@ fn predicates_are_numbered_as_they_stand(rt: HostRuntime) -> Result<(), Fail> {
 }
 
 fn printed(alloc: Global, text: &[u8]) -> Result<String, AllocError> {
-    match read_signature(text, alloc) {
+    match read_signature(alloc, text) {
         Ok(_) => String::from_str(alloc, "read"),
         Err(fault) => fault.to_string(alloc),
     }
@@ -59,7 +59,7 @@ fn predicates(alloc: Global, count: u32) -> Result<String, AllocError> {
 #[test]
 fn there_are_at_most_256_predicates(rt: HostRuntime) -> Result<(), Fail> {
     let mut text = predicates(rt.alloc(), 256)?;
-    let signature = read_signature(text.as_bytes(), rt.alloc())?;
+    let signature = read_signature(rt.alloc(), text.as_bytes())?;
     let last = signature.find(b"p255").ok_or("p255 is there")?;
     assert_eq!(rt; last.number, 255);
     let repeated = format!(in rt.alloc(); "{text}p0()")?;
@@ -81,7 +81,7 @@ fn a_name_has_at_most_64_bytes(rt: HostRuntime) -> Result<(), Fail> {
     for _ in 0..64 {
         text.insert(0, b'a')?;
     }
-    let signature = read_signature(&text, rt.alloc())?;
+    let signature = read_signature(rt.alloc(), &text)?;
     assert!(rt; signature.find(&[b'a'; 64]).is_some());
     text.insert(0, b'a')?;
     assert_eq!(rt; printed(rt.alloc(), &text)?.as_str(), "Lex TextLong at 0");

@@ -45,10 +45,10 @@ pub fn read_more<I: Inputs>(
 /// Reads the open file to its end, and puts all that is given behind the bytes, in each case: also where
 /// it errs, `bytes` has what was given before. The limit is one on all of `bytes`.
 pub fn read_to_end<I: Inputs>(
+    alloc: Global,
     inputs: &mut I,
     bytes: &mut Vec<u8>,
     limit: u64,
-    alloc: Global,
 ) -> Result<(), LoadFault>
     requires { IsTrue (I.is_open inputs.old) }
     ensures files { I.files inputs.new ≡ I.files inputs.old }
@@ -68,10 +68,10 @@ pub fn read_to_end<I: Inputs>(
 
 /// Opens the file of this name and reads it whole.
 pub fn load<I: Inputs>(
+    alloc: Global,
     inputs: &mut I,
     name: &str,
     limit: u64,
-    alloc: Global,
 ) -> Result<Vec<u8>, LoadFault>
     ensures files { I.files inputs.new ≡ I.files inputs.old }
     ensures loads { IfOk result (λ bytes. Loads (I.files inputs.old) name.now bytes.items) }
@@ -85,7 +85,7 @@ pub fn load<I: Inputs>(
         return Err(LoadFault::Failed);
     }
     let mut bytes = Vec::new(alloc);
-    read_to_end(inputs, &mut bytes, limit, alloc)?;
+    read_to_end(alloc, inputs, &mut bytes, limit)?;
     Ok(bytes)
 }
 

@@ -28,7 +28,7 @@ impl<'a> Model for MemSink<'a> {
 impl<'a> MemSink<'a> {
     /// A sink to which nothing was written. It takes each piece whole. The writes whose numbers stand in
     /// `fail`, counted from 0, fail, and so does one whose memory is refused.
-    pub fn new(fail: &'a [u64], alloc: Global) -> Self
+    pub fn new(alloc: Global, fail: &'a [u64]) -> Self
         ensures { result ≡ record {
           written = [];
           plan = record { fail = fail.now; calls = 0; faults = 0 };

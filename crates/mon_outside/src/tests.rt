@@ -20,7 +20,7 @@ fn load_fault(
 ) -> Result<Option<LoadFault>, AllocError> {
     let files = log(alloc)?;
     let mut inputs = MemInputs::new(&files, 7, fail);
-    Ok(load(&mut inputs, name, limit, alloc).err())
+    Ok(load(alloc, &mut inputs, name, limit).err())
 }
 
 #[test]
@@ -29,7 +29,7 @@ fn a_file_is_loaded_whole_over_pieces_of_any_size(rt: HostRuntime) -> Result<(),
     for piece in [1, 2, 7, 65_536] {
         assert!(rt; piece > 0);
         let mut inputs = MemInputs::new(&files, piece, &[]);
-        let bytes = load(&mut inputs, "log", 34, rt.alloc())?;
+        let bytes = load(rt.alloc(), &mut inputs, "log", 34)?;
         assert_eq!(rt; bytes.as_slice(), LOG, "in pieces of {piece}");
     }
     Ok(())
@@ -80,7 +80,7 @@ fn what_was_given_before_a_fault_stays(rt: HostRuntime) -> Result<(), Fail> {
     let mut buffer = [0; 4];
     let count = read_more(&mut inputs, &mut buffer, &mut bytes)?;
     assert_eq!(rt; count, 2);
-    let end = read_to_end(&mut inputs, &mut bytes, 34, rt.alloc());
+    let end = read_to_end(rt.alloc(), &mut inputs, &mut bytes, 34);
     assert_eq!(rt; end, Err(LoadFault::Failed));
     assert_eq!(rt; bytes.as_slice(), b"@1 a".as_slice());
     Ok(())
@@ -88,7 +88,7 @@ fn what_was_given_before_a_fault_stays(rt: HostRuntime) -> Result<(), Fail> {
 
 #[test]
 fn a_failed_write_appends_nothing(rt: HostRuntime) -> Result<(), Fail> {
-    let mut sink = MemSink::new(&[1], rt.alloc());
+    let mut sink = MemSink::new(rt.alloc(), &[1]);
     write_whole(&mut sink, b"first\n")?;
     assert_eq!(rt; write_whole(&mut sink, b"second\n"), Err(Failed));
     write_whole(&mut sink, b"third\n")?;

@@ -85,10 +85,10 @@ fn is_match(atom: &Atom, event: &Event) -> bool
 
 // The variable's first value, or 0.
 fn value_read(
+    alloc: Global,
     terms: &[Term],
     values: &[Value],
     variable: u32,
-    alloc: Global,
 ) -> Result<Value, AllocError>
     ensures { IfOk result (λ value. value ≡ read_off terms.now values.now variable) }
 {
@@ -98,27 +98,27 @@ fn value_read(
     }
 }
 
-fn row_read(query: &AtomQuery<'_>, event: &Event, alloc: Global) -> Result<Row, AllocError>
+fn row_read(alloc: Global, query: &AtomQuery<'_>, event: &Event) -> Result<Row, AllocError>
     ensures { IfOk result (λ row. row ≡ row_read (query_of query.now) event.now) }
 {
     let (terms, values) = (query.atom.args.as_slice(), event.args.values());
     let mut row = Vec::with_capacity(alloc, query.columns.len())?;
     for column in query.columns {
-        row.push(value_read(terms, values, *column, alloc)?)?;
+        row.push(value_read(alloc, terms, values, *column)?)?;
     }
     Ok(Row::new(row))
 }
 
 /// The rows of the events that the query's atom stands for, in ascending order.
 #[tactic(auto, using(crate::proofs::AtomRows::row_taken, crate::proofs::AtomRows::event_left))]
-pub fn atom_rows(db: &Db, query: &AtomQuery<'_>, alloc: Global) -> Result<RowList, AllocError>
+pub fn atom_rows(alloc: Global, db: &Db, query: &AtomQuery<'_>) -> Result<RowList, AllocError>
     ensures { IfOk result (λ rows.
         rows ≡ ascending row_cmp (matching_rows (query_of query.now) db.now)) }
 {
     let mut rows: BTreeSet<Row> = BTreeSet::new(alloc);
     for event in db.events() {
         if is_match(query.atom, event) {
-            rows.insert(row_read(query, event, alloc)?)?;
+            rows.insert(row_read(alloc, query, event)?)?;
         }
     }
     Ok(RowList::new(rows.into_iter().collect(alloc)?))

@@ -65,7 +65,7 @@ fn put_columns(line: &mut Vec<u8>, vars: &[Var]) -> Result<(), AllocError>
 
 // The line for a policy of these free variables.
 #[tactic(auto, unfolding(crate::specs::CheckLine::monitorable_line))]
-fn monitorable_line(vars: &[Var], alloc: Global) -> Result<Vec<u8>, AllocError>
+fn monitorable_line(alloc: Global, vars: &[Var]) -> Result<Vec<u8>, AllocError>
     ensures { IfOk result (λ line. line.items ≡ monitorable_line vars.now) }
 {
     let mut line = Vec::new(alloc);
@@ -77,7 +77,7 @@ fn monitorable_line(vars: &[Var], alloc: Global) -> Result<Vec<u8>, AllocError>
 
 // Writes the line for a policy of these free variables.
 #[tactic(auto, using(crate::proofs::SinkLemmas::whole_front))]
-fn write_line<O: Sink>(vars: &[Var], out: &mut O, alloc: Global) -> Result<(), Refusal>
+fn write_line<O: Sink>(alloc: Global, vars: &[Var], out: &mut O) -> Result<(), Refusal>
     ensures ok { IfOk result (λ _. Appends (O.written out.old) (O.written out.new)
         (monitorable_line vars.now)) }
     ensures fault { IfErr result (λ r.
@@ -85,7 +85,7 @@ fn write_line<O: Sink>(vars: &[Var], out: &mut O, alloc: Global) -> Result<(), R
     ensures front { AppendsFront (O.written out.old) (O.written out.new)
         (monitorable_line vars.now) }
 {
-    let Ok(line) = monitorable_line(vars, alloc) else {
+    let Ok(line) = monitorable_line(alloc, vars) else {
         return Err(Refusal::Memory);
     };
     match write_whole(out, line.as_slice()) {
@@ -95,7 +95,7 @@ fn write_line<O: Sink>(vars: &[Var], out: &mut O, alloc: Global) -> Result<(), R
 }
 
 // Writes the line for a plan's policy. No time-point is violated by it.
-fn accept<O: Sink>(plan: &Plan, out: &mut O, alloc: Global) -> Result<bool, Refusal>
+fn accept<O: Sink>(alloc: Global, plan: &Plan, out: &mut O) -> Result<bool, Refusal>
     ensures ok { IfOk result (Finishes (check_answer (Ok (judged_of plan.now)))
         (O.written out.old) (O.written out.new)) }
     ensures fault { IfErr result (λ r.
@@ -103,7 +103,7 @@ fn accept<O: Sink>(plan: &Plan, out: &mut O, alloc: Global) -> Result<bool, Refu
     ensures front { AppendsFront (O.written out.old) (O.written out.new)
         (check_answer (Ok (judged_of plan.now))).out }
 {
-    match write_line(plan.policy.vars.as_slice(), out, alloc) {
+    match write_line(alloc, plan.policy.vars.as_slice(), out) {
         Ok(()) => Ok(false),
         Err(refusal) => Err(refusal),
     }
@@ -111,10 +111,10 @@ fn accept<O: Sink>(plan: &Plan, out: &mut O, alloc: Global) -> Result<bool, Refu
 
 /// Tells the free variables of the policy, where it can be monitored. No line has a row.
 pub fn check_policy<I: Inputs, O: Sink>(
+    alloc: Global,
     sources: &Sources<'_>,
     inputs: &mut I,
     out: &mut O,
-    alloc: Global,
 ) -> Result<bool, Refusal>
     ensures files { I.files inputs.new ≡ I.files inputs.old }
     ensures comes { ToldFiles (I.files inputs.old) (λ files. ComesTo
@@ -125,8 +125,8 @@ pub fn check_policy<I: Inputs, O: Sink>(
         (O.faults out.old) (O.faults out.new)) }
     ensures behind { IfErr result IsBehindWords }
 {
-    match load_plan(sources, inputs, alloc) {
-        Ok(plan) => accept(&plan, out, alloc),
+    match load_plan(alloc, sources, inputs) {
+        Ok(plan) => accept(alloc, &plan, out),
         Err(refusal) => Err(refusal),
     }
 }

@@ -27,10 +27,10 @@ pub struct Gathered {
 
 /// Reads the log of this name, up to its end, past the limit or to a failure.
 pub fn gather<I: Inputs>(
+    alloc: Global,
     inputs: &mut I,
     name: &str,
     limit: u64,
-    alloc: Global,
 ) -> Result<Gathered, Refusal>
     ensures files { I.files inputs.new ≡ I.files inputs.old }
     ensures later { I.faults inputs.old ≤ I.faults inputs.new }
@@ -47,7 +47,7 @@ pub fn gather<I: Inputs>(
             failed: true,
         });
     }
-    match read_to_end(inputs, &mut bytes, limit, alloc) {
+    match read_to_end(alloc, inputs, &mut bytes, limit) {
         Ok(()) | Err(LoadFault::TooLong) => Ok(Gathered {
             bytes,
             failed: false,
@@ -69,19 +69,19 @@ struct PointLine {
 
 #[tactic(auto, unfolding(crate::specs::AtomText::line_at, crate::specs::AtomText::rows_at))]
 fn point_line(
+    alloc: Global,
     query: &AtomQuery<'_>,
     number: u64,
     point: &TimePoint,
-    alloc: Global,
 ) -> Result<PointLine, AllocError>
     ensures line { IfOk result (λ line.
         line.bytes.items ≡ line_at (query_of query.now) number point.now) }
     ensures row { IfOk result (λ line.
         line.has_row ≡ not (is_empty (rows_at (query_of query.now) point.now))) }
 {
-    let rows = atom_rows(&point.db, query, alloc)?;
+    let rows = atom_rows(alloc, &point.db, query)?;
     Ok(PointLine {
-        bytes: verdict_line(number, point.ts, rows.rows(), alloc)?,
+        bytes: verdict_line(alloc, number, point.ts, rows.rows())?,
         has_row: !has_none(rows.rows()),
     })
 }
@@ -98,11 +98,11 @@ fn has_none(rows: &[Row]) -> bool
 // Writes the line of a time-point, and answers whether it has a row.
 #[tactic(auto, using(crate::proofs::SinkLemmas::whole_front))]
 fn write_point<O: Sink>(
+    alloc: Global,
     query: &AtomQuery<'_>,
     number: u64,
     point: &TimePoint,
     out: &mut O,
-    alloc: Global,
 ) -> Result<bool, Refusal>
     ensures ok { IfOk result (λ has_row. WritesPoint (query_of query.now) number point.now
         (O.written out.old) (O.written out.new) has_row) }
@@ -112,7 +112,7 @@ fn write_point<O: Sink>(
         (line_at (query_of query.now) number point.now) }
     ensures later { O.faults out.old ≤ O.faults out.new }
 {
-    let Ok(line) = point_line(query, number, point, alloc) else {
+    let Ok(line) = point_line(alloc, query, number, point) else {
         return Err(Refusal::Memory);
     };
     match write_whole(out, line.bytes.as_slice()) {
@@ -133,10 +133,10 @@ fn log_refusal(fault: LogFault) -> Refusal
 
 // Writes the line of each time-point, and answers whether one has a row.
 fn write_points<O: Sink>(
+    alloc: Global,
     reader: &mut LogReader<'_>,
     query: &AtomQuery<'_>,
     out: &mut O,
-    alloc: Global,
 ) -> Result<bool, Refusal>
     requires works { reader.old.is_broken ≡ false }
     requires first { reader.old.given ≡ 0 }
@@ -152,7 +152,7 @@ fn write_points<O: Sink>(
     let mut violated = false;
     for number in 0..u64::MAX {
         match reader.next(alloc) {
-            Ok(Next::Point(point)) => match write_point(query, number, &point, out, alloc) {
+            Ok(Next::Point(point)) => match write_point(alloc, query, number, &point, out) {
                 Ok(has_row) => violated |= has_row,
                 Err(refusal) => return Err(refusal),
             },
@@ -167,11 +167,11 @@ fn write_points<O: Sink>(
 
 /// Monitors a log of which these bytes were given.
 pub fn monitor_bytes<O: Sink>(
+    alloc: Global,
     sig: &Signature,
     query: &AtomQuery<'_>,
     log: Gathered,
     out: &mut O,
-    alloc: Global,
 ) -> Result<bool, Refusal>
     ensures ok { IfOk result (λ violated. (log.failed ≡ false) × EndsClear (query_of query.now)
         (reading sig.now standard log.bytes.items (not log.failed))
@@ -183,12 +183,12 @@ pub fn monitor_bytes<O: Sink>(
         (query_of query.now) (reading sig.now standard log.bytes.items (not log.failed))) }
     ensures later { O.faults out.old ≤ O.faults out.new }
 {
-    let mut reader = LogReader::new(sig, Limits::standard(), alloc);
+    let mut reader = LogReader::new(alloc, sig, Limits::standard());
     reader.feed_owned(alloc, log.bytes);
     if !log.failed {
         reader.finish();
     }
-    match write_points(&mut reader, query, out, alloc) {
+    match write_points(alloc, &mut reader, query, out) {
         Ok(violated) if !log.failed => Ok(violated),
         Ok(_) => Err(Refusal::Read(InputFile::Log)),
         Err(refusal) => Err(refusal),

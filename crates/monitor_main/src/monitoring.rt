@@ -22,12 +22,12 @@ const MAX_LOG: u64 = 1 << 40;
 
 // Monitors the log of this name, where the query asks for the violations of the plan's policy.
 fn monitor_log<I: Inputs, O: Sink>(
+    alloc: Global,
     plan: &Plan,
     query: &AtomQuery<'_>,
     log: &str,
     inputs: &mut I,
     out: &mut O,
-    alloc: Global,
 ) -> Result<bool, Refusal>
     requires asks { IsQueryFor (judged_of plan.now).policy.formula (query_of query.now) }
     ensures files { I.files inputs.new ≡ I.files inputs.old }
@@ -41,8 +41,8 @@ fn monitor_log<I: Inputs, O: Sink>(
     ensures behind { IfErr result IsBehindWords }
     ensures later_in { I.faults inputs.old ≤ I.faults inputs.new }
 {
-    match gather(inputs, log, MAX_LOG, alloc) {
-        Ok(gathered) => monitor_bytes(&plan.sig, query, gathered, out, alloc),
+    match gather(alloc, inputs, log, MAX_LOG) {
+        Ok(gathered) => monitor_bytes(alloc, &plan.sig, query, gathered, out),
         Err(refusal) => Err(refusal),
     }
 }
@@ -50,11 +50,11 @@ fn monitor_log<I: Inputs, O: Sink>(
 // Monitors the log of this name, where the plan's core is a single atom.
 #[tactic(auto, unfolding(crate::specs::Answer::task_of))]
 fn monitor_plan<I: Inputs, O: Sink>(
+    alloc: Global,
     plan: &Plan,
     log: &str,
     inputs: &mut I,
     out: &mut O,
-    alloc: Global,
 ) -> Result<bool, Refusal>
     requires core { IsCoreOf plan.now.core (judged_of plan.now).policy.formula }
     ensures files { I.files inputs.new ≡ I.files inputs.old }
@@ -71,7 +71,7 @@ fn monitor_plan<I: Inputs, O: Sink>(
     match plan.core.as_atom() {
         Some(atom) => {
             let columns = plan.core.vars();
-            monitor_log(plan, &AtomQuery { atom, columns }, log, inputs, out, alloc)
+            monitor_log(alloc, plan, &AtomQuery { atom, columns }, log, inputs, out)
         }
         None => Err(Refusal::Later),
     }
@@ -79,11 +79,11 @@ fn monitor_plan<I: Inputs, O: Sink>(
 
 /// Monitors the log of this name, and answers whether some line has a row.
 pub fn run_policy<I: Inputs, O: Sink>(
+    alloc: Global,
     sources: &Sources<'_>,
     log: &str,
     inputs: &mut I,
     out: &mut O,
-    alloc: Global,
 ) -> Result<bool, Refusal>
     ensures files { I.files inputs.new ≡ I.files inputs.old }
     ensures comes { ToldFiles (I.files inputs.old) (λ files. ComesTo
@@ -95,8 +95,8 @@ pub fn run_policy<I: Inputs, O: Sink>(
         (O.faults out.old) (O.faults out.new)) }
     ensures behind { IfErr result IsBehindWords }
 {
-    match load_plan(sources, inputs, alloc) {
-        Ok(plan) => monitor_plan(&plan, log, inputs, out, alloc),
+    match load_plan(alloc, sources, inputs) {
+        Ok(plan) => monitor_plan(alloc, &plan, log, inputs, out),
         Err(refusal) => Err(refusal),
     }
 }

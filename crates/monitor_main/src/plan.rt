@@ -67,24 +67,24 @@ fn fragment_refusal(fault: FragmentFault) -> Refusal
 
 // The signature in a file that isn't too long.
 #[tactic(auto, unfolding(crate::specs::Answer::signature_of))]
-fn signature_in(bytes: &[u8], alloc: Global) -> Result<Signature, Refusal>
+fn signature_in(alloc: Global, bytes: &[u8]) -> Result<Signature, Refusal>
     requires { length bytes.now ≤ 2 ^ 20 }
     ensures gives { Gives (λ s. s) result (signature_of bytes.now) }
     ensures inside { IfErr result IsInside }
 {
-    match read_signature(bytes, alloc) {
+    match read_signature(alloc, bytes) {
         Ok(sig) => Ok(sig),
         Err(fault) => Err(sig_refusal(fault)),
     }
 }
 
 // The policy with its core, where it can be monitored.
-fn with_core(policy: Policy, alloc: Global) -> Result<Monitorable, Refusal>
+fn with_core(alloc: Global, policy: Policy) -> Result<Monitorable, Refusal>
     ensures gives { Gives view_of result (monitorable (policy_of policy)) }
     ensures core { IfOk result (λ m. IsCoreOf m.core (view_of m).formula) }
     ensures inside { IfErr result IsInside }
 {
-    match to_core(&policy, alloc) {
+    match to_core(alloc, &policy) {
         Ok(core) => Ok(Monitorable { policy, core }),
         Err(fault) => Err(fragment_refusal(fault)),
     }
@@ -92,14 +92,14 @@ fn with_core(policy: Policy, alloc: Global) -> Result<Monitorable, Refusal>
 
 // The policy in a file that isn't too long.
 #[tactic(auto, unfolding(crate::specs::Answer::policy_in))]
-fn policy_in(sig: &Signature, bytes: &[u8], alloc: Global) -> Result<Monitorable, Refusal>
+fn policy_in(alloc: Global, sig: &Signature, bytes: &[u8]) -> Result<Monitorable, Refusal>
     requires { length bytes.now ≤ 2 ^ 20 }
     ensures gives { Gives view_of result (policy_in sig.now bytes.now) }
     ensures core { IfOk result (λ m. IsCoreOf m.core (view_of m).formula) }
     ensures inside { IfErr result IsInside }
 {
-    match read_policy(bytes, sig, alloc) {
-        Ok(policy) => with_core(policy, alloc),
+    match read_policy(alloc, bytes, sig) {
+        Ok(policy) => with_core(alloc, policy),
         Err(fault) => Err(policy_refusal(fault)),
     }
 }
@@ -107,9 +107,9 @@ fn policy_in(sig: &Signature, bytes: &[u8], alloc: Global) -> Result<Monitorable
 // The signature in the file of this name.
 #[tactic(auto, unfolding(crate::specs::Answer::signature_of))]
 fn load_signature<I: Inputs>(
+    alloc: Global,
     inputs: &mut I,
     name: &str,
-    alloc: Global,
 ) -> Result<Signature, Refusal>
     ensures files { I.files inputs.new ≡ I.files inputs.old }
     ensures later { I.faults inputs.old ≤ I.faults inputs.new }
@@ -122,8 +122,8 @@ fn load_signature<I: Inputs>(
         HasReadCause r (I.faults inputs.old) (I.faults inputs.new)) }
     ensures behind { IfErr result IsBehindWords }
 {
-    match load(inputs, name, MAX_FILE, alloc) {
-        Ok(bytes) => signature_in(bytes.as_slice(), alloc),
+    match load(alloc, inputs, name, MAX_FILE) {
+        Ok(bytes) => signature_in(alloc, bytes.as_slice()),
         Err(LoadFault::TooLong) => Err(Refusal::LongSignature),
         Err(LoadFault::Failed) => Err(Refusal::Read(InputFile::Signature)),
         Err(LoadFault::Memory) => Err(Refusal::Memory),
@@ -133,10 +133,10 @@ fn load_signature<I: Inputs>(
 // The policy in the file of this name.
 #[tactic(auto, unfolding(crate::specs::Answer::policy_in))]
 fn load_policy<I: Inputs>(
+    alloc: Global,
     inputs: &mut I,
     name: &str,
     sig: &Signature,
-    alloc: Global,
 ) -> Result<Monitorable, Refusal>
     ensures files { I.files inputs.new ≡ I.files inputs.old }
     ensures later { I.faults inputs.old ≤ I.faults inputs.new }
@@ -151,8 +151,8 @@ fn load_policy<I: Inputs>(
         HasReadCause r (I.faults inputs.old) (I.faults inputs.new)) }
     ensures behind { IfErr result IsBehindWords }
 {
-    match load(inputs, name, MAX_FILE, alloc) {
-        Ok(bytes) => policy_in(sig, bytes.as_slice(), alloc),
+    match load(alloc, inputs, name, MAX_FILE) {
+        Ok(bytes) => policy_in(alloc, sig, bytes.as_slice()),
         Err(LoadFault::TooLong) => Err(Refusal::LongPolicy),
         Err(LoadFault::Failed) => Err(Refusal::Read(InputFile::Policy)),
         Err(LoadFault::Memory) => Err(Refusal::Memory),
@@ -161,9 +161,9 @@ fn load_policy<I: Inputs>(
 
 /// The plan of the files of these names.
 pub fn load_plan<I: Inputs>(
+    alloc: Global,
     sources: &Sources<'_>,
     inputs: &mut I,
-    alloc: Global,
 ) -> Result<Plan, Refusal>
     ensures files { I.files inputs.new ≡ I.files inputs.old }
     ensures later { I.faults inputs.old ≤ I.faults inputs.new }
@@ -176,11 +176,11 @@ pub fn load_plan<I: Inputs>(
         HasReadCause r (I.faults inputs.old) (I.faults inputs.new)) }
     ensures behind { IfErr result IsBehindWords }
 {
-    let sig = match load_signature(inputs, sources.sig, alloc) {
+    let sig = match load_signature(alloc, inputs, sources.sig) {
         Ok(sig) => sig,
         Err(refusal) => return Err(refusal),
     };
-    match load_policy(inputs, sources.policy, &sig, alloc) {
+    match load_policy(alloc, inputs, sources.policy, &sig) {
         Ok(judged) => Ok(Plan {
             sig,
             policy: judged.policy,

@@ -63,7 +63,7 @@ fn file_text(file: InputFile) -> &'static str
 }
 
 // The line of a signature's fault.
-fn sig_line(fault: &SigFault, alloc: Global) -> Result<Vec<u8>, AllocError>
+fn sig_line(alloc: Global, fault: &SigFault) -> Result<Vec<u8>, AllocError>
     ensures { IfOk result (λ line.
         line.items ≡ fault_line (codes "signature") (sig_text fault.now)) }
 {
@@ -71,7 +71,7 @@ fn sig_line(fault: &SigFault, alloc: Global) -> Result<Vec<u8>, AllocError>
 }
 
 // The line of a policy's fault.
-fn policy_line(fault: &PolicyFault, alloc: Global) -> Result<Vec<u8>, AllocError>
+fn policy_line(alloc: Global, fault: &PolicyFault) -> Result<Vec<u8>, AllocError>
     ensures { IfOk result (λ line.
         line.items ≡ fault_line (codes "policy") (policy_text fault.now)) }
 {
@@ -79,7 +79,7 @@ fn policy_line(fault: &PolicyFault, alloc: Global) -> Result<Vec<u8>, AllocError
 }
 
 // The line of a policy that can't be monitored, the variable's name as it stands there.
-fn fragment_line(fault: &FragmentFault, alloc: Global) -> Result<Vec<u8>, AllocError>
+fn fragment_line(alloc: Global, fault: &FragmentFault) -> Result<Vec<u8>, AllocError>
     ensures { IfOk result (λ line.
         line.items ≡ fault_line (codes "policy") (fragment_text fault.now)) }
 {
@@ -91,7 +91,7 @@ fn fragment_line(fault: &FragmentFault, alloc: Global) -> Result<Vec<u8>, AllocE
 }
 
 // The line of a log's fault.
-fn log_line(fault: &LogFault, alloc: Global) -> Result<Vec<u8>, AllocError>
+fn log_line(alloc: Global, fault: &LogFault) -> Result<Vec<u8>, AllocError>
     ensures { IfOk result (λ line.
         line.items ≡ fault_line (codes "log") (log_text fault.now)) }
 {
@@ -99,7 +99,7 @@ fn log_line(fault: &LogFault, alloc: Global) -> Result<Vec<u8>, AllocError>
 }
 
 // The line of a file that could not be read.
-fn read_line(file: InputFile, alloc: Global) -> Result<Vec<u8>, AllocError>
+fn read_line(alloc: Global, file: InputFile) -> Result<Vec<u8>, AllocError>
     ensures { IfOk result (λ line.
         line.items ≡ codes "read: " ++ file_text file ++ codes "\n") }
 {
@@ -135,13 +135,13 @@ impl Refusal {
         match self {
             Refusal::Usage => Vec::from_slice(alloc, USAGE),
             Refusal::LongSignature => Vec::from_slice(alloc, b"signature: TooLong at 1048576\n"),
-            Refusal::Signature(fault) => sig_line(fault, alloc),
+            Refusal::Signature(fault) => sig_line(alloc, fault),
             Refusal::LongPolicy => Vec::from_slice(alloc, b"policy: TooLong at 1048576\n"),
-            Refusal::Policy(fault) => policy_line(fault, alloc),
-            Refusal::Fragment(fault) => fragment_line(fault, alloc),
+            Refusal::Policy(fault) => policy_line(alloc, fault),
+            Refusal::Fragment(fault) => fragment_line(alloc, fault),
             Refusal::Later => Vec::from_slice(alloc, b"policy: Later\n"),
-            Refusal::Log(fault) => log_line(fault, alloc),
-            Refusal::Read(file) => read_line(*file, alloc),
+            Refusal::Log(fault) => log_line(alloc, fault),
+            Refusal::Read(file) => read_line(alloc, *file),
             Refusal::Write => Vec::from_slice(alloc, b"write\n"),
             Refusal::Memory => Vec::from_slice(alloc, b"memory\n"),
         }

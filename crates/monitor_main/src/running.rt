@@ -25,10 +25,10 @@ use std::thread::Threads;
 
 // Does what the command says, and answers whether some line has a row.
 fn obey<I: Inputs, O: Sink>(
+    alloc: Global,
     command: &Command<'_>,
     inputs: &mut I,
     out: &mut O,
-    alloc: Global,
 ) -> Result<bool, Refusal>
     ensures files { I.files inputs.new ≡ I.files inputs.old }
     ensures comes { ToldFiles (I.files inputs.old) (λ files. ComesTo
@@ -40,8 +40,8 @@ fn obey<I: Inputs, O: Sink>(
     ensures behind { IfErr result IsBehindWords }
 {
     match command {
-        Command::Run(sources, log) => run_policy(sources, log, inputs, out, alloc),
-        Command::Check(sources) => check_policy(sources, inputs, out, alloc),
+        Command::Run(sources, log) => run_policy(alloc, sources, log, inputs, out),
+        Command::Check(sources) => check_policy(alloc, sources, inputs, out),
     }
 }
 
@@ -57,10 +57,10 @@ fn words_refusal(fault: WordsFault) -> Refusal
 
 // What the words and the files come to: whether some line has a row, or why it is refused.
 fn decide<I: Inputs, O: Sink>(
+    alloc: Global,
     words: &[String],
     inputs: &mut I,
     out: &mut O,
-    alloc: Global,
 ) -> Result<bool, Refusal>
     ensures files { I.files inputs.new ≡ I.files inputs.old }
     ensures comes { ToldFiles (I.files inputs.old) (λ files. ComesTo
@@ -72,7 +72,7 @@ fn decide<I: Inputs, O: Sink>(
     ensures usage { IfErr result (HasWordsCause (texts_of words.now)) }
 {
     match read_words(alloc, words) {
-        Ok(command) => obey(&command, inputs, out, alloc),
+        Ok(command) => obey(alloc, &command, inputs, out),
         Err(fault) => Err(words_refusal(fault)),
     }
 }
@@ -100,7 +100,7 @@ fn tell_memory<E: Sink>(err: &mut E)
 
 // Tells the refusal, and answers the status that stands for it.
 #[tactic(auto, using(crate::proofs::ReportLemmas::reported, crate::proofs::ReportLemmas::reported_memory))]
-fn report<E: Sink>(refusal: Refusal, err: &mut E, alloc: Global) -> Status
+fn report<E: Sink>(alloc: Global, refusal: Refusal, err: &mut E) -> Status
     ensures { Reports refusal result (E.written err.old) (E.written err.new)
         (E.faults err.old) (E.faults err.new) }
 {
@@ -158,9 +158,9 @@ pub fn run<R: Threads + Wait + Sync, I: Inputs, O: Sink, E: Sink, G: Gate + Sync
         (E.faults err.old) (E.faults err.new) (line_of Refusal.Memory) }
     ensures files { I.files inputs.new ≡ I.files inputs.old }
 {
-    match decide(words.as_slice(), inputs, out, alloc) {
+    match decide(alloc, words.as_slice(), inputs, out) {
         Ok(true) => Status::Violated,
         Ok(false) => Status::Clean,
-        Err(refusal) => report(refusal, err, alloc),
+        Err(refusal) => report(alloc, refusal, err),
     }
 }

@@ -28,7 +28,7 @@ impl Variable {
         }
     }
 
-    fn text_after(&self, kind: &[u8], alloc: Global) -> Result<Vec<u8>, AllocError>
+    fn text_after(&self, alloc: Global, kind: &[u8]) -> Result<Vec<u8>, AllocError>
         ensures { IfOk result (λ text. text.items ≡ kind.now ++ self.now.name) }
     {
         let mut text = Vec::from_slice(alloc, kind)?;
@@ -78,10 +78,10 @@ impl FragmentFault {
         match self {
             FragmentFault::TooLarge => Vec::from_slice(alloc, b"TooLarge"),
             FragmentFault::UnboundedFuture => Vec::from_slice(alloc, b"UnboundedFuture"),
-            FragmentFault::Unguarded(variable) => variable.text_after(b"Unguarded ", alloc),
+            FragmentFault::Unguarded(variable) => variable.text_after(alloc, b"Unguarded "),
             FragmentFault::Uneven => Vec::from_slice(alloc, b"Uneven"),
-            FragmentFault::LooseLeft(variable) => variable.text_after(b"LooseLeft ", alloc),
-            FragmentFault::UnusedBound(variable) => variable.text_after(b"UnusedBound ", alloc),
+            FragmentFault::LooseLeft(variable) => variable.text_after(alloc, b"LooseLeft "),
+            FragmentFault::UnusedBound(variable) => variable.text_after(alloc, b"UnusedBound "),
             FragmentFault::Memory => Vec::from_slice(alloc, b"Memory"),
         }
     }

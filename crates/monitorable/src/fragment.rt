@@ -65,46 +65,46 @@ impl Role {
 /// The first fault of a normal form in its role, as an error.
 #[tactic(auto, unfolding(crate::specs::Fragment::fault_in))]
 pub fn judge(
+    alloc: Global,
     formula: &Formula,
     role: Role,
     scope: &Scope,
-    alloc: Global,
 ) -> Result<(), FragmentFault>
     ensures { Judges result (fault_in (scope_names scope.now) role (form formula.now)) }
 {
     match formula {
         Formula::True | Formula::False | Formula::Atom(_) => Ok(()),
-        Formula::Compare(_) => guard(role.judges_comparison(), formula, scope, alloc),
+        Formula::Compare(_) => guard(alloc, role.judges_comparison(), formula, scope),
         Formula::Not(inner) => {
-            judge(inner, role.under_not(), scope, alloc)?;
-            guard(role.judges_not(), formula, scope, alloc)
+            judge(alloc, inner, role.under_not(), scope)?;
+            guard(alloc, role.judges_not(), formula, scope)
         }
         Formula::And(left, right) => {
-            judge(left, Role::Part, scope, alloc)?;
-            judge(right, Role::Part, scope, alloc)?;
-            guard(role.is_conjunction(), formula, scope, alloc)
+            judge(alloc, left, Role::Part, scope)?;
+            judge(alloc, right, Role::Part, scope)?;
+            guard(alloc, role.is_conjunction(), formula, scope)
         }
         Formula::Or(left, right) => {
-            judge(left, Role::Whole, scope, alloc)?;
-            judge(right, Role::Whole, scope, alloc)?;
-            even(left, right, alloc)
+            judge(alloc, left, Role::Whole, scope)?;
+            judge(alloc, right, Role::Whole, scope)?;
+            even(alloc, left, right)
         }
         Formula::Exists(bound, inner) => {
-            judge(inner, Role::Whole, &Scope::Under(&*bound, &*scope), alloc)?;
-            used(bound, inner, alloc)
+            judge(alloc, inner, Role::Whole, &Scope::Under(&*bound, &*scope))?;
+            used(alloc, bound, inner)
         }
-        Formula::Previous(_, inner) => judge(inner, Role::Whole, scope, alloc),
-        Formula::Next(_, inner) => judge(inner, Role::Whole, scope, alloc),
+        Formula::Previous(_, inner) => judge(alloc, inner, Role::Whole, scope),
+        Formula::Next(_, inner) => judge(alloc, inner, Role::Whole, scope),
         Formula::Since(_, left, right) => {
-            judge(left, Role::Left, scope, alloc)?;
-            judge(right, Role::Whole, scope, alloc)?;
-            covered(left, right, scope, alloc)
+            judge(alloc, left, Role::Left, scope)?;
+            judge(alloc, right, Role::Whole, scope)?;
+            covered(alloc, left, right, scope)
         }
         Formula::Until(interval, left, right) => {
-            judge(left, Role::Left, scope, alloc)?;
-            judge(right, Role::Whole, scope, alloc)?;
+            judge(alloc, left, Role::Left, scope)?;
+            judge(alloc, right, Role::Whole, scope)?;
             bounded(interval)?;
-            covered(left, right, scope, alloc)
+            covered(alloc, left, right, scope)
         }
         Formula::Implies(_, _)
         | Formula::Equiv(_, _)
@@ -117,21 +117,21 @@ pub fn judge(
 }
 
 // Where it is asked for: each variable of a conjunct that binds none is bound by another conjunct.
-fn guard(wanted: bool, formula: &Formula, scope: &Scope, alloc: Global) -> Result<(), FragmentFault>
+fn guard(alloc: Global, wanted: bool, formula: &Formula, scope: &Scope) -> Result<(), FragmentFault>
     ensures { Judges result (asked wanted (guards (scope_names scope.now) (form formula.now))) }
 {
     if !wanted {
         return Ok(());
     }
-    let bound = bound_by(formula, alloc)?;
-    let needed = needed_by(formula, alloc)?;
+    let bound = bound_by(alloc, formula)?;
+    let needed = needed_by(alloc, formula)?;
     match first_outside(&bound, &needed) {
         None => Ok(()),
-        Some(number) => Err(FragmentFault::Unguarded(scope.variable(number, alloc)?)),
+        Some(number) => Err(FragmentFault::Unguarded(scope.variable(alloc, number)?)),
     }
 }
 
-fn even(left: &Formula, right: &Formula, alloc: Global) -> Result<(), FragmentFault>
+fn even(alloc: Global, left: &Formula, right: &Formula) -> Result<(), FragmentFault>
     ensures { Judges result (evens (form left.now) (form right.now)) }
 {
     let left = left.free_vars(alloc)?;
@@ -142,7 +142,7 @@ fn even(left: &Formula, right: &Formula, alloc: Global) -> Result<(), FragmentFa
     Ok(())
 }
 
-fn used(bound: &Bound, inner: &Formula, alloc: Global) -> Result<(), FragmentFault>
+fn used(alloc: Global, bound: &Bound, inner: &Formula) -> Result<(), FragmentFault>
     ensures { Judges result (uses bound.now (form inner.now)) }
 {
     let free = inner.free_vars(alloc)?;
@@ -156,10 +156,10 @@ fn used(bound: &Bound, inner: &Formula, alloc: Global) -> Result<(), FragmentFau
 }
 
 fn covered(
+    alloc: Global,
     left: &Formula,
     right: &Formula,
     scope: &Scope,
-    alloc: Global,
 ) -> Result<(), FragmentFault>
     ensures { Judges result (covers (scope_names scope.now) (form left.now) (form right.now)) }
 {
@@ -167,7 +167,7 @@ fn covered(
     let right = right.free_vars(alloc)?;
     match first_outside(&right, &left) {
         None => Ok(()),
-        Some(number) => Err(FragmentFault::LooseLeft(scope.variable(number, alloc)?)),
+        Some(number) => Err(FragmentFault::LooseLeft(scope.variable(alloc, number)?)),
     }
 }
 

@@ -19,7 +19,7 @@ pub enum Conjunct<'a> {
 /// conjunction is one conjunct. With a child stands whether it is negated, with a test whether the
 /// comparison has to hold.
 #[tactic(auto, unfolding(crate::specs::Conjuncts::conjuncts_of))]
-pub fn conjuncts<'a>(formula: &'a Formula, alloc: Global) -> Result<Vec<Conjunct<'a>>, AllocError>
+pub fn conjuncts<'a>(alloc: Global, formula: &'a Formula) -> Result<Vec<Conjunct<'a>>, AllocError>
     ensures { IfOk result (λ parts. map conjunct_of parts.items ≡ conjuncts_of (form formula.now)) }
 {
     let mut parts = Vec::new(alloc);

@@ -22,11 +22,11 @@ use std::alloc::{AllocError, Global};
 const NODE_LIMIT: u32 = 1024;
 
 impl Core {
-    fn new(formula: Formula, alloc: Global) -> Result<Self, AllocError>
+    fn new(alloc: Global, formula: Formula) -> Result<Self, AllocError>
         ensures { IfOk result (λ core. core_form core ≡ form formula) }
     {
         let vars = formula.free_vars(alloc)?;
-        let atoms = atoms_of(&formula, alloc)?;
+        let atoms = atoms_of(alloc, &formula)?;
         Ok(Core {
             formula,
             vars,
@@ -68,21 +68,21 @@ impl Core {
     pub fn copy(&self, alloc: Global) -> Result<Self, AllocError>
         ensures { IfOk result (λ core. core_form core ≡ core_form self.now) }
     {
-        Core::new(self.formula.copy(alloc)?, alloc)
+        Core::new(alloc, self.formula.copy(alloc)?)
     }
 }
 
 #[tactic(auto, unfolding(crate::specs::Atoms::atoms_of))]
-fn atoms_of(formula: &Formula, alloc: Global) -> Result<Vec<Atom>, AllocError>
+fn atoms_of(alloc: Global, formula: &Formula) -> Result<Vec<Atom>, AllocError>
     ensures { IfOk result (λ atoms. atoms.items ≡ atoms_of (form formula.now)) }
 {
     let mut atoms = Vec::new(alloc);
-    add_atoms(formula, &mut atoms, alloc)?;
+    add_atoms(alloc, formula, &mut atoms)?;
     Ok(atoms)
 }
 
 #[tactic(auto, unfolding(crate::specs::Atoms::atoms_of))]
-fn add_atoms(formula: &Formula, atoms: &mut Vec<Atom>, alloc: Global) -> Result<(), AllocError>
+fn add_atoms(alloc: Global, formula: &Formula, atoms: &mut Vec<Atom>) -> Result<(), AllocError>
     ensures { OnOk result (atoms.new.items ≡ atoms.old.items ++ atoms_of (form formula.now)) }
 {
     match formula {
@@ -96,40 +96,40 @@ fn add_atoms(formula: &Formula, atoms: &mut Vec<Atom>, alloc: Global) -> Result<
         | Formula::Once(_, inner)
         | Formula::Historically(_, inner)
         | Formula::Eventually(_, inner)
-        | Formula::Always(_, inner) => add_atoms(inner, atoms, alloc),
+        | Formula::Always(_, inner) => add_atoms(alloc, inner, atoms),
         Formula::And(left, right)
         | Formula::Or(left, right)
         | Formula::Implies(left, right)
         | Formula::Equiv(left, right)
         | Formula::Since(_, left, right)
         | Formula::Until(_, left, right) => {
-            add_atoms(left, atoms, alloc)?;
-            add_atoms(right, atoms, alloc)
+            add_atoms(alloc, left, atoms)?;
+            add_atoms(alloc, right, atoms)
         }
     }
 }
 
 // The core, by the definitions of its parts.
-fn made(policy: &Policy, alloc: Global) -> Result<Core, FragmentFault>
+fn made(alloc: Global, policy: &Policy) -> Result<Core, FragmentFault>
     ensures judged { Judges result (policy_fault policy.now) }
     ensures core { IfOk result (λ core. core_form core ≡ apart_form (negative (policy_form policy.now))) }
 {
     if pay_for_denied(&policy.formula, Some(NODE_LIMIT)).is_none() {
         return Err(FragmentFault::TooLarge);
     }
-    let normal = denied(&policy.formula, alloc)?;
+    let normal = denied(alloc, &policy.formula)?;
     judge(
+        alloc,
         &normal,
         Role::Whole,
         &Scope::Free(policy.vars.as_slice()),
-        alloc,
     )?;
-    Ok(Core::new(apart(&normal, alloc)?, alloc)?)
+    Ok(Core::new(alloc, apart(alloc, &normal)?)?)
 }
 
 /// The core of a policy, or the first reason why it can't be monitored. TooLarge is found before any
 /// other, and without building the normal form.
-pub fn to_core(policy: &Policy, alloc: Global) -> Result<Core, FragmentFault>
+pub fn to_core(alloc: Global, policy: &Policy) -> Result<Core, FragmentFault>
     ensures judged { Judges result (policy_fault policy.now) }
     ensures core { IfOk result (λ core. core_form core ≡ apart_form (negative (policy_form policy.now))) }
     ensures denies { IfOk result (λ core. Denies (core_form core) (policy_form policy.now)) }
@@ -139,5 +139,5 @@ pub fn to_core(policy: &Policy, alloc: Global) -> Result<Core, FragmentFault>
     ensures constants { IfOk result (λ core. HasConstantsOf (core_form core) (policy_form policy.now)) }
     ensures apart { IfOk result (λ core. IsTrue (all_apart (fv (core_form core) ++ binders (core_form core)))) }
 {
-    made(policy, alloc)
+    made(alloc, policy)
 }

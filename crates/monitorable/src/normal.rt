@@ -10,7 +10,7 @@ use std::alloc::{AllocError, Global};
 /// The normal form of a formula.
 #[cycle(normal)]
 #[tactic(auto, unfolding(crate::specs::NormalForm::positive))]
-pub fn normal(formula: &Formula, alloc: Global) -> Result<Formula, AllocError>
+pub fn normal(alloc: Global, formula: &Formula) -> Result<Formula, AllocError>
     ensures { IfOk result (λ normal. form normal ≡ positive (form formula.now)) }
 {
     match formula {
@@ -18,39 +18,39 @@ pub fn normal(formula: &Formula, alloc: Global) -> Result<Formula, AllocError>
         Formula::False => Ok(Formula::False),
         Formula::Atom(atom) => Ok(Formula::Atom(atom.copy(alloc)?)),
         Formula::Compare(comparison) => Ok(Formula::Compare(comparison.copy(alloc)?)),
-        Formula::Not(inner) => denied(inner, alloc),
-        Formula::And(left, right) => Ok(Formula::And(boxed(left, alloc)?, boxed(right, alloc)?)),
-        Formula::Or(left, right) => Ok(Formula::Or(boxed(left, alloc)?, boxed(right, alloc)?)),
+        Formula::Not(inner) => denied(alloc, inner),
+        Formula::And(left, right) => Ok(Formula::And(boxed(alloc, left)?, boxed(alloc, right)?)),
+        Formula::Or(left, right) => Ok(Formula::Or(boxed(alloc, left)?, boxed(alloc, right)?)),
         Formula::Implies(left, right) => {
-            Ok(Formula::Or(boxed_denied(left, alloc)?, boxed(right, alloc)?))
+            Ok(Formula::Or(boxed_denied(alloc, left)?, boxed(alloc, right)?))
         }
         Formula::Equiv(left, right) => {
-            let forth = Formula::Or(boxed_denied(left, alloc)?, boxed(right, alloc)?);
-            let back = Formula::Or(boxed_denied(right, alloc)?, boxed(left, alloc)?);
-            and(forth, back, alloc)
+            let forth = Formula::Or(boxed_denied(alloc, left)?, boxed(alloc, right)?);
+            let back = Formula::Or(boxed_denied(alloc, right)?, boxed(alloc, left)?);
+            and(alloc, forth, back)
         }
-        Formula::Exists(x, inner) => Ok(Formula::Exists(x.copy(alloc)?, boxed(inner, alloc)?)),
+        Formula::Exists(x, inner) => Ok(Formula::Exists(x.copy(alloc)?, boxed(alloc, inner)?)),
         Formula::Forall(x, inner) => {
             not(
-                Formula::Exists(x.copy(alloc)?, boxed_denied(inner, alloc)?),
                 alloc,
+                Formula::Exists(x.copy(alloc)?, boxed_denied(alloc, inner)?),
             )
         }
-        Formula::Previous(at, inner) => Ok(Formula::Previous(*at, boxed(inner, alloc)?)),
-        Formula::Next(at, inner) => Ok(Formula::Next(*at, boxed(inner, alloc)?)),
-        Formula::Once(at, inner) => once(*at, boxed(inner, alloc)?, alloc),
+        Formula::Previous(at, inner) => Ok(Formula::Previous(*at, boxed(alloc, inner)?)),
+        Formula::Next(at, inner) => Ok(Formula::Next(*at, boxed(alloc, inner)?)),
+        Formula::Once(at, inner) => once(alloc, *at, boxed(alloc, inner)?),
         Formula::Historically(at, inner) => {
-            not(once(*at, boxed_denied(inner, alloc)?, alloc)?, alloc)
+            not(alloc, once(alloc, *at, boxed_denied(alloc, inner)?)?)
         }
-        Formula::Eventually(at, inner) => eventually(*at, boxed(inner, alloc)?, alloc),
+        Formula::Eventually(at, inner) => eventually(alloc, *at, boxed(alloc, inner)?),
         Formula::Always(at, inner) => {
-            not(eventually(*at, boxed_denied(inner, alloc)?, alloc)?, alloc)
+            not(alloc, eventually(alloc, *at, boxed_denied(alloc, inner)?)?)
         }
         Formula::Since(at, left, right) => {
-            Ok(Formula::Since(*at, boxed(left, alloc)?, boxed(right, alloc)?))
+            Ok(Formula::Since(*at, boxed(alloc, left)?, boxed(alloc, right)?))
         }
         Formula::Until(at, left, right) => {
-            Ok(Formula::Until(*at, boxed(left, alloc)?, boxed(right, alloc)?))
+            Ok(Formula::Until(*at, boxed(alloc, left)?, boxed(alloc, right)?))
         }
     }
 }
@@ -58,94 +58,94 @@ pub fn normal(formula: &Formula, alloc: Global) -> Result<Formula, AllocError>
 /// The normal form of a formula's negation.
 #[cycle(normal)]
 #[tactic(auto, unfolding(crate::specs::NormalForm::negative))]
-pub fn denied(formula: &Formula, alloc: Global) -> Result<Formula, AllocError>
+pub fn denied(alloc: Global, formula: &Formula) -> Result<Formula, AllocError>
     ensures { IfOk result (λ normal. form normal ≡ negative (form formula.now)) }
 {
     match formula {
-        Formula::True => not(Formula::True, alloc),
-        Formula::False => not(Formula::False, alloc),
-        Formula::Atom(atom) => not(Formula::Atom(atom.copy(alloc)?), alloc),
-        Formula::Compare(comparison) => not(Formula::Compare(comparison.copy(alloc)?), alloc),
-        Formula::Not(inner) => normal(inner, alloc),
+        Formula::True => not(alloc, Formula::True),
+        Formula::False => not(alloc, Formula::False),
+        Formula::Atom(atom) => not(alloc, Formula::Atom(atom.copy(alloc)?)),
+        Formula::Compare(comparison) => not(alloc, Formula::Compare(comparison.copy(alloc)?)),
+        Formula::Not(inner) => normal(alloc, inner),
         Formula::And(left, right) => {
             not(
-                Formula::And(boxed(left, alloc)?, boxed(right, alloc)?),
                 alloc,
+                Formula::And(boxed(alloc, left)?, boxed(alloc, right)?),
             )
         }
         Formula::Or(left, right) => {
-            Ok(Formula::And(boxed_denied(left, alloc)?, boxed_denied(right, alloc)?))
+            Ok(Formula::And(boxed_denied(alloc, left)?, boxed_denied(alloc, right)?))
         }
         Formula::Implies(left, right) => {
-            Ok(Formula::And(boxed(left, alloc)?, boxed_denied(right, alloc)?))
+            Ok(Formula::And(boxed(alloc, left)?, boxed_denied(alloc, right)?))
         }
         Formula::Equiv(left, right) => {
-            let forth = Formula::Or(boxed_denied(left, alloc)?, boxed(right, alloc)?);
-            let back = Formula::Or(boxed_denied(right, alloc)?, boxed(left, alloc)?);
-            not(and(forth, back, alloc)?, alloc)
+            let forth = Formula::Or(boxed_denied(alloc, left)?, boxed(alloc, right)?);
+            let back = Formula::Or(boxed_denied(alloc, right)?, boxed(alloc, left)?);
+            not(alloc, and(alloc, forth, back)?)
         }
         Formula::Exists(x, inner) => {
-            not(Formula::Exists(x.copy(alloc)?, boxed(inner, alloc)?), alloc)
+            not(alloc, Formula::Exists(x.copy(alloc)?, boxed(alloc, inner)?))
         }
         Formula::Forall(x, inner) => {
-            Ok(Formula::Exists(x.copy(alloc)?, boxed_denied(inner, alloc)?))
+            Ok(Formula::Exists(x.copy(alloc)?, boxed_denied(alloc, inner)?))
         }
-        Formula::Previous(at, inner) => not(Formula::Previous(*at, boxed(inner, alloc)?), alloc),
-        Formula::Next(at, inner) => not(Formula::Next(*at, boxed(inner, alloc)?), alloc),
-        Formula::Once(at, inner) => not(once(*at, boxed(inner, alloc)?, alloc)?, alloc),
-        Formula::Historically(at, inner) => once(*at, boxed_denied(inner, alloc)?, alloc),
-        Formula::Eventually(at, inner) => not(eventually(*at, boxed(inner, alloc)?, alloc)?, alloc),
-        Formula::Always(at, inner) => eventually(*at, boxed_denied(inner, alloc)?, alloc),
+        Formula::Previous(at, inner) => not(alloc, Formula::Previous(*at, boxed(alloc, inner)?)),
+        Formula::Next(at, inner) => not(alloc, Formula::Next(*at, boxed(alloc, inner)?)),
+        Formula::Once(at, inner) => not(alloc, once(alloc, *at, boxed(alloc, inner)?)?),
+        Formula::Historically(at, inner) => once(alloc, *at, boxed_denied(alloc, inner)?),
+        Formula::Eventually(at, inner) => not(alloc, eventually(alloc, *at, boxed(alloc, inner)?)?),
+        Formula::Always(at, inner) => eventually(alloc, *at, boxed_denied(alloc, inner)?),
         Formula::Since(at, left, right) => {
             not(
-                Formula::Since(*at, boxed(left, alloc)?, boxed(right, alloc)?),
                 alloc,
+                Formula::Since(*at, boxed(alloc, left)?, boxed(alloc, right)?),
             )
         }
         Formula::Until(at, left, right) => {
             not(
-                Formula::Until(*at, boxed(left, alloc)?, boxed(right, alloc)?),
                 alloc,
+                Formula::Until(*at, boxed(alloc, left)?, boxed(alloc, right)?),
             )
         }
     }
 }
 
 #[cycle(normal)]
-fn boxed(formula: &Formula, alloc: Global) -> Result<Box<Formula>, AllocError>
+fn boxed(alloc: Global, formula: &Formula) -> Result<Box<Formula>, AllocError>
     ensures { IfOk result (λ normal. form normal.value ≡ positive (form formula.now)) }
 {
-    Ok(Box::new(alloc, normal(formula, alloc)?)?)
+    Ok(Box::new(alloc, normal(alloc, formula)?)?)
 }
 
 #[cycle(normal)]
-fn boxed_denied(formula: &Formula, alloc: Global) -> Result<Box<Formula>, AllocError>
+fn boxed_denied(alloc: Global, formula: &Formula) -> Result<Box<Formula>, AllocError>
     ensures { IfOk result (λ normal. form normal.value ≡ negative (form formula.now)) }
 {
-    Ok(Box::new(alloc, denied(formula, alloc)?)?)
+    Ok(Box::new(alloc, denied(alloc, formula)?)?)
 }
 
-fn and(left: Formula, right: Formula, alloc: Global) -> Result<Formula, AllocError>
+fn and(alloc: Global, left: Formula, right: Formula) -> Result<Formula, AllocError>
     ensures { IfOk result (λ formula. form formula ≡ And (form left) (form right)) }
 {
     Ok(Formula::And(Box::new(alloc, left)?, Box::new(alloc, right)?))
 }
 
-fn not(inner: Formula, alloc: Global) -> Result<Formula, AllocError>
+fn not(alloc: Global, inner: Formula) -> Result<Formula, AllocError>
     ensures { IfOk result (λ formula. form formula ≡ Not (form inner)) }
 {
     Ok(Formula::Not(Box::new(alloc, inner)?))
 }
 
 // ONCE, as the SINCE that it stands for.
-fn once(at: Interval, inner: Box<Formula>, alloc: Global) -> Result<Formula, AllocError>
+fn once(alloc: Global, at: Interval, inner: Box<Formula>) -> Result<Formula, AllocError>
     ensures { IfOk result (λ formula. form formula ≡ Since at True (form inner.value)) }
 {
     Ok(Formula::Since(at, Box::new(alloc, Formula::True)?, inner))
 }
 
 // EVENTUALLY, as the UNTIL that it stands for.
-fn eventually(at: Interval, inner: Box<Formula>, alloc: Global) -> Result<Formula, AllocError>
+fn eventually(alloc: Global, at: Interval, inner: Box<Formula>) -> Result<Formula, AllocError>
     ensures { IfOk result (λ formula. form formula ≡ Until at True (form inner.value)) }
 {
     Ok(Formula::Until(at, Box::new(alloc, Formula::True)?, inner))

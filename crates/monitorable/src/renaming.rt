@@ -26,7 +26,7 @@ impl Renaming<'_> {
         }
     }
 
-    fn term(&self, term: &Term, alloc: Global) -> Result<Term, AllocError>
+    fn term(&self, alloc: Global, term: &Term) -> Result<Term, AllocError>
         ensures { IfOk result (λ term'. term' ≡ renamed_term (numbers_of self.now) term.now) }
     {
         match term {
@@ -35,32 +35,32 @@ impl Renaming<'_> {
         }
     }
 
-    fn terms(&self, terms: &[Term], alloc: Global) -> Result<Vec<Term>, AllocError>
+    fn terms(&self, alloc: Global, terms: &[Term]) -> Result<Vec<Term>, AllocError>
         ensures { IfOk result (λ terms'. terms'.items ≡ map (renamed_term (numbers_of self.now)) terms.now) }
     {
         let mut renamed = Vec::with_capacity(alloc, terms.len())?;
         for term in terms {
-            renamed.push(self.term(term, alloc)?)?;
+            renamed.push(self.term(alloc, term)?)?;
         }
         Ok(renamed)
     }
 
-    fn atom(&self, atom: &Atom, alloc: Global) -> Result<Atom, AllocError>
+    fn atom(&self, alloc: Global, atom: &Atom) -> Result<Atom, AllocError>
         ensures { IfOk result (λ atom'. atom' ≡ renamed_atom (numbers_of self.now) atom.now) }
     {
         Ok(Atom {
             pred: atom.pred,
-            args: Terms::new(self.terms(atom.args.as_slice(), alloc)?),
+            args: Terms::new(self.terms(alloc, atom.args.as_slice())?),
         })
     }
 
-    fn comparison(&self, comparison: &Comparison, alloc: Global) -> Result<Comparison, AllocError>
+    fn comparison(&self, alloc: Global, comparison: &Comparison) -> Result<Comparison, AllocError>
         ensures { IfOk result (λ renamed. renamed ≡ renamed_comparison (numbers_of self.now) comparison.now) }
     {
         Ok(Comparison {
             sign: comparison.sign,
-            left: self.term(&comparison.left, alloc)?,
-            right: self.term(&comparison.right, alloc)?,
+            left: self.term(alloc, &comparison.left)?,
+            right: self.term(alloc, &comparison.right)?,
         })
     }
 }
@@ -70,10 +70,10 @@ impl Renaming<'_> {
 #[cycle(renaming)]
 #[tactic(auto, unfolding(crate::specs::Renaming::renamed, crate::specs::Renaming::binder_count))]
 fn renamed(
+    alloc: Global,
     formula: &Formula,
     renaming: &Renaming,
     next: &mut u32,
-    alloc: Global,
 ) -> Result<Formula, AllocError>
     ensures renamed { IfOk result (λ formula'. form formula'
         ≡ renamed (numbers_of renaming.now) next.old (form formula.now)) }
@@ -82,84 +82,84 @@ fn renamed(
     match formula {
         Formula::True => Ok(Formula::True),
         Formula::False => Ok(Formula::False),
-        Formula::Atom(atom) => Ok(Formula::Atom(renaming.atom(atom, alloc)?)),
+        Formula::Atom(atom) => Ok(Formula::Atom(renaming.atom(alloc, atom)?)),
         Formula::Compare(comparison) => {
-            Ok(Formula::Compare(renaming.comparison(comparison, alloc)?))
+            Ok(Formula::Compare(renaming.comparison(alloc, comparison)?))
         }
-        Formula::Not(inner) => Ok(Formula::Not(boxed(inner, renaming, next, alloc)?)),
+        Formula::Not(inner) => Ok(Formula::Not(boxed(alloc, inner, renaming, next)?)),
         Formula::And(left, right) => {
-            let left = boxed(left, renaming, next, alloc)?;
-            Ok(Formula::And(left, boxed(right, renaming, next, alloc)?))
+            let left = boxed(alloc, left, renaming, next)?;
+            Ok(Formula::And(left, boxed(alloc, right, renaming, next)?))
         }
         Formula::Or(left, right) => {
-            let left = boxed(left, renaming, next, alloc)?;
-            Ok(Formula::Or(left, boxed(right, renaming, next, alloc)?))
+            let left = boxed(alloc, left, renaming, next)?;
+            Ok(Formula::Or(left, boxed(alloc, right, renaming, next)?))
         }
         Formula::Implies(left, right) => {
-            let left = boxed(left, renaming, next, alloc)?;
-            Ok(Formula::Implies(left, boxed(right, renaming, next, alloc)?))
+            let left = boxed(alloc, left, renaming, next)?;
+            Ok(Formula::Implies(left, boxed(alloc, right, renaming, next)?))
         }
         Formula::Equiv(left, right) => {
-            let left = boxed(left, renaming, next, alloc)?;
-            Ok(Formula::Equiv(left, boxed(right, renaming, next, alloc)?))
+            let left = boxed(alloc, left, renaming, next)?;
+            Ok(Formula::Equiv(left, boxed(alloc, right, renaming, next)?))
         }
         Formula::Exists(bound, inner) => {
             let number = take(next)?;
             let inner = boxed(
+                alloc,
                 inner,
                 &Renaming::To(bound.number, number, &*renaming),
                 next,
-                alloc,
             )?;
-            Ok(Formula::Exists(renumbered(bound, number, alloc)?, inner))
+            Ok(Formula::Exists(renumbered(alloc, bound, number)?, inner))
         }
         Formula::Forall(bound, inner) => {
             let number = take(next)?;
             let inner = boxed(
+                alloc,
                 inner,
                 &Renaming::To(bound.number, number, &*renaming),
                 next,
-                alloc,
             )?;
-            Ok(Formula::Forall(renumbered(bound, number, alloc)?, inner))
+            Ok(Formula::Forall(renumbered(alloc, bound, number)?, inner))
         }
         Formula::Previous(at, inner) => {
-            Ok(Formula::Previous(*at, boxed(inner, renaming, next, alloc)?))
+            Ok(Formula::Previous(*at, boxed(alloc, inner, renaming, next)?))
         }
-        Formula::Next(at, inner) => Ok(Formula::Next(*at, boxed(inner, renaming, next, alloc)?)),
-        Formula::Once(at, inner) => Ok(Formula::Once(*at, boxed(inner, renaming, next, alloc)?)),
+        Formula::Next(at, inner) => Ok(Formula::Next(*at, boxed(alloc, inner, renaming, next)?)),
+        Formula::Once(at, inner) => Ok(Formula::Once(*at, boxed(alloc, inner, renaming, next)?)),
         Formula::Historically(at, inner) => {
-            Ok(Formula::Historically(*at, boxed(inner, renaming, next, alloc)?))
+            Ok(Formula::Historically(*at, boxed(alloc, inner, renaming, next)?))
         }
         Formula::Eventually(at, inner) => {
-            Ok(Formula::Eventually(*at, boxed(inner, renaming, next, alloc)?))
+            Ok(Formula::Eventually(*at, boxed(alloc, inner, renaming, next)?))
         }
         Formula::Always(at, inner) => {
-            Ok(Formula::Always(*at, boxed(inner, renaming, next, alloc)?))
+            Ok(Formula::Always(*at, boxed(alloc, inner, renaming, next)?))
         }
         Formula::Since(at, left, right) => {
-            let left = boxed(left, renaming, next, alloc)?;
-            Ok(Formula::Since(*at, left, boxed(right, renaming, next, alloc)?))
+            let left = boxed(alloc, left, renaming, next)?;
+            Ok(Formula::Since(*at, left, boxed(alloc, right, renaming, next)?))
         }
         Formula::Until(at, left, right) => {
-            let left = boxed(left, renaming, next, alloc)?;
-            Ok(Formula::Until(*at, left, boxed(right, renaming, next, alloc)?))
+            let left = boxed(alloc, left, renaming, next)?;
+            Ok(Formula::Until(*at, left, boxed(alloc, right, renaming, next)?))
         }
     }
 }
 
 #[cycle(renaming)]
 fn boxed(
+    alloc: Global,
     formula: &Formula,
     renaming: &Renaming,
     next: &mut u32,
-    alloc: Global,
 ) -> Result<Box<Formula>, AllocError>
     ensures renamed { IfOk result (λ formula'. form formula'.value
         ≡ renamed (numbers_of renaming.now) next.old (form formula.now)) }
     ensures next { OnOk result (next.new ≡ next.old + binder_count (form formula.now)) }
 {
-    Ok(Box::new(alloc, renamed(formula, &*renaming, next, alloc)?)?)
+    Ok(Box::new(alloc, renamed(alloc, formula, &*renaming, next)?)?)
 }
 
 // The next number.
@@ -177,7 +177,7 @@ fn take(next: &mut u32) -> Result<u32, AllocError>
     }
 }
 
-fn renumbered(bound: &Bound, number: u32, alloc: Global) -> Result<Bound, AllocError>
+fn renumbered(alloc: Global, bound: &Bound, number: u32) -> Result<Bound, AllocError>
     ensures number { IfOk result (λ renumbered. renumbered.number ≡ number) }
     ensures name { IfOk result (λ renumbered. renumbered.name ≡ bound.now.name) }
 {
@@ -202,9 +202,9 @@ fn above(variables: &[u32]) -> Result<u32, AllocError>
 }
 
 /// The formula with its quantifiers numbered one after the other, above its free variables.
-pub fn apart(formula: &Formula, alloc: Global) -> Result<Formula, AllocError>
+pub fn apart(alloc: Global, formula: &Formula) -> Result<Formula, AllocError>
     ensures { IfOk result (λ formula'. form formula' ≡ apart_form (form formula.now)) }
 {
     let mut next = above(&formula.free_vars(alloc)?)?;
-    renamed(formula, &Renaming::Same, &mut next, alloc)
+    renamed(alloc, formula, &Renaming::Same, &mut next)
 }

@@ -16,7 +16,7 @@ pub enum Scope<'a> {
 
 impl Scope<'_> {
     /// The variable with its name.
-    pub fn variable(&self, number: u32, alloc: Global) -> Result<Variable, AllocError>
+    pub fn variable(&self, alloc: Global, number: u32) -> Result<Variable, AllocError>
         ensures { IfOk result (λ variable. variable ≡ named (scope_names self.now) number) }
     {
         match self {
@@ -24,13 +24,13 @@ impl Scope<'_> {
                 number,
                 name: bound.name.copy(alloc)?,
             }),
-            Scope::Under(_, outer) => outer.variable(number, alloc),
-            Scope::Free(vars) => free_variable(vars, number, alloc),
+            Scope::Under(_, outer) => outer.variable(alloc, number),
+            Scope::Free(vars) => free_variable(alloc, vars, number),
         }
     }
 }
 
-fn free_variable(vars: &[Var], number: u32, alloc: Global) -> Result<Variable, AllocError>
+fn free_variable(alloc: Global, vars: &[Var], number: u32) -> Result<Variable, AllocError>
     ensures { IfOk result (λ variable. variable ≡ named (free_names vars.now) number) }
 {
     let name = match vars.get(number as usize) {

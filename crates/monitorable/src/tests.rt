@@ -11,7 +11,7 @@ const EVER: Interval = Interval { lo: 0, hi: None };
 const WEEK: Interval = Interval { lo: 0, hi: Some(7) };
 
 fn name(alloc: Global, text: &str) -> Result<Name, Fail> {
-    Ok(Name::from_slice(text.as_bytes(), alloc)?)
+    Ok(Name::from_slice(alloc, text.as_bytes())?)
 }
 
 fn atom(alloc: Global, argument: Term) -> Result<Formula, Fail> {
@@ -97,7 +97,7 @@ fn policy(alloc: Global, words: &[&str]) -> Result<Policy, Fail> {
 }
 
 fn answer(alloc: Global, words: &[&str]) -> Result<String, Fail> {
-    match to_core(&policy(alloc, words)?, alloc) {
+    match to_core(alloc, &policy(alloc, words)?) {
         Ok(_) => Ok(String::from_str(alloc, "monitorable")?),
         Err(fault) => Ok(format!(in alloc; "{fault}")?),
     }
@@ -154,7 +154,7 @@ fn the_normal_form_has_at_most_1024_nodes(rt: HostRuntime) -> Result<(), Fail> {
 #[test]
 fn a_core_lends_its_variables_and_atoms(rt: HostRuntime) -> Result<(), Fail> {
     let alloc = rt.alloc();
-    let Ok(core) = to_core(&policy(alloc, &["p(x)", "NOT"])?, alloc) else {
+    let Ok(core) = to_core(alloc, &policy(alloc, &["p(x)", "NOT"])?) else {
         assert!(rt; false, "it is monitorable");
         return Ok(());
     };
@@ -162,7 +162,7 @@ fn a_core_lends_its_variables_and_atoms(rt: HostRuntime) -> Result<(), Fail> {
     assert_eq!(rt; core.vars(), [0].as_slice());
     assert_eq!(rt; core.atoms().len(), 1);
     assert!(rt; core.as_atom().is_some());
-    assert_eq!(rt; conjuncts(core.formula(), alloc)?.len(), 1);
+    assert_eq!(rt; conjuncts(alloc, core.formula())?.len(), 1);
     Ok(())
 }
 
@@ -171,7 +171,7 @@ fn a_fault_has_a_text_whatever_the_name(rt: HostRuntime) -> Result<(), Fail> {
     let alloc = rt.alloc();
     let fault = FragmentFault::Unguarded(Variable {
         number: 0,
-        name: Name::from_slice(b"\xff", alloc)?,
+        name: Name::from_slice(alloc, b"\xff")?,
     });
     assert_eq!(rt; fault.text(alloc)?.as_slice(), b"Unguarded \xff".as_slice());
     Ok(())

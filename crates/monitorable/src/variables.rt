@@ -24,15 +24,15 @@ pub fn binds(comparison: &Comparison) -> bool
 
 /// The free variables of the conjuncts that bind theirs.
 #[tactic(auto, unfolding(crate::specs::Fragment::bound_by))]
-pub fn bound_by(formula: &Formula, alloc: Global) -> Result<Vec<u32>, AllocError>
+pub fn bound_by(alloc: Global, formula: &Formula) -> Result<Vec<u32>, AllocError>
     ensures { IfOk result (λ variables. variables.items ≡ bound_by (form formula.now)) }
 {
     match formula {
         Formula::Not(_) => Ok(Vec::new(alloc)),
         Formula::Compare(comparison) if !binds(comparison) => Ok(Vec::new(alloc)),
         Formula::And(left, right) => {
-            let mut variables = bound_by(left, alloc)?;
-            variables.extend_from_slice(&bound_by(right, alloc)?)?;
+            let mut variables = bound_by(alloc, left)?;
+            variables.extend_from_slice(&bound_by(alloc, right)?)?;
             Ok(variables)
         }
         Formula::True
@@ -57,15 +57,15 @@ pub fn bound_by(formula: &Formula, alloc: Global) -> Result<Vec<u32>, AllocError
 
 /// The free variables of the other conjuncts, in the order of their occurrence.
 #[tactic(auto, unfolding(crate::specs::Fragment::needed_by))]
-pub fn needed_by(formula: &Formula, alloc: Global) -> Result<Vec<u32>, AllocError>
+pub fn needed_by(alloc: Global, formula: &Formula) -> Result<Vec<u32>, AllocError>
     ensures { IfOk result (λ variables. variables.items ≡ needed_by (form formula.now)) }
 {
     match formula {
         Formula::Not(inner) => inner.free_vars(alloc),
         Formula::Compare(comparison) if !binds(comparison) => formula.free_vars(alloc),
         Formula::And(left, right) => {
-            let mut variables = needed_by(left, alloc)?;
-            variables.extend_from_slice(&needed_by(right, alloc)?)?;
+            let mut variables = needed_by(alloc, left)?;
+            variables.extend_from_slice(&needed_by(alloc, right)?)?;
             Ok(variables)
         }
         Formula::True

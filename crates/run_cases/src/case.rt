@@ -71,7 +71,7 @@ fn parted(line: &str) -> Result<(&str, &str), CaseFault> {
 }
 
 // Reads the file of this head: its name, its length, and its bytes on the lines behind.
-fn read_file(cursor: &mut Cursor<'_>, head: &str, alloc: Global) -> Result<NamedFile, CaseFault> {
+fn read_file(alloc: Global, cursor: &mut Cursor<'_>, head: &str) -> Result<NamedFile, CaseFault> {
     let (name, length) = present(head.rsplit_once(' '))?;
     let Ok(length) = length.parse::<usize>() else {
         return Err(CaseFault::Malformed);
@@ -85,10 +85,10 @@ fn read_file(cursor: &mut Cursor<'_>, head: &str, alloc: Global) -> Result<Named
 
 // Puts what a line says into the case.
 fn put_line(
+    alloc: Global,
     case: &mut Case,
     cursor: &mut Cursor<'_>,
     line: &str,
-    alloc: Global,
 ) -> Result<(), CaseFault> {
     let (key, value) = parted(line)?;
     match key {
@@ -97,7 +97,7 @@ fn put_line(
         "fail-err" => put_numbers(&mut case.fail_err, value),
         "word" => Ok(case.words.push(String::from_str(alloc, value)?)?),
         "file" => {
-            let file = read_file(cursor, value, alloc)?;
+            let file = read_file(alloc, cursor, value)?;
             Ok(case.files.push(file)?)
         }
         _ => Err(CaseFault::Malformed),
@@ -126,7 +126,7 @@ fn piece_of(line: &str) -> Result<usize, CaseFault>
 }
 
 /// Reads the next case.
-pub fn read_case(cursor: &mut Cursor<'_>, alloc: Global) -> Result<Case, CaseFault> {
+pub fn read_case(alloc: Global, cursor: &mut Cursor<'_>) -> Result<Case, CaseFault> {
     let name = value_of(text_line(cursor)?, "case")?;
     let piece = piece_of(text_line(cursor)?)?;
     let mut case = Case {
@@ -143,7 +143,7 @@ pub fn read_case(cursor: &mut Cursor<'_>, alloc: Global) -> Result<Case, CaseFau
         if line == "end" {
             return Ok(case);
         }
-        put_line(&mut case, cursor, line, alloc)?;
+        put_line(alloc, &mut case, cursor, line)?;
     }
     Err(CaseFault::Malformed)
 }

@@ -26,14 +26,14 @@ fn print_bytes<W: Write>(out: &mut W, heading: &str, bytes: &[u8]) -> io::Result
 // Runs a case and prints its answer.
 fn answer<R: Threads + Wait + Sync, W: Write>(
     rt: &R,
+    alloc: Global,
     case: Case,
     out: &mut W,
-    alloc: Global,
 ) -> io::Result<()> {
     let words = case.words;
     let mut inputs = MemInputs::new(case.files.as_slice(), case.piece, case.fail.as_slice());
-    let mut text = MemSink::new(case.fail_out.as_slice(), alloc);
-    let mut errors = MemSink::new(case.fail_err.as_slice(), alloc);
+    let mut text = MemSink::new(alloc, case.fail_out.as_slice());
+    let mut errors = MemSink::new(alloc, case.fail_err.as_slice());
     let status = run(
         rt,
         alloc,
@@ -54,17 +54,17 @@ fn answer<R: Threads + Wait + Sync, W: Write>(
 // Answers case after case, up to one that is malformed.
 fn answer_all<R: Threads + Wait + Sync, W: Write>(
     rt: &R,
+    alloc: Global,
     cases: &[u8],
     out: &mut W,
-    alloc: Global,
 ) -> io::Result<Option<usize>> {
     let mut cursor = Cursor::new(cases);
     for _ in 0..u64::MAX {
         if cursor.is_at_end() {
             break;
         }
-        match read_case(&mut cursor, alloc) {
-            Ok(case) => answer(rt, case, out, alloc)?,
+        match read_case(alloc, &mut cursor) {
+            Ok(case) => answer(rt, alloc, case, out)?,
             Err(CaseFault::Malformed) => return Ok(Some(cursor.line_number())),
             Err(CaseFault::Memory(e)) => return Err(io::Error::from(e)),
         }
@@ -76,7 +76,7 @@ fn main(rt: HostRuntime) -> io::Result<ExitCode> {
     let mut cases = Vec::new(rt.alloc());
     rt.stdin().read_to_end(&mut cases)?;
     let mut out = BufWriter::new(rt.alloc(), rt.stdout())?;
-    let malformed = answer_all(&rt, cases.as_slice(), &mut out, rt.alloc());
+    let malformed = answer_all(&rt, rt.alloc(), cases.as_slice(), &mut out);
     out.flush()?;
     match malformed? {
         Some(line) => {

@@ -62,7 +62,7 @@ pub fn term_value<'a>(term: &'a Term, bindings: &'a Bindings<'a>, zero: &'a Valu
 }
 
 /// The event that an atom stands for.
-pub fn event_of(atom: &Atom, bindings: &Bindings<'_>, alloc: Global) -> Result<Event, AllocError>
+pub fn event_of(alloc: Global, atom: &Atom, bindings: &Bindings<'_>) -> Result<Event, AllocError>
     ensures { IfOk result (λ event. event ≡ event_of (values_of bindings.now) atom.now) }
 {
     let zero = Value::Int(0);

@@ -16,45 +16,45 @@ use std::collections::BTreeSet;
 /// The values that occur in the log or in the formula, in ascending order.
 #[tactic(auto, using(crate::proofs::DomainLemmas::added_behind))]
 pub fn active_domain(
+    alloc: Global,
     formula: &Formula,
     log: &[TimePoint],
-    alloc: Global,
 ) -> Result<Vec<Value>, AllocError>
     ensures { IfOk result (λ values. values.items ≡ adom log.now (form formula.now)) }
 {
-    let mut values = values_of_log(log, alloc)?;
-    add_constants(&mut values, formula, alloc)?;
-    Ok(in_order(values, alloc)?)
+    let mut values = values_of_log(alloc, log)?;
+    add_constants(alloc, &mut values, formula)?;
+    Ok(in_order(alloc, values)?)
 }
 
 /// The members of a set in ascending order.
-pub fn in_order<K: Ord + Drop>(set: BTreeSet<K>, alloc: Global) -> Result<Vec<K>, AllocError>
+pub fn in_order<K: Ord + Drop>(alloc: Global, set: BTreeSet<K>) -> Result<Vec<K>, AllocError>
     ensures { IfOk result (λ members. members.items ≡ set.keys) }
 {
     set.into_iter().collect(alloc)
 }
 
-fn values_of_log(log: &[TimePoint], alloc: Global) -> Result<BTreeSet<Value>, AllocError>
+fn values_of_log(alloc: Global, log: &[TimePoint]) -> Result<BTreeSet<Value>, AllocError>
     ensures { IfOk result (λ values. values.keys ≡ ascending value_cmp (log_values log.now)) }
 {
     let mut values = BTreeSet::new(alloc);
     for point in log {
-        add_database(&mut values, &point.db, alloc)?;
+        add_database(alloc, &mut values, &point.db)?;
     }
     Ok(values)
 }
 
-fn add_database(values: &mut BTreeSet<Value>, db: &Db, alloc: Global) -> Result<(), AllocError>
+fn add_database(alloc: Global, values: &mut BTreeSet<Value>, db: &Db) -> Result<(), AllocError>
     ensures { OnOk result (values.new.keys
         ≡ fold (insert_key value_cmp) values.old.keys (flat_map (λ event. event.args) db.now)) }
 {
     for event in db.events() {
-        add_values(values, event.args.values(), alloc)?;
+        add_values(alloc, values, event.args.values())?;
     }
     Ok(())
 }
 
-fn add_values(values: &mut BTreeSet<Value>, more: &[Value], alloc: Global) -> Result<(), AllocError>
+fn add_values(alloc: Global, values: &mut BTreeSet<Value>, more: &[Value]) -> Result<(), AllocError>
     ensures { OnOk result (values.new.keys ≡ fold (insert_key value_cmp) values.old.keys more.now) }
 {
     for value in more {
@@ -65,19 +65,19 @@ fn add_values(values: &mut BTreeSet<Value>, more: &[Value], alloc: Global) -> Re
 
 #[tactic(auto, using(crate::proofs::DomainLemmas::added_after), unfolding(crate::specs::ActiveDomain::constants))]
 fn add_constants(
+    alloc: Global,
     values: &mut BTreeSet<Value>,
     formula: &Formula,
-    alloc: Global,
 ) -> Result<(), AllocError>
     ensures { OnOk result (values.new.keys
         ≡ fold (insert_key value_cmp) values.old.keys (constants (form formula.now))) }
 {
     match formula {
         Formula::True | Formula::False => Ok(()),
-        Formula::Atom(atom) => add_terms(values, atom.args.as_slice(), alloc),
+        Formula::Atom(atom) => add_terms(alloc, values, atom.args.as_slice()),
         Formula::Compare(comparison) => {
-            add_term(values, &comparison.left, alloc)?;
-            add_term(values, &comparison.right, alloc)
+            add_term(alloc, values, &comparison.left)?;
+            add_term(alloc, values, &comparison.right)
         }
         Formula::Not(f)
         | Formula::Exists(_, f)
@@ -87,30 +87,30 @@ fn add_constants(
         | Formula::Once(_, f)
         | Formula::Historically(_, f)
         | Formula::Eventually(_, f)
-        | Formula::Always(_, f) => add_constants(values, f, alloc),
+        | Formula::Always(_, f) => add_constants(alloc, values, f),
         Formula::And(f, g)
         | Formula::Or(f, g)
         | Formula::Implies(f, g)
         | Formula::Equiv(f, g)
         | Formula::Since(_, f, g)
         | Formula::Until(_, f, g) => {
-            add_constants(values, f, alloc)?;
-            add_constants(values, g, alloc)
+            add_constants(alloc, values, f)?;
+            add_constants(alloc, values, g)
         }
     }
 }
 
-fn add_terms(values: &mut BTreeSet<Value>, terms: &[Term], alloc: Global) -> Result<(), AllocError>
+fn add_terms(alloc: Global, values: &mut BTreeSet<Value>, terms: &[Term]) -> Result<(), AllocError>
     ensures { OnOk result (values.new.keys
         ≡ fold (insert_key value_cmp) values.old.keys (flat_map constant_in terms.now)) }
 {
     for term in terms {
-        add_term(values, term, alloc)?;
+        add_term(alloc, values, term)?;
     }
     Ok(())
 }
 
-fn add_term(values: &mut BTreeSet<Value>, term: &Term, alloc: Global) -> Result<(), AllocError>
+fn add_term(alloc: Global, values: &mut BTreeSet<Value>, term: &Term) -> Result<(), AllocError>
     ensures { OnOk result (values.new.keys
         ≡ fold (insert_key value_cmp) values.old.keys (constant_in term.now)) }
 {

@@ -13,22 +13,22 @@ use crate::verdict_text::verdict_line;
 use std::alloc::{AllocError, Global};
 
 /// The lines of the verdicts on a log, up to the first position that isn't settled.
-pub fn log_text(formula: &Formula, log: &[TimePoint], alloc: Global) -> Result<Vec<u8>, AllocError>
+pub fn log_text(alloc: Global, formula: &Formula, log: &[TimePoint]) -> Result<Vec<u8>, AllocError>
     ensures { IfOk result (λ bytes. bytes.items
         ≡ text (record { points = log.now; closed = false }) (form formula.now)) }
 {
-    let times = timestamps(log, alloc)?;
+    let times = timestamps(alloc, log)?;
     let mut out = Vec::new(alloc);
     for at in 0..log.len() {
         if !is_settled(formula, times.as_slice(), at) {
             return Ok(out);
         }
-        push_verdict(&mut out, formula, log, at, alloc)?;
+        push_verdict(alloc, &mut out, formula, log, at)?;
     }
     Ok(out)
 }
 
-fn timestamps(log: &[TimePoint], alloc: Global) -> Result<Vec<u64>, AllocError>
+fn timestamps(alloc: Global, log: &[TimePoint]) -> Result<Vec<u64>, AllocError>
     ensures { IfOk result (λ stamps. stamps.items ≡ times log.now) }
 {
     let mut stamps = Vec::new(alloc);
@@ -39,18 +39,18 @@ fn timestamps(log: &[TimePoint], alloc: Global) -> Result<Vec<u64>, AllocError>
 }
 
 fn push_verdict(
+    alloc: Global,
     out: &mut Vec<u8>,
     formula: &Formula,
     log: &[TimePoint],
     at: usize,
-    alloc: Global,
 ) -> Result<(), AllocError>
     requires { at < length log.now }
     ensures { OnOk result (out.new.items ≡ out.old.items
         ++ line_of (verdict_at log.now (form formula.now) at)) }
 {
-    let rows = violations(formula, log, at, alloc)?;
-    let line = verdict_line(at as u64, time_at(log, at), rows.as_slice(), alloc)?;
+    let rows = violations(alloc, formula, log, at)?;
+    let line = verdict_line(alloc, at as u64, time_at(log, at), rows.as_slice())?;
     out.extend_from_slice(line.as_slice())?;
     Ok(())
 }

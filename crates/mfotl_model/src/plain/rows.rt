@@ -19,38 +19,38 @@ use std::collections::BTreeSet;
 /// The rows over the formula's free variables, in ascending order, at which it doesn't hold at a
 /// position of the log.
 pub fn violations(
+    alloc: Global,
     formula: &Formula,
     log: &[TimePoint],
     at: usize,
-    alloc: Global,
 ) -> Result<Vec<Row>, AllocError>
     requires { at < length log.now }
     ensures { IfOk result (λ rows. rows.items ≡ viol log.now (form formula.now) at) }
 {
     let columns = formula.free_vars(alloc)?;
-    let dom = active_domain(formula, log, alloc)?;
-    let rows = all_rows(columns.len(), dom.as_slice(), alloc)?;
+    let dom = active_domain(alloc, formula, log)?;
+    let rows = all_rows(alloc, columns.len(), dom.as_slice())?;
     let found = failing(
+        alloc,
         formula,
         log,
         dom.as_slice(),
         columns.as_slice(),
         at,
         rows,
-        alloc,
     )?;
-    Ok(in_order(found, alloc)?)
+    Ok(in_order(alloc, found)?)
 }
 
 // Those of the rows at which the formula doesn't hold.
 fn failing(
+    alloc: Global,
     formula: &Formula,
     log: &[TimePoint],
     dom: &[Value],
     columns: &[u32],
     at: usize,
     rows: Vec<Row>,
-    alloc: Global,
 ) -> Result<BTreeSet<Row>, AllocError>
     requires { at < length log.now }
     ensures { IfOk result (λ found. found.keys ≡ ascending row_cmp (filter (λ row.
@@ -62,7 +62,7 @@ fn failing(
             cols: columns,
             row: &row,
         };
-        if !holds(formula, log, dom, &part, at, alloc)? {
+        if !holds(alloc, formula, log, dom, &part, at)? {
             found.insert(row)?;
         }
     }
@@ -70,7 +70,7 @@ fn failing(
 }
 
 // All rows of `count` values of the domain.
-fn all_rows(count: usize, dom: &[Value], alloc: Global) -> Result<Vec<Row>, AllocError>
+fn all_rows(alloc: Global, count: usize, dom: &[Value]) -> Result<Vec<Row>, AllocError>
     ensures { IfOk result (λ rows. rows.items ≡ all_rows count dom.now) }
 {
     let mut rows = Vec::new(alloc);
@@ -78,29 +78,29 @@ fn all_rows(count: usize, dom: &[Value], alloc: Global) -> Result<Vec<Row>, Allo
         rows.push(Row::new(Vec::new(alloc)))?;
         return Ok(rows);
     }
-    let shorter = all_rows(count - 1, dom, alloc)?;
+    let shorter = all_rows(alloc, count - 1, dom)?;
     for value in dom {
-        add_rows(&mut rows, value, shorter.as_slice(), alloc)?;
+        add_rows(alloc, &mut rows, value, shorter.as_slice())?;
     }
     Ok(rows)
 }
 
 fn add_rows(
+    alloc: Global,
     rows: &mut Vec<Row>,
     value: &Value,
     shorter: &[Row],
-    alloc: Global,
 ) -> Result<(), AllocError>
     ensures { OnOk result (rows.new.items ≡ rows.old.items ++ map (λ row. value.now ∷ row) shorter.now) }
 {
     for row in shorter {
-        rows.push(row_of(value, row, alloc)?)?;
+        rows.push(row_of(alloc, value, row)?)?;
     }
     Ok(())
 }
 
 // The row that begins with the value and goes on with the other row.
-fn row_of(value: &Value, row: &Row, alloc: Global) -> Result<Row, AllocError>
+fn row_of(alloc: Global, value: &Value, row: &Row) -> Result<Row, AllocError>
     ensures { IfOk result (λ longer. longer ≡ value.now ∷ row.now) }
 {
     let mut values = Vec::new(alloc);

@@ -20,12 +20,12 @@ use std::alloc::{AllocError, Global};
 /// Whether the formula holds at a position of the log, where the row gives values to its free
 /// variables and the quantified ones range over `dom`.
 pub fn holds(
+    alloc: Global,
     formula: &Formula,
     log: &[TimePoint],
     dom: &[Value],
     part: &Partial<'_>,
     at: usize,
-    alloc: Global,
 ) -> Result<bool, AllocError>
     requires { at < length log.now }
     ensures { IfOk result (λ held. held
@@ -37,7 +37,7 @@ pub fn holds(
         dom,
         bindings: &bindings,
     };
-    interpretation.holds(formula, at, alloc)
+    interpretation.holds(alloc, formula, at)
 }
 
 // What formulas are true or false of: a log, the values that quantified variables range over, and the
@@ -52,7 +52,7 @@ struct Interpretation<'a> {
 impl Interpretation<'_> {
     #[cycle(satisfaction)]
     #[tactic(auto, unfolding(crate::specs::Satisfaction::sat))]
-    fn holds(&self, formula: &Formula, at: usize, alloc: Global) -> Result<bool, AllocError>
+    fn holds(&self, alloc: Global, formula: &Formula, at: usize) -> Result<bool, AllocError>
         requires { at < length self.now.log.now }
         ensures { IfOk result (λ held. held ≡ sat self.now.log.now self.now.dom.now
             (values_of self.now.bindings.now) at (form formula.now)) }
@@ -60,33 +60,33 @@ impl Interpretation<'_> {
         match formula {
             Formula::True => Ok(true),
             Formula::False => Ok(false),
-            Formula::Atom(atom) => self.has_event(atom, at, alloc),
+            Formula::Atom(atom) => self.has_event(alloc, atom, at),
             Formula::Compare(comparison) => Ok(self.compared(comparison)),
-            Formula::Not(f) => Ok(!self.holds(f, at, alloc)?),
-            Formula::And(f, g) => Ok(self.holds(f, at, alloc)? && self.holds(g, at, alloc)?),
-            Formula::Or(f, g) => Ok(self.holds(f, at, alloc)? || self.holds(g, at, alloc)?),
-            Formula::Implies(f, g) => Ok(!self.holds(f, at, alloc)? || self.holds(g, at, alloc)?),
-            Formula::Equiv(f, g) => Ok(self.holds(f, at, alloc)? == self.holds(g, at, alloc)?),
-            Formula::Exists(x, f) => self.holds_for_some(x.number, f, at, alloc),
-            Formula::Forall(x, f) => self.holds_for_every(x.number, f, at, alloc),
+            Formula::Not(f) => Ok(!self.holds(alloc, f, at)?),
+            Formula::And(f, g) => Ok(self.holds(alloc, f, at)? && self.holds(alloc, g, at)?),
+            Formula::Or(f, g) => Ok(self.holds(alloc, f, at)? || self.holds(alloc, g, at)?),
+            Formula::Implies(f, g) => Ok(!self.holds(alloc, f, at)? || self.holds(alloc, g, at)?),
+            Formula::Equiv(f, g) => Ok(self.holds(alloc, f, at)? == self.holds(alloc, g, at)?),
+            Formula::Exists(x, f) => self.holds_for_some(alloc, x.number, f, at),
+            Formula::Forall(x, f) => self.holds_for_every(alloc, x.number, f, at),
             Formula::Previous(i, f) => {
-                Ok(previous(i, self.log, self.truths(f, alloc)?.as_slice(), at))
+                Ok(previous(i, self.log, self.truths(alloc, f)?.as_slice(), at))
             }
-            Formula::Next(i, f) => Ok(next(i, self.log, self.truths(f, alloc)?.as_slice(), at)),
-            Formula::Once(i, f) => self.once(i, self.truths(f, alloc)?, at, alloc),
+            Formula::Next(i, f) => Ok(next(i, self.log, self.truths(alloc, f)?.as_slice(), at)),
+            Formula::Once(i, f) => self.once(alloc, i, self.truths(alloc, f)?, at),
             Formula::Historically(i, f) => {
-                Ok(!self.once(i, self.falsities(f, alloc)?, at, alloc)?)
+                Ok(!self.once(alloc, i, self.falsities(alloc, f)?, at)?)
             }
-            Formula::Eventually(i, f) => self.eventually(i, self.truths(f, alloc)?, at, alloc),
-            Formula::Always(i, f) => Ok(!self.eventually(i, self.falsities(f, alloc)?, at, alloc)?),
+            Formula::Eventually(i, f) => self.eventually(alloc, i, self.truths(alloc, f)?, at),
+            Formula::Always(i, f) => Ok(!self.eventually(alloc, i, self.falsities(alloc, f)?, at)?),
             Formula::Since(i, f, g) => {
-                let left = self.truths(f, alloc)?;
-                let right = self.truths(g, alloc)?;
+                let left = self.truths(alloc, f)?;
+                let right = self.truths(alloc, g)?;
                 Ok(since(i, self.log, left.as_slice(), right.as_slice(), at))
             }
             Formula::Until(i, f, g) => {
-                let left = self.truths(f, alloc)?;
-                let right = self.truths(g, alloc)?;
+                let left = self.truths(alloc, f)?;
+                let right = self.truths(alloc, g)?;
                 Ok(until(i, self.log, left.as_slice(), right.as_slice(), at))
             }
         }
@@ -95,10 +95,10 @@ impl Interpretation<'_> {
     #[cycle(satisfaction)]
     fn holds_for_some(
         &self,
+        alloc: Global,
         x: u32,
         formula: &Formula,
         at: usize,
-        alloc: Global,
     ) -> Result<bool, AllocError>
         requires { at < length self.now.log.now }
         ensures { IfOk result (λ held. held ≡ list_any (λ a. sat self.now.log.now self.now.dom.now
@@ -111,7 +111,7 @@ impl Interpretation<'_> {
                 bindings: &bindings,
                 ..*self
             };
-            if inner.holds(formula, at, alloc)? {
+            if inner.holds(alloc, formula, at)? {
                 return Ok(true);
             }
         }
@@ -121,10 +121,10 @@ impl Interpretation<'_> {
     #[cycle(satisfaction)]
     fn holds_for_every(
         &self,
+        alloc: Global,
         x: u32,
         formula: &Formula,
         at: usize,
-        alloc: Global,
     ) -> Result<bool, AllocError>
         requires { at < length self.now.log.now }
         ensures { IfOk result (λ held. held ≡ list_all (λ a. sat self.now.log.now self.now.dom.now
@@ -137,7 +137,7 @@ impl Interpretation<'_> {
                 bindings: &bindings,
                 ..*self
             };
-            if !inner.holds(formula, at, alloc)? {
+            if !inner.holds(alloc, formula, at)? {
                 return Ok(false);
             }
         }
@@ -146,28 +146,28 @@ impl Interpretation<'_> {
 
     // Whether the formula holds, for each position of the log.
     #[cycle(satisfaction)]
-    fn truths(&self, formula: &Formula, alloc: Global) -> Result<Vec<bool>, AllocError>
+    fn truths(&self, alloc: Global, formula: &Formula) -> Result<Vec<bool>, AllocError>
         ensures { IfOk result (λ values. values.items ≡ truths (length self.now.log.now)
             (λ j. sat self.now.log.now self.now.dom.now (values_of self.now.bindings.now) j
             (form formula.now))) }
     {
         let mut values = Vec::new(alloc);
         for at in 0..self.log.len() {
-            values.push(self.holds(formula, at, alloc)?)?;
+            values.push(self.holds(alloc, formula, at)?)?;
         }
         Ok(values)
     }
 
     // Whether the formula fails, for each position of the log.
     #[cycle(satisfaction)]
-    fn falsities(&self, formula: &Formula, alloc: Global) -> Result<Vec<bool>, AllocError>
+    fn falsities(&self, alloc: Global, formula: &Formula) -> Result<Vec<bool>, AllocError>
         ensures { IfOk result (λ values. values.items ≡ truths (length self.now.log.now) (λ j. not
             (sat self.now.log.now self.now.dom.now (values_of self.now.bindings.now) j
             (form formula.now)))) }
     {
         let mut values = Vec::new(alloc);
         for at in 0..self.log.len() {
-            values.push(!self.holds(formula, at, alloc)?)?;
+            values.push(!self.holds(alloc, formula, at)?)?;
         }
         Ok(values)
     }
@@ -176,39 +176,39 @@ impl Interpretation<'_> {
 impl Interpretation<'_> {
     fn once(
         &self,
+        alloc: Global,
         interval: &Interval,
         when: Vec<bool>,
         at: usize,
-        alloc: Global,
     ) -> Result<bool, AllocError>
         requires { at < length self.now.log.now }
         ensures { IfOk result (λ held. held ≡ since interval.now (times self.now.log.now)
             (truths (length self.now.log.now) (λ _. true)) when.items at) }
     {
-        let every = all_true(self.log, alloc)?;
+        let every = all_true(alloc, self.log)?;
         Ok(since(interval, self.log, every.as_slice(), when.as_slice(), at))
     }
 
     fn eventually(
         &self,
+        alloc: Global,
         interval: &Interval,
         when: Vec<bool>,
         at: usize,
-        alloc: Global,
     ) -> Result<bool, AllocError>
         requires { at < length self.now.log.now }
         ensures { IfOk result (λ held. held ≡ until interval.now (times self.now.log.now)
             (truths (length self.now.log.now) (λ _. true)) when.items at) }
     {
-        let every = all_true(self.log, alloc)?;
+        let every = all_true(alloc, self.log)?;
         Ok(until(interval, self.log, every.as_slice(), when.as_slice(), at))
     }
 
-    fn has_event(&self, atom: &Atom, at: usize, alloc: Global) -> Result<bool, AllocError>
+    fn has_event(&self, alloc: Global, atom: &Atom, at: usize) -> Result<bool, AllocError>
         ensures { IfOk result (λ found. found ≡ has_event (database_at self.now.log.now at)
             (event_of (values_of self.now.bindings.now) atom.now)) }
     {
-        let event = event_of(atom, self.bindings, alloc)?;
+        let event = event_of(alloc, atom, self.bindings)?;
         match self.log.get(at) {
             Some(point) => Ok(point.db.contains(&event)),
             None => Ok(false),
@@ -227,7 +227,7 @@ impl Interpretation<'_> {
     }
 }
 
-fn all_true(log: &[TimePoint], alloc: Global) -> Result<Vec<bool>, AllocError>
+fn all_true(alloc: Global, log: &[TimePoint]) -> Result<Vec<bool>, AllocError>
     ensures { IfOk result (λ values. values.items ≡ truths (length log.now) (λ _. true)) }
 {
     (0..log.len()).map(|_| true).collect(alloc)
