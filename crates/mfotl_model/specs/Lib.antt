@@ -5,6 +5,7 @@ pub mod Log
 pub mod Intervals
 pub mod Satisfaction
 pub mod FreeVariables
+pub mod Tables
 pub mod ActiveDomain
 pub mod Settled
 pub mod Violations
