@@ -3,4 +3,5 @@ pub mod Causes
 pub mod Files
 pub mod Inputs
 pub mod Sink
+pub mod Buffered
 pub mod Memory
