@@ -9,3 +9,6 @@ pub mod Growing
 pub mod Shortening
 pub mod Covering
 pub mod FaultTexts
+pub mod FirstFault
+pub mod Texts
+pub mod AllTokens

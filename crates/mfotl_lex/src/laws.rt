@@ -1,3 +1,4 @@
+ghost use Rattle.mfotl_lex.specs.AllTokens.{TokensAreTaken};
 ghost use Rattle.mfotl_lex.specs.Growing.{MoreBytesChangeNothing};
 ghost use Rattle.mfotl_lex.specs.Shortening.{OpenCommentsShorten};
 ghost use Rattle.mfotl_lex.specs.Covering.{TokensAreTheBytes};
@@ -15,4 +16,9 @@ pub fn tokens_are_the_bytes()
 /// Of a comment that isn't at its end a reader needs the `#` alone, in the place of its last byte.
 pub fn open_comments_shorten()
     ensures { OpenCommentsShorten }
+{}
+
+/// The layer of first faults, at the reader that takes every token.
+pub fn tokens_are_taken()
+    ensures { TokensAreTaken }
 {}
