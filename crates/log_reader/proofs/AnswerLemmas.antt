@@ -8,21 +8,21 @@ use Rattle.log_reader.specs.declared.next.Next.TheVariants.{End}
 use Rattle.log_reader.specs.Given.{Gives}
 use Rattle.log_reader.specs.Laws.{IsShown}
 use Rattle.log_reader.specs.Progress.{Progress, answer_by, due}
-use Rattle.log_reader.specs.Readings.{Ending, Clear, Stops, accepted}
+use Rattle.log_reader.specs.Readings.{Ending, NoFault, Fault, accepted}
 use Rattle.log_reader.specs.Rules.{IsValue}
 use Rattle.log_reader.proofs.FaultLaw.{exact_faults_law}
 use Rattle.log_reader.proofs.LogLaws.{read_spelled}
 
-end_by : (ended : Bool) (points : List TimePoint) (ending : Ending) → answer_by ended points ending ≡ Ok End → (ended ≡ true) × (ending ≡ Clear)
-end_by true [] Clear e = (refl, refl)
-end_by false [] Clear e = absurd cc
-end_by ended [] (Stops fault) e = absurd cc
+end_by : (ended : Bool) (points : List TimePoint) (ending : Ending) → answer_by ended points ending ≡ Ok End → (ended ≡ true) × (ending ≡ NoFault)
+end_by true [] NoFault e = (refl, refl)
+end_by false [] NoFault e = absurd cc
+end_by ended [] (Fault fault) e = absurd cc
 end_by ended (point ∷ points) ending e = absurd cc
 
-fault_by : (ended : Bool) (points : List TimePoint) (ending : Ending) (fault : LogFault) → answer_by ended points ending ≡ Err fault → ending ≡ Stops fault
-fault_by ended [] (Stops other) fault e = cc
-fault_by true [] Clear fault e = absurd cc
-fault_by false [] Clear fault e = absurd cc
+fault_by : (ended : Bool) (points : List TimePoint) (ending : Ending) (fault : LogFault) → answer_by ended points ending ≡ Err fault → ending ≡ Fault fault
+fault_by ended [] (Fault other) fault e = cc
+fault_by true [] NoFault fault e = absurd cc
+fault_by false [] NoFault fault e = absurd cc
 fault_by ended (point ∷ points) ending fault e = absurd cc
 
 module _ (r : Progress) where
@@ -32,7 +32,7 @@ module _ (r : Progress) where
   value_due result given is =
       let here : due r ≡ Ok End = subst (λ (x : Result Next LogFault). Gives (λ next. next) x (due r)) is given in
       let end = end_by r.is_ended _ _ here in
-      let clear : (accepted r.sig r.limits r.bytes).ending ≡ Clear = rw end.0 at end.1 in
+      let clear : (accepted r.sig r.limits r.bytes).ending ≡ NoFault = rw end.0 at end.1 in
       read_spelled r.sig r.limits r.bytes (accepted r.sig r.limits r.bytes).points
       (ap (λ (x : Ending). record { points = (accepted r.sig r.limits r.bytes).points; ending = x }) clear)
 

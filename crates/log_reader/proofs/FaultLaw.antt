@@ -12,7 +12,7 @@ use Rattle.log_reader.specs.declared.stage.Stage.TheVariants.{Between, AfterStam
 use Rattle.log_reader.specs.Given.{◌>>=◌}
 use Rattle.log_reader.specs.Laws.{walk, AreSound, ShowsAt, IsFirstFault, IsShown, ExactFaults}
 use Rattle.log_reader.specs.Partials.{Partial, blank}
-use Rattle.log_reader.specs.Readings.{Reading, Ending, Clear, Stops, finish_at, is_long, nothing_left, behind_tokens}
+use Rattle.log_reader.specs.Readings.{Reading, Ending, NoFault, Fault, finish_at, is_long, nothing_left, behind_tokens}
 use Rattle.log_reader.specs.Rules.{tokens_of}
 use Rattle.log_reader.proofs.CauseSteps.{step_why, step_shows}
 use Rattle.log_reader.proofs.SyntaxLaw.{same_stop, exact_syntax_law}
@@ -27,12 +27,12 @@ EndShows limits bytes lexical fault = ⊥
 
 module _ (limits : Limits) (bytes : List ℕ) (ended : Bool) (q : Partial) where
   abbrev Explains : Option LexFault → Ending → Type 0
-  Explains lexical ending = (fault : LogFault) → ending ≡ Stops fault → EndShows limits bytes lexical fault
+  Explains lexical ending = (fault : LogFault) → ending ≡ Fault fault → EndShows limits bytes lexical fault
 
-  clear : (lexical : Option LexFault) → Explains lexical Clear
+  clear : (lexical : Option LexFault) → Explains lexical NoFault
   clear lexical fault e = absurd cc
 
-  stops : (lexical : Option LexFault) (fault : LogFault) → EndShows limits bytes lexical fault → Explains lexical (Stops fault)
+  stops : (lexical : Option LexFault) (fault : LogFault) → EndShows limits bytes lexical fault → Explains lexical (Fault fault)
   stops lexical fault why other e = subst (EndShows limits bytes lexical) (same_stop fault other e) why
 
   finish_why : (stage : Stage) → Explains None (finish_at (length bytes) q stage).ending
@@ -73,7 +73,7 @@ module _ (sig : List PredOf) (limits : Limits) (bytes : List ℕ) (ended : Bool)
   abbrev Shown : LogFault → Type 0
   Shown fault = ShowsAt sig limits ts fault ⊎ (AreSound sig limits ts × EndShows limits bytes lexical fault)
 
-  shown_by : (fault : LogFault) (w : Result Partial LogFault) → walk sig limits blank ts ≡ w → ending_of sig limits (last sig limits bytes ended) w ≡ Stops fault → Shown fault
+  shown_by : (fault : LogFault) (w : Result Partial LogFault) → walk sig limits blank ts ≡ w → ending_of sig limits (last sig limits bytes ended) w ≡ Fault fault → Shown fault
   shown_by fault (Err other) w e = inl (at_token fault (w ∙ ap (λ (f : LogFault). Err f) (same_stop other fault e)))
   shown_by fault (Ok q) w e = inr ((q, w), end_why limits bytes ended q lexical fault e)
 
@@ -101,10 +101,10 @@ module _ (sig : List PredOf) (limits : Limits) (bytes : List ℕ) (ended : Bool)
       ∙ ap (λ (r : Result Partial LogFault). r >>= λ x. walk sig limits x s.back) (step_shows sig limits s.read s.token fault s.cause) in
       ending_is sig limits bytes ended ∙ ap (ending_of sig limits (last sig limits bytes ended)) stopped
 
-  end_shows : (fault : LogFault) (q : Partial) → walk sig limits blank ts ≡ Ok q → (last sig limits bytes ended q).ending ≡ Stops fault → IsFirstFault sig limits bytes ended fault
+  end_shows : (fault : LogFault) (q : Partial) → walk sig limits blank ts ≡ Ok q → (last sig limits bytes ended q).ending ≡ Fault fault → IsFirstFault sig limits bytes ended fault
   end_shows fault q w e = ending_is sig limits bytes ended ∙ ap (ending_of sig limits (last sig limits bytes ended)) w ∙ e
 
-  long_shows : (q : Partial) → lexical ≡ None → limits.bytes < length bytes → (last sig limits bytes ended q).ending ≡ Stops (TooLong limits.bytes)
+  long_shows : (q : Partial) → lexical ≡ None → limits.bytes < length bytes → (last sig limits bytes ended q).ending ≡ Fault (TooLong limits.bytes)
   long_shows q whole long =
       ap (λ (f : Option LexFault). (behind_tokens f (nothing_left limits bytes ended) q).ending) whole
       ∙ rw (lt-ltb limits.bytes (length bytes) long) refl

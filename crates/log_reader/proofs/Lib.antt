@@ -1,5 +1,8 @@
 pub mod Lexing
-pub mod Turning
+pub mod TokenRuns
+pub mod TokenPlaces
+pub mod StepStages
+pub mod TokenSteps
 pub mod Keeping
 pub mod Fewness
 pub mod Paths

@@ -14,7 +14,7 @@ use Rattle.log_reader.specs.Given.{◌>>=◌}
 use Rattle.log_reader.specs.Grammar.{symbols_of, IsViable}
 use Rattle.log_reader.specs.Laws.{walk, EndsViability, EndsTooEarly, IsFirstFault, ExactSyntax}
 use Rattle.log_reader.specs.Partials.{Partial, blank}
-use Rattle.log_reader.specs.Readings.{Clear, Stops, finish_at, is_long, nothing_left, behind_tokens}
+use Rattle.log_reader.specs.Readings.{NoFault, Fault, finish_at, is_long, nothing_left, behind_tokens}
 use Rattle.log_reader.specs.Rules.{tokens_of}
 use Rattle.log_reader.specs.Stages.{goes}
 use Rattle.log_reader.specs.Symbols.{symbol}
@@ -84,25 +84,25 @@ module _ (sig : List PredOf) (limits : Limits) where
 -- ---- the end
 
 -- the end shows a syntax fault exactly where a log may not end
-end_shows : (s : Stage) (p : Partial) (len at : ℕ) → (finish_at len p s).ending ≡ Stops (Syntax at) → (accepts s ≡ false) × (at ≡ len)
+end_shows : (s : Stage) (p : Partial) (len at : ℕ) → (finish_at len p s).ending ≡ Fault (Syntax at) → (accepts s ≡ false) × (at ≡ len)
 end_shows Between p len at e = absurd cc
 end_shows AfterStamp p len at e = absurd cc
 end_shows AfterClose p len at e = absurd cc
 end_shows _ p len at e = (refl, cc)
 
-shows_end : (s : Stage) (p : Partial) (len : ℕ) → (accepts s ≡ true → ⊥) → (finish_at len p s).ending ≡ Stops (Syntax len)
+shows_end : (s : Stage) (p : Partial) (len : ℕ) → (accepts s ≡ true → ⊥) → (finish_at len p s).ending ≡ Fault (Syntax len)
 shows_end Between p len refused = absurd (refused refl)
 shows_end AfterStamp p len refused = absurd (refused refl)
 shows_end AfterClose p len refused = absurd (refused refl)
 shows_end _ p len refused = refl
 
-not_long : (limit at : ℕ) → Stops (TooLong limit) ≡ Stops (Syntax at) → ⊥
+not_long : (limit at : ℕ) → Fault (TooLong limit) ≡ Fault (Syntax at) → ⊥
 not_long limit at e = cc
 
-not_clear : (fault : LogFault) → Clear ≡ Stops fault → ⊥
+not_clear : (fault : LogFault) → NoFault ≡ Fault fault → ⊥
 not_clear fault e = cc
 
-pub same_stop : (fault other : LogFault) → Stops fault ≡ Stops other → fault ≡ other
+pub same_stop : (fault other : LogFault) → Fault fault ≡ Fault other → fault ≡ other
 same_stop fault other e = cc
 
 -- where the bytes at the end show a syntax fault
@@ -114,7 +114,7 @@ record EndShows (limits : Limits) (bytes : List ℕ) (ended : Bool) (fault : Opt
   pub place : at ≡ length bytes
 
 end_by : (limits : Limits) (bytes : List ℕ) (ended long : Bool) (fault : Option LexFault) (q : Partial) (at : ℕ) → is_long limits bytes ≡ long
-    → (behind_tokens fault (nothing_left limits bytes ended) q).ending ≡ Stops (Syntax at) → EndShows limits bytes ended fault q at
+    → (behind_tokens fault (nothing_left limits bytes ended) q).ending ≡ Fault (Syntax at) → EndShows limits bytes ended fault q at
 end_by limits bytes ended long (Some fault) q at l e = absurd cc
 end_by limits bytes ended true None q at l e = absurd (not_long limits.bytes at (rw l at e))
 end_by limits bytes false false None q at l e = absurd (not_clear (Syntax at) (rw l at e))
@@ -126,7 +126,7 @@ module _ (sig : List PredOf) (limits : Limits) (bytes : List ℕ) (ended : Bool)
   abbrev ts : List Lexeme
   ts = (tokens_of limits bytes ended).list
 
-  shown_there : (w : Result Partial LogFault) → walk sig limits blank ts ≡ w → ending_of sig limits (last sig limits bytes ended) w ≡ Stops (Syntax at)
+  shown_there : (w : Result Partial LogFault) → walk sig limits blank ts ≡ w → ending_of sig limits (last sig limits bytes ended) w ≡ Fault (Syntax at)
       → EndsViability sig limits ts at ⊎ EndsTooEarly sig limits bytes ended at
   shown_there (Err fault) w e = inl (by_token sig limits ts at (w ∙ ap (λ (f : LogFault). broken f) (same_stop fault (Syntax at) e)))
   shown_there (Ok q) w e =
@@ -148,10 +148,10 @@ module _ (sig : List PredOf) (limits : Limits) (bytes : List ℕ) (ended : Bool)
   early_shows x =
       let q = x.sound.0 in
       let refused = λ (a : accepts q.stage ≡ true). x.unaccepted (accepted_by ts q.stage (walk_paths sig limits blank q ts x.sound.1) a) in
-      let here : (nothing_left limits bytes ended q).ending ≡ Stops (Syntax (length bytes)) = rw (x.short, x.told) (shows_end q.stage q (length bytes) refused) in
+      let here : (nothing_left limits bytes ended q).ending ≡ Fault (Syntax (length bytes)) = rw (x.short, x.told) (shows_end q.stage q (length bytes) refused) in
       ending_is sig limits bytes ended ∙ ap (ending_of sig limits (last sig limits bytes ended)) x.sound.1
       ∙ ap (λ (f : Option LexFault). (behind_tokens f (nothing_left limits bytes ended) q).ending) x.whole
-      ∙ here ∙ ap (λ (k : ℕ). Stops (Syntax k)) (sym x.place)
+      ∙ here ∙ ap (λ (k : ℕ). Fault (Syntax k)) (sym x.place)
 
   there_shown : EndsViability sig limits ts at ⊎ EndsTooEarly sig limits bytes ended at → IsFirstFault sig limits bytes ended (Syntax at)
   there_shown (inl v) = ending_is sig limits bytes ended ∙ ap (ending_of sig limits (last sig limits bytes ended)) (token_shows sig limits ts at v)

@@ -10,14 +10,14 @@ use Rattle.log_reader.specs.Given.{◌>>=◌}
 use Rattle.log_reader.specs.Grammar.{symbols_of}
 use Rattle.log_reader.specs.Laws.{walk}
 use Rattle.log_reader.specs.Partials.{Partial, blank}
-use Rattle.log_reader.specs.Readings.{Reading, Ending, Stops, went_on, run, behind_tokens, nothing_left, reading}
+use Rattle.log_reader.specs.Readings.{Reading, Ending, Fault, went_on, run, behind_tokens, nothing_left, reading}
 use Rattle.log_reader.specs.Rules.{tokens_of}
 use Rattle.log_reader.specs.Stages.{goes}
 use Rattle.log_reader.specs.Steps.{step, stepped}
 use Rattle.log_reader.specs.Symbols.{symbol}
 use Rattle.log_reader.proofs.CauseSteps.{done}
 use Rattle.log_reader.proofs.Paths.{paths}
-use Rattle.log_reader.proofs.Turning.{stepped_reaches}
+use Rattle.log_reader.proofs.StepStages.{stepped_reaches}
 
 -- ---- steps
 
@@ -50,7 +50,7 @@ module _ (sig : List PredOf) (limits : Limits) where
   -- how a reading ends
   abbrev pub ending_of : (Partial → Reading) → Result Partial LogFault → Ending
   ending_of last (Ok q) = (last q).ending
-  ending_of last (Err fault) = Stops fault
+  ending_of last (Err fault) = Fault fault
 
   run_step : (last : Partial → Reading) (ts : List Lexeme) (r : Result Partial LogFault) → ((q : Partial) → (run sig limits last q ts).ending ≡ ending_of last (walk sig limits q ts))
       → (went_on r (λ q. run sig limits last q ts)).ending ≡ ending_of last (r >>= λ q. walk sig limits q ts)

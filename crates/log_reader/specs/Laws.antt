@@ -10,23 +10,23 @@ use Rattle.log_reader.specs.Causes.{IsCause}
 use Rattle.log_reader.specs.Given.{◌>>=◌}
 use Rattle.log_reader.specs.Grammar.{IsAccepted, IsViable}
 use Rattle.log_reader.specs.Partials.{Partial, blank}
-use Rattle.log_reader.specs.Readings.{Clear, Stops, accepted, reading, is_long}
+use Rattle.log_reader.specs.Readings.{NoFault, Fault, accepted, reading, is_long}
 use Rattle.log_reader.specs.Rules.{IsValue, tokens_of}
 use Rattle.log_reader.specs.Steps.{step}
 
 -- what is read to its end is spelled, and keeps the rules
 abbrev pub ReadIsSpelled : Type 0
 ReadIsSpelled = (sig : List PredOf) (limits : Limits) (bytes : List ℕ) (points : List TimePoint)
-    → accepted sig limits bytes ≡ record { points = points; ending = Clear } → IsValue sig limits bytes points
+    → accepted sig limits bytes ≡ record { points = points; ending = NoFault } → IsValue sig limits bytes points
 
 -- what is spelled and keeps the rules is read to its end
 abbrev pub SpelledIsRead : Type 0
 SpelledIsRead = (sig : List PredOf) (limits : Limits) (bytes : List ℕ) (points : List TimePoint)
-    → IsValue sig limits bytes points → accepted sig limits bytes ≡ record { points = points; ending = Clear }
+    → IsValue sig limits bytes points → accepted sig limits bytes ≡ record { points = points; ending = NoFault }
 
 -- the first fault of bytes; `ended` says whether these are all
 abbrev pub IsFirstFault : List PredOf → Limits → List ℕ → Bool → LogFault → Type 0
-IsFirstFault sig limits bytes ended fault = (reading sig limits bytes ended).ending ≡ Stops fault
+IsFirstFault sig limits bytes ended fault = (reading sig limits bytes ended).ending ≡ Fault fault
 
 -- the text has one value, and no fault
 pub record HasValue (sig : List PredOf) (limits : Limits) (bytes : List ℕ) : Type 0 where

@@ -7,7 +7,7 @@ use Rattle.log_reader.specs.declared.fault.LogFault.TheVariants.{Memory}
 use Rattle.log_reader.specs.declared.limits.Limits.{Limits}
 use Rattle.log_reader.specs.declared.next.Next.{Next}
 use Rattle.log_reader.specs.declared.next.Next.TheVariants.{Point, More, End}
-use Rattle.log_reader.specs.Readings.{Reading, Ending, Clear, Stops, reading}
+use Rattle.log_reader.specs.Readings.{Reading, Ending, NoFault, Fault, reading}
 
 pub record Progress : Type 0 where
   pub sig : List PredOf
@@ -28,8 +28,8 @@ start sig limits = record { sig = sig; limits = limits; bytes = []; is_fed = fal
 -- the first of these time-points, or else the fault behind them, or that there is none
 abbrev pub answer_by : Bool → List TimePoint → Ending → Result Next LogFault
 answer_by ended (point ∷ points) ending = Ok (Point point)
-answer_by ended [] (Stops fault) = Err fault
-answer_by ended [] Clear = Ok (if ended then End else More)
+answer_by ended [] (Fault fault) = Err fault
+answer_by ended [] NoFault = Ok (if ended then End else More)
 
 abbrev pub answer_of : Bool → Reading → Result Next LogFault
 answer_of ended r = answer_by ended r.points r.ending

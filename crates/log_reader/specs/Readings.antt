@@ -17,8 +17,8 @@ use Rattle.log_reader.specs.Steps.{step, completed}
 
 -- no fault is shown, or the first one is this
 pub data Ending : Type 0 where
-  Clear : Ending
-  Stops : LogFault → Ending
+  NoFault : Ending
+  Fault : LogFault → Ending
 
 -- time-points in order, and what comes behind them
 pub record Reading : Type 0 where
@@ -26,7 +26,7 @@ pub record Reading : Type 0 where
   pub ending : Ending
 
 abbrev pub stopped : LogFault → Reading
-stopped fault = record { points = []; ending = Stops fault }
+stopped fault = record { points = []; ending = Fault fault }
 
 abbrev pub behind : List TimePoint → Reading → Reading
 behind points r = record { points = points ++ r.points; ending = r.ending }
@@ -44,9 +44,9 @@ run sig limits last p (t ∷ ts) =
 
 -- the end of all the bytes, `len` of them
 abbrev pub finish_at : ℕ → Partial → Stage → Reading
-finish_at len p Between = record { points = []; ending = Clear }
+finish_at len p Between = record { points = []; ending = NoFault }
 finish_at len p stage =
-    if is_whole stage then record { points = point_of p ∷ []; ending = Clear } else stopped (Syntax len)
+    if is_whole stage then record { points = point_of p ∷ []; ending = NoFault } else stopped (Syntax len)
 
 -- whether there is a byte at the limit
 abbrev pub is_long : Limits → List ℕ → Bool
@@ -57,7 +57,7 @@ abbrev pub nothing_left : Limits → List ℕ → Bool → Partial → Reading
 nothing_left limits bytes ended p =
     if is_long limits bytes then stopped (TooLong limits.bytes)
     else if ended then finish_at (length bytes) p p.stage
-    else record { points = []; ending = Clear }
+    else record { points = []; ending = NoFault }
 
 -- a lexical fault comes behind the whole tokens before it
 abbrev pub behind_tokens : Option LexFault → (Partial → Reading) → Partial → Reading

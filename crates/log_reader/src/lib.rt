@@ -18,6 +18,3 @@ pub use laws::{exact_faults, exact_syntax, one_answer, read_is_spelled, spelled_
 pub use limits::Limits;
 pub use next::Next;
 pub use reader::LogReader;
-
-#[cfg(test)]
-mod tests;
