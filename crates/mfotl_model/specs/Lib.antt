@@ -8,8 +8,17 @@ pub mod Intervals
 pub mod Satisfaction
 pub mod FreeVariables
 pub mod Tables
+pub mod Times
+pub mod Domains
 pub mod ActiveDomain
 pub mod Settled
+pub mod Counts
 pub mod Violations
 pub mod VerdictText
+pub mod Matching
+pub mod Strategies
+pub mod Regions
+pub mod Slices
+pub mod Exact
+pub mod Laws
 pub mod Examples

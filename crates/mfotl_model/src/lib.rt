@@ -7,6 +7,7 @@ mod examples;
 mod formula;
 mod free_variables;
 mod interval;
+pub mod laws;
 mod partial;
 mod policy;
 mod row;
