@@ -5,3 +5,4 @@ pub mod Inputs
 pub mod Sink
 pub mod Buffered
 pub mod Memory
+pub mod Views
