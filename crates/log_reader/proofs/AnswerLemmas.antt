@@ -10,7 +10,7 @@ use Rattle.log_reader.specs.Laws.{IsShown}
 use Rattle.log_reader.specs.Progress.{Progress, answer_by, due}
 use Rattle.log_reader.specs.Readings.{Ending, NoFault, Fault, accepted}
 use Rattle.log_reader.specs.Rules.{IsValue}
-use Rattle.log_reader.proofs.FaultLaw.{exact_faults_law}
+use Rattle.log_reader.proofs.FaultLaws.{exact_faults_law}
 use Rattle.log_reader.proofs.LogLaws.{read_spelled}
 
 end_by : (ended : Bool) (points : List TimePoint) (ending : Ending) → answer_by ended points ending ≡ Ok End → (ended ≡ true) × (ending ≡ NoFault)

@@ -7,11 +7,14 @@ pub mod Keeping
 pub mod Fewness
 pub mod Paths
 pub mod CauseSteps
-pub mod Walks
-pub mod SyntaxLaw
-pub mod FaultLaw
+pub mod Runs
+pub mod Transitions
+pub mod StateCauses
+pub mod FrontLemmas
+pub mod FaultLaws
 pub mod Judging
 pub mod PointJudging
 pub mod LogJudging
 pub mod LogLaws
+pub mod CompletedLaws
 pub mod AnswerLemmas
