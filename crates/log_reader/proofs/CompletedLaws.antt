@@ -202,12 +202,11 @@ module _ (sig : List PredOf) (limits : Limits) (len : ℕ) (ends : Partial → R
     begin_more p t front back points (Ok q) s e later =
         let inner = (fin q front).points in
         let clear : fin q front ≡ whole inner = ap (λ (x : Ending). record { points = inner; ending = x }) (ap (λ (r : Reading). r.ending) e) in
-        let rest = later q inner clear in
-        (
+        let rest = later q inner clear in (
           rest.0,
           ap (λ (r : Result Partial LogFault). completed p t ++ (went_on r (λ q. run sig limits ends q (front ++ back))).points) s
-          ∙ ap (λ (ps : List TimePoint). completed p t ++ ps) rest.1 ∙ sym (append_assoc (completed p t) inner rest.0)
-          ∙ ap (λ (r : Reading). r.points ++ rest.0) e,
+              ∙ ap (λ (ps : List TimePoint). completed p t ++ ps) rest.1 ∙ sym (append_assoc (completed p t) inner rest.0)
+              ∙ ap (λ (r : Reading). r.points ++ rest.0) e,
         )
 
     pub begins : (front back : List Lexeme) (p : Partial) (points : List TimePoint) → fin p front ≡ whole points

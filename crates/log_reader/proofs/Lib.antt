@@ -17,4 +17,5 @@ pub mod PointJudging
 pub mod LogJudging
 pub mod LogLaws
 pub mod CompletedLaws
+pub mod ReaderLemmas
 pub mod AnswerLemmas

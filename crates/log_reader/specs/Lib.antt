@@ -14,6 +14,7 @@ pub mod Steps
 pub mod Readings
 pub mod Laws
 pub mod Progress
+pub mod Readers
 pub mod Answers
 pub mod Cursors
 pub mod Soundness

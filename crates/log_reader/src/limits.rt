@@ -6,7 +6,9 @@ ghost use Rattle.log_reader.specs.Readings.{is_long};
 pub(crate) const LAST_TIMESTAMP: u128 = 1 << 62;
 
 const BYTE_LIMIT: u64 = 1 << 40;
+
 const POINT_LIMIT: u32 = u32::MAX;
+
 const EVENT_LIMIT: u32 = 65_536;
 
 /// What a log may have at most.
