@@ -14,8 +14,15 @@ unfolding run
 all_read [] front = ap (λ us. Ok us) (sym (append-nil front))
 all_read (t ∷ ts) front = all_read ts (front ++ t ∷ []) ∙ ap (λ us. Ok us) (append_assoc front (t ∷ []) ts)
 
-tail_shows : (tail : Tail LexFault) (ts : List Lexeme) (fault : LexFault) → (all_taken tail ts ≡ Err fault) ↔ (tail ≡ Broken fault)
-tail_shows (Broken other) ts fault = (λ e. let same : other ≡ fault = cc in ap (λ f. Broken f) same, λ e. let same : other ≡ fault = cc in ap (λ f. Err f) same)
+tail_shows : (tail : Tail LexFault) (ts : List Lexeme) (fault : LexFault)
+    → (all_taken tail ts ≡ Err fault) ↔ (tail ≡ Broken fault)
+tail_shows (Broken other) ts fault = (λ e. told other e, λ e. broken other e)
+  where
+    told : (other : LexFault) → all_taken (Broken other) ts ≡ Err fault → Broken other ≡ Broken fault
+    told other e = let same : other ≡ fault = cc in ap (λ f. Broken f) same
+
+    broken : (other : LexFault) → Broken other ≡ Broken fault → all_taken (Broken other) ts ≡ Err fault
+    broken other e = let same : other ≡ fault = cc in ap (λ f. Err f) same
 tail_shows (End end) ts fault = (λ e. absurd cc, λ e. absurd cc)
 tail_shows More ts fault = (λ e. absurd cc, λ e. absurd cc)
 
@@ -26,7 +33,8 @@ follows = record {
   tail = λ ts s tail fault e. tail_shows tail s fault;
 }
 
-taken : (tail : Tail LexFault) (ts vs : List Lexeme) → all_taken tail ts ≡ Ok vs → ((fault : LexFault) → tail ≡ Broken fault → ⊥) × (vs ≡ ts)
+taken : (tail : Tail LexFault) (ts vs : List Lexeme) → all_taken tail ts ≡ Ok vs
+    → ((fault : LexFault) → tail ≡ Broken fault → ⊥) × (vs ≡ ts)
 taken (Broken other) ts vs e = absurd cc
 taken (End end) ts vs e = (λ fault f. absurd cc, cc)
 taken More ts vs e = (λ fault f. absurd cc, cc)
@@ -34,10 +42,13 @@ taken More ts vs e = (λ fault f. absurd cc, cc)
 read : (x : Text Lexeme LexFault) (vs : List Lexeme) → reading take_token [] all_taken x ≡ Ok vs → IsValue x vs
 unfolding reading
 read x vs e =
-    let all = taken x.tail x.list vs (sym (ap (λ (r : Result (List Lexeme) LexFault). r >>= λ ts. all_taken x.tail ts) (all_read x.list [])) ∙ e) in
+    let all =
+    taken x.tail x.list vs
+    (sym (ap (λ (r : Result (List Lexeme) LexFault). r >>= λ ts. all_taken x.tail ts) (all_read x.list [])) ∙ e) in
     record { whole = all.0; value = all.1 }
 
-whole_taken : (tail : Tail LexFault) (ts : List Lexeme) → ((fault : LexFault) → tail ≡ Broken fault → ⊥) → all_taken tail ts ≡ Ok ts
+whole_taken : (tail : Tail LexFault) (ts : List Lexeme) → ((fault : LexFault) → tail ≡ Broken fault → ⊥)
+    → all_taken tail ts ≡ Ok ts
 whole_taken (Broken fault) ts whole = absurd (whole fault refl)
 whole_taken (End end) ts whole = refl
 whole_taken More ts whole = refl

@@ -79,7 +79,8 @@ module _ {T L : Type 0} (IsAccepted : List T → Type 0) where
 module _ {T E : Type 0} (IsViable : List T → Type 0) (IsCause : List T → T → E → Type 0) where
   -- no token shows a fault
   abbrev pub ShowNone : List T → Type 0
-  ShowNone ts = (front : List T) (t : T) (back : List T) (fault : E) → ts ≡ front ++ t ∷ back → IsCause front t fault → ⊥
+  ShowNone ts =
+      (front : List T) (t : T) (back : List T) (fault : E) → ts ≡ front ++ t ∷ back → IsCause front t fault → ⊥
 
   -- the first token that shows a fault: those before it are viable and show none
   pub record ShownByToken (ts : List T) (fault : E) : Type 0 where

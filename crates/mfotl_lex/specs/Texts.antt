@@ -24,12 +24,14 @@ text_of mode bytes = record {
   tail = tail_of true (length bytes) (tokens (beginning mode bytes)).fault;
 }
 
-module _ {S L E V : Type 0} (step : S → Lexeme → Result S E) (at_tail : Tail L → S → Result V E) (tail : Option LexFault → Tail L) where
+module _ {S L E V : Type 0} (step : S → Lexeme → Result S E) (at_tail : Tail L → S → Result V E)
+    (tail : Option LexFault → Tail L) where
   -- what the bytes from a place on say behind what was read, where `tail` is what stands behind their tokens
   unfoldable pub reading_on : Place → S → Result V E
   reading_on p s = run step (tokens p).list s >>= λ q. at_tail (tail (tokens p).fault) q
 
-module _ {S L E O : Type 0} (step : S → Lexeme → Result S E) (gives : S → Lexeme → List O) (last : Tail L → S → List O) (tail : Option LexFault → Tail L) where
+module _ {S L E O : Type 0} (step : S → Lexeme → Result S E) (gives : S → Lexeme → List O)
+    (last : Tail L → S → List O) (tail : Option LexFault → Tail L) where
   -- what a reader gives on its way over the bytes from a place on, and then behind their tokens
   unfoldable pub given_on : Place → S → List O
   given_on p s = given step gives (last (tail (tokens p).fault)) (tokens p).list s
@@ -38,4 +40,5 @@ module _ {S E V : Type 0} (step : S → Lexeme → Result S E) (start : S) (at_t
   -- what bytes whose end isn't told show is shown by any that begin with them
   abbrev pub StaysShown : Type 0
   StaysShown = (p : Place) (more : List ℕ) (ended : Bool) (fault : E) → p.ended ≡ false
-      → reading step start at_tail (text_at p) ≡ Err fault → reading step start at_tail (text_at (grown p more ended)) ≡ Err fault
+      → reading step start at_tail (text_at p) ≡ Err fault
+      → reading step start at_tail (text_at (grown p more ended)) ≡ Err fault

@@ -1,6 +1,9 @@
+//! What holds of every text. Each law is a function that does nothing: its clause is the law.
+
 ghost use Rattle.mfotl_lex.specs.AllTokens.{TokensAreTaken};
 ghost use Rattle.mfotl_lex.specs.Growing.{MoreBytesChangeNothing};
 ghost use Rattle.mfotl_lex.specs.Shortening.{OpenCommentsShorten};
+ghost use Rattle.mfotl_lex.specs.Lexemes.{ModesStay};
 ghost use Rattle.mfotl_lex.specs.Covering.{TokensAreTheBytes};
 
 /// More bytes never change a token or a fault that is shown, so bytes may come in any pieces.
@@ -11,6 +14,11 @@ pub fn more_bytes_change_nothing()
 /// The tokens and what lies between them are the bytes, in order.
 pub fn tokens_are_the_bytes()
     ensures { TokensAreTheBytes }
+{}
+
+/// No token changes the lexer's mode.
+pub fn modes_stay()
+    ensures { ModesStay }
 {}
 
 /// Of a comment that isn't at its end a reader needs the `#` alone, in the place of its last byte.

@@ -7,6 +7,7 @@ mod fault;
 mod kind;
 pub mod laws;
 mod lexer;
+mod limits;
 mod number;
 mod scan;
 mod token;
@@ -16,6 +17,3 @@ pub use kind::{Kind, Mode};
 pub use lexer::Lexer;
 pub use number::read_integer;
 pub use token::Token;
-
-#[cfg(test)]
-mod tests;
