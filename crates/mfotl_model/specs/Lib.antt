@@ -1,13 +1,15 @@
+pub mod Ascending
 pub mod Values
+pub mod HeldValues
 pub mod Events
 pub mod Formulas
 pub mod Log
 pub mod Intervals
 pub mod Satisfaction
 pub mod FreeVariables
+pub mod Tables
 pub mod ActiveDomain
 pub mod Settled
 pub mod Violations
 pub mod VerdictText
-pub mod Bindings
 pub mod Examples
