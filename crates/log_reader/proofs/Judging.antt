@@ -19,7 +19,7 @@ use Rattle.log_reader.specs.declared.fault.LogFault.TheVariants.{WrongSort, IntR
 use Rattle.log_reader.specs.declared.limits.Limits.{Limits}
 use Rattle.log_reader.specs.declared.stage.Stage.{Stage}
 use Rattle.log_reader.specs.declared.stage.Stage.TheVariants.{AfterOpen, AfterValue, AfterComma, AfterClose}
-use Rattle.log_reader.specs.Given.{◌>>=◌}
+use Rattle.mfotl_lex.specs.FirstFault.{◌>>=◌}
 use Rattle.log_reader.specs.Grammar.{spell_more, spell_values, symbols_of}
 use Rattle.log_reader.specs.Partials.{Partial, point_of}
 use Rattle.log_reader.specs.Readings.{Reading, Fault, behind, went_on, run}

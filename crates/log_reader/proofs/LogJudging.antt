@@ -17,7 +17,8 @@ use Rattle.log_reader.specs.Partials.{Partial, point_of, finished}
 use Rattle.log_reader.specs.Readings.{Reading, NoFault, Fault, behind, run, finish_at}
 use Rattle.log_reader.specs.Rules.{mentions_value, group_count, point_value, log_value}
 use Rattle.log_reader.specs.Stages.{goes, completes}
-use Rattle.log_reader.specs.Steps.{stepped, opened, stamped, timestamp_of}
+use Rattle.log_reader.specs.Steps.{stepped, opened, stamped}
+use Rattle.log_reader.specs.ValuesRead.{timestamp_of}
 use Rattle.log_reader.specs.Symbols.{AtSign, Terminator, Says, Bare, content}
 use Rattle.log_reader.proofs.Judging.{front_of, bare_content, Passed, Faulty, one_step, last_step, passes, faults, Faulty-behind, resting}
 use Rattle.log_reader.proofs.PointJudging.{after_stamp, MentionsRead, mentions_judged}

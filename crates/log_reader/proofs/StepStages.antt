@@ -1,5 +1,5 @@
 -- A step leads to the stage that the grammar leads to, and counts the time-points.
-use Rattle.std.proofs.Common.{◌≡◌, ℕ, ◌+◌, Bool, true, false, cond, List, [], ◌∷◌, ◌++◌, Option, Some, None, Result, Ok, Err, refl, ap, subst, ◌∙◌, arith, nat_lt}
+use Rattle.std.proofs.Common.{◌≡◌, ℕ, ◌+◌, Bool, true, false, cond, List, [], ◌∷◌, ◌++◌, Option, Some, None, Result, Ok, Err, refl, sym, ap, subst, ◌∙◌, arith, nat_lt}
 use Rattle.std.proofs.lemmas.Bool.{cond_both}
 use Rattle.mfotl_lex.specs.Lexemes.{Lexeme}
 use Rattle.mfotl_model.specs.declared.policy.Sort.{Sort}
@@ -12,9 +12,10 @@ use Rattle.log_reader.specs.declared.stage.Stage.TheVariants.{Between, AfterAt, 
 use Rattle.log_reader.specs.Cursors.{open_count, given_of, IsCounted}
 use Rattle.log_reader.specs.Partials.{Partial}
 use Rattle.log_reader.specs.Stages.{goes, completes}
-use Rattle.log_reader.specs.Steps.{step, stepped, stamped, naming, valued, closed, timestamp_of}
+use Rattle.log_reader.specs.Steps.{step, stepped, stamped, naming, valued, closed}
+use Rattle.log_reader.specs.ValuesRead.{timestamp_of}
 use Rattle.log_reader.specs.Symbols.{Symbol, AtSign, Opening, Closing, Separator, Says, Written, Bare, is_digits, symbol, content, written}
-use Rattle.log_reader.specs.Given.{◌>>=◌}
+use Rattle.mfotl_lex.specs.FirstFault.{◌>>=◌}
 use Rattle.log_reader.specs.ValuesRead.{value_at}
 
 -- a token leads from a stage within a time-point to another, or opens one
@@ -131,3 +132,14 @@ step_counts sig limits p q t c h e =
     by_stage : (found : Option Stage) → goes p.stage (symbol t) ≡ found → stepped sig limits p t found ≡ Ok q → Counts p q
     by_stage None f e = absurd cc
     by_stage (Some g) f e = counts_by p q p.stage g refl (keeps_open p.stage (symbol t) g f h) c (stepped_reaches sig limits p t g q e)
+
+-- a step without a fault follows the grammar
+pub step_goes : (sig : List PredOf) (limits : Limits) (p q : Partial) (t : Lexeme) → step sig limits p t ≡ Ok q
+    → goes p.stage (symbol t) ≡ Some q.stage
+unfolding step
+step_goes sig limits p q t e = by_stage (goes p.stage (symbol t)) refl e
+  where
+    by_stage : (found : Option Stage) → goes p.stage (symbol t) ≡ found → stepped sig limits p t found ≡ Ok q
+        → goes p.stage (symbol t) ≡ Some q.stage
+    by_stage None f h = absurd cc
+    by_stage (Some g) f h = f ∙ ap (λ (s : Stage). Some s) (sym (stepped_reaches sig limits p t g q h).stage)
