@@ -1,9 +1,6 @@
 pub mod LogicLemmas
 pub mod AscendingLemmas
 pub mod RowLemmas
+pub mod SortedLemmas
+pub mod EventLemmas
 pub mod VariableLemmas
-pub mod PlainLemmas
-pub mod SettlingLemmas
-pub mod DomainLemmas
-pub mod PlainRowLemmas
-pub mod LineLemmas

@@ -1,4 +1,6 @@
+pub mod Ascending
 pub mod Values
+pub mod HeldValues
 pub mod Events
 pub mod Formulas
 pub mod Log
@@ -10,5 +12,4 @@ pub mod ActiveDomain
 pub mod Settled
 pub mod Violations
 pub mod VerdictText
-pub mod Bindings
 pub mod Examples

@@ -16,7 +16,7 @@ use Rattle.std.specs.declared.cmp.Ordering.TheVariants.{Less, Equal, Greater}
 use Rattle.mfotl_model.proofs.AscendingLemmas.{any_insert, sorted_insert}
 use Rattle.mfotl_model.proofs.LogicLemmas.{any_map, same_number}
 use Rattle.mfotl_model.proofs.RowLemmas.{row_exact, and_turned}
-use Rattle.mfotl_model.specs.ActiveDomain.{ascending}
+use Rattle.mfotl_model.specs.Ascending.{ascending}
 use Rattle.mfotl_model.specs.FreeVariables.{among, joined}
 use Rattle.mfotl_model.specs.Satisfaction.{Valuation, compares, term_value}
 use Rattle.mfotl_model.specs.Values.{row_cmp, row_total}

@@ -14,7 +14,7 @@ use Rattle.mfotl_model.proofs.LogicLemmas.{any_map}
 use Rattle.mfotl_model.proofs.RowLemmas.{eq_then}
 use Rattle.mfotl_model.proofs.AscendingLemmas.{same_ascending}
 use Rattle.mfotl_model.proofs.RowLemmas.{row_exact}
-use Rattle.mfotl_model.specs.ActiveDomain.{ascending}
+use Rattle.mfotl_model.specs.Ascending.{ascending}
 use Rattle.mfotl_model.specs.FreeVariables.{among}
 use Rattle.mfotl_model.specs.Values.{row_cmp, row_total, value_cmp}
 use Rattle.mfotl_model.specs.declared.value.Value.{Value}

@@ -48,11 +48,11 @@ pub fn part_of(
 ) -> Result<Row, AllocError>
     ensures { IfOk result (λ narrow. narrow ≡ part columns.now wanted.now row.now) }
 {
-    let mut values = Vec::with_capacity(alloc, wanted.len())?;
+    let mut narrow = Row::empty();
     for x in wanted {
-        values.push(value_of(alloc, columns, row, *x)?)?;
+        narrow = narrow.push(alloc, value_of(alloc, columns, row, *x)?)?;
     }
-    Ok(Row::new(values))
+    Ok(narrow)
 }
 
 fn is_among(x: u32, columns: &[u32]) -> bool

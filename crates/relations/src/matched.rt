@@ -22,14 +22,11 @@ fn combined(
 ) -> Result<Row, AllocError>
     ensures { IfOk result (λ row. row ≡ first.now ++ part columns.now more.now second.now) }
 {
-    let mut values = Vec::with_capacity(alloc, first.values().len().saturating_add(more.len()))?;
-    for value in first.values() {
-        values.push(value.copy(alloc)?)?;
-    }
+    let mut both = first.copy(alloc)?;
     for x in more {
-        values.push(value_of(alloc, columns, second.values(), *x)?)?;
+        both = both.push(alloc, value_of(alloc, columns, second.values(), *x)?)?;
     }
-    Ok(Row::new(values))
+    Ok(both)
 }
 
 fn push_seconds(

@@ -2,7 +2,6 @@
 ghost use Rattle.std.specs.Prelude.{◌≡◌, ◌++◌, ◌∷◌, [], ◌≤◌, IfOk, OnOk, OnErr, length, insert, not};
 ghost use Rattle.std.specs.BTreeSet.{insert_key};
 ghost use Rattle.std.specs.List.Sorted.{IsStrictlySortedBy};
-ghost use Rattle.mfotl_model.specs.ActiveDomain.{ascending};
 ghost use Rattle.mfotl_model.specs.Tables.{has_row};
 ghost use Rattle.mfotl_model.specs.Values.{row_cmp};
 
@@ -13,17 +12,8 @@ pub(crate) fn empty_row(alloc: Global) -> Result<Vec<Row>, AllocError>
     ensures { IfOk result (λ rows. rows.items ≡ [] ∷ []) }
 {
     let mut rows = Vec::new(alloc);
-    rows.push(Row::new(Vec::new(alloc)))?;
+    rows.push(Row::empty())?;
     Ok(rows)
-}
-
-pub(crate) fn in_order(rows: Vec<Row>) -> Vec<Row>
-    ensures { result.items ≡ ascending row_cmp rows.items }
-{
-    let mut rows = rows;
-    rows.sort_unstable();
-    rows.dedup();
-    rows
 }
 
 pub(crate) fn push_rows(alloc: Global, more: &[Row], rows: &mut Vec<Row>) -> Result<(), AllocError>

@@ -3,15 +3,15 @@ ghost use Rattle.std.specs.Prelude.{◌≡◌, ◌∷◌, [], IfOk, OnOk, OnErr,
 ghost use Rattle.std.specs.BTreeSet.{insert_key};
 ghost use Rattle.std.specs.Fn.{CalledAt};
 ghost use Rattle.std.specs.List.Retain.{IsFiltered};
-ghost use Rattle.mfotl_model.specs.ActiveDomain.{ascending};
+ghost use Rattle.mfotl_model.specs.Ascending.{ascending};
 ghost use Rattle.mfotl_model.specs.Satisfaction.{Valuation};
 ghost use Rattle.mfotl_model.specs.Tables.{all_apart, all_sized, has, has_row};
 ghost use Rattle.mfotl_model.specs.Values.{row_cmp};
 ghost use Rattle.relations.specs.Tables.{IsTable};
 
 use crate::columns::copied;
-use crate::rows::{copied_rows, empty_row, has_row, in_order, insert_row};
-use mfotl_model::Row;
+use crate::rows::{copied_rows, empty_row, has_row, insert_row};
+use mfotl_model::{Row, RowList};
 use std::alloc::{AllocError, Global};
 use std::marker::Model;
 
@@ -73,7 +73,7 @@ impl Table {
     {
         Table {
             columns,
-            rows: in_order(rows),
+            rows: RowList::in_order(rows).into_vec(),
         }
     }
 

@@ -1,5 +1,5 @@
 use Rattle.std.proofs.Common.{◌≡◌, ap, ◌∙◌}
-use Rattle.mfotl_model.specs.ActiveDomain.{ascending}
+use Rattle.mfotl_model.specs.Ascending.{ascending}
 use Rattle.mfotl_model.specs.Tables.{all_among}
 use Rattle.mfotl_model.specs.Values.{row_cmp}
 use Rattle.relations.specs.Operations.{common, turned_pairs}
