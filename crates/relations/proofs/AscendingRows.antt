@@ -1,21 +1,18 @@
 -- Rows put into ascending order: their number of values, their members, and when a list is the one in order.
 use Rattle.std.proofs.Common.{◌≡◌, ℕ, Bool, true, false, ◌&&◌, nat_eq, List, [], ◌∷◌, ◌++◌, length, refl, sym, subst, ap, ◌∙◌}
-use Rattle.std.proofs.lemmas.Map.Lookups.{btree_set_from_contains}
-use Rattle.std.specs.BTreeSet.{BTreeSet, insert_key}
-use Rattle.std.specs.List.{list_any, list_all}
-use Rattle.std.specs.List.Sorted.{IsStrictlySortedBy, IsSorted, IsPermutation}
-use Rattle.std.specs.List.{dedup}
+use Rattle.std.specs.BTreeSet.{insert_key}
+use Rattle.std.specs.List.{list_all}
+use Rattle.std.specs.List.Sorted.{IsStrictlySortedBy}
 use Rattle.std.specs.Ordering.{eq_by_cmp, match_ordering}
 use Rattle.std.specs.declared.cmp.Ordering.{Ordering}
 use Rattle.std.specs.declared.cmp.Ordering.TheVariants.{Less, Equal, Greater}
-use Rattle.mfotl_model.proofs.AscendingLemmas.{any_ascending, any_insert, sorted_ascending, sorted_insert}
+use Rattle.mfotl_model.proofs.AscendingLemmas.{any_ascending, sorted_ascending}
 use Rattle.mfotl_model.proofs.RowLemmas.{row_exact}
 use Rattle.mfotl_model.specs.Ascending.{ascending}
 use Rattle.mfotl_model.specs.Values.{row_cmp, row_total}
 use Rattle.mfotl_model.specs.declared.value.Value.{Value}
 use Rattle.mfotl_model.specs.Tables.{all_apart, all_sized, has_row}
 use Rattle.relations.specs.Tables.{IsTable}
-use Rattle.relations.proofs.RowLists.{has_permuted, has_dedup, strictly_sorted}
 
 and_swapped : (a b c : Bool) → (b && (a && c)) ≡ (a && (b && c))
 and_swapped true b c = refl
@@ -25,15 +22,6 @@ and_swapped false false c = refl
 and_doubled : (a c : Bool) → (a && c) ≡ (a && (a && c))
 and_doubled true c = refl
 and_doubled false c = refl
-
--- a strictly ascending list with the members of another is the other in ascending order
-pub in_order : (ys xs : List (List Value)) → IsStrictlySortedBy row_cmp ys → ((q : List Value) → has_row ys q ≡ has_row xs q)
-    → ys ≡ ascending row_cmp xs
-in_order ys xs sorted same =
-    let left : BTreeSet (List Value) = record { keys = ys } in
-    let right : BTreeSet (List Value) = record { keys = ascending row_cmp xs } in
-    btree_set_from_contains row_total left right sorted (sorted_ascending row_total row_exact xs)
-    (λ q. same q ∙ sym (any_ascending row_total row_exact (eq_by_cmp row_cmp q) xs)) row_exact
 
 pub has_ascending : (xs : List (List Value)) (q : List Value) → has_row (ascending row_cmp xs) q ≡ has_row xs q
 has_ascending xs q = any_ascending row_total row_exact (eq_by_cmp row_cmp q) xs
@@ -62,13 +50,7 @@ sized_ascending n xs = all_ascending (λ row. nat_eq (length row) n) xs
 pub sized_inserted : (n : ℕ) (xs : List (List Value)) (row : List Value) → all_sized n (insert_key row_cmp xs row) ≡ (nat_eq (length row) n && all_sized n xs)
 sized_inserted n xs row = all_insert (λ r. nat_eq (length r) n) xs row
 
--- sorted, then each once: the ascending list
-pub made : (xs ys : List (List Value)) → IsPermutation xs ys → IsSorted row_cmp ys → dedup (eq_by_cmp row_cmp) ys ≡ ascending row_cmp xs
-made xs ys moved sorted =
-    in_order (dedup (eq_by_cmp row_cmp) ys) xs (strictly_sorted ys sorted)
-    (λ q. has_dedup ys q ∙ has_permuted xs ys q moved)
-
--- and so a table
+-- rows in ascending order are a table
 pub made_is : (columns : List ℕ) (xs ys : List (List Value)) → all_apart columns ≡ true → all_sized (length columns) xs ≡ true
     → ys ≡ ascending row_cmp xs → IsTable columns ys
 made_is columns xs ys apart sized e =

@@ -25,28 +25,6 @@ use Rattle.mfotl_model.proofs.RowLemmas.{row_exact}
 use Rattle.std.proofs.lemmas.Map.Views.{tells_apart}
 use Rattle.mfotl_model.specs.Tables.{has_row, valuation}
 
-same_row : (u v : List Value) → eq_by_cmp row_cmp u v ≡ true → u ≡ v
-same_row u v e = tells_apart row_exact u v e
-
-row_same : (a b : List Value) → Decides (eq_by_cmp row_cmp a b) (a ≡ b)
-row_same a b = (same_row a b, λ e. subst (λ r. eq_by_cmp row_cmp a r ≡ true) e ((eq_by_cmp_equiv row_total).refl a))
-
-has_decides : (rows : List (List Value)) (u : List Value) → Decides (has_row rows u) (Contains rows u)
-has_decides rows u = is_member-Decides row_same rows u
-
-pub has_permuted : (xs ys : List (List Value)) (u : List Value) → IsPermutation xs ys → has_row ys u ≡ has_row xs u
-has_permuted xs ys u p =
-    same_from_decides (has_row ys u) (has_row xs u) (has_decides ys u)
-    (λ e. Contains-permutation xs ys u p ((has_decides xs u).0 e), λ k. (has_decides xs u).1 (Contains-permutation ys xs u (IsPermutation-sym xs ys p) k))
-
-pub has_dedup : (xs : List (List Value)) (u : List Value) → has_row (dedup (eq_by_cmp row_cmp) xs) u ≡ has_row xs u
-has_dedup xs u =
-    same_from_decides (has_row (dedup (eq_by_cmp row_cmp) xs) u) (has_row xs u) (has_decides (dedup (eq_by_cmp row_cmp) xs) u)
-    (λ e. Contains-dedup (eq_by_cmp_equiv row_total) (λ x y. same_row x y) xs u ((has_decides xs u).0 e), λ k. (has_decides xs u).1 (Contains-from_dedup (eq_by_cmp row_cmp) xs u k))
-
-pub strictly_sorted : (xs : List (List Value)) → IsSorted row_cmp xs → IsStrictlySortedBy row_cmp (dedup (eq_by_cmp row_cmp) xs)
-strictly_sorted xs h = IsStrictlySortedBy-dedup row_total {E = eq_by_cmp row_cmp} (λ x y. refl) xs h
-
 not_less : (o p : Ordering) → p ≡ ordering_reverse o → o ≡ Less → is_lt p ≡ false
 not_less o p e h = ap is_lt (e ∙ ap ordering_reverse h)
 
