@@ -21,4 +21,9 @@ pub mod Regions
 pub mod Slices
 pub mod Exact
 pub mod Laws
-pub mod Examples
+pub mod Samples
+pub mod TextExamples
+pub mod ValueExamples
+pub mod OperatorExamples
+pub mod VariableExamples
+pub mod TableExamples
