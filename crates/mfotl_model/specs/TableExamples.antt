@@ -34,7 +34,7 @@ abbrev pub AtomsMatch : Type 0
 AtomsMatch =
     matching_rows (record {
       atom = record { pred = 0; args = Var 0 ∷ Const (int 5) ∷ Var 0 ∷ Var 1 ∷ [] };
-      columns = 1 ∷ 0 ∷ []
+      columns = 1 ∷ 0 ∷ [];
     })
     (event 0 (int 1 ∷ int 5 ∷ int 1 ∷ int 2 ∷ []) ∷ event 0 (int 1 ∷ int 5 ∷ int 3 ∷ int 2 ∷ [])
     ∷ event 0 (int 1 ∷ int 6 ∷ int 1 ∷ int 2 ∷ []) ∷ event 0 (int 1 ∷ int 5 ∷ int 1 ∷ [])
