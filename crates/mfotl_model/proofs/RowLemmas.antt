@@ -80,7 +80,6 @@ and_moved true b c = refl
 and_moved false true c = refl
 and_moved false false c = refl
 
-
 -- a row is among the rows of n values of a domain exactly if it has n values, each in the domain
 pub member_all_rows : (n : ℕ) (dom : List Value) (q : List Value)
     → list_any (eq_by_cmp row_cmp q) (all_rows n dom) ≡ (nat_eq (length q) n && list_all (within dom) q)

@@ -3,6 +3,7 @@ pub mod Values
 pub mod HeldValues
 pub mod Events
 pub mod Formulas
+pub mod Operators
 pub mod Log
 pub mod Intervals
 pub mod Satisfaction
@@ -21,4 +22,9 @@ pub mod Regions
 pub mod Slices
 pub mod Exact
 pub mod Laws
-pub mod Examples
+pub mod Samples
+pub mod TextExamples
+pub mod ValueExamples
+pub mod OperatorExamples
+pub mod VariableExamples
+pub mod TableExamples
