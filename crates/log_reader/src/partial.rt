@@ -1,4 +1,4 @@
-ghost use Rattle.std.specs.Prelude.{◌≡◌, ◌^◌, ◌<◌, ◌≤◌, OnErr, Ok, Err, IsTrue};
+ghost use Rattle.std.specs.Prelude.{◌≡◌, ◌++◌, ◌∷◌, [], OnOk, Ok};
 ghost use Rattle.mfotl_lex.specs.Lexemes.{lexeme};
 ghost use Rattle.log_reader.specs.Given.{Moves};
 ghost use Rattle.log_reader.specs.Stages.{completes};
@@ -12,9 +12,9 @@ use crate::next::Next;
 use crate::stage::Stage;
 use crate::values::{timestamp_of, value_at};
 use mfotl_lex::Token;
-use mfotl_model::{Db, Event, Row, Sort, TimePoint};
+use mfotl_model::{Db, Event, Row, Sort, TimePoint, Value};
 use mfotl_sig::Signature;
-use std::alloc::Global;
+use std::alloc::{AllocError, Global};
 use std::marker::Model;
 use std::mem;
 
@@ -153,12 +153,19 @@ impl<'a> Partial<'a> {
             [] => Err(LogFault::WrongArity(at)),
             [sort, due @ ..] => {
                 let value = value_at(alloc, *sort, at, token.kind, token.content())?;
-                self.args = mem::replace(&mut self.args, Row::empty()).push(alloc, value)?;
+                self.push(alloc, value)?;
                 self.stage = Stage::AfterValue;
                 self.due = due;
                 Ok(())
             }
         }
+    }
+
+    fn push(&mut self, alloc: Global, value: Value) -> Result<(), AllocError>
+        ensures { OnOk result (self.new ≡ record self.old { args = self.old.args ++ value ∷ [] }) }
+    {
+        self.args = mem::replace(&mut self.args, Row::empty()).push(alloc, value)?;
+        Ok(())
     }
 
     fn end_group(&mut self, at: u64) -> Result<(), LogFault>
