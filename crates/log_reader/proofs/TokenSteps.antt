@@ -6,12 +6,14 @@ use Rattle.mfotl_lex.specs.declared.kind.Kind.{Kind}
 use Rattle.mfotl_lex.specs.declared.kind.Kind.TheVariants.{Semicolon}
 use Rattle.mfotl_model.specs.declared.event.TimePoint.{TimePoint}
 use Rattle.mfotl_sig.specs.Preds.{PredOf}
+use Rattle.log_reader.specs.declared.cursor.TokenStep.{TokenStep}
+use Rattle.log_reader.specs.declared.cursor.TokenStep.TheVariants.{Took, Completed, Empty}
 use Rattle.log_reader.specs.declared.fault.LogFault.{LogFault}
 use Rattle.log_reader.specs.declared.fault.LogFault.TheVariants.{Memory}
 use Rattle.log_reader.specs.declared.limits.Limits.{Limits}
 use Rattle.log_reader.specs.declared.stage.Stage.{Stage}
 use Rattle.log_reader.specs.declared.stage.Stage.TheVariants.{Between, AfterAt, AfterStamp, AfterClose}
-use Rattle.log_reader.specs.Cursors.{place_in, IsLater, open_count, IsCounted, Leads, Halts, HaltsBy}
+use Rattle.log_reader.specs.Cursors.{place_in, IsLater, open_count, IsCounted, Leads, StepsOver, Halts, HaltsBy, TakesToken}
 use Rattle.log_reader.specs.Partials.{Partial, point_of, finished}
 use Rattle.log_reader.specs.Readings.{Reading, behind, went_on, run_from}
 use Rattle.log_reader.specs.Stages.{goes, completes, read_on}
@@ -130,3 +132,14 @@ module _ (sig : List PredOf) (limits : Limits) (looked : List ℕ) (ended : Bool
       → Stays p q fault (step sig limits p t) → HaltsBy sig limits looked ended at p fault at q
   fault_halts Memory q found h s = tt
   fault_halts fault q found h s = step_halts fault q found h s.0 s.1
+
+  -- so the token does what is asked of one
+  pub steps_over : (behind : ℕ) → TokenAt looked ended at t behind → at ≤ length looked → IsCounted p
+      → next_token (place_in looked ended at) ≡ Ok (Some t)
+      → (result : Result TokenStep LogFault) (at' : ℕ) (q : Partial) → StepsOver sig limits t behind at p result at' q
+      → TakesToken sig limits looked ended at p result at' q
+  steps_over b found le c e (Ok Took) at' q (none, steps, here) = rw here (took_leads b q found c none steps)
+  steps_over b found le c e (Ok (Completed point)) at' q (one, is, here, done) =
+      rw (is, here, done) (completed_leads b found le c one)
+  steps_over b found le c e (Ok Empty) at' q s = absurd s
+  steps_over b found le c e (Err fault) at' q (none, here, stays) = rw here (fault_halts fault q e none stays)

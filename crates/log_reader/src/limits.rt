@@ -12,7 +12,7 @@ const POINT_LIMIT: u32 = u32::MAX;
 const EVENT_LIMIT: u32 = 65_536;
 
 /// What a log may have at most.
-#[derive(Clone, Copy, Debug, PartialEq, Eq)]
+#[derive(Clone, Copy)]
 pub struct Limits {
     pub bytes: u64,
     /// Time-points.

@@ -1,6 +1,7 @@
 use Rattle.std.proofs.Common.{refl}
 use Rattle.mfotl_lex.specs.Blanks.{blank_len, comment_len}
 use Rattle.mfotl_lex.specs.Lexemes.{next_token, after, tokens, tokens_within}
+use Rattle.mfotl_lex.specs.Places.{mode_behind}
 use Rattle.mfotl_lex.specs.Scans.{log_scan, text_scan, closed_text, text_end}
 use Rattle.mfotl_lex.specs.Numbers.{digits_value, integer_value}
 use Rattle.log_reader.specs.Readings.{run, reading}
@@ -9,7 +10,7 @@ use Rattle.log_reader.specs.ValuesRead.{integer_at}
 use Rattle.log_reader.proofs.laws.worked_texts.Goals as goal
 
 pub returns-clause-values : goal.returns-clause-values
-unfolding reading run step completed integer_at tokens tokens_within next_token after log_scan text_scan closed_text text_end digits_value integer_value blank_len comment_len
+unfolding mode_behind reading run step completed integer_at tokens tokens_within next_token after log_scan text_scan closed_text text_end digits_value integer_value blank_len comment_len
 returns-clause-values c = record {
   empty = refl;
   two = refl;
@@ -23,7 +24,7 @@ returns-clause-values c = record {
 }
 
 pub returns-clause-faults : goal.returns-clause-faults
-unfolding reading run step completed integer_at tokens tokens_within next_token after log_scan text_scan closed_text text_end digits_value integer_value blank_len comment_len
+unfolding mode_behind reading run step completed integer_at tokens tokens_within next_token after log_scan text_scan closed_text text_end digits_value integer_value blank_len comment_len
 returns-clause-faults c = record {
   lexical = refl;
   lexical_behind = refl;
@@ -47,7 +48,7 @@ returns-clause-faults c = record {
 }
 
 pub returns-clause-fronts : goal.returns-clause-fronts
-unfolding reading run step completed integer_at tokens tokens_within next_token after log_scan text_scan closed_text text_end digits_value integer_value blank_len comment_len
+unfolding mode_behind reading run step completed integer_at tokens tokens_within next_token after log_scan text_scan closed_text text_end digits_value integer_value blank_len comment_len
 returns-clause-fronts c = record {
   next_begun = refl;
   not_yet = refl;
