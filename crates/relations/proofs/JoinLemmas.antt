@@ -1,11 +1,11 @@
 -- The join of two tables by all pairs of rows, spoken of by valuations.
-use Rattle.std.proofs.Common.{subst, ◌≡◌, ℕ, suc, ◌+◌, Bool, true, false, not, ◌&&◌, ◌||◌, cond, nat_eq, List, [], ◌∷◌, ◌++◌, length, map, refl, sym, ap, ap₂, ◌∙◌, inl, inr, arith}
+use Rattle.std.proofs.Common.{◌≡◌, ℕ, suc, Bool, true, false, not, ◌&&◌, ◌||◌, cond, nat_eq, List, [], ◌∷◌, ◌++◌, length, map, refl, sym, ap, ap₂, ◌∙◌, inl, inr, arith}
 use Rattle.std.proofs.lemmas.Bool.{and_parts, and_from, or_cases, or_left, or_right, cond-true, cond-false, not-true, eqb-true, ne_eqb}
 use Rattle.std.proofs.lemmas.Cmp.{tied_itself}
 use Rattle.std.proofs.lemmas.List.{map-append}
 use Rattle.std.proofs.lemmas.List.Folds.{list_any-append}
 use Rattle.std.proofs.lemmas.Map.Views.{any-filter_same, tells_apart}
-use Rattle.std.specs.List.{list_any, list_all, filter, flat_map}
+use Rattle.std.specs.List.{list_any, list_all, filter}
 use Rattle.std.specs.Ordering.{eq_by_cmp, is_eq}
 use Rattle.mfotl_model.proofs.LogicLemmas.{any_map, same_number}
 use Rattle.mfotl_model.proofs.RowLemmas.{row_exact, value_exact}
@@ -13,7 +13,8 @@ use Rattle.mfotl_model.specs.FreeVariables.{among, joined}
 use Rattle.mfotl_model.specs.Satisfaction.{Valuation}
 use Rattle.mfotl_model.specs.Values.{row_cmp, row_total, value_cmp, value_total}
 use Rattle.mfotl_model.specs.declared.value.Value.{Value}
-use Rattle.mfotl_model.specs.Tables.{all_apart, all_sized, has_row, part, valuation}
+use Rattle.mfotl_model.specs.Tables.{all_apart, all_sized, part, valuation}
+use Rattle.relations.proofs.RowLists.{any_filter}
 use Rattle.relations.specs.Operations.{agree, combined, others, pairs, pairs_of}
 
 pub same_truth : (x y : Bool) → (x ≡ true → y ≡ true) → (y ≡ true → x ≡ true) → x ≡ y
@@ -21,14 +22,16 @@ same_truth true y h k = sym (h refl)
 same_truth false true h k = k refl
 same_truth false false h k = refl
 
-pub map_same_on : (v w : Valuation) (columns : List ℕ) → ((y : ℕ) → among y columns ≡ true → v y ≡ w y) → map v columns ≡ map w columns
+pub map_same_on : (v w : Valuation) (columns : List ℕ) → ((y : ℕ) → among y columns ≡ true → v y ≡ w y)
+    → map v columns ≡ map w columns
 map_same_on v w [] same = refl
 map_same_on v w (x ∷ columns) same =
     ap₂ (λ a rest. a ∷ rest) (same x (or_left (nat_eq x x) (among x columns) (same_number x)))
     (map_same_on v w columns (λ y m. same y (or_right (nat_eq y x) (among y columns) m)))
 
 other : (x y : ℕ) (columns : List ℕ) → among y columns ≡ true → among x columns ≡ false → nat_eq y x ≡ false
-other x y columns m out = ne_eqb y x (λ e. absurd (let f : false ≡ true = sym out ∙ ap (λ z. among z columns) (sym e) ∙ m in cc))
+other x y columns m out = ne_eqb y x (λ e. absurd (let f : false ≡ true = sym out
+    ∙ ap (λ z. among z columns) (sym e) ∙ m in cc))
 
 -- a row is read back through its columns
 pub row_kept : (columns : List ℕ) (row : List Value) → all_apart columns ≡ true → length row ≡ length columns
@@ -44,7 +47,8 @@ row_kept (x ∷ columns) (a ∷ row) apart same =
     (λ y h. cond-false (nat_eq y x) a (valuation columns row y) (other x y columns h out))
     ∙ row_kept columns row parts.1 (omega arith))
 
-pub read_own : (v : Valuation) (columns : List ℕ) (y : ℕ) → among y columns ≡ true → valuation columns (map v columns) y ≡ v y
+pub read_own : (v : Valuation) (columns : List ℕ) (y : ℕ) → among y columns ≡ true
+    → valuation columns (map v columns) y ≡ v y
 read_own v [] y m = cc
 read_own v (x ∷ columns) y m = by (nat_eq y x) refl (read_own v columns y)
   where
@@ -129,10 +133,12 @@ module _ (v : Valuation) (ca cb : List ℕ) (apart : all_apart cb ≡ true) wher
       let parts = and_parts (agree ca cb ra rb) (eq_by_cmp row_cmp (map v (joined ca cb)) (combined ca cb ra rb)) h in
       let whole : map v ca ++ map v (others ca cb) ≡ ra ++ map (valuation cb rb) (others ca cb) =
       sym split ∙ tells_apart row_exact (map v (joined ca cb)) (combined ca cb ra rb) parts.1 in
-      let two = front_same (map v ca) ra (map v (others ca cb)) (map (valuation cb rb) (others ca cb)) (length_map v ca ∙ sym size_a) whole in
+      let two = front_same (map v ca) ra (map v (others ca cb)) (map (valuation cb rb) (others ca cb))
+      (length_map v ca ∙ sym size_a) whole in
       let each : (y : ℕ) → among y cb ≡ true → v y ≡ valuation cb rb y = λ y m.
       one y m (among y ca) refl
-      (member_of_all (λ z. not (among z ca) || eq_by_cmp value_cmp (valuation ca ra z) (valuation cb rb z)) cb y parts.0 m) two.0 two.1 in
+      (member_of_all (λ z. not (among z ca) || eq_by_cmp value_cmp (valuation ca ra z) (valuation cb rb z)) cb y
+      parts.0 m) two.0 two.1 in
       let second : map v cb ≡ rb = map_same_on v (valuation cb rb) cb each ∙ row_kept cb rb apart size_b in
       and_from (eq_by_cmp row_cmp (map v ca) ra) (eq_by_cmp row_cmp (map v cb) rb)
       (ap (eq_by_cmp row_cmp (map v ca)) (sym two.0) ∙ row_itself (map v ca))
@@ -164,20 +170,13 @@ module _ (v : Valuation) (ca cb : List ℕ) (apart : all_apart cb ≡ true) wher
           → (not (among y ca) || eq_by_cmp value_cmp (valuation ca ra y) (valuation cb rb y)) ≡ true
       both y true e read first =
           or_right (not (among y ca)) (eq_by_cmp value_cmp (valuation ca ra y) (valuation cb rb y))
-          (ap₂ (eq_by_cmp value_cmp) (ap (λ r. valuation ca r y) (sym first) ∙ read_own v ca y e) read ∙ value_itself (v y))
+          (ap₂ (eq_by_cmp value_cmp) (ap (λ r. valuation ca r y) (sym first) ∙ read_own v ca y e) read
+          ∙ value_itself (v y))
       both y false e read first =
           or_left (not (among y ca)) (eq_by_cmp value_cmp (valuation ca ra y) (valuation cb rb y)) (ap not e)
 
       inside : (y : ℕ) → among y (others ca cb) ≡ true → among y cb ≡ true
       inside y m = kept_among y ca cb m
-
-  any_filter : {X : Type 0} (test p : X → Bool) (xs : List X) → list_any test (filter p xs) ≡ list_any (λ x. p x && test x) xs
-  any_filter test p [] = refl
-  any_filter test p (x ∷ xs) = step (p x) ∙ ap (λ t. (p x && test x) || t) (any_filter test p xs)
-    where
-      step : (b : Bool) → list_any test (cond b (x ∷ filter p xs) (filter p xs)) ≡ ((b && test x) || list_any test (filter p xs))
-      step true = refl
-      step false = refl
 
   one_row : (ra : List Value) (bs : List (List Value)) → length ra ≡ length ca → all_sized (length cb) bs ≡ true
       → list_any (λ rb. agree ca cb ra rb && eq_by_cmp row_cmp (map v (joined ca cb)) (combined ca cb ra rb)) bs
@@ -191,7 +190,8 @@ module _ (v : Valuation) (ca cb : List ℕ) (apart : all_apart cb ≡ true) wher
   one_row ra (rb ∷ bs) size all =
       let parts = and_parts (nat_eq (length rb) (length cb)) (all_sized (length cb) bs) all in
       ap₂ (λ x y. x || y) (pair_is ra rb size (eqb-true (length rb) (length cb) parts.0)) (one_row ra bs size parts.1)
-      ∙ times (eq_by_cmp row_cmp (map v ca) ra) (eq_by_cmp row_cmp (map v cb) rb) (list_any (eq_by_cmp row_cmp (map v cb)) bs)
+      ∙ times (eq_by_cmp row_cmp (map v ca) ra) (eq_by_cmp row_cmp (map v cb) rb)
+      (list_any (eq_by_cmp row_cmp (map v cb)) bs)
     where
       times : (a b c : Bool) → ((a && b) || (a && c)) ≡ (a && (b || c))
       times true b c = refl
@@ -205,13 +205,15 @@ module _ (v : Valuation) (ca cb : List ℕ) (apart : all_apart cb ≡ true) wher
   join_has [] bs first second = refl
   join_has (ra ∷ as_) bs first second =
       let parts = and_parts (nat_eq (length ra) (length ca)) (all_sized (length ca) as_) first in
-      list_any-append (eq_by_cmp row_cmp (map v (joined ca cb))) (map (combined ca cb ra) (filter (agree ca cb ra) bs)) (pairs ca cb as_ bs)
+      list_any-append (eq_by_cmp row_cmp (map v (joined ca cb)))
+      (map (combined ca cb ra) (filter (agree ca cb ra) bs)) (pairs ca cb as_ bs)
       ∙ ap₂ (λ x y. x || y)
       (any_map (eq_by_cmp row_cmp (map v (joined ca cb))) (combined ca cb ra) (filter (agree ca cb ra) bs)
       ∙ any_filter (λ rb. eq_by_cmp row_cmp (map v (joined ca cb)) (combined ca cb ra rb)) (agree ca cb ra) bs
       ∙ one_row ra bs (eqb-true (length ra) (length ca) parts.0) second)
       (join_has as_ bs parts.1 second)
-      ∙ spread (eq_by_cmp row_cmp (map v ca) ra) (list_any (eq_by_cmp row_cmp (map v ca)) as_) (list_any (eq_by_cmp row_cmp (map v cb)) bs)
+      ∙ spread (eq_by_cmp row_cmp (map v ca) ra) (list_any (eq_by_cmp row_cmp (map v ca)) as_)
+      (list_any (eq_by_cmp row_cmp (map v cb)) bs)
     where
       spread : (a b c : Bool) → ((a && c) || (b && c)) ≡ ((a || b) && c)
       spread true true true = refl

@@ -1,11 +1,11 @@
 -- The rows that agree are those with the same key; and the join doesn't hang on the order of the rows.
-use Rattle.std.proofs.Common.{◌≡◌, ℕ, suc, ◌+◌, ◌*◌, ◌<◌, ◌≤◌, ◌^◌, Bool, true, false, not, ◌&&◌, ◌||◌, cond, nat_eq, List, [], ◌∷◌, ◌++◌, map, length, drop, refl, sym, subst, ap, ap₂, ◌∙◌, arith, add-one}
+use Rattle.std.proofs.Common.{◌≡◌, ℕ, ◌+◌, ◌*◌, ◌<◌, ◌≤◌, ◌^◌, Bool, true, false, not, ◌&&◌, ◌||◌, cond, nat_eq, List, [], ◌∷◌, ◌++◌, map, length, refl, sym, ap, ap₂, ◌∙◌, arith, add-one}
 use Rattle.std.proofs.Math.Nat.{suc-mul}
 use Rattle.std.proofs.Math.Dec.{eqb-suc-zero}
-use Rattle.std.proofs.lemmas.Bool.{and_parts, and_from, eqb-true}
+use Rattle.std.proofs.lemmas.Bool.{and_parts, eqb-true}
 use Rattle.std.proofs.lemmas.List.Folds.{list_any-append}
 use Rattle.std.proofs.lemmas.List.Sorted.{list_any-IsPermutation}
-use Rattle.std.specs.List.{list_any, list_all, filter, flat_map}
+use Rattle.std.specs.List.{list_any, list_all, filter}
 use Rattle.std.specs.List.Sorted.{IsPermutation}
 use Rattle.std.specs.Ordering.{eq_by_cmp, is_eq, ordering_reverse}
 use Rattle.std.specs.declared.cmp.Ordering.{Ordering}
@@ -13,31 +13,37 @@ use Rattle.std.specs.declared.cmp.Ordering.TheVariants.{Less, Equal, Greater}
 use Rattle.mfotl_model.proofs.LogicLemmas.{any_map}
 use Rattle.mfotl_model.proofs.RowLemmas.{eq_then}
 use Rattle.mfotl_model.proofs.AscendingLemmas.{same_ascending}
-use Rattle.mfotl_model.proofs.RowLemmas.{row_exact}
+use Rattle.mfotl_model.proofs.RowLemmas.{any_none, row_exact}
 use Rattle.mfotl_model.specs.Ascending.{ascending}
 use Rattle.mfotl_model.specs.FreeVariables.{among}
 use Rattle.mfotl_model.specs.Values.{row_cmp, row_total, value_cmp}
 use Rattle.mfotl_model.specs.declared.value.Value.{Value}
-use Rattle.mfotl_model.specs.Tables.{all_among, all_apart, all_sized, has_row, part, valuation}
+use Rattle.mfotl_model.specs.Tables.{all_apart, all_sized, has_row, part, valuation}
 use Rattle.relations.specs.Operations.{agree, combined, common, others, pairs, pairs_of, pairs_with, turned_pairs}
 use Rattle.relations.proofs.JoinLemmas.{row_kept}
+use Rattle.relations.proofs.RowLists.{any_filter}
 
 module _ (ca cb : List ℕ) (ra rb : List Value) where
   by_key : (ys : List ℕ)
-      → eq_by_cmp row_cmp (map (valuation ca ra) (filter (λ y. among y ca) ys)) (map (valuation cb rb) (filter (λ y. among y ca) ys))
+      → eq_by_cmp row_cmp (map (valuation ca ra) (filter (λ y. among y ca) ys))
+      (map (valuation cb rb) (filter (λ y. among y ca) ys))
       ≡ list_all (λ y. not (among y ca) || eq_by_cmp value_cmp (valuation ca ra y) (valuation cb rb y)) ys
   by_key [] = refl
   by_key (y ∷ ys) = step (by_key ys) (among y ca)
     where
-      step : eq_by_cmp row_cmp (map (valuation ca ra) (filter (λ y. among y ca) ys)) (map (valuation cb rb) (filter (λ y. among y ca) ys))
-          ≡ list_all (λ y. not (among y ca) || eq_by_cmp value_cmp (valuation ca ra y) (valuation cb rb y)) ys → (b : Bool)
-          → eq_by_cmp row_cmp (map (valuation ca ra) (cond b (y ∷ filter (λ y. among y ca) ys) (filter (λ y. among y ca) ys)))
+      step : eq_by_cmp row_cmp (map (valuation ca ra) (filter (λ y. among y ca) ys))
+          (map (valuation cb rb) (filter (λ y. among y ca) ys))
+          ≡ list_all (λ y. not (among y ca) || eq_by_cmp value_cmp (valuation ca ra y) (valuation cb rb y)) ys
+          → (b : Bool)
+          → eq_by_cmp row_cmp (map (valuation ca ra) (cond b (y ∷ filter (λ y. among y ca) ys)
+          (filter (λ y. among y ca) ys)))
           (map (valuation cb rb) (cond b (y ∷ filter (λ y. among y ca) ys) (filter (λ y. among y ca) ys)))
           ≡ ((not b || eq_by_cmp value_cmp (valuation ca ra y) (valuation cb rb y))
           && list_all (λ y. not (among y ca) || eq_by_cmp value_cmp (valuation ca ra y) (valuation cb rb y)) ys)
       step more true =
           eq_then (value_cmp (valuation ca ra y) (valuation cb rb y))
-          (row_cmp (map (valuation ca ra) (filter (λ y. among y ca) ys)) (map (valuation cb rb) (filter (λ y. among y ca) ys)))
+          (row_cmp (map (valuation ca ra) (filter (λ y. among y ca) ys))
+          (map (valuation cb rb) (filter (λ y. among y ca) ys)))
           ∙ ap (λ t. eq_by_cmp value_cmp (valuation ca ra y) (valuation cb rb y) && t) more
       step more false = more
 
@@ -45,36 +51,33 @@ module _ (ca cb : List ℕ) (ra rb : List Value) where
   unfolding part agree
   agree_is = by_key cb
 
-filter_alike : (p q : List Value → Bool) (rows : List (List Value)) → ((row : List Value) → p row ≡ q row) → filter p rows ≡ filter q rows
+filter_alike : (p q : List Value → Bool) (rows : List (List Value)) → ((row : List Value) → p row ≡ q row)
+    → filter p rows ≡ filter q rows
 filter_alike p q [] same = refl
-filter_alike p q (row ∷ rows) same = λ i. cond (same row i) (row ∷ filter_alike p q rows same i) (filter_alike p q rows same i)
+filter_alike p q (row ∷ rows) same = λ i. cond (same row i) (row ∷ filter_alike p q rows same i)
+    (filter_alike p q rows same i)
 
 -- a row with those that have its key
 pub pairs_by_key : (ca cb : List ℕ) (bs : List (List Value)) (ra : List Value)
-    → map (λ rb. ra ++ part cb (others ca cb) rb) (filter (λ rb. eq_by_cmp row_cmp (part ca (common ca cb) ra) (part cb (common ca cb) rb)) bs)
+    → map (λ rb. ra ++ part cb (others ca cb) rb) (filter
+    (λ rb. eq_by_cmp row_cmp (part ca (common ca cb) ra) (part cb (common ca cb) rb)) bs)
     ≡ pairs_of ca cb bs ra
 unfolding pairs_of combined
 pairs_by_key ca cb bs ra =
     ap (map (λ rb. ra ++ part cb (others ca cb) rb))
-    (filter_alike (λ rb. eq_by_cmp row_cmp (part ca (common ca cb) ra) (part cb (common ca cb) rb)) (agree ca cb ra) bs (λ rb. agree_is ca cb ra rb))
-
-any_filter : (test p : List Value → Bool) (xs : List (List Value)) → list_any test (filter p xs) ≡ list_any (λ x. p x && test x) xs
-any_filter test p [] = refl
-any_filter test p (x ∷ xs) = step (any_filter test p xs) (p x)
-  where
-    step : list_any test (filter p xs) ≡ list_any (λ x. p x && test x) xs → (b : Bool)
-        → list_any test (cond b (x ∷ filter p xs) (filter p xs)) ≡ ((b && test x) || list_any (λ x. p x && test x) xs)
-    step more true = ap (λ t. test x || t) more
-    step more false = more
+    (filter_alike (λ rb. eq_by_cmp row_cmp (part ca (common ca cb) ra) (part cb (common ca cb) rb))
+    (agree ca cb ra) bs (λ rb. agree_is ca cb ra rb))
 
 pairs_has : (ca cb : List ℕ) (bs : List (List Value)) (q ra : List Value)
-    → has_row (pairs_of ca cb bs ra) q ≡ list_any (λ rb. agree ca cb ra rb && eq_by_cmp row_cmp q (combined ca cb ra rb)) bs
+    → has_row (pairs_of ca cb bs ra) q ≡ list_any (λ rb. agree ca cb ra rb
+    && eq_by_cmp row_cmp q (combined ca cb ra rb)) bs
 unfolding pairs_of
 pairs_has ca cb bs q ra =
     any_map (eq_by_cmp row_cmp q) (combined ca cb ra) (filter (agree ca cb ra) bs)
     ∙ any_filter (λ rb. eq_by_cmp row_cmp q (combined ca cb ra rb)) (agree ca cb ra) bs
 
-pub pairs_moved : (ca cb : List ℕ) (bs cs : List (List Value)) → IsPermutation bs cs → (as_ : List (List Value)) (q : List Value)
+pub pairs_moved : (ca cb : List ℕ) (bs cs : List (List Value)) → IsPermutation bs cs
+    → (as_ : List (List Value)) (q : List Value)
     → has_row (pairs ca cb as_ cs) q ≡ has_row (pairs ca cb as_ bs) q
 unfolding pairs
 pairs_moved ca cb bs cs p [] q = refl
@@ -118,13 +121,15 @@ all_as_any p (x ∷ xs) = ap (λ t. p x && t) (all_as_any p xs) ∙ turn (p x) (
     turn true b = refl
     turn false b = refl
 
-pub sized_moved : (n : ℕ) (xs ys : List (List Value)) → IsPermutation xs ys → all_sized n xs ≡ true → all_sized n ys ≡ true
+pub sized_moved : (n : ℕ) (xs ys : List (List Value)) → IsPermutation xs ys → all_sized n xs ≡ true
+    → all_sized n ys ≡ true
 sized_moved n xs ys p h =
     all_as_any (λ row. nat_eq (length row) n) ys
     ∙ ap not (sym (list_any-IsPermutation (λ row. not (nat_eq (length row) n)) xs ys p))
     ∙ sym (all_as_any (λ row. nat_eq (length row) n) xs) ∙ h
 
-pub own_rows : (columns : List ℕ) (q : List Value) (rows : List (List Value)) → all_apart columns ≡ true → all_sized (length columns) rows ≡ true
+pub own_rows : (columns : List ℕ) (q : List Value) (rows : List (List Value)) → all_apart columns ≡ true
+    → all_sized (length columns) rows ≡ true
     → filter (λ row. eq_by_cmp row_cmp q (part columns columns row)) rows ≡ filter (eq_by_cmp row_cmp q) rows
 unfolding part
 own_rows columns q [] apart sized = refl
@@ -133,7 +138,8 @@ own_rows columns q (row ∷ rows) apart sized =
     λ i. cond (eq_by_cmp row_cmp q (row_kept columns row apart (eqb-true (length row) (length columns) parts.0) i))
     (row ∷ own_rows columns q rows apart parts.1 i) (own_rows columns q rows apart parts.1 i)
 
-pub none_left : (p : List Value → Bool) (rows : List (List Value)) → nat_eq (length (filter p rows)) 0 ≡ not (list_any p rows)
+pub none_left : (p : List Value → Bool) (rows : List (List Value))
+    → nat_eq (length (filter p rows)) 0 ≡ not (list_any p rows)
 none_left p [] = refl
 none_left p (row ∷ rows) = step (none_left p rows) (p row)
   where
@@ -170,23 +176,21 @@ pairs_with_by_key ca cb rows rb =
 
 -- a test of pairs, one list of the pairs after the other
 
-any_never : (bs : List (List Value)) → list_any (λ b. false) bs ≡ false
-any_never [] = refl
-any_never (b ∷ bs) = any_never bs
-
 or_shuffled : (a b c d : Bool) → ((a || b) || (c || d)) ≡ ((a || c) || (b || d))
 or_shuffled true b c d = refl
 or_shuffled false true true d = refl
 or_shuffled false true false d = refl
 or_shuffled false false c d = refl
 
-any_either : (p q : List Value → Bool) (bs : List (List Value)) → list_any (λ b. p b || q b) bs ≡ (list_any p bs || list_any q bs)
+any_either : (p q : List Value → Bool) (bs : List (List Value))
+    → list_any (λ b. p b || q b) bs ≡ (list_any p bs || list_any q bs)
 any_either p q [] = refl
-any_either p q (b ∷ bs) = ap (λ t. (p b || q b) || t) (any_either p q bs) ∙ or_shuffled (p b) (q b) (list_any p bs) (list_any q bs)
+any_either p q (b ∷ bs) = ap (λ t. (p b || q b) || t) (any_either p q bs)
+    ∙ or_shuffled (p b) (q b) (list_any p bs) (list_any q bs)
 
 any_swapped : (f : List Value → List Value → Bool) (rows bs : List (List Value))
     → list_any (λ b. list_any (λ a. f a b) rows) bs ≡ list_any (λ a. list_any (f a) bs) rows
-any_swapped f [] bs = any_never bs
+any_swapped f [] bs = any_none bs
 any_swapped f (a ∷ rows) bs =
     any_either (f a) (λ b. list_any (λ x. f x b) rows) bs ∙ ap (λ t. list_any (f a) bs || t) (any_swapped f rows bs)
 
@@ -194,13 +198,15 @@ module _ (ca cb : List ℕ) (q : List Value) where
   makes : List Value → List Value → Bool
   makes ra rb = agree ca cb ra rb && eq_by_cmp row_cmp q (combined ca cb ra rb)
 
-  with_has : (rows : List (List Value)) (rb : List Value) → has_row (pairs_with ca cb rows rb) q ≡ list_any (λ ra. makes ra rb) rows
+  with_has : (rows : List (List Value)) (rb : List Value)
+      → has_row (pairs_with ca cb rows rb) q ≡ list_any (λ ra. makes ra rb) rows
   unfolding pairs_with makes
   with_has rows rb =
       any_map (eq_by_cmp row_cmp q) (λ ra. combined ca cb ra rb) (filter (λ ra. agree ca cb ra rb) rows)
       ∙ any_filter (λ ra. eq_by_cmp row_cmp q (combined ca cb ra rb)) (λ ra. agree ca cb ra rb) rows
 
-  all_has : (rows bs : List (List Value)) → has_row (pairs ca cb rows bs) q ≡ list_any (λ ra. list_any (makes ra) bs) rows
+  all_has : (rows bs : List (List Value)) → has_row (pairs ca cb rows bs) q
+      ≡ list_any (λ ra. list_any (makes ra) bs) rows
   unfolding pairs makes
   all_has [] bs = refl
   all_has (ra ∷ rows) bs =
@@ -227,13 +233,3 @@ pub join_turned : (ca cb : List ℕ) (rows kept : List (List Value)) → IsPermu
 join_turned ca cb rows kept p bs =
     same_ascending row_total row_exact (turned_pairs ca cb kept bs) (pairs ca cb rows bs)
     (λ q. turned_has ca cb q rows kept bs p)
-
--- the columns of both are among the first's
-pub common_in_first : (ca cb : List ℕ) → all_among (filter (λ y. among y ca) cb) ca ≡ true
-common_in_first ca [] = refl
-common_in_first ca (y ∷ cb) = step (among y ca) refl (common_in_first ca cb)
-  where
-    step : (b : Bool) → among y ca ≡ b → all_among (filter (λ x. among x ca) cb) ca ≡ true
-        → all_among (cond b (y ∷ filter (λ x. among x ca) cb) (filter (λ x. among x ca) cb)) ca ≡ true
-    step true e more = and_from (among y ca) (all_among (filter (λ x. among x ca) cb) ca) e more
-    step false e more = more

@@ -3,3 +3,4 @@ pub mod Operations
 pub mod Entries
 pub mod Searches
 pub mod Indexes
+pub mod Examples

@@ -5,6 +5,7 @@ mod antijoin;
 mod choosing;
 mod columns;
 mod entry;
+pub mod examples;
 mod index;
 mod join;
 mod matched;

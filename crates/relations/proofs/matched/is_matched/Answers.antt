@@ -1,4 +1,4 @@
-use Rattle.std.proofs.Common.{◌≡◌, ap, ◌∙◌}
+use Rattle.std.proofs.Common.{ap, ◌∙◌}
 use Rattle.mfotl_model.specs.Tables.{has_row, part}
 use Rattle.relations.proofs.matched.is_matched.Goals as goal
 

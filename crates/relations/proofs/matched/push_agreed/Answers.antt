@@ -17,4 +17,5 @@ returns g c =
     ∙ (λ i. c.args.rows.now.items ++ map (λ a. a ++ part second (c.requires.more i) c.args.second.now)
     ((c.matches-firsts.ensures.rows
     ∙ (λ j. filter (λ row. eq_by_cmp row_cmp (key j) (part first (c.requires.key j) row)) c.args.index.now.rows)) i))
-    ∙ ap (λ rows. c.args.rows.now.items ++ rows) (pairs_with_by_key first second c.args.index.now.rows c.args.second.now)
+    ∙ ap (λ rows. c.args.rows.now.items ++ rows) (pairs_with_by_key first second c.args.index.now.rows
+    c.args.second.now)

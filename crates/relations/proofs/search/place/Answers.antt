@@ -1,5 +1,4 @@
-use Rattle.std.proofs.Common.{◌≡◌, ◌+◌, ◌-◌, ◌/◌, ◌<◌, ◌≤◌, ◌*◌, true, false, length, sym, ap, ◌∙◌, arith}
-use Rattle.mfotl_model.specs.Values.{row_cmp}
+use Rattle.std.proofs.Common.{◌+◌, ◌-◌, ◌/◌, true, false, sym, ap, ◌∙◌, arith}
 use Rattle.relations.specs.Searches.{before}
 use Rattle.relations.proofs.SearchLemmas.{compared, goes_up, goes_down}
 use Rattle.relations.proofs.search.place.Goals as goal
@@ -12,7 +11,8 @@ loop-low-preserved-then-is_before g c =
     (goes_up c.args.past c.args.keys.now c.args.key.now c.requires.rises c.loop-low.low c.loop-low.high
     (c.loop-low.low + (c.loop-low.high - c.loop-low.low) / 2) c.args.steps.now c.loop-low.steps c.loop-low.invariant
     (omega arith) (omega arith) (omega arith) (omega arith)
-    (compared c.args.past true c.args.keys.now c.args.key.now c.index-keys-middle.result (c.loop-low.low + (c.loop-low.high - c.loop-low.low) / 2)
+    (compared c.args.past true c.args.keys.now c.args.key.now c.index-keys-middle.result
+    (c.loop-low.low + (c.loop-low.high - c.loop-low.low) / 2)
     (omega arith) c.index-keys-middle.is
     (ap (before c.args.past) (sym c.compare-order.ensures.order) ∙ sym c.is_before.ensures ∙ c.if-is_before.true)))
 
@@ -24,6 +24,7 @@ loop-low-preserved g c =
     (goes_down c.args.past c.args.keys.now c.args.key.now c.requires.rises c.loop-low.low c.loop-low.high
     (c.loop-low.low + (c.loop-low.high - c.loop-low.low) / 2) c.args.steps.now c.loop-low.steps c.loop-low.invariant
     (omega arith) (omega arith) (omega arith) (omega arith)
-    (compared c.args.past false c.args.keys.now c.args.key.now c.index-keys-middle.result (c.loop-low.low + (c.loop-low.high - c.loop-low.low) / 2)
+    (compared c.args.past false c.args.keys.now c.args.key.now c.index-keys-middle.result
+    (c.loop-low.low + (c.loop-low.high - c.loop-low.low) / 2)
     (omega arith) c.index-keys-middle.is
     (ap (before c.args.past) (sym c.compare-order.ensures.order) ∙ sym c.is_before.ensures ∙ c.if-is_before.false)))

@@ -1,4 +1,4 @@
-use Rattle.std.proofs.Common.{◌≡◌, ◌-◌}
+use Rattle.std.proofs.Common.{◌-◌}
 use Rattle.relations.proofs.SearchLemmas.{Searching}
 use Rattle.relations.proofs.search.place.Given as goal
 

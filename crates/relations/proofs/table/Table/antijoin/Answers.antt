@@ -1,4 +1,4 @@
-use Rattle.std.proofs.Common.{◌≡◌, not, ◌∙◌}
+use Rattle.std.proofs.Common.{not, ◌∙◌}
 use Rattle.std.specs.List.{filter}
 use Rattle.mfotl_model.specs.Tables.{has_row, part}
 use Rattle.relations.specs.Operations.{unmatched_rows}
@@ -10,7 +10,8 @@ of-requires c =
     let a = c.args.self.now in
     let b = c.args.other.now in
     record {
-      is_table = some_of a.columns c.in_ok-columns.columns.items (λ row. not (has_row b.rows (part a.columns b.columns row)))
+      is_table = some_of a.columns c.in_ok-columns.columns.items
+          (λ row. not (has_row b.rows (part a.columns b.columns row)))
           a.rows c.in_ok-rows.rows.items c.rows.ensures.is_table (c.in_ok-columns.ensures ∙ c.columns.ensures.columns)
           (c.in_ok-rows.ensures ∙ (λ i. filter (λ row. not (has_row (c.rows-seconds.ensures.rows i)
           (part (c.columns-2.ensures.columns i) (c.columns-3.ensures.columns i) row))) (c.rows.ensures.rows i)));

@@ -1,4 +1,4 @@
-use Rattle.std.proofs.Common.{◌≡◌, not, ◌∙◌}
+use Rattle.std.proofs.Common.{not, ◌∙◌}
 use Rattle.std.specs.List.{filter}
 use Rattle.mfotl_model.specs.Tables.{has_row, part}
 use Rattle.relations.specs.Operations.{unmatched_rows}

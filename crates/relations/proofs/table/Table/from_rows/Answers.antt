@@ -1,4 +1,4 @@
-use Rattle.std.proofs.Common.{◌≡◌, map, ap, ◌∙◌}
+use Rattle.std.proofs.Common.{map, ap, ◌∙◌}
 use Rattle.mfotl_model.specs.Tables.{has, has_row}
 use Rattle.relations.proofs.AscendingRows.{made_is, has_ascending}
 use Rattle.relations.proofs.table.Table.from_rows.Goals as goal

@@ -1,4 +1,4 @@
-use Rattle.std.proofs.Common.{◌≡◌, ◌∙◌}
+use Rattle.std.proofs.Common.{◌∙◌}
 use Rattle.std.specs.List.{filter}
 use Rattle.mfotl_model.specs.Tables.{valuation}
 use Rattle.relations.specs.Operations.{chosen, chosen_rows}

@@ -1,4 +1,4 @@
-use Rattle.std.proofs.Common.{◌≡◌, ◌∙◌}
+use Rattle.std.proofs.Common.{◌∙◌}
 use Rattle.std.specs.List.{filter}
 use Rattle.mfotl_model.specs.Tables.{valuation}
 use Rattle.relations.specs.Operations.{chosen, chosen_rows}
@@ -11,7 +11,8 @@ of-requires c =
     let parts = c.into_parts-columns in
     record {
       is_table = some_of a.columns parts.result.0.items
-          (λ row. chosen c.args.comparison.now c.args.wanted (valuation a.columns row)) a.rows c.retain_chosen.new.rows.items
+          (λ row. chosen c.args.comparison.now c.args.wanted (valuation a.columns row)) a.rows
+          c.retain_chosen.new.rows.items
           parts.ensures.is_table parts.ensures.columns
           (c.retain_chosen.ensures ∙ (λ i. filter (λ row. chosen c.args.comparison.now c.args.wanted
           (valuation ((c.as_slice.ensures.value ∙ parts.ensures.columns) i) row)) (parts.ensures.rows i)));
