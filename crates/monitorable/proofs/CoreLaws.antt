@@ -45,7 +45,3 @@ small false fault h = h
 -- where a formula has no fault, the fragment accepts the normal form of its negation
 pub accepted : (names : Names) (f : Form) → frag_fault names f ≡ None → frag names (negative f) ≡ None
 accepted names f h = small (nat_lt node_limit (nodes (negative f))) (frag names (negative f)) h
-
--- and its core
-pub fits : (names : Names) (f : Form) → frag_fault names f ≡ None → Fits (core_of f)
-fits names f h names' = apart_fragment names names' (negative f) (accepted names f h)

@@ -18,12 +18,16 @@ abbrev pub negated_part : CoreForm → PartForm
 negated_part (Compare c) = Test c false
 negated_part f = Child f true
 
--- an equation with a constant is a child, and every other comparison is a test
+-- the conjunct that a core is by itself: an equation with a constant is a child, and every other comparison a test
+abbrev pub lone_part : CoreForm → PartForm
+lone_part (Not f) = negated_part f
+lone_part (Compare c) = cond (binds c) (Child (Compare c) false) (Test c true)
+lone_part f = Child f false
+
+-- the conjuncts of a core, nested conjunctions flattened
 unfoldable pub conjuncts_of : CoreForm → List PartForm
 conjuncts_of (And f g) = conjuncts_of f ++ conjuncts_of g
-conjuncts_of (Not f) = negated_part f ∷ []
-conjuncts_of (Compare c) = cond (binds c) (Child (Compare c) false) (Test c true) ∷ []
-conjuncts_of f = Child f false ∷ []
+conjuncts_of f = lone_part f ∷ []
 
 -- whether a conjunct holds
 abbrev pub part_holds : List TimePoint → List Value → Valuation → ℕ → PartForm → Bool

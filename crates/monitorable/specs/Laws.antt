@@ -21,7 +21,7 @@ use Rattle.monitorable.specs.Fragment.{Names, frag, frag_fault}
 use Rattle.monitorable.specs.Negation.{HasConstantsOf, Negates}
 use Rattle.monitorable.specs.NormalForm.{positive, negative}
 use Rattle.monitorable.specs.Renaming.{apart_form, binders}
-use Rattle.monitorable.specs.SatisfyingRows.{core_domain, satisfying_rows}
+use Rattle.monitorable.specs.SatisfyingRows.{HasViolationsOf, core_domain, satisfying_rows}
 use Rattle.monitorable.specs.Times.{NeverFalls}
 
 -- whether a formula holds hangs on its free variables alone
@@ -147,7 +147,7 @@ ApartConstants = (f : CoreForm) → constants (meaning (apart_form f)) ≡ const
 abbrev pub ViolationsSatisfy : Type 0
 ViolationsSatisfy =
     (f : Form) (g : CoreForm) → Negates g f → fv (meaning g) ≡ fv f → HasConstantsOf g f
-    → (log : List TimePoint) (i : ℕ) → viol log f i ≡ satisfying_rows log g i
+    → HasViolationsOf g f
 
 -- the rows that satisfy a core which the fragment accepts are those of each table over its free variables, with
 -- strictly ascending rows, that has the row of a valuation exactly where the core holds of it

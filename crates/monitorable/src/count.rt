@@ -29,23 +29,23 @@ pub fn pay_for(formula: &Formula, budget: Option<u32>) -> Option<u32>
     match formula {
         Formula::True | Formula::False | Formula::Atom(_) | Formula::Compare(_) => pay(1, budget),
         Formula::Not(inner) => pay_for_negated(inner, budget),
-        Formula::And(left, right) => pay_for(right, pay_for(left, pay(1, budget))),
-        Formula::Or(left, right) => pay_for(right, pay_for(left, pay(1, budget))),
+        Formula::And(left, right)
+        | Formula::Or(left, right)
+        | Formula::Since(_, left, right)
+        | Formula::Until(_, left, right) => pay_for(right, pay_for(left, pay(1, budget))),
         Formula::Implies(left, right) => pay_for(right, pay_for_negated(left, pay(1, budget))),
         Formula::Equiv(left, right) => {
             let forth = pay_for(right, pay_for_negated(left, pay(2, budget)));
             pay_for(left, pay_for_negated(right, pay(1, forth)))
         }
-        Formula::Exists(_, inner) => pay_for(inner, pay(1, budget)),
+        Formula::Exists(_, inner) | Formula::Previous(_, inner) | Formula::Next(_, inner) => {
+            pay_for(inner, pay(1, budget))
+        }
+        Formula::Once(_, inner) | Formula::Eventually(_, inner) => pay_for(inner, pay(2, budget)),
         Formula::Forall(_, inner) => pay_for_negated(inner, pay(2, budget)),
-        Formula::Previous(_, inner) => pay_for(inner, pay(1, budget)),
-        Formula::Next(_, inner) => pay_for(inner, pay(1, budget)),
-        Formula::Once(_, inner) => pay_for(inner, pay(2, budget)),
-        Formula::Historically(_, inner) => pay_for_negated(inner, pay(3, budget)),
-        Formula::Eventually(_, inner) => pay_for(inner, pay(2, budget)),
-        Formula::Always(_, inner) => pay_for_negated(inner, pay(3, budget)),
-        Formula::Since(_, left, right) => pay_for(right, pay_for(left, pay(1, budget))),
-        Formula::Until(_, left, right) => pay_for(right, pay_for(left, pay(1, budget))),
+        Formula::Historically(_, inner) | Formula::Always(_, inner) => {
+            pay_for_negated(inner, pay(3, budget))
+        }
     }
 }
 

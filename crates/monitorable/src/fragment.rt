@@ -1,8 +1,9 @@
 //! Whether a normal form can be monitored.
 ghost use Rattle.std.specs.Prelude.{◌≡◌};
 ghost use Rattle.monitorable.specs.CoreForms.{node_form};
-ghost use Rattle.monitorable.specs.Fragment.{asked, covers, evens, fault_in, guards, is_conjunction, judges_comparison, judges_not, looks_within, under_not, uses};
+ghost use Rattle.monitorable.specs.Fragment.{asked, covers, evens, fault_in, first, guards, is_conjunction, judges_comparison, judges_not, looks_within, under_not, uses};
 ghost use Rattle.monitorable.specs.Judging.{Judges};
+ghost use Rattle.monitorable.specs.declared.fragment.Role.TheVariants.{Part, Whole};
 ghost use Rattle.monitorable.specs.Scope.{scope_names};
 
 use crate::fault::{FragmentFault, Variable};
@@ -13,7 +14,7 @@ use mfotl_model::{Bound, Interval};
 use std::alloc::Global;
 
 /// What a node is in the one around it.
-#[derive(Clone, Copy, Debug, PartialEq, Eq)]
+#[derive(Clone, Copy, PartialEq, Eq)]
 pub enum Role {
     /// A node by itself.
     Whole,
@@ -64,6 +65,7 @@ impl Role {
 }
 
 /// The first fault of a normal form in its role, as an error.
+#[cycle(judging)]
 #[tactic(auto, unfolding(crate::specs::Fragment::fault_in))]
 pub fn judge(alloc: Global, node: &Node, role: Role, scope: &Scope) -> Result<(), FragmentFault>
     ensures { Judges result (fault_in (scope_names scope.now) role (node_form node.now)) }
@@ -77,32 +79,90 @@ pub fn judge(alloc: Global, node: &Node, role: Role, scope: &Scope) -> Result<()
         }
         Node::And(left, right) => {
             judge(alloc, left, Role::Part, scope)?;
-            judge(alloc, right, Role::Part, scope)?;
-            guard(alloc, role.is_conjunction(), node, scope)
+            judge_right_of_and(alloc, right, node, role, scope)
         }
         Node::Or(left, right) => {
             judge(alloc, left, Role::Whole, scope)?;
-            judge(alloc, right, Role::Whole, scope)?;
-            even(alloc, left, right)
+            judge_right_of_or(alloc, right, left, scope)
         }
         Node::Exists(bound, inner) => {
             judge(alloc, inner, Role::Whole, &Scope::Under(&*bound, &*scope))?;
             used(alloc, bound, inner)
         }
-        Node::Previous(_, inner) => judge(alloc, inner, Role::Whole, scope),
-        Node::Next(_, inner) => judge(alloc, inner, Role::Whole, scope),
+        Node::Previous(_, inner) | Node::Next(_, inner) => judge(alloc, inner, Role::Whole, scope),
         Node::Since(_, left, right) => {
             judge(alloc, left, Role::Left, scope)?;
-            judge(alloc, right, Role::Whole, scope)?;
-            covered(alloc, left, right, scope)
+            judge_right_of_since(alloc, right, left, scope)
         }
         Node::Until(interval, left, right) => {
             judge(alloc, left, Role::Left, scope)?;
-            judge(alloc, right, Role::Whole, scope)?;
-            bounded(interval)?;
-            covered(alloc, left, right, scope)
+            judge_right_of_until(alloc, right, left, interval, scope)
         }
     }
+}
+
+// The right side of AND, and the conjunction's variables.
+#[cycle(judging)]
+fn judge_right_of_and(
+    alloc: Global,
+    right: &Node,
+    whole: &Node,
+    role: Role,
+    scope: &Scope,
+) -> Result<(), FragmentFault>
+    ensures { Judges result (first (fault_in (scope_names scope.now) Part (node_form right.now))
+        (asked (is_conjunction role) (guards (scope_names scope.now) (node_form whole.now)))) }
+{
+    judge(alloc, right, Role::Part, scope)?;
+    guard(alloc, role.is_conjunction(), whole, scope)
+}
+
+// The right side of OR, and both sides' variables.
+#[cycle(judging)]
+fn judge_right_of_or(
+    alloc: Global,
+    right: &Node,
+    left: &Node,
+    scope: &Scope,
+) -> Result<(), FragmentFault>
+    ensures { Judges result (first (fault_in (scope_names scope.now) Whole (node_form right.now))
+        (evens (node_form left.now) (node_form right.now))) }
+{
+    judge(alloc, right, Role::Whole, scope)?;
+    even(alloc, left, right)
+}
+
+// The right side of SINCE, and both sides' variables.
+#[cycle(judging)]
+fn judge_right_of_since(
+    alloc: Global,
+    right: &Node,
+    left: &Node,
+    scope: &Scope,
+) -> Result<(), FragmentFault>
+    ensures { Judges result (first (fault_in (scope_names scope.now) Whole (node_form right.now))
+        (covers (scope_names scope.now) (node_form left.now) (node_form right.now))) }
+{
+    judge(alloc, right, Role::Whole, scope)?;
+    covered(alloc, left, right, scope)
+}
+
+// The right side of UNTIL, its interval, and both sides' variables.
+#[cycle(judging)]
+fn judge_right_of_until(
+    alloc: Global,
+    right: &Node,
+    left: &Node,
+    interval: &Interval,
+    scope: &Scope,
+) -> Result<(), FragmentFault>
+    ensures { Judges result (first (fault_in (scope_names scope.now) Whole (node_form right.now))
+        (first (looks_within interval.now.hi)
+        (covers (scope_names scope.now) (node_form left.now) (node_form right.now)))) }
+{
+    judge(alloc, right, Role::Whole, scope)?;
+    bounded(interval)?;
+    covered(alloc, left, right, scope)
 }
 
 // Where it is asked for: each variable of a conjunct that binds none is bound by another conjunct.

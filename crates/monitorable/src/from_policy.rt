@@ -1,15 +1,15 @@
 //! The core of a policy.
-ghost use Rattle.std.specs.Prelude.{◌≡◌, ℕ, List, IfOk};
+ghost use Rattle.std.specs.Prelude.{◌≡◌, IfErr, IfOk, None};
 ghost use Rattle.mfotl_model.specs.FreeVariables.{fv};
-ghost use Rattle.mfotl_model.specs.Violations.{viol};
-ghost use Rattle.mfotl_model.specs.declared.event.TimePoint.{TimePoint};
 ghost use Rattle.monitorable.specs.CoreForms.{meaning, node_form};
 ghost use Rattle.monitorable.specs.Cores.{core_form, policy_fault, policy_form};
+ghost use Rattle.monitorable.specs.Fragment.{Names, frag};
 ghost use Rattle.monitorable.specs.Judging.{Judges};
 ghost use Rattle.monitorable.specs.Negation.{HasConstantsOf, Negates, SettlesWith};
 ghost use Rattle.monitorable.specs.NormalForm.{negative};
 ghost use Rattle.monitorable.specs.Renaming.{apart_form};
-ghost use Rattle.monitorable.specs.SatisfyingRows.{satisfying_rows};
+ghost use Rattle.monitorable.specs.SatisfyingRows.{HasViolationsOf};
+ghost use Rattle.monitorable.specs.declared.fault.FragmentFault.TheVariants.{Memory};
 
 use crate::count::pay_for_negated;
 use crate::fault::FragmentFault;
@@ -32,11 +32,11 @@ pub fn to_core(alloc: Global, policy: &Policy) -> Result<Core, FragmentFault>
     ensures settles { IfOk result (λ core. SettlesWith (core_form core) (policy_form policy.now)) }
     ensures variables { IfOk result (λ core. fv (meaning (core_form core)) ≡ fv (policy_form policy.now)) }
     ensures constants { IfOk result (λ core. HasConstantsOf (core_form core) (policy_form policy.now)) }
-    ensures violations { IfOk result (λ core. (log : List TimePoint) (i : ℕ)
-        → viol log (policy_form policy.now) i ≡ satisfying_rows log (core_form core) i) }
+    ensures violations { IfOk result (λ core.
+        HasViolationsOf (core_form core) (policy_form policy.now)) }
 {
     let negation = judged_negation(alloc, policy)?;
-    Ok(Core::new(alloc, apart(alloc, &negation)?)?)
+    core_apart(alloc, &negation)
 }
 
 // The normal form of the policy's negation, where the fragment accepts it.
@@ -51,4 +51,13 @@ fn judged_negation(alloc: Global, policy: &Policy) -> Result<Node, FragmentFault
     let scope = Scope::Free(policy.vars.as_slice());
     judge(alloc, &negation, Role::Whole, &scope)?;
     Ok(negation)
+}
+
+// The core that a node which the fragment accepts is with its quantifiers apart.
+fn core_apart(alloc: Global, node: &Node) -> Result<Core, FragmentFault>
+    requires { (names : Names) × (frag names (node_form node.now) ≡ None) }
+    ensures fault { IfErr result (λ fault. fault ≡ Memory) }
+    ensures core { IfOk result (λ core. core_form core ≡ apart_form (node_form node.now)) }
+{
+    Ok(Core::new(alloc, apart(alloc, node)?)?)
 }

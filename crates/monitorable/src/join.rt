@@ -1,6 +1,6 @@
 //! The explicit join that a conjunction is.
 ghost use Rattle.std.specs.Prelude.{◌≡◌, ◌++◌, map, IfOk, OnOk};
-ghost use Rattle.monitorable.specs.Conjuncts.{conjuncts_of, negated_part};
+ghost use Rattle.monitorable.specs.Conjuncts.{conjuncts_of, lone_part, negated_part};
 ghost use Rattle.monitorable.specs.CoreForms.{node_form};
 ghost use Rattle.monitorable.specs.PartView.{part_form};
 
@@ -38,20 +38,38 @@ fn add_conjuncts<'a>(node: &'a Node, parts: &mut Vec<Part<'a>>) -> Result<(), Al
             add_conjuncts(left, parts)?;
             add_conjuncts(right, parts)
         }
-        Node::Not(inner) => Ok(parts.push(negated(inner))?),
-        Node::Compare(comparison) if !binds(comparison) => {
-            Ok(parts.push(Part::Test(comparison, true))?)
-        }
         Node::True
         | Node::False
         | Node::Atom(_)
         | Node::Compare(_)
+        | Node::Not(_)
         | Node::Or(_, _)
         | Node::Exists(_, _)
         | Node::Previous(_, _)
         | Node::Next(_, _)
         | Node::Since(_, _, _)
-        | Node::Until(_, _, _) => Ok(parts.push(Part::Child(node, false))?),
+        | Node::Until(_, _, _) => Ok(parts.push(lone_part(node))?),
+    }
+}
+
+// The conjunct that a node is by itself.
+fn lone_part<'a>(node: &'a Node) -> Part<'a>
+    ensures { part_form result ≡ lone_part (node_form node.now) }
+{
+    match node {
+        Node::Not(inner) => negated(inner),
+        Node::Compare(comparison) if !binds(comparison) => Part::Test(comparison, true),
+        Node::True
+        | Node::False
+        | Node::Atom(_)
+        | Node::Compare(_)
+        | Node::And(_, _)
+        | Node::Or(_, _)
+        | Node::Exists(_, _)
+        | Node::Previous(_, _)
+        | Node::Next(_, _)
+        | Node::Since(_, _, _)
+        | Node::Until(_, _, _) => Part::Child(node, false),
     }
 }
 

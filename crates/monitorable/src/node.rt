@@ -1,13 +1,13 @@
 //! The tree that the monitor evaluates.
 ghost use Rattle.std.specs.Prelude.{◌≡◌, IfOk};
-ghost use Rattle.monitorable.specs.CoreForms.{node_form};
+ghost use Rattle.monitorable.specs.CoreForms.{Exists, node_form};
 
 use mfotl_model::{Atom, Bound, Comparison, Interval};
 use std::alloc::{AllocError, Global};
 
 /// A core, with just the operators that a normal form has. Contracts speak of it through `node_form`,
 /// the same tree without its boxes.
-#[derive(Debug, Drop)]
+#[derive(Drop)]
 pub enum Node {
     True,
     False,
@@ -31,23 +31,29 @@ impl Node {
         match self {
             Node::True => Ok(Node::True),
             Node::False => Ok(Node::False),
-            Node::Atom(atom) => Ok(Node::Atom(atom.copy(alloc)?)),
-            Node::Compare(comparison) => Ok(Node::Compare(comparison.copy(alloc)?)),
-            Node::Not(inner) => Ok(Node::Not(inner.boxed(alloc)?)),
-            Node::And(left, right) => Ok(Node::And(left.boxed(alloc)?, right.boxed(alloc)?)),
-            Node::Or(left, right) => Ok(Node::Or(left.boxed(alloc)?, right.boxed(alloc)?)),
-            Node::Exists(bound, inner) => {
-                Ok(Node::Exists(bound.copy(alloc)?, inner.boxed(alloc)?))
+            Node::Atom(atom) => atom.copy(alloc).map(Node::Atom),
+            Node::Compare(comparison) => comparison.copy(alloc).map(Node::Compare),
+            Node::Not(inner) => inner.boxed(alloc).map(Node::Not),
+            Node::And(left, right) => {
+                both(alloc, left, right).map(|(left, right)| Node::And(left, right))
             }
+            Node::Or(left, right) => {
+                both(alloc, left, right).map(|(left, right)| Node::Or(left, right))
+            }
+            Node::Exists(bound, inner) => inner.quantified(alloc, bound),
             Node::Previous(interval, inner) => {
-                Ok(Node::Previous(*interval, inner.boxed(alloc)?))
+                inner
+                    .boxed(alloc)
+                    .map(|inner| Node::Previous(*interval, inner))
             }
-            Node::Next(interval, inner) => Ok(Node::Next(*interval, inner.boxed(alloc)?)),
+            Node::Next(interval, inner) => {
+                inner.boxed(alloc).map(|inner| Node::Next(*interval, inner))
+            }
             Node::Since(interval, left, right) => {
-                Ok(Node::Since(*interval, left.boxed(alloc)?, right.boxed(alloc)?))
+                both(alloc, left, right).map(|(left, right)| Node::Since(*interval, left, right))
             }
             Node::Until(interval, left, right) => {
-                Ok(Node::Until(*interval, left.boxed(alloc)?, right.boxed(alloc)?))
+                both(alloc, left, right).map(|(left, right)| Node::Until(*interval, left, right))
             }
         }
     }
@@ -58,4 +64,21 @@ impl Node {
     {
         Ok(Box::new(alloc, self.copy(alloc)?)?)
     }
+
+    // A copy under EXISTS.
+    #[cycle(copies)]
+    fn quantified(&self, alloc: Global, bound: &Bound) -> Result<Self, AllocError>
+        ensures { IfOk result (λ node. node_form node ≡ Exists bound.now (node_form self.now)) }
+    {
+        Ok(Node::Exists(bound.copy(alloc)?, self.boxed(alloc)?))
+    }
+}
+
+#[cycle(copies)]
+fn both(alloc: Global, left: &Node, right: &Node) -> Result<(Box<Node>, Box<Node>), AllocError>
+    ensures left { IfOk result (λ nodes. node_form nodes.0.value ≡ node_form left.now) }
+    ensures right { IfOk result (λ nodes. node_form nodes.1.value ≡ node_form right.now) }
+{
+    let left = left.boxed(alloc)?;
+    Ok((left, right.boxed(alloc)?))
 }

@@ -17,43 +17,46 @@ pub fn normal_form(alloc: Global, formula: &Formula) -> Result<Node, AllocError>
     match formula {
         Formula::True => Ok(Node::True),
         Formula::False => Ok(Node::False),
-        Formula::Atom(atom) => Ok(Node::Atom(atom.copy(alloc)?)),
-        Formula::Compare(comparison) => Ok(Node::Compare(comparison.copy(alloc)?)),
+        Formula::Atom(atom) => atom.copy(alloc).map(Node::Atom),
+        Formula::Compare(comparison) => comparison.copy(alloc).map(Node::Compare),
         Formula::Not(inner) => negated_normal_form(alloc, inner),
         Formula::And(left, right) => {
-            let (left, right) = both(alloc, left, right)?;
-            Ok(Node::And(left, right))
+            both(alloc, left, right).map(|(left, right)| Node::And(left, right))
         }
         Formula::Or(left, right) => {
-            let (left, right) = both(alloc, left, right)?;
-            Ok(Node::Or(left, right))
+            both(alloc, left, right).map(|(left, right)| Node::Or(left, right))
         }
         Formula::Implies(left, right) => implication(alloc, left, right),
         Formula::Equiv(left, right) => equivalence(alloc, left, right),
-        Formula::Exists(bound, inner) => exists(alloc, bound, boxed(alloc, inner)?),
+        Formula::Exists(bound, inner) => {
+            boxed(alloc, inner).and_then(|inner| exists(alloc, bound, inner))
+        }
         Formula::Forall(bound, inner) => {
-            not(alloc, exists(alloc, bound, boxed_negated(alloc, inner)?)?)
+            exists_negated(alloc, bound, inner).and_then(|node| not(alloc, node))
         }
-        Formula::Previous(interval, inner) => Ok(Node::Previous(*interval, boxed(alloc, inner)?)),
-        Formula::Next(interval, inner) => Ok(Node::Next(*interval, boxed(alloc, inner)?)),
-        Formula::Once(interval, inner) => once(alloc, *interval, boxed(alloc, inner)?),
+        Formula::Previous(interval, inner) => {
+            boxed(alloc, inner).map(|inner| Node::Previous(*interval, inner))
+        }
+        Formula::Next(interval, inner) => {
+            boxed(alloc, inner).map(|inner| Node::Next(*interval, inner))
+        }
+        Formula::Once(interval, inner) => {
+            boxed(alloc, inner).and_then(|inner| once(alloc, *interval, inner))
+        }
         Formula::Historically(interval, inner) => {
-            not(alloc, once(alloc, *interval, boxed_negated(alloc, inner)?)?)
+            once_negated(alloc, *interval, inner).and_then(|node| not(alloc, node))
         }
-        Formula::Eventually(interval, inner) => eventually(alloc, *interval, boxed(alloc, inner)?),
+        Formula::Eventually(interval, inner) => {
+            boxed(alloc, inner).and_then(|inner| eventually(alloc, *interval, inner))
+        }
         Formula::Always(interval, inner) => {
-            not(
-                alloc,
-                eventually(alloc, *interval, boxed_negated(alloc, inner)?)?,
-            )
+            eventually_negated(alloc, *interval, inner).and_then(|node| not(alloc, node))
         }
         Formula::Since(interval, left, right) => {
-            let (left, right) = both(alloc, left, right)?;
-            Ok(Node::Since(*interval, left, right))
+            both(alloc, left, right).map(|(left, right)| Node::Since(*interval, left, right))
         }
         Formula::Until(interval, left, right) => {
-            let (left, right) = both(alloc, left, right)?;
-            Ok(Node::Until(*interval, left, right))
+            both(alloc, left, right).map(|(left, right)| Node::Until(*interval, left, right))
         }
     }
 }
@@ -66,19 +69,11 @@ pub fn negated_normal_form(alloc: Global, formula: &Formula) -> Result<Node, All
 {
     match formula {
         Formula::Not(inner) => normal_form(alloc, inner),
-        Formula::Or(left, right) => {
-            Ok(Node::And(boxed_negated(alloc, left)?, boxed_negated(alloc, right)?))
-        }
-        Formula::Implies(left, right) => {
-            Ok(Node::And(boxed(alloc, left)?, boxed_negated(alloc, right)?))
-        }
-        Formula::Forall(bound, inner) => exists(alloc, bound, boxed_negated(alloc, inner)?),
-        Formula::Historically(interval, inner) => {
-            once(alloc, *interval, boxed_negated(alloc, inner)?)
-        }
-        Formula::Always(interval, inner) => {
-            eventually(alloc, *interval, boxed_negated(alloc, inner)?)
-        }
+        Formula::Or(left, right) => neither(alloc, left, right),
+        Formula::Implies(left, right) => left_alone(alloc, left, right),
+        Formula::Forall(bound, inner) => exists_negated(alloc, bound, inner),
+        Formula::Historically(interval, inner) => once_negated(alloc, *interval, inner),
+        Formula::Always(interval, inner) => eventually_negated(alloc, *interval, inner),
         Formula::True
         | Formula::False
         | Formula::Atom(_)
@@ -139,6 +134,49 @@ fn equivalence(alloc: Global, left: &Formula, right: &Formula) -> Result<Node, A
     let forth = Box::new(alloc, implication(alloc, left, right)?)?;
     let back = Box::new(alloc, implication(alloc, right, left)?)?;
     Ok(Node::And(forth, back))
+}
+
+#[cycle(normal_form)]
+fn neither(alloc: Global, left: &Formula, right: &Formula) -> Result<Node, AllocError>
+    ensures { IfOk result (λ node. node_form node
+        ≡ And (negative (form left.now)) (negative (form right.now))) }
+{
+    Ok(Node::And(boxed_negated(alloc, left)?, boxed_negated(alloc, right)?))
+}
+
+#[cycle(normal_form)]
+fn left_alone(alloc: Global, left: &Formula, right: &Formula) -> Result<Node, AllocError>
+    ensures { IfOk result (λ node. node_form node
+        ≡ And (positive (form left.now)) (negative (form right.now))) }
+{
+    Ok(Node::And(boxed(alloc, left)?, boxed_negated(alloc, right)?))
+}
+
+#[cycle(normal_form)]
+fn exists_negated(alloc: Global, bound: &Bound, inner: &Formula) -> Result<Node, AllocError>
+    ensures { IfOk result (λ node. node_form node ≡ Exists bound.now (negative (form inner.now))) }
+{
+    exists(alloc, bound, boxed_negated(alloc, inner)?)
+}
+
+#[cycle(normal_form)]
+fn once_negated(alloc: Global, interval: Interval, inner: &Formula) -> Result<Node, AllocError>
+    ensures { IfOk result (λ node. node_form node
+        ≡ Since interval True (negative (form inner.now))) }
+{
+    once(alloc, interval, boxed_negated(alloc, inner)?)
+}
+
+#[cycle(normal_form)]
+fn eventually_negated(
+    alloc: Global,
+    interval: Interval,
+    inner: &Formula,
+) -> Result<Node, AllocError>
+    ensures { IfOk result (λ node. node_form node
+        ≡ Until interval True (negative (form inner.now))) }
+{
+    eventually(alloc, interval, boxed_negated(alloc, inner)?)
 }
 
 fn not(alloc: Global, inner: Node) -> Result<Node, AllocError>

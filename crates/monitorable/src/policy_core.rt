@@ -1,5 +1,5 @@
 //! What the monitor evaluates.
-ghost use Rattle.std.specs.Prelude.{◌≡◌, ◌++◌, IsTrue};
+ghost use Rattle.std.specs.Prelude.{◌≡◌, ◌++◌, IfOk, IsTrue};
 ghost use Rattle.mfotl_model.specs.FreeVariables.{fv};
 ghost use Rattle.mfotl_model.specs.Tables.{all_apart};
 ghost use Rattle.monitorable.specs.Atoms.{atoms_of};
@@ -14,7 +14,7 @@ use std::alloc::{AllocError, Global};
 
 /// The normal form of a policy's negation. The fragment accepts it, no two of its quantifiers bind the
 /// same variable, and none binds a free one. Contracts speak of it through `core_form`.
-#[derive(Debug, Drop)]
+#[derive(Drop)]
 pub struct Core {
     root: Node,
     vars: Vec<u32>,
@@ -26,7 +26,7 @@ pub struct Core {
 }
 
 impl Core {
-    ghost use Rattle.std.specs.Prelude.{IfOk, option_copied};
+    ghost use Rattle.std.specs.Prelude.{option_copied};
     ghost use Rattle.monitorable.specs.Atoms.{only_atom};
     ghost use Rattle.monitorable.specs.Cores.{core_form};
 
@@ -35,8 +35,7 @@ impl Core {
         requires is_apart { IsTrue (all_apart (fv (meaning (node_form root)) ++ binders (node_form root))) }
         ensures { IfOk result (λ core. core_form core ≡ node_form root) }
     {
-        let vars = root.free_vars(alloc)?;
-        let atoms = atoms_of(alloc, &root)?;
+        let (vars, atoms) = listed(alloc, &root)?;
         Ok(Core { root, vars, atoms })
     }
 
@@ -76,4 +75,13 @@ impl Core {
     {
         Core::new(alloc, self.root.copy(alloc)?)
     }
+}
+
+// The free variables and the atoms.
+fn listed(alloc: Global, node: &Node) -> Result<(Vec<u32>, Vec<Atom>), AllocError>
+    ensures vars { IfOk result (λ lists. lists.0.items ≡ fv (meaning (node_form node.now))) }
+    ensures atoms { IfOk result (λ lists. lists.1.items ≡ atoms_of (node_form node.now)) }
+{
+    let vars = node.free_vars(alloc)?;
+    Ok((vars, atoms_of(alloc, node)?))
 }

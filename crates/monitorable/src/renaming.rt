@@ -82,31 +82,31 @@ fn renamed(
     match node {
         Node::True => Ok(Node::True),
         Node::False => Ok(Node::False),
-        Node::Atom(atom) => Ok(Node::Atom(renaming.atom(alloc, atom)?)),
-        Node::Compare(comparison) => Ok(Node::Compare(renaming.comparison(alloc, comparison)?)),
-        Node::Not(inner) => Ok(Node::Not(boxed(alloc, inner, renaming, next)?)),
+        Node::Atom(atom) => renaming.atom(alloc, atom).map(Node::Atom),
+        Node::Compare(comparison) => renaming.comparison(alloc, comparison).map(Node::Compare),
+        Node::Not(inner) => boxed(alloc, inner, renaming, next).map(Node::Not),
         Node::And(left, right) => {
-            let (left, right) = both(alloc, left, right, renaming, next)?;
-            Ok(Node::And(left, right))
+            both(alloc, left, right, renaming, next).map(|(left, right)| Node::And(left, right))
         }
         Node::Or(left, right) => {
-            let (left, right) = both(alloc, left, right, renaming, next)?;
-            Ok(Node::Or(left, right))
+            both(alloc, left, right, renaming, next).map(|(left, right)| Node::Or(left, right))
         }
         Node::Exists(bound, inner) => quantified(alloc, bound, inner, renaming, next),
         Node::Previous(interval, inner) => {
-            Ok(Node::Previous(*interval, boxed(alloc, inner, renaming, next)?))
+            boxed(alloc, inner, renaming, next).map(|inner| Node::Previous(*interval, inner))
         }
         Node::Next(interval, inner) => {
-            Ok(Node::Next(*interval, boxed(alloc, inner, renaming, next)?))
+            boxed(alloc, inner, renaming, next).map(|inner| Node::Next(*interval, inner))
         }
         Node::Since(interval, left, right) => {
-            let (left, right) = both(alloc, left, right, renaming, next)?;
-            Ok(Node::Since(*interval, left, right))
+            both(alloc, left, right, renaming, next).map(|(left, right)| Node::Since(
+                *interval, left, right,
+            ))
         }
         Node::Until(interval, left, right) => {
-            let (left, right) = both(alloc, left, right, renaming, next)?;
-            Ok(Node::Until(*interval, left, right))
+            both(alloc, left, right, renaming, next).map(|(left, right)| Node::Until(
+                *interval, left, right,
+            ))
         }
     }
 }

@@ -1,50 +1,62 @@
 -- What the laws of the normal form and of new numbers say of the core.
-use Rattle.std.proofs.Common.{◌≡◌, ◌++◌, ap, sym, subst, ◌∙◌, IsTrue}
+use Rattle.std.proofs.Common.{◌≡◌, IfOk, None, Result, Ok, Err, ap, sym, subst, ◌∙◌}
 use Rattle.mfotl_model.specs.FreeVariables.{fv}
 use Rattle.mfotl_model.specs.Formulas.{Form}
-use Rattle.mfotl_model.specs.Tables.{all_apart}
-use Rattle.monitorable.proofs.CoreLaws.{core_of, fits, negates, same_constants, same_variables, settles}
-use Rattle.monitorable.proofs.RenamedVariables.{apart_variables}
+use Rattle.monitorable.proofs.CoreLaws.{accepted, core_of, negates, same_constants, same_variables, settles}
 use Rattle.monitorable.proofs.SatisfyingLaw.{violations_satisfy}
 use Rattle.monitorable.proofs.from_policy.to_core.Goals as goal
 use Rattle.monitorable.specs.CoreForms.{CoreForm, meaning}
 use Rattle.monitorable.specs.Cores.{core_form, policy_form}
-use Rattle.monitorable.specs.Fragment.{Fits, free_names}
+use Rattle.monitorable.specs.Fragment.{frag, free_names}
 use Rattle.monitorable.specs.Negation.{HasConstantsOf, Negates, SettlesWith}
 use Rattle.monitorable.specs.NormalForm.{negative}
-use Rattle.monitorable.specs.Renaming.{apart_form, binders}
+use Rattle.monitorable.specs.Renaming.{apart_form}
+use Rattle.monitorable.specs.SatisfyingRows.{HasViolationsOf}
+use Rattle.monitorable.specs.declared.fault.FragmentFault.{FragmentFault}
+use Rattle.monitorable.specs.declared.policy_core.Core.{Core}
 
--- what holds of the policy's core holds of a tree that is made as it is
-carried : (P : CoreForm → Type 0) (f : Form) (g h : CoreForm) → P (core_of f) → h ≡ apart_form g → g ≡ negative f → P h
-carried P f g h p made negated = subst P (sym (made ∙ ap apart_form negated)) p
+pub core_apart-requires : goal.core_apart-requires
+core_apart-requires c =
+    let policy = c.args.policy.now in (
+      free_names policy.vars,
+      subst (λ g. frag (free_names policy.vars) g ≡ None) (sym c.in_ok-negation.ensures.negation)
+          (accepted (free_names policy.vars) (policy_form policy) c.in_ok-negation.ensures.judged),
+    )
 
-pub new-requires-clause-in_fragment : goal.new-requires-clause-in_fragment
-new-requires-clause-in_fragment c =
-    let policy = c.args.policy.now in
-    carried Fits (policy_form policy) _ _
-    (fits (free_names policy.vars) (policy_form policy) c.in_ok-negation.ensures.judged)
-    c.in_ok-apart.ensures c.in_ok-negation.ensures.negation
+-- what holds of the core of a formula holds of a core that is made of its negation
+carried : (P : CoreForm → Type 0) (f : Form) (g : CoreForm) (result : Result Core FragmentFault)
+    → P (core_of f) → g ≡ negative f → IfOk result (λ core. core_form core ≡ apart_form g)
+    → IfOk result (λ core. P (core_form core))
+carried P f g (Ok core) holds is made = subst P (sym (made ∙ ap apart_form is)) holds
+carried P f g (Err fault) holds is made = tt
 
-pub new-requires-clause-is_apart : goal.new-requires-clause-is_apart
-new-requires-clause-is_apart c =
+pub returns-clause-negates : goal.returns-clause-negates
+returns-clause-negates c =
     let f : Form = policy_form c.args.policy.now in
-    carried (λ g. IsTrue (all_apart (fv (meaning g) ++ binders g))) f _ _
-    (apart_variables (negative f)).1 c.in_ok-apart.ensures c.in_ok-negation.ensures.negation
+    carried (λ g. Negates g f) f _ c.core_apart.result (negates f)
+    c.in_ok-negation.ensures.negation c.core_apart.ensures.core
 
-pub returns : goal.returns
-returns c =
+pub returns-clause-settles : goal.returns-clause-settles
+returns-clause-settles c =
     let f : Form = policy_form c.args.policy.now in
-    let made : core_form c.in_ok-new.field-0 ≡ core_of f =
-    c.in_ok-new.ensures ∙ c.in_ok-apart.ensures ∙ ap apart_form c.in_ok-negation.ensures.negation in
-    let variables = subst (λ g. fv (meaning g) ≡ fv f) (sym made) (same_variables f) in
-    let constants = subst (λ g. HasConstantsOf g f) (sym made) (same_constants f) in
-    let negated = subst (λ g. Negates g f) (sym made) (negates f) in
-    record {
-      judged = c.in_ok-negation.ensures.judged;
-      core = made;
-      negates = negated;
-      settles = subst (λ g. SettlesWith g f) (sym made) (settles f);
-      variables = variables;
-      constants = constants;
-      violations = violations_satisfy f (core_form c.in_ok-new.field-0) negated variables constants;
-    }
+    carried (λ g. SettlesWith g f) f _ c.core_apart.result (settles f)
+    c.in_ok-negation.ensures.negation c.core_apart.ensures.core
+
+pub returns-clause-variables : goal.returns-clause-variables
+returns-clause-variables c =
+    let f : Form = policy_form c.args.policy.now in
+    carried (λ g. fv (meaning g) ≡ fv f) f _ c.core_apart.result (same_variables f)
+    c.in_ok-negation.ensures.negation c.core_apart.ensures.core
+
+pub returns-clause-constants : goal.returns-clause-constants
+returns-clause-constants c =
+    let f : Form = policy_form c.args.policy.now in
+    carried (λ g. HasConstantsOf g f) f _ c.core_apart.result (same_constants f)
+    c.in_ok-negation.ensures.negation c.core_apart.ensures.core
+
+pub returns-clause-violations : goal.returns-clause-violations
+returns-clause-violations c =
+    let f : Form = policy_form c.args.policy.now in
+    carried (λ g. HasViolationsOf g f) f _ c.core_apart.result
+    (violations_satisfy f (core_of f) (negates f) (same_variables f) (same_constants f))
+    c.in_ok-negation.ensures.negation c.core_apart.ensures.core

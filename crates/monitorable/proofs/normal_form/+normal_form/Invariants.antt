@@ -24,3 +24,18 @@ decreases-implication l = 6 * max (size-Formula l.left.now) (size-Formula l.righ
 
 abbrev pub decreases-equivalence : goal.decreases-equivalence
 decreases-equivalence l = 6 * max (size-Formula l.left.now) (size-Formula l.right.now) + 5
+
+abbrev pub decreases-exists_negated : goal.decreases-exists_negated
+decreases-exists_negated l = 6 * size-Formula l.inner.now + 4
+
+abbrev pub decreases-once_negated : goal.decreases-once_negated
+decreases-once_negated l = 6 * size-Formula l.inner.now + 4
+
+abbrev pub decreases-eventually_negated : goal.decreases-eventually_negated
+decreases-eventually_negated l = 6 * size-Formula l.inner.now + 4
+
+abbrev pub decreases-neither : goal.decreases-neither
+decreases-neither l = 6 * max (size-Formula l.left.now) (size-Formula l.right.now) + 4
+
+abbrev pub decreases-left_alone : goal.decreases-left_alone
+decreases-left_alone l = 6 * max (size-Formula l.left.now) (size-Formula l.right.now) + 4
