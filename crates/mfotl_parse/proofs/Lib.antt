@@ -23,3 +23,8 @@ pub mod SilentLaw
 pub mod SyntaxLaw
 pub mod LexLaw
 pub mod ShownLaw
+pub mod NamesOrder
+pub mod SortedTrees
+pub mod VariableOrder
+pub mod BoundVariables
+pub mod ColumnsLaw

@@ -14,4 +14,5 @@ pub mod Grammar
 pub mod Meanings
 pub mod Shows
 pub mod GrammarLaws
+pub mod WellSorted
 pub mod FaultTexts
