@@ -5,8 +5,8 @@ use Rattle.mfotl_lex.specs.Places.{Place}
 use Rattle.mfotl_lex.specs.declared.kind.Mode.TheVariants.{Log}
 use Rattle.mfotl_model.specs.declared.event.TimePoint.{TimePoint}
 use Rattle.mfotl_sig.specs.Preds.{PredOf}
-use Rattle.log_reader.specs.declared.cursor.Turn.{Turn}
-use Rattle.log_reader.specs.declared.cursor.Turn.TheVariants.{Took, Completed, Empty}
+use Rattle.log_reader.specs.declared.cursor.TokenStep.{TokenStep}
+use Rattle.log_reader.specs.declared.cursor.TokenStep.TheVariants.{Took, Completed, Empty}
 use Rattle.log_reader.specs.declared.fault.LogFault.{LogFault}
 use Rattle.log_reader.specs.declared.fault.LogFault.TheVariants.{Memory}
 use Rattle.log_reader.specs.declared.limits.Limits.{Limits}
@@ -68,11 +68,11 @@ HaltsBy sig limits looked ended at p Memory at' q = Unit {0}
 HaltsBy sig limits looked ended at p fault at' q = Halts sig limits looked ended at p fault at' q
 
 -- what one token does
-abbrev pub Turns : List PredOf → Limits → List ℕ → Bool → ℕ → Partial → Result Turn LogFault → ℕ → Partial → Type 0
-Turns sig limits looked ended at p (Ok Took) at' q = Leads sig limits looked ended at p [] at' q × (at < at')
-Turns sig limits looked ended at p (Ok (Completed point)) at' q = Leads sig limits looked ended at p (point ∷ []) at' q
-Turns sig limits looked ended at p (Ok Empty) at' q = Rests looked ended at p at' q
-Turns sig limits looked ended at p (Err fault) at' q = HaltsBy sig limits looked ended at p fault at' q
+abbrev pub TakesToken : List PredOf → Limits → List ℕ → Bool → ℕ → Partial → Result TokenStep LogFault → ℕ → Partial → Type 0
+TakesToken sig limits looked ended at p (Ok Took) at' q = Leads sig limits looked ended at p [] at' q × (at < at')
+TakesToken sig limits looked ended at p (Ok (Completed point)) at' q = Leads sig limits looked ended at p (point ∷ []) at' q
+TakesToken sig limits looked ended at p (Ok Empty) at' q = Rests looked ended at p at' q
+TakesToken sig limits looked ended at p (Err fault) at' q = HaltsBy sig limits looked ended at p fault at' q
 
 -- these time-points were read, and no whole token is left
 pub record Exhausts (sig : List PredOf) (limits : Limits) (looked : List ℕ) (ended : Bool)

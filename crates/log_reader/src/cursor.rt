@@ -1,6 +1,6 @@
 ghost use Rattle.std.specs.Prelude.{◌≡◌, ◌≤◌, ◌<◌, ◌^◌, length};
 ghost use Rattle.log_reader.specs.Partials.{blank};
-ghost use Rattle.log_reader.specs.Cursors.{Turns, Advances, IsCounted, place_in};
+ghost use Rattle.log_reader.specs.Cursors.{TakesToken, Advances, IsCounted, place_in};
 
 use crate::fault::LogFault;
 use crate::grammar::read_on;
@@ -13,7 +13,7 @@ use std::alloc::Global;
 
 /// What a token did.
 #[derive(Drop)]
-pub enum Turn {
+pub enum TokenStep {
     /// It was taken.
     Took,
     /// It completed a time-point.
@@ -55,26 +55,26 @@ impl<'a> Cursor<'a> {
         ended: bool,
         sig: &'a Signature,
         limits: &Limits,
-    ) -> Result<Turn, LogFault>
+    ) -> Result<TokenStep, LogFault>
         requires within { self.old.at ≤ length looked.now }
         requires counted { IsCounted self.old.partial }
-        ensures { Turns sig.now limits.now looked.now ended self.old.at self.old.partial result
+        ensures { TakesToken sig.now limits.now looked.now ended self.old.at self.old.partial result
             self.new.at self.new.partial }
     {
         let mut lexer = lexer_at(looked, self.at, ended);
         let token = match lexer.next() {
             Ok(Some(token)) => token,
-            Ok(None) => return Ok(Turn::Empty),
+            Ok(None) => return Ok(TokenStep::Empty),
             Err(fault) => return Err(LogFault::Lex(fault)),
         };
         if self.partial.is_completed_by(&token) {
             self.at = read_on(token.kind, self.at, lexer.offset());
-            return Ok(Turn::Completed(self.partial.finish(alloc)));
+            return Ok(TokenStep::Completed(self.partial.finish(alloc)));
         }
         match self.partial.step(alloc, sig, limits, &token) {
             Ok(()) => {
                 self.at = lexer.offset();
-                Ok(Turn::Took)
+                Ok(TokenStep::Took)
             }
             Err(fault) => Err(fault),
         }
@@ -97,9 +97,9 @@ impl<'a> Cursor<'a> {
     {
         loop {
             match self.take_token(alloc, looked, ended, sig, limits) {
-                Ok(Turn::Took) => {}
-                Ok(Turn::Completed(point)) => return Ok(Some(point)),
-                Ok(Turn::Empty) => return Ok(None),
+                Ok(TokenStep::Took) => {}
+                Ok(TokenStep::Completed(point)) => return Ok(Some(point)),
+                Ok(TokenStep::Empty) => return Ok(None),
                 Err(fault) => return Err(fault),
             }
         }

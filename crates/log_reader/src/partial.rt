@@ -55,7 +55,8 @@ impl<'a> Partial<'a> {
     ghost use Rattle.log_reader.specs.Progress.{answer_of};
     ghost use Rattle.log_reader.specs.Readings.{nothing_left};
     ghost use Rattle.log_reader.specs.Cursors.{behind_answer};
-    ghost use Rattle.log_reader.specs.Steps.{opened, stamped, naming, grouped, valued, closed, timestamp_of, step};
+    ghost use Rattle.log_reader.specs.Steps.{opened, stamped, naming, grouped, valued, closed, step};
+    ghost use Rattle.log_reader.specs.ValuesRead.{timestamp_of};
 
     pub fn new(alloc: Global) -> Self
         ensures { result ≡ blank }

@@ -12,5 +12,6 @@ pub mod Views
 pub mod Examples
 pub mod Grammar
 pub mod Meanings
+pub mod Shows
 pub mod GrammarLaws
 pub mod FaultTexts

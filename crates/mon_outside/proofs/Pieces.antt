@@ -15,6 +15,8 @@ pub wrote_more : {old mid new : Option (List ℕ)} {bytes rest : List ℕ} (coun
     → Appends mid new (take count rest) → Wrote old new bytes (drop count rest)
 wrote_more {old} {mid} {new} {bytes} {rest} count w appended = record {
   front = w.front ++ take count rest;
-  split = w.split ∙ ap (λ l. w.front ++ l) (sym (take-append-drop count rest)) ∙ sym (append_assoc w.front (take count rest) (drop count rest));
+  split =
+      w.split ∙ ap (λ l. w.front ++ l) (sym (take-append-drop count rest))
+      ∙ sym (append_assoc w.front (take count rest) (drop count rest));
   appended = Appends-trans old mid new w.front (take count rest) w.appended appended;
 }

@@ -1,8 +1,17 @@
--- What the calls of an input do to the rest of the open file, where it is told.
-use Rattle.std.specs.Prelude.{◌≡◌, ℕ, ◌<◌, List, [], ◌++◌, length, take, Some, None}
+-- What the calls of an input do to the rest of the open file, and to the names asked for, where they are told.
+use Rattle.std.specs.Prelude.{◌≡◌, ℕ, ◌<◌, Bool, true, false, List, [], ◌++◌, length, take, Some, None}
+use Rattle.std.specs.Option.{option_map}
 use Rattle.std.specs.declared.option.Option.{Option}
 use Rattle.mon_outside.specs.Files.{Files, content, ToldFiles}
 pub use Rattle.std.specs.Io.KnownBytes.{Consumes}
+
+-- a file's name, as its bytes
+abbrev pub Name : Type 0
+Name = List ℕ
+
+-- the names that were asked for, and these behind them
+abbrev pub asked_more : Option (List Name) → List Name → Option (List Name)
+asked_more asked names = option_map (λ before. before ++ names) asked
 
 -- The named file is open, and nothing of it was read.
 abbrev pub Opens : Option Files → List ℕ → Option (List ℕ) → Type 0
@@ -36,3 +45,12 @@ Loads files name bytes = ToldFiles files (λ files. bytes ≡ content files name
 -- The named file has more bytes than this.
 abbrev pub IsLonger : Option Files → List ℕ → ℕ → Type 0
 IsLonger files name limit = ToldFiles files (λ files. limit < length (content files name))
+
+-- The reading of a file stopped before its end was found: what is left of it is the rest of the open file,
+-- and nothing of it was given where it could not be opened.
+pub record StopsIn (is_open : Bool) (rest : Option (List ℕ)) (all : List ℕ) : Type 0 where
+  pub seen : List ℕ
+  pub left : List ℕ
+  pub parts : all ≡ seen ++ left
+  pub opened : is_open ≡ true → rest ≡ Some left
+  pub unopened : is_open ≡ false → seen ≡ []

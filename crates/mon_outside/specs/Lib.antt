@@ -3,4 +3,6 @@ pub mod Causes
 pub mod Files
 pub mod Inputs
 pub mod Sink
+pub mod Buffered
 pub mod Memory
+pub mod Views

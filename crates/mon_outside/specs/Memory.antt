@@ -1,5 +1,5 @@
 -- Files and a sink in memory, which fail at the calls that they are told to fail at.
-use Rattle.std.specs.Prelude.{ℕ, ◌+◌, ◌-◌, ◌^◌, min, Bool, List, map, if◌then◌else◌, ◌==◌, string_bytes}
+use Rattle.std.specs.Prelude.{ℕ, ◌+◌, ◌-◌, ◌^◌, min, Bool, List, [], map, if◌then◌else◌, ◌==◌, string_bytes}
 use Rattle.std.specs.List.{list_any}
 use Rattle.std.specs.declared.option.Option.{Option}
 use Rattle.mon_outside.specs.declared.mem_inputs.NamedFile.{NamedFile}
@@ -26,7 +26,11 @@ fails_next plan = list_any (λ number. number == plan.calls) plan.fail
 -- the plan after a call that failed or did not
 abbrev pub after_call : Plan → Bool → Plan
 after_call plan failed =
-    record { fail = plan.fail; calls = one_more plan.calls; faults = if failed then one_more plan.faults else plan.faults }
+    record {
+      fail = plan.fail;
+      calls = one_more plan.calls;
+      faults = if failed then one_more plan.faults else plan.faults;
+    }
 
 -- Files in memory: at most `piece` bytes come a read, and `rest` is what is left of the open file.
 pub record MemoryFiles : Type 0 where
@@ -39,3 +43,7 @@ pub record MemoryFiles : Type 0 where
 pub record MemoryBytes : Type 0 where
   pub written : List ℕ
   pub plan : Plan
+
+-- it holds nothing back
+abbrev pub none_held : MemoryBytes → List ℕ
+none_held sink = []

@@ -4,12 +4,12 @@ use std::alloc::AllocError;
 use thiserror::Error;
 
 /// The outside failed, and has counted it.
-#[derive(Clone, Copy, Debug, PartialEq, Eq, Error)]
+#[derive(Clone, Copy, Debug, Error)]
 #[error("Failed")]
 pub struct Failed;
 
 /// Why a read gave no bytes to a buffer that grows.
-#[derive(Clone, Copy, Debug, PartialEq, Eq, Error)]
+#[derive(Clone, Copy, Debug, Error)]
 pub enum ReadFault {
     /// The outside failed.
     #[error("Failed")]
@@ -31,7 +31,7 @@ impl From<AllocError> for ReadFault {
 }
 
 /// Why a file was not loaded.
-#[derive(Clone, Copy, Debug, PartialEq, Eq, Error)]
+#[derive(Clone, Copy, Debug, Error)]
 pub enum LoadFault {
     /// The outside failed.
     #[error("Failed")]

@@ -2,17 +2,18 @@
 //! each of which tells a fault only where its count of faults has risen.
 #![tactic(auto)]
 
+mod buffered_sink;
 mod calls;
 mod fault;
 mod gate;
 mod inputs;
+mod limits;
 mod loading;
 mod mem_inputs;
 mod mem_sink;
 mod sink;
-#[cfg(test)]
-mod tests;
 
+pub use buffered_sink::BufferedSink;
 pub use fault::{Failed, LoadFault, ReadFault};
 pub use gate::{Gate, OpenGate};
 pub use inputs::Inputs;

@@ -1,14 +1,13 @@
 //! Reading a file whole.
 
-ghost use Rattle.std.specs.Prelude.{◌≡◌, ℕ, ◌<◌, ◌≤◌, ◌++◌, [], length, take, IsTrue, IfSome, IfOk, OnOk, OnErr, IsErrOf};
+ghost use Rattle.std.specs.Prelude.{◌≡◌, ℕ, ◌<◌, ◌≤◌, ◌++◌, [], ◌∷◌, length, take, IsTrue, IfSome, IfOk, OnOk, OnErr, IsErrOf};
 ghost use Rattle.mon_outside.specs.Causes.{Rose};
-ghost use Rattle.mon_outside.specs.Inputs.{Moves, Gave, Loads, IsLonger};
+ghost use Rattle.mon_outside.specs.Files.{ToldFiles, content};
+ghost use Rattle.mon_outside.specs.Inputs.{Moves, Gave, Loads, IsLonger, StopsIn, asked_more};
 
+use crate::limits::BUFFER;
 use crate::{Inputs, LoadFault, ReadFault};
 use std::alloc::Global;
-
-/// The length of the buffer that a file is read through.
-const BUFFER: usize = 65_536;
 
 /// Reads once, and puts what was given behind the bytes. Answers how many bytes were given: 0 is the
 /// file's end.
@@ -21,6 +20,7 @@ pub fn read_more<I: Inputs>(
     requires opened { IsTrue (I.is_open inputs.old) }
     ensures files { I.files inputs.new ≡ I.files inputs.old }
     ensures stays_open { I.is_open inputs.new ≡ I.is_open inputs.old }
+    ensures asks_nothing { I.asked inputs.new ≡ I.asked inputs.old }
     ensures within { IfOk result (λ count. count ≤ length buffer.new) }
     ensures moves { IfOk result (Moves (I.rest inputs.old) (I.rest inputs.new) buffer.new) }
     ensures appended { IfOk result (λ count.
@@ -53,6 +53,7 @@ pub fn read_to_end<I: Inputs>(
     requires { IsTrue (I.is_open inputs.old) }
     ensures files { I.files inputs.new ≡ I.files inputs.old }
     ensures stays_open { I.is_open inputs.new ≡ I.is_open inputs.old }
+    ensures asks_nothing { I.asked inputs.new ≡ I.asked inputs.old }
     ensures gave { Gave (I.rest inputs.old) (I.rest inputs.new) bytes.old.items bytes.new.items }
     ensures whole { OnOk result (IfSome (I.rest inputs.old) (λ rest.
         bytes.new.items ≡ bytes.old.items ++ rest)) }
@@ -74,9 +75,12 @@ pub fn load<I: Inputs>(
     limit: u64,
 ) -> Result<Vec<u8>, LoadFault>
     ensures files { I.files inputs.new ≡ I.files inputs.old }
+    ensures asks { I.asked inputs.new ≡ asked_more (I.asked inputs.old) (name.now ∷ []) }
     ensures loads { IfOk result (λ bytes. Loads (I.files inputs.old) name.now bytes.items) }
     ensures within { IfOk result (λ bytes. length bytes.items ≤ limit) }
     ensures too_long { IsErrOf result LoadFault.TooLong → IsLonger (I.files inputs.old) name.now limit }
+    ensures stops { IsErrOf result LoadFault.Failed → ToldFiles (I.files inputs.old) (λ files.
+        StopsIn (I.is_open inputs.new) (I.rest inputs.new) (content files name.now)) }
     ensures later { I.faults inputs.old ≤ I.faults inputs.new }
     ensures cause { IsErrOf result LoadFault.Failed
         → Rose (I.faults inputs.old) (I.faults inputs.new) }
@@ -100,6 +104,7 @@ fn read_through<I: Inputs>(
     requires opened { IsTrue (I.is_open inputs.old) }
     ensures files { I.files inputs.new ≡ I.files inputs.old }
     ensures stays_open { I.is_open inputs.new ≡ I.is_open inputs.old }
+    ensures asks_nothing { I.asked inputs.new ≡ I.asked inputs.old }
     ensures gave { Gave (I.rest inputs.old) (I.rest inputs.new) bytes.old.items bytes.new.items }
     ensures whole { OnOk result (IfSome (I.rest inputs.old) (λ rest.
         bytes.new.items ≡ bytes.old.items ++ rest)) }

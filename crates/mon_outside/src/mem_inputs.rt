@@ -12,7 +12,7 @@ use crate::{Failed, Inputs};
 use std::marker::Model;
 
 /// A file in memory.
-#[derive(Debug, Drop)]
+#[derive(Drop)]
 pub struct NamedFile {
     pub name: String,
     pub bytes: Vec<u8>,
@@ -80,6 +80,9 @@ impl Inputs for MemInputs<'_> {
     ghost rest = { λ m. m.rest };
 
     ghost is_open = { λ m. is_some m.rest };
+
+    // Names would take memory, which a call that opens has none of.
+    ghost asked = { λ _. None };
 
     ghost faults = { λ m. m.plan.faults };
 

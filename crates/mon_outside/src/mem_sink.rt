@@ -1,9 +1,9 @@
 //! A sink in memory, for tests: it fails at the writes that it is told to fail at.
 
-ghost use Rattle.std.specs.Prelude.{◌≡◌, ◌<◌, ◌≤◌, [], length, take, is_err, Some, IfOk, IsErr, IsTrue, OnErr};
+ghost use Rattle.std.specs.Prelude.{◌≡◌, ◌<◌, ◌≤◌, [], length, take, is_err, is_some, Some, IfOk, IsErr, IsOk, IsTrue, OnErr, OnOk};
 ghost use Rattle.mon_outside.specs.Causes.{HasCause};
 ghost use Rattle.mon_outside.specs.Sink.{Appends};
-ghost use Rattle.mon_outside.specs.Memory.{fails_next, after_call};
+ghost use Rattle.mon_outside.specs.Memory.{fails_next, after_call, none_held};
 
 use crate::calls::Calls;
 use crate::{Failed, Sink};
@@ -51,6 +51,8 @@ impl<'a> MemSink<'a> {
 impl Sink for MemSink<'_> {
     ghost written = { λ m. Some m.written };
 
+    ghost held = { none_held };
+
     ghost faults = { λ m. m.plan.faults };
 
     fn write(&mut self, piece: &[u8]) -> Result<usize, Failed>
@@ -70,5 +72,15 @@ impl Sink for MemSink<'_> {
             return Err(Failed);
         }
         Ok(piece.len())
+    }
+
+    fn flush(&mut self) -> Result<(), Failed>
+        ensures kept { Some self.new.written ≡ Some self.old.written }
+        ensures handed_on { OnOk result (none_held self.new ≡ []) }
+        ensures cause { HasCause self.old.plan.faults self.new.plan.faults result }
+        ensures same { self.new ≡ self.old }
+        ensures ok { IsOk result }
+    {
+        Ok(())
     }
 }

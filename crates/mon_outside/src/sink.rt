@@ -1,6 +1,6 @@
 //! A place that bytes are written to.
 
-ghost use Rattle.std.specs.Prelude.{◌≡◌, ℕ, ◌<◌, ◌≤◌, List, length, take, IsOk, IfOk, OnOk, OnErr};
+ghost use Rattle.std.specs.Prelude.{◌≡◌, ℕ, ◌<◌, ◌≤◌, List, [], length, take, is_some, IsOk, IfOk, OnOk, OnErr};
 ghost use Rattle.std.specs.declared.option.Option.{Option};
 ghost use Rattle.mon_outside.specs.Causes.{HasCause, StoodStill};
 ghost use Rattle.mon_outside.specs.Sink.{Appends, AppendsFront};
@@ -11,6 +11,9 @@ use crate::Failed;
 pub trait Sink {
     /// The bytes written, where they are told.
     ghost written: { Self → Option (List ℕ) };
+
+    /// The last of the bytes written, which the sink holds back until it is flushed.
+    ghost held: { Self → List ℕ };
 
     /// How often a call has failed. It never falls.
     ghost faults: { Self → ℕ };
@@ -23,6 +26,13 @@ pub trait Sink {
         ensures appends { IfOk result (λ count.
             Appends (written self.old) (written self.new) (take count piece.now)) }
         ensures failed { OnErr result (written self.new ≡ written self.old) }
+        ensures tells { is_some (written self.new) ≡ is_some (written self.old) }
+        ensures cause { HasCause (faults self.old) (faults self.new) result };
+
+    /// Hands on all that was written and is held back. What could not be handed on is still held.
+    fn flush(&mut self) -> Result<(), Failed>
+        ensures kept { written self.new ≡ written self.old }
+        ensures handed_on { OnOk result (held self.new ≡ []) }
         ensures cause { HasCause (faults self.old) (faults self.new) result };
 }
 

@@ -1,9 +1,16 @@
--- Whether a source is open.
-use Rattle.std.specs.Prelude.{Bool, true, false}
-use Rattle.monitor_main.specs.declared.real.Source.{Source}
-use Rattle.monitor_main.specs.declared.real.Source.TheVariants.{Closed, Input, File}
+-- What is told of a real source.
+use Rattle.std.specs.Prelude.{ℕ, Bool, true, false, List, Option, None}
+use Rattle.monitor_main.specs.declared.real_inputs.Source.{Source}
+use Rattle.monitor_main.specs.declared.real_inputs.Source.TheVariants.{Closed, Input, File}
 
+-- whether a file or standard input is open
 abbrev pub is_opened : {F : Type 0} → Source F → Bool
 is_opened Closed = false
 is_opened Input = true
 is_opened (File f) = true
+
+-- what standard input or the open file has left, where its reader tells that
+abbrev pub rest_told : {S F : Type 0} → (S → Option (List ℕ)) → (F → Option (List ℕ)) → S → Source F → Option (List ℕ)
+rest_told of_input of_file input Closed = None
+rest_told of_input of_file input Input = of_input input
+rest_told of_input of_file input (File f) = of_file f

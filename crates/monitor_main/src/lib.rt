@@ -10,13 +10,16 @@ mod log;
 mod monitoring;
 mod options;
 mod plan;
-mod real;
+mod real_inputs;
+mod real_sink;
 mod refusal;
+mod retrying;
 mod running;
 mod status;
 mod words;
 
-pub use real::{RealInputs, RealSink};
+pub use real_inputs::RealInputs;
+pub use real_sink::RealSink;
 pub use refusal::{InputFile, Refusal};
 pub use running::run;
 pub use status::Status;

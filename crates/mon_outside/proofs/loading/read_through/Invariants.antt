@@ -6,6 +6,7 @@ abbrev pub invariant-reads : goal.invariant-reads
 invariant-reads g l = record {
   files : g.I.Inputs.files l.inputs ≡ g.I.Inputs.files l.initial.inputs;
   stays_open : g.I.Inputs.is_open l.inputs ≡ g.I.Inputs.is_open l.initial.inputs;
+  asks_nothing : g.I.Inputs.asked l.inputs ≡ g.I.Inputs.asked l.initial.inputs;
   gave : Gave (g.I.Inputs.rest l.initial.inputs) (g.I.Inputs.rest l.inputs) l.initial.bytes.items l.bytes.items;
   later : g.I.Inputs.faults l.initial.inputs ≤ g.I.Inputs.faults l.inputs;
 }

@@ -8,7 +8,8 @@ pub loop-rest-preserved : goal.loop-rest-preserved
 loop-rest-preserved g c =
     let rest = c.loop-rest.rest.now in
     let count = c.in-Ok.count in
-    let tail : take (length rest - count) (drop count rest) ≡ drop count rest = take_all (length rest - count) (drop count rest) (omega (arith, length-drop count rest)) in
+    let tail : take (length rest - count) (drop count rest) ≡ drop count rest =
+    take_all (length rest - count) (drop count rest) (omega (arith, length-drop count rest)) in
     record {
       wrote = rw tail (wrote_more count c.loop-rest.invariant.wrote c.in-Ok.ensures.appends);
       later = omega (arith, c.in-Ok.ensures.cause.later);

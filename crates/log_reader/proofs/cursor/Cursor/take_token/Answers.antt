@@ -4,7 +4,9 @@ use Rattle.mfotl_lex.specs.Places.{Place}
 use Rattle.mfotl_lex.specs.declared.fault.LexFault.{LexFault}
 use Rattle.mfotl_lex.specs.declared.token.Token.{Token}
 use Rattle.log_reader.specs.Cursors.{place_in}
-use Rattle.log_reader.proofs.Turning.{TokenAt, fault_run, token_at_offset, took_leads, completed_leads, fault_halts}
+use Rattle.log_reader.proofs.TokenRuns.{fault_run}
+use Rattle.log_reader.proofs.TokenPlaces.{TokenAt, token_at_offset}
+use Rattle.log_reader.proofs.TokenSteps.{took_leads, completed_leads, fault_halts}
 use Rattle.log_reader.proofs.cursor.Cursor.take_token.Goals as goal
 
 -- what the lexer gave at a place is what stands there
