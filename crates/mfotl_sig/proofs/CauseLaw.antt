@@ -1,16 +1,18 @@
 -- Behind tokens that show no fault, the reader shows a fault exactly where the token or the tail is its cause.
 use Rattle.std.proofs.Common.{◌≡◌, ℕ, ◌≤◌, Bool, true, false, cond, List, [], ◌∷◌, ◌++◌, length, Option, Some, None, Contains}
-use Rattle.std.proofs.Common.{Result, Ok, Err, refl, ap, sym, subst, ◌∙◌, ◌⊎◌, inl, inr, arith}
+use Rattle.std.proofs.Common.{Result, Ok, Err, refl, ap, sym, subst, ◌∙◌, inl, inr, arith}
 use Rattle.std.proofs.lemmas.Bool.{le-leb}
 use Rattle.std.proofs.lemmas.List.{append_assoc}
-use Rattle.std.specs.Prelude.{nat_le, IfErr}
+use Rattle.std.specs.Prelude.{nat_le}
 use Rattle.mfotl_lex.specs.declared.kind.Kind.TheVariants.{Word, Colon}
 use Rattle.mfotl_lex.specs.declared.fault.LexFault.{LexFault}
-use Rattle.mfotl_lex.specs.FirstFault.{◌>>=◌, Tail, Broken, End, More, run, EndsViability, FollowsGrammar}
+use Rattle.mfotl_lex.specs.FirstFault.{◌>>=◌, Tail, Broken, End, More, run, FollowsGrammar}
 use Rattle.mfotl_lex.specs.Lexemes.{Lexeme}
-use Rattle.mfotl_lex.proofs.FirstFaultLaws.{bind_ok, run_fault, run_behind, run-append}
+use Rattle.mfotl_lex.proofs.ByPlaces.{KnowsPlaces, reached, token_caused, ends_shown}
+use Rattle.mfotl_lex.proofs.Verdicts.{judged_rule}
+use Rattle.mfotl_lex.proofs.FirstFaultLaws.{bind_ok, run_fault, run_behind}
 use Rattle.mfotl_model.specs.declared.policy.Sort.{Sort}
-use Rattle.mfotl_sig.specs.declared.arguments.Stage.TheVariants.{AfterOpen, AfterWord, AfterLabel, AfterSort, AfterComma}
+use Rattle.mfotl_sig.specs.declared.arguments.Stage.TheVariants.{AfterOpen, AfterLabel, AfterSort, AfterComma}
 use Rattle.mfotl_sig.specs.declared.fault.SigFault.{SigFault}
 use Rattle.mfotl_sig.specs.declared.fault.SigFault.TheVariants.{Lex, Syntax, RepeatedName, UnknownSort, Arity, TooMany, Memory}
 use Rattle.mfotl_sig.specs.Causes.{IsRepeated, IsOneTooMany, IsNinth, IsUnknownLabelled, IsUnknownOnly, IsCause, IsLast}
@@ -18,12 +20,12 @@ use Rattle.mfotl_sig.specs.Grammar.{Written, Listed, IsAccepted, IsViable}
 use Rattle.mfotl_sig.specs.Limits.{max_predicates, max_arguments}
 use Rattle.mfotl_sig.specs.Preds.{PredOf}
 use Rattle.mfotl_sig.specs.Reading.{DraftOf, Partial, with_sort, word_stage, goes_on, step, at_end, at_tail, nothing_read}
-use Rattle.mfotl_sig.specs.Rules.{sort_of, names_of, numbered, KeepsRules}
-use Rattle.mfotl_sig.proofs.NamedLemmas.{names, Finds, Lacks, look_up, absent}
+use Rattle.mfotl_sig.specs.Rules.{sort_of, numbered, KeepsRules}
+use Rattle.mfotl_sig.proofs.NamedLemmas.{look_up, absent}
 use Rattle.mfotl_sig.proofs.Runs.{between, within, stage_in, settle, kind_step, label_step, word_step, judge}
-use Rattle.mfotl_sig.proofs.Standing.{Stands, StandsSo, Further, further, reached, stands_viable, at_once, spelled_run}
+use Rattle.mfotl_sig.proofs.Standing.{Stands, StandsSo, further, stands_viable, at_once, spelled_run}
 use Rattle.mfotl_sig.proofs.Standing.{spelled_read, part_read, names_numbered, length-numbered}
-use Rattle.mfotl_sig.proofs.Verdicts.{IsRule, judged, judged_rule}
+use Rattle.mfotl_sig.proofs.Verdicts.{IsRule, judged}
 
 -- ---- what was read of an argument that is begun
 
@@ -119,7 +121,7 @@ module _ (front : List Lexeme) (p : Partial) (t : Lexeme) (ran : run step front 
   judged_never at ws (Ok done) e f = cc
   judged_never at ws (Err fault) e f =
       let same : fault ≡ Syntax at = cc in
-      subst IsRule same (judged_rule (KeepsRules ws) (judge [] ws) (numbered 0 ws) fault (judged ws) e)
+      subst IsRule same (judged_rule IsRule (KeepsRules ws) (judge [] ws) (numbered 0 ws) fault (judged ws) e)
 
   unviable : (at : ℕ) → step p t ≡ Err (Syntax at) → IsViable (front ++ t ∷ []) → ⊥
   unviable at e v =
@@ -127,31 +129,27 @@ module _ (front : List Lexeme) (p : Partial) (t : Lexeme) (ran : run step front 
       ∙ run_fault step t v.0 p (Syntax at) e in
       judged_never at v.1.0 (judge [] v.1.0) refl (sym (spelled_run ((front ++ t ∷ []) ++ v.0) v.1.0 v.1.1) ∙ stops)
 
-  syntax : (at : ℕ) → EndsViability IsViable (λ (x : Lexeme). x.at) front t at → step p t ≡ Err (Syntax at)
-  syntax at v =
-      elim (further front p t (reached front p ran)) [
-        | inl stops ↦ stops ∙ ap (λ n. Err (Syntax n)) (sym v.stands)
-        | inr goes ↦ absurd (v.ends goes.viable)
-      ]
+knows : KnowsPlaces step nothing_read (λ t. t.at) Syntax IsViable IsCause StandsSo
+knows = record {
+  begins = ([], record { fits = tt; spelled = refl });
+  further = further;
+  unviable = λ front p t at ran e v. unviable front p t ran at e v;
+  caused = λ front t at v. v;
+}
 
+pub stands : (ts : List Lexeme) (p : Partial) → run step ts nothing_read ≡ Ok p → Stands ts p.draft
+stands ts p ran = reached step nothing_read (λ t. t.at) Syntax IsViable IsCause StandsSo knows ts p ran
+
+module _ (front : List Lexeme) (p : Partial) (t : Lexeme) (ran : run step front nothing_read ≡ Ok p) where
   shows : (fault : SigFault) → IsCause front t fault → step p t ≡ Err fault
   shows (Lex fault) c = absurd c
-  shows (Syntax at) c = syntax at c
-  shows (RepeatedName at) c = repeats at c
-  shows (UnknownSort at) (inl c) = labelled at c
-  shows (UnknownSort at) (inr c) = only at c
-  shows (Arity at) c = ninth at c
-  shows (TooMany at) c = too_many at c
+  shows (Syntax at) c = ends_shown step nothing_read (λ x. x.at) Syntax IsViable IsCause StandsSo knows front p t at ran c
+  shows (RepeatedName at) c = repeats front p t ran at c
+  shows (UnknownSort at) (inl c) = labelled front p t ran at c
+  shows (UnknownSort at) (inr c) = only front p t ran at c
+  shows (Arity at) c = ninth front p t ran at c
+  shows (TooMany at) c = too_many front p t ran at c
   shows Memory c = absurd c
-
-  shown : (fault : SigFault) → step p t ≡ Err fault → IsCause front t fault
-  shown fault e =
-      elim (further front p t (reached front p ran)) [
-        | inl stops ↦
-            let same : Syntax t.at ≡ fault = cc (stops, e) in
-            subst (IsCause front t) same (record { ends = unviable t.at stops; stands = refl })
-        | inr goes ↦ subst (λ r. IfErr r (IsCause front t)) e goes.cause
-      ]
 
 -- ---- behind all tokens
 
@@ -162,7 +160,7 @@ module _ (ts : List Lexeme) (p : Partial) (ran : run step ts nothing_read ≡ Ok
 
   shows_last : (tail : Tail LexFault) (fault : SigFault) → IsLast ts tail fault → at_tail tail p ≡ Err fault
   shows_last tail (Lex fault) e = ap (λ x. at_tail x p) e
-  shows_last tail (Syntax at) v = ap (λ x. at_tail x p) v.stands ∙ open_end at p.draft (reached ts p ran).stands v.unaccepted
+  shows_last tail (Syntax at) v = ap (λ x. at_tail x p) v.stands ∙ open_end at p.draft (stands ts p ran) v.unaccepted
   shows_last tail _ c = absurd c
 
   -- accepted tokens leave no draft
@@ -184,7 +182,10 @@ module _ (ts : List Lexeme) (p : Partial) (ran : run step ts nothing_read ≡ Ok
 
 pub follows : FollowsGrammar step nothing_read at_tail IsViable IsCause IsLast
 follows = record {
-  viable = λ ts p ran. stands_viable ts p.draft (reached ts p ran).stands;
-  token = λ front p t fault ran. (λ e. shown front p t ran fault e, λ c. shows front p t ran fault c);
+  viable = λ ts p ran. stands_viable ts p.draft (stands ts p ran);
+  token = λ front p t fault ran. (
+    λ e. token_caused step nothing_read (λ x. x.at) Syntax IsViable IsCause StandsSo knows front p t fault ran e,
+    λ c. shows front p t ran fault c,
+  );
   tail = λ ts p tail fault ran. (λ e. last_shown ts p ran tail fault e, λ c. shows_last ts p ran tail fault c);
 }

@@ -14,15 +14,16 @@ use Rattle.mfotl_sig.specs.declared.fault.SigFault.{SigFault}
 use Rattle.mfotl_sig.specs.declared.fault.SigFault.TheVariants.{Memory}
 use Rattle.mfotl_sig.specs.Answers.{Gives}
 use Rattle.mfotl_sig.specs.Causes.{IsCause, IsLast}
-use Rattle.mfotl_sig.specs.Grammar.{IsAccepted, IsViable, Spells}
+use Rattle.mfotl_sig.specs.Grammar.{IsAccepted, IsViable}
 use Rattle.mfotl_sig.specs.Laws.{ReadIsSpelled, SpelledIsRead, OneAnswer, IsShown, ExactFaults, ExactSoundness, StaysShown}
 use Rattle.mfotl_sig.specs.Preds.{PredOf}
 use Rattle.mfotl_sig.specs.Reading.{DraftOf, Partial, step, at_end, at_tail, nothing_read, reading}
 use Rattle.mfotl_sig.specs.Rules.{numbered, text_of, KeepsRules, IsValue}
-use Rattle.mfotl_sig.proofs.CauseLaw.{follows}
+use Rattle.mfotl_sig.proofs.CauseLaw.{follows, stands}
 use Rattle.mfotl_sig.proofs.Runs.{between, judge}
-use Rattle.mfotl_sig.proofs.Standing.{Stands, reached, spelled_read, spelled_run}
-use Rattle.mfotl_sig.proofs.Verdicts.{kept_ok, judged}
+use Rattle.mfotl_sig.proofs.Standing.{Stands, spelled_read, spelled_run}
+use Rattle.mfotl_lex.proofs.Verdicts.{kept_ok}
+use Rattle.mfotl_sig.proofs.Verdicts.{IsRule, judged}
 
 -- ---- what is read, and what is spelled
 
@@ -45,7 +46,7 @@ read_is_spelled bytes preds e =
     let x = text_of bytes in
     let read = bind_ok (run step x.list nothing_read) (λ p. at_tail x.tail p) preds e in
     let end = ended (length bytes) (tokens (beginning Plain bytes)).fault read.0 preds read.2 in
-    let accepted = accepted_by x.list read.0.draft end.1 (reached x.list read.0 read.1).stands in
+    let accepted = accepted_by x.list read.0.draft end.1 (stands x.list read.0 read.1) in
     let spelled = spelled_read x.list accepted.0 read.0 accepted.1 read.1 in
     record {
       written = accepted.0;
@@ -59,7 +60,7 @@ pub spelled_is_read : SpelledIsRead
 unfolding reading layer.reading run
 spelled_is_read bytes preds v =
     let x = text_of bytes in
-    let passes = kept_ok (KeepsRules v.written) (judge [] v.written) (numbered 0 v.written) (judged v.written) v.rules in
+    let passes = kept_ok IsRule (KeepsRules v.written) (judge [] v.written) (numbered 0 v.written) (judged v.written) v.rules in
     ap (λ r. r >>= λ p. at_tail x.tail p)
     (spelled_run x.list v.written v.spelled ∙ ap (λ r. r >>= λ done. run step [] (between done)) passes)
     ∙ ap (λ tail. at_tail tail (between (numbered 0 v.written))) v.whole

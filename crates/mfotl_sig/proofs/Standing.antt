@@ -1,15 +1,16 @@
 -- What the tokens so far are in the grammar, wherever the reader stands, and what the next one is the cause of.
-use Rattle.std.proofs.Common.{◌≡◌, ℕ, suc, ◌+◌, ◌≤◌, Bool, true, false, cond, List, [], ◌∷◌, ◌++◌, length, Option, Some, None}
-use Rattle.std.proofs.Common.{is_some, Contains, Result, Ok, Err, refl, ap, sym, subst, ◌∙◌, ◌⊎◌, inl, inr, arith}
+use Rattle.std.proofs.Common.{◌≡◌, ℕ, suc, ◌≤◌, Bool, true, false, cond, List, [], ◌∷◌, ◌++◌, length, Option, Some, None}
+use Rattle.std.proofs.Common.{Contains, Result, Ok, Err, refl, ap, sym, subst, ◌∙◌, ◌⊎◌, inl, inr, arith}
 use Rattle.std.proofs.lemmas.Bool.{leb-true}
 use Rattle.std.proofs.lemmas.List.{append-nil, append_assoc}
 use Rattle.std.specs.List.{AllByRecursion}
-use Rattle.std.specs.Prelude.{nat_le, IfOk, IfErr}
+use Rattle.std.specs.Prelude.{nat_le}
 use Rattle.mfotl_lex.specs.declared.kind.Kind.{Kind}
 use Rattle.mfotl_lex.specs.declared.kind.Kind.TheVariants.{Word, OpenParen, CloseParen, Comma, Colon}
 use Rattle.mfotl_lex.specs.FirstFault.{◌>>=◌, run}
 use Rattle.mfotl_lex.specs.Lexemes.{Lexeme}
-use Rattle.mfotl_lex.proofs.FirstFaultLaws.{bind_ok, holds_behind, run_none, run_behind, run_token}
+use Rattle.mfotl_lex.proofs.ByPlaces as layer
+use Rattle.mfotl_lex.proofs.FirstFaultLaws.{bind_ok}
 use Rattle.mfotl_model.specs.declared.policy.Sort.{Sort}
 use Rattle.mfotl_sig.specs.declared.arguments.Stage.{Stage}
 use Rattle.mfotl_sig.specs.declared.arguments.Stage.TheVariants.{AfterName, AfterOpen, AfterWord, AfterLabel}
@@ -20,14 +21,15 @@ use Rattle.mfotl_sig.specs.Causes.{Begun, IsCause}
 use Rattle.mfotl_sig.specs.Grammar.{Argument, Only, Labelled, Written, FitsArgument, Fits, spell_argument, spell_preds}
 use Rattle.mfotl_sig.specs.Grammar.{Spells, IsAccepted, IsViable}
 use Rattle.mfotl_sig.specs.Limits.{max_predicates, max_arguments}
-use Rattle.mfotl_sig.specs.Preds.{PredOf, named}
+use Rattle.mfotl_sig.specs.Preds.{PredOf}
 use Rattle.mfotl_sig.specs.Reading.{ProgressOf, Open, Closed, DraftOf, Partial, with_sort, word_stage, goes_on, stage_step}
 use Rattle.mfotl_sig.specs.Reading.{begins, settled, step_from, step, nothing_read}
 use Rattle.mfotl_sig.specs.Rules.{sort_of, names_of, numbered, KeepsRules}
 use Rattle.mfotl_sig.proofs.NamedLemmas.{names, Finds, Lacks, look_up, absent}
 use Rattle.mfotl_sig.proofs.Runs.{between, within, stage_in, judge, admit_name, admit_all, preds_run, part_run}
 use Rattle.mfotl_sig.proofs.Spelling.{preds_behind, begun_more, begun_listed, begun_closed}
-use Rattle.mfotl_sig.proofs.Verdicts.{judged_ok, judged, listed_count}
+use Rattle.mfotl_lex.proofs.Verdicts.{judged_ok}
+use Rattle.mfotl_sig.proofs.Verdicts.{IsRule, judged, listed_count}
 
 -- ---- what was read of tokens that are spelled
 
@@ -50,7 +52,7 @@ pub spelled_read : (ts : List Lexeme) (ws : List Written) (p : Partial) → Spel
     → KeepsRules ws × (p ≡ between (numbered 0 ws))
 spelled_read ts ws p s ran =
     let done = bind_ok (judge [] ws) (λ done. run step [] (between done)) p (sym (spelled_run ts ws s) ∙ ran) in
-    let kept = judged_ok (KeepsRules ws) (judge [] ws) (numbered 0 ws) done.0 (judged ws) done.1 in
+    let kept = judged_ok IsRule (KeepsRules ws) (judge [] ws) (numbered 0 ws) done.0 (judged ws) done.1 in
     (kept.0, at_once (between done.0) p done.2 ∙ ap between kept.1)
 
 -- a predicate that is begun
@@ -164,15 +166,11 @@ StandsFor front (Closed sorts) = IsAccepted front
 abbrev pub StandsSo : List Lexeme → Partial → Type 0
 StandsSo front p = Stands front p.draft
 
--- the grammar goes on with the token; then the reader does, or the token is the cause of its fault
-pub record Goes {A : Type 0} (StandsBy : List Lexeme → A → Type 0) (front : List Lexeme) (t : Lexeme) (r : Result A SigFault) : Type 0 where
-  pub viable : IsViable (front ++ t ∷ [])
-  pub place : IfOk r (StandsBy (front ++ t ∷ []))
-  pub cause : IfErr r (IsCause front t)
+abbrev pub Goes : {A : Type 0} → (List Lexeme → A → Type 0) → List Lexeme → Lexeme → Result A SigFault → Type 0
+Goes StandsBy front t r = layer.Goes IsViable IsCause StandsBy front t r
 
--- or the token shows Syntax
 abbrev pub Further : {A : Type 0} → (List Lexeme → A → Type 0) → List Lexeme → Lexeme → Result A SigFault → Type 0
-Further StandsBy front t r = (r ≡ Err (Syntax t.at)) ⊎ Goes StandsBy front t r
+Further StandsBy front t r = layer.Further IsViable IsCause (Syntax t.at) StandsBy front t r
 
 module _ (front : List Lexeme) (t : Lexeme) where
   abbrev Moves : Result ProgressOf SigFault → Type 0
@@ -298,11 +296,6 @@ module _ (front : List Lexeme) (t : Lexeme) (ws : List Written) (s : Spells fron
   begins_further Word kind = inr (name_further kind (look_up t.text (numbered 0 ws)))
   begins_further _ kind = inl refl
 
--- what is known behind tokens that show no fault
-pub record Reached (front : List Lexeme) (p : Partial) : Type 0 where
-  pub ran : run step front nothing_read ≡ Ok p
-  pub stands : Stands front p.draft
-
 further_from : (front : List Lexeme) (p : Partial) (t : Lexeme) → run step front nothing_read ≡ Ok p → (draft : Option DraftOf) → p.draft ≡ draft → Stands front draft
     → Further StandsSo front t (step_from p.done draft t)
 further_from front p t ran None is accepted =
@@ -323,22 +316,7 @@ further_from front p t ran (Some d) is at =
         let same : d ≡ other = cc (is, here) in
         (ap (λ (x : DraftOf). length x.arguments.sorts) same ∙ q.count.0, q.count.1)
 
-pub further : (front : List Lexeme) (p : Partial) (t : Lexeme) → Reached front p → Further StandsSo front t (step p t)
+pub further : (front : List Lexeme) (p : Partial) (t : Lexeme) → run step front nothing_read ≡ Ok p → StandsSo front p
+    → Further StandsSo front t (step p t)
 unfolding step
-further front p t r = further_from front p t r.ran p.draft refl r.stands
-
-goes_further : (front : List Lexeme) (p q : Partial) (t : Lexeme) → Reached front p → step p t ≡ Ok q → Reached (front ++ t ∷ []) q
-goes_further front p q t r e =
-    record {
-      ran = run_behind step front (t ∷ []) nothing_read p r.ran ∙ run_token step t [] p q e ∙ run_none step q;
-      stands = elim (further front p t r) [
-        | inl syntax ↦ absurd (cc (syntax, e))
-        | inr g ↦ subst (λ r. IfOk r (StandsSo (front ++ t ∷ []))) e g.place
-      ];
-    }
-
--- so wherever a run without a fault ends
-pub reached : (ts : List Lexeme) (p : Partial) → run step ts nothing_read ≡ Ok p → Reached ts p
-reached ts p ran =
-    holds_behind step Reached goes_further [] ts nothing_read p
-    (record { ran = run_none step nothing_read; stands = ([], record { fits = tt; spelled = refl }) }) ran
+further front p t ran stands = further_from front p t ran p.draft refl stands

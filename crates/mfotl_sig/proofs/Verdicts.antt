@@ -1,21 +1,22 @@
 -- A verdict passes exactly what keeps the rules, and else shows the fault of one.
 use Rattle.std.proofs.Common.{◌≡◌, ℕ, suc, ◌+◌, ◌<◌, ◌≤◌, Bool, true, false, cond, List, [], ◌∷◌, ◌++◌, length}
-use Rattle.std.proofs.Common.{Option, Some, None, is_some, Result, Ok, Err, refl, ap, sym, subst, ◌∙◌, ◌⊎◌, inl, inr, arith}
+use Rattle.std.proofs.Common.{Option, Some, None, is_some, Result, Ok, Err, refl, ap, sym, ◌∙◌, inl, inr, arith}
 use Rattle.std.proofs.lemmas.Bool.{leb-false, leb-true}
 use Rattle.std.proofs.lemmas.Cmp.{nat_list_eq_equiv}
 use Rattle.std.proofs.lemmas.List.{append-nil, append_assoc, length-append}
 use Rattle.std.proofs.lemmas.Map.Keys.{IsDistinct-head, IsDistinct-tail, IsDistinct-cons}
 use Rattle.std.specs.List.{AllByRecursion, IsDistinct, filter_map, cons_option}
-use Rattle.std.specs.Prelude.{nat_le, IsSome, IfErr}
+use Rattle.std.specs.Prelude.{nat_le, IsSome}
 use Rattle.std.specs.Str.{bytes_eq}
-use Rattle.mfotl_lex.specs.FirstFault.{◌>>=◌}
 use Rattle.mfotl_lex.specs.Lexemes.{Lexeme}
+use Rattle.mfotl_lex.proofs.Verdicts as layer
+use Rattle.mfotl_lex.proofs.Verdicts.{breaks}
 use Rattle.mfotl_model.specs.declared.policy.Sort.{Sort}
 use Rattle.mfotl_sig.specs.declared.fault.SigFault.{SigFault}
 use Rattle.mfotl_sig.specs.declared.fault.SigFault.TheVariants.{RepeatedName, UnknownSort, Arity, TooMany}
 use Rattle.mfotl_sig.specs.Grammar.{Argument, Listed, Written}
 use Rattle.mfotl_sig.specs.Limits.{max_predicates, max_arguments}
-use Rattle.mfotl_sig.specs.Preds.{PredOf, named, with_pred}
+use Rattle.mfotl_sig.specs.Preds.{PredOf, named}
 use Rattle.mfotl_sig.specs.Reading.{with_sort}
 use Rattle.mfotl_sig.specs.Rules.{sort_of, sort_word, words_of, sort_words, names_of, AllKnown, KeepsRules, numbered}
 use Rattle.mfotl_sig.proofs.Runs.{first_token, admit, admit_all, admit_name, judge_one, judge}
@@ -28,45 +29,8 @@ IsRule (Arity at) = Unit {0}
 IsRule (TooMany at) = Unit {0}
 IsRule _ = ⊥
 
-pub record Broken {A : Type 0} (rules : Type 0) (r : Result A SigFault) : Type 0 where
-  pub broken : rules → ⊥
-  pub fault : SigFault
-  pub is_rule : IsRule fault
-  pub shown : r ≡ Err fault
-
--- the rules are kept, and the value is this; or one is broken, and its fault is shown
 abbrev pub Judged : {A : Type 0} → Type 0 → Result A SigFault → A → Type 0
-Judged rules r x = (rules × (r ≡ Ok x)) ⊎ Broken rules r
-
-module _ {A : Type 0} (rules : Type 0) (r : Result A SigFault) (x : A) where
-  pub judged_ok : (y : A) → Judged rules r x → r ≡ Ok y → rules × (y ≡ x)
-  judged_ok y (inl kept) e = (kept.0, cc (e, kept.1))
-  judged_ok y (inr b) e = absurd (cc (e, b.shown))
-
-  pub kept_ok : Judged rules r x → rules → r ≡ Ok x
-  kept_ok (inl kept) rules = kept.1
-  kept_ok (inr b) rules = absurd (b.broken rules)
-
-  pub judged_rule : (fault : SigFault) → Judged rules r x → r ≡ Err fault → IsRule fault
-  judged_rule fault (inl kept) e = absurd (cc (e, kept.1))
-  judged_rule fault (inr b) e = let same : b.fault ≡ fault = cc (e, b.shown) in subst IsRule same b.is_rule
-
-  -- the same rules in other words, and then one more verdict
-  then_judged : {B : Type 0} (more all : Type 0) (f : A → Result B SigFault) (y : B) → (rules → more → all) → (all → rules × more)
-      → Judged rules r x → (rules → Judged more (f x) y) → Judged all (r >>= f) y
-  then_judged more all f y to from (inr b) later =
-      inr (record { broken = λ k. b.broken (from k).0; fault = b.fault; is_rule = b.is_rule; shown = ap (λ r. r >>= f) b.shown })
-  then_judged more all f y to from (inl kept) later = by (later kept.0)
-    where
-      by : Judged more (f x) y → Judged all (r >>= f) y
-      by (inl last) = inl (to kept.0 last.0, ap (λ r. r >>= f) kept.1 ∙ last.1)
-      by (inr b) =
-          inr (record { broken = λ k. b.broken (from k).1; fault = b.fault; is_rule = b.is_rule; shown = ap (λ r. r >>= f) kept.1 ∙ b.shown })
-
-  judged_as : (others : Type 0) (y : A) → (rules → others) → (others → rules) → x ≡ y → Judged rules r x → Judged others r y
-  judged_as others y to from same (inl kept) = inl (to kept.0, kept.1 ∙ ap (λ x. Ok x) same)
-  judged_as others y to from same (inr b) =
-      inr (record { broken = λ k. b.broken (from k); fault = b.fault; is_rule = b.is_rule; shown = b.shown })
+Judged rules r x = layer.Judged IsRule rules r x
 
 -- ---- arguments
 
@@ -83,8 +47,8 @@ one_by : (sorts : List Sort) (a : Argument) (full : Bool) (sort : Option Sort) �
     → Judged ((length sorts < max_arguments) × IsSome sort)
     (cond full (Err (Arity (first_token a).at)) (with_sort sorts sort (sort_word a).at)) (sorts ++ cons_option sort [])
 one_by sorts a true sort e =
-    inr (record { broken = λ k. let over = leb-true max_arguments (length sorts) e in omega (arith, over, k.0); fault = Arity (first_token a).at; is_rule = tt; shown = refl })
-one_by sorts a false None e = inr (record { broken = λ k. cc (k.1); fault = UnknownSort (sort_word a).at; is_rule = tt; shown = refl })
+    inr (breaks IsRule _ (Arity (first_token a).at) tt (λ k. let over = leb-true max_arguments (length sorts) e in omega (arith, over, k.0)))
+one_by sorts a false None e = inr (breaks IsRule _ (UnknownSort (sort_word a).at) tt (λ k. cc (k.1)))
 one_by sorts a false (Some sort) e = inl ((leb-false max_arguments (length sorts) e, refl), refl)
 
 one_judged : (sorts : List Sort) (a : Argument) → Judged (OneKept sorts a) (admit sorts a) (with_one sorts a)
@@ -109,7 +73,7 @@ pub all_judged : (sorts : List Sort) (ls : List Listed) (last : Option Argument)
     → Judged (AllKept sorts (words_of ls last)) (admit_all sorts ls last) (sorts ++ sorts_of (words_of ls last))
 all_judged sorts [] None few = inl ((omega (arith, few), tt), ap (λ xs. Ok xs) (sym (append-nil sorts)))
 all_judged sorts [] (Some a) few =
-    judged_as (OneKept sorts a) (admit sorts a) (with_one sorts a) (AllKept sorts (words_of [] (Some a))) _
+    layer.judged_as IsRule (OneKept sorts a) (admit sorts a) (with_one sorts a) (AllKept sorts (words_of [] (Some a))) _
     (λ k. (omega (arith, k.0), (k.1, tt))) (λ k. (omega (arith, k.0), k.1.0)) refl (one_judged sorts a)
 all_judged sorts (l ∷ ls) last few =
     let a = l.argument in
@@ -119,15 +83,15 @@ all_judged sorts (l ∷ ls) last few =
     λ one rest. (omega (arith, rest.0, longer sorts a one.1), (one.1, rest.1)) in
     let from : AllKept sorts (words_of (l ∷ ls) last) → OneKept sorts a × AllKept more words =
     λ k. ((omega (arith, k.0), k.1.0), (omega (arith, k.0, longer sorts a k.1.0), k.1.1)) in
-    then_judged (OneKept sorts a) (admit sorts a) more (AllKept more words) (AllKept sorts (words_of (l ∷ ls) last)) (λ xs. admit_all xs ls last) _ to from
+    layer.then_judged IsRule (OneKept sorts a) (admit sorts a) more (AllKept more words) (AllKept sorts (words_of (l ∷ ls) last)) (λ xs. admit_all xs ls last) _ to from
     (one_judged sorts a)
-    (λ one. judged_as (AllKept more words) (admit_all more ls last) (more ++ sorts_of words) (AllKept more words) _
+    (λ one. layer.judged_as IsRule (AllKept more words) (admit_all more ls last) (more ++ sorts_of words) (AllKept more words) _
     (λ k. k) (λ k. k) (cons_behind sorts (sorts_of words) (sort_of (sort_word a).text)) (all_judged more ls last (omega (arith, one.0, longer sorts a one.1))))
 
 -- so many were admitted, and no more than there may be
 pub listed_count : (sorts : List Sort) (ls : List Listed) → admit_all [] ls None ≡ Ok sorts → (length sorts ≡ length ls) × (length ls ≤ max_arguments)
 listed_count sorts ls ok =
-    let all = judged_ok (AllKept [] (words_of ls None)) (admit_all [] ls None) (sorts_of (words_of ls None)) sorts (all_judged [] ls None (omega arith)) ok in
+    let all = layer.judged_ok IsRule (AllKept [] (words_of ls None)) (admit_all [] ls None) (sorts_of (words_of ls None)) sorts (all_judged [] ls None (omega arith)) ok in
     let size = count ls all.0.1 in
     (ap length all.1 ∙ size.0, omega (arith, all.0.0, size.1))
   where
@@ -149,9 +113,9 @@ IsAdmitted done name = (named name done ≡ None) × (length done < max_predicat
 
 name_by : (done : List PredOf) (t : Lexeme) (found : Option PredOf) (full : Bool) → nat_le max_predicates (length done) ≡ full
     → Judged ((found ≡ None) × (length done < max_predicates)) (cond (is_some found) (Err (RepeatedName t.at)) (cond full (Err (TooMany t.at)) (Ok done))) done
-name_by done t (Some p) full e = inr (record { broken = λ k. cc (k.0); fault = RepeatedName t.at; is_rule = tt; shown = refl })
+name_by done t (Some p) full e = inr (breaks IsRule _ (RepeatedName t.at) tt (λ k. cc (k.0)))
 name_by done t None true e =
-    inr (record { broken = λ k. let over = leb-true max_predicates (length done) e in omega (arith, over, k.1); fault = TooMany t.at; is_rule = tt; shown = refl })
+    inr (breaks IsRule _ (TooMany t.at) tt (λ k. let over = leb-true max_predicates (length done) e in omega (arith, over, k.1)))
 name_by done t None false e = inl ((refl, leb-false max_predicates (length done) e), refl)
 
 -- the predicate that is written behind others
@@ -166,10 +130,10 @@ PredKept done w = IsAdmitted done w.name.text × AllKept [] (sort_words w)
 
 pred_judged : (done : List PredOf) (w : Written) → Judged (PredKept done w) (judge_one done w) (and_pred done w)
 pred_judged done w =
-    then_judged (IsAdmitted done w.name.text) (admit_name done w.name) done (AllKept [] (sort_words w)) (PredKept done w) _ (and_pred done w)
+    layer.then_judged IsRule (IsAdmitted done w.name.text) (admit_name done w.name) done (AllKept [] (sort_words w)) (PredKept done w) _ (and_pred done w)
     (λ a b. (a, b)) (λ k. k)
     (name_by done w.name (named w.name.text done) (nat_le max_predicates (length done)) refl)
-    (λ new. then_judged (AllKept [] (sort_words w)) (admit_all [] w.listed w.last) (sorts_of (sort_words w)) (Unit {0}) (AllKept [] (sort_words w)) _ (and_pred done w)
+    (λ new. layer.then_judged IsRule (AllKept [] (sort_words w)) (admit_all [] w.listed w.last) (sorts_of (sort_words w)) (Unit {0}) (AllKept [] (sort_words w)) _ (and_pred done w)
     (λ a b. a) (λ k. (k, tt)) (all_judged [] w.listed w.last (omega arith)) (λ k. inl (tt, refl)))
 
 -- none of the names stands among the predicates
@@ -253,9 +217,9 @@ preds_judged done [] room =
     inl (record { apart = tt; distinct = tt; few = omega (arith, room); short = tt; known = tt }, ap (λ ps. Ok ps) (sym (append-nil done)))
 preds_judged done (w ∷ ws) room =
     let more = and_pred done w in
-    then_judged (PredKept done w) (judge_one done w) more (KeptBehind more ws) (KeptBehind done (w ∷ ws)) (λ ps. judge ps ws) _
+    layer.then_judged IsRule (PredKept done w) (judge_one done w) more (KeptBehind more ws) (KeptBehind done (w ∷ ws)) (λ ps. judge ps ws) _
     (kept_first done w ws) (first_kept done w ws) (pred_judged done w)
-    (λ one. judged_as (KeptBehind more ws) (judge more ws) _ (KeptBehind more ws) _ (λ k. k) (λ k. k) (numbered_on done w ws)
+    (λ one. layer.judged_as IsRule (KeptBehind more ws) (judge more ws) _ (KeptBehind more ws) _ (λ k. k) (λ k. k) (numbered_on done w ws)
     (preds_judged more ws (omega (arith, size done w ws, one.0.1))))
 
 apart_from_none : (ws : List Written) → Apart [] ws
@@ -265,7 +229,7 @@ apart_from_none (w ∷ ws) = (refl, apart_from_none ws)
 -- predicates pass exactly where they keep the rules, and are numbered in order
 pub judged : (ws : List Written) → Judged (KeepsRules ws) (judge [] ws) (numbered 0 ws)
 judged ws =
-    judged_as (KeptBehind [] ws) (judge [] ws) (numbered 0 ws) (KeepsRules ws) (numbered 0 ws)
+    layer.judged_as IsRule (KeptBehind [] ws) (judge [] ws) (numbered 0 ws) (KeepsRules ws) (numbered 0 ws)
     (λ k. record { distinct = k.distinct; few = omega (arith, k.few); short = k.short; known = k.known })
     (λ k. record { apart = apart_from_none ws; distinct = k.distinct; few = omega (arith, k.few); short = k.short; known = k.known })
     refl (preds_judged [] ws (omega arith))

@@ -1,6 +1,6 @@
 use Rattle.std.proofs.Common.{◌∙◌, ap, option_map}
 use Rattle.mfotl_sig.specs.Preds.{pred_of, named}
-use Rattle.mfotl_sig.proofs.NamedLemmas.{Lends, IsLent, is_lent}
+use Rattle.mfotl_sig.proofs.NamedLemmas.{Lends, is_lent}
 use Rattle.mfotl_sig.proofs.PredLemmas.{lookup_named}
 use Rattle.mfotl_sig.proofs.signature.Signature.find.Goals as goal
 
