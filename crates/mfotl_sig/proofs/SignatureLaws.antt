@@ -14,16 +14,16 @@ use Rattle.mfotl_sig.specs.declared.fault.SigFault.{SigFault}
 use Rattle.mfotl_sig.specs.declared.fault.SigFault.TheVariants.{Memory}
 use Rattle.mfotl_sig.specs.Answers.{Gives}
 use Rattle.mfotl_sig.specs.Causes.{IsCause, IsLast}
-use Rattle.mfotl_sig.specs.Grammar.{IsAccepted, IsViable, Spells}
+use Rattle.mfotl_sig.specs.Grammar.{IsAccepted, IsViable}
 use Rattle.mfotl_sig.specs.Laws.{ReadIsSpelled, SpelledIsRead, OneAnswer, IsShown, ExactFaults, ExactSoundness, StaysShown}
 use Rattle.mfotl_sig.specs.Preds.{PredOf}
 use Rattle.mfotl_sig.specs.Reading.{DraftOf, Partial, step, at_end, at_tail, nothing_read, reading}
-use Rattle.mfotl_sig.specs.Rules.{numbered, text_of, IsValue}
-use Rattle.mfotl_sig.proofs.CauseLaw.{follows, spelled_read, spelled_run}
-use Rattle.mfotl_sig.proofs.RuleLemmas.{rules_kept, kept_rules}
-use Rattle.mfotl_sig.proofs.Runs.{between}
-use Rattle.mfotl_sig.proofs.Standing.{Stands, stands}
-use Rattle.mfotl_sig.proofs.Verdicts.{keeps_judged}
+use Rattle.mfotl_sig.specs.Rules.{numbered, text_of, KeepsRules, IsValue}
+use Rattle.mfotl_sig.proofs.CauseLaw.{follows, stands}
+use Rattle.mfotl_sig.proofs.Runs.{between, judge}
+use Rattle.mfotl_sig.proofs.Standing.{Stands, spelled_read, spelled_run}
+use Rattle.mfotl_lex.proofs.Verdicts.{kept_ok}
+use Rattle.mfotl_sig.proofs.Verdicts.{IsRule, judged}
 
 -- ---- what is read, and what is spelled
 
@@ -52,16 +52,17 @@ read_is_spelled bytes preds e =
       written = accepted.0;
       whole = end.0;
       spelled = accepted.1;
-      rules = rules_kept accepted.0 spelled.1;
-      value = sym end.2 ∙ ap (λ (p : Partial). p.done) spelled.0;
+      rules = spelled.0;
+      value = sym end.2 ∙ ap (λ (p : Partial). p.done) spelled.1;
     }
 
 pub spelled_is_read : SpelledIsRead
-unfolding reading layer.reading
+unfolding reading layer.reading run
 spelled_is_read bytes preds v =
     let x = text_of bytes in
-    let judged = spelled_run x.list v.written v.spelled ∙ ap (λ r. r >>= λ done. Ok (between done)) (keeps_judged [] v.written (kept_rules v.written v.rules)) in
-    ap (λ r. r >>= λ p. at_tail x.tail p) judged
+    let passes = kept_ok IsRule (KeepsRules v.written) (judge [] v.written) (numbered 0 v.written) (judged v.written) v.rules in
+    ap (λ r. r >>= λ p. at_tail x.tail p)
+    (spelled_run x.list v.written v.spelled ∙ ap (λ r. r >>= λ done. run step [] (between done)) passes)
     ∙ ap (λ tail. at_tail tail (between (numbered 0 v.written))) v.whole
     ∙ ap (λ ps. Ok ps) (sym v.value)
 

@@ -1,7 +1,7 @@
 -- What is spelled in front of a rest, and tokens behind it.
-use Rattle.std.proofs.Common.{◌≡◌, ℕ, List, [], ◌∷◌, ◌++◌, Option, Some, None, refl, ap, sym, ◌∙◌}
+use Rattle.std.proofs.Common.{◌≡◌, List, [], ◌∷◌, ◌++◌, Option, Some, None, refl, ap, sym, ◌∙◌}
 use Rattle.std.specs.List.{AllByRecursion}
-use Rattle.mfotl_lex.specs.declared.kind.Kind.TheVariants.{Word, CloseParen, Comma}
+use Rattle.mfotl_lex.specs.declared.kind.Kind.TheVariants.{CloseParen, Comma}
 use Rattle.mfotl_lex.specs.Lexemes.{Lexeme}
 use Rattle.mfotl_sig.specs.Causes.{Begun}
 use Rattle.mfotl_sig.specs.Grammar.{Argument, Only, Labelled, Listed, Written, FitsArgument, FitsListed, FitsLast, Fits}

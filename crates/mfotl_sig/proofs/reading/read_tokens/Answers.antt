@@ -1,7 +1,6 @@
-use Rattle.std.proofs.Common.{◌∙◌, ap, sym, subst, length, Ok, Some}
+use Rattle.std.proofs.Common.{◌∙◌, ap, sym, subst, Ok}
 use Rattle.std.proofs.lemmas.Result.{err_from_is_err_and}
 use Rattle.mfotl_lex.specs.Lexemes.{lexeme, seen}
-use Rattle.mfotl_lex.specs.Places.{Place}
 use Rattle.mfotl_lex.proofs.Sequence.{after_shorter}
 use Rattle.mfotl_sig.specs.Answers.{Gives}
 use Rattle.mfotl_sig.specs.Reading.{nothing_read}
