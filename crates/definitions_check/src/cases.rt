@@ -30,15 +30,36 @@ struct Draft {
 #[derive(Drop)]
 pub struct CaseReader {
     draft: Option<Draft>,
+    // Whether the lines of a malformed case are passed over.
+    is_passing: bool,
 }
 
 impl CaseReader {
     pub fn new() -> Self {
-        CaseReader { draft: None }
+        CaseReader {
+            draft: None,
+            is_passing: false,
+        }
     }
 
-    /// Takes the next line, without its line feed, and gives the case that ends with it, if one does.
+    /// Takes the next line, without its line feed, and gives the case that ends with it, if one does. Of
+    /// a malformed case the first fault is told, and what is left of it is passed over, up to its `end`.
     pub fn line(&mut self, alloc: Global, line: &[u8]) -> Result<Option<Case>, CaseFault> {
+        let is_end = line == b"end".as_slice();
+        if self.is_passing {
+            self.is_passing = !is_end;
+            return Ok(None);
+        }
+        let taken = self.take_line(alloc, line);
+        if taken.is_err() {
+            self.draft = None;
+            self.is_passing = !is_end;
+        }
+        taken
+    }
+
+    // Takes a line that is not passed over.
+    fn take_line(&mut self, alloc: Global, line: &[u8]) -> Result<Option<Case>, CaseFault> {
         let words = split_words(alloc, line)?;
         let mut words = Words::new(words.as_slice());
         let head = words.next()?;

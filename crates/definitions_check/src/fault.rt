@@ -6,30 +6,43 @@ use std::alloc::{AllocError, AllocFailed};
 use thiserror::Error;
 
 /// What is wrong with a line.
-#[derive(Clone, Copy, Debug, PartialEq, Eq, Error)]
+#[derive(Clone, Copy)]
 pub enum CaseFault {
-    #[error("an unknown word")]
     UnknownWord,
-    #[error("a word is missing")]
     MissingWord,
-    #[error("a word too many")]
     ExtraWord,
-    #[error("no number in range")]
+    /// No number in range.
     Number,
-    #[error("no value")]
     Value,
-    #[error("an interval that ends before it begins")]
+    /// An interval that ends before it begins.
     EmptyInterval,
-    #[error("a formula nested too deep")]
+    /// A formula is nested too deep.
     TooDeep,
-    #[error("a timestamp that falls")]
     FallingTime,
-    #[error("a line out of its place")]
+    /// A line out of its place.
     Misplaced,
-    #[error("a case without its end")]
+    /// A case has no `end`.
     NoEnd,
-    #[error("out of memory")]
     Memory,
+}
+
+impl CaseFault {
+    /// What is printed of it.
+    pub fn name(self) -> &'static str {
+        match self {
+            CaseFault::UnknownWord => "an unknown word",
+            CaseFault::MissingWord => "a word is missing",
+            CaseFault::ExtraWord => "a word too many",
+            CaseFault::Number => "no number in range",
+            CaseFault::Value => "no value",
+            CaseFault::EmptyInterval => "an interval that ends before it begins",
+            CaseFault::TooDeep => "a formula nested too deep",
+            CaseFault::FallingTime => "a timestamp that falls",
+            CaseFault::Misplaced => "a line out of its place",
+            CaseFault::NoEnd => "a case without its end",
+            CaseFault::Memory => "out of memory",
+        }
+    }
 }
 
 impl From<AllocError> for CaseFault {
@@ -49,11 +62,10 @@ impl<T: Drop> From<AllocFailed<T>> for CaseFault {
 }
 
 /// Why the program stops before its input ends.
-#[derive(Clone, Copy, Debug, PartialEq, Eq, Error)]
+#[derive(Clone, Copy, Debug, Error)]
 pub enum Stop {
-    /// The fault of a line, by the line's number from 1.
-    #[error("line {0}: {1}")]
-    Line(u64, CaseFault),
+    #[error("out of memory")]
+    Memory,
     #[error("the cases could not be read")]
     Read,
     #[error("the answers could not be written")]
@@ -64,10 +76,9 @@ impl Stop {
     /// The exit status of the program.
     pub fn status(self) -> u8 {
         match self {
-            Stop::Line(_, CaseFault::Memory) => 9,
-            Stop::Line(_, _) => 2,
             Stop::Read => 7,
             Stop::Write => 8,
+            Stop::Memory => 9,
         }
     }
 }

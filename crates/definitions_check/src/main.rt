@@ -12,15 +12,19 @@ mod values;
 mod words;
 
 use answers::answer;
-use cases::CaseReader;
-use fault::Stop;
-use std::alloc::Global;
-use std::io::{self, BufWriter, Read, Write};
+use cases::{Case, CaseReader};
+use fault::{CaseFault, Stop};
+use std::alloc::{AllocError, Global};
+use std::io::{Read, Write};
 use std::process::ExitCode;
+
+// The exit status where a case is malformed.
+const MALFORMED: u8 = 2;
 
 fn main(rt: HostRuntime) -> ExitCode {
     match run(&rt) {
-        Ok(()) => ExitCode::SUCCESS,
+        Ok(true) => ExitCode::SUCCESS,
+        Ok(false) => ExitCode::from(MALFORMED),
         Err(stop) => {
             let _ = eprintln!(rt; "{stop}");
             ExitCode::from(stop.status())
@@ -28,48 +32,81 @@ fn main(rt: HostRuntime) -> ExitCode {
     }
 }
 
-fn run(rt: &HostRuntime) -> Result<(), Stop> {
+// Whether each case was well formed.
+fn run(rt: &HostRuntime) -> Result<bool, Stop> {
     let alloc = rt.alloc();
-    let mut input = Vec::new(alloc);
-    if rt.reader().read_to_end(&mut input).is_err() {
+    let mut cases = String::new(alloc);
+    if rt.reader().read_to_string(&mut cases).is_err() {
         return Err(Stop::Read);
     }
-    let Ok(mut out) = BufWriter::new(alloc, io::writer(rt)) else {
-        return Err(Stop::Write);
+    let mut answers = Vec::new(alloc);
+    let Ok(is_well_formed) = put_answers(alloc, cases.as_str(), &mut answers) else {
+        return Err(Stop::Memory);
     };
-    let answered = answer_lines(alloc, input.as_slice(), &mut out);
-    if out.flush().is_err() {
+    if rt.stdout().write_all(answers.as_slice()).is_err() {
         return Err(Stop::Write);
     }
-    answered
+    Ok(is_well_formed)
 }
 
-// Answers the cases up to the first malformed one.
-fn answer_lines<W: Write>(alloc: Global, input: &[u8], out: &mut W) -> Result<(), Stop> {
+// Puts the answers to all cases behind others, and says whether each case was well formed.
+fn put_answers(alloc: Global, cases: &str, answers: &mut Vec<u8>) -> Result<bool, AllocError> {
     let mut reader = CaseReader::new();
+    put_lines(alloc, &mut reader, cases, answers)
+}
+
+fn put_lines(
+    alloc: Global,
+    reader: &mut CaseReader,
+    cases: &str,
+    answers: &mut Vec<u8>,
+) -> Result<bool, AllocError> {
     let mut number = 0u64;
-    for line in input.split_inclusive(|byte| *byte == b'\n') {
+    let mut is_well_formed = true;
+    for line in cases.lines() {
         number = number.saturating_add(1);
-        let line = line.strip_suffix(b"\n").unwrap_or(line);
-        let case = match reader.line(alloc, line) {
-            Ok(case) => case,
-            Err(fault) => return Err(Stop::Line(number, fault)),
-        };
-        if let Some(case) = case {
-            let text = match answer(alloc, &case) {
-                Ok(text) => text,
-                Err(error) => return Err(Stop::Line(number, error.into())),
-            };
-            if out.write_all(text.as_slice()).is_err() {
-                return Err(Stop::Write);
-            }
-        }
+        is_well_formed &= put_line(alloc, reader, line.as_bytes(), number, answers)?;
     }
     match reader.finish() {
-        Ok(()) => Ok(()),
-        Err(fault) => Err(Stop::Line(number, fault)),
+        Ok(()) => Ok(is_well_formed),
+        Err(fault) => put_fault(alloc, number, fault, answers),
     }
 }
 
-#[cfg(test)]
-mod tests;
+// Puts the answer to the case that ends with a line, if one does, and says whether the line is well
+// formed.
+fn put_line(
+    alloc: Global,
+    reader: &mut CaseReader,
+    line: &[u8],
+    number: u64,
+    answers: &mut Vec<u8>,
+) -> Result<bool, AllocError> {
+    match reader.line(alloc, line) {
+        Ok(Some(case)) => put_answer(alloc, &case, answers),
+        Ok(None) => Ok(true),
+        Err(fault) => put_fault(alloc, number, fault, answers),
+    }
+}
+
+// Puts the answer to a case, which is well formed.
+fn put_answer(alloc: Global, case: &Case, answers: &mut Vec<u8>) -> Result<bool, AllocError> {
+    let text = answer(alloc, case)?;
+    answers.extend_from_slice(text.as_slice())?;
+    Ok(true)
+}
+
+// Puts the fault of the line of this number, and says that the line isn't well formed.
+fn put_fault(
+    alloc: Global,
+    number: u64,
+    fault: CaseFault,
+    answers: &mut Vec<u8>,
+) -> Result<bool, AllocError> {
+    if let CaseFault::Memory = fault {
+        return Err(AllocError);
+    }
+    let told = format!(in alloc; "line {number}: {}\n", fault.name())?;
+    answers.extend_from_slice(told.as_bytes())?;
+    Ok(false)
+}

@@ -11,13 +11,14 @@ use Rattle.log_reader.specs.declared.fault.LogFault.TheVariants.{Syntax, Unknown
 use Rattle.log_reader.specs.declared.limits.Limits.{Limits}
 use Rattle.log_reader.specs.declared.stage.Stage.{Stage}
 use Rattle.log_reader.specs.declared.stage.Stage.TheVariants.{Between, AfterAt, AfterStamp, AfterName, AfterOpen, AfterValue, AfterComma, AfterClose}
-use Rattle.log_reader.specs.Causes.{LeadsTo, IsNoInteger, IsWide, IsCause}
-use Rattle.log_reader.specs.Given.{◌>>=◌}
+use Rattle.log_reader.specs.Causes.{IsNoInteger, IsWide}
+use Rattle.mfotl_lex.specs.FirstFault.{◌>>=◌}
 use Rattle.log_reader.specs.Partials.{Partial}
 use Rattle.log_reader.specs.Stages.{goes}
-use Rattle.log_reader.specs.Steps.{step, stepped, opened, stamped, naming, grouped, valued, closed, timestamp_of}
+use Rattle.log_reader.specs.Steps.{step, stepped, opened, stamped, naming, grouped, valued, closed}
 use Rattle.log_reader.specs.Symbols.{Written, Bare, Quoted, symbol, content, written}
-use Rattle.log_reader.specs.ValuesRead.{value_at, integer_at, is_number}
+use Rattle.log_reader.specs.ValuesRead.{value_at, integer_at, is_number, timestamp_of}
+use Rattle.log_reader.proofs.StateCauses.{LeadsTo, ShowsFault}
 
 abbrev pub done : {A : Type 0} → A → Result A LogFault
 done x = Ok x
@@ -33,13 +34,13 @@ same_fault fault other e = cc
 module _ (sig : List PredOf) (limits : Limits) (p : Partial) (t : Lexeme) where
   -- the fault that is answered is one that the token shows
   abbrev Explains : {A : Type 0} → Result A LogFault → Type 0
-  Explains r = (fault : LogFault) → r ≡ broken fault → IsCause sig limits p t fault
+  Explains r = (fault : LogFault) → r ≡ broken fault → ShowsFault sig limits p t fault
 
   fine : {A : Type 0} (x : A) → Explains (done x)
   fine x fault e = absurd cc
 
-  fails : {A : Type 0} (fault : LogFault) → IsCause sig limits p t fault → Explains (broken {A = A} fault)
-  fails {A} fault cause other e = subst (IsCause sig limits p t) (same_fault {A = A} fault other e) cause
+  fails : {A : Type 0} (fault : LogFault) → ShowsFault sig limits p t fault → Explains (broken {A = A} fault)
+  fails {A} fault cause other e = subst (ShowsFault sig limits p t) (same_fault {A = A} fault other e) cause
 
   then_fine : {A B : Type 0} (r : Result A LogFault) (f : A → B) → Explains r → Explains (r >>= λ x. Ok (f x))
   then_fine (Ok x) f why = fine (f x)
@@ -99,7 +100,7 @@ module _ (sig : List PredOf) (limits : Limits) (p : Partial) (t : Lexeme) where
   stepped_why (Some AfterClose) g = closed_why g p.due refl
   stepped_why (Some Between) g = fine _
 
-  pub step_why : (fault : LogFault) → step sig limits p t ≡ Err fault → IsCause sig limits p t fault
+  pub step_why : (fault : LogFault) → step sig limits p t ≡ Err fault → ShowsFault sig limits p t fault
   unfolding step
   step_why = stepped_why (goes p.stage (symbol t)) refl
 
@@ -131,7 +132,7 @@ module _ (sig : List PredOf) (limits : Limits) (p : Partial) (t : Lexeme) where
       taken AfterValue _ g
       (ap (valued t.at (written t) p) due ∙ ap (λ (r : Result _ LogFault). r >>= λ v. Ok (record p { stage = AfterValue; due = more; args = p.args ++ v ∷ [] })) e)
 
-  pub step_shows : (fault : LogFault) → IsCause sig limits p t fault → step sig limits p t ≡ Err fault
+  pub step_shows : (fault : LogFault) → ShowsFault sig limits p t fault → step sig limits p t ≡ Err fault
   unfolding step
   step_shows (Syntax at) (place, none) = rw place (ap (stepped sig limits p t) none)
   step_shows (UnknownPredicate at) (place, g, none) = rw place (taken AfterName _ g (ap (naming t.at p) none))

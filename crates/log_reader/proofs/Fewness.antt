@@ -17,7 +17,8 @@ use Rattle.log_reader.specs.Soundness.{IsSound}
 use Rattle.log_reader.specs.Stages.{goes, completes}
 use Rattle.log_reader.specs.Steps.{step, stepped, completed}
 use Rattle.log_reader.specs.Symbols.{symbol}
-use Rattle.log_reader.proofs.Turning.{one_if_at, none_at, stepped_reaches, step_counts, completes_cases, completed_none, completed_one, later_self}
+use Rattle.log_reader.proofs.StepStages.{one_if_at, none_at, stepped_reaches, step_counts}
+use Rattle.log_reader.proofs.TokenSteps.{completes_cases, completed_none, completed_one, later_self}
 
 -- no more were begun than the limit
 pub record IsFew (limits : Limits) (p : Partial) : Type 0 where

@@ -19,10 +19,10 @@ use Rattle.log_reader.specs.declared.fault.LogFault.TheVariants.{WrongSort, IntR
 use Rattle.log_reader.specs.declared.limits.Limits.{Limits}
 use Rattle.log_reader.specs.declared.stage.Stage.{Stage}
 use Rattle.log_reader.specs.declared.stage.Stage.TheVariants.{AfterOpen, AfterValue, AfterComma, AfterClose}
-use Rattle.log_reader.specs.Given.{◌>>=◌}
+use Rattle.mfotl_lex.specs.FirstFault.{◌>>=◌}
 use Rattle.log_reader.specs.Grammar.{spell_more, spell_values, symbols_of}
 use Rattle.log_reader.specs.Partials.{Partial, point_of}
-use Rattle.log_reader.specs.Readings.{Reading, Stops, behind, went_on, run}
+use Rattle.log_reader.specs.Readings.{Reading, Fault, behind, went_on, run}
 use Rattle.log_reader.specs.Rules.{value_of, values_of}
 use Rattle.log_reader.specs.Stages.{goes, completes}
 use Rattle.log_reader.specs.Steps.{step, completed, stepped, valued}
@@ -65,7 +65,7 @@ module _ (sig : List PredOf) (limits : Limits) where
   pub record Faulty (p : Partial) (ts : List Lexeme) : Type 0 where
     pub points : List TimePoint
     pub fault : LogFault
-    pub reads : (last : Partial → Reading) → run sig limits last p ts ≡ record { points = points; ending = Stops fault }
+    pub reads : (last : Partial → Reading) → run sig limits last p ts ≡ record { points = points; ending = Fault fault }
 
   pub one_step : (s : Stage) (x : Symbol) (p : Partial) (t : Lexeme) (ts : List Lexeme) (r : Result Partial LogFault) → p.stage ≡ s → symbol t ≡ x → completes s x ≡ false
       → stepped sig limits p t (goes s x) ≡ r → (last : Partial → Reading) → run sig limits last p (t ∷ ts) ≡ went_on r (λ q. run sig limits last q ts)

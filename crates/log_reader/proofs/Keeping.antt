@@ -19,9 +19,10 @@ use Rattle.log_reader.specs.Cursors.{place_in, IsLater, open_count, given_of, Le
 use Rattle.log_reader.specs.Given.{Gives}
 use Rattle.log_reader.specs.Partials.{Partial, blank, point_of, finished}
 use Rattle.log_reader.specs.Progress.{answer_of, skipped}
-use Rattle.log_reader.specs.Readings.{Reading, Ending, Clear, behind, run_from, is_long, nothing_left, finish_at, place_at, reading}
+use Rattle.log_reader.specs.Readings.{Reading, Ending, NoFault, behind, run_from, is_long, nothing_left, finish_at, place_at, reading}
 use Rattle.log_reader.specs.Soundness.{Remains, IsSound}
-use Rattle.log_reader.proofs.Turning.{none_run, later_self}
+use Rattle.log_reader.proofs.TokenRuns.{none_run}
+use Rattle.log_reader.proofs.TokenSteps.{later_self}
 
 later_and : (ended later long : Bool) → IsLater ended later → IsLater (ended && not long) (later && not long)
 later_and true later long is = subst (λ (b : Bool). IsLater (not long) (b && not long)) (sym is) (later_self (not long))
@@ -42,9 +43,9 @@ skip_more n points all rest e =
 -- the end was told, and the present time-point is whole
 record Whole (limits : Limits) (bytes : List ℕ) (ended : Bool) (p : Partial) : Type 0 where
   pub told : ended ≡ true
-  pub here : nothing_left limits bytes ended p ≡ record { points = point_of p ∷ []; ending = Clear }
+  pub here : nothing_left limits bytes ended p ≡ record { points = point_of p ∷ []; ending = NoFault }
   pub begun : open_count p.stage ≡ 1
-  pub behind : nothing_left limits bytes ended (finished p) ≡ record { points = []; ending = Clear }
+  pub behind : nothing_left limits bytes ended (finished p) ≡ record { points = []; ending = NoFault }
 
 gives_point : TimePoint → Result Next LogFault → Type 0
 gives_point point r = r ≡ Ok (Point point)
@@ -58,7 +59,7 @@ unfolding gives_point
 no_more point e = cc
 
 whole_at : (limits : Limits) (bytes : List ℕ) (stage : Stage) (p : Partial) (point : TimePoint) → gives_point point (answer_of true (finish_at (length bytes) p stage))
-    → (finish_at (length bytes) p stage ≡ record { points = point_of p ∷ []; ending = Clear }) × (open_count stage ≡ 1)
+    → (finish_at (length bytes) p stage ≡ record { points = point_of p ∷ []; ending = NoFault }) × (open_count stage ≡ 1)
 unfolding gives_point
 whole_at limits bytes AfterStamp p point e = (refl, refl)
 whole_at limits bytes AfterClose p point e = (refl, refl)
@@ -114,8 +115,8 @@ module _ (sig : List PredOf) (limits : Limits) (bytes : List ℕ) where
               let last = nothing_left limits bytes later in
               let place = place_at limits bytes later at in
               let found : next_token place ≡ Ok None = rw same empty in
-              let here : run_from sig limits last p place ≡ record { points = point_of p ∷ []; ending = Clear } = none_run sig limits last p place found ∙ rw same w.here in
-              let then : run_from sig limits last (finished p) place ≡ record { points = []; ending = Clear } = none_run sig limits last (finished p) place found ∙ rw same w.behind in
+              let here : run_from sig limits last p place ≡ record { points = point_of p ∷ []; ending = NoFault } = none_run sig limits last p place found ∙ rw same w.here in
+              let then : run_from sig limits last (finished p) place ≡ record { points = []; ending = NoFault } = none_run sig limits last (finished p) place found ∙ rw same w.behind in
               let both : run_from sig limits last p place ≡ behind (point_of p ∷ []) (run_from sig limits last (finished p) place) =
               here ∙ ap (λ (r : Reading). behind (point_of p ∷ []) r) (sym then) in
               rw more (moves later (given_of p) at at p (finished p) (point_of p ∷ []) (s.remains later is) both);

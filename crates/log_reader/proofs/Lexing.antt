@@ -4,7 +4,7 @@ use Rattle.std.proofs.lemmas.List.{append-nil, length-drop, drop-drop}
 use Rattle.mfotl_lex.specs.Blanks.{blank_len}
 use Rattle.mfotl_lex.specs.Growing.{grown}
 use Rattle.mfotl_lex.specs.Lexemes.{Lexeme, token_at, place_after, next_token, after}
-use Rattle.mfotl_lex.specs.Places.{Place, moved}
+use Rattle.mfotl_lex.specs.Places.{Place, moved, mode_behind}
 use Rattle.mfotl_lex.specs.Scans.{scan, IsWithin}
 use Rattle.mfotl_lex.specs.declared.scan.Scan.{Scan}
 use Rattle.mfotl_lex.specs.declared.scan.Scan.TheVariants.{Unshown, Takes, Fails}
@@ -21,6 +21,7 @@ pub record Moves (p q : Place) : Type 0 where
 
 moves_by : (p : Place) (blanks : ℕ) (s : Scan) (t : Lexeme) → blanks ≤ length p.rest → IsWithin (drop blanks p.rest) s
     → token_at (moved p blanks) s ≡ Ok (Some t) → Moves p (place_after p (moved p blanks) s)
+unfolding mode_behind
 moves_by p blanks Unshown t le w e = absurd cc
 moves_by p blanks (Takes kind n) t le w e =
     let inner : n ≤ length (drop blanks p.rest) = w.1 in

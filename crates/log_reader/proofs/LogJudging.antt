@@ -14,10 +14,11 @@ use Rattle.log_reader.specs.declared.stage.Stage.{Stage}
 use Rattle.log_reader.specs.declared.stage.Stage.TheVariants.{Between, AfterAt, AfterStamp, AfterClose}
 use Rattle.log_reader.specs.Grammar.{PointText, spell_mentions, spell_end, spell_log, HasStamp, symbols_of}
 use Rattle.log_reader.specs.Partials.{Partial, point_of, finished}
-use Rattle.log_reader.specs.Readings.{Reading, Clear, Stops, behind, run, finish_at}
+use Rattle.log_reader.specs.Readings.{Reading, NoFault, Fault, behind, run, finish_at}
 use Rattle.log_reader.specs.Rules.{mentions_value, group_count, point_value, log_value}
 use Rattle.log_reader.specs.Stages.{goes, completes}
-use Rattle.log_reader.specs.Steps.{stepped, opened, stamped, timestamp_of}
+use Rattle.log_reader.specs.Steps.{stepped, opened, stamped}
+use Rattle.log_reader.specs.ValuesRead.{timestamp_of}
 use Rattle.log_reader.specs.Symbols.{AtSign, Terminator, Says, Bare, content}
 use Rattle.log_reader.proofs.Judging.{front_of, bare_content, Passed, Faulty, one_step, last_step, passes, faults, Faulty-behind, resting}
 use Rattle.log_reader.proofs.PointJudging.{after_stamp, MentionsRead, mentions_judged}
@@ -43,7 +44,7 @@ module _ (sig : List PredOf) (limits : Limits) (len : ℕ) where
     pub at_goes : goes s AtSign ≡ Some AfterAt
     pub end : completes s Terminator ≡ true
     pub end_goes : goes s Terminator ≡ Some Between
-    pub finishes : (p : Partial) → finish_at len p s ≡ record { points = point_of p ∷ []; ending = Clear }
+    pub finishes : (p : Partial) → finish_at len p s ≡ record { points = point_of p ∷ []; ending = NoFault }
 
   whole_stage : (s : Stage) → (s ≡ AfterStamp) ⊎ (s ≡ AfterClose) → IsWhole s
   whole_stage s (inl e) = subst IsWhole (sym e) (record { at = refl; at_goes = refl; end = refl; end_goes = refl; finishes = λ p. refl })
@@ -115,12 +116,12 @@ module _ (sig : List PredOf) (limits : Limits) (len : ℕ) where
   -- ---- the reading of a log
 
   pub record Read (p : Partial) (ts : List Lexeme) (points : List TimePoint) : Type 0 where
-    pub reads : run sig limits last p ts ≡ record { points = points; ending = Clear }
+    pub reads : run sig limits last p ts ≡ record { points = points; ending = NoFault }
 
   pub record Refused (p : Partial) (ts : List Lexeme) : Type 0 where
     pub points : List TimePoint
     pub fault : LogFault
-    pub reads : run sig limits last p ts ≡ record { points = points; ending = Stops fault }
+    pub reads : run sig limits last p ts ≡ record { points = points; ending = Fault fault }
 
   refused : (p : Partial) (ts : List Lexeme) → Faulty sig limits p ts → Refused p ts
   refused p ts f = record { points = f.points; fault = f.fault; reads = f.reads last }
@@ -161,7 +162,7 @@ module _ (sig : List PredOf) (limits : Limits) (len : ℕ) where
         | inl x ↦ inl (
           point ∷ x.0,
           first ∙ ap (option_and_then (λ later. Some (point ∷ later))) (sym at_time ∙ x.1),
-          record { reads = before ∙ ap (λ (y : Reading). behind (point_of there ∷ []) y) x.2.reads ∙ ap (λ (y : TimePoint). record { points = y ∷ x.0; ending = Clear }) same },
+          record { reads = before ∙ ap (λ (y : Reading). behind (point_of there ∷ []) y) x.2.reads ∙ ap (λ (y : TimePoint). record { points = y ∷ x.0; ending = NoFault }) same },
         )
         | inr y ↦ inr (
           first ∙ ap (option_and_then (λ later. Some (point ∷ later))) (sym at_time ∙ y.0),

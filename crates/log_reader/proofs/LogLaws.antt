@@ -1,6 +1,8 @@
 -- What is read to its end is spelled and keeps the rules, and what is spelled so is read to its end.
 use Rattle.std.proofs.Common.{◌≡◌, ◌⊎◌, inl, inr, ℕ, Bool, true, false, cond, List, length, Option, Some, None, Result, Ok, Err, refl, sym, ap, ◌∙◌, arith}
 use Rattle.std.proofs.lemmas.Bool.{le-ltb, ltb-false}
+use Rattle.mfotl_lex.proofs.FirstFaultLaws.{bind_ok, one_answer}
+use Rattle.mfotl_lex.specs.FirstFault.{◌>>=◌, run, reading as reading_of, ReadIsValue, ValueIsRead, OneAnswer}
 use Rattle.mfotl_lex.specs.Lexemes.{Lexeme}
 use Rattle.mfotl_lex.specs.declared.fault.LexFault.{LexFault}
 use Rattle.mfotl_model.specs.declared.event.TimePoint.{TimePoint}
@@ -11,126 +13,141 @@ use Rattle.log_reader.specs.declared.limits.Limits.{Limits}
 use Rattle.log_reader.specs.declared.stage.Stage.{Stage}
 use Rattle.log_reader.specs.declared.stage.Stage.TheVariants.{Between, AfterStamp, AfterClose}
 use Rattle.log_reader.specs.Grammar.{PointText, Spells, symbols_of}
-use Rattle.log_reader.specs.Laws.{walk, HasValue, HasFault}
+use Rattle.log_reader.specs.Laws.{answer_by, whole_answer}
+use Rattle.log_reader.specs.LogTexts.{is_long, log_text, tail_behind, tokens_of}
 use Rattle.log_reader.specs.Partials.{Partial, blank}
-use Rattle.log_reader.specs.Readings.{Reading, Ending, Clear, Stops, stopped, run, finish_at, is_long, nothing_left, behind_tokens, reading, accepted}
-use Rattle.log_reader.specs.Rules.{tokens_of, IsValue}
-use Rattle.log_reader.proofs.Paths.{accepts, accepted_by}
-use Rattle.log_reader.proofs.Walks.{walk_paths, ending_of, run_ending}
+use Rattle.log_reader.specs.Readings.{Reading, Ending, NoFault, Fault, stopped, run as run_points, finish_at, nothing_left, behind_tokens, reading, accepted}
+use Rattle.log_reader.specs.Rules.{log_value, IsValue}
+use Rattle.log_reader.specs.Steps.{step}
 use Rattle.log_reader.proofs.LogJudging.{last, LogJudged, log_judged}
+use Rattle.log_reader.proofs.Paths.{accepts, accepted_by}
+use Rattle.log_reader.proofs.Runs.{ended_at, at_tail, ending_by, run_paths, run_ending, finish_ending, log_ending}
 
-not_clear : (fault : LogFault) → Stops fault ≡ Clear → ⊥
-not_clear fault e = cc
+-- these time-points, and no fault
+abbrev pub whole : List TimePoint → Reading
+whole points = record { points = points; ending = NoFault }
 
--- a log may end here
-end_clear : (s : Stage) (p : Partial) (len : ℕ) → (finish_at len p s).ending ≡ Clear → accepts s ≡ true
-end_clear Between p len e = refl
-end_clear AfterStamp p len e = refl
-end_clear AfterClose p len e = refl
-end_clear _ p len e = absurd cc
+no_fault : (fault : LogFault) → Fault fault ≡ NoFault → ⊥
+no_fault fault e = cc
 
--- no fault is shown behind the tokens
-record ClearEnd (limits : Limits) (bytes : List ℕ) (fault : Option LexFault) (q : Partial) : Type 0 where
+same_some : (xs ys : List TimePoint) → Some xs ≡ Some ys → xs ≡ ys
+same_some xs ys e = cc
+
+none_some : (xs : List TimePoint) → None ≡ Some xs → ⊥
+none_some xs e = cc
+
+no_ending : (r : Result Partial LogFault) → ending_by r ≡ NoFault → (p : Partial) × (r ≡ Ok p)
+no_ending (Ok p) e = (p, refl)
+no_ending (Err fault) e = absurd cc
+
+may_end : (b : Bool) (n : ℕ) (p q : Partial) → accepts p.stage ≡ b → ended_at n p p.stage ≡ Ok q → accepts p.stage ≡ true
+may_end true n p q e f = e
+may_end false n p q e f = absurd (let here = rw e at f in cc (here))
+
+-- ---- tokens that are all there are
+
+module _ (sig : List PredOf) (limits : Limits) (len : ℕ) (ts : List Lexeme) where
+  judged : (log : List PointText) → Spells (symbols_of ts) log → LogJudged sig limits len blank limits.points log ts
+  judged log s = log_judged sig limits len log limits.points s.stamps blank ts (omega arith) s.spelled
+
+  -- what they spell, and what that stands for
+  pub record Spelled (points : List TimePoint) : Type 0 where
+    pub log : List PointText
+    pub spells : Spells (symbols_of ts) log
+    pub value : log_value sig limits 0 limits.points log ≡ Some points
+
+  value_of_read : (points : List TimePoint) (log : List PointText) → Spells (symbols_of ts) log
+      → run_points sig limits (last sig limits len) blank ts ≡ whole points → LogJudged sig limits len blank limits.points log ts
+      → Spelled points
+  value_of_read points log spells e (inl x) = record {
+    log = log;
+    spells = spells;
+    value = x.1 ∙ ap (λ (r : Reading). Some r.points) (sym x.2.reads ∙ e);
+  }
+  value_of_read points log spells e (inr y) =
+      absurd (no_fault y.1.fault (ap (λ (r : Reading). r.ending) (sym y.1.reads ∙ e)))
+
+  pub tokens_spelled : (points : List TimePoint) → run_points sig limits (last sig limits len) blank ts ≡ whole points → Spelled points
+  tokens_spelled points e =
+      let alike = λ (q : Partial). finish_ending len q q.stage in
+      let ends : Partial → Result Partial LogFault = λ q. ended_at len q q.stage in
+      let ending = sym (run_ending sig limits (last sig limits len) ends alike blank ts) ∙ ap (λ (r : Reading). r.ending) e in
+      let done = no_ending _ ending in
+      let first = bind_ok (run (step sig limits) ts blank) ends done.0 done.1 in
+      let accepted = may_end (accepts first.0.stage) len first.0 done.0 refl first.2 in
+      let spelled = accepted_by ts first.0.stage (run_paths sig limits blank first.0 ts first.1) accepted in
+      value_of_read points spelled.0 spelled.1 e (judged spelled.0 spelled.1)
+
+  read_of_value : (points : List TimePoint) (s : Spelled points) → LogJudged sig limits len blank limits.points s.log ts
+      → run_points sig limits (last sig limits len) blank ts ≡ whole points
+  read_of_value points s (inl x) = x.2.reads ∙ ap whole (same_some x.0 points (sym x.1 ∙ s.value))
+  read_of_value points s (inr y) = absurd (none_some points (sym y.0 ∙ s.value))
+
+  pub spelled_tokens : (points : List TimePoint) → Spelled points → run_points sig limits (last sig limits len) blank ts ≡ whole points
+  spelled_tokens points s = read_of_value points s (judged s.log s.spells)
+
+-- ---- bytes that are all there are
+
+-- they are whole tokens, and not too many
+record IsWhole (limits : Limits) (bytes : List ℕ) (fault : Option LexFault) : Type 0 where
   pub short : is_long limits bytes ≡ false
   pub whole : fault ≡ None
-  pub accepted : accepts q.stage ≡ true
 
-clear_by : (limits : Limits) (bytes : List ℕ) (long : Bool) (fault : Option LexFault) (q : Partial) → is_long limits bytes ≡ long
-    → (behind_tokens fault (nothing_left limits bytes true) q).ending ≡ Clear → ClearEnd limits bytes fault q
-clear_by limits bytes long (Some fault) q l e = absurd cc
-clear_by limits bytes true None q l e = absurd (not_clear (TooLong limits.bytes) (rw l at e))
-clear_by limits bytes false None q l e = record { short = l; whole = refl; accepted = end_clear q.stage q (length bytes) (rw l at e) }
+whole_by : (limits : Limits) (bytes : List ℕ) (fault : Option LexFault) (long : Bool) (p q : Partial) → is_long limits bytes ≡ long
+    → at_tail (tail_behind limits bytes true fault) p ≡ Ok q → IsWhole limits bytes fault
+whole_by limits bytes (Some fault) long p q l e = absurd cc
+whole_by limits bytes None true p q l e = absurd (let here = rw l at e in cc (here))
+whole_by limits bytes None false p q l e = record { short = l; whole = refl }
 
 module _ (sig : List PredOf) (limits : Limits) (bytes : List ℕ) where
   abbrev ts : List Lexeme
   ts = (tokens_of limits bytes true).list
 
-  abbrev end : Partial → Reading
-  end = behind_tokens (tokens_of limits bytes true).fault (nothing_left limits bytes true)
-
-  accepted_is : accepted sig limits bytes ≡ run sig limits end blank ts
-  unfolding reading
-  accepted_is = refl
-
   -- where nothing is too long and the bytes are whole tokens
-  plainly : (tokens_of limits bytes true).fault ≡ None → is_long limits bytes ≡ false → accepted sig limits bytes ≡ run sig limits (last sig limits (length bytes)) blank ts
+  plainly : (tokens_of limits bytes true).fault ≡ None → is_long limits bytes ≡ false
+      → accepted sig limits bytes ≡ run_points sig limits (last sig limits (length bytes)) blank ts
+  unfolding reading
   plainly whole short =
-      accepted_is ∙ ap (λ (f : Option LexFault). run sig limits (behind_tokens f (nothing_left limits bytes true)) blank ts) whole
-      ∙ ap (λ (b : Bool). run sig limits (λ p. cond b (stopped (TooLong limits.bytes)) (finish_at (length bytes) p p.stage)) blank ts) short
+      ap (λ (f : Option LexFault). run_points sig limits (behind_tokens f (nothing_left limits bytes true)) blank ts) whole
+      ∙ ap (λ (b : Bool). run_points sig limits (λ p. cond b (stopped (TooLong limits.bytes)) (finish_at (length bytes) p p.stage)) blank ts) short
 
-  judged : (log : List PointText) → Spells (symbols_of ts) log → LogJudged sig limits (length bytes) blank limits.points log ts
-  judged log s = log_judged sig limits (length bytes) log limits.points s.stamps blank ts (omega arith) s.spelled
+  told_run : (p : Partial) → reading_of (step sig limits) blank at_tail (log_text limits bytes true) ≡ Ok p
+      → (run (step sig limits) ts blank >>= at_tail (tail_behind limits bytes true (tokens_of limits bytes true).fault)) ≡ Ok p
+  unfolding reading_of
+  told_run p e = e
 
-  -- ---- what is read is spelled
+  told : (accepted sig limits bytes).ending ≡ NoFault → IsWhole limits bytes (tokens_of limits bytes true).fault
+  told e =
+      let fault = (tokens_of limits bytes true).fault in
+      let ends : Partial → Result Partial LogFault = at_tail (tail_behind limits bytes true fault) in
+      let done = no_ending _ (sym (log_ending sig limits bytes true) ∙ e) in
+      let first = bind_ok (run (step sig limits) ts blank) ends done.0 (told_run done.0 done.1) in
+      whole_by limits bytes fault (is_long limits bytes) first.0 done.0 refl first.2
 
-  clear_walk : (w : Result Partial LogFault) → walk sig limits blank ts ≡ w → ending_of sig limits end w ≡ Clear
-      → (q : Partial) × (walk sig limits blank ts ≡ Ok q) × ClearEnd limits bytes (tokens_of limits bytes true).fault q
-  clear_walk (Ok q) w e = (q, w, clear_by limits bytes (is_long limits bytes) (tokens_of limits bytes true).fault q refl e)
-  clear_walk (Err fault) w e = absurd (not_clear fault e)
-
-  value_of_read : (points : List TimePoint) (log : List PointText) → (tokens_of limits bytes true).fault ≡ None → is_long limits bytes ≡ false → Spells (symbols_of ts) log
-      → accepted sig limits bytes ≡ record { points = points; ending = Clear } → LogJudged sig limits (length bytes) blank limits.points log ts → IsValue sig limits bytes points
-  value_of_read points log whole short spells e (inl x) =
-      let same : record { points = points; ending = Clear } ≡ record { points = x.0; ending = Clear } = sym e ∙ plainly whole short ∙ x.2.reads in
-      record {
-        log = log;
-        short = ltb-false limits.bytes (length bytes) short;
-        whole = whole;
-        spells = spells;
-        value = x.1 ∙ ap (λ (r : Reading). Some r.points) (sym same);
-      }
-  value_of_read points log whole short spells e (inr y) =
-      absurd (not_clear y.1.fault (ap (λ (r : Reading). r.ending) (sym (plainly whole short ∙ y.1.reads) ∙ e)))
-
-  pub read_spelled : (points : List TimePoint) → accepted sig limits bytes ≡ record { points = points; ending = Clear } → IsValue sig limits bytes points
+  pub read_spelled : (points : List TimePoint) → accepted sig limits bytes ≡ whole points → IsValue sig limits bytes points
   read_spelled points e =
-      let ending : ending_of sig limits end (walk sig limits blank ts) ≡ Clear = sym (run_ending sig limits end blank ts) ∙ ap (λ (r : Reading). r.ending) (sym accepted_is ∙ e) in
-      let w = clear_walk (walk sig limits blank ts) refl ending in
-      let spelled = accepted_by ts w.0.stage (walk_paths sig limits blank w.0 ts w.1) w.2.accepted in
-      value_of_read points spelled.0 w.2.whole w.2.short spelled.1 e (judged spelled.0 spelled.1)
+      let w = told (ap (λ (r : Reading). r.ending) e) in
+      let s = tokens_spelled sig limits (length bytes) ts points (sym (plainly w.whole w.short) ∙ e) in
+      record { log = s.log; short = ltb-false limits.bytes (length bytes) w.short; whole = w.whole; spells = s.spells; value = s.value }
 
-  -- ---- what is spelled is read
+  pub spelled_read : (points : List TimePoint) → IsValue sig limits bytes points → accepted sig limits bytes ≡ whole points
+  spelled_read points v =
+      plainly v.whole (le-ltb limits.bytes (length bytes) v.short)
+      ∙ spelled_tokens sig limits (length bytes) ts points (record { log = v.log; spells = v.spells; value = v.value })
 
-  same_some : (xs ys : List TimePoint) → Some xs ≡ Some ys → xs ≡ ys
-  same_some xs ys e = cc
+-- ---- answers
 
-  none_some : (xs : List TimePoint) → None ≡ Some xs → ⊥
-  none_some xs e = cc
+answered : (points : List TimePoint) (ending : Ending) (found : List TimePoint) → answer_by points ending ≡ Ok found
+    → record { points = points; ending = ending } ≡ whole found
+answered points NoFault found e = let same : points ≡ found = cc in ap whole same
+answered points (Fault fault) found e = absurd cc
 
-  read_of_value : (points : List TimePoint) (v : IsValue sig limits bytes points) → LogJudged sig limits (length bytes) blank limits.points v.log ts → accepted sig limits bytes ≡ record { points = points; ending = Clear }
-  read_of_value points v (inl x) =
-      plainly v.whole (le-ltb limits.bytes (length bytes) v.short) ∙ x.2.reads
-      ∙ ap (λ (xs : List TimePoint). record { points = xs; ending = Clear }) (same_some x.0 points (sym x.1 ∙ v.value))
-  read_of_value points v (inr y) = absurd (none_some points (sym y.0 ∙ v.value))
+module _ (sig : List PredOf) (limits : Limits) where
+  pub read_is_value : ReadIsValue (whole_answer sig limits) (IsValue sig limits)
+  read_is_value bytes points e = read_spelled sig limits bytes points (answered _ _ points e)
 
-  pub spelled_read : (points : List TimePoint) → IsValue sig limits bytes points → accepted sig limits bytes ≡ record { points = points; ending = Clear }
-  spelled_read points v = read_of_value points v (judged v.log v.spells)
+  pub value_is_read : ValueIsRead (whole_answer sig limits) (IsValue sig limits)
+  value_is_read bytes points v = ap (λ (r : Reading). answer_by r.points r.ending) (spelled_read sig limits bytes points v)
 
-  -- ---- one answer
-
-  same_points : (xs ys : List TimePoint) → accepted sig limits bytes ≡ record { points = xs; ending = Clear } → accepted sig limits bytes ≡ record { points = ys; ending = Clear } → ys ≡ xs
-  same_points xs ys e f = ap (λ (r : Reading). r.points) (sym f ∙ e)
-
-  same_fault : (f g : LogFault) → Stops f ≡ Stops g → f ≡ g
-  same_fault f g e = cc
-
-  one_of : (r : Reading) → accepted sig limits bytes ≡ r → (ending : Ending) → r.ending ≡ ending → HasValue sig limits bytes ⊎ HasFault sig limits bytes
-  one_of r e Clear f =
-      let read : accepted sig limits bytes ≡ record { points = r.points; ending = Clear } = e ∙ ap (λ (x : Ending). record { points = r.points; ending = x }) f in
-      inl (record {
-        points = r.points;
-        value = read_spelled r.points read;
-        only = λ others v. same_points r.points others read (spelled_read others v);
-        sound = λ fault first. not_clear fault (sym first ∙ ap (λ (x : Reading). x.ending) e ∙ f);
-      })
-  one_of r e (Stops fault) f =
-      let first = ap (λ (x : Reading). x.ending) e ∙ f in
-      inr (record {
-        fault = fault;
-        first = first;
-        only = λ other shown. same_fault other fault (sym shown ∙ first);
-        worthless = λ points v. not_clear fault (sym first ∙ ap (λ (x : Reading). x.ending) (spelled_read points v));
-      })
-
-  pub one_of_two : HasValue sig limits bytes ⊎ HasFault sig limits bytes
-  one_of_two = one_of (accepted sig limits bytes) refl (accepted sig limits bytes).ending refl
+  pub one_of_two : OneAnswer (whole_answer sig limits) (IsValue sig limits)
+  one_of_two = one_answer (whole_answer sig limits) (IsValue sig limits) read_is_value value_is_read

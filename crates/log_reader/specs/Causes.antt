@@ -1,5 +1,6 @@
--- What shows each fault of a log at a token, by what was read before it.
-use Rattle.std.specs.Prelude.{◌≡◌, ◌≢◌, ◌<◌, ◌≤◌, ◌⊎◌, List, [], ◌∷◌, true, false, Some, None}
+-- What shows each fault of a log, in the grammar's own words.
+use Rattle.std.specs.Prelude.{◌≡◌, ◌≢◌, ◌<◌, ◌≤◌, ◌⊎◌, List, [], ◌∷◌, ◌++◌, true, false, Some, None}
+use Rattle.mfotl_lex.specs.FirstFault.{Tail, Broken, EndsViability, EndsTooEarly}
 use Rattle.mfotl_lex.specs.Lexemes.{Lexeme}
 use Rattle.mfotl_lex.specs.Numbers.{integer_value, is_int64}
 use Rattle.mfotl_model.specs.declared.policy.Sort.{Sort}
@@ -8,21 +9,10 @@ use Rattle.mfotl_sig.specs.Preds.{PredOf, named}
 use Rattle.log_reader.specs.declared.fault.LogFault.{LogFault}
 use Rattle.log_reader.specs.declared.fault.LogFault.TheVariants.{Syntax, UnknownPredicate, WrongArity, WrongSort, IntRange, TimestampRange, FallingTime, TooManyEvents, TooManyPoints}
 use Rattle.log_reader.specs.declared.limits.Limits.{Limits}
-use Rattle.log_reader.specs.declared.stage.Stage.{Stage}
-use Rattle.log_reader.specs.declared.stage.Stage.TheVariants.{AfterAt, AfterStamp, AfterName, AfterOpen, AfterValue, AfterClose}
-use Rattle.log_reader.specs.Partials.{Partial}
-use Rattle.log_reader.specs.Stages.{goes}
-use Rattle.log_reader.specs.Steps.{timestamp_of}
+use Rattle.log_reader.specs.Fronts.{Role, PointBegins, Timestamp, Name, GroupBegins, Value, GroupEnds, before, role, points_begun, last_time, groups_begun, due_sorts}
+use Rattle.log_reader.specs.Grammar.{IsAccepted, IsViable}
 use Rattle.log_reader.specs.Symbols.{Written, Bare, Quoted, symbol, content, written}
-use Rattle.log_reader.specs.ValuesRead.{is_number}
-
--- the grammar goes on with the token, to this stage
-abbrev pub LeadsTo : Stage → Partial → Lexeme → Type 0
-LeadsTo stage p t = goes p.stage (symbol t) ≡ Some stage
-
--- the next value of the group is to be an integer
-abbrev pub IsIntegerDue : Partial → Type 0
-IsIntegerDue p = (more : List Sort) × (p.due ≡ Int ∷ more)
+use Rattle.log_reader.specs.ValuesRead.{is_number, timestamp_of}
 
 -- what is written is no integer
 abbrev pub IsNoInteger : Written → Type 0
@@ -34,26 +24,45 @@ abbrev pub IsWide : Written → Type 0
 IsWide (Bare word) = (is_number word ≡ true) × (is_int64 (integer_value word) ≡ false)
 IsWide (Quoted text) = ⊥
 
--- what shows a fault at a token
-abbrev pub IsCause : List PredOf → Limits → Partial → Lexeme → LogFault → Type 0
+-- the grammar goes on with the token behind the front, where it has this role
+abbrev pub Plays : Role → List Lexeme → Lexeme → Type 0
+Plays part front t = IsViable (front ++ t ∷ []) × (role (before front) (symbol t) ≡ part)
+
+-- the next value of the group is to be an integer
+abbrev pub IsIntegerDue : List PredOf → List Lexeme → Type 0
+IsIntegerDue sig front = (more : List Sort) × (due_sorts sig (before front) ≡ Int ∷ more)
+
+-- the token shows the fault, behind the front
+abbrev pub IsCause : List PredOf → Limits → List Lexeme → Lexeme → LogFault → Type 0
 -- the grammar doesn't go on with it
-IsCause sig limits p t (Syntax at) = (at ≡ t.at) × (goes p.stage (symbol t) ≡ None)
+IsCause sig limits front t (Syntax at) = EndsViability IsViable (λ (t : Lexeme). t.at) front t at
 -- a predicate's name that the signature lacks
-IsCause sig limits p t (UnknownPredicate at) = (at ≡ t.at) × LeadsTo AfterName p t × (named (content t) sig ≡ None)
+IsCause sig limits front t (UnknownPredicate at) = (at ≡ t.at) × Plays Name front t × (named (content t) sig ≡ None)
 -- a value where the group has all, or a `)` where it lacks one
-IsCause sig limits p t (WrongArity at) =
-    (at ≡ t.at) × ((LeadsTo AfterValue p t × (p.due ≡ [])) ⊎ (LeadsTo AfterClose p t × (p.due ≢ [])))
-IsCause sig limits p t (WrongSort at) =
-    (at ≡ t.at) × LeadsTo AfterValue p t × IsIntegerDue p × IsNoInteger (written t)
-IsCause sig limits p t (IntRange at) =
-    (at ≡ t.at) × LeadsTo AfterValue p t × IsIntegerDue p × IsWide (written t)
-IsCause sig limits p t (TimestampRange at) =
-    (at ≡ t.at) × LeadsTo AfterStamp p t × (timestamp_of (content t) ≡ None)
+IsCause sig limits front t (WrongArity at) =
+    (at ≡ t.at)
+    × ((Plays Value front t × (due_sorts sig (before front) ≡ [])) ⊎ (Plays GroupEnds front t × (due_sorts sig (before front) ≢ [])))
+IsCause sig limits front t (WrongSort at) =
+    (at ≡ t.at) × Plays Value front t × IsIntegerDue sig front × IsNoInteger (written t)
+IsCause sig limits front t (IntRange at) =
+    (at ≡ t.at) × Plays Value front t × IsIntegerDue sig front × IsWide (written t)
+IsCause sig limits front t (TimestampRange at) =
+    (at ≡ t.at) × Plays Timestamp front t × (timestamp_of (content t) ≡ None)
 -- a timestamp below the last one
-IsCause sig limits p t (FallingTime before now at) =
-    (at ≡ t.at) × LeadsTo AfterStamp p t × (timestamp_of (content t) ≡ Some now) × (before ≡ p.time) × (now < before)
+IsCause sig limits front t (FallingTime earlier now at) =
+    (at ≡ t.at) × Plays Timestamp front t × (timestamp_of (content t) ≡ Some now)
+    × (earlier ≡ last_time (before front)) × (now < earlier)
 -- the `(` of a group, of which the time-point has all that it may have
-IsCause sig limits p t (TooManyEvents at) = (at ≡ t.at) × LeadsTo AfterOpen p t × (limits.events ≤ p.groups)
+IsCause sig limits front t (TooManyEvents at) =
+    (at ≡ t.at) × Plays GroupBegins front t × (limits.events ≤ groups_begun (before front))
 -- the `@` of a time-point, where as many were begun as may be
-IsCause sig limits p t (TooManyPoints at) = (at ≡ t.at) × LeadsTo AfterAt p t × (limits.points ≤ p.points)
-IsCause sig limits p t _ = ⊥
+IsCause sig limits front t (TooManyPoints at) =
+    (at ≡ t.at) × Plays PointBegins front t × (limits.points ≤ points_begun (before front))
+IsCause sig limits front t _ = ⊥
+
+-- what stands behind all whole tokens shows the fault: bytes that are no token, a byte at the limit, or the
+-- end of tokens that the grammar doesn't accept
+abbrev pub IsLast : List Lexeme → Tail LogFault → LogFault → Type 0
+IsLast ts (Broken shown) fault = fault ≡ shown
+IsLast ts tail (Syntax at) = EndsTooEarly IsAccepted ts tail at
+IsLast ts tail fault = ⊥

@@ -1,12 +1,12 @@
 -- How a reader moves through the bytes of a log, from an offset and what was read before it.
 use Rattle.std.specs.Prelude.{◌≡◌, ◌+◌, ◌-◌, ◌<◌, ◌≤◌, ℕ, List, [], ◌∷◌, length, drop, Bool, true, false, Option, Some, None, Result, Ok, Err}
-use Rattle.mfotl_lex.specs.Lexemes.{next_token}
+use Rattle.mfotl_lex.specs.Lexemes.{Lexeme, next_token}
 use Rattle.mfotl_lex.specs.Places.{Place}
 use Rattle.mfotl_lex.specs.declared.kind.Mode.TheVariants.{Log}
 use Rattle.mfotl_model.specs.declared.event.TimePoint.{TimePoint}
 use Rattle.mfotl_sig.specs.Preds.{PredOf}
-use Rattle.log_reader.specs.declared.cursor.Turn.{Turn}
-use Rattle.log_reader.specs.declared.cursor.Turn.TheVariants.{Took, Completed, Empty}
+use Rattle.log_reader.specs.declared.cursor.TokenStep.{TokenStep}
+use Rattle.log_reader.specs.declared.cursor.TokenStep.TheVariants.{Took, Completed, Empty}
 use Rattle.log_reader.specs.declared.fault.LogFault.{LogFault}
 use Rattle.log_reader.specs.declared.fault.LogFault.TheVariants.{Memory}
 use Rattle.log_reader.specs.declared.limits.Limits.{Limits}
@@ -14,7 +14,11 @@ use Rattle.log_reader.specs.declared.next.Next.{Next}
 use Rattle.log_reader.specs.declared.next.Next.TheVariants.{Point}
 use Rattle.log_reader.specs.declared.stage.Stage.{Stage}
 use Rattle.log_reader.specs.declared.stage.Stage.TheVariants.{Between}
-use Rattle.log_reader.specs.Partials.{Partial, finished}
+use Rattle.log_reader.specs.Given.{Stays}
+use Rattle.log_reader.specs.Partials.{Partial, point_of, finished}
+use Rattle.log_reader.specs.Stages.{completes, read_on}
+use Rattle.log_reader.specs.Steps.{step}
+use Rattle.log_reader.specs.Symbols.{symbol}
 use Rattle.log_reader.specs.Readings.{Reading, behind, stopped, run_from}
 
 -- an offset within the bytes that are looked at
@@ -48,6 +52,16 @@ pub record Leads (sig : List PredOf) (limits : Limits) (looked : List ℕ) (ende
   pub counted : IsCounted q
   pub given : given_of q ≡ given_of p + length points
 
+-- what a token does to what was read before it, where `behind` is the offset behind it
+abbrev pub StepsOver : List PredOf → Limits → Lexeme → ℕ → ℕ → Partial → Result TokenStep LogFault → ℕ → Partial → Type 0
+StepsOver sig limits t behind at p (Ok Took) at' q =
+    (completes p.stage (symbol t) ≡ false) × (step sig limits p t ≡ Ok q) × (at' ≡ behind)
+StepsOver sig limits t behind at p (Ok (Completed point)) at' q =
+    (completes p.stage (symbol t) ≡ true) × (point ≡ point_of p) × (at' ≡ read_on t.kind at behind) × (q ≡ finished p)
+StepsOver sig limits t behind at p (Ok Empty) at' q = ⊥
+StepsOver sig limits t behind at p (Err fault) at' q =
+    (completes p.stage (symbol t) ≡ false) × (at' ≡ at) × Stays p q fault (step sig limits p t)
+
 -- a fault stands here, and nothing is moved
 pub record Halts (sig : List PredOf) (limits : Limits) (looked : List ℕ) (ended : Bool)
     (at : ℕ) (p : Partial) (fault : LogFault) (at' : ℕ) (q : Partial) : Type 0 where
@@ -68,11 +82,11 @@ HaltsBy sig limits looked ended at p Memory at' q = Unit {0}
 HaltsBy sig limits looked ended at p fault at' q = Halts sig limits looked ended at p fault at' q
 
 -- what one token does
-abbrev pub Turns : List PredOf → Limits → List ℕ → Bool → ℕ → Partial → Result Turn LogFault → ℕ → Partial → Type 0
-Turns sig limits looked ended at p (Ok Took) at' q = Leads sig limits looked ended at p [] at' q × (at < at')
-Turns sig limits looked ended at p (Ok (Completed point)) at' q = Leads sig limits looked ended at p (point ∷ []) at' q
-Turns sig limits looked ended at p (Ok Empty) at' q = Rests looked ended at p at' q
-Turns sig limits looked ended at p (Err fault) at' q = HaltsBy sig limits looked ended at p fault at' q
+abbrev pub TakesToken : List PredOf → Limits → List ℕ → Bool → ℕ → Partial → Result TokenStep LogFault → ℕ → Partial → Type 0
+TakesToken sig limits looked ended at p (Ok Took) at' q = Leads sig limits looked ended at p [] at' q × (at < at')
+TakesToken sig limits looked ended at p (Ok (Completed point)) at' q = Leads sig limits looked ended at p (point ∷ []) at' q
+TakesToken sig limits looked ended at p (Ok Empty) at' q = Rests looked ended at p at' q
+TakesToken sig limits looked ended at p (Err fault) at' q = HaltsBy sig limits looked ended at p fault at' q
 
 -- these time-points were read, and no whole token is left
 pub record Exhausts (sig : List PredOf) (limits : Limits) (looked : List ℕ) (ended : Bool)

@@ -3,11 +3,6 @@ use Rattle.std.specs.Prelude.{◌≡◌, Result, Ok, Err}
 use Rattle.log_reader.specs.declared.fault.LogFault.{LogFault}
 use Rattle.log_reader.specs.declared.fault.LogFault.TheVariants.{Memory}
 
-infixl 10 ◌>>=◌
-abbrev pub ◌>>=◌ : {A B : Type 0} → Result A LogFault → (A → Result B LogFault) → Result B LogFault
-(Ok x) >>= f = f x
-(Err fault) >>= f = Err fault
-
 -- a fault is the one that the definition gives
 abbrev pub Fails : {Y : Type 0} → LogFault → Result Y LogFault → Type 0
 Fails Memory given = Unit {0}

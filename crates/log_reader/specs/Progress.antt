@@ -1,13 +1,12 @@
 -- How far a log was read, and what is due next.
-use Rattle.std.specs.Prelude.{◌≡◌, ℕ, ◌+◌, List, [], ◌∷◌, drop, Bool, true, false, Result, Ok, Err, if◌then◌else◌}
+use Rattle.std.specs.Prelude.{ℕ, List, [], ◌∷◌, drop, Bool, true, false, Result, Ok, Err, if◌then◌else◌}
 use Rattle.mfotl_model.specs.declared.event.TimePoint.{TimePoint}
 use Rattle.mfotl_sig.specs.Preds.{PredOf}
 use Rattle.log_reader.specs.declared.fault.LogFault.{LogFault}
-use Rattle.log_reader.specs.declared.fault.LogFault.TheVariants.{Memory}
 use Rattle.log_reader.specs.declared.limits.Limits.{Limits}
 use Rattle.log_reader.specs.declared.next.Next.{Next}
 use Rattle.log_reader.specs.declared.next.Next.TheVariants.{Point, More, End}
-use Rattle.log_reader.specs.Readings.{Reading, Ending, Clear, Stops, reading}
+use Rattle.log_reader.specs.Readings.{Reading, Ending, NoFault, Fault, reading}
 
 pub record Progress : Type 0 where
   pub sig : List PredOf
@@ -28,8 +27,8 @@ start sig limits = record { sig = sig; limits = limits; bytes = []; is_fed = fal
 -- the first of these time-points, or else the fault behind them, or that there is none
 abbrev pub answer_by : Bool → List TimePoint → Ending → Result Next LogFault
 answer_by ended (point ∷ points) ending = Ok (Point point)
-answer_by ended [] (Stops fault) = Err fault
-answer_by ended [] Clear = Ok (if ended then End else More)
+answer_by ended [] (Fault fault) = Err fault
+answer_by ended [] NoFault = Ok (if ended then End else More)
 
 abbrev pub answer_of : Bool → Reading → Result Next LogFault
 answer_of ended r = answer_by ended r.points r.ending
@@ -38,13 +37,10 @@ answer_of ended r = answer_by ended r.points r.ending
 abbrev pub skipped : ℕ → Reading → Reading
 skipped n r = record { points = drop n r.points; ending = r.ending }
 
--- the reading of all bytes so far, behind the time-points that were given
-abbrev pub due : Progress → Result Next LogFault
-due r = answer_of r.is_ended (skipped r.given (reading r.sig r.limits r.bytes r.is_ended))
+-- the reading of all bytes so far
+abbrev pub read : Progress → Reading
+read r = reading r.sig r.limits r.bytes r.is_ended
 
--- a time-point that was given counts; an answer without one changes nothing
-abbrev pub Proceeds : Progress → Progress → Result Next LogFault → Type 0
-Proceeds old new (Ok (Point point)) = new ≡ record old { given = old.given + 1 }
-Proceeds old new (Ok next) = new ≡ old
-Proceeds old new (Err Memory) = new.is_broken ≡ true
-Proceeds old new (Err fault) = new ≡ old
+-- what follows the time-points that were given
+abbrev pub due : Progress → Result Next LogFault
+due r = answer_of r.is_ended (skipped r.given (read r))

@@ -1,9 +1,8 @@
 -- What a log's bytes say: its time-points up to the first fault, and that fault or the end.
-use Rattle.std.specs.Prelude.{ℕ, List, [], ◌∷◌, ◌++◌, length, take, drop, Bool, true, false, not, ◌&&◌, Option, Some, None, Result, Ok, Err, nat_lt, if◌then◌else◌}
+use Rattle.std.specs.Prelude.{ℕ, List, [], ◌∷◌, ◌++◌, length, Bool, true, false, Option, Some, None, Result, Ok, Err, if◌then◌else◌}
 use Rattle.mfotl_lex.specs.Lexemes.{Lexeme, tokens}
 use Rattle.mfotl_lex.specs.Places.{Place}
 use Rattle.mfotl_lex.specs.declared.fault.LexFault.{LexFault}
-use Rattle.mfotl_lex.specs.declared.kind.Mode.TheVariants.{Log}
 use Rattle.mfotl_model.specs.declared.event.TimePoint.{TimePoint}
 use Rattle.mfotl_sig.specs.Preds.{PredOf}
 use Rattle.log_reader.specs.declared.fault.LogFault.{LogFault}
@@ -11,14 +10,15 @@ use Rattle.log_reader.specs.declared.fault.LogFault.TheVariants.{Lex, Syntax, To
 use Rattle.log_reader.specs.declared.limits.Limits.{Limits}
 use Rattle.log_reader.specs.declared.stage.Stage.{Stage}
 use Rattle.log_reader.specs.declared.stage.Stage.TheVariants.{Between}
+pub use Rattle.log_reader.specs.LogTexts.{is_long, place_at}
 use Rattle.log_reader.specs.Partials.{Partial, blank, point_of}
 use Rattle.log_reader.specs.Stages.{is_whole}
 use Rattle.log_reader.specs.Steps.{step, completed}
 
 -- no fault is shown, or the first one is this
 pub data Ending : Type 0 where
-  Clear : Ending
-  Stops : LogFault → Ending
+  NoFault : Ending
+  Fault : LogFault → Ending
 
 -- time-points in order, and what comes behind them
 pub record Reading : Type 0 where
@@ -26,7 +26,7 @@ pub record Reading : Type 0 where
   pub ending : Ending
 
 abbrev pub stopped : LogFault → Reading
-stopped fault = record { points = []; ending = Stops fault }
+stopped fault = record { points = []; ending = Fault fault }
 
 abbrev pub behind : List TimePoint → Reading → Reading
 behind points r = record { points = points ++ r.points; ending = r.ending }
@@ -44,20 +44,16 @@ run sig limits last p (t ∷ ts) =
 
 -- the end of all the bytes, `len` of them
 abbrev pub finish_at : ℕ → Partial → Stage → Reading
-finish_at len p Between = record { points = []; ending = Clear }
+finish_at len p Between = record { points = []; ending = NoFault }
 finish_at len p stage =
-    if is_whole stage then record { points = point_of p ∷ []; ending = Clear } else stopped (Syntax len)
-
--- whether there is a byte at the limit
-abbrev pub is_long : Limits → List ℕ → Bool
-is_long limits bytes = nat_lt limits.bytes (length bytes)
+    if is_whole stage then record { points = point_of p ∷ []; ending = NoFault } else stopped (Syntax len)
 
 -- what is shown where no whole token is left: a byte at the limit, the end if it was told, or nothing
 abbrev pub nothing_left : Limits → List ℕ → Bool → Partial → Reading
 nothing_left limits bytes ended p =
     if is_long limits bytes then stopped (TooLong limits.bytes)
     else if ended then finish_at (length bytes) p p.stage
-    else record { points = []; ending = Clear }
+    else record { points = []; ending = NoFault }
 
 -- a lexical fault comes behind the whole tokens before it
 abbrev pub behind_tokens : Option LexFault → (Partial → Reading) → Partial → Reading
@@ -68,15 +64,6 @@ behind_tokens None last p = last p
 abbrev pub run_from : List PredOf → Limits → (Partial → Reading) → Partial → Place → Reading
 run_from sig limits last p place =
     run sig limits (behind_tokens (tokens place).fault last) p (tokens place).list
-
--- the offset `at` within the bytes that are looked at: those below the limit
-abbrev pub place_at : Limits → List ℕ → Bool → ℕ → Place
-place_at limits bytes ended at = record {
-  mode = Log;
-  at = at;
-  rest = drop at (take limits.bytes bytes);
-  ended = ended && not (is_long limits bytes);
-}
 
 -- all bytes; `ended` says that no more come
 unfoldable pub reading : List PredOf → Limits → List ℕ → Bool → Reading

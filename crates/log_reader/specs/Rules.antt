@@ -2,7 +2,6 @@
 use Rattle.std.specs.Prelude.{◌≡◌, ◌≤◌, ◌+◌, ℕ, zero, suc, List, [], ◌∷◌, length, Bool, true, Option, Some, None, option_and_then, nat_lt, if◌then◌else◌}
 use Rattle.std.specs.BTreeSet.{insert_key}
 use Rattle.std.specs.Result.{result_ok}
-use Rattle.mfotl_lex.specs.Lexemes.{Tokens, tokens}
 use Rattle.mfotl_model.specs.Events.{event_cmp}
 use Rattle.mfotl_model.specs.declared.event.Event.{Event}
 use Rattle.mfotl_model.specs.declared.event.TimePoint.{TimePoint}
@@ -11,8 +10,8 @@ use Rattle.mfotl_model.specs.declared.value.Value.{Value}
 use Rattle.mfotl_sig.specs.Preds.{PredOf, named}
 use Rattle.log_reader.specs.declared.limits.Limits.{Limits}
 use Rattle.log_reader.specs.Grammar.{Mention, PointText, Spells, symbols_of}
-use Rattle.log_reader.specs.Readings.{place_at}
-use Rattle.log_reader.specs.Steps.{timestamp_of}
+use Rattle.log_reader.specs.LogTexts.{tokens_of}
+use Rattle.log_reader.specs.ValuesRead.{timestamp_of}
 use Rattle.log_reader.specs.Symbols.{Written}
 use Rattle.log_reader.specs.ValuesRead.{value_at}
 
@@ -67,10 +66,6 @@ log_value sig limits earliest (suc room) (p ∷ points) = do
   point ← point_value sig limits p
   later ← (if nat_lt point.ts earliest then None else log_value sig limits point.ts room points)
   Some (point ∷ later)
-
--- the tokens of bytes that are all there are
-abbrev pub tokens_of : Limits → List ℕ → Bool → Tokens
-tokens_of limits bytes ended = tokens (place_at limits bytes ended 0)
 
 -- the text is not too long, and whole tokens that spell a log which stands for these time-points
 pub record IsValue (sig : List PredOf) (limits : Limits) (bytes : List ℕ) (points : List TimePoint) : Type 0 where

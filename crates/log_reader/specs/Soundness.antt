@@ -1,10 +1,15 @@
 -- What a reader keeps true of the bytes, the offset and what was read before it.
-use Rattle.std.specs.Prelude.{◌≡◌, ◌≤◌, ℕ, List, [], length, take, Bool, false}
+use Rattle.std.specs.Prelude.{◌≡◌, ◌≤◌, ◌+◌, ℕ, List, [], length, take, Bool, true, false, Result, Ok, Err}
 use Rattle.mfotl_sig.specs.Preds.{PredOf}
+use Rattle.log_reader.specs.declared.fault.LogFault.{LogFault}
+use Rattle.log_reader.specs.declared.fault.LogFault.TheVariants.{Memory}
 use Rattle.log_reader.specs.declared.limits.Limits.{Limits}
+use Rattle.log_reader.specs.declared.next.Next.{Next}
+use Rattle.log_reader.specs.declared.next.Next.TheVariants.{Point}
 use Rattle.log_reader.specs.Cursors.{IsLater, IsCounted, given_of}
 use Rattle.log_reader.specs.Partials.{Partial}
-use Rattle.log_reader.specs.Progress.{skipped}
+use Rattle.log_reader.specs.Progress.{Progress, skipped}
+use Rattle.log_reader.specs.Readers.{Reader, progress}
 use Rattle.log_reader.specs.Readings.{reading, run_from, nothing_left, place_at}
 
 -- what remains computes the rest of the reading
@@ -20,3 +25,14 @@ pub record IsSound (sig : List PredOf) (limits : Limits) (bytes : List ℕ) (is_
   pub counted : IsCounted p
   pub unfed : is_fed ≡ false → bytes ≡ []
   pub remains : (later : Bool) → IsLater is_ended later → Remains sig limits bytes later (given_of p) at p
+
+-- the progress of a reader that keeps all bytes
+abbrev pub told : Reader → Progress
+told r = progress r r.kept.bytes
+
+-- a time-point that was given counts; an answer without one changes nothing
+abbrev pub MovesOn : Progress → Progress → Result Next LogFault → Type 0
+MovesOn old new (Ok (Point point)) = new ≡ record old { given = old.given + 1 }
+MovesOn old new (Ok next) = new ≡ old
+MovesOn old new (Err Memory) = new.is_broken ≡ true
+MovesOn old new (Err fault) = new ≡ old

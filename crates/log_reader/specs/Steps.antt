@@ -1,9 +1,8 @@
 -- One token further: what has been read then, or the fault that the token shows. A token that the
 -- grammar can't go on with is a syntax fault; the rules of each other one are those of its kind.
-use Rattle.std.specs.Prelude.{ℕ, ◌+◌, ◌^◌, List, [], ◌∷◌, ◌++◌, Option, Some, None, Result, Ok, Err, nat_lt, if◌then◌else◌}
+use Rattle.std.specs.Prelude.{ℕ, ◌+◌, List, [], ◌∷◌, ◌++◌, Option, Some, None, Result, Ok, Err, nat_lt, if◌then◌else◌}
 use Rattle.std.specs.BTreeSet.{insert_key}
 use Rattle.mfotl_lex.specs.Lexemes.{Lexeme}
-use Rattle.mfotl_lex.specs.Numbers.{digits_value, at_most}
 use Rattle.mfotl_model.specs.Events.{event_cmp}
 use Rattle.mfotl_model.specs.declared.event.TimePoint.{TimePoint}
 use Rattle.mfotl_model.specs.declared.policy.Sort.{Sort}
@@ -14,10 +13,10 @@ use Rattle.log_reader.specs.declared.limits.Limits.{Limits}
 use Rattle.log_reader.specs.declared.stage.Stage.{Stage}
 use Rattle.log_reader.specs.declared.stage.Stage.TheVariants.{Between, AfterAt, AfterStamp, AfterName, AfterOpen, AfterValue, AfterComma, AfterClose}
 use Rattle.log_reader.specs.Partials.{Partial, point_of, finished}
-use Rattle.log_reader.specs.Given.{◌>>=◌}
+use Rattle.mfotl_lex.specs.FirstFault.{◌>>=◌}
 use Rattle.log_reader.specs.Stages.{goes, completes}
 use Rattle.log_reader.specs.Symbols.{Written, symbol, content, written}
-use Rattle.log_reader.specs.ValuesRead.{value_at}
+use Rattle.log_reader.specs.ValuesRead.{value_at, timestamp_of}
 
 -- behind the `@` of a time-point
 abbrev pub opened : Limits → ℕ → Partial → Result Partial LogFault
@@ -25,10 +24,6 @@ opened limits at p =
     if nat_lt p.points limits.points
     then Ok (record p { stage = AfterAt; points = p.points + 1; events = []; groups = 0 })
     else Err (TooManyPoints at)
-
--- the number that digits write, if it is no greater than a timestamp may be
-abbrev pub timestamp_of : List ℕ → Option ℕ
-timestamp_of digits = at_most (2 ^ 62) (digits_value 0 digits)
 
 -- behind a timestamp, if it is in range
 abbrev pub stamped : ℕ → Partial → Option ℕ → Result Partial LogFault

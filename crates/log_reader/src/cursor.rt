@@ -1,19 +1,20 @@
 ghost use Rattle.std.specs.Prelude.{◌≡◌, ◌≤◌, ◌<◌, ◌^◌, length};
+ghost use Rattle.mfotl_lex.specs.Lexemes.{lexeme};
 ghost use Rattle.log_reader.specs.Partials.{blank};
-ghost use Rattle.log_reader.specs.Cursors.{Turns, Advances, IsCounted, place_in};
+ghost use Rattle.log_reader.specs.Cursors.{StepsOver, TakesToken, Advances, IsCounted, place_in};
 
 use crate::fault::LogFault;
 use crate::grammar::read_on;
 use crate::limits::Limits;
 use crate::partial::Partial;
-use mfotl_lex::{Lexer, Mode};
+use mfotl_lex::{Lexer, Mode, Token};
 use mfotl_model::TimePoint;
 use mfotl_sig::Signature;
 use std::alloc::Global;
 
 /// What a token did.
 #[derive(Drop)]
-pub enum Turn {
+pub enum TokenStep {
     /// It was taken.
     Took,
     /// It completed a time-point.
@@ -48,6 +49,27 @@ impl<'a> Cursor<'a> {
         }
     }
 
+    // Takes a token, behind which this offset is.
+    fn take(
+        &mut self,
+        alloc: Global,
+        sig: &'a Signature,
+        limits: &Limits,
+        token: &Token,
+        behind: usize,
+    ) -> Result<TokenStep, LogFault>
+        ensures { StepsOver sig.now limits.now (lexeme token.now) behind self.old.at
+            self.old.partial result self.new.at self.new.partial }
+    {
+        if self.partial.is_completed_by(token) {
+            self.at = read_on(token.kind, self.at, behind);
+            return Ok(TokenStep::Completed(self.partial.finish(alloc)));
+        }
+        self.partial.step(alloc, sig, limits, token)?;
+        self.at = behind;
+        Ok(TokenStep::Took)
+    }
+
     fn take_token(
         &mut self,
         alloc: Global,
@@ -55,28 +77,17 @@ impl<'a> Cursor<'a> {
         ended: bool,
         sig: &'a Signature,
         limits: &Limits,
-    ) -> Result<Turn, LogFault>
+    ) -> Result<TokenStep, LogFault>
         requires within { self.old.at ≤ length looked.now }
         requires counted { IsCounted self.old.partial }
-        ensures { Turns sig.now limits.now looked.now ended self.old.at self.old.partial result
+        ensures { TakesToken sig.now limits.now looked.now ended self.old.at self.old.partial result
             self.new.at self.new.partial }
     {
         let mut lexer = lexer_at(looked, self.at, ended);
-        let token = match lexer.next() {
-            Ok(Some(token)) => token,
-            Ok(None) => return Ok(Turn::Empty),
-            Err(fault) => return Err(LogFault::Lex(fault)),
-        };
-        if self.partial.is_completed_by(&token) {
-            self.at = read_on(token.kind, self.at, lexer.offset());
-            return Ok(Turn::Completed(self.partial.finish(alloc)));
-        }
-        match self.partial.step(alloc, sig, limits, &token) {
-            Ok(()) => {
-                self.at = lexer.offset();
-                Ok(Turn::Took)
-            }
-            Err(fault) => Err(fault),
+        match lexer.next() {
+            Ok(Some(token)) => self.take(alloc, sig, limits, &token, lexer.offset()),
+            Ok(None) => Ok(TokenStep::Empty),
+            Err(fault) => Err(LogFault::Lex(fault)),
         }
     }
 
@@ -97,9 +108,9 @@ impl<'a> Cursor<'a> {
     {
         loop {
             match self.take_token(alloc, looked, ended, sig, limits) {
-                Ok(Turn::Took) => {}
-                Ok(Turn::Completed(point)) => return Ok(Some(point)),
-                Ok(Turn::Empty) => return Ok(None),
+                Ok(TokenStep::Took) => {}
+                Ok(TokenStep::Completed(point)) => return Ok(Some(point)),
+                Ok(TokenStep::Empty) => return Ok(None),
                 Err(fault) => return Err(fault),
             }
         }

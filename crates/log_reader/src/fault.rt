@@ -7,7 +7,7 @@ use std::fmt;
 use thiserror::Error;
 
 /// The first fault of a log. Offsets count bytes from the start of the log.
-#[derive(Clone, Copy, Debug, PartialEq, Eq, Error)]
+#[derive(Clone, Copy, Debug, Error)]
 pub enum LogFault {
     /// Bytes that are no token.
     Lex(LexFault),

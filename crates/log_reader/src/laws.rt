@@ -1,6 +1,7 @@
 //! What holds of every log. Each law is a function that does nothing: its clause is the law.
 
-ghost use Rattle.log_reader.specs.Laws.{ReadIsSpelled, SpelledIsRead, OneAnswer, ExactSyntax, ExactFaults};
+ghost use Rattle.log_reader.specs.Laws.{ReadIsSpelled, SpelledIsRead, OneAnswer, ExactSyntax, ExactFaults, PointsAreCompleted};
+ghost use Rattle.log_reader.specs.WorkedTexts.{WorkedValues, WorkedFaults, WorkedFronts};
 
 /// A log that is read to its end spells its time-points, and keeps the rules.
 pub fn read_is_spelled()
@@ -17,12 +18,24 @@ pub fn one_answer()
     ensures { OneAnswer }
 {}
 
+/// The time-points before a fault are those of the longest front that is completed.
+pub fn points_are_completed()
+    ensures { PointsAreCompleted }
+{}
+
 /// `Syntax` is shown exactly by the first token that ends viability, or by the input's end.
 pub fn exact_syntax()
     ensures { ExactSyntax }
 {}
 
-/// Each fault comes exactly where a token, the bytes behind the tokens or their end show it.
+/// Each fault comes exactly where a token, the bytes behind the tokens or their end are the first to show it.
 pub fn exact_faults()
     ensures { ExactFaults }
+{}
+
+/// Logs worked out by hand, and what is read of them.
+pub fn worked_texts()
+    ensures values { WorkedValues }
+    ensures faults { WorkedFaults }
+    ensures fronts { WorkedFronts }
 {}

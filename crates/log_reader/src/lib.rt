@@ -5,7 +5,7 @@
 mod cursor;
 mod fault;
 mod grammar;
-mod laws;
+pub mod laws;
 mod limits;
 mod next;
 mod partial;
@@ -14,10 +14,6 @@ mod stage;
 mod values;
 
 pub use fault::LogFault;
-pub use laws::{exact_faults, exact_syntax, one_answer, read_is_spelled, spelled_is_read};
 pub use limits::Limits;
 pub use next::Next;
 pub use reader::LogReader;
-
-#[cfg(test)]
-mod tests;

@@ -1,8 +1,18 @@
-ghost use Rattle.std.specs.Prelude.{◌≡◌, ◌^◌, ◌-◌, ◌&&◌, not, take};
+ghost use Rattle.std.specs.Prelude.{◌≡◌, ◌&&◌, not, take};
+ghost use Rattle.log_reader.specs.Limits.{byte_limit, point_limit, event_limit};
 ghost use Rattle.log_reader.specs.Readings.{is_long};
 
+/// The greatest timestamp.
+pub(crate) const LAST_TIMESTAMP: u128 = 1 << 62;
+
+const BYTE_LIMIT: u64 = 1 << 40;
+
+const POINT_LIMIT: u32 = u32::MAX;
+
+const EVENT_LIMIT: u32 = 65_536;
+
 /// What a log may have at most.
-#[derive(Clone, Copy, Debug, PartialEq, Eq)]
+#[derive(Clone, Copy)]
 pub struct Limits {
     pub bytes: u64,
     /// Time-points.
@@ -14,14 +24,14 @@ pub struct Limits {
 impl Limits {
     /// The limits of the monitor.
     pub fn standard() -> Self
-        ensures bytes { result.bytes ≡ 2 ^ 40 }
-        ensures points { result.points ≡ 2 ^ 32 - 1 }
-        ensures events { result.events ≡ 65536 }
+        ensures bytes { result.bytes ≡ byte_limit }
+        ensures points { result.points ≡ point_limit }
+        ensures events { result.events ≡ event_limit }
     {
         Limits {
-            bytes: 1 << 40,
-            points: u32::MAX,
-            events: 65_536,
+            bytes: BYTE_LIMIT,
+            points: POINT_LIMIT,
+            events: EVENT_LIMIT,
         }
     }
 

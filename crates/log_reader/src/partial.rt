@@ -1,4 +1,4 @@
-ghost use Rattle.std.specs.Prelude.{◌≡◌, ◌^◌, ◌<◌, ◌≤◌, OnErr, Ok, Err, IsTrue};
+ghost use Rattle.std.specs.Prelude.{◌≡◌, ◌++◌, ◌∷◌, [], OnOk, Ok};
 ghost use Rattle.mfotl_lex.specs.Lexemes.{lexeme};
 ghost use Rattle.log_reader.specs.Given.{Moves};
 ghost use Rattle.log_reader.specs.Stages.{completes};
@@ -14,7 +14,7 @@ use crate::values::{timestamp_of, value_at};
 use mfotl_lex::Token;
 use mfotl_model::{Db, Event, Row, Sort, TimePoint, Value};
 use mfotl_sig::Signature;
-use std::alloc::Global;
+use std::alloc::{AllocError, Global};
 use std::marker::Model;
 use std::mem;
 
@@ -28,7 +28,7 @@ pub struct Partial<'a> {
     groups: u32,
     pred: u32,
     sorts: &'a [Sort],
-    args: Vec<Value>,
+    args: Row,
     due: &'a [Sort],
 }
 
@@ -45,7 +45,7 @@ impl<'a> Model for Partial<'a> {
       groups = p.groups;
       pred = p.pred;
       sorts = p.sorts.now;
-      args = p.args.items;
+      args = p.args;
       due = p.due.now;
     } };
 }
@@ -55,7 +55,8 @@ impl<'a> Partial<'a> {
     ghost use Rattle.log_reader.specs.Progress.{answer_of};
     ghost use Rattle.log_reader.specs.Readings.{nothing_left};
     ghost use Rattle.log_reader.specs.Cursors.{behind_answer};
-    ghost use Rattle.log_reader.specs.Steps.{opened, stamped, naming, grouped, valued, closed, timestamp_of, step};
+    ghost use Rattle.log_reader.specs.Steps.{opened, stamped, naming, grouped, valued, closed, step};
+    ghost use Rattle.log_reader.specs.ValuesRead.{timestamp_of};
 
     pub fn new(alloc: Global) -> Self
         ensures { result ≡ blank }
@@ -68,7 +69,7 @@ impl<'a> Partial<'a> {
             groups: 0,
             pred: 0,
             sorts: &[],
-            args: Vec::new(alloc),
+            args: Row::empty(),
             due: &[],
         }
     }
@@ -152,7 +153,7 @@ impl<'a> Partial<'a> {
             [] => Err(LogFault::WrongArity(at)),
             [sort, due @ ..] => {
                 let value = value_at(alloc, *sort, at, token.kind, token.content())?;
-                self.args.push(value)?;
+                self.push(alloc, value)?;
                 self.stage = Stage::AfterValue;
                 self.due = due;
                 Ok(())
@@ -160,13 +161,20 @@ impl<'a> Partial<'a> {
         }
     }
 
-    fn end_group(&mut self, alloc: Global, at: u64) -> Result<(), LogFault>
+    fn push(&mut self, alloc: Global, value: Value) -> Result<(), AllocError>
+        ensures { OnOk result (self.new ≡ record self.old { args = self.old.args ++ value ∷ [] }) }
+    {
+        self.args = mem::replace(&mut self.args, Row::empty()).push(alloc, value)?;
+        Ok(())
+    }
+
+    fn end_group(&mut self, at: u64) -> Result<(), LogFault>
         ensures { Moves self.old self.new result (closed at self.old self.old.due) }
     {
         if !self.due.is_empty() {
             return Err(LogFault::WrongArity(at));
         }
-        let args = Row::new(mem::replace(&mut self.args, Vec::new(alloc)));
+        let args = mem::replace(&mut self.args, Row::empty());
         self.events.insert(Event {
             pred: self.pred,
             args,
@@ -203,7 +211,7 @@ impl<'a> Partial<'a> {
             Some(Stage::AfterOpen) => self.begin_group(limits, at),
             Some(Stage::AfterValue) => self.take_value(alloc, token),
             Some(Stage::AfterComma) => self.separate(),
-            Some(Stage::AfterClose) => self.end_group(alloc, at),
+            Some(Stage::AfterClose) => self.end_group(at),
             Some(Stage::Between) => self.leave(alloc),
         }
     }

@@ -1,4 +1,4 @@
-ghost use Rattle.std.specs.Prelude.{◌≡◌, ◌≢◌, ◌≤◌, false, true, Ok, OnOk, OnErr, IfErr};
+ghost use Rattle.std.specs.Prelude.{◌≡◌, ◌≢◌, ◌≤◌, ◌++◌, length, false, true, Ok, OnOk, OnErr, IfErr};
 ghost use Rattle.log_reader.specs.declared.fault.LogFault.TheVariants.{Memory};
 ghost use Rattle.log_reader.specs.declared.next.Next.TheVariants.{End};
 ghost use Rattle.log_reader.specs.Given.{Gives};
@@ -28,20 +28,20 @@ pub struct LogReader<'a> {
 
 impl<'a> Model for LogReader<'a> {
     ghost use Rattle.std.specs.Prelude.{◌≡◌, false};
-    ghost use Rattle.log_reader.specs.Progress.{Progress};
+    ghost use Rattle.log_reader.specs.Readers.{Reader};
     ghost use Rattle.log_reader.specs.Cursors.{given_of};
     ghost use Rattle.log_reader.specs.Soundness.{IsSound};
 
-    ghost Value = { Progress };
+    ghost Value = { Reader };
 
     ghost view = { λ r. record {
       sig = r.sig.now;
       limits = r.limits;
-      bytes = r.bytes.items;
       is_fed = r.is_fed;
       is_ended = r.is_ended;
       given = given_of r.cursor.partial;
       is_broken = r.is_broken;
+      kept = record { bytes = r.bytes.items; at = r.cursor.at; partial = r.cursor.partial };
     } };
 
     ghost invariant = { λ r. r.is_broken ≡ false →
@@ -49,11 +49,14 @@ impl<'a> Model for LogReader<'a> {
 }
 
 impl<'a> LogReader<'a> {
-    ghost use Rattle.log_reader.specs.Progress.{Progress, start, due, Proceeds};
+    ghost use Rattle.log_reader.specs.Answers.{GivesPoints};
+    ghost use Rattle.log_reader.specs.Progress.{start, read, due};
+    ghost use Rattle.log_reader.specs.Readers.{Reads, ForEach, Proceeds};
+    ghost use Rattle.log_reader.specs.Soundness.{told, MovesOn};
 
     /// A reader of a log over these predicates. It takes no memory.
     pub fn new(alloc: Global, sig: &'a Signature, limits: Limits) -> Self
-        ensures { result ≡ start sig.now limits }
+        ensures { Reads result (start sig.now limits) }
     {
         LogReader {
             sig,
@@ -89,7 +92,7 @@ impl<'a> LogReader<'a> {
 
     /// Says that the bytes fed are all.
     pub fn finish(&mut self)
-        ensures { self.new ≡ record self.old { is_ended = true } }
+        ensures { ForEach self.old (λ p. Reads self.new (record p { is_ended = true })) }
     {
         self.is_ended = true;
     }
@@ -99,7 +102,8 @@ impl<'a> LogReader<'a> {
         requires once { self.old.is_fed ≡ false }
         requires open { self.old.is_ended ≡ false }
         requires whole { self.old.is_broken ≡ false }
-        ensures ok { OnOk result (self.new ≡ record self.old { bytes = piece.now; is_fed = true }) }
+        ensures ok { OnOk result (ForEach self.old (λ p.
+            Reads self.new (record p { bytes = p.bytes ++ piece.now; is_fed = true }))) }
         ensures err { OnErr result (self.new ≡ self.old) }
     {
         let bytes = Vec::from_slice(alloc, piece)?;
@@ -112,7 +116,8 @@ impl<'a> LogReader<'a> {
         requires once { self.old.is_fed ≡ false }
         requires open { self.old.is_ended ≡ false }
         requires whole { self.old.is_broken ≡ false }
-        ensures { self.new ≡ record self.old { bytes = bytes.items; is_fed = true } }
+        ensures { ForEach self.old (λ p.
+            Reads self.new (record p { bytes = p.bytes ++ bytes.items; is_fed = true })) }
     {
         self.bytes = bytes;
         self.is_fed = true;
@@ -123,22 +128,24 @@ impl<'a> LogReader<'a> {
     /// The next time-point, or the first fault, which is answered again at each later call.
     pub fn next(&mut self, alloc: Global) -> Result<Next, LogFault>
         requires { self.old.is_broken ≡ false }
-        ensures answer { Gives (λ next. next) result (due self.old) }
-        ensures after { Proceeds self.old self.new result }
+        ensures answer { ForEach self.old (λ p. Gives (λ next. next) result (due p)) }
+        ensures after { ForEach self.old (λ p. Proceeds p self.new result) }
         ensures few { OnOk result (self.new.given ≤ self.new.limits.points) }
-        ensures value { result ≡ Ok End → IsValue self.old.sig self.old.limits self.old.bytes
-            (accepted self.old.sig self.old.limits self.old.bytes).points }
-        ensures shown { IfErr result (λ fault. fault ≢ Memory → IsShown self.old.sig
-            self.old.limits self.old.bytes self.old.is_ended fault) }
+        ensures value { result ≡ Ok End → ForEach self.old (λ p.
+            IsValue p.sig p.limits p.bytes (accepted p.sig p.limits p.bytes).points) }
+        ensures points { ForEach self.old (λ p. GivesPoints p result) }
+        ensures shown { IfErr result (λ fault. fault ≢ Memory → ForEach self.old (λ p.
+            IsShown p.sig p.limits p.bytes p.is_ended fault)) }
     {
         self.read_point(alloc)
     }
 
     fn read_point(&mut self, alloc: Global) -> Result<Next, LogFault>
         requires { self.old.is_broken ≡ false }
-        ensures answer { Gives (λ next. next) result (due self.old) }
-        ensures after { Proceeds self.old self.new result }
+        ensures answer { Gives (λ next. next) result (due (told self.old)) }
+        ensures after { MovesOn (told self.old) (told self.new) result }
         ensures few { OnOk result (self.new.given ≤ self.new.limits.points) }
+        ensures given { self.old.given ≤ length (read (told self.old)).points }
     {
         let looked = self.limits.looked_at(&self.bytes);
         let ended = self.limits.is_end_told(&self.bytes, self.is_ended);

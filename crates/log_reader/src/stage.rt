@@ -1,5 +1,5 @@
 /// How far a log has been read: what stands directly before.
-#[derive(Clone, Copy, Debug, PartialEq, Eq)]
+#[derive(Clone, Copy)]
 pub enum Stage {
     /// Nothing of a time-point: the beginning of the log, or a `;`.
     Between,

@@ -1,11 +1,11 @@
 ghost use Rattle.std.specs.Prelude.{◌≡◌, Ok};
 ghost use Rattle.log_reader.specs.Given.{Gives};
-ghost use Rattle.log_reader.specs.Steps.{timestamp_of};
 ghost use Rattle.log_reader.specs.Symbols.{written_of};
-ghost use Rattle.log_reader.specs.ValuesRead.{is_number, integer_at, value_at};
+ghost use Rattle.log_reader.specs.ValuesRead.{is_number, integer_at, value_at, timestamp_of};
 
 use crate::fault::LogFault;
 use crate::grammar::is_digits;
+use crate::limits::LAST_TIMESTAMP;
 use mfotl_lex::{Kind, read_integer};
 use mfotl_model::{Sort, Text, Value};
 use std::alloc::Global;
@@ -56,8 +56,6 @@ pub fn value_at(
     }
 }
 
-const LAST_TIME: u128 = 1 << 62;
-
 /// The number that digits write, if it is no greater than a timestamp may be.
 #[tactic(auto, unfolding(mfotl_lex::specs::Numbers::digits_value))]
 pub fn timestamp_of(digits: &[u8]) -> Option<u64>
@@ -66,7 +64,7 @@ pub fn timestamp_of(digits: &[u8]) -> Option<u64>
     let mut time: u128 = 0;
     for b in digits {
         time = 10 * time + u128::from(b.saturating_sub(b'0'));
-        if time > LAST_TIME {
+        if time > LAST_TIMESTAMP {
             return None;
         }
     }

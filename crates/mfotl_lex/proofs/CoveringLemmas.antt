@@ -1,5 +1,6 @@
 -- The tokens and what lies between them are the bytes.
-use Rattle.std.proofs.Common.{◌≡◌, ℕ, zero, suc, ◌+◌, ◌<◌, Bool, true, false, List, [], ◌∷◌, ◌++◌, length, take, drop, Option, Some, None, Result, Ok, Err, refl, sym, ap, subst, ◌∙◌, inl, inr, arith}
+use Rattle.std.proofs.Common.{◌≡◌, ℕ, zero, suc, ◌+◌, ◌<◌, Bool, true, false, List, [], ◌∷◌, ◌++◌, length, take, drop}
+use Rattle.std.proofs.Common.{Option, Some, None, Result, Ok, Err, refl, sym, ap, subst, ◌∙◌, inl, inr, arith}
 use Rattle.std.specs.Prelude.{◌↔◌}
 use Rattle.std.proofs.lemmas.Bool.{cases_lt}
 use Rattle.std.proofs.lemmas.List.{append-nil, take-append-drop, length-drop, length-take-le, nil_from_length}
@@ -13,14 +14,18 @@ use Rattle.mfotl_lex.specs.declared.scan.Scan.TheVariants.{Unshown, Takes, Fails
 use Rattle.mfotl_lex.specs.Blanks.{blank_len}
 use Rattle.mfotl_lex.specs.Scans.{plain_scan, log_scan, scan, IsWithin}
 use Rattle.mfotl_lex.specs.Places.{Place}
-use Rattle.mfotl_lex.specs.Lexemes.{seen, Lexeme, Tokens, past_blanks, token_at, place_after, next_token, after, tokens}
+use Rattle.mfotl_lex.specs.Lexemes.{seen, Lexeme, Tokens, past_blanks, token_at, place_after, next_token, after}
+use Rattle.mfotl_lex.specs.Lexemes.{tokens}
 use Rattle.mfotl_lex.specs.Growing.{stopped}
 use Rattle.mfotl_lex.specs.Covering.{AreBlanks, AreSpread, TokensAreTheBytes}
 use Rattle.mfotl_lex.proofs.BlankLoop.{blanks_within}
-use Rattle.mfotl_lex.proofs.BlankLemmas.{blank_len-append, blank_len-drop, blank_len-take, blanks_are_whole, blank_nil, no_hash}
+use Rattle.mfotl_lex.proofs.BlankLemmas.{blank_len-append, blank_len-drop, blank_len-take, blanks_are_whole}
+use Rattle.mfotl_lex.proofs.BlankLemmas.{blank_nil, no_hash}
 use Rattle.mfotl_lex.proofs.ScanLemmas.{scan_within}
 use Rattle.mfotl_lex.proofs.Growth.{IsShown, shown_at_end}
-use Rattle.mfotl_lex.proofs.Sequence.{scan_at, next_is, after_is, after_shorter, after_ended, tokens_token, tokens_none, tokens_fault, unshown, stopped_at_token, stopped_at_none, stopped_at_fault}
+use Rattle.mfotl_lex.proofs.Sequence.{scan_at, next_is, after_is, after_shorter, after_ended, tokens_token}
+use Rattle.mfotl_lex.proofs.Sequence.{tokens_none, tokens_fault, unshown, stopped_at_token, stopped_at_none}
+use Rattle.mfotl_lex.proofs.Sequence.{stopped_at_fault}
 
 -- ---- the blanks at the front
 

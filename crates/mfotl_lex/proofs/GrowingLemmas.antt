@@ -1,5 +1,6 @@
 -- A place reads on with more bytes.
-use Rattle.std.proofs.Common.{◌≡◌, ℕ, zero, suc, ◌+◌, ◌<◌, Bool, false, List, ◌∷◌, ◌++◌, length, drop, Option, Some, None, Result, Ok, Err, refl, sym, ap, subst, ◌∙◌, arith, add_assoc}
+use Rattle.std.proofs.Common.{◌≡◌, ℕ, zero, suc, ◌+◌, ◌<◌, Bool, false, List, ◌∷◌, ◌++◌, length, drop, Option, Some}
+use Rattle.std.proofs.Common.{None, Result, Ok, Err, refl, sym, ap, subst, ◌∙◌, arith, add_assoc}
 use Rattle.std.proofs.lemmas.List.{take-append-le, drop-append-le, drop-drop}
 use Rattle.mfotl_lex.specs.declared.fault.LexFault.{LexFault}
 use Rattle.mfotl_lex.specs.declared.kind.Mode.{Mode}
@@ -8,13 +9,16 @@ use Rattle.mfotl_lex.specs.declared.scan.Scan.TheVariants.{Unshown, Takes, Fails
 use Rattle.mfotl_lex.specs.Blanks.{blank_len}
 use Rattle.mfotl_lex.specs.Scans.{scan, IsWithin}
 use Rattle.mfotl_lex.specs.Places.{Place}
-use Rattle.mfotl_lex.specs.Lexemes.{Lexeme, Tokens, past_blanks, token_at, place_after, next_token, after, followed, tokens}
+use Rattle.mfotl_lex.specs.Lexemes.{Lexeme, Tokens, past_blanks, token_at, place_after, next_token, after, followed}
+use Rattle.mfotl_lex.specs.Lexemes.{tokens}
 use Rattle.mfotl_lex.specs.Growing.{grown, ReadsOn, stopped, joined_at, joined, MoreBytesChangeNothing}
 use Rattle.mfotl_lex.proofs.BlankLoop.{blanks_within}
 use Rattle.mfotl_lex.proofs.BlankLemmas.{blank_len-append, blank_len-drop}
 use Rattle.mfotl_lex.proofs.ScanLemmas.{scan_within}
 use Rattle.mfotl_lex.proofs.Growth.{IsShown, keeps_shown, scan_keeps, no_blank_before}
-use Rattle.mfotl_lex.proofs.Sequence.{scan_at, next_is, after_is, after_shorter, after_ended, nothing_after, tokens_step, tokens_token, tokens_none, tokens_fault, stopped_at_token, stopped_at_none}
+use Rattle.mfotl_lex.proofs.Sequence.{scan_at, next_is, after_is, after_shorter, after_ended, nothing_after}
+use Rattle.mfotl_lex.proofs.Sequence.{tokens_step, tokens_token, tokens_none, tokens_fault, stopped_at_token}
+use Rattle.mfotl_lex.proofs.Sequence.{stopped_at_none}
 
 abbrev open_at : Mode → ℕ → List ℕ → Place
 open_at mode at bytes = record { mode = mode; at = at; rest = bytes; ended = false }

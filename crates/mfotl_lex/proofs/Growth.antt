@@ -1,5 +1,6 @@
 -- More bytes never change what was scanned.
-use Rattle.std.proofs.Common.{◌≡◌, ℕ, suc, ◌+◌, ◌≤◌, ◌<◌, Bool, true, false, cond, List, [], ◌∷◌, ◌++◌, length, take, drop, refl, ap, subst, ◌∙◌, inl, inr, arith, nat_lt, Option, Some, None}
+use Rattle.std.proofs.Common.{◌≡◌, ℕ, suc, ◌+◌, ◌≤◌, ◌<◌, Bool, true, false, cond, List, [], ◌∷◌, ◌++◌, length, take}
+use Rattle.std.proofs.Common.{drop, refl, ap, subst, ◌∙◌, inl, inr, arith, nat_lt, Option, Some, None}
 use Rattle.std.specs.Prelude.{◌==◌}
 use Rattle.std.specs.Char.{is_ascii_digit}
 use Rattle.std.specs.List.{prefix_len}
@@ -13,10 +14,12 @@ use Rattle.mfotl_lex.specs.declared.kind.Mode.{Mode}
 use Rattle.mfotl_lex.specs.declared.kind.Mode.TheVariants.{Plain, Log}
 use Rattle.mfotl_lex.specs.declared.scan.Scan.{Scan}
 use Rattle.mfotl_lex.specs.declared.scan.Scan.TheVariants.{Unshown, Takes, Fails}
-use Rattle.mfotl_lex.specs.Bytes.{quote, hash, minus, equals_sign, begins_plain_word, in_plain_word, in_log_word, in_text}
+use Rattle.mfotl_lex.specs.Bytes.{quote, hash, minus, equals_sign, begins_plain_word, in_plain_word, in_log_word}
+use Rattle.mfotl_lex.specs.Bytes.{in_text}
 use Rattle.mfotl_lex.specs.Blanks.{blank_len}
 use Rattle.mfotl_lex.specs.Numbers.{integer_value, is_int64}
-use Rattle.mfotl_lex.specs.Scans.{word_scan, number_scan, minus_scan, closed_text, text_end, text_scan, order_scan, plain_mark, log_mark, mark_scan, plain_scan, log_scan, scan}
+use Rattle.mfotl_lex.specs.Scans.{word_scan, number_scan, minus_scan, closed_text, text_end, text_scan, order_scan}
+use Rattle.mfotl_lex.specs.Scans.{plain_mark, log_mark, mark_scan, plain_scan, log_scan, scan}
 use Rattle.mfotl_lex.proofs.BlankLemmas.{no_space, blank_len-none}
 
 -- what was shown is shown later too

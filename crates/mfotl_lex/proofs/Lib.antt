@@ -8,3 +8,6 @@ pub mod Sequence
 pub mod GrowingLemmas
 pub mod CoveringLemmas
 pub mod ShorteningLemmas
+pub mod FirstFaultLaws
+pub mod TextLaws
+pub mod AllTokensLaws

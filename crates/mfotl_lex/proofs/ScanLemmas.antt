@@ -1,5 +1,6 @@
 -- What a scan gives lies within the bytes.
-use Rattle.std.proofs.Common.{◌≡◌, ℕ, suc, ◌+◌, ◌≤◌, ◌<◌, Bool, true, cond, ◌||◌, List, [], ◌∷◌, length, take, drop, Option, Some, None, sym, subst, arith, nat_lt}
+use Rattle.std.proofs.Common.{◌≡◌, ℕ, suc, ◌+◌, ◌≤◌, ◌<◌, Bool, true, cond, ◌||◌, List, [], ◌∷◌, length, take, drop}
+use Rattle.std.proofs.Common.{Option, Some, None, sym, subst, arith, nat_lt}
 use Rattle.std.specs.Prelude.{◌==◌}
 use Rattle.std.specs.Char.{is_ascii_digit}
 use Rattle.std.specs.List.{prefix_len}
@@ -10,14 +11,18 @@ use Rattle.std.proofs.lemmas.List.{length-take, length-drop}
 use Rattle.std.proofs.lemmas.List.Sums.{prefix_len-le-length}
 use Rattle.mfotl_lex.specs.declared.fault.LexFaultKind.TheVariants.{BadByte, OpenText, NumberRange, TextLong, BadUtf8}
 use Rattle.mfotl_lex.specs.declared.kind.Kind.{Kind}
-use Rattle.mfotl_lex.specs.declared.kind.Kind.TheVariants.{Word, Integer, Text, OpenParen, CloseParen, OpenBracket, CloseBracket, Comma, Colon, Dot, Question, Star, Equal, Less, LessEqual, Greater, GreaterEqual, At, Semicolon}
+use Rattle.mfotl_lex.specs.declared.kind.Kind.TheVariants.{Word, Integer, Text, OpenParen, CloseParen, OpenBracket}
+use Rattle.mfotl_lex.specs.declared.kind.Kind.TheVariants.{CloseBracket, Comma, Colon, Dot, Question, Star, Equal}
+use Rattle.mfotl_lex.specs.declared.kind.Kind.TheVariants.{Less, LessEqual, Greater, GreaterEqual, At, Semicolon}
 use Rattle.mfotl_lex.specs.declared.kind.Mode.{Mode}
 use Rattle.mfotl_lex.specs.declared.kind.Mode.TheVariants.{Plain, Log}
 use Rattle.mfotl_lex.specs.declared.scan.Scan.{Scan}
 use Rattle.mfotl_lex.specs.declared.scan.Scan.TheVariants.{Unshown, Takes, Fails}
-use Rattle.mfotl_lex.specs.Bytes.{quote, hash, minus, equals_sign, begins_plain_word, in_plain_word, in_log_word, in_text}
+use Rattle.mfotl_lex.specs.Bytes.{quote, hash, minus, equals_sign, begins_plain_word, in_plain_word, in_log_word}
+use Rattle.mfotl_lex.specs.Bytes.{in_text}
 use Rattle.mfotl_lex.specs.Numbers.{integer_value, is_int64}
-use Rattle.mfotl_lex.specs.Scans.{whole, word_scan, number_scan, minus_scan, closed_text, text_end, text_scan, order_scan, plain_mark, log_mark, mark_scan, plain_scan, log_scan, scan, IsWithin}
+use Rattle.mfotl_lex.specs.Scans.{whole, word_scan, number_scan, minus_scan, closed_text, text_end, text_scan}
+use Rattle.mfotl_lex.specs.Scans.{order_scan, plain_mark, log_mark, mark_scan, plain_scan, log_scan, scan, IsWithin}
 
 pub prefix_starts : (p : ℕ → Bool) (b : ℕ) (bytes : List ℕ) → p b ≡ true → 0 < prefix_len p (b ∷ bytes)
 prefix_starts p b bytes h = rw h (omega arith)

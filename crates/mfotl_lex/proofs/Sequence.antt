@@ -1,5 +1,6 @@
 -- The tokens one after another: any fuel that suffices gives the same.
-use Rattle.std.proofs.Common.{◌≡◌, ℕ, zero, suc, ◌≤◌, ◌<◌, [], ◌∷◌, length, take, subst, ◌+◌, add_assoc, add-zero, Option, Some, None, Result, Ok, Err, refl, sym, ap, ◌∙◌, arith}
+use Rattle.std.proofs.Common.{◌≡◌, ℕ, zero, suc, ◌≤◌, ◌<◌, [], ◌∷◌, length, take, subst, ◌+◌, add_assoc, add-zero}
+use Rattle.std.proofs.Common.{Option, Some, None, Result, Ok, Err, refl, sym, ap, ◌∙◌, arith}
 use Rattle.std.proofs.lemmas.List.{length-drop, drop-drop}
 use Rattle.mfotl_lex.specs.declared.fault.LexFault.{LexFault}
 use Rattle.std.specs.Prelude.{IsTrue}
@@ -9,8 +10,9 @@ use Rattle.mfotl_lex.specs.declared.scan.Scan.{Scan}
 use Rattle.mfotl_lex.specs.declared.scan.Scan.TheVariants.{Unshown, Takes, Fails}
 use Rattle.mfotl_lex.specs.Blanks.{blank_len}
 use Rattle.mfotl_lex.specs.Scans.{scan, IsWithin}
-use Rattle.mfotl_lex.specs.Places.{Place, MovesOn, moved}
-use Rattle.mfotl_lex.specs.Lexemes.{Lexeme, Tokens, past_blanks, token_at, place_after, next_token, after, followed, tokens_within, tokens}
+use Rattle.mfotl_lex.specs.Places.{Place, MovesOn, moved, in_mode, mode_behind}
+use Rattle.mfotl_lex.specs.Lexemes.{Lexeme, Tokens, past_blanks, token_at, place_after, ModesStay, next_token, after}
+use Rattle.mfotl_lex.specs.Lexemes.{followed, tokens_within, tokens}
 use Rattle.mfotl_lex.specs.Growing.{stop_or, stopped_within, stopped}
 use Rattle.mfotl_lex.proofs.BlankLoop.{blanks_within}
 use Rattle.mfotl_lex.proofs.ScanLemmas.{scan_within}
@@ -32,7 +34,7 @@ followed_same p q Unshown f g w le same = refl
 followed_same p q (Takes kind n) f g w le same =
     let shorter : length (moved q n).rest < length p.rest =
     omega (arith, w.0, w.1, length-drop n q.rest) in
-    rw (same (moved q n) shorter) refl
+    rw (same (in_mode (mode_behind q.mode kind) (moved q n)) shorter) refl
 followed_same p q (Fails fault n) f g w le same = refl
 
 stopped_same : (p q : Place) (s : Scan) (f g : Place → Place) → IsWithin q.rest s
@@ -44,7 +46,7 @@ stopped_same p q Unshown f g w le same = refl
 stopped_same p q (Takes kind n) f g w le same =
     let shorter : length (moved q n).rest < length p.rest =
     omega (arith, w.0, w.1, length-drop n q.rest) in
-    same (moved q n) shorter
+    same (in_mode (mode_behind q.mode kind) (moved q n)) shorter
 stopped_same p q (Fails fault n) f g w le same = refl
 
 -- ---- any fuel
@@ -133,6 +135,16 @@ same_end : (p : Place) (s : Scan) → (place_after p (past_blanks p) s).ended �
 same_end p Unshown = refl
 same_end p (Takes kind n) = refl
 same_end p (Fails fault n) = refl
+
+same_mode : (p : Place) (s : Scan) → (place_after p (past_blanks p) s).mode ≡ p.mode
+unfolding mode_behind
+same_mode p Unshown = refl
+same_mode p (Takes kind n) = refl
+same_mode p (Fails fault n) = refl
+
+-- no token changes the mode
+pub modes_stay : ModesStay
+modes_stay p = rw after_is (same_mode p (scan_at p))
 
 -- the end stays told or not
 pub after_ended : (p : Place) → (after p).ended ≡ p.ended

@@ -2,6 +2,7 @@
 use Rattle.std.specs.Prelude.{ℕ, Bool, ◌&&◌, ◌||◌, not, nat_lt, ◌==◌}
 use Rattle.std.specs.Char.{is_ascii_alphabetic, is_ascii_alphanumeric}
 
+-- `\n`, which ends a comment
 abbrev pub line_feed : ℕ
 line_feed = 10
 
@@ -13,9 +14,11 @@ quote = 34
 abbrev pub hash : ℕ
 hash = 35
 
+-- `-`
 abbrev pub minus : ℕ
 minus = 45
 
+-- `=`
 abbrev pub equals_sign : ℕ
 equals_sign = 61
 
@@ -23,9 +26,11 @@ equals_sign = 61
 abbrev pub is_space : ℕ → Bool
 is_space b = ((b == 32 || b == 9) || b == 13) || b == 10
 
+-- a letter or `_`
 abbrev pub begins_plain_word : ℕ → Bool
 begins_plain_word b = is_ascii_alphabetic b || b == 95
 
+-- a letter, a digit or `_`
 abbrev pub in_plain_word : ℕ → Bool
 in_plain_word b = is_ascii_alphanumeric b || b == 95
 

@@ -21,5 +21,6 @@ pub record AreTheBytes (p : Place) : Type 0 where
   pub spread : AreSpread p.ended p.at p.rest (tokens p).list (stopped p).rest
   pub whole : p.ended ≡ true → (tokens p).fault ≡ None → (stopped p).rest ≡ []
 
+-- so from any place on
 abbrev pub TokensAreTheBytes : Type 0
 TokensAreTheBytes = (p : Place) → AreTheBytes p

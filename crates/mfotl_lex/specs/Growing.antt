@@ -24,10 +24,12 @@ stop_or (Ok (Some t)) here further = further
 stop_or (Ok None) here further = here
 stop_or (Err fault) here further = here
 
+-- the same behind at most n tokens
 unfoldable pub stopped_within : ℕ → Place → Place
 stopped_within zero p = p
 stopped_within (suc n) p = stop_or (next_token p) (after p) (stopped_within n (after p))
 
+-- behind all tokens: each takes a byte
 unfoldable pub stopped : Place → Place
 stopped p = stopped_within (suc (length p.rest)) p
 
@@ -36,9 +38,11 @@ abbrev pub joined_at : Option LexFault → List Lexeme → Tokens → Tokens
 joined_at None list more = record { list = list ++ more.list; fault = more.fault }
 joined_at (Some fault) list more = record { list = list; fault = Some fault }
 
+-- the same of all that a place shows
 abbrev pub joined : Tokens → Tokens → Tokens
 joined front more = joined_at front.fault front.list more
 
+-- the place reads on so, and its tokens stay
 abbrev pub MoreBytesChangeNothing : Type 0
 MoreBytesChangeNothing = (p : Place) (more : List ℕ) (ended : Bool) → p.ended ≡ false →
     ReadsOn p more ended × (tokens (grown p more ended) ≡ joined (tokens p) (tokens (grown (stopped p) more ended)))

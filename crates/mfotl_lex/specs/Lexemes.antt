@@ -1,5 +1,5 @@
 -- The tokens of bytes, in order, up to the first fault.
-use Rattle.std.specs.Prelude.{ℕ, zero, suc, ◌+◌, List, [], ◌∷◌, length, take, Option, Some, None, Result, Ok, Err}
+use Rattle.std.specs.Prelude.{◌≡◌, ℕ, zero, suc, ◌+◌, List, [], ◌∷◌, length, take, Option, Some, None, Result, Ok, Err}
 use Rattle.mfotl_lex.specs.declared.fault.LexFault.{LexFault}
 use Rattle.mfotl_lex.specs.declared.kind.Kind.{Kind}
 use Rattle.mfotl_lex.specs.declared.scan.Scan.{Scan}
@@ -7,7 +7,7 @@ use Rattle.mfotl_lex.specs.declared.scan.Scan.TheVariants.{Unshown, Takes, Fails
 use Rattle.mfotl_lex.specs.declared.token.Token.{Token}
 use Rattle.mfotl_lex.specs.Blanks.{blank_len}
 use Rattle.mfotl_lex.specs.Scans.{scan}
-use Rattle.mfotl_lex.specs.Places.{Place, moved}
+use Rattle.mfotl_lex.specs.Places.{Place, moved, in_mode, mode_behind}
 
 -- a token, without where it lies in memory
 pub record Lexeme : Type 0 where
@@ -41,12 +41,16 @@ next_token p = token_at (past_blanks p) (scan p.mode p.ended (past_blanks p).res
 -- behind what was scanned, where the place behind the blanks is q
 abbrev pub place_after : Place → Place → Scan → Place
 place_after p q Unshown = q
-place_after p q (Takes kind n) = moved q n
+place_after p q (Takes kind n) = in_mode (mode_behind q.mode kind) (moved q n)
 place_after p q (Fails fault n) = p
 
 -- behind the next token; behind the blanks where none is shown; unchanged by a fault
 unfoldable pub after : Place → Place
 after p = place_after p (past_blanks p) (scan p.mode p.ended (past_blanks p).rest)
+
+-- no token changes the mode
+abbrev pub ModesStay : Type 0
+ModesStay = (p : Place) → (after p).mode ≡ p.mode
 
 -- whole tokens in order, and at most one fault behind them
 pub record Tokens : Type 0 where

@@ -1,3 +1,4 @@
+pub mod Limits
 pub mod Bytes
 pub mod Numbers
 pub mod Blanks
@@ -9,3 +10,6 @@ pub mod Growing
 pub mod Shortening
 pub mod Covering
 pub mod FaultTexts
+pub mod FirstFault
+pub mod Texts
+pub mod AllTokens

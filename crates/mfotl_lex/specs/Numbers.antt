@@ -1,6 +1,8 @@
 -- The numbers that Integers write.
-use Rattle.std.specs.Prelude.{ℕ, ◌+◌, ◌-◌, ◌*◌, ◌^◌, Bool, List, [], ◌∷◌, Option, Some, None, ℤ, pos, negsuc, neg_ℤ, nat_lt, nat_le, ◌==◌, if◌then◌else◌}
+use Rattle.std.specs.Prelude.{ℕ, ◌+◌, ◌-◌, ◌*◌, Bool, List, [], ◌∷◌, Option, Some, None, ℤ, pos, negsuc, neg_ℤ}
+use Rattle.std.specs.Prelude.{nat_lt, nat_le, ◌==◌, if◌then◌else◌}
 use Rattle.mfotl_lex.specs.Bytes.{minus}
+use Rattle.mfotl_lex.specs.Limits.{max_magnitude}
 
 -- the number that the digits write, when they follow those of n
 unfoldable pub digits_value : ℕ → List ℕ → ℕ
@@ -15,12 +17,13 @@ integer_value (b ∷ bytes) =
 
 -- at least -2^63 and below 2^63
 abbrev pub is_int64 : ℤ → Bool
-is_int64 (pos n) = nat_lt n (2 ^ 63)
-is_int64 (negsuc n) = nat_lt n (2 ^ 63)
+is_int64 (pos n) = nat_lt n max_magnitude
+is_int64 (negsuc n) = nat_lt n max_magnitude
 
 -- a number of 64 bits, or none
 abbrev pub int64_of : ℤ → Option ℤ
 int64_of z = if is_int64 z then Some z else None
 
+-- a number no greater than the limit, or none
 abbrev pub at_most : ℕ → ℕ → Option ℕ
 at_most limit n = if nat_le n limit then Some n else None

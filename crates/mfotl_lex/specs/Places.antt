@@ -1,5 +1,6 @@
 -- Where a lexer stands.
 use Rattle.std.specs.Prelude.{◌≡◌, ◌≤◌, length, ℕ, ◌+◌, Bool, true, List, drop}
+use Rattle.mfotl_lex.specs.declared.kind.Kind.{Kind}
 use Rattle.mfotl_lex.specs.declared.kind.Mode.{Mode}
 
 -- the bytes from the offset `at` on; `ended` says that they are all that come
@@ -17,8 +18,16 @@ beginning mode bytes = record { mode = mode; at = 0; rest = bytes; ended = true 
 abbrev pub moved : Place → ℕ → Place
 moved p n = record { mode = p.mode; at = p.at + n; rest = drop n p.rest; ended = p.ended }
 
+-- the same place in another mode
+abbrev pub in_mode : Mode → Place → Place
+in_mode mode p = record p { mode = mode }
+
+-- the mode in which a token of this kind leaves the lexer: the same
+unfoldable pub mode_behind : Mode → Kind → Mode
+mode_behind mode kind = mode
+
 -- the new place is so many bytes further on, within the bytes of the old one
 pub record MovesOn (old new : Place) : Type 0 where
   pub count : ℕ
   pub within : count ≤ length old.rest
-  pub place : new ≡ moved old count
+  pub place : new ≡ in_mode new.mode (moved old count)

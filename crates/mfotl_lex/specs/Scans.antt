@@ -2,18 +2,23 @@
 -- so many bytes further on, or nothing that is shown yet. `ended` says that the bytes are at their
 -- end; a token is whole when the byte after it was seen, or at the end. A mark other than `<` and `>`,
 -- and a closed Text, are whole at once.
-use Rattle.std.specs.Prelude.{◌≡◌, ℕ, suc, ◌+◌, ◌<◌, ◌≤◌, IsTrue, Bool, ◌||◌, List, [], ◌∷◌, length, take, drop, Option, Some, None, nat_lt, ◌==◌, if◌then◌else◌}
+use Rattle.std.specs.Prelude.{◌≡◌, ℕ, suc, ◌+◌, ◌<◌, ◌≤◌, IsTrue, Bool, ◌||◌, List, [], ◌∷◌, length, take, drop}
+use Rattle.std.specs.Prelude.{Option, Some, None, nat_lt, ◌==◌, if◌then◌else◌}
 use Rattle.std.specs.List.{prefix_len}
 use Rattle.std.specs.Char.{is_ascii_digit}
 use Rattle.std.specs.Str.{is_utf8}
 use Rattle.mfotl_lex.specs.declared.fault.LexFaultKind.TheVariants.{BadByte, OpenText, NumberRange, TextLong, BadUtf8}
 use Rattle.mfotl_lex.specs.declared.kind.Kind.{Kind}
-use Rattle.mfotl_lex.specs.declared.kind.Kind.TheVariants.{Word, Integer, Text, OpenParen, CloseParen, OpenBracket, CloseBracket, Comma, Colon, Dot, Question, Star, Equal, Less, LessEqual, Greater, GreaterEqual, At, Semicolon}
+use Rattle.mfotl_lex.specs.declared.kind.Kind.TheVariants.{Word, Integer, Text, OpenParen, CloseParen, OpenBracket}
+use Rattle.mfotl_lex.specs.declared.kind.Kind.TheVariants.{CloseBracket, Comma, Colon, Dot, Question, Star, Equal}
+use Rattle.mfotl_lex.specs.declared.kind.Kind.TheVariants.{Less, LessEqual, Greater, GreaterEqual, At, Semicolon}
 use Rattle.mfotl_lex.specs.declared.kind.Mode.{Mode}
 use Rattle.mfotl_lex.specs.declared.kind.Mode.TheVariants.{Plain, Log}
 use Rattle.mfotl_lex.specs.declared.scan.Scan.{Scan}
 use Rattle.mfotl_lex.specs.declared.scan.Scan.TheVariants.{Unshown, Takes, Fails}
-use Rattle.mfotl_lex.specs.Bytes.{quote, hash, minus, equals_sign, begins_plain_word, in_plain_word, in_log_word, in_text}
+use Rattle.mfotl_lex.specs.Bytes.{quote, hash, minus, equals_sign, begins_plain_word, in_plain_word, in_log_word}
+use Rattle.mfotl_lex.specs.Bytes.{in_text}
+use Rattle.mfotl_lex.specs.Limits.{max_word, max_log_word, max_text}
 use Rattle.mfotl_lex.specs.Numbers.{integer_value, is_int64}
 
 -- a token of `count` bytes out of `len`, where only the byte after it or the end makes it whole
@@ -55,7 +60,7 @@ text_end ended content (b ∷ bytes) =
 unfoldable pub text_scan : Bool → List ℕ → Scan
 text_scan ended bytes =
     let count = prefix_len in_text bytes in
-    if nat_lt 4096 count then Fails TextLong 0 else text_end ended (take count bytes) (drop count bytes)
+    if nat_lt max_text count then Fails TextLong 0 else text_end ended (take count bytes) (drop count bytes)
 
 -- `<` or `>`, alone or with a `=` behind it
 unfoldable pub order_scan : Bool → Kind → Kind → List ℕ → Scan
@@ -63,6 +68,7 @@ order_scan ended alone with_equal [] = if ended then Takes alone 1 else Unshown
 order_scan ended alone with_equal (b ∷ bytes) =
     if b == equals_sign then Takes with_equal 2 else Takes alone 1
 
+-- the mark that a byte is in Plain mode
 abbrev pub plain_mark : ℕ → Option Kind
 plain_mark b =
     if b == 40 then Some OpenParen
@@ -77,6 +83,7 @@ plain_mark b =
     else if b == 61 then Some Equal
     else None
 
+-- the mark that a byte is in Log mode
 abbrev pub log_mark : ℕ → Option Kind
 log_mark b =
     if b == 64 then Some At
@@ -96,7 +103,7 @@ unfoldable pub plain_scan : Bool → List ℕ → Scan
 plain_scan ended [] = Unshown
 plain_scan ended (b ∷ bytes) =
     if begins_plain_word b
-    then word_scan ended 64 (prefix_len in_plain_word (b ∷ bytes)) (length (b ∷ bytes))
+    then word_scan ended max_word (prefix_len in_plain_word (b ∷ bytes)) (length (b ∷ bytes))
     else if is_ascii_digit b
     then number_scan ended (prefix_len is_ascii_digit (b ∷ bytes)) (b ∷ bytes)
     else if b == minus then minus_scan ended bytes
@@ -111,11 +118,12 @@ unfoldable pub log_scan : Bool → List ℕ → Scan
 log_scan ended [] = Unshown
 log_scan ended (b ∷ bytes) =
     if in_log_word b
-    then word_scan ended 4096 (prefix_len in_log_word (b ∷ bytes)) (length (b ∷ bytes))
+    then word_scan ended max_log_word (prefix_len in_log_word (b ∷ bytes)) (length (b ∷ bytes))
     else if b == quote then text_scan ended bytes
     else if b == hash then Unshown
     else mark_scan (log_mark b)
 
+-- the front in a mode
 abbrev pub scan : Mode → Bool → List ℕ → Scan
 scan Plain ended bytes = plain_scan ended bytes
 scan Log ended bytes = log_scan ended bytes

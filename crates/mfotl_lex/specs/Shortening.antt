@@ -6,6 +6,7 @@ use Rattle.mfotl_lex.specs.Blanks.{blank_len}
 use Rattle.mfotl_lex.specs.Places.{Place}
 use Rattle.mfotl_lex.specs.Lexemes.{tokens}
 
+-- the bytes from an offset on
 abbrev pub place_at : Mode → ℕ → List ℕ → Bool → Place
 place_at mode at bytes ended = record { mode = mode; at = at; rest = bytes; ended = ended }
 
@@ -13,4 +14,5 @@ place_at mode at bytes ended = record { mode = mode; at = at; rest = bytes; ende
 abbrev pub OpenCommentsShorten : Type 0
 OpenCommentsShorten =
     (mode : Mode) (at : ℕ) (comment more : List ℕ) (ended : Bool) → blank_len false (hash ∷ comment) ≡ 0
-    → tokens (place_at mode at (hash ∷ (comment ++ more)) ended) ≡ tokens (place_at mode (at + length comment) (hash ∷ more) ended)
+    → tokens (place_at mode at (hash ∷ (comment ++ more)) ended)
+    ≡ tokens (place_at mode (at + length comment) (hash ∷ more) ended)

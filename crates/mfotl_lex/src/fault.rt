@@ -2,7 +2,7 @@ use std::fmt;
 use thiserror::Error;
 
 /// What is wrong with the bytes at a place.
-#[derive(Clone, Copy, Debug, PartialEq, Eq)]
+#[derive(Clone, Copy, Debug)]
 pub enum LexFaultKind {
     /// A byte that begins no token, or a byte below 32 within a Text.
     BadByte,
@@ -17,7 +17,7 @@ pub enum LexFaultKind {
 }
 
 /// The first fault of the bytes, and the offset at which it stands.
-#[derive(Clone, Copy, Debug, PartialEq, Eq, Error)]
+#[derive(Clone, Copy, Debug, Error)]
 pub struct LexFault {
     pub kind: LexFaultKind,
     pub at: u64,

@@ -1,5 +1,5 @@
 /// How bytes are cut into tokens.
-#[derive(Clone, Copy, Debug, PartialEq, Eq)]
+#[derive(Clone, Copy)]
 pub enum Mode {
     /// For signatures, policies, strategies and change scripts.
     Plain,
@@ -7,8 +7,21 @@ pub enum Mode {
     Log,
 }
 
+impl Mode {
+    ghost use Rattle.std.specs.Prelude.{◌≡◌};
+    ghost use Rattle.mfotl_lex.specs.Places.{mode_behind};
+
+    /// The mode behind a token of this kind: the same.
+    #[tactic(auto, unfolding(crate::specs::Places::mode_behind))]
+    pub(crate) fn behind(self, _token: Kind) -> Mode
+        ensures { result ≡ mode_behind self _token }
+    {
+        self
+    }
+}
+
 /// What a token is: a Word, an Integer, a Text, or one of the marks.
-#[derive(Clone, Copy, Debug, PartialEq, Eq)]
+#[derive(Clone, Copy)]
 pub enum Kind {
     Word,
     /// In Plain mode only: in a log, digits are a Word.

@@ -1,5 +1,9 @@
+//! What holds of every text. Each law is a function that does nothing: its clause is the law.
+
+ghost use Rattle.mfotl_lex.specs.AllTokens.{TokensAreTaken};
 ghost use Rattle.mfotl_lex.specs.Growing.{MoreBytesChangeNothing};
 ghost use Rattle.mfotl_lex.specs.Shortening.{OpenCommentsShorten};
+ghost use Rattle.mfotl_lex.specs.Lexemes.{ModesStay};
 ghost use Rattle.mfotl_lex.specs.Covering.{TokensAreTheBytes};
 
 /// More bytes never change a token or a fault that is shown, so bytes may come in any pieces.
@@ -12,7 +16,17 @@ pub fn tokens_are_the_bytes()
     ensures { TokensAreTheBytes }
 {}
 
+/// No token changes the lexer's mode.
+pub fn modes_stay()
+    ensures { ModesStay }
+{}
+
 /// Of a comment that isn't at its end a reader needs the `#` alone, in the place of its last byte.
 pub fn open_comments_shorten()
     ensures { OpenCommentsShorten }
+{}
+
+/// The layer of first faults, at the reader that takes every token.
+pub fn tokens_are_taken()
+    ensures { TokensAreTaken }
 {}

@@ -85,6 +85,7 @@ impl<'a> Lexer<'a> {
             }
             Scan::Takes(kind, count) => {
                 let (text, rest) = rest.split_at(count);
+                self.mode = self.mode.behind(kind);
                 self.at = at + count;
                 self.rest = rest;
                 Ok(Some(Token { kind, at, text }))

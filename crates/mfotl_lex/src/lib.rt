@@ -5,18 +5,15 @@
 mod bytes;
 mod fault;
 mod kind;
-mod laws;
+pub mod laws;
 mod lexer;
+mod limits;
 mod number;
 mod scan;
 mod token;
 
 pub use fault::{LexFault, LexFaultKind};
 pub use kind::{Kind, Mode};
-pub use laws::{more_bytes_change_nothing, open_comments_shorten, tokens_are_the_bytes};
 pub use lexer::Lexer;
 pub use number::read_integer;
 pub use token::Token;
-
-#[cfg(test)]
-mod tests;

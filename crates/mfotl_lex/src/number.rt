@@ -1,17 +1,18 @@
-ghost use Rattle.std.specs.Prelude.{◌≡◌, ◌^◌, ◌≤◌, neg_ℤ, pos};
+ghost use Rattle.std.specs.Prelude.{◌≡◌, ◌≤◌, neg_ℤ, pos};
+ghost use Rattle.mfotl_lex.specs.Limits.{max_magnitude};
 ghost use Rattle.mfotl_lex.specs.Numbers.{digits_value, integer_value, int64_of, at_most};
 
-const MOST: u128 = 1 << 63;
+use crate::limits::MAX_MAGNITUDE;
 
 // The number that the digits write, if it is at most 2^63.
 #[tactic(auto, unfolding(crate::specs::Numbers::digits_value))]
 fn magnitude(digits: &[u8]) -> Option<u64>
-    ensures { result ≡ at_most (2 ^ 63) (digits_value 0 digits.now) }
+    ensures { result ≡ at_most max_magnitude (digits_value 0 digits.now) }
 {
     let mut value: u128 = 0;
     for b in digits {
         value = 10 * value + u128::from(b.saturating_sub(b'0'));
-        if value > MOST {
+        if value > MAX_MAGNITUDE {
             return None;
         }
     }
@@ -19,7 +20,7 @@ fn magnitude(digits: &[u8]) -> Option<u64>
 }
 
 fn negated(magnitude: u64) -> i64
-    requires { magnitude ≤ 2 ^ 63 }
+    requires { magnitude ≤ max_magnitude }
     ensures { result ≡ neg_ℤ (pos magnitude) }
 {
     if magnitude == 0 {

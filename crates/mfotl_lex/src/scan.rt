@@ -9,10 +9,11 @@ use crate::bytes::{
 };
 use crate::fault::LexFaultKind;
 use crate::kind::{Kind, Mode};
+use crate::limits::{MAX_LOG_WORD, MAX_TEXT, MAX_WORD};
 use crate::number::read_integer;
 
 /// What stands at the front of bytes.
-#[derive(Clone, Copy, Debug, PartialEq, Eq)]
+#[derive(Clone, Copy)]
 pub enum Scan {
     /// Neither a whole token nor a fault is shown.
     Unshown,
@@ -21,12 +22,6 @@ pub enum Scan {
     /// A fault, so many bytes further on.
     Fails(LexFaultKind, usize),
 }
-
-const PLAIN_WORD: usize = 64;
-
-const LOG_WORD: usize = 4096;
-
-const TEXT: usize = 4096;
 
 fn whole(kind: Kind, count: usize, len: usize, ended: bool) -> Scan
     ensures { result ≡ whole ended kind count len }
@@ -104,7 +99,7 @@ fn text_scan(bytes: &[u8], ended: bool) -> Scan
     ensures { result ≡ text_scan ended bytes.now }
 {
     let count = text_len(bytes);
-    if count > TEXT {
+    if count > MAX_TEXT {
         return Scan::Fails(LexFaultKind::TextLong, 0);
     }
     let (content, behind) = bytes.split_at(count);
@@ -171,7 +166,7 @@ fn plain_scan(bytes: &[u8], ended: bool) -> Scan
         return Scan::Unshown;
     };
     if begins_plain_word(*first) {
-        return word_scan(plain_word_len(bytes), PLAIN_WORD, bytes.len(), ended);
+        return word_scan(plain_word_len(bytes), MAX_WORD, bytes.len(), ended);
     }
     if first.is_ascii_digit() {
         return number_scan(bytes, digit_len(bytes), ended);
@@ -194,7 +189,7 @@ fn log_scan(bytes: &[u8], ended: bool) -> Scan
         return Scan::Unshown;
     };
     if in_log_word(*first) {
-        return word_scan(log_word_len(bytes), LOG_WORD, bytes.len(), ended);
+        return word_scan(log_word_len(bytes), MAX_LOG_WORD, bytes.len(), ended);
     }
     match first {
         b'"' => text_scan(behind, ended),

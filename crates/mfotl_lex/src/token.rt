@@ -7,7 +7,7 @@ use crate::kind::Kind;
 use crate::number::read_integer;
 
 /// A token: the slice of its source from offset `at` on. A Text's slice has its quotes.
-#[derive(Clone, Copy, Debug)]
+#[derive(Clone, Copy)]
 pub struct Token<'a> {
     pub kind: Kind,
     pub at: usize,

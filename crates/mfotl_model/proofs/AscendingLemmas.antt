@@ -9,7 +9,7 @@ use Rattle.std.specs.List.Sorted.{IsStrictlySortedBy}
 use Rattle.std.specs.Ordering.{eq_by_cmp, match_ordering, ordering_reverse}
 use Rattle.std.specs.declared.cmp.Ordering.{Ordering}
 use Rattle.std.specs.declared.cmp.Ordering.TheVariants.{Less, Equal, Greater}
-use Rattle.mfotl_model.specs.ActiveDomain.{ascending}
+use Rattle.mfotl_model.specs.Ascending.{ascending}
 
 or_swapped : (a b c : Bool) → (b || (a || c)) ≡ (a || (b || c))
 or_swapped true true c = refl

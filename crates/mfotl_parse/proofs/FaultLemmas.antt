@@ -60,7 +60,7 @@ never_syntax (rule ∷ rules) next at same = by_broken rule.broken (never_syntax
     by_broken false further same = further same
 
 -- behind tokens that show no fault the grammar goes on as it does from there
-goes_on_behind : (sig : List PredOf) (ts more : List Lexeme) (p q : Partial) → steps sig ts p ≡ Ok q → goes_on sig (ts ++ more) p ≡ goes_on sig more q
+pub goes_on_behind : (sig : List PredOf) (ts more : List Lexeme) (p q : Partial) → steps sig ts p ≡ Ok q → goes_on sig (ts ++ more) p ≡ goes_on sig more q
 unfolding goes_on steps step
 goes_on_behind sig [] more p q same = let one : p ≡ q = cc in ap (goes_on sig more) one
 goes_on_behind sig (t ∷ ts) more p q same = by_move (move_of sig p t) (λ n so. goes_on_behind sig ts more n q so) same

@@ -9,13 +9,14 @@ use Rattle.mfotl_sig.specs.Preds.{PredOf}
 use Rattle.mfotl_parse.specs.declared.fault.PolicyFault.{PolicyFault}
 use Rattle.mfotl_parse.specs.declared.fault.PolicyFault.TheVariants.{Lex}
 use Rattle.mfotl_parse.specs.declared.term.Pair.{Pair}
-use Rattle.mfotl_parse.specs.GrammarLaws.{IsFirstFault, AreSound, ExactLex}
+use Rattle.mfotl_parse.specs.GrammarLaws.{IsFirstFault, IsSilent, ExactLex}
 use Rattle.mfotl_parse.specs.Meanings.{tokens_of}
 use Rattle.mfotl_parse.specs.Moves.{Limit, Empty, Range, Unknown, Arity, Deep, Nodes, Rule, Move, fault_of, kept, given}
 use Rattle.mfotl_parse.specs.Names.{most_free, uneven_pair, vars_of}
 use Rattle.mfotl_parse.specs.Reading.{PolicyOf, move_of, step, run, sorted, ended, ended_at, at_end, is_closed, reading}
 use Rattle.mfotl_parse.specs.Reduction.{reduce}
 use Rattle.mfotl_parse.specs.States.{Names, Now, Context, Partial, Have, start}
+use Rattle.mfotl_parse.proofs.SilentLaw.{are_read, are_silent}
 use Rattle.mfotl_parse.proofs.SyntaxLaw.{Stopped, Ended, shown, run_behind}
 
 -- no rule's fault is the lexer's
@@ -62,20 +63,21 @@ told None end p fault e = absurd (never_at p.now p.context end fault e)
 told (Some other) end p fault e = let same : other ≡ fault = cc in ap (λ (f : LexFault). Some f) same
 
 module _ (bytes : List ℕ) (sig : List PredOf) (fault : LexFault) where
-  is_shown : IsFirstFault bytes sig (Lex fault) → AreSound sig (tokens_of bytes).list × ((tokens_of bytes).fault ≡ Some fault)
+  is_shown : IsFirstFault bytes sig (Lex fault) → IsSilent sig (tokens_of bytes).list × ((tokens_of bytes).fault ≡ Some fault)
   unfolding reading
   is_shown e =
       elim (shown sig (length bytes) (tokens_of bytes).fault (tokens_of bytes).list start (Lex fault) e) [
         | inl s ↦ absurd (never_step sig s.read s.token fault s.stop)
-        | inr s ↦ ((s.read, s.sound), told (tokens_of bytes).fault (length bytes) s.read fault s.stop)
+        | inr s ↦ (are_silent sig (tokens_of bytes).list (s.read, s.sound), told (tokens_of bytes).fault (length bytes) s.read fault s.stop)
       ]
 
-  shows : AreSound sig (tokens_of bytes).list × ((tokens_of bytes).fault ≡ Some fault) → IsFirstFault bytes sig (Lex fault)
+  shows : IsSilent sig (tokens_of bytes).list × ((tokens_of bytes).fault ≡ Some fault) → IsFirstFault bytes sig (Lex fault)
   unfolding reading run
   shows v =
+      let sound = are_read sig (tokens_of bytes).list v.0 in
       ap (λ (ts : List Lexeme). run sig (length bytes) (tokens_of bytes).fault ts start) (sym (append-nil (tokens_of bytes).list))
-      ∙ run_behind sig (length bytes) (tokens_of bytes).fault (tokens_of bytes).list [] start v.0.0 v.0.1
-      ∙ ap (λ (f : Option LexFault). at_end f (length bytes) v.0.0) v.1
+      ∙ run_behind sig (length bytes) (tokens_of bytes).fault (tokens_of bytes).list [] start sound.0 sound.1
+      ∙ ap (λ (f : Option LexFault). at_end f (length bytes) sound.0) v.1
 
 pub exact_lex : ExactLex
 exact_lex bytes sig fault = (λ e. is_shown bytes sig fault e, λ v. shows bytes sig fault v)

@@ -16,5 +16,15 @@ pub mod AcceptedIntervals
 pub mod AcceptedTrees
 pub mod AcceptedLaw
 pub mod ReadLaw
+pub mod TracedMoves
+pub mod TracedParts
+pub mod TracedTrees
+pub mod SilentLaw
 pub mod SyntaxLaw
 pub mod LexLaw
+pub mod ShownLaw
+pub mod NamesOrder
+pub mod SortedTrees
+pub mod VariableOrder
+pub mod BoundVariables
+pub mod ColumnsLaw

@@ -15,7 +15,7 @@ use Rattle.mfotl_parse.specs.Reduction.{reduce}
 use Rattle.mfotl_parse.specs.States.{Names, Now, Have, Context, Partial, start}
 use Rattle.mfotl_parse.specs.Views.{policy_of, Gives}
 
-length_vars_of : (free : List (List ℕ × ℕ)) (given : List (Option Sort)) → length (vars_of free given) ≡ length free
+pub length_vars_of : (free : List (List ℕ × ℕ)) (given : List (Option Sort)) → length (vars_of free given) ≡ length free
 unfolding vars_of
 length_vars_of [] given = refl
 length_vars_of (k ∷ free) [] = ap suc (length_vars_of free [])

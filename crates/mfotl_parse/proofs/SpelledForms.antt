@@ -92,7 +92,7 @@ module _ (sig : List PredOf) where
         kept = (λ m. t.kept.0 (all m), λ d a. back d (t.kept.1 d a));
       }
 
-  enclosed : (form : Form) (stack base : List Frame) (v : Form) (nodes : ℕ) (names : Names) (r : Lexeme) → class_of r ≡ classes.CloseParen
+  pub enclosed : (form : Form) (stack base : List Frame) (v : Form) (nodes : ℕ) (names : Names) (r : Lexeme) → class_of r ≡ classes.CloseParen
       → reduce 0 form stack ≡ record { form = v; stack = Parens ∷ base }
       → move_of sig (at_place (Have form) stack nodes names) r ≡ goes [] (at_place (Have v) base nodes names)
   enclosed form stack base v nodes names r class e =
@@ -109,7 +109,7 @@ module _ (sig : List PredOf) where
       (moves_both sig ts (r ∷ []) p _ _ t.rules [] t.reached (moves_one sig r _ _ [] (enclosed t.form t.stack base v nodes names r class all)))
       (λ k. kept_both t.rules [] (t.kept.0 k) tt, λ d a. t.kept.1 d (kept_front t.rules [] a))
 
-  joins : (form : Form) (stack base : List Frame) (v : Form) (nodes : ℕ) (names : Names) (o : Operator) (t : Lexeme) → class_of t ≡ classes.Operator o
+  pub joins : (form : Form) (stack base : List Frame) (v : Form) (nodes : ℕ) (names : Names) (o : Operator) (t : Lexeme) → class_of t ≡ classes.Operator o
       → reduce (level o) form stack ≡ record { form = v; stack = base }
       → move_of sig (at_place (Have form) stack nodes names) t
       ≡ goes (deepening (deepens o) t.at base (few t.at nodes ∷ [])) (at_place (now_behind (is_timed o)) (Left o any_distance v ∷ base) (suc nodes) names)

@@ -100,7 +100,7 @@ goes_on_by sig at ts q (Some m) later e = by_rules (kept m.rules m.next) refl e
     by_rules (Ok p) f g = ap (goes_on sig ts) (kept_next m.rules m.next p f) ∙ later p g
     by_rules (Err fault) f g = absurd cc
 
-goes_on_read : (sig : List PredOf) (ts : List Lexeme) (p q : Partial) → steps sig ts p ≡ Ok q → goes_on sig ts p ≡ true
+pub goes_on_read : (sig : List PredOf) (ts : List Lexeme) (p q : Partial) → steps sig ts p ≡ Ok q → goes_on sig ts p ≡ true
 unfolding steps step goes_on
 goes_on_read sig [] p q e = refl
 goes_on_read sig (t ∷ ts) p q e = goes_on_by sig t.at ts q (move_of sig p t) (λ x f. goes_on_read sig ts x q f) e
@@ -118,7 +118,7 @@ accepts_step : (sig : List PredOf) (at : ℕ) (ts : List Lexeme) (q : Partial) (
 accepts_step sig at ts q None later e = absurd cc
 accepts_step sig at ts q (Some m) later e = accepts_read sig ts q m (kept m.rules m.next) later refl e
 
-accepts_behind : (sig : List PredOf) (ts : List Lexeme) (p q : Partial) → steps sig ts p ≡ Ok q → accepts sig ts p ≡ is_whole q.now q.context.stack
+pub accepts_behind : (sig : List PredOf) (ts : List Lexeme) (p q : Partial) → steps sig ts p ≡ Ok q → accepts sig ts p ≡ is_whole q.now q.context.stack
 unfolding steps step accepts
 accepts_behind sig [] p q e = let same : p ≡ q = cc in ap (λ (x : Partial). is_whole x.now x.context.stack) same
 accepts_behind sig (t ∷ ts) p q e = accepts_step sig t.at ts q (move_of sig p t) (λ x f. accepts_behind sig ts x q f) e

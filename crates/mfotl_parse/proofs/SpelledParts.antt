@@ -61,14 +61,14 @@ module _ (sig : List PredOf) where
       (t : Lexeme) (c : Class) → class_of t ≡ c → (c ≡ classes.CloseParen → ⊥) → (stack : List Frame) (nodes : ℕ) (names : Names)
       → move_of sig (at_place now stack nodes names) t ≡ argument_move (context_at stack nodes names) call t c
 
-  next_takes : (call : Call) → TakesArgument (Next call) call
+  pub next_takes : (call : Call) → TakesArgument (Next call) call
   next_takes call t c class opens stack nodes names = move_is sig (at_place (Next call) stack nodes names) t c class
 
   not_closing : (call : Call) (t : Lexeme) (p : Context) (c : Class) → (c ≡ classes.CloseParen → ⊥) → first_move p call t c ≡ argument_move p call t c
   not_closing call t p classes.CloseParen opens = absurd (opens refl)
   not_closing call t p c opens = refl
 
-  first_takes : (call : Call) → TakesArgument (First call) call
+  pub first_takes : (call : Call) → TakesArgument (First call) call
   first_takes call t c class opens stack nodes names =
       move_is sig (at_place (First call) stack nodes names) t c class ∙ not_closing call t (context_at stack nodes names) c opens
 
@@ -126,7 +126,7 @@ module _ (sig : List PredOf) where
 
   -- ---- their rules
 
-  argument_nodes_are : (a : WrittenArgument) (nodes : ℕ) → argument_nodes a nodes ≡ nodes + hidden_count a
+  pub argument_nodes_are : (a : WrittenArgument) (nodes : ℕ) → argument_nodes a nodes ≡ nodes + hidden_count a
   argument_nodes_are (Given term) nodes = omega arith
   argument_nodes_are (Hidden token) nodes = omega arith
 

@@ -70,7 +70,7 @@ unary_reaches rule edge r = (r.0, λ p k. absurd (omega (arith, k, level_most p)
 pub one_reaches : (edge : ℕ) → edge ≤ 1 → Reaches 1 edge
 one_reaches edge h = (omega (arith, h), λ p k. omega (arith, h, k, level_right p))
 
-level_left : (o : Operator) → level o ≤ left_rule o
+pub level_left : (o : Operator) → level o ≤ left_rule o
 level_left Equiv = omega arith
 level_left o = omega arith
 

@@ -17,6 +17,7 @@ use Rattle.mfotl_parse.specs.Reduction.{reduce}
 use Rattle.mfotl_parse.specs.States.{Names, Now, Context, Partial, Have, start}
 use Rattle.mfotl_parse.specs.Viability.{and_steps, steps}
 use Rattle.mfotl_parse.proofs.FaultLemmas.{never_syntax}
+use Rattle.mfotl_parse.proofs.SilentLaw.{are_read, are_silent}
 use Rattle.mfotl_parse.proofs.SpelledLaw.{never_sorted, syntax_exactly}
 
 -- the token that shows a fault
@@ -91,7 +92,7 @@ by_token sig ts at s =
       token = s.token;
       back = s.back;
       parts = s.parts;
-      sound = (s.read, s.sound);
+      sound = are_silent sig s.front (s.read, s.sound);
       viable = syntax_exactly.sound sig s.front s.read s.sound;
       ends = (syntax_exactly.token sig s.front s.read s.token s.sound).0 (s.stop ∙ ap (λ (n : ℕ). Err (Syntax n)) place);
       place = place;
@@ -116,7 +117,7 @@ module _ (bytes : List ℕ) (sig : List PredOf) (at : ℕ) where
       let place = end_place s.read.now s.read.context (length bytes) at e.1 in
       record {
         whole = e.0;
-        sound = (s.read, s.sound);
+        sound = are_silent sig (tokens_of bytes).list (s.read, s.sound);
         viable = syntax_exactly.sound sig (tokens_of bytes).list s.read s.sound;
         unaccepted = (syntax_exactly.end sig (tokens_of bytes).list s.read (length bytes) s.sound).0 (e.1 ∙ ap (λ (n : ℕ). Err (Syntax n)) place);
         place = place;
@@ -133,19 +134,21 @@ module _ (bytes : List ℕ) (sig : List PredOf) (at : ℕ) where
   token_shows : EndsViability sig (tokens_of bytes).list at → IsFirstFault bytes sig (Syntax at)
   unfolding reading run
   token_shows v =
-      let stop = (syntax_exactly.token sig v.front v.sound.0 v.token v.sound.1).1 v.ends in
+      let sound = are_read sig v.front v.sound in
+      let stop = (syntax_exactly.token sig v.front sound.0 v.token sound.1).1 v.ends in
       ap (λ (ts : List Lexeme). run sig (length bytes) (tokens_of bytes).fault ts start) v.parts
-      ∙ run_behind sig (length bytes) (tokens_of bytes).fault v.front (v.token ∷ v.back) start v.sound.0 v.sound.1
+      ∙ run_behind sig (length bytes) (tokens_of bytes).fault v.front (v.token ∷ v.back) start sound.0 sound.1
       ∙ ap (λ (r : Result Partial PolicyFault). and_then r (run sig (length bytes) (tokens_of bytes).fault v.back)) stop
       ∙ ap (λ (n : ℕ). Err (Syntax n)) (sym v.place)
 
   end_shows : EndsTooEarly sig bytes at → IsFirstFault bytes sig (Syntax at)
   unfolding reading run
   end_shows v =
-      let stop = (syntax_exactly.end sig (tokens_of bytes).list v.sound.0 (length bytes) v.sound.1).1 v.unaccepted in
+      let sound = are_read sig (tokens_of bytes).list v.sound in
+      let stop = (syntax_exactly.end sig (tokens_of bytes).list sound.0 (length bytes) sound.1).1 v.unaccepted in
       ap (λ (ts : List Lexeme). run sig (length bytes) (tokens_of bytes).fault ts start) (sym (append-nil (tokens_of bytes).list))
-      ∙ run_behind sig (length bytes) (tokens_of bytes).fault (tokens_of bytes).list [] start v.sound.0 v.sound.1
-      ∙ ap (λ (f : Option LexFault). at_end f (length bytes) v.sound.0) v.whole
+      ∙ run_behind sig (length bytes) (tokens_of bytes).fault (tokens_of bytes).list [] start sound.0 sound.1
+      ∙ ap (λ (f : Option LexFault). at_end f (length bytes) sound.0) v.whole
       ∙ stop
       ∙ ap (λ (n : ℕ). Err (Syntax n)) (sym v.place)
 

@@ -1,5 +1,5 @@
 -- Texts with the policy or the first fault that they give.
-use Rattle.std.specs.Prelude.{◌≡◌, ℕ, zero, suc, List, [], ◌∷◌, ◌++◌, Option, Some, None, Result, Ok, Err, codes, pos, negsuc}
+use Rattle.std.specs.Prelude.{◌≡◌, ℕ, zero, suc, List, [], ◌∷◌, ◌++◌, length, Option, Some, None, Result, Ok, Err, codes, pos, negsuc}
 use Rattle.mfotl_lex.specs.declared.fault.LexFaultKind.TheVariants.{BadByte}
 use Rattle.mfotl_model.specs.declared.policy.Sort.{Sort}
 use Rattle.mfotl_model.specs.declared.policy.Sort.TheVariants as sorts
@@ -12,11 +12,13 @@ use Rattle.mfotl_model.specs.declared.term.Term.TheVariants as terms
 use Rattle.mfotl_model.specs.declared.value.Value.TheVariants as values
 use Rattle.mfotl_model.specs.Formulas as forms
 use Rattle.mfotl_model.specs.Formulas.{Form}
+use Rattle.mfotl_parse.specs.Meanings.{tokens_of}
 use Rattle.mfotl_parse.specs.Intervals.{distances, any_distance}
 use Rattle.mfotl_sig.specs.Preds.{PredOf}
 use Rattle.mfotl_parse.specs.declared.fault.PolicyFault.{PolicyFault}
 use Rattle.mfotl_parse.specs.declared.fault.PolicyFault.TheVariants.{Lex, Syntax, EmptyInterval, BoundRange, UnknownPredicate, WrongArity, SortClash, TooManyVariables, TooDeep, TooManyNodes}
-use Rattle.mfotl_parse.specs.Reading.{reading}
+use Rattle.mfotl_parse.specs.Reading.{run, reading}
+use Rattle.mfotl_parse.specs.States.{no_names, Want}
 
 abbrev pub eight_integers : List Sort
 eight_integers = sorts.Int ∷ sorts.Int ∷ sorts.Int ∷ sorts.Int ∷ sorts.Int ∷ sorts.Int ∷ sorts.Int ∷ sorts.Int ∷ []
@@ -159,3 +161,51 @@ pub record DepthExamples : Type 0 where
   pub bad_behind_number : FailsWith (denied 63 (codes "ONCE (5 $")) (Lex (record { kind = BadByte; at = 260 }))
   pub compared : FailsWith (denied 63 (codes "ONCE (5 < 6)")) (TooDeep 257)
   pub interval : Spells (denied 63 (codes "ONCE (5,6] p(1)")) (nots 63 (forms.Once (distances 6 (Some 6)) of_one)) []
+
+-- where a bound is too long: by its number alone, by its unit, and behind `(` by the token that makes it a bound
+pub record BoundExamples : Type 0 where
+  pub number : FailsWith (codes "NOT ONCE[4611686018427387905 $") (BoundRange 9)
+  pub number_fits : FailsWith (codes "NOT ONCE[53375995583651 $") (Lex (record { kind = BadByte; at = 24 }))
+  pub unit : FailsWith (codes "NOT ONCE[53375995583651d $") (BoundRange 9)
+  pub paren_number : FailsWith (codes "NOT ONCE(4611686018427387905, $") (BoundRange 9)
+  pub paren_unit : FailsWith (codes "NOT ONCE(53375995583651d $") (BoundRange 9)
+  pub paren_fits : FailsWith (codes "NOT ONCE(53375995583651 $") (Lex (record { kind = BadByte; at = 24 }))
+  pub upper_number : FailsWith (codes "NOT ONCE[0,4611686018427387905 $") (BoundRange 11)
+  pub upper_fits : FailsWith (codes "NOT ONCE[0,53375995583651 $") (Lex (record { kind = BadByte; at = 26 }))
+  pub upper_unit : FailsWith (codes "NOT ONCE[0,53375995583651d $") (BoundRange 11)
+  pub paren_upper : FailsWith (codes "NOT ONCE(0,4611686018427387905 $") (BoundRange 11)
+  pub since : FailsWith (codes "TRUE SINCE[0,4611686018427387905] TRUE") (BoundRange 13)
+
+-- the text's first fault, where so many nodes stand before it
+abbrev pub FailsBehind : ℕ → List ℕ → PolicyFault → Type 0
+FailsBehind nodes text fault =
+    run preds (length text) (tokens_of text).fault (tokens_of text).list
+    (record { context = record { stack = []; nodes = nodes; names = no_names }; now = Want }) ≡ Err fault
+
+-- which token makes a node too many
+pub record NodeExamples : Type 0 where
+  pub fits : FailsBehind 4095 (codes "NOT $") (Lex (record { kind = BadByte; at = 4 }))
+  pub truth : FailsBehind 4096 (codes "TRUE $") (TooManyNodes 0)
+  pub negation : FailsBehind 4096 (codes "NOT $") (TooManyNodes 0)
+  pub temporal : FailsBehind 4096 (codes "ONCE $") (TooManyNodes 0)
+  pub operator : FailsBehind 4095 (codes "TRUE AND $") (TooManyNodes 5)
+  pub since : FailsBehind 4095 (codes "TRUE SINCE $") (TooManyNodes 5)
+  pub variable : FailsBehind 4096 (codes "EXISTS x $") (TooManyNodes 7)
+  pub second_variable : FailsBehind 4095 (codes "EXISTS x, ?y $") (TooManyNodes 10)
+  pub name : FailsBehind 4096 (codes "p( $") (TooManyNodes 0)
+  pub blank : FailsBehind 4095 (codes "p(_ $") (TooManyNodes 2)
+  pub sign : FailsBehind 4096 (codes "1 = $") (TooManyNodes 2)
+  pub paren : FailsBehind 4096 (codes "( $") (Lex (record { kind = BadByte; at = 2 }))
+
+-- of two faults that one token shows, which one is told
+pub record OrderExamples : Type 0 where
+  pub unknown_before_nodes : FailsBehind 4096 (codes "zz( $") (UnknownPredicate 0)
+  pub arity_before_nodes : FailsBehind 4095 (codes "p(1,_ $") (WrongArity 4)
+  pub deep_before_nodes : FailsBehind 4032 (denied 64 (codes "NOT $")) (TooDeep 256)
+  pub deep_variable_before_nodes : FailsBehind 4032 (denied 64 (codes "EXISTS x $")) (TooDeep 263)
+  pub deep_operator_before_nodes : FailsBehind 4031 (denied 64 (codes "(TRUE SINCE $")) (TooDeep 256)
+  pub paren_before_own_level : FailsWith (denied 63 (codes "ONCE (NOT $")) (TooDeep 257)
+  pub paren_before_nodes : FailsBehind 4032 (denied 63 (codes "ONCE (TRUE $")) (TooDeep 257)
+  pub paren_before_sign : FailsBehind 4032 (denied 63 (codes "ONCE (5 < $")) (TooDeep 257)
+  pub paren_before_unknown : FailsWith (denied 63 (codes "ONCE (zz( $")) (TooDeep 257)
+  pub clash_before_many : FailsWith (codes "NOT (q(a,b,c,d,e,f,g,h) AND s(i) AND s(a))") (SortClash 39)

@@ -12,5 +12,7 @@ pub mod Views
 pub mod Examples
 pub mod Grammar
 pub mod Meanings
+pub mod Shows
 pub mod GrammarLaws
+pub mod WellSorted
 pub mod FaultTexts

@@ -146,6 +146,12 @@ differ (Some left) (Some right) = not (same_sort left right)
 abbrev pub uneven_pair : Names → Option Pair
 uneven_pair n = find (λ pair. differ (sort_of pair.left n) (sort_of pair.right n)) n.pairs
 
+-- the first clash among occurrences and constants; where there is none, the first sign between variables
+abbrev pub clash_or_pair : Option ℕ → Option Pair → Option ℕ
+clash_or_pair (Some at) uneven = Some at
+clash_or_pair None (Some pair) = Some pair.at
+clash_or_pair None None = None
+
 -- what nothing sorts counts as an integer
 abbrev pub sort_or_int : Option Sort → Sort
 sort_or_int None = sorts.Int

@@ -1,4 +1,4 @@
-ghost use Rattle.mfotl_parse.specs.Examples.{FaultExamples, ClashExamples, FormulaExamples, NameExamples, DepthExamples};
+ghost use Rattle.mfotl_parse.specs.Examples.{FaultExamples, ClashExamples, FormulaExamples, NameExamples, DepthExamples, BoundExamples, NodeExamples, OrderExamples};
 
 /// Texts with the first fault of each.
 pub fn fault_examples()
@@ -23,4 +23,19 @@ pub fn name_examples()
 /// Texts at the limit of what may be open at once.
 pub fn depth_examples()
     ensures { DepthExamples }
+{}
+
+/// Texts with a bound that is too long.
+pub fn bound_examples()
+    ensures { BoundExamples }
+{}
+
+/// Texts behind as many nodes as there may be.
+pub fn node_examples()
+    ensures { NodeExamples }
+{}
+
+/// Texts of which one token shows two faults.
+pub fn order_examples()
+    ensures { OrderExamples }
 {}

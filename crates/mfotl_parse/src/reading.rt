@@ -1,11 +1,15 @@
 //! Reading from the first token to the end.
-ghost use Rattle.std.specs.Prelude.{◌≡◌, ◌≤◌, length, IfOk};
+ghost use Rattle.std.specs.Prelude.{◌≡◌, ◌≢◌, ◌≤◌, length, IfOk, IfErr};
 ghost use Rattle.mfotl_lex.specs.Lexemes.{lexeme};
 ghost use Rattle.mfotl_model.specs.Formulas.{form};
+ghost use Rattle.mfotl_parse.specs.GrammarLaws.{IsShown};
+ghost use Rattle.mfotl_parse.specs.Meanings.{IsValue};
+ghost use Rattle.mfotl_parse.specs.declared.fault.PolicyFault.TheVariants.{Memory};
 ghost use Rattle.mfotl_parse.specs.Reading.{step, ended_at, finished, is_closed, reading};
 ghost use Rattle.mfotl_parse.specs.Reading as reading_words;
 ghost use Rattle.mfotl_parse.specs.Reduction.{reduce};
 ghost use Rattle.mfotl_parse.specs.States.{start};
+ghost use Rattle.mfotl_parse.specs.WellSorted.{IsWellSorted};
 ghost use Rattle.mfotl_parse.specs.Views.{context_of, names_of, now_of, partial_of, policy_of, GoesOn, Gives, Steps};
 
 use crate::class::class_of;
@@ -165,6 +169,9 @@ pub fn read_policy<'a>(
     signature: &'a Signature,
 ) -> Result<Policy, PolicyFault>
     ensures exact { Gives policy_of result (reading bytes.now signature.now) }
+    ensures value { IfOk result (λ policy. IsValue bytes.now signature.now (policy_of policy)) }
+    ensures shown { IfErr result (λ fault. fault ≢ Memory → IsShown bytes.now signature.now fault) }
+    ensures columns { IfOk result (λ policy. IsWellSorted signature.now policy.vars (form policy.formula)) }
     ensures few { IfOk result (λ policy. length policy.vars ≤ 8) }
 {
     read(alloc, bytes, signature)

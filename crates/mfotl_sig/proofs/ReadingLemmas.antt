@@ -1,71 +1,43 @@
--- Reading token by token, as the loop does.
-use Rattle.std.proofs.Common.{◌≡◌, ℕ, suc, ◌+◌, ◌-◌, ◌<◌, ◌≤◌, List, length, Option, Some, None, Result, Ok, Err, ap, sym, ◌∙◌, arith}
+-- Reading token by token, as the loop does: what is still to come says the same as the whole text.
+use Rattle.std.proofs.Common.{◌≡◌, ℕ, true, List, length, Option, Some, None, Result, Ok, Err, sym, ◌∙◌}
 use Rattle.mfotl_lex.specs.declared.fault.LexFault.{LexFault}
 use Rattle.mfotl_lex.specs.declared.kind.Mode.TheVariants.{Plain}
+use Rattle.mfotl_lex.specs.Lexemes.{Lexeme, next_token, after}
 use Rattle.mfotl_lex.specs.Places.{Place, beginning}
-use Rattle.mfotl_lex.specs.Lexemes.{Lexeme, followed, next_token, after, tokens, tokens_within}
+use Rattle.mfotl_lex.specs.Texts.{tail_of, reading_on}
+use Rattle.mfotl_lex.proofs.TextLaws.{begins, on_step, on_stop, on_none, on_fault}
 use Rattle.mfotl_sig.specs.declared.fault.SigFault.{SigFault}
 use Rattle.mfotl_sig.specs.declared.fault.SigFault.TheVariants.{Lex, Memory}
-use Rattle.mfotl_sig.specs.Preds.{PredOf}
-use Rattle.mfotl_sig.specs.Reading.{Partial, ◌>>=◌, step, run, ended, nothing_read, reading_on, reading}
 use Rattle.mfotl_sig.specs.Answers.{Fails}
+use Rattle.mfotl_sig.specs.Reading.{Partial, step, nothing_read, at_end, at_tail, reading}
 
--- what is still to come says the same as the whole text
-abbrev pub Leads : List ℕ → ℕ → Place → Partial → Type 0
-Leads bytes i place p = reading_on (length bytes) (tokens_within (length bytes + 1 - i) place) p ≡ reading bytes
+-- behind these tokens the text reads on like this
+abbrev pub Leads : List ℕ → Place → Partial → Type 0
+Leads bytes place p = reading_on step at_tail (tail_of true (length bytes)) place p ≡ reading bytes
 
-pub begins_so : (bytes : List ℕ) → Leads bytes 0 (beginning Plain bytes) nothing_read
-unfolding reading tokens
-begins_so bytes =
-    let e : length bytes + 1 - 0 ≡ suc (length bytes) = omega arith in
-    ap (λ n. reading_on (length bytes) (tokens_within n (beginning Plain bytes)) nothing_read) e
+fails_on : {A B : Type 0} (fault : SigFault) (x : Result A SigFault) (y : Result B SigFault) → (x ≡ Err fault → y ≡ Err fault)
+    → Fails fault x → Fails fault y
+fails_on Memory x y stays given = tt
+fails_on _ x y stays given = stays given
 
--- what the next token shows, with the tokens behind it
-abbrev heard : List ℕ → ℕ → Place → Partial → Result (Option Lexeme) LexFault → Result (List PredOf) SigFault
-heard bytes n place p next = reading_on (length bytes) (followed next (tokens_within n (after place))) p
+module _ (bytes : List ℕ) where
+  pub begins_so : Leads bytes (beginning Plain bytes) nothing_read
+  unfolding reading
+  begins_so = begins step nothing_read at_tail Plain bytes
 
-next_heard : (bytes : List ℕ) (i : ℕ) (place : Place) (p : Partial) (next : Result (Option Lexeme) LexFault) → i < length bytes + 1
-    → next_token place ≡ next → Leads bytes i place p → heard bytes (length bytes + 1 - (i + 1)) place p next ≡ reading bytes
-unfolding tokens_within
-next_heard bytes i place p next within e leads =
-    let k : length bytes + 1 - i ≡ suc (length bytes + 1 - (i + 1)) = omega arith in
-    sym (ap (λ n. reading_on (length bytes) (tokens_within n place) p) k ∙ ap (heard bytes (length bytes + 1 - (i + 1)) place p) e) ∙ leads
+  module _ (place : Place) (p : Partial) (leads : Leads bytes place p) where
+    pub goes_on : (q : Partial) (t : Lexeme) → next_token place ≡ Ok (Some t) → step p t ≡ Ok q → Leads bytes (after place) q
+    goes_on q t next stepped = sym (on_step step at_tail (tail_of true (length bytes)) place p q t next stepped) ∙ leads
 
-pub goes_on : (bytes : List ℕ) (i : ℕ) (place : Place) (p q : Partial) (t : Lexeme) → i < length bytes + 1
-    → next_token place ≡ Ok (Some t) → step p t ≡ Ok q → Leads bytes i place p → Leads bytes (i + 1) (after place) q
-unfolding run
-goes_on bytes i place p q t within next e leads =
-    let rest = tokens_within (length bytes + 1 - (i + 1)) (after place) in
-    let back : Result Partial SigFault → Result (List PredOf) SigFault = λ r. (r >>= λ s. run rest.list s) >>= λ s. ended (length bytes) rest.fault s in
-    sym (ap back e) ∙ next_heard bytes i place p (Ok (Some t)) within next leads
+    pub step_fails : (t : Lexeme) (fault : SigFault) → next_token place ≡ Ok (Some t) → Fails fault (step p t)
+        → Fails fault (reading bytes)
+    step_fails t fault next failed =
+        fails_on fault (step p t) (reading bytes)
+        (λ stop. sym leads ∙ on_stop step at_tail (tail_of true (length bytes)) place p t fault next stop) failed
 
-fails_on : {A B : Type 0} (fault : SigFault) (x : Result A SigFault) (y : Result B SigFault) → (x ≡ Err fault → y ≡ Err fault) → Fails fault x → Fails fault y
-fails_on Memory x y step given = tt
-fails_on _ x y step given = step given
+    pub lex_fails : (fault : LexFault) → next_token place ≡ Err fault → reading bytes ≡ Err (Lex fault)
+    lex_fails fault next = sym leads ∙ on_fault step at_tail (tail_of true (length bytes)) place p fault next
 
-pub step_fails : (bytes : List ℕ) (i : ℕ) (place : Place) (p : Partial) (t : Lexeme) (fault : SigFault) → i < length bytes + 1
-    → next_token place ≡ Ok (Some t) → Fails fault (step p t) → Leads bytes i place p → Fails fault (reading bytes)
-unfolding run
-step_fails bytes i place p t fault within next e leads =
-    let rest = tokens_within (length bytes + 1 - (i + 1)) (after place) in
-    let back : Result Partial SigFault → Result (List PredOf) SigFault = λ r. (r >>= λ s. run rest.list s) >>= λ s. ended (length bytes) rest.fault s in
-    fails_on fault (step p t) (reading bytes) (λ stopped. sym (next_heard bytes i place p (Ok (Some t)) within next leads) ∙ ap back stopped) e
-
-pub lex_fails : (bytes : List ℕ) (i : ℕ) (place : Place) (p : Partial) (fault : LexFault) → i < length bytes + 1
-    → next_token place ≡ Err fault → Leads bytes i place p → reading bytes ≡ Err (Lex fault)
-unfolding run
-lex_fails bytes i place p fault within next leads = sym (next_heard bytes i place p (Err fault) within next leads)
-
--- no token is left
-pub whole : (bytes : List ℕ) (i : ℕ) (place : Place) (p : Partial) → i < length bytes + 1
-    → next_token place ≡ Ok None → Leads bytes i place p → reading bytes ≡ ended (length bytes) None p
-unfolding run
-whole bytes i place p within next leads = sym (next_heard bytes i place p (Ok None) within next leads)
-
--- as many tokens as there may be were read
-pub all_read : (bytes : List ℕ) (i : ℕ) (place : Place) (p : Partial) → length bytes + 1 ≤ i
-    → Leads bytes i place p → reading bytes ≡ ended (length bytes) None p
-unfolding run tokens_within
-all_read bytes i place p over leads =
-    let k : length bytes + 1 - i ≡ 0 = omega arith in
-    sym leads ∙ ap (λ n. reading_on (length bytes) (tokens_within n place) p) k
+    -- no token is left
+    pub all_read : next_token place ≡ Ok None → reading bytes ≡ at_end (length bytes) p.done p.draft
+    all_read next = sym leads ∙ on_none step at_tail (tail_of true (length bytes)) place p next

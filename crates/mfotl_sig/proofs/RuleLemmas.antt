@@ -7,15 +7,13 @@ use Rattle.std.specs.List.{AllByRecursion, IsDistinct}
 use Rattle.std.specs.Str.{bytes_eq}
 use Rattle.mfotl_sig.specs.Grammar.{Written}
 use Rattle.mfotl_sig.specs.Preds.{PredOf, named}
-use Rattle.mfotl_sig.specs.Rules.{KeepsRules}
-use Rattle.mfotl_sig.proofs.Judging.{AllKnown, KeepsOn, pred_behind}
-
-abbrev names : List Written → List (List ℕ)
-names ws = map (λ w. w.name) ws
+use Rattle.mfotl_sig.specs.Limits.{max_predicates, max_arguments}
+use Rattle.mfotl_sig.specs.Rules.{sort_words, names_of, AllKnown, KeepsRules}
+use Rattle.mfotl_sig.proofs.Verdicts.{KeepsOn, pred_behind}
 
 -- none of the names stands among the predicates
 abbrev Apart : List PredOf → List Written → Type 0
-Apart done ws = AllByRecursion (λ w. named w.name done ≡ None) ws
+Apart done ws = AllByRecursion (λ w. named w.name.text done ≡ None) ws
 
 first_none : (b : Bool) (p : PredOf) (found : Option PredOf) → cond b (Some p) found ≡ None → (b ≡ false) × (found ≡ None)
 first_none true p found e = absurd cc
@@ -35,42 +33,42 @@ append-absent (d ∷ done) name p absent differs =
     rw first.0 (append-absent done name p first.1 differs)
 
 apart-append : (done : List PredOf) (p : PredOf) (ws : List Written) → Apart (done ++ p ∷ []) ws
-    → Apart done ws × AllByRecursion (λ y. bytes_eq p.name y ≡ false) (names ws)
+    → Apart done ws × AllByRecursion (λ y. bytes_eq p.name y ≡ false) (names_of ws)
 apart-append done p [] apart = (tt, tt)
 apart-append done p (w ∷ ws) apart =
-    let first = absent-append done w.name p apart.0 in
+    let first = absent-append done w.name.text p apart.0 in
     let others = apart-append done p ws apart.1 in
-    ((first.0, others.0), (nat_list_eq_equiv.symm p.name w.name ∙ first.1, others.1))
+    ((first.0, others.0), (nat_list_eq_equiv.symm p.name w.name.text ∙ first.1, others.1))
 
-append-apart : (done : List PredOf) (p : PredOf) (ws : List Written) → Apart done ws → AllByRecursion (λ y. bytes_eq p.name y ≡ false) (names ws)
+append-apart : (done : List PredOf) (p : PredOf) (ws : List Written) → Apart done ws → AllByRecursion (λ y. bytes_eq p.name y ≡ false) (names_of ws)
     → Apart (done ++ p ∷ []) ws
 append-apart done p [] apart differ = tt
 append-apart done p (w ∷ ws) apart differ =
-    (append-absent done w.name p apart.0 (nat_list_eq_equiv.symm w.name p.name ∙ differ.0), append-apart done p ws apart.1 differ.1)
+    (append-absent done w.name.text p apart.0 (nat_list_eq_equiv.symm w.name.text p.name ∙ differ.0), append-apart done p ws apart.1 differ.1)
 
 -- what predicates behind others keep
 record KeepsAll (done : List PredOf) (ws : List Written) : Type 0 where
   apart : Apart done ws
-  distinct : IsDistinct bytes_eq (names ws)
-  few : length done + length ws ≤ 256
-  short : AllByRecursion (λ w. length w.sorts ≤ 8) ws
-  known : AllByRecursion (λ w. AllKnown w.sorts) ws
+  distinct : IsDistinct bytes_eq (names_of ws)
+  few : length done + length ws ≤ max_predicates
+  short : AllByRecursion (λ w. length (sort_words w) ≤ max_arguments) ws
+  known : AllByRecursion (λ w. AllKnown (sort_words w)) ws
 
-all_kept : (done : List PredOf) (ws : List Written) → length done ≤ 256 → KeepsOn done ws → KeepsAll done ws
+all_kept : (done : List PredOf) (ws : List Written) → length done ≤ max_predicates → KeepsOn done ws → KeepsAll done ws
 unfolding IsDistinct
 all_kept done [] room keeps = record { apart = tt; distinct = tt; few = omega (arith, room); short = tt; known = tt }
 all_kept done (w ∷ ws) room keeps =
     let p = pred_behind done w in
     let size : length (done ++ p ∷ []) ≡ length done + 1 = length-append done (p ∷ []) in
-    let below : length done < 256 = keeps.0.1 in
+    let below : length done < max_predicates = keeps.0.0.1 in
     let rest = all_kept (done ++ p ∷ []) ws (omega (arith, size, below)) keeps.1 in
     let split = apart-append done p ws rest.apart in
     record {
-      apart = (keeps.0.0, split.0);
-      distinct = IsDistinct-cons bytes_eq w.name (names ws) split.1 rest.distinct;
+      apart = (keeps.0.0.0, split.0);
+      distinct = IsDistinct-cons bytes_eq w.name.text (names_of ws) split.1 rest.distinct;
       few = omega (arith, size, rest.few);
-      short = (keeps.0.2, rest.short);
-      known = (keeps.0.3, rest.known);
+      short = (keeps.0.1, rest.short);
+      known = (keeps.0.2, rest.known);
     }
 
 kept_on : (done : List PredOf) (ws : List Written) → KeepsAll done ws → KeepsOn done ws
@@ -78,15 +76,15 @@ kept_on done [] keeps = tt
 kept_on done (w ∷ ws) keeps =
     let p = pred_behind done w in
     let size : length (done ++ p ∷ []) ≡ length done + 1 = length-append done (p ∷ []) in
-    let few : length done + suc (length ws) ≤ 256 = keeps.few in
+    let few : length done + suc (length ws) ≤ max_predicates = keeps.few in
     let rest : KeepsAll (done ++ p ∷ []) ws = record {
-      apart = append-apart done p ws keeps.apart.1 (IsDistinct-head bytes_eq w.name (names ws) keeps.distinct);
-      distinct = IsDistinct-tail bytes_eq w.name (names ws) keeps.distinct;
+      apart = append-apart done p ws keeps.apart.1 (IsDistinct-head bytes_eq w.name.text (names_of ws) keeps.distinct);
+      distinct = IsDistinct-tail bytes_eq w.name.text (names_of ws) keeps.distinct;
       few = omega (arith, size, few);
       short = keeps.short.1;
       known = keeps.known.1;
     } in
-    ((keeps.apart.0, omega (arith, few), keeps.short.0, keeps.known.0), kept_on (done ++ p ∷ []) ws rest)
+    (((keeps.apart.0, omega (arith, few)), keeps.short.0, keeps.known.0), kept_on (done ++ p ∷ []) ws rest)
 
 apart_from_none : (ws : List Written) → Apart [] ws
 apart_from_none [] = tt

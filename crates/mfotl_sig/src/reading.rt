@@ -8,15 +8,20 @@ ghost use Rattle.mfotl_sig.specs.Laws.{IsShown};
 ghost use Rattle.mfotl_sig.specs.Reading.{step, begins, at_end, reading, nothing_read};
 ghost use Rattle.mfotl_sig.specs.Rules.{IsValue};
 
-use crate::draft::{Draft, Progress, Stage};
+use crate::arguments::{Arguments, Progress};
 use crate::fault::SigFault;
+use crate::limits::MAX_PREDICATES;
 use crate::signature::Signature;
 use mfotl_lex::{Kind, Lexer, Mode, Token};
 use std::alloc::Global;
 use std::marker::Model;
 
-/// How many predicates a signature may have.
-const MAX_PREDICATES: usize = 256;
+/// A predicate of which a part was read.
+#[derive(Drop)]
+pub struct Draft<'a> {
+    pub name: &'a [u8],
+    pub arguments: Arguments,
+}
 
 /// The whole predicates read so far, and a part of the one behind them.
 #[derive(Drop)]
@@ -54,10 +59,10 @@ impl<'a> Reader<'a> {
     {
         match self.draft.take() {
             None => self.begin(alloc, token),
-            Some(draft) => {
-                match draft.step(token)? {
-                    Progress::Open(draft) => self.draft = Some(draft),
-                    Progress::Closed(draft) => self.done.add(alloc, draft.name, draft.sorts)?,
+            Some(Draft { name, arguments }) => {
+                match arguments.step(token)? {
+                    Progress::Open(arguments) => self.draft = Some(Draft { name, arguments }),
+                    Progress::Closed(sorts) => self.done.add(alloc, name, sorts)?,
                 }
                 Ok(())
             }
@@ -71,17 +76,16 @@ impl<'a> Reader<'a> {
             (begins self.old.done (lexeme token.now) token.now.kind) }
     {
         match token.kind {
+            Kind::Word if self.done.find(token.text).is_some() => {
+                Err(SigFault::RepeatedName(token.at as u64))
+            }
+            Kind::Word if self.done.len() >= MAX_PREDICATES => {
+                Err(SigFault::TooMany(token.at as u64))
+            }
             Kind::Word => {
-                if self.done.find(token.text).is_some() {
-                    return Err(SigFault::RepeatedName(token.at as u64));
-                }
-                if self.done.len() >= MAX_PREDICATES {
-                    return Err(SigFault::TooMany(token.at as u64));
-                }
                 self.draft = Some(Draft {
                     name: token.text,
-                    sorts: Vec::new(alloc),
-                    stage: Stage::AfterName,
+                    arguments: Arguments::new(alloc),
                 });
                 Ok(())
             }
@@ -117,13 +121,8 @@ fn read_tokens(alloc: Global, bytes: &[u8]) -> Result<Signature, SigFault>
 {
     let mut lexer = Lexer::new(bytes, Mode::Plain);
     let mut reader = Reader::new(alloc);
-    // Each token takes a byte, so there are no more of them than bytes.
-    for _ in 0..bytes.len() + 1 {
-        match lexer.next() {
-            Ok(Some(token)) => reader.step(alloc, &token)?,
-            Ok(None) => break,
-            Err(fault) => return Err(SigFault::Lex(fault)),
-        }
+    while let Some(token) = lexer.next()? {
+        reader.step(alloc, &token)?;
     }
     reader.finish(bytes.len() as u64)
 }

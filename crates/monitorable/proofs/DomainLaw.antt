@@ -9,8 +9,7 @@ use Rattle.mfotl_model.proofs.LogicLemmas.{funext, among_without, among_distinct
 use Rattle.mfotl_model.proofs.RowLemmas.{value_exact}
 use Rattle.mfotl_model.specs.ActiveDomain.{constants, constant_in, log_values}
 use Rattle.mfotl_model.specs.FreeVariables.{fv, among, variable_in, variables_in}
-use Rattle.mfotl_model.specs.Formulas.{Form}
-use Rattle.mfotl_model.specs.Formulas.Form.{True, False, Atom, Compare, Not, And, Or, Implies, Equiv, Exists, Forall, Previous, Next, Once, Historically, Eventually, Always, Since, Until}
+use Rattle.monitorable.specs.CoreForms.{CoreForm, meaning, True, False, Atom, Compare, Not, And, Or, Exists, Previous, Next, Since, Until}
 use Rattle.mfotl_model.specs.Log.{times}
 use Rattle.mfotl_model.specs.Satisfaction.{Valuation, sat, term_value, with_value, event_of, compares, same_sort, meets, since, until, previous, next, truths}
 use Rattle.mfotl_model.specs.Values.{value_cmp}
@@ -68,8 +67,8 @@ equation_if base c v y false e has h m = cc
 
 module _ (log : List TimePoint) (base : List Value) (logged : Includes base (log_values log)) where
   -- each variable that a conjunct binds has a value of the base
-  range : (names : Names) (f : Form) → fault_in names Part f ≡ None → Includes base (constants f)
-      → (dom : List Value) (v : Valuation) (i : ℕ) (y : ℕ) → sat log dom v i f ≡ true → among y (bound_by f) ≡ true
+  range : (names : Names) (f : CoreForm) → fault_in names Part f ≡ None → Includes base (constants (meaning f))
+      → (dom : List Value) (v : Valuation) (i : ℕ) (y : ℕ) → sat log dom v i (meaning f) ≡ true → among y (bound_by f) ≡ true
       → within base (v y) ≡ true
   unfolding sat fv fault_in bound_by constants
   range names True h c dom v i y s m = cc
@@ -80,66 +79,59 @@ module _ (log : List TimePoint) (base : List Value) (logged : Includes base (log
   range names (Compare k) h c dom v i y s m = equation_if base k v y (binds k) refl c s m
   range names (Not f) h c dom v i y s m = cc
   range names (And f g) h c dom v i y s m =
-      let sats = and_parts (sat log dom v i f) (sat log dom v i g) s in
+      let sats = and_parts (sat log dom v i (meaning f)) (sat log dom v i (meaning g)) s in
       let faults = no_first (fault_in names Part f) (first (fault_in names Part g) None) h in
       elim (or_cases (among y (bound_by f)) (among y (bound_by g))
       (sym (list_any-append (nat_eq y) (bound_by f) (bound_by g)) ∙ m)) [
-        | inl e ↦ range names f faults.0 (includes_left base (constants f) (constants g) c) dom v i y sats.0 e
+        | inl e ↦ range names f faults.0 (includes_left base (constants (meaning f)) (constants (meaning g)) c) dom v i y sats.0 e
         | inr e ↦
             range names g (no_first (fault_in names Part g) None faults.1).0
-            (includes_right base (constants f) (constants g) c) dom v i y sats.1 e
+            (includes_right base (constants (meaning f)) (constants (meaning g)) c) dom v i y sats.1 e
       ]
   range names (Or f g) h c dom v i y s m =
       let outer = no_first (fault_in names Whole f) (first (fault_in names Whole g) (evens f g)) h in
       let inner = no_first (fault_in names Whole g) (evens f g) outer.1 in
       let both = even_variables f g y inner.1 m in
-      elim (or_cases (sat log dom v i f) (sat log dom v i g) s) [
+      elim (or_cases (sat log dom v i (meaning f)) (sat log dom v i (meaning g)) s) [
         | inl e ↦
-            range names f (part_of_whole names f outer.0) (includes_left base (constants f) (constants g) c)
+            range names f (part_of_whole names f outer.0) (includes_left base (constants (meaning f)) (constants (meaning g)) c)
             dom v i y e (covered names f y outer.0 both.0)
         | inr e ↦
-            range names g (part_of_whole names g inner.0) (includes_right base (constants f) (constants g) c)
+            range names g (part_of_whole names g inner.0) (includes_right base (constants (meaning f)) (constants (meaning g)) c)
             dom v i y e (covered names g y inner.0 both.1)
       ]
   range names (Exists x f) h c dom v i y s m =
       let parts = no_first (fault_in (with_name names x) Whole f) (uses x f) h in
-      let w = any_witness (λ a. sat log dom (with_value v x.number a) i f) dom s in
-      let free = and_parts (not (nat_eq y x.number)) (among y (fv f)) (sym (among_without y x.number (fv f)) ∙ m) in
+      let w = any_witness (λ a. sat log dom (with_value v x.number a) i (meaning f)) dom s in
+      let free = and_parts (not (nat_eq y x.number)) (among y (fv (meaning f))) (sym (among_without y x.number (fv (meaning f))) ∙ m) in
       let other : nat_eq y x.number ≡ false = not-true (nat_eq y x.number) free.0 in
       sym (ap (within base) (cond-false (nat_eq y x.number) w.0 (v y) other))
       ∙ range (with_name names x) f (part_of_whole (with_name names x) f parts.0) c dom (with_value v x.number w.0) i y w.1
       (covered (with_name names x) f y parts.0 free.1)
   range names (Previous interval f) h c dom v i y s m =
       range names f (part_of_whole names f h) c dom v (i - 1) y
-      (previous_witness interval (times log) (λ j. sat log dom v j f) (length log) i s) (covered names f y h m)
+      (previous_witness interval (times log) (λ j. sat log dom v j (meaning f)) (length log) i s) (covered names f y h m)
   range names (Next interval f) h c dom v i y s m =
       range names f (part_of_whole names f h) c dom v (i + 1) y
-      (next_witness interval (times log) (λ j. sat log dom v j f) (length log) i s) (covered names f y h m)
+      (next_witness interval (times log) (λ j. sat log dom v j (meaning f)) (length log) i s) (covered names f y h m)
   range names (Since interval f g) h c dom v i y s m =
       let outer = no_first (fault_in names Left f) (first (fault_in names Whole g) (covers names f g)) h in
       let inner = no_first (fault_in names Whole g) (covers names f g) outer.1 in
-      let w = since_witness interval (times log) (truths (length log) (λ j. sat log dom v j f)) (λ j. sat log dom v j g) (length log) i s in
-      range names g (part_of_whole names g inner.0) (includes_right base (constants f) (constants g) c) dom v w.0 y w.1
+      let w = since_witness interval (times log) (truths (length log) (λ j. sat log dom v j (meaning f))) (λ j. sat log dom v j (meaning g)) (length log) i s in
+      range names g (part_of_whole names g inner.0) (includes_right base (constants (meaning f)) (constants (meaning g)) c) dom v w.0 y w.1
       (covered names g y inner.0 (right_variable names f g y inner.1 m))
   range names (Until interval f g) h c dom v i y s m =
       let outer = no_first (fault_in names Left f) (first (fault_in names Whole g) (first (looks_within interval.hi) (covers names f g))) h in
       let inner = no_first (fault_in names Whole g) (first (looks_within interval.hi) (covers names f g)) outer.1 in
       let last = no_first (looks_within interval.hi) (covers names f g) inner.1 in
-      let w = until_witness interval (times log) (truths (length log) (λ j. sat log dom v j f)) (λ j. sat log dom v j g) (length log) i s in
-      range names g (part_of_whole names g inner.0) (includes_right base (constants f) (constants g) c) dom v w.0 y w.1
+      let w = until_witness interval (times log) (truths (length log) (λ j. sat log dom v j (meaning f))) (λ j. sat log dom v j (meaning g)) (length log) i s in
+      range names g (part_of_whole names g inner.0) (includes_right base (constants (meaning f)) (constants (meaning g)) c) dom v w.0 y w.1
       (covered names g y inner.0 (right_variable names f g y last.1 m))
-  range names (Implies f g) h c dom v i y s m = cc
-  range names (Equiv f g) h c dom v i y s m = cc
-  range names (Forall x f) h c dom v i y s m = cc
-  range names (Once interval f) h c dom v i y s m = cc
-  range names (Historically interval f) h c dom v i y s m = cc
-  range names (Eventually interval f) h c dom v i y s m = cc
-  range names (Always interval f) h c dom v i y s m = cc
 
   -- domains that include the base agree
   module _ (a b : List Value) (left : Includes a base) (right : Includes b base) where
-    alike : (names : Names) (role : Role) (f : Form) → fault_in names role f ≡ None → Includes base (constants f)
-        → (v : Valuation) (i : ℕ) → sat log a v i f ≡ sat log b v i f
+    alike : (names : Names) (role : Role) (f : CoreForm) → fault_in names role f ≡ None → Includes base (constants (meaning f))
+        → (v : Valuation) (i : ℕ) → sat log a v i (meaning f) ≡ sat log b v i (meaning f)
     unfolding sat fault_in constants
     alike names role True h c v i = refl
     alike names role False h c v i = refl
@@ -152,21 +144,21 @@ module _ (log : List TimePoint) (base : List Value) (logged : Includes base (log
         let outer = no_first (fault_in names Part f) (first (fault_in names Part g) (asked (is_conjunction role) (guards names (And f g)))) h in
         let inner = no_first (fault_in names Part g) (asked (is_conjunction role) (guards names (And f g))) outer.1 in
         ap₂ (λ x y. x && y)
-        (alike names Part f outer.0 (includes_left base (constants f) (constants g) c) v i)
-        (alike names Part g inner.0 (includes_right base (constants f) (constants g) c) v i)
+        (alike names Part f outer.0 (includes_left base (constants (meaning f)) (constants (meaning g)) c) v i)
+        (alike names Part g inner.0 (includes_right base (constants (meaning f)) (constants (meaning g)) c) v i)
     alike names role (Or f g) h c v i =
         let outer = no_first (fault_in names Whole f) (first (fault_in names Whole g) (evens f g)) h in
         let inner = no_first (fault_in names Whole g) (evens f g) outer.1 in
         ap₂ (λ x y. x || y)
-        (alike names Whole f outer.0 (includes_left base (constants f) (constants g) c) v i)
-        (alike names Whole g inner.0 (includes_right base (constants f) (constants g) c) v i)
+        (alike names Whole f outer.0 (includes_left base (constants (meaning f)) (constants (meaning g)) c) v i)
+        (alike names Whole g inner.0 (includes_right base (constants (meaning f)) (constants (meaning g)) c) v i)
     alike names role (Exists x f) h c v i =
         let parts = no_first (fault_in (with_name names x) Whole f) (uses x f) h in
         let own : (d : Value) → with_value v x.number d x.number ≡ d =
         λ d. cond-true (nat_eq x.number x.number) d (v x.number) (same_number x.number) in
-        ap (λ p. list_any p a) (funext (λ d. sat log a (with_value v x.number d) i f) (λ d. sat log b (with_value v x.number d) i f)
+        ap (λ p. list_any p a) (funext (λ d. sat log a (with_value v x.number d) i (meaning f)) (λ d. sat log b (with_value v x.number d) i (meaning f))
         (λ d. alike (with_name names x) Whole f parts.0 c (with_value v x.number d) i))
-        ∙ any_in_domains (λ d. sat log b (with_value v x.number d) i f) a b base
+        ∙ any_in_domains (λ d. sat log b (with_value v x.number d) i (meaning f)) a b base
         (λ d s. sym (ap (within base) (own d))
         ∙ range (with_name names x) f (part_of_whole (with_name names x) f parts.0) c b (with_value v x.number d) i x.number s
         (covered (with_name names x) f x.number parts.0 (used_variable x f parts.1)))
@@ -179,21 +171,14 @@ module _ (log : List TimePoint) (base : List Value) (logged : Includes base (log
         let outer = no_first (fault_in names Left f) (first (fault_in names Whole g) (covers names f g)) h in
         let inner = no_first (fault_in names Whole g) (covers names f g) outer.1 in
         ap₂ (λ p q. since interval (times log) (truths (length log) p) (truths (length log) q) i)
-        (funext _ _ (λ j. alike names Left f outer.0 (includes_left base (constants f) (constants g) c) v j))
-        (funext _ _ (λ j. alike names Whole g inner.0 (includes_right base (constants f) (constants g) c) v j))
+        (funext _ _ (λ j. alike names Left f outer.0 (includes_left base (constants (meaning f)) (constants (meaning g)) c) v j))
+        (funext _ _ (λ j. alike names Whole g inner.0 (includes_right base (constants (meaning f)) (constants (meaning g)) c) v j))
     alike names role (Until interval f g) h c v i =
         let outer = no_first (fault_in names Left f) (first (fault_in names Whole g) (first (looks_within interval.hi) (covers names f g))) h in
         let inner = no_first (fault_in names Whole g) (first (looks_within interval.hi) (covers names f g)) outer.1 in
         ap₂ (λ p q. until interval (times log) (truths (length log) p) (truths (length log) q) i)
-        (funext _ _ (λ j. alike names Left f outer.0 (includes_left base (constants f) (constants g) c) v j))
-        (funext _ _ (λ j. alike names Whole g inner.0 (includes_right base (constants f) (constants g) c) v j))
-    alike names role (Implies f g) h c v i = cc
-    alike names role (Equiv f g) h c v i = cc
-    alike names role (Forall x f) h c v i = cc
-    alike names role (Once interval f) h c v i = cc
-    alike names role (Historically interval f) h c v i = cc
-    alike names role (Eventually interval f) h c v i = cc
-    alike names role (Always interval f) h c v i = cc
+        (funext _ _ (λ j. alike names Left f outer.0 (includes_left base (constants (meaning f)) (constants (meaning g)) c) v j))
+        (funext _ _ (λ j. alike names Whole g inner.0 (includes_right base (constants (meaning f)) (constants (meaning g)) c) v j))
 
 pub domain : Domain
 domain log base names f h logged c v i = (

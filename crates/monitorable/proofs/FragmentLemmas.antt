@@ -4,8 +4,7 @@ use Rattle.std.proofs.lemmas.Bool.{or_cases, or_left, or_right, cases_Bool, cond
 use Rattle.std.proofs.lemmas.List.Folds.{list_any-append}
 use Rattle.mfotl_model.proofs.LogicLemmas.{among_joined, same_number}
 use Rattle.mfotl_model.specs.FreeVariables.{fv, among, joined}
-use Rattle.mfotl_model.specs.Formulas.{Form}
-use Rattle.mfotl_model.specs.Formulas.Form.{True, False, Atom, Compare, Not, And, Or, Implies, Equiv, Exists, Forall, Previous, Next, Once, Historically, Eventually, Always, Since, Until}
+use Rattle.monitorable.specs.CoreForms.{CoreForm, meaning, True, False, Atom, Compare, Not, And, Or, Exists, Previous, Next, Since, Until}
 use Rattle.mfotl_model.specs.declared.formula.Bound.{Bound}
 use Rattle.monitorable.specs.Fragment.{Names, named, first, first_outside, at_variable, binds, bound_by, needed_by, guards, evens, uses, covers, fault_in}
 use Rattle.monitorable.specs.declared.fault.FragmentFault.{FragmentFault}
@@ -41,20 +40,20 @@ none_outside xs (z ∷ ys) y h m =
     ]
 
 -- each free variable of a formula is bound by a conjunct or needed by one
-pub bound_or_needed : (f : Form) (y : ℕ) → among y (fv f) ≡ true → (among y (bound_by f) || among y (needed_by f)) ≡ true
+pub bound_or_needed : (f : CoreForm) (y : ℕ) → among y (fv (meaning f)) ≡ true → (among y (bound_by f) || among y (needed_by f)) ≡ true
 unfolding fv bound_by needed_by
 bound_or_needed (Compare c) y h =
     elim (cases_Bool (binds c)) [
       | inl e ↦
-          or_left _ _ (ap (among y) (cond-true (binds c) (fv (Compare c)) [] e) ∙ h)
+          or_left _ _ (ap (among y) (cond-true (binds c) (fv (meaning (Compare c))) [] e) ∙ h)
       | inr e ↦
-          or_right _ _ (ap (among y) (cond-false (binds c) [] (fv (Compare c)) e) ∙ h)
+          or_right _ _ (ap (among y) (cond-false (binds c) [] (fv (meaning (Compare c))) e) ∙ h)
     ]
 bound_or_needed (Not f) y h = h
 bound_or_needed (And f g) y h =
     let split = ap₂ (λ a b. a || b) (list_any-append (nat_eq y) (bound_by f) (bound_by g))
     (list_any-append (nat_eq y) (needed_by f) (needed_by g)) in
-    split ∙ elim (or_cases (among y (fv f)) (among y (fv g)) (sym (among_joined y (fv f) (fv g)) ∙ h)) [
+    split ∙ elim (or_cases (among y (fv (meaning f))) (among y (fv (meaning g))) (sym (among_joined y (fv (meaning f)) (fv (meaning g))) ∙ h)) [
       | inl e ↦ front (among y (bound_by f)) (among y (bound_by g)) (among y (needed_by f)) (among y (needed_by g)) (bound_or_needed f y e)
       | inr e ↦ back (among y (bound_by f)) (among y (bound_by g)) (among y (needed_by f)) (among y (needed_by g)) (bound_or_needed g y e)
     ]
@@ -74,21 +73,14 @@ bound_or_needed True y h = or_left _ _ h
 bound_or_needed False y h = or_left _ _ h
 bound_or_needed (Atom atom) y h = or_left _ _ h
 bound_or_needed (Or f g) y h = or_left _ _ h
-bound_or_needed (Implies f g) y h = or_left _ _ h
-bound_or_needed (Equiv f g) y h = or_left _ _ h
 bound_or_needed (Exists x f) y h = or_left _ _ h
-bound_or_needed (Forall x f) y h = or_left _ _ h
 bound_or_needed (Previous interval f) y h = or_left _ _ h
 bound_or_needed (Next interval f) y h = or_left _ _ h
-bound_or_needed (Once interval f) y h = or_left _ _ h
-bound_or_needed (Historically interval f) y h = or_left _ _ h
-bound_or_needed (Eventually interval f) y h = or_left _ _ h
-bound_or_needed (Always interval f) y h = or_left _ _ h
 bound_or_needed (Since interval f g) y h = or_left _ _ h
 bound_or_needed (Until interval f g) y h = or_left _ _ h
 
 -- where a conjunction is guarded, each of its free variables is bound by a conjunct
-pub guarded : (names : Names) (f : Form) (y : ℕ) → guards names f ≡ None → among y (fv f) ≡ true → among y (bound_by f) ≡ true
+pub guarded : (names : Names) (f : CoreForm) (y : ℕ) → guards names f ≡ None → among y (fv (meaning f)) ≡ true → among y (bound_by f) ≡ true
 guarded names f y h m =
     elim (or_cases (among y (bound_by f)) (among y (needed_by f)) (bound_or_needed f y m)) [
       | inl e ↦ e
@@ -98,7 +90,7 @@ guarded names f y h m =
     ]
 
 -- each free variable of a formula that stands by itself is bound by a conjunct of it
-pub covered : (names : Names) (f : Form) (y : ℕ) → fault_in names Whole f ≡ None → among y (fv f) ≡ true
+pub covered : (names : Names) (f : CoreForm) (y : ℕ) → fault_in names Whole f ≡ None → among y (fv (meaning f)) ≡ true
     → among y (bound_by f) ≡ true
 unfolding fault_in bound_by
 covered names (Compare c) y h m = guarded names (Compare c) y h m
@@ -112,21 +104,14 @@ covered names True y h m = m
 covered names False y h m = m
 covered names (Atom atom) y h m = m
 covered names (Or f g) y h m = m
-covered names (Implies f g) y h m = m
-covered names (Equiv f g) y h m = m
 covered names (Exists x f) y h m = m
-covered names (Forall x f) y h m = m
 covered names (Previous interval f) y h m = m
 covered names (Next interval f) y h m = m
-covered names (Once interval f) y h m = m
-covered names (Historically interval f) y h m = m
-covered names (Eventually interval f) y h m = m
-covered names (Always interval f) y h m = m
 covered names (Since interval f g) y h m = m
 covered names (Until interval f g) y h m = m
 
 -- what has no fault by itself has none as a conjunct
-pub part_of_whole : (names : Names) (f : Form) → fault_in names Whole f ≡ None → fault_in names Part f ≡ None
+pub part_of_whole : (names : Names) (f : CoreForm) → fault_in names Whole f ≡ None → fault_in names Part f ≡ None
 unfolding fault_in
 part_of_whole names (Compare c) h = refl
 part_of_whole names (Not f) h =
@@ -140,45 +125,38 @@ part_of_whole names True h = h
 part_of_whole names False h = h
 part_of_whole names (Atom atom) h = h
 part_of_whole names (Or f g) h = h
-part_of_whole names (Implies f g) h = h
-part_of_whole names (Equiv f g) h = h
 part_of_whole names (Exists x f) h = h
-part_of_whole names (Forall x f) h = h
 part_of_whole names (Previous interval f) h = h
 part_of_whole names (Next interval f) h = h
-part_of_whole names (Once interval f) h = h
-part_of_whole names (Historically interval f) h = h
-part_of_whole names (Eventually interval f) h = h
-part_of_whole names (Always interval f) h = h
 part_of_whole names (Since interval f g) h = h
 part_of_whole names (Until interval f g) h = h
 
 -- both sides of an OR have each of its variables
-pub even_variables : (f g : Form) (y : ℕ) → evens f g ≡ None → among y (joined (fv f) (fv g)) ≡ true
-    → (among y (fv f) ≡ true) × (among y (fv g) ≡ true)
+pub even_variables : (f g : CoreForm) (y : ℕ) → evens f g ≡ None → among y (joined (fv (meaning f)) (fv (meaning g))) ≡ true
+    → (among y (fv (meaning f)) ≡ true) × (among y (fv (meaning g)) ≡ true)
 even_variables f g y h m =
-    let both = no_first (at_variable (λ z. Uneven) (first_outside (fv f) (fv g))) (at_variable (λ z. Uneven) (first_outside (fv g) (fv f))) h in
-    let left = no_variable (λ z. Uneven) (first_outside (fv f) (fv g)) both.0 in
-    let right = no_variable (λ z. Uneven) (first_outside (fv g) (fv f)) both.1 in
-    elim (or_cases (among y (fv f)) (among y (fv g)) (sym (among_joined y (fv f) (fv g)) ∙ m)) [
-      | inl e ↦ (e, none_outside (fv g) (fv f) y right e)
-      | inr e ↦ (none_outside (fv f) (fv g) y left e, e)
+    let both = no_first (at_variable (λ z. Uneven) (first_outside (fv (meaning f)) (fv (meaning g)))) (at_variable (λ z. Uneven) (first_outside (fv (meaning g)) (fv (meaning f)))) h in
+    let left = no_variable (λ z. Uneven) (first_outside (fv (meaning f)) (fv (meaning g))) both.0 in
+    let right = no_variable (λ z. Uneven) (first_outside (fv (meaning g)) (fv (meaning f))) both.1 in
+    elim (or_cases (among y (fv (meaning f))) (among y (fv (meaning g))) (sym (among_joined y (fv (meaning f)) (fv (meaning g))) ∙ m)) [
+      | inl e ↦ (e, none_outside (fv (meaning g)) (fv (meaning f)) y right e)
+      | inr e ↦ (none_outside (fv (meaning f)) (fv (meaning g)) y left e, e)
     ]
 
 -- a quantified variable is free in what follows
-pub used_variable : (x : Bound) (f : Form) → uses x f ≡ None → among x.number (fv f) ≡ true
+pub used_variable : (x : Bound) (f : CoreForm) → uses x f ≡ None → among x.number (fv (meaning f)) ≡ true
 used_variable x f h =
-    none_outside (fv f) (x.number ∷ []) x.number
-    (no_variable (λ y. UnusedBound (record { number = y; name = x.name })) (first_outside (fv f) (x.number ∷ [])) h)
+    none_outside (fv (meaning f)) (x.number ∷ []) x.number
+    (no_variable (λ y. UnusedBound (record { number = y; name = x.name })) (first_outside (fv (meaning f)) (x.number ∷ [])) h)
     (or_left (nat_eq x.number x.number) false (same_number x.number))
 
 -- each variable of SINCE or UNTIL is free in the right operand
-pub right_variable : (names : Names) (f g : Form) (y : ℕ) → covers names f g ≡ None → among y (joined (fv f) (fv g)) ≡ true
-    → among y (fv g) ≡ true
+pub right_variable : (names : Names) (f g : CoreForm) (y : ℕ) → covers names f g ≡ None → among y (joined (fv (meaning f)) (fv (meaning g))) ≡ true
+    → among y (fv (meaning g)) ≡ true
 right_variable names f g y h m =
-    elim (or_cases (among y (fv f)) (among y (fv g)) (sym (among_joined y (fv f) (fv g)) ∙ m)) [
+    elim (or_cases (among y (fv (meaning f))) (among y (fv (meaning g))) (sym (among_joined y (fv (meaning f)) (fv (meaning g))) ∙ m)) [
       | inl e ↦
-          none_outside (fv g) (fv f) y
-          (no_variable (λ z. LooseLeft (named names z)) (first_outside (fv g) (fv f)) h) e
+          none_outside (fv (meaning g)) (fv (meaning f)) y
+          (no_variable (λ z. LooseLeft (named names z)) (first_outside (fv (meaning g)) (fv (meaning f))) h) e
       | inr e ↦ e
     ]

@@ -4,8 +4,7 @@ use Rattle.std.proofs.lemmas.Bool.{or_cases, or_left, or_right, cases_Bool, cond
 use Rattle.std.proofs.lemmas.List.{map-append}
 use Rattle.mfotl_model.proofs.LogicLemmas.{same_number}
 use Rattle.mfotl_model.specs.FreeVariables.{fv, among}
-use Rattle.mfotl_model.specs.Formulas.{Form}
-use Rattle.mfotl_model.specs.Formulas.Form.{True, False, Atom, Compare, Not, And, Or, Implies, Equiv, Exists, Forall, Previous, Next, Once, Historically, Eventually, Always, Since, Until}
+use Rattle.monitorable.specs.CoreForms.{CoreForm, meaning, True, False, Atom, Compare, Not, And, Or, Exists, Previous, Next, Since, Until}
 use Rattle.mfotl_model.specs.declared.formula.Bound.{Bound}
 use Rattle.mfotl_model.specs.declared.term.Comparison.{Comparison}
 use Rattle.mfotl_model.specs.declared.term.Term.{Term}
@@ -61,57 +60,43 @@ chosen : (p : ℕ → ℕ) (b c : Bool) (xs ys us vs : List ℕ) → c ≡ b →
 chosen p true c xs ys us vs e h k = cond-true c us vs e ∙ h
 chosen p false c xs ys us vs e h k = cond-false c us vs e ∙ k
 
-bound_new : (p : Numbers) (n : ℕ) (f : Form) → Spread p n (fv f) → bound_by (renamed p n f) ≡ map p (bound_by f)
+bound_new : (p : Numbers) (n : ℕ) (f : CoreForm) → Spread p n (fv (meaning f)) → bound_by (renamed p n f) ≡ map p (bound_by f)
 unfolding bound_by renamed fv
-bound_new p n (Compare c) s = chosen p (binds c) (binds (renamed_comparison p c)) (fv (Compare c)) [] _ [] (binds_new p c) (renamed_fv p n (Compare c) s) refl
+bound_new p n (Compare c) s = chosen p (binds c) (binds (renamed_comparison p c)) (fv (meaning (Compare c))) [] _ [] (binds_new p c) (renamed_fv p n (Compare c) s) refl
 bound_new p n (Not f) s = refl
 bound_new p n (And f g) s =
-    ap₂ (λ a b. a ++ b) (bound_new p n f (left p n (fv f) (fv g) s))
-    (bound_new p (n + binder_count f) g (right p n (binder_count f) (fv f) (fv g) s))
+    ap₂ (λ a b. a ++ b) (bound_new p n f (left p n (fv (meaning f)) (fv (meaning g)) s))
+    (bound_new p (n + binder_count f) g (right p n (binder_count f) (fv (meaning f)) (fv (meaning g)) s))
     ∙ sym (map-append p (bound_by f) (bound_by g))
 bound_new p n True s = refl
 bound_new p n False s = refl
 bound_new p n (Atom atom) s = renamed_fv p n (Atom atom) s
 bound_new p n (Or f g) s = renamed_fv p n (Or f g) s
-bound_new p n (Implies f g) s = renamed_fv p n (Implies f g) s
-bound_new p n (Equiv f g) s = renamed_fv p n (Equiv f g) s
 bound_new p n (Exists x f) s = renamed_fv p n (Exists x f) s
-bound_new p n (Forall x f) s = renamed_fv p n (Forall x f) s
 bound_new p n (Previous interval f) s = renamed_fv p n f s
 bound_new p n (Next interval f) s = renamed_fv p n f s
-bound_new p n (Once interval f) s = renamed_fv p n f s
-bound_new p n (Historically interval f) s = renamed_fv p n f s
-bound_new p n (Eventually interval f) s = renamed_fv p n f s
-bound_new p n (Always interval f) s = renamed_fv p n f s
 bound_new p n (Since interval f g) s = renamed_fv p n (Since interval f g) s
 bound_new p n (Until interval f g) s = renamed_fv p n (Until interval f g) s
 
-needed_new : (p : Numbers) (n : ℕ) (f : Form) → Spread p n (fv f) → needed_by (renamed p n f) ≡ map p (needed_by f)
+needed_new : (p : Numbers) (n : ℕ) (f : CoreForm) → Spread p n (fv (meaning f)) → needed_by (renamed p n f) ≡ map p (needed_by f)
 unfolding needed_by renamed fv
-needed_new p n (Compare c) s = chosen p (binds c) (binds (renamed_comparison p c)) [] (fv (Compare c)) [] _ (binds_new p c) refl (renamed_fv p n (Compare c) s)
+needed_new p n (Compare c) s = chosen p (binds c) (binds (renamed_comparison p c)) [] (fv (meaning (Compare c))) [] _ (binds_new p c) refl (renamed_fv p n (Compare c) s)
 needed_new p n (Not f) s = renamed_fv p n f s
 needed_new p n (And f g) s =
-    ap₂ (λ a b. a ++ b) (needed_new p n f (left p n (fv f) (fv g) s))
-    (needed_new p (n + binder_count f) g (right p n (binder_count f) (fv f) (fv g) s))
+    ap₂ (λ a b. a ++ b) (needed_new p n f (left p n (fv (meaning f)) (fv (meaning g)) s))
+    (needed_new p (n + binder_count f) g (right p n (binder_count f) (fv (meaning f)) (fv (meaning g)) s))
     ∙ sym (map-append p (needed_by f) (needed_by g))
 needed_new p n True s = refl
 needed_new p n False s = refl
 needed_new p n (Atom atom) s = refl
 needed_new p n (Or f g) s = refl
-needed_new p n (Implies f g) s = refl
-needed_new p n (Equiv f g) s = refl
 needed_new p n (Exists x f) s = refl
-needed_new p n (Forall x f) s = refl
 needed_new p n (Previous interval f) s = refl
 needed_new p n (Next interval f) s = refl
-needed_new p n (Once interval f) s = refl
-needed_new p n (Historically interval f) s = refl
-needed_new p n (Eventually interval f) s = refl
-needed_new p n (Always interval f) s = refl
 needed_new p n (Since interval f g) s = refl
 needed_new p n (Until interval f g) s = refl
 
-guards_new : (names names' : Names) (p : Numbers) (n : ℕ) (f : Form) → Spread p n (fv f) → guards names f ≡ None
+guards_new : (names names' : Names) (p : Numbers) (n : ℕ) (f : CoreForm) → Spread p n (fv (meaning f)) → guards names f ≡ None
     → guards names' (renamed p n f) ≡ None
 guards_new names names' p n f s h =
     no_fault p (bound_by f) (needed_by f) (bound_by (renamed p n f)) (needed_by (renamed p n f))
@@ -121,28 +106,28 @@ asked_new : (b : Bool) (x y : Option FragmentFault) → (x ≡ None → y ≡ No
 asked_new true x y h e = h e
 asked_new false x y h e = refl
 
-evens_new : (p : Numbers) (f g f' g' : Form) → fv f' ≡ map p (fv f) → fv g' ≡ map p (fv g) → evens f g ≡ None
+evens_new : (p : Numbers) (f g f' g' : CoreForm) → fv (meaning f') ≡ map p (fv (meaning f)) → fv (meaning g') ≡ map p (fv (meaning g)) → evens f g ≡ None
     → evens f' g' ≡ None
 evens_new p f g f' g' e k h =
-    let both = no_first (at_variable (λ z. Uneven) (first_outside (fv f) (fv g))) (at_variable (λ z. Uneven) (first_outside (fv g) (fv f))) h in
-    none_first (at_variable (λ z. Uneven) (first_outside (fv f') (fv g'))) (at_variable (λ z. Uneven) (first_outside (fv g') (fv f')))
-    (no_fault p (fv f) (fv g) (fv f') (fv g') (λ z. Uneven) (λ z. Uneven) e k both.0)
-    (no_fault p (fv g) (fv f) (fv g') (fv f') (λ z. Uneven) (λ z. Uneven) k e both.1)
+    let both = no_first (at_variable (λ z. Uneven) (first_outside (fv (meaning f)) (fv (meaning g)))) (at_variable (λ z. Uneven) (first_outside (fv (meaning g)) (fv (meaning f)))) h in
+    none_first (at_variable (λ z. Uneven) (first_outside (fv (meaning f')) (fv (meaning g')))) (at_variable (λ z. Uneven) (first_outside (fv (meaning g')) (fv (meaning f'))))
+    (no_fault p (fv (meaning f)) (fv (meaning g)) (fv (meaning f')) (fv (meaning g')) (λ z. Uneven) (λ z. Uneven) e k both.0)
+    (no_fault p (fv (meaning g)) (fv (meaning f)) (fv (meaning g')) (fv (meaning f')) (λ z. Uneven) (λ z. Uneven) k e both.1)
 
-covers_new : (names names' : Names) (p : Numbers) (f g f' g' : Form) → fv f' ≡ map p (fv f) → fv g' ≡ map p (fv g)
+covers_new : (names names' : Names) (p : Numbers) (f g f' g' : CoreForm) → fv (meaning f') ≡ map p (fv (meaning f)) → fv (meaning g') ≡ map p (fv (meaning g))
     → covers names f g ≡ None → covers names' f' g' ≡ None
 covers_new names names' p f g f' g' e k h =
-    no_fault p (fv g) (fv f) (fv g') (fv f') (λ z. LooseLeft (named names z)) (λ z. LooseLeft (named names' z)) k e h
+    no_fault p (fv (meaning g)) (fv (meaning f)) (fv (meaning g')) (fv (meaning f')) (λ z. LooseLeft (named names z)) (λ z. LooseLeft (named names' z)) k e h
 
-uses_new : (p : Numbers) (n : ℕ) (x : Bound) (f f' : Form) → fv f' ≡ map (with_number p x.number n) (fv f)
+uses_new : (p : Numbers) (n : ℕ) (x : Bound) (f f' : CoreForm) → fv (meaning f') ≡ map (with_number p x.number n) (fv (meaning f))
     → uses x f ≡ None → uses (record { number = n; name = x.name }) f' ≡ None
 uses_new p n x f f' e h =
     let own : with_number p x.number n x.number ≡ n = cond-true (nat_eq x.number x.number) n (p x.number) (same_number x.number) in
-    no_fault (with_number p x.number n) (fv f) (x.number ∷ []) (fv f') (n ∷ [])
+    no_fault (with_number p x.number n) (fv (meaning f)) (x.number ∷ []) (fv (meaning f')) (n ∷ [])
     (λ y. UnusedBound (record { number = y; name = x.name })) (λ y. UnusedBound (record { number = y; name = x.name }))
     e (ap (λ m. m ∷ []) (sym own)) h
 
-pub renamed_fits : (names names' : Names) (role : Role) (p : Numbers) (n : ℕ) (f : Form) → Spread p n (fv f)
+pub renamed_fits : (names names' : Names) (role : Role) (p : Numbers) (n : ℕ) (f : CoreForm) → Spread p n (fv (meaning f))
     → fault_in names role f ≡ None → fault_in names' role (renamed p n f) ≡ None
 unfolding fault_in renamed fv
 renamed_fits names names' role p n True s h = refl
@@ -157,21 +142,21 @@ renamed_fits names names' role p n (Not f) s h =
 renamed_fits names names' role p n (And f g) s h =
     let outer = no_first (fault_in names Part f) (first (fault_in names Part g) (asked (is_conjunction role) (guards names (And f g)))) h in
     let inner = no_first (fault_in names Part g) (asked (is_conjunction role) (guards names (And f g))) outer.1 in
-    none_first _ _ (renamed_fits names names' Part p n f (left p n (fv f) (fv g) s) outer.0)
+    none_first _ _ (renamed_fits names names' Part p n f (left p n (fv (meaning f)) (fv (meaning g)) s) outer.0)
     (none_first _ _
-    (renamed_fits names names' Part p (n + binder_count f) g (right p n (binder_count f) (fv f) (fv g) s) inner.0)
+    (renamed_fits names names' Part p (n + binder_count f) g (right p n (binder_count f) (fv (meaning f)) (fv (meaning g)) s) inner.0)
     (asked_new (is_conjunction role) (guards names (And f g)) _ (guards_new names names' p n (And f g) s) inner.1))
 renamed_fits names names' role p n (Or f g) s h =
     let outer = no_first (fault_in names Whole f) (first (fault_in names Whole g) (evens f g)) h in
     let inner = no_first (fault_in names Whole g) (evens f g) outer.1 in
-    let l = left p n (fv f) (fv g) s in
-    let r = right p n (binder_count f) (fv f) (fv g) s in
+    let l = left p n (fv (meaning f)) (fv (meaning g)) s in
+    let r = right p n (binder_count f) (fv (meaning f)) (fv (meaning g)) s in
     none_first _ _ (renamed_fits names names' Whole p n f l outer.0)
     (none_first _ _ (renamed_fits names names' Whole p (n + binder_count f) g r inner.0)
     (evens_new p f g (renamed p n f) (renamed p (n + binder_count f) g) (renamed_fv p n f l) (renamed_fv p (n + binder_count f) g r) inner.1))
 renamed_fits names names' role p n (Exists x f) s h =
     let parts = no_first (fault_in (with_name names x) Whole f) (uses x f) h in
-    let b = bound p n x.number (fv f) s in
+    let b = bound p n x.number (fv (meaning f)) s in
     none_first _ _
     (renamed_fits (with_name names x) (with_name names' (record { number = n; name = x.name })) Whole
     (with_number p x.number n) (n + 1) f b parts.0)
@@ -181,8 +166,8 @@ renamed_fits names names' role p n (Next interval f) s h = renamed_fits names na
 renamed_fits names names' role p n (Since interval f g) s h =
     let outer = no_first (fault_in names Left f) (first (fault_in names Whole g) (covers names f g)) h in
     let inner = no_first (fault_in names Whole g) (covers names f g) outer.1 in
-    let l = left p n (fv f) (fv g) s in
-    let r = right p n (binder_count f) (fv f) (fv g) s in
+    let l = left p n (fv (meaning f)) (fv (meaning g)) s in
+    let r = right p n (binder_count f) (fv (meaning f)) (fv (meaning g)) s in
     none_first _ _ (renamed_fits names names' Left p n f l outer.0)
     (none_first _ _ (renamed_fits names names' Whole p (n + binder_count f) g r inner.0)
     (covers_new names names' p f g (renamed p n f) (renamed p (n + binder_count f) g) (renamed_fv p n f l) (renamed_fv p (n + binder_count f) g r) inner.1))
@@ -190,19 +175,12 @@ renamed_fits names names' role p n (Until interval f g) s h =
     let outer = no_first (fault_in names Left f) (first (fault_in names Whole g) (first (looks_within interval.hi) (covers names f g))) h in
     let inner = no_first (fault_in names Whole g) (first (looks_within interval.hi) (covers names f g)) outer.1 in
     let last = no_first (looks_within interval.hi) (covers names f g) inner.1 in
-    let l = left p n (fv f) (fv g) s in
-    let r = right p n (binder_count f) (fv f) (fv g) s in
+    let l = left p n (fv (meaning f)) (fv (meaning g)) s in
+    let r = right p n (binder_count f) (fv (meaning f)) (fv (meaning g)) s in
     none_first _ _ (renamed_fits names names' Left p n f l outer.0)
     (none_first _ _ (renamed_fits names names' Whole p (n + binder_count f) g r inner.0)
     (none_first _ _ last.0
     (covers_new names names' p f g (renamed p n f) (renamed p (n + binder_count f) g) (renamed_fv p n f l) (renamed_fv p (n + binder_count f) g r) last.1)))
-renamed_fits names names' role p n (Implies f g) s h = cc
-renamed_fits names names' role p n (Equiv f g) s h = cc
-renamed_fits names names' role p n (Forall x f) s h = cc
-renamed_fits names names' role p n (Once interval f) s h = cc
-renamed_fits names names' role p n (Historically interval f) s h = cc
-renamed_fits names names' role p n (Eventually interval f) s h = cc
-renamed_fits names names' role p n (Always interval f) s h = cc
 
 pub apart_fragment : ApartFragment
-apart_fragment names names' f h = renamed_fits names names' Whole (λ y. y) (above (fv f)) f (same_numbers (fv f)) h
+apart_fragment names names' f h = renamed_fits names names' Whole (λ y. y) (above (fv (meaning f))) f (same_numbers (fv (meaning f))) h

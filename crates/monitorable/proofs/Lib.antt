@@ -6,9 +6,12 @@ pub mod FinalityLaw
 pub mod DomainLemmas
 pub mod FragmentLemmas
 pub mod DomainLaw
-pub mod TooLargeLaw
 pub mod SettledStays
+pub mod DomainRows
 pub mod ViolationsFinal
+pub mod SatisfyingLaw
+pub mod TableLaw
+pub mod CoreLaws
 pub mod TextFinal
 pub mod FragmentRenamed
 pub mod ConjunctsLaw
@@ -16,6 +19,7 @@ pub mod RenamedConstants
 pub mod Coincidence
 pub mod NormalFormLaws
 pub mod NormalFormVariables
+pub mod FreeVariableLemmas
 pub mod RenamedMeaning
 pub mod VariableListLemmas
 pub mod RenamedVariables

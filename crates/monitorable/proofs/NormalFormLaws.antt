@@ -10,6 +10,7 @@ use Rattle.mfotl_model.specs.Settled.{settled, previous_settled, next_settled, s
 use Rattle.mfotl_model.proofs.LogicLemmas.{funext, absorbed}
 use Rattle.std.proofs.Math.Bool.{beq}
 use Rattle.monitorable.proofs.SettledLemmas.{settled_within}
+use Rattle.monitorable.specs.CoreForms.{meaning}
 use Rattle.monitorable.specs.NormalForm.{positive, negative}
 use Rattle.monitorable.specs.Laws.{NormalFormHolds, NormalFormSettled}
 
@@ -48,7 +49,7 @@ normal_form_holds log dom (Compare c) v i = (refl, refl)
 normal_form_holds log dom (Not f) v i =
     let l = normal_form_holds log dom f v i in (l.1, l.0 ∙ not_not (sat log dom v i f))
 normal_form_holds log dom (And f g) v i =
-    let e : (sat log dom v i (positive f) && sat log dom v i (positive g)) ≡ (sat log dom v i f && sat log dom v i g) =
+    let e : (sat log dom v i (meaning (positive f)) && sat log dom v i (meaning (positive g))) ≡ (sat log dom v i f && sat log dom v i g) =
     ap₂ (λ b c. b && c) (normal_form_holds log dom f v i).0 (normal_form_holds log dom g v i).0 in
     (e, ap not e)
 normal_form_holds log dom (Or f g) v i =
@@ -160,19 +161,19 @@ normal_form_settled times (Next interval f) i =
     (e, e)
 normal_form_settled times (Once interval f) i =
     let e = ap (λ r. since_settled r i)
-    (funext _ _ (beside_true times f (positive f) (λ j. (normal_form_settled times f j).0))) in
+    (funext _ _ (beside_true times f (meaning (positive f)) (λ j. (normal_form_settled times f j).0))) in
     (e, e)
 normal_form_settled times (Historically interval f) i =
     let e = ap (λ r. since_settled r i)
-    (funext _ _ (beside_true times f (negative f) (λ j. (normal_form_settled times f j).1))) in
+    (funext _ _ (beside_true times f (meaning (negative f)) (λ j. (normal_form_settled times f j).1))) in
     (e, e)
 normal_form_settled times (Eventually interval f) i =
     let e = ap (λ r. until_settled interval.hi times r i)
-    (funext _ _ (beside_true times f (positive f) (λ j. (normal_form_settled times f j).0))) in
+    (funext _ _ (beside_true times f (meaning (positive f)) (λ j. (normal_form_settled times f j).0))) in
     (e, e)
 normal_form_settled times (Always interval f) i =
     let e = ap (λ r. until_settled interval.hi times r i)
-    (funext _ _ (beside_true times f (negative f) (λ j. (normal_form_settled times f j).1))) in
+    (funext _ _ (beside_true times f (meaning (negative f)) (λ j. (normal_form_settled times f j).1))) in
     (e, e)
 normal_form_settled times (Since interval f g) i =
     let e = ap₂ (λ p q. since_settled (λ j. p j && q j) i)

@@ -3,8 +3,7 @@ use Rattle.std.proofs.Common.{◌≡◌, ℕ, ◌+◌, List, [], ◌∷◌, ◌+
 use Rattle.std.specs.List.{flat_map}
 use Rattle.mfotl_model.specs.ActiveDomain.{constant_in, constants}
 use Rattle.mfotl_model.specs.FreeVariables.{fv}
-use Rattle.mfotl_model.specs.Formulas.{Form}
-use Rattle.mfotl_model.specs.Formulas.Form.{True, False, Atom, Compare, Not, And, Or, Implies, Equiv, Exists, Forall, Previous, Next, Once, Historically, Eventually, Always, Since, Until}
+use Rattle.monitorable.specs.CoreForms.{CoreForm, meaning, True, False, Atom, Compare, Not, And, Or, Exists, Previous, Next, Since, Until}
 use Rattle.mfotl_model.specs.declared.term.Term.{Term}
 use Rattle.mfotl_model.specs.declared.term.Term.TheVariants.{Var, Const}
 use Rattle.monitorable.specs.Laws.{ApartConstants}
@@ -19,7 +18,7 @@ terms_constants : (p : Numbers) (terms : List Term)
 terms_constants p [] = refl
 terms_constants p (t ∷ terms) = ap₂ (λ a b. a ++ b) (term_constants p t) (terms_constants p terms)
 
-renamed_constants : (p : Numbers) (n : ℕ) (f : Form) → constants (renamed p n f) ≡ constants f
+renamed_constants : (p : Numbers) (n : ℕ) (f : CoreForm) → constants (meaning (renamed p n f)) ≡ constants (meaning f)
 unfolding constants renamed
 renamed_constants p n True = refl
 renamed_constants p n False = refl
@@ -30,22 +29,13 @@ renamed_constants p n (And f g) =
     ap₂ (λ a b. a ++ b) (renamed_constants p n f) (renamed_constants p (n + binder_count f) g)
 renamed_constants p n (Or f g) =
     ap₂ (λ a b. a ++ b) (renamed_constants p n f) (renamed_constants p (n + binder_count f) g)
-renamed_constants p n (Implies f g) =
-    ap₂ (λ a b. a ++ b) (renamed_constants p n f) (renamed_constants p (n + binder_count f) g)
-renamed_constants p n (Equiv f g) =
-    ap₂ (λ a b. a ++ b) (renamed_constants p n f) (renamed_constants p (n + binder_count f) g)
 renamed_constants p n (Exists x f) = renamed_constants (with_number p x.number n) (n + 1) f
-renamed_constants p n (Forall x f) = renamed_constants (with_number p x.number n) (n + 1) f
 renamed_constants p n (Previous interval f) = renamed_constants p n f
 renamed_constants p n (Next interval f) = renamed_constants p n f
-renamed_constants p n (Once interval f) = renamed_constants p n f
-renamed_constants p n (Historically interval f) = renamed_constants p n f
-renamed_constants p n (Eventually interval f) = renamed_constants p n f
-renamed_constants p n (Always interval f) = renamed_constants p n f
 renamed_constants p n (Since interval f g) =
     ap₂ (λ a b. a ++ b) (renamed_constants p n f) (renamed_constants p (n + binder_count f) g)
 renamed_constants p n (Until interval f g) =
     ap₂ (λ a b. a ++ b) (renamed_constants p n f) (renamed_constants p (n + binder_count f) g)
 
 pub apart_constants : ApartConstants
-apart_constants f = renamed_constants (λ y. y) (above (fv f)) f
+apart_constants f = renamed_constants (λ y. y) (above (fv (meaning f))) f

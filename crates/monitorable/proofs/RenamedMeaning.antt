@@ -1,14 +1,12 @@
 -- A formula in new numbers holds where it did, and is settled where it was.
 use Rattle.std.proofs.Common.{◌≡◌, ℕ, ◌+◌, ◌<◌, ◌≤◌, Bool, true, false, not, ◌&&◌, ◌||◌, cond, nat_eq, List, [], ◌∷◌, ◌++◌, map, length, refl, ap, ap₂, ◌∙◌, arith}
-use Rattle.std.proofs.Math.Bool.{beq}
 use Rattle.std.proofs.lemmas.Bool.{or_left, or_right, or_cases, eqb-true, ne_eqb}
 use Rattle.std.proofs.lemmas.List.Folds.{list_any-append}
 use Rattle.std.proofs.Common.{inl, inr}
-use Rattle.std.specs.List.{list_any, list_all, flat_map}
+use Rattle.std.specs.List.{list_any, flat_map}
 use Rattle.mfotl_model.proofs.LogicLemmas.{funext, among_joined, among_without, among_distinct, same_number}
 use Rattle.mfotl_model.specs.FreeVariables.{fv, among, joined, without, variable_in, variables_in}
-use Rattle.mfotl_model.specs.Formulas.{Form}
-use Rattle.mfotl_model.specs.Formulas.Form.{True, False, Atom, Compare, Not, And, Or, Implies, Equiv, Exists, Forall, Previous, Next, Once, Historically, Eventually, Always, Since, Until}
+use Rattle.monitorable.specs.CoreForms.{CoreForm, meaning, True, False, Atom, Compare, Not, And, Or, Exists, Previous, Next, Since, Until}
 use Rattle.mfotl_model.specs.Log.{times}
 use Rattle.mfotl_model.specs.Satisfaction.{Valuation, sat, term_value, with_value, has_event, database_at, compares, since, until, previous, next, truths}
 use Rattle.mfotl_model.specs.Settled.{settled, previous_settled, next_settled, since_settled, until_settled}
@@ -109,8 +107,8 @@ comparison_same numbers c v w agree =
     (term_same numbers c.left v w (λ y h. agree y (split y ∙ or_left _ _ h)))
     (term_same numbers c.right v w (λ y h. agree y (split y ∙ or_right _ _ (rest y ∙ or_left _ _ h))))
 
-pub renamed_holds : (log : List TimePoint) (dom : List Value) (numbers : Numbers) (n : ℕ) (f : Form) (v w : Valuation) (i : ℕ)
-    → Carries numbers n (fv f) v w → sat log dom v i (renamed numbers n f) ≡ sat log dom w i f
+pub renamed_holds : (log : List TimePoint) (dom : List Value) (numbers : Numbers) (n : ℕ) (f : CoreForm) (v w : Valuation) (i : ℕ)
+    → Carries numbers n (fv (meaning f)) v w → sat log dom v i (meaning (renamed numbers n f)) ≡ sat log dom w i (meaning f)
 unfolding sat fv renamed
 renamed_holds log dom p n True v w i a = refl
 renamed_holds log dom p n False v w i a = refl
@@ -120,48 +118,28 @@ renamed_holds log dom p n (Atom atom) v w i a =
 renamed_holds log dom p n (Compare c) v w i a = comparison_same p c v w a.same
 renamed_holds log dom p n (Not f) v w i a = ap not (renamed_holds log dom p n f v w i a)
 renamed_holds log dom p n (And f g) v w i a =
-    ap₂ (λ b c. b && c) (renamed_holds log dom p n f v w i (left p n (fv f) (fv g) v w a))
-    (renamed_holds log dom p (n + binder_count f) g v w i (right p n (binder_count f) (fv f) (fv g) v w a))
+    ap₂ (λ b c. b && c) (renamed_holds log dom p n f v w i (left p n (fv (meaning f)) (fv (meaning g)) v w a))
+    (renamed_holds log dom p (n + binder_count f) g v w i (right p n (binder_count f) (fv (meaning f)) (fv (meaning g)) v w a))
 renamed_holds log dom p n (Or f g) v w i a =
-    ap₂ (λ b c. b || c) (renamed_holds log dom p n f v w i (left p n (fv f) (fv g) v w a))
-    (renamed_holds log dom p (n + binder_count f) g v w i (right p n (binder_count f) (fv f) (fv g) v w a))
-renamed_holds log dom p n (Implies f g) v w i a =
-    ap₂ (λ b c. not b || c) (renamed_holds log dom p n f v w i (left p n (fv f) (fv g) v w a))
-    (renamed_holds log dom p (n + binder_count f) g v w i (right p n (binder_count f) (fv f) (fv g) v w a))
-renamed_holds log dom p n (Equiv f g) v w i a =
-    ap₂ beq (renamed_holds log dom p n f v w i (left p n (fv f) (fv g) v w a))
-    (renamed_holds log dom p (n + binder_count f) g v w i (right p n (binder_count f) (fv f) (fv g) v w a))
+    ap₂ (λ b c. b || c) (renamed_holds log dom p n f v w i (left p n (fv (meaning f)) (fv (meaning g)) v w a))
+    (renamed_holds log dom p (n + binder_count f) g v w i (right p n (binder_count f) (fv (meaning f)) (fv (meaning g)) v w a))
 renamed_holds log dom p n (Exists x f) v w i a =
-    ap (λ q. list_any q dom) (funext _ _ (λ b. renamed_holds log dom (with_number p x.number n) (n + 1) f (with_value v n b) (with_value w x.number b) i (bound p n x.number (fv f) v w b a)))
-renamed_holds log dom p n (Forall x f) v w i a =
-    ap (λ q. list_all q dom) (funext _ _ (λ b. renamed_holds log dom (with_number p x.number n) (n + 1) f (with_value v n b) (with_value w x.number b) i (bound p n x.number (fv f) v w b a)))
+    ap (λ q. list_any q dom) (funext _ _ (λ b. renamed_holds log dom (with_number p x.number n) (n + 1) f (with_value v n b) (with_value w x.number b) i (bound p n x.number (fv (meaning f)) v w b a)))
 renamed_holds log dom p n (Previous interval f) v w i a =
     ap (λ q. previous interval (times log) (truths (length log) q) i) (funext _ _ (λ j. renamed_holds log dom p n f v w j a))
 renamed_holds log dom p n (Next interval f) v w i a =
     ap (λ q. next interval (times log) (truths (length log) q) i) (funext _ _ (λ j. renamed_holds log dom p n f v w j a))
-renamed_holds log dom p n (Once interval f) v w i a =
-    ap (λ q. since interval (times log) (truths (length log) (λ j. true)) (truths (length log) q) i)
-    (funext _ _ (λ j. renamed_holds log dom p n f v w j a))
-renamed_holds log dom p n (Historically interval f) v w i a =
-    ap (λ q. not (since interval (times log) (truths (length log) (λ j. true)) (truths (length log) (λ j. not (q j))) i))
-    (funext _ _ (λ j. renamed_holds log dom p n f v w j a))
-renamed_holds log dom p n (Eventually interval f) v w i a =
-    ap (λ q. until interval (times log) (truths (length log) (λ j. true)) (truths (length log) q) i)
-    (funext _ _ (λ j. renamed_holds log dom p n f v w j a))
-renamed_holds log dom p n (Always interval f) v w i a =
-    ap (λ q. not (until interval (times log) (truths (length log) (λ j. true)) (truths (length log) (λ j. not (q j))) i))
-    (funext _ _ (λ j. renamed_holds log dom p n f v w j a))
 renamed_holds log dom p n (Since interval f g) v w i a =
     ap₂ (λ q r. since interval (times log) (truths (length log) q) (truths (length log) r) i)
-    (funext _ _ (λ j. renamed_holds log dom p n f v w j (left p n (fv f) (fv g) v w a)))
-    (funext _ _ (λ j. renamed_holds log dom p (n + binder_count f) g v w j (right p n (binder_count f) (fv f) (fv g) v w a)))
+    (funext _ _ (λ j. renamed_holds log dom p n f v w j (left p n (fv (meaning f)) (fv (meaning g)) v w a)))
+    (funext _ _ (λ j. renamed_holds log dom p (n + binder_count f) g v w j (right p n (binder_count f) (fv (meaning f)) (fv (meaning g)) v w a)))
 renamed_holds log dom p n (Until interval f g) v w i a =
     ap₂ (λ q r. until interval (times log) (truths (length log) q) (truths (length log) r) i)
-    (funext _ _ (λ j. renamed_holds log dom p n f v w j (left p n (fv f) (fv g) v w a)))
-    (funext _ _ (λ j. renamed_holds log dom p (n + binder_count f) g v w j (right p n (binder_count f) (fv f) (fv g) v w a)))
+    (funext _ _ (λ j. renamed_holds log dom p n f v w j (left p n (fv (meaning f)) (fv (meaning g)) v w a)))
+    (funext _ _ (λ j. renamed_holds log dom p (n + binder_count f) g v w j (right p n (binder_count f) (fv (meaning f)) (fv (meaning g)) v w a)))
 
-pub renamed_settled : (times : List ℕ) (numbers : Numbers) (n : ℕ) (f : Form) (i : ℕ)
-    → settled times (renamed numbers n f) i ≡ settled times f i
+pub renamed_settled : (times : List ℕ) (numbers : Numbers) (n : ℕ) (f : CoreForm) (i : ℕ)
+    → settled times (meaning (renamed numbers n f)) i ≡ settled times (meaning f) i
 unfolding settled renamed
 renamed_settled t p n True i = refl
 renamed_settled t p n False i = refl
@@ -172,24 +150,11 @@ renamed_settled t p n (And f g) i =
     ap₂ (λ b c. b && c) (renamed_settled t p n f i) (renamed_settled t p (n + binder_count f) g i)
 renamed_settled t p n (Or f g) i =
     ap₂ (λ b c. b && c) (renamed_settled t p n f i) (renamed_settled t p (n + binder_count f) g i)
-renamed_settled t p n (Implies f g) i =
-    ap₂ (λ b c. b && c) (renamed_settled t p n f i) (renamed_settled t p (n + binder_count f) g i)
-renamed_settled t p n (Equiv f g) i =
-    ap₂ (λ b c. b && c) (renamed_settled t p n f i) (renamed_settled t p (n + binder_count f) g i)
 renamed_settled t p n (Exists x f) i = renamed_settled t (with_number p x.number n) (n + 1) f i
-renamed_settled t p n (Forall x f) i = renamed_settled t (with_number p x.number n) (n + 1) f i
 renamed_settled t p n (Previous interval f) i =
     ap (λ r. previous_settled t r i) (funext _ _ (renamed_settled t p n f))
 renamed_settled t p n (Next interval f) i =
     ap (λ r. next_settled t r i) (funext _ _ (renamed_settled t p n f))
-renamed_settled t p n (Once interval f) i =
-    ap (λ r. since_settled r i) (funext _ _ (renamed_settled t p n f))
-renamed_settled t p n (Historically interval f) i =
-    ap (λ r. since_settled r i) (funext _ _ (renamed_settled t p n f))
-renamed_settled t p n (Eventually interval f) i =
-    ap (λ r. until_settled interval.hi t r i) (funext _ _ (renamed_settled t p n f))
-renamed_settled t p n (Always interval f) i =
-    ap (λ r. until_settled interval.hi t r i) (funext _ _ (renamed_settled t p n f))
 renamed_settled t p n (Since interval f g) i =
     ap₂ (λ q r. since_settled (λ j. q j && r j) i)
     (funext _ _ (renamed_settled t p n f)) (funext _ _ (renamed_settled t p (n + binder_count f) g))
@@ -208,7 +173,7 @@ below_above y (x ∷ xs) h =
 
 pub apart_means_the_same : ApartMeansTheSame
 apart_means_the_same log dom f v i = (
-  renamed_holds log dom (λ y. y) (above (fv f)) f v v i
-      (record { same = λ y h. refl; below = λ y h. below_above y (fv f) h }),
-  λ times. renamed_settled times (λ y. y) (above (fv f)) f i,
+  renamed_holds log dom (λ y. y) (above (fv (meaning f))) f v v i
+      (record { same = λ y h. refl; below = λ y h. below_above y (fv (meaning f)) h }),
+  λ times. renamed_settled times (λ y. y) (above (fv (meaning f))) f i,
 )

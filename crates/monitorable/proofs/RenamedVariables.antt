@@ -6,14 +6,15 @@ use Rattle.std.proofs.lemmas.List.{map-append}
 use Rattle.std.specs.List.{flat_map, range_with_len}
 use Rattle.mfotl_model.proofs.LogicLemmas.{among_without, range_front}
 use Rattle.mfotl_model.specs.FreeVariables.{fv, among, joined, without, distinct, variable_in, variables_in}
-use Rattle.mfotl_model.specs.Formulas.{Form}
-use Rattle.mfotl_model.specs.Formulas.Form.{True, False, Atom, Compare, Not, And, Or, Implies, Equiv, Exists, Forall, Previous, Next, Once, Historically, Eventually, Always, Since, Until}
+use Rattle.monitorable.specs.CoreForms.{CoreForm, meaning, True, False, Atom, Compare, Not, And, Or, Exists, Previous, Next, Since, Until}
 use Rattle.mfotl_model.specs.declared.term.Term.{Term}
 use Rattle.mfotl_model.specs.declared.term.Term.TheVariants.{Var, Const}
+use Rattle.mfotl_model.specs.Tables.{all_apart}
 use Rattle.monitorable.specs.Laws.{ApartVariables}
-use Rattle.monitorable.specs.Renaming.{Numbers, with_number, renamed, renamed_term, binders, binder_count, above, apart_form, all_apart}
+use Rattle.monitorable.specs.Renaming.{Numbers, with_number, renamed, renamed_term, binders, binder_count, above, apart_form}
+use Rattle.monitorable.proofs.FreeVariableLemmas.{fv_apart}
 use Rattle.monitorable.proofs.RenamedMeaning.{below_above}
-use Rattle.monitorable.proofs.VariableListLemmas.{Injective, filter_mapped, joined_mapped, distinct_mapped, in_left, in_right, append_apart, joined_apart, distinct_apart, filter_apart, range_outside, range_apart}
+use Rattle.monitorable.proofs.VariableListLemmas.{Injective, filter_mapped, joined_mapped, distinct_mapped, in_left, in_right, append_apart, range_outside, range_apart}
 
 -- different variables have different new numbers, all below n
 pub record Spread (numbers : Numbers) (n : ℕ) (xs : List ℕ) : Type 0 where
@@ -109,8 +110,8 @@ both : (numbers : Numbers) (n : ℕ) (xs ys us vs : List ℕ) → Spread numbers
     → vs ≡ map numbers ys → joined us vs ≡ map numbers (joined xs ys)
 both numbers n xs ys us vs s e h = ap₂ joined e h ∙ joined_mapped numbers xs ys s.apart
 
-pub renamed_fv : (numbers : Numbers) (n : ℕ) (f : Form) → Spread numbers n (fv f)
-    → fv (renamed numbers n f) ≡ map numbers (fv f)
+pub renamed_fv : (numbers : Numbers) (n : ℕ) (f : CoreForm) → Spread numbers n (fv (meaning f))
+    → fv (meaning (renamed numbers n f)) ≡ map numbers (fv (meaning f))
 unfolding fv renamed
 renamed_fv p n True s = refl
 renamed_fv p n False s = refl
@@ -118,35 +119,22 @@ renamed_fv p n (Atom atom) s = variables_mapped p atom.args s.apart
 renamed_fv p n (Compare c) s = variables_mapped p (c.left ∷ c.right ∷ []) s.apart
 renamed_fv p n (Not f) s = renamed_fv p n f s
 renamed_fv p n (And f g) s =
-    both p n (fv f) (fv g) _ _ s (renamed_fv p n f (left p n (fv f) (fv g) s))
-    (renamed_fv p (n + binder_count f) g (right p n (binder_count f) (fv f) (fv g) s))
+    both p n (fv (meaning f)) (fv (meaning g)) _ _ s (renamed_fv p n f (left p n (fv (meaning f)) (fv (meaning g)) s))
+    (renamed_fv p (n + binder_count f) g (right p n (binder_count f) (fv (meaning f)) (fv (meaning g)) s))
 renamed_fv p n (Or f g) s =
-    both p n (fv f) (fv g) _ _ s (renamed_fv p n f (left p n (fv f) (fv g) s))
-    (renamed_fv p (n + binder_count f) g (right p n (binder_count f) (fv f) (fv g) s))
-renamed_fv p n (Implies f g) s =
-    both p n (fv f) (fv g) _ _ s (renamed_fv p n f (left p n (fv f) (fv g) s))
-    (renamed_fv p (n + binder_count f) g (right p n (binder_count f) (fv f) (fv g) s))
-renamed_fv p n (Equiv f g) s =
-    both p n (fv f) (fv g) _ _ s (renamed_fv p n f (left p n (fv f) (fv g) s))
-    (renamed_fv p (n + binder_count f) g (right p n (binder_count f) (fv f) (fv g) s))
+    both p n (fv (meaning f)) (fv (meaning g)) _ _ s (renamed_fv p n f (left p n (fv (meaning f)) (fv (meaning g)) s))
+    (renamed_fv p (n + binder_count f) g (right p n (binder_count f) (fv (meaning f)) (fv (meaning g)) s))
 renamed_fv p n (Exists x f) s =
-    ap (without n) (renamed_fv (with_number p x.number n) (n + 1) f (bound p n x.number (fv f) s))
-    ∙ without_mapped p n x.number (fv f) s
-renamed_fv p n (Forall x f) s =
-    ap (without n) (renamed_fv (with_number p x.number n) (n + 1) f (bound p n x.number (fv f) s))
-    ∙ without_mapped p n x.number (fv f) s
+    ap (without n) (renamed_fv (with_number p x.number n) (n + 1) f (bound p n x.number (fv (meaning f)) s))
+    ∙ without_mapped p n x.number (fv (meaning f)) s
 renamed_fv p n (Previous interval f) s = renamed_fv p n f s
 renamed_fv p n (Next interval f) s = renamed_fv p n f s
-renamed_fv p n (Once interval f) s = renamed_fv p n f s
-renamed_fv p n (Historically interval f) s = renamed_fv p n f s
-renamed_fv p n (Eventually interval f) s = renamed_fv p n f s
-renamed_fv p n (Always interval f) s = renamed_fv p n f s
 renamed_fv p n (Since interval f g) s =
-    both p n (fv f) (fv g) _ _ s (renamed_fv p n f (left p n (fv f) (fv g) s))
-    (renamed_fv p (n + binder_count f) g (right p n (binder_count f) (fv f) (fv g) s))
+    both p n (fv (meaning f)) (fv (meaning g)) _ _ s (renamed_fv p n f (left p n (fv (meaning f)) (fv (meaning g)) s))
+    (renamed_fv p (n + binder_count f) g (right p n (binder_count f) (fv (meaning f)) (fv (meaning g)) s))
 renamed_fv p n (Until interval f g) s =
-    both p n (fv f) (fv g) _ _ s (renamed_fv p n f (left p n (fv f) (fv g) s))
-    (renamed_fv p (n + binder_count f) g (right p n (binder_count f) (fv f) (fv g) s))
+    both p n (fv (meaning f)) (fv (meaning g)) _ _ s (renamed_fv p n f (left p n (fv (meaning f)) (fv (meaning g)) s))
+    (renamed_fv p (n + binder_count f) g (right p n (binder_count f) (fv (meaning f)) (fv (meaning g)) s))
 
 in_turn : (n k m : ℕ) (xs ys : List ℕ) → xs ≡ range_with_len n k → ys ≡ range_with_len (n + k) m
     → xs ++ ys ≡ range_with_len n (k + m)
@@ -155,7 +143,7 @@ in_turn n k m xs ys e h = ap₂ (λ a b. a ++ b) e h ∙ sym (range_front n k m)
 first_more : (n k : ℕ) (xs : List ℕ) → xs ≡ range_with_len (n + 1) k → n ∷ xs ≡ range_with_len n (1 + k)
 first_more n k xs e = ap (λ bs. n ∷ bs) e ∙ sym (range_front n 1 k)
 
-pub renamed_binders : (numbers : Numbers) (n : ℕ) (f : Form) → binders (renamed numbers n f) ≡ range_with_len n (binder_count f)
+pub renamed_binders : (numbers : Numbers) (n : ℕ) (f : CoreForm) → binders (renamed numbers n f) ≡ range_with_len n (binder_count f)
 unfolding binders binder_count renamed
 renamed_binders p n True = refl
 renamed_binders p n False = refl
@@ -166,60 +154,27 @@ renamed_binders p n (And f g) =
     in_turn n (binder_count f) (binder_count g) _ _ (renamed_binders p n f) (renamed_binders p (n + binder_count f) g)
 renamed_binders p n (Or f g) =
     in_turn n (binder_count f) (binder_count g) _ _ (renamed_binders p n f) (renamed_binders p (n + binder_count f) g)
-renamed_binders p n (Implies f g) =
-    in_turn n (binder_count f) (binder_count g) _ _ (renamed_binders p n f) (renamed_binders p (n + binder_count f) g)
-renamed_binders p n (Equiv f g) =
-    in_turn n (binder_count f) (binder_count g) _ _ (renamed_binders p n f) (renamed_binders p (n + binder_count f) g)
 renamed_binders p n (Exists x f) =
-    first_more n (binder_count f) _ (renamed_binders (with_number p x.number n) (n + 1) f)
-renamed_binders p n (Forall x f) =
     first_more n (binder_count f) _ (renamed_binders (with_number p x.number n) (n + 1) f)
 renamed_binders p n (Previous interval f) = renamed_binders p n f
 renamed_binders p n (Next interval f) = renamed_binders p n f
-renamed_binders p n (Once interval f) = renamed_binders p n f
-renamed_binders p n (Historically interval f) = renamed_binders p n f
-renamed_binders p n (Eventually interval f) = renamed_binders p n f
-renamed_binders p n (Always interval f) = renamed_binders p n f
 renamed_binders p n (Since interval f g) =
     in_turn n (binder_count f) (binder_count g) _ _ (renamed_binders p n f) (renamed_binders p (n + binder_count f) g)
 renamed_binders p n (Until interval f g) =
     in_turn n (binder_count f) (binder_count g) _ _ (renamed_binders p n f) (renamed_binders p (n + binder_count f) g)
 
--- free variables have no repeats
-pub fv_apart : (f : Form) → all_apart (fv f) ≡ true
-unfolding fv
-fv_apart True = refl
-fv_apart False = refl
-fv_apart (Atom atom) = distinct_apart (flat_map variable_in atom.args)
-fv_apart (Compare c) = distinct_apart (flat_map variable_in (c.left ∷ c.right ∷ []))
-fv_apart (Not f) = fv_apart f
-fv_apart (And f g) = joined_apart (fv f) (fv g) (fv_apart f) (fv_apart g)
-fv_apart (Or f g) = joined_apart (fv f) (fv g) (fv_apart f) (fv_apart g)
-fv_apart (Implies f g) = joined_apart (fv f) (fv g) (fv_apart f) (fv_apart g)
-fv_apart (Equiv f g) = joined_apart (fv f) (fv g) (fv_apart f) (fv_apart g)
-fv_apart (Exists x f) = filter_apart (λ y. not (nat_eq y x.number)) (fv f) (fv_apart f)
-fv_apart (Forall x f) = filter_apart (λ y. not (nat_eq y x.number)) (fv f) (fv_apart f)
-fv_apart (Previous interval f) = fv_apart f
-fv_apart (Next interval f) = fv_apart f
-fv_apart (Once interval f) = fv_apart f
-fv_apart (Historically interval f) = fv_apart f
-fv_apart (Eventually interval f) = fv_apart f
-fv_apart (Always interval f) = fv_apart f
-fv_apart (Since interval f g) = joined_apart (fv f) (fv g) (fv_apart f) (fv_apart g)
-fv_apart (Until interval f g) = joined_apart (fv f) (fv g) (fv_apart f) (fv_apart g)
-
 -- the numbers at first
 pub same_numbers : (xs : List ℕ) → Spread (λ y. y) (above xs) xs
 same_numbers xs = record { apart = λ y z h k e. e; below = λ y h. below_above y xs h }
 
-pub apart_fv : (f : Form) → fv (apart_form f) ≡ fv f
-apart_fv f = renamed_fv (λ y. y) (above (fv f)) f (same_numbers (fv f)) ∙ map-id (fv f)
+pub apart_fv : (f : CoreForm) → fv (meaning (apart_form f)) ≡ fv (meaning f)
+apart_fv f = renamed_fv (λ y. y) (above (fv (meaning f))) f (same_numbers (fv (meaning f))) ∙ map-id (fv (meaning f))
 
 pub apart_variables : ApartVariables
 apart_variables f = (
   apart_fv f,
-  ap₂ (λ a b. all_apart (a ++ b)) (apart_fv f) (renamed_binders (λ y. y) (above (fv f)) f)
-      ∙ append_apart (fv f) (range_with_len (above (fv f)) (binder_count f)) (fv_apart f)
-      (range_apart (above (fv f)) (binder_count f))
-      (λ y h. range_outside y (above (fv f)) (binder_count f) (below_above y (fv f) h)),
+  ap₂ (λ a b. all_apart (a ++ b)) (apart_fv f) (renamed_binders (λ y. y) (above (fv (meaning f))) f)
+      ∙ append_apart (fv (meaning f)) (range_with_len (above (fv (meaning f))) (binder_count f)) (fv_apart (meaning f))
+      (range_apart (above (fv (meaning f))) (binder_count f))
+      (λ y h. range_outside y (above (fv (meaning f))) (binder_count f) (below_above y (fv (meaning f)) h)),
 )

@@ -1,5 +1,5 @@
 -- The text of a log is a prefix of the text of every longer one.
-use Rattle.std.proofs.Common.{◌≡◌, ℕ, zero, suc, ◌+◌, ◌≤◌, Bool, true, false, cond, nat_lt, List, [], ◌∷◌, ◌++◌, map, length, Option, Some, None, refl, sym, ap, ap₂, ◌∙◌, subst, inl, inr, arith, length-append}
+use Rattle.std.proofs.Common.{◌≡◌, ℕ, zero, suc, ◌+◌, ◌≤◌, Bool, true, List, [], ◌∷◌, ◌++◌, map, length, None, refl, sym, ap, ap₂, ◌∙◌, subst, inl, inr, arith, length-append}
 use Rattle.std.proofs.lemmas.Bool.{cases_Bool, cond-true, cond-false}
 use Rattle.std.proofs.lemmas.Grind.{flat_map-append}
 use Rattle.std.proofs.lemmas.List.{map-append}
@@ -8,16 +8,14 @@ use Rattle.std.specs.List.{flat_map, range_with_len, take_while}
 use Rattle.mfotl_model.specs.Log.{times}
 use Rattle.mfotl_model.specs.Settled.{settled}
 use Rattle.mfotl_model.specs.VerdictText.{VerdictOf, line_of, verdict_at, verdicts}
+use Rattle.monitorable.proofs.CoreLaws.{accepted}
 use Rattle.monitorable.proofs.FinalityLaw.{time_same, within_log}
 use Rattle.monitorable.proofs.SettledStays.{settled_stays}
 use Rattle.monitorable.proofs.ViolationsFinal.{violations_final}
 use Rattle.monitorable.specs.Fragment.{frag}
-use Rattle.monitorable.specs.Laws.{TextFinal}
-use Rattle.monitorable.specs.NodeCount.{node_limit, nodes}
+use Rattle.monitorable.specs.Laws.{TextFinal, open_log}
 use Rattle.monitorable.specs.NormalForm.{negative}
 use Rattle.monitorable.specs.Times.{NeverFalls}
-use Rattle.monitorable.specs.declared.fault.FragmentFault.{FragmentFault}
-use Rattle.monitorable.specs.declared.fault.FragmentFault.TheVariants.{TooLarge}
 
 -- two lists of verdicts, each as far as its test holds, where the second test holds wherever the first does
 module _ (p q : ℕ → Bool) (v w : ℕ → VerdictOf) (follows : (i : ℕ) → p i ≡ true → q i ≡ true)
@@ -47,15 +45,11 @@ module _ (p q : ℕ → Bool) (v w : ℕ → VerdictOf) (follows : (i : ℕ) →
         )
       ]
 
-small : (b : Bool) (fault : Option FragmentFault) → cond b (Some TooLarge) fault ≡ None → fault ≡ None
-small true fault h = cc
-small false fault h = h
-
 pub text_final : TextFinal
-text_final log more closed closed' names f rising accepted =
+text_final log more names f rising h =
     let p : ℕ → Bool = settled (times log) f in
     let q : ℕ → Bool = settled (times (log ++ more)) f in
-    let fits : frag names (negative f) ≡ None = small (nat_lt node_limit (nodes (negative f))) (frag names (negative f)) accepted in
+    let fits : frag names (negative f) ≡ None = accepted names f h in
     let joined : times (log ++ more) ≡ times log ++ times more = map-append (λ t. t.ts) log more in
     let r = longer p q (verdict_at log f) (verdict_at (log ++ more) f)
     (λ i h. ap (λ t. settled t f i) joined
@@ -66,7 +60,7 @@ text_final log more closed closed' names f rising accepted =
     0 (length log) (length (log ++ more)) (omega (arith, length-append log more)) in (
       flat_map line_of r.0,
       ap (flat_map line_of) r.1
-          ∙ flat_map-append line_of (verdicts (record { points = log; closed = closed }) f) r.0,
+          ∙ flat_map-append line_of (verdicts (open_log log) f) r.0,
     )
   where
     rises : (t u : List ℕ) → t ≡ u → NeverFalls t → NeverFalls u

@@ -7,7 +7,7 @@ use Rattle.std.proofs.lemmas.Map.Views.{any-filter_same}
 use Rattle.std.specs.List.{filter, range_with_len}
 use Rattle.mfotl_model.proofs.LogicLemmas.{among_joined, same_number}
 use Rattle.mfotl_model.specs.FreeVariables.{among, joined, distinct}
-use Rattle.monitorable.specs.Renaming.{all_apart}
+use Rattle.mfotl_model.specs.Tables.{all_apart}
 
 -- different variables have different numbers
 abbrev pub Injective : (ℕ → ℕ) → List ℕ → Type 0

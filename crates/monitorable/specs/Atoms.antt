@@ -1,11 +1,10 @@
--- The atoms of a formula.
+-- The atoms of a core.
 use Rattle.std.specs.Prelude.{List, [], ◌∷◌, ◌++◌, Option, Some, None}
-use Rattle.mfotl_model.specs.Formulas.{Form}
-use Rattle.mfotl_model.specs.Formulas.Form.{True, False, Atom, Compare, Not, And, Or, Implies, Equiv, Exists, Forall, Previous, Next, Once, Historically, Eventually, Always, Since, Until}
+use Rattle.monitorable.specs.CoreForms.{CoreForm, True, False, Atom, Compare, Not, And, Or, Exists, Previous, Next, Since, Until}
 use Rattle.mfotl_model.specs.declared.term.Atom.{Atom as OneAtom}
 
--- the atoms of a formula, from left to right, as often as they stand there
-unfoldable pub atoms_of : Form → List OneAtom
+-- the atoms of a core, from left to right, as often as they stand there
+unfoldable pub atoms_of : CoreForm → List OneAtom
 atoms_of True = []
 atoms_of False = []
 atoms_of (Atom atom) = atom ∷ []
@@ -13,20 +12,13 @@ atoms_of (Compare c) = []
 atoms_of (Not f) = atoms_of f
 atoms_of (And f g) = atoms_of f ++ atoms_of g
 atoms_of (Or f g) = atoms_of f ++ atoms_of g
-atoms_of (Implies f g) = atoms_of f ++ atoms_of g
-atoms_of (Equiv f g) = atoms_of f ++ atoms_of g
 atoms_of (Exists x f) = atoms_of f
-atoms_of (Forall x f) = atoms_of f
 atoms_of (Previous interval f) = atoms_of f
 atoms_of (Next interval f) = atoms_of f
-atoms_of (Once interval f) = atoms_of f
-atoms_of (Historically interval f) = atoms_of f
-atoms_of (Eventually interval f) = atoms_of f
-atoms_of (Always interval f) = atoms_of f
 atoms_of (Since interval f g) = atoms_of f ++ atoms_of g
 atoms_of (Until interval f g) = atoms_of f ++ atoms_of g
 
--- the atom that a formula is, if it is one
-abbrev pub only_atom : Form → Option OneAtom
+-- the atom that a core is, if it is one
+abbrev pub only_atom : CoreForm → Option OneAtom
 only_atom (Atom atom) = Some atom
 only_atom f = None

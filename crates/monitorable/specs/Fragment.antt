@@ -1,9 +1,9 @@
 -- Which normal forms can be monitored, and else the first reason why one can't (this project's own).
 -- Each variable is to be bound by something that has finitely many rows at a time-point: an atom, or
 -- an equation with a constant.
-use Rattle.std.specs.Prelude.{ℕ, Bool, true, false, ◌&&◌, nat_lt, nat_eq, cond, List, [], ◌∷◌, ◌++◌, map, Option, Some, None, slice_index_or}
+use Rattle.std.specs.Prelude.{◌≡◌, ℕ, Bool, true, false, ◌&&◌, nat_lt, nat_eq, cond, List, [], ◌∷◌, ◌++◌, map, Option, Some, None, slice_index_or}
 use Rattle.mfotl_model.specs.Formulas.{Form}
-use Rattle.mfotl_model.specs.Formulas.Form.{True, False, Atom, Compare, Not, And, Or, Exists, Previous, Next, Since, Until}
+use Rattle.monitorable.specs.CoreForms.{CoreForm, meaning, True, False, Atom, Compare, Not, And, Or, Exists, Previous, Next, Since, Until}
 use Rattle.mfotl_model.specs.declared.formula.Bound.{Bound}
 use Rattle.mfotl_model.specs.declared.policy.Var.{Var as FreeVar}
 use Rattle.mfotl_model.specs.declared.term.Comparison.{Comparison}
@@ -12,7 +12,8 @@ use Rattle.mfotl_model.specs.declared.term.Sign.TheVariants.{Equal, Less, LessEq
 use Rattle.mfotl_model.specs.declared.term.Term.{Term}
 use Rattle.mfotl_model.specs.declared.term.Term.TheVariants.{Var, Const}
 use Rattle.mfotl_model.specs.FreeVariables.{fv, among}
-use Rattle.monitorable.specs.NodeCount.{nodes, node_limit}
+use Rattle.monitorable.specs.Limits.{node_limit}
+use Rattle.monitorable.specs.NodeCount.{nodes}
 use Rattle.monitorable.specs.NormalForm.{negative}
 use Rattle.monitorable.specs.declared.fault.Variable.{Variable}
 use Rattle.monitorable.specs.declared.fault.FragmentFault.{FragmentFault}
@@ -20,7 +21,7 @@ use Rattle.monitorable.specs.declared.fault.FragmentFault.TheVariants.{TooLarge,
 use Rattle.monitorable.specs.declared.fragment.Role.{Role}
 use Rattle.monitorable.specs.declared.fragment.Role.TheVariants.{Whole, Part, Negated, Left}
 
--- the name of each variable where a formula stands, by its number
+-- the name of each variable where a core stands, by its number
 abbrev pub Names : Type 0
 Names = ℕ → List ℕ
 
@@ -68,40 +69,40 @@ pairs_constant (Const a) (Const b) = false
 abbrev pub binds : Comparison → Bool
 binds c = is_equal c.sign && pairs_constant c.left c.right
 
--- the free variables of those conjuncts of a formula that bind theirs: neither a NOT nor a
+-- the free variables of those conjuncts of a core that bind theirs: neither a NOT nor a
 -- comparison other than an equation with a constant
-unfoldable pub bound_by : Form → List ℕ
-bound_by (Compare c) = cond (binds c) (fv (Compare c)) []
+unfoldable pub bound_by : CoreForm → List ℕ
+bound_by (Compare c) = cond (binds c) (fv (meaning (Compare c))) []
 bound_by (Not f) = []
 bound_by (And f g) = bound_by f ++ bound_by g
-bound_by f = fv f
+bound_by f = fv (meaning f)
 
 -- the free variables of the other conjuncts, in the order of their occurrence
-unfoldable pub needed_by : Form → List ℕ
-needed_by (Compare c) = cond (binds c) [] (fv (Compare c))
-needed_by (Not f) = fv f
+unfoldable pub needed_by : CoreForm → List ℕ
+needed_by (Compare c) = cond (binds c) [] (fv (meaning (Compare c)))
+needed_by (Not f) = fv (meaning f)
 needed_by (And f g) = needed_by f ++ needed_by g
 needed_by f = []
 
 -- whether each variable of the conjuncts that bind none is bound by another conjunct
-abbrev pub guards : Names → Form → Option FragmentFault
+abbrev pub guards : Names → CoreForm → Option FragmentFault
 guards names f = at_variable (λ y. Unguarded (named names y)) (first_outside (bound_by f) (needed_by f))
 
--- whether two formulas have the same free variables
-abbrev pub evens : Form → Form → Option FragmentFault
+-- whether two cores have the same free variables
+abbrev pub evens : CoreForm → CoreForm → Option FragmentFault
 evens f g =
-    first (at_variable (λ y. Uneven) (first_outside (fv f) (fv g)))
-    (at_variable (λ y. Uneven) (first_outside (fv g) (fv f)))
+    first (at_variable (λ y. Uneven) (first_outside (fv (meaning f)) (fv (meaning g))))
+    (at_variable (λ y. Uneven) (first_outside (fv (meaning g)) (fv (meaning f))))
 
--- whether a quantified variable is free in the formula
-abbrev pub uses : Bound → Form → Option FragmentFault
+-- whether a quantified variable is free in the core
+abbrev pub uses : Bound → CoreForm → Option FragmentFault
 uses x f =
     at_variable (λ y. UnusedBound (record { number = y; name = x.name }))
-    (first_outside (fv f) (x.number ∷ []))
+    (first_outside (fv (meaning f)) (x.number ∷ []))
 
 -- whether the left operand's variables are free in the right operand
-abbrev pub covers : Names → Form → Form → Option FragmentFault
-covers names f g = at_variable (λ y. LooseLeft (named names y)) (first_outside (fv g) (fv f))
+abbrev pub covers : Names → CoreForm → CoreForm → Option FragmentFault
+covers names f g = at_variable (λ y. LooseLeft (named names y)) (first_outside (fv (meaning g)) (fv (meaning f)))
 
 -- whether an interval that looks ahead has a greatest distance
 abbrev pub looks_within : Option ℕ → Option FragmentFault
@@ -143,9 +144,8 @@ abbrev pub asked : Bool → Option FragmentFault → Option FragmentFault
 asked true fault = fault
 asked false fault = None
 
--- the first fault of a formula in its role. The derived operators stand in no normal form; a formula
--- with one is refused by the fault that comes from nowhere else here.
-unfoldable pub fault_in : Names → Role → Form → Option FragmentFault
+-- the first fault of a core in its role
+unfoldable pub fault_in : Names → Role → CoreForm → Option FragmentFault
 fault_in names role True = None
 fault_in names role False = None
 fault_in names role (Atom atom) = None
@@ -165,11 +165,14 @@ fault_in names role (Since interval f g) =
 fault_in names role (Until interval f g) =
     first (fault_in names Left f)
     (first (fault_in names Whole g) (first (looks_within interval.hi) (covers names f g)))
-fault_in names role f = Some TooLarge
 
--- the first fault of a normal form
-abbrev pub frag : Names → Form → Option FragmentFault
+-- the first fault of a core
+abbrev pub frag : Names → CoreForm → Option FragmentFault
 frag names f = fault_in names Whole f
+
+-- the fragment accepts a core, whatever the names of its variables
+abbrev pub Fits : CoreForm → Type 0
+Fits f = (names : Names) → frag names f ≡ None
 
 -- why a formula, whose free variables have these names, can't be monitored
 abbrev pub frag_fault : Names → Form → Option FragmentFault

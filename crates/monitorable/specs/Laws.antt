@@ -1,23 +1,28 @@
 -- What is always true of the logic.
-use Rattle.std.specs.Prelude.{◌≡◌, ◌≢◌, ℕ, ◌+◌, ◌<◌, Bool, true, not, List, ◌++◌, length, Some, None}
-use Rattle.mfotl_model.specs.Formulas.{Form}
-use Rattle.mfotl_model.specs.Satisfaction.{Valuation, sat}
-use Rattle.mfotl_model.specs.declared.event.TimePoint.{TimePoint}
-use Rattle.mfotl_model.specs.declared.value.Value.{Value}
-use Rattle.mfotl_model.specs.FreeVariables.{fv, among}
-use Rattle.mfotl_model.specs.Settled.{settled}
+use Rattle.std.specs.Prelude.{◌≡◌, ℕ, ◌+◌, ◌<◌, true, false, not, List, ◌++◌, length, None}
+use Rattle.std.specs.List.{list_all}
+use Rattle.std.specs.List.Sorted.{IsStrictlySortedBy}
 use Rattle.mfotl_model.specs.ActiveDomain.{constants, log_values}
-use Rattle.mfotl_model.specs.Log.{times}
+use Rattle.mfotl_model.specs.Formulas.{Form}
+use Rattle.mfotl_model.specs.FreeVariables.{fv, among}
+use Rattle.mfotl_model.specs.Log.{Log, times}
+use Rattle.mfotl_model.specs.Satisfaction.{Valuation, sat}
+use Rattle.mfotl_model.specs.Settled.{settled}
+use Rattle.mfotl_model.specs.Tables.{TableOf, all_apart, all_sized, has}
+use Rattle.mfotl_model.specs.Values.{row_cmp}
 use Rattle.mfotl_model.specs.VerdictText.{text}
 use Rattle.mfotl_model.specs.Violations.{viol}
-use Rattle.std.specs.List.{list_all}
+use Rattle.mfotl_model.specs.declared.event.TimePoint.{TimePoint}
+use Rattle.mfotl_model.specs.declared.value.Value.{Value}
 use Rattle.monitorable.specs.Conjuncts.{conjuncts_of, part_holds}
+use Rattle.monitorable.specs.CoreForms.{CoreForm, meaning}
 use Rattle.monitorable.specs.Domains.{Includes, within}
 use Rattle.monitorable.specs.Fragment.{Names, frag, frag_fault}
-use Rattle.monitorable.specs.declared.fault.FragmentFault.TheVariants.{TooLarge}
-use Rattle.monitorable.specs.Times.{NeverFalls}
+use Rattle.monitorable.specs.Negation.{HasConstantsOf, Negates}
 use Rattle.monitorable.specs.NormalForm.{positive, negative}
-use Rattle.monitorable.specs.Renaming.{apart_form, all_apart, binders}
+use Rattle.monitorable.specs.Renaming.{apart_form, binders}
+use Rattle.monitorable.specs.SatisfyingRows.{HasViolationsOf, core_domain, satisfying_rows}
+use Rattle.monitorable.specs.Times.{NeverFalls}
 
 -- whether a formula holds hangs on its free variables alone
 abbrev pub Coincidence : Type 0
@@ -30,41 +35,41 @@ Coincidence =
 abbrev pub NormalFormHolds : Type 0
 NormalFormHolds =
     (log : List TimePoint) (dom : List Value) (f : Form) (v : Valuation) (i : ℕ)
-    → (sat log dom v i (positive f) ≡ sat log dom v i f)
-    × (sat log dom v i (negative f) ≡ not (sat log dom v i f))
+    → (sat log dom v i (meaning (positive f)) ≡ sat log dom v i f)
+    × (sat log dom v i (meaning (negative f)) ≡ not (sat log dom v i f))
 
 -- both normal forms are settled exactly where f is
 abbrev pub NormalFormSettled : Type 0
 NormalFormSettled =
     (times : List ℕ) (f : Form) (i : ℕ)
-    → (settled times (positive f) i ≡ settled times f i)
-    × (settled times (negative f) i ≡ settled times f i)
+    → (settled times (meaning (positive f)) i ≡ settled times f i)
+    × (settled times (meaning (negative f)) i ≡ settled times f i)
 
--- with its quantifiers apart, a formula holds where it did and is settled where it was
+-- with its quantifiers apart, a core holds where it did and is settled where it was
 abbrev pub ApartMeansTheSame : Type 0
 ApartMeansTheSame =
-    (log : List TimePoint) (dom : List Value) (f : Form) (v : Valuation) (i : ℕ)
-    → (sat log dom v i (apart_form f) ≡ sat log dom v i f)
-    × ((times : List ℕ) → settled times (apart_form f) i ≡ settled times f i)
+    (log : List TimePoint) (dom : List Value) (f : CoreForm) (v : Valuation) (i : ℕ)
+    → (sat log dom v i (meaning (apart_form f)) ≡ sat log dom v i (meaning f))
+    × ((times : List ℕ) → settled times (meaning (apart_form f)) i ≡ settled times (meaning f) i)
 
--- with its quantifiers apart, a formula has the same free variables, and no two of its free variables
+-- with its quantifiers apart, a core has the same free variables, and no two of its free variables
 -- and its quantifiers' variables are the same
 abbrev pub ApartVariables : Type 0
 ApartVariables =
-    (f : Form)
-    → (fv (apart_form f) ≡ fv f)
-    × (all_apart (fv (apart_form f) ++ binders (apart_form f)) ≡ true)
+    (f : CoreForm)
+    → (fv (meaning (apart_form f)) ≡ fv (meaning f))
+    × (all_apart (fv (meaning (apart_form f)) ++ binders (apart_form f)) ≡ true)
 
 -- both normal forms have the formula's free variables, in the same order
 abbrev pub NormalFormVariables : Type 0
-NormalFormVariables = (f : Form) → (fv (positive f) ≡ fv f) × (fv (negative f) ≡ fv f)
+NormalFormVariables = (f : Form) → (fv (meaning (positive f)) ≡ fv f) × (fv (meaning (negative f)) ≡ fv f)
 
 -- both normal forms have the formula's constants
 abbrev pub NormalFormConstants : Type 0
 NormalFormConstants =
     (f : Form) (a : Value)
-    → (within (constants (positive f)) a ≡ within (constants f) a)
-    × (within (constants (negative f)) a ≡ within (constants f) a)
+    → (within (constants (meaning (positive f))) a ≡ within (constants f) a)
+    × (within (constants (meaning (negative f))) a ≡ within (constants f) a)
 
 -- what is settled holds or fails so in every longer log whose timestamps never fall
 abbrev pub Finality : Type 0
@@ -80,19 +85,17 @@ SettledBefore =
     → settled times f (i + 1) ≡ true → settled times f i ≡ true
 
 -- What the fragment accepts is satisfied only by values of the domain, for each base that has the
--- values of the log and the constants of the formula; and it holds alike over all domains that
+-- values of the log and the constants of the core; and it holds alike over all domains that
 -- include the base, whatever their order and repeats.
 abbrev pub Domain : Type 0
 Domain =
-    (log : List TimePoint) (base : List Value) (names : Names) (f : Form)
-    → frag names f ≡ None → Includes base (log_values log) → Includes base (constants f)
+    (log : List TimePoint) (base : List Value) (names : Names) (f : CoreForm)
+    → frag names f ≡ None → Includes base (log_values log) → Includes base (constants (meaning f))
     → (v : Valuation) (i : ℕ)
-    → ((dom : List Value) (y : ℕ) → sat log dom v i f ≡ true → among y (fv f) ≡ true → within base (v y) ≡ true)
-    × ((a b : List Value) → Includes a base → Includes b base → sat log a v i f ≡ sat log b v i f)
-
--- a policy is too large for its nodes alone: no rule of the fragment says so of a normal form
-abbrev pub TooLargeByNodes : Type 0
-TooLargeByNodes = (names : Names) (f : Form) → frag names (negative f) ≢ Some TooLarge
+    → ((dom : List Value) (y : ℕ)
+    → sat log dom v i (meaning f) ≡ true → among y (fv (meaning f)) ≡ true → within base (v y) ≡ true)
+    × ((a b : List Value) → Includes a base → Includes b base
+    → sat log a v i (meaning f) ≡ sat log b v i (meaning f))
 
 -- what is settled lies within the log
 abbrev pub SettledWithin : Type 0
@@ -111,26 +114,47 @@ ViolationsFinal =
     → NeverFalls (times (log ++ more)) → frag names (negative f) ≡ None → settled (times log) f i ≡ true
     → viol log f i ≡ viol (log ++ more) f i
 
--- the text of a log is a prefix of the text of every longer one, where the policy can be monitored
+-- a log of these time-points, all of them the input's: the last one is no closing one
+abbrev pub open_log : List TimePoint → Log
+open_log points = record { points = points; closed = false }
+
+-- the text of a log without a closing time-point is a prefix of the text of every longer one, where the policy
+-- can be monitored
 abbrev pub TextFinal : Type 0
 TextFinal =
-    (log more : List TimePoint) (closed closed' : Bool) (names : Names) (f : Form)
+    (log more : List TimePoint) (names : Names) (f : Form)
     → NeverFalls (times (log ++ more)) → frag_fault names f ≡ None
     → (rest : List ℕ)
-    × (text (record { points = log ++ more; closed = closed' }) f
-    ≡ text (record { points = log; closed = closed }) f ++ rest)
+    × (text (open_log (log ++ more)) f ≡ text (open_log log) f ++ rest)
 
--- with its quantifiers apart, a formula that the fragment accepts is accepted, whatever its names
+-- with its quantifiers apart, a core that the fragment accepts is accepted, whatever its names
 abbrev pub ApartFragment : Type 0
 ApartFragment =
-    (names names' : Names) (f : Form) → frag names f ≡ None → frag names' (apart_form f) ≡ None
+    (names names' : Names) (f : CoreForm) → frag names f ≡ None → frag names' (apart_form f) ≡ None
 
--- a formula holds exactly where all its conjuncts do
+-- a core holds exactly where all its conjuncts do
 abbrev pub ConjunctsMean : Type 0
 ConjunctsMean =
-    (log : List TimePoint) (dom : List Value) (f : Form) (v : Valuation) (i : ℕ)
-    → sat log dom v i f ≡ list_all (part_holds log dom v i) (conjuncts_of f)
+    (log : List TimePoint) (dom : List Value) (f : CoreForm) (v : Valuation) (i : ℕ)
+    → sat log dom v i (meaning f) ≡ list_all (part_holds log dom v i) (conjuncts_of f)
 
--- with its quantifiers apart, a formula has the same constants
+-- with its quantifiers apart, a core has the same constants
 abbrev pub ApartConstants : Type 0
-ApartConstants = (f : Form) → constants (apart_form f) ≡ constants f
+ApartConstants = (f : CoreForm) → constants (meaning (apart_form f)) ≡ constants (meaning f)
+
+-- the violations of a formula are the rows that satisfy a core which negates it, and has its free variables in
+-- their order and its constants
+abbrev pub ViolationsSatisfy : Type 0
+ViolationsSatisfy =
+    (f : Form) (g : CoreForm) → Negates g f → fv (meaning g) ≡ fv f → HasConstantsOf g f
+    → HasViolationsOf g f
+
+-- the rows that satisfy a core which the fragment accepts are those of each table over its free variables, with
+-- strictly ascending rows, that has the row of a valuation exactly where the core holds of it
+abbrev pub TablesSatisfy : Type 0
+TablesSatisfy =
+    (log : List TimePoint) (names : Names) (g : CoreForm) (i : ℕ) (table : TableOf)
+    → frag names g ≡ None → table.columns ≡ fv (meaning g)
+    → all_sized (length table.columns) table.rows ≡ true → IsStrictlySortedBy row_cmp table.rows
+    → ((v : Valuation) → has table v ≡ sat log (core_domain log g) v i (meaning g))
+    → table.rows ≡ satisfying_rows log g i

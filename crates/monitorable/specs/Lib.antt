@@ -1,5 +1,7 @@
+pub mod CoreForms
 pub mod NormalForm
 pub mod NodeCount
+pub mod Limits
 pub mod Budget
 pub mod Fragment
 pub mod Judging
@@ -8,9 +10,11 @@ pub mod Scope
 pub mod Renaming
 pub mod RenamingScope
 pub mod Atoms
-pub mod CoreForm
+pub mod Cores
+pub mod Negation
+pub mod SatisfyingRows
 pub mod Conjuncts
-pub mod ConjunctView
+pub mod PartView
 pub mod Domains
 pub mod Times
 pub mod Laws

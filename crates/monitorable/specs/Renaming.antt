@@ -1,16 +1,15 @@
--- A formula with other numbers for its bound variables, so that no two quantifiers bind the same one
+-- A core with other numbers for its bound variables, so that no two quantifiers bind the same one
 -- and none binds a free one. Names stay (this project's own).
-use Rattle.std.specs.Prelude.{ℕ, ◌+◌, Bool, not, ◌&&◌, true, nat_eq, cond, max, List, [], ◌∷◌, ◌++◌, map}
-use Rattle.mfotl_model.specs.Formulas.{Form}
-use Rattle.mfotl_model.specs.Formulas.Form.{True, False, Atom, Compare, Not, And, Or, Implies, Equiv, Exists, Forall, Previous, Next, Once, Historically, Eventually, Always, Since, Until}
-use Rattle.mfotl_model.specs.FreeVariables.{fv, among}
+use Rattle.std.specs.Prelude.{ℕ, ◌+◌, nat_eq, cond, max, List, [], ◌∷◌, ◌++◌, map}
+use Rattle.monitorable.specs.CoreForms.{CoreForm, meaning, True, False, Atom, Compare, Not, And, Or, Exists, Previous, Next, Since, Until}
+use Rattle.mfotl_model.specs.FreeVariables.{fv}
 use Rattle.mfotl_model.specs.declared.term.Atom.{Atom as OneAtom}
 use Rattle.mfotl_model.specs.declared.term.Comparison.{Comparison}
 use Rattle.mfotl_model.specs.declared.term.Term.{Term}
 use Rattle.mfotl_model.specs.declared.term.Term.TheVariants.{Var, Const}
 
 -- the variables that the quantifiers bind, in the order of the quantifiers
-unfoldable pub binders : Form → List ℕ
+unfoldable pub binders : CoreForm → List ℕ
 binders True = []
 binders False = []
 binders (Atom atom) = []
@@ -18,21 +17,14 @@ binders (Compare c) = []
 binders (Not f) = binders f
 binders (And f g) = binders f ++ binders g
 binders (Or f g) = binders f ++ binders g
-binders (Implies f g) = binders f ++ binders g
-binders (Equiv f g) = binders f ++ binders g
 binders (Exists x f) = x.number ∷ binders f
-binders (Forall x f) = x.number ∷ binders f
 binders (Previous interval f) = binders f
 binders (Next interval f) = binders f
-binders (Once interval f) = binders f
-binders (Historically interval f) = binders f
-binders (Eventually interval f) = binders f
-binders (Always interval f) = binders f
 binders (Since interval f g) = binders f ++ binders g
 binders (Until interval f g) = binders f ++ binders g
 
 -- how many quantifiers there are
-unfoldable pub binder_count : Form → ℕ
+unfoldable pub binder_count : CoreForm → ℕ
 binder_count True = 0
 binder_count False = 0
 binder_count (Atom atom) = 0
@@ -40,16 +32,9 @@ binder_count (Compare c) = 0
 binder_count (Not f) = binder_count f
 binder_count (And f g) = binder_count f + binder_count g
 binder_count (Or f g) = binder_count f + binder_count g
-binder_count (Implies f g) = binder_count f + binder_count g
-binder_count (Equiv f g) = binder_count f + binder_count g
 binder_count (Exists x f) = 1 + binder_count f
-binder_count (Forall x f) = 1 + binder_count f
 binder_count (Previous interval f) = binder_count f
 binder_count (Next interval f) = binder_count f
-binder_count (Once interval f) = binder_count f
-binder_count (Historically interval f) = binder_count f
-binder_count (Eventually interval f) = binder_count f
-binder_count (Always interval f) = binder_count f
 binder_count (Since interval f g) = binder_count f + binder_count g
 binder_count (Until interval f g) = binder_count f + binder_count g
 
@@ -72,8 +57,8 @@ abbrev pub renamed_comparison : Numbers → Comparison → Comparison
 renamed_comparison numbers c =
     record { sign = c.sign; left = renamed_term numbers c.left; right = renamed_term numbers c.right }
 
--- the formula in new numbers, its quantifiers numbered from n on
-unfoldable pub renamed : Numbers → ℕ → Form → Form
+-- the core in new numbers, its quantifiers numbered from n on
+unfoldable pub renamed : Numbers → ℕ → CoreForm → CoreForm
 renamed numbers n True = True
 renamed numbers n False = False
 renamed numbers n (Atom atom) = Atom (renamed_atom numbers atom)
@@ -81,18 +66,10 @@ renamed numbers n (Compare c) = Compare (renamed_comparison numbers c)
 renamed numbers n (Not f) = Not (renamed numbers n f)
 renamed numbers n (And f g) = And (renamed numbers n f) (renamed numbers (n + binder_count f) g)
 renamed numbers n (Or f g) = Or (renamed numbers n f) (renamed numbers (n + binder_count f) g)
-renamed numbers n (Implies f g) = Implies (renamed numbers n f) (renamed numbers (n + binder_count f) g)
-renamed numbers n (Equiv f g) = Equiv (renamed numbers n f) (renamed numbers (n + binder_count f) g)
 renamed numbers n (Exists x f) =
     Exists (record { number = n; name = x.name }) (renamed (with_number numbers x.number n) (n + 1) f)
-renamed numbers n (Forall x f) =
-    Forall (record { number = n; name = x.name }) (renamed (with_number numbers x.number n) (n + 1) f)
 renamed numbers n (Previous interval f) = Previous interval (renamed numbers n f)
 renamed numbers n (Next interval f) = Next interval (renamed numbers n f)
-renamed numbers n (Once interval f) = Once interval (renamed numbers n f)
-renamed numbers n (Historically interval f) = Historically interval (renamed numbers n f)
-renamed numbers n (Eventually interval f) = Eventually interval (renamed numbers n f)
-renamed numbers n (Always interval f) = Always interval (renamed numbers n f)
 renamed numbers n (Since interval f g) =
     Since interval (renamed numbers n f) (renamed numbers (n + binder_count f) g)
 renamed numbers n (Until interval f g) =
@@ -103,11 +80,6 @@ abbrev pub above : List ℕ → ℕ
 above [] = 0
 above (x ∷ xs) = max (x + 1) (above xs)
 
--- the formula whose quantifiers are numbered one after the other, above its free variables
-abbrev pub apart_form : Form → Form
-apart_form f = renamed (λ y. y) (above (fv f)) f
-
--- whether no two of the numbers are equal
-abbrev pub all_apart : List ℕ → Bool
-all_apart [] = true
-all_apart (x ∷ xs) = not (among x xs) && all_apart xs
+-- the core whose quantifiers are numbered one after the other, above its free variables
+abbrev pub apart_form : CoreForm → CoreForm
+apart_form f = renamed (λ y. y) (above (fv (meaning f))) f

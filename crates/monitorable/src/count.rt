@@ -28,55 +28,56 @@ pub fn pay_for(formula: &Formula, budget: Option<u32>) -> Option<u32>
     }
     match formula {
         Formula::True | Formula::False | Formula::Atom(_) | Formula::Compare(_) => pay(1, budget),
-        Formula::Not(inner) => pay_for_denied(inner, budget),
-        Formula::And(left, right) => pay_for(right, pay_for(left, pay(1, budget))),
-        Formula::Or(left, right) => pay_for(right, pay_for(left, pay(1, budget))),
-        Formula::Implies(left, right) => pay_for(right, pay_for_denied(left, pay(1, budget))),
+        Formula::Not(inner) => pay_for_negated(inner, budget),
+        Formula::And(left, right)
+        | Formula::Or(left, right)
+        | Formula::Since(_, left, right)
+        | Formula::Until(_, left, right) => pay_for(right, pay_for(left, pay(1, budget))),
+        Formula::Implies(left, right) => pay_for(right, pay_for_negated(left, pay(1, budget))),
         Formula::Equiv(left, right) => {
-            let forth = pay_for(right, pay_for_denied(left, pay(2, budget)));
-            pay_for(left, pay_for_denied(right, pay(1, forth)))
+            let forth = pay_for(right, pay_for_negated(left, pay(2, budget)));
+            pay_for(left, pay_for_negated(right, pay(1, forth)))
         }
-        Formula::Exists(_, inner) => pay_for(inner, pay(1, budget)),
-        Formula::Forall(_, inner) => pay_for_denied(inner, pay(2, budget)),
-        Formula::Previous(_, inner) => pay_for(inner, pay(1, budget)),
-        Formula::Next(_, inner) => pay_for(inner, pay(1, budget)),
-        Formula::Once(_, inner) => pay_for(inner, pay(2, budget)),
-        Formula::Historically(_, inner) => pay_for_denied(inner, pay(3, budget)),
-        Formula::Eventually(_, inner) => pay_for(inner, pay(2, budget)),
-        Formula::Always(_, inner) => pay_for_denied(inner, pay(3, budget)),
-        Formula::Since(_, left, right) => pay_for(right, pay_for(left, pay(1, budget))),
-        Formula::Until(_, left, right) => pay_for(right, pay_for(left, pay(1, budget))),
+        Formula::Exists(_, inner) | Formula::Previous(_, inner) | Formula::Next(_, inner) => {
+            pay_for(inner, pay(1, budget))
+        }
+        Formula::Once(_, inner) | Formula::Eventually(_, inner) => pay_for(inner, pay(2, budget)),
+        Formula::Forall(_, inner) => pay_for_negated(inner, pay(2, budget)),
+        Formula::Historically(_, inner) | Formula::Always(_, inner) => {
+            pay_for_negated(inner, pay(3, budget))
+        }
     }
 }
 
 /// What is left of the budget after the nodes of the normal form of the formula's negation.
 #[cycle(counting)]
-#[tactic(auto, unfolding(crate::specs::NormalForm::negative, crate::specs::NodeCount::nodes), using(crate::proofs::BudgetLemmas::spent_twice))]
-pub fn pay_for_denied(formula: &Formula, budget: Option<u32>) -> Option<u32>
+#[tactic(auto, unfolding(crate::specs::NormalForm::positive, crate::specs::NormalForm::negative, crate::specs::NodeCount::nodes), using(crate::proofs::BudgetLemmas::spent_twice))]
+pub fn pay_for_negated(formula: &Formula, budget: Option<u32>) -> Option<u32>
     ensures { result ≡ spent (nodes (negative (form formula.now))) budget }
 {
     if budget.is_none() {
         return None;
     }
     match formula {
-        Formula::True | Formula::False | Formula::Atom(_) | Formula::Compare(_) => pay(2, budget),
         Formula::Not(inner) => pay_for(inner, budget),
-        Formula::And(left, right) => pay_for(right, pay_for(left, pay(2, budget))),
-        Formula::Or(left, right) => pay_for_denied(right, pay_for_denied(left, pay(1, budget))),
-        Formula::Implies(left, right) => pay_for_denied(right, pay_for(left, pay(1, budget))),
-        Formula::Equiv(left, right) => {
-            let forth = pay_for(right, pay_for_denied(left, pay(3, budget)));
-            pay_for(left, pay_for_denied(right, pay(1, forth)))
+        Formula::Or(left, right) => pay_for_negated(right, pay_for_negated(left, pay(1, budget))),
+        Formula::Implies(left, right) => pay_for_negated(right, pay_for(left, pay(1, budget))),
+        Formula::Forall(_, inner) => pay_for_negated(inner, pay(1, budget)),
+        Formula::Historically(_, inner) | Formula::Always(_, inner) => {
+            pay_for_negated(inner, pay(2, budget))
         }
-        Formula::Exists(_, inner) => pay_for(inner, pay(2, budget)),
-        Formula::Forall(_, inner) => pay_for_denied(inner, pay(1, budget)),
-        Formula::Previous(_, inner) => pay_for(inner, pay(2, budget)),
-        Formula::Next(_, inner) => pay_for(inner, pay(2, budget)),
-        Formula::Once(_, inner) => pay_for(inner, pay(3, budget)),
-        Formula::Historically(_, inner) => pay_for_denied(inner, pay(2, budget)),
-        Formula::Eventually(_, inner) => pay_for(inner, pay(3, budget)),
-        Formula::Always(_, inner) => pay_for_denied(inner, pay(2, budget)),
-        Formula::Since(_, left, right) => pay_for(right, pay_for(left, pay(2, budget))),
-        Formula::Until(_, left, right) => pay_for(right, pay_for(left, pay(2, budget))),
+        Formula::True
+        | Formula::False
+        | Formula::Atom(_)
+        | Formula::Compare(_)
+        | Formula::And(_, _)
+        | Formula::Equiv(_, _)
+        | Formula::Exists(_, _)
+        | Formula::Previous(_, _)
+        | Formula::Next(_, _)
+        | Formula::Once(_, _)
+        | Formula::Eventually(_, _)
+        | Formula::Since(_, _, _)
+        | Formula::Until(_, _, _) => pay_for(formula, pay(1, budget)),
     }
 }

@@ -1,20 +1,22 @@
 //! Whether a normal form can be monitored.
 ghost use Rattle.std.specs.Prelude.{◌≡◌};
-ghost use Rattle.mfotl_model.specs.Formulas.{form};
-ghost use Rattle.monitorable.specs.Fragment.{asked, covers, evens, fault_in, guards, is_conjunction, judges_comparison, judges_not, looks_within, under_not, uses};
+ghost use Rattle.monitorable.specs.CoreForms.{node_form};
+ghost use Rattle.monitorable.specs.Fragment.{asked, covers, evens, fault_in, first, guards, is_conjunction, judges_comparison, judges_not, looks_within, under_not, uses};
 ghost use Rattle.monitorable.specs.Judging.{Judges};
+ghost use Rattle.monitorable.specs.declared.fragment.Role.TheVariants.{Part, Whole};
 ghost use Rattle.monitorable.specs.Scope.{scope_names};
 
 use crate::fault::{FragmentFault, Variable};
+use crate::node::Node;
 use crate::scope::Scope;
 use crate::variables::{bound_by, first_outside, needed_by};
-use mfotl_model::{Bound, Formula, Interval};
+use mfotl_model::{Bound, Interval};
 use std::alloc::Global;
 
-/// What a formula is in the one around it.
-#[derive(Clone, Copy, Debug, PartialEq, Eq)]
+/// What a node is in the one around it.
+#[derive(Clone, Copy, PartialEq, Eq)]
 pub enum Role {
-    /// A formula by itself.
+    /// A node by itself.
     Whole,
     /// A conjunct of a conjunction.
     Part,
@@ -25,7 +27,7 @@ pub enum Role {
 }
 
 impl Role {
-    fn under_not(self) -> Role
+    pub fn under_not(self) -> Role
         ensures { result ≡ under_not self }
     {
         match self {
@@ -34,7 +36,7 @@ impl Role {
         }
     }
 
-    fn is_conjunction(self) -> bool
+    pub fn is_conjunction(self) -> bool
         ensures { result ≡ is_conjunction self }
     {
         match self {
@@ -43,7 +45,7 @@ impl Role {
         }
     }
 
-    fn judges_not(self) -> bool
+    pub fn judges_not(self) -> bool
         ensures { result ≡ judges_not self }
     {
         match self {
@@ -52,7 +54,7 @@ impl Role {
         }
     }
 
-    fn judges_comparison(self) -> bool
+    pub fn judges_comparison(self) -> bool
         ensures { result ≡ judges_comparison self }
     {
         match self {
@@ -63,76 +65,123 @@ impl Role {
 }
 
 /// The first fault of a normal form in its role, as an error.
+#[cycle(judging)]
 #[tactic(auto, unfolding(crate::specs::Fragment::fault_in))]
-pub fn judge(
-    alloc: Global,
-    formula: &Formula,
-    role: Role,
-    scope: &Scope,
-) -> Result<(), FragmentFault>
-    ensures { Judges result (fault_in (scope_names scope.now) role (form formula.now)) }
+pub fn judge(alloc: Global, node: &Node, role: Role, scope: &Scope) -> Result<(), FragmentFault>
+    ensures { Judges result (fault_in (scope_names scope.now) role (node_form node.now)) }
 {
-    match formula {
-        Formula::True | Formula::False | Formula::Atom(_) => Ok(()),
-        Formula::Compare(_) => guard(alloc, role.judges_comparison(), formula, scope),
-        Formula::Not(inner) => {
+    match node {
+        Node::True | Node::False | Node::Atom(_) => Ok(()),
+        Node::Compare(_) => guard(alloc, role.judges_comparison(), node, scope),
+        Node::Not(inner) => {
             judge(alloc, inner, role.under_not(), scope)?;
-            guard(alloc, role.judges_not(), formula, scope)
+            guard(alloc, role.judges_not(), node, scope)
         }
-        Formula::And(left, right) => {
+        Node::And(left, right) => {
             judge(alloc, left, Role::Part, scope)?;
-            judge(alloc, right, Role::Part, scope)?;
-            guard(alloc, role.is_conjunction(), formula, scope)
+            judge_right_of_and(alloc, right, node, role, scope)
         }
-        Formula::Or(left, right) => {
+        Node::Or(left, right) => {
             judge(alloc, left, Role::Whole, scope)?;
-            judge(alloc, right, Role::Whole, scope)?;
-            even(alloc, left, right)
+            judge_right_of_or(alloc, right, left, scope)
         }
-        Formula::Exists(bound, inner) => {
+        Node::Exists(bound, inner) => {
             judge(alloc, inner, Role::Whole, &Scope::Under(&*bound, &*scope))?;
             used(alloc, bound, inner)
         }
-        Formula::Previous(_, inner) => judge(alloc, inner, Role::Whole, scope),
-        Formula::Next(_, inner) => judge(alloc, inner, Role::Whole, scope),
-        Formula::Since(_, left, right) => {
+        Node::Previous(_, inner) | Node::Next(_, inner) => judge(alloc, inner, Role::Whole, scope),
+        Node::Since(_, left, right) => {
             judge(alloc, left, Role::Left, scope)?;
-            judge(alloc, right, Role::Whole, scope)?;
-            covered(alloc, left, right, scope)
+            judge_right_of_since(alloc, right, left, scope)
         }
-        Formula::Until(interval, left, right) => {
+        Node::Until(interval, left, right) => {
             judge(alloc, left, Role::Left, scope)?;
-            judge(alloc, right, Role::Whole, scope)?;
-            bounded(interval)?;
-            covered(alloc, left, right, scope)
+            judge_right_of_until(alloc, right, left, interval, scope)
         }
-        Formula::Implies(_, _)
-        | Formula::Equiv(_, _)
-        | Formula::Forall(_, _)
-        | Formula::Once(_, _)
-        | Formula::Historically(_, _)
-        | Formula::Eventually(_, _)
-        | Formula::Always(_, _) => Err(FragmentFault::TooLarge),
     }
 }
 
+// The right side of AND, and the conjunction's variables.
+#[cycle(judging)]
+fn judge_right_of_and(
+    alloc: Global,
+    right: &Node,
+    whole: &Node,
+    role: Role,
+    scope: &Scope,
+) -> Result<(), FragmentFault>
+    ensures { Judges result (first (fault_in (scope_names scope.now) Part (node_form right.now))
+        (asked (is_conjunction role) (guards (scope_names scope.now) (node_form whole.now)))) }
+{
+    judge(alloc, right, Role::Part, scope)?;
+    guard(alloc, role.is_conjunction(), whole, scope)
+}
+
+// The right side of OR, and both sides' variables.
+#[cycle(judging)]
+fn judge_right_of_or(
+    alloc: Global,
+    right: &Node,
+    left: &Node,
+    scope: &Scope,
+) -> Result<(), FragmentFault>
+    ensures { Judges result (first (fault_in (scope_names scope.now) Whole (node_form right.now))
+        (evens (node_form left.now) (node_form right.now))) }
+{
+    judge(alloc, right, Role::Whole, scope)?;
+    even(alloc, left, right)
+}
+
+// The right side of SINCE, and both sides' variables.
+#[cycle(judging)]
+fn judge_right_of_since(
+    alloc: Global,
+    right: &Node,
+    left: &Node,
+    scope: &Scope,
+) -> Result<(), FragmentFault>
+    ensures { Judges result (first (fault_in (scope_names scope.now) Whole (node_form right.now))
+        (covers (scope_names scope.now) (node_form left.now) (node_form right.now))) }
+{
+    judge(alloc, right, Role::Whole, scope)?;
+    covered(alloc, left, right, scope)
+}
+
+// The right side of UNTIL, its interval, and both sides' variables.
+#[cycle(judging)]
+fn judge_right_of_until(
+    alloc: Global,
+    right: &Node,
+    left: &Node,
+    interval: &Interval,
+    scope: &Scope,
+) -> Result<(), FragmentFault>
+    ensures { Judges result (first (fault_in (scope_names scope.now) Whole (node_form right.now))
+        (first (looks_within interval.now.hi)
+        (covers (scope_names scope.now) (node_form left.now) (node_form right.now)))) }
+{
+    judge(alloc, right, Role::Whole, scope)?;
+    bounded(interval)?;
+    covered(alloc, left, right, scope)
+}
+
 // Where it is asked for: each variable of a conjunct that binds none is bound by another conjunct.
-fn guard(alloc: Global, wanted: bool, formula: &Formula, scope: &Scope) -> Result<(), FragmentFault>
-    ensures { Judges result (asked wanted (guards (scope_names scope.now) (form formula.now))) }
+fn guard(alloc: Global, wanted: bool, node: &Node, scope: &Scope) -> Result<(), FragmentFault>
+    ensures { Judges result (asked wanted (guards (scope_names scope.now) (node_form node.now))) }
 {
     if !wanted {
         return Ok(());
     }
-    let bound = bound_by(alloc, formula)?;
-    let needed = needed_by(alloc, formula)?;
+    let bound = bound_by(alloc, node)?;
+    let needed = needed_by(alloc, node)?;
     match first_outside(&bound, &needed) {
         None => Ok(()),
         Some(number) => Err(FragmentFault::Unguarded(scope.variable(alloc, number)?)),
     }
 }
 
-fn even(alloc: Global, left: &Formula, right: &Formula) -> Result<(), FragmentFault>
-    ensures { Judges result (evens (form left.now) (form right.now)) }
+fn even(alloc: Global, left: &Node, right: &Node) -> Result<(), FragmentFault>
+    ensures { Judges result (evens (node_form left.now) (node_form right.now)) }
 {
     let left = left.free_vars(alloc)?;
     let right = right.free_vars(alloc)?;
@@ -142,8 +191,8 @@ fn even(alloc: Global, left: &Formula, right: &Formula) -> Result<(), FragmentFa
     Ok(())
 }
 
-fn used(alloc: Global, bound: &Bound, inner: &Formula) -> Result<(), FragmentFault>
-    ensures { Judges result (uses bound.now (form inner.now)) }
+fn used(alloc: Global, bound: &Bound, inner: &Node) -> Result<(), FragmentFault>
+    ensures { Judges result (uses bound.now (node_form inner.now)) }
 {
     let free = inner.free_vars(alloc)?;
     match first_outside(&free, &[bound.number]) {
@@ -155,13 +204,8 @@ fn used(alloc: Global, bound: &Bound, inner: &Formula) -> Result<(), FragmentFau
     }
 }
 
-fn covered(
-    alloc: Global,
-    left: &Formula,
-    right: &Formula,
-    scope: &Scope,
-) -> Result<(), FragmentFault>
-    ensures { Judges result (covers (scope_names scope.now) (form left.now) (form right.now)) }
+fn covered(alloc: Global, left: &Node, right: &Node, scope: &Scope) -> Result<(), FragmentFault>
+    ensures { Judges result (covers (scope_names scope.now) (node_form left.now) (node_form right.now)) }
 {
     let left = left.free_vars(alloc)?;
     let right = right.free_vars(alloc)?;

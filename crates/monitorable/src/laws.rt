@@ -1,5 +1,5 @@
 //! Laws of the logic, each stated by the contract of a function that does nothing.
-ghost use Rattle.monitorable.specs.Laws.{ApartConstants, ApartFragment, ApartMeansTheSame, ApartVariables, Coincidence, ConjunctsMean, Domain, Finality, NormalFormConstants, NormalFormHolds, NormalFormSettled, NormalFormVariables, SettledBefore, SettledStays, SettledWithin, TextFinal, TooLargeByNodes, ViolationsFinal};
+ghost use Rattle.monitorable.specs.Laws.{ApartConstants, ApartFragment, ApartMeansTheSame, ApartVariables, Coincidence, ConjunctsMean, Domain, Finality, NormalFormConstants, NormalFormHolds, NormalFormSettled, NormalFormVariables, SettledBefore, SettledStays, SettledWithin, TablesSatisfy, TextFinal, ViolationsFinal, ViolationsSatisfy};
 
 /// Whether a formula holds hangs on its free variables alone.
 pub fn only_free_variables_matter()
@@ -17,12 +17,12 @@ pub fn normal_form_settled()
     ensures { NormalFormSettled }
 {}
 
-/// With its quantifiers apart, a formula holds where it did and is settled where it was.
+/// With its quantifiers apart, a core holds where it did and is settled where it was.
 pub fn apart_means_the_same()
     ensures { ApartMeansTheSame }
 {}
 
-/// With its quantifiers apart, a formula has the same free variables, and no variable stands for two.
+/// With its quantifiers apart, a core has the same free variables, and no variable stands for two.
 pub fn apart_variables()
     ensures { ApartVariables }
 {}
@@ -52,11 +52,6 @@ pub fn domain_is_enough()
     ensures { Domain }
 {}
 
-/// A policy is too large for the nodes of its normal form alone.
-pub fn too_large_by_nodes()
-    ensures { TooLargeByNodes }
-{}
-
 /// What is settled lies within the log.
 pub fn settled_within()
     ensures { SettledWithin }
@@ -72,22 +67,33 @@ pub fn violations_are_final()
     ensures { ViolationsFinal }
 {}
 
-/// The text of a log is a prefix of the text of every longer one, where the policy can be monitored.
+/// The text of a log without a closing time-point is a prefix of the text of every longer one, where
+/// the policy can be monitored.
 pub fn text_is_final()
     ensures { TextFinal }
 {}
 
-/// With its quantifiers apart, a formula that the fragment accepts is accepted.
+/// With its quantifiers apart, a core that the fragment accepts is accepted.
 pub fn apart_fragment()
     ensures { ApartFragment }
 {}
 
-/// A formula holds exactly where all its conjuncts do.
+/// A core holds exactly where all its conjuncts do.
 pub fn conjuncts_mean()
     ensures { ConjunctsMean }
 {}
 
-/// With its quantifiers apart, a formula has the same constants.
+/// With its quantifiers apart, a core has the same constants.
 pub fn apart_constants()
     ensures { ApartConstants }
+{}
+
+/// The violations of a policy are the rows that satisfy a core which negates it.
+pub fn violations_satisfy()
+    ensures { ViolationsSatisfy }
+{}
+
+/// A table that has the rows of which a core holds has the rows that satisfy it.
+pub fn tables_satisfy()
+    ensures { TablesSatisfy }
 {}

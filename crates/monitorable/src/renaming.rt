@@ -1,14 +1,14 @@
 //! Other numbers for bound variables.
 ghost use Rattle.std.specs.Prelude.{◌≡◌, ◌+◌, map, IfOk, OnOk};
-ghost use Rattle.mfotl_model.specs.Formulas.{form};
-ghost use Rattle.mfotl_model.specs.FreeVariables.{fv};
-ghost use Rattle.monitorable.specs.Renaming.{above, apart_form, binder_count, renamed, renamed_atom, renamed_comparison, renamed_term};
+ghost use Rattle.monitorable.specs.CoreForms.{Exists, node_form};
+ghost use Rattle.monitorable.specs.Renaming.{above, apart_form, binder_count, renamed, renamed_atom, renamed_comparison, renamed_term, with_number};
 ghost use Rattle.monitorable.specs.RenamingScope.{numbers_of};
 
-use mfotl_model::{Atom, Bound, Comparison, Formula, Term, Terms};
+use crate::node::Node;
+use mfotl_model::{Atom, Bound, Comparison, Term, Terms};
 use std::alloc::{AllocError, Global};
 
-/// The new numbers of the variables where a formula stands: the innermost quantifier's first.
+/// The new numbers of the variables where a core stands: the innermost quantifier's first.
 #[derive(Clone, Copy)]
 pub enum Renaming<'a> {
     Same,
@@ -65,85 +65,48 @@ impl Renaming<'_> {
     }
 }
 
-/// The formula in new numbers. `next` is the number of the next quantifier; where there is none left,
+/// The core in new numbers. `next` is the number of the next quantifier; where there is none left,
 /// the answer is the same as for want of memory.
 #[cycle(renaming)]
 #[tactic(auto, unfolding(crate::specs::Renaming::renamed, crate::specs::Renaming::binder_count))]
 fn renamed(
     alloc: Global,
-    formula: &Formula,
+    node: &Node,
     renaming: &Renaming,
     next: &mut u32,
-) -> Result<Formula, AllocError>
-    ensures renamed { IfOk result (λ formula'. form formula'
-        ≡ renamed (numbers_of renaming.now) next.old (form formula.now)) }
-    ensures next { OnOk result (next.new ≡ next.old + binder_count (form formula.now)) }
+) -> Result<Node, AllocError>
+    ensures renamed { IfOk result (λ node'. node_form node'
+        ≡ renamed (numbers_of renaming.now) next.old (node_form node.now)) }
+    ensures next { OnOk result (next.new ≡ next.old + binder_count (node_form node.now)) }
 {
-    match formula {
-        Formula::True => Ok(Formula::True),
-        Formula::False => Ok(Formula::False),
-        Formula::Atom(atom) => Ok(Formula::Atom(renaming.atom(alloc, atom)?)),
-        Formula::Compare(comparison) => {
-            Ok(Formula::Compare(renaming.comparison(alloc, comparison)?))
+    match node {
+        Node::True => Ok(Node::True),
+        Node::False => Ok(Node::False),
+        Node::Atom(atom) => renaming.atom(alloc, atom).map(Node::Atom),
+        Node::Compare(comparison) => renaming.comparison(alloc, comparison).map(Node::Compare),
+        Node::Not(inner) => boxed(alloc, inner, renaming, next).map(Node::Not),
+        Node::And(left, right) => {
+            both(alloc, left, right, renaming, next).map(|(left, right)| Node::And(left, right))
         }
-        Formula::Not(inner) => Ok(Formula::Not(boxed(alloc, inner, renaming, next)?)),
-        Formula::And(left, right) => {
-            let left = boxed(alloc, left, renaming, next)?;
-            Ok(Formula::And(left, boxed(alloc, right, renaming, next)?))
+        Node::Or(left, right) => {
+            both(alloc, left, right, renaming, next).map(|(left, right)| Node::Or(left, right))
         }
-        Formula::Or(left, right) => {
-            let left = boxed(alloc, left, renaming, next)?;
-            Ok(Formula::Or(left, boxed(alloc, right, renaming, next)?))
+        Node::Exists(bound, inner) => quantified(alloc, bound, inner, renaming, next),
+        Node::Previous(interval, inner) => {
+            boxed(alloc, inner, renaming, next).map(|inner| Node::Previous(*interval, inner))
         }
-        Formula::Implies(left, right) => {
-            let left = boxed(alloc, left, renaming, next)?;
-            Ok(Formula::Implies(left, boxed(alloc, right, renaming, next)?))
+        Node::Next(interval, inner) => {
+            boxed(alloc, inner, renaming, next).map(|inner| Node::Next(*interval, inner))
         }
-        Formula::Equiv(left, right) => {
-            let left = boxed(alloc, left, renaming, next)?;
-            Ok(Formula::Equiv(left, boxed(alloc, right, renaming, next)?))
+        Node::Since(interval, left, right) => {
+            both(alloc, left, right, renaming, next).map(|(left, right)| Node::Since(
+                *interval, left, right,
+            ))
         }
-        Formula::Exists(bound, inner) => {
-            let number = take(next)?;
-            let inner = boxed(
-                alloc,
-                inner,
-                &Renaming::To(bound.number, number, &*renaming),
-                next,
-            )?;
-            Ok(Formula::Exists(renumbered(alloc, bound, number)?, inner))
-        }
-        Formula::Forall(bound, inner) => {
-            let number = take(next)?;
-            let inner = boxed(
-                alloc,
-                inner,
-                &Renaming::To(bound.number, number, &*renaming),
-                next,
-            )?;
-            Ok(Formula::Forall(renumbered(alloc, bound, number)?, inner))
-        }
-        Formula::Previous(at, inner) => {
-            Ok(Formula::Previous(*at, boxed(alloc, inner, renaming, next)?))
-        }
-        Formula::Next(at, inner) => Ok(Formula::Next(*at, boxed(alloc, inner, renaming, next)?)),
-        Formula::Once(at, inner) => Ok(Formula::Once(*at, boxed(alloc, inner, renaming, next)?)),
-        Formula::Historically(at, inner) => {
-            Ok(Formula::Historically(*at, boxed(alloc, inner, renaming, next)?))
-        }
-        Formula::Eventually(at, inner) => {
-            Ok(Formula::Eventually(*at, boxed(alloc, inner, renaming, next)?))
-        }
-        Formula::Always(at, inner) => {
-            Ok(Formula::Always(*at, boxed(alloc, inner, renaming, next)?))
-        }
-        Formula::Since(at, left, right) => {
-            let left = boxed(alloc, left, renaming, next)?;
-            Ok(Formula::Since(*at, left, boxed(alloc, right, renaming, next)?))
-        }
-        Formula::Until(at, left, right) => {
-            let left = boxed(alloc, left, renaming, next)?;
-            Ok(Formula::Until(*at, left, boxed(alloc, right, renaming, next)?))
+        Node::Until(interval, left, right) => {
+            both(alloc, left, right, renaming, next).map(|(left, right)| Node::Until(
+                *interval, left, right,
+            ))
         }
     }
 }
@@ -151,15 +114,56 @@ fn renamed(
 #[cycle(renaming)]
 fn boxed(
     alloc: Global,
-    formula: &Formula,
+    node: &Node,
     renaming: &Renaming,
     next: &mut u32,
-) -> Result<Box<Formula>, AllocError>
-    ensures renamed { IfOk result (λ formula'. form formula'.value
-        ≡ renamed (numbers_of renaming.now) next.old (form formula.now)) }
-    ensures next { OnOk result (next.new ≡ next.old + binder_count (form formula.now)) }
+) -> Result<Box<Node>, AllocError>
+    ensures renamed { IfOk result (λ node'. node_form node'.value
+        ≡ renamed (numbers_of renaming.now) next.old (node_form node.now)) }
+    ensures next { OnOk result (next.new ≡ next.old + binder_count (node_form node.now)) }
 {
-    Ok(Box::new(alloc, renamed(alloc, formula, &*renaming, next)?)?)
+    Ok(Box::new(alloc, renamed(alloc, node, &*renaming, next)?)?)
+}
+
+#[cycle(renaming)]
+fn both(
+    alloc: Global,
+    left: &Node,
+    right: &Node,
+    renaming: &Renaming,
+    next: &mut u32,
+) -> Result<(Box<Node>, Box<Node>), AllocError>
+    ensures left { IfOk result (λ nodes. node_form nodes.0.value
+        ≡ renamed (numbers_of renaming.now) next.old (node_form left.now)) }
+    ensures right { IfOk result (λ nodes. node_form nodes.1.value
+        ≡ renamed (numbers_of renaming.now) (next.old + binder_count (node_form left.now))
+        (node_form right.now)) }
+    ensures next { OnOk result (next.new
+        ≡ next.old + (binder_count (node_form left.now) + binder_count (node_form right.now))) }
+{
+    let left = boxed(alloc, left, renaming, next)?;
+    Ok((left, boxed(alloc, right, renaming, next)?))
+}
+
+// EXISTS, whose variable has the next number.
+#[cycle(renaming)]
+fn quantified(
+    alloc: Global,
+    bound: &Bound,
+    inner: &Node,
+    renaming: &Renaming,
+    next: &mut u32,
+) -> Result<Node, AllocError>
+    ensures renamed { IfOk result (λ node. node_form node
+        ≡ Exists (record { number = next.old; name = bound.now.name })
+        (renamed (with_number (numbers_of renaming.now) bound.now.number next.old) (next.old + 1)
+        (node_form inner.now))) }
+    ensures next { OnOk result (next.new ≡ next.old + (1 + binder_count (node_form inner.now))) }
+{
+    let number = take(next)?;
+    let renaming = Renaming::To(bound.number, number, &*renaming);
+    let inner = boxed(alloc, inner, &renaming, next)?;
+    Ok(Node::Exists(renumbered(alloc, bound, number)?, inner))
 }
 
 // The next number.
@@ -201,10 +205,10 @@ fn above(variables: &[u32]) -> Result<u32, AllocError>
     Ok(least)
 }
 
-/// The formula with its quantifiers numbered one after the other, above its free variables.
-pub fn apart(alloc: Global, formula: &Formula) -> Result<Formula, AllocError>
-    ensures { IfOk result (λ formula'. form formula' ≡ apart_form (form formula.now)) }
+/// The core with its quantifiers numbered one after the other, above its free variables.
+pub fn apart(alloc: Global, node: &Node) -> Result<Node, AllocError>
+    ensures { IfOk result (λ node'. node_form node' ≡ apart_form (node_form node.now)) }
 {
-    let mut next = above(&formula.free_vars(alloc)?)?;
-    renamed(alloc, formula, &Renaming::Same, &mut next)
+    let mut next = above(&node.free_vars(alloc)?)?;
+    renamed(alloc, node, &Renaming::Same, &mut next)
 }

@@ -1,10 +1,11 @@
 //! The variables that a conjunction binds, and those that it needs bound.
 ghost use Rattle.std.specs.Prelude.{◌≡◌, IfOk};
-ghost use Rattle.mfotl_model.specs.Formulas.{form};
-ghost use Rattle.mfotl_model.specs.FreeVariables.{among};
+ghost use Rattle.monitorable.specs.CoreForms.{node_form};
 ghost use Rattle.monitorable.specs.Fragment.{binds, bound_by, first_outside, needed_by};
 
-use mfotl_model::{Comparison, Formula, Sign, Term};
+use crate::free_variables::is_among;
+use crate::node::Node;
+use mfotl_model::{Comparison, Sign, Term};
 use std::alloc::{AllocError, Global};
 
 /// Whether it is an equation of a variable with a constant.
@@ -24,74 +25,54 @@ pub fn binds(comparison: &Comparison) -> bool
 
 /// The free variables of the conjuncts that bind theirs.
 #[tactic(auto, unfolding(crate::specs::Fragment::bound_by))]
-pub fn bound_by(alloc: Global, formula: &Formula) -> Result<Vec<u32>, AllocError>
-    ensures { IfOk result (λ variables. variables.items ≡ bound_by (form formula.now)) }
+pub fn bound_by(alloc: Global, node: &Node) -> Result<Vec<u32>, AllocError>
+    ensures { IfOk result (λ variables. variables.items ≡ bound_by (node_form node.now)) }
 {
-    match formula {
-        Formula::Not(_) => Ok(Vec::new(alloc)),
-        Formula::Compare(comparison) if !binds(comparison) => Ok(Vec::new(alloc)),
-        Formula::And(left, right) => {
+    match node {
+        Node::Not(_) => Ok(Vec::new(alloc)),
+        Node::Compare(comparison) if !binds(comparison) => Ok(Vec::new(alloc)),
+        Node::And(left, right) => {
             let mut variables = bound_by(alloc, left)?;
             variables.extend_from_slice(&bound_by(alloc, right)?)?;
             Ok(variables)
         }
-        Formula::True
-        | Formula::False
-        | Formula::Atom(_)
-        | Formula::Compare(_)
-        | Formula::Or(_, _)
-        | Formula::Implies(_, _)
-        | Formula::Equiv(_, _)
-        | Formula::Exists(_, _)
-        | Formula::Forall(_, _)
-        | Formula::Previous(_, _)
-        | Formula::Next(_, _)
-        | Formula::Once(_, _)
-        | Formula::Historically(_, _)
-        | Formula::Eventually(_, _)
-        | Formula::Always(_, _)
-        | Formula::Since(_, _, _)
-        | Formula::Until(_, _, _) => formula.free_vars(alloc),
+        Node::True
+        | Node::False
+        | Node::Atom(_)
+        | Node::Compare(_)
+        | Node::Or(_, _)
+        | Node::Exists(_, _)
+        | Node::Previous(_, _)
+        | Node::Next(_, _)
+        | Node::Since(_, _, _)
+        | Node::Until(_, _, _) => node.free_vars(alloc),
     }
 }
 
 /// The free variables of the other conjuncts, in the order of their occurrence.
 #[tactic(auto, unfolding(crate::specs::Fragment::needed_by))]
-pub fn needed_by(alloc: Global, formula: &Formula) -> Result<Vec<u32>, AllocError>
-    ensures { IfOk result (λ variables. variables.items ≡ needed_by (form formula.now)) }
+pub fn needed_by(alloc: Global, node: &Node) -> Result<Vec<u32>, AllocError>
+    ensures { IfOk result (λ variables. variables.items ≡ needed_by (node_form node.now)) }
 {
-    match formula {
-        Formula::Not(inner) => inner.free_vars(alloc),
-        Formula::Compare(comparison) if !binds(comparison) => formula.free_vars(alloc),
-        Formula::And(left, right) => {
+    match node {
+        Node::Not(inner) => inner.free_vars(alloc),
+        Node::Compare(comparison) if !binds(comparison) => node.free_vars(alloc),
+        Node::And(left, right) => {
             let mut variables = needed_by(alloc, left)?;
             variables.extend_from_slice(&needed_by(alloc, right)?)?;
             Ok(variables)
         }
-        Formula::True
-        | Formula::False
-        | Formula::Atom(_)
-        | Formula::Compare(_)
-        | Formula::Or(_, _)
-        | Formula::Implies(_, _)
-        | Formula::Equiv(_, _)
-        | Formula::Exists(_, _)
-        | Formula::Forall(_, _)
-        | Formula::Previous(_, _)
-        | Formula::Next(_, _)
-        | Formula::Once(_, _)
-        | Formula::Historically(_, _)
-        | Formula::Eventually(_, _)
-        | Formula::Always(_, _)
-        | Formula::Since(_, _, _)
-        | Formula::Until(_, _, _) => Ok(Vec::new(alloc)),
+        Node::True
+        | Node::False
+        | Node::Atom(_)
+        | Node::Compare(_)
+        | Node::Or(_, _)
+        | Node::Exists(_, _)
+        | Node::Previous(_, _)
+        | Node::Next(_, _)
+        | Node::Since(_, _, _)
+        | Node::Until(_, _, _) => Ok(Vec::new(alloc)),
     }
-}
-
-fn is_among(variable: u32, variables: &[u32]) -> bool
-    ensures { result ≡ among variable variables.now }
-{
-    variables.iter().any(|other| variable == *other)
 }
 
 /// The first of `variables` that is none of `others`.

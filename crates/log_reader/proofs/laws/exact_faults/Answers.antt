@@ -1,5 +1,5 @@
-use Rattle.log_reader.proofs.FaultLaw as proven
+use Rattle.log_reader.proofs.FaultLaws.{exact_faults_law}
 use Rattle.log_reader.proofs.laws.exact_faults.Goals as goal
 
 pub returns : goal.returns
-returns c = proven.exact_faults_law
+returns c = exact_faults_law

@@ -1,4 +1,4 @@
-use Rattle.mfotl_sig.proofs.AnswerLemmas.{value_given, fault_shown}
+use Rattle.mfotl_sig.proofs.SignatureLaws.{value_given, fault_shown}
 use Rattle.mfotl_sig.proofs.reading.read_signature.Goals as goal
 
 pub returns-clause-value : goal.returns-clause-value

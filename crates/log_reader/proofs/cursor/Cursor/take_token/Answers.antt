@@ -4,7 +4,9 @@ use Rattle.mfotl_lex.specs.Places.{Place}
 use Rattle.mfotl_lex.specs.declared.fault.LexFault.{LexFault}
 use Rattle.mfotl_lex.specs.declared.token.Token.{Token}
 use Rattle.log_reader.specs.Cursors.{place_in}
-use Rattle.log_reader.proofs.Turning.{TokenAt, fault_run, token_at_offset, took_leads, completed_leads, fault_halts}
+use Rattle.log_reader.proofs.TokenRuns.{fault_run}
+use Rattle.log_reader.proofs.TokenPlaces.{TokenAt, token_at_offset}
+use Rattle.log_reader.proofs.TokenSteps.{steps_over}
 use Rattle.log_reader.proofs.cursor.Cursor.take_token.Goals as goal
 
 -- what the lexer gave at a place is what stands there
@@ -40,35 +42,17 @@ located looked ended at t lexer behind offset le found here moved e =
     let same : (after (place_in looked ended at)).at ≡ offset = sym (e ∙ ap (λ (p : Place). p.at) (moved ∙ ap after here)) in
     subst (TokenAt looked ended at t) same (token_at_offset looked ended at t le found)
 
-pub returns-then-is_completed_by : goal.returns-then-is_completed_by
-returns-then-is_completed_by c =
+pub returns-in-Ok-Some : goal.returns-in-Ok-Some
+returns-in-Ok-Some c =
     let looked = c.args.looked.now in
     let ended = c.args.ended in
     let at = c.args.self.now.at in
     let p = c.args.self.now.partial in
     let t = lexeme c.in-Ok-Some.token in
-    let e : next_token (place_in looked ended at) ≡ Ok (Some t) = found_at (place_in looked ended at) _ c.next.result (Ok (Some t)) c.lexer_at-lexer.ensures c.next.ensures.found (ap seen (c.in-Ok-Some.is ∙ ap Ok c.in-Ok-Some.field-0-is)) in
-    let found = located looked ended at t _ _ c.offset.result c.requires.within e c.lexer_at-lexer.ensures c.next.ensures.after c.offset.ensures in
-    rw (c.finish.ensures.point, c.finish.ensures.after, c.read_on-self.ensures)
-    (completed_leads c.args.sig.now c.args.limits.now looked ended at p t c.offset.result found c.requires.within c.requires.counted (sym c.is_completed_by.ensures ∙ c.if-is_completed_by.true))
-
-pub returns-in-Ok : goal.returns-in-Ok
-returns-in-Ok c =
-    let looked = c.args.looked.now in
-    let ended = c.args.ended in
-    let at = c.args.self.now.at in
-    let p = c.args.self.now.partial in
-    let t = lexeme c.in-Ok-Some.token in
-    let e : next_token (place_in looked ended at) ≡ Ok (Some t) = found_at (place_in looked ended at) _ c.next.result (Ok (Some t)) c.lexer_at-lexer.ensures c.next.ensures.found (ap seen (c.in-Ok-Some.is ∙ ap Ok c.in-Ok-Some.field-0-is)) in
-    let found = located looked ended at t _ _ c.offset-self.result c.requires.within e c.lexer_at-lexer.ensures c.next.ensures.after c.offset-self.ensures in
-    took_leads c.args.sig.now c.args.limits.now looked ended at p t c.offset-self.result c.step.new.self found c.requires.counted (sym c.is_completed_by.ensures ∙ c.if-is_completed_by.false) c.in-Ok.ensures
-
-pub returns-in-Err-step : goal.returns-in-Err-step
-returns-in-Err-step c =
-    let looked = c.args.looked.now in
-    let ended = c.args.ended in
-    let at = c.args.self.now.at in
-    let p = c.args.self.now.partial in
-    let t = lexeme c.in-Ok-Some.token in
-    let e : next_token (place_in looked ended at) ≡ Ok (Some t) = found_at (place_in looked ended at) _ c.next.result (Ok (Some t)) c.lexer_at-lexer.ensures c.next.ensures.found (ap seen (c.in-Ok-Some.is ∙ ap Ok c.in-Ok-Some.field-0-is)) in
-    fault_halts c.args.sig.now c.args.limits.now looked ended at p t c.in-Err-step.fault c.step.new.self e (sym c.is_completed_by.ensures ∙ c.if-is_completed_by.false) c.in-Err-step.ensures
+    let e : next_token (place_in looked ended at) ≡ Ok (Some t) =
+    found_at (place_in looked ended at) _ c.next.result (Ok (Some t)) c.lexer_at-lexer.ensures c.next.ensures.found
+    (ap seen (c.in-Ok-Some.is ∙ ap Ok c.in-Ok-Some.field-0-is)) in
+    let found = located looked ended at t _ _ c.offset.result c.requires.within e c.lexer_at-lexer.ensures
+    c.next.ensures.after c.offset.ensures in
+    steps_over c.args.sig.now c.args.limits.now looked ended at p t c.offset.result found c.requires.within
+    c.requires.counted e c.take.result _ _ c.take.ensures

@@ -1,0 +1,18 @@
+-- The limits of a log, one word for each.
+use Rattle.std.specs.Prelude.{ℕ, ◌-◌, ◌^◌}
+
+-- the bytes of a log
+abbrev pub byte_limit : ℕ
+byte_limit = 2 ^ 40
+
+-- its time-points
+abbrev pub point_limit : ℕ
+point_limit = 2 ^ 32 - 1
+
+-- the groups of one time-point, as they are written
+abbrev pub event_limit : ℕ
+event_limit = 65536
+
+-- the greatest timestamp
+abbrev pub last_timestamp : ℕ
+last_timestamp = 2 ^ 62

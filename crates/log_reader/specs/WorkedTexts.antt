@@ -1,0 +1,83 @@
+-- Logs and what is read of them, worked out by hand.
+use Rattle.std.specs.Prelude.{◌≡◌, ℕ, List, [], ◌∷◌, codes, pos, Ok, Err}
+use Rattle.mfotl_lex.specs.declared.fault.LexFaultKind.TheVariants.{BadByte, OpenText}
+use Rattle.mfotl_model.specs.declared.event.Event.{Event}
+use Rattle.mfotl_model.specs.declared.event.TimePoint.{TimePoint}
+use Rattle.mfotl_model.specs.declared.policy.Sort.TheVariants as sorts
+use Rattle.mfotl_model.specs.declared.value.Value.{Value}
+use Rattle.mfotl_model.specs.declared.value.Value.TheVariants.{Int, Text}
+use Rattle.mfotl_sig.specs.Preds.{PredOf}
+use Rattle.log_reader.specs.declared.fault.LogFault.{LogFault}
+use Rattle.log_reader.specs.declared.fault.LogFault.TheVariants.{Lex, Syntax, UnknownPredicate, WrongArity, WrongSort, IntRange, TimestampRange, FallingTime, TooManyEvents, TooManyPoints, TooLong}
+use Rattle.log_reader.specs.declared.limits.Limits.{Limits}
+use Rattle.log_reader.specs.Symbols.{Quoted}
+use Rattle.log_reader.specs.ValuesRead.{value_at}
+use Rattle.log_reader.specs.Readings.{Reading, NoFault, Fault, accepted, shown}
+
+-- `publish(int) approve(int) note(string,int)`
+abbrev pub preds : List PredOf
+preds =
+    record { number = 0; name = codes "publish"; sorts = sorts.Int ∷ [] }
+    ∷ record { number = 1; name = codes "approve"; sorts = sorts.Int ∷ [] }
+    ∷ record { number = 2; name = codes "note"; sorts = sorts.Text ∷ sorts.Int ∷ [] } ∷ []
+
+-- the limits of bytes, time-points and groups
+abbrev pub at_most : ℕ → ℕ → ℕ → Limits
+at_most bytes points events = record { bytes = bytes; points = points; events = events }
+
+-- a log that is all there is, within wide limits
+abbrev pub read : List ℕ → Reading
+read text = accepted preds (at_most 99 9 9) text
+
+abbrev pub publish : ℕ → Event
+publish n = record { pred = 0; args = Int (pos n) ∷ [] }
+
+abbrev pub at : ℕ → List Event → TimePoint
+at ts events = record { ts = ts; db = events }
+
+abbrev pub whole : List TimePoint → Reading
+whole points = record { points = points; ending = NoFault }
+
+abbrev pub stops : List TimePoint → LogFault → Reading
+stops points fault = record { points = points; ending = Fault fault }
+
+-- what is read to its end
+pub record WorkedValues : Type 0 where
+  pub empty : read [] ≡ whole []
+  pub two : read (codes "@1 publish(60); @2;") ≡ whole (at 1 (publish 60 ∷ []) ∷ at 2 [] ∷ [])
+  pub unclosed : read (codes "@1 @1 publish(7)") ≡ whole (at 1 [] ∷ at 1 (publish 7 ∷ []) ∷ [])
+  pub equal_events_are_one : read (codes "@07 publish(-0)(007)(0)") ≡ whole (at 7 (publish 0 ∷ publish 7 ∷ []) ∷ [])
+  pub word_as_text : read (codes "@1 note(7,7)")
+      ≡ whole (at 1 (record { pred = 2; args = Text (codes "7") ∷ Int (pos 7) ∷ [] } ∷ []) ∷ [])
+  pub quoted_text : value_at sorts.Text 5 (Quoted (codes "a b")) ≡ Ok (Text (codes "a b"))
+  pub last_time : read (codes "@4611686018427387904") ≡ whole (at 4611686018427387904 [] ∷ [])
+  pub full : accepted preds (at_most 9 3 0) (codes "@1;@2;@3;") ≡ whole (at 1 [] ∷ at 2 [] ∷ at 3 [] ∷ [])
+  pub full_point : accepted preds (at_most 99 9 2) (codes "@1 publish(1)(1)") ≡ whole (at 1 (publish 1 ∷ []) ∷ [])
+
+-- what isn't: each fault at its offset, behind the time-points that were completed
+pub record WorkedFaults : Type 0 where
+  pub lexical : read (codes "@1 \"abc") ≡ stops [] (Lex (record { kind = OpenText; at = 3 }))
+  pub lexical_behind : read (codes "@1; $") ≡ stops (at 1 [] ∷ []) (Lex (record { kind = BadByte; at = 4 }))
+  pub early_end : read (codes "@1 publish(7) @2 publish(8") ≡ stops (at 1 (publish 7 ∷ []) ∷ []) (Syntax 26)
+  pub two_ends : read (codes "@1 ; ;") ≡ stops (at 1 [] ∷ []) (Syntax 5)
+  pub no_digits : read (codes "@1 @2a") ≡ stops (at 1 [] ∷ []) (Syntax 4)
+  pub not_completed : read (codes "@1 publish(1) ,") ≡ stops [] (Syntax 14)
+  pub unknown : read (codes "@1 nope(1)") ≡ stops [] (UnknownPredicate 3)
+  pub unknown_by_the_name : read (codes "@1 zz $") ≡ stops [] (UnknownPredicate 3)
+  pub value_too_many : read (codes "@1 publish(1,2 $") ≡ stops [] (WrongArity 13)
+  pub value_too_few : read (codes "@1 publish()") ≡ stops [] (WrongArity 11)
+  pub arity_before_sort : read (codes "@1 publish(1,a)") ≡ stops [] (WrongArity 13)
+  pub text_for_integer : value_at sorts.Int 5 (Quoted (codes "7")) ≡ Err (WrongSort 5)
+  pub word_for_integer : read (codes "@1 note(a,b)") ≡ stops [] (WrongSort 10)
+  pub wide : read (codes "@1 publish(9223372036854775808)") ≡ stops [] (IntRange 11)
+  pub late : read (codes "@4611686018427387905") ≡ stops [] (TimestampRange 1)
+  pub falling : read (codes "@9 publish(1) @5 publish(2)") ≡ stops (at 9 (publish 1 ∷ []) ∷ []) (FallingTime 9 5 15)
+  pub groups : accepted preds (at_most 99 9 2) (codes "@1 publish(1)(1) publish(1)") ≡ stops [] (TooManyEvents 24)
+  pub points : accepted preds (at_most 99 2 9) (codes "@1;@2@3;") ≡ stops (at 1 [] ∷ at 2 [] ∷ []) (TooManyPoints 5)
+  pub long : accepted preds (at_most 8 9 9) (codes "@1;@2;@3;") ≡ stops (at 1 [] ∷ at 2 [] ∷ []) (TooLong 8)
+
+-- what is shown of a log whose end wasn't told
+pub record WorkedFronts : Type 0 where
+  pub next_begun : shown preds (at_most 99 9 9) (codes "@1 publish(7) @") ≡ whole (at 1 (publish 7 ∷ []) ∷ [])
+  pub not_yet : shown preds (at_most 99 9 9) (codes "@1 publish(7)") ≡ whole []
+  pub fault : shown preds (at_most 99 9 9) (codes "@1; publish(") ≡ stops (at 1 [] ∷ []) (Syntax 4)

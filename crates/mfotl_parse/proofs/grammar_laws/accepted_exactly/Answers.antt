@@ -1,5 +1,0 @@
-use Rattle.mfotl_parse.proofs.SpelledLaw as proven
-use Rattle.mfotl_parse.proofs.grammar_laws.accepted_exactly.Goals as goal
-
-pub returns : goal.returns
-returns c = proven.accepted_exactly

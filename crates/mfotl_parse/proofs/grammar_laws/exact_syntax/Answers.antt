@@ -1,5 +1,0 @@
-use Rattle.mfotl_parse.proofs.SyntaxLaw as proven
-use Rattle.mfotl_parse.proofs.grammar_laws.exact_syntax.Goals as goal
-
-pub returns : goal.returns
-returns c = proven.exact_syntax

@@ -1,5 +1,0 @@
-use Rattle.mfotl_parse.proofs.ReadLaw as proven
-use Rattle.mfotl_parse.proofs.grammar_laws.read_is_spelled.Goals as goal
-
-pub returns : goal.returns
-returns c = proven.read_is_spelled

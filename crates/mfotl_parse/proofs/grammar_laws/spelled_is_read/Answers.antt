@@ -1,5 +1,0 @@
-use Rattle.mfotl_parse.proofs.SpelledLaw as proven
-use Rattle.mfotl_parse.proofs.grammar_laws.spelled_is_read.Goals as goal
-
-pub returns : goal.returns
-returns c = proven.spelled_is_read

@@ -1,0 +1,5 @@
+use Rattle.mfotl_parse.proofs.SyntaxLaw as proven
+use Rattle.mfotl_parse.proofs.laws.exact_syntax.Goals as goal
+
+pub returns : goal.returns
+returns c = proven.exact_syntax

@@ -1,0 +1,5 @@
+use Rattle.mfotl_parse.proofs.SilentLaw as proven
+use Rattle.mfotl_parse.proofs.laws.silent_are_read.Goals as goal
+
+pub returns : goal.returns
+returns c = proven.silent_are_read

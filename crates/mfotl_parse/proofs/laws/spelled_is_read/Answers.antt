@@ -1,0 +1,5 @@
+use Rattle.mfotl_parse.proofs.SpelledLaw as proven
+use Rattle.mfotl_parse.proofs.laws.spelled_is_read.Goals as goal
+
+pub returns : goal.returns
+returns c = proven.spelled_is_read

@@ -1,0 +1,5 @@
+use Rattle.mfotl_parse.proofs.SpelledLaw as proven
+use Rattle.mfotl_parse.proofs.laws.syntax_exactly.Goals as goal
+
+pub returns : goal.returns
+returns c = proven.syntax_exactly

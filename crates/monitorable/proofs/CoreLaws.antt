@@ -1,0 +1,47 @@
+-- What the laws of the normal form and of new numbers say of the core of a policy.
+use Rattle.std.proofs.Common.{◌≡◌, [], ap, pos, ◌∙◌, Bool, true, false, cond, nat_lt, Option, Some, None}
+use Rattle.mfotl_model.specs.Formulas.{Form}
+use Rattle.mfotl_model.specs.FreeVariables.{fv}
+use Rattle.mfotl_model.specs.declared.value.Value.TheVariants.{Int}
+use Rattle.monitorable.proofs.FragmentRenamed.{apart_fragment}
+use Rattle.monitorable.proofs.NormalFormLaws.{normal_form_holds, normal_form_settled}
+use Rattle.monitorable.proofs.NormalFormVariables.{normal_form_constants, normal_form_variables}
+use Rattle.monitorable.proofs.RenamedConstants.{apart_constants}
+use Rattle.monitorable.proofs.RenamedMeaning.{apart_means_the_same}
+use Rattle.monitorable.proofs.RenamedVariables.{apart_variables}
+use Rattle.monitorable.specs.CoreForms.{CoreForm, meaning}
+use Rattle.monitorable.specs.Domains.{within}
+use Rattle.monitorable.specs.Fragment.{Fits, Names, frag, frag_fault}
+use Rattle.monitorable.specs.Limits.{node_limit}
+use Rattle.monitorable.specs.Negation.{HasConstantsOf, Negates, SettlesWith}
+use Rattle.monitorable.specs.NodeCount.{nodes}
+use Rattle.monitorable.specs.NormalForm.{negative}
+use Rattle.monitorable.specs.Renaming.{apart_form}
+use Rattle.monitorable.specs.declared.fault.FragmentFault.{FragmentFault}
+use Rattle.monitorable.specs.declared.fault.FragmentFault.TheVariants.{TooLarge}
+
+-- the core of a formula
+abbrev pub core_of : Form → CoreForm
+core_of f = apart_form (negative f)
+
+pub negates : (f : Form) → Negates (core_of f) f
+negates f log dom v i =
+    (apart_means_the_same log dom (negative f) v i).0 ∙ (normal_form_holds log dom f v i).1
+
+pub settles : (f : Form) → SettlesWith (core_of f) f
+settles f times i =
+    (apart_means_the_same [] [] (negative f) (λ y. Int (pos 0)) i).1 times ∙ (normal_form_settled times f i).1
+
+pub same_variables : (f : Form) → fv (meaning (core_of f)) ≡ fv f
+same_variables f = (apart_variables (negative f)).0 ∙ (normal_form_variables f).1
+
+pub same_constants : (f : Form) → HasConstantsOf (core_of f) f
+same_constants f a = ap (λ values. within values a) (apart_constants (negative f)) ∙ (normal_form_constants f a).1
+
+small : (b : Bool) (fault : Option FragmentFault) → cond b (Some TooLarge) fault ≡ None → fault ≡ None
+small true fault h = cc
+small false fault h = h
+
+-- where a formula has no fault, the fragment accepts the normal form of its negation
+pub accepted : (names : Names) (f : Form) → frag_fault names f ≡ None → frag names (negative f) ≡ None
+accepted names f h = small (nat_lt node_limit (nodes (negative f))) (frag names (negative f)) h

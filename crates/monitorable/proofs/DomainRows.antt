@@ -1,0 +1,105 @@
+-- The active domain, and the rows over it.
+use Rattle.std.proofs.Common.{◌≡◌, ℕ, Bool, true, false, not, ◌&&◌, ◌||◌, nat_eq, List, [], ◌∷◌, ◌++◌, length, map, refl, sym, ap, ap₂, ◌∙◌, arith}
+use Rattle.std.proofs.lemmas.Bool.{and_parts, and_from, or_left, or_right, cond-true, cond-false, not-true, eqb-true, ne_eqb}
+use Rattle.std.proofs.lemmas.Grind.{flat_map-append}
+use Rattle.std.proofs.lemmas.List.Folds.{list_any-append}
+use Rattle.std.proofs.lemmas.Map.Views.{any-filter_same, tells_apart}
+use Rattle.std.specs.List.{list_any, list_all, filter, flat_map}
+use Rattle.std.specs.Ordering.{eq_by_cmp}
+use Rattle.mfotl_model.proofs.AscendingLemmas.{any_ascending}
+use Rattle.mfotl_model.proofs.LogicLemmas.{same_number}
+use Rattle.mfotl_model.proofs.RowLemmas.{value_exact, row_exact, member_all_rows}
+use Rattle.mfotl_model.specs.ActiveDomain.{adom, constants, log_values}
+use Rattle.mfotl_model.specs.FreeVariables.{among}
+use Rattle.mfotl_model.specs.Formulas.{Form}
+use Rattle.mfotl_model.specs.Satisfaction.{Valuation}
+use Rattle.mfotl_model.specs.Tables.{all_apart, valuation}
+use Rattle.mfotl_model.specs.Values.{value_cmp, value_total, row_cmp}
+use Rattle.mfotl_model.specs.Violations.{all_rows}
+use Rattle.mfotl_model.specs.declared.event.TimePoint.{TimePoint}
+use Rattle.mfotl_model.specs.declared.value.Value.{Value}
+use Rattle.monitorable.specs.Domains.{within, Includes}
+
+-- the active domain has the values of the log and of the policy
+pub adom_has : (log : List TimePoint) (f : Form) (a : Value) → within (adom log f) a ≡ within (log_values log ++ constants f) a
+adom_has log f a = any_ascending value_total value_exact (eq_by_cmp value_cmp a) (log_values log ++ constants f)
+
+pub has_log : (log : List TimePoint) (f : Form) → Includes (adom log f) (log_values log)
+has_log log f a h =
+    adom_has log f a ∙ list_any-append (eq_by_cmp value_cmp a) (log_values log) (constants f)
+    ∙ or_left (within (log_values log) a) (within (constants f) a) h
+
+pub has_constants : (log : List TimePoint) (f : Form) → Includes (adom log f) (constants f)
+has_constants log f a h =
+    adom_has log f a ∙ list_any-append (eq_by_cmp value_cmp a) (log_values log) (constants f)
+    ∙ or_right (within (log_values log) a) (within (constants f) a) h
+
+-- a longer log has no smaller active domain
+pub grows : (log more : List TimePoint) (f : Form) → Includes (adom (log ++ more) f) (adom log f)
+grows log more f a h =
+    adom_has (log ++ more) f a
+    ∙ list_any-append (eq_by_cmp value_cmp a) (log_values (log ++ more)) (constants f)
+    ∙ ap (λ b. b || within (constants f) a)
+    (ap (λ values. within values a) (flat_map-append (λ point. flat_map (λ event. event.args) point.db) log more)
+    ∙ list_any-append (eq_by_cmp value_cmp a) (log_values log) (log_values more))
+    ∙ kept (within (log_values log) a) (within (log_values more) a) (within (constants f) a)
+    (sym (list_any-append (eq_by_cmp value_cmp a) (log_values log) (constants f)) ∙ sym (adom_has log f a) ∙ h)
+  where
+    kept : (b c d : Bool) → (b || d) ≡ true → ((b || c) || d) ≡ true
+    kept true c d e = refl
+    kept false true d e = refl
+    kept false false d e = e
+
+-- a variable that is among the columns is another than one that isn't
+other : (x y : ℕ) (columns : List ℕ) → among y columns ≡ true → among x columns ≡ false → nat_eq y x ≡ false
+other x y columns m out =
+    ne_eqb y x (λ e. absurd (let f : false ≡ true = sym out ∙ ap (λ z. among z columns) (sym e) ∙ m in cc))
+
+-- the values of the columns hang on the columns' variables alone
+pub same_columns : (v w : Valuation) (columns : List ℕ) → ((y : ℕ) → among y columns ≡ true → v y ≡ w y)
+    → map v columns ≡ map w columns
+same_columns v w [] same = refl
+same_columns v w (x ∷ columns) same =
+    ap₂ (λ a rest. a ∷ rest) (same x (or_left (nat_eq x x) (among x columns) (same_number x)))
+    (same_columns v w columns (λ y m. same y (or_right (nat_eq y x) (among y columns) m)))
+
+-- a row is read back through its columns, which differ
+pub row_kept : (columns : List ℕ) (row : List Value) → all_apart columns ≡ true → length row ≡ length columns
+    → map (valuation columns row) columns ≡ row
+row_kept [] [] apart same = refl
+row_kept [] (a ∷ row) apart same = absurd (omega arith)
+row_kept (x ∷ columns) [] apart same = absurd (omega arith)
+row_kept (x ∷ columns) (a ∷ row) apart same =
+    let parts = and_parts (not (among x columns)) (all_apart columns) apart in
+    let out : among x columns ≡ false = not-true (among x columns) parts.0 in
+    ap₂ (λ b rest. b ∷ rest) (cond-true (nat_eq x x) a (valuation columns row x) (same_number x))
+    (same_columns (valuation (x ∷ columns) (a ∷ row)) (valuation columns row) columns
+    (λ y h. cond-false (nat_eq y x) a (valuation columns row y) (other x y columns h out))
+    ∙ row_kept columns row parts.1 (omega arith))
+
+-- what holds of the value of each column holds of each value
+pub all_read : (p : Value → Bool) (v : Valuation) (columns : List ℕ)
+    → ((y : ℕ) → among y columns ≡ true → p (v y) ≡ true) → list_all p (map v columns) ≡ true
+all_read p v [] h = refl
+all_read p v (x ∷ columns) h =
+    and_from (p (v x)) (list_all p (map v columns))
+    (h x (or_left (nat_eq x x) (among x columns) (same_number x)))
+    (all_read p v columns (λ y m. h y (or_right (nat_eq y x) (among y columns) m)))
+
+-- a row has its values in the domain where each column's value lies there
+pub row_within : (columns : List ℕ) (row : List Value) (dom : List Value) → all_apart columns ≡ true
+    → nat_eq (length row) (length columns) ≡ true
+    → ((y : ℕ) → among y columns ≡ true → within dom (valuation columns row y) ≡ true)
+    → list_all (within dom) row ≡ true
+row_within columns row dom apart size h =
+    ap (list_all (within dom)) (sym (row_kept columns row apart (eqb-true (length row) (length columns) size)))
+    ∙ all_read (within dom) (valuation columns row) columns h
+
+-- a row is found exactly if it passes the test and has n values, all in the domain
+pub found : (p : List Value → Bool) (n : ℕ) (dom : List Value) (row : List Value)
+    → list_any (eq_by_cmp row_cmp row) (filter p (all_rows n dom))
+    ≡ (p row && (nat_eq (length row) n && list_all (within dom) row))
+found p n dom row =
+    any-filter_same (eq_by_cmp row_cmp row) p (p row)
+    (λ r e. ap p (sym (tells_apart row_exact row r e))) (all_rows n dom)
+    ∙ ap (λ b. p row && b) (member_all_rows n dom row)

@@ -1,0 +1,105 @@
+-- A table that has the rows of which a core holds has the rows that satisfy it.
+use Rattle.std.proofs.Common.{◌≡◌, ℕ, true, ◌&&◌, nat_eq, List, [], ◌∷◌, length, map, None, sym, ap, ◌∙◌, inl, inr}
+use Rattle.std.proofs.lemmas.Bool.{and_parts, and_from, or_cases, eqb-true}
+use Rattle.std.proofs.lemmas.Map.Lookups.{btree_set_from_contains}
+use Rattle.std.proofs.lemmas.Map.Views.{tells_apart}
+use Rattle.std.specs.BTreeSet.{BTreeSet}
+use Rattle.std.specs.List.{list_all, filter}
+use Rattle.std.specs.List.Sorted.{IsStrictlySortedBy}
+use Rattle.std.specs.Ordering.{eq_by_cmp}
+use Rattle.mfotl_model.proofs.AscendingLemmas.{any_ascending, sorted_ascending}
+use Rattle.mfotl_model.proofs.RowLemmas.{row_exact}
+use Rattle.mfotl_model.specs.FreeVariables.{fv}
+use Rattle.mfotl_model.specs.Satisfaction.{Valuation, sat}
+use Rattle.mfotl_model.specs.Tables.{TableOf, all_sized, has, has_row, valuation}
+use Rattle.mfotl_model.specs.Values.{row_cmp, row_total}
+use Rattle.mfotl_model.specs.Violations.{all_rows}
+use Rattle.mfotl_model.specs.declared.event.TimePoint.{TimePoint}
+use Rattle.mfotl_model.specs.declared.value.Value.{Value}
+use Rattle.monitorable.proofs.DomainLaw.{domain}
+use Rattle.monitorable.proofs.DomainLemmas.{same_truth}
+use Rattle.monitorable.proofs.DomainRows.{found, has_constants, has_log, row_kept, row_within}
+use Rattle.monitorable.proofs.FreeVariableLemmas.{fv_apart}
+use Rattle.monitorable.specs.CoreForms.{CoreForm, meaning}
+use Rattle.monitorable.specs.Domains.{within}
+use Rattle.monitorable.specs.Fragment.{Names, frag}
+use Rattle.monitorable.specs.Laws.{TablesSatisfy}
+use Rattle.monitorable.specs.SatisfyingRows.{core_domain, satisfies, satisfying_rows}
+
+-- among rows of one size is no row of another
+sized_row : (n : ℕ) (rows : List (List Value)) (row : List Value) → all_sized n rows ≡ true
+    → has_row rows row ≡ true → nat_eq (length row) n ≡ true
+sized_row n [] row sized h = cc
+sized_row n (first ∷ rows) row sized h =
+    let parts = and_parts (nat_eq (length first) n) (all_sized n rows) sized in
+    elim (or_cases (eq_by_cmp row_cmp row first) (has_row rows row) h) [
+      | inl here ↦ ap (λ r. nat_eq (length r) n) (tells_apart row_exact row first here) ∙ parts.0
+      | inr there ↦ sized_row n rows row parts.1 there
+    ]
+
+module _ (log : List TimePoint) (names : Names) (g : CoreForm) (i : ℕ) (table : TableOf)
+    (accepted : frag names g ≡ None) (columns : table.columns ≡ fv (meaning g))
+    (sized : all_sized (length table.columns) table.rows ≡ true) (sorted : IsStrictlySortedBy row_cmp table.rows)
+    (exact : (v : Valuation) → has table v ≡ sat log (core_domain log g) v i (meaning g)) where
+  abbrev vars : List ℕ
+  vars = fv (meaning g)
+
+  size_is : (row : List Value) → nat_eq (length row) (length table.columns) ≡ nat_eq (length row) (length vars)
+  size_is row = ap (λ cs. nat_eq (length row) (length cs)) columns
+
+  -- a row with a value for each column is in the table exactly where the core holds of it
+  alike : (row : List Value) → nat_eq (length row) (length vars) ≡ true
+      → has_row table.rows row ≡ satisfies log g i row
+  unfolding has
+  alike row size =
+      ap (has_row table.rows) (sym (row_kept vars row (fv_apart (meaning g)) (eqb-true (length row) (length vars) size)))
+      ∙ ap (λ cs. has_row table.rows (map (valuation vars row) cs)) (sym columns)
+      ∙ exact (valuation vars row)
+
+  -- and where it holds, the values lie in the domain
+  inside : (row : List Value) → nat_eq (length row) (length vars) ≡ true → satisfies log g i row ≡ true
+      → list_all (within (core_domain log g)) row ≡ true
+  inside row size holds =
+      row_within vars row (core_domain log g) (fv_apart (meaning g)) size
+      (λ y m.
+      (domain log (core_domain log g) names g accepted (has_log log (meaning g)) (has_constants log (meaning g))
+      (valuation vars row) i).0 (core_domain log g) y holds m)
+
+  member : (row : List Value)
+      → has_row (satisfying_rows log g i) row
+      ≡ (satisfies log g i row && (nat_eq (length row) (length vars) && list_all (within (core_domain log g)) row))
+  member row =
+      any_ascending row_total row_exact (eq_by_cmp row_cmp row)
+      (filter (satisfies log g i) (all_rows (length vars) (core_domain log g)))
+      ∙ found (satisfies log g i) (length vars) (core_domain log g) row
+
+  forth : (row : List Value) → has_row table.rows row ≡ true → has_row (satisfying_rows log g i) row ≡ true
+  forth row h =
+      let size : nat_eq (length row) (length vars) ≡ true =
+      sym (size_is row) ∙ sized_row (length table.columns) table.rows row sized h in
+      let holds : satisfies log g i row ≡ true = sym (alike row size) ∙ h in
+      member row
+      ∙ and_from (satisfies log g i row)
+      (nat_eq (length row) (length vars) && list_all (within (core_domain log g)) row) holds
+      (and_from (nat_eq (length row) (length vars)) (list_all (within (core_domain log g)) row) size
+      (inside row size holds))
+
+  back : (row : List Value) → has_row (satisfying_rows log g i) row ≡ true → has_row table.rows row ≡ true
+  back row h =
+      let parts = and_parts (satisfies log g i row)
+      (nat_eq (length row) (length vars) && list_all (within (core_domain log g)) row) (sym (member row) ∙ h) in
+      let rest = and_parts (nat_eq (length row) (length vars)) (list_all (within (core_domain log g)) row) parts.1 in
+      alike row rest.0 ∙ parts.0
+
+  same_rows : table.rows ≡ satisfying_rows log g i
+  same_rows =
+      let left : BTreeSet (List Value) = record { keys = table.rows } in
+      let right : BTreeSet (List Value) = record { keys = satisfying_rows log g i } in
+      btree_set_from_contains row_total left right sorted
+      (sorted_ascending row_total row_exact (filter (satisfies log g i) (all_rows (length vars) (core_domain log g))))
+      (λ row. same_truth (has_row table.rows row) (has_row (satisfying_rows log g i) row) (forth row) (back row))
+      row_exact
+
+pub tables_satisfy : TablesSatisfy
+tables_satisfy log names g i table accepted columns sized sorted exact =
+    same_rows log names g i table accepted columns sized sorted exact

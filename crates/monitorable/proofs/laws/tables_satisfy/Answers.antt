@@ -1,0 +1,5 @@
+use Rattle.monitorable.proofs.TableLaw.{tables_satisfy}
+use Rattle.monitorable.proofs.laws.tables_satisfy.Goals as goal
+
+pub returns : goal.returns
+returns c = tables_satisfy

@@ -1,0 +1,223 @@
+-- The join of two tables by all pairs of rows, spoken of by valuations.
+use Rattle.std.proofs.Common.{◌≡◌, ℕ, suc, Bool, true, false, not, ◌&&◌, ◌||◌, cond, nat_eq, List, [], ◌∷◌, ◌++◌, length, map, refl, sym, ap, ap₂, ◌∙◌, inl, inr, arith}
+use Rattle.std.proofs.lemmas.Bool.{and_parts, and_from, or_cases, or_left, or_right, cond-true, cond-false, not-true, eqb-true, ne_eqb}
+use Rattle.std.proofs.lemmas.Cmp.{tied_itself}
+use Rattle.std.proofs.lemmas.List.{map-append}
+use Rattle.std.proofs.lemmas.List.Folds.{list_any-append}
+use Rattle.std.proofs.lemmas.Map.Views.{any-filter_same, tells_apart}
+use Rattle.std.specs.List.{list_any, list_all, filter}
+use Rattle.std.specs.Ordering.{eq_by_cmp, is_eq}
+use Rattle.mfotl_model.proofs.LogicLemmas.{any_map, same_number}
+use Rattle.mfotl_model.proofs.RowLemmas.{row_exact, value_exact}
+use Rattle.mfotl_model.specs.FreeVariables.{among, joined}
+use Rattle.mfotl_model.specs.Satisfaction.{Valuation}
+use Rattle.mfotl_model.specs.Values.{row_cmp, row_total, value_cmp, value_total}
+use Rattle.mfotl_model.specs.declared.value.Value.{Value}
+use Rattle.mfotl_model.specs.Tables.{all_apart, all_sized, part, valuation}
+use Rattle.relations.proofs.RowLists.{any_filter}
+use Rattle.relations.specs.Operations.{agree, combined, others, pairs, pairs_of}
+
+pub same_truth : (x y : Bool) → (x ≡ true → y ≡ true) → (y ≡ true → x ≡ true) → x ≡ y
+same_truth true y h k = sym (h refl)
+same_truth false true h k = k refl
+same_truth false false h k = refl
+
+pub map_same_on : (v w : Valuation) (columns : List ℕ) → ((y : ℕ) → among y columns ≡ true → v y ≡ w y)
+    → map v columns ≡ map w columns
+map_same_on v w [] same = refl
+map_same_on v w (x ∷ columns) same =
+    ap₂ (λ a rest. a ∷ rest) (same x (or_left (nat_eq x x) (among x columns) (same_number x)))
+    (map_same_on v w columns (λ y m. same y (or_right (nat_eq y x) (among y columns) m)))
+
+other : (x y : ℕ) (columns : List ℕ) → among y columns ≡ true → among x columns ≡ false → nat_eq y x ≡ false
+other x y columns m out = ne_eqb y x (λ e. absurd (let f : false ≡ true = sym out
+    ∙ ap (λ z. among z columns) (sym e) ∙ m in cc))
+
+-- a row is read back through its columns
+pub row_kept : (columns : List ℕ) (row : List Value) → all_apart columns ≡ true → length row ≡ length columns
+    → map (valuation columns row) columns ≡ row
+row_kept [] [] apart same = refl
+row_kept [] (a ∷ row) apart same = absurd (omega arith)
+row_kept (x ∷ columns) [] apart same = absurd (omega arith)
+row_kept (x ∷ columns) (a ∷ row) apart same =
+    let parts = and_parts (not (among x columns)) (all_apart columns) apart in
+    let out : among x columns ≡ false = not-true (among x columns) parts.0 in
+    ap₂ (λ b rest. b ∷ rest) (cond-true (nat_eq x x) a (valuation columns row x) (same_number x))
+    (map_same_on (valuation (x ∷ columns) (a ∷ row)) (valuation columns row) columns
+    (λ y h. cond-false (nat_eq y x) a (valuation columns row y) (other x y columns h out))
+    ∙ row_kept columns row parts.1 (omega arith))
+
+pub read_own : (v : Valuation) (columns : List ℕ) (y : ℕ) → among y columns ≡ true
+    → valuation columns (map v columns) y ≡ v y
+read_own v [] y m = cc
+read_own v (x ∷ columns) y m = by (nat_eq y x) refl (read_own v columns y)
+  where
+    by : (b : Bool) → nat_eq y x ≡ b → (among y columns ≡ true → valuation columns (map v columns) y ≡ v y)
+        → valuation (x ∷ columns) (map v (x ∷ columns)) y ≡ v y
+    by true e rest = cond-true (nat_eq y x) (v x) (valuation columns (map v columns) y) e ∙ ap v (sym (eqb-true y x e))
+    by false e rest =
+        cond-false (nat_eq y x) (v x) (valuation columns (map v columns) y) e
+        ∙ rest (sym (ap (λ b. b || among y columns) e) ∙ m)
+
+pub all_members : (p : ℕ → Bool) (ys : List ℕ) → ((y : ℕ) → among y ys ≡ true → p y ≡ true) → list_all p ys ≡ true
+all_members p [] h = refl
+all_members p (x ∷ ys) h =
+    and_from (p x) (list_all p ys) (h x (or_left (nat_eq x x) (among x ys) (same_number x)))
+    (all_members p ys (λ y m. h y (or_right (nat_eq y x) (among y ys) m)))
+
+pub member_of_all : (p : ℕ → Bool) (ys : List ℕ) (y : ℕ) → list_all p ys ≡ true → among y ys ≡ true → p y ≡ true
+member_of_all p [] y h m = cc
+member_of_all p (x ∷ ys) y h m =
+    let parts = and_parts (p x) (list_all p ys) h in
+    elim (or_cases (nat_eq y x) (among y ys) m) [
+      | inl here ↦ ap p (eqb-true y x here) ∙ parts.0
+      | inr there ↦ member_of_all p ys y parts.1 there
+    ]
+
+pub same_each : (v w : Valuation) (ys : List ℕ) → map v ys ≡ map w ys → (y : ℕ) → among y ys ≡ true → v y ≡ w y
+same_each v w [] e y m = cc
+same_each v w (x ∷ ys) e y m =
+    elim (or_cases (nat_eq y x) (among y ys) m) [
+      | inl here ↦ let at : y ≡ x = eqb-true y x here in ap v at ∙ (let h : v x ≡ w x = cc in h) ∙ sym (ap w at)
+      | inr there ↦ same_each v w ys (let t : map v ys ≡ map w ys = cc in t) y there
+    ]
+
+pub front_same : (xs ys us ws : List Value) → length xs ≡ length ys → xs ++ us ≡ ys ++ ws → (xs ≡ ys) × (us ≡ ws)
+front_same [] [] us ws size e = (refl, e)
+front_same [] (y ∷ ys) us ws size e = absurd (omega arith)
+front_same (x ∷ xs) [] us ws size e = absurd (omega arith)
+front_same (x ∷ xs) (y ∷ ys) us ws size e =
+    let more = front_same xs ys us ws (omega arith) (let t : xs ++ us ≡ ys ++ ws = cc in t) in
+    ((let h : x ≡ y = cc in ap₂ (λ a r. a ∷ r) h more.0), more.1)
+
+pub length_map : (v : Valuation) (ys : List ℕ) → length (map v ys) ≡ length ys
+length_map v [] = refl
+length_map v (y ∷ ys) = ap suc (length_map v ys)
+
+pub value_itself : (a : Value) → eq_by_cmp value_cmp a a ≡ true
+value_itself a = ap is_eq (tied_itself value_total a)
+
+pub row_itself : (r : List Value) → eq_by_cmp row_cmp r r ≡ true
+row_itself r = ap is_eq (tied_itself row_total r)
+
+among_others : (ca cb : List ℕ) (y : ℕ) → among y ca ≡ false → among y cb ≡ true → among y (others ca cb) ≡ true
+among_others ca cb y out m =
+    any-filter_same (nat_eq y) (λ z. not (among z ca)) true
+    (λ z e. ap (λ w. not (among w ca)) (sym (eqb-true y z e)) ∙ ap not out) cb
+    ∙ m
+
+kept_by : (y z : ℕ) (rest ys : List ℕ) (b : Bool) → (among y rest ≡ true → among y ys ≡ true)
+    → among y (cond b (z ∷ rest) rest) ≡ true → among y (z ∷ ys) ≡ true
+kept_by y z rest ys true more k =
+    elim (or_cases (nat_eq y z) (among y rest) k) [
+      | inl here ↦ or_left (nat_eq y z) (among y ys) here
+      | inr there ↦ or_right (nat_eq y z) (among y ys) (more there)
+    ]
+kept_by y z rest ys false more k = or_right (nat_eq y z) (among y ys) (more k)
+
+kept_among : (y : ℕ) (ca cb : List ℕ) → among y (others ca cb) ≡ true → among y cb ≡ true
+kept_among y ca [] m = m
+kept_among y ca (z ∷ cb) m = kept_by y z (others ca cb) cb (not (among z ca)) (kept_among y ca cb) m
+
+module _ (v : Valuation) (ca cb : List ℕ) (apart : all_apart cb ≡ true) where
+  -- two rows that agree make the row of v exactly where both are v's
+  pair_is : (ra rb : List Value) → length ra ≡ length ca → length rb ≡ length cb
+      → (agree ca cb ra rb && eq_by_cmp row_cmp (map v (joined ca cb)) (combined ca cb ra rb))
+      ≡ (eq_by_cmp row_cmp (map v ca) ra && eq_by_cmp row_cmp (map v cb) rb)
+  unfolding agree combined pairs pairs_of part
+  pair_is ra rb size_a size_b =
+      let split : map v (joined ca cb) ≡ map v ca ++ map v (others ca cb) = map-append v ca (others ca cb) in
+      same_truth (agree ca cb ra rb && eq_by_cmp row_cmp (map v (joined ca cb)) (combined ca cb ra rb))
+      (eq_by_cmp row_cmp (map v ca) ra && eq_by_cmp row_cmp (map v cb) rb)
+      (λ h.
+      let parts = and_parts (agree ca cb ra rb) (eq_by_cmp row_cmp (map v (joined ca cb)) (combined ca cb ra rb)) h in
+      let whole : map v ca ++ map v (others ca cb) ≡ ra ++ map (valuation cb rb) (others ca cb) =
+      sym split ∙ tells_apart row_exact (map v (joined ca cb)) (combined ca cb ra rb) parts.1 in
+      let two = front_same (map v ca) ra (map v (others ca cb)) (map (valuation cb rb) (others ca cb))
+      (length_map v ca ∙ sym size_a) whole in
+      let each : (y : ℕ) → among y cb ≡ true → v y ≡ valuation cb rb y = λ y m.
+      one y m (among y ca) refl
+      (member_of_all (λ z. not (among z ca) || eq_by_cmp value_cmp (valuation ca ra z) (valuation cb rb z)) cb y
+      parts.0 m) two.0 two.1 in
+      let second : map v cb ≡ rb = map_same_on v (valuation cb rb) cb each ∙ row_kept cb rb apart size_b in
+      and_from (eq_by_cmp row_cmp (map v ca) ra) (eq_by_cmp row_cmp (map v cb) rb)
+      (ap (eq_by_cmp row_cmp (map v ca)) (sym two.0) ∙ row_itself (map v ca))
+      (ap (eq_by_cmp row_cmp (map v cb)) (sym second) ∙ row_itself (map v cb)))
+      (λ h.
+      let parts = and_parts (eq_by_cmp row_cmp (map v ca) ra) (eq_by_cmp row_cmp (map v cb) rb) h in
+      let first : map v ca ≡ ra = tells_apart row_exact (map v ca) ra parts.0 in
+      let second : map v cb ≡ rb = tells_apart row_exact (map v cb) rb parts.1 in
+      let read : (y : ℕ) → among y cb ≡ true → valuation cb rb y ≡ v y = λ y m.
+      ap (λ r. valuation cb r y) (sym second) ∙ read_own v cb y m in
+      and_from (agree ca cb ra rb) (eq_by_cmp row_cmp (map v (joined ca cb)) (combined ca cb ra rb))
+      (all_members (λ z. not (among z ca) || eq_by_cmp value_cmp (valuation ca ra z) (valuation cb rb z)) cb
+      (λ y m. both y (among y ca) refl (read y m) first))
+      (let same : combined ca cb ra rb ≡ map v (joined ca cb) =
+      ap₂ (λ x y. x ++ y) (sym first) (map_same_on (valuation cb rb) v (others ca cb)
+      (λ y m. read y (inside y m))) ∙ sym split in
+      ap (eq_by_cmp row_cmp (map v (joined ca cb))) same ∙ row_itself (map v (joined ca cb))))
+    where
+      one : (y : ℕ) → among y cb ≡ true → (b : Bool) → among y ca ≡ b
+          → (not (among y ca) || eq_by_cmp value_cmp (valuation ca ra y) (valuation cb rb y)) ≡ true
+          → map v ca ≡ ra → map v (others ca cb) ≡ map (valuation cb rb) (others ca cb) → v y ≡ valuation cb rb y
+      one y m true e h first rest =
+          sym (ap (λ r. valuation ca r y) (sym first) ∙ read_own v ca y e)
+          ∙ tells_apart value_exact (valuation ca ra y) (valuation cb rb y)
+          (sym (ap (λ b. not b || eq_by_cmp value_cmp (valuation ca ra y) (valuation cb rb y)) e) ∙ h)
+      one y m false e h first rest = same_each v (valuation cb rb) (others ca cb) rest y (among_others ca cb y e m)
+
+      both : (y : ℕ) (b : Bool) → among y ca ≡ b → valuation cb rb y ≡ v y → map v ca ≡ ra
+          → (not (among y ca) || eq_by_cmp value_cmp (valuation ca ra y) (valuation cb rb y)) ≡ true
+      both y true e read first =
+          or_right (not (among y ca)) (eq_by_cmp value_cmp (valuation ca ra y) (valuation cb rb y))
+          (ap₂ (eq_by_cmp value_cmp) (ap (λ r. valuation ca r y) (sym first) ∙ read_own v ca y e) read
+          ∙ value_itself (v y))
+      both y false e read first =
+          or_left (not (among y ca)) (eq_by_cmp value_cmp (valuation ca ra y) (valuation cb rb y)) (ap not e)
+
+      inside : (y : ℕ) → among y (others ca cb) ≡ true → among y cb ≡ true
+      inside y m = kept_among y ca cb m
+
+  one_row : (ra : List Value) (bs : List (List Value)) → length ra ≡ length ca → all_sized (length cb) bs ≡ true
+      → list_any (λ rb. agree ca cb ra rb && eq_by_cmp row_cmp (map v (joined ca cb)) (combined ca cb ra rb)) bs
+      ≡ (eq_by_cmp row_cmp (map v ca) ra && list_any (eq_by_cmp row_cmp (map v cb)) bs)
+  unfolding agree combined pairs pairs_of part
+  one_row ra [] size all = none (eq_by_cmp row_cmp (map v ca) ra)
+    where
+      none : (b : Bool) → false ≡ (b && false)
+      none true = refl
+      none false = refl
+  one_row ra (rb ∷ bs) size all =
+      let parts = and_parts (nat_eq (length rb) (length cb)) (all_sized (length cb) bs) all in
+      ap₂ (λ x y. x || y) (pair_is ra rb size (eqb-true (length rb) (length cb) parts.0)) (one_row ra bs size parts.1)
+      ∙ times (eq_by_cmp row_cmp (map v ca) ra) (eq_by_cmp row_cmp (map v cb) rb)
+      (list_any (eq_by_cmp row_cmp (map v cb)) bs)
+    where
+      times : (a b c : Bool) → ((a && b) || (a && c)) ≡ (a && (b || c))
+      times true b c = refl
+      times false b c = refl
+
+  -- the join has v's row exactly where both tables have theirs
+  pub join_has : (as_ bs : List (List Value)) → all_sized (length ca) as_ ≡ true → all_sized (length cb) bs ≡ true
+      → list_any (eq_by_cmp row_cmp (map v (joined ca cb))) (pairs ca cb as_ bs)
+      ≡ (list_any (eq_by_cmp row_cmp (map v ca)) as_ && list_any (eq_by_cmp row_cmp (map v cb)) bs)
+  unfolding agree combined pairs pairs_of part
+  join_has [] bs first second = refl
+  join_has (ra ∷ as_) bs first second =
+      let parts = and_parts (nat_eq (length ra) (length ca)) (all_sized (length ca) as_) first in
+      list_any-append (eq_by_cmp row_cmp (map v (joined ca cb)))
+      (map (combined ca cb ra) (filter (agree ca cb ra) bs)) (pairs ca cb as_ bs)
+      ∙ ap₂ (λ x y. x || y)
+      (any_map (eq_by_cmp row_cmp (map v (joined ca cb))) (combined ca cb ra) (filter (agree ca cb ra) bs)
+      ∙ any_filter (λ rb. eq_by_cmp row_cmp (map v (joined ca cb)) (combined ca cb ra rb)) (agree ca cb ra) bs
+      ∙ one_row ra bs (eqb-true (length ra) (length ca) parts.0) second)
+      (join_has as_ bs parts.1 second)
+      ∙ spread (eq_by_cmp row_cmp (map v ca) ra) (list_any (eq_by_cmp row_cmp (map v ca)) as_)
+      (list_any (eq_by_cmp row_cmp (map v cb)) bs)
+    where
+      spread : (a b c : Bool) → ((a && c) || (b && c)) ≡ ((a || b) && c)
+      spread true true true = refl
+      spread true true false = refl
+      spread true false true = refl
+      spread true false false = refl
+      spread false b c = refl

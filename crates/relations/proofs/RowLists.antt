@@ -1,0 +1,110 @@
+-- Lists of rows: what sorting keeps, what a search answers, and what a row has at a column.
+use Rattle.std.proofs.Common.{◌≡◌, ◌≢◌, ℕ, zero, suc, ◌+◌, ◌<◌, ◌≤◌, Bool, true, false, cond, nat_eq, ◌&&◌, ◌||◌, List, [], ◌∷◌, length, get_or, slice_index, drop, Result, Ok, Err, refl, sym, subst, ap, ◌∙◌, arith, inl, inr, add-one, pos, insert, slice_index_or}
+use Rattle.std.proofs.lemmas.Bool.{cases_lt}
+use Rattle.std.proofs.lemmas.Bool.Decides.{nat_tests}
+use Rattle.std.proofs.lemmas.List.{drop_all}
+use Rattle.std.proofs.lemmas.List.Folds.{list_any_at, list_any_none}
+use Rattle.std.proofs.lemmas.List.Sorted.{searchable_from_sorted}
+use Rattle.std.proofs.lemmas.Map.Keys.{Less-from_sorted}
+use Rattle.std.specs.Cmp.{eq_by_cmp_equiv}
+use Rattle.std.specs.List.{filter, list_any}
+use Rattle.std.specs.List.Sorted.{IsSortedBy, IsStrictlySortedBy, IsBinarySearchResult, IsSearchInRange, IsNonDecreasingBy, IsPartitionPoint}
+use Rattle.std.specs.BTreeSet.{insert_key}
+use Rattle.std.specs.Ordering.{is_eq, is_lt, eq_by_cmp, ordering_index, match_ordering, ordering_reverse}
+use Rattle.std.specs.Result.{is_ok}
+use Rattle.std.specs.declared.cmp.Ordering.{Ordering}
+use Rattle.std.specs.declared.cmp.Ordering.TheVariants.{Less, Greater}
+use Rattle.mfotl_model.specs.Values.{row_cmp, row_total}
+use Rattle.mfotl_model.specs.declared.value.Value.{Value}
+use Rattle.mfotl_model.specs.declared.value.Value.TheVariants.{Int}
+use Rattle.mfotl_model.proofs.RowLemmas.{row_exact}
+use Rattle.mfotl_model.specs.Tables.{has_row, valuation}
+
+not_less : (o p : Ordering) → p ≡ ordering_reverse o → o ≡ Less → is_lt p ≡ false
+not_less o p e h = ap is_lt (e ∙ ap ordering_reverse h)
+
+not_equal_less : (o p : Ordering) → p ≡ ordering_reverse o → o ≡ Less → is_eq p ≡ false
+not_equal_less o p e h = ap is_eq (e ∙ ap ordering_reverse h)
+
+not_equal_greater : (o p : Ordering) → p ≡ ordering_reverse o → o ≡ Greater → is_eq p ≡ false
+not_equal_greater o p e h = ap is_eq (e ∙ ap ordering_reverse h)
+
+weakly : (xs : List (List Value)) → IsStrictlySortedBy row_cmp xs → IsSortedBy (λ a b. is_lt (row_cmp a b)) xs
+weakly xs h = λ k d _ l.
+    not_less (row_cmp (get_or xs k d) (get_or xs (k + 1) d)) (row_cmp (get_or xs (k + 1) d) (get_or xs k d))
+    (row_total.antisymm (get_or xs (k + 1) d) (get_or xs k d))
+    (Less-from_sorted row_cmp xs k (k + 1) d h (omega arith) l)
+
+-- a binary search finds a row exactly if it is among the rows
+pub searched_row : (xs : List (List Value)) (u : List Value) (r : Result ℕ ℕ) → IsStrictlySortedBy row_cmp xs
+    → IsSearchInRange r (length xs)
+    → IsBinarySearchResult (λ y. row_cmp y u) xs r → is_ok r ≡ has_row xs u
+searched_row xs u (Ok i) h low found =
+    sym (list_any_at (eq_by_cmp row_cmp u) xs i u low
+    (subst (λ r. eq_by_cmp row_cmp u r ≡ true) (sym (row_exact (get_or xs i u) u (found u)))
+    ((eq_by_cmp_equiv row_total).refl u)))
+searched_row xs u (Err i) h low found =
+    let apart = found (searchable_from_sorted row_total (λ (y : List Value). y) xs u (weakly xs h)) in
+    sym (list_any_none (eq_by_cmp row_cmp u) xs (λ k d l. elim (cases_lt k i) [
+      | inl below ↦ not_equal_less (row_cmp (get_or xs k d) u) (row_cmp u (get_or xs k d))
+          (row_total.antisymm u (get_or xs k d)) (apart.0 k d (omega arith) below)
+      | inr above ↦ not_equal_greater (row_cmp (get_or xs k d) u) (row_cmp u (get_or xs k d))
+          (row_total.antisymm u (get_or xs k d)) (apart.1 k d above l)
+    ]))
+
+pub valuation_none : (columns : List ℕ) (x : ℕ) → valuation columns [] x ≡ Int (pos 0)
+valuation_none [] x = refl
+valuation_none (y ∷ columns) x = refl
+
+pub valuation_short : (columns : List ℕ) (row : List Value) (i x : ℕ) → length row ≤ i
+    → valuation (drop i columns) (drop i row) x ≡ Int (pos 0)
+valuation_short columns row i x l = ap (λ r. valuation (drop i columns) r x) (drop_all i row l)
+    ∙ valuation_none (drop i columns) x
+
+pub valuation_next : (columns : List ℕ) (row : List Value) (i x : ℕ) → i < length columns → i < length row
+    → slice_index columns i ≢ x
+    → valuation (drop (i + 1) columns) (drop (i + 1) row) x ≡ valuation (drop i columns) (drop i row) x
+valuation_next [] row i x l m ne = absurd (omega arith)
+valuation_next (y ∷ ys) [] i x l m ne = absurd (omega arith)
+valuation_next (y ∷ ys) (a ∷ row) zero x l m ne = let apart : nat_eq x y
+    ≡ false = grind (arith, nat_tests) in sym (ap (λ b. cond b a (valuation ys row x)) apart)
+valuation_next (y ∷ ys) (a ∷ row) (suc i) x l m ne = rw add-one
+    (rw add-one at (valuation_next ys row i x (omega arith) (omega arith) ne))
+
+turned : (x y : List Value) (order : Ordering) → row_cmp x y ≡ order → row_cmp y x ≡ ordering_reverse order
+turned x y order e = row_total.antisymm y x ∙ ap ordering_reverse e
+
+pub inserted_at : (xs : List (List Value)) (i : ℕ) (y : List Value) → i ≤ length xs
+    → ((k : ℕ) (d : List Value) → k < length xs → k < i → row_cmp (slice_index_or xs k d) y ≡ Less)
+    → ((k : ℕ) (d : List Value) → i ≤ k → k < length xs → row_cmp (slice_index_or xs k d) y ≡ Greater)
+    → insert xs i y ≡ insert_key row_cmp xs y
+inserted_at [] zero y l low high = refl
+inserted_at [] (suc i) y l low high = absurd (omega arith)
+inserted_at (x ∷ xs) zero y l low high =
+    sym (ap (λ o. match_ordering o (y ∷ x ∷ xs) (x ∷ xs) (x ∷ insert_key row_cmp xs y))
+    (turned x y Greater (high zero [] (omega arith) (omega arith))))
+inserted_at (x ∷ xs) (suc i) y l low high =
+    ap (λ r. x ∷ r) (inserted_at xs i y (omega arith)
+    (λ k d m n. low (suc k) d (omega arith) (omega arith)) (λ k d m n. high (suc k) d (omega arith) (omega arith)))
+    ∙ sym (ap (λ o. match_ordering o (y ∷ x ∷ xs) (x ∷ xs) (x ∷ insert_key row_cmp xs y))
+    (turned x y Less (low zero [] (omega arith) (omega arith))))
+
+-- where a search finds nothing, the row's place
+pub searched_place : (xs : List (List Value)) (u : List Value) (i : ℕ) → IsStrictlySortedBy row_cmp xs → i ≤ length xs
+    → (IsNonDecreasingBy (λ y. ordering_index (row_cmp y u)) xs
+    → IsPartitionPoint (λ y. row_cmp y u ≡ Less) (λ y. row_cmp y u ≡ Greater) xs i)
+    → insert xs i u ≡ insert_key row_cmp xs u
+searched_place xs u i h low found =
+    let apart = found (searchable_from_sorted row_total (λ (y : List Value). y) xs u (weakly xs h)) in
+    inserted_at xs i u low (λ k d l below. apart.0 k d (omega arith) below) (λ k d above l. apart.1 k d above l)
+
+-- a test of what was kept
+pub any_filter : (test p : List Value → Bool) (xs : List (List Value))
+    → list_any test (filter p xs) ≡ list_any (λ x. p x && test x) xs
+any_filter test p [] = refl
+any_filter test p (x ∷ xs) = step (any_filter test p xs) (p x)
+  where
+    step : list_any test (filter p xs) ≡ list_any (λ x. p x && test x) xs → (b : Bool)
+        → list_any test (cond b (x ∷ filter p xs) (filter p xs)) ≡ ((b && test x) || list_any (λ x. p x && test x) xs)
+    step more true = ap (λ t. test x || t) more
+    step more false = more

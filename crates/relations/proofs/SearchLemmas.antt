@@ -1,0 +1,125 @@
+-- Binary search among keys that don't fall: its place and its steps.
+use Rattle.std.proofs.Common.{◌≡◌, ℕ, zero, suc, ◌+◌, ◌-◌, ◌*◌, ◌<◌, ◌≤◌, ◌^◌, Bool, true, false, List, [], ◌∷◌, length, slice_index_or, refl, sym, ap, ◌∙◌, arith}
+use Rattle.std.proofs.lemmas.List.Sorted.{searchable_from_sorted}
+use Rattle.std.specs.List.Sorted.{IsSorted, IsNonDecreasingBy}
+use Rattle.std.specs.Ordering.{ordering_index}
+use Rattle.std.specs.declared.cmp.Ordering.{Ordering}
+use Rattle.std.specs.declared.cmp.Ordering.TheVariants.{Less, Equal, Greater}
+use Rattle.mfotl_model.specs.Values.{row_cmp, row_total}
+use Rattle.mfotl_model.specs.declared.value.Value.{Value}
+use Rattle.relations.specs.Searches.{before}
+
+-- what a search among n keys keeps: all keys below `low` are before, none from `high` on; and what was spent
+pub record Searching (past : Bool) (keys : List (List Value)) (key : List Value) (low high old now : ℕ) : Type 0 where
+  pub ordered : low ≤ high
+  pub within : high ≤ length keys
+  pub below : (i : ℕ) (d : List Value) → i < low → before past (row_cmp (slice_index_or keys i d) key) ≡ true
+  pub above : (i : ℕ) (d : List Value) → high ≤ i → i < length keys
+      → before past (row_cmp (slice_index_or keys i d) key) ≡ false
+  pub spent : (d : ℕ) → length keys < 2 ^ d → now ≤ old + d
+  pub left : (d : ℕ) → length keys < 2 ^ d → high - low < 2 ^ (old + d - now)
+
+pub starts : (past : Bool) (keys : List (List Value)) (key : List Value) (old : ℕ)
+    → Searching past keys key 0 (length keys) old old
+starts past keys key old = record {
+  ordered = omega arith;
+  within = omega arith;
+  below = λ i d l. absurd (omega arith);
+  above = λ i d l m. absurd (omega arith);
+  spent = λ d l. omega arith;
+  left = λ d l. (let e : old + d - old ≡ d = omega arith in rw e
+      (let f : length keys - 0 ≡ length keys = omega arith in rw f l));
+}
+
+halved : (k size new : ℕ) → size < 2 ^ k → 0 < size → 2 * new ≤ size → new < 2 ^ (k - 1)
+halved zero size new l m h = absurd (omega arith)
+halved (suc k) size new l m h = (let e : suc k - 1 ≡ k = omega arith in rw e (omega arith))
+
+some_left : (k size : ℕ) → size < 2 ^ k → 0 < size → 0 < k
+some_left zero size l m = absurd (omega arith)
+some_left (suc k) size l m = omega arith
+
+before_falls : (past : Bool) (o p : Ordering) → ordering_index o ≤ ordering_index p → before past p ≡ true
+    → before past o ≡ true
+before_falls true Less p l h = refl
+before_falls true Equal p l h = refl
+before_falls true Greater Less l h = absurd (omega arith)
+before_falls true Greater Equal l h = absurd (omega arith)
+before_falls true Greater Greater l h = h
+before_falls false Less p l h = refl
+before_falls false Equal Less l h = absurd (omega arith)
+before_falls false Equal Equal l h = h
+before_falls false Equal Greater l h = h
+before_falls false Greater Less l h = absurd (omega arith)
+before_falls false Greater Equal l h = h
+before_falls false Greater Greater l h = h
+
+before_rises : (past : Bool) (o p : Ordering) → ordering_index o ≤ ordering_index p → before past o ≡ false
+    → before past p ≡ false
+before_rises past o p l h = by (before past p) refl
+  where
+    by : (b : Bool) → before past p ≡ b → before past p ≡ false
+    by true e = absurd (let f : true ≡ false = sym (before_falls past o p l e) ∙ h in cc)
+    by false e = e
+
+module _ (past : Bool) (keys : List (List Value)) (key : List Value) (rises : IsSorted row_cmp keys) where
+  far : IsNonDecreasingBy (λ y. ordering_index (row_cmp y key)) keys
+  far = searchable_from_sorted row_total (λ (y : List Value). y) keys key rises
+
+  spent_more : (low high old now d : ℕ) → Searching past keys key low high old now → length keys < 2 ^ d
+      → low < high → now + 1 ≤ old + d
+  spent_more low high old now d s n l =
+      let a : now ≤ old + d = s.spent d n in
+      let b : 0 < old + d - now = some_left (old + d - now) (high - low) (s.left d n) (omega arith) in
+      omega arith
+
+  left_more : (low high new old now d : ℕ) → Searching past keys key low high old now → length keys < 2 ^ d
+      → low < high → 2 * new ≤ high - low
+      → new < 2 ^ (old + d - (now + 1))
+  left_more low high new old now d s n l h =
+      let e : old + d - (now + 1) ≡ old + d - now - 1 = omega arith in
+      rw e (halved (old + d - now) (high - low) new (s.left d n) (omega arith) h)
+
+  pub goes_up : (low high middle old now : ℕ) → Searching past keys key low high old now → low ≤ middle → middle < high
+      → 2 * (middle - low) ≤ high - low → high - low ≤ 2 * (middle - low) + 1
+      → ((d : List Value) → before past (row_cmp (slice_index_or keys middle d) key) ≡ true)
+      → Searching past keys key (middle + 1) high old (now + 1)
+  goes_up low high middle old now s l m low_half high_half h = record {
+    ordered = omega arith;
+    within = s.within;
+    below = λ i d b. before_falls past (row_cmp (slice_index_or keys i d) key)
+        (row_cmp (slice_index_or keys middle d) key)
+        (far i middle d (omega arith) (omega arith)) (h d);
+    above = s.above;
+    spent = λ d n. spent_more low high old now d s n (omega arith);
+    left = λ d n. left_more low high (high - (middle + 1)) old now d s n (omega arith) (omega arith);
+  }
+
+  pub goes_down : (low high middle old now : ℕ) → Searching past keys key low high old now → low ≤ middle
+      → middle < high
+      → 2 * (middle - low) ≤ high - low → high - low ≤ 2 * (middle - low) + 1
+      → ((d : List Value) → before past (row_cmp (slice_index_or keys middle d) key) ≡ false)
+      → Searching past keys key low middle old (now + 1)
+  goes_down low high middle old now s l m low_half high_half h = record {
+    ordered = omega arith;
+    within = omega arith;
+    below = s.below;
+    above = λ i d b n. before_rises past (row_cmp (slice_index_or keys middle d) key)
+        (row_cmp (slice_index_or keys i d) key)
+        (far middle i d (omega arith) n) (h d);
+    spent = λ d n. spent_more low high old now d s n (omega arith);
+    left = λ d n. left_more low high (middle - low) old now d s n (omega arith) (omega arith);
+  }
+
+anywhere : (xs : List (List Value)) (i : ℕ) (d e : List Value) → i < length xs
+    → slice_index_or xs i d ≡ slice_index_or xs i e
+anywhere [] i d e l = absurd (omega arith)
+anywhere (x ∷ xs) zero d e l = refl
+anywhere (x ∷ xs) (suc i) d e l = anywhere xs i d e (omega arith)
+
+-- what was found of the key in the middle
+pub compared : (past b : Bool) (keys : List (List Value)) (key x : List Value) (middle : ℕ) → middle < length keys
+    → x ≡ slice_index_or keys middle x
+    → before past (row_cmp x key) ≡ b → (d : List Value) → before past (row_cmp (slice_index_or keys middle d) key) ≡ b
+compared past b keys key x middle l e h d =
+    ap (λ r. before past (row_cmp r key)) (anywhere keys middle d x l ∙ sym e) ∙ h

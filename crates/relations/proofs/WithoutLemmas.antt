@@ -1,0 +1,82 @@
+-- Tables without a column; and rows of which some were let go.
+use Rattle.std.proofs.Common.{subst, ◌≡◌, ◌↔◌, ℕ, Bool, true, false, not, nat_eq, List, [], ◌∷◌, length, map, refl, sym, ap, ◌∙◌}
+use Rattle.std.proofs.lemmas.Bool.{and_parts, and_from, cond-true, cond-false, not-true, eqb-true}
+use Rattle.std.specs.List.{items_where_true, AllByRecursion}
+use Rattle.std.specs.List.Sorted.{IsStrictlySortedBy}
+use Rattle.std.specs.declared.cmp.Ordering.TheVariants.{Less}
+use Rattle.mfotl_model.proofs.LogicLemmas.{among_without}
+use Rattle.mfotl_model.specs.FreeVariables.{among, without}
+use Rattle.mfotl_model.specs.Satisfaction.{Valuation, with_value}
+use Rattle.mfotl_model.specs.Values.{row_cmp}
+use Rattle.mfotl_model.specs.declared.value.Value.{Value}
+use Rattle.mfotl_model.specs.Tables.{all_among, all_sized, has_row, part}
+use Rattle.relations.specs.Tables.{IsTable}
+use Rattle.relations.proofs.ColumnLemmas.{all_kept}
+use Rattle.relations.proofs.JoinLemmas.{map_same_on}
+use Rattle.relations.proofs.OperationLaws.{has_projected}
+
+pub without_inside : (x : ℕ) (columns : List ℕ) → all_among (without x columns) columns ≡ true
+without_inside x columns = all_kept (λ y. not (nat_eq y x)) columns columns (λ y m. m)
+
+module _ (v : Valuation) (x : ℕ) (columns : List ℕ) (rows : List (List Value)) (is : IsTable columns rows) where
+  same_but : (w : Valuation) → ((y : ℕ) → among y (without x columns) ≡ true → w y ≡ v y)
+      → (y : ℕ) → among y columns ≡ true → with_value v x (w x) y ≡ w y
+  same_but w same y m = by (nat_eq y x) refl
+    where
+      by : (b : Bool) → nat_eq y x ≡ b → with_value v x (w x) y ≡ w y
+      by true e = cond-true (nat_eq y x) (w x) (v y) e ∙ ap w (sym (eqb-true y x e))
+      by false e =
+          cond-false (nat_eq y x) (w x) (v y) e
+          ∙ sym (same y (among_without y x columns ∙ and_from (not (nat_eq y x)) (among y columns) (ap not e) m))
+
+  other_than : (a : Value) (y : ℕ) → among y (without x columns) ≡ true → with_value v x a y ≡ v y
+  other_than a y m =
+      cond-false (nat_eq y x) a (v y)
+      (not-true (nat_eq y x) (and_parts (not (nat_eq y x)) (among y columns) (sym (among_without y x columns) ∙ m)).0)
+
+  pub has_without : has_row (map (part columns (without x columns)) rows) (map v (without x columns)) ≡ true
+      ↔ ((a : Value) × (has_row rows (map (with_value v x a) columns) ≡ true))
+  has_without =
+      let both = has_projected v columns (without x columns) rows is (without_inside x columns) in (
+        (λ h. let w = both.0 h in (
+          w.0 x,
+          ap (has_row rows) (map_same_on (with_value v x (w.0 x)) w.0 columns (same_but w.0 w.1.0))
+              ∙ w.1.1,
+        )),
+        (λ h. both.1 (with_value v x h.0, (other_than h.0, h.1))),
+      )
+
+picked_below : (x : List Value) (bs : List Bool) (xs : List (List Value)) → AllByRecursion (λ y. row_cmp x y ≡ Less) xs
+    → AllByRecursion (λ y. row_cmp x y ≡ Less) (items_where_true bs xs)
+picked_below x [] xs h = tt
+picked_below x (b ∷ bs) [] h = tt
+picked_below x (true ∷ bs) (y ∷ xs) h = (h.0, picked_below x bs xs h.1)
+picked_below x (false ∷ bs) (y ∷ xs) h = picked_below x bs xs h.1
+
+picked_sorted : (bs : List Bool) (xs : List (List Value)) → IsStrictlySortedBy row_cmp xs
+    → IsStrictlySortedBy row_cmp (items_where_true bs xs)
+unfolding IsStrictlySortedBy
+picked_sorted [] xs h = tt
+picked_sorted (b ∷ bs) [] h = tt
+picked_sorted (true ∷ bs) (x ∷ xs) h = (picked_below x bs xs h.0, picked_sorted bs xs h.1)
+picked_sorted (false ∷ bs) (x ∷ xs) h = picked_sorted bs xs h.1
+
+picked_sized : (n : ℕ) (bs : List Bool) (xs : List (List Value)) → all_sized n xs ≡ true
+    → all_sized n (items_where_true bs xs) ≡ true
+picked_sized n [] xs h = refl
+picked_sized n (b ∷ bs) [] h = refl
+picked_sized n (true ∷ bs) (x ∷ xs) h =
+    let parts = and_parts (nat_eq (length x) n) (all_sized n xs) h in
+    and_from (nat_eq (length x) n) (all_sized n (items_where_true bs xs)) parts.0 (picked_sized n bs xs parts.1)
+picked_sized n (false ∷ bs) (x ∷ xs) h = picked_sized n bs xs (and_parts (nat_eq (length x) n) (all_sized n xs) h).1
+
+pub picked_is : (columns : List ℕ) (bs : List Bool) (rows rs : List (List Value)) → IsTable columns rows
+    → rs ≡ items_where_true bs rows → IsTable columns rs
+picked_is columns bs rows rs is e =
+    subst (IsTable columns) (sym e)
+    (record {
+      apart = is.apart;
+      sized = picked_sized (length columns) bs rows is.sized;
+      sorted = picked_sorted bs
+          rows is.sorted;
+    })

@@ -1,0 +1,9 @@
+use Rattle.std.proofs.Common.{◌≡◌, ◌++◌, drop, not}
+use Rattle.std.specs.List.{filter}
+use Rattle.mfotl_model.specs.Tables.{has_row, part}
+use Rattle.relations.proofs.antijoin.copied_apart.Given as goal
+
+abbrev pub invariant-loop-row : goal.invariant-loop-row
+invariant-loop-row l =
+    l.kept.items ++ filter (λ row. not (has_row l.seconds (part l.columns l.wanted row))) (drop l.row-index l.rows)
+    ≡ filter (λ row. not (has_row l.seconds (part l.columns l.wanted row))) l.rows

@@ -1,0 +1,6 @@
+pub mod Tables
+pub mod Operations
+pub mod Entries
+pub mod Searches
+pub mod Indexes
+pub mod Examples

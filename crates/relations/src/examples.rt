@@ -1,0 +1,14 @@
+//! Examples whose rows were worked out by hand, as theorems on the definitions.
+ghost use Rattle.relations.specs.Examples.{AntijoinLeavesOut, ChosenWhereItFails, ChosenWhereItHolds, JoinAgreesInY, KeyFindsBoth, KeyFindsNone, ProjectionToY, UnionWithItself};
+
+/// Does nothing: each clause is what one operation gives.
+pub fn worked_examples()
+    ensures join { JoinAgreesInY }
+    ensures antijoin { AntijoinLeavesOut }
+    ensures project { ProjectionToY }
+    ensures union { UnionWithItself }
+    ensures select { ChosenWhereItHolds }
+    ensures deselect { ChosenWhereItFails }
+    ensures key { KeyFindsBoth }
+    ensures no_key { KeyFindsNone }
+{}

@@ -1,0 +1,22 @@
+//! Tables of rows, and the operations of relational algebra on them.
+#![tactic(auto)]
+
+mod antijoin;
+mod choosing;
+mod columns;
+mod entry;
+pub mod examples;
+mod index;
+mod join;
+mod matched;
+mod projection;
+mod rows;
+mod search;
+mod steps;
+mod table;
+mod union;
+
+pub use columns::{part_of, value_at};
+pub use index::Index;
+pub use steps::Steps;
+pub use table::Table;
