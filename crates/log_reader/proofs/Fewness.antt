@@ -1,5 +1,5 @@
 -- A reading has no more time-points than the limit.
-use Rattle.std.proofs.Common.{◌≡◌, inl, inr, ℕ, ◌+◌, ◌≤◌, Bool, true, false, List, [], ◌∷◌, length, Option, Some, None, Result, Ok, Err, OnOk, refl, sym, ap, ◌∙◌, arith, nat_lt}
+use Rattle.std.proofs.Common.{◌≡◌, inl, inr, ℕ, ◌+◌, ◌≤◌, Bool, true, false, List, [], ◌∷◌, length, Option, Some, None, Result, Ok, Err, refl, sym, ap, ◌∙◌, arith, nat_lt}
 use Rattle.std.proofs.lemmas.Bool.{cond_both, cases_Bool, ltb-true}
 use Rattle.std.proofs.lemmas.List.{length-append}
 use Rattle.mfotl_lex.specs.Lexemes.{Lexeme, tokens}
@@ -150,12 +150,13 @@ reading_few sig limits bytes ended =
     let few : IsFew limits blank = record { counted = omega arith; begun = omega arith } in
     omega (arith, run_few sig limits (behind_tokens ts.fault (nothing_left limits bytes ended)) (end_few limits bytes ended ts.fault) ts.list blank few)
 
--- so no more are given
-pub sound_few : (sig : List PredOf) (limits : Limits) (bytes : List ℕ) (is_fed is_ended : Bool) (at : ℕ) (p : Partial)
-    → IsSound sig limits bytes is_fed is_ended at p → given_of p ≤ limits.points
-sound_few sig limits bytes is_fed is_ended at p s =
-    omega (arith, (s.remains is_ended (later_self is_ended)).few, reading_few sig limits bytes is_ended)
+-- no more were given than there are
+pub given_few : (sig : List PredOf) (limits : Limits) (bytes : List ℕ) (is_ended : Bool) (at : ℕ) (p : Partial)
+    → IsSound sig limits bytes is_ended at p → given_of p ≤ length (reading sig limits bytes is_ended).points
+given_few sig limits bytes is_ended at p s = (s.remains is_ended (later_self is_ended)).few
 
-pub on_ok : {A E : Type 0} (P : Type 0) (result : Result A E) → P → OnOk result P
-on_ok P (Ok x) holds = holds
-on_ok P (Err fault) holds = tt
+-- so no more than the limit
+pub sound_few : (sig : List PredOf) (limits : Limits) (bytes : List ℕ) (is_ended : Bool) (at : ℕ) (p : Partial)
+    → IsSound sig limits bytes is_ended at p → given_of p ≤ limits.points
+sound_few sig limits bytes is_ended at p s =
+    omega (arith, given_few sig limits bytes is_ended at p s, reading_few sig limits bytes is_ended)

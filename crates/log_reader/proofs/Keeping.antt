@@ -15,12 +15,12 @@ use Rattle.log_reader.specs.declared.next.Next.{Next}
 use Rattle.log_reader.specs.declared.next.Next.TheVariants.{Point, More, End}
 use Rattle.log_reader.specs.declared.stage.Stage.{Stage}
 use Rattle.log_reader.specs.declared.stage.Stage.TheVariants.{AfterStamp, AfterClose}
-use Rattle.log_reader.specs.Cursors.{place_in, IsLater, open_count, given_of, Leads, Exhausts, Advances, behind_answer}
-use Rattle.log_reader.specs.Given.{Gives}
+use Rattle.log_reader.specs.Cursors.{place_in, IsLater, open_count, given_of, Leads, Exhausts, Breaks, BreaksBy, Advances, behind_answer}
+use Rattle.log_reader.specs.Given.{Fails, Gives}
 use Rattle.log_reader.specs.Partials.{Partial, blank, point_of, finished}
 use Rattle.log_reader.specs.Progress.{answer_of, skipped}
 use Rattle.log_reader.specs.Readings.{Reading, Ending, NoFault, behind, run_from, is_long, nothing_left, finish_at, place_at, reading}
-use Rattle.log_reader.specs.Soundness.{Remains, IsSound}
+use Rattle.log_reader.specs.Soundness.{Remains, IsSound, is_wanting, CountsOn}
 use Rattle.log_reader.proofs.TokenRuns.{none_run}
 use Rattle.log_reader.proofs.TokenSteps.{later_self}
 
@@ -88,28 +88,26 @@ module _ (sig : List PredOf) (limits : Limits) (bytes : List ℕ) where
         few = omega (arith, len, r.few, length-drop given all.points);
       }
 
-  module _ (is_fed is_ended : Bool) where
-    sound_leads : (at at' : ℕ) (p q : Partial) (points : List TimePoint) → IsSound sig limits bytes is_fed is_ended at p
+  module _ (is_ended : Bool) where
+    sound_leads : (at at' : ℕ) (p q : Partial) (points : List TimePoint) → IsSound sig limits bytes is_ended at p
         → Leads sig limits (take limits.bytes bytes) (is_ended && not (is_long limits bytes)) at p points at' q
-        → IsSound sig limits bytes is_fed is_ended at' q
+        → IsSound sig limits bytes is_ended at' q
     sound_leads at at' p q points s l = record {
       within = l.within;
       counted = l.counted;
-      unfed = s.unfed;
       remains = λ later is. rw l.given (moves later (given_of p) at at' p q points (s.remains later is)
           (l.reads (later && not (is_long limits bytes)) (later_and is_ended later (is_long limits bytes) is) (nothing_left limits bytes later)));
     }
 
     -- behind the last time-point, which the end completes
-    sound_last : (at : ℕ) (p : Partial) → IsSound sig limits bytes is_fed is_ended at p
+    sound_last : (at : ℕ) (p : Partial) → IsSound sig limits bytes is_ended at p
         → next_token (place_in (take limits.bytes bytes) (is_ended && not (is_long limits bytes)) at) ≡ Ok None
-        → Whole limits bytes is_ended p → IsSound sig limits bytes is_fed is_ended at (finished p)
+        → Whole limits bytes is_ended p → IsSound sig limits bytes is_ended at (finished p)
     sound_last at p s empty w =
         let more : given_of (finished p) ≡ given_of p + 1 = omega (arith, w.begun, s.counted) in
         record {
           within = s.within;
           counted = omega arith;
-          unfed = s.unfed;
           remains = λ later is.
               let same : later ≡ is_ended = rw w.told at is ∙ sym w.told in
               let last = nothing_left limits bytes later in
@@ -122,10 +120,10 @@ module _ (sig : List PredOf) (limits : Limits) (bytes : List ℕ) where
               rw more (moves later (given_of p) at at p (finished p) (point_of p ∷ []) (s.remains later is) both);
         }
 
-    sound_end : (at : ℕ) (p q : Partial) (answer : Result Next LogFault) → IsSound sig limits bytes is_fed is_ended at p
+    sound_end : (at : ℕ) (p q : Partial) (answer : Result Next LogFault) → IsSound sig limits bytes is_ended at p
         → next_token (place_in (take limits.bytes bytes) (is_ended && not (is_long limits bytes)) at) ≡ Ok None
         → answer ≡ answer_of is_ended (nothing_left limits bytes is_ended p) → q ≡ behind_answer p answer
-        → IsSound sig limits bytes is_fed is_ended at q
+        → IsSound sig limits bytes is_ended at q
     unfolding gives_point
     sound_end at p q (Ok (Point point)) s empty e is =
         rw is (sound_last at p s empty (whole_by limits bytes (is_long limits bytes) is_ended p point refl (sym e)))
@@ -133,13 +131,26 @@ module _ (sig : List PredOf) (limits : Limits) (bytes : List ℕ) where
     sound_end at p q (Ok End) s empty e is = rw is s
     sound_end at p q (Err fault) s empty e is = rw is s
 
+    end_counts : (before at : ℕ) (p q : Partial) (answer : Result Next LogFault) → IsSound sig limits bytes is_ended at p
+        → given_of p ≡ before + 0 → answer ≡ answer_of is_ended (nothing_left limits bytes is_ended p)
+        → q ≡ behind_answer p answer → CountsOn before answer (given_of q)
+    unfolding gives_point
+    end_counts before at p q (Ok (Point point)) s given e is =
+        let w = whole_by limits bytes (is_long limits bytes) is_ended p point refl (sym e) in
+        let more : given_of (finished p) ≡ before + 1 = omega (arith, w.begun, s.counted, given) in
+        rw is more
+    end_counts before at p q (Ok More) s given e is = rw is (omega (arith, given))
+    end_counts before at p q (Ok End) s given e is = rw is (omega (arith, given))
+    end_counts before at p q (Err Memory) s given e is = tt
+    end_counts before at p q (Err fault) s given e is = rw is (omega (arith, given))
+
     -- what is due is what the rest gives
-    due_rest : (at : ℕ) (p : Partial) → IsSound sig limits bytes is_fed is_ended at p
+    due_rest : (at : ℕ) (p : Partial) → IsSound sig limits bytes is_ended at p
         → answer_of is_ended (skipped (given_of p) (reading sig limits bytes is_ended))
         ≡ answer_of is_ended (run_from sig limits (nothing_left limits bytes is_ended) p (place_at limits bytes is_ended at))
     due_rest at p s = ap (answer_of is_ended) (s.remains is_ended (later_self is_ended)).rest
 
-    due_exhausted : (at at' : ℕ) (p q : Partial) → IsSound sig limits bytes is_fed is_ended at p
+    due_exhausted : (at at' : ℕ) (p q : Partial) → IsSound sig limits bytes is_ended at p
         → Exhausts sig limits (take limits.bytes bytes) (is_ended && not (is_long limits bytes)) at p at' q
         → answer_of is_ended (skipped (given_of p) (reading sig limits bytes is_ended)) ≡ answer_of is_ended (nothing_left limits bytes is_ended q)
     due_exhausted at at' p q s x =
@@ -149,12 +160,11 @@ module _ (sig : List PredOf) (limits : Limits) (bytes : List ℕ) where
         ∙ ap (λ (r : Reading). behind [] r) (none_run sig limits last q (place_at limits bytes is_ended at') x.empty))
 
   -- nothing was read
-  pub sound_start : (is_fed : Bool) (at : ℕ) (p : Partial) → at ≡ 0 → p ≡ blank → (is_fed ≡ false → bytes ≡ []) → IsSound sig limits bytes is_fed false at p
+  pub sound_start : (at : ℕ) (p : Partial) → at ≡ 0 → p ≡ blank → IsSound sig limits bytes false at p
   unfolding reading
-  sound_start is_fed at p e f unfed = rw (e, f) (record {
+  sound_start at p e f = rw (e, f) (record {
     within = omega arith;
     counted = omega arith;
-    unfed = unfed;
     remains = λ later is. record { rest = refl; few = omega arith };
   })
 
@@ -172,9 +182,10 @@ nothing_read sig limits =
     ap (λ (r : Reading). r.points) (none_run sig limits last blank (place_at limits [] false 0) empty)
     ∙ cond_both (is_long limits []) _ _ (λ (r : Reading). r.points ≡ []) (λ _. refl) (λ _. refl)
 
-pub none_given : (sig : List PredOf) (limits : Limits) (bytes : List ℕ) (is_fed : Bool) (at : ℕ) (p : Partial) → is_fed ≡ false → IsSound sig limits bytes is_fed false at p → given_of p ≡ 0
-none_given sig limits bytes is_fed at p e s =
-    let few : given_of p ≤ length (reading sig limits [] false).points = rw (s.unfed e) at (s.remains false tt).few in
+pub none_given : (sig : List PredOf) (limits : Limits) (bytes : List ℕ) (at : ℕ) (p : Partial) → bytes ≡ []
+    → IsSound sig limits bytes false at p → given_of p ≡ 0
+none_given sig limits bytes at p e s =
+    let few : given_of p ≤ length (reading sig limits [] false).points = rw e at (s.remains false tt).few in
     let none : length (reading sig limits [] false).points ≡ 0 = ap length (nothing_read sig limits) in
     omega (arith, few, none)
 
@@ -186,19 +197,82 @@ gives_due (Err Memory) due e = tt
 gives_due (Err fault) due e = e
 
 -- behind what an advance gave, at what its arguments are
-module _ (sig : List PredOf) (limits : Limits) (bytes looked : List ℕ) (is_fed is_ended told : Bool) (at : ℕ) (p : Partial)
+module _ (sig : List PredOf) (limits : Limits) (bytes looked : List ℕ) (is_ended told : Bool) (at : ℕ) (p : Partial)
     (result : Result (Option TimePoint) LogFault) (at' : ℕ) (q : Partial)
     (look : looked ≡ take limits.bytes bytes) (end : told ≡ (is_ended && not (is_long limits bytes)))
-    (a : Advances sig limits looked told at p result at' q) (s : IsSound sig limits bytes is_fed is_ended at p) where
+    (a : Advances sig limits looked told at p result at' q) (s : IsSound sig limits bytes is_ended at p) where
   abbrev AdvancesTo : Result (Option TimePoint) LogFault → Type 0
   AdvancesTo r = Advances sig limits (take limits.bytes bytes) (is_ended && not (is_long limits bytes)) at p r at' q
+
+  abbrev due : Result Next LogFault
+  due = answer_of is_ended (skipped (given_of p) (reading sig limits bytes is_ended))
 
   advanced : AdvancesTo result
   advanced = subst (λ (x : Bool). Advances sig limits (take limits.bytes bytes) x at p result at' q) end
       (subst (λ (x : List ℕ). Advances sig limits x told at p result at' q) look a)
 
-  pub sound_point : (point : TimePoint) → result ≡ Ok (Some point) → IsSound sig limits bytes is_fed is_ended at' q
-  sound_point point is = sound_leads sig limits bytes is_fed is_ended at at' p q (point ∷ []) s (subst AdvancesTo is advanced)
+  -- what the rest begins with is due
+  due_led : (points : List TimePoint)
+      → Leads sig limits (take limits.bytes bytes) (is_ended && not (is_long limits bytes)) at p points at' q
+      → due ≡ answer_of is_ended (behind points
+      (run_from sig limits (nothing_left limits bytes is_ended) q (place_at limits bytes is_ended at')))
+  due_led points l =
+      let told = is_ended && not (is_long limits bytes) in
+      due_rest sig limits bytes is_ended at p s
+      ∙ ap (answer_of is_ended) (l.reads told (later_self told) (nothing_left limits bytes is_ended))
+
+  -- a time-point
+  module _ (point : TimePoint) (is : result ≡ Ok (Some point)) where
+    led : Leads sig limits (take limits.bytes bytes) (is_ended && not (is_long limits bytes)) at p (point ∷ []) at' q
+    led = subst AdvancesTo is advanced
+
+    pub sound_point : IsSound sig limits bytes is_ended at' q
+    sound_point = sound_leads sig limits bytes is_ended at at' p q (point ∷ []) s led
+
+    pub due_point : due ≡ Ok (Point point)
+    due_point = due_led (point ∷ []) led
+
+    pub given_point : given_of q ≡ given_of p + 1
+    given_point = led.given
+
+  -- a fault
+  abbrev BreaksHere : LogFault → Type 0
+  BreaksHere fault = Breaks sig limits (take limits.bytes bytes) (is_ended && not (is_long limits bytes)) at p fault at' q
+
+  abbrev BreaksByHere : LogFault → Type 0
+  BreaksByHere fault = BreaksBy sig limits (take limits.bytes bytes) (is_ended && not (is_long limits bytes)) at p fault at' q
+
+  due_broken : (fault : LogFault) → BreaksHere fault → due ≡ Err fault
+  due_broken fault b =
+      due_led [] b.leads ∙ ap (λ (r : Reading). answer_of is_ended (behind [] r)) (b.again (nothing_left limits bytes is_ended))
+
+  sound_broken : (fault : LogFault) → BreaksHere fault → IsSound sig limits bytes is_ended at' q
+  sound_broken fault b = sound_leads sig limits bytes is_ended at at' p q [] s b.leads
+
+  counts_broken : (fault : LogFault) → BreaksHere fault → given_of q ≡ given_of p
+  counts_broken fault b = omega (arith, b.leads.given)
+
+  due_by : (fault : LogFault) → BreaksByHere fault → Fails fault due
+  due_by Memory b = tt
+  due_by fault b = due_broken fault b
+
+  sound_by : (fault : LogFault) → BreaksByHere fault → is_wanting (Err fault) ≡ false → IsSound sig limits bytes is_ended at' q
+  sound_by Memory b wanting = absurd cc
+  sound_by fault b wanting = sound_broken fault b
+
+  counts_by : (fault : LogFault) → BreaksByHere fault → CountsOn (given_of p) (Err fault) (given_of q)
+  counts_by Memory b = tt
+  counts_by fault b = counts_broken fault b
+
+  module _ (fault : LogFault) (is : result ≡ Err fault) where
+    pub fault_due : Fails fault due
+    fault_due = due_by fault (subst AdvancesTo is advanced)
+
+    pub fault_sound : is_wanting (Err fault) ≡ false → IsSound sig limits bytes is_ended at' q
+    fault_sound = sound_by fault (subst AdvancesTo is advanced)
+
+    pub fault_counts : CountsOn (given_of p) (Err fault) (given_of q)
+    fault_counts = counts_by fault (subst AdvancesTo is advanced)
 
   -- where no whole token is left, the end gives the answer
   module _ (is : result ≡ Ok None) (answer : Result Next LogFault) (r : Partial)
@@ -206,10 +280,14 @@ module _ (sig : List PredOf) (limits : Limits) (bytes looked : List ℕ) (is_fed
     exhausted : Exhausts sig limits (take limits.bytes bytes) (is_ended && not (is_long limits bytes)) at p at' q
     exhausted = subst AdvancesTo is advanced
 
-    pub sound_none : IsSound sig limits bytes is_fed is_ended at' r
-    sound_none =
-        let sound : IsSound sig limits bytes is_fed is_ended at' q = sound_leads sig limits bytes is_fed is_ended at at' p q [] s exhausted.leads in
-        sound_end sig limits bytes is_fed is_ended at' q r answer sound exhausted.empty e m
+    sound_here : IsSound sig limits bytes is_ended at' q
+    sound_here = sound_leads sig limits bytes is_ended at at' p q [] s exhausted.leads
 
-    pub due_none : answer_of is_ended (skipped (given_of p) (reading sig limits bytes is_ended)) ≡ answer
-    due_none = due_exhausted sig limits bytes is_fed is_ended at at' p q s exhausted ∙ sym e
+    pub sound_none : IsSound sig limits bytes is_ended at' r
+    sound_none = sound_end sig limits bytes is_ended at' q r answer sound_here exhausted.empty e m
+
+    pub due_none : due ≡ answer
+    due_none = due_exhausted sig limits bytes is_ended at at' p q s exhausted ∙ sym e
+
+    pub given_none : CountsOn (given_of p) answer (given_of r)
+    given_none = end_counts sig limits bytes is_ended (given_of p) at' q r answer sound_here exhausted.leads.given e m

@@ -19,12 +19,28 @@ pub record Remains (sig : List PredOf) (limits : Limits) (bytes : List ℕ) (end
       ≡ run_from sig limits (nothing_left limits bytes ended) p (place_at limits bytes ended at)
   pub few : given ≤ length (reading sig limits bytes ended).points
 
-pub record IsSound (sig : List PredOf) (limits : Limits) (bytes : List ℕ) (is_fed is_ended : Bool)
+pub record IsSound (sig : List PredOf) (limits : Limits) (bytes : List ℕ) (is_ended : Bool)
     (at : ℕ) (p : Partial) : Type 0 where
   pub within : at ≤ length (take limits.bytes bytes)
   pub counted : IsCounted p
-  pub unfed : is_fed ≡ false → bytes ≡ []
   pub remains : (later : Bool) → IsLater is_ended later → Remains sig limits bytes later (given_of p) at p
+
+-- what a reader that keeps all bytes keeps true: nothing is known of it where memory was wanting
+pub record IsKept (sig : List PredOf) (limits : Limits) (bytes : List ℕ) (is_fed is_ended is_broken : Bool)
+    (at : ℕ) (p : Partial) : Type 0 where
+  pub unfed : is_fed ≡ false → bytes ≡ []
+  pub sound : is_broken ≡ false → IsSound sig limits bytes is_ended at p
+
+-- memory was wanting
+abbrev pub is_wanting : Result Next LogFault → Bool
+is_wanting (Err Memory) = true
+is_wanting _ = false
+
+-- how many time-points were given, before and behind an answer
+abbrev pub CountsOn : ℕ → Result Next LogFault → ℕ → Type 0
+CountsOn old (Ok (Point point)) new = new ≡ old + 1
+CountsOn old (Err Memory) new = Unit {0}
+CountsOn old answer new = new ≡ old
 
 -- the progress of a reader that keeps all bytes
 abbrev pub told : Reader → Progress

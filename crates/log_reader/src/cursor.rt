@@ -1,11 +1,16 @@
-ghost use Rattle.std.specs.Prelude.{◌≡◌, ◌≤◌, ◌<◌, ◌^◌, length};
+ghost use Rattle.std.specs.Prelude.{◌≡◌, ◌≤◌, false, length};
 ghost use Rattle.mfotl_lex.specs.Lexemes.{lexeme};
+ghost use Rattle.log_reader.specs.Given.{Gives};
 ghost use Rattle.log_reader.specs.Partials.{blank};
-ghost use Rattle.log_reader.specs.Cursors.{StepsOver, TakesToken, Advances, IsCounted, place_in};
+ghost use Rattle.log_reader.specs.Progress.{answer_of, skipped};
+ghost use Rattle.log_reader.specs.Readings.{reading};
+ghost use Rattle.log_reader.specs.Soundness.{IsSound, is_wanting, CountsOn};
+ghost use Rattle.log_reader.specs.Cursors.{StepsOver, TakesToken, Advances, IsCounted, place_in, given_of};
 
 use crate::fault::LogFault;
 use crate::grammar::read_on;
 use crate::limits::Limits;
+use crate::next::Next;
 use crate::partial::Partial;
 use mfotl_lex::{Lexer, Mode, Token};
 use mfotl_model::TimePoint;
@@ -113,6 +118,32 @@ impl<'a> Cursor<'a> {
                 Ok(TokenStep::Empty) => return Ok(None),
                 Err(fault) => return Err(fault),
             }
+        }
+    }
+
+    /// The next time-point of the bytes, or what stands behind the last one. Want of memory leaves the
+    /// cursor where it is of no more use.
+    pub fn read(
+        &mut self,
+        alloc: Global,
+        bytes: &[u8],
+        ended: bool,
+        sig: &'a Signature,
+        limits: &Limits,
+    ) -> Result<Next, LogFault>
+        requires { IsSound sig.now limits.now bytes.now ended self.old.at self.old.partial }
+        ensures answer { Gives (λ next. next) result (answer_of ended (skipped
+            (given_of self.old.partial) (reading sig.now limits.now bytes.now ended))) }
+        ensures sound { is_wanting result ≡ false
+            → IsSound sig.now limits.now bytes.now ended self.new.at self.new.partial }
+        ensures counts { CountsOn (given_of self.old.partial) result (given_of self.new.partial) }
+    {
+        let looked = limits.looked_at(bytes);
+        let told = limits.is_end_told(bytes, ended);
+        match self.advance(alloc, looked, told, sig, limits) {
+            Ok(Some(point)) => Ok(Next::Point(point)),
+            Ok(None) => self.partial.end(alloc, limits, bytes, ended),
+            Err(fault) => Err(fault),
         }
     }
 }

@@ -5,6 +5,7 @@ ghost use Rattle.log_reader.specs.Given.{Gives};
 ghost use Rattle.log_reader.specs.Laws.{IsShown};
 ghost use Rattle.log_reader.specs.Readings.{accepted};
 ghost use Rattle.log_reader.specs.Rules.{IsValue};
+ghost use Rattle.log_reader.specs.Soundness.{is_wanting};
 
 use crate::cursor::Cursor;
 use crate::fault::LogFault;
@@ -27,10 +28,9 @@ pub struct LogReader<'a> {
 }
 
 impl<'a> Model for LogReader<'a> {
-    ghost use Rattle.std.specs.Prelude.{◌≡◌, false};
     ghost use Rattle.log_reader.specs.Readers.{Reader};
     ghost use Rattle.log_reader.specs.Cursors.{given_of};
-    ghost use Rattle.log_reader.specs.Soundness.{IsSound};
+    ghost use Rattle.log_reader.specs.Soundness.{IsKept};
 
     ghost Value = { Reader };
 
@@ -44,8 +44,8 @@ impl<'a> Model for LogReader<'a> {
       kept = record { bytes = r.bytes.items; at = r.cursor.at; partial = r.cursor.partial };
     } };
 
-    ghost invariant = { λ r. r.is_broken ≡ false →
-        IsSound r.sig.now r.limits r.bytes.items r.is_fed r.is_ended r.cursor.at r.cursor.partial };
+    ghost invariant = { λ r. IsKept r.sig.now r.limits r.bytes.items
+        r.is_fed r.is_ended r.is_broken r.cursor.at r.cursor.partial };
 }
 
 impl<'a> LogReader<'a> {
@@ -147,22 +147,20 @@ impl<'a> LogReader<'a> {
         ensures few { OnOk result (self.new.given ≤ self.new.limits.points) }
         ensures given { self.old.given ≤ length (read (told self.old)).points }
     {
-        let looked = self.limits.looked_at(&self.bytes);
-        let ended = self.limits.is_end_told(&self.bytes, self.is_ended);
-        match self
-            .cursor
-            .advance(alloc, looked, ended, self.sig, &self.limits)
-        {
-            Ok(Some(point)) => Ok(Next::Point(point)),
-            Ok(None) => self
-                .cursor
-                .partial
-                .end(alloc, &self.limits, &self.bytes, self.is_ended),
-            Err(LogFault::Memory) => {
-                self.is_broken = true;
-                Err(LogFault::Memory)
-            }
-            Err(fault) => Err(fault),
-        }
+        let answer = self.cursor.read(
+            alloc,
+            &self.bytes,
+            self.is_ended,
+            self.sig,
+            &self.limits,
+        );
+        self.is_broken = is_wanting(&answer);
+        answer
     }
+}
+
+fn is_wanting(answer: &Result<Next, LogFault>) -> bool
+    ensures { result ≡ is_wanting answer.now }
+{
+    matches!(answer, Err(LogFault::Memory))
 }

@@ -66,7 +66,7 @@ impl Signature {
         let key = Vec::from_slice(alloc, name)?;
         let pred = Pred {
             number,
-            name: Name::new(Vec::from_slice(alloc, name)?),
+            name: Name::from_slice(alloc, name)?,
             sorts,
         };
         self.preds.insert(key, pred)?;

@@ -6,7 +6,7 @@ use Rattle.mon_outside.specs.Files.{Files, content}
 use Rattle.mfotl_model.specs.Formulas.{Form}
 use Rattle.mfotl_model.specs.declared.term.Atom.{Atom as OneAtom}
 use Rattle.log_reader.specs.Readings.{Ending, Reading, Clear, Stops}
-use Rattle.monitor_main.specs.Answer.{Answer, Judged, Task, answer, answer_to, command_answer, core_atom, ended, log_answer, policy_at, reading_of, run_answer, task_at, task_of, unless_later}
+use Rattle.monitor_main.specs.Answer.{Answer, CheckedPolicy, Task, answer, answer_to, command_answer, core_atom, ended, log_answer, policy_at, reading_of, run_answer, task_at, task_of, unless_later}
 use Rattle.monitor_main.specs.AnswerLaws.{CheckAccepts, LaterExactly}
 use Rattle.monitor_main.specs.Refusals.{line_of}
 use Rattle.monitor_main.specs.Words.{Command, Sources, Run, Check, command_of}
@@ -37,21 +37,21 @@ module _ (words : List Text) (files : Files) where
   unfolding answer
   answer_is command given = ap (λ (c : Option Command). answer_to c files) given
 
-  run_is : (sources : Sources) (log : List ℕ) (judged : Judged) → command_of words ≡ Some (Run sources log)
-      → policy_at sources files ≡ Ok judged → answer words files ≡ run_answer (task_of judged (content files log))
+  run_is : (sources : Sources) (log : List ℕ) (checked : CheckedPolicy) → command_of words ≡ Some (Run sources log)
+      → policy_at sources files ≡ Ok checked → answer words files ≡ run_answer (task_of checked (content files log))
   unfolding command_answer task_at
-  run_is sources log judged given policy_is = answer_is (Run sources log) given ∙ rw policy_is refl
+  run_is sources log checked given policy_is = answer_is (Run sources log) given ∙ rw policy_is refl
 
 pub later_exactly : LaterExactly
 unfolding task_of
-later_exactly words files sources log judged given policy_is =
-    let is = run_is words files sources log judged given policy_is in
-    let task : Task = record { sig = judged.sig; policy = judged.policy; log = content files log } in
+later_exactly words files sources log checked given policy_is =
+    let is = run_is words files sources log checked given policy_is in
+    let task : Task = record { sig = checked.sig; policy = checked.policy; log = content files log } in
     record {
       left = λ none. is ∙ ap (λ (a : Option OneAtom). run_answer (unless_later a task)) none;
-      only = λ e. only_later (core_atom judged.policy) task (sym (ap (λ (a : Answer). a.err) is) ∙ e);
+      only = λ e. only_later (core_atom checked.policy) task (sym (ap (λ (a : Answer). a.err) is) ∙ e);
     }
 
 pub check_accepts : CheckAccepts
 unfolding command_answer
-check_accepts words files sources judged given policy_is = answer_is words files (Check sources) given ∙ rw policy_is refl
+check_accepts words files sources checked given policy_is = answer_is words files (Check sources) given ∙ rw policy_is refl

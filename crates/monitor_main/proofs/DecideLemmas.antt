@@ -1,44 +1,40 @@
--- From the plan and the log to the whole answer.
-use Rattle.std.proofs.Common.{◌≡◌, ◌∙◌, ap, subst, sym, refl, ℕ, Bool, true, List, [], Option, Some, None, is_some}
+-- From the policy and the log to the whole answer.
+use Rattle.std.proofs.Common.{◌≡◌, ◌∙◌, ap, arith, subst, sym, refl, ◌⊎◌, inl, inr, ℕ, ◌≤◌, Bool, true, List, [], ◌∷◌, Option, Some, None, is_some, IsTrue}
 use Rattle.std.proofs.lemmas.Result.{IfErr-weaker, IfOk-weaker}
-use Rattle.std.specs.Prelude.{Result, Ok, Err, IfOk, IfErr, option_map}
+use Rattle.std.specs.Prelude.{Result, Ok, Err, IfOk, IfErr, MatchOption, ◌≢◌, option_map}
 use Rattle.clap.specs.Words.{Text}
-use Rattle.mon_outside.specs.Files.{Files, content}
+use Rattle.mon_outside.specs.Causes.{Rose}
+use Rattle.mon_outside.specs.Files.{Files, ToldFiles, content}
+use Rattle.mon_outside.specs.Inputs.{Name, StopsIn, asked_more}
 use Rattle.mon_outside.specs.Sink.{AppendsFront}
+use Rattle.mon_outside.specs.Views.{InputsView, SinkView}
 use Rattle.log_reader.specs.Readings.{Clear, Ending, Reading}
 use Rattle.mfotl_model.specs.Formulas.{Form}
+use Rattle.mfotl_sig.specs.Preds.{PredOf}
 use Rattle.monitor_main.specs.declared.refusal.InputFile.{InputFile}
 use Rattle.monitor_main.specs.declared.refusal.InputFile.TheVariants as file
 use Rattle.monitor_main.specs.declared.refusal.Refusal.{Refusal}
-use Rattle.monitor_main.specs.declared.refusal.Refusal.TheVariants.{Usage, LongSignature, Signature, LongPolicy, Policy, Fragment, Later, Log, Read, Write, Memory}
-use Rattle.monitor_main.specs.Answer.{Answer, Judged, Task, answer, answer_to, bytes_of, check_answer, command_answer, ok_value, policy_at, refused, run_answer, seen_of, source_bytes, task_at, task_of, text_at_failure, text_before, text_of_seen, text_on}
-use Rattle.monitor_main.specs.Decisions.{ComesTo, Ends, FailsInLog, Finishes, HasCauses, Refuses}
+use Rattle.monitor_main.specs.declared.refusal.Refusal.TheVariants.{Usage, Later, Read, Write, Memory}
+use Rattle.monitor_main.specs.Answer.{◌>>=◌, Answer, CheckedPolicy, checked_over, Task, answer, answer_to, bytes_of, check_answer, command_answer, log_answer, ok_value, policy_at, refused, run_answer, seen_of, signature_of, source_bytes, task_at, task_of, task_on, text_at_failure, text_before, text_of_seen, text_on}
+use Rattle.monitor_main.specs.Decisions.{CarriesOut, ComesTo, CommandFails, Decides, Effect, Ends, FailsAt, FailsInLog, Finishes, HandsOn, HasCauses, MonitorsLog, Obeys, Refuses}
+use Rattle.monitor_main.specs.FilesAsked.{AsksInOrder, names_to, source_names}
+use Rattle.monitor_main.specs.Loading.{HasNoPolicy, IsLoadFault, IsSource, LoadsSources, NoPolicy, StopsInSources}
 use Rattle.monitor_main.specs.LogRuns.{IsOutputFault}
-use Rattle.monitor_main.specs.Outcomes.{CommandFails, FailsAt}
-use Rattle.monitor_main.specs.PlanFaults.{HasReadCause, IsBehindWords}
-use Rattle.monitor_main.specs.Plans.{HasNoPolicy, words_refusal}
+use Rattle.monitor_main.specs.Refusals.{words_refusal}
 use Rattle.monitor_main.specs.declared.words.WordsFault.{WordsFault}
 use Rattle.monitor_main.specs.declared.words.WordsFault.TheVariants as fault
 use Rattle.monitor_main.specs.Words.{Command, Sources, Run, Check, command_of}
+use Rattle.monitor_main.proofs.LoadLemmas.{rose_later}
 use Rattle.monitor_main.proofs.SinkLemmas.{appends_none, no_front}
+use Rattle.monitor_main.proofs.ToldLemmas.{asked_none, asked_twice, told_all, told_at, told_both, told_map}
 
 module _ (a b : Answer) (same : a ≡ b) (fails others : InputFile → Type 0) (more : (name : InputFile) → fails name → others name)
     (old new : Option (List ℕ)) where
-  refuses_as : (r : Refusal) → Refuses a old new r → Refuses b old new r
-  refuses_as r h = subst (λ (x : Answer). Refuses x old new r) same h
-
   ends_as : (r : Refusal) → Ends a fails old new r → Ends b others old new r
-  ends_as Usage h = refuses_as Usage h
-  ends_as LongSignature h = refuses_as LongSignature h
-  ends_as (Signature fault) h = refuses_as (Signature fault) h
-  ends_as LongPolicy h = refuses_as LongPolicy h
-  ends_as (Policy fault) h = refuses_as (Policy fault) h
-  ends_as (Fragment fault) h = refuses_as (Fragment fault) h
-  ends_as Later h = refuses_as Later h
-  ends_as (Log fault) h = refuses_as (Log fault) h
   ends_as (Read name) h = more name h
   ends_as Write h = tt
   ends_as Memory h = tt
+  ends_as r h = subst (λ (x : Answer). Refuses x old new r) same h
 
   -- the same answer with more to say of files that failed
   pub comes_as : (result : Result Bool Refusal) → ComesTo a fails old new result → ComesTo b others old new result
@@ -49,220 +45,467 @@ module _ (a b : Answer) (same : a ≡ b) (fails others : InputFile → Type 0) (
   }
 
 -- want of memory is any answer's
-pub comes_memory : (a : Answer) (fails : InputFile → Type 0) (old : Option (List ℕ)) (r : Refusal) → r ≡ Memory
-    → ComesTo a fails old old (Err r)
-comes_memory a fails old r e = rw e (record { ok = tt; refused = tt; front = no_front old a.out })
+pub comes_memory : (a : Answer) (fails : InputFile → Type 0) (old : Option (List ℕ)) → ComesTo a fails old old (Err Memory)
+comes_memory a fails old = record { ok = tt; refused = tt; front = no_front old a.out }
 
 refuses_at : (r : Refusal) (old : Option (List ℕ)) → Refuses (refused r) old old r
 refuses_at r old = record { status = refl; err = refl; out = appends_none old }
 
+-- a refusal before anything was written
+comes_refused : (r : Refusal) (fails : InputFile → Type 0) (old : Option (List ℕ)) → Ends (refused r) fails old old r
+    → ComesTo (refused r) fails old old (Err r)
+comes_refused r fails old ends = record { ok = tt; refused = ends; front = no_front old [] }
+
 -- ---- no policy
 
-module _ (command : Command) (sources : Sources) (files : Files) (old : Option (List ℕ))
-    (refuses : (r : Refusal) → policy_at sources files ≡ Err r → command_answer command files ≡ refused r)
-    (fails : (name : InputFile) → is_some (source_bytes sources files name) ≡ true → CommandFails command files old old name) where
-  refused_before : (r : Refusal) → policy_at sources files ≡ Err r → Refuses (command_answer command files) old old r
-  refused_before r e = rw (refuses r e) (refuses_at r old)
+-- an effect that leaves the output as it is
+abbrev pub unwritten : InputsView → InputsView → SinkView → Effect
+unwritten before after out = record { before = before; after = after; old = out; new = out }
 
-  ends_before : (r : Refusal) → HasNoPolicy sources files r
-      → Ends (command_answer command files) (CommandFails command files old old) old old r
-  ends_before Usage h = refused_before Usage h
-  ends_before LongSignature h = refused_before LongSignature h
-  ends_before (Signature fault) h = refused_before (Signature fault) h
-  ends_before LongPolicy h = refused_before LongPolicy h
-  ends_before (Policy fault) h = refused_before (Policy fault) h
-  ends_before (Fragment fault) h = refused_before (Fragment fault) h
-  ends_before Later h = refused_before Later h
-  ends_before (Log fault) h = refused_before (Log fault) h
-  ends_before (Read name) h = fails name h
-  ends_before Write h = tt
-  ends_before Memory h = tt
+module _ (command : Command) (sources : Sources)
+    (names : (last : InputFile) → IsSource last → names_to command last ≡ source_names sources last)
+    (bytes : (files : Files) (last : InputFile) → IsSource last → bytes_of command files last ≡ source_bytes sources files last)
+    (due : (files : Files) (last : InputFile) (seen : List ℕ) → IsSource last → text_at_failure command files last seen ≡ Some [])
+    (refuses : (files : Files) (r : Refusal) → policy_at sources files ≡ Err r → command_answer command files ≡ refused r)
+    (before after : InputsView) (out : SinkView) (same : after.files ≡ before.files) (later : before.faults ≤ after.faults) where
+  module _ (r : Refusal) (s : StopsInSources sources before after r) where
+    asked_there : after.asked ≡ asked_more before.asked (names_to command s.last)
+    asked_there = s.asked ∙ ap (asked_more before.asked) (sym (names s.last s.is_source))
 
-  comes_before : (r : Refusal) → HasNoPolicy sources files r
-      → ComesTo (command_answer command files) (CommandFails command files old old) old old (Err r)
-  comes_before r h =
-      record { ok = tt; refused = ends_before r h; front = no_front old (command_answer command files).out }
-
-fails_before : (command : Command) (files : Files) (old : Option (List ℕ)) (name : InputFile) (bytes : Option (List ℕ))
-    → bytes_of command files name ≡ bytes → is_some bytes ≡ true → text_at_failure command files name [] ≡ Some []
-    → CommandFails command files old old name
-fails_before command files old name None e some due = absurd cc
-fails_before command files old name (Some bytes) e some due = record {
-  seen = [];
-  left = bytes;
-  reached = e;
-  text = [];
-  due = due;
-  written = appends_none old;
-}
-
-module _ (sources : Sources) (files : Files) (old : Option (List ℕ)) where
-  module _ (log : List ℕ) where
-    run_refuses : (r : Refusal) → policy_at sources files ≡ Err r → command_answer (Run sources log) files ≡ refused r
-    unfolding command_answer task_at
-    run_refuses r e = rw e refl
-
-    run_fails : (name : InputFile) → is_some (source_bytes sources files name) ≡ true
-        → CommandFails (Run sources log) files old old name
-    unfolding bytes_of source_bytes text_at_failure
-    run_fails file.Signature some = fails_before (Run sources log) files old file.Signature _ refl some refl
-    run_fails file.Policy some = fails_before (Run sources log) files old file.Policy _ refl some refl
-    run_fails file.Log some = absurd cc
-
-    pub run_not_begun : (r : Refusal) → HasNoPolicy sources files r
-        → ComesTo (command_answer (Run sources log) files) (CommandFails (Run sources log) files old old) old old (Err r)
-    run_not_begun = comes_before (Run sources log) sources files old run_refuses run_fails
-
-  check_refuses : (r : Refusal) → policy_at sources files ≡ Err r → command_answer (Check sources) files ≡ refused r
-  unfolding command_answer
-  check_refuses r e = rw e refl
-
-  check_fails : (name : InputFile) → is_some (source_bytes sources files name) ≡ true
-      → CommandFails (Check sources) files old old name
-  unfolding bytes_of source_bytes text_at_failure
-  check_fails file.Signature some = fails_before (Check sources) files old file.Signature _ refl some refl
-  check_fails file.Policy some = fails_before (Check sources) files old file.Policy _ refl some refl
-  check_fails file.Log some = absurd cc
-
-  pub check_refused : (r : Refusal) → HasNoPolicy sources files r
-      → ComesTo (command_answer (Check sources) files) (CommandFails (Check sources) files old old) old old (Err r)
-  check_refused = comes_before (Check sources) sources files old check_refuses check_fails
-
--- ---- the policy, and then the log
-
-module _ (sources : Sources) (log : List ℕ) (files : Files) (judged : Judged) (policy_is : policy_at sources files ≡ Ok judged) where
-  task_is : task_at sources log files ≡ task_of judged (content files log)
-  unfolding task_at
-  task_is = rw policy_is refl
-
-  run_is : run_answer (task_of judged (content files log)) ≡ command_answer (Run sources log) files
-  unfolding command_answer
-  run_is = ap run_answer (sym task_is)
-
-  before_clear : (f : Form) (r : Reading) (ending : Ending) → ending ≡ Clear → text_before f r ending ≡ Some (text_on f r)
-  before_clear f r ending e = rw e refl
-
-  module _ (old new : Option (List ℕ)) where
-    fails_at_log : FailsInLog (task_of judged (content files log)) old new file.Log
-        → CommandFails (Run sources log) files old new file.Log
-    unfolding text_at_failure bytes_of
-    fails_at_log f = record {
-      seen = f.seen;
-      left = f.left;
-      reached = ap (λ (t : Result Task Refusal). option_map (λ (t : Task). t.log) (ok_value t)) (task_is ∙ f.is) ∙ ap Some f.log;
-      text = text_on f.made.policy.formula (seen_of f.made f.seen);
-      due = ap (λ (t : Result Task Refusal). text_of_seen t f.seen) (task_is ∙ f.is)
-          ∙ before_clear f.made.policy.formula (seen_of f.made f.seen) (seen_of f.made f.seen).ending f.clear;
-      written = f.written;
+    asks_there : AsksInOrder command before after
+    asks_there = record {
+      last = Some s.last;
+      asked = asked_there;
+      reached = told_map before.files _ _ (λ files n. ap is_some (bytes files s.last s.is_source ∙ n.reached)) s.refuses;
     }
 
-    fails_by_name : (name : InputFile) → name ≡ file.Log → FailsInLog (task_of judged (content files log)) old new name
-        → CommandFails (Run sources log) files old new name
-    fails_by_name file.Signature e f = absurd cc
-    fails_by_name file.Policy e f = absurd cc
-    fails_by_name file.Log e f = fails_at_log f
+    fails_there : (files : Files) (all : List ℕ) → source_bytes sources files s.last ≡ Some all
+        → StopsIn after.is_open after.rest all → CommandFails command files (unwritten before after out) s.last
+    fails_there files all reached stops = record {
+      all = all;
+      reached = bytes files s.last s.is_source ∙ reached;
+      asked = asked_there;
+      stops = stops;
+      text = [];
+      due = due files s.last stops.seen s.is_source;
+      written = appends_none out.written;
+    }
 
-    fails_in_log : (name : InputFile) → FailsInLog (task_of judged (content files log)) old new name
-        → CommandFails (Run sources log) files old new name
-    fails_in_log name f = fails_by_name name f.named f
+    ends_there : (files : Files) (all : List ℕ) → source_bytes sources files s.last ≡ Some all → (other : Refusal)
+        → IsLoadFault s.last before after other → HasNoPolicy sources files all after other
+        → Ends (command_answer command files) (CommandFails command files (unwritten before after out)) out.written out.written other
+    ends_there files all reached Usage fault why = absurd fault
+    ends_there files all reached (Read told) fault why =
+        subst (CommandFails command files (unwritten before after out)) (sym fault.0) (fails_there files all reached why)
+    ends_there files all reached Write fault why = absurd fault
+    ends_there files all reached Memory fault why = tt
+    ends_there files all reached other fault why = rw (refuses files other why) (refuses_at other out.written)
 
-    pub run_comes : (result : Result Bool Refusal)
-        → ComesTo (run_answer (task_of judged (content files log))) (FailsInLog (task_of judged (content files log)) old new) old new result
-        → ComesTo (command_answer (Run sources log) files) (CommandFails (Run sources log) files old new) old new result
-    run_comes = comes_as _ _ run_is _ _ fails_in_log old new
+    comes_there : (files : Files) → NoPolicy sources files s.last after r
+        → ComesTo (command_answer command files) (CommandFails command files (unwritten before after out)) out.written out.written (Err r)
+    comes_there files n = record {
+      ok = tt;
+      refused = ends_there files n.all n.reached r s.fault n.why;
+      front = no_front out.written (command_answer command files).out;
+    }
+
+    causes_there : (other : Refusal) → IsLoadFault s.last before after other → HasCauses ⊥ (unwritten before after out) other
+    causes_there Usage fault = absurd fault
+    causes_there (Read told) fault = fault.1
+    causes_there Write fault = absurd fault
+    causes_there other fault = tt
+
+    stops_there : CarriesOut command (unwritten before after out) (Err r)
+    stops_there = record {
+      asks = asks_there;
+      decides = record {
+        files = same;
+        later = later;
+        later_out = omega arith;
+        comes = told_map before.files _ _ comes_there s.refuses;
+        causes = causes_there r s.fault;
+      };
+    }
+
+module _ (sources : Sources) where
+  module _ (log : Name) where
+    run_names : (last : InputFile) → IsSource last → names_to (Run sources log) last ≡ source_names sources last
+    run_names file.Signature h = refl
+    run_names file.Policy h = refl
+    run_names file.Log h = absurd h
+
+    run_bytes : (files : Files) (last : InputFile) → IsSource last
+        → bytes_of (Run sources log) files last ≡ source_bytes sources files last
+    unfolding bytes_of
+    run_bytes files file.Signature h = refl
+    run_bytes files file.Policy h = refl
+    run_bytes files file.Log h = absurd h
+
+    run_due : (files : Files) (last : InputFile) (seen : List ℕ) → IsSource last
+        → text_at_failure (Run sources log) files last seen ≡ Some []
+    unfolding text_at_failure
+    run_due files file.Signature seen h = refl
+    run_due files file.Policy seen h = refl
+    run_due files file.Log seen h = absurd h
+
+    run_refuses : (files : Files) (r : Refusal) → policy_at sources files ≡ Err r
+        → command_answer (Run sources log) files ≡ refused r
+    unfolding command_answer task_at
+    run_refuses files r e = rw e refl
+
+    pub run_stops : (before after : InputsView) (out : SinkView) → after.files ≡ before.files → before.faults ≤ after.faults
+        → (r : Refusal) → StopsInSources sources before after r
+        → CarriesOut (Run sources log) (unwritten before after out) (Err r)
+    run_stops = stops_there (Run sources log) sources run_names run_bytes run_due run_refuses
+
+  check_names : (last : InputFile) → IsSource last → names_to (Check sources) last ≡ source_names sources last
+  check_names file.Signature h = refl
+  check_names file.Policy h = refl
+  check_names file.Log h = absurd h
+
+  check_bytes : (files : Files) (last : InputFile) → IsSource last
+      → bytes_of (Check sources) files last ≡ source_bytes sources files last
+  unfolding bytes_of
+  check_bytes files last h = refl
+
+  check_due : (files : Files) (last : InputFile) (seen : List ℕ) → IsSource last
+      → text_at_failure (Check sources) files last seen ≡ Some []
+  unfolding text_at_failure
+  check_due files file.Signature seen h = refl
+  check_due files file.Policy seen h = refl
+  check_due files file.Log seen h = absurd h
+
+  check_refuses : (files : Files) (r : Refusal) → policy_at sources files ≡ Err r
+      → command_answer (Check sources) files ≡ refused r
+  unfolding command_answer
+  check_refuses files r e = rw e refl
+
+  pub check_stops : (before after : InputsView) (out : SinkView) → after.files ≡ before.files → before.faults ≤ after.faults
+      → (r : Refusal) → StopsInSources sources before after r
+      → CarriesOut (Check sources) (unwritten before after out) (Err r)
+  check_stops = stops_there (Check sources) sources check_names check_bytes check_due check_refuses
+
+-- ---- the policy is checked
+
+-- then the policy was reached
+signed : (sources : Sources) (files : Files) (checked : CheckedPolicy) → policy_at sources files ≡ Ok checked
+    → is_some (source_bytes sources files file.Policy) ≡ true
+unfolding policy_at source_bytes
+signed sources files checked e = by (signature_of (content files sources.sig)) e
+  where
+    by : (r : Result (List PredOf) Refusal)
+        → (r >>= λ sig. checked_over sig (content files sources.policy)) ≡ Ok checked
+        → is_some (option_map (λ sig. content files sources.policy) (ok_value r)) ≡ true
+    by (Ok sig) e = refl
+    by (Err r) e = absurd cc
+
+module _ (sources : Sources) (log : Name) (before mid : InputsView) (checked : CheckedPolicy)
+    (loads : LoadsSources sources checked before mid)
+    (same : mid.files ≡ before.files) (later : before.faults ≤ mid.faults) where
+  task_is : (files : Files) → policy_at sources files ≡ Ok checked
+      → task_at sources log files ≡ task_of checked (content files log)
+  unfolding task_at
+  task_is files e = rw e refl
+
+  answer_is : (files : Files) (due : Result Task Refusal) → policy_at sources files ≡ Ok checked
+      → task_of checked (content files log) ≡ due → run_answer due ≡ command_answer (Run sources log) files
+  unfolding command_answer
+  answer_is files due e is = ap run_answer (sym (task_is files e ∙ is))
+
+  reached_policy : (files : Files) → policy_at sources files ≡ Ok checked
+      → is_some (bytes_of (Run sources log) files file.Policy) ≡ true
+  unfolding bytes_of
+  reached_policy files e = signed sources files checked e
+
+  -- the policy's core is none that is monitored
+  pub run_later : (out : SinkView) → ((bytes : List ℕ) → task_of checked bytes ≡ Err Later)
+      → CarriesOut (Run sources log) (unwritten before mid out) (Err Later)
+  run_later out left = record {
+    asks = record {
+      last = Some file.Policy;
+      asked = loads.asked;
+      reached = told_map before.files _ _ reached_policy loads.is;
+    };
+    decides = record {
+      files = same;
+      later = later;
+      later_out = omega arith;
+      comes = told_map before.files _ _
+          (λ files e. comes_as _ _ (answer_is files (Err Later) e (left (content files log))) (λ name. ⊥) _
+          (λ name h. absurd h) out.written out.written (Err Later)
+          (comes_refused Later _ out.written (refuses_at Later out.written)))
+          loads.is;
+      causes = tt;
+    };
+  }
+
+  module _ (after : InputsView) (old new : SinkView)
+      (made : (bytes : List ℕ) → task_of checked bytes ≡ Ok (task_on checked bytes))
+      (asked : after.asked ≡ asked_more mid.asked (log ∷ [])) where
+    all_asked : after.asked ≡ asked_more before.asked (names_to (Run sources log) file.Log)
+    all_asked =
+        asked ∙ ap (λ (a : Option (List Name)). asked_more a (log ∷ [])) loads.asked
+        ∙ asked_twice before.asked (source_names sources file.Policy) (log ∷ [])
+
+    module _ (files : Files) (policy_is : policy_at sources files ≡ Ok checked) where
+      made_at : task_at sources log files ≡ Ok (task_on checked (content files log))
+      made_at = task_is files policy_is ∙ made (content files log)
+
+      log_reached : bytes_of (Run sources log) files file.Log ≡ Some (content files log)
+      unfolding bytes_of
+      log_reached = ap (λ (t : Result Task Refusal). option_map (λ (t : Task). t.log) (ok_value t)) made_at
+
+      before_clear : (f : Form) (r : Reading) (ending : Ending) → ending ≡ Clear → text_before f r ending ≡ Some (text_on f r)
+      before_clear f r ending e = rw e refl
+
+      fails_at_log : FailsInLog (task_on checked (content files log)) (record { before = mid; after = after; old = old; new = new }) file.Log
+          → CommandFails (Run sources log) files (record { before = before; after = after; old = old; new = new }) file.Log
+      unfolding text_at_failure
+      fails_at_log f =
+          let task : Task = task_on checked (content files log) in
+          record {
+            all = content files log;
+            reached = log_reached;
+            asked = all_asked;
+            stops = f.stops;
+            text = text_on task.policy.formula (seen_of task f.stops.seen);
+            due = ap (λ (t : Result Task Refusal). text_of_seen t f.stops.seen) made_at
+                ∙ before_clear task.policy.formula (seen_of task f.stops.seen) (seen_of task f.stops.seen).ending f.clear;
+            written = f.written;
+          }
+
+      fails_by_name : (name : InputFile) → name ≡ file.Log
+          → FailsInLog (task_on checked (content files log)) (record { before = mid; after = after; old = old; new = new }) name
+          → CommandFails (Run sources log) files (record { before = before; after = after; old = old; new = new }) name
+      fails_by_name file.Signature e f = absurd cc
+      fails_by_name file.Policy e f = absurd cc
+      fails_by_name file.Log e f = fails_at_log f
+
+    later_causes : (r : Refusal) → HasCauses ⊥ (record { before = mid; after = after; old = old; new = new }) r
+        → HasCauses ⊥ (record { before = before; after = after; old = old; new = new }) r
+    later_causes Usage h = h
+    later_causes (Read name) h = rose_later before.faults mid.faults after.faults later h
+    later_causes Write h = h
+    later_causes r h = tt
+
+  -- the log was monitored
+  pub run_monitors : (after : InputsView) (old new : SinkView) (result : Result Bool Refusal)
+      → ((bytes : List ℕ) → task_of checked bytes ≡ Ok (task_on checked bytes))
+      → MonitorsLog checked log (record { before = mid; after = after; old = old; new = new }) result
+      → CarriesOut (Run sources log) (record { before = before; after = after; old = old; new = new }) result
+  run_monitors after old new result made m =
+      let comes = told_at mid.files before.files _ same m.decides.comes in
+      record {
+        asks = record {
+          last = Some file.Log;
+          asked = all_asked after old new made m.asked;
+          reached = told_map before.files _ _ (λ files e. ap is_some (log_reached after old new made m.asked files e)) loads.is;
+        };
+        decides = record {
+          files = m.decides.files ∙ same;
+          later = omega (arith, m.decides.later);
+          later_out = m.decides.later_out;
+          comes = told_both before.files _ _ _
+              (λ files e c. comes_as _ _ (answer_is files (Ok (task_on checked (content files log))) e (made (content files log))) _ _
+              (λ name f. fails_by_name after old new made m.asked files e name f.named f) old.written new.written result c)
+              loads.is comes;
+          causes = IfErr-weaker result _ _ (later_causes after old new made m.asked) m.decides.causes;
+        };
+      }
 
 -- ---- `check`
 
 output_ends : (a : Answer) (fails : InputFile → Type 0) (old new : Option (List ℕ)) (before now : ℕ) (r : Refusal)
     → IsOutputFault r before now → Ends a fails old new r
-output_ends a fails old new before now Usage h = absurd h
-output_ends a fails old new before now LongSignature h = absurd h
-output_ends a fails old new before now (Signature fault) h = absurd h
-output_ends a fails old new before now LongPolicy h = absurd h
-output_ends a fails old new before now (Policy fault) h = absurd h
-output_ends a fails old new before now (Fragment fault) h = absurd h
-output_ends a fails old new before now Later h = absurd h
-output_ends a fails old new before now (Log fault) h = absurd h
-output_ends a fails old new before now (Read name) h = absurd h
 output_ends a fails old new before now Write h = tt
 output_ends a fails old new before now Memory h = tt
+output_ends a fails old new before now r h = absurd h
 
-pub output_causes : (r : Refusal) (in_before in_now before now : ℕ) → IsOutputFault r before now
-    → HasCauses r in_before in_now before now
-output_causes Usage a b x y h = absurd h
-output_causes LongSignature a b x y h = absurd h
-output_causes (Signature fault) a b x y h = absurd h
-output_causes LongPolicy a b x y h = absurd h
-output_causes (Policy fault) a b x y h = absurd h
-output_causes (Fragment fault) a b x y h = absurd h
-output_causes Later a b x y h = absurd h
-output_causes (Log fault) a b x y h = absurd h
-output_causes (Read name) a b x y h = absurd h
-output_causes Write a b x y h = h
-output_causes Memory a b x y h = tt
+output_causes : (e : Effect) (r : Refusal) → IsOutputFault r e.old.faults e.new.faults → HasCauses ⊥ e r
+output_causes e Write h = h
+output_causes e Memory h = tt
+output_causes e r h = absurd h
 
-pub output_behind : (r : Refusal) (before now : ℕ) → IsOutputFault r before now → IsBehindWords r
-output_behind Usage x y h = absurd h
-output_behind LongSignature x y h = tt
-output_behind (Signature fault) x y h = tt
-output_behind LongPolicy x y h = tt
-output_behind (Policy fault) x y h = tt
-output_behind (Fragment fault) x y h = tt
-output_behind Later x y h = tt
-output_behind (Log fault) x y h = tt
-output_behind (Read name) x y h = tt
-output_behind Write x y h = tt
-output_behind Memory x y h = tt
-
-module _ (sources : Sources) (files : Files) (judged : Judged) (policy_is : policy_at sources files ≡ Ok judged) where
-  check_is : check_answer (Ok judged) ≡ command_answer (Check sources) files
+module _ (sources : Sources) (before after : InputsView) (old new : SinkView) (checked : CheckedPolicy)
+    (loads : LoadsSources sources checked before after)
+    (same : after.files ≡ before.files) (later : before.faults ≤ after.faults) where
+  check_is : (files : Files) → policy_at sources files ≡ Ok checked → check_answer (Ok checked) ≡ command_answer (Check sources) files
   unfolding command_answer
-  check_is = rw policy_is refl
+  check_is files e = rw e refl
+
+  check_reached : (files : Files) → policy_at sources files ≡ Ok checked
+      → is_some (bytes_of (Check sources) files file.Policy) ≡ true
+  unfolding bytes_of
+  check_reached files e = signed sources files checked e
 
   -- the line was written, or the output failed
-  pub check_comes : (old new : Option (List ℕ)) (before now : ℕ) (result : Result Bool Refusal)
-      → IfOk result (Finishes (check_answer (Ok judged)) old new) → IfErr result (λ r. IsOutputFault r before now)
-      → AppendsFront old new (check_answer (Ok judged)).out
-      → ComesTo (command_answer (Check sources) files) (CommandFails (Check sources) files old new) old new result
-  check_comes old new before now result ok fault front =
-      comes_as _ _ check_is (CommandFails (Check sources) files old new) _ (λ name h. h) old new result (record {
-        ok = ok;
-        refused = IfErr-weaker result _ _ (output_ends _ _ old new before now) fault;
-        front = front;
-      })
+  pub check_comes : (result : Result Bool Refusal)
+      → IfOk result (Finishes (check_answer (Ok checked)) old.written new.written)
+      → IfErr result (λ r. IsOutputFault r old.faults new.faults)
+      → AppendsFront old.written new.written (check_answer (Ok checked)).out → old.faults ≤ new.faults
+      → CarriesOut (Check sources) (record { before = before; after = after; old = old; new = new }) result
+  check_comes result ok fault front later_out = record {
+    asks = record {
+      last = Some file.Policy;
+      asked = loads.asked;
+      reached = told_map before.files _ _ check_reached loads.is;
+    };
+    decides = record {
+      files = same;
+      later = later;
+      later_out = later_out;
+      comes = told_map before.files _ _
+          (λ files e. comes_as _ _ (check_is files e) (λ name. ⊥) _ (λ name h. absurd h) old.written new.written result
+          (record {
+            ok = ok;
+            refused = IfErr-weaker result _ _ (output_ends _ _ old.written new.written old.faults new.faults) fault;
+            front = front;
+          }))
+          loads.is;
+      causes = IfErr-weaker result _ _
+          (output_causes (record { before = before; after = after; old = old; new = new })) fault;
+    };
+  }
 
 -- ---- the words
 
-module _ (words : List Text) (files : Files) (old new : Option (List ℕ)) where
-  pub obeyed : (command : Command) (result : Result Bool Refusal) → command_of words ≡ Some command
-      → ComesTo (command_answer command files) (CommandFails command files old new) old new result
-      → ComesTo (answer words files) (FailsAt words files old new) old new result
+module _ (words : List Text) (e : Effect) (command : Command) (given : command_of words ≡ Some command) where
+  given_answer : (files : Files) → command_answer command files ≡ answer words files
   unfolding answer
-  obeyed command result given =
-      comes_as _ _ (ap (λ (c : Option Command). answer_to c files) (sym given)) _ _
-      (λ name h. record { command = command; given = given; fails = h }) old new result
+  given_answer files = ap (λ (c : Option Command). answer_to c files) (sym given)
 
-module _ (words : List Text) (files : Files) (old : Option (List ℕ)) where
-  refused_words : command_of words ≡ None → ComesTo (answer words files) (FailsAt words files old old) old old (Err Usage)
+  given_causes : (r : Refusal) → HasCauses ⊥ e r → HasCauses (command_of words ≡ None) e r
+  given_causes Usage h = absurd h
+  given_causes (Read name) h = h
+  given_causes Write h = h
+  given_causes r h = tt
+
+  -- the command of the words was carried out
+  pub obeyed : (result : Result Bool Refusal) → CarriesOut command e result → Obeys words e result
+  obeyed result c = record {
+    asks = rw given c.asks;
+    decides = record {
+      files = c.decides.files;
+      later = c.decides.later;
+      later_out = c.decides.later_out;
+      comes = told_map e.before.files _ _
+          (λ files h. comes_as _ _ (given_answer files) _ _
+          (λ name f. record { command = command; given = given; fails = f }) e.old.written e.new.written result h)
+          c.decides.comes;
+      causes = IfErr-weaker result _ _ given_causes c.decides.causes;
+    };
+  }
+
+module _ (words : List Text) (inputs : InputsView) (out : SinkView) where
+  refused_words : (files : Files) → command_of words ≡ None
+      → ComesTo (answer words files) (FailsAt words files (unwritten inputs inputs out)) out.written out.written (Err Usage)
   unfolding answer
-  refused_words none = rw none (record { ok = tt; refused = refuses_at Usage old; front = no_front old [] })
+  refused_words files none = rw none (comes_refused Usage _ out.written (refuses_at Usage out.written))
+
+  asks_nothing : (command : Option Command)
+      → MatchOption command (inputs.asked ≡ inputs.asked) (λ command. AsksInOrder command inputs inputs)
+  asks_nothing None = refl
+  asks_nothing (Some command) = record {
+    last = None;
+    asked = asked_none inputs.asked;
+    reached = told_all inputs.files _ (λ files. tt);
+  }
+
+  not_read : (r : Refusal)
+      → ((files : Files) → ComesTo (answer words files) (FailsAt words files (unwritten inputs inputs out)) out.written out.written (Err r))
+      → HasCauses (command_of words ≡ None) (unwritten inputs inputs out) r
+      → Obeys words (unwritten inputs inputs out) (Err r)
+  not_read r comes causes = record {
+    asks = asks_nothing (command_of words);
+    decides = record {
+      files = refl;
+      later = omega arith;
+      later_out = omega arith;
+      comes = told_all inputs.files _ comes;
+      causes = causes;
+    };
+  }
 
   -- the words were not read
   pub words_refused : (f : WordsFault) (r : Refusal) → r ≡ words_refusal f → (f ≡ fault.Usage → command_of words ≡ None)
-      → ComesTo (answer words files) (FailsAt words files old old) old old (Err r)
-  words_refused fault.Usage r is none = rw is (refused_words (none refl))
-  words_refused fault.Memory r is none = comes_memory _ _ old r is
+      → Obeys words (unwritten inputs inputs out) (Err r)
+  words_refused fault.Usage r is none =
+      rw is (not_read Usage (λ files. refused_words files (none refl)) (none refl))
+  words_refused fault.Memory r is none =
+      rw is (not_read Memory (λ files. comes_memory _ _ out.written) tt)
 
--- the causes of the plan's refusals are causes of the run's
-pub causes_of_plan : (r : Refusal) (in_before in_now out_before out_now : ℕ) → HasReadCause r in_before in_now → HasCauses r in_before in_now out_before out_now
-causes_of_plan Usage a b x y h = tt
-causes_of_plan LongSignature a b x y h = tt
-causes_of_plan (Signature fault) a b x y h = tt
-causes_of_plan LongPolicy a b x y h = tt
-causes_of_plan (Policy fault) a b x y h = tt
-causes_of_plan (Fragment fault) a b x y h = tt
-causes_of_plan Later a b x y h = tt
-causes_of_plan (Log fault) a b x y h = tt
-causes_of_plan (Read name) a b x y h = h
-causes_of_plan Write a b x y h = absurd h
-causes_of_plan Memory a b x y h = tt
+-- ---- what is held back is handed on
+
+module _ (words : List Text) (before after : InputsView) (old mid new : SinkView)
+    (kept : new.written ≡ mid.written) (later : mid.faults ≤ new.faults) where
+  fails_flushed : (files : Files) (name : InputFile)
+      → FailsAt words files (record { before = before; after = after; old = old; new = mid }) name
+      → FailsAt words files (record { before = before; after = after; old = old; new = new }) name
+  fails_flushed files name f = record {
+    command = f.command;
+    given = f.given;
+    fails = record {
+      all = f.fails.all;
+      reached = f.fails.reached;
+      asked = f.fails.asked;
+      stops = f.fails.stops;
+      text = f.fails.text;
+      due = f.fails.due;
+      written = rw kept f.fails.written;
+    };
+  }
+
+  causes_flushed : (r : Refusal)
+      → HasCauses (command_of words ≡ None) (record { before = before; after = after; old = old; new = mid }) r
+      → HasCauses (command_of words ≡ None) (record { before = before; after = after; old = old; new = new }) r
+  causes_flushed Usage h = h
+  causes_flushed (Read name) h = h
+  causes_flushed Write h = omega arith
+  causes_flushed r h = tt
+
+  flushed : (result : Result Bool Refusal) → Obeys words (record { before = before; after = after; old = old; new = mid }) result
+      → Obeys words (record { before = before; after = after; old = old; new = new }) result
+  flushed result o = record {
+    asks = o.asks;
+    decides = record {
+      files = o.decides.files;
+      later = o.decides.later;
+      later_out = omega (arith, o.decides.later_out);
+      comes = told_map before.files _ _
+          (λ files c. subst (λ (written : Option (List ℕ)). ComesTo (answer words files)
+          (FailsAt words files (record { before = before; after = after; old = old; new = new })) old.written written result)
+          (sym kept) (comes_as _ _ refl _ _ (fails_flushed files) old.written mid.written result c))
+          o.decides.comes;
+      causes = IfErr-weaker result _ _ causes_flushed o.decides.causes;
+    };
+  }
+
+  -- the output failed behind the decision
+  failed_behind : (decision : Result Bool Refusal)
+      → Obeys words (record { before = before; after = after; old = old; new = mid }) decision
+      → Rose mid.faults new.faults
+      → Obeys words (record { before = before; after = after; old = old; new = new }) (Err Write)
+  failed_behind decision o rose = record {
+    asks = o.asks;
+    decides = record {
+      files = o.decides.files;
+      later = o.decides.later;
+      later_out = omega (arith, o.decides.later_out);
+      comes = told_map before.files _ _ (λ files c. record { ok = tt; refused = tt; front = rw kept c.front }) o.decides.comes;
+      causes = rose_later old.faults mid.faults new.faults o.decides.later_out rose;
+    };
+  }
+
+  -- the decision stands where all is handed on, and is the output's fault elsewhere
+  pub concluded : (decision result : Result Bool Refusal)
+      → Obeys words (record { before = before; after = after; old = old; new = mid }) decision
+      → HandsOn decision mid new result
+      → Obeys words (record { before = before; after = after; old = old; new = new }) result
+  concluded decision result o (inl h) = rw h.0 (flushed decision o)
+  concluded decision result o (inr h) = rw h.0 (failed_behind decision o h.1)
+
+-- nothing is held back, unless the output failed
+pub nothing_held : (decision result : Result Bool Refusal) (mid new : SinkView) → HandsOn decision mid new result
+    → result ≢ Err Write → new.held ≡ []
+nothing_held decision result mid new (inl h) other = h.1
+nothing_held decision result mid new (inr h) other = absurd (other h.0)

@@ -3,7 +3,8 @@ pub mod AtomLemmas
 pub mod AtomRows
 pub mod AtomViolations
 pub mod AtomTextLemmas
-pub mod PlanLemmas
+pub mod ToldLemmas
+pub mod LoadLemmas
 pub mod GrowthLemmas
 pub mod SinkLemmas
 pub mod LogLemmas

@@ -13,7 +13,8 @@ use Rattle.log_reader.specs.declared.next.Next.{Next}
 use Rattle.log_reader.specs.declared.next.Next.TheVariants.{Point, More, End}
 use Rattle.monitor_main.specs.Atom.{Query}
 use Rattle.monitor_main.specs.AtomText.{is_empty, line_at, lines_from, rows_at, some_rows}
-use Rattle.monitor_main.specs.LogRuns.{EndsClear, StopsLines, WritesPoint, lines_of, log_refusal, reading_in}
+use Rattle.monitor_main.specs.LogRuns.{EndsClear, StopsLines, WritesPoint, lines_of, reading_in}
+use Rattle.monitor_main.specs.Refusals.{log_refusal}
 use Rattle.monitor_main.specs.declared.refusal.Refusal.{Refusal}
 use Rattle.log_reader.specs.Given.{Fails}
 use Rattle.log_reader.specs.declared.fault.LogFault.TheVariants as log

@@ -7,9 +7,9 @@ use Rattle.mfotl_model.specs.declared.term.Atom.{Atom as OneAtom}
 use Rattle.monitorable.specs.Atoms.{only_atom}
 use Rattle.monitorable.specs.CoreForm.{core_form, Denies, SettlesWith}
 use Rattle.monitorable.specs.declared.policy_core.Core.{Core}
-use Rattle.monitor_main.specs.Answer.{Judged, task_of, unless_later}
+use Rattle.monitor_main.specs.Answer.{CheckedPolicy, task_of, task_on, unless_later}
 use Rattle.monitor_main.specs.Atom.{IsQueryFor, Query}
-use Rattle.monitor_main.specs.Plans.{IsCoreOf}
+use Rattle.monitor_main.specs.CheckedPolicies.{IsCoreOf}
 
 atom_is : (f : Form) (a : OneAtom) → Some a ≡ only_atom f → f ≡ Atom a
 atom_is True a e = absurd cc
@@ -45,10 +45,9 @@ query_for core f q c e columns =
     }
 
 -- the task of a policy whose core this is, on a log
-pub task_by_core : (core : Core) (judged : Judged) (log : List ℕ) (atom : Option OneAtom) → IsCoreOf core judged.policy.formula
-    → atom ≡ only_atom (core_form core)
-    → unless_later atom (record { sig = judged.sig; policy = judged.policy; log = log }) ≡ task_of judged log
+pub task_by_core : (core : Core) (checked : CheckedPolicy) (log : List ℕ) (atom : Option OneAtom)
+    → IsCoreOf core checked.policy.formula → atom ≡ only_atom (core_form core)
+    → task_of checked log ≡ unless_later atom (task_on checked log)
 unfolding task_of
-task_by_core core judged log atom c e =
-    ap (λ (a : Option OneAtom). unless_later a (record { sig = judged.sig; policy = judged.policy; log = log }))
-    (e ∙ ap only_atom c.core_is)
+task_by_core core checked log atom c e =
+    ap (λ (a : Option OneAtom). unless_later a (task_on checked log)) (sym (e ∙ ap only_atom c.core_is))

@@ -1,7 +1,11 @@
 -- From the lines that were written to the answer on the log.
-use Rattle.std.proofs.Common.{◌≡◌, ◌∙◌, ◌⊎◌, inl, inr, ap, subst, sym, refl, ℕ, ◌+◌, ◌<◌, ◌^◌, Bool, true, false, not, List, [], ◌++◌, length, Option, append-nil}
+use Rattle.std.proofs.Common.{◌≡◌, ◌∙◌, ◌⊎◌, inl, inr, ap, arith, subst, sym, refl, ℕ, ◌+◌, ◌<◌, ◌≤◌, Bool, true, false, not, List, [], ◌∷◌, ◌++◌, length, Option, append-nil}
 use Rattle.std.proofs.lemmas.Result.{IfErr-weaker, IfOk-weaker}
-use Rattle.std.specs.Prelude.{Result, Ok, IfOk, IfErr}
+use Rattle.std.specs.Prelude.{Result, Ok, Err, IfOk, IfErr}
+use Rattle.mon_outside.specs.Causes.{Rose}
+use Rattle.mon_outside.specs.Files.{ToldFiles, content}
+use Rattle.mon_outside.specs.Inputs.{Name, asked_more}
+use Rattle.mon_outside.specs.Views.{InputsView, SinkView}
 use Rattle.mon_outside.specs.Sink.{Appends, AppendsFront}
 use Rattle.mfotl_sig.specs.Preds.{PredOf}
 use Rattle.log_reader.specs.Readings.{Clear, Ending, Reading, Stops, accepted, reading, shown}
@@ -10,18 +14,20 @@ use Rattle.log_reader.specs.declared.limits.Limits.{Limits}
 use Rattle.monitor_main.specs.declared.refusal.InputFile.{InputFile}
 use Rattle.monitor_main.specs.declared.refusal.InputFile.TheVariants as file
 use Rattle.monitor_main.specs.declared.refusal.Refusal.{Refusal}
-use Rattle.monitor_main.specs.declared.refusal.Refusal.TheVariants.{Usage, LongSignature, Signature, LongPolicy, Policy, Fragment, Later, Log, Read, Write, Memory}
+use Rattle.monitor_main.specs.declared.refusal.Refusal.TheVariants.{Log, Read, Write, Memory}
 use Rattle.mfotl_model.specs.Formulas.{Form}
 use Rattle.monitor_main.specs.Atom.{IsQueryFor, Query}
-use Rattle.monitor_main.specs.Answer.{Task, ended, log_answer, reading_of, seen_of, standard, text_on, verdict_status, violated_on}
+use Rattle.monitor_main.specs.Answer.{CheckedPolicy, Task, task_on, ended, log_answer, reading_of, seen_of, standard, text_on, verdict_status, violated_on}
 use Rattle.monitor_main.specs.AtomText.{lines_from, some_rows}
-use Rattle.monitor_main.specs.Decisions.{ComesTo, Ends, FailsInLog, Finishes, Refuses}
+use Rattle.monitor_main.specs.Decisions.{ComesTo, Effect, Ends, FailsInLog, Finishes, HasCauses, MonitorsLog, Refuses}
 use Rattle.monitor_main.specs.Growth.{Keeps}
+use Rattle.monitor_main.specs.Limits.{max_log}
 use Rattle.monitor_main.specs.LogRuns.{EndsClear, IsGathered, StopsBytes, lines_of}
 use Rattle.monitor_main.proofs.AtomTextLemmas.{rows_are_some, text_is_lines}
 use Rattle.monitor_main.proofs.GrowthLemmas.{long_same, shown_stays}
 use Rattle.monitor_main.proofs.PointLemmas.{lines_from-append}
-use Rattle.monitor_main.proofs.SinkLemmas.{longer_front}
+use Rattle.monitor_main.proofs.SinkLemmas.{longer_front, no_front}
+use Rattle.monitor_main.proofs.ToldLemmas.{told_all, told_map}
 
 text_is : (f : Form) (q : Query) → IsQueryFor f q → (r : Reading) → text_on f r ≡ lines_of q r
 unfolding text_on
@@ -44,8 +50,8 @@ out_of_ended : (f : Form) (r : Reading) (ending : Ending) → (ended f r ending)
 out_of_ended f r Clear = refl
 out_of_ended f r (Stops fault) = refl
 
-module _ (task : Task) (q : Query) (asks : IsQueryFor task.policy.formula q)
-    (bytes : List ℕ) (failed : Bool) (gathered : IsGathered (2 ^ 40) task.log bytes failed) where
+module _ (task : Task) (q : Query) (asks : IsQueryFor task.policy.formula q) (e : Effect)
+    (bytes : List ℕ) (failed : Bool) (gathered : IsGathered max_log task.log e.after bytes failed) where
   -- the log as it was given
   given : Reading
   given = reading task.sig standard bytes (not failed)
@@ -64,12 +70,12 @@ module _ (task : Task) (q : Query) (asks : IsQueryFor task.policy.formula q)
   -- what was given stays
   kept : (b : Bool) → failed ≡ b → Keeps (reading task.sig standard bytes (not b)) (reading_of task)
   unfolding reading_of
-  kept false e = record {
+  kept false whole = record {
     more = [];
-    points = ap (λ (r : Reading). r.points) (all_given e) ∙ sym (append-nil _);
-    stays = λ fault stops. all_given e;
+    points = ap (λ (r : Reading). r.points) (all_given whole) ∙ sym (append-nil _);
+    stays = λ fault stops. all_given whole;
   }
-  kept true e = rw gathered.all_is (shown_stays task.sig standard bytes gathered.left)
+  kept true cut = rw gathered.all_is (shown_stays task.sig standard bytes gathered.left)
 
   keeps : Keeps (reading task.sig standard bytes (not failed)) (reading_of task)
   keeps = kept failed refl
@@ -88,11 +94,11 @@ module _ (task : Task) (q : Query) (asks : IsQueryFor task.policy.formula q)
       → EndsClear q (reading task.sig standard bytes (not failed)) old new violated
       → Finishes (log_answer task) old new violated
   unfolding log_answer
-  finishes old new violated whole e =
+  finishes old new violated whole h =
       let same : reading task.sig standard bytes (not failed) ≡ reading_of task =
       ap (λ b. reading task.sig standard bytes (not b)) whole ∙ sym (all_given whole) in
       let here : EndsClear q (reading_of task) old new violated =
-      subst (λ r. EndsClear q r old new violated) same e in
+      subst (λ r. EndsClear q r old new violated) same h in
       finishes_by (reading_of task) (reading_of task).ending old new violated here.clear here.written here.some
 
   refuses_by : (r : Reading) (ending : Ending) (fault : LogFault) (old new : Option (List ℕ)) → ending ≡ Stops fault
@@ -106,45 +112,42 @@ module _ (task : Task) (q : Query) (asks : IsQueryFor task.policy.formula q)
   log_refused : (fault : LogFault) (old new : Option (List ℕ)) (r : Reading) → Keeps r (reading_of task)
       → (r.ending ≡ Stops fault) × Appends old new (lines_of q r) → Refuses (log_answer task) old new (Log fault)
   unfolding log_answer
-  log_refused fault old new r k e =
-      let same : r ≡ reading_of task = sym (k.stays fault e.0) in
+  log_refused fault old new r k h =
+      let same : r ≡ reading_of task = sym (k.stays fault h.0) in
       refuses_by (reading_of task) (reading_of task).ending fault old new
-      (ap (λ (r : Reading). r.ending) (sym same) ∙ e.0) (subst (λ r. Appends old new (lines_of q r)) same e.1)
+      (ap (λ (r : Reading). r.ending) (sym same) ∙ h.0) (subst (λ r. Appends old new (lines_of q r)) same h.1)
 
-  log_failed : (name : InputFile) (old new : Option (List ℕ)) → name ≡ file.Log → failed ≡ true
+  log_failed : (name : InputFile) → name ≡ file.Log → failed ≡ true
       → (reading task.sig standard bytes (not failed)).ending ≡ Clear
-      → Appends old new (lines_of q (reading task.sig standard bytes (not failed))) → FailsInLog (Ok task) old new name
+      → Appends e.old.written e.new.written (lines_of q (reading task.sig standard bytes (not failed)))
+      → FailsInLog task e name
   unfolding seen_of
-  log_failed name old new named cut clear written =
+  log_failed name named cut clear written =
       let same : reading task.sig standard bytes (not failed) ≡ shown task.sig standard bytes =
       ap (λ b. reading task.sig standard bytes (not b)) cut in
       record {
         named = named;
-        made = task;
-        is = refl;
-        seen = bytes;
-        left = gathered.left;
-        log = gathered.all_is;
+        stops = record {
+          seen = bytes;
+          left = gathered.left;
+          parts = gathered.all_is;
+          opened = gathered.opened;
+          unopened = gathered.unopened;
+        };
         clear = ap (λ (r : Reading). r.ending) (sym same) ∙ clear;
         written = rw (text_is task.policy.formula q asks (shown task.sig standard bytes))
-            (subst (λ r. Appends old new (lines_of q r)) same written);
+            (subst (λ r. Appends e.old.written e.new.written (lines_of q r)) same written);
       }
 
   -- the log was not read to its end, or has a fault
-  ends : (r : Refusal) (old new : Option (List ℕ)) (before now : ℕ)
-      → StopsBytes failed q (reading task.sig standard bytes (not failed)) old new before now r
-      → Ends (log_answer task) (FailsInLog (Ok task) old new) old new r
-  ends Usage old new before now h = absurd h
-  ends LongSignature old new before now h = absurd h
-  ends (Signature fault) old new before now h = absurd h
-  ends LongPolicy old new before now h = absurd h
-  ends (Policy fault) old new before now h = absurd h
-  ends (Fragment fault) old new before now h = absurd h
-  ends Later old new before now h = absurd h
-  ends (Log fault) old new before now h = log_refused fault old new _ keeps h
-  ends (Read name) old new before now h = log_failed name old new h.0 h.1 h.2 h.3
-  ends Write old new before now h = tt
-  ends Memory old new before now h = tt
+  ends : (r : Refusal) (before now : ℕ)
+      → StopsBytes failed q (reading task.sig standard bytes (not failed)) e.old.written e.new.written before now r
+      → Ends (log_answer task) (FailsInLog task e) e.old.written e.new.written r
+  ends (Log fault) before now h = log_refused fault e.old.written e.new.written _ keeps h
+  ends (Read name) before now h = log_failed name h.0 h.1 h.2 h.3
+  ends Write before now h = tt
+  ends Memory before now h = tt
+  ends r before now h = absurd h
 
   -- what was written is a front of what is due
   due_front : (old new : Option (List ℕ))
@@ -158,14 +161,67 @@ module _ (task : Task) (q : Query) (asks : IsQueryFor task.policy.formula q)
       rw (out_is ∙ more) (longer_front old new _ _ part)
 
   -- the log that was given comes to the task's answer
-  pub log_comes : (old new : Option (List ℕ)) (before now : ℕ) (result : Result Bool Refusal)
+  pub log_comes : (before now : ℕ) (result : Result Bool Refusal)
       → IfOk result (λ violated. (failed ≡ false)
-      × EndsClear q (reading task.sig standard bytes (not failed)) old new violated)
-      → IfErr result (λ r. StopsBytes failed q (reading task.sig standard bytes (not failed)) old new before now r)
-      → AppendsFront old new (lines_of q (reading task.sig standard bytes (not failed)))
-      → ComesTo (log_answer task) (FailsInLog (Ok task) old new) old new result
-  log_comes old new before now result ok stops front = record {
-    ok = IfOk-weaker result _ _ (λ violated h. finishes old new violated h.0 h.1) ok;
-    refused = IfErr-weaker result _ _ (λ r h. ends r old new before now h) stops;
-    front = due_front old new front;
+      × EndsClear q (reading task.sig standard bytes (not failed)) e.old.written e.new.written violated)
+      → IfErr result (λ r. StopsBytes failed q (reading task.sig standard bytes (not failed))
+      e.old.written e.new.written before now r)
+      → AppendsFront e.old.written e.new.written (lines_of q (reading task.sig standard bytes (not failed)))
+      → ComesTo (log_answer task) (FailsInLog task e) e.old.written e.new.written result
+  log_comes before now result ok stops front = record {
+    ok = IfOk-weaker result _ _ (λ violated h. finishes e.old.written e.new.written violated h.0 h.1) ok;
+    refused = IfErr-weaker result _ _ (λ r h. ends r before now h) stops;
+    front = due_front e.old.written e.new.written front;
   }
+
+-- a failed call behind the monitoring of a log shows in the counts
+pub log_causes : (e : Effect) (failed : Bool) (q : Query) (due : Reading) (old new : Option (List ℕ)) (r : Refusal)
+    → (failed ≡ true → Rose e.before.faults e.after.faults)
+    → StopsBytes failed q due old new e.old.faults e.new.faults r → HasCauses ⊥ e r
+log_causes e failed q due old new (Log fault) cut h = tt
+log_causes e failed q due old new (Read name) cut h = cut h.1
+log_causes e failed q due old new Write cut h = h
+log_causes e failed q due old new Memory cut h = tt
+log_causes e failed q due old new r cut h = absurd h
+
+module _ (checked : CheckedPolicy) (log : Name) (before after : InputsView) (old new : SinkView)
+    (same : after.files ≡ before.files) (later : before.faults ≤ after.faults)
+    (asked : after.asked ≡ asked_more before.asked (log ∷ [])) where
+  -- memory was refused before anything was written
+  pub log_memory : MonitorsLog checked log (record { before = before; after = after; old = old; new = old }) (Err Memory)
+  log_memory = record {
+    asked = asked;
+    decides = record {
+      files = same;
+      later = later;
+      later_out = omega arith;
+      comes = told_all before.files _ (λ files. record { ok = tt; refused = tt; front = no_front old.written _ });
+      causes = tt;
+    };
+  }
+
+  -- the log was gathered, and the bytes given of it monitored
+  pub log_monitored : (q : Query) → IsQueryFor checked.policy.formula q → (bytes : List ℕ) (failed : Bool)
+      → ToldFiles before.files (λ files. IsGathered max_log (content files log) after bytes failed)
+      → (failed ≡ true → Rose before.faults after.faults) → (result : Result Bool Refusal)
+      → IfOk result (λ violated. (failed ≡ false)
+      × EndsClear q (reading checked.sig standard bytes (not failed)) old.written new.written violated)
+      → IfErr result (λ r. StopsBytes failed q (reading checked.sig standard bytes (not failed))
+      old.written new.written old.faults new.faults r)
+      → AppendsFront old.written new.written (lines_of q (reading checked.sig standard bytes (not failed)))
+      → old.faults ≤ new.faults
+      → MonitorsLog checked log (record { before = before; after = after; old = old; new = new }) result
+  log_monitored q asks bytes failed gathered cause result ok stops front later_out =
+      let e : Effect = record { before = before; after = after; old = old; new = new } in
+      record {
+        asked = asked;
+        decides = record {
+          files = same;
+          later = later;
+          later_out = later_out;
+          comes = told_map before.files _ _
+              (λ files g. log_comes (task_on checked (content files log)) q asks e bytes failed g old.faults new.faults result ok stops front)
+              gathered;
+          causes = IfErr-weaker result _ _ (λ r h. log_causes e failed q _ old.written new.written r cause h) stops;
+        };
+      }

@@ -27,9 +27,11 @@ use Rattle.monitor_main.specs.declared.status.Status.{Status}
 use Rattle.monitor_main.specs.declared.status.Status.TheVariants as status
 use Rattle.monitor_main.specs.AtomText.{is_empty}
 use Rattle.monitor_main.specs.CheckLine.{monitorable_line}
+use Rattle.monitor_main.specs.Limits.{max_file, max_log}
 use Rattle.monitor_main.specs.Refusals.{line_of, status_of}
 use Rattle.monitor_main.specs.Words.{Sources, Command, Run, Check, command_of}
 
+-- a status, and the bytes written to the output and to the errors
 pub record Answer : Type 0 where
   pub status : Status
   pub out : List ℕ
@@ -37,6 +39,7 @@ pub record Answer : Type 0 where
 
 -- ---- the signature and the policy
 
+-- what follows a value; a refusal stays
 infixl 10 ◌>>=◌
 abbrev pub ◌>>=◌ : {A B : Type 0} → Result A Refusal → (A → Result B Refusal) → Result B Refusal
 (Ok x) >>= f = f x
@@ -47,10 +50,11 @@ abbrev pub or_refuse_by : {A E : Type 0} → (E → Refusal) → Result A E → 
 or_refuse_by refuse (Ok x) = Ok x
 or_refuse_by refuse (Err fault) = Err (refuse fault)
 
--- a signature or a policy has at most 2^20 bytes
+-- whether a signature or a policy has more bytes than it may have
 abbrev pub is_long : List ℕ → Bool
-is_long bytes = nat_lt (2 ^ 20) (length bytes)
+is_long bytes = nat_lt max_file (length bytes)
 
+-- the signature of these bytes: its length, then its text
 unfoldable pub signature_of : List ℕ → Result (List PredOf) Refusal
 signature_of bytes =
     if is_long bytes then Err refusal.LongSignature
@@ -61,6 +65,7 @@ abbrev pub unless_fault : Option FragmentFault → PolicyOf → Result PolicyOf 
 unless_fault None policy = Ok policy
 unless_fault (Some fault) policy = Err (refusal.Fragment fault)
 
+-- the policy, where it can be monitored
 abbrev pub monitorable : PolicyOf → Result PolicyOf Refusal
 monitorable policy = unless_fault (frag_fault (free_names policy.vars) policy.formula) policy
 
@@ -70,17 +75,19 @@ policy_in sig bytes =
     if is_long bytes then Err refusal.LongPolicy
     else or_refuse_by refusal.Policy (policy_read bytes sig) >>= monitorable
 
--- a policy over a signature
-pub record Judged : Type 0 where
+-- a policy that can be monitored, over its signature
+pub record CheckedPolicy : Type 0 where
   pub sig : List PredOf
   pub policy : PolicyOf
 
+-- the policy of these bytes over this signature
+unfoldable pub checked_over : List PredOf → List ℕ → Result CheckedPolicy Refusal
+checked_over sig bytes = policy_in sig bytes >>= λ policy. Ok (record { sig = sig; policy = policy })
+
 -- the signature, then the policy, in the files of these names
-unfoldable pub policy_at : Sources → Files → Result Judged Refusal
+unfoldable pub policy_at : Sources → Files → Result CheckedPolicy Refusal
 policy_at sources files =
-    signature_of (content files sources.sig) >>= λ sig.
-    policy_in sig (content files sources.policy) >>= λ policy.
-    Ok (record { sig = sig; policy = policy })
+    signature_of (content files sources.sig) >>= λ sig. checked_over sig (content files sources.policy)
 
 -- ---- what `run` monitors
 
@@ -99,18 +106,21 @@ abbrev pub unless_later : Option OneAtom → Task → Result Task Refusal
 unless_later None task = Err refusal.Later
 unless_later (Some atom) task = Ok task
 
-unfoldable pub task_of : Judged → List ℕ → Result Task Refusal
-task_of judged log =
-    unless_later (core_atom judged.policy)
-    (record { sig = judged.sig; policy = judged.policy; log = log })
+-- the task of a policy on a log of these bytes
+abbrev pub task_on : CheckedPolicy → List ℕ → Task
+task_on checked log = record { sig = checked.sig; policy = checked.policy; log = log }
+
+-- the same, unless the policy is left for later
+unfoldable pub task_of : CheckedPolicy → List ℕ → Result Task Refusal
+task_of checked log = unless_later (core_atom checked.policy) (task_on checked log)
 
 -- the signature, then the policy, and the log in the file of this name
 unfoldable pub task_at : Sources → List ℕ → Files → Result Task Refusal
-task_at sources log files = policy_at sources files >>= λ judged. task_of judged (content files log)
+task_at sources log files = policy_at sources files >>= λ checked. task_of checked (content files log)
 
 -- how much a log may have
 abbrev pub standard : Limits
-standard = record { bytes = 2 ^ 40; points = 2 ^ 32 - 1; events = 65536 }
+standard = record { bytes = max_log; points = 2 ^ 32 - 1; events = 65536 }
 
 -- the time-points that were read, behind which more could come
 abbrev pub log_in : Reading → Log
@@ -124,6 +134,7 @@ text_on policy r = text (log_in r) policy
 unfoldable pub violated_on : Form → Reading → Bool
 violated_on policy r = list_any (λ v. not (is_empty v.rows)) (verdicts (log_in r) policy)
 
+-- the status where the log was read to its end: whether a verdict has a row
 abbrev pub verdict_status : Bool → Status
 verdict_status true = status.Violated
 verdict_status false = status.Clean
@@ -135,30 +146,37 @@ ended policy r Clear =
 ended policy r (Stops fault) =
     record { status = status.Log; out = text_on policy r; err = line_of (refusal.Log fault) }
 
+-- what a task's log says
 unfoldable pub reading_of : Task → Reading
 reading_of task = accepted task.sig standard task.log
 
+-- the answer on a task
 unfoldable pub log_answer : Task → Answer
 log_answer task = ended task.policy.formula (reading_of task) (reading_of task).ending
 
 -- ---- the whole
 
+-- the answer where nothing was monitored
 abbrev pub refused : Refusal → Answer
 refused r = record { status = status_of r; out = []; err = line_of r }
 
+-- the answer of `run`
 abbrev pub run_answer : Result Task Refusal → Answer
 run_answer (Ok task) = log_answer task
 run_answer (Err r) = refused r
 
-abbrev pub check_answer : Result Judged Refusal → Answer
-check_answer (Ok judged) =
-    record { status = status.Clean; out = monitorable_line judged.policy.vars; err = [] }
+-- the answer of `check`
+abbrev pub check_answer : Result CheckedPolicy Refusal → Answer
+check_answer (Ok checked) =
+    record { status = status.Clean; out = monitorable_line checked.policy.vars; err = [] }
 check_answer (Err r) = refused r
 
+-- the answer of a command, by the bytes of the files
 unfoldable pub command_answer : Command → Files → Answer
 command_answer (Run sources log) files = run_answer (task_at sources log files)
 command_answer (Check sources) files = check_answer (policy_at sources files)
 
+-- the answer of a command, if the words give one
 abbrev pub answer_to : Option Command → Files → Answer
 answer_to (Some command) files = command_answer command files
 answer_to None files = refused refusal.Usage
@@ -169,6 +187,7 @@ answer words files = answer_to (command_of words) files
 
 -- ---- where a file can't be read
 
+-- the value, if there is one
 abbrev pub ok_value : {A : Type 0} → Result A Refusal → Option A
 ok_value (Ok x) = Some x
 ok_value (Err r) = None
@@ -195,9 +214,11 @@ abbrev pub text_before : Form → Reading → Ending → Option (List ℕ)
 text_before policy r Clear = Some (text_on policy r)
 text_before policy r (Stops fault) = None
 
+-- what the bytes that were given of a task's log show
 unfoldable pub seen_of : Task → List ℕ → Reading
 seen_of task seen = shown task.sig standard seen
 
+-- the same of a task, if there is one
 abbrev pub text_of_seen : Result Task Refusal → List ℕ → Option (List ℕ)
 text_of_seen (Ok task) seen =
     text_before task.policy.formula (seen_of task seen) (seen_of task seen).ending

@@ -1,3 +1,5 @@
+-- The definitions that the contracts cite, in reading order.
+pub mod Limits
 pub mod Words
 pub mod CommandViews
 pub mod Status
@@ -11,9 +13,10 @@ pub mod Refusals
 pub mod CheckLine
 pub mod Answer
 pub mod AnswerLaws
-pub mod Outcomes
-pub mod PlanFaults
-pub mod Plans
+pub mod FilesAsked
+pub mod CheckedPolicies
+pub mod Loading
 pub mod Growth
 pub mod LogRuns
 pub mod Decisions
+pub mod Outcomes

@@ -1,12 +1,11 @@
 -- How the monitoring of a log may end.
 use Rattle.std.specs.Prelude.{◌≡◌, ◌⊎◌, ◌<◌, ◌++◌, ℕ, Bool, true, false, not, List, [], length}
-use Rattle.std.specs.Prelude.{Option}
+use Rattle.std.specs.Prelude.{Option, Some}
 use Rattle.mon_outside.specs.Causes.{Rose}
 use Rattle.mon_outside.specs.Sink.{Appends}
+use Rattle.mon_outside.specs.Views.{InputsView}
 use Rattle.mfotl_model.specs.declared.event.TimePoint.{TimePoint}
 use Rattle.log_reader.specs.Progress.{Progress}
-use Rattle.log_reader.specs.declared.fault.LogFault.{LogFault}
-use Rattle.log_reader.specs.declared.fault.LogFault.TheVariants as log
 use Rattle.log_reader.specs.Readings.{Clear, Reading, Stops, reading}
 use Rattle.monitor_main.specs.declared.refusal.InputFile.TheVariants as file
 use Rattle.monitor_main.specs.declared.refusal.Refusal.{Refusal}
@@ -14,11 +13,15 @@ use Rattle.monitor_main.specs.declared.refusal.Refusal.TheVariants.{Log, Read, W
 use Rattle.monitor_main.specs.Atom.{Query}
 use Rattle.monitor_main.specs.AtomText.{is_empty, line_at, lines_from, rows_at, some_rows}
 
--- the bytes that were given of a log: all, or more than the limit, unless a call failed
-pub record IsGathered (limit : ℕ) (all bytes : List ℕ) (failed : Bool) : Type 0 where
+-- The bytes that were given of a log: all, or more than the limit, unless a call failed. What is left of the
+-- log is the rest of the open file, and nothing was given where it could not be opened.
+pub record IsGathered (limit : ℕ) (all : List ℕ) (after : InputsView) (bytes : List ℕ) (failed : Bool)
+    : Type 0 where
   pub left : List ℕ
   pub all_is : all ≡ bytes ++ left
   pub whole : failed ≡ false → (left ≡ []) ⊎ (limit < length bytes)
+  pub opened : after.is_open ≡ true → after.rest ≡ Some left
+  pub unopened : after.is_open ≡ false → bytes ≡ []
 
 -- the line of a time-point was written
 pub record WritesPoint (q : Query) (number : ℕ) (point : TimePoint)
@@ -31,11 +34,6 @@ abbrev pub IsOutputFault : Refusal → ℕ → ℕ → Type 0
 IsOutputFault Memory before now = Unit {0}
 IsOutputFault Write before now = Rose before now
 IsOutputFault r before now = ⊥
-
--- the refusal for a log's fault
-abbrev pub log_refusal : LogFault → Refusal
-log_refusal log.Memory = Memory
-log_refusal fault = Log fault
 
 -- what a reader is to give
 abbrev pub reading_in : Progress → Reading

@@ -1,4 +1,4 @@
--- What a run answers where it refuses: the status, and the line that says why.
+-- What is refused, and what a run answers where it refuses: the status, and the line that says why.
 use Rattle.std.specs.Prelude.{ℕ, List, ◌++◌, codes}
 use Rattle.monitor_main.specs.declared.status.Status.{Status}
 use Rattle.monitor_main.specs.declared.status.Status.TheVariants as status
@@ -11,7 +11,43 @@ use Rattle.mfotl_sig.specs.FaultTexts.{fault_text as sig_text}
 use Rattle.mfotl_parse.specs.FaultTexts.{fault_text as policy_text}
 use Rattle.monitorable.specs.FaultTexts.{fault_text as fragment_text}
 use Rattle.log_reader.specs.FaultTexts.{fault_text as log_text}
+use Rattle.mfotl_sig.specs.declared.fault.SigFault.{SigFault}
+use Rattle.mfotl_sig.specs.declared.fault.SigFault.TheVariants as sig
+use Rattle.mfotl_parse.specs.declared.fault.PolicyFault.{PolicyFault}
+use Rattle.mfotl_parse.specs.declared.fault.PolicyFault.TheVariants as policy
+use Rattle.monitorable.specs.declared.fault.FragmentFault.{FragmentFault}
+use Rattle.monitorable.specs.declared.fault.FragmentFault.TheVariants as fragment
+use Rattle.log_reader.specs.declared.fault.LogFault.{LogFault}
+use Rattle.log_reader.specs.declared.fault.LogFault.TheVariants as log
+use Rattle.monitor_main.specs.declared.words.WordsFault.{WordsFault}
+use Rattle.monitor_main.specs.declared.words.WordsFault.TheVariants as words
 
+-- the refusal for words
+abbrev pub words_refusal : WordsFault → Refusal
+words_refusal words.Usage = Usage
+words_refusal words.Memory = Memory
+
+-- the refusal for a signature's fault
+abbrev pub sig_refusal : SigFault → Refusal
+sig_refusal sig.Memory = Memory
+sig_refusal fault = Signature fault
+
+-- the refusal for a policy's fault
+abbrev pub policy_refusal : PolicyFault → Refusal
+policy_refusal policy.Memory = Memory
+policy_refusal fault = Policy fault
+
+-- the refusal for a policy that can't be monitored
+abbrev pub fragment_refusal : FragmentFault → Refusal
+fragment_refusal fragment.Memory = Memory
+fragment_refusal fault = Fragment fault
+
+-- the refusal for a log's fault
+abbrev pub log_refusal : LogFault → Refusal
+log_refusal log.Memory = Memory
+log_refusal fault = Log fault
+
+-- the status that a run ends with
 abbrev pub status_of : Refusal → Status
 status_of Usage = status.Usage
 status_of LongSignature = status.Signature
@@ -25,9 +61,11 @@ status_of (Read file) = status.Read
 status_of Write = status.Write
 status_of Memory = status.Memory
 
+-- the line for words that are no command line
 unfoldable pub usage_line : List ℕ
 usage_line = codes "usage: run --sig F --policy F --log F [--strategy S] [--changes F] [--threads T] or check --sig F --policy F or demo SEED\n"
 
+-- the line that says why
 unfoldable pub line_of : Refusal → List ℕ
 line_of Usage = usage_line
 line_of LongSignature = codes "signature: TooLong at 1048576\n"

@@ -1,19 +1,16 @@
 //! `check`: whether a policy can be monitored, and its free variables.
-ghost use Rattle.std.specs.Prelude.{◌≡◌, ◌++◌, IfOk, IfErr, OnOk, Ok};
-ghost use Rattle.mon_outside.specs.Files.{ToldFiles};
+ghost use Rattle.std.specs.Prelude.{◌≡◌, ◌≤◌, ◌++◌, IfOk, IfErr, OnOk, Ok};
 ghost use Rattle.mon_outside.specs.Sink.{Appends, AppendsFront};
-ghost use Rattle.monitor_main.specs.Answer.{check_answer, command_answer};
+ghost use Rattle.monitor_main.specs.Answer.{check_answer};
 ghost use Rattle.monitor_main.specs.CheckLine.{column, columns, monitorable_line, more_columns};
 ghost use Rattle.monitor_main.specs.CheckLine.{sort_name};
+ghost use Rattle.monitor_main.specs.CheckedPolicies.{checked_in};
 ghost use Rattle.monitor_main.specs.CommandViews.{sources_in};
-ghost use Rattle.monitor_main.specs.Decisions.{ComesTo, Finishes, HasCauses};
+ghost use Rattle.monitor_main.specs.Decisions.{CarriesOut, Finishes, effect};
 ghost use Rattle.monitor_main.specs.LogRuns.{IsOutputFault};
-ghost use Rattle.monitor_main.specs.Outcomes.{CommandFails};
-ghost use Rattle.monitor_main.specs.PlanFaults.{IsBehindWords};
-ghost use Rattle.monitor_main.specs.Plans.{judged_of};
 ghost use Rattle.monitor_main.specs.Words.{Check};
 
-use crate::plan::{Plan, load_plan};
+use crate::checked_policy::{CheckedPolicy, load_sources};
 use crate::refusal::Refusal;
 use crate::words::Sources;
 use mfotl_model::{Sort, Var};
@@ -84,6 +81,7 @@ fn write_line<O: Sink>(alloc: Global, vars: &[Var], out: &mut O) -> Result<(), R
         IsOutputFault r (O.faults out.old) (O.faults out.new)) }
     ensures front { AppendsFront (O.written out.old) (O.written out.new)
         (monitorable_line vars.now) }
+    ensures later { O.faults out.old ≤ O.faults out.new }
 {
     let Ok(line) = monitorable_line(alloc, vars) else {
         return Err(Refusal::Memory);
@@ -94,16 +92,17 @@ fn write_line<O: Sink>(alloc: Global, vars: &[Var], out: &mut O) -> Result<(), R
     }
 }
 
-// Writes the line for a plan's policy. No time-point is violated by it.
-fn accept<O: Sink>(alloc: Global, plan: &Plan, out: &mut O) -> Result<bool, Refusal>
-    ensures ok { IfOk result (Finishes (check_answer (Ok (judged_of plan.now)))
+// Writes the line for this policy. No time-point is violated by it.
+fn accept<O: Sink>(alloc: Global, checked: &CheckedPolicy, out: &mut O) -> Result<bool, Refusal>
+    ensures ok { IfOk result (Finishes (check_answer (Ok (checked_in checked.now)))
         (O.written out.old) (O.written out.new)) }
     ensures fault { IfErr result (λ r.
         IsOutputFault r (O.faults out.old) (O.faults out.new)) }
     ensures front { AppendsFront (O.written out.old) (O.written out.new)
-        (check_answer (Ok (judged_of plan.now))).out }
+        (check_answer (Ok (checked_in checked.now))).out }
+    ensures later { O.faults out.old ≤ O.faults out.new }
 {
-    match write_line(alloc, plan.policy.vars.as_slice(), out) {
+    match write_line(alloc, checked.policy.vars.as_slice(), out) {
         Ok(()) => Ok(false),
         Err(refusal) => Err(refusal),
     }
@@ -116,17 +115,9 @@ pub fn check_policy<I: Inputs, O: Sink>(
     inputs: &mut I,
     out: &mut O,
 ) -> Result<bool, Refusal>
-    ensures files { I.files inputs.new ≡ I.files inputs.old }
-    ensures comes { ToldFiles (I.files inputs.old) (λ files. ComesTo
-        (command_answer (Check (sources_in sources.now)) files)
-        (CommandFails (Check (sources_in sources.now)) files (O.written out.old) (O.written out.new))
-        (O.written out.old) (O.written out.new) result) }
-    ensures causes { IfErr result (λ r. HasCauses r (I.faults inputs.old) (I.faults inputs.new)
-        (O.faults out.old) (O.faults out.new)) }
-    ensures behind { IfErr result IsBehindWords }
+    ensures { CarriesOut (Check (sources_in sources.now))
+        (effect I.Inputs O.Sink inputs.old inputs.new out.old out.new) result }
 {
-    match load_plan(alloc, sources, inputs) {
-        Ok(plan) => accept(alloc, &plan, out),
-        Err(refusal) => Err(refusal),
-    }
+    let checked = load_sources(alloc, sources, inputs)?;
+    accept(alloc, &checked, out)
 }

@@ -2,14 +2,15 @@
 //! status out. The programs above make its inputs and its sinks.
 #![tactic(auto)]
 
-mod answers;
 mod atom;
 mod check;
-mod laws;
+mod checked_policy;
+mod fault_lines;
+pub mod laws;
+mod limits;
 mod log;
 mod monitoring;
 mod options;
-mod plan;
 mod real_inputs;
 mod real_sink;
 mod refusal;

@@ -1,18 +1,20 @@
 //! The log: read whole, and monitored time-point by time-point.
-ghost use Rattle.std.specs.Prelude.{◌≡◌, ◌-◌, ◌^◌, ◌<◌, ◌≤◌, ℕ, not, IfOk, IfErr, true, false};
+ghost use Rattle.std.specs.Prelude.{◌≡◌, ◌-◌, ◌^◌, ◌<◌, ◌≤◌, ◌∷◌, [], ℕ, not, IfOk, IfErr, true, false};
 ghost use Rattle.mon_outside.specs.Causes.{Rose};
 ghost use Rattle.mon_outside.specs.Files.{ToldFiles, content};
+ghost use Rattle.mon_outside.specs.Inputs.{asked_more};
 ghost use Rattle.mon_outside.specs.Sink.{AppendsFront};
+ghost use Rattle.mon_outside.specs.Views.{inputs_view};
 ghost use Rattle.log_reader.specs.Readings.{reading};
 ghost use Rattle.monitor_main.specs.Answer.{standard};
 ghost use Rattle.monitor_main.specs.Atom.{query_of};
 ghost use Rattle.monitor_main.specs.AtomText.{is_empty, line_at, rows_at};
 ghost use Rattle.monitor_main.specs.LogRuns.{EndsClear, IsGathered, IsOutputFault, StopsBytes};
-ghost use Rattle.monitor_main.specs.LogRuns.{StopsLines, WritesPoint, lines_of, log_refusal, reading_in};
+ghost use Rattle.monitor_main.specs.LogRuns.{StopsLines, WritesPoint, lines_of, reading_in};
 
 use crate::atom::{AtomQuery, atom_rows};
 use crate::refusal::{InputFile, Refusal};
-use log_reader::{Limits, LogFault, LogReader, Next};
+use log_reader::{Limits, LogReader, Next};
 use mfotl_model::{Row, TimePoint, verdict_line};
 use mfotl_sig::Signature;
 use mon_outside::{Inputs, LoadFault, Sink, read_to_end, write_whole};
@@ -34,8 +36,9 @@ pub fn gather<I: Inputs>(
 ) -> Result<Gathered, Refusal>
     ensures files { I.files inputs.new ≡ I.files inputs.old }
     ensures later { I.faults inputs.old ≤ I.faults inputs.new }
-    ensures gathered { IfOk result (λ g. ToldFiles (I.files inputs.old) (λ files.
-        IsGathered limit (content files name.now) g.bytes.items g.failed)) }
+    ensures asks { I.asked inputs.new ≡ asked_more (I.asked inputs.old) (name.now ∷ []) }
+    ensures gathered { IfOk result (λ g. ToldFiles (I.files inputs.old) (λ files. IsGathered limit
+        (content files name.now) (inputs_view I.Inputs inputs.new) g.bytes.items g.failed)) }
     ensures cause { IfOk result (λ g. g.failed ≡ true
         → Rose (I.faults inputs.old) (I.faults inputs.new)) }
     ensures err { IfErr result (λ r. r ≡ Refusal.Memory) }
@@ -121,16 +124,6 @@ fn write_point<O: Sink>(
     }
 }
 
-// The refusal for a log's fault.
-fn log_refusal(fault: LogFault) -> Refusal
-    ensures { result ≡ log_refusal fault }
-{
-    match fault {
-        LogFault::Memory => Refusal::Memory,
-        fault => Refusal::Log(fault),
-    }
-}
-
 // Writes the line of each time-point, and answers whether one has a row.
 fn write_points<O: Sink>(
     alloc: Global,
@@ -158,7 +151,7 @@ fn write_points<O: Sink>(
             },
             Ok(Next::More) => return Ok(violated),
             Ok(Next::End) => return Ok(violated),
-            Err(fault) => return Err(log_refusal(fault)),
+            Err(fault) => return Err(Refusal::from(fault)),
         }
     }
     // No log has so many time-points.

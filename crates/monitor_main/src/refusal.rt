@@ -1,21 +1,16 @@
-//! Why a run ends before the end of a log without faults, and the line that says so.
-ghost use Rattle.std.specs.Prelude.{◌≡◌, ◌++◌, codes, IfOk};
-ghost use Rattle.mfotl_sig.specs.FaultTexts.{fault_text as sig_text};
-ghost use Rattle.mfotl_parse.specs.FaultTexts.{fault_text as policy_text};
-ghost use Rattle.monitorable.specs.FaultTexts.{fault_text as fragment_text};
-ghost use Rattle.log_reader.specs.FaultTexts.{fault_text as log_text};
-ghost use Rattle.monitor_main.specs.FaultLines.{fault_line, file_text};
-ghost use Rattle.monitor_main.specs.Refusals.{line_of, status_of};
+//! Why a run ends before the end of a log without faults.
+ghost use Rattle.std.specs.Prelude.{◌≡◌};
+ghost use Rattle.monitor_main.specs.Refusals.{status_of};
 
 use crate::status::Status;
+use crate::words::WordsFault;
 use log_reader::LogFault;
 use mfotl_parse::PolicyFault;
 use mfotl_sig::SigFault;
 use monitorable::FragmentFault;
-use std::alloc::{AllocError, Global};
 
 /// A file that a run reads.
-#[derive(Clone, Copy, Debug, PartialEq, Eq)]
+#[derive(Clone, Copy)]
 pub enum InputFile {
     Signature,
     Policy,
@@ -23,7 +18,7 @@ pub enum InputFile {
 }
 
 /// What is refused, or the cause outside.
-#[derive(Debug, Drop)]
+#[derive(Drop)]
 pub enum Refusal {
     /// The words are no command line.
     Usage,
@@ -49,62 +44,74 @@ pub enum Refusal {
     Memory,
 }
 
-const USAGE: &[u8] =
-    b"usage: run --sig F --policy F --log F [--strategy S] [--changes F] [--threads T] or check --sig F --policy F or demo SEED\n";
+impl From<WordsFault> for Refusal {
+    ghost use Rattle.std.specs.Prelude.{◌≡◌};
+    ghost use Rattle.monitor_main.specs.Refusals.{words_refusal};
 
-fn file_text(file: InputFile) -> &'static str
-    ensures { result.now ≡ file_text file }
-{
-    match file {
-        InputFile::Signature => "signature",
-        InputFile::Policy => "policy",
-        InputFile::Log => "log",
+    ghost from_gives = { λ fault refusal. refusal ≡ words_refusal fault };
+
+    fn from(fault: WordsFault) -> Self {
+        match fault {
+            WordsFault::Usage => Refusal::Usage,
+            WordsFault::Memory => Refusal::Memory,
+        }
     }
 }
 
-// The line of a signature's fault.
-fn sig_line(alloc: Global, fault: &SigFault) -> Result<Vec<u8>, AllocError>
-    ensures { IfOk result (λ line.
-        line.items ≡ fault_line (codes "signature") (sig_text fault.now)) }
-{
-    Ok(format!(in alloc; "signature: {fault}\n")?.into_bytes())
+impl From<SigFault> for Refusal {
+    ghost use Rattle.std.specs.Prelude.{◌≡◌};
+    ghost use Rattle.monitor_main.specs.Refusals.{sig_refusal};
+
+    ghost from_gives = { λ fault refusal. refusal ≡ sig_refusal fault };
+
+    fn from(fault: SigFault) -> Self {
+        match fault {
+            SigFault::Memory => Refusal::Memory,
+            fault => Refusal::Signature(fault),
+        }
+    }
 }
 
-// The line of a policy's fault.
-fn policy_line(alloc: Global, fault: &PolicyFault) -> Result<Vec<u8>, AllocError>
-    ensures { IfOk result (λ line.
-        line.items ≡ fault_line (codes "policy") (policy_text fault.now)) }
-{
-    Ok(format!(in alloc; "policy: {fault}\n")?.into_bytes())
+impl From<PolicyFault> for Refusal {
+    ghost use Rattle.std.specs.Prelude.{◌≡◌};
+    ghost use Rattle.monitor_main.specs.Refusals.{policy_refusal};
+
+    ghost from_gives = { λ fault refusal. refusal ≡ policy_refusal fault };
+
+    fn from(fault: PolicyFault) -> Self {
+        match fault {
+            PolicyFault::Memory => Refusal::Memory,
+            fault => Refusal::Policy(fault),
+        }
+    }
 }
 
-// The line of a policy that can't be monitored, the variable's name as it stands there.
-fn fragment_line(alloc: Global, fault: &FragmentFault) -> Result<Vec<u8>, AllocError>
-    ensures { IfOk result (λ line.
-        line.items ≡ fault_line (codes "policy") (fragment_text fault.now)) }
-{
-    let text = fault.text(alloc)?;
-    let mut line = Vec::from_slice(alloc, b"policy: ")?;
-    line.extend_from_slice(text.as_slice())?;
-    line.push(b'\n')?;
-    Ok(line)
+impl From<FragmentFault> for Refusal {
+    ghost use Rattle.std.specs.Prelude.{◌≡◌};
+    ghost use Rattle.monitor_main.specs.Refusals.{fragment_refusal};
+
+    ghost from_gives = { λ fault refusal. refusal ≡ fragment_refusal fault };
+
+    fn from(fault: FragmentFault) -> Self {
+        match fault {
+            FragmentFault::Memory => Refusal::Memory,
+            fault => Refusal::Fragment(fault),
+        }
+    }
 }
 
-// The line of a log's fault.
-fn log_line(alloc: Global, fault: &LogFault) -> Result<Vec<u8>, AllocError>
-    ensures { IfOk result (λ line.
-        line.items ≡ fault_line (codes "log") (log_text fault.now)) }
-{
-    Ok(format!(in alloc; "log: {fault}\n")?.into_bytes())
-}
+impl From<LogFault> for Refusal {
+    ghost use Rattle.std.specs.Prelude.{◌≡◌};
+    ghost use Rattle.monitor_main.specs.Refusals.{log_refusal};
 
-// The line of a file that could not be read.
-fn read_line(alloc: Global, file: InputFile) -> Result<Vec<u8>, AllocError>
-    ensures { IfOk result (λ line.
-        line.items ≡ codes "read: " ++ file_text file ++ codes "\n") }
-{
-    let name = file_text(file);
-    Ok(format!(in alloc; "read: {name}\n")?.into_bytes())
+    ghost from_gives = { λ fault refusal. refusal ≡ log_refusal fault };
+
+    fn from(fault: LogFault) -> Self {
+        match fault {
+            LogFault::Memory => Refusal::Memory,
+            fault => Refusal::Log(fault),
+        }
+    }
 }
 
 impl Refusal {
@@ -124,26 +131,6 @@ impl Refusal {
             Refusal::Read(_) => Status::Read,
             Refusal::Write => Status::Write,
             Refusal::Memory => Status::Memory,
-        }
-    }
-
-    /// The line that says why.
-    #[tactic(auto, unfolding(crate::specs::Refusals::line_of, crate::specs::Refusals::usage_line))]
-    pub fn line(&self, alloc: Global) -> Result<Vec<u8>, AllocError>
-        ensures { IfOk result (λ line. line.items ≡ line_of self.now) }
-    {
-        match self {
-            Refusal::Usage => Vec::from_slice(alloc, USAGE),
-            Refusal::LongSignature => Vec::from_slice(alloc, b"signature: TooLong at 1048576\n"),
-            Refusal::Signature(fault) => sig_line(alloc, fault),
-            Refusal::LongPolicy => Vec::from_slice(alloc, b"policy: TooLong at 1048576\n"),
-            Refusal::Policy(fault) => policy_line(alloc, fault),
-            Refusal::Fragment(fault) => fragment_line(alloc, fault),
-            Refusal::Later => Vec::from_slice(alloc, b"policy: Later\n"),
-            Refusal::Log(fault) => log_line(alloc, fault),
-            Refusal::Read(file) => read_line(alloc, *file),
-            Refusal::Write => Vec::from_slice(alloc, b"write\n"),
-            Refusal::Memory => Vec::from_slice(alloc, b"memory\n"),
         }
     }
 }

@@ -1,15 +1,13 @@
 //! The top call.
-ghost use Rattle.std.specs.Prelude.{◌≡◌, ◌≢◌, IfErr, IsTrue, None};
+ghost use Rattle.std.specs.Prelude.{◌≡◌, ◌≢◌, ◌≤◌, [], Err, None};
 ghost use Rattle.mon_outside.specs.Causes.{Rose, StoodStill};
 ghost use Rattle.mon_outside.specs.Files.{ToldFiles};
 ghost use Rattle.mon_outside.specs.Sink.{AppendsFront};
-ghost use Rattle.monitor_main.specs.Answer.{answer, command_answer};
+ghost use Rattle.mon_outside.specs.Views.{inputs_view, sink_view};
+ghost use Rattle.monitor_main.specs.Answer.{answer};
 ghost use Rattle.monitor_main.specs.CommandViews.{command_in};
-ghost use Rattle.monitor_main.specs.Decisions.{ComesTo, HasCauses};
-ghost use Rattle.monitor_main.specs.Outcomes.{CommandFails, FailsAt, FailsToRead, IsDecidedBy};
-ghost use Rattle.monitor_main.specs.Outcomes.{IsGiven, Reports, Tells, is_decided};
-ghost use Rattle.monitor_main.specs.PlanFaults.{IsBehindWords};
-ghost use Rattle.monitor_main.specs.Plans.{HasWordsCause, words_refusal};
+ghost use Rattle.monitor_main.specs.Decisions.{AsksByWords, CarriesOut, HandsOn, Obeys, effect};
+ghost use Rattle.monitor_main.specs.Outcomes.{FailsToRead, IsDecidedBy, IsGiven, Reports, Tells};
 ghost use Rattle.monitor_main.specs.Refusals.{line_of};
 ghost use Rattle.monitor_main.specs.Words.{command_of, texts_of};
 
@@ -17,8 +15,8 @@ use crate::check::check_policy;
 use crate::monitoring::run_policy;
 use crate::refusal::Refusal;
 use crate::status::Status;
-use crate::words::{Command, WordsFault, read_words};
-use mon_outside::{Gate, Inputs, Sink, write_whole};
+use crate::words::{Command, read_words};
+use mon_outside::{Failed, Gate, Inputs, Sink, write_whole};
 use std::alloc::Global;
 use std::sync::Wait;
 use std::thread::Threads;
@@ -30,28 +28,12 @@ fn obey<I: Inputs, O: Sink>(
     inputs: &mut I,
     out: &mut O,
 ) -> Result<bool, Refusal>
-    ensures files { I.files inputs.new ≡ I.files inputs.old }
-    ensures comes { ToldFiles (I.files inputs.old) (λ files. ComesTo
-        (command_answer (command_in command.now) files)
-        (CommandFails (command_in command.now) files (O.written out.old) (O.written out.new))
-        (O.written out.old) (O.written out.new) result) }
-    ensures causes { IfErr result (λ r. HasCauses r (I.faults inputs.old) (I.faults inputs.new)
-        (O.faults out.old) (O.faults out.new)) }
-    ensures behind { IfErr result IsBehindWords }
+    ensures { CarriesOut (command_in command.now)
+        (effect I.Inputs O.Sink inputs.old inputs.new out.old out.new) result }
 {
     match command {
         Command::Run(sources, log) => run_policy(alloc, sources, log, inputs, out),
         Command::Check(sources) => check_policy(alloc, sources, inputs, out),
-    }
-}
-
-// The refusal for words.
-fn words_refusal(fault: WordsFault) -> Refusal
-    ensures { result ≡ words_refusal fault }
-{
-    match fault {
-        WordsFault::Usage => Refusal::Usage,
-        WordsFault::Memory => Refusal::Memory,
     }
 }
 
@@ -62,19 +44,38 @@ fn decide<I: Inputs, O: Sink>(
     inputs: &mut I,
     out: &mut O,
 ) -> Result<bool, Refusal>
-    ensures files { I.files inputs.new ≡ I.files inputs.old }
-    ensures comes { ToldFiles (I.files inputs.old) (λ files. ComesTo
-        (answer (texts_of words.now) files)
-        (FailsAt (texts_of words.now) files (O.written out.old) (O.written out.new))
-        (O.written out.old) (O.written out.new) result) }
-    ensures causes { IfErr result (λ r. HasCauses r (I.faults inputs.old) (I.faults inputs.new)
-        (O.faults out.old) (O.faults out.new)) }
-    ensures usage { IfErr result (HasWordsCause (texts_of words.now)) }
+    ensures { Obeys (texts_of words.now)
+        (effect I.Inputs O.Sink inputs.old inputs.new out.old out.new) result }
 {
-    match read_words(alloc, words) {
-        Ok(command) => obey(alloc, &command, inputs, out),
-        Err(fault) => Err(words_refusal(fault)),
+    let command = read_words(alloc, words)?;
+    obey(alloc, &command, inputs, out)
+}
+
+// Hands on what the output holds back behind a decision. Where that fails, so does the output.
+fn hand_on<O: Sink>(decision: Result<bool, Refusal>, out: &mut O) -> Result<bool, Refusal>
+    ensures kept { O.written out.new ≡ O.written out.old }
+    ensures later { O.faults out.old ≤ O.faults out.new }
+    ensures handed_on { HandsOn decision (sink_view O.Sink out.old) (sink_view O.Sink out.new) result }
+{
+    match out.flush() {
+        Ok(()) => decision,
+        Err(Failed) => Err(Refusal::Write),
     }
+}
+
+// The same decision, with nothing held back.
+fn conclude<I: Inputs, O: Sink>(
+    alloc: Global,
+    words: &[String],
+    inputs: &mut I,
+    out: &mut O,
+) -> Result<bool, Refusal>
+    ensures obeys { Obeys (texts_of words.now)
+        (effect I.Inputs O.Sink inputs.old inputs.new out.old out.new) result }
+    ensures handed_on { result ≢ Err Refusal.Write → O.held out.new ≡ [] }
+{
+    let decision = decide(alloc, words, inputs, out);
+    hand_on(decision, out)
 }
 
 // Writes a line, as far as that can be done.
@@ -136,7 +137,8 @@ pub fn run<R: Threads + Wait + Sync, I: Inputs, O: Sink, E: Sink, G: Gate + Sync
         (O.written out.old) (O.written out.new) (E.written err.old) (E.written err.new)) }
 
     // Whatever fails outside, a status that the words and the files decide is the answer's.
-    ensures decided { ToldFiles (I.files inputs.old) (λ files. IsTrue (is_decided result)
+    ensures decided { ToldFiles (I.files inputs.old) (λ files.
+        result ≢ Status.Read → result ≢ Status.Write → result ≢ Status.Memory
         → IsDecidedBy (answer (texts_of words.items) files) result
         (O.written out.old) (O.written out.new) (E.written err.old) (E.written err.new)
         (E.faults err.old) (E.faults err.new)) }
@@ -146,10 +148,18 @@ pub fn run<R: Threads + Wait + Sync, I: Inputs, O: Sink, E: Sink, G: Gate + Sync
     // The words alone decide whether they are refused: told files or not.
     ensures usage { result ≡ Status.Usage → command_of (texts_of words.items) ≡ None }
 
+    // No file is asked for before all before it in the order are accepted.
+    ensures asks { AsksByWords (texts_of words.items)
+        (inputs_view I.Inputs inputs.old) (inputs_view I.Inputs inputs.new) }
+
+    // At the end the output holds nothing back.
+    ensures flushed { result ≢ Status.Write → result ≢ Status.Memory → O.held out.new ≡ [] }
+
     // A failed call is told only where its count rose.
     ensures read_cause { result ≡ Status.Read → Rose (I.faults inputs.old) (I.faults inputs.new) }
     ensures read { ToldFiles (I.files inputs.old) (λ files. result ≡ Status.Read
-        → FailsToRead (texts_of words.items) files (O.written out.old) (O.written out.new)
+        → FailsToRead (texts_of words.items) files
+        (effect I.Inputs O.Sink inputs.old inputs.new out.old out.new)
         (E.written err.old) (E.written err.new) (E.faults err.old) (E.faults err.new)) }
     ensures write_cause { result ≡ Status.Write → Rose (O.faults out.old) (O.faults out.new) }
     ensures write { result ≡ Status.Write → Tells (E.written err.old) (E.written err.new)
@@ -158,7 +168,7 @@ pub fn run<R: Threads + Wait + Sync, I: Inputs, O: Sink, E: Sink, G: Gate + Sync
         (E.faults err.old) (E.faults err.new) (line_of Refusal.Memory) }
     ensures files { I.files inputs.new ≡ I.files inputs.old }
 {
-    match decide(alloc, words.as_slice(), inputs, out) {
+    match conclude(alloc, words.as_slice(), inputs, out) {
         Ok(true) => Status::Violated,
         Ok(false) => Status::Clean,
         Err(refusal) => report(alloc, refusal, err),

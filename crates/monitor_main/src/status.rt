@@ -3,7 +3,7 @@ ghost use Rattle.std.specs.Prelude.{◌≡◌};
 ghost use Rattle.monitor_main.specs.Status.{code_of};
 
 /// How a run ended: the exit status of the program is its number.
-#[derive(Clone, Copy, Debug, PartialEq, Eq)]
+#[derive(Clone, Copy)]
 pub enum Status {
     /// The log was read to its end, and no line has a row.
     Clean,

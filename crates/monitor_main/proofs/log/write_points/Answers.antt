@@ -26,7 +26,7 @@ returns-in-Ok-End-clause-front g c = front _ _ _ _ _ _ _ _ _ c.loop-number.invar
 
 pub returns-in-Err-clause-stops : goal.returns-in-Err-clause-stops
 returns-in-Err-clause-stops g c =
-    stops_by _ _ _ _ _ _ _ _ _ c.loop-number.invariant c.in-Err.fault _ c.log_refusal.ensures (search rules)
+    stops_by _ _ _ _ _ _ _ _ _ c.loop-number.invariant c.in-Err.fault _ c.from.ensures (search rules)
 
 pub returns-in-Err-clause-front : goal.returns-in-Err-clause-front
 returns-in-Err-clause-front g c = front _ _ _ _ _ _ _ _ _ c.loop-number.invariant

@@ -1,27 +1,23 @@
-use Rattle.mon_outside.specs.Files.{content}
-use Rattle.std.proofs.lemmas.Result.{IfErr-weaker}
+use Rattle.std.proofs.lemmas.Result.{err_from_is_err_and}
+use Rattle.mon_outside.specs.Views.{inputs_view, sink_view}
 use Rattle.monitor_main.specs.Atom.{query_of}
-use Rattle.monitor_main.specs.Plans.{task_in}
-use Rattle.monitor_main.proofs.DecideLemmas.{comes_memory}
-use Rattle.monitor_main.proofs.PlanLemmas.{told_all, told_map}
-use Rattle.monitor_main.proofs.RunLemmas.{log_comes}
-use Rattle.monitor_main.proofs.UsageLemmas.{stops_behind}
+use Rattle.monitor_main.specs.CheckedPolicies.{checked_in}
+use Rattle.monitor_main.proofs.RunLemmas.{log_memory, log_monitored}
 use Rattle.monitor_main.proofs.monitoring.monitor_log.Goals as goal
 
-pub returns-in-Ok-clause-comes : goal.returns-in-Ok-clause-comes
-returns-in-Ok-clause-comes g c =
-    told_map (g.I.Inputs.files c.args.inputs.now) _ _
-    (λ files gathered. log_comes (task_in c.args.plan.now (content files c.args.log.now)) (query_of c.args.query.now) c.requires.asks
-    c.in-Ok.gathered.bytes.items c.in-Ok.gathered.failed gathered
-    (g.O.Sink.written c.args.out.now) (g.O.Sink.written c.monitor_bytes.new.out) _ _ c.monitor_bytes.result
-    c.monitor_bytes.ensures.ok c.monitor_bytes.ensures.stops c.monitor_bytes.ensures.front)
-    c.in-Ok.ensures.gathered
+pub returns-in_err-gathered : goal.returns-in_err-gathered
+returns-in_err-gathered g c =
+    let p = err_from_is_err_and c.from_residual.result c.from_residual.ensures.1 in
+    rw (p.1, p.2, c.in_err-gathered.ensures.err) (log_memory (checked_in c.args.checked.now) c.args.log.now
+    (inputs_view g.I.Inputs c.args.inputs.now) (inputs_view g.I.Inputs c.gather.new.inputs) (sink_view g.O.Sink c.args.out.now)
+    (sink_view g.O.Sink c.args.out.now)
+    c.in_err-gathered.ensures.files c.in_err-gathered.ensures.later c.in_err-gathered.ensures.asks)
 
-pub returns-in-Ok-clause-behind : goal.returns-in-Ok-clause-behind
-returns-in-Ok-clause-behind g c =
-    IfErr-weaker c.monitor_bytes.result _ _ (λ r e. stops_behind _ _ _ _ _ _ _ r e) c.monitor_bytes.ensures.stops
-
-pub returns-in-Err-clause-comes : goal.returns-in-Err-clause-comes
-returns-in-Err-clause-comes g c =
-    told_all (g.I.Inputs.files c.args.inputs.now) _
-    (λ files. comes_memory _ _ (g.O.Sink.written c.args.out.now) c.in-Err.refusal c.in-Err.ensures.err)
+pub returns : goal.returns
+returns g c =
+    log_monitored (checked_in c.args.checked.now) c.args.log.now (inputs_view g.I.Inputs c.args.inputs.now)
+    (inputs_view g.I.Inputs c.gather.new.inputs) (sink_view g.O.Sink c.args.out.now) (sink_view g.O.Sink c.monitor_bytes.new.out)
+    c.in_ok-gathered.ensures.files c.in_ok-gathered.ensures.later c.in_ok-gathered.ensures.asks
+    (query_of c.args.query.now) c.requires c.in_ok-gathered.gathered.bytes.items c.in_ok-gathered.gathered.failed
+    c.in_ok-gathered.ensures.gathered c.in_ok-gathered.ensures.cause c.monitor_bytes.result
+    c.monitor_bytes.ensures.ok c.monitor_bytes.ensures.stops c.monitor_bytes.ensures.front c.monitor_bytes.ensures.later

@@ -1,23 +1,34 @@
+use Rattle.std.proofs.Common.{None, Some}
+use Rattle.std.proofs.lemmas.Result.{err_from_is_err_and}
+use Rattle.mon_outside.specs.Views.{inputs_view, sink_view}
+use Rattle.monitor_main.specs.CheckedPolicies.{checked_in}
 use Rattle.monitor_main.specs.CommandViews.{sources_in}
-use Rattle.monitor_main.specs.Plans.{judged_of}
-use Rattle.monitor_main.proofs.DecideLemmas.{causes_of_plan, run_comes, run_not_begun}
-use Rattle.monitor_main.proofs.PlanLemmas.{told_both, told_map}
+use Rattle.monitor_main.proofs.DecideLemmas.{run_later, run_monitors, run_stops}
+use Rattle.monitor_main.proofs.QueryLemmas.{task_by_core}
 use Rattle.monitor_main.proofs.monitoring.run_policy.Goals as goal
 
-pub returns-in-Ok-clause-comes : goal.returns-in-Ok-clause-comes
-returns-in-Ok-clause-comes g c =
-    let comes = rw c.in-Ok.ensures.files at c.monitor_plan.ensures.comes in
-    told_both (g.I.Inputs.files c.args.inputs.now) _ _ _
-    (λ files policy_is e. run_comes (sources_in c.args.sources.now) c.args.log.now files (judged_of c.in-Ok.plan) policy_is
-    (g.O.Sink.written c.args.out.now) (g.O.Sink.written c.monitor_plan.new.out) c.monitor_plan.result e)
-    c.in-Ok.ensures.ok comes
+pub returns-in_err-checked : goal.returns-in_err-checked
+returns-in_err-checked g c =
+    let p = err_from_is_err_and c.from_residual.result c.from_residual.ensures.1 in
+    rw (p.1, p.2) (run_stops (sources_in c.args.sources.now) c.args.log.now (inputs_view g.I.Inputs c.args.inputs.now)
+    (inputs_view g.I.Inputs c.load_sources.new.inputs) (sink_view g.O.Sink c.args.out.now)
+    c.in_err-checked.ensures.files c.in_err-checked.ensures.later _ c.in_err-checked.ensures.refused)
 
-pub returns-in-Err-clause-comes : goal.returns-in-Err-clause-comes
-returns-in-Err-clause-comes g c =
-    told_map (g.I.Inputs.files c.args.inputs.now) _ _
-    (λ files e. run_not_begun (sources_in c.args.sources.now) files (g.O.Sink.written c.args.out.now) c.args.log.now c.in-Err.refusal e)
-    c.in-Err.ensures.refused
+pub returns-in-Some : goal.returns-in-Some
+returns-in-Some g c =
+    run_monitors (sources_in c.args.sources.now) c.args.log.now (inputs_view g.I.Inputs c.args.inputs.now)
+    (inputs_view g.I.Inputs c.load_sources.new.inputs) (checked_in c.in_ok-checked.checked)
+    c.in_ok-checked.ensures.ok c.in_ok-checked.ensures.files c.in_ok-checked.ensures.later
+    (inputs_view g.I.Inputs c.monitor_log.new.inputs) (sink_view g.O.Sink c.args.out.now)
+    (sink_view g.O.Sink c.monitor_log.new.out) c.monitor_log.result
+    (λ bytes. task_by_core c.in_ok-checked.checked.core (checked_in c.in_ok-checked.checked) bytes (Some c.in-Some.atom.now)
+    c.in_ok-checked.ensures.core c.in-Some.ensures)
+    c.monitor_log.ensures
 
-pub returns-in-Err-clause-causes : goal.returns-in-Err-clause-causes
-returns-in-Err-clause-causes g c =
-    causes_of_plan c.in-Err.refusal _ _ (g.O.Sink.faults c.args.out.now) (g.O.Sink.faults c.args.out.now) c.in-Err.ensures.cause
+pub returns : goal.returns
+returns g c =
+    run_later (sources_in c.args.sources.now) c.args.log.now (inputs_view g.I.Inputs c.args.inputs.now)
+    (inputs_view g.I.Inputs c.load_sources.new.inputs) (checked_in c.in_ok-checked.checked)
+    c.in_ok-checked.ensures.ok c.in_ok-checked.ensures.files c.in_ok-checked.ensures.later (sink_view g.O.Sink c.args.out.now)
+    (λ bytes. task_by_core c.in_ok-checked.checked.core (checked_in c.in_ok-checked.checked) bytes None
+    c.in_ok-checked.ensures.core c.in-None.ensures)

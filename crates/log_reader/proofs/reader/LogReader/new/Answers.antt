@@ -1,12 +1,13 @@
-use Rattle.std.proofs.Common.{false, refl}
+use Rattle.std.proofs.Common.{refl}
 use Rattle.log_reader.proofs.Keeping.{sound_start}
 use Rattle.log_reader.proofs.ReaderLemmas.{reads_by}
 use Rattle.log_reader.proofs.reader.LogReader.new.Goals as goal
 
 pub invariant_of-result : goal.invariant_of-result
-invariant_of-result c = λ _.
-    sound_start c.args.sig.now c.args.limits c.new.result.items false _ _ c.new-2.ensures.at c.new-2.ensures.partial
-    (λ _. c.new.ensures.items)
+invariant_of-result c = record {
+  unfed = λ _. c.new.ensures.items;
+  sound = λ _. sound_start c.args.sig.now c.args.limits c.new.result.items _ _ c.new-2.ensures.at c.new-2.ensures.partial;
+}
 
 pub returns : goal.returns
 returns c = reads_by _ _ (rw (c.new.ensures.items, c.new-2.ensures.partial) refl)

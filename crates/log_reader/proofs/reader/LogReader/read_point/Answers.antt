@@ -1,61 +1,54 @@
-use Rattle.std.proofs.Common.{◌≡◌, ◌&&◌, not, take, false, List, ℕ, Ok, sym, ap, ◌∙◌}
-use Rattle.log_reader.specs.Progress.{due, answer_of}
+use Rattle.std.proofs.Common.{◌≡◌, ℕ, List, false, sym, ap, subst, ◌∙◌}
+use Rattle.log_reader.specs.Cursors.{given_of}
+use Rattle.log_reader.specs.Given.{Gives}
+use Rattle.log_reader.specs.Progress.{answer_of, skipped}
 use Rattle.log_reader.specs.Readers.{Reader}
-use Rattle.log_reader.specs.Soundness.{told}
-use Rattle.log_reader.specs.Readings.{is_long, nothing_left}
-use Rattle.log_reader.proofs.Fewness.{sound_few, on_ok}
-use Rattle.log_reader.proofs.Keeping.{sound_point, sound_none, due_none, gives_due}
+use Rattle.log_reader.specs.Readings.{reading}
+use Rattle.log_reader.specs.Soundness.{IsSound, is_wanting}
+use Rattle.log_reader.proofs.Fewness.{given_few, sound_few}
+use Rattle.log_reader.proofs.ReaderLemmas.{on_ok, moves_on}
 use Rattle.log_reader.proofs.reader.LogReader.read_point.Goals as goal
 
+pub read-answer-requires : goal.read-answer-requires
+read-answer-requires c =
+    let works : c.self.inside.is_broken ≡ false = ap (λ (r : Reader). r.is_broken) c.self.view_is ∙ c.requires in
+    rw c.deref.ensures.value (c.self.invariant.sound works)
+
+-- what is kept true of the bytes as the vector holds them
+sound_behind : (c : goal.After-self-1) → is_wanting c.read-answer.result ≡ false
+    → IsSound c.self.inside.sig.now c.self.inside.limits c.self.inside.bytes.items c.self.inside.is_ended
+    c.read-answer.new.self.at c.read-answer.new.self.partial
+sound_behind c fine =
+    subst (λ (bytes : List ℕ). IsSound c.self.inside.sig.now c.self.inside.limits bytes c.self.inside.is_ended
+    c.read-answer.new.self.at c.read-answer.new.self.partial) c.deref.ensures.value (c.read-answer.ensures.sound fine)
+
 pub invariant_of-self : goal.invariant_of-self
-invariant_of-self c = λ whole.
-    let inside = c.self.inside in
-    sound_point inside.sig.now inside.limits inside.bytes.items _ inside.is_fed inside.is_ended _ _ _ _ _ _
-    (c.looked_at-looked.ensures ∙ ap (take inside.limits.bytes) c.deref.ensures.value)
-    (c.is_end_told-ended.ensures ∙ ap (λ (bytes : List ℕ). inside.is_ended && not (is_long inside.limits bytes)) c.deref-2.ensures.value)
-    c.advance.ensures (c.self.invariant whole) c.in-Ok-Some.point (c.in-Ok-Some.is ∙ ap Ok c.in-Ok-Some.field-0-is)
+invariant_of-self c = record {
+  unfed = c.self.invariant.unfed;
+  sound = λ works. sound_behind c (sym c.is_wanting-self-inside.ensures ∙ works);
+}
 
-pub returns-in-Ok-Some-clause-few : goal.returns-in-Ok-Some-clause-few
-returns-in-Ok-Some-clause-few c =
+pub returns : goal.returns
+returns c =
     let inside = c.self.inside in
-    let whole : inside.is_broken ≡ false = ap (λ (v : Reader). v.is_broken) c.self.view_is ∙ c.requires in
-    sound_few inside.sig.now inside.limits inside.bytes.items inside.is_fed inside.is_ended _ _
-    (sound_point inside.sig.now inside.limits inside.bytes.items _ inside.is_fed inside.is_ended _ _ _ _ _ _
-    (c.looked_at-looked.ensures ∙ ap (take inside.limits.bytes) c.deref.ensures.value)
-    (c.is_end_told-ended.ensures ∙ ap (λ (bytes : List ℕ). inside.is_ended && not (is_long inside.limits bytes)) c.deref-2.ensures.value)
-    c.advance.ensures (c.self.invariant whole) c.in-Ok-Some.point (c.in-Ok-Some.is ∙ ap Ok c.in-Ok-Some.field-0-is))
-
-pub invariant_of-self-in-Ok-None : goal.invariant_of-self-in-Ok-None
-invariant_of-self-in-Ok-None c = λ whole.
-    let inside = c.self.inside in
-    sound_none inside.sig.now inside.limits inside.bytes.items _ inside.is_fed inside.is_ended _ _ _ _ _ _
-    (c.looked_at-looked.ensures ∙ ap (take inside.limits.bytes) c.deref.ensures.value)
-    (c.is_end_told-ended.ensures ∙ ap (λ (bytes : List ℕ). inside.is_ended && not (is_long inside.limits bytes)) c.deref-2.ensures.value)
-    c.advance.ensures (c.self.invariant whole) (c.in-Ok-None.is ∙ ap Ok c.in-Ok-None.field-0-is) _ _
-    (c.end.ensures.answer ∙ ap (λ (bytes : List ℕ). answer_of inside.is_ended (nothing_left inside.limits bytes inside.is_ended c.advance.new.self.partial)) c.deref-in-Ok-None.ensures.value)
-    c.end.ensures.after
-
-pub returns-in-Ok-None-clause-answer : goal.returns-in-Ok-None-clause-answer
-returns-in-Ok-None-clause-answer c =
-    let inside = c.self.inside in
-    let whole : inside.is_broken ≡ false = ap (λ (v : Reader). v.is_broken) c.self.view_is ∙ c.requires in
-    let e = due_none inside.sig.now inside.limits inside.bytes.items _ inside.is_fed inside.is_ended _ _ _ _ _ _
-    (c.looked_at-looked.ensures ∙ ap (take inside.limits.bytes) c.deref.ensures.value)
-    (c.is_end_told-ended.ensures ∙ ap (λ (bytes : List ℕ). inside.is_ended && not (is_long inside.limits bytes)) c.deref-2.ensures.value)
-    c.advance.ensures (c.self.invariant whole) (c.in-Ok-None.is ∙ ap Ok c.in-Ok-None.field-0-is) _ _
-    (c.end.ensures.answer ∙ ap (λ (bytes : List ℕ). answer_of inside.is_ended (nothing_left inside.limits bytes inside.is_ended c.advance.new.self.partial)) c.deref-in-Ok-None.ensures.value)
-    c.end.ensures.after in
-    gives_due c.end.result (due (told c.args.self.now)) (sym (ap (λ (v : Reader). due (told v)) c.self.view_is) ∙ e)
-
-pub returns-in-Ok-None-clause-few : goal.returns-in-Ok-None-clause-few
-returns-in-Ok-None-clause-few c =
-    let inside = c.self.inside in
-    let whole : inside.is_broken ≡ false = ap (λ (v : Reader). v.is_broken) c.self.view_is ∙ c.requires in
-    on_ok _ c.end.result
-    (sound_few inside.sig.now inside.limits inside.bytes.items inside.is_fed inside.is_ended _ _
-    (sound_none inside.sig.now inside.limits inside.bytes.items _ inside.is_fed inside.is_ended _ _ _ _ _ _
-    (c.looked_at-looked.ensures ∙ ap (take inside.limits.bytes) c.deref.ensures.value)
-    (c.is_end_told-ended.ensures ∙ ap (λ (bytes : List ℕ). inside.is_ended && not (is_long inside.limits bytes)) c.deref-2.ensures.value)
-    c.advance.ensures (c.self.invariant whole) (c.in-Ok-None.is ∙ ap Ok c.in-Ok-None.field-0-is) _ _
-    (c.end.ensures.answer ∙ ap (λ (bytes : List ℕ). answer_of inside.is_ended (nothing_left inside.limits bytes inside.is_ended c.advance.new.self.partial)) c.deref-in-Ok-None.ensures.value)
-    c.end.ensures.after))
+    let works : inside.is_broken ≡ false = ap (λ (r : Reader). r.is_broken) c.self.view_is ∙ c.requires in
+    let given = given_of inside.cursor.partial in
+    let old : Reader = record {
+      sig = inside.sig.now;
+      limits = inside.limits;
+      is_fed = inside.is_fed;
+      is_ended = inside.is_ended;
+      given = given;
+      is_broken = inside.is_broken;
+      kept = record { bytes = inside.bytes.items; at = inside.cursor.at; partial = inside.cursor.partial };
+    } in
+    record {
+      answer = rw (← c.self.view_is) (subst (λ (bytes : List ℕ). Gives (λ next. next) c.read-answer.result
+          (answer_of inside.is_ended (skipped given (reading inside.sig.now inside.limits bytes inside.is_ended))))
+          c.deref.ensures.value c.read-answer.ensures.answer);
+      after = rw (← c.self.view_is) (moves_on old c.read-answer.result _ _ c.read-answer.new.self.at
+          c.read-answer.new.self.partial works c.is_wanting-self-inside.ensures
+          c.read-answer.ensures.counts);
+      few = on_ok _ c.read-answer.result (λ fine. sound_few _ _ _ _ _ _ (sound_behind c fine));
+      given = rw (← c.self.view_is) (given_few _ _ _ _ _ _ (c.self.invariant.sound works));
+    }

@@ -1,5 +1,5 @@
 use Rattle.monitor_main.proofs.AnswerLemmas.{check_accepts}
-use Rattle.monitor_main.proofs.answers.check_accepts.Goals as goal
+use Rattle.monitor_main.proofs.laws.check_accepts.Goals as goal
 
 pub returns : goal.returns
 returns c = check_accepts

@@ -1,0 +1,41 @@
+-- A policy that can be monitored, and how it is made of a signature and a policy.
+use Rattle.std.specs.Prelude.{◌≡◌, Result, Ok, Err}
+use Rattle.mfotl_model.specs.Formulas.{Form}
+use Rattle.mfotl_model.specs.FreeVariables.{fv}
+use Rattle.mfotl_parse.specs.Views.{policy_of}
+use Rattle.monitorable.specs.CoreForm.{core_form, Denies, SettlesWith}
+use Rattle.monitorable.specs.NormalForm.{negative}
+use Rattle.monitorable.specs.Renaming.{apart_form}
+use Rattle.monitorable.specs.declared.policy_core.Core.{Core}
+use Rattle.monitor_main.specs.declared.checked_policy.CheckedPolicy.{CheckedPolicy as CheckedValue}
+use Rattle.monitor_main.specs.declared.refusal.Refusal.{Refusal}
+use Rattle.monitor_main.specs.declared.refusal.Refusal.TheVariants.{Usage, Read, Write, Memory}
+use Rattle.monitor_main.specs.Answer.{CheckedPolicy}
+
+-- the policy that is seen, without its core
+abbrev pub checked_in : CheckedValue → CheckedPolicy
+checked_in checked = record { sig = checked.sig; policy = policy_of checked.policy }
+
+-- the core is made from this formula
+pub record IsCoreOf (core : Core) (f : Form) : Type 0 where
+  pub core_is : core_form core ≡ apart_form (negative f)
+  pub denies : Denies (core_form core) f
+  pub settles : SettlesWith (core_form core) f
+  pub variables : fv (core_form core) ≡ fv f
+
+-- the refusal is the one due; want of memory may come at any time
+abbrev pub Fails : {Y : Type 0} → Refusal → Result Y Refusal → Type 0
+Fails Memory due = Unit {0}
+Fails r due = due ≡ Err r
+
+-- the value or the refusal is the one due
+abbrev pub Gives : {X Y : Type 0} → (X → Y) → Result X Refusal → Result Y Refusal → Type 0
+Gives view (Ok x) due = due ≡ Ok (view x)
+Gives view (Err r) due = Fails r due
+
+-- no call of the outside failed, and the words are not at fault
+abbrev pub IsInside : Refusal → Type 0
+IsInside Usage = ⊥
+IsInside (Read name) = ⊥
+IsInside Write = ⊥
+IsInside r = Unit {0}

@@ -1,0 +1,68 @@
+-- How the loading of the signature and the policy may end.
+use Rattle.std.specs.Prelude.{◌≡◌, ℕ, List, Result, Ok, Err, Some}
+use Rattle.mon_outside.specs.Causes.{Rose}
+use Rattle.mon_outside.specs.Files.{Files, ToldFiles, content}
+use Rattle.mon_outside.specs.Inputs.{Name, StopsIn, asked_more}
+use Rattle.mon_outside.specs.Views.{InputsView}
+use Rattle.monitor_main.specs.declared.refusal.InputFile.{InputFile}
+use Rattle.monitor_main.specs.declared.refusal.InputFile.TheVariants as file
+use Rattle.monitor_main.specs.declared.refusal.Refusal.{Refusal}
+use Rattle.monitor_main.specs.declared.refusal.Refusal.TheVariants.{Usage, Read, Write, Memory}
+use Rattle.monitor_main.specs.Answer.{CheckedPolicy, policy_at, source_bytes}
+use Rattle.monitor_main.specs.FilesAsked.{source_names}
+use Rattle.monitor_main.specs.Words.{Sources}
+
+-- The call for a file failed: this one is told, the count has risen, and what is left of the file is known.
+pub record ReadFails (file told : InputFile) (name : Name) (before after : InputsView) : Type 0 where
+  pub named : told ≡ file
+  pub rose : Rose before.faults after.faults
+  pub stops : ToldFiles before.files (λ files. StopsIn after.is_open after.rest (content files name))
+
+-- Why the file of this name is refused: it could not be read, or its bytes come to this refusal. Want of
+-- memory may come at any time.
+abbrev pub IsRefused : {Y : Type 0} → InputFile → Name → (List ℕ → Result Y Refusal)
+    → InputsView → InputsView → Refusal → Type 0
+IsRefused file name due before after Usage = ⊥
+IsRefused file name due before after (Read told) = ReadFails file told name before after
+IsRefused file name due before after Write = ⊥
+IsRefused file name due before after Memory = Unit {0}
+IsRefused file name due before after r = ToldFiles before.files (λ files. due (content files name) ≡ Err r)
+
+-- the signature and the policy were asked for, and are this policy
+pub record LoadsSources (sources : Sources) (checked : CheckedPolicy) (before after : InputsView) : Type 0 where
+  pub asked : after.asked ≡ asked_more before.asked (source_names sources file.Policy)
+  pub is : ToldFiles before.files (λ files. policy_at sources files ≡ Ok checked)
+
+-- the signature or the policy
+abbrev pub IsSource : InputFile → Type 0
+IsSource file.Log = ⊥
+IsSource name = Unit {0}
+
+-- The refusal is none of the words nor of the output; a failed read is told of the file that was asked for
+-- last, and shows in the count.
+abbrev pub IsLoadFault : InputFile → InputsView → InputsView → Refusal → Type 0
+IsLoadFault last before after Usage = ⊥
+IsLoadFault last before after (Read told) = (told ≡ last) × Rose before.faults after.faults
+IsLoadFault last before after Write = ⊥
+IsLoadFault last before after r = Unit {0}
+
+-- why there is no policy in the files of these names, where all this was to be read of the last one
+abbrev pub HasNoPolicy : Sources → Files → List ℕ → InputsView → Refusal → Type 0
+HasNoPolicy sources files all after (Read told) = StopsIn after.is_open after.rest all
+HasNoPolicy sources files all after Memory = Unit {0}
+HasNoPolicy sources files all after r = policy_at sources files ≡ Err r
+
+-- the same, where all before the last file is accepted
+pub record NoPolicy (sources : Sources) (files : Files) (last : InputFile) (after : InputsView) (r : Refusal)
+    : Type 0 where
+  pub all : List ℕ
+  pub reached : source_bytes sources files last ≡ Some all
+  pub why : HasNoPolicy sources files all after r
+
+-- The loading stopped at a file, with this refusal: the files up to it were asked for.
+pub record StopsInSources (sources : Sources) (before after : InputsView) (r : Refusal) : Type 0 where
+  pub last : InputFile
+  pub is_source : IsSource last
+  pub asked : after.asked ≡ asked_more before.asked (source_names sources last)
+  pub fault : IsLoadFault last before after r
+  pub refuses : ToldFiles before.files (λ files. NoPolicy sources files last after r)
