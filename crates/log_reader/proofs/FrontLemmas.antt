@@ -21,8 +21,8 @@ use Rattle.log_reader.specs.Steps.{step, stepped, opened, stamped, naming, group
 use Rattle.log_reader.specs.Symbols.{Symbol, AtSign, Opening, Closing, Separator, Terminator, Says, Written, Bare, Quoted, symbol, content, written}
 use Rattle.log_reader.specs.ValuesRead.{timestamp_of, value_at}
 use Rattle.log_reader.proofs.Judging.{bare_content}
-use Rattle.log_reader.proofs.StepStages.{step_goes}
-use Rattle.log_reader.proofs.Transitions.{Transition, begins_first, begins_bare, begins_full, stamps, names_first, names_more, opens_first, opens_more, gives_first, gives_more, separates, closes_empty, closes, ends_bare, ends_full, transition}
+use Rattle.log_reader.proofs.StepStages.{OnDone, done, failed, step_goes}
+use Rattle.log_reader.proofs.Transitions.{Transition, begins_first, begins_bare, begins_full, times, names_first, names_more, opens_first, opens_more, gives_first, gives_more, separates, closes_empty, closes, ends_bare, ends_full, transition}
 
 -- ---- what a stage says of what stands before
 
@@ -58,17 +58,6 @@ nothing_stands sig = record {
 }
 
 -- ---- steps
-
--- what holds of a step's result, if it doesn't fail
-abbrev pub OnDone : (Partial → Type 0) → Result Partial LogFault → Type 0
-OnDone Q r = (q : Partial) → r ≡ Ok q → Q q
-
-module _ (Q : Partial → Type 0) where
-  pub done : (x : Partial) → Q x → OnDone Q (Ok x)
-  done x h q e = let same : x ≡ q = cc in subst Q same h
-
-  pub failed : (fault : LogFault) → OnDone Q (Err fault)
-  failed fault q e = absurd cc
 
 module _ (sig : List PredOf) (limits : Limits) (p : Partial) (t : Lexeme) (older : List Symbol) where
   abbrev Leads : Stage → Symbol → Partial → Type 0
@@ -218,7 +207,7 @@ module _ (sig : List PredOf) (limits : Limits) (p : Partial) (t : Lexeme) (older
   step_stands _ _ _ begins_first e st = at_stands Between refl st
   step_stands _ _ _ begins_bare e st = at_stands AfterStamp refl st
   step_stands _ _ _ begins_full e st = at_stands AfterClose refl st
-  step_stands _ _ _ (stamps word digits) e st =
+  step_stands _ _ _ (times word digits) e st =
       stamp_stands word (timestamp_of (content t)) (ap timestamp_of (sym (says word e))) st
   step_stands _ _ _ (names_first word) e st =
       name_stands word (named (content t) sig) AfterStamp (ap (λ w. named w sig) (sym (says word e))) refl refl st
@@ -252,7 +241,7 @@ pub role_is : (sig : List PredOf) (p : Partial) (older : List Symbol) (s : Stage
 role_is sig p older _ _ _ begins_first st = refl
 role_is sig p older _ _ _ begins_bare st = refl
 role_is sig p older _ _ _ begins_full st = refl
-role_is sig p older _ _ _ (stamps word digits) st = rw st.behind refl
+role_is sig p older _ _ _ (times word digits) st = rw st.behind refl
 role_is sig p older _ _ _ (names_first word) st = rw (st.behind, st.inside) refl
 role_is sig p older _ _ _ (names_more word) st = rw (st.behind, st.inside) refl
 role_is sig p older _ _ _ opens_first st = refl

@@ -7,6 +7,7 @@ use Rattle.log_reader.specs.declared.stage.Stage.{Stage}
 use Rattle.log_reader.specs.declared.stage.Stage.TheVariants.{Between, AfterAt, AfterStamp, AfterName, AfterOpen, AfterValue, AfterComma, AfterClose}
 use Rattle.log_reader.specs.Grammar.{Mention, PointText, spell_more, spell_values, spell_group, spell_groups, spell_mentions, spell_end, spell_log, HasStamp, Spells, symbols_of, IsAccepted, IsViable}
 use Rattle.log_reader.specs.Stages.{goes}
+use Rattle.log_reader.proofs.Transitions.{Transition, begins_first, begins_bare, begins_full, times, names_first, names_more, opens_first, opens_more, gives_first, gives_more, separates, closes_empty, closes, ends_bare, ends_full, transition}
 use Rattle.log_reader.specs.Symbols.{Symbol, AtSign, Opening, Closing, Separator, Terminator, Says, Written, Bare, is_digits}
 
 -- the stage behind symbols, if the grammar goes on with each
@@ -71,68 +72,38 @@ with_mention name r = record r { groups = []; mentions = record { name = name; f
 to_stage : (g h : Stage) → Some g ≡ Some h → g ≡ h
 to_stage g h e = cc
 
-at_stage : (g h : Stage) (xs : List Symbol) → Some g ≡ Some h → Tail h xs → Tail g xs
-at_stage g h xs e t = subst (λ (k : Stage). Tail k xs) (sym (to_stage g h e)) t
-
-stamp_before : (b : Bool) (g : Stage) (word : List ℕ) (xs : List Symbol) → is_digits word ≡ b → cond b (Some AfterStamp) None ≡ Some g → Tail g xs → Tail AfterAt (Says (Bare word) ∷ xs)
-stamp_before true g word xs is e t =
-    let u = at_stage AfterStamp g xs e t in
-    prepend AfterAt AfterStamp (Says (Bare word)) xs (record u.parts { stamp = word }) u refl u.stamps (λ f. is)
-stamp_before false g word xs is e t = absurd cc
-
 -- one symbol more, by where it leads
-before : (s g : Stage) (x : Symbol) (xs : List Symbol) → goes s x ≡ Some g → Tail g xs → Tail s (x ∷ xs)
-before Between g AtSign xs e t =
-    let u = at_stage AfterAt g xs e t in
+before : (s : Stage) (x : Symbol) (g : Stage) (xs : List Symbol) → Transition s x g → Tail g xs → Tail s (x ∷ xs)
+before _ _ _ xs begins_first u =
     prepend Between AfterAt AtSign xs (with_point u.parts) u refl (u.digits refl, u.stamps) (λ f. absurd cc)
-before Between g _ xs e t = absurd cc
-before AfterAt g (Says (Bare word)) xs e t = stamp_before (is_digits word) g word xs refl e t
-before AfterAt g _ xs e t = absurd cc
-before AfterStamp g AtSign xs e t =
-    let u = at_stage AfterAt g xs e t in
+before _ _ _ xs begins_bare u =
     prepend AfterStamp AfterAt AtSign xs (with_point u.parts) u refl (u.digits refl, u.stamps) (λ f. absurd cc)
-before AfterStamp g Terminator xs e t =
-    let u = at_stage Between g xs e t in
-    prepend AfterStamp Between Terminator xs (record nothing { is_closed = true; log = u.parts.log }) u refl u.stamps (λ f. absurd cc)
-before AfterStamp g (Says (Bare word)) xs e t =
-    let u = at_stage AfterName g xs e t in
-    prepend AfterStamp AfterName (Says (Bare word)) xs (with_mention word u.parts) u refl u.stamps (λ f. absurd cc)
-before AfterStamp g _ xs e t = absurd cc
-before AfterName g Opening xs e t =
-    let u = at_stage AfterOpen g xs e t in
-    prepend AfterName AfterOpen Opening xs (record u.parts { group = u.parts.values }) u refl u.stamps (λ f. absurd cc)
-before AfterName g _ xs e t = absurd cc
-before AfterOpen g (Says v) xs e t =
-    let u = at_stage AfterValue g xs e t in
-    prepend AfterOpen AfterValue (Says v) xs (record u.parts { values = v ∷ u.parts.values }) u refl u.stamps (λ f. absurd cc)
-before AfterOpen g Closing xs e t =
-    let u = at_stage AfterClose g xs e t in
-    prepend AfterOpen AfterClose Closing xs (record u.parts { values = [] }) u refl u.stamps (λ f. absurd cc)
-before AfterOpen g _ xs e t = absurd cc
-before AfterValue g Separator xs e t =
-    let u = at_stage AfterComma g xs e t in
-    prepend AfterValue AfterComma Separator xs (record u.parts { values = u.parts.value ∷ u.parts.values }) u refl u.stamps (λ f. absurd cc)
-before AfterValue g Closing xs e t =
-    let u = at_stage AfterClose g xs e t in
-    prepend AfterValue AfterClose Closing xs (record u.parts { values = [] }) u refl u.stamps (λ f. absurd cc)
-before AfterValue g _ xs e t = absurd cc
-before AfterComma g (Says v) xs e t =
-    let u = at_stage AfterValue g xs e t in
-    prepend AfterComma AfterValue (Says v) xs (record u.parts { value = v }) u refl u.stamps (λ f. absurd cc)
-before AfterComma g _ xs e t = absurd cc
-before AfterClose g Opening xs e t =
-    let u = at_stage AfterOpen g xs e t in
-    prepend AfterClose AfterOpen Opening xs (record u.parts { groups = u.parts.values ∷ u.parts.groups }) u refl u.stamps (λ f. absurd cc)
-before AfterClose g AtSign xs e t =
-    let u = at_stage AfterAt g xs e t in
+before _ _ _ xs begins_full u =
     prepend AfterClose AfterAt AtSign xs (with_point u.parts) u refl (u.digits refl, u.stamps) (λ f. absurd cc)
-before AfterClose g Terminator xs e t =
-    let u = at_stage Between g xs e t in
-    prepend AfterClose Between Terminator xs (record nothing { is_closed = true; log = u.parts.log }) u refl u.stamps (λ f. absurd cc)
-before AfterClose g (Says (Bare word)) xs e t =
-    let u = at_stage AfterName g xs e t in
+before _ _ _ xs (times word digits) u =
+    prepend AfterAt AfterStamp (Says (Bare word)) xs (record u.parts { stamp = word }) u refl u.stamps (λ f. digits)
+before _ _ _ xs (names_first word) u =
+    prepend AfterStamp AfterName (Says (Bare word)) xs (with_mention word u.parts) u refl u.stamps (λ f. absurd cc)
+before _ _ _ xs (names_more word) u =
     prepend AfterClose AfterName (Says (Bare word)) xs (with_mention word u.parts) u refl u.stamps (λ f. absurd cc)
-before AfterClose g _ xs e t = absurd cc
+before _ _ _ xs opens_first u =
+    prepend AfterName AfterOpen Opening xs (record u.parts { group = u.parts.values }) u refl u.stamps (λ f. absurd cc)
+before _ _ _ xs opens_more u =
+    prepend AfterClose AfterOpen Opening xs (record u.parts { groups = u.parts.values ∷ u.parts.groups }) u refl u.stamps (λ f. absurd cc)
+before _ _ _ xs (gives_first w) u =
+    prepend AfterOpen AfterValue (Says w) xs (record u.parts { values = w ∷ u.parts.values }) u refl u.stamps (λ f. absurd cc)
+before _ _ _ xs (gives_more w) u =
+    prepend AfterComma AfterValue (Says w) xs (record u.parts { value = w }) u refl u.stamps (λ f. absurd cc)
+before _ _ _ xs separates u =
+    prepend AfterValue AfterComma Separator xs (record u.parts { values = u.parts.value ∷ u.parts.values }) u refl u.stamps (λ f. absurd cc)
+before _ _ _ xs closes_empty u =
+    prepend AfterOpen AfterClose Closing xs (record u.parts { values = [] }) u refl u.stamps (λ f. absurd cc)
+before _ _ _ xs closes u =
+    prepend AfterValue AfterClose Closing xs (record u.parts { values = [] }) u refl u.stamps (λ f. absurd cc)
+before _ _ _ xs ends_bare u =
+    prepend AfterStamp Between Terminator xs (record nothing { is_closed = true; log = u.parts.log }) u refl u.stamps (λ f. absurd cc)
+before _ _ _ xs ends_full u =
+    prepend AfterClose Between Terminator xs (record nothing { is_closed = true; log = u.parts.log }) u refl u.stamps (λ f. absurd cc)
 
 ends : (s : Stage) → accepts s ≡ true → Tail s []
 ends Between a = record { parts = nothing; spelled = refl; stamps = tt; digits = λ f. absurd cc }
@@ -153,7 +124,7 @@ pub tail : (s : Stage) (xs : List Symbol) (f : Stage) → paths s xs ≡ Some f 
 tail s [] f e a = no_more s f e a
 tail s (x ∷ xs) f e a =
     let first = first_step (goes s x) f (λ g. paths g xs) e in
-    before s first.0 x xs first.1 (tail first.0 xs f first.2 a)
+    before s x first.0 xs (transition s x first.0 first.1) (tail first.0 xs f first.2 a)
 
 -- ---- the symbols of a log are accepted
 

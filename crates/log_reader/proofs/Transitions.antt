@@ -9,7 +9,7 @@ pub data Transition : Stage → Symbol → Stage → Type 0 where
   begins_first : Transition Between AtSign AfterAt
   begins_bare : Transition AfterStamp AtSign AfterAt
   begins_full : Transition AfterClose AtSign AfterAt
-  stamps : (word : List ℕ) → is_digits word ≡ true → Transition AfterAt (Says (Bare word)) AfterStamp
+  times : (word : List ℕ) → is_digits word ≡ true → Transition AfterAt (Says (Bare word)) AfterStamp
   names_first : (word : List ℕ) → Transition AfterStamp (Says (Bare word)) AfterName
   names_more : (word : List ℕ) → Transition AfterClose (Says (Bare word)) AfterName
   opens_first : Transition AfterName Opening AfterOpen
@@ -27,7 +27,7 @@ to {s} {x} g h e t = let same : g ≡ h = cc in subst (λ (k : Stage). Transitio
 
 stamp_to : (b : Bool) (word : List ℕ) (g : Stage) → is_digits word ≡ b → cond b (Some AfterStamp) None ≡ Some g
     → Transition AfterAt (Says (Bare word)) g
-stamp_to true word g digits e = to AfterStamp g e (stamps word digits)
+stamp_to true word g digits e = to AfterStamp g e (times word digits)
 stamp_to false word g digits e = absurd cc
 
 -- each way that the automaton goes is one of these
