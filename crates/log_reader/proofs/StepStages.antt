@@ -1,5 +1,6 @@
 -- A step leads to the stage that the grammar leads to, and counts the time-points.
-use Rattle.std.proofs.Common.{◌≡◌, ℕ, ◌+◌, Bool, true, false, cond, List, [], ◌∷◌, ◌++◌, Option, Some, None, Result, Ok, Err, refl, sym, ap, subst, ◌∙◌, arith, nat_lt}
+use Rattle.std.proofs.Common.{◌≡◌, ℕ, ◌+◌, false, List, [], ◌∷◌, ◌++◌, Option, Some, None, Result}
+use Rattle.std.proofs.Common.{Ok, Err, refl, sym, ap, subst, ◌∙◌, arith, nat_lt}
 use Rattle.std.proofs.lemmas.Bool.{cond_both}
 use Rattle.mfotl_lex.specs.Lexemes.{Lexeme}
 use Rattle.mfotl_model.specs.declared.policy.Sort.{Sort}
@@ -8,14 +9,18 @@ use Rattle.mfotl_sig.specs.Preds.{PredOf, named}
 use Rattle.log_reader.specs.declared.fault.LogFault.{LogFault}
 use Rattle.log_reader.specs.declared.limits.Limits.{Limits}
 use Rattle.log_reader.specs.declared.stage.Stage.{Stage}
-use Rattle.log_reader.specs.declared.stage.Stage.TheVariants.{Between, AfterAt, AfterStamp, AfterName, AfterOpen, AfterValue, AfterComma, AfterClose}
+use Rattle.log_reader.specs.declared.stage.Stage.TheVariants.{Between, AfterAt, AfterStamp, AfterName, AfterOpen}
+use Rattle.log_reader.specs.declared.stage.Stage.TheVariants.{AfterValue, AfterComma, AfterClose}
 use Rattle.log_reader.specs.Cursors.{open_count, given_of, IsCounted}
 use Rattle.log_reader.specs.Partials.{Partial}
 use Rattle.log_reader.specs.Stages.{goes, completes}
 use Rattle.log_reader.specs.Steps.{step, stepped, stamped, naming, valued, closed}
-use Rattle.log_reader.proofs.Transitions.{Transition, begins_first, begins_bare, begins_full, times, names_first, names_more, opens_first, opens_more, gives_first, gives_more, separates, closes_empty, closes, ends_bare, ends_full, transition}
+use Rattle.log_reader.proofs.Transitions.{Transition, begins_first, begins_bare, begins_full, times, names_first}
+use Rattle.log_reader.proofs.Transitions.{names_more, opens_first, opens_more, gives_first, gives_more, separates}
+use Rattle.log_reader.proofs.Transitions.{closes_empty, closes, ends_bare, ends_full, transition}
 use Rattle.log_reader.specs.ValuesRead.{timestamp_of}
-use Rattle.log_reader.specs.Symbols.{Symbol, AtSign, Opening, Closing, Separator, Says, Written, Bare, is_digits, symbol, content, written}
+use Rattle.log_reader.specs.Symbols.{Symbol, Written}
+use Rattle.log_reader.specs.Symbols.{symbol, content, written}
 use Rattle.mfotl_lex.specs.FirstFault.{◌>>=◌}
 use Rattle.log_reader.specs.ValuesRead.{value_at}
 
@@ -46,7 +51,8 @@ valued_reaches : (at : ℕ) (w : Written) (p : Partial) (due : List Sort) → Re
 valued_reaches at w p [] = failed (Reached AfterValue p) _
 valued_reaches at w p (sort ∷ due) = value_reaches p due (value_at sort at w)
   where
-    value_reaches : (p : Partial) (due : List Sort) (r : Result Value LogFault) → Reaches AfterValue p (r >>= λ v. Ok (record p { stage = AfterValue; due = due; args = p.args ++ v ∷ [] }))
+    value_reaches : (p : Partial) (due : List Sort) (r : Result Value LogFault)
+        → Reaches AfterValue p (r >>= λ v. Ok (record p { stage = AfterValue; due = due; args = p.args ++ v ∷ [] }))
     value_reaches p due (Ok v) = done (Reached AfterValue p) _ (record { stage = refl; points = omega arith })
     value_reaches p due (Err fault) = failed (Reached AfterValue p) fault
 
@@ -60,18 +66,24 @@ naming_reaches at p None = failed (Reached AfterName p) _
 
 stamped_reaches : (at : ℕ) (p : Partial) (time : Option ℕ) → Reaches AfterStamp p (stamped at p time)
 stamped_reaches at p (Some time) =
-    cond_both (nat_lt time p.time) _ _ (Reaches AfterStamp p) (λ _. failed (Reached AfterStamp p) _) (λ _. done (Reached AfterStamp p) _ (record { stage = refl; points = omega arith }))
+    cond_both (nat_lt time p.time) _ _ (Reaches AfterStamp p) (λ _. failed (Reached AfterStamp p) _)
+    (λ _. done (Reached AfterStamp p) _ (record { stage = refl; points = omega arith }))
 stamped_reaches at p None = failed (Reached AfterStamp p) _
 
-pub stepped_reaches : (sig : List PredOf) (limits : Limits) (p : Partial) (t : Lexeme) (g : Stage) → Reaches g p (stepped sig limits p t (Some g))
+pub stepped_reaches : (sig : List PredOf) (limits : Limits) (p : Partial) (t : Lexeme) (g : Stage)
+    → Reaches g p (stepped sig limits p t (Some g))
 stepped_reaches sig limits p t AfterAt =
-    cond_both (nat_lt p.points limits.points) _ _ (Reaches AfterAt p) (λ _. done (Reached AfterAt p) _ (record { stage = refl; points = refl })) (λ _. failed (Reached AfterAt p) _)
+    cond_both (nat_lt p.points limits.points) _ _ (Reaches AfterAt p)
+    (λ _. done (Reached AfterAt p) _ (record { stage = refl; points = refl })) (λ _. failed (Reached AfterAt p) _)
 stepped_reaches sig limits p t AfterStamp = stamped_reaches t.at p (timestamp_of (content t))
 stepped_reaches sig limits p t AfterName = naming_reaches t.at p (named (content t) sig)
 stepped_reaches sig limits p t AfterOpen =
-    cond_both (nat_lt p.groups limits.events) _ _ (Reaches AfterOpen p) (λ _. done (Reached AfterOpen p) _ (record { stage = refl; points = omega arith })) (λ _. failed (Reached AfterOpen p) _)
+    cond_both (nat_lt p.groups limits.events) _ _ (Reaches AfterOpen p)
+    (λ _. done (Reached AfterOpen p) _ (record { stage = refl; points = omega arith }))
+    (λ _. failed (Reached AfterOpen p) _)
 stepped_reaches sig limits p t AfterValue = valued_reaches t.at (written t) p p.due
-stepped_reaches sig limits p t AfterComma = done (Reached AfterComma p) _ (record { stage = refl; points = omega arith })
+stepped_reaches sig limits p t AfterComma =
+    done (Reached AfterComma p) _ (record { stage = refl; points = omega arith })
 stepped_reaches sig limits p t AfterClose = closed_reaches t.at p p.due
 stepped_reaches sig limits p t Between = done (Reached Between p) _ (record { stage = refl; points = omega arith })
 
@@ -85,7 +97,8 @@ none_at AfterAt h = absurd (h refl)
 none_at _ h = refl
 
 -- a way that completes nothing opens a time-point just where an `@` stands
-opens : (s : Stage) (x : Symbol) (g : Stage) → Transition s x g → completes s x ≡ false → open_count g ≡ open_count s + one_if_at g
+opens : (s : Stage) (x : Symbol) (g : Stage) → Transition s x g → completes s x ≡ false
+    → open_count g ≡ open_count s + one_if_at g
 opens _ _ _ begins_first h = refl
 opens _ _ _ begins_bare h = absurd cc
 opens _ _ _ begins_full h = absurd cc
@@ -102,19 +115,23 @@ opens _ _ _ closes h = refl
 opens _ _ _ ends_bare h = absurd cc
 opens _ _ _ ends_full h = absurd cc
 
-counts_by : (p q : Partial) (g : Stage) → open_count g ≡ open_count p.stage + one_if_at g → IsCounted p → Reached g p q → Counts p q
+counts_by : (p q : Partial) (g : Stage) → open_count g ≡ open_count p.stage + one_if_at g → IsCounted p
+    → Reached g p q → Counts p q
 counts_by p q g opened c r =
     let now : open_count q.stage ≡ open_count p.stage + one_if_at g = ap open_count r.stage ∙ opened in
     record { counted = omega (arith, now, r.points, c); given = omega (arith, now, r.points, c) }
 
-pub step_counts : (sig : List PredOf) (limits : Limits) (p q : Partial) (t : Lexeme) → IsCounted p → completes p.stage (symbol t) ≡ false → step sig limits p t ≡ Ok q → Counts p q
+pub step_counts : (sig : List PredOf) (limits : Limits) (p q : Partial) (t : Lexeme) → IsCounted p
+    → completes p.stage (symbol t) ≡ false → step sig limits p t ≡ Ok q → Counts p q
 unfolding step
 step_counts sig limits p q t c h e =
     by_stage (goes p.stage (symbol t)) refl e
   where
-    by_stage : (found : Option Stage) → goes p.stage (symbol t) ≡ found → stepped sig limits p t found ≡ Ok q → Counts p q
+    by_stage : (found : Option Stage) → goes p.stage (symbol t) ≡ found → stepped sig limits p t found ≡ Ok q
+        → Counts p q
     by_stage None f e = absurd cc
-    by_stage (Some g) f e = counts_by p q g (opens p.stage (symbol t) g (transition p.stage (symbol t) g f) h) c (stepped_reaches sig limits p t g q e)
+    by_stage (Some g) f e = counts_by p q g (opens p.stage (symbol t) g (transition p.stage (symbol t) g f) h) c
+        (stepped_reaches sig limits p t g q e)
 
 -- a step without a fault follows the grammar
 pub step_goes : (sig : List PredOf) (limits : Limits) (p q : Partial) (t : Lexeme) → step sig limits p t ≡ Ok q
