@@ -15,6 +15,7 @@ pub record Kept : Type 0 where
   pub at : ℕ
   pub partial : Partial
 
+-- what a reader is to its callers, and what it keeps
 pub record Reader : Type 0 where
   pub sig : List PredOf
   pub limits : Limits

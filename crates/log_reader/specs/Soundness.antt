@@ -19,6 +19,7 @@ pub record Remains (sig : List PredOf) (limits : Limits) (bytes : List ℕ) (end
       ≡ run_from sig limits (nothing_left limits bytes ended) p (place_at limits bytes ended at)
   pub few : given ≤ length (reading sig limits bytes ended).points
 
+-- the offset is within the bytes, and what remains is the rest of the reading, whatever is told later
 pub record IsSound (sig : List PredOf) (limits : Limits) (bytes : List ℕ) (is_ended : Bool)
     (at : ℕ) (p : Partial) : Type 0 where
   pub within : at ≤ length (take limits.bytes bytes)

@@ -147,13 +147,9 @@ impl<'a> LogReader<'a> {
         ensures few { OnOk result (self.new.given ≤ self.new.limits.points) }
         ensures given { self.old.given ≤ length (read (told self.old)).points }
     {
-        let answer = self.cursor.read(
-            alloc,
-            &self.bytes,
-            self.is_ended,
-            self.sig,
-            &self.limits,
-        );
+        let answer = self
+            .cursor
+            .read(alloc, &self.bytes, self.is_ended, self.sig, &self.limits);
         self.is_broken = is_wanting(&answer);
         answer
     }

@@ -6,7 +6,8 @@ use Rattle.log_reader.proofs.reader.LogReader.new.Goals as goal
 pub invariant_of-result : goal.invariant_of-result
 invariant_of-result c = record {
   unfed = λ _. c.new.ensures.items;
-  sound = λ _. sound_start c.args.sig.now c.args.limits c.new.result.items _ _ c.new-2.ensures.at c.new-2.ensures.partial;
+  sound = λ _.
+      sound_start c.args.sig.now c.args.limits c.new.result.items _ _ c.new-2.ensures.at c.new-2.ensures.partial;
 }
 
 pub returns : goal.returns
