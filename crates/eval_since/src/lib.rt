@@ -1,0 +1,11 @@
+//! PREVIOUS and SINCE over the tables of their operands, which are pushed position by position.
+#![tactic(auto)]
+
+mod group;
+mod groups;
+pub mod laws;
+mod since;
+mod times;
+mod window;
+
+pub use since::SinceState;
