@@ -1,3 +1,5 @@
+pub mod BufferLemmas
+pub mod PreviousLemmas
 pub mod SinceLemmas
 pub mod TimesLemmas
 pub mod GroupLemmas

@@ -1,10 +1,9 @@
 -- The recursive law of SINCE.
-use Rattle.std.proofs.Common.{◌≡◌, ℕ, zero, suc, ◌+◌, ◌-◌, ◌<◌, ◌≤◌, Bool, true, false, ◌&&◌, ◌||◌, List, [], ◌∷◌, ◌++◌, refl, sym, ap, ap₂, ◌∙◌, arith}
+use Rattle.std.proofs.Common.{◌≡◌, ℕ, ◌+◌, ◌-◌, ◌<◌, Bool, true, false, ◌&&◌, ◌||◌, List, [], ◌∷◌, refl, sym, ap, ap₂, ◌∙◌, arith}
 use Rattle.std.proofs.lemmas.List.Folds.{list_any-append, list_all-append}
 use Rattle.std.specs.List.{list_any, list_all, range_with_len}
 use Rattle.mfotl_model.specs.Intervals.{in_interval}
 use Rattle.mfotl_model.specs.Satisfaction.{time_at, truth_at, since}
-use Rattle.mfotl_model.specs.declared.interval.Interval.{Interval}
 use Rattle.mfotl_model.proofs.LogicLemmas.{any_same, all_same, range_suc}
 use Rattle.eval_since.specs.SinceBefore.{since_before}
 use Rattle.eval_since.specs.SinceLaws.{BeginsFalse, GoesOn, SinceIs, DecidedBelow}
@@ -52,7 +51,8 @@ all_more a j p low =
     ∙ ap (λ r. list_all (truth_at a) (range_with_len (j + 1) (p - (j + 1))) && r) (and_true (truth_at a p))
 
 all_none : (a : List Bool) (p : ℕ) → list_all (truth_at a) (range_with_len (p + 1) (p + 1 - (p + 1))) ≡ true
-all_none a p = let none : p + 1 - (p + 1) ≡ 0 = omega arith in ap (λ n. list_all (truth_at a) (range_with_len (p + 1) n)) none
+all_none a p = let none : p + 1 - (p + 1) ≡ 0 = omega arith in ap
+    (λ n. list_all (truth_at a) (range_with_len (p + 1) n)) none
 
 pub goes_on : GoesOn
 unfolding since_before
@@ -65,7 +65,8 @@ goes_on interval times a b p x =
     ∙ list_any-append new (range_with_len 0 p) ((0 + p) ∷ [])
     ∙ ap₂ (λ c d. c || d)
     (any_same new (λ j. old j && truth_at a p) 0 p
-    (λ j low high. ap (λ r. at j && r) (all_more a j p (omega arith)) ∙ sym (and_grouped (at j) (list_all (truth_at a) (range_with_len (j + 1) (p - (j + 1)))) (truth_at a p)))
+    (λ j low high. ap (λ r. at j && r) (all_more a j p (omega arith))
+    ∙ sym (and_grouped (at j) (list_all (truth_at a) (range_with_len (j + 1) (p - (j + 1)))) (truth_at a p)))
     ∙ any_and_out old (truth_at a p) (range_with_len 0 p))
     (ap (λ k. new k || false) last ∙ or_false (new p) ∙ ap (λ r. at p && r) (all_none a p) ∙ and_true (at p))
 
@@ -73,17 +74,22 @@ pub since_is : SinceIs
 unfolding since since_before
 since_is interval times a b i =
     any_same
-    (λ j. in_interval interval (time_at times i - time_at times j) && truth_at b j && list_all (truth_at a) (range_with_len (j + 1) (i - j)))
-    (λ j. in_interval interval (time_at times i - time_at times j) && truth_at b j && list_all (truth_at a) (range_with_len (j + 1) (i + 1 - (j + 1))))
+    (λ j. in_interval interval (time_at times i - time_at times j) && truth_at b j
+    && list_all (truth_at a) (range_with_len (j + 1) (i - j)))
+    (λ j. in_interval interval (time_at times i - time_at times j) && truth_at b j
+    && list_all (truth_at a) (range_with_len (j + 1) (i + 1 - (j + 1))))
     0 (i + 1)
-    (λ j low high. ap (λ n. in_interval interval (time_at times i - time_at times j) && truth_at b j && list_all (truth_at a) (range_with_len (j + 1) n)) (let same : i - j ≡ i + 1 - (j + 1) = omega arith in same))
+    (λ j low high. ap (λ n. in_interval interval (time_at times i - time_at times j) && truth_at b j
+    && list_all (truth_at a) (range_with_len (j + 1) n)) (let same : i - j ≡ i + 1 - (j + 1) = omega arith in same))
 
 pub decided_below : DecidedBelow
 unfolding since_before
 decided_below interval t u a b c d p x times left right =
     any_same
-    (λ j. in_interval interval (x - time_at t j) && truth_at b j && list_all (truth_at a) (range_with_len (j + 1) (p - (j + 1))))
-    (λ j. in_interval interval (x - time_at u j) && truth_at d j && list_all (truth_at c) (range_with_len (j + 1) (p - (j + 1))))
+    (λ j. in_interval interval (x - time_at t j) && truth_at b j
+    && list_all (truth_at a) (range_with_len (j + 1) (p - (j + 1))))
+    (λ j. in_interval interval (x - time_at u j) && truth_at d j
+    && list_all (truth_at c) (range_with_len (j + 1) (p - (j + 1))))
     0 p
     (λ j low high. ap₂ (λ e f. e && f)
     (ap₂ (λ e f. e && f) (ap (λ n. in_interval interval (x - n)) (times j (omega arith))) (right j (omega arith)))

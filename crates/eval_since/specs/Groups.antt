@@ -1,7 +1,6 @@
 -- Rows with the times kept for them, in groups by the part that the left operand speaks of.
-use Rattle.std.specs.Prelude.{◌≡◌, ℕ, Bool, true, ◌&&◌, List, []}
+use Rattle.std.specs.Prelude.{ℕ, Bool, ◌&&◌, List, []}
 use Rattle.std.specs.BTreeMap.{is_at}
-use Rattle.std.specs.List.{list_any}
 use Rattle.std.specs.Map.{lookup}
 use Rattle.std.specs.Option.{unwrap_or}
 use Rattle.std.specs.Ordering.{eq_by_cmp}

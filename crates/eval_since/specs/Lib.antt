@@ -1,3 +1,5 @@
+pub mod Buffers
+pub mod PreviousView
 pub mod LeftOperand
 pub mod SinceBefore
 pub mod SinceLaws

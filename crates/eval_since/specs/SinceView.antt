@@ -6,6 +6,7 @@ use Rattle.mfotl_model.specs.declared.value.Value.{Value}
 use Rattle.eval_since.specs.WindowView.{WindowOf, within}
 use Rattle.eval_since.specs.SinceBefore.{since_before}
 use Rattle.mfotl_model.specs.Tables.{TableOf, has_row, part}
+use Rattle.eval_since.specs.Buffers.{StandFrom}
 use Rattle.eval_since.specs.LeftOperand.{left_holds}
 
 -- the window after the positions pulled, whether the left operand is negated, how many were pulled, the
@@ -19,29 +20,21 @@ pub record SinceOf : Type 0 where
   pub lefts : List TableOf
   pub rights : List TableOf
 
--- each of the items stands for its position, the first for p
-abbrev pub StandFrom : {X : Type 0} → (ℕ → X → Type 0) → ℕ → List X → Type 0
-StandFrom P p [] = Unit {0}
-StandFrom P p (x ∷ xs) = P p x × StandFrom P (p + 1) xs
-
 -- the state is right for the row u over the right operand's columns where the timestamps are t, and the
 -- operands hold of u and of its left part at the positions that a and b list (the left one turned round
 -- where it is negated)
 pub record FollowsRow (s : SinceOf) (t : List ℕ) (a b : List Bool) (u : List Value) : Type 0 where
   pub last : 0 < s.pulled → s.window.last ≡ time_at t (s.pulled - 1)
   pub times : StandFrom (λ i x. x ≡ time_at t i) s.pulled s.times
-  pub lefts : StandFrom (λ i table. left_holds s.negated table.rows (part s.window.right s.window.left u) ≡ truth_at a i) s.pulled s.lefts
+  pub lefts : StandFrom (λ i table. left_holds s.negated table.rows (part s.window.right s.window.left u)
+      ≡ truth_at a i) s.pulled s.lefts
   pub rights : StandFrom (λ i table. has_row table.rows u ≡ truth_at b i) s.pulled s.rights
-  pub window : (x : ℕ) → (0 < s.pulled → s.window.last ≤ x) → within s.window x u ≡ since_before s.window.interval t a b s.pulled x
+  pub window : (x : ℕ) → (0 < s.pulled → s.window.last ≤ x)
+      → within s.window x u ≡ since_before s.window.interval t a b s.pulled x
 
 -- the state is right for a valuation: for the row that it gives to the right operand's columns
 abbrev pub Follows : SinceOf → List ℕ → List Bool → List Bool → Valuation → Type 0
 Follows s t a b v = FollowsRow s t a b (map v s.window.right)
-
--- each of the tables is over these columns
-abbrev pub AreOver : List ℕ → List TableOf → Type 0
-AreOver columns [] = Unit {0}
-AreOver columns (x ∷ xs) = (x.columns ≡ columns) × AreOver columns xs
 
 -- whether the next position's time and tables were pushed
 abbrev pub due : SinceOf → Bool

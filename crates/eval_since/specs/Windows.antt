@@ -15,7 +15,8 @@ Sized n groups = (q v : List Value) → nat_eq (length v) n ≡ false → times_
 
 -- each row stands in the group of its own part
 abbrev pub Placed : List ℕ → List ℕ → List (List Value × List (List Value × List ℕ)) → Type 0
-Placed right left groups = (q v : List Value) → is_at (row_cmp (part right left v)) q ≡ false → times_at groups q v ≡ []
+Placed right left groups = (q v : List Value) → is_at (row_cmp (part right left v)) q ≡ false
+    → times_at groups q v ≡ []
 
 -- no kept time is after x
 abbrev pub Past : ℕ → List (List Value × List (List Value × List ℕ)) → Type 0
@@ -56,7 +57,8 @@ Finds None x groups queue = Unit {0}
 Finds (Some hi) x groups queue = Covered queue groups × Rising queue × NotAfter x queue × Fresh hi x queue
 
 -- what holds of the rows and the queue kept up to the time x
-pub record Keeps (hi : Option ℕ) (right left : List ℕ) (x : ℕ) (groups : List (List Value × List (List Value × List ℕ))) (queue : List Dated) : Type 0 where
+pub record Keeps (hi : Option ℕ) (right left : List ℕ) (x : ℕ)
+    (groups : List (List Value × List (List Value × List ℕ))) (queue : List Dated) : Type 0 where
   pub apart : all_apart right ≡ true
   pub sized : Sized (length right) groups
   pub placed : Placed right left groups

@@ -84,13 +84,25 @@ impl Group {
     }
 
     /// Appends the rows whose times reach.
-    pub fn push_reaching(&self, alloc: Global, out: &mut Vec<Row>, interval: &Interval, x: u64) -> Result<(), AllocError>
+    pub fn push_reaching(
+        &self,
+        alloc: Global,
+        out: &mut Vec<Row>,
+        interval: &Interval,
+        x: u64,
+    ) -> Result<(), AllocError>
         ensures { OnOk result ((u : List Value) → has_row out.new.items u ≡ (has_row out.old.items u || reaches interval.now (times_in self.now u) x)) }
     {
         self.push_hits(alloc, out, interval, x)
     }
 
-    fn push_hits(&self, alloc: Global, out: &mut Vec<Row>, interval: &Interval, x: u64) -> Result<(), AllocError>
+    fn push_hits(
+        &self,
+        alloc: Global,
+        out: &mut Vec<Row>,
+        interval: &Interval,
+        x: u64,
+    ) -> Result<(), AllocError>
         ensures rows { OnOk result ((u : List Value) → has_row out.new.items u ≡ (has_row out.old.items u || list_any (hit interval.now x u) self.now)) }
         ensures ascend { IsStrictlySortedBy row_cmp (keys_of self.now) }
     {

@@ -40,7 +40,14 @@ impl Groups {
     }
 
     /// The times of a row, with one more.
-    pub fn add(&mut self, alloc: Global, key: Row, row: Row, x: u64, bounded: bool) -> Result<(), AllocError>
+    pub fn add(
+        &mut self,
+        alloc: Global,
+        key: Row,
+        row: Row,
+        x: u64,
+        bounded: bool,
+    ) -> Result<(), AllocError>
         requires { ArePast x (times_at self.old key row) }
         ensures { OnOk result ((q v : List Value) → times_at self.new q v ≡ cond (is_at (row_cmp key) q && is_at (row_cmp row) v) (added bounded (times_at self.old q v) x) (times_at self.old q v)) }
     {
@@ -101,7 +108,13 @@ impl Groups {
     }
 
     /// Appends the rows whose times reach.
-    pub fn push_reaching(&self, alloc: Global, out: &mut Vec<Row>, interval: &Interval, x: u64) -> Result<(), AllocError>
+    pub fn push_reaching(
+        &self,
+        alloc: Global,
+        out: &mut Vec<Row>,
+        interval: &Interval,
+        x: u64,
+    ) -> Result<(), AllocError>
         ensures rows { OnOk result ((u : List Value) → has_row out.new.items u ≡ (has_row out.old.items u || list_any (λ e. reaches interval.now (times_in e.1 u) x) self.now)) }
         ensures ascend { IsStrictlySortedBy row_cmp (keys_of self.now) }
     {

@@ -1,4 +1,5 @@
 //! Laws of SINCE and PREVIOUS, each stated by the contract of a function that does nothing.
+ghost use Rattle.eval_since.specs.PreviousView.{PreviousDueIsSettled};
 ghost use Rattle.eval_since.specs.SinceLaws.{BeginsFalse, DecidedBelow, GoesOn, SinceIs};
 ghost use Rattle.eval_since.specs.SinceView.{DueIsSettled};
 
@@ -15,4 +16,11 @@ pub fn since_goes_on()
 /// tables were pushed.
 pub fn since_due_is_settled()
     ensures { DueIsSettled }
+{}
+
+/// A position of PREVIOUS is due exactly where it is settled, for an operand that is ready at the
+/// positions whose tables were pushed.
+#[tactic(auto, using(crate::proofs::PreviousLemmas::previous_due_settled))]
+pub fn previous_due_is_settled()
+    ensures { PreviousDueIsSettled }
 {}

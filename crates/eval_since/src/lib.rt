@@ -4,8 +4,10 @@
 mod group;
 mod groups;
 pub mod laws;
+mod previous;
 mod since;
 mod times;
 mod window;
 
+pub use previous::PrevState;
 pub use since::SinceState;

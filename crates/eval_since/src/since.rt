@@ -4,6 +4,7 @@ ghost use Rattle.mfotl_model.specs.Satisfaction.{Valuation, since, time_at, trut
 ghost use Rattle.mfotl_model.specs.Tables.{all_among, all_apart, has};
 ghost use Rattle.mfotl_model.specs.declared.value.Value.{Value};
 ghost use Rattle.eval_since.specs.LeftOperand.{left_holds, turned};
+ghost use Rattle.eval_since.specs.Windows.{Bounded, Past, Placed};
 ghost use Rattle.eval_since.specs.SinceView.{Advances, Climbs, Follows, SinceOf, due};
 
 use crate::window::Window;
@@ -29,7 +30,8 @@ pub struct SinceState {
 impl Model for SinceState {
     ghost use Rattle.std.specs.Prelude.{◌≡◌, ◌≤◌, ◌+◌, ◌^◌, length, true};
     ghost use Rattle.mfotl_model.specs.Tables.{all_among};
-    ghost use Rattle.eval_since.specs.SinceView.{AreOver, Climbs, SinceOf};
+    ghost use Rattle.eval_since.specs.Buffers.{AreOver};
+    ghost use Rattle.eval_since.specs.SinceView.{Climbs, SinceOf};
 
     ghost Value = { SinceOf };
 
@@ -74,7 +76,7 @@ impl SinceState {
         ensures follows { OnOk result ((t : List ℕ) (a b : List Bool) (v : Valuation) →
             Follows self.old t a b v →
             turned self.old.negated (has table v)
-                ≡ truth_at a (self.old.pulled + length self.old.lefts) →
+            ≡ truth_at a (self.old.pulled + length self.old.lefts) →
             Follows self.new t a b v) }
     {
         self.lefts.push_back(table)?;
@@ -171,6 +173,17 @@ impl SinceState {
         Ok(Some(self.table(alloc)?))
     }
 
+    /// Of each kept time: it lies no further back from the last position pulled than the interval's
+    /// greatest number, it isn't after that position's time, and it stands in its row's own group.
+    pub fn keeps_no_more(&self)
+        ensures bounded { IfSome self.now.window.interval.hi (λ hi.
+            Bounded hi self.now.window.last self.now.window.groups) }
+        ensures past { Past self.now.window.last self.now.window.groups }
+        ensures placed { Placed self.now.window.right self.now.window.left self.now.window.groups }
+    {
+        self.window.is_bounded();
+    }
+
     /// Whether the next position's table has a row over the right operand's columns, without making
     /// the table.
     pub fn holds(&self, alloc: Global, row: &Row) -> Result<bool, AllocError>
@@ -190,7 +203,7 @@ impl SinceState {
     }
 }
 
-#[tactic(auto, using(crate::proofs::FollowsLemmas::first_is))]
+#[tactic(auto, using(crate::proofs::BufferLemmas::first_is))]
 fn first<T>(queue: &VecDeque<T>) -> &T
     requires { 0 < length queue.now.items }
     ensures { queue.now.items ≡ result.now ∷ drop 1 queue.now.items }

@@ -58,7 +58,7 @@ fn add_rows(
     requires { Past now groups.old }
     ensures { OnOk result ((q v : List Value) → times_at groups.new q v
         ≡ cond (is_at (row_cmp (part right.now left.now v)) q && has_row rows.now v)
-            (added bounded (times_at groups.old q v) now) (times_at groups.old q v)) }
+        (added bounded (times_at groups.old q v) now) (times_at groups.old q v)) }
 {
     for row in rows {
         let key = part_of(alloc, right, left, row.values())?;
@@ -78,7 +78,7 @@ fn forget_rows(
 ) -> Result<(), AllocError>
     ensures { OnOk result ((q v : List Value) → times_at groups.new q v
         ≡ cond (is_at (row_cmp (part right.now left.now v)) q && has_row rows.now v)
-            (recent hi now (times_at groups.old q v)) (times_at groups.old q v)) }
+        (recent hi now (times_at groups.old q v)) (times_at groups.old q v)) }
 {
     for row in rows {
         groups.forget(&part_of(alloc, right, left, row.values())?, row, hi, now);
@@ -140,15 +140,14 @@ fn stepped(
     last: u64,
     now: u64,
 ) -> Result<Contents, AllocError>
-    requires kept {
-        Keeps interval.now.hi right.now left.now last contents.groups contents.dated.items }
+    requires kept { Keeps interval.now.hi right.now left.now last contents.groups contents.dated.items }
     requires sized { IsTrue (all_sized (length right.now) rights.items) }
     requires rises { last ≤ now }
     ensures within { IfOk result (λ next. (x : ℕ) (u : List Value) → now ≤ x →
         reaches interval.now (times_at next.groups (part right.now left.now u) u) x
         ≡ ((reaches interval.now (times_at contents.groups (part right.now left.now u) u) x
-            && left_holds negated lefts.now.rows (part right.now left.now u))
-            || (in_interval interval.now (x - now) && has_row rights.items u))) }
+        && left_holds negated lefts.now.rows (part right.now left.now u))
+        || (in_interval interval.now (x - now) && has_row rights.items u))) }
     ensures kept { IfOk result (λ next.
         Keeps interval.now.hi right.now left.now now next.groups next.dated.items) }
 {
@@ -158,7 +157,15 @@ fn stepped(
     } = contents;
     apply_left(alloc, &mut groups, negated, lefts)?;
     let rows = rights.as_slice();
-    add_rows(alloc, &mut groups, right, left, rows, now, interval.hi.is_some())?;
+    add_rows(
+        alloc,
+        &mut groups,
+        right,
+        left,
+        rows,
+        now,
+        interval.hi.is_some(),
+    )?;
     let Some(hi) = interval.hi else {
         return Ok(Contents { groups, dated });
     };
@@ -223,8 +230,8 @@ impl Window {
         requires columns { rights.columns ≡ self.old.right }
         ensures within { OnOk result ((x : ℕ) (u : List Value) → now ≤ x → within self.new x u
             ≡ ((within self.old x u
-                && left_holds negated lefts.now.rows (part self.old.right self.old.left u))
-                || (in_interval self.old.interval (x - now) && has_row rights.rows u))) }
+            && left_holds negated lefts.now.rows (part self.old.right self.old.left u))
+            || (in_interval self.old.interval (x - now) && has_row rights.rows u))) }
         ensures last { self.new.last ≡ (if is_ok result then now else self.old.last) }
         ensures interval { self.new.interval ≡ self.old.interval }
         ensures left { self.new.left ≡ self.old.left }
@@ -242,7 +249,16 @@ impl Window {
         let left = self.left.as_slice();
         let rows = rights.into_rows();
         self.contents = stepped(
-            alloc, contents, &self.interval, right, left, negated, lefts, rows, last, now,
+            alloc,
+            contents,
+            &self.interval,
+            right,
+            left,
+            negated,
+            lefts,
+            rows,
+            last,
+            now,
         )?;
         self.last = now;
         Ok(())
@@ -252,7 +268,12 @@ impl Window {
     pub fn key(&self, alloc: Global, row: &Row) -> Result<Row, AllocError>
         ensures { IfOk result (λ key. key ≡ part self.now.right self.now.left row.now) }
     {
-        part_of(alloc, self.right.as_slice(), self.left.as_slice(), row.values())
+        part_of(
+            alloc,
+            self.right.as_slice(),
+            self.left.as_slice(),
+            row.values(),
+        )
     }
 
     /// Whether some kept time of a row lies in the interval, seen from `x`.
@@ -283,12 +304,12 @@ impl Window {
         &self.interval
     }
 
-    /// No kept time lies further back than the interval's greatest number, and none is after the
-    /// last time.
+    /// What a window keeps, and no more.
     pub fn is_bounded(&self)
         ensures bounded { IfSome self.now.interval.hi (λ hi.
             Bounded hi self.now.last self.now.groups) }
         ensures past { Past self.now.last self.now.groups }
+        ensures placed { Placed self.now.right self.now.left self.now.groups }
     {
         let _ = &self.last;
     }

@@ -1,4 +1,4 @@
-use Rattle.std.proofs.Common.{◌≡◌, ℕ, List, length, deque_len}
+use Rattle.std.proofs.Common.{ℕ, List, length}
 use Rattle.mfotl_model.specs.declared.value.Value.{Value}
 use Rattle.eval_since.specs.Groups.{times_at}
 use Rattle.eval_since.specs.Windows.{Covered, IsThinned, NotAfter, Placed, Rising}

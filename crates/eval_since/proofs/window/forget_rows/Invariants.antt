@@ -8,4 +8,6 @@ use Rattle.eval_since.specs.Times.{recent}
 use Rattle.eval_since.proofs.window.forget_rows.Given as goal
 
 abbrev pub invariant-loop-row : goal.invariant-loop-row
-invariant-loop-row l = (q v : List Value) → times_at l.groups q v ≡ cond (is_at (row_cmp (part l.right l.left v)) q && has_row (take l.row-index l.rows) v) (recent l.hi l.now (times_at l.fn.groups q v)) (times_at l.fn.groups q v)
+invariant-loop-row l = (q v : List Value) → times_at l.groups q v
+    ≡ cond (is_at (row_cmp (part l.right l.left v)) q && has_row (take l.row-index l.rows) v)
+    (recent l.hi l.now (times_at l.fn.groups q v)) (times_at l.fn.groups q v)

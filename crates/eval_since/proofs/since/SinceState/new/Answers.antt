@@ -1,4 +1,3 @@
-use Rattle.std.proofs.Common.{map}
 use Rattle.eval_since.proofs.FollowsLemmas.{nothing_yet}
 use Rattle.eval_since.proofs.since.SinceState.new.Goals as goal
 

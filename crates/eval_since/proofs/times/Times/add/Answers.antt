@@ -1,6 +1,5 @@
-use Rattle.std.proofs.Common.{◌≡◌, true, false, arith, sym, ◌∙◌, ap}
-use Rattle.eval_since.specs.Times.{is_new}
-use Rattle.eval_since.proofs.TimesLemmas.{added_yes, added_no, increasing_added}
+use Rattle.std.proofs.Common.{sym, ◌∙◌}
+use Rattle.eval_since.proofs.TimesLemmas.{added_yes, added_no}
 use Rattle.eval_since.proofs.times.Times.add.Goals as goal
 
 pub returns-in_ok-push_back : goal.returns-in_ok-push_back
@@ -10,4 +9,5 @@ returns-in_ok-push_back c =
 
 pub returns-else-is_new : goal.returns-else-is_new
 returns-else-is_new c =
-    rw (← c.self.view_is) (added_no c.args.bounded c.self.inside.list.items c.args.x (sym c.is_new.ensures ∙ c.if-is_new.false))
+    rw (← c.self.view_is) (added_no c.args.bounded c.self.inside.list.items c.args.x (sym c.is_new.ensures
+    ∙ c.if-is_new.false))
