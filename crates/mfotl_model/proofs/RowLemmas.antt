@@ -80,7 +80,6 @@ and_moved true b c = refl
 and_moved false true c = refl
 and_moved false false c = refl
 
-
 -- a row is among the rows of n values of a domain exactly if it has n values, each in the domain
 pub member_all_rows : (n : ℕ) (dom : List Value) (q : List Value)
     → list_any (eq_by_cmp row_cmp q) (all_rows n dom) ≡ (nat_eq (length q) n && list_all (within dom) q)
@@ -97,7 +96,8 @@ member_all_rows (suc n) dom (b ∷ s) =
     ∙ any_alike (λ a. list_any (eq_by_cmp row_cmp (b ∷ s)) (map (λ row. a ∷ row) (all_rows n dom)))
     (λ a. eq_by_cmp value_cmp b a && list_any (eq_by_cmp row_cmp s) (all_rows n dom)) dom
     (λ a. any_map (eq_by_cmp row_cmp (b ∷ s)) (λ row. a ∷ row) (all_rows n dom)
-    ∙ any_alike (λ row. eq_by_cmp row_cmp (b ∷ s) (a ∷ row)) (λ row. eq_by_cmp value_cmp b a && eq_by_cmp row_cmp s row) (all_rows n dom)
+    ∙ any_alike (λ row. eq_by_cmp row_cmp (b ∷ s) (a ∷ row))
+    (λ row. eq_by_cmp value_cmp b a && eq_by_cmp row_cmp s row) (all_rows n dom)
     (λ row. eq_then (value_cmp b a) (row_cmp s row))
     ∙ any_and (eq_by_cmp value_cmp b a) (eq_by_cmp row_cmp s) (all_rows n dom))
     ∙ any_and_last (list_any (eq_by_cmp row_cmp s) (all_rows n dom)) (eq_by_cmp value_cmp b) dom

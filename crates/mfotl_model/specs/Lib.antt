@@ -3,6 +3,7 @@ pub mod Values
 pub mod HeldValues
 pub mod Events
 pub mod Formulas
+pub mod Operators
 pub mod Log
 pub mod Intervals
 pub mod Satisfaction

@@ -2,6 +2,7 @@
 //! the readers, the evaluators and the monitor above name in their contracts.
 #![tactic(auto)]
 
+mod copying;
 mod event;
 pub mod examples;
 mod formula;
