@@ -22,7 +22,7 @@ use Rattle.mfotl_model.specs.declared.term.Term.TheVariants.{Var, Const}
 use Rattle.mfotl_model.specs.declared.value.Value.{Value}
 use Rattle.monitorable.proofs.DomainLemmas.{any_witness, any_in_domains, includes_left, includes_right, value_among, event_value, since_witness, until_witness, previous_witness, next_witness, value_itself}
 use Rattle.monitorable.proofs.FragmentLemmas.{no_first, covered, part_of_whole, even_variables, used_variable, right_variable}
-use Rattle.monitorable.specs.Domains.{within, Includes}
+use Rattle.mfotl_model.specs.Domains.{within, Includes}
 use Rattle.monitorable.specs.Fragment.{Names, with_name, first, is_equal, pairs_constant, binds, bound_by, guards, evens, uses, covers, asked, looks_within, under_not, is_conjunction, judges_not, fault_in}
 use Rattle.monitorable.specs.Laws.{Domain}
 use Rattle.monitorable.specs.declared.fragment.Role.{Role}

@@ -22,7 +22,7 @@ use Rattle.mfotl_model.specs.declared.interval.Interval.{Interval}
 use Rattle.mfotl_model.specs.declared.term.Term.{Term}
 use Rattle.mfotl_model.specs.declared.term.Term.TheVariants.{Var, Const}
 use Rattle.mfotl_model.specs.declared.value.Value.{Value}
-use Rattle.monitorable.specs.Domains.{within, Includes}
+use Rattle.mfotl_model.specs.Domains.{within, Includes}
 
 -- where a test finds something in a list, a member passes it
 pub any_member : {X : Type 0} (p q : X → Bool) (xs : List X) → ((x : X) → p x ≡ true → q x ≡ true)

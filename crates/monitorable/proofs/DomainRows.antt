@@ -18,7 +18,7 @@ use Rattle.mfotl_model.specs.Values.{value_cmp, value_total, row_cmp}
 use Rattle.mfotl_model.specs.Violations.{all_rows}
 use Rattle.mfotl_model.specs.declared.event.TimePoint.{TimePoint}
 use Rattle.mfotl_model.specs.declared.value.Value.{Value}
-use Rattle.monitorable.specs.Domains.{within, Includes}
+use Rattle.mfotl_model.specs.Domains.{within, Includes}
 
 -- the active domain has the values of the log and of the policy
 pub adom_has : (log : List TimePoint) (f : Form) (a : Value) → within (adom log f) a ≡ within (log_values log ++ constants f) a

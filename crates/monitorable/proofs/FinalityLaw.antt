@@ -16,7 +16,7 @@ use Rattle.mfotl_model.specs.declared.interval.Interval.{Interval}
 use Rattle.monitorable.proofs.SettledLemmas.{settled_within, since_ready}
 use Rattle.monitorable.proofs.TemporalLemmas.{Same, since_same, until_same}
 use Rattle.monitorable.specs.Laws.{Finality}
-use Rattle.monitorable.specs.Times.{NeverFalls}
+use Rattle.mfotl_model.specs.Times.{NeverFalls}
 
 pub within_log : (log : List TimePoint) (f : Form) (j : ℕ) → settled (times log) f j ≡ true → j < length log
 within_log log f j h =

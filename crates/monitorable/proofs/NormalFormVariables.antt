@@ -11,7 +11,7 @@ use Rattle.mfotl_model.specs.FreeVariables.{fv, among, joined, without}
 use Rattle.mfotl_model.specs.Formulas.Form.{True, False, Atom, Compare, Not, And, Or, Implies, Equiv, Exists, Forall, Previous, Next, Once, Historically, Eventually, Always, Since, Until}
 use Rattle.mfotl_model.specs.Values.{value_cmp}
 use Rattle.mfotl_model.specs.declared.value.Value.{Value}
-use Rattle.monitorable.specs.Domains.{within}
+use Rattle.mfotl_model.specs.Domains.{within}
 use Rattle.monitorable.specs.Laws.{NormalFormVariables, NormalFormConstants}
 use Rattle.monitorable.specs.NormalForm.{positive, negative}
 

@@ -8,7 +8,7 @@ use Rattle.mfotl_model.specs.Formulas.Form.{True, False, Atom, Compare, Not, And
 use Rattle.mfotl_model.specs.Satisfaction.{time_at}
 use Rattle.mfotl_model.specs.Settled.{settled, previous_settled, next_settled, since_settled, until_settled}
 use Rattle.monitorable.specs.Laws.{SettledBefore, SettledWithin}
-use Rattle.monitorable.specs.Times.{NeverFalls}
+use Rattle.mfotl_model.specs.Times.{NeverFalls}
 
 -- the operands of SINCE are ready at each position up to i
 pub since_ready : (ready : ℕ → Bool) (i j : ℕ) → since_settled ready i ≡ true → j ≤ i → ready j ≡ true

@@ -9,7 +9,7 @@ use Rattle.mfotl_model.specs.Formulas.Form.{True, False, Atom, Compare, Not, And
 use Rattle.mfotl_model.specs.Satisfaction.{time_at}
 use Rattle.mfotl_model.specs.Settled.{settled, previous_settled, next_settled, since_settled, until_settled}
 use Rattle.monitorable.specs.Laws.{SettledStays}
-use Rattle.monitorable.specs.Times.{NeverFalls}
+use Rattle.mfotl_model.specs.Times.{NeverFalls}
 
 module _ (t more : List ℕ) (rising : NeverFalls (t ++ more)) where
   reached : (i : ℕ) → nat_lt i (length t) ≡ true → nat_lt i (length (t ++ more)) ≡ true

@@ -8,7 +8,7 @@ use Rattle.mfotl_model.specs.Intervals.{at_most, in_interval}
 use Rattle.mfotl_model.specs.Satisfaction.{time_at, truth_at, since, until}
 use Rattle.mfotl_model.specs.Settled.{until_settled}
 use Rattle.mfotl_model.specs.declared.interval.Interval.{Interval}
-use Rattle.monitorable.specs.Times.{NeverFalls}
+use Rattle.mfotl_model.specs.Times.{NeverFalls}
 
 -- a test that holds nowhere in a range finds nothing
 pub any_none : (p : ℕ → Bool) (a n : ℕ) → ((k : ℕ) → a ≤ k → k < a + n → p k ≡ false) → list_any p (range_with_len a n) ≡ false

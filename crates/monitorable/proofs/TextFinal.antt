@@ -15,7 +15,7 @@ use Rattle.monitorable.proofs.ViolationsFinal.{violations_final}
 use Rattle.monitorable.specs.Fragment.{frag}
 use Rattle.monitorable.specs.Laws.{TextFinal, open_log}
 use Rattle.monitorable.specs.NormalForm.{negative}
-use Rattle.monitorable.specs.Times.{NeverFalls}
+use Rattle.mfotl_model.specs.Times.{NeverFalls}
 
 -- two lists of verdicts, each as far as its test holds, where the second test holds wherever the first does
 module _ (p q : ℕ → Bool) (v w : ℕ → VerdictOf) (follows : (i : ℕ) → p i ≡ true → q i ≡ true)

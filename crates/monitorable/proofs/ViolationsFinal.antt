@@ -20,12 +20,12 @@ use Rattle.monitorable.proofs.FinalityLaw.{finality}
 use Rattle.monitorable.proofs.NormalFormLaws.{normal_form_holds, normal_form_settled}
 use Rattle.monitorable.proofs.NormalFormVariables.{normal_form_variables, normal_form_constants}
 use Rattle.monitorable.proofs.FreeVariableLemmas.{fv_apart}
-use Rattle.monitorable.specs.Domains.{within, Includes}
+use Rattle.mfotl_model.specs.Domains.{within, Includes}
 use Rattle.monitorable.specs.Fragment.{Names, frag}
 use Rattle.monitorable.specs.Laws.{ViolationsFinal}
 use Rattle.monitorable.specs.CoreForms.{meaning}
 use Rattle.monitorable.specs.NormalForm.{negative}
-use Rattle.monitorable.specs.Times.{NeverFalls}
+use Rattle.mfotl_model.specs.Times.{NeverFalls}
 
 negation_constants : (log : List TimePoint) (f : Form) → Includes (adom log f) (constants (meaning (negative f)))
 negation_constants log f a h = has_constants log f a (sym (normal_form_constants f a).1 ∙ h)

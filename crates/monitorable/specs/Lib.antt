@@ -15,6 +15,4 @@ pub mod Negation
 pub mod SatisfyingRows
 pub mod Conjuncts
 pub mod PartView
-pub mod Domains
-pub mod Times
 pub mod Laws

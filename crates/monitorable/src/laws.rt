@@ -93,7 +93,7 @@ pub fn violations_satisfy()
     ensures { ViolationsSatisfy }
 {}
 
-/// A table that has the rows of which a core holds has the rows that satisfy it.
+/// A table that is exact for a core, on all rows, holds the rows that satisfy it.
 pub fn tables_satisfy()
     ensures { TablesSatisfy }
 {}
