@@ -31,7 +31,8 @@ use Rattle.mfotl_sig.proofs.Verdicts.{IsRule, judged}
 
 module _ (done : List PredOf) (name : List ℕ) (sorts : List Sort) where
   -- a Word where an argument may begin
-  word_read : (ls : List Listed) (t : Lexeme) (p : Partial) → t.kind ≡ Word → step (within done name sorts (stage_in ls)) t ≡ Ok p
+  word_read : (ls : List Listed) (t : Lexeme) (p : Partial) → t.kind ≡ Word
+      → step (within done name sorts (stage_in ls)) t ≡ Ok p
       → p ≡ within done name sorts (word_stage t)
   word_read [] t p kind e = cc (e, kind_step done name sorts AfterOpen t Word kind)
   word_read (l ∷ ls) t p kind e =
@@ -42,7 +43,8 @@ module _ (done : List PredOf) (name : List ℕ) (sorts : List Sort) where
       by true f = absurd cc
       by false f = cc
 
-  only_read : (ls : List Listed) (w : Lexeme) (p : Partial) → w.kind ≡ Word → run step (w ∷ []) (within done name sorts (stage_in ls)) ≡ Ok p
+  only_read : (ls : List Listed) (w : Lexeme) (p : Partial) → w.kind ≡ Word
+      → run step (w ∷ []) (within done name sorts (stage_in ls)) ≡ Ok p
       → p ≡ within done name sorts (word_stage w)
   unfolding run
   only_read ls w p kind e =
@@ -71,7 +73,9 @@ module _ (front : List Lexeme) (p : Partial) (t : Lexeme) (ran : run step front 
       stepped (between (numbered 0 c.preds)) (Err (RepeatedName at)) (spelled_read front c.preds p c.spelled ran).1
       (elim (look_up t.text (numbered 0 c.preds)) [
         | inl f ↦ rw (c.kind, f.found) (ap (λ n. Err (RepeatedName n)) (sym c.place))
-        | inr l ↦ absurd (absent t.text (numbered 0 c.preds) l (subst (λ ns. Contains ns t.text) (sym (names_numbered c.preds 0)) c.among))
+        | inr l ↦
+            absurd (absent t.text (numbered 0 c.preds) l
+            (subst (λ ns. Contains ns t.text) (sym (names_numbered c.preds 0)) c.among))
       ])
 
   too_many : (at : ℕ) → IsOneTooMany front t at → step p t ≡ Err (TooMany at)
@@ -81,20 +85,25 @@ module _ (front : List Lexeme) (p : Partial) (t : Lexeme) (ran : run step front 
       stepped (between (numbered 0 c.preds)) (Err (TooMany at)) (spelled_read front c.preds p c.spelled ran).1
       (elim (look_up t.text (numbered 0 c.preds)) [
         | inl f ↦ absurd (c.new (subst (λ ns. Contains ns t.text) (names_numbered c.preds 0) f.among))
-        | inr l ↦ rw (c.kind, l.none, le-leb max_predicates (length (numbered 0 c.preds)) many) (ap (λ n. Err (TooMany n)) (sym c.place))
+        | inr l ↦
+            rw (c.kind, l.none, le-leb max_predicates (length (numbered 0 c.preds)) many)
+            (ap (λ n. Err (TooMany n)) (sym c.place))
       ])
 
-  ninth_by : (done : List PredOf) (name : List ℕ) (sorts : List Sort) (ls : List Listed) → t.kind ≡ Word → length ls ≡ max_arguments
+  ninth_by : (done : List PredOf) (name : List ℕ) (sorts : List Sort) (ls : List Listed) → t.kind ≡ Word
+      → length ls ≡ max_arguments
       → length sorts ≡ length ls → step (within done name sorts (stage_in ls)) t ≡ Err (Arity t.at)
   ninth_by done name sorts [] kind many count = absurd (omega (arith, many))
   ninth_by done name sorts (l ∷ ls) kind many count =
-      kind_step done name sorts AfterComma t Word kind ∙ rw (le-leb max_arguments (length sorts) (omega (arith, many, count))) refl
+      kind_step done name sorts AfterComma t Word kind
+      ∙ rw (le-leb max_arguments (length sorts) (omega (arith, many, count))) refl
 
   ninth : (at : ℕ) → IsNinth front t at → step p t ≡ Err (Arity at)
   ninth at c =
       let q = part_read front [] c.begun p ran in
       stepped _ _ (at_once (within q.done c.begun.name.text q.sorts (stage_in c.begun.listed)) p q.ran)
-      (ninth_by q.done c.begun.name.text q.sorts c.begun.listed c.kind c.many q.count.0 ∙ ap (λ n. Err (Arity n)) (sym c.place))
+      (ninth_by q.done c.begun.name.text q.sorts c.begun.listed c.kind c.many q.count.0
+      ∙ ap (λ n. Err (Arity n)) (sym c.place))
 
   labelled : (at : ℕ) → IsUnknownLabelled front t at → step p t ≡ Err (UnknownSort at)
   labelled at c =
@@ -125,7 +134,9 @@ module _ (front : List Lexeme) (p : Partial) (t : Lexeme) (ran : run step front 
 
   unviable : (at : ℕ) → step p t ≡ Err (Syntax at) → IsViable (front ++ t ∷ []) → ⊥
   unviable at e v =
-      let stops = ap (λ us. run step us nothing_read) (append_assoc front (t ∷ []) v.0) ∙ run_behind step front (t ∷ v.0) nothing_read p ran
+      let stops =
+      ap (λ us. run step us nothing_read) (append_assoc front (t ∷ []) v.0)
+      ∙ run_behind step front (t ∷ v.0) nothing_read p ran
       ∙ run_fault step t v.0 p (Syntax at) e in
       judged_never at v.1.0 (judge [] v.1.0) refl (sym (spelled_run ((front ++ t ∷ []) ++ v.0) v.1.0 v.1.1) ∙ stops)
 
@@ -143,7 +154,8 @@ stands ts p ran = reached step nothing_read (λ t. t.at) Syntax IsViable IsCause
 module _ (front : List Lexeme) (p : Partial) (t : Lexeme) (ran : run step front nothing_read ≡ Ok p) where
   shows : (fault : SigFault) → IsCause front t fault → step p t ≡ Err fault
   shows (Lex fault) c = absurd c
-  shows (Syntax at) c = ends_shown step nothing_read (λ x. x.at) Syntax IsViable IsCause StandsSo knows front p t at ran c
+  shows (Syntax at) c =
+      ends_shown step nothing_read (λ x. x.at) Syntax IsViable IsCause StandsSo knows front p t at ran c
   shows (RepeatedName at) c = repeats front p t ran at c
   shows (UnknownSort at) (inl c) = labelled front p t ran at c
   shows (UnknownSort at) (inr c) = only front p t ran at c
@@ -154,7 +166,8 @@ module _ (front : List Lexeme) (p : Partial) (t : Lexeme) (ran : run step front 
 -- ---- behind all tokens
 
 module _ (ts : List Lexeme) (p : Partial) (ran : run step ts nothing_read ≡ Ok p) where
-  open_end : (at : ℕ) (draft : Option DraftOf) → Stands ts draft → (IsAccepted ts → ⊥) → at_end at p.done draft ≡ Err (Syntax at)
+  open_end : (at : ℕ) (draft : Option DraftOf) → Stands ts draft → (IsAccepted ts → ⊥)
+      → at_end at p.done draft ≡ Err (Syntax at)
   open_end at None accepted not = absurd (not accepted)
   open_end at (Some d) place not = refl
 
@@ -168,7 +181,8 @@ module _ (ts : List Lexeme) (p : Partial) (ran : run step ts nothing_read ≡ Ok
   no_draft d is accepted =
       let none = ap (λ (x : Partial). x.draft) (spelled_read ts accepted.0 p accepted.1 ran).1 in cc (none, is)
 
-  end_shown : (end : ℕ) (fault : SigFault) (draft : Option DraftOf) → p.draft ≡ draft → at_end end p.done draft ≡ Err fault
+  end_shown : (end : ℕ) (fault : SigFault) (draft : Option DraftOf) → p.draft ≡ draft
+      → at_end end p.done draft ≡ Err fault
       → IsLast ts (End end) fault
   end_shown end fault None is e = absurd cc
   end_shown end fault (Some d) is e =
@@ -176,7 +190,8 @@ module _ (ts : List Lexeme) (p : Partial) (ran : run step ts nothing_read ≡ Ok
       subst (IsLast ts (End end)) same (record { unaccepted = no_draft d is; stands = refl })
 
   last_shown : (tail : Tail LexFault) (fault : SigFault) → at_tail tail p ≡ Err fault → IsLast ts tail fault
-  last_shown (Broken lexical) fault e = let same : Lex lexical ≡ fault = cc in subst (IsLast ts (Broken lexical)) same refl
+  last_shown (Broken lexical) fault e =
+      let same : Lex lexical ≡ fault = cc in subst (IsLast ts (Broken lexical)) same refl
   last_shown (End end) fault e = end_shown end fault p.draft refl e
   last_shown More fault e = absurd cc
 

@@ -49,7 +49,8 @@ with_first name p ps false other (inl f) =
       among = Contains-append_right (p.name ∷ []) (names ps) name f.among;
     })
 with_first name p ps false other (inr l) =
-    let differs : p.name ≢ name = λ is. cc (sym (nat_list_eq_equiv.refl name) ∙ ap (bytes_eq name) (sym is) ∙ other) in
+    let differs : p.name ≢ name =
+    λ is. cc (sym (nat_list_eq_equiv.refl name) ∙ ap (bytes_eq name) (sym is) ∙ other) in
     inr (record { none = rw other l.none; differ = (differs, l.differ); others = (differs, l.others) })
 
 pub look_up : (name : List ℕ) (preds : List PredOf) → Finds name preds ⊎ Lacks name preds
@@ -58,7 +59,8 @@ look_up name (p ∷ ps) = with_first name p ps (bytes_eq name p.name) refl (look
 
 pub absent : (name : List ℕ) (preds : List PredOf) → Lacks name preds → Contains (names preds) name → ⊥
 absent name preds l among =
-    All-contains (λ y. y ≢ name) (names preds) name (All-from_recursion (λ y. y ≢ name) (names preds) l.others) among refl
+    All-contains (λ y. y ≢ name) (names preds) name
+    (All-from_recursion (λ y. y ≢ name) (names preds) l.others) among refl
 
 -- what a call lent is the predicate of the name
 abbrev pub Lends : Option (Bor Pred) → List ℕ → List PredOf → Type 0
@@ -69,11 +71,20 @@ pub record IsLent (lent : Option (Bor Pred)) (name : List ℕ) (preds : List Pre
   pub name_is : IfSome lent (λ p. p.now.name ≡ name)
   pub member : IfSome lent (λ p. Contains preds (pred_of p.now))
 
-lent_by : (lent : Option (Bor Pred)) (name : List ℕ) (preds : List PredOf) → Lends lent name preds → Finds name preds ⊎ Lacks name preds
+lent_by : (lent : Option (Bor Pred)) (name : List ℕ) (preds : List PredOf) → Lends lent name preds
+    → Finds name preds ⊎ Lacks name preds
     → IsLent lent name preds
 lent_by None name preds e (inl f) = absurd (cc (e, f.found))
 lent_by None name preds e (inr l) =
-    record { none = (λ none. All-from_recursion (λ p. p.name ≢ name) preds l.differ, λ all. refl); name_is = tt; member = tt }
+    record {
+      none = (
+        λ none. All-from_recursion
+            (λ p. p.name ≢ name) preds l.differ,
+        λ all. refl,
+      );
+      name_is = tt;
+      member = tt;
+    }
 lent_by (Some p) name preds e (inl f) =
     let is : pred_of p.now ≡ f.pred = cc (e, f.found) in
     record {
@@ -83,5 +94,6 @@ lent_by (Some p) name preds e (inl f) =
     }
 lent_by (Some p) name preds e (inr l) = absurd (cc (e, l.none))
 
-pub is_lent : (lent : Option (Bor Pred)) (name : List ℕ) (preds : List PredOf) → Lends lent name preds → IsLent lent name preds
+pub is_lent : (lent : Option (Bor Pred)) (name : List ℕ) (preds : List PredOf) → Lends lent name preds
+    → IsLent lent name preds
 is_lent lent name preds e = lent_by lent name preds e (look_up name preds)

@@ -75,8 +75,10 @@ unfolding run step
 name_run done t ts kind = rw kind (by (is_some (named t.text done)) (nat_le max_predicates (length done)))
   where
     by : (a b : Bool)
-        → (cond a (Err (RepeatedName t.at)) (cond b (Err (TooMany t.at)) (Ok (within done t.text [] AfterName))) >>= λ q. run step ts q)
-        ≡ (cond a (Err (RepeatedName t.at)) (cond b (Err (TooMany t.at)) (Ok done)) >>= λ d. run step ts (within d t.text [] AfterName))
+        → (cond a (Err (RepeatedName t.at))
+        (cond b (Err (TooMany t.at)) (Ok (within done t.text [] AfterName))) >>= λ q. run step ts q)
+        ≡ (cond a (Err (RepeatedName t.at)) (cond b (Err (TooMany t.at)) (Ok done)) >>= λ d. run step ts
+        (within d t.text [] AfterName))
     by true b = refl
     by false true = refl
     by false false = refl
@@ -101,7 +103,8 @@ module _ (done : List PredOf) (name : List ℕ) where
       ≡ (with_sort sorts (sort_of t.text) t.at >>= λ more. Ok (within done name more AfterSort))
   label_step sorts t kind =
       kind_step sorts AfterLabel t Word kind
-      ∙ bind_assoc (with_sort sorts (sort_of t.text) t.at) (λ more. goes_on more AfterSort) (λ progress. Ok (settled done name progress))
+      ∙ bind_assoc (with_sort sorts (sort_of t.text) t.at) (λ more. goes_on more AfterSort)
+      (λ progress. Ok (settled done name progress))
 
   -- behind an only Word, as behind a labelled one
   pub word_step : (sorts : List Sort) (sort : Option Sort) (at : ℕ) (t : Lexeme)
@@ -131,16 +134,21 @@ module _ (done : List PredOf) (name : List ℕ) where
       by false = refl
 
   -- the first token of an argument, and then the rest of it
-  first_run : (sorts : List Sort) (stage : Stage) (f t : Lexeme) (ts us : List Lexeme) (o : Result (List Sort) SigFault)
+  first_run : (sorts : List Sort) (stage : Stage) (f t : Lexeme) (ts us : List Lexeme)
+      (o : Result (List Sort) SigFault)
       → Takes sorts stage → f.kind ≡ Word
-      → run step us (within done name sorts (word_stage f)) ≡ (o >>= λ more. run step (t ∷ ts) (within done name more AfterSort))
+      → run step us (within done name sorts (word_stage f))
+      ≡ (o >>= λ more. run step (t ∷ ts) (within done name more AfterSort))
       → run step (f ∷ us) (within done name sorts stage)
-      ≡ (cond (nat_le max_arguments (length sorts)) (Err (Arity f.at)) o >>= λ more. run step (t ∷ ts) (within done name more AfterSort))
+      ≡ (cond (nat_le max_arguments (length sorts)) (Err (Arity f.at)) o >>= λ more. run step (t ∷ ts)
+      (within done name more AfterSort))
   unfolding run
   first_run sorts stage f t ts us o takes kind later =
-      ap (λ r. r >>= λ q. run step us q) (kind_step sorts stage f Word kind ∙ takes f) ∙ by (nat_le max_arguments (length sorts))
+      ap (λ r. r >>= λ q. run step us q) (kind_step sorts stage f Word kind ∙ takes f)
+      ∙ by (nat_le max_arguments (length sorts))
     where
-      by : (b : Bool) → (cond b (Err (Arity f.at)) (Ok (within done name sorts (word_stage f))) >>= λ q. run step us q)
+      by : (b : Bool) → (cond b (Err (Arity f.at))
+          (Ok (within done name sorts (word_stage f))) >>= λ q. run step us q)
           ≡ (cond b (Err (Arity f.at)) o >>= λ more. run step (t ∷ ts) (within done name more AfterSort))
       by true = refl
       by false = later
@@ -179,7 +187,8 @@ module _ (done : List PredOf) (name : List ℕ) where
       ∙ bind_same (admit sorts a) _ _ (λ all. on_kind all AfterSort t CloseParen _ ts kind refl)
 
   -- arguments behind a comma, and what is behind them
-  more_run : (sorts : List Sort) (ls : List Listed) (last : Option Argument) (us : List Lexeme) (then : List Sort → Result Partial SigFault)
+  more_run : (sorts : List Sort) (ls : List Listed) (last : Option Argument) (us : List Lexeme)
+      (then : List Sort → Result Partial SigFault)
       → AllByRecursion FitsListed ls
       → ((more : List Sort) → run step us (within done name more AfterComma) ≡ (admit_all more [] last >>= then))
       → run step (spell_listed ls us) (within done name sorts AfterComma) ≡ (admit_all sorts ls last >>= then)
@@ -190,7 +199,8 @@ module _ (done : List PredOf) (name : List ℕ) where
       ∙ sym (bind_assoc (admit sorts l.argument) (λ more. admit_all more ls last) then)
 
   -- from the bracket on
-  inside_run : (l : Listed) (ls : List Listed) (last : Option Argument) (us : List Lexeme) (then : List Sort → Result Partial SigFault)
+  inside_run : (l : Listed) (ls : List Listed) (last : Option Argument) (us : List Lexeme)
+      (then : List Sort → Result Partial SigFault)
       → AllByRecursion FitsListed (l ∷ ls)
       → ((more : List Sort) → run step us (within done name more AfterComma) ≡ (admit_all more [] last >>= then))
       → run step (spell_listed (l ∷ ls) us) (within done name [] AfterOpen) ≡ (admit_all [] (l ∷ ls) last >>= then)
@@ -215,17 +225,20 @@ module _ (done : List PredOf) (name : List ℕ) where
   closed_run [] (Some a) t ts fits end kind = end_run [] AfterOpen a t ts (λ f. refl) end kind
   closed_run (l ∷ ls) None t ts fits end kind = absurd cc
   closed_run (l ∷ ls) (Some a) t ts fits end kind =
-      inside_run l ls (Some a) (spell_argument a (t ∷ ts)) _ fits (λ more. end_run more AfterComma a t ts (comma_takes more) end kind)
+      inside_run l ls (Some a) (spell_argument a (t ∷ ts)) _ fits
+      (λ more. end_run more AfterComma a t ts (comma_takes more) end kind)
 
 -- ---- predicates
 
 -- a name and its bracket
-begun_run : (done : List PredOf) (name opening : Lexeme) (ts : List Lexeme) → name.kind ≡ Word → opening.kind ≡ OpenParen
+begun_run : (done : List PredOf) (name opening : Lexeme) (ts : List Lexeme) → name.kind ≡ Word
+    → opening.kind ≡ OpenParen
     → run step (name ∷ opening ∷ ts) (between done)
     ≡ (admit_name done name >>= λ fresh. run step ts (within fresh name.text [] AfterOpen))
 begun_run done name opening ts named opens =
     name_run done name (opening ∷ ts) named
-    ∙ bind_same (admit_name done name) _ _ (λ fresh. on_kind fresh name.text [] AfterName opening OpenParen _ ts opens refl)
+    ∙ bind_same (admit_name done name) _ _
+    (λ fresh. on_kind fresh name.text [] AfterName opening OpenParen _ ts opens refl)
 
 pred_run : (done : List PredOf) (w : Written) (ts : List Lexeme) → Fits w
     → run step (spell_pred w ts) (between done) ≡ (judge_one done w >>= λ more. run step ts (between more))

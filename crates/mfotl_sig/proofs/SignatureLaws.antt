@@ -27,11 +27,13 @@ use Rattle.mfotl_sig.proofs.Verdicts.{IsRule, judged}
 
 -- ---- what is read, and what is spelled
 
-done_is : (end : ℕ) (done preds : List PredOf) (draft : Option DraftOf) → at_end end done draft ≡ Ok preds → (draft ≡ None) × (done ≡ preds)
+done_is : (end : ℕ) (done preds : List PredOf) (draft : Option DraftOf) → at_end end done draft ≡ Ok preds
+    → (draft ≡ None) × (done ≡ preds)
 done_is end done preds None e = (refl, cc)
 done_is end done preds (Some d) e = absurd cc
 
-ended : (end : ℕ) (lexical : Option LexFault) (p : Partial) (preds : List PredOf) → at_tail (tail_of true end lexical) p ≡ Ok preds
+ended : (end : ℕ) (lexical : Option LexFault) (p : Partial) (preds : List PredOf)
+    → at_tail (tail_of true end lexical) p ≡ Ok preds
     → (tail_of true end lexical ≡ End end) × (p.draft ≡ None) × (p.done ≡ preds)
 ended end None p preds e = let r = done_is end p.done preds p.draft e in (refl, r.0, r.1)
 ended end (Some fault) p preds e = absurd cc
@@ -60,7 +62,9 @@ pub spelled_is_read : SpelledIsRead
 unfolding reading layer.reading run
 spelled_is_read bytes preds v =
     let x = text_of bytes in
-    let passes = kept_ok IsRule (KeepsRules v.written) (judge [] v.written) (numbered 0 v.written) (judged v.written) v.rules in
+    let passes =
+    kept_ok IsRule (KeepsRules v.written) (judge [] v.written) (numbered 0 v.written)
+    (judged v.written) v.rules in
     ap (λ r. r >>= λ p. at_tail x.tail p)
     (spelled_run x.list v.written v.spelled ∙ ap (λ r. r >>= λ done. run step [] (between done)) passes)
     ∙ ap (λ tail. at_tail tail (between (numbered 0 v.written))) v.whole
@@ -73,7 +77,8 @@ one_answer = firsts.one_answer reading IsValue read_is_spelled spelled_is_read
 
 pub exact_faults : ExactFaults
 unfolding reading
-exact_faults bytes fault = firsts.exact_faults step nothing_read at_tail IsViable IsCause IsLast follows (text_of bytes) fault
+exact_faults bytes fault =
+    firsts.exact_faults step nothing_read at_tail IsViable IsCause IsLast follows (text_of bytes) fault
 
 pub exact_soundness : ExactSoundness
 exact_soundness = firsts.exact_soundness step nothing_read at_tail IsViable IsCause IsLast follows
@@ -86,7 +91,8 @@ stays_shown = texts.stays_shown step nothing_read at_tail none_shown
 
 -- ---- what the reader answers
 
-pub value_given : (bytes : List ℕ) (result : Result (List PredOf) SigFault) → Gives (λ s. s) result (reading bytes) → IfOk result (λ s. IsValue bytes s)
+pub value_given : (bytes : List ℕ) (result : Result (List PredOf) SigFault) → Gives (λ s. s) result (reading bytes)
+    → IfOk result (λ s. IsValue bytes s)
 value_given bytes (Ok preds) given = read_is_spelled bytes preds given
 value_given bytes (Err fault) given = tt
 

@@ -48,7 +48,8 @@ pub spelled_run : (ts : List Lexeme) (ws : List Written) → Spells ts ws
 spelled_run ts ws s = ap (λ us. run step us nothing_read) s.spelled ∙ preds_run [] ws [] s.fits
 
 -- whole predicates
-pub spelled_read : (ts : List Lexeme) (ws : List Written) (p : Partial) → Spells ts ws → run step ts nothing_read ≡ Ok p
+pub spelled_read : (ts : List Lexeme) (ws : List Written) (p : Partial) → Spells ts ws
+    → run step ts nothing_read ≡ Ok p
     → KeepsRules ws × (p ≡ between (numbered 0 ws))
 spelled_read ts ws p s ran =
     let done = bind_ok (judge [] ws) (λ done. run step [] (between done)) p (sym (spelled_run ts ws s) ∙ ran) in
@@ -86,7 +87,8 @@ StandsAt front AfterName = AtName front
 StandsAt front AfterOpen = (b : Begun front []) × (b.listed ≡ [])
 StandsAt front (AfterWord sort at) =
     (w : Lexeme) × Begun front (w ∷ []) × (w.kind ≡ Word) × (sort_of w.text ≡ sort) × (at ≡ w.at)
-StandsAt front AfterLabel = (l : Lexeme) × (c : Lexeme) × Begun front (l ∷ c ∷ []) × (l.kind ≡ Word) × (c.kind ≡ Colon)
+StandsAt front AfterLabel =
+    (l : Lexeme) × (c : Lexeme) × Begun front (l ∷ c ∷ []) × (l.kind ≡ Word) × (c.kind ≡ Colon)
 StandsAt front AfterSort = (a : Argument) × Begun front (spell_argument a []) × FitsArgument a
 StandsAt front AfterComma = Begun front []
 
@@ -110,10 +112,12 @@ opened front t kind at = (
   refl,
 )
 
-worded : (front : List Lexeme) (t : Lexeme) → t.kind ≡ Word → Begun front [] → StandsAt (front ++ t ∷ []) (word_stage t)
+worded : (front : List Lexeme) (t : Lexeme) → t.kind ≡ Word → Begun front []
+    → StandsAt (front ++ t ∷ []) (word_stage t)
 worded front t kind b = (t, begun_more front [] t b, kind, refl, refl)
 
-labelled : (front : List Lexeme) (t : Lexeme) → t.kind ≡ Word → StandsAt front AfterLabel → StandsAt (front ++ t ∷ []) AfterSort
+labelled : (front : List Lexeme) (t : Lexeme) → t.kind ≡ Word → StandsAt front AfterLabel
+    → StandsAt (front ++ t ∷ []) AfterSort
 labelled front t kind l = (Labelled l.0 l.1 t, begun_more front (l.0 ∷ l.1 ∷ []) t l.2, (l.3, l.4, kind))
 
 -- ---- from each place the grammar goes on
@@ -133,7 +137,8 @@ unfolding of_kind
 sort_viable front s =
     let t = of_kind CloseParen in (t ∷ [], begun_closed front (spell_argument s.0 []) t s.1 (Some s.0) refl s.2 refl)
 
-only : (front : List Lexeme) (sort : Option Sort) (at : ℕ) → StandsAt front (AfterWord sort at) → StandsAt front AfterSort
+only : (front : List Lexeme) (sort : Option Sort) (at : ℕ) → StandsAt front (AfterWord sort at)
+    → StandsAt front AfterSort
 only front sort at w = (Only w.0, w.1, w.2)
 
 completes : (front : List Lexeme) (stage : Stage) → StandsAt front stage → IsViable front
@@ -176,7 +181,8 @@ module _ (front : List Lexeme) (t : Lexeme) where
   abbrev Moves : Result ProgressOf SigFault → Type 0
   Moves r = Goes StandsFor front t r
 
-  fails : {A : Type 0} (StandsBy : List Lexeme → A → Type 0) (fault : SigFault) → IsViable (front ++ t ∷ []) → IsCause front t fault
+  fails : {A : Type 0} (StandsBy : List Lexeme → A → Type 0) (fault : SigFault) → IsViable (front ++ t ∷ [])
+      → IsCause front t fault
       → Goes StandsBy front t (Err fault)
   fails StandsBy fault viable cause = record { viable = viable; place = tt; cause = cause }
 
@@ -187,31 +193,37 @@ module _ (front : List Lexeme) (t : Lexeme) where
   closes sorts accepted = record { viable = accepted_viable (front ++ t ∷ []) accepted; place = accepted; cause = tt }
 
   sort_moves : (sorts : List Sort) (sort : Option Sort) (at : ℕ) (stage : Stage) → StandsAt (front ++ t ∷ []) stage
-      → (sort ≡ None → IsCause front t (UnknownSort at)) → Moves (with_sort sorts sort at >>= λ more. goes_on more stage)
+      → (sort ≡ None → IsCause front t (UnknownSort at))
+      → Moves (with_sort sorts sort at >>= λ more. goes_on more stage)
   sort_moves sorts None at stage place cause =
       fails StandsFor (UnknownSort at) (completes (front ++ t ∷ []) stage place) (cause refl)
   sort_moves sorts (Some sort) at stage place cause = moves (sorts ++ sort ∷ []) stage place
 
   sort_closes : (sorts : List Sort) (sort : Option Sort) (at : ℕ) → IsAccepted (front ++ t ∷ [])
-      → (sort ≡ None → IsCause front t (UnknownSort at)) → Moves (with_sort sorts sort at >>= λ more. Ok (Closed more))
+      → (sort ≡ None → IsCause front t (UnknownSort at))
+      → Moves (with_sort sorts sort at >>= λ more. Ok (Closed more))
   sort_closes sorts None at accepted cause =
       fails StandsFor (UnknownSort at) (accepted_viable (front ++ t ∷ []) accepted) (cause refl)
   sort_closes sorts (Some sort) at accepted cause = closes (sorts ++ sort ∷ []) accepted
 
-  unknown_only : (sort : Option Sort) (at : ℕ) → (t.kind ≡ Comma) ⊎ (t.kind ≡ CloseParen) → StandsAt front (AfterWord sort at)
+  unknown_only : (sort : Option Sort) (at : ℕ) → (t.kind ≡ Comma) ⊎ (t.kind ≡ CloseParen)
+      → StandsAt front (AfterWord sort at)
       → sort ≡ None → IsCause front t (UnknownSort at)
   unknown_only sort at ends w none =
       inr (record { word = w.0; begun = w.1; kind = w.2; unknown = w.3 ∙ none; ends = ends; place = w.4 })
 
-  unknown_labelled : t.kind ≡ Word → StandsAt front AfterLabel → sort_of t.text ≡ None → IsCause front t (UnknownSort t.at)
+  unknown_labelled : t.kind ≡ Word → StandsAt front AfterLabel → sort_of t.text ≡ None
+      → IsCause front t (UnknownSort t.at)
   unknown_labelled kind l unknown =
       inl (record { label = l.0; colon = l.1; begun = l.2; labels = l.3; divides = l.4; kind = kind; unknown = unknown; place = refl })
 
   next_moves : (sorts : List Sort) (full : Bool) (b : Begun front []) → t.kind ≡ Word
-      → (length sorts ≡ length b.listed) × (length b.listed ≤ max_arguments) → nat_le max_arguments (length sorts) ≡ full
+      → (length sorts ≡ length b.listed) × (length b.listed ≤ max_arguments)
+      → nat_le max_arguments (length sorts) ≡ full
       → Moves (cond full (Err (Arity t.at)) (goes_on sorts (word_stage t)))
   next_moves sorts true b kind count over =
-      let many : length b.listed ≡ max_arguments = omega (arith, count.0, count.1, leb-true max_arguments (length sorts) over) in
+      let many : length b.listed ≡ max_arguments =
+      omega (arith, count.0, count.1, leb-true max_arguments (length sorts) over) in
       fails StandsFor (Arity t.at) (completes (front ++ t ∷ []) (word_stage t) (worded front t kind b))
       (record { begun = b; many = many; kind = kind; place = refl })
   next_moves sorts false b kind count room = moves sorts (word_stage t) (worded front t kind b)
@@ -221,7 +233,8 @@ module _ (front : List Lexeme) (t : Lexeme) where
       → Further StandsFor front t (stage_step sorts t stage k)
   stage_further sorts AfterName OpenParen kind at count = inr (moves sorts AfterOpen (opened front t kind at))
   stage_further sorts AfterOpen Word kind o count = inr (moves sorts (word_stage t) (worded front t kind o.0))
-  stage_further sorts AfterOpen CloseParen kind o count = inr (closes sorts (begun_closed front [] t o.0 None refl o.1 kind))
+  stage_further sorts AfterOpen CloseParen kind o count =
+      inr (closes sorts (begun_closed front [] t o.0 None refl o.1 kind))
   stage_further sorts (AfterWord sort at) Colon kind w count =
       inr (moves sorts AfterLabel (w.0, t, begun_more front (w.0 ∷ []) t w.1, w.2, kind))
   stage_further sorts (AfterWord sort at) Comma kind w count =
@@ -240,11 +253,13 @@ module _ (front : List Lexeme) (t : Lexeme) where
       inr (next_moves sorts (nat_le max_arguments (length sorts)) b kind (count b) refl)
   stage_further sorts _ _ kind at count = inl refl
 
-  settled_further : (done : List PredOf) (name : List ℕ) (r : Result ProgressOf SigFault) → Further StandsFor front t r
+  settled_further : (done : List PredOf) (name : List ℕ) (r : Result ProgressOf SigFault)
+      → Further StandsFor front t r
       → Further StandsSo front t (r >>= λ progress. Ok (settled done name progress))
   settled_further done name r (inl syntax) = inl (ap (λ r. r >>= λ progress. Ok (settled done name progress)) syntax)
   settled_further done name (Ok (Open a)) (inr g) = inr (record { viable = g.viable; place = g.place; cause = tt })
-  settled_further done name (Ok (Closed sorts)) (inr g) = inr (record { viable = g.viable; place = g.place; cause = tt })
+  settled_further done name (Ok (Closed sorts)) (inr g) =
+      inr (record { viable = g.viable; place = g.place; cause = tt })
   settled_further done name (Err fault) (inr g) = inr (fails StandsSo fault g.viable g.cause)
 
   -- a name
@@ -270,37 +285,58 @@ module _ (front : List Lexeme) (t : Lexeme) (ws : List Written) (s : Spells fron
   abbrev fresh : Partial
   fresh = within (numbered 0 ws) t.text [] AfterName
 
-  room_further : t.kind ≡ Word → Lacks t.text (numbered 0 ws) → (full : Bool) → nat_le max_predicates (length (numbered 0 ws)) ≡ full
+  room_further : t.kind ≡ Word → Lacks t.text (numbered 0 ws) → (full : Bool)
+      → nat_le max_predicates (length (numbered 0 ws)) ≡ full
       → Goes StandsSo front t (cond full (Err (TooMany t.at)) (Ok fresh))
   room_further kind l true over =
-      let many : max_predicates ≤ length ws = omega (arith, length-numbered ws 0, leb-true max_predicates (length (numbered 0 ws)) over) in
+      let many : max_predicates ≤ length ws =
+      omega (arith, length-numbered ws 0, leb-true max_predicates (length (numbered 0 ws)) over) in
       fails front t StandsSo (TooMany t.at) (completes (front ++ t ∷ []) AfterName (named_so front t ws s kind))
       (record {
         preds = ws;
         spelled = s;
         kind = kind;
-        new = λ among. absent t.text (numbered 0 ws) l (subst (λ ns. Contains ns t.text) (sym (names_numbered ws 0)) among);
+        new =
+            λ among. absent t.text (numbered 0 ws) l
+            (subst (λ ns. Contains ns t.text) (sym (names_numbered ws 0)) among);
         many = many;
         place = refl;
       })
   room_further kind l false room =
-      let at = named_so front t ws s kind in record { viable = completes (front ++ t ∷ []) AfterName at; place = at; cause = tt }
+      let at =
+      named_so front t ws s kind in record {
+        viable = completes
+            (front ++ t ∷ []) AfterName at;
+        place = at;
+        cause = tt;
+      }
 
-  name_further : t.kind ≡ Word → (Finds t.text (numbered 0 ws) ⊎ Lacks t.text (numbered 0 ws)) → Goes StandsSo front t (begins (numbered 0 ws) t Word)
+  name_further : t.kind ≡ Word → (Finds t.text (numbered 0 ws) ⊎ Lacks t.text (numbered 0 ws))
+      → Goes StandsSo front t (begins (numbered 0 ws) t Word)
   name_further kind (inl f) =
-      rw f.found (fails front t StandsSo (RepeatedName t.at) (completes (front ++ t ∷ []) AfterName (named_so front t ws s kind))
-      (record { preds = ws; spelled = s; kind = kind; among = subst (λ ns. Contains ns t.text) (names_numbered ws 0) f.among; place = refl }))
+      rw f.found (fails front t StandsSo (RepeatedName t.at)
+      (completes (front ++ t ∷ []) AfterName (named_so front t ws s kind))
+      (record {
+        preds = ws;
+        spelled = s;
+        kind = kind;
+        among = subst (λ ns. Contains ns t.text)
+            (names_numbered ws 0) f.among;
+        place = refl;
+      }))
   name_further kind (inr l) = rw l.none (room_further kind l (nat_le max_predicates (length (numbered 0 ws))) refl)
 
   begins_further : (k : Kind) → t.kind ≡ k → Further StandsSo front t (begins (numbered 0 ws) t k)
   begins_further Word kind = inr (name_further kind (look_up t.text (numbered 0 ws)))
   begins_further _ kind = inl refl
 
-further_from : (front : List Lexeme) (p : Partial) (t : Lexeme) → run step front nothing_read ≡ Ok p → (draft : Option DraftOf) → p.draft ≡ draft → Stands front draft
+further_from : (front : List Lexeme) (p : Partial) (t : Lexeme) → run step front nothing_read ≡ Ok p
+    → (draft : Option DraftOf) → p.draft ≡ draft → Stands front draft
     → Further StandsSo front t (step_from p.done draft t)
 further_from front p t ran None is accepted =
     let done = ap (λ (q : Partial). q.done) (spelled_read front accepted.0 p accepted.1 ran).1 in
-    subst (λ d. Further StandsSo front t (begins d t t.kind)) (sym done) (begins_further front t accepted.0 accepted.1 t.kind refl)
+    subst (λ d. Further StandsSo front t (begins d t t.kind)) (sym done)
+    (begins_further front t accepted.0 accepted.1 t.kind refl)
 further_from front p t ran (Some d) is at =
     settled_further front t p.done d.name (stage_step d.arguments.sorts t d.arguments.stage t.kind)
     (stage_further front t d.arguments.sorts d.arguments.stage t.kind refl at count)
@@ -311,8 +347,10 @@ further_from front p t ran (Some d) is at =
     count : (b : Begun front []) → (length d.arguments.sorts ≡ length b.listed) × (length b.listed ≤ max_arguments)
     count b =
         let q = part_read front [] b p ran in
-        let other : DraftOf = record { name = b.name.text; arguments = record { sorts = q.sorts; stage = stage_in b.listed } } in
-        let here = ap (λ (x : Partial). x.draft) (at_once (within q.done b.name.text q.sorts (stage_in b.listed)) p q.ran) in
+        let other : DraftOf =
+        record { name = b.name.text; arguments = record { sorts = q.sorts; stage = stage_in b.listed } } in
+        let here =
+        ap (λ (x : Partial). x.draft) (at_once (within q.done b.name.text q.sorts (stage_in b.listed)) p q.ran) in
         let same : d ≡ other = cc (is, here) in
         (ap (λ (x : DraftOf). length x.arguments.sorts) same ∙ q.count.0, q.count.1)
 
