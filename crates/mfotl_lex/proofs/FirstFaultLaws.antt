@@ -1,6 +1,6 @@
 -- What follows of a reader that owes what `FollowsGrammar` says.
 use Rattle.std.proofs.Common.{◌≡◌, ◌⊎◌, inl, inr, ℕ, List, [], ◌∷◌, ◌++◌, Result, Ok, Err, refl, sym, ap, subst, ◌∙◌}
-use Rattle.std.proofs.lemmas.List.{append_assoc}
+use Rattle.std.proofs.lemmas.List.{append-nil, append_assoc}
 use Rattle.mfotl_lex.specs.FirstFault.{◌>>=◌, Tail, Text, run, StopsAt, if_sound, given, reading, ShowNone}
 use Rattle.mfotl_lex.specs.FirstFault.{ShownByToken, ShownByTail, IsFirst, FollowsGrammar, ExactSoundness}
 use Rattle.mfotl_lex.specs.FirstFault.{ExactFaults, ReadIsValue, ValueIsRead, HasValue, HasFault, OneAnswer}
@@ -9,6 +9,16 @@ pub bind_ok : {A B E : Type 0} (r : Result A E) (f : A → Result B E) (y : B) �
     → (x : A) × (r ≡ Ok x) × (f x ≡ Ok y)
 bind_ok (Ok x) f y e = (x, refl, e)
 bind_ok (Err fault) f y e = absurd cc
+
+pub bind_assoc : {A B C E : Type 0} (r : Result A E) (f : A → Result B E) (g : B → Result C E)
+    → ((r >>= f) >>= g) ≡ (r >>= λ x. f x >>= g)
+bind_assoc (Ok x) f g = refl
+bind_assoc (Err fault) f g = refl
+
+pub bind_same : {A B E : Type 0} (r : Result A E) (f g : A → Result B E) → ((x : A) → f x ≡ g x)
+    → (r >>= f) ≡ (r >>= g)
+bind_same (Ok x) f g same = same x
+bind_same (Err fault) f g same = refl
 
 module _ {S T E : Type 0} (step : S → T → Result S E) where
   abbrev outcome : S → Result S E
@@ -58,6 +68,18 @@ module _ {S T E : Type 0} (step : S → T → Result S E) where
       → (p : S) × (run step front s ≡ Ok p) × (run step back p ≡ Ok q)
   sound_front front back s q e =
       bind_ok (run step front s) (λ p. run step back p) q (sym (run-append front back s) ∙ e)
+
+  -- what each step keeps holds behind a run
+  pub holds_behind : (Holds : List T → S → Type 0)
+      → ((front : List T) (s q : S) (t : T) → Holds front s → step s t ≡ Ok q → Holds (front ++ t ∷ []) q)
+      → (front ts : List T) (s q : S) → Holds front s → run step ts s ≡ Ok q → Holds (front ++ ts) q
+  unfolding run
+  holds_behind Holds keeps front [] s q holds e =
+      subst (λ us. Holds us q) (sym (append-nil front)) (subst (Holds front) (same_read s q e) holds)
+  holds_behind Holds keeps front (t ∷ ts) s q holds e =
+      let first = bind_ok (step s t) (λ x. run step ts x) q e in
+      subst (λ us. Holds us q) (append_assoc front (t ∷ []) ts)
+      (holds_behind Holds keeps (front ++ t ∷ []) ts first.0 q (keeps front s first.0 t holds first.1) first.2)
 
   -- the token that shows a fault stops the run, whatever stands behind it
   pub stops : (s : S) (ts : List T) (fault : E) → StopsAt step s ts fault → run step ts s ≡ Err fault

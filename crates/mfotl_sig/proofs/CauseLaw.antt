@@ -1,212 +1,206 @@
--- Each fault is shown by what it says.
-use Rattle.std.proofs.Common.{◌≡◌, ◌≢◌, ℕ, suc, Bool, true, false, cond, List, [], ◌∷◌, ◌++◌, length, Option, Some, None, is_some, Contains, Result, Ok, Err, refl, ap, sym, subst, ◌∙◌, inl, inr, arith}
-use Rattle.std.proofs.lemmas.Bool.{leb-true}
-use Rattle.std.proofs.lemmas.Cmp.{nat_list_eq_equiv}
-use Rattle.std.proofs.lemmas.List.{append-nil, append_assoc}
-use Rattle.std.proofs.lemmas.List.Elements.{Contains-get_or, Contains-append_right}
-use Rattle.std.specs.Cmp.Lexicographic.{same_text}
-use Rattle.std.specs.List.{AllByRecursion}
-use Rattle.std.specs.Prelude.{IfOk, IfErr, nat_le}
-use Rattle.std.specs.Str.{bytes_eq}
+-- Behind tokens that show no fault, the reader shows a fault exactly where the token or the tail is its cause.
+use Rattle.std.proofs.Common.{◌≡◌, ℕ, ◌≤◌, Bool, true, false, cond, List, [], ◌∷◌, ◌++◌, length, Option, Some, None, Contains}
+use Rattle.std.proofs.Common.{Result, Ok, Err, refl, ap, sym, subst, ◌∙◌, inl, inr, arith}
+use Rattle.std.proofs.lemmas.Bool.{le-leb}
+use Rattle.std.proofs.lemmas.List.{append_assoc}
+use Rattle.std.specs.Prelude.{nat_le}
+use Rattle.mfotl_lex.specs.declared.kind.Kind.TheVariants.{Word, Colon}
 use Rattle.mfotl_lex.specs.declared.fault.LexFault.{LexFault}
-use Rattle.mfotl_lex.specs.declared.kind.Kind.{Kind}
-use Rattle.mfotl_lex.specs.declared.kind.Kind.TheVariants.{Word}
+use Rattle.mfotl_lex.specs.FirstFault.{◌>>=◌, Tail, Broken, End, More, run, FollowsGrammar}
 use Rattle.mfotl_lex.specs.Lexemes.{Lexeme}
+use Rattle.mfotl_lex.proofs.ByPlaces.{KnowsPlaces, reached, token_caused, ends_shown}
+use Rattle.mfotl_lex.proofs.Verdicts.{judged_rule}
+use Rattle.mfotl_lex.proofs.FirstFaultLaws.{bind_ok, run_fault, run_behind}
+use Rattle.mfotl_model.specs.declared.policy.Sort.{Sort}
+use Rattle.mfotl_sig.specs.declared.arguments.Stage.TheVariants.{AfterOpen, AfterLabel, AfterSort, AfterComma}
 use Rattle.mfotl_sig.specs.declared.fault.SigFault.{SigFault}
 use Rattle.mfotl_sig.specs.declared.fault.SigFault.TheVariants.{Lex, Syntax, RepeatedName, UnknownSort, Arity, TooMany, Memory}
-use Rattle.mfotl_sig.specs.declared.draft.Stage.TheVariants.{AfterName}
-use Rattle.mfotl_sig.specs.Causes.{IsCause}
-use Rattle.mfotl_sig.specs.Grammar.{Written, Spells}
-use Rattle.mfotl_sig.specs.Laws.{IsFirstFault, ShowsBroken, EachFaultIsShown}
-use Rattle.mfotl_sig.specs.Preds.{PredOf, named}
-use Rattle.mfotl_sig.specs.Reading.{Partial, DraftOf, ProgressOf, Open, Closed, ◌>>=◌, stage_step, begins, settled, step_from, step, run, ended, nothing_read}
-use Rattle.mfotl_sig.specs.Rules.{numbered, tokens_of}
-use Rattle.mfotl_sig.proofs.CausePlaces.{AtDraft, Goes}
-use Rattle.mfotl_sig.proofs.CauseSteps.{stage_goes}
-use Rattle.mfotl_sig.proofs.Judging.{IsRule, Judged, KeepsOn, judge_all}
-use Rattle.mfotl_sig.proofs.LexLaw.{Own, IsOwn, run_own, end_own, exact_lex}
-use Rattle.mfotl_sig.proofs.RunLemmas.{run-append, run-step, between}
-use Rattle.mfotl_sig.proofs.SignatureLaws.{reading_is, Stopped, stopped, done_is, exact_syntax}
-use Rattle.mfotl_sig.proofs.ViableRuns.{bind_ok, accepted_run}
+use Rattle.mfotl_sig.specs.Causes.{IsRepeated, IsOneTooMany, IsNinth, IsUnknownLabelled, IsUnknownOnly, IsCause, IsLast}
+use Rattle.mfotl_sig.specs.Grammar.{Written, Listed, IsAccepted, IsViable}
+use Rattle.mfotl_sig.specs.Limits.{max_predicates, max_arguments}
+use Rattle.mfotl_sig.specs.Preds.{PredOf}
+use Rattle.mfotl_sig.specs.Reading.{DraftOf, Partial, with_sort, word_stage, goes_on, step, at_end, at_tail, nothing_read}
+use Rattle.mfotl_sig.specs.Rules.{sort_of, numbered, KeepsRules}
+use Rattle.mfotl_sig.proofs.NamedLemmas.{look_up, absent}
+use Rattle.mfotl_sig.proofs.Runs.{between, within, stage_in, settle, kind_step, label_step, word_step, judge}
+use Rattle.mfotl_sig.proofs.Standing.{Stands, StandsSo, further, stands_viable, at_once, spelled_run}
+use Rattle.mfotl_sig.proofs.Standing.{spelled_read, part_read, names_numbered, length-numbered}
+use Rattle.mfotl_sig.proofs.Verdicts.{IsRule, judged}
 
--- ---- names
+-- ---- what was read of an argument that is begun
 
-record Named (ws : List Written) (name : List ℕ) : Type 0 where
-  first : Written
-  among : Contains ws first
-  same : first.name ≡ name
+module _ (done : List PredOf) (name : List ℕ) (sorts : List Sort) where
+  -- a Word where an argument may begin
+  word_read : (ls : List Listed) (t : Lexeme) (p : Partial) → t.kind ≡ Word
+      → step (within done name sorts (stage_in ls)) t ≡ Ok p
+      → p ≡ within done name sorts (word_stage t)
+  word_read [] t p kind e = cc (e, kind_step done name sorts AfterOpen t Word kind)
+  word_read (l ∷ ls) t p kind e =
+      by (nat_le max_arguments (length sorts)) (sym (kind_step done name sorts AfterComma t Word kind) ∙ e)
+    where
+      by : (b : Bool) → settle done name (cond b (Err (Arity t.at)) (goes_on sorts (word_stage t))) ≡ Ok p
+          → p ≡ within done name sorts (word_stage t)
+      by true f = absurd cc
+      by false f = cc
 
-found_first : (w : Written) (ws : List Written) (name : List ℕ) (p pred : PredOf) (rest : Option PredOf) (b : Bool) → bytes_eq name w.name ≡ b
-    → cond b (Some p) rest ≡ Some pred → (rest ≡ Some pred → Named ws name) → Named (w ∷ ws) name
-found_first w ws name p pred rest true same e later =
-    record { first = w; among = Contains-get_or (w ∷ ws) 0 w (omega arith); same = sym (same_text name w.name (sym same)) }
-found_first w ws name p pred rest false other e later =
-    let n = later e in
-    record { first = n.first; among = Contains-append_right (w ∷ []) ws n.first n.among; same = n.same }
+  only_read : (ls : List Listed) (w : Lexeme) (p : Partial) → w.kind ≡ Word
+      → run step (w ∷ []) (within done name sorts (stage_in ls)) ≡ Ok p
+      → p ≡ within done name sorts (word_stage w)
+  unfolding run
+  only_read ls w p kind e =
+      let one = bind_ok (step (within done name sorts (stage_in ls)) w) (λ q. run step [] q) p e in
+      at_once one.0 p one.2 ∙ word_read ls w one.0 kind one.1
 
-found_written : (ws : List Written) (n : ℕ) (name : List ℕ) (pred : PredOf) → named name (numbered n ws) ≡ Some pred → Named ws name
-found_written [] n name pred e = absurd cc
-found_written (w ∷ ws) n name pred e =
-    found_first w ws name _ pred (named name (numbered (suc n) ws)) (bytes_eq name w.name) refl e (found_written ws (suc n) name pred)
+  label_read : (ls : List Listed) (l c : Lexeme) (p : Partial) → l.kind ≡ Word → c.kind ≡ Colon
+      → run step (l ∷ c ∷ []) (within done name sorts (stage_in ls)) ≡ Ok p → p ≡ within done name sorts AfterLabel
+  unfolding run
+  label_read ls l c p labels divides e =
+      let one = bind_ok (step (within done name sorts (stage_in ls)) l) (λ q. run step (c ∷ []) q) p e in
+      let at = word_read ls l one.0 labels one.1 in
+      let colon = kind_step done name sorts (word_stage l) c Colon divides in
+      at_once (within done name sorts AfterLabel) p
+      (sym (ap (λ q. run step (c ∷ []) q) at ∙ ap (λ r. r >>= λ q. run step [] q) colon) ∙ one.2)
 
-new_first : (w : Written) (name : List ℕ) (p : PredOf) (rest : Option PredOf) (b : Bool) → bytes_eq name w.name ≡ b → cond b (Some p) rest ≡ None → (w.name ≢ name) × (rest ≡ None)
-new_first w name p rest true same e = absurd cc
-new_first w name p rest false other e = (λ is. cc (sym (nat_list_eq_equiv.refl name) ∙ ap (bytes_eq name) (sym is) ∙ other), e)
+-- ---- the cause of a fault shows it
 
-new_written : (ws : List Written) (n : ℕ) (name : List ℕ) → named name (numbered n ws) ≡ None → AllByRecursion (λ w. w.name ≢ name) ws
-new_written [] n name e = tt
-new_written (w ∷ ws) n name e =
-    let both = new_first w name _ (named name (numbered (suc n) ws)) (bytes_eq name w.name) refl e in
-    (both.0, new_written ws (suc n) name both.1)
+module _ (front : List Lexeme) (p : Partial) (t : Lexeme) (ran : run step front nothing_read ≡ Ok p) where
+  stepped : (q : Partial) (r : Result Partial SigFault) → p ≡ q → step q t ≡ r → step p t ≡ r
+  stepped q r is e = ap (λ x. step x t) is ∙ e
 
-length-numbered : (ws : List Written) (n : ℕ) → length (numbered n ws) ≡ length ws
-length-numbered [] n = refl
-length-numbered (w ∷ ws) n = ap suc (length-numbered ws (suc n))
+  repeats : (at : ℕ) → IsRepeated front t at → step p t ≡ Err (RepeatedName at)
+  unfolding step
+  repeats at c =
+      stepped (between (numbered 0 c.preds)) (Err (RepeatedName at)) (spelled_read front c.preds p c.spelled ran).1
+      (elim (look_up t.text (numbered 0 c.preds)) [
+        | inl f ↦ rw (c.kind, f.found) (ap (λ n. Err (RepeatedName n)) (sym c.place))
+        | inr l ↦
+            absurd (absent t.text (numbered 0 c.preds) l
+            (subst (λ ns. Contains ns t.text) (sym (names_numbered c.preds 0)) c.among))
+      ])
 
--- ---- one step
+  too_many : (at : ℕ) → IsOneTooMany front t at → step p t ≡ Err (TooMany at)
+  unfolding step
+  too_many at c =
+      let many : max_predicates ≤ length (numbered 0 c.preds) = omega (arith, length-numbered c.preds 0, c.many) in
+      stepped (between (numbered 0 c.preds)) (Err (TooMany at)) (spelled_read front c.preds p c.spelled ran).1
+      (elim (look_up t.text (numbered 0 c.preds)) [
+        | inl f ↦ absurd (c.new (subst (λ ns. Contains ns t.text) (names_numbered c.preds 0) f.among))
+        | inr l ↦
+            rw (c.kind, l.none, le-leb max_predicates (length (numbered 0 c.preds)) many)
+            (ap (λ n. Err (TooMany n)) (sym c.place))
+      ])
 
-abbrev AtPartial : List Lexeme → Option DraftOf → Type 0
-AtPartial front None = Unit {0}
-AtPartial front (Some d) = AtDraft front d
+  ninth_by : (done : List PredOf) (name : List ℕ) (sorts : List Sort) (ls : List Listed) → t.kind ≡ Word
+      → length ls ≡ max_arguments
+      → length sorts ≡ length ls → step (within done name sorts (stage_in ls)) t ≡ Err (Arity t.at)
+  ninth_by done name sorts [] kind many count = absurd (omega (arith, many))
+  ninth_by done name sorts (l ∷ ls) kind many count =
+      kind_step done name sorts AfterComma t Word kind
+      ∙ rw (le-leb max_arguments (length sorts) (omega (arith, many, count))) refl
 
-record StepGoes (front : List Lexeme) (t : Lexeme) (r : Result Partial SigFault) : Type 0 where
-  place : IfOk r (λ q. AtPartial (front ++ t ∷ []) q.draft)
-  cause : IfErr r (λ fault. IsRule fault → IsCause front t fault)
+  ninth : (at : ℕ) → IsNinth front t at → step p t ≡ Err (Arity at)
+  ninth at c =
+      let q = part_read front [] c.begun p ran in
+      stepped _ _ (at_once (within q.done c.begun.name.text q.sorts (stage_in c.begun.listed)) p q.ran)
+      (ninth_by q.done c.begun.name.text q.sorts c.begun.listed c.kind c.many q.count.0
+      ∙ ap (λ n. Err (Arity n)) (sym c.place))
 
--- whole predicates, as they are written
-record Whole (front : List Lexeme) (done : List PredOf) : Type 0 where
-  written : List Written
-  spelled : Spells front written
-  value : done ≡ numbered 0 written
+  labelled : (at : ℕ) → IsUnknownLabelled front t at → step p t ≡ Err (UnknownSort at)
+  labelled at c =
+      let q = part_read front _ c.begun p ran in
+      let name = c.begun.name.text in
+      stepped _ _ (label_read q.done name q.sorts c.begun.listed c.label c.colon p c.labels c.divides q.ran)
+      (label_step q.done name q.sorts t c.kind
+      ∙ ap (λ o. with_sort q.sorts o t.at >>= λ more. Ok (within q.done name more AfterSort)) c.unknown
+      ∙ ap (λ n. Err (UnknownSort n)) (sym c.place))
 
-abbrev fresh : List PredOf → Lexeme → Partial
-fresh done t = record { done = done; draft = Some (record { name = t.text; sorts = []; stage = AfterName }) }
+  only : (at : ℕ) → IsUnknownOnly front t at → step p t ≡ Err (UnknownSort at)
+  only at c =
+      let q = part_read front _ c.begun p ran in
+      let name = c.begun.name.text in
+      stepped _ _ (only_read q.done name q.sorts c.begun.listed c.word p c.kind q.ran)
+      (word_step q.done name q.sorts (sort_of c.word.text) c.word.at t c.ends
+      ∙ ap (λ o. with_sort q.sorts o c.word.at >>= λ more. step (within q.done name more AfterSort) t) c.unknown
+      ∙ ap (λ n. Err (UnknownSort n)) (sym c.place))
 
-room_goes : (front : List Lexeme) (done : List PredOf) (t : Lexeme) (w : Whole front done) → t.kind ≡ Word → named t.text done ≡ None → (full : Bool) → nat_le 256 (length done) ≡ full
-    → StepGoes front t (cond full (Err (TooMany t.at)) (Ok (fresh done t)))
-room_goes front done t w kind new true over =
-    record {
-      place = tt;
-      cause = λ rule. record {
-        preds = w.written;
-        spelled = w.spelled;
-        kind = kind;
-        new = new_written w.written 0 t.text (ap (named t.text) (sym w.value) ∙ new);
-        many = let size : length done ≡ length w.written = ap length w.value ∙ length-numbered w.written 0 in omega (arith, size, leb-true 256 (length done) over);
-        place = refl;
-      };
-    }
-room_goes front done t w kind new false room =
-    record { place = record { whole = front; name = t; parts = refl; accepted = (w.written, w.spelled); named = kind; none = refl }; cause = tt }
+  -- what the grammar accepts shows no Syntax
+  judged_never : (at : ℕ) (ws : List Written) (r : Result (List PredOf) SigFault) → judge [] ws ≡ r
+      → (r >>= λ done. run step [] (between done)) ≡ Err (Syntax at) → ⊥
+  unfolding run
+  judged_never at ws (Ok done) e f = cc
+  judged_never at ws (Err fault) e f =
+      let same : fault ≡ Syntax at = cc in
+      subst IsRule same (judged_rule IsRule (KeepsRules ws) (judge [] ws) (numbered 0 ws) fault (judged ws) e)
 
-new_goes : (front : List Lexeme) (done : List PredOf) (t : Lexeme) (w : Whole front done) → t.kind ≡ Word → (found : Option PredOf) → named t.text done ≡ found
-    → StepGoes front t (cond (is_some found) (Err (RepeatedName t.at)) (cond (nat_le 256 (length done)) (Err (TooMany t.at)) (Ok (fresh done t))))
-new_goes front done t w kind None new = room_goes front done t w kind new (nat_le 256 (length done)) refl
-new_goes front done t w kind (Some pred) there =
-    let first = found_written w.written 0 t.text pred (ap (named t.text) (sym w.value) ∙ there) in
-    record {
-      place = tt;
-      cause = λ rule. record {
-        preds = w.written;
-        spelled = w.spelled;
-        kind = kind;
-        first = first.first;
-        among = first.among;
-        same = first.same;
-        place = refl;
-      };
-    }
+  unviable : (at : ℕ) → step p t ≡ Err (Syntax at) → IsViable (front ++ t ∷ []) → ⊥
+  unviable at e v =
+      let stops =
+      ap (λ us. run step us nothing_read) (append_assoc front (t ∷ []) v.0)
+      ∙ run_behind step front (t ∷ v.0) nothing_read p ran
+      ∙ run_fault step t v.0 p (Syntax at) e in
+      judged_never at v.1.0 (judge [] v.1.0) refl (sym (spelled_run ((front ++ t ∷ []) ++ v.0) v.1.0 v.1.1) ∙ stops)
 
-begins_goes : (front : List Lexeme) (done : List PredOf) (t : Lexeme) → Whole front done → (k : Kind) → t.kind ≡ k → StepGoes front t (begins done t k)
-begins_goes front done t w Word kind = new_goes front done t w kind (named t.text done) refl
-begins_goes front done t w _ kind = record { place = tt; cause = λ rule. absurd rule }
+knows : KnowsPlaces step nothing_read (λ t. t.at) Syntax IsViable IsCause StandsSo
+knows = record {
+  begins = ([], record { fits = tt; spelled = refl });
+  further = further;
+  unviable = λ front p t at ran e v. unviable front p t ran at e v;
+  caused = λ front t at v. v;
+}
 
-draft_goes : (front : List Lexeme) (done : List PredOf) (t : Lexeme) (r : Result ProgressOf SigFault) → Goes front t r → StepGoes front t (r >>= λ progress. Ok (settled done progress))
-draft_goes front done t (Ok (Open d)) g = record { place = g.place; cause = tt }
-draft_goes front done t (Ok (Closed d)) g = record { place = tt; cause = tt }
-draft_goes front done t (Err fault) g = record { place = tt; cause = g.cause }
+pub stands : (ts : List Lexeme) (p : Partial) → run step ts nothing_read ≡ Ok p → Stands ts p.draft
+stands ts p ran = reached step nothing_read (λ t. t.at) Syntax IsViable IsCause StandsSo knows ts p ran
 
-from_goes : (front : List Lexeme) (done : List PredOf) (draft : Option DraftOf) (t : Lexeme) → (draft ≡ None → Whole front done) → AtPartial front draft → StepGoes front t (step_from done draft t)
-from_goes front done None t whole at = begins_goes front done t (whole refl) t.kind refl
-from_goes front done (Some d) t whole at = draft_goes front done t (stage_step d t d.stage) (stage_goes front t d d.stage at)
+module _ (front : List Lexeme) (p : Partial) (t : Lexeme) (ran : run step front nothing_read ≡ Ok p) where
+  shows : (fault : SigFault) → IsCause front t fault → step p t ≡ Err fault
+  shows (Lex fault) c = absurd c
+  shows (Syntax at) c =
+      ends_shown step nothing_read (λ x. x.at) Syntax IsViable IsCause StandsSo knows front p t at ran c
+  shows (RepeatedName at) c = repeats front p t ran at c
+  shows (UnknownSort at) (inl c) = labelled front p t ran at c
+  shows (UnknownSort at) (inr c) = only front p t ran at c
+  shows (Arity at) c = ninth front p t ran at c
+  shows (TooMany at) c = too_many front p t ran at c
+  shows Memory c = absurd c
 
-value_is : (front : List Lexeme) (p : Partial) (ws : List Written) → run front nothing_read ≡ Ok p → Judged (KeepsOn [] ws) (run front nothing_read) (between (numbered 0 ws)) → p.done ≡ numbered 0 ws
-value_is front p ws e (inl kept) = done_is p (between (numbered 0 ws)) (run front nothing_read) e kept.1
-value_is front p ws e (inr breaks) = absurd (cc (e, breaks.shown))
+-- ---- behind all tokens
 
-whole_so : (front : List Lexeme) (p : Partial) → run front nothing_read ≡ Ok p → p.draft ≡ None → Whole front p.done
-whole_so front p e none =
-    let accepted = accepted_run front p e none in
-    record { written = accepted.0; spelled = accepted.1; value = value_is front p accepted.0 e (judge_all [] front accepted.0 accepted.1) }
+module _ (ts : List Lexeme) (p : Partial) (ran : run step ts nothing_read ≡ Ok p) where
+  open_end : (at : ℕ) (draft : Option DraftOf) → Stands ts draft → (IsAccepted ts → ⊥)
+      → at_end at p.done draft ≡ Err (Syntax at)
+  open_end at None accepted not = absurd (not accepted)
+  open_end at (Some d) place not = refl
 
-step_goes : (front : List Lexeme) (p : Partial) (t : Lexeme) → run front nothing_read ≡ Ok p → AtPartial front p.draft → StepGoes front t (step p t)
-unfolding step
-step_goes front p t e at = from_goes front p.done p.draft t (whole_so front p e) at
+  shows_last : (tail : Tail LexFault) (fault : SigFault) → IsLast ts tail fault → at_tail tail p ≡ Err fault
+  shows_last tail (Lex fault) e = ap (λ x. at_tail x p) e
+  shows_last tail (Syntax at) v = ap (λ x. at_tail x p) v.stands ∙ open_end at p.draft (stands ts p ran) v.unaccepted
+  shows_last tail _ c = absurd c
 
--- ---- the run
+  -- accepted tokens leave no draft
+  no_draft : (d : DraftOf) → p.draft ≡ Some d → IsAccepted ts → ⊥
+  no_draft d is accepted =
+      let none = ap (λ (x : Partial). x.draft) (spelled_read ts accepted.0 p accepted.1 ran).1 in cc (none, is)
 
-further : (front : List Lexeme) (t : Lexeme) (p q : Partial) → run front nothing_read ≡ Ok p → step p t ≡ Ok q → run (front ++ t ∷ []) nothing_read ≡ Ok q
-unfolding run
-further front t p q e stepped = run-append front (t ∷ []) nothing_read ∙ ap (λ r. r >>= λ x. run (t ∷ []) x) e ∙ run-step t [] p q stepped
+  end_shown : (end : ℕ) (fault : SigFault) (draft : Option DraftOf) → p.draft ≡ draft
+      → at_end end p.done draft ≡ Err fault
+      → IsLast ts (End end) fault
+  end_shown end fault None is e = absurd cc
+  end_shown end fault (Some d) is e =
+      let same : Syntax end ≡ fault = cc in
+      subst (IsLast ts (End end)) same (record { unaccepted = no_draft d is; stands = refl })
 
-places : (more front : List Lexeme) (p q : Partial) → run front nothing_read ≡ Ok p → AtPartial front p.draft → run more p ≡ Ok q → AtPartial (front ++ more) q.draft
-unfolding run
-places [] front p q e at ran = subst (λ x. AtPartial x q.draft) (sym (append-nil front)) (subst (λ r. IfOk r (λ x. AtPartial front x.draft)) ran at)
-places (t ∷ more) front p q e at ran =
-    let first = bind_ok (step p t) (λ x. run more x) q ran in
-    let next = subst (λ r. IfOk r (λ x. AtPartial (front ++ t ∷ []) x.draft)) first.1 (step_goes front p t e at).place in
-    subst (λ x. AtPartial x q.draft) (append_assoc front (t ∷ []) more)
-    (places more (front ++ t ∷ []) first.0 q (further front t p first.0 e first.1) next first.2)
+  last_shown : (tail : Tail LexFault) (fault : SigFault) → at_tail tail p ≡ Err fault → IsLast ts tail fault
+  last_shown (Broken lexical) fault e =
+      let same : Lex lexical ≡ fault = cc in subst (IsLast ts (Broken lexical)) same refl
+  last_shown (End end) fault e = end_shown end fault p.draft refl e
+  last_shown More fault e = absurd cc
 
-nothing_ran : run [] nothing_read ≡ Ok nothing_read
-unfolding run
-nothing_ran = refl
-
-broken_at : (ts : List Lexeme) (fault : SigFault) → IsRule fault → Stopped ts nothing_read fault → ShowsBroken ts fault
-broken_at ts fault rule s =
-    let at = places s.front [] nothing_read s.read nothing_ran tt s.sound in
-    let goes = step_goes s.front s.read s.token s.sound at in
-    record {
-      front = s.front;
-      token = s.token;
-      back = s.back;
-      parts = s.parts;
-      sound = (s.read, s.sound);
-      cause = subst (λ r. IfErr r (λ f. IsRule f → IsCause s.front s.token f)) s.stop goes.cause rule;
-    }
-
-end_no_rule : (end : ℕ) (done : List PredOf) (draft : Option DraftOf) → IfErr (ended end None (record { done = done; draft = draft })) (λ f. IsRule f → ⊥)
-end_no_rule end done None = tt
-end_no_rule end done (Some d) = λ rule. rule
-
-broken : (bytes : List ℕ) (fault : SigFault) → IsRule fault → (r : Result Partial SigFault) → run (tokens_of bytes).list nothing_read ≡ r
-    → (r >>= λ q. ended (length bytes) (tokens_of bytes).fault q) ≡ Err fault → ShowsBroken (tokens_of bytes).list fault
-broken bytes fault rule (Err other) e is =
-    let same : other ≡ fault = cc is in
-    broken_at (tokens_of bytes).list fault rule (stopped (tokens_of bytes).list nothing_read fault (e ∙ ap (λ f. Err f) same))
-broken bytes fault rule (Ok q) e is = absurd (no_rule (tokens_of bytes).fault is)
-  where
-    no_rule : (lexed : Option LexFault) → ended (length bytes) lexed q ≡ Err fault → ⊥
-    no_rule None end = subst (λ r. IfErr r (λ f. IsRule f → ⊥)) end (end_no_rule (length bytes) q.done q.draft) rule
-    no_rule (Some lexed) end = let same : Lex lexed ≡ fault = cc end in subst IsRule (sym same) rule
-
-rule_shown : (bytes : List ℕ) (fault : SigFault) → IsRule fault → IsFirstFault bytes fault → ShowsBroken (tokens_of bytes).list fault
-rule_shown bytes fault rule e = broken bytes fault rule (run (tokens_of bytes).list nothing_read) refl (sym (reading_is bytes) ∙ e)
-
-no_memory : (bytes : List ℕ) (r : Result Partial SigFault) → Own r → (r >>= λ q. ended (length bytes) (tokens_of bytes).fault q) ≡ Err Memory → ⊥
-no_memory bytes (Err other) own is = let same : other ≡ Memory = cc is in subst IsOwn same own
-no_memory bytes (Ok q) own is = at_the_end (tokens_of bytes).fault is
-  where
-    at_the_end : (lexed : Option LexFault) → ended (length bytes) lexed q ≡ Err Memory → ⊥
-    at_the_end None end = subst Own end (end_own (length bytes) q.done q.draft)
-    at_the_end (Some lexed) end = cc end
-
-pub each_fault_is_shown : EachFaultIsShown
-each_fault_is_shown bytes (Lex fault) e = (exact_lex bytes fault).0 e
-each_fault_is_shown bytes (Syntax at) e = (exact_syntax bytes at).0 e
-each_fault_is_shown bytes (RepeatedName at) e = rule_shown bytes (RepeatedName at) tt e
-each_fault_is_shown bytes (UnknownSort at) e = rule_shown bytes (UnknownSort at) tt e
-each_fault_is_shown bytes (Arity at) e = rule_shown bytes (Arity at) tt e
-each_fault_is_shown bytes (TooMany at) e = rule_shown bytes (TooMany at) tt e
-each_fault_is_shown bytes Memory e =
-    absurd (no_memory bytes (run (tokens_of bytes).list nothing_read) (run_own (tokens_of bytes).list nothing_read) (sym (reading_is bytes) ∙ e))
+pub follows : FollowsGrammar step nothing_read at_tail IsViable IsCause IsLast
+follows = record {
+  viable = λ ts p ran. stands_viable ts p.draft (stands ts p ran);
+  token = λ front p t fault ran. (
+    λ e. token_caused step nothing_read (λ x. x.at) Syntax IsViable IsCause StandsSo knows front p t fault ran e,
+    λ c. shows front p t ran fault c,
+  );
+  tail = λ ts p tail fault ran. (λ e. last_shown ts p ran tail fault e, λ c. shows_last ts p ran tail fault c);
+}

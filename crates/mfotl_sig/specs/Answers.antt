@@ -1,19 +1,25 @@
 -- What calls return, beside what the definitions say.
 use Rattle.std.specs.Prelude.{◌≡◌, Result, Ok, Err}
-use Rattle.mfotl_sig.specs.declared.draft.Draft.{Draft}
-use Rattle.mfotl_sig.specs.declared.draft.Progress.{Progress}
-use Rattle.mfotl_sig.specs.declared.draft.Progress.TheVariants as progress
+use Rattle.mfotl_sig.specs.declared.arguments.Arguments.{Arguments}
+use Rattle.mfotl_sig.specs.declared.arguments.Progress.{Progress}
+use Rattle.mfotl_sig.specs.declared.arguments.Progress.TheVariants as progress
+use Rattle.mfotl_sig.specs.declared.reading.Draft.{Draft}
 use Rattle.mfotl_sig.specs.declared.fault.SigFault.{SigFault}
 use Rattle.mfotl_sig.specs.declared.fault.SigFault.TheVariants.{Memory}
-use Rattle.mfotl_sig.specs.Reading.{DraftOf, ProgressOf, Open, Closed}
+use Rattle.mfotl_sig.specs.Reading.{ArgumentsOf, ProgressOf, Open, Closed, DraftOf}
 
--- a draft without where it lies in memory
-abbrev pub draft_of : Draft → DraftOf
-draft_of d = record { name = d.name.now; sorts = d.sorts.items; stage = d.stage }
+-- arguments without where they lie in memory
+abbrev pub arguments_of : Arguments → ArgumentsOf
+arguments_of d = record { sorts = d.sorts.items; stage = d.stage }
 
+-- the same of what a token makes of it
 abbrev pub progress_of : Progress → ProgressOf
-progress_of (progress.Open d) = Open (draft_of d)
-progress_of (progress.Closed d) = Closed (draft_of d)
+progress_of (progress.Open d) = Open (arguments_of d)
+progress_of (progress.Closed sorts) = Closed sorts.items
+
+-- a predicate of which a part was read, the same way
+abbrev pub draft_of : Draft → DraftOf
+draft_of d = record { name = d.name.now; arguments = arguments_of d.arguments }
 
 -- the fault is the one due; want of memory may come at any time
 abbrev pub Fails : {Y : Type 0} → SigFault → Result Y SigFault → Type 0

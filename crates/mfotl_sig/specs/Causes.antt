@@ -1,72 +1,57 @@
--- What shows that a rule beside the grammar is broken, in the grammar's own words.
-use Rattle.std.specs.Prelude.{◌≡◌, ◌≢◌, ◌≤◌, ◌⊎◌, ℕ, List, [], ◌∷◌, ◌++◌, length, None, Contains}
+-- What shows each fault, in the grammar's own words.
+use Rattle.std.specs.Prelude.{◌≡◌, ◌≤◌, ◌⊎◌, ℕ, List, [], ◌∷◌, length, None, Contains}
 use Rattle.std.specs.List.{AllByRecursion}
+use Rattle.mfotl_lex.specs.declared.fault.LexFault.{LexFault}
 use Rattle.mfotl_lex.specs.declared.kind.Kind.TheVariants.{Word, OpenParen, CloseParen, Comma, Colon}
+use Rattle.mfotl_lex.specs.FirstFault.{Tail, Broken, EndsViability, EndsTooEarly}
 use Rattle.mfotl_lex.specs.Lexemes.{Lexeme}
 use Rattle.mfotl_sig.specs.declared.fault.SigFault.{SigFault}
-use Rattle.mfotl_sig.specs.declared.fault.SigFault.TheVariants.{RepeatedName, UnknownSort, Arity, TooMany}
-use Rattle.mfotl_sig.specs.Grammar.{Written, SpellsArguments, Spells, IsAccepted}
-use Rattle.mfotl_sig.specs.Reading.{sort_of}
+use Rattle.mfotl_sig.specs.declared.fault.SigFault.TheVariants.{Lex, Syntax, RepeatedName, UnknownSort, Arity, TooMany}
+use Rattle.mfotl_sig.specs.Grammar.{Listed, Written, Fits, FitsListed, spell_begun, spell_preds, Spells, IsAccepted, IsViable}
+use Rattle.mfotl_sig.specs.Limits.{max_predicates, max_arguments}
+use Rattle.mfotl_sig.specs.Rules.{sort_of, names_of}
 
--- behind whole predicates, a name, a bracket and what is inside so far
-pub record Begun (front inside : List Lexeme) : Type 0 where
-  pub whole : List Lexeme
+-- behind whole predicates, a name, a bracket and arguments with their commas stand these tokens
+pub record Begun (front rest : List Lexeme) : Type 0 where
+  pub whole : List Written
   pub name : Lexeme
   pub opening : Lexeme
-  pub parts : front ≡ whole ++ name ∷ opening ∷ inside
-  pub accepted : IsAccepted whole
+  pub listed : List Listed
+  pub parts : front ≡ spell_preds whole (spell_begun name opening listed rest)
+  pub fits : AllByRecursion Fits whole
   pub named : name.kind ≡ Word
   pub opens : opening.kind ≡ OpenParen
-
--- so many whole arguments and a comma stand there, or none: an argument may begin
-pub record BeforeArgument (inside : List Lexeme) (count : ℕ) : Type 0 where
-  pub arguments : List Lexeme
-  pub comma : Lexeme
-  pub word : List ℕ
-  pub words : List (List ℕ)
-  pub parts : inside ≡ arguments ++ comma ∷ []
-  pub kind : comma.kind ≡ Comma
-  pub spelled : SpellsArguments arguments (word ∷ words)
-  pub size : length (word ∷ words) ≡ count
-
-abbrev pub MayBegin : List Lexeme → ℕ → Type 0
-MayBegin inside count = ((inside ≡ []) × (count ≡ 0)) ⊎ BeforeArgument inside count
+  pub arguments : AllByRecursion FitsListed listed
 
 -- the name of a predicate that stands further up
 pub record IsRepeated (front : List Lexeme) (t : Lexeme) (at : ℕ) : Type 0 where
   pub preds : List Written
   pub spelled : Spells front preds
   pub kind : t.kind ≡ Word
-  pub first : Written
-  pub among : Contains preds first
-  pub same : first.name ≡ t.text
+  pub among : Contains (names_of preds) t.text
   pub place : at ≡ t.at
 
--- a new name behind 256 predicates
+-- a new name behind as many predicates as there may be
 pub record IsOneTooMany (front : List Lexeme) (t : Lexeme) (at : ℕ) : Type 0 where
   pub preds : List Written
   pub spelled : Spells front preds
   pub kind : t.kind ≡ Word
-  pub new : AllByRecursion (λ w. w.name ≢ t.text) preds
-  pub many : 256 ≤ length preds
+  pub new : Contains (names_of preds) t.text → ⊥
+  pub many : max_predicates ≤ length preds
   pub place : at ≡ t.at
 
 -- the first token of the ninth argument
 pub record IsNinth (front : List Lexeme) (t : Lexeme) (at : ℕ) : Type 0 where
-  pub inside : List Lexeme
-  pub begun : Begun front inside
-  pub eight : BeforeArgument inside 8
+  pub begun : Begun front []
+  pub many : length begun.listed ≡ max_arguments
   pub kind : t.kind ≡ Word
   pub place : at ≡ t.at
 
 -- the Word behind a label names no sort
 pub record IsUnknownLabelled (front : List Lexeme) (t : Lexeme) (at : ℕ) : Type 0 where
-  pub inside : List Lexeme
   pub label : Lexeme
   pub colon : Lexeme
-  pub count : ℕ
-  pub begun : Begun front (inside ++ label ∷ colon ∷ [])
-  pub before : MayBegin inside count
+  pub begun : Begun front (label ∷ colon ∷ [])
   pub labels : label.kind ≡ Word
   pub divides : colon.kind ≡ Colon
   pub kind : t.kind ≡ Word
@@ -75,20 +60,24 @@ pub record IsUnknownLabelled (front : List Lexeme) (t : Lexeme) (at : ℕ) : Typ
 
 -- an only Word names no sort, and the token behind it shows that it is no label
 pub record IsUnknownOnly (front : List Lexeme) (t : Lexeme) (at : ℕ) : Type 0 where
-  pub inside : List Lexeme
   pub word : Lexeme
-  pub count : ℕ
-  pub begun : Begun front (inside ++ word ∷ [])
-  pub before : MayBegin inside count
+  pub begun : Begun front (word ∷ [])
   pub kind : word.kind ≡ Word
   pub unknown : sort_of word.text ≡ None
   pub ends : (t.kind ≡ Comma) ⊎ (t.kind ≡ CloseParen)
   pub place : at ≡ word.at
 
--- the token shows that a rule is broken, behind the front
+-- the token shows the fault, behind the front
 abbrev pub IsCause : List Lexeme → Lexeme → SigFault → Type 0
+IsCause front t (Syntax at) = EndsViability IsViable (λ t. t.at) front t at
 IsCause front t (RepeatedName at) = IsRepeated front t at
 IsCause front t (UnknownSort at) = IsUnknownLabelled front t at ⊎ IsUnknownOnly front t at
 IsCause front t (Arity at) = IsNinth front t at
 IsCause front t (TooMany at) = IsOneTooMany front t at
 IsCause front t _ = ⊥
+
+-- what stands behind all tokens shows the fault
+abbrev pub IsLast : List Lexeme → Tail LexFault → SigFault → Type 0
+IsLast ts tail (Lex fault) = tail ≡ Broken fault
+IsLast ts tail (Syntax at) = EndsTooEarly IsAccepted ts tail at
+IsLast ts tail _ = ⊥

@@ -5,6 +5,7 @@ use Rattle.mfotl_lex.specs.FaultTexts as lex
 use Rattle.mfotl_sig.specs.declared.fault.SigFault.{SigFault}
 use Rattle.mfotl_sig.specs.declared.fault.SigFault.TheVariants.{Lex, Syntax, RepeatedName, UnknownSort, Arity, TooMany, Memory}
 
+-- the name, and the offset
 abbrev pub fault_text : SigFault → List ℕ
 fault_text (Lex fault) = codes "Lex " ++ lex.fault_text fault
 fault_text (Syntax at) = codes "Syntax at " ++ decimal at

@@ -1,92 +1,37 @@
 -- What a reader of signatures may rely on, said of every text.
-use Rattle.std.specs.Prelude.{◌≡◌, ◌↔◌, ◌⊎◌, ℕ, List, [], ◌∷◌, ◌++◌, length, None, Ok, Err, Some}
-use Rattle.mfotl_lex.specs.declared.fault.LexFault.{LexFault}
-use Rattle.mfotl_lex.specs.Lexemes.{Lexeme}
+use Rattle.std.specs.Prelude.{◌≡◌, ◌↔◌, ℕ, List, Err}
+use Rattle.mfotl_lex.specs.FirstFault as layer
+use Rattle.mfotl_lex.specs.Texts.{StaysShown as StaysShownBy}
 use Rattle.mfotl_sig.specs.declared.fault.SigFault.{SigFault}
-use Rattle.mfotl_sig.specs.declared.fault.SigFault.TheVariants.{Lex, Syntax, Memory}
-use Rattle.mfotl_sig.specs.Causes.{IsCause}
-use Rattle.mfotl_sig.specs.Grammar.{IsAccepted, IsViable}
-use Rattle.mfotl_sig.specs.Preds.{PredOf}
-use Rattle.mfotl_sig.specs.Reading.{Partial, run, nothing_read, reading}
-use Rattle.mfotl_sig.specs.Rules.{IsValue, tokens_of}
+use Rattle.mfotl_sig.specs.Causes.{IsCause, IsLast}
+use Rattle.mfotl_sig.specs.Grammar.{IsViable}
+use Rattle.mfotl_sig.specs.Reading.{step, nothing_read, at_tail, reading}
+use Rattle.mfotl_sig.specs.Rules.{text_of, IsValue}
 
 -- what is read is spelled, and keeps the rules
 abbrev pub ReadIsSpelled : Type 0
-ReadIsSpelled = (bytes : List ℕ) (preds : List PredOf) → reading bytes ≡ Ok preds → IsValue bytes preds
+ReadIsSpelled = layer.ReadIsValue reading IsValue
 
 -- what is spelled and keeps the rules is read
 abbrev pub SpelledIsRead : Type 0
-SpelledIsRead = (bytes : List ℕ) (preds : List PredOf) → IsValue bytes preds → reading bytes ≡ Ok preds
+SpelledIsRead = layer.ValueIsRead reading IsValue
 
-abbrev pub IsFirstFault : List ℕ → SigFault → Type 0
-IsFirstFault bytes fault = reading bytes ≡ Err fault
-
--- the text has one value, and no fault
-pub record HasValue (bytes : List ℕ) : Type 0 where
-  pub preds : List PredOf
-  pub value : IsValue bytes preds
-  pub only : (others : List PredOf) → IsValue bytes others → others ≡ preds
-  pub sound : (fault : SigFault) → IsFirstFault bytes fault → ⊥
-
--- the text has one first fault, and no value
-pub record HasFault (bytes : List ℕ) : Type 0 where
-  pub fault : SigFault
-  pub first : IsFirstFault bytes fault
-  pub only : (other : SigFault) → IsFirstFault bytes other → other ≡ fault
-  pub worthless : (preds : List PredOf) → IsValue bytes preds → ⊥
-
--- each text has exactly one of the two
+-- each text has exactly one of a value and a first fault
 abbrev pub OneAnswer : Type 0
-OneAnswer = (bytes : List ℕ) → HasValue bytes ⊎ HasFault bytes
+OneAnswer = layer.OneAnswer reading IsValue
 
--- the tokens show no fault
-abbrev pub AreSound : List Lexeme → Type 0
-AreSound ts = (read : Partial) × (run ts nothing_read ≡ Ok read)
-
--- the first token that ends viability, behind tokens that show no fault
-pub record EndsViability (ts : List Lexeme) (at : ℕ) : Type 0 where
-  pub front : List Lexeme
-  pub token : Lexeme
-  pub back : List Lexeme
-  pub parts : ts ≡ front ++ token ∷ back
-  pub sound : AreSound front
-  pub viable : IsViable front
-  pub ends : IsViable (front ++ token ∷ []) → ⊥
-  pub place : at ≡ token.at
-
--- the input's end, where viable tokens that show no fault are not accepted
-pub record EndsTooEarly (bytes : List ℕ) (at : ℕ) : Type 0 where
-  pub whole : (tokens_of bytes).fault ≡ None
-  pub sound : AreSound (tokens_of bytes).list
-  pub viable : IsViable (tokens_of bytes).list
-  pub unaccepted : IsAccepted (tokens_of bytes).list → ⊥
-  pub place : at ≡ length bytes
-
--- Syntax is shown by the first token that ends viability, or by the input's end, and only there
-abbrev pub ExactSyntax : Type 0
-ExactSyntax = (bytes : List ℕ) (at : ℕ)
-    → (IsFirstFault bytes (Syntax at)) ↔ (EndsViability (tokens_of bytes).list at ⊎ EndsTooEarly bytes at)
-
--- a fault of the lexer is shown behind all whole tokens, where they show none, and only there
-abbrev pub ExactLex : Type 0
-ExactLex = (bytes : List ℕ) (fault : LexFault)
-    → (IsFirstFault bytes (Lex fault)) ↔ (AreSound (tokens_of bytes).list × ((tokens_of bytes).fault ≡ Some fault))
-
--- the token that shows that a rule is broken, behind tokens that show no fault
-pub record ShowsBroken (ts : List Lexeme) (fault : SigFault) : Type 0 where
-  pub front : List Lexeme
-  pub token : Lexeme
-  pub back : List Lexeme
-  pub parts : ts ≡ front ++ token ∷ back
-  pub sound : AreSound front
-  pub cause : IsCause front token fault
-
--- what shows a fault
+-- the fault is the first that the text shows: tokens before it are viable, and show none
 abbrev pub IsShown : List ℕ → SigFault → Type 0
-IsShown bytes (Lex fault) = AreSound (tokens_of bytes).list × ((tokens_of bytes).fault ≡ Some fault)
-IsShown bytes (Syntax at) = EndsViability (tokens_of bytes).list at ⊎ EndsTooEarly bytes at
-IsShown bytes Memory = ⊥
-IsShown bytes fault = ShowsBroken (tokens_of bytes).list fault
+IsShown bytes fault = layer.IsFirst IsViable IsCause IsLast (text_of bytes) fault
 
-abbrev pub EachFaultIsShown : Type 0
-EachFaultIsShown = (bytes : List ℕ) (fault : SigFault) → IsFirstFault bytes fault → IsShown bytes fault
+-- each fault is told exactly where it is the first that is shown
+abbrev pub ExactFaults : Type 0
+ExactFaults = (bytes : List ℕ) (fault : SigFault) → (reading bytes ≡ Err fault) ↔ IsShown bytes fault
+
+-- the reader goes over tokens exactly where none of them shows a fault
+abbrev pub ExactSoundness : Type 0
+ExactSoundness = layer.ExactSoundness step nothing_read at_tail IsViable IsCause IsLast
+
+-- what bytes whose end isn't told show is shown by any that begin with them
+abbrev pub StaysShown : Type 0
+StaysShown = StaysShownBy step nothing_read at_tail

@@ -1,7 +1,8 @@
+pub mod Limits
 pub mod Preds
 pub mod Grammar
-pub mod Reading
 pub mod Rules
+pub mod Reading
 pub mod Causes
 pub mod Laws
 pub mod Answers

@@ -1,7 +1,7 @@
 //! Why a signature could not be read.
 
 ghost use Rattle.std.specs.Prelude.{◌≡◌};
-ghost use Rattle.mfotl_sig.specs.declared.fault.SigFault.TheVariants.{Memory};
+ghost use Rattle.mfotl_sig.specs.declared.fault.SigFault.TheVariants.{Lex, Memory};
 
 use mfotl_lex::LexFault;
 use std::alloc::{AllocError, AllocFailed};
@@ -9,7 +9,7 @@ use std::fmt;
 use thiserror::Error;
 
 /// The first fault of a signature. Each offset counts bytes from the start of the text.
-#[derive(Clone, Copy, Debug, PartialEq, Eq, Error)]
+#[derive(Clone, Copy, Debug, Error)]
 pub enum SigFault {
     /// The bytes form no token.
     Lex(LexFault),
@@ -44,6 +44,14 @@ impl fmt::Display for SigFault {
             SigFault::TooMany(at) => write!(f, "TooMany at {at}"),
             SigFault::Memory => f.write_str("Memory"),
         }
+    }
+}
+
+impl From<LexFault> for SigFault {
+    ghost from_gives = { λ fault e. e ≡ Lex fault };
+
+    fn from(fault: LexFault) -> SigFault {
+        SigFault::Lex(fault)
     }
 }
 

@@ -1,6 +1,6 @@
 //! What holds of every text. Each law is a function that does nothing: its clause is the law.
 
-ghost use Rattle.mfotl_sig.specs.Laws.{ReadIsSpelled, SpelledIsRead, OneAnswer, ExactSyntax, ExactLex, EachFaultIsShown};
+ghost use Rattle.mfotl_sig.specs.Laws.{ReadIsSpelled, SpelledIsRead, OneAnswer, ExactFaults, ExactSoundness, StaysShown};
 ghost use Rattle.mfotl_sig.specs.WorkedTexts.{WorkedValues, WorkedFaults};
 
 /// A text that is read spells its predicates, and keeps the rules.
@@ -18,19 +18,20 @@ pub fn one_answer()
     ensures { OneAnswer }
 {}
 
-/// `Syntax` is shown exactly by the first token that ends viability, or by the input's end.
-pub fn exact_syntax()
-    ensures { ExactSyntax }
+/// Each fault is told exactly where it is the first that is shown: `Syntax` by the first token that ends
+/// viability or by the input's end, `Lex` behind the whole tokens, a rule's by the token that breaks it.
+pub fn exact_faults()
+    ensures { ExactFaults }
 {}
 
-/// `Lex` is shown exactly behind the whole tokens, where they show no fault.
-pub fn exact_lex()
-    ensures { ExactLex }
+/// The reader goes over tokens exactly where none of them shows a fault.
+pub fn exact_soundness()
+    ensures { ExactSoundness }
 {}
 
-/// Each fault is shown by what it says: a rule's by the token that breaks it.
-pub fn each_fault_is_shown()
-    ensures { EachFaultIsShown }
+/// What the front of a text shows is shown by the text.
+pub fn stays_shown()
+    ensures { StaysShown }
 {}
 
 /// Texts worked out by hand, and what is read of them.

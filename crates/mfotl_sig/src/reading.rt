@@ -5,18 +5,23 @@ ghost use Rattle.mfotl_lex.specs.Lexemes.{lexeme};
 ghost use Rattle.mfotl_sig.specs.declared.fault.SigFault.TheVariants.{Memory};
 ghost use Rattle.mfotl_sig.specs.Answers.{Gives};
 ghost use Rattle.mfotl_sig.specs.Laws.{IsShown};
-ghost use Rattle.mfotl_sig.specs.Reading.{step, begins, at_end, reading, nothing_read};
+ghost use Rattle.mfotl_sig.specs.Reading.{step, begins, at_end, tokens_read, reading, nothing_read};
 ghost use Rattle.mfotl_sig.specs.Rules.{IsValue};
 
-use crate::draft::{Draft, Progress, Stage};
+use crate::arguments::{Arguments, Progress};
 use crate::fault::SigFault;
+use crate::limits::MAX_PREDICATES;
 use crate::signature::Signature;
 use mfotl_lex::{Kind, Lexer, Mode, Token};
 use std::alloc::Global;
 use std::marker::Model;
 
-/// How many predicates a signature may have.
-const MAX_PREDICATES: usize = 256;
+/// A predicate of which a part was read.
+#[derive(Drop)]
+pub struct Draft<'a> {
+    pub name: &'a [u8],
+    pub arguments: Arguments,
+}
 
 /// The whole predicates read so far, and a part of the one behind them.
 #[derive(Drop)]
@@ -54,10 +59,10 @@ impl<'a> Reader<'a> {
     {
         match self.draft.take() {
             None => self.begin(alloc, token),
-            Some(draft) => {
-                match draft.step(token)? {
-                    Progress::Open(draft) => self.draft = Some(draft),
-                    Progress::Closed(draft) => self.done.add(alloc, draft.name, draft.sorts)?,
+            Some(Draft { name, arguments }) => {
+                match arguments.step(token)? {
+                    Progress::Open(arguments) => self.draft = Some(Draft { name, arguments }),
+                    Progress::Closed(sorts) => self.done.add(alloc, name, sorts)?,
                 }
                 Ok(())
             }
@@ -71,22 +76,32 @@ impl<'a> Reader<'a> {
             (begins self.old.done (lexeme token.now) token.now.kind) }
     {
         match token.kind {
+            Kind::Word if self.done.find(token.text).is_some() => {
+                Err(SigFault::RepeatedName(token.at as u64))
+            }
+            Kind::Word if self.done.len() >= MAX_PREDICATES => {
+                Err(SigFault::TooMany(token.at as u64))
+            }
             Kind::Word => {
-                if self.done.find(token.text).is_some() {
-                    return Err(SigFault::RepeatedName(token.at as u64));
-                }
-                if self.done.len() >= MAX_PREDICATES {
-                    return Err(SigFault::TooMany(token.at as u64));
-                }
                 self.draft = Some(Draft {
                     name: token.text,
-                    sorts: Vec::new(alloc),
-                    stage: Stage::AfterName,
+                    arguments: Arguments::new(alloc),
                 });
                 Ok(())
             }
             _ => Err(SigFault::Syntax(token.at as u64)),
         }
+    }
+
+    /// Takes all tokens of a text.
+    fn read(&mut self, alloc: Global, bytes: &'a [u8]) -> Result<(), SigFault>
+        ensures { Gives (λ _. self.new) result (tokens_read bytes.now self.old) }
+    {
+        let mut lexer = Lexer::new(bytes, Mode::Plain);
+        while let Some(token) = lexer.next()? {
+            self.step(alloc, &token)?;
+        }
+        Ok(())
     }
 
     /// The signature, where the input's end stands at `end`.
@@ -109,21 +124,13 @@ pub fn read_signature(alloc: Global, bytes: &[u8]) -> Result<Signature, SigFault
     ensures value { IfOk result (λ s. IsValue bytes.now s) }
     ensures shown { IfErr result (λ fault. fault ≢ Memory → IsShown bytes.now fault) }
 {
-    read_tokens(alloc, bytes)
+    read_whole(alloc, bytes)
 }
 
-fn read_tokens(alloc: Global, bytes: &[u8]) -> Result<Signature, SigFault>
+fn read_whole(alloc: Global, bytes: &[u8]) -> Result<Signature, SigFault>
     ensures { Gives (λ s. s) result (reading bytes.now) }
 {
-    let mut lexer = Lexer::new(bytes, Mode::Plain);
     let mut reader = Reader::new(alloc);
-    // Each token takes a byte, so there are no more of them than bytes.
-    for _ in 0..bytes.len() + 1 {
-        match lexer.next() {
-            Ok(Some(token)) => reader.step(alloc, &token)?,
-            Ok(None) => break,
-            Err(fault) => return Err(SigFault::Lex(fault)),
-        }
-    }
+    reader.read(alloc, bytes)?;
     reader.finish(bytes.len() as u64)
 }

@@ -1,5 +1,0 @@
-use Rattle.mfotl_sig.proofs.CauseLaw as proven
-use Rattle.mfotl_sig.proofs.laws.each_fault_is_shown.Goals as goal
-
-pub returns : goal.returns
-returns c = proven.each_fault_is_shown

@@ -1,5 +1,0 @@
-use Rattle.mfotl_sig.proofs.LexLaw as proven
-use Rattle.mfotl_sig.proofs.laws.exact_lex.Goals as goal
-
-pub returns : goal.returns
-returns c = proven.exact_lex
