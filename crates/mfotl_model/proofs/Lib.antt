@@ -4,3 +4,8 @@ pub mod RowLemmas
 pub mod SortedLemmas
 pub mod EventLemmas
 pub mod VariableLemmas
+pub mod TimeLemmas
+pub mod MatchingLemmas
+pub mod RegionLemmas
+pub mod ExactLemmas
+pub mod CountLemmas

@@ -2,11 +2,13 @@
 //! the readers, the evaluators and the monitor above name in their contracts.
 #![tactic(auto)]
 
+mod copying;
 mod event;
-mod examples;
+pub mod examples;
 mod formula;
 mod free_variables;
 mod interval;
+pub mod laws;
 mod partial;
 mod policy;
 mod row;
@@ -16,7 +18,6 @@ mod value;
 mod verdict_text;
 
 pub use event::{Db, Event, TimePoint};
-pub use examples::worked_examples;
 pub use formula::{Bound, Formula};
 pub use interval::Interval;
 pub use partial::Partial;

@@ -125,15 +125,39 @@ impl Row {
     {
         match &self.held {
             Held::Zero => Ok(Row::empty()),
-            Held::One([first]) => Row::empty().push(alloc, first.copy(alloc)?),
-            Held::Two([first, second]) => Ok(Row {
-                held: Held::Two([first.copy(alloc)?, second.copy(alloc)?]),
-            }),
-            Held::Many(values) => Ok(Row {
-                held: Held::Many(copied(alloc, values.as_slice())?),
-            }),
+            Held::One([first]) => copied_one(alloc, first),
+            Held::Two([first, second]) => copied_two(alloc, first, second),
+            Held::Many(values) => copied_many(alloc, values.as_slice()),
         }
     }
+}
+
+fn copied_one(alloc: Global, first: &Value) -> Result<Row, AllocError>
+    ensures { IfOk result (λ row. row ≡ first.now ∷ []) }
+{
+    let first = first.copy(alloc)?;
+    Ok(Row {
+        held: Held::One([first]),
+    })
+}
+
+fn copied_two(alloc: Global, first: &Value, second: &Value) -> Result<Row, AllocError>
+    ensures { IfOk result (λ row. row ≡ first.now ∷ second.now ∷ []) }
+{
+    let first = first.copy(alloc)?;
+    let second = second.copy(alloc)?;
+    Ok(Row {
+        held: Held::Two([first, second]),
+    })
+}
+
+fn copied_many(alloc: Global, values: &[Value]) -> Result<Row, AllocError>
+    ensures { IfOk result (λ row. row ≡ values.now) }
+{
+    let values = copied(alloc, values)?;
+    Ok(Row {
+        held: Held::Many(values),
+    })
 }
 
 fn copied(alloc: Global, values: &[Value]) -> Result<Vec<Value>, AllocError>

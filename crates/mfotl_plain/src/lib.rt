@@ -9,6 +9,7 @@ mod operators;
 mod rows;
 mod satisfaction;
 mod settling;
+mod temporal;
 
 pub use domain::active_domain;
 pub use lines::log_text;

@@ -1,14 +1,14 @@
 //! Whether a formula holds, by its recursion.
-ghost use Rattle.std.specs.Prelude.{◌≡◌, ◌<◌, true, not, length, map, IfOk};
+ghost use Rattle.std.specs.Prelude.{◌≡◌, ◌<◌, not, length, IfOk};
 ghost use Rattle.std.specs.List.{list_all, list_any};
 ghost use Rattle.mfotl_plain.specs.Bindings.{values_of};
+ghost use Rattle.mfotl_plain.specs.Operators.{between, connected, in_time};
 ghost use Rattle.mfotl_model.specs.Formulas.{form};
-ghost use Rattle.mfotl_model.specs.Log.{times};
-ghost use Rattle.mfotl_model.specs.Satisfaction.{compares, database_at, event_of, has_event, sat, since, term_value, truths, until, with_value};
+ghost use Rattle.mfotl_model.specs.Satisfaction.{compares, database_at, event_of, has_event, sat, term_value, truths, with_value};
 ghost use Rattle.mfotl_model.specs.Violations.{valuation};
 
 use crate::bindings::{Bindings, event_of, term_value};
-use crate::operators::{next, previous, since, until};
+use crate::temporal::{Modality, Span, between, in_time};
 use mfotl_model::{Atom, Comparison, Formula, Interval, Partial, TimePoint, Value};
 use std::alloc::{AllocError, Global};
 
@@ -44,6 +44,28 @@ struct Interpretation<'a> {
     bindings: &'a Bindings<'a>,
 }
 
+// A connective of two operands.
+#[derive(Clone, Copy)]
+enum Connective {
+    And,
+    Or,
+    Implies,
+    Equiv,
+}
+
+impl Connective {
+    fn connects(self, left: bool, right: bool) -> bool
+        ensures { result ≡ connected self left right }
+    {
+        match self {
+            Connective::And => left && right,
+            Connective::Or => left || right,
+            Connective::Implies => !left || right,
+            Connective::Equiv => left == right,
+        }
+    }
+}
+
 impl Interpretation<'_> {
     #[cycle(satisfaction)]
     #[tactic(auto, unfolding(mfotl_model::specs::Satisfaction::sat))]
@@ -57,34 +79,52 @@ impl Interpretation<'_> {
             Formula::False => Ok(false),
             Formula::Atom(atom) => self.has_event(alloc, atom, at),
             Formula::Compare(comparison) => Ok(self.compared(comparison)),
-            Formula::Not(f) => Ok(!self.holds(alloc, f, at)?),
-            Formula::And(f, g) => Ok(self.holds(alloc, f, at)? && self.holds(alloc, g, at)?),
-            Formula::Or(f, g) => Ok(self.holds(alloc, f, at)? || self.holds(alloc, g, at)?),
-            Formula::Implies(f, g) => Ok(!self.holds(alloc, f, at)? || self.holds(alloc, g, at)?),
-            Formula::Equiv(f, g) => Ok(self.holds(alloc, f, at)? == self.holds(alloc, g, at)?),
+            Formula::Not(f) => self.fails(alloc, f, at),
+            Formula::And(f, g) => self.connects(alloc, Connective::And, f, g, at),
+            Formula::Or(f, g) => self.connects(alloc, Connective::Or, f, g, at),
+            Formula::Implies(f, g) => self.connects(alloc, Connective::Implies, f, g, at),
+            Formula::Equiv(f, g) => self.connects(alloc, Connective::Equiv, f, g, at),
             Formula::Exists(x, f) => self.holds_for_some(alloc, x.number, f, at),
             Formula::Forall(x, f) => self.holds_for_every(alloc, x.number, f, at),
-            Formula::Previous(i, f) => {
-                Ok(previous(i, self.log, self.truths(alloc, f)?.as_slice(), at))
-            }
-            Formula::Next(i, f) => Ok(next(i, self.log, self.truths(alloc, f)?.as_slice(), at)),
-            Formula::Once(i, f) => self.once(alloc, i, self.truths(alloc, f)?, at),
+            Formula::Previous(i, f) => self.holds_in_time(alloc, Modality::Previous, i, f, at),
+            Formula::Next(i, f) => self.holds_in_time(alloc, Modality::Next, i, f, at),
+            Formula::Once(i, f) => self.holds_in_time(alloc, Modality::Once, i, f, at),
             Formula::Historically(i, f) => {
-                Ok(!self.once(alloc, i, self.falsities(alloc, f)?, at)?)
+                self.holds_in_time(alloc, Modality::Historically, i, f, at)
             }
-            Formula::Eventually(i, f) => self.eventually(alloc, i, self.truths(alloc, f)?, at),
-            Formula::Always(i, f) => Ok(!self.eventually(alloc, i, self.falsities(alloc, f)?, at)?),
-            Formula::Since(i, f, g) => {
-                let left = self.truths(alloc, f)?;
-                let right = self.truths(alloc, g)?;
-                Ok(since(i, self.log, left.as_slice(), right.as_slice(), at))
-            }
-            Formula::Until(i, f, g) => {
-                let left = self.truths(alloc, f)?;
-                let right = self.truths(alloc, g)?;
-                Ok(until(i, self.log, left.as_slice(), right.as_slice(), at))
-            }
+            Formula::Eventually(i, f) => self.holds_in_time(alloc, Modality::Eventually, i, f, at),
+            Formula::Always(i, f) => self.holds_in_time(alloc, Modality::Always, i, f, at),
+            Formula::Since(i, f, g) => self.holds_between(alloc, Span::Since, i, f, g, at),
+            Formula::Until(i, f, g) => self.holds_between(alloc, Span::Until, i, f, g, at),
         }
+    }
+
+    #[cycle(satisfaction)]
+    fn fails(&self, alloc: Global, formula: &Formula, at: usize) -> Result<bool, AllocError>
+        requires { at < length self.now.log.now }
+        ensures { IfOk result (λ failed. failed ≡ not (sat self.now.log.now self.now.dom.now
+            (values_of self.now.bindings.now) at (form formula.now))) }
+    {
+        Ok(!self.holds(alloc, formula, at)?)
+    }
+
+    #[cycle(satisfaction)]
+    fn connects(
+        &self,
+        alloc: Global,
+        connective: Connective,
+        left: &Formula,
+        right: &Formula,
+        at: usize,
+    ) -> Result<bool, AllocError>
+        requires { at < length self.now.log.now }
+        ensures { IfOk result (λ held. held ≡ connected connective
+            (sat self.now.log.now self.now.dom.now (values_of self.now.bindings.now) at (form left.now))
+            (sat self.now.log.now self.now.dom.now (values_of self.now.bindings.now) at (form right.now))) }
+    {
+        let left = self.holds(alloc, left, at)?;
+        let right = self.holds(alloc, right, at)?;
+        Ok(connective.connects(left, right))
     }
 
     #[cycle(satisfaction)]
@@ -153,52 +193,55 @@ impl Interpretation<'_> {
         Ok(values)
     }
 
-    // Whether the formula fails, for each position of the log.
     #[cycle(satisfaction)]
-    fn falsities(&self, alloc: Global, formula: &Formula) -> Result<Vec<bool>, AllocError>
-        ensures { IfOk result (λ values. values.items ≡ truths (length self.now.log.now) (λ j. not
-            (sat self.now.log.now self.now.dom.now (values_of self.now.bindings.now) j
-            (form formula.now)))) }
+    fn holds_in_time(
+        &self,
+        alloc: Global,
+        modality: Modality,
+        interval: &Interval,
+        formula: &Formula,
+        at: usize,
+    ) -> Result<bool, AllocError>
+        requires { at < length self.now.log.now }
+        ensures { IfOk result (λ held. held ≡ in_time modality interval.now self.now.log.now
+            (truths (length self.now.log.now) (λ j. sat self.now.log.now self.now.dom.now
+            (values_of self.now.bindings.now) j (form formula.now))) at) }
     {
-        let mut values = Vec::new(alloc);
-        for at in 0..self.log.len() {
-            values.push(!self.holds(alloc, formula, at)?)?;
-        }
-        Ok(values)
+        let truths = self.truths(alloc, formula)?;
+        in_time(alloc, modality, interval, self.log, truths.as_slice(), at)
+    }
+
+    #[cycle(satisfaction)]
+    fn holds_between(
+        &self,
+        alloc: Global,
+        span: Span,
+        interval: &Interval,
+        left: &Formula,
+        right: &Formula,
+        at: usize,
+    ) -> Result<bool, AllocError>
+        requires { at < length self.now.log.now }
+        ensures { IfOk result (λ held. held ≡ between span interval.now self.now.log.now
+            (truths (length self.now.log.now) (λ j. sat self.now.log.now self.now.dom.now
+            (values_of self.now.bindings.now) j (form left.now)))
+            (truths (length self.now.log.now) (λ j. sat self.now.log.now self.now.dom.now
+            (values_of self.now.bindings.now) j (form right.now))) at) }
+    {
+        let left = self.truths(alloc, left)?;
+        let right = self.truths(alloc, right)?;
+        Ok(between(
+            span,
+            interval,
+            self.log,
+            left.as_slice(),
+            right.as_slice(),
+            at,
+        ))
     }
 }
 
 impl Interpretation<'_> {
-    fn once(
-        &self,
-        alloc: Global,
-        interval: &Interval,
-        when: Vec<bool>,
-        at: usize,
-    ) -> Result<bool, AllocError>
-        requires { at < length self.now.log.now }
-        ensures { IfOk result (λ held. held ≡ since interval.now (times self.now.log.now)
-            (truths (length self.now.log.now) (λ _. true)) when.items at) }
-    {
-        let every = all_true(alloc, self.log)?;
-        Ok(since(interval, self.log, every.as_slice(), when.as_slice(), at))
-    }
-
-    fn eventually(
-        &self,
-        alloc: Global,
-        interval: &Interval,
-        when: Vec<bool>,
-        at: usize,
-    ) -> Result<bool, AllocError>
-        requires { at < length self.now.log.now }
-        ensures { IfOk result (λ held. held ≡ until interval.now (times self.now.log.now)
-            (truths (length self.now.log.now) (λ _. true)) when.items at) }
-    {
-        let every = all_true(alloc, self.log)?;
-        Ok(until(interval, self.log, every.as_slice(), when.as_slice(), at))
-    }
-
     fn has_event(&self, alloc: Global, atom: &Atom, at: usize) -> Result<bool, AllocError>
         ensures { IfOk result (λ found. found ≡ has_event (database_at self.now.log.now at)
             (event_of (values_of self.now.bindings.now) atom.now)) }
@@ -220,10 +263,4 @@ impl Interpretation<'_> {
         let right = term_value(&comparison.right, self.bindings, &zero);
         comparison.sign.compares(left, right)
     }
-}
-
-fn all_true(alloc: Global, log: &[TimePoint]) -> Result<Vec<bool>, AllocError>
-    ensures { IfOk result (λ values. values.items ≡ truths (length log.now) (λ _. true)) }
-{
-    (0..log.len()).map(|_| true).collect(alloc)
 }
