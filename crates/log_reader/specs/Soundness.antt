@@ -46,10 +46,3 @@ CountsOn old answer new = new ≡ old
 -- the progress of a reader that keeps all bytes
 abbrev pub told : Reader → Progress
 told r = progress r r.kept.bytes
-
--- a time-point that was given counts; an answer without one changes nothing
-abbrev pub MovesOn : Progress → Progress → Result Next LogFault → Type 0
-MovesOn old new (Ok (Point point)) = new ≡ record old { given = old.given + 1 }
-MovesOn old new (Ok next) = new ≡ old
-MovesOn old new (Err Memory) = new.is_broken ≡ true
-MovesOn old new (Err fault) = new ≡ old
