@@ -6,5 +6,6 @@ pub mod GroupLemmas
 pub mod WindowLemmas
 pub mod ExpireLemmas
 pub mod WithinLemmas
+pub mod RuleLemmas
 pub mod StepLemmas
 pub mod FollowsLemmas

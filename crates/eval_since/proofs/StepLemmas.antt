@@ -17,8 +17,11 @@ use Rattle.eval_since.specs.Groups.{times_at}
 use Rattle.mfotl_model.specs.Tables.{all_sized, has_row, part}
 use Rattle.eval_since.specs.LeftOperand.{left_holds}
 use Rattle.eval_since.specs.Times.{reaches, added}
-use Rattle.eval_since.specs.Windows.{Sized, Placed, Past, IsThinned, Covered, Rising, NotAfter, Fresh, Finds, Keeps}
+use Rattle.eval_since.specs.Windows.{Alone, Ascending, Sized, Placed, Past, IsThinned, Covered, Rising, NotAfter, Fresh, Finds, Keeps}
 use Rattle.eval_since.proofs.ExpireLemmas.{past_held, past_joined, placed_joined, past_thinned, placed_thinned, covered_push, rising_push, not_after_later, not_after_push}
+use Rattle.std.specs.List.Sorted.{IsStrictlyIncreasing}
+use Rattle.eval_since.proofs.RuleLemmas.{increasing_more, increasing_none, increasing_thinned, one_more}
+use Rattle.eval_since.proofs.WindowLemmas.{either_list}
 use Rattle.eval_since.proofs.WithinLemmas.{reaches_step, reaches_thinned}
 
 -- a table of rows of n values lacks a row of another number
@@ -77,6 +80,31 @@ module _ (interval : Interval) (right left : List ℕ) (negated : Bool) (lefts :
       (j.second q v ∙ ap (λ b. cond (b && has_row d.rows.items v)
       (added (is_some interval.hi) (times_at held q v) d.ts) (times_at held q v)) apart)
 
+  ascend_held : Joined → Ascending held
+  ascend_held j = λ q v.
+      either_list IsStrictlyIncreasing (left_holds negated lefts q) (times_at old q v) [] (times_at held q v) (j.first q v)
+      (j.kept.ascend q v) increasing_none
+
+  pub ascend_after : Joined → Ascending new
+  ascend_after j = λ q v.
+      either_list IsStrictlyIncreasing (is_at (row_cmp (part right left v)) q && has_row d.rows.items v)
+      (added (is_some interval.hi) (times_at held q v) d.ts) (times_at held q v) (times_at new q v) (j.second q v)
+      (increasing_more (is_some interval.hi) (times_at held q v) d.ts (ascend_held j q v)
+      (past_before j.rises j.kept j.first q v))
+      (ascend_held j q v)
+
+  alone_held : interval.hi ≡ None → Joined → Alone held
+  alone_held e j = λ q v.
+      either_list (λ ys. length ys ≤ 1) (left_holds negated lefts q) (times_at old q v) [] (times_at held q v) (j.first q v)
+      (j.kept.alone e q v) (omega arith)
+
+  alone_after : interval.hi ≡ None → Joined → Alone new
+  alone_after e j = λ q v.
+      either_list (λ ys. length ys ≤ 1) (is_at (row_cmp (part right left v)) q && has_row d.rows.items v)
+      (added (is_some interval.hi) (times_at held q v) d.ts) (times_at held q v) (times_at new q v) (j.second q v)
+      (one_more (is_some interval.hi) (times_at held q v) d.ts (ap is_some e) (alone_held e j q v))
+      (alone_held e j q v)
+
   pub sized_after : Joined → Sized (length right) new
   sized_after j = λ q v apart.
       nothing_joined (is_at (row_cmp (part right left v)) q) (left_holds negated lefts q) (times_at old q v)
@@ -96,8 +124,7 @@ module _ (interval : Interval) (right left : List ℕ) (negated : Bool) (lefts :
   pub kept_unbounded : interval.hi ≡ None → Joined → Keeps interval.hi right left d.ts new queue
   kept_unbounded e j = record {
     apart = j.kept.apart;
-    sized = sized_after j;
-    placed = placed_after j;
+    sized = sized_after j; ascend = ascend_after j; alone = λ n. alone_after e j; placed = placed_after j;
     past =
         past_after j;
     finds = subst (λ (o : Option ℕ). Finds o d.ts new queue) (sym e) tt;
@@ -133,7 +160,9 @@ module _ (interval : Interval) (right left : List ℕ) (negated : Bool) (lefts :
     apart = j.kept.apart;
     sized = λ q v apart. placed_thinned hi d.ts (times_at new q v) (times_at thin q v) (thins q v)
         (sized_after j q v apart);
-    placed = λ q v apart. placed_thinned hi d.ts (times_at new q v) (times_at thin q v) (thins q v)
+    ascend = λ q v. increasing_thinned hi d.ts (times_at new q v) (times_at thin q v) (thins q v) (ascend_after j q v);
+      alone = λ n. absurd (let f : Some hi ≡ None = sym e ∙ n in cc);
+      placed = λ q v apart. placed_thinned hi d.ts (times_at new q v) (times_at thin q v) (thins q v)
         (placed_after j q v apart);
     past = λ q v. past_thinned hi d.ts d.ts (times_at new q v) (times_at thin q v) (thins q v) (past_after j q v);
     finds = subst (λ (o : Option ℕ). Finds o d.ts thin rest) (sym e)

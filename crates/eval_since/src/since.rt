@@ -1,10 +1,10 @@
 //! SINCE over tables that are pushed position by position.
-ghost use Rattle.std.specs.Prelude.{◌≡◌, ◌+◌, ◌-◌, ◌<◌, ◌≤◌, ◌^◌, ◌∷◌, ◌++◌, [], Bool, IfOk, IfSome, IsTrue, List, MatchOption, OnOk, ◌&&◌, ◌||◌, drop, is_some, length, map, ℕ};
+ghost use Rattle.std.specs.Prelude.{◌≡◌, ◌+◌, ◌-◌, ◌<◌, ◌≤◌, ◌^◌, ◌∷◌, ◌++◌, [], Bool, IfOk, IfSome, IsTrue, List, MatchOption, None, OnOk, ◌&&◌, ◌||◌, drop, is_some, length, map, ℕ};
 ghost use Rattle.mfotl_model.specs.Satisfaction.{Valuation, since, time_at, truth_at};
 ghost use Rattle.mfotl_model.specs.Tables.{all_among, all_apart, has};
 ghost use Rattle.mfotl_model.specs.declared.value.Value.{Value};
 ghost use Rattle.eval_since.specs.LeftOperand.{left_holds, turned};
-ghost use Rattle.eval_since.specs.Windows.{Bounded, Past, Placed};
+ghost use Rattle.eval_since.specs.Windows.{Alone, Ascending, Bounded, Past, Placed};
 ghost use Rattle.eval_since.specs.SinceView.{Advances, Climbs, Follows, SinceOf, due};
 
 use crate::window::Window;
@@ -173,12 +173,15 @@ impl SinceState {
         Ok(Some(self.table(alloc)?))
     }
 
-    /// Of each kept time: it lies no further back from the last position pulled than the interval's
-    /// greatest number, it isn't after that position's time, and it stands in its row's own group.
+    /// Of the times kept for a row: they ascend, lie no further back from the last position pulled
+    /// than the interval's greatest number, are not after that position's time, and stand in the
+    /// row's own group; without a greatest number there is one at most.
     pub fn keeps_no_more(&self)
         ensures bounded { IfSome self.now.window.interval.hi (λ hi.
             Bounded hi self.now.window.last self.now.window.groups) }
         ensures past { Past self.now.window.last self.now.window.groups }
+        ensures ascend { Ascending self.now.window.groups }
+        ensures alone { self.now.window.interval.hi ≡ None → Alone self.now.window.groups }
         ensures placed { Placed self.now.window.right self.now.window.left self.now.window.groups }
     {
         self.window.is_bounded();

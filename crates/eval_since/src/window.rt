@@ -1,6 +1,6 @@
 //! The window of SINCE: for each row the times at which the right operand held of it and from which
 //! the left one has held on.
-ghost use Rattle.std.specs.Prelude.{◌≡◌, ◌||◌, ◌&&◌, ◌-◌, ◌≤◌, [], ℕ, Bool, if◌then◌else◌, is_ok, IfOk, IfSome, IsTrue, List, OnOk, cond, length};
+ghost use Rattle.std.specs.Prelude.{◌≡◌, ◌||◌, ◌&&◌, ◌-◌, ◌≤◌, [], ℕ, Bool, if◌then◌else◌, is_ok, IfOk, IfSome, IsTrue, List, None, OnOk, cond, length};
 ghost use Rattle.std.specs.BTreeMap.{is_at};
 ghost use Rattle.mfotl_model.specs.Intervals.{in_interval};
 ghost use Rattle.mfotl_model.specs.Tables.{all_apart, all_sized, has_row, part};
@@ -10,7 +10,7 @@ ghost use Rattle.eval_since.specs.Groups.{times_at};
 ghost use Rattle.eval_since.specs.LeftOperand.{left_holds};
 ghost use Rattle.eval_since.specs.Times.{added, reaches, recent};
 ghost use Rattle.eval_since.specs.WindowView.{WindowOf, within};
-ghost use Rattle.eval_since.specs.Windows.{Bounded, Covered, Fresh, IsThinned, Keeps, NotAfter, Past, Placed, Rising};
+ghost use Rattle.eval_since.specs.Windows.{Alone, Ascending, Bounded, Covered, Fresh, IsThinned, Keeps, NotAfter, Past, Placed, Rising};
 
 use crate::groups::Groups;
 use mfotl_model::{Interval, Row};
@@ -309,6 +309,8 @@ impl Window {
         ensures bounded { IfSome self.now.interval.hi (λ hi.
             Bounded hi self.now.last self.now.groups) }
         ensures past { Past self.now.last self.now.groups }
+        ensures ascend { Ascending self.now.groups }
+        ensures alone { self.now.interval.hi ≡ None → Alone self.now.groups }
         ensures placed { Placed self.now.right self.now.left self.now.groups }
     {
         let _ = &self.last;
