@@ -1,4 +1,3 @@
-pub mod BufferLemmas
 pub mod PreviousLemmas
 pub mod SinceLemmas
 pub mod TimesLemmas
