@@ -8,9 +8,9 @@ use Rattle.eval_since.specs.WindowView.{WindowOf, within}
 use Rattle.eval_since.specs.SinceBefore.{since_before}
 use Rattle.eval_since.specs.SinceView.{Climbs, DueIsSettled, Follows, FollowsRow, SinceOf}
 use Rattle.mfotl_model.specs.Tables.{TableOf, all_among, has, has_row, part}
-use Rattle.eval_since.specs.Buffers.{StandFrom}
-use Rattle.eval_since.proofs.BufferLemmas.{stand_push}
-use Rattle.eval_since.specs.LeftOperand.{left_holds, turned}
+use Rattle.relations.specs.Pushed.{StandFrom, left_holds, turned}
+use Rattle.relations.proofs.PushedLemmas.{stand_push}
+use Rattle.eval_since.specs.LeftOperand.{left_has}
 use Rattle.relations.proofs.OperationLaws.{has_as, part_of_own}
 use Rattle.eval_since.proofs.SinceLemmas.{begins_false, goes_on, since_is}
 use Rattle.std.proofs.Common.{lt-ltb}
@@ -35,7 +35,7 @@ pub follows_next : (k n : WindowOf) (negated : Bool) (p newest t0 : ℕ) (ts : L
     (t : List ℕ) (a b : List Bool) (u : List Value)
     → n.interval ≡ k.interval → n.left ≡ k.left → n.right ≡ k.right → n.last ≡ t0 → k.last ≤ t0
     → ((x : ℕ) (v : List Value) → t0 ≤ x → within n x v
-    ≡ ((within k x v && left_holds negated l.rows (part k.right k.left v))
+    ≡ ((within k x v && left_has negated l.rows (part k.right k.left v))
     || (in_interval k.interval (x - t0) && has_row r.rows v)))
     → FollowsRow (record {
       window = k;
@@ -60,9 +60,9 @@ follows_next k n negated p newest t0 ts l ls r rs t a b u interval left right la
     record {
       last = λ _. let e : p ≡ p + 1 - 1 = omega arith in last ∙ f.times.0 ∙ ap (time_at t) e;
       times = f.times.1;
-      lefts = subst (λ (rc : List ℕ). StandFrom (λ i table. left_holds negated table.rows (part rc n.left u)
+      lefts = subst (λ (rc : List ℕ). StandFrom (λ i table. left_has negated table.rows (part rc n.left u)
           ≡ truth_at a i) (p + 1) ls) (sym right)
-          (subst (λ (lc : List ℕ). StandFrom (λ i table. left_holds negated table.rows (part k.right lc u)
+          (subst (λ (lc : List ℕ). StandFrom (λ i table. left_has negated table.rows (part k.right lc u)
           ≡ truth_at a i) (p + 1) ls) (sym left) f.lefts.1);
       rights = f.rights.1;
       window = λ x low.
@@ -98,7 +98,7 @@ pub next_is : (k : WindowOf) (negated : Bool) (p newest t0 : ℕ) (ts : List ℕ
           ls;
       rights = r ∷ rs;
     }) t a b u
-    → ((within k t0 u && left_holds negated l.rows (part k.right k.left u))
+    → ((within k t0 u && left_has negated l.rows (part k.right k.left u))
     || (in_interval k.interval 0 && has_row r.rows u)) ≡ since k.interval t a b p
 next_is k negated p newest t0 ts l ls r rs t a b u rises f =
     let z : 0 ≡ time_at t p - time_at t p = omega arith in
@@ -119,7 +119,7 @@ pub follows_left : (k : WindowOf) (negated : Bool) (p newest : ℕ) (ts : List �
       lefts = ls;
       rights = rs;
     }) t a b u
-    → left_holds negated l.rows (part k.right k.left u) ≡ truth_at a (p + length ls)
+    → left_has negated l.rows (part k.right k.left u) ≡ truth_at a (p + length ls)
     → FollowsRow (record {
       window = k;
       negated = negated;
@@ -133,7 +133,7 @@ pub follows_left : (k : WindowOf) (negated : Bool) (p newest : ℕ) (ts : List �
 follows_left k negated p newest ts ls rs l t a b u f e = record {
   last = f.last;
   times = f.times;
-  lefts = stand_push (λ i table. left_holds negated table.rows (part k.right k.left u)
+  lefts = stand_push (λ i table. left_has negated table.rows (part k.right k.left u)
       ≡ truth_at a i) p ls l f.lefts e;
   rights = f.rights;
   window = f.window;
@@ -205,7 +205,7 @@ pub follows_popped : (k n : WindowOf) (negated : Bool) (p newest t0 : ℕ) (tts 
     → tts ≡ t0 ∷ ts → lls ≡ l ∷ ls → rrs ≡ r ∷ rs → Climbs k.last tts newest
     → n.interval ≡ k.interval → n.left ≡ k.left → n.right ≡ k.right → n.last ≡ t0
     → ((x : ℕ) (v : List Value) → t0 ≤ x → within n x v
-    ≡ ((within k x v && left_holds negated l.rows (part k.right k.left v))
+    ≡ ((within k x v && left_has negated l.rows (part k.right k.left v))
     || (in_interval k.interval (x - t0) && has_row r.rows v)))
     → FollowsRow (record {
       window = k;
@@ -271,7 +271,7 @@ pub next_popped : (k : WindowOf) (negated : Bool) (p newest t0 : ℕ) (tts ts : 
       lefts = lls;
       rights = rrs;
     }) t a b u
-    → ((within k t0 u && left_holds negated l.rows (part k.right k.left u))
+    → ((within k t0 u && left_has negated l.rows (part k.right k.left u))
     || (in_interval k.interval 0 && has_row r.rows u)) ≡ since k.interval t a b p
 next_popped k negated p newest t0 tts ts l lls ls r rrs rs t a b u et el er climbs f =
     let c : Climbs k.last (t0 ∷ ts) newest = subst (λ (q : List ℕ). Climbs k.last q newest) et climbs in
@@ -375,7 +375,7 @@ due_settled s =
 -- what a table over the left operand's columns has of a row's part
 pub left_of : (table : TableOf) (left right : List ℕ) (negated : Bool) (v : Valuation) → all_among left right ≡ true
     → table.columns ≡ left
-    → left_holds negated table.rows (part right left (map v right)) ≡ turned negated (has table v)
+    → left_has negated table.rows (part right left (map v right)) ≡ left_holds negated table v
 left_of table left right negated v inside columns =
     ap (turned negated) (ap (has_row table.rows) (part_of_own v right left inside)
     ∙ sym (has_as table left table.rows v columns refl))
@@ -404,9 +404,9 @@ pub next_at : (k : WindowOf) (negated : Bool) (p newest t0 : ℕ) (tts ts : List
       rights
           = rrs;
     }) t a b v
-    → ((within k t0 row && left_holds negated l.rows (part k.right k.left row))
+    → ((within k t0 row && left_has negated l.rows (part k.right k.left row))
     || (in_interval k.interval 0 && has_row r.rows row)) ≡ since k.interval t a b p
 next_at k negated p newest t0 tts ts l lls ls r rrs rs t a b v row et el er climbs same f =
-    subst (λ (u : List Value). ((within k t0 u && left_holds negated l.rows (part k.right k.left u))
+    subst (λ (u : List Value). ((within k t0 u && left_has negated l.rows (part k.right k.left u))
     || (in_interval k.interval 0 && has_row r.rows u)) ≡ since k.interval t a b p) same
     (next_popped k negated p newest t0 tts ts l lls ls r rrs rs t a b (map v k.right) et el er climbs f)

@@ -1,4 +1,3 @@
-pub mod BufferLemmas
 pub mod PreviousLemmas
 pub mod SinceLemmas
 pub mod TimesLemmas
@@ -6,5 +5,6 @@ pub mod GroupLemmas
 pub mod WindowLemmas
 pub mod ExpireLemmas
 pub mod WithinLemmas
+pub mod RuleLemmas
 pub mod StepLemmas
 pub mod FollowsLemmas

@@ -6,9 +6,9 @@ use Rattle.mfotl_model.specs.Satisfaction.{Valuation, previous, time_at, truth_a
 use Rattle.mfotl_model.specs.Settled.{previous_settled}
 use Rattle.mfotl_model.specs.Tables.{TableOf, has}
 use Rattle.mfotl_model.specs.declared.interval.Interval.{Interval}
-use Rattle.eval_since.specs.Buffers.{StandFrom}
+use Rattle.relations.specs.Pushed.{StandFrom}
 use Rattle.eval_since.specs.PreviousView.{FollowsPrevious, PreviousDueIsSettled}
-use Rattle.eval_since.proofs.BufferLemmas.{stand_first, stand_push}
+use Rattle.relations.proofs.PushedLemmas.{stand_first, stand_push}
 
 -- at the first position it is false
 pub never_first : (interval : Interval) (t : List ℕ) (a : List Bool) (p : ℕ) → p ≡ 0 → false ≡ previous interval t a p

@@ -15,10 +15,13 @@ use Rattle.mfotl_model.specs.declared.value.Value.{Value}
 use Rattle.eval_since.specs.declared.window.Dated.{Dated}
 use Rattle.eval_since.specs.Groups.{times_at}
 use Rattle.mfotl_model.specs.Tables.{all_sized, has_row, part}
-use Rattle.eval_since.specs.LeftOperand.{left_holds}
+use Rattle.eval_since.specs.LeftOperand.{left_has}
 use Rattle.eval_since.specs.Times.{reaches, added}
-use Rattle.eval_since.specs.Windows.{Sized, Placed, Past, IsThinned, Covered, Rising, NotAfter, Fresh, Finds, Keeps}
+use Rattle.eval_since.specs.Windows.{Alone, Ascending, Sized, Placed, Past, IsThinned, Covered, Rising, NotAfter, Fresh, Finds, Keeps}
 use Rattle.eval_since.proofs.ExpireLemmas.{past_held, past_joined, placed_joined, past_thinned, placed_thinned, covered_push, rising_push, not_after_later, not_after_push}
+use Rattle.std.specs.List.Sorted.{IsStrictlyIncreasing}
+use Rattle.eval_since.proofs.RuleLemmas.{increasing_more, increasing_none, increasing_thinned, one_more}
+use Rattle.eval_since.proofs.WindowLemmas.{either_list}
 use Rattle.eval_since.proofs.WithinLemmas.{reaches_step, reaches_thinned}
 
 -- a table of rows of n values lacks a row of another number
@@ -52,15 +55,15 @@ module _ (interval : Interval) (right left : List ℕ) (negated : Bool) (lefts :
     pub rises : last ≤ d.ts
     pub sized : all_sized (length right) d.rows.items ≡ true
     pub kept : Keeps interval.hi right left last old queue
-    pub first : (q v : List Value) → times_at held q v ≡ cond (left_holds negated lefts q) (times_at old q v) []
+    pub first : (q v : List Value) → times_at held q v ≡ cond (left_has negated lefts q) (times_at old q v) []
     pub second : (q v : List Value) → times_at new q v
         ≡ cond (is_at (row_cmp (part right left v)) q && has_row d.rows.items v)
         (added (is_some interval.hi) (times_at held q v) d.ts) (times_at held q v)
 
   pub past_before : last ≤ d.ts → Keeps interval.hi right left last old queue
-      → ((q v : List Value) → times_at held q v ≡ cond (left_holds negated lefts q) (times_at old q v) [])
+      → ((q v : List Value) → times_at held q v ≡ cond (left_has negated lefts q) (times_at old q v) [])
       → Past d.ts held
-  past_before rises kept first = λ q v. past_held last d.ts (left_holds negated lefts q) (times_at old q v)
+  past_before rises kept first = λ q v. past_held last d.ts (left_has negated lefts q) (times_at old q v)
       (times_at held q v) rises (kept.past q v) (first q v)
 
   pub past_after : Joined → Past d.ts new
@@ -71,15 +74,40 @@ module _ (interval : Interval) (right left : List ℕ) (negated : Bool) (lefts :
 
   pub placed_after : Joined → Placed right left new
   placed_after j = λ q v apart.
-      placed_joined d.ts (is_some interval.hi) (left_holds negated lefts q) (has_row d.rows.items v)
+      placed_joined d.ts (is_some interval.hi) (left_has negated lefts q) (has_row d.rows.items v)
       (times_at old q v) (times_at held q v) (times_at new q v)
       (j.kept.placed q v apart) (j.first q v)
       (j.second q v ∙ ap (λ b. cond (b && has_row d.rows.items v)
       (added (is_some interval.hi) (times_at held q v) d.ts) (times_at held q v)) apart)
 
+  ascend_held : Joined → Ascending held
+  ascend_held j = λ q v.
+      either_list IsStrictlyIncreasing (left_has negated lefts q) (times_at old q v) [] (times_at held q v) (j.first q v)
+      (j.kept.ascend q v) increasing_none
+
+  pub ascend_after : Joined → Ascending new
+  ascend_after j = λ q v.
+      either_list IsStrictlyIncreasing (is_at (row_cmp (part right left v)) q && has_row d.rows.items v)
+      (added (is_some interval.hi) (times_at held q v) d.ts) (times_at held q v) (times_at new q v) (j.second q v)
+      (increasing_more (is_some interval.hi) (times_at held q v) d.ts (ascend_held j q v)
+      (past_before j.rises j.kept j.first q v))
+      (ascend_held j q v)
+
+  alone_held : interval.hi ≡ None → Joined → Alone held
+  alone_held e j = λ q v.
+      either_list (λ ys. length ys ≤ 1) (left_has negated lefts q) (times_at old q v) [] (times_at held q v) (j.first q v)
+      (j.kept.alone e q v) (omega arith)
+
+  alone_after : interval.hi ≡ None → Joined → Alone new
+  alone_after e j = λ q v.
+      either_list (λ ys. length ys ≤ 1) (is_at (row_cmp (part right left v)) q && has_row d.rows.items v)
+      (added (is_some interval.hi) (times_at held q v) d.ts) (times_at held q v) (times_at new q v) (j.second q v)
+      (one_more (is_some interval.hi) (times_at held q v) d.ts (ap is_some e) (alone_held e j q v))
+      (alone_held e j q v)
+
   pub sized_after : Joined → Sized (length right) new
   sized_after j = λ q v apart.
-      nothing_joined (is_at (row_cmp (part right left v)) q) (left_holds negated lefts q) (times_at old q v)
+      nothing_joined (is_at (row_cmp (part right left v)) q) (left_has negated lefts q) (times_at old q v)
       (added (is_some interval.hi) (times_at held q v) d.ts) (times_at held q v) (times_at new q v)
       (j.kept.sized q v apart) (j.first q v)
       (j.second q v ∙ ap (λ b. cond (is_at (row_cmp (part right left v)) q && b)
@@ -87,7 +115,7 @@ module _ (interval : Interval) (right left : List ℕ) (negated : Bool) (lefts :
       (lacks_other (length right) d.rows.items v j.sized apart))
 
   pub within_after : Joined → (x : ℕ) (u : List Value) → reaches interval (times_at new (part right left u) u) x
-      ≡ ((reaches interval (times_at old (part right left u) u) x && left_holds negated lefts (part right left u))
+      ≡ ((reaches interval (times_at old (part right left u) u) x && left_has negated lefts (part right left u))
       || (in_interval interval (x - d.ts) && has_row d.rows.items u))
   within_after j x u = reaches_step interval right left negated lefts d.rows.items u d.ts x old held new
       (past_before j.rises j.kept j.first) j.first j.second
@@ -96,8 +124,7 @@ module _ (interval : Interval) (right left : List ℕ) (negated : Bool) (lefts :
   pub kept_unbounded : interval.hi ≡ None → Joined → Keeps interval.hi right left d.ts new queue
   kept_unbounded e j = record {
     apart = j.kept.apart;
-    sized = sized_after j;
-    placed = placed_after j;
+    sized = sized_after j; ascend = ascend_after j; alone = λ n. alone_after e j; placed = placed_after j;
     past =
         past_after j;
     finds = subst (λ (o : Option ℕ). Finds o d.ts new queue) (sym e) tt;
@@ -110,7 +137,7 @@ module _ (interval : Interval) (right left : List ℕ) (negated : Bool) (lefts :
 
   pub covered_after : (hi : ℕ) → interval.hi ≡ Some hi → Joined → Covered (queue ++ d ∷ []) new
   covered_after hi e j = λ q v.
-      covered_push queue d v (is_some interval.hi) (left_holds negated lefts q) (is_at (row_cmp (part right left v)) q)
+      covered_push queue d v (is_some interval.hi) (left_has negated lefts q) (is_at (row_cmp (part right left v)) q)
       (times_at old q v) (times_at held q v) (times_at new q v) ((finds_before hi e j).0 q v) (j.first q v)
       (j.second q v)
 
@@ -133,7 +160,9 @@ module _ (interval : Interval) (right left : List ℕ) (negated : Bool) (lefts :
     apart = j.kept.apart;
     sized = λ q v apart. placed_thinned hi d.ts (times_at new q v) (times_at thin q v) (thins q v)
         (sized_after j q v apart);
-    placed = λ q v apart. placed_thinned hi d.ts (times_at new q v) (times_at thin q v) (thins q v)
+    ascend = λ q v. increasing_thinned hi d.ts (times_at new q v) (times_at thin q v) (thins q v) (ascend_after j q v);
+      alone = λ n. absurd (let f : Some hi ≡ None = sym e ∙ n in cc);
+      placed = λ q v apart. placed_thinned hi d.ts (times_at new q v) (times_at thin q v) (thins q v)
         (placed_after j q v apart);
     past = λ q v. past_thinned hi d.ts d.ts (times_at new q v) (times_at thin q v) (thins q v) (past_after j q v);
     finds = subst (λ (o : Option ℕ). Finds o d.ts thin rest) (sym e)
@@ -144,7 +173,7 @@ module _ (interval : Interval) (right left : List ℕ) (negated : Bool) (lefts :
       → Joined
       → ((q v : List Value) → IsThinned hi d.ts (times_at new q v) (times_at thin q v))
       → (x : ℕ) (u : List Value) → d.ts ≤ x → reaches interval (times_at thin (part right left u) u) x
-      ≡ ((reaches interval (times_at old (part right left u) u) x && left_holds negated lefts (part right left u))
+      ≡ ((reaches interval (times_at old (part right left u) u) x && left_has negated lefts (part right left u))
       || (in_interval interval (x - d.ts) && has_row d.rows.items u))
   within_bounded hi thin e j thins x u l =
       reaches_thinned interval hi d.ts x (times_at new (part right left u) u)

@@ -13,7 +13,7 @@ use Rattle.mfotl_model.specs.declared.interval.Interval.{Interval}
 use Rattle.mfotl_model.specs.declared.value.Value.{Value}
 use Rattle.eval_since.specs.Groups.{times_at}
 use Rattle.mfotl_model.specs.Tables.{has_row, part}
-use Rattle.eval_since.specs.LeftOperand.{left_holds}
+use Rattle.eval_since.specs.LeftOperand.{left_has}
 use Rattle.eval_since.specs.Times.{reaches, ArePast, is_new, added, recent}
 use Rattle.eval_since.specs.Windows.{Past, IsThinned}
 
@@ -124,11 +124,11 @@ reaches_joined interval ys zs now x false past e = ap (λ r. reaches interval r 
 pub reaches_step : (interval : Interval) (right left : List ℕ) (negated : Bool) (lefts rights : List (List Value))
     (u : List Value) (now x : ℕ) (old held new : List (List Value × List (List Value × List ℕ)))
     → Past now held
-    → ((q v : List Value) → times_at held q v ≡ cond (left_holds negated lefts q) (times_at old q v) [])
+    → ((q v : List Value) → times_at held q v ≡ cond (left_has negated lefts q) (times_at old q v) [])
     → ((q v : List Value) → times_at new q v ≡ cond (is_at (row_cmp (part right left v)) q && has_row rights v)
     (added (is_some interval.hi) (times_at held q v) now) (times_at held q v))
     → reaches interval (times_at new (part right left u) u) x
-    ≡ ((reaches interval (times_at old (part right left u) u) x && left_holds negated lefts (part right left u))
+    ≡ ((reaches interval (times_at old (part right left u) u) x && left_has negated lefts (part right left u))
     || (in_interval interval (x - now) && has_row rights u))
 reaches_step interval right left negated lefts rights u now x old held new past first second =
     let k = part right left u in
@@ -136,4 +136,4 @@ reaches_step interval right left negated lefts rights u now x old held new past 
     (second k u ∙ ap (λ b. cond (b && has_row rights u) (added (is_some interval.hi) (times_at held k u) now)
     (times_at held k u)) ((eq_by_cmp_equiv row_total).refl k))
     ∙ ap (λ b. b || (in_interval interval (x - now) && has_row rights u))
-    (reaches_held interval (times_at old k u) (times_at held k u) x (left_holds negated lefts k) (first k u))
+    (reaches_held interval (times_at old k u) (times_at held k u) x (left_has negated lefts k) (first k u))

@@ -1,4 +1,3 @@
-pub mod Buffers
 pub mod PreviousView
 pub mod LeftOperand
 pub mod SinceBefore

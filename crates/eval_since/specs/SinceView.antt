@@ -6,8 +6,8 @@ use Rattle.mfotl_model.specs.declared.value.Value.{Value}
 use Rattle.eval_since.specs.WindowView.{WindowOf, within}
 use Rattle.eval_since.specs.SinceBefore.{since_before}
 use Rattle.mfotl_model.specs.Tables.{TableOf, has_row, part}
-use Rattle.eval_since.specs.Buffers.{StandFrom}
-use Rattle.eval_since.specs.LeftOperand.{left_holds}
+use Rattle.relations.specs.Pushed.{StandFrom}
+use Rattle.eval_since.specs.LeftOperand.{left_has}
 
 -- the window after the positions pulled, whether the left operand is negated, how many were pulled, the
 -- latest time pushed, and what was pushed for later positions, in order
@@ -26,7 +26,7 @@ pub record SinceOf : Type 0 where
 pub record FollowsRow (s : SinceOf) (t : List ℕ) (a b : List Bool) (u : List Value) : Type 0 where
   pub last : 0 < s.pulled → s.window.last ≡ time_at t (s.pulled - 1)
   pub times : StandFrom (λ i x. x ≡ time_at t i) s.pulled s.times
-  pub lefts : StandFrom (λ i table. left_holds s.negated table.rows (part s.window.right s.window.left u)
+  pub lefts : StandFrom (λ i table. left_has s.negated table.rows (part s.window.right s.window.left u)
       ≡ truth_at a i) s.pulled s.lefts
   pub rights : StandFrom (λ i table. has_row table.rows u ≡ truth_at b i) s.pulled s.rights
   pub window : (x : ℕ) → (0 < s.pulled → s.window.last ≤ x)

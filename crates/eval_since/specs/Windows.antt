@@ -1,6 +1,7 @@
 -- What holds of each window.
-use Rattle.std.specs.Prelude.{◌≡◌, ℕ, ◌-◌, Bool, true, false, ◌&&◌, ◌⊎◌, nat_eq, nat_le, Option, Some, None, List, [], ◌∷◌, length}
+use Rattle.std.specs.Prelude.{◌≡◌, ℕ, ◌-◌, ◌≤◌, Bool, true, false, ◌&&◌, ◌⊎◌, nat_eq, nat_le, Option, Some, None, List, [], ◌∷◌, length}
 use Rattle.std.specs.BTreeMap.{is_at}
+use Rattle.std.specs.List.Sorted.{IsStrictlyIncreasing}
 use Rattle.mfotl_model.specs.Values.{row_cmp}
 use Rattle.mfotl_model.specs.declared.value.Value.{Value}
 use Rattle.eval_since.specs.Groups.{times_at}
@@ -12,6 +13,14 @@ use Rattle.eval_since.specs.Times.{ArePast, recent}
 -- each row that times are kept for has n values
 abbrev pub Sized : ℕ → List (List Value × List (List Value × List ℕ)) → Type 0
 Sized n groups = (q v : List Value) → nat_eq (length v) n ≡ false → times_at groups q v ≡ []
+
+-- the times of each row ascend strictly
+abbrev pub Ascending : List (List Value × List (List Value × List ℕ)) → Type 0
+Ascending groups = (q v : List Value) → IsStrictlyIncreasing (times_at groups q v)
+
+-- each row has one time at most
+abbrev pub Alone : List (List Value × List (List Value × List ℕ)) → Type 0
+Alone groups = (q v : List Value) → length (times_at groups q v) ≤ 1
 
 -- each row stands in the group of its own part
 abbrev pub Placed : List ℕ → List ℕ → List (List Value × List (List Value × List ℕ)) → Type 0
@@ -61,6 +70,8 @@ pub record Keeps (hi : Option ℕ) (right left : List ℕ) (x : ℕ)
     (groups : List (List Value × List (List Value × List ℕ))) (queue : List Dated) : Type 0 where
   pub apart : all_apart right ≡ true
   pub sized : Sized (length right) groups
+  pub ascend : Ascending groups
+  pub alone : hi ≡ None → Alone groups
   pub placed : Placed right left groups
   pub past : Past x groups
   pub finds : Finds hi x groups queue

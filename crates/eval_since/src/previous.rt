@@ -25,10 +25,10 @@ pub struct PrevState {
 impl Model for PrevState {
     ghost use Rattle.std.specs.Prelude.{◌≡◌, ◌≤◌, ◌+◌, ◌^◌, length, true};
     ghost use Rattle.mfotl_model.specs.Tables.{all_apart};
-    ghost use Rattle.eval_since.specs.Buffers.{AreOver};
-    ghost use Rattle.eval_since.specs.PreviousView.{PreviousOf};
+    ghost use Rattle.relations.specs.Pushed.{AreOver};
+    ghost use Rattle.eval_since.specs.PreviousView.{PrevOf};
 
-    ghost Value = { PreviousOf };
+    ghost Value = { PrevOf };
 
     ghost view = { λ s. record { interval = s.interval; columns = s.columns.items; pulled = s.pulled; last = s.last; times = s.times.items; tables = s.tables.items } };
 

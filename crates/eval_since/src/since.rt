@@ -1,15 +1,16 @@
 //! SINCE over tables that are pushed position by position.
-ghost use Rattle.std.specs.Prelude.{◌≡◌, ◌+◌, ◌-◌, ◌<◌, ◌≤◌, ◌^◌, ◌∷◌, ◌++◌, [], Bool, IfOk, IfSome, IsTrue, List, MatchOption, OnOk, ◌&&◌, ◌||◌, drop, is_some, length, map, ℕ};
+ghost use Rattle.std.specs.Prelude.{◌≡◌, ◌+◌, ◌-◌, ◌<◌, ◌≤◌, ◌^◌, ◌∷◌, ◌++◌, [], Bool, IfOk, IfSome, IsTrue, List, MatchOption, None, OnOk, ◌&&◌, ◌||◌, drop, is_some, length, map, ℕ};
 ghost use Rattle.mfotl_model.specs.Satisfaction.{Valuation, since, time_at, truth_at};
-ghost use Rattle.mfotl_model.specs.Tables.{all_among, all_apart, has};
+ghost use Rattle.mfotl_model.specs.Tables.{all_among, all_apart, has, valuation};
 ghost use Rattle.mfotl_model.specs.declared.value.Value.{Value};
-ghost use Rattle.eval_since.specs.LeftOperand.{left_holds, turned};
-ghost use Rattle.eval_since.specs.Windows.{Bounded, Past, Placed};
+ghost use Rattle.eval_since.specs.LeftOperand.{left_has};
+ghost use Rattle.relations.specs.Pushed.{left_holds};
+ghost use Rattle.eval_since.specs.Windows.{Alone, Ascending, Bounded, Past, Placed};
 ghost use Rattle.eval_since.specs.SinceView.{Advances, Climbs, Follows, SinceOf, due};
 
 use crate::window::Window;
 use mfotl_model::{Interval, Row};
-use relations::Table;
+use relations::{Table, part_of};
 use std::alloc::{AllocError, Global};
 use std::collections::VecDeque;
 use std::marker::Model;
@@ -30,7 +31,7 @@ pub struct SinceState {
 impl Model for SinceState {
     ghost use Rattle.std.specs.Prelude.{◌≡◌, ◌≤◌, ◌+◌, ◌^◌, length, true};
     ghost use Rattle.mfotl_model.specs.Tables.{all_among};
-    ghost use Rattle.eval_since.specs.Buffers.{AreOver};
+    ghost use Rattle.relations.specs.Pushed.{AreOver};
     ghost use Rattle.eval_since.specs.SinceView.{Climbs, SinceOf};
 
     ghost Value = { SinceOf };
@@ -75,7 +76,7 @@ impl SinceState {
             (self.new ≡ record self.old { lefts = self.old.lefts ++ table ∷ [] }) }
         ensures follows { OnOk result ((t : List ℕ) (a b : List Bool) (v : Valuation) →
             Follows self.old t a b v →
-            turned self.old.negated (has table v)
+            left_holds self.old.negated table v
             ≡ truth_at a (self.old.pulled + length self.old.lefts) →
             Follows self.new t a b v) }
     {
@@ -173,37 +174,46 @@ impl SinceState {
         Ok(Some(self.table(alloc)?))
     }
 
-    /// Of each kept time: it lies no further back from the last position pulled than the interval's
-    /// greatest number, it isn't after that position's time, and it stands in its row's own group.
+    /// Of the times kept for a row: they ascend, lie no further back from the last position pulled
+    /// than the interval's greatest number, are not after that position's time, and stand in the
+    /// row's own group; without a greatest number there is one at most.
     pub fn keeps_no_more(&self)
         ensures bounded { IfSome self.now.window.interval.hi (λ hi.
             Bounded hi self.now.window.last self.now.window.groups) }
         ensures past { Past self.now.window.last self.now.window.groups }
+        ensures ascend { Ascending self.now.window.groups }
+        ensures alone { self.now.window.interval.hi ≡ None → Alone self.now.window.groups }
         ensures placed { Placed self.now.window.right self.now.window.left self.now.window.groups }
     {
         self.window.is_bounded();
     }
 
-    /// Whether the next position's table has a row over the right operand's columns, without making
-    /// the table.
-    pub fn holds(&self, alloc: Global, row: &Row) -> Result<bool, AllocError>
+    /// Whether the next position's table has the valuation that a row gives to its columns, without
+    /// making the table. The columns are any, the right operand's among them.
+    pub fn holds(
+        &self,
+        alloc: Global,
+        columns: &[u32],
+        row: &Row,
+    ) -> Result<bool, AllocError>
         requires due { IsTrue (due self.now) }
-        ensures { IfOk result (λ yes. (t : List ℕ) (a b : List Bool) (v : Valuation) →
-            Follows self.now t a b v → map v self.now.window.right ≡ row.now →
+        ensures { IfOk result (λ yes. (t : List ℕ) (a b : List Bool) →
+            Follows self.now t a b (valuation columns.now row.now) →
             yes ≡ since self.now.window.interval t a b self.now.pulled) }
     {
         let now = first(&self.times);
         let left = first(&self.lefts);
         let right = first(&self.rights);
-        let key = self.window.key(alloc, row)?;
-        let kept = self.window.within(&key, row, *now);
+        let own = part_of(alloc, columns, self.window.right(), row.values())?;
+        let key = self.window.key(alloc, &own)?;
+        let kept = self.window.within(&key, &own, *now);
         let held = holds_on(self.negated, left, &key);
         let reached = self.window.interval().contains(0);
-        Ok(in_either(kept, held, reached, right.contains(row)))
+        Ok(in_either(kept, held, reached, right.contains(&own)))
     }
 }
 
-#[tactic(auto, using(crate::proofs::BufferLemmas::first_is))]
+#[tactic(auto, using(relations::proofs::PushedLemmas::first_is))]
 fn first<T>(queue: &VecDeque<T>) -> &T
     requires { 0 < length queue.now.items }
     ensures { queue.now.items ≡ result.now ∷ drop 1 queue.now.items }
@@ -215,7 +225,7 @@ fn first<T>(queue: &VecDeque<T>) -> &T
 }
 
 fn holds_on(negated: bool, table: &Table, key: &Row) -> bool
-    ensures { result ≡ left_holds negated table.now.rows key.now }
+    ensures { result ≡ left_has negated table.now.rows key.now }
 {
     if negated {
         !table.contains(key)

@@ -1,16 +1,16 @@
 //! The window of SINCE: for each row the times at which the right operand held of it and from which
 //! the left one has held on.
-ghost use Rattle.std.specs.Prelude.{◌≡◌, ◌||◌, ◌&&◌, ◌-◌, ◌≤◌, [], ℕ, Bool, if◌then◌else◌, is_ok, IfOk, IfSome, IsTrue, List, OnOk, cond, length};
+ghost use Rattle.std.specs.Prelude.{◌≡◌, ◌||◌, ◌&&◌, ◌-◌, ◌≤◌, [], ℕ, Bool, if◌then◌else◌, is_ok, IfOk, IfSome, IsTrue, List, None, OnOk, cond, length};
 ghost use Rattle.std.specs.BTreeMap.{is_at};
 ghost use Rattle.mfotl_model.specs.Intervals.{in_interval};
 ghost use Rattle.mfotl_model.specs.Tables.{all_apart, all_sized, has_row, part};
 ghost use Rattle.mfotl_model.specs.Values.{row_cmp};
 ghost use Rattle.mfotl_model.specs.declared.value.Value.{Value};
 ghost use Rattle.eval_since.specs.Groups.{times_at};
-ghost use Rattle.eval_since.specs.LeftOperand.{left_holds};
+ghost use Rattle.eval_since.specs.LeftOperand.{left_has};
 ghost use Rattle.eval_since.specs.Times.{added, reaches, recent};
 ghost use Rattle.eval_since.specs.WindowView.{WindowOf, within};
-ghost use Rattle.eval_since.specs.Windows.{Bounded, Covered, Fresh, IsThinned, Keeps, NotAfter, Past, Placed, Rising};
+ghost use Rattle.eval_since.specs.Windows.{Alone, Ascending, Bounded, Covered, Fresh, IsThinned, Keeps, NotAfter, Past, Placed, Rising};
 
 use crate::groups::Groups;
 use mfotl_model::{Interval, Row};
@@ -35,7 +35,7 @@ fn apply_left(
     lefts: &Table,
 ) -> Result<(), AllocError>
     ensures { OnOk result ((q v : List Value) → times_at groups.new q v
-        ≡ cond (left_holds negated lefts.now.rows q) (times_at groups.old q v) []) }
+        ≡ cond (left_has negated lefts.now.rows q) (times_at groups.old q v) []) }
 {
     if negated {
         groups.drop_groups(lefts.rows());
@@ -146,7 +146,7 @@ fn stepped(
     ensures within { IfOk result (λ next. (x : ℕ) (u : List Value) → now ≤ x →
         reaches interval.now (times_at next.groups (part right.now left.now u) u) x
         ≡ ((reaches interval.now (times_at contents.groups (part right.now left.now u) u) x
-        && left_holds negated lefts.now.rows (part right.now left.now u))
+        && left_has negated lefts.now.rows (part right.now left.now u))
         || (in_interval interval.now (x - now) && has_row rights.items u))) }
     ensures kept { IfOk result (λ next.
         Keeps interval.now.hi right.now left.now now next.groups next.dated.items) }
@@ -230,7 +230,7 @@ impl Window {
         requires columns { rights.columns ≡ self.old.right }
         ensures within { OnOk result ((x : ℕ) (u : List Value) → now ≤ x → within self.new x u
             ≡ ((within self.old x u
-            && left_holds negated lefts.now.rows (part self.old.right self.old.left u))
+            && left_has negated lefts.now.rows (part self.old.right self.old.left u))
             || (in_interval self.old.interval (x - now) && has_row rights.rows u))) }
         ensures last { self.new.last ≡ (if is_ok result then now else self.old.last) }
         ensures interval { self.new.interval ≡ self.old.interval }
@@ -298,6 +298,12 @@ impl Window {
         Ok(Table::from_rows(columns, rows))
     }
 
+    pub fn right(&self) -> &[u32]
+        ensures { result.now ≡ self.now.right }
+    {
+        self.right.as_slice()
+    }
+
     pub fn interval(&self) -> &Interval
         ensures { result.now ≡ self.now.interval }
     {
@@ -309,6 +315,8 @@ impl Window {
         ensures bounded { IfSome self.now.interval.hi (λ hi.
             Bounded hi self.now.last self.now.groups) }
         ensures past { Past self.now.last self.now.groups }
+        ensures ascend { Ascending self.now.groups }
+        ensures alone { self.now.interval.hi ≡ None → Alone self.now.groups }
         ensures placed { Placed self.now.right self.now.left self.now.groups }
     {
         let _ = &self.last;

@@ -4,7 +4,7 @@ use Rattle.std.specs.Map.{lookup}
 use Rattle.std.specs.BTreeMap.{is_at}
 use Rattle.mfotl_model.specs.Values.{row_cmp}
 use Rattle.eval_since.specs.Times.{added}
-use Rattle.eval_since.proofs.GroupLemmas.{changed, written}
+use Rattle.relations.proofs.MapLemmas.{changed, written}
 use Rattle.eval_since.proofs.group.Group.add.Goals as goal
 
 pub returns-in-Some : goal.returns-in-Some

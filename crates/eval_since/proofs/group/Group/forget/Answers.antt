@@ -4,7 +4,8 @@ use Rattle.std.specs.Map.{lookup}
 use Rattle.std.specs.BTreeMap.{is_at, BTreeMap}
 use Rattle.mfotl_model.specs.Values.{row_cmp}
 use Rattle.eval_since.specs.Times.{recent}
-use Rattle.eval_since.proofs.GroupLemmas.{changed, recent_none, nothing_there, written, removed, empty_list}
+use Rattle.relations.proofs.MapLemmas.{changed, nothing_there, written, removed}
+use Rattle.eval_since.proofs.GroupLemmas.{recent_none, empty_list}
 use Rattle.eval_since.proofs.group.Group.forget.Goals as goal
 use Rattle.eval_since.proofs.group.Group.forget.Goals.{in-Some-1, in-None-1}
 

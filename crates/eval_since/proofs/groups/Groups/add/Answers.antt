@@ -4,7 +4,8 @@ use Rattle.std.specs.Map.{lookup}
 use Rattle.std.specs.BTreeMap.{is_at}
 use Rattle.mfotl_model.specs.Values.{row_cmp}
 use Rattle.eval_since.specs.Times.{added}
-use Rattle.eval_since.proofs.GroupLemmas.{regrouped, written}
+use Rattle.relations.proofs.MapLemmas.{written}
+use Rattle.eval_since.proofs.GroupLemmas.{regrouped}
 use Rattle.eval_since.proofs.groups.Groups.add.Goals as goal
 
 pub returns-in-Some : goal.returns-in-Some

@@ -4,7 +4,8 @@ use Rattle.std.specs.Map.{lookup}
 use Rattle.std.specs.BTreeMap.{BTreeMap, is_at}
 use Rattle.mfotl_model.specs.Values.{row_cmp}
 use Rattle.eval_since.specs.Times.{recent}
-use Rattle.eval_since.proofs.GroupLemmas.{regrouped, written, removed, nothing_there, empty_list, none_recent}
+use Rattle.relations.proofs.MapLemmas.{written, removed, nothing_there}
+use Rattle.eval_since.proofs.GroupLemmas.{regrouped, empty_list, none_recent}
 use Rattle.eval_since.proofs.groups.Groups.forget.Goals as goal
 use Rattle.eval_since.proofs.groups.Groups.forget.Goals.{in-Some-1, in-None-1}
 

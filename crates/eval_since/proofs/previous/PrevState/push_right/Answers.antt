@@ -1,4 +1,4 @@
-use Rattle.eval_since.proofs.BufferLemmas.{over_push}
+use Rattle.relations.proofs.PushedLemmas.{over_push}
 use Rattle.eval_since.proofs.PreviousLemmas.{table_pushed}
 use Rattle.eval_since.proofs.previous.PrevState.push_right.Goals as goal
 

@@ -1,5 +1,5 @@
 use Rattle.std.proofs.Common.{map, ◌∙◌}
-use Rattle.eval_since.proofs.BufferLemmas.{over_push}
+use Rattle.relations.proofs.PushedLemmas.{over_push}
 use Rattle.eval_since.proofs.FollowsLemmas.{follows_right, right_of}
 use Rattle.eval_since.proofs.since.SinceState.push_right.Goals as goal
 

@@ -10,3 +10,9 @@ returns-clause-past c = rw (← c.self.view_is) c.self.invariant.past
 
 pub returns-clause-placed : goal.returns-clause-placed
 returns-clause-placed c = rw (← c.self.view_is) c.self.invariant.placed
+
+pub returns-clause-ascend : goal.returns-clause-ascend
+returns-clause-ascend c = rw (← c.self.view_is) c.self.invariant.ascend
+
+pub returns-clause-alone : goal.returns-clause-alone
+returns-clause-alone c = rw (← c.self.view_is) c.self.invariant.alone

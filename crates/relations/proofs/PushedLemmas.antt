@@ -1,7 +1,7 @@
 -- What was pushed: one item more, and the first one.
 use Rattle.std.proofs.Common.{◌≡◌, ℕ, ◌+◌, ◌<◌, List, [], ◌∷◌, ◌++◌, length, get_or, drop, sym, subst, ap, arith}
 use Rattle.mfotl_model.specs.Tables.{TableOf}
-use Rattle.eval_since.specs.Buffers.{AreOver, StandFrom}
+use Rattle.relations.specs.Pushed.{AreOver, StandFrom}
 
 pub stand_push : {X : Type 0} (P : ℕ → X → Type 0) (p : ℕ) (xs : List X) (x : X) → StandFrom P p xs
     → P (p + length xs) x → StandFrom P p (xs ++ x ∷ [])
