@@ -104,7 +104,8 @@ module _ {S E V : Type 0} (step : S → Lexeme → Result S E) (start : S) (at_t
       let rest = tokens (grown (stopped p) more ended) in
       let grows = (more_bytes p more ended untold).1 in
       let end = p.at + length p.rest in
-      let behind = λ (b : Bool) (n : ℕ) (ts : Tokens). run step ts.list start >>= λ s. at_tail (tail_of b n ts.fault) s in
+      let behind =
+      λ (b : Bool) (n : ℕ) (ts : Tokens). run step ts.list start >>= λ s. at_tail (tail_of b n ts.fault) s in
       let told = ap (λ (b : Bool). behind b end (tokens p)) untold in
       ap (behind ended (place.at + length place.rest)) grows
       ∙ stays (tokens p) rest (p.at + length p.rest) (place.at + length place.rest) ended fault (λ s. none s fault)

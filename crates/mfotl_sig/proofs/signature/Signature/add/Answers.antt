@@ -1,6 +1,6 @@
-use Rattle.std.proofs.Common.{◌∙◌, ◌++◌, ◌∷◌, [], ap, sym, subst, length}
+use Rattle.std.proofs.Common.{ℕ, List, ◌∙◌, ◌++◌, ◌∷◌, [], ap, sym, subst, length}
 use Rattle.mfotl_sig.specs.declared.pred.Pred.{Pred}
-use Rattle.mfotl_sig.specs.Preds.{named}
+use Rattle.mfotl_sig.specs.Preds.{PredOf, named}
 use Rattle.mfotl_sig.proofs.PredLemmas.{GoesLast, insert_new}
 use Rattle.mfotl_sig.proofs.signature.Signature.add.Goals as goal
 
@@ -23,7 +23,9 @@ invariant_of-self-2 c = (goes_last c).keyed
 pub returns : goal.returns
 returns c =
     let name = c.new.ensures ∙ c.in_ok-from_slice.ensures.items in
+    let sorts = c.args.sorts.items in
+    let made : ℕ → List ℕ → PredOf = λ n text. record { number = n; name = text; sorts = sorts } in
     (goes_last c).preds
-    ∙ ap (λ ps. ps ++ record { number = c.len-number.result; name = c.new.result; sorts = c.args.sorts.items } ∷ []) c.self.view_is
-    ∙ ap (λ n. c.args.self.now ++ record { number = n; name = c.new.result; sorts = c.args.sorts.items } ∷ []) c.len-number.ensures
-    ∙ ap (λ n. c.args.self.now ++ record { number = length c.args.self.now; name = n; sorts = c.args.sorts.items } ∷ []) name
+    ∙ ap (λ ps. ps ++ made c.len-number.result c.new.result ∷ []) c.self.view_is
+    ∙ ap (λ n. c.args.self.now ++ made n c.new.result ∷ []) c.len-number.ensures
+    ∙ ap (λ n. c.args.self.now ++ made (length c.args.self.now) n ∷ []) name
