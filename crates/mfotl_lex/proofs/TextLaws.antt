@@ -1,13 +1,13 @@
 -- How a reader goes over bytes token by token, and that what is shown stays shown.
-use Rattle.std.proofs.Common.{◌≡◌, ℕ, ◌+◌, ◌<◌, Bool, true, false, List, [], ◌∷◌, ◌++◌, length, Option, Some, None}
-use Rattle.std.proofs.Common.{Result, Ok, Err, refl, sym, ap, subst, ◌∙◌}
+use Rattle.std.proofs.Common.{◌≡◌, ℕ, ◌+◌, Bool, true, false, List, ◌++◌, length, Option, Some, None}
+use Rattle.std.proofs.Common.{Result, Ok, Err, refl, sym, ap, ◌∙◌}
 use Rattle.mfotl_lex.specs.declared.fault.LexFault.{LexFault}
 use Rattle.mfotl_lex.specs.declared.kind.Mode.{Mode}
-use Rattle.mfotl_lex.specs.FirstFault.{◌>>=◌, Tail, Broken, End, More, Text, run, reading, if_sound, given}
+use Rattle.mfotl_lex.specs.FirstFault.{◌>>=◌, Tail, More, run, reading, if_sound, given}
 use Rattle.mfotl_lex.specs.Growing.{grown, stopped, joined}
 use Rattle.mfotl_lex.specs.Lexemes.{Lexeme, Tokens, next_token, after, tokens}
 use Rattle.mfotl_lex.specs.Places.{Place, beginning}
-use Rattle.mfotl_lex.specs.Texts.{tail_of, text_at, text_of, reading_on, given_on, StaysShown}
+use Rattle.mfotl_lex.specs.Texts.{tail_of, text_of, reading_on, given_on, StaysShown}
 use Rattle.mfotl_lex.proofs.FirstFaultLaws.{fault_stays}
 use Rattle.mfotl_lex.proofs.GrowingLemmas.{more_bytes}
 use Rattle.mfotl_lex.proofs.Sequence.{tokens_token, tokens_none, tokens_fault}
