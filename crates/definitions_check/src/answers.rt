@@ -8,7 +8,8 @@ ghost use Rattle.definitions_check.specs.Answers.{answer_text, rows_line, settle
 
 use crate::cases::Case;
 use crate::lines::{head, put_line};
-use mfotl_model::{Formula, TimePoint, is_settled, violations};
+use mfotl_model::{Formula, TimePoint};
+use mfotl_plain::{is_settled, violations};
 use std::alloc::{AllocError, Global};
 
 /// The lines that answer a case.

@@ -30,7 +30,7 @@ pub fn put_line(
     ensures { OnOk result (text.new.items ≡ text.old.items ++ rows_line at rows.now) }
 {
     put_position(alloc, text, at)?;
-    push_rows(alloc, text, rows)?;
+    push_rows(text, rows)?;
     text.extend_from_slice(b"\n")?;
     Ok(())
 }

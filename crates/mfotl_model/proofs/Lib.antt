@@ -1,9 +1,11 @@
 pub mod LogicLemmas
 pub mod AscendingLemmas
 pub mod RowLemmas
+pub mod SortedLemmas
+pub mod EventLemmas
 pub mod VariableLemmas
-pub mod PlainLemmas
-pub mod SettlingLemmas
-pub mod DomainLemmas
-pub mod PlainRowLemmas
-pub mod LineLemmas
+pub mod TimeLemmas
+pub mod MatchingLemmas
+pub mod RegionLemmas
+pub mod ExactLemmas
+pub mod CountLemmas

@@ -7,6 +7,7 @@ use Rattle.std.specs.List.{list_any, list_all}
 use Rattle.std.specs.Ordering.{eq_by_cmp, is_eq, ordering_then, nat_cmp}
 use Rattle.std.specs.declared.cmp.Ordering.{Ordering}
 use Rattle.std.specs.declared.cmp.Ordering.TheVariants.{Less, Equal, Greater}
+use Rattle.mfotl_model.specs.Domains.{within}
 use Rattle.mfotl_model.specs.Events.{event_cmp}
 use Rattle.mfotl_model.specs.Values.{value_cmp, row_cmp}
 use Rattle.mfotl_model.specs.Violations.{all_rows}
@@ -79,15 +80,11 @@ and_moved true b c = refl
 and_moved false true c = refl
 and_moved false false c = refl
 
--- whether a value is in the domain
-abbrev pub in_domain : List Value → Value → Bool
-in_domain dom a = list_any (eq_by_cmp value_cmp a) dom
-
 -- a row is among the rows of n values of a domain exactly if it has n values, each in the domain
 pub member_all_rows : (n : ℕ) (dom : List Value) (q : List Value)
-    → list_any (eq_by_cmp row_cmp q) (all_rows n dom) ≡ (nat_eq (length q) n && list_all (in_domain dom) q)
+    → list_any (eq_by_cmp row_cmp q) (all_rows n dom) ≡ (nat_eq (length q) n && list_all (within dom) q)
 member_all_rows zero dom [] = refl
-member_all_rows zero dom (b ∷ s) = sym (ap (λ t. t && list_all (in_domain dom) (b ∷ s)) (eqb-suc-zero (length s)))
+member_all_rows zero dom (b ∷ s) = sym (ap (λ t. t && list_all (within dom) (b ∷ s)) (eqb-suc-zero (length s)))
 member_all_rows (suc n) dom [] =
     any_flat_map (eq_by_cmp row_cmp []) (λ a. map (λ row. a ∷ row) (all_rows n dom)) dom
     ∙ any_alike (λ a. list_any (eq_by_cmp row_cmp []) (map (λ row. a ∷ row) (all_rows n dom))) (λ a. false) dom
@@ -99,10 +96,11 @@ member_all_rows (suc n) dom (b ∷ s) =
     ∙ any_alike (λ a. list_any (eq_by_cmp row_cmp (b ∷ s)) (map (λ row. a ∷ row) (all_rows n dom)))
     (λ a. eq_by_cmp value_cmp b a && list_any (eq_by_cmp row_cmp s) (all_rows n dom)) dom
     (λ a. any_map (eq_by_cmp row_cmp (b ∷ s)) (λ row. a ∷ row) (all_rows n dom)
-    ∙ any_alike (λ row. eq_by_cmp row_cmp (b ∷ s) (a ∷ row)) (λ row. eq_by_cmp value_cmp b a && eq_by_cmp row_cmp s row) (all_rows n dom)
+    ∙ any_alike (λ row. eq_by_cmp row_cmp (b ∷ s) (a ∷ row))
+    (λ row. eq_by_cmp value_cmp b a && eq_by_cmp row_cmp s row) (all_rows n dom)
     (λ row. eq_then (value_cmp b a) (row_cmp s row))
     ∙ any_and (eq_by_cmp value_cmp b a) (eq_by_cmp row_cmp s) (all_rows n dom))
     ∙ any_and_last (list_any (eq_by_cmp row_cmp s) (all_rows n dom)) (eq_by_cmp value_cmp b) dom
-    ∙ ap (λ t. in_domain dom b && t) (member_all_rows n dom s)
-    ∙ and_moved (in_domain dom b) (nat_eq (length s) n) (list_all (in_domain dom) s)
-    ∙ sym (ap (λ t. t && (in_domain dom b && list_all (in_domain dom) s)) (eqb-suc-suc (length s) n))
+    ∙ ap (λ t. within dom b && t) (member_all_rows n dom s)
+    ∙ and_moved (within dom b) (nat_eq (length s) n) (list_all (within dom) s)
+    ∙ sym (ap (λ t. t && (within dom b && list_all (within dom) s)) (eqb-suc-suc (length s) n))

@@ -2,8 +2,7 @@
 -- among these values alone (this project's own).
 use Rattle.std.specs.Prelude.{List, [], ◌∷◌, ◌++◌}
 use Rattle.std.specs.List.{flat_map}
-use Rattle.std.specs.BTreeSet.{insert_key}
-use Rattle.std.specs.declared.cmp.Ordering.{Ordering}
+pub use Rattle.mfotl_model.specs.Ascending.{ascending}
 use Rattle.mfotl_model.specs.Formulas.{Form}
 use Rattle.mfotl_model.specs.Formulas.Form.{True, False, Atom, Compare, Not, And, Or, Implies, Equiv, Exists, Forall, Previous, Next, Once, Historically, Eventually, Always, Since, Until}
 use Rattle.mfotl_model.specs.Values.{value_cmp}
@@ -11,11 +10,6 @@ use Rattle.mfotl_model.specs.declared.event.TimePoint.{TimePoint}
 use Rattle.mfotl_model.specs.declared.term.Term.{Term}
 use Rattle.mfotl_model.specs.declared.term.Term.TheVariants.{Var, Const}
 use Rattle.mfotl_model.specs.declared.value.Value.{Value}
-
--- the members of a list in ascending order, equal ones once
-abbrev pub ascending : {K : Type 0} → (K → K → Ordering) → List K → List K
-ascending cmp [] = []
-ascending cmp (x ∷ xs) = insert_key cmp (ascending cmp xs) x
 
 -- the values in the events of a log
 abbrev pub log_values : List TimePoint → List Value

@@ -1,21 +1,15 @@
 -- The violations of a policy at a position: the rows over its free variables, with values in the
 -- active domain, at which it doesn't hold (this project's own).
-use Rattle.std.specs.Prelude.{ℕ, zero, suc, Bool, not, cond, nat_eq, List, [], ◌∷◌, map, length, pos}
+use Rattle.std.specs.Prelude.{ℕ, zero, suc, Bool, not, List, [], ◌∷◌, map, length}
 use Rattle.std.specs.List.{filter, flat_map}
 use Rattle.mfotl_model.specs.Formulas.{Form}
-use Rattle.mfotl_model.specs.Satisfaction.{Valuation, sat}
+use Rattle.mfotl_model.specs.Satisfaction.{sat}
 use Rattle.mfotl_model.specs.Values.{row_cmp}
 use Rattle.mfotl_model.specs.declared.event.TimePoint.{TimePoint}
 use Rattle.mfotl_model.specs.declared.value.Value.{Value}
-use Rattle.mfotl_model.specs.declared.value.Value.TheVariants.{Int}
 use Rattle.mfotl_model.specs.FreeVariables.{fv}
 use Rattle.mfotl_model.specs.ActiveDomain.{adom, ascending}
-
--- the valuation that a row over these columns gives; other variables, on which nothing hangs, are 0
-abbrev pub valuation : List ℕ → List Value → Valuation
-valuation [] row y = Int (pos 0)
-valuation (x ∷ columns) [] y = Int (pos 0)
-valuation (x ∷ columns) (a ∷ row) y = cond (nat_eq y x) a (valuation columns row y)
+pub use Rattle.mfotl_model.specs.Tables.{valuation}
 
 -- all rows of n values of the domain
 abbrev pub all_rows : ℕ → List Value → List (List Value)

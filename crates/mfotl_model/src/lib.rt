@@ -2,13 +2,14 @@
 //! the readers, the evaluators and the monitor above name in their contracts.
 #![tactic(auto)]
 
+mod copying;
 mod event;
-mod examples;
+pub mod examples;
 mod formula;
 mod free_variables;
 mod interval;
+pub mod laws;
 mod partial;
-mod plain;
 mod policy;
 mod row;
 mod term;
@@ -17,17 +18,12 @@ mod value;
 mod verdict_text;
 
 pub use event::{Db, Event, TimePoint};
-pub use examples::worked_examples;
 pub use formula::{Bound, Formula};
 pub use interval::Interval;
 pub use partial::Partial;
-pub use plain::{active_domain, holds, is_settled, log_text, violations};
 pub use policy::{Policy, Sort, Var, Vars};
 pub use row::{Row, RowList};
 pub use term::{Atom, Comparison, Sign, Term, Terms};
 pub use text::{Name, Text};
 pub use value::Value;
-pub use verdict_text::{push_rows, verdict_line};
-
-#[cfg(test)]
-mod tests;
+pub use verdict_text::{push_rows, push_verdict};

@@ -14,7 +14,7 @@ pub enum Sort {
 }
 
 /// A free variable.
-#[derive(Debug, Drop)]
+#[derive(Drop)]
 pub struct Var {
     pub name: Name,
     pub sort: Sort,
@@ -32,7 +32,7 @@ impl Var {
 }
 
 /// Variables, the one numbered k in place k.
-#[derive(Debug, Drop)]
+#[derive(Drop)]
 pub struct Vars {
     items: Vec<Var>,
 }
@@ -77,7 +77,7 @@ impl Vars {
 }
 
 /// A formula, and its free variables in the order in which they first occur in it.
-#[derive(Debug, Drop)]
+#[derive(Drop)]
 pub struct Policy {
     pub formula: Formula,
     pub vars: Vars,
@@ -90,9 +90,8 @@ impl Policy {
         ensures formula { IfOk result (λ policy. form policy.formula ≡ form self.now.formula) }
         ensures vars { IfOk result (λ policy. policy.vars ≡ self.now.vars) }
     {
-        Ok(Policy {
-            formula: self.formula.copy(alloc)?,
-            vars: self.vars.copy(alloc)?,
-        })
+        let vars = self.vars.copy(alloc)?;
+        let formula = self.formula.copy(alloc)?;
+        Ok(Policy { formula, vars })
     }
 }

@@ -1,7 +1,9 @@
 //! Rows of values, and lists of rows.
-ghost use Rattle.std.specs.Prelude.{◌≡◌, IfOk, length, refl};
+ghost use Rattle.std.specs.Prelude.{◌≡◌, ◌++◌, ◌∷◌, [], IfOk, length, refl};
 ghost use Rattle.std.specs.Cmp.{eq_by_cmp_equiv, partial_equiv_from_equiv, partial_order_from_agreeing_total};
 ghost use Rattle.std.specs.Ordering.{as_partial_cmp, eq_by_cmp};
+ghost use Rattle.mfotl_model.specs.Ascending.{ascending};
+ghost use Rattle.mfotl_model.specs.HeldValues.{held_values};
 ghost use Rattle.mfotl_model.specs.Values.{row_cmp, row_total};
 
 use crate::value::Value;
@@ -9,49 +11,163 @@ use std::alloc::{AllocError, Global};
 use std::cmp::Ordering;
 use std::marker::Model;
 
+// Up to two values stand in the row itself, more in memory of their own.
+#[derive(Debug, Drop)]
+enum Held {
+    Zero,
+    One([Value; 1]),
+    Two([Value; 2]),
+    Many(Vec<Value>),
+}
+
+fn holding(values: Vec<Value>) -> Held
+    ensures { held_values result ≡ values.items }
+{
+    if values.len() > 2 {
+        return Held::Many(values);
+    }
+    let mut values = values.into_iter();
+    match (values.next(), values.next()) {
+        (Some(first), Some(second)) => Held::Two([first, second]),
+        (Some(first), None) => Held::One([first]),
+        _ => Held::Zero,
+    }
+}
+
+// The values and one more.
+fn one_more(alloc: Global, held: Held, value: Value) -> Result<Held, AllocError>
+    ensures { IfOk result (λ more. held_values more ≡ held_values held ++ value ∷ []) }
+{
+    match held {
+        Held::Zero => Ok(Held::One([value])),
+        Held::One(values) => {
+            let [first] = values;
+            Ok(Held::Two([first, value]))
+        }
+        Held::Two(values) => {
+            let [first, second] = values;
+            Ok(Held::Many(three(alloc, first, second, value)?))
+        }
+        Held::Many(mut values) => {
+            values.push(value)?;
+            Ok(Held::Many(values))
+        }
+    }
+}
+
+// A row's third value takes memory for all.
+fn three(alloc: Global, first: Value, second: Value, third: Value) -> Result<Vec<Value>, AllocError>
+    ensures { IfOk result (λ values. values.items ≡ first ∷ second ∷ third ∷ []) }
+{
+    let mut values = Vec::with_capacity(alloc, 4)?;
+    values.push(first)?;
+    values.push(second)?;
+    values.push(third)?;
+    Ok(values)
+}
+
 /// One value for each column. Rows compare by their first values, then by the next.
 #[derive(Debug, Drop)]
 pub struct Row {
-    values: Vec<Value>,
+    held: Held,
 }
 
 impl Model for Row {
     ghost use Rattle.std.specs.Prelude.{List};
+    ghost use Rattle.mfotl_model.specs.HeldValues.{held_values};
     ghost use Rattle.mfotl_model.specs.declared.value.Value.{Value as OneValue};
 
     ghost Value = { List OneValue };
 
-    ghost view = { λ r. r.values.items };
+    ghost view = { λ r. held_values r.held };
 }
 
 impl Row {
+    /// The row of no column.
+    pub fn empty() -> Self
+        ensures { result ≡ [] }
+    {
+        Row { held: Held::Zero }
+    }
+
+    /// The row of these values. A row can't give the vector back: it keeps up to two values in itself.
     pub fn new(values: Vec<Value>) -> Self
         ensures { result ≡ values.items }
     {
-        Row { values }
+        Row {
+            held: holding(values),
+        }
+    }
+
+    /// The row with one value more behind. Up to the second value it takes no memory.
+    pub fn push(self, alloc: Global, value: Value) -> Result<Self, AllocError>
+        ensures { IfOk result (λ row. row ≡ self ++ value ∷ []) }
+    {
+        let Row { held } = self;
+        Ok(Row {
+            held: one_more(alloc, held, value)?,
+        })
     }
 
     pub fn values(&self) -> &[Value]
         ensures { result.now ≡ self.now }
     {
-        self.values.as_slice()
-    }
-
-    pub fn into_vec(self) -> Vec<Value>
-        ensures { result.items ≡ self }
-    {
-        self.values
+        match &self.held {
+            Held::Zero => &[],
+            Held::One(values) => values,
+            Held::Two(values) => values,
+            Held::Many(values) => values.as_slice(),
+        }
     }
 
     pub fn copy(&self, alloc: Global) -> Result<Self, AllocError>
         ensures { IfOk result (λ row. row ≡ self.now) }
     {
-        let mut values = Vec::with_capacity(alloc, self.values.len())?;
-        for value in self.values() {
-            values.push(value.copy(alloc)?)?;
+        match &self.held {
+            Held::Zero => Ok(Row::empty()),
+            Held::One([first]) => copied_one(alloc, first),
+            Held::Two([first, second]) => copied_two(alloc, first, second),
+            Held::Many(values) => copied_many(alloc, values.as_slice()),
         }
-        Ok(Row { values })
     }
+}
+
+fn copied_one(alloc: Global, first: &Value) -> Result<Row, AllocError>
+    ensures { IfOk result (λ row. row ≡ first.now ∷ []) }
+{
+    let first = first.copy(alloc)?;
+    Ok(Row {
+        held: Held::One([first]),
+    })
+}
+
+fn copied_two(alloc: Global, first: &Value, second: &Value) -> Result<Row, AllocError>
+    ensures { IfOk result (λ row. row ≡ first.now ∷ second.now ∷ []) }
+{
+    let first = first.copy(alloc)?;
+    let second = second.copy(alloc)?;
+    Ok(Row {
+        held: Held::Two([first, second]),
+    })
+}
+
+fn copied_many(alloc: Global, values: &[Value]) -> Result<Row, AllocError>
+    ensures { IfOk result (λ row. row ≡ values.now) }
+{
+    let values = copied(alloc, values)?;
+    Ok(Row {
+        held: Held::Many(values),
+    })
+}
+
+fn copied(alloc: Global, values: &[Value]) -> Result<Vec<Value>, AllocError>
+    ensures { IfOk result (λ copies. copies.items ≡ values.now) }
+{
+    let mut copies = Vec::with_capacity(alloc, values.len())?;
+    for value in values {
+        copies.push(value.copy(alloc)?)?;
+    }
+    Ok(copies)
 }
 
 impl PartialEq for Row {
@@ -111,6 +227,15 @@ impl RowList {
     pub fn new(rows: Vec<Row>) -> Self
         ensures { result ≡ rows.items }
     {
+        RowList { rows }
+    }
+
+    /// The rows in ascending order, equal ones once.
+    pub fn in_order(mut rows: Vec<Row>) -> Self
+        ensures { result ≡ ascending row_cmp rows.items }
+    {
+        rows.sort_unstable();
+        rows.dedup();
         RowList { rows }
     }
 

@@ -8,7 +8,7 @@ use std::cmp::Ordering;
 use std::marker::Model;
 
 /// A variable, by its number, or a constant.
-#[derive(Debug, Drop)]
+#[derive(Drop)]
 pub enum Term {
     Var(u32),
     Const(Value),
@@ -26,7 +26,7 @@ impl Term {
 }
 
 /// The arguments of an atom, in order.
-#[derive(Debug, Drop)]
+#[derive(Drop)]
 pub struct Terms {
     items: Vec<Term>,
 }
@@ -71,7 +71,7 @@ impl Terms {
 }
 
 /// A predicate, by its number, at arguments.
-#[derive(Debug, Drop)]
+#[derive(Drop)]
 pub struct Atom {
     pub pred: u32,
     pub args: Terms,
@@ -131,7 +131,7 @@ fn same_sort(left: &Value, right: &Value) -> bool
 }
 
 /// A comparison of two terms.
-#[derive(Debug, Drop)]
+#[derive(Drop)]
 pub struct Comparison {
     pub sign: Sign,
     pub left: Term,

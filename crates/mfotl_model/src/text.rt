@@ -7,37 +7,39 @@ ghost use Rattle.mfotl_model.specs.Values.{text_cmp, text_total};
 use std::alloc::{AllocError, Global};
 use std::cmp::Ordering;
 use std::marker::Model;
+use std::sync::ArcSlice;
 
-/// A text of a log or a policy: its bytes, without quotes.
+/// A text of a log or a policy: its bytes, without quotes. Copies of a text share them.
 #[derive(Debug, Drop)]
 pub struct Text {
-    bytes: Vec<u8>,
+    bytes: ArcSlice<u8>,
 }
 
 /// The name of a predicate or of a variable.
 pub type Name = Text;
 
 impl Model for Text {
+    ghost use Rattle.std.specs.Arc.{arc_slice_items};
     ghost use Rattle.std.specs.Prelude.{List, ℕ};
 
     ghost Value = { List ℕ };
 
-    ghost view = { λ t. t.bytes.items };
+    ghost view = { λ t. arc_slice_items t.bytes };
 }
 
 impl Text {
-    pub fn new(bytes: Vec<u8>) -> Self
-        ensures { result ≡ bytes.items }
+    pub fn new(bytes: Vec<u8>) -> Result<Self, AllocError>
+        ensures { IfOk result (λ text. text ≡ bytes.items) }
     {
-        Text { bytes }
+        let bytes = ArcSlice::from_vec(bytes)?;
+        Ok(Text { bytes })
     }
 
     pub fn from_slice(alloc: Global, bytes: &[u8]) -> Result<Self, AllocError>
         ensures { IfOk result (λ text. text ≡ bytes.now) }
     {
-        Ok(Text {
-            bytes: Vec::from_slice(alloc, bytes)?,
-        })
+        let bytes = ArcSlice::from_slice(alloc, bytes)?;
+        Ok(Text { bytes })
     }
 
     pub fn as_bytes(&self) -> &[u8]
@@ -46,16 +48,11 @@ impl Text {
         self.bytes.as_slice()
     }
 
-    pub fn into_vec(self) -> Vec<u8>
-        ensures { result.items ≡ self }
-    {
-        self.bytes
-    }
-
-    pub fn copy(&self, alloc: Global) -> Result<Self, AllocError>
+    pub fn copy(&self, _alloc: Global) -> Result<Self, AllocError>
         ensures { IfOk result (λ text. text ≡ self.now) }
     {
-        Text::from_slice(alloc, self.as_bytes())
+        let bytes = self.bytes.clone()?;
+        Ok(Text { bytes })
     }
 }
 

@@ -1,0 +1,46 @@
+-- How many positions are settled.
+use Rattle.std.proofs.Common.{◌≡◌, ℕ, zero, suc, ◌+◌, ◌<◌, ◌≤◌, Bool, true, false, cond, length, refl, ap, ◌∙◌, inl, inr, arith}
+use Rattle.std.proofs.lemmas.Bool.{cases_lt}
+use Rattle.mfotl_model.specs.Counts.{passing, settled_count}
+use Rattle.mfotl_model.specs.Laws.{CountedSettled, NextUnsettled}
+use Rattle.mfotl_model.specs.Settled.{settled}
+
+passes_by : (p : ℕ → Bool) (i n : ℕ) (b : Bool) → p i ≡ b → (j : ℕ) → i ≤ j
+    → j < i + cond b (passing p (i + 1) n + 1) 0
+    → ((j : ℕ) → i + 1 ≤ j → j < i + 1 + passing p (i + 1) n → p j ≡ true)
+    → p j ≡ true
+passes_by p i n false e j low high rest = absurd (omega arith)
+passes_by p i n true e j low high rest =
+    elim (cases_lt i j) [
+      | inl later ↦ rest j (omega arith) (omega arith)
+      | inr same ↦ let at : j ≡ i = omega arith in ap p at ∙ e
+    ]
+
+-- the numbers that are counted pass
+pub counted_pass : (p : ℕ → Bool) (i n j : ℕ) → i ≤ j → j < i + passing p i n → p j ≡ true
+counted_pass p i zero j low high = absurd (omega arith)
+counted_pass p i (suc n) j low high = passes_by p i n (p i) refl j low high (counted_pass p (i + 1) n)
+
+stops_by : (p : ℕ → Bool) (i n : ℕ) (b : Bool) → p i ≡ b → cond b (passing p (i + 1) n + 1) 0 < suc n
+    → (passing p (i + 1) n < n → p (i + 1 + passing p (i + 1) n) ≡ false)
+    → p (i + cond b (passing p (i + 1) n + 1) 0) ≡ false
+stops_by p i n false e less rest = let at : i + 0 ≡ i = omega arith in ap p at ∙ e
+stops_by p i n true e less rest =
+    let at : i + (passing p (i + 1) n + 1) ≡ i + 1 + passing p (i + 1) n = omega arith in
+    ap p at ∙ rest (omega arith)
+
+-- the number behind them doesn't
+pub count_stops : (p : ℕ → Bool) (i n : ℕ) → passing p i n < n → p (i + passing p i n) ≡ false
+count_stops p i zero less = absurd (omega arith)
+count_stops p i (suc n) less = stops_by p i n (p i) refl less (count_stops p (i + 1) n)
+
+pub counted_settled : CountedSettled
+unfolding settled_count
+counted_settled times f j low = counted_pass (settled times f) 0 (length times) j (omega arith) (omega arith)
+
+pub next_unsettled : NextUnsettled
+unfolding settled_count
+next_unsettled times f less =
+    let count : ℕ = passing (settled times f) 0 (length times) in
+    let at : count ≡ 0 + count = omega arith in
+    ap (settled times f) at ∙ count_stops (settled times f) 0 (length times) less

@@ -1,9 +1,0 @@
--- The values that a slow program has for variables, as a valuation.
-use Rattle.mfotl_model.specs.declared.plain.bindings.Bindings.{Bindings}
-use Rattle.mfotl_model.specs.declared.plain.bindings.Bindings.TheVariants.{Row, With'}
-use Rattle.mfotl_model.specs.Satisfaction.{Valuation, with_value}
-use Rattle.mfotl_model.specs.Violations.{valuation}
-
-abbrev pub values_of : Bindings → Valuation
-values_of (Row columns row) = valuation columns.now row.now
-values_of (With' x a p rest) = with_value (values_of rest) x a.now

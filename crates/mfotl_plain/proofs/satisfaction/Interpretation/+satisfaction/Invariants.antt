@@ -1,0 +1,49 @@
+use Rattle.std.proofs.Common.{◌≡◌, ◌+◌, ◌*◌, drop, max}
+use Rattle.std.specs.List.{list_all, list_any}
+use Rattle.mfotl_plain.specs.Bindings.{values_of}
+use Rattle.mfotl_model.specs.declared.formula.Formula.{size-Formula}
+use Rattle.mfotl_model.specs.declared.value.Value.{Value}
+use Rattle.mfotl_model.specs.Formulas.{form}
+use Rattle.mfotl_model.specs.Satisfaction.{sat, truths, with_value}
+use Rattle.mfotl_plain.proofs.satisfaction.Interpretation.+satisfaction.Given as goal
+
+abbrev pub decreases-holds : goal.decreases-holds
+decreases-holds l = 3 * size-Formula l.formula.now
+
+abbrev pub decreases-fails : goal.decreases-fails
+decreases-fails l = 3 * size-Formula l.formula.now + 1
+
+abbrev pub decreases-connects : goal.decreases-connects
+decreases-connects l = 3 * max (size-Formula l.left.now) (size-Formula l.right.now) + 1
+
+abbrev pub decreases-holds_for_some : goal.decreases-holds_for_some
+decreases-holds_for_some l = 3 * size-Formula l.formula.now + 1
+
+abbrev pub decreases-holds_for_every : goal.decreases-holds_for_every
+decreases-holds_for_every l = 3 * size-Formula l.formula.now + 1
+
+abbrev pub decreases-truths : goal.decreases-truths
+decreases-truths l = 3 * size-Formula l.formula.now + 1
+
+abbrev pub decreases-holds_in_time : goal.decreases-holds_in_time
+decreases-holds_in_time l = 3 * size-Formula l.formula.now + 2
+
+abbrev pub decreases-holds_between : goal.decreases-holds_between
+decreases-holds_between l = 3 * max (size-Formula l.left.now) (size-Formula l.right.now) + 2
+
+abbrev pub invariant-holds_for_every-loop-value : goal.invariant-holds_for_every-loop-value
+invariant-holds_for_every-loop-value l =
+    let test = λ (a : Value). sat l.self.log.now l.self.dom.now
+    (with_value (values_of l.self.bindings.now) l.x a) l.at (form l.formula) in
+    list_all test (drop l.value-index l.self.dom.now) ≡ list_all test l.self.dom.now
+
+abbrev pub invariant-holds_for_some-loop-value : goal.invariant-holds_for_some-loop-value
+invariant-holds_for_some-loop-value l =
+    let test = λ (a : Value). sat l.self.log.now l.self.dom.now
+    (with_value (values_of l.self.bindings.now) l.x a) l.at (form l.formula) in
+    list_any test (drop l.value-index l.self.dom.now) ≡ list_any test l.self.dom.now
+
+abbrev pub invariant-truths-loop-at : goal.invariant-truths-loop-at
+invariant-truths-loop-at l =
+    l.values.items
+    ≡ truths l.at (λ j. sat l.self.log.now l.self.dom.now (values_of l.self.bindings.now) j (form l.formula))
