@@ -6,12 +6,12 @@ use Rattle.mfotl_sig.proofs.signature.Signature.add.Goals as goal
 
 goes_last : (c : goal.Joined-branch-4)
     → GoesLast c.self.inside.preds.entries c.insert.new.self.entries
-    (record { number = c.len-number.result; name = c.new.result; sorts = c.args.sorts })
+    (record { number = c.len-number.result; name = c.in_ok-text.text; sorts = c.args.sorts })
 goes_last c =
-    let name = c.new.ensures ∙ c.in_ok-from_slice.ensures.items in
-    let pred : Pred = record { number = c.len-number.result; name = c.new.result; sorts = c.args.sorts } in
+    let name = c.in_ok-text.ensures in
+    let pred : Pred = record { number = c.len-number.result; name = c.in_ok-text.text; sorts = c.args.sorts } in
     let absent =
-    ap (named c.new.result) c.self.view_is ∙ ap (λ n. named n c.args.self.now) name ∙ c.requires.absent in
+    ap (named c.in_ok-text.text) c.self.view_is ∙ ap (λ n. named n c.args.self.now) name ∙ c.requires.absent in
     let last =
     insert_new c.self.inside.preds.entries c.in_ok-key.key pred c.self.invariant
     (c.in_ok-key.ensures.items ∙ sym name) absent in
@@ -22,10 +22,10 @@ invariant_of-self-2 c = (goes_last c).keyed
 
 pub returns : goal.returns
 returns c =
-    let name = c.new.ensures ∙ c.in_ok-from_slice.ensures.items in
+    let name = c.in_ok-text.ensures in
     let sorts = c.args.sorts.items in
     let made : ℕ → List ℕ → PredOf = λ n text. record { number = n; name = text; sorts = sorts } in
     (goes_last c).preds
-    ∙ ap (λ ps. ps ++ made c.len-number.result c.new.result ∷ []) c.self.view_is
-    ∙ ap (λ n. c.args.self.now ++ made n c.new.result ∷ []) c.len-number.ensures
+    ∙ ap (λ ps. ps ++ made c.len-number.result c.in_ok-text.text ∷ []) c.self.view_is
+    ∙ ap (λ n. c.args.self.now ++ made n c.in_ok-text.text ∷ []) c.len-number.ensures
     ∙ ap (λ n. c.args.self.now ++ made (length c.args.self.now) n ∷ []) name
