@@ -36,7 +36,8 @@ module _ {K : Type 0} {cmp : K → K → Ordering} (total : IsTotalOrder cmp) (e
     where
       by : list_any p (insert_key cmp xs k) ≡ (p k || list_any p xs) → (order : Ordering)
           → cmp k x ≡ order
-          → list_any p (match_ordering order (k ∷ x ∷ xs) (x ∷ xs) (x ∷ insert_key cmp xs k)) ≡ (p k || (p x || list_any p xs))
+          → list_any p (match_ordering order (k ∷ x ∷ xs) (x ∷ xs) (x ∷ insert_key cmp xs k))
+          ≡ (p k || (p x || list_any p xs))
       by more Less e = refl
       by more Equal e = or_doubled (p x) (list_any p xs) ∙ ap (λ y. p y || (p x || list_any p xs)) (sym (exact k x e))
       by more Greater e = ap (λ b. p x || b) more ∙ or_swapped (p k) (p x) (list_any p xs)

@@ -1,10 +1,8 @@
 -- Tables that are exact for a region.
-use Rattle.std.proofs.Common.{◌≡◌, ℕ, ◌+◌, List, [], ◌∷◌, ◌++◌, length, subst, arith}
-use Rattle.mfotl_model.specs.Exact.{AllExact, Exact, View}
-use Rattle.mfotl_model.specs.Formulas.{Form}
+use Rattle.std.proofs.Common.{◌≡◌, ℕ, ◌+◌, [], ◌∷◌, length, subst, arith}
+use Rattle.mfotl_model.specs.Exact.{AllExact}
 use Rattle.mfotl_model.specs.FreeVariables.{fv}
 use Rattle.mfotl_model.specs.Laws.{ExactBehind, ExactWithin}
-use Rattle.mfotl_model.specs.Tables.{TableOf}
 
 pub exact_within : ExactWithin
 exact_within view smaller f i table less exact =

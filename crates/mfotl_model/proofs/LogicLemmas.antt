@@ -73,7 +73,9 @@ all_in p a zero k h low high = absurd (omega arith)
 all_in p a (suc n) k h low high =
     elim (cases_eq a k) [
       | inl e ↦ ap p (sym e) ∙ (and_parts (p a) (list_all p (range_with_len (a + 1) n)) h).0
-      | inr ne ↦ all_in p (a + 1) n k (and_parts (p a) (list_all p (range_with_len (a + 1) n)) h).1 (omega arith) (omega arith)
+      | inr ne ↦
+          all_in p (a + 1) n k (and_parts (p a) (list_all p (range_with_len (a + 1) n)) h).1
+          (omega arith) (omega arith)
     ]
 
 -- a test that holds at each number of a range holds of the whole
@@ -103,7 +105,9 @@ any_from p a zero k low high h = absurd (omega arith)
 any_from p a (suc n) k low high h =
     elim (cases_eq a k) [
       | inl e ↦ or_left (p a) (list_any p (range_with_len (a + 1) n)) (ap p e ∙ h)
-      | inr ne ↦ or_right (p a) (list_any p (range_with_len (a + 1) n)) (any_from p (a + 1) n k (omega arith) (omega arith) h)
+      | inr ne ↦
+          or_right (p a) (list_any p (range_with_len (a + 1) n))
+          (any_from p (a + 1) n k (omega arith) (omega arith) h)
     ]
 
 -- tests that agree on a range find alike there

@@ -1,5 +1,5 @@
 -- Regions of workers, and what their slices see.
-use Rattle.std.proofs.Common.{◌≡◌, ◌∙◌, ap, sym, refl, arith, ℕ, ◌+◌, ◌<◌, ◌≤◌, ◌/◌, ◌%◌, Bool, true, false, not, ◌&&◌, ◌||◌, nat_eq, List, [], ◌∷◌, ◌++◌, length, map}
+use Rattle.std.proofs.Common.{◌≡◌, ◌∙◌, ap, sym, refl, arith, ℕ, ◌+◌, ◌<◌, ◌≤◌, ◌/◌, ◌%◌, Bool, true, false, not, ◌||◌, nat_eq, List, [], ◌∷◌, ◌++◌, length}
 use Rattle.std.proofs.lemmas.Bool.{and_parts, and_from, or_left, or_right}
 use Rattle.std.proofs.lemmas.Cmp.{tied_itself}
 use Rattle.std.proofs.lemmas.List.Folds.{list_any-append}
@@ -12,11 +12,11 @@ use Rattle.mfotl_model.proofs.RowLemmas.{event_exact}
 use Rattle.mfotl_model.specs.Events.{event_cmp, event_total}
 use Rattle.mfotl_model.specs.FreeVariables.{among, variable_in, variables_in}
 use Rattle.mfotl_model.specs.Laws.{BothPass, EverywherePasses, SliceSees, StrategyPasses}
-use Rattle.mfotl_model.specs.Matching.{is_match, read_off, reads}
+use Rattle.mfotl_model.specs.Matching.{is_match, reads}
 use Rattle.mfotl_model.specs.Regions.{Passes, Region, near_from}
-use Rattle.mfotl_model.specs.Satisfaction.{Valuation, event_of, has_event, term_value}
+use Rattle.mfotl_model.specs.Satisfaction.{Valuation, event_of, has_event}
 use Rattle.mfotl_model.specs.Slices.{sees, slice}
-use Rattle.mfotl_model.specs.Strategies.{Entry, Strategy, strategy_part, workers_of}
+use Rattle.mfotl_model.specs.Strategies.{Strategy, strategy_part, workers_of}
 use Rattle.mfotl_model.specs.declared.value.Value.{Value}
 use Rattle.mfotl_model.specs.declared.event.Event.{Event}
 use Rattle.mfotl_model.specs.declared.term.Atom.{Atom as OneAtom}

@@ -96,7 +96,8 @@ member_all_rows (suc n) dom (b ∷ s) =
     ∙ any_alike (λ a. list_any (eq_by_cmp row_cmp (b ∷ s)) (map (λ row. a ∷ row) (all_rows n dom)))
     (λ a. eq_by_cmp value_cmp b a && list_any (eq_by_cmp row_cmp s) (all_rows n dom)) dom
     (λ a. any_map (eq_by_cmp row_cmp (b ∷ s)) (λ row. a ∷ row) (all_rows n dom)
-    ∙ any_alike (λ row. eq_by_cmp row_cmp (b ∷ s) (a ∷ row)) (λ row. eq_by_cmp value_cmp b a && eq_by_cmp row_cmp s row) (all_rows n dom)
+    ∙ any_alike (λ row. eq_by_cmp row_cmp (b ∷ s) (a ∷ row))
+    (λ row. eq_by_cmp value_cmp b a && eq_by_cmp row_cmp s row) (all_rows n dom)
     (λ row. eq_then (value_cmp b a) (row_cmp s row))
     ∙ any_and (eq_by_cmp value_cmp b a) (eq_by_cmp row_cmp s) (all_rows n dom))
     ∙ any_and_last (list_any (eq_by_cmp row_cmp s) (all_rows n dom)) (eq_by_cmp value_cmp b) dom

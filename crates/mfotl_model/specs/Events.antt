@@ -5,8 +5,10 @@ use Rattle.std.specs.Ordering.{nat_cmp, on, then_cmp}
 use Rattle.mfotl_model.specs.declared.event.Event.{Event}
 use Rattle.mfotl_model.specs.Values.{row_cmp, row_total}
 
+-- by predicate, then by the values
 abbrev pub event_cmp : Event → Event → Ordering
 event_cmp = then_cmp (on (λ e. e.pred) nat_cmp) (on (λ e. e.args) row_cmp)
 
+-- it is a total order
 pub event_total : IsTotalOrder event_cmp
 event_total = then_total (on_total (λ e. e.pred) nat_cmp_total) (on_total (λ e. e.args) row_total)

@@ -6,6 +6,7 @@ use Rattle.mfotl_model.specs.declared.interval.Interval.{Interval}
 use Rattle.mfotl_model.specs.declared.term.Atom.{Atom as OneAtom}
 use Rattle.mfotl_model.specs.declared.term.Comparison.{Comparison}
 
+-- the operators as a `Formula` has them
 pub data Form : Type 0 where
   True : Form
   False : Form

@@ -1,5 +1,5 @@
 -- Worked examples: when each operator holds, and when it is settled.
-use Rattle.std.specs.Prelude.{◌≡◌, ℕ, Bool, true, false, List, [], ◌∷◌, ◌++◌, map}
+use Rattle.std.specs.Prelude.{◌≡◌, ℕ, Bool, true, false, List, [], ◌∷◌, map}
 use Rattle.std.proofs.Common.{lit≤}
 use Rattle.mfotl_model.specs.Formulas.{Form}
 use Rattle.mfotl_model.specs.Formulas.Form.{True, False, Compare, Not, And, Or, Implies, Equiv, Exists, Forall, Previous, Next, Once, Historically, Eventually, Always, Since, Until}
@@ -19,6 +19,7 @@ truth_table op =
     map (sat [] [] (valuation [] []) 0)
     (op True True ∷ op True False ∷ op False True ∷ op False False ∷ [])
 
+-- NOT of the left operand, and the connectives, at both true, one true and both false
 abbrev pub BooleanOperators : Type 0
 BooleanOperators =
     (truth_table (λ f g. Not f) ≡ false ∷ false ∷ true ∷ true ∷ [])
@@ -33,13 +34,17 @@ abbrev pub of_one : List Value → Form → Bool
 of_one dom f =
     sat (point 1 (of 0 1 ∷ event 1 (int 1 ∷ int 2 ∷ []) ∷ []) ∷ []) dom (valuation (0 ∷ []) (int 1 ∷ [])) 0 f
 
+-- nothing, 1, 2, and both
+abbrev pub four_domains : List (List Value)
+four_domains = [] ∷ (int 1 ∷ []) ∷ (int 2 ∷ []) ∷ (int 2 ∷ int 1 ∷ []) ∷ []
+
 -- some value, or each value, of the domain; a bound variable has no other value; and other variables keep
 -- theirs
 abbrev pub Quantifiers : Type 0
 Quantifiers =
-    (map (λ dom. of_one dom (Exists (bound 0) (at_x 0))) ([] ∷ (int 1 ∷ []) ∷ (int 2 ∷ []) ∷ (int 2 ∷ int 1 ∷ []) ∷ [])
+    (map (λ dom. of_one dom (Exists (bound 0) (at_x 0))) four_domains
     ≡ false ∷ true ∷ false ∷ true ∷ [])
-    × (map (λ dom. of_one dom (Forall (bound 0) (at_x 0))) ([] ∷ (int 1 ∷ []) ∷ (int 2 ∷ []) ∷ (int 2 ∷ int 1 ∷ []) ∷ [])
+    × (map (λ dom. of_one dom (Forall (bound 0) (at_x 0))) four_domains
     ≡ true ∷ true ∷ false ∷ false ∷ [])
     × (of_one (int 2 ∷ []) (Exists (bound 1) (at_x 0)) ≡ true)
     × (of_one (int 2 ∷ []) (Exists (bound 1) (at_x_y 1)) ≡ true)
@@ -53,10 +58,11 @@ AtomsAndComparisons =
     ∷ Compare (record { sign = Less; left = Const (int 2); right = Var 0 }) ∷ [])
     ≡ true ∷ true ∷ false ∷ true ∷ false ∷ true ∷ false ∷ []
 
--- two predicates without arguments
+-- a predicate without arguments
 abbrev pub p : Form
 p = at 0 []
 
+-- and another
 abbrev pub q : Form
 q = at 1 []
 
@@ -74,6 +80,7 @@ along f = map (λ i. sat four_points [] (valuation [] []) i f) (0 ∷ 1 ∷ 2 �
 abbrev pub any : Interval
 any = interval 0 9 (lit≤ tt)
 
+-- there is nothing before the first position nor behind the last, and the distance counts
 abbrev pub PreviousAndNext : Type 0
 PreviousAndNext =
     (along (Previous any p) ≡ false ∷ true ∷ true ∷ false ∷ [])
@@ -81,6 +88,7 @@ PreviousAndNext =
     × (along (Next any q) ≡ true ∷ false ∷ true ∷ false ∷ [])
     × (along (Next (interval 1 3 (lit≤ tt)) q) ≡ true ∷ false ∷ false ∷ false ∷ [])
 
+-- the position itself counts, and the left operand from behind the right one on
 abbrev pub PastOperators : Type 0
 PastOperators =
     (along (Once any q) ≡ false ∷ true ∷ true ∷ true ∷ [])
@@ -91,6 +99,7 @@ PastOperators =
     × (along (Since any (Not q) p) ≡ true ∷ true ∷ true ∷ false ∷ [])
     × (along (Since (interval 1 4 (lit≤ tt)) p p) ≡ false ∷ true ∷ false ∷ false ∷ [])
 
+-- the position itself counts, and the left operand up to before the right one
 abbrev pub FutureOperators : Type 0
 FutureOperators =
     (along (Eventually (interval 3 9 (lit≤ tt)) q) ≡ true ∷ true ∷ true ∷ false ∷ [])
@@ -110,20 +119,25 @@ waiting = Eventually (interval 0 5 (lit≤ tt)) p
 abbrev pub settles_at : ℕ → (Form → Form → Form) → List Bool
 settles_at i op = map (λ f. settled (0 ∷ 3 ∷ []) f i) (op p p ∷ op p waiting ∷ op waiting p ∷ [])
 
--- the interval up to 2, which lies behind timestamp 3, and the one up to 3, which doesn't
+-- the interval up to 2, which from timestamp 0 on ends before timestamp 3
 abbrev pub short : Interval
 short = interval 0 2 (lit≤ tt)
 
+-- the one up to 3, which doesn't
 abbrev pub long : Interval
 long = interval 0 3 (lit≤ tt)
 
+-- the formulas without an operator
+abbrev pub plain : List Form
+plain = True ∷ False ∷ p ∷ Compare (record { sign = Less; left = Var 0; right = Var 1 }) ∷ []
+
+-- they are settled at each position that the log has reached
 abbrev pub SettledOnceReached : Type 0
 SettledOnceReached =
-    (map (λ f. settled (0 ∷ 3 ∷ []) f 1) (True ∷ False ∷ p ∷ Compare (record { sign = Less; left = Var 0; right = Var 1 }) ∷ [])
-    ≡ true ∷ true ∷ true ∷ true ∷ [])
-    × (map (λ f. settled (0 ∷ 3 ∷ []) f 2) (True ∷ False ∷ p ∷ Compare (record { sign = Less; left = Var 0; right = Var 1 }) ∷ [])
-    ≡ false ∷ false ∷ false ∷ false ∷ [])
+    (map (λ f. settled (0 ∷ 3 ∷ []) f 1) plain ≡ true ∷ true ∷ true ∷ true ∷ [])
+    × (map (λ f. settled (0 ∷ 3 ∷ []) f 2) plain ≡ false ∷ false ∷ false ∷ false ∷ [])
 
+-- an operator of two operands waits for both
 abbrev pub SettledWithBothOperands : Type 0
 SettledWithBothOperands =
     (settles_at 0 (λ f g. And f g) ≡ true ∷ false ∷ false ∷ [])
@@ -134,6 +148,7 @@ SettledWithBothOperands =
     × (settles_at 0 (λ f g. Until short f g) ≡ true ∷ false ∷ false ∷ [])
     × (settles_at 0 (λ f g. Until long f g) ≡ false ∷ false ∷ false ∷ [])
 
+-- one of one operand for that one
 abbrev pub SettledWithTheOperand : Type 0
 SettledWithTheOperand =
     (settles_at 0 (λ f g. Not f) ≡ true ∷ true ∷ false ∷ [])

@@ -10,7 +10,7 @@ use Rattle.mfotl_model.specs.declared.interval.Interval.{Interval}
 use Rattle.mfotl_model.specs.declared.term.Term.{Term}
 use Rattle.mfotl_model.specs.declared.term.Term.TheVariants.{Var}
 use Rattle.mfotl_model.specs.declared.value.Value.{Value}
-use Rattle.mfotl_model.specs.declared.value.Value.TheVariants.{Int, Text}
+use Rattle.mfotl_model.specs.declared.value.Value.TheVariants.{Int}
 use Rattle.mfotl_model.specs.Formulas.{Form}
 use Rattle.mfotl_model.specs.Formulas.Form.{Atom}
 
@@ -34,10 +34,11 @@ from lo = record { lo = lo; hi = None; ordered = open_ended lo }
 abbrev pub at : ℕ → List Term → Form
 at pred terms = Atom (record { pred = pred; args = terms })
 
--- a predicate at one variable, numbered 0, or at two
+-- a predicate at one variable, numbered 0
 abbrev pub at_x : ℕ → Form
 at_x pred = at pred (Var 0 ∷ [])
 
+-- a predicate at two variables
 abbrev pub at_x_y : ℕ → Form
 at_x_y pred = at pred (Var 0 ∷ Var 1 ∷ [])
 
@@ -57,5 +58,6 @@ event pred values = record { pred = pred; args = values }
 abbrev pub of : ℕ → ℕ → Event
 of pred n = event pred (int n ∷ [])
 
+-- a time-point with its timestamp and its events
 abbrev pub point : ℕ → List Event → TimePoint
 point ts db = record { ts = ts; db = db }

@@ -1,6 +1,6 @@
 -- Strategies: into which parts the values of each free variable are cut, and which worker each row
 -- belongs to.
-use Rattle.std.specs.Prelude.{ℕ, ◌+◌, ◌*◌, ◌-◌, ◌/◌, ◌%◌, List, [], ◌∷◌, length, ℤ, pos, negsuc, sum}
+use Rattle.std.specs.Prelude.{ℕ, ◌+◌, ◌*◌, ◌-◌, ◌%◌, List, [], ◌∷◌, length, ℤ, pos, negsuc, sum}
 use Rattle.std.specs.List.{filter}
 use Rattle.std.specs.Ordering.{int_cmp, is_le}
 use Rattle.mfotl_model.specs.Satisfaction.{Valuation}

@@ -1,5 +1,5 @@
 -- Worked examples: tables, atoms matched against events, strategies and slices.
-use Rattle.std.specs.Prelude.{◌≡◌, Bool, true, false, List, [], ◌∷◌, map, codes, negsuc, pos}
+use Rattle.std.specs.Prelude.{◌≡◌, ℕ, true, false, List, [], ◌∷◌, map, codes, negsuc, pos}
 use Rattle.mfotl_model.specs.Matching.{matching_rows}
 use Rattle.mfotl_model.specs.Regions.{near_of}
 use Rattle.mfotl_model.specs.Samples.{event, int, of}
@@ -8,7 +8,6 @@ use Rattle.mfotl_model.specs.Strategies.{Strategy, owner_of, strategy_part, work
 use Rattle.mfotl_model.specs.Strategies.Entry.{Uncut, Hash, Cut}
 use Rattle.mfotl_model.specs.Tables.{TableOf, all_among, all_apart, all_sized, has, part, valuation}
 use Rattle.mfotl_model.specs.declared.term.Term.TheVariants.{Const, Var}
-use Rattle.mfotl_model.specs.declared.value.Value.{Value}
 use Rattle.mfotl_model.specs.declared.value.Value.TheVariants.{Int, Text}
 
 -- a table over the variables 0 and 1
@@ -22,6 +21,7 @@ TablesHaveRows =
     ((int 3 ∷ int 4 ∷ []) ∷ (int 3 ∷ int 2 ∷ []) ∷ (int 4 ∷ int 3 ∷ []) ∷ [])
     ≡ true ∷ false ∷ false ∷ []
 
+-- the columns that are wanted, in their order; and what is asked of columns and rows
 abbrev pub PartsOfRows : Type 0
 PartsOfRows =
     (part (0 ∷ 1 ∷ 2 ∷ []) (2 ∷ 0 ∷ []) (int 7 ∷ int 8 ∷ int 9 ∷ []) ≡ int 9 ∷ int 7 ∷ [])
@@ -54,15 +54,19 @@ PartsOfValues =
 abbrev pub three_by_two : Strategy
 three_by_two = Hash 3 ∷ Hash 2 ∷ []
 
+-- the numbers of six workers, and one more
+abbrev pub seven : List ℕ
+seven = 0 ∷ 1 ∷ 2 ∷ 3 ∷ 4 ∷ 5 ∷ 6 ∷ []
+
 -- there are six workers; the row (4,3) is worker 3's, and near to it alone; a row that binds less is near to
 -- each worker that has its parts
 abbrev pub WorkersOfRows : Type 0
 WorkersOfRows =
     (map workers_of (three_by_two ∷ (Uncut ∷ Cut (pos 2 ∷ pos 5 ∷ []) ∷ []) ∷ [] ∷ []) ≡ 6 ∷ 3 ∷ 1 ∷ [])
     × (owner_of three_by_two (valuation (0 ∷ 1 ∷ []) (int 4 ∷ int 3 ∷ [])) ≡ 3)
-    × (map (λ k. near_of three_by_two k (0 ∷ 1 ∷ []) (valuation (0 ∷ 1 ∷ []) (int 4 ∷ int 3 ∷ []))) (0 ∷ 1 ∷ 2 ∷ 3 ∷ 4 ∷ 5 ∷ 6 ∷ [])
+    × (map (λ k. near_of three_by_two k (0 ∷ 1 ∷ []) (valuation (0 ∷ 1 ∷ []) (int 4 ∷ int 3 ∷ []))) seven
     ≡ false ∷ false ∷ false ∷ true ∷ false ∷ false ∷ false ∷ [])
-    × (map (λ k. near_of three_by_two k (1 ∷ []) (valuation (1 ∷ []) (int 3 ∷ []))) (0 ∷ 1 ∷ 2 ∷ 3 ∷ 4 ∷ 5 ∷ 6 ∷ [])
+    × (map (λ k. near_of three_by_two k (1 ∷ []) (valuation (1 ∷ []) (int 3 ∷ []))) seven
     ≡ false ∷ true ∷ false ∷ true ∷ false ∷ true ∷ false ∷ [])
 
 -- of the events only those that the atom p(x) matches in the worker's part are seen

@@ -7,7 +7,6 @@ use Rattle.mfotl_model.specs.Intervals.{in_interval}
 use Rattle.mfotl_model.specs.Samples.{from, int, interval, of}
 use Rattle.mfotl_model.specs.Satisfaction.{compares}
 use Rattle.mfotl_model.specs.Values.{row_cmp, value_cmp}
-use Rattle.mfotl_model.specs.declared.term.Sign.{Sign}
 use Rattle.mfotl_model.specs.declared.term.Sign.TheVariants.{Equal, Less, LessEqual, Greater, GreaterEqual}
 use Rattle.mfotl_model.specs.declared.value.Value.{Value}
 use Rattle.mfotl_model.specs.declared.value.Value.TheVariants.{Int, Text}

@@ -1,6 +1,5 @@
 -- Worked examples: the free variables and the constants of each operator.
-use Rattle.std.specs.Prelude.{◌≡◌, ℕ, List, [], ◌∷◌, map, codes}
-use Rattle.std.proofs.Common.{lit≤}
+use Rattle.std.specs.Prelude.{◌≡◌, List, [], ◌∷◌, map, codes}
 use Rattle.mfotl_model.specs.ActiveDomain.{adom, constants}
 use Rattle.mfotl_model.specs.Formulas.{Form}
 use Rattle.mfotl_model.specs.Formulas.Form.{True, False, Compare, Not, And, Or, Implies, Equiv, Exists, Forall, Previous, Next, Once, Historically, Eventually, Always, Since, Until}
@@ -8,17 +7,17 @@ use Rattle.mfotl_model.specs.FreeVariables.{fv}
 use Rattle.mfotl_model.specs.Samples.{at, bound, event, from, int, of, point}
 use Rattle.mfotl_model.specs.declared.term.Sign.TheVariants.{Less}
 use Rattle.mfotl_model.specs.declared.term.Term.TheVariants.{Const, Var}
-use Rattle.mfotl_model.specs.declared.value.Value.{Value}
 use Rattle.mfotl_model.specs.declared.value.Value.TheVariants.{Text}
 
 -- an atom with variables 2 and 1, one of them twice, and a constant
 abbrev pub atom : Form
 atom = at 0 (Var 2 ∷ Const (int 5) ∷ Var 1 ∷ Var 2 ∷ [])
 
--- a comparison of variables, one of them the atom's, and one of constants
+-- a comparison of variables, one of them the atom's
 abbrev pub compared : Form
 compared = Compare (record { sign = Less; left = Var 1; right = Var 0 })
 
+-- one of constants
 abbrev pub compared_constants : Form
 compared_constants = Compare (record { sign = Less; left = Const (int 7); right = Const (Text (codes "t")) })
 

@@ -29,7 +29,8 @@ line_written log f i out after whole within is adds before =
     let others : List ℕ = range_with_len (i + 1) (length log - (i + 1)) in
     ap (λ o. o ++ lines_from log f others) adds
     ∙ append_assoc out line (lines_from log f others)
-    ∙ ap (λ ps. out ++ flat_map line_of (map (verdict_at log f) ps)) (sym (taken_first (settled (times log) f) i others is))
+    ∙ ap (λ ps. out ++ flat_map line_of (map (verdict_at log f) ps))
+    (sym (taken_first (settled (times log) f) i others is))
     ∙ ap (λ ps. out ++ lines_from log f ps) (sym (range_cons i (length log) within))
     ∙ before
 
@@ -40,7 +41,8 @@ pub text_stopped : (log : List TimePoint) (f : Form) (i : ℕ) (out whole : List
 text_stopped log f i out whole within is before =
     let others : List ℕ = range_with_len (i + 1) (length log - (i + 1)) in
     sym (append-nil out)
-    ∙ ap (λ b. out ++ flat_map line_of (map (verdict_at log f) (take (cond b (1 + prefix_len (settled (times log) f) others) 0) (i ∷ others)))) (sym is)
+    ∙ ap (λ b. out ++ flat_map line_of (map (verdict_at log f)
+    (take (cond b (1 + prefix_len (settled (times log) f) others) 0) (i ∷ others)))) (sym is)
     ∙ ap (λ ps. out ++ lines_from log f ps) (sym (range_cons i (length log) within))
     ∙ before
 

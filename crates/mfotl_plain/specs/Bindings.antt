@@ -4,6 +4,7 @@ use Rattle.mfotl_plain.specs.declared.bindings.Bindings.TheVariants.{Row, With'}
 use Rattle.mfotl_model.specs.Satisfaction.{Valuation, with_value}
 use Rattle.mfotl_model.specs.Violations.{valuation}
 
+-- the values of the row, and before them those that quantifiers gave
 abbrev pub values_of : Bindings → Valuation
 values_of (Row columns row) = valuation columns.now row.now
 values_of (With' x a p rest) = with_value (values_of rest) x a.now

@@ -8,4 +8,7 @@ use Rattle.mfotl_plain.proofs.lines.log_text.Given as goal
 
 abbrev pub invariant-loop-at : goal.invariant-loop-at
 invariant-loop-at l =
-    l.out.items ++ flat_map line_of (map (verdict_at l.log (form l.formula)) (take_while (settled (times l.log) (form l.formula)) (range_with_len l.at (length l.log - l.at)))) ≡ text (record { points = l.log; closed = false }) (form l.formula)
+    l.out.items
+    ++ flat_map line_of (map (verdict_at l.log (form l.formula))
+    (take_while (settled (times l.log) (form l.formula)) (range_with_len l.at (length l.log - l.at))))
+    ≡ text (record { points = l.log; closed = false }) (form l.formula)

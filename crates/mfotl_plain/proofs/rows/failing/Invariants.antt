@@ -1,9 +1,7 @@
 use Rattle.std.proofs.Common.{◌≡◌, not}
 use Rattle.std.specs.List.{filter}
-use Rattle.mfotl_model.specs.ActiveDomain.{ascending}
 use Rattle.mfotl_model.specs.Formulas.{form}
 use Rattle.mfotl_model.specs.Satisfaction.{sat}
-use Rattle.mfotl_model.specs.Values.{row_cmp}
 use Rattle.mfotl_model.specs.Violations.{valuation}
 use Rattle.mfotl_plain.proofs.rows.failing.Given as goal
 

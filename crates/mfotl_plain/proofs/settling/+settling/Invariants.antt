@@ -13,5 +13,7 @@ invariant-is_settled_before-loop-j l =
 
 abbrev pub invariant-is_settled_within-loop-j : goal.invariant-is_settled_within-loop-j
 invariant-is_settled_within-loop-j l =
-    let ready = λ (j : ℕ). nat_lt (time_at l.times l.at + l.hi) (time_at l.times j) || settled l.times (form l.formula) j in
-    list_all ready (range_with_len l.j (length l.times - l.j)) ≡ list_all ready (range_with_len l.at (length l.times - l.at))
+    let ready = λ (j : ℕ). nat_lt (time_at l.times l.at + l.hi) (time_at l.times j)
+    || settled l.times (form l.formula) j in
+    list_all ready (range_with_len l.j (length l.times - l.j))
+    ≡ list_all ready (range_with_len l.at (length l.times - l.at))

@@ -33,14 +33,17 @@ decreases-holds_between l = 3 * max (size-Formula l.left.now) (size-Formula l.ri
 
 abbrev pub invariant-holds_for_every-loop-value : goal.invariant-holds_for_every-loop-value
 invariant-holds_for_every-loop-value l =
-    let test = λ (a : Value). sat l.self.log.now l.self.dom.now (with_value (values_of l.self.bindings.now) l.x a) l.at (form l.formula) in
+    let test = λ (a : Value). sat l.self.log.now l.self.dom.now
+    (with_value (values_of l.self.bindings.now) l.x a) l.at (form l.formula) in
     list_all test (drop l.value-index l.self.dom.now) ≡ list_all test l.self.dom.now
 
 abbrev pub invariant-holds_for_some-loop-value : goal.invariant-holds_for_some-loop-value
 invariant-holds_for_some-loop-value l =
-    let test = λ (a : Value). sat l.self.log.now l.self.dom.now (with_value (values_of l.self.bindings.now) l.x a) l.at (form l.formula) in
+    let test = λ (a : Value). sat l.self.log.now l.self.dom.now
+    (with_value (values_of l.self.bindings.now) l.x a) l.at (form l.formula) in
     list_any test (drop l.value-index l.self.dom.now) ≡ list_any test l.self.dom.now
 
 abbrev pub invariant-truths-loop-at : goal.invariant-truths-loop-at
 invariant-truths-loop-at l =
-    l.values.items ≡ truths l.at (λ j. sat l.self.log.now l.self.dom.now (values_of l.self.bindings.now) j (form l.formula))
+    l.values.items
+    ≡ truths l.at (λ j. sat l.self.log.now l.self.dom.now (values_of l.self.bindings.now) j (form l.formula))
