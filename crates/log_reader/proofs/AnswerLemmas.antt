@@ -1,5 +1,6 @@
 -- What a reader answers, in the grammar's words.
-use Rattle.std.proofs.Common.{◌≡◌, ◌≢◌, ◌≤◌, Bool, true, false, List, [], ◌∷◌, ◌++◌, length, take, drop, Result, Ok, Err, IfErr, refl, sym, ap, subst, ◌∙◌, append_assoc, arith}
+use Rattle.std.proofs.Common.{◌≡◌, ◌≢◌, ◌≤◌, Bool, true, false, List, [], ◌∷◌, ◌++◌, length, take, drop, Result, Ok}
+use Rattle.std.proofs.Common.{Err, IfErr, refl, sym, ap, subst, ◌∙◌, append_assoc, arith}
 use Rattle.std.proofs.lemmas.List.{length-drop, length-take, take-append-drop}
 use Rattle.mfotl_model.specs.declared.event.TimePoint.{TimePoint}
 use Rattle.log_reader.specs.declared.fault.LogFault.{LogFault}
@@ -16,27 +17,32 @@ use Rattle.log_reader.proofs.CompletedLaws.{all_completed, beginning_completed}
 use Rattle.log_reader.proofs.FaultLaws.{exact_faults_law}
 use Rattle.log_reader.proofs.LogLaws.{read_spelled}
 
-end_by : (ended : Bool) (points : List TimePoint) (ending : Ending) → answer_by ended points ending ≡ Ok End → (ended ≡ true) × (ending ≡ NoFault)
+end_by : (ended : Bool) (points : List TimePoint) (ending : Ending) → answer_by ended points ending ≡ Ok End
+    → (ended ≡ true) × (ending ≡ NoFault)
 end_by true [] NoFault e = (refl, refl)
 end_by false [] NoFault e = absurd cc
 end_by ended [] (Fault fault) e = absurd cc
 end_by ended (point ∷ points) ending e = absurd cc
 
-fault_by : (ended : Bool) (points : List TimePoint) (ending : Ending) (fault : LogFault) → answer_by ended points ending ≡ Err fault → ending ≡ Fault fault
+fault_by : (ended : Bool) (points : List TimePoint) (ending : Ending) (fault : LogFault)
+    → answer_by ended points ending ≡ Err fault → ending ≡ Fault fault
 fault_by ended [] (Fault other) fault e = cc
 fault_by true [] NoFault fault e = absurd cc
 fault_by false [] NoFault fault e = absurd cc
 fault_by ended (point ∷ points) ending fault e = absurd cc
 
 -- an answer without a fault or a time-point comes behind all time-points
-none_left : (ended : Bool) (points : List TimePoint) (ending : Ending) (answer : Result Next LogFault) → answer_by ended points ending ≡ answer
+none_left : (ended : Bool) (points : List TimePoint) (ending : Ending) (answer : Result Next LogFault)
+    → answer_by ended points ending ≡ answer
     → ((point : TimePoint) → answer ≡ Ok (Point point) → ⊥) → points ≡ []
 none_left ended [] ending answer e none = refl
 none_left ended (point ∷ points) ending answer e none = absurd (none point (sym e))
 
-first_left : (ended : Bool) (points : List TimePoint) (ending : Ending) (point : TimePoint) → answer_by ended points ending ≡ Ok (Point point)
+first_left : (ended : Bool) (points : List TimePoint) (ending : Ending) (point : TimePoint)
+    → answer_by ended points ending ≡ Ok (Point point)
     → (more : List TimePoint) × (points ≡ point ∷ more)
-first_left ended (x ∷ points) ending point e = let same : x ≡ point = cc in (points, ap (λ (y : TimePoint). y ∷ points) same)
+first_left ended (x ∷ points) ending point e = let same : x ≡ point = cc in
+    (points, ap (λ (y : TimePoint). y ∷ points) same)
 first_left ended [] (Fault fault) point e = absurd cc
 first_left true [] NoFault point e = absurd cc
 first_left false [] NoFault point e = absurd cc
@@ -60,7 +66,8 @@ module _ (r : Progress) where
       → IfErr result (λ fault. fault ≢ Memory → IsShown r.sig r.limits r.bytes r.is_ended fault)
   shown_due (Ok next) g = tt
   shown_due (Err Memory) g = λ other. absurd (other refl)
-  shown_due (Err fault) g = λ _. (exact_faults_law r.sig r.limits r.bytes r.is_ended fault).0 (fault_by r.is_ended _ _ fault g)
+  shown_due (Err fault) g =
+      λ _. (exact_faults_law r.sig r.limits r.bytes r.is_ended fault).0 (fault_by r.is_ended _ _ fault g)
 
   -- ---- the time-points
 
@@ -68,11 +75,13 @@ module _ (r : Progress) where
     all_given : drop r.given (read r).points ≡ [] → GaveAll r
     all_given none = record {
       points = (read r).points;
-      count = let left : length (drop r.given (read r).points) ≡ 0 = ap length none in omega (arith, left, few, length-drop r.given (read r).points);
+      count = let left : length (drop r.given (read r).points) ≡ 0 = ap length none in
+          omega (arith, left, few, length-drop r.given (read r).points);
       all = all_completed r.sig r.limits r.bytes r.is_ended;
     }
 
-    next_given : (point : TimePoint) (more : List TimePoint) → drop r.given (read r).points ≡ point ∷ more → IsNextPoint r point
+    next_given : (point : TimePoint) (more : List TimePoint) → drop r.given (read r).points ≡ point ∷ more
+        → IsNextPoint r point
     next_given point more e =
         let before = take r.given (read r).points in
         record {

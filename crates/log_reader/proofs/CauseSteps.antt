@@ -1,5 +1,6 @@
 -- A step fails exactly where its token shows a fault, and with that fault.
-use Rattle.std.proofs.Common.{◌≡◌, ◌≢◌, inl, inr, ℕ, List, [], ◌∷◌, ◌++◌, Option, Some, None, Result, Ok, Err, refl, sym, ap, subst, ◌∙◌, nat_lt}
+use Rattle.std.proofs.Common.{◌≡◌, ◌≢◌, inl, inr, ℕ, List, [], ◌∷◌, ◌++◌, Option, Some, None, Result, Ok, Err, refl}
+use Rattle.std.proofs.Common.{sym, ap, subst, ◌∙◌, nat_lt}
 use Rattle.std.proofs.lemmas.Bool.{cond_both, ltb-true, ltb-false, lt-ltb, le-ltb}
 use Rattle.mfotl_lex.specs.Lexemes.{Lexeme}
 use Rattle.mfotl_lex.specs.Numbers.{integer_value, is_int64}
@@ -7,10 +8,13 @@ use Rattle.mfotl_model.specs.declared.policy.Sort.{Sort}
 use Rattle.mfotl_model.specs.declared.policy.Sort.TheVariants as sorts
 use Rattle.mfotl_sig.specs.Preds.{PredOf, named}
 use Rattle.log_reader.specs.declared.fault.LogFault.{LogFault}
-use Rattle.log_reader.specs.declared.fault.LogFault.TheVariants.{Syntax, UnknownPredicate, WrongArity, WrongSort, IntRange, TimestampRange, FallingTime, TooManyEvents, TooManyPoints}
+use Rattle.log_reader.specs.declared.fault.LogFault.TheVariants.{Syntax, UnknownPredicate, WrongArity, WrongSort}
+use Rattle.log_reader.specs.declared.fault.LogFault.TheVariants.{IntRange, TimestampRange, FallingTime, TooManyEvents}
+use Rattle.log_reader.specs.declared.fault.LogFault.TheVariants.{TooManyPoints}
 use Rattle.log_reader.specs.declared.limits.Limits.{Limits}
 use Rattle.log_reader.specs.declared.stage.Stage.{Stage}
-use Rattle.log_reader.specs.declared.stage.Stage.TheVariants.{Between, AfterAt, AfterStamp, AfterName, AfterOpen, AfterValue, AfterComma, AfterClose}
+use Rattle.log_reader.specs.declared.stage.Stage.TheVariants.{Between, AfterAt, AfterStamp, AfterName, AfterOpen}
+use Rattle.log_reader.specs.declared.stage.Stage.TheVariants.{AfterValue, AfterComma, AfterClose}
 use Rattle.log_reader.specs.Causes.{IsNoInteger, IsWide}
 use Rattle.mfotl_lex.specs.FirstFault.{◌>>=◌}
 use Rattle.log_reader.specs.Partials.{Partial}
@@ -50,12 +54,14 @@ module _ (sig : List PredOf) (limits : Limits) (p : Partial) (t : Lexeme) where
   opened_why g = cond_both (nat_lt p.points limits.points) _ _ Explains
       (λ _. fine _) (λ h. fails _ (refl, g, ltb-false p.points limits.points h))
 
-  stamped_why : LeadsTo AfterStamp p t → (time : Option ℕ) → timestamp_of (content t) ≡ time → Explains (stamped t.at p time)
+  stamped_why : LeadsTo AfterStamp p t → (time : Option ℕ) → timestamp_of (content t) ≡ time
+      → Explains (stamped t.at p time)
   stamped_why g None none = fails _ (refl, g, none)
   stamped_why g (Some time) some = cond_both (nat_lt time p.time) _ _ Explains
       (λ h. fails _ (refl, g, some, refl, ltb-true time p.time h)) (λ _. fine _)
 
-  naming_why : LeadsTo AfterName p t → (found : Option PredOf) → named (content t) sig ≡ found → Explains (naming t.at p found)
+  naming_why : LeadsTo AfterName p t → (found : Option PredOf) → named (content t) sig ≡ found
+      → Explains (naming t.at p found)
   naming_why g None none = fails _ (refl, g, none)
   naming_why g (Some pred) some = fine _
 
@@ -63,7 +69,8 @@ module _ (sig : List PredOf) (limits : Limits) (p : Partial) (t : Lexeme) where
   grouped_why g = cond_both (nat_lt p.groups limits.events) _ _ Explains
       (λ _. fine _) (λ h. fails _ (refl, g, ltb-false p.groups limits.events h))
 
-  integer_why : LeadsTo AfterValue p t → (more : List Sort) → p.due ≡ sorts.Int ∷ more → (word : List ℕ) → written t ≡ Bare word
+  integer_why : LeadsTo AfterValue p t → (more : List Sort) → p.due ≡ sorts.Int ∷ more → (word : List ℕ)
+      → written t ≡ Bare word
       → Explains (integer_at t.at word)
   unfolding integer_at
   integer_why g more due word is = cond_both (is_number word) _ _ Explains
@@ -71,7 +78,8 @@ module _ (sig : List PredOf) (limits : Limits) (p : Partial) (t : Lexeme) where
       (λ wide. fails _ (refl, g, (more, due), rw is (number, wide))))
       (λ none. fails _ (refl, g, (more, due), rw is none))
 
-  value_why : LeadsTo AfterValue p t → (sort : Sort) (more : List Sort) → p.due ≡ sort ∷ more → (w : Written) → written t ≡ w
+  value_why : LeadsTo AfterValue p t → (sort : Sort) (more : List Sort) → p.due ≡ sort ∷ more → (w : Written)
+      → written t ≡ w
       → Explains (value_at sort t.at w)
   value_why g sorts.Int more due (Bare word) is = integer_why g more due word is
   value_why g sorts.Int more due (Quoted text) is = fails _ (refl, g, (more, due), rw is tt)
@@ -80,7 +88,8 @@ module _ (sig : List PredOf) (limits : Limits) (p : Partial) (t : Lexeme) where
 
   valued_why : LeadsTo AfterValue p t → (due : List Sort) → p.due ≡ due → Explains (valued t.at (written t) p due)
   valued_why g [] none = fails _ (refl, inl (g, none))
-  valued_why g (sort ∷ more) due = then_fine (value_at sort t.at (written t)) _ (value_why g sort more due (written t) refl)
+  valued_why g (sort ∷ more) due =
+      then_fine (value_at sort t.at (written t)) _ (value_why g sort more due (written t) refl)
 
   closed_why : LeadsTo AfterClose p t → (due : List Sort) → p.due ≡ due → Explains (closed t.at p due)
   closed_why g [] none = fine _
@@ -122,7 +131,8 @@ closed_early at p (sort ∷ more) some = refl
 
 module _ (sig : List PredOf) (limits : Limits) (p : Partial) (t : Lexeme) where
   -- a step that the grammar takes to this stage
-  taken : (g : Stage) (r : Result Partial LogFault) → LeadsTo g p t → stepped sig limits p t (Some g) ≡ r → step sig limits p t ≡ r
+  taken : (g : Stage) (r : Result Partial LogFault) → LeadsTo g p t → stepped sig limits p t (Some g) ≡ r
+      → step sig limits p t ≡ r
   unfolding step
   taken g r leads e = ap (stepped sig limits p t) leads ∙ e
 
@@ -130,19 +140,26 @@ module _ (sig : List PredOf) (limits : Limits) (p : Partial) (t : Lexeme) where
       → value_at sorts.Int t.at (written t) ≡ Err fault → step sig limits p t ≡ Err fault
   value_fails fault more g due e =
       taken AfterValue _ g
-      (ap (valued t.at (written t) p) due ∙ ap (λ (r : Result _ LogFault). r >>= λ v. Ok (record p { stage = AfterValue; due = more; args = p.args ++ v ∷ [] })) e)
+      (ap (valued t.at (written t) p) due
+      ∙ ap (λ (r : Result _ LogFault). r >>= λ v. Ok
+      (record p { stage = AfterValue; due = more; args = p.args ++ v ∷ [] })) e)
 
   pub step_shows : (fault : LogFault) → ShowsFault sig limits p t fault → step sig limits p t ≡ Err fault
   unfolding step
   step_shows (Syntax at) (place, none) = rw place (ap (stepped sig limits p t) none)
   step_shows (UnknownPredicate at) (place, g, none) = rw place (taken AfterName _ g (ap (naming t.at p) none))
-  step_shows (WrongArity at) (place, inl (g, none)) = rw place (taken AfterValue _ g (ap (valued t.at (written t) p) none))
+  step_shows (WrongArity at) (place, inl (g, none)) =
+      rw place (taken AfterValue _ g (ap (valued t.at (written t) p) none))
   step_shows (WrongArity at) (place, inr (g, some)) = rw place (taken AfterClose _ g (closed_early t.at p p.due some))
-  step_shows (WrongSort at) (place, g, (more, due), none) = rw place (value_fails _ more g due (no_integer t.at (written t) none))
+  step_shows (WrongSort at) (place, g, (more, due), none) =
+      rw place (value_fails _ more g due (no_integer t.at (written t) none))
   step_shows (IntRange at) (place, g, (more, due), w) = rw place (value_fails _ more g due (wide t.at (written t) w))
   step_shows (TimestampRange at) (place, g, none) = rw place (taken AfterStamp _ g (ap (stamped t.at p) none))
   step_shows (FallingTime before now at) (place, g, time, last, below) =
-      rw (place, last) (taken AfterStamp _ g (ap (stamped t.at p) time ∙ rw (lt-ltb now p.time (rw last at below)) refl))
-  step_shows (TooManyEvents at) (place, g, many) = rw place (taken AfterOpen _ g (rw (le-ltb p.groups limits.events many) refl))
-  step_shows (TooManyPoints at) (place, g, many) = rw place (taken AfterAt _ g (rw (le-ltb p.points limits.points many) refl))
+      rw (place, last) (taken AfterStamp _ g
+      (ap (stamped t.at p) time ∙ rw (lt-ltb now p.time (rw last at below)) refl))
+  step_shows (TooManyEvents at) (place, g, many) =
+      rw place (taken AfterOpen _ g (rw (le-ltb p.groups limits.events many) refl))
+  step_shows (TooManyPoints at) (place, g, many) =
+      rw place (taken AfterAt _ g (rw (le-ltb p.points limits.points many) refl))
   step_shows _ cause = absurd cause

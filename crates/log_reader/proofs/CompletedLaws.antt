@@ -1,6 +1,8 @@
 -- The time-points of a reading are those that the longest completed front of its tokens stands for.
-use Rattle.std.proofs.Common.{◌≡◌, ◌⊎◌, inl, inr, ℕ, Bool, true, false, ◌&&◌, cond, List, [], ◌∷◌, ◌++◌, length, Option, Some, None, Result, Ok, Err, refl, sym, ap, subst, ◌∙◌, append_assoc, append-nil}
-use Rattle.mfotl_lex.specs.FirstFault.{Tail, Broken, End, More, Text}
+use Rattle.std.proofs.Common.{◌≡◌, ◌⊎◌, inl, inr, ℕ, Bool, true, false, ◌&&◌, cond, List, [], ◌∷◌, ◌++◌, length}
+use Rattle.std.proofs.Common.{Option, Some, None, Result, Ok, Err, refl, sym, ap, subst, ◌∙◌, append_assoc}
+use Rattle.std.proofs.Common.{append-nil}
+use Rattle.mfotl_lex.specs.FirstFault.{Tail, Broken, End, More}
 use Rattle.mfotl_lex.specs.Lexemes.{Lexeme}
 use Rattle.mfotl_lex.specs.declared.fault.LexFault.{LexFault}
 use Rattle.mfotl_model.specs.declared.event.TimePoint.{TimePoint}
@@ -14,13 +16,14 @@ use Rattle.log_reader.specs.CompletedPoints.{Closes, Completes, CompletesAll}
 use Rattle.log_reader.specs.Grammar.{symbols_of}
 use Rattle.log_reader.specs.LogTexts.{is_long, tail_behind, log_text, tokens_of}
 use Rattle.log_reader.specs.Partials.{Partial, blank, point_of}
-use Rattle.log_reader.specs.Readings.{Reading, Ending, NoFault, Fault, stopped, behind, went_on, run, behind_tokens, finish_at, nothing_left, reading}
+use Rattle.log_reader.specs.Readings.{Reading, Ending, stopped, behind, went_on, run, behind_tokens}
+use Rattle.log_reader.specs.Readings.{finish_at, nothing_left, reading}
 use Rattle.log_reader.specs.Rules.{log_value}
 use Rattle.log_reader.specs.Stages.{is_whole, ends_point, completes}
 use Rattle.log_reader.specs.Steps.{step, completed}
 use Rattle.log_reader.specs.Symbols.{symbol}
 use Rattle.log_reader.proofs.LogJudging.{last}
-use Rattle.log_reader.proofs.LogLaws.{whole, Spelled, tokens_spelled, spelled_tokens}
+use Rattle.log_reader.proofs.LogLaws.{whole, tokens_spelled, spelled_tokens}
 use Rattle.log_reader.proofs.TokenSteps.{completed_none, completed_one}
 
 -- ---- lists
@@ -133,7 +136,8 @@ module _ (sig : List PredOf) (limits : Limits) (len : ℕ) (ends : Partial → R
 
     -- a token that completes the present time-point
     complete : (p : Partial) (t : Lexeme) (ts : List Lexeme) (a b : List TimePoint) (r : Result Partial LogFault)
-        → step sig limits p t ≡ r → completed p t ≡ point_of p ∷ [] → is_whole p.stage ≡ true → ends_point (symbol t) ≡ true
+        → step sig limits p t ≡ r → completed p t ≡ point_of p ∷ [] → is_whole p.stage ≡ true
+        → ends_point (symbol t) ≡ true
         → point_of p ∷ (went_on r (λ q. run sig limits ends q ts)).points ≡ a ++ b → Later ts → Found p (t ∷ ts) a
     complete p t ts [] b r s one is closes e later = inl refl
     complete p t ts (x ∷ a) b (Err fault) s one is closes e later =
@@ -150,19 +154,23 @@ module _ (sig : List PredOf) (limits : Limits) (len : ℕ) (ends : Partial → R
               let here : point_of p ∷ [] ≡ x ∷ a =
               ap (λ (y : TimePoint). y ∷ []) same ∙ ap (λ (xs : List TimePoint). x ∷ xs) (sym none) in
               inr (subst (Front p (t ∷ ts)) here (front_here p (t ∷ ts) is closes))
-          | inr f ↦ inr (subst (λ (y : TimePoint). Front p (t ∷ ts) (y ∷ a)) same (front_more p q t ts (point_of p ∷ []) a one s f))
+          | inr f ↦ inr (subst (λ (y : TimePoint). Front p (t ∷ ts) (y ∷ a)) same
+              (front_more p q t ts (point_of p ∷ []) a one s f))
         ]
 
     by_token : (p : Partial) (t : Lexeme) (ts : List Lexeme) (a b : List TimePoint) (c : Bool)
         → completes p.stage (symbol t) ≡ c
-        → completed p t ++ (went_on (step sig limits p t) (λ q. run sig limits ends q ts)).points ≡ a ++ b → Later ts → Found p (t ∷ ts) a
+        → completed p t ++ (went_on (step sig limits p t) (λ q. run sig limits ends q ts)).points ≡ a ++ b → Later ts
+        → Found p (t ∷ ts) a
     by_token p t ts a b true c e later =
         let why = both (is_whole p.stage) (ends_point (symbol t)) c in
-        complete p t ts a b (step sig limits p t) refl (completed_one p t c) why.0 why.1 (rw (completed_one p t c) at e) later
+        complete p t ts a b (step sig limits p t) refl (completed_one p t c) why.0 why.1
+        (rw (completed_one p t c) at e) later
     by_token p t ts a b false c e later =
         pass p t ts a b (step sig limits p t) refl (completed_none p t c) (rw (completed_none p t c) at e) later
 
-    pub fronts : (ts : List Lexeme) (p : Partial) (a b : List TimePoint) → (run sig limits ends p ts).points ≡ a ++ b → Found p ts a
+    pub fronts : (ts : List Lexeme) (p : Partial) (a b : List TimePoint) → (run sig limits ends p ts).points ≡ a ++ b
+        → Found p ts a
     unfolding run
     fronts [] p a b e = at_end p a b e
     fronts (t ∷ ts) p a b e =
@@ -188,11 +196,16 @@ module _ (sig : List PredOf) (limits : Limits) (len : ℕ) (ends : Partial → R
     begin_here : (p : Partial) (back : List Lexeme) (points : List TimePoint) → finish_at len p p.stage ≡ whole points
         → Closes (symbols_of back) tail → Begins p back points
     begin_here p back points e closed = elim (finish_gives len p p.stage points e) [
-      | inl none ↦ ((run sig limits ends p back).points, ap (λ (ps : List TimePoint). ps ++ (run sig limits ends p back).points) (sym none))
+      | inl none ↦ (
+        (run sig limits ends p back).points,
+        ap
+            (λ (ps : List TimePoint). ps ++ (run sig limits ends p back).points) (sym none),
+      )
       | inr one ↦ subst (Begins p back) (sym one.0) (point_given p back one.1 closed)
     ]
 
-    begin_more : (p : Partial) (t : Lexeme) (front back : List Lexeme) (points : List TimePoint) (r : Result Partial LogFault)
+    begin_more : (p : Partial) (t : Lexeme) (front back : List Lexeme) (points : List TimePoint)
+        (r : Result Partial LogFault)
         → step sig limits p t ≡ r → behind (completed p t) (went_on r (λ q. fin q front)) ≡ whole points
         → ((q : Partial) (points : List TimePoint) → fin q front ≡ whole points → Begins q (front ++ back) points)
         → Begins p (t ∷ front ++ back) points
@@ -201,11 +214,14 @@ module _ (sig : List PredOf) (limits : Limits) (len : ℕ) (ends : Partial → R
         absurd (let ending = ap (λ (r : Reading). r.ending) e in cc (ending))
     begin_more p t front back points (Ok q) s e later =
         let inner = (fin q front).points in
-        let clear : fin q front ≡ whole inner = ap (λ (x : Ending). record { points = inner; ending = x }) (ap (λ (r : Reading). r.ending) e) in
+        let clear : fin q front ≡ whole inner =
+        ap (λ (x : Ending). record { points = inner; ending = x }) (ap (λ (r : Reading). r.ending) e) in
         let rest = later q inner clear in (
           rest.0,
-          ap (λ (r : Result Partial LogFault). completed p t ++ (went_on r (λ q. run sig limits ends q (front ++ back))).points) s
-              ∙ ap (λ (ps : List TimePoint). completed p t ++ ps) rest.1 ∙ sym (append_assoc (completed p t) inner rest.0)
+          ap (λ (r : Result Partial LogFault). completed p t ++
+              (went_on r (λ q. run sig limits ends q (front ++ back))).points) s
+              ∙ ap (λ (ps : List TimePoint). completed p t ++ ps) rest.1
+              ∙ sym (append_assoc (completed p t) inner rest.0)
               ∙ ap (λ (r : Reading). r.points ++ rest.0) e,
         )
 
@@ -214,7 +230,8 @@ module _ (sig : List PredOf) (limits : Limits) (len : ℕ) (ends : Partial → R
     unfolding run
     begins [] back p points e closed = begin_here p back points e closed
     begins (t ∷ front) back p points e closed =
-        begin_more p t front back points (step sig limits p t) refl e (λ q points e. begins front back q points e closed)
+        begin_more p t front back points (step sig limits p t) refl e
+        (λ q points e. begins front back q points e closed)
 
 -- ---- logs
 
@@ -223,7 +240,8 @@ module _ (len : ℕ) (p : Partial) where
   Ends last tail = GivesAtMost len last tail p × GivesAtEnd last tail p
 
   finish_ends : (s : Stage) → p.stage ≡ s
-      → (((finish_at len p s).points ≡ []) ⊎ (((finish_at len p s).points ≡ point_of p ∷ []) × (is_whole p.stage ≡ true) × Unit {0}))
+      → (((finish_at len p s).points ≡ [])
+      ⊎ (((finish_at len p s).points ≡ point_of p ∷ []) × (is_whole p.stage ≡ true) × Unit {0}))
       × (Unit {0} → is_whole p.stage ≡ true → (finish_at len p s).points ≡ point_of p ∷ [])
   finish_ends AfterStamp e = (inr (refl, rw e refl, tt), λ _ _. refl)
   finish_ends AfterClose e = (inr (refl, rw e refl, tt), λ _ _. refl)
@@ -237,7 +255,8 @@ left_ends limit len false true p = finish_ends len p p.stage refl
 left_ends limit len false false p = (inl refl, λ closed. absurd closed)
 
 log_ends : (limits : Limits) (bytes : List ℕ) (ended : Bool) (lexical : Option LexFault) (p : Partial)
-    → Ends (length bytes) p (behind_tokens lexical (nothing_left limits bytes ended)) (tail_behind limits bytes ended lexical)
+    → Ends (length bytes) p (behind_tokens lexical (nothing_left limits bytes ended))
+    (tail_behind limits bytes ended lexical)
 log_ends limits bytes ended (Some fault) p = (inl refl, λ closed. absurd closed)
 log_ends limits bytes ended None p = left_ends limits.bytes (length bytes) (is_long limits bytes) ended p
 
@@ -285,20 +304,25 @@ module _ (sig : List PredOf) (limits : Limits) (bytes : List ℕ) (ended : Bool)
       → Completes sig limits (log_text limits bytes ended) a
   unfolding reading
   beginning_completed a b e =
-      elim (fronts sig limits (length bytes) ends tail (λ p. (log_ends limits bytes ended lexical p).0) ts blank a b e) [
+      elim (fronts sig limits (length bytes) ends tail
+      (λ p. (log_ends limits bytes ended lexical p).0) ts blank a b e) [
         | inl none ↦ nothing_completed a none
         | inr f ↦ front_completed a f
       ]
 
   -- what is completed is what a reading begins with
   completed_begins : (others : List TimePoint) (c : Completes sig limits (log_text limits bytes ended) others)
-      → (c.front ≡ []) ⊎ Closes (symbols_of c.back) tail → Begins sig limits (length bytes) ends tail blank (c.front ++ c.back) others
+      → (c.front ≡ []) ⊎ Closes (symbols_of c.back) tail
+      → Begins sig limits (length bytes) ends tail blank (c.front ++ c.back) others
   unfolding run
   completed_begins others c (inr closed) =
-      let reads = spelled_tokens sig limits (length bytes) c.front others (record { log = c.log; spells = c.spells; value = c.value }) in
-      begins sig limits (length bytes) ends tail (λ p. (log_ends limits bytes ended lexical p).1) c.front c.back blank others reads closed
+      let reads = spelled_tokens sig limits (length bytes) c.front others
+      (record { log = c.log; spells = c.spells; value = c.value }) in
+      begins sig limits (length bytes) ends tail
+      (λ p. (log_ends limits bytes ended lexical p).1) c.front c.back blank others reads closed
   completed_begins others c (inl none) =
-      let reads = spelled_tokens sig limits (length bytes) c.front others (record { log = c.log; spells = c.spells; value = c.value }) in
+      let reads = spelled_tokens sig limits (length bytes) c.front others
+      (record { log = c.log; spells = c.spells; value = c.value }) in
       let empty : whole [] ≡ whole others =
       sym (ap (run sig limits (last sig limits (length bytes)) blank) none) ∙ reads in
       let points = (run sig limits ends blank (c.front ++ c.back)).points in
@@ -307,7 +331,8 @@ module _ (sig : List PredOf) (limits : Limits) (bytes : List ℕ) (ended : Bool)
   pub all_completed : CompletesAll sig limits (log_text limits bytes ended) (reading sig limits bytes ended).points
   unfolding reading
   all_completed = record {
-    completes = beginning_completed (reading sig limits bytes ended).points [] (sym (append-nil (reading sig limits bytes ended).points));
+    completes = beginning_completed (reading sig limits bytes ended).points []
+        (sym (append-nil (reading sig limits bytes ended).points));
     longest = λ others c.
         let more = completed_begins others c c.closed in
         (more.0, ap (λ (us : List Lexeme). (run sig limits ends blank us).points) c.parts ∙ more.1);

@@ -1,23 +1,26 @@
 -- A log's reader follows the grammar: what the layer of first faults asks of it.
-use Rattle.std.proofs.Common.{◌≡◌, ◌≤◌, inl, inr, ℕ, Bool, true, false, List, [], ◌∷◌, ◌++◌, Option, Some, None, Result, Ok, Err, refl, sym, ap, subst, ◌∙◌}
-use Rattle.std.specs.Prelude.{◌↔◌, option_and_then}
+use Rattle.std.proofs.Common.{◌≡◌, ◌≤◌, inl, inr, ℕ, Bool, true, false, List, [], ◌∷◌, ◌++◌, Option, Some, None}
+use Rattle.std.proofs.Common.{Ok, Err, refl, sym, ap, subst, ◌∙◌}
+use Rattle.std.specs.Prelude.{option_and_then}
 use Rattle.std.proofs.lemmas.List.{map-append}
 use Rattle.mfotl_lex.proofs.FirstFaultLaws.{exact_faults}
-use Rattle.mfotl_lex.specs.FirstFault.{Tail, Broken, End, More, run, FollowsGrammar, reading as reading_of}
+use Rattle.mfotl_lex.specs.FirstFault.{Tail, Broken, End, More, run, FollowsGrammar}
 use Rattle.mfotl_lex.specs.Lexemes.{Lexeme}
 use Rattle.mfotl_sig.specs.Preds.{PredOf}
 use Rattle.log_reader.specs.declared.fault.LogFault.{LogFault}
-use Rattle.log_reader.specs.declared.fault.LogFault.TheVariants.{Syntax, UnknownPredicate, WrongArity, WrongSort, IntRange, TimestampRange, FallingTime, TooManyEvents, TooManyPoints}
+use Rattle.log_reader.specs.declared.fault.LogFault.TheVariants.{Syntax, UnknownPredicate, WrongArity, WrongSort}
+use Rattle.log_reader.specs.declared.fault.LogFault.TheVariants.{IntRange, TimestampRange, FallingTime, TooManyEvents}
+use Rattle.log_reader.specs.declared.fault.LogFault.TheVariants.{TooManyPoints}
 use Rattle.log_reader.specs.declared.limits.Limits.{Limits}
 use Rattle.log_reader.specs.declared.stage.Stage.{Stage}
-use Rattle.log_reader.specs.declared.stage.Stage.TheVariants.{Between, AfterAt, AfterStamp, AfterName, AfterOpen, AfterValue, AfterClose}
+use Rattle.log_reader.specs.declared.stage.Stage.TheVariants.{Between, AfterAt, AfterStamp, AfterName, AfterOpen}
+use Rattle.log_reader.specs.declared.stage.Stage.TheVariants.{AfterValue, AfterClose}
 use Rattle.log_reader.specs.Causes.{Plays, IsCause, IsLast}
 use Rattle.log_reader.specs.Fronts.{before, due_sorts}
 use Rattle.log_reader.specs.Grammar.{symbols_of, IsAccepted, IsViable}
-use Rattle.log_reader.specs.Laws.{IsFirstFault, IsShown, ExactFaults}
+use Rattle.log_reader.specs.Laws.{ExactFaults}
 use Rattle.log_reader.specs.LogTexts.{log_text}
 use Rattle.log_reader.specs.Partials.{Partial, blank}
-use Rattle.log_reader.specs.Readings.{Fault}
 use Rattle.log_reader.specs.Stages.{goes}
 use Rattle.log_reader.specs.Steps.{step}
 use Rattle.log_reader.specs.Symbols.{Symbol, symbol}
@@ -84,7 +87,8 @@ module _ (sig : List PredOf) (limits : Limits) (front : List Lexeme) (p : Partia
   no_way : (g : Stage) → goes p.stage (symbol t) ≡ None → LeadsTo g p t → ⊥
   no_way g none leads = cc
 
-  none_there : (found : Option Stage) → goes p.stage (symbol t) ≡ found → (IsViable (front ++ t ∷ []) → ⊥) → goes p.stage (symbol t) ≡ None
+  none_there : (found : Option Stage) → goes p.stage (symbol t) ≡ found → (IsViable (front ++ t ∷ []) → ⊥)
+      → goes p.stage (symbol t) ≡ None
   none_there None e ends = e
   none_there (Some g) e ends = absurd (ends (viable_there g e))
 
@@ -94,7 +98,8 @@ module _ (sig : List PredOf) (limits : Limits) (front : List Lexeme) (p : Partia
       record { ends = λ viable. let there = goes_there viable in no_way there.0 none there.1; stands = place }
   in_front (UnknownPredicate at) (place, g, none) = (place, plays AfterName g, none)
   in_front (WrongArity at) (place, inl (g, none)) = (place, inl (plays AfterValue g, sym (value_due g) ∙ none))
-  in_front (WrongArity at) (place, inr (g, some)) = (place, inr (plays AfterClose g, λ none. some (close_due g ∙ none)))
+  in_front (WrongArity at) (place, inr (g, some)) =
+      (place, inr (plays AfterClose g, λ none. some (close_due g ∙ none)))
   in_front (WrongSort at) (place, g, (more, due), none) =
       (place, plays AfterValue g, (more, sym (value_due g) ∙ due), none)
   in_front (IntRange at) (place, g, (more, due), wide) =
@@ -138,7 +143,8 @@ same_there s f e = cc
 
 module _ (ts : List Lexeme) (n : ℕ) (p : Partial) (path : paths Between (symbols_of ts) ≡ Some p.stage) where
   -- the end shows Syntax where the tokens aren't accepted
-  refused : (b : Bool) → accepts p.stage ≡ b → (fault : LogFault) → ended_at n p p.stage ≡ Err fault → IsLast ts (End n) fault
+  refused : (b : Bool) → accepts p.stage ≡ b → (fault : LogFault) → ended_at n p p.stage ≡ Err fault
+      → IsLast ts (End n) fault
   refused true e fault shows = absurd (let fine : ended_at n p p.stage ≡ Ok p = rw e refl in cc (fine, shows))
   refused false e fault shows =
       let here : ended_at n p p.stage ≡ Err (Syntax n) = rw e refl in
@@ -155,14 +161,16 @@ module _ (ts : List Lexeme) (n : ℕ) (p : Partial) (path : paths Between (symbo
   unaccepted false e refuses = rw e refl
 
 module _ (sig : List PredOf) (limits : Limits) where
-  tail_why : (ts : List Lexeme) (p : Partial) (tail : Tail LogFault) (fault : LogFault) → run (step sig limits) ts blank ≡ Ok p
+  tail_why : (ts : List Lexeme) (p : Partial) (tail : Tail LogFault) (fault : LogFault)
+      → run (step sig limits) ts blank ≡ Ok p
       → at_tail tail p ≡ Err fault → IsLast ts tail fault
   tail_why ts p (Broken shown) fault sound e = cc
   tail_why ts p (End n) fault sound e =
       refused ts n p (run_paths sig limits blank p ts sound) (accepts p.stage) refl fault e
   tail_why ts p More fault sound e = absurd cc
 
-  tail_shows : (ts : List Lexeme) (p : Partial) (tail : Tail LogFault) (fault : LogFault) → run (step sig limits) ts blank ≡ Ok p
+  tail_shows : (ts : List Lexeme) (p : Partial) (tail : Tail LogFault) (fault : LogFault)
+      → run (step sig limits) ts blank ≡ Ok p
       → IsLast ts tail fault → at_tail tail p ≡ Err fault
   tail_shows ts p (Broken shown) fault sound why = ap (λ (f : LogFault). Err f) (sym why)
   tail_shows ts p (End n) (Syntax at) sound why =

@@ -1,5 +1,6 @@
 -- A reading has no more time-points than the limit.
-use Rattle.std.proofs.Common.{◌≡◌, inl, inr, ℕ, ◌+◌, ◌≤◌, Bool, true, false, List, [], ◌∷◌, length, Option, Some, None, Result, Ok, Err, refl, sym, ap, ◌∙◌, arith, nat_lt}
+use Rattle.std.proofs.Common.{◌≡◌, inl, inr, ℕ, ◌+◌, ◌≤◌, Bool, true, false, List, [], ◌∷◌, length, Option, Some}
+use Rattle.std.proofs.Common.{None, Result, Ok, Err, refl, sym, ap, ◌∙◌, arith, nat_lt}
 use Rattle.std.proofs.lemmas.Bool.{cond_both, cases_Bool, ltb-true}
 use Rattle.std.proofs.lemmas.List.{length-append}
 use Rattle.mfotl_lex.specs.Lexemes.{Lexeme, tokens}
@@ -12,7 +13,8 @@ use Rattle.log_reader.specs.declared.stage.Stage.{Stage}
 use Rattle.log_reader.specs.declared.stage.Stage.TheVariants.{Between, AfterAt, AfterStamp, AfterClose}
 use Rattle.log_reader.specs.Cursors.{open_count, given_of, IsCounted}
 use Rattle.log_reader.specs.Partials.{Partial, blank}
-use Rattle.log_reader.specs.Readings.{Reading, went_on, run, behind_tokens, is_long, finish_at, nothing_left, place_at, reading}
+use Rattle.log_reader.specs.Readings.{Reading, went_on, run, behind_tokens, is_long, finish_at, nothing_left}
+use Rattle.log_reader.specs.Readings.{place_at, reading}
 use Rattle.log_reader.specs.Soundness.{IsSound}
 use Rattle.log_reader.specs.Stages.{goes, completes}
 use Rattle.log_reader.specs.Steps.{step, stepped, completed}
@@ -72,7 +74,8 @@ module _ (sig : List PredOf) (limits : Limits) (p : Partial) (t : Lexeme) (f : I
         given = omega (arith, c.given, ap length (completed_none p t h));
       }
 
-  gave_one : (g : Stage) (q : Partial) → completes p.stage (symbol t) ≡ true → open_count p.stage ≡ 1 → open_count g ≡ one_if_at g
+  gave_one : (g : Stage) (q : Partial) → completes p.stage (symbol t) ≡ true → open_count p.stage ≡ 1
+      → open_count g ≡ one_if_at g
       → goes p.stage (symbol t) ≡ Some g → step sig limits p t ≡ Ok q → Gave q
   unfolding step
   gave_one g q h one here found e =
@@ -110,13 +113,15 @@ KeepsWithin limits rest = (p : Partial) → IsFew limits p → Within limits p (
 
 module _ (sig : List PredOf) (limits : Limits) where
   step_few : (rest : Partial → Reading) (p : Partial) (t : Lexeme) → KeepsWithin limits rest → IsFew limits p
-      → (r : Result Partial LogFault) → step sig limits p t ≡ r → Within limits p (length (completed p t) + length (went_on r rest).points)
+      → (r : Result Partial LogFault) → step sig limits p t ≡ r
+      → Within limits p (length (completed p t) + length (went_on r rest).points)
   step_few rest p t keeps f (Ok q) e =
       let g = gave sig limits p t f q e in
       omega (arith, g.given, keeps q g.few)
   step_few rest p t keeps f (Err fault) e = omega (arith, completed_within sig limits p t f)
 
-  run_few : (last : Partial → Reading) → KeepsWithin limits last → (ts : List Lexeme) → KeepsWithin limits (λ p. run sig limits last p ts)
+  run_few : (last : Partial → Reading) → KeepsWithin limits last → (ts : List Lexeme)
+      → KeepsWithin limits (λ p. run sig limits last p ts)
   unfolding run
   run_few last ends [] p f = ends p f
   run_few last ends (t ∷ ts) p f =
@@ -135,7 +140,8 @@ nothing_few : (limits : Limits) (bytes : List ℕ) (ended : Bool) (p : Partial) 
 nothing_few limits bytes ended p f =
     let few : Reading → Type 0 = λ r. Within limits p (length r.points) in
     cond_both (is_long limits bytes) _ _ few (λ _. none_more limits p f)
-    (λ _. cond_both ended _ _ few (λ _. finish_few limits (length bytes) p p.stage refl f) (λ _. none_more limits p f))
+    (λ _. cond_both ended _ _ few (λ _. finish_few limits (length bytes) p p.stage refl f)
+    (λ _. none_more limits p f))
 
 end_few : (limits : Limits) (bytes : List ℕ) (ended : Bool) (fault : Option LexFault) (p : Partial) → IsFew limits p
     → Within limits p (length (behind_tokens fault (nothing_left limits bytes ended) p).points)
@@ -148,7 +154,11 @@ unfolding reading
 reading_few sig limits bytes ended =
     let ts = tokens (place_at limits bytes ended 0) in
     let few : IsFew limits blank = record { counted = omega arith; begun = omega arith } in
-    omega (arith, run_few sig limits (behind_tokens ts.fault (nothing_left limits bytes ended)) (end_few limits bytes ended ts.fault) ts.list blank few)
+    omega (
+      arith,
+      run_few sig limits (behind_tokens ts.fault (nothing_left limits bytes ended))
+          (end_few limits bytes ended ts.fault) ts.list blank few,
+    )
 
 -- no more were given than there are
 pub given_few : (sig : List PredOf) (limits : Limits) (bytes : List ℕ) (is_ended : Bool) (at : ℕ) (p : Partial)

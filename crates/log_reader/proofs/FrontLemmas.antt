@@ -1,28 +1,33 @@
 -- What a reader knows of the tokens that it has read is what stands before the next one.
-use Rattle.std.proofs.Common.{◌≡◌, ℕ, ◌+◌, Bool, true, false, List, [], ◌∷◌, ◌++◌, length, drop, reverse, Option, Some, None, Result, Ok, Err, refl, sym, ap, subst, ◌∙◌, append_assoc, arith, nat_lt}
+use Rattle.std.proofs.Common.{◌≡◌, ℕ, ◌+◌, Bool, true, false, List, [], ◌∷◌, ◌++◌, drop, Option}
+use Rattle.std.proofs.Common.{Some, None, Result, Ok, Err, refl, sym, ap, subst, ◌∙◌, append_assoc, nat_lt}
 use Rattle.std.proofs.lemmas.Bool.{cond_both}
 use Rattle.std.proofs.lemmas.List.{append-nil, drop-drop, reverse-append}
 use Rattle.mfotl_lex.proofs.FirstFaultLaws.{bind_ok}
 use Rattle.mfotl_lex.specs.FirstFault.{◌>>=◌, run}
 use Rattle.mfotl_lex.specs.Lexemes.{Lexeme}
-use Rattle.mfotl_lex.specs.declared.kind.Kind.{Kind}
 use Rattle.mfotl_model.specs.declared.policy.Sort.{Sort}
 use Rattle.mfotl_model.specs.declared.value.Value.{Value}
 use Rattle.mfotl_sig.specs.Preds.{PredOf, named}
 use Rattle.log_reader.specs.declared.fault.LogFault.{LogFault}
 use Rattle.log_reader.specs.declared.limits.Limits.{Limits}
 use Rattle.log_reader.specs.declared.stage.Stage.{Stage}
-use Rattle.log_reader.specs.declared.stage.Stage.TheVariants.{Between, AfterAt, AfterStamp, AfterName, AfterOpen, AfterValue, AfterComma, AfterClose}
-use Rattle.log_reader.specs.Fronts.{Role, PointBegins, Timestamp, Name, GroupBegins, Value as ValueRole, Comma, GroupEnds, PointEnds, before, is_behind_at, is_in_group, role, points_begun, last_time, groups_begun, last_sorts, values_begun, due_sorts}
+use Rattle.log_reader.specs.declared.stage.Stage.TheVariants.{Between, AfterAt, AfterStamp, AfterName, AfterOpen}
+use Rattle.log_reader.specs.declared.stage.Stage.TheVariants.{AfterValue, AfterComma, AfterClose}
+use Rattle.log_reader.specs.Fronts.{Role, PointBegins, Timestamp, Name, GroupBegins, Value as ValueRole, Comma}
+use Rattle.log_reader.specs.Fronts.{GroupEnds, PointEnds, before, is_behind_at, is_in_group, role, points_begun}
+use Rattle.log_reader.specs.Fronts.{last_time, groups_begun, last_sorts, values_begun, due_sorts}
 use Rattle.log_reader.specs.Grammar.{symbols_of}
 use Rattle.log_reader.specs.Partials.{Partial, blank, finished}
-use Rattle.log_reader.specs.Stages.{goes}
 use Rattle.log_reader.specs.Steps.{step, stepped, opened, stamped, naming, grouped, valued, closed}
-use Rattle.log_reader.specs.Symbols.{Symbol, AtSign, Opening, Closing, Separator, Terminator, Says, Written, Bare, Quoted, symbol, content, written}
+use Rattle.log_reader.specs.Symbols.{Symbol, AtSign, Opening, Closing, Separator, Terminator, Says, Written, Bare}
+use Rattle.log_reader.specs.Symbols.{Quoted, symbol, content, written}
 use Rattle.log_reader.specs.ValuesRead.{timestamp_of, value_at}
 use Rattle.log_reader.proofs.Judging.{bare_content}
-use Rattle.log_reader.proofs.StepStages.{step_goes}
-use Rattle.log_reader.proofs.Transitions.{Transition, begins_first, begins_bare, begins_full, stamps, names_first, names_more, opens_first, opens_more, gives_first, gives_more, separates, closes_empty, closes, ends_bare, ends_full, transition}
+use Rattle.log_reader.proofs.StepStages.{OnDone, done, failed, step_goes}
+use Rattle.log_reader.proofs.Transitions.{Transition, begins_first, begins_bare, begins_full, times, names_first}
+use Rattle.log_reader.proofs.Transitions.{names_more, opens_first, opens_more, gives_first, gives_more, separates}
+use Rattle.log_reader.proofs.Transitions.{closes_empty, closes, ends_bare, ends_full, transition}
 
 -- ---- what a stage says of what stands before
 
@@ -59,22 +64,12 @@ nothing_stands sig = record {
 
 -- ---- steps
 
--- what holds of a step's result, if it doesn't fail
-abbrev pub OnDone : (Partial → Type 0) → Result Partial LogFault → Type 0
-OnDone Q r = (q : Partial) → r ≡ Ok q → Q q
-
-module _ (Q : Partial → Type 0) where
-  pub done : (x : Partial) → Q x → OnDone Q (Ok x)
-  done x h q e = let same : x ≡ q = cc in subst Q same h
-
-  pub failed : (fault : LogFault) → OnDone Q (Err fault)
-  failed fault q e = absurd cc
-
 module _ (sig : List PredOf) (limits : Limits) (p : Partial) (t : Lexeme) (older : List Symbol) where
   abbrev Leads : Stage → Symbol → Partial → Type 0
   Leads g x q = Stands sig g q (x ∷ older)
 
-  at_stands : (s : Stage) → is_in_brackets s ≡ false → Stands sig s p older → OnDone (Leads AfterAt AtSign) (opened limits t.at p)
+  at_stands : (s : Stage) → is_in_brackets s ≡ false → Stands sig s p older
+      → OnDone (Leads AfterAt AtSign) (opened limits t.at p)
   at_stands s out st = cond_both (nat_lt p.points limits.points) _ _ (OnDone (Leads AfterAt AtSign))
       (λ _. done (Leads AfterAt AtSign) _ (record {
         behind = refl;
@@ -104,7 +99,8 @@ module _ (sig : List PredOf) (limits : Limits) (p : Partial) (t : Lexeme) (older
       }))
 
   name_stands : (word : List ℕ) (found : Option PredOf) (s : Stage) → named word sig ≡ found → is_after_at s ≡ false
-      → is_in_brackets s ≡ false → Stands sig s p older → OnDone (Leads AfterName (Says (Bare word))) (naming t.at p found)
+      → is_in_brackets s ≡ false → Stands sig s p older
+      → OnDone (Leads AfterName (Says (Bare word))) (naming t.at p found)
   name_stands word None s e far out st = failed (Leads AfterName (Says (Bare word))) _
   name_stands word (Some pred) s e far out st =
       let behind = st.behind ∙ far in
@@ -136,7 +132,8 @@ module _ (sig : List PredOf) (limits : Limits) (p : Partial) (t : Lexeme) (older
       → more ≡ drop (values_begun older + 1) (last_sorts sig older)
   one_more_given sort more e = ap (drop 1) e ∙ drop-drop 1 (values_begun older) (last_sorts sig older)
 
-  value_stands : (w : Written) (s : Stage) (q : Partial) → is_after_at s ≡ false → is_in_brackets s ≡ true → Stands sig s p older
+  value_stands : (w : Written) (s : Stage) (q : Partial) → is_after_at s ≡ false → is_in_brackets s ≡ true
+      → Stands sig s p older
       → q.points ≡ p.points → q.groups ≡ p.groups → q.time ≡ p.time → q.sorts ≡ p.sorts
       → q.due ≡ drop (values_begun older + 1) (last_sorts sig older) → Leads AfterValue (Says w) q
   value_stands (Bare word) s q far within st points groups time sorts due =
@@ -162,14 +159,18 @@ module _ (sig : List PredOf) (limits : Limits) (p : Partial) (t : Lexeme) (older
         due = λ _. due;
       }
 
-  given_stands : (w : Written) (s : Stage) (sort : Sort) (more : List Sort) (r : Result Value LogFault) → is_after_at s ≡ false
+  given_stands : (w : Written) (s : Stage) (sort : Sort) (more : List Sort) (r : Result Value LogFault)
+      → is_after_at s ≡ false
       → is_in_brackets s ≡ true → Stands sig s p older → sort ∷ more ≡ due_sorts sig older
-      → OnDone (Leads AfterValue (Says w)) (r >>= λ v. Ok (record p { stage = AfterValue; due = more; args = p.args ++ v ∷ [] }))
+      → OnDone (Leads AfterValue (Says w))
+      (r >>= λ v. Ok (record p { stage = AfterValue; due = more; args = p.args ++ v ∷ [] }))
   given_stands w s sort more (Ok v) far within st e =
-      done (Leads AfterValue (Says w)) _ (value_stands w s _ far within st refl refl refl refl (one_more_given sort more e))
+      done (Leads AfterValue (Says w)) _
+      (value_stands w s _ far within st refl refl refl refl (one_more_given sort more e))
   given_stands w s sort more (Err fault) far within st e = failed (Leads AfterValue (Says w)) _
 
-  valued_stands : (w : Written) (s : Stage) (due : List Sort) → p.due ≡ due → is_after_at s ≡ false → is_in_brackets s ≡ true
+  valued_stands : (w : Written) (s : Stage) (due : List Sort) → p.due ≡ due → is_after_at s ≡ false
+      → is_in_brackets s ≡ true
       → Stands sig s p older → OnDone (Leads AfterValue (Says w)) (valued t.at (written t) p due)
   valued_stands w s [] e far within st = failed (Leads AfterValue (Says w)) _
   valued_stands w s (sort ∷ more) e far within st =
@@ -186,7 +187,8 @@ module _ (sig : List PredOf) (limits : Limits) (p : Partial) (t : Lexeme) (older
     due = st.due;
   }
 
-  closed_stands : (s : Stage) (due : List Sort) → Stands sig s p older → OnDone (Leads AfterClose Closing) (closed t.at p due)
+  closed_stands : (s : Stage) (due : List Sort) → Stands sig s p older
+      → OnDone (Leads AfterClose Closing) (closed t.at p due)
   closed_stands s (sort ∷ due) st = failed (Leads AfterClose Closing) _
   closed_stands s [] st = done (Leads AfterClose Closing) _ (record {
     behind = refl;
@@ -218,7 +220,7 @@ module _ (sig : List PredOf) (limits : Limits) (p : Partial) (t : Lexeme) (older
   step_stands _ _ _ begins_first e st = at_stands Between refl st
   step_stands _ _ _ begins_bare e st = at_stands AfterStamp refl st
   step_stands _ _ _ begins_full e st = at_stands AfterClose refl st
-  step_stands _ _ _ (stamps word digits) e st =
+  step_stands _ _ _ (times word digits) e st =
       stamp_stands word (timestamp_of (content t)) (ap timestamp_of (sym (says word e))) st
   step_stands _ _ _ (names_first word) e st =
       name_stands word (named (content t) sig) AfterStamp (ap (λ w. named w sig) (sym (says word e))) refl refl st
@@ -247,12 +249,13 @@ role_to AfterComma = Comma
 role_to AfterClose = GroupEnds
 
 -- the role of a symbol with which the grammar goes on says where it leads
-pub role_is : (sig : List PredOf) (p : Partial) (older : List Symbol) (s : Stage) (x : Symbol) (g : Stage) → Transition s x g
+pub role_is : (sig : List PredOf) (p : Partial) (older : List Symbol) (s : Stage) (x : Symbol) (g : Stage)
+    → Transition s x g
     → Stands sig s p older → role older x ≡ role_to g
 role_is sig p older _ _ _ begins_first st = refl
 role_is sig p older _ _ _ begins_bare st = refl
 role_is sig p older _ _ _ begins_full st = refl
-role_is sig p older _ _ _ (stamps word digits) st = rw st.behind refl
+role_is sig p older _ _ _ (times word digits) st = rw st.behind refl
 role_is sig p older _ _ _ (names_first word) st = rw (st.behind, st.inside) refl
 role_is sig p older _ _ _ (names_more word) st = rw (st.behind, st.inside) refl
 role_is sig p older _ _ _ opens_first st = refl
@@ -300,15 +303,18 @@ before_more t ts older =
     ∙ ap (λ (xs : List Symbol). xs ++ older) (sym (reverse-append (symbol t ∷ []) (symbols_of ts)))
 
 module _ (sig : List PredOf) (limits : Limits) where
-  step_on : (p q : Partial) (t : Lexeme) (older : List Symbol) → step sig limits p t ≡ Ok q → Stands sig p.stage p older
+  step_on : (p q : Partial) (t : Lexeme) (older : List Symbol) → step sig limits p t ≡ Ok q
+      → Stands sig p.stage p older
       → Stands sig q.stage q (symbol t ∷ older)
   unfolding step
   step_on p q t older e st =
       let leads = step_goes sig limits p q t e in
-      step_stands sig limits p t older p.stage (symbol t) q.stage (transition p.stage (symbol t) q.stage leads) refl st q
+      step_stands sig limits p t older p.stage (symbol t) q.stage
+      (transition p.stage (symbol t) q.stage leads) refl st q
       (sym (ap (stepped sig limits p t) leads) ∙ e)
 
-  run_on : (ts : List Lexeme) (p q : Partial) (older : List Symbol) → run (step sig limits) ts p ≡ Ok q → Stands sig p.stage p older
+  run_on : (ts : List Lexeme) (p q : Partial) (older : List Symbol) → run (step sig limits) ts p ≡ Ok q
+      → Stands sig p.stage p older
       → Stands sig q.stage q (before ts ++ older)
   unfolding run
   run_on [] p q older e st = let same : p ≡ q = cc in subst (λ (r : Partial). Stands sig r.stage r older) same st
@@ -318,6 +324,7 @@ module _ (sig : List PredOf) (limits : Limits) where
       (run_on ts first.0 q (symbol t ∷ older) first.2 (step_on p first.0 t older first.1 st))
 
   -- what was read of tokens that show no fault
-  pub run_stands : (front : List Lexeme) (p : Partial) → run (step sig limits) front blank ≡ Ok p → Stands sig p.stage p (before front)
+  pub run_stands : (front : List Lexeme) (p : Partial) → run (step sig limits) front blank ≡ Ok p
+      → Stands sig p.stage p (before front)
   run_stands front p e =
       subst (Stands sig p.stage p) (append-nil (before front)) (run_on front blank p [] e (nothing_stands sig))

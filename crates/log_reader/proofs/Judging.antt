@@ -1,5 +1,6 @@
 -- A reading of what a log spells goes on exactly where the rules give a value.
-use Rattle.std.proofs.Common.{◌≡◌, ◌⊎◌, inl, inr, ℕ, Bool, true, false, cond, List, [], ◌∷◌, ◌++◌, Option, Some, None, Result, Ok, Err, refl, sym, ap, subst, ◌∙◌, append_assoc}
+use Rattle.std.proofs.Common.{◌≡◌, ◌⊎◌, inl, inr, ℕ, Bool, true, false, cond, List, [], ◌∷◌, ◌++◌, Option, Some, None}
+use Rattle.std.proofs.Common.{Result, Ok, Err, refl, sym, ap, subst, ◌∙◌, append_assoc}
 use Rattle.std.specs.BTreeSet.{insert_key}
 use Rattle.std.specs.Result.{result_ok}
 use Rattle.std.proofs.lemmas.List.{append-nil}
@@ -26,7 +27,8 @@ use Rattle.log_reader.specs.Readings.{Reading, Fault, behind, went_on, run}
 use Rattle.log_reader.specs.Rules.{value_of, values_of}
 use Rattle.log_reader.specs.Stages.{goes, completes}
 use Rattle.log_reader.specs.Steps.{step, completed, stepped, valued}
-use Rattle.log_reader.specs.Symbols.{Symbol, Closing, Separator, Says, Written, Bare, Quoted, symbol, symbol_of, content, written, written_of}
+use Rattle.log_reader.specs.Symbols.{Symbol, Closing, Separator, Says, Written, Bare, Quoted, symbol, symbol_of}
+use Rattle.log_reader.specs.Symbols.{content, written, written_of}
 use Rattle.log_reader.specs.ValuesRead.{value_at, integer_at, is_number}
 
 -- ---- symbols and tokens
@@ -65,29 +67,40 @@ module _ (sig : List PredOf) (limits : Limits) where
   pub record Faulty (p : Partial) (ts : List Lexeme) : Type 0 where
     pub points : List TimePoint
     pub fault : LogFault
-    pub reads : (last : Partial → Reading) → run sig limits last p ts ≡ record { points = points; ending = Fault fault }
+    pub reads : (last : Partial → Reading)
+        → run sig limits last p ts ≡ record { points = points; ending = Fault fault }
 
-  pub one_step : (s : Stage) (x : Symbol) (p : Partial) (t : Lexeme) (ts : List Lexeme) (r : Result Partial LogFault) → p.stage ≡ s → symbol t ≡ x → completes s x ≡ false
-      → stepped sig limits p t (goes s x) ≡ r → (last : Partial → Reading) → run sig limits last p (t ∷ ts) ≡ went_on r (λ q. run sig limits last q ts)
+  pub one_step : (s : Stage) (x : Symbol) (p : Partial) (t : Lexeme) (ts : List Lexeme) (r : Result Partial LogFault)
+      → p.stage ≡ s → symbol t ≡ x → completes s x ≡ false
+      → stepped sig limits p t (goes s x) ≡ r → (last : Partial → Reading)
+      → run sig limits last p (t ∷ ts) ≡ went_on r (λ q. run sig limits last q ts)
   unfolding run step completed
   one_step s x p t ts r at is c e last =
-      ap (λ (b : Bool). behind (cond b (point_of p ∷ []) []) (went_on (stepped sig limits p t (goes p.stage (symbol t))) (λ q. run sig limits last q ts)))
+      ap (λ (b : Bool). behind (cond b (point_of p ∷ []) [])
+      (went_on (stepped sig limits p t (goes p.stage (symbol t))) (λ q. run sig limits last q ts)))
       (ap (λ (y : Stage). completes y (symbol t)) at ∙ ap (completes s) is ∙ c)
-      ∙ ap (λ (o : Option Stage). went_on (stepped sig limits p t o) (λ q. run sig limits last q ts)) (ap (λ (y : Stage). goes y (symbol t)) at ∙ ap (goes s) is)
+      ∙ ap (λ (o : Option Stage). went_on (stepped sig limits p t o) (λ q. run sig limits last q ts))
+      (ap (λ (y : Stage). goes y (symbol t)) at ∙ ap (goes s) is)
       ∙ ap (λ (y : Result Partial LogFault). went_on y (λ q. run sig limits last q ts)) e
 
   -- a token that completes the present time-point
-  pub last_step : (s : Stage) (x : Symbol) (p : Partial) (t : Lexeme) (ts : List Lexeme) (r : Result Partial LogFault) → p.stage ≡ s → symbol t ≡ x → completes s x ≡ true
-      → stepped sig limits p t (goes s x) ≡ r → (last : Partial → Reading) → run sig limits last p (t ∷ ts) ≡ behind (point_of p ∷ []) (went_on r (λ q. run sig limits last q ts))
+  pub last_step : (s : Stage) (x : Symbol) (p : Partial) (t : Lexeme) (ts : List Lexeme)
+      (r : Result Partial LogFault) → p.stage ≡ s → symbol t ≡ x → completes s x ≡ true
+      → stepped sig limits p t (goes s x) ≡ r → (last : Partial → Reading)
+      → run sig limits last p (t ∷ ts) ≡ behind (point_of p ∷ []) (went_on r (λ q. run sig limits last q ts))
   unfolding run step completed
   last_step s x p t ts r at is c e last =
-      ap (λ (b : Bool). behind (cond b (point_of p ∷ []) []) (went_on (stepped sig limits p t (goes p.stage (symbol t))) (λ q. run sig limits last q ts)))
+      ap (λ (b : Bool). behind (cond b (point_of p ∷ []) [])
+      (went_on (stepped sig limits p t (goes p.stage (symbol t))) (λ q. run sig limits last q ts)))
       (ap (λ (y : Stage). completes y (symbol t)) at ∙ ap (completes s) is ∙ c)
-      ∙ ap (λ (o : Option Stage). behind (point_of p ∷ []) (went_on (stepped sig limits p t o) (λ q. run sig limits last q ts))) (ap (λ (y : Stage). goes y (symbol t)) at ∙ ap (goes s) is)
+      ∙ ap (λ (o : Option Stage). behind (point_of p ∷ [])
+      (went_on (stepped sig limits p t o) (λ q. run sig limits last q ts)))
+      (ap (λ (y : Stage). goes y (symbol t)) at ∙ ap (goes s) is)
       ∙ ap (λ (y : Result Partial LogFault). behind (point_of p ∷ []) (went_on y (λ q. run sig limits last q ts))) e
 
   -- a step that leads on, and one that doesn't
-  pub passes : (s : Stage) (x : Symbol) (p q : Partial) (ts : List Lexeme) (rest : List Symbol) (f : Front ts x rest) → p.stage ≡ s → completes s x ≡ false
+  pub passes : (s : Stage) (x : Symbol) (p q : Partial) (ts : List Lexeme) (rest : List Symbol) (f : Front ts x rest)
+      → p.stage ≡ s → completes s x ≡ false
       → stepped sig limits p f.token (goes s x) ≡ Ok q → Passed p q ts rest
   passes s x p q ts rest f at c e = record {
     others = f.others;
@@ -95,7 +108,8 @@ module _ (sig : List PredOf) (limits : Limits) where
     reads = λ last. ap (run sig limits last p) f.parts ∙ one_step s x p f.token f.others (Ok q) at f.is c e last;
   }
 
-  pub faults : (s : Stage) (x : Symbol) (p : Partial) (fault : LogFault) (ts : List Lexeme) (rest : List Symbol) (f : Front ts x rest) → p.stage ≡ s → completes s x ≡ false
+  pub faults : (s : Stage) (x : Symbol) (p : Partial) (fault : LogFault) (ts : List Lexeme) (rest : List Symbol)
+      (f : Front ts x rest) → p.stage ≡ s → completes s x ≡ false
       → stepped sig limits p f.token (goes s x) ≡ Err fault → Faulty p ts
   faults s x p fault ts rest f at c e = record {
     points = [];
@@ -103,11 +117,15 @@ module _ (sig : List PredOf) (limits : Limits) where
     reads = λ last. ap (run sig limits last p) f.parts ∙ one_step s x p f.token f.others (Err fault) at f.is c e last;
   }
 
-  pub Passed-then : (p q r : Partial) (ts : List Lexeme) (rest more : List Symbol) (a : Passed p q ts rest) → Passed q r a.others more → Passed p r ts more
-  Passed-then p q r ts rest more a b = record { others = b.others; spelled = b.spelled; reads = λ last. a.reads last ∙ b.reads last }
+  pub Passed-then : (p q r : Partial) (ts : List Lexeme) (rest more : List Symbol) (a : Passed p q ts rest)
+      → Passed q r a.others more → Passed p r ts more
+  Passed-then p q r ts rest more a b =
+      record { others = b.others; spelled = b.spelled; reads = λ last. a.reads last ∙ b.reads last }
 
-  pub Faulty-behind : (p q : Partial) (ts : List Lexeme) (rest : List Symbol) (a : Passed p q ts rest) → Faulty q a.others → Faulty p ts
-  Faulty-behind p q ts rest a b = record { points = b.points; fault = b.fault; reads = λ last. a.reads last ∙ b.reads last }
+  pub Faulty-behind : (p q : Partial) (ts : List Lexeme) (rest : List Symbol) (a : Passed p q ts rest)
+      → Faulty q a.others → Faulty p ts
+  Faulty-behind p q ts rest a b =
+      record { points = b.points; fault = b.fault; reads = λ last. a.reads last ∙ b.reads last }
 
 -- ---- values
 
@@ -150,13 +168,16 @@ with_event c args = record c { events = insert_key event_cmp c.events (record { 
 
 module _ (sig : List PredOf) (limits : Limits) where
   -- the values of a group and its `)` were read; or there is a fault
-  abbrev pub InsideJudged : Partial → Stage → List Sort → List Value → List Written → List Lexeme → List Symbol → Type 0
+  abbrev pub InsideJudged : Partial → Stage → List Sort → List Value → List Written → List Lexeme → List Symbol
+      → Type 0
   InsideJudged c stage due args ws ts rest =
-      ((values : List Value) × (values_of due ws ≡ Some values) × Passed sig limits (within c stage due args) (resting (with_event c (args ++ values)) AfterClose) ts rest)
+      ((values : List Value) × (values_of due ws ≡ Some values)
+      × Passed sig limits (within c stage due args) (resting (with_event c (args ++ values)) AfterClose) ts rest)
       ⊎ ((values_of due ws ≡ None) × Faulty sig limits (within c stage due args) ts)
 
   -- a `)` where no value is lacking, and where some are
-  closing : (c : Partial) (stage : Stage) (due : List Sort) (args : List Value) (ts : List Lexeme) (rest : List Symbol) → goes stage Closing ≡ Some AfterClose → completes stage Closing ≡ false
+  closing : (c : Partial) (stage : Stage) (due : List Sort) (args : List Value) (ts : List Lexeme)
+      (rest : List Symbol) → goes stage Closing ≡ Some AfterClose → completes stage Closing ≡ false
       → symbols_of ts ≡ Closing ∷ rest → InsideJudged c stage due args [] ts rest
   unfolding values_of
   closing c stage [] args ts rest g h e =
@@ -164,37 +185,55 @@ module _ (sig : List PredOf) (limits : Limits) where
       inl (
         [],
         refl,
-        subst (λ (xs : List Value). Passed sig limits (within c stage [] args) (resting (with_event c xs) AfterClose) ts rest) (sym (append-nil args))
-            (passes sig limits stage Closing (within c stage [] args) (resting (with_event c args) AfterClose) ts rest f refl h (ap (stepped sig limits (within c stage [] args) f.token) g)),
+        subst (λ (xs : List Value). Passed sig limits (within c stage [] args)
+            (resting (with_event c xs) AfterClose) ts rest) (sym (append-nil args))
+            (passes sig limits stage Closing (within c stage [] args)
+            (resting (with_event c args) AfterClose) ts rest f refl h
+            (ap (stepped sig limits (within c stage [] args) f.token) g)),
       )
   closing c stage (sort ∷ due) args ts rest g h e =
       let f = front_of ts Closing rest e in
-      inr (refl, faults sig limits stage Closing (within c stage (sort ∷ due) args) _ ts rest f refl h (ap (stepped sig limits (within c stage (sort ∷ due) args) f.token) g))
+      inr (
+        refl,
+        faults sig limits stage Closing (within c stage (sort ∷ due) args) _ ts rest f refl h
+            (ap (stepped sig limits (within c stage (sort ∷ due) args) f.token) g),
+      )
 
   -- a value, and then those behind it
-  value_then : (c : Partial) (stage : Stage) (due : List Sort) (args : List Value) (w : Written) (ws : List Written) (ts : List Lexeme) (rest : List Symbol)
-      → goes stage (Says w) ≡ Some AfterValue → completes stage (Says w) ≡ false → symbols_of ts ≡ Says w ∷ spell_more ws (Closing ∷ rest)
-      → ((due : List Sort) (args : List Value) (ts : List Lexeme) → symbols_of ts ≡ spell_more ws (Closing ∷ rest) → InsideJudged c AfterValue due args ws ts rest)
+  value_then : (c : Partial) (stage : Stage) (due : List Sort) (args : List Value) (w : Written) (ws : List Written)
+      (ts : List Lexeme) (rest : List Symbol)
+      → goes stage (Says w) ≡ Some AfterValue → completes stage (Says w) ≡ false
+      → symbols_of ts ≡ Says w ∷ spell_more ws (Closing ∷ rest)
+      → ((due : List Sort) (args : List Value) (ts : List Lexeme) → symbols_of ts ≡ spell_more ws (Closing ∷ rest)
+      → InsideJudged c AfterValue due args ws ts rest)
       → InsideJudged c stage due args (w ∷ ws) ts rest
   unfolding values_of
   value_then c stage [] args w ws ts rest g h e later =
       let f = front_of ts (Says w) (spell_more ws (Closing ∷ rest)) e in
-      inr (refl, faults sig limits stage (Says w) (within c stage [] args) _ ts _ f refl h (ap (stepped sig limits (within c stage [] args) f.token) g))
+      inr (
+        refl,
+        faults sig limits stage (Says w) (within c stage [] args) _ ts _ f refl h
+            (ap (stepped sig limits (within c stage [] args) f.token) g),
+      )
   value_then c stage (sort ∷ due) args w ws ts rest g h e later =
       let f = front_of ts (Says w) (spell_more ws (Closing ∷ rest)) e in
       let p = within c stage (sort ∷ due) args in
       let says : written f.token ≡ w = says_written f.token.kind (content f.token) w f.is in
-      let steps : stepped sig limits p f.token (goes stage (Says w)) ≡ (value_at sort f.token.at w >>= λ v. Ok (within c AfterValue due (args ++ v ∷ []))) =
+      let steps : stepped sig limits p f.token (goes stage (Says w))
+      ≡ (value_at sort f.token.at w >>= λ v. Ok (within c AfterValue due (args ++ v ∷ []))) =
       ap (stepped sig limits p f.token) g ∙ ap (λ (x : Written). valued f.token.at x p (sort ∷ due)) says in
       elim (value_judged sort f.token.at w) [
         | inl good ↦
             let q = within c AfterValue due (args ++ good.0 ∷ []) in
-            let a = passes sig limits stage (Says w) p q ts _ f refl h (steps ∙ ap (λ (r : Result Value LogFault). r >>= λ v. Ok (within c AfterValue due (args ++ v ∷ []))) good.1) in
+            let a = passes sig limits stage (Says w) p q ts _ f refl h
+            (steps ∙ ap (λ (r : Result Value LogFault). r >>= λ v. Ok
+            (within c AfterValue due (args ++ v ∷ []))) good.1) in
             elim (later due (args ++ good.0 ∷ []) a.others a.spelled) [
               | inl x ↦ inl (
                 good.0 ∷ x.0,
                 rw (good.2, x.1) refl,
-                subst (λ (xs : List Value). Passed sig limits p (resting (with_event c xs) AfterClose) ts rest) (append_assoc args (good.0 ∷ []) x.0)
+                subst (λ (xs : List Value). Passed sig limits p (resting (with_event c xs) AfterClose) ts rest)
+                    (append_assoc args (good.0 ∷ []) x.0)
                     (Passed-then sig limits p q _ ts _ rest a x.2),
               )
               | inr y ↦ inr (rw (good.2, y.0) refl, Faulty-behind sig limits p q ts _ a y.1)
@@ -202,23 +241,28 @@ module _ (sig : List PredOf) (limits : Limits) where
         | inr bad ↦ inr (
           rw bad.2 refl,
           faults sig limits stage (Says w) p bad.0 ts _ f refl h
-              (steps ∙ ap (λ (r : Result Value LogFault). r >>= λ v. Ok (within c AfterValue due (args ++ v ∷ []))) bad.1),
+              (steps ∙ ap (λ (r : Result Value LogFault). r >>= λ v. Ok
+              (within c AfterValue due (args ++ v ∷ []))) bad.1),
         )
       ]
 
-  more_judged : (c : Partial) (due : List Sort) (args : List Value) (ws : List Written) (ts : List Lexeme) (rest : List Symbol) → symbols_of ts ≡ spell_more ws (Closing ∷ rest)
+  more_judged : (c : Partial) (due : List Sort) (args : List Value) (ws : List Written) (ts : List Lexeme)
+      (rest : List Symbol) → symbols_of ts ≡ spell_more ws (Closing ∷ rest)
       → InsideJudged c AfterValue due args ws ts rest
   more_judged c due args [] ts rest e = closing c AfterValue due args ts rest refl refl e
   more_judged c due args (w ∷ ws) ts rest e =
       let p = within c AfterValue due args in
       let q = within c AfterComma due args in
-      let a = passes sig limits AfterValue Separator p q ts (Says w ∷ spell_more ws (Closing ∷ rest)) (front_of ts Separator _ e) refl refl refl in
-      elim (value_then c AfterComma due args w ws a.others rest refl refl a.spelled (λ due args ts e. more_judged c due args ws ts rest e)) [
+      let a = passes sig limits AfterValue Separator p q ts (Says w ∷ spell_more ws (Closing ∷ rest))
+      (front_of ts Separator _ e) refl refl refl in
+      elim (value_then c AfterComma due args w ws a.others rest refl refl a.spelled
+      (λ due args ts e. more_judged c due args ws ts rest e)) [
         | inl x ↦ inl (x.0, x.1, Passed-then sig limits p q _ ts _ rest a x.2)
         | inr y ↦ inr (y.0, Faulty-behind sig limits p q ts _ a y.1)
       ]
 
-  pub values_judged : (c : Partial) (due : List Sort) (args : List Value) (ws : List Written) (ts : List Lexeme) (rest : List Symbol) → symbols_of ts ≡ spell_values ws (Closing ∷ rest)
+  pub values_judged : (c : Partial) (due : List Sort) (args : List Value) (ws : List Written) (ts : List Lexeme)
+      (rest : List Symbol) → symbols_of ts ≡ spell_values ws (Closing ∷ rest)
       → InsideJudged c AfterOpen due args ws ts rest
   values_judged c due args [] ts rest e = closing c AfterOpen due args ts rest refl refl e
   values_judged c due args (w ∷ ws) ts rest e =

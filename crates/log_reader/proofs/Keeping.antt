@@ -1,5 +1,6 @@
 -- What a reader keeps true.
-use Rattle.std.proofs.Common.{◌≡◌, ℕ, ◌+◌, ◌≤◌, Bool, true, false, not, ◌&&◌, List, [], ◌∷◌, length, take, drop, Option, Some, None, Result, Ok, Err, refl, sym, ap, subst, ◌∙◌, arith}
+use Rattle.std.proofs.Common.{◌≡◌, ℕ, ◌+◌, ◌≤◌, Bool, true, false, not, ◌&&◌, List, [], ◌∷◌, length, take, drop}
+use Rattle.std.proofs.Common.{Option, Some, None, Result, Ok, Err, refl, sym, ap, subst, ◌∙◌, arith}
 use Rattle.std.proofs.lemmas.Bool.{cond_both}
 use Rattle.std.proofs.lemmas.List.{length-drop, length-append, drop-drop}
 use Rattle.std.proofs.Math.Seq.{drop-append_seam, take-nil}
@@ -15,27 +16,33 @@ use Rattle.log_reader.specs.declared.next.Next.{Next}
 use Rattle.log_reader.specs.declared.next.Next.TheVariants.{Point, More, End}
 use Rattle.log_reader.specs.declared.stage.Stage.{Stage}
 use Rattle.log_reader.specs.declared.stage.Stage.TheVariants.{AfterStamp, AfterClose}
-use Rattle.log_reader.specs.Cursors.{place_in, IsLater, open_count, given_of, Leads, Exhausts, Breaks, BreaksBy, Advances, behind_answer}
+use Rattle.log_reader.specs.Cursors.{place_in, IsLater, open_count, given_of, Leads, Exhausts, Breaks, BreaksBy}
+use Rattle.log_reader.specs.Cursors.{Advances, behind_answer}
 use Rattle.log_reader.specs.Given.{Fails, Gives}
 use Rattle.log_reader.specs.Partials.{Partial, blank, point_of, finished}
 use Rattle.log_reader.specs.Progress.{answer_of, skipped}
-use Rattle.log_reader.specs.Readings.{Reading, Ending, NoFault, behind, run_from, is_long, nothing_left, finish_at, place_at, reading}
+use Rattle.log_reader.specs.Readings.{Reading, Ending, NoFault, behind, run_from, is_long, nothing_left, finish_at}
+use Rattle.log_reader.specs.Readings.{place_at, reading}
 use Rattle.log_reader.specs.Soundness.{Remains, IsSound, is_wanting, CountsOn}
 use Rattle.log_reader.proofs.TokenRuns.{none_run}
 use Rattle.log_reader.proofs.TokenSteps.{later_self}
 
 later_and : (ended later long : Bool) → IsLater ended later → IsLater (ended && not long) (later && not long)
-later_and true later long is = subst (λ (b : Bool). IsLater (not long) (b && not long)) (sym is) (later_self (not long))
+later_and true later long is =
+    subst (λ (b : Bool). IsLater (not long) (b && not long)) (sym is) (later_self (not long))
 later_and false later long is = tt
 
-same_reading : (r : Reading) (points : List TimePoint) (ending : Ending) → points ≡ r.points → ending ≡ r.ending → record { points = points; ending = ending } ≡ r
+same_reading : (r : Reading) (points : List TimePoint) (ending : Ending) → points ≡ r.points → ending ≡ r.ending
+    → record { points = points; ending = ending } ≡ r
 same_reading r points ending p e = rw (p, e) refl
 
 -- behind the first time-points of a reading comes the rest
-skip_more : (n : ℕ) (points : List TimePoint) (all rest : Reading) → skipped n all ≡ behind points rest → skipped (n + length points) all ≡ rest
+skip_more : (n : ℕ) (points : List TimePoint) (all rest : Reading) → skipped n all ≡ behind points rest
+    → skipped (n + length points) all ≡ rest
 skip_more n points all rest e =
     same_reading rest (drop (n + length points) all.points) all.ending
-    (sym (drop-drop (length points) n all.points) ∙ ap (drop (length points)) (ap (λ (r : Reading). r.points) e) ∙ drop-append_seam points rest.points)
+    (sym (drop-drop (length points) n all.points) ∙ ap (drop (length points)) (ap (λ (r : Reading). r.points) e)
+    ∙ drop-append_seam points rest.points)
     (ap (λ (r : Reading). r.ending) e)
 
 -- ---- the end of the bytes
@@ -58,14 +65,17 @@ no_more : (point : TimePoint) → gives_point point (Ok More) → ⊥
 unfolding gives_point
 no_more point e = cc
 
-whole_at : (limits : Limits) (bytes : List ℕ) (stage : Stage) (p : Partial) (point : TimePoint) → gives_point point (answer_of true (finish_at (length bytes) p stage))
-    → (finish_at (length bytes) p stage ≡ record { points = point_of p ∷ []; ending = NoFault }) × (open_count stage ≡ 1)
+whole_at : (limits : Limits) (bytes : List ℕ) (stage : Stage) (p : Partial) (point : TimePoint)
+    → gives_point point (answer_of true (finish_at (length bytes) p stage))
+    → (finish_at (length bytes) p stage ≡ record { points = point_of p ∷ []; ending = NoFault })
+    × (open_count stage ≡ 1)
 unfolding gives_point
 whole_at limits bytes AfterStamp p point e = (refl, refl)
 whole_at limits bytes AfterClose p point e = (refl, refl)
 whole_at limits bytes _ p point e = absurd cc
 
-whole_by : (limits : Limits) (bytes : List ℕ) (long ended : Bool) (p : Partial) (point : TimePoint) → is_long limits bytes ≡ long
+whole_by : (limits : Limits) (bytes : List ℕ) (long ended : Bool) (p : Partial) (point : TimePoint)
+    → is_long limits bytes ≡ long
     → gives_point point (answer_of ended (nothing_left limits bytes ended p)) → Whole limits bytes ended p
 whole_by limits bytes true ended p point l e =
     absurd (no_fault point _ (rw l at e))
@@ -75,13 +85,18 @@ whole_by limits bytes false true p point l e =
     record { told = refl; here = rw l whole.0; begun = whole.1; behind = rw l refl }
 
 module _ (sig : List PredOf) (limits : Limits) (bytes : List ℕ) where
-  moves : (later : Bool) (given at at' : ℕ) (p q : Partial) (points : List TimePoint) → Remains sig limits bytes later given at p
-      → (let last = nothing_left limits bytes later in run_from sig limits last p (place_at limits bytes later at) ≡ behind points (run_from sig limits last q (place_at limits bytes later at')))
+  moves : (later : Bool) (given at at' : ℕ) (p q : Partial) (points : List TimePoint)
+      → Remains sig limits bytes later given at p
+      → (let last = nothing_left limits bytes later in
+      run_from sig limits last p (place_at limits bytes later at)
+      ≡ behind points (run_from sig limits last q (place_at limits bytes later at')))
       → Remains sig limits bytes later (given + length points) at' q
   moves later given at at' p q points r e =
       let all = reading sig limits bytes later in
       let here = r.rest ∙ e in
-      let len : length (drop given all.points) ≡ length points + length (run_from sig limits (nothing_left limits bytes later) q (place_at limits bytes later at')).points
+      let len : length (drop given all.points)
+      ≡ length points + length
+      (run_from sig limits (nothing_left limits bytes later) q (place_at limits bytes later at')).points
       = ap (λ (x : Reading). length x.points) here ∙ length-append points _ in
       record {
         rest = skip_more given points all _ here;
@@ -96,7 +111,8 @@ module _ (sig : List PredOf) (limits : Limits) (bytes : List ℕ) where
       within = l.within;
       counted = l.counted;
       remains = λ later is. rw l.given (moves later (given_of p) at at' p q points (s.remains later is)
-          (l.reads (later && not (is_long limits bytes)) (later_and is_ended later (is_long limits bytes) is) (nothing_left limits bytes later)));
+          (l.reads (later && not (is_long limits bytes)) (later_and is_ended later (is_long limits bytes) is)
+          (nothing_left limits bytes later)));
     }
 
     -- behind the last time-point, which the end completes
@@ -113,9 +129,12 @@ module _ (sig : List PredOf) (limits : Limits) (bytes : List ℕ) where
               let last = nothing_left limits bytes later in
               let place = place_at limits bytes later at in
               let found : next_token place ≡ Ok None = rw same empty in
-              let here : run_from sig limits last p place ≡ record { points = point_of p ∷ []; ending = NoFault } = none_run sig limits last p place found ∙ rw same w.here in
-              let then : run_from sig limits last (finished p) place ≡ record { points = []; ending = NoFault } = none_run sig limits last (finished p) place found ∙ rw same w.behind in
-              let both : run_from sig limits last p place ≡ behind (point_of p ∷ []) (run_from sig limits last (finished p) place) =
+              let here : run_from sig limits last p place ≡ record { points = point_of p ∷ []; ending = NoFault } =
+              none_run sig limits last p place found ∙ rw same w.here in
+              let then : run_from sig limits last (finished p) place ≡ record { points = []; ending = NoFault } =
+              none_run sig limits last (finished p) place found ∙ rw same w.behind in
+              let both : run_from sig limits last p place
+              ≡ behind (point_of p ∷ []) (run_from sig limits last (finished p) place) =
               here ∙ ap (λ (r : Reading). behind (point_of p ∷ []) r) (sym then) in
               rw more (moves later (given_of p) at at p (finished p) (point_of p ∷ []) (s.remains later is) both);
         }
@@ -131,7 +150,8 @@ module _ (sig : List PredOf) (limits : Limits) (bytes : List ℕ) where
     sound_end at p q (Ok End) s empty e is = rw is s
     sound_end at p q (Err fault) s empty e is = rw is s
 
-    end_counts : (before at : ℕ) (p q : Partial) (answer : Result Next LogFault) → IsSound sig limits bytes is_ended at p
+    end_counts : (before at : ℕ) (p q : Partial) (answer : Result Next LogFault)
+        → IsSound sig limits bytes is_ended at p
         → given_of p ≡ before + 0 → answer ≡ answer_of is_ended (nothing_left limits bytes is_ended p)
         → q ≡ behind_answer p answer → CountsOn before answer (given_of q)
     unfolding gives_point
@@ -147,16 +167,19 @@ module _ (sig : List PredOf) (limits : Limits) (bytes : List ℕ) where
     -- what is due is what the rest gives
     due_rest : (at : ℕ) (p : Partial) → IsSound sig limits bytes is_ended at p
         → answer_of is_ended (skipped (given_of p) (reading sig limits bytes is_ended))
-        ≡ answer_of is_ended (run_from sig limits (nothing_left limits bytes is_ended) p (place_at limits bytes is_ended at))
+        ≡ answer_of is_ended (run_from sig limits (nothing_left limits bytes is_ended) p
+        (place_at limits bytes is_ended at))
     due_rest at p s = ap (answer_of is_ended) (s.remains is_ended (later_self is_ended)).rest
 
     due_exhausted : (at at' : ℕ) (p q : Partial) → IsSound sig limits bytes is_ended at p
         → Exhausts sig limits (take limits.bytes bytes) (is_ended && not (is_long limits bytes)) at p at' q
-        → answer_of is_ended (skipped (given_of p) (reading sig limits bytes is_ended)) ≡ answer_of is_ended (nothing_left limits bytes is_ended q)
+        → answer_of is_ended (skipped (given_of p) (reading sig limits bytes is_ended))
+        ≡ answer_of is_ended (nothing_left limits bytes is_ended q)
     due_exhausted at at' p q s x =
         let last = nothing_left limits bytes is_ended in
         due_rest at p s ∙ ap (answer_of is_ended)
-        (x.leads.reads (is_ended && not (is_long limits bytes)) (later_self (is_ended && not (is_long limits bytes))) last
+        (x.leads.reads (is_ended && not (is_long limits bytes))
+        (later_self (is_ended && not (is_long limits bytes))) last
         ∙ ap (λ (r : Reading). behind [] r) (none_run sig limits last q (place_at limits bytes is_ended at') x.empty))
 
   -- nothing was read
@@ -178,7 +201,8 @@ nothing_read : (sig : List PredOf) (limits : Limits) → (reading sig limits [] 
 unfolding reading
 nothing_read sig limits =
     let last = nothing_left limits [] false in
-    let empty : next_token (place_at limits [] false 0) ≡ Ok None = rw (take-nil limits.bytes) (nothing_there false) in
+    let empty : next_token (place_at limits [] false 0) ≡ Ok None =
+    rw (take-nil limits.bytes) (nothing_there false) in
     ap (λ (r : Reading). r.points) (none_run sig limits last blank (place_at limits [] false 0) empty)
     ∙ cond_both (is_long limits []) _ _ (λ (r : Reading). r.points ≡ []) (λ _. refl) (λ _. refl)
 
@@ -237,14 +261,17 @@ module _ (sig : List PredOf) (limits : Limits) (bytes looked : List ℕ) (is_end
 
   -- a fault
   abbrev BreaksHere : LogFault → Type 0
-  BreaksHere fault = Breaks sig limits (take limits.bytes bytes) (is_ended && not (is_long limits bytes)) at p fault at' q
+  BreaksHere fault = Breaks sig limits (take limits.bytes bytes)
+      (is_ended && not (is_long limits bytes)) at p fault at' q
 
   abbrev BreaksByHere : LogFault → Type 0
-  BreaksByHere fault = BreaksBy sig limits (take limits.bytes bytes) (is_ended && not (is_long limits bytes)) at p fault at' q
+  BreaksByHere fault = BreaksBy sig limits (take limits.bytes bytes)
+      (is_ended && not (is_long limits bytes)) at p fault at' q
 
   due_broken : (fault : LogFault) → BreaksHere fault → due ≡ Err fault
   due_broken fault b =
-      due_led [] b.leads ∙ ap (λ (r : Reading). answer_of is_ended (behind [] r)) (b.again (nothing_left limits bytes is_ended))
+      due_led [] b.leads ∙ ap (λ (r : Reading). answer_of is_ended (behind [] r))
+      (b.again (nothing_left limits bytes is_ended))
 
   sound_broken : (fault : LogFault) → BreaksHere fault → IsSound sig limits bytes is_ended at' q
   sound_broken fault b = sound_leads sig limits bytes is_ended at at' p q [] s b.leads
@@ -256,7 +283,8 @@ module _ (sig : List PredOf) (limits : Limits) (bytes looked : List ℕ) (is_end
   due_by Memory b = tt
   due_by fault b = due_broken fault b
 
-  sound_by : (fault : LogFault) → BreaksByHere fault → is_wanting (Err fault) ≡ false → IsSound sig limits bytes is_ended at' q
+  sound_by : (fault : LogFault) → BreaksByHere fault → is_wanting (Err fault) ≡ false
+      → IsSound sig limits bytes is_ended at' q
   sound_by Memory b wanting = absurd cc
   sound_by fault b wanting = sound_broken fault b
 

@@ -1,5 +1,6 @@
 -- What the lexer's laws say of one token: it leads further, and it stays when the end is told.
-use Rattle.std.proofs.Common.{◌≡◌, ℕ, ◌+◌, ◌≤◌, ◌<◌, true, false, List, [], length, drop, Some, Ok, refl, ap, ◌∙◌, add_assoc, arith}
+use Rattle.std.proofs.Common.{◌≡◌, ℕ, ◌+◌, ◌≤◌, ◌<◌, true, false, List, [], length, drop, Some, Ok, refl, ap, ◌∙◌}
+use Rattle.std.proofs.Common.{add_assoc, arith}
 use Rattle.std.proofs.lemmas.List.{append-nil, length-drop, drop-drop}
 use Rattle.mfotl_lex.specs.Blanks.{blank_len}
 use Rattle.mfotl_lex.specs.Growing.{grown}
@@ -37,7 +38,8 @@ pub token_moves : (p : Place) (t : Lexeme) → next_token p ≡ Ok (Some t) → 
 unfolding next_token after
 token_moves p t e =
     let blanks = blank_len p.ended p.rest in
-    moves_by p blanks (scan p.mode p.ended (drop blanks p.rest)) t (blanks_within p.ended p.rest) (scan_within p.mode p.ended (drop blanks p.rest)) e
+    moves_by p blanks (scan p.mode p.ended (drop blanks p.rest)) t (blanks_within p.ended p.rest)
+    (scan_within p.mode p.ended (drop blanks p.rest)) e
 
 -- the same place, with the end told
 abbrev pub told : Place → Place

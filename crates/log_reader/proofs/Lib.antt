@@ -1,4 +1,5 @@
 pub mod Lexing
+pub mod Transitions
 pub mod TokenRuns
 pub mod TokenPlaces
 pub mod StepStages
@@ -8,7 +9,6 @@ pub mod Fewness
 pub mod Paths
 pub mod CauseSteps
 pub mod Runs
-pub mod Transitions
 pub mod StateCauses
 pub mod FrontLemmas
 pub mod FaultLaws

@@ -1,5 +1,6 @@
 -- A reading of what a log spells is read to its end exactly where the rules give a value.
-use Rattle.std.proofs.Common.{◌≡◌, ◌⊎◌, inl, inr, ℕ, zero, suc, ◌+◌, Bool, true, false, cond, List, [], ◌∷◌, Option, Some, None, Ok, refl, sym, ap, subst, ◌∙◌, arith, nat_lt}
+use Rattle.std.proofs.Common.{◌≡◌, ◌⊎◌, inl, inr, ℕ, zero, suc, ◌+◌, Bool, true, false, cond, List, [], ◌∷◌, Option}
+use Rattle.std.proofs.Common.{Some, None, Ok, refl, sym, ap, subst, ◌∙◌, arith, nat_lt}
 use Rattle.std.specs.Prelude.{option_and_then}
 use Rattle.std.specs.List.{AllByRecursion}
 use Rattle.std.proofs.lemmas.Bool.{cases_lt, lt-ltb, le-ltb}
@@ -20,7 +21,8 @@ use Rattle.log_reader.specs.Stages.{goes, completes}
 use Rattle.log_reader.specs.Steps.{stepped, opened, stamped}
 use Rattle.log_reader.specs.ValuesRead.{timestamp_of}
 use Rattle.log_reader.specs.Symbols.{AtSign, Terminator, Says, Bare, content}
-use Rattle.log_reader.proofs.Judging.{front_of, bare_content, Passed, Faulty, one_step, last_step, passes, faults, Faulty-behind, resting}
+use Rattle.log_reader.proofs.Judging.{front_of, bare_content, Passed, Faulty, one_step, last_step, passes, faults}
+use Rattle.log_reader.proofs.Judging.{Faulty-behind, resting}
 use Rattle.log_reader.proofs.PointJudging.{after_stamp, MentionsRead, mentions_judged}
 
 nothing_spelled : (ts : List Lexeme) → symbols_of ts ≡ [] → ts ≡ []
@@ -47,10 +49,13 @@ module _ (sig : List PredOf) (limits : Limits) (len : ℕ) where
     pub finishes : (p : Partial) → finish_at len p s ≡ record { points = point_of p ∷ []; ending = NoFault }
 
   whole_stage : (s : Stage) → (s ≡ AfterStamp) ⊎ (s ≡ AfterClose) → IsWhole s
-  whole_stage s (inl e) = subst IsWhole (sym e) (record { at = refl; at_goes = refl; end = refl; end_goes = refl; finishes = λ p. refl })
-  whole_stage s (inr e) = subst IsWhole (sym e) (record { at = refl; at_goes = refl; end = refl; end_goes = refl; finishes = λ p. refl })
+  whole_stage s (inl e) = subst IsWhole (sym e)
+      (record { at = refl; at_goes = refl; end = refl; end_goes = refl; finishes = λ p. refl })
+  whole_stage s (inr e) = subst IsWhole (sym e)
+      (record { at = refl; at_goes = refl; end = refl; end_goes = refl; finishes = λ p. refl })
 
-  settled : (q : Partial) (s : Stage) (is_closed : Bool) (log : List PointText) (ts : List Lexeme) → IsWhole s → symbols_of ts ≡ spell_end is_closed (spell_log log) → Settled (resting q s) log ts
+  settled : (q : Partial) (s : Stage) (is_closed : Bool) (log : List PointText) (ts : List Lexeme) → IsWhole s
+      → symbols_of ts ≡ spell_end is_closed (spell_log log) → Settled (resting q s) log ts
   unfolding run
   settled q s true log ts w e =
       let p = resting q s in
@@ -58,7 +63,9 @@ module _ (sig : List PredOf) (limits : Limits) (len : ℕ) where
       record {
         others = f.others;
         spelled = f.spelled;
-        reads = ap (run sig limits last p) f.parts ∙ last_step sig limits s Terminator p f.token f.others (Ok (finished p)) refl f.is w.end (ap (stepped sig limits p f.token) w.end_goes) last;
+        reads = ap (run sig limits last p) f.parts
+            ∙ last_step sig limits s Terminator p f.token f.others (Ok (finished p)) refl f.is w.end
+            (ap (stepped sig limits p f.token) w.end_goes) last;
       }
   settled q s false [] ts w e =
       let p = resting q s in
@@ -66,7 +73,8 @@ module _ (sig : List PredOf) (limits : Limits) (len : ℕ) where
       record {
         others = ts;
         spelled = e;
-        reads = ap (run sig limits last p) none ∙ w.finishes p ∙ ap (λ (r : Reading). behind (point_of p ∷ []) r) (sym (ap (run sig limits last (finished p)) none));
+        reads = ap (run sig limits last p) none ∙ w.finishes p
+            ∙ ap (λ (r : Reading). behind (point_of p ∷ []) r) (sym (ap (run sig limits last (finished p)) none));
       }
   settled q s false (point ∷ log) ts w e =
       let p = resting q s in
@@ -75,9 +83,12 @@ module _ (sig : List PredOf) (limits : Limits) (len : ℕ) where
       record {
         others = ts;
         spelled = e;
-        reads = ap (run sig limits last p) f.parts ∙ last_step sig limits s AtSign p f.token f.others r refl f.is w.at (ap (stepped sig limits p f.token) w.at_goes) last
+        reads = ap (run sig limits last p) f.parts
+            ∙ last_step sig limits s AtSign p f.token f.others r refl f.is w.at
+            (ap (stepped sig limits p f.token) w.at_goes) last
             ∙ ap (λ (x : Reading). behind (point_of p ∷ []) x)
-            (sym (ap (run sig limits last (finished p)) f.parts ∙ one_step sig limits Between AtSign (finished p) f.token f.others r refl f.is refl refl last));
+            (sym (ap (run sig limits last (finished p)) f.parts
+            ∙ one_step sig limits Between AtSign (finished p) f.token f.others r refl f.is refl refl last));
       }
 
   -- ---- the value of a log
@@ -87,31 +98,42 @@ module _ (sig : List PredOf) (limits : Limits) (len : ℕ) where
   point_by time events many =
       option_and_then (λ t. option_and_then (λ e. cond many None (Some (record { ts = t; db = e }))) events) time
 
-  point_is : (p : PointText) → point_value sig limits p ≡ point_by (timestamp_of p.stamp) (mentions_value sig [] p.mentions) (nat_lt limits.events (group_count p.mentions))
+  point_is : (p : PointText)
+      → point_value sig limits p
+      ≡ point_by (timestamp_of p.stamp) (mentions_value sig [] p.mentions)
+      (nat_lt limits.events (group_count p.mentions))
   unfolding point_value
   point_is p = refl
 
   -- the time-points from one on
   abbrev log_by : ℕ → ℕ → List PointText → Option TimePoint → Option (List TimePoint)
   log_by earliest room log point =
-      option_and_then (λ p. option_and_then (λ later. Some (p ∷ later)) (cond (nat_lt p.ts earliest) None (log_value sig limits p.ts room log))) point
+      option_and_then (λ p. option_and_then (λ later. Some (p ∷ later))
+      (cond (nat_lt p.ts earliest) None (log_value sig limits p.ts room log))) point
 
-  log_is : (earliest room : ℕ) (p : PointText) (log : List PointText) → log_value sig limits earliest (suc room) (p ∷ log)
-      ≡ log_by earliest room log (point_by (timestamp_of p.stamp) (mentions_value sig [] p.mentions) (nat_lt limits.events (group_count p.mentions)))
+  log_is : (earliest room : ℕ) (p : PointText) (log : List PointText)
+      → log_value sig limits earliest (suc room) (p ∷ log)
+      ≡ log_by earliest room log
+      (point_by (timestamp_of p.stamp) (mentions_value sig [] p.mentions)
+      (nat_lt limits.events (group_count p.mentions)))
   unfolding log_value
   log_is earliest room p log = ap (log_by earliest room log) (point_is p)
 
   -- a falling timestamp, whatever the events
-  falls : (earliest room time : ℕ) (log : List PointText) (events : Option (List Event)) (many : Bool) → nat_lt time earliest ≡ true → log_by earliest room log (point_by (Some time) events many) ≡ None
+  falls : (earliest room time : ℕ) (log : List PointText) (events : Option (List Event)) (many : Bool)
+      → nat_lt time earliest ≡ true → log_by earliest room log (point_by (Some time) events many) ≡ None
   falls earliest room time log None many e = refl
   falls earliest room time log (Some events) true e = refl
   falls earliest room time log (Some events) false e = rw e refl
 
   -- events that are none, or too many groups
-  no_events : (earliest room time : ℕ) (log : List PointText) (events : Option (List Event)) (many : Bool) → (events ≡ None) ⊎ (many ≡ true) → log_by earliest room log (point_by (Some time) events many) ≡ None
-  no_events earliest room time log events many (inl e) = ap (λ (x : Option (List Event)). log_by earliest room log (point_by (Some time) x many)) e
+  no_events : (earliest room time : ℕ) (log : List PointText) (events : Option (List Event)) (many : Bool)
+      → (events ≡ None) ⊎ (many ≡ true) → log_by earliest room log (point_by (Some time) events many) ≡ None
+  no_events earliest room time log events many (inl e) =
+      ap (λ (x : Option (List Event)). log_by earliest room log (point_by (Some time) x many)) e
   no_events earliest room time log None many (inr e) = refl
-  no_events earliest room time log (Some events) many (inr e) = ap (λ (x : Bool). log_by earliest room log (point_by (Some time) (Some events) x)) e
+  no_events earliest room time log (Some events) many (inr e) =
+      ap (λ (x : Bool). log_by earliest room log (point_by (Some time) (Some events) x)) e
 
   -- ---- the reading of a log
 
@@ -129,52 +151,78 @@ module _ (sig : List PredOf) (limits : Limits) (len : ℕ) where
   -- the tokens of a log were read to their end, or there is a fault
   abbrev pub LogJudged : Partial → ℕ → List PointText → List Lexeme → Type 0
   LogJudged c room log ts =
-      ((points : List TimePoint) × (log_value sig limits c.time room log ≡ Some points) × Read (resting c Between) ts points)
+      ((points : List TimePoint) × (log_value sig limits c.time room log ≡ Some points)
+      × Read (resting c Between) ts points)
       ⊎ ((log_value sig limits c.time room log ≡ None) × Refused (resting c Between) ts)
 
   abbrev pub Judge : ℕ → List PointText → Type 0
-  Judge room log = (c : Partial) (ts : List Lexeme) → c.points + room ≡ limits.points → symbols_of ts ≡ spell_log log → LogJudged c room log ts
+  Judge room log = (c : Partial) (ts : List Lexeme) → c.points + room ≡ limits.points → symbols_of ts ≡ spell_log log
+      → LogJudged c room log ts
 
   -- a time-point was read, and then those behind it
-  point_read : (time : ℕ) (c : Partial) (room : ℕ) (p : PointText) (log : List PointText) (ts : List Lexeme) (q : Partial)
-      (a : Passed sig limits (resting c AfterAt) q ts (spell_mentions p.mentions (spell_end p.is_closed (spell_log log))))
-      → MentionsRead sig limits (record c { time = time }) AfterStamp p.mentions a.others (spell_end p.is_closed (spell_log log)) → q ≡ resting (record c { time = time }) AfterStamp
-      → log_value sig limits c.time (suc room) (p ∷ log) ≡ log_by c.time room log (point_by (Some time) (mentions_value sig [] p.mentions) (nat_lt limits.events (group_count p.mentions)))
+  point_read : (time : ℕ) (c : Partial) (room : ℕ) (p : PointText) (log : List PointText) (ts : List Lexeme)
+      (q : Partial)
+      (a : Passed sig limits (resting c AfterAt) q ts
+      (spell_mentions p.mentions (spell_end p.is_closed (spell_log log))))
+      → MentionsRead sig limits (record c { time = time }) AfterStamp p.mentions a.others
+      (spell_end p.is_closed (spell_log log)) → q ≡ resting (record c { time = time }) AfterStamp
+      → log_value sig limits c.time (suc room) (p ∷ log)
+      ≡ log_by c.time room log
+      (point_by (Some time) (mentions_value sig [] p.mentions) (nat_lt limits.events (group_count p.mentions)))
       → nat_lt time c.time ≡ false → c.points + room ≡ limits.points → c.events ≡ [] → c.groups ≡ 0 → Judge room log
-      → ((points : List TimePoint) × (log_value sig limits c.time (suc room) (p ∷ log) ≡ Some points) × Read (resting c AfterAt) ts points)
+      → ((points : List TimePoint) × (log_value sig limits c.time (suc room) (p ∷ log) ≡ Some points)
+      × Read (resting c AfterAt) ts points)
       ⊎ ((log_value sig limits c.time (suc room) (p ∷ log) ≡ None) × Refused (resting c AfterAt) ts)
   point_read time c room p log ts q a r here value rises sum clear none later =
       let there = resting r.there r.at in
       let s = settled r.there r.at p.is_closed log r.passed.others (whole_stage r.at r.whole) r.passed.spelled in
       let c3 = record r.there { events = []; groups = 0 } in
-      let before : run sig limits last (resting c AfterAt) ts ≡ behind (point_of there ∷ []) (run sig limits last (resting c3 Between) s.others) =
+      let before : run sig limits last (resting c AfterAt) ts
+      ≡ behind (point_of there ∷ []) (run sig limits last (resting c3 Between) s.others) =
       a.reads last ∙ ap (λ (x : Partial). run sig limits last x a.others) here ∙ r.passed.reads last ∙ s.reads in
-      let few : nat_lt limits.events (group_count p.mentions) ≡ false = le-ltb limits.events (group_count p.mentions) (omega (arith, r.few, none)) in
-      let events : mentions_value sig [] p.mentions ≡ Some r.there.events = ap (λ (es : List Event). mentions_value sig es p.mentions) (sym clear) ∙ r.events in
+      let few : nat_lt limits.events (group_count p.mentions) ≡ false =
+      le-ltb limits.events (group_count p.mentions) (omega (arith, r.few, none)) in
+      let events : mentions_value sig [] p.mentions ≡ Some r.there.events =
+      ap (λ (es : List Event). mentions_value sig es p.mentions) (sym clear) ∙ r.events in
       let point : TimePoint = record { ts = time; db = r.there.events } in
-      let first : log_value sig limits c.time (suc room) (p ∷ log) ≡ option_and_then (λ later. Some (point ∷ later)) (log_value sig limits time room log) =
-      value ∙ ap (λ (es : Option (List Event)). log_by c.time room log (point_by (Some time) es (nat_lt limits.events (group_count p.mentions)))) events
+      let first : log_value sig limits c.time (suc room) (p ∷ log)
+      ≡ option_and_then (λ later. Some (point ∷ later)) (log_value sig limits time room log) =
+      value ∙ ap (λ (es : Option (List Event)). log_by c.time room log
+      (point_by (Some time) es (nat_lt limits.events (group_count p.mentions)))) events
       ∙ ap (λ (b : Bool). log_by c.time room log (point_by (Some time) (Some r.there.events) b)) few
-      ∙ ap (λ (b : Bool). option_and_then (λ later. Some (point ∷ later)) (cond b None (log_value sig limits time room log))) rises in
-      let at_time : log_value sig limits r.there.time room log ≡ log_value sig limits time room log = ap (λ (t : ℕ). log_value sig limits t room log) r.time in
+      ∙ ap (λ (b : Bool). option_and_then (λ later. Some (point ∷ later))
+      (cond b None (log_value sig limits time room log))) rises in
+      let at_time : log_value sig limits r.there.time room log ≡ log_value sig limits time room log =
+      ap (λ (t : ℕ). log_value sig limits t room log) r.time in
       let same : point_of there ≡ point = ap (λ (t : ℕ). record { ts = t; db = r.there.events }) r.time in
       elim (later c3 s.others (omega (arith, r.points, sum)) s.spelled) [
         | inl x ↦ inl (
           point ∷ x.0,
           first ∙ ap (option_and_then (λ later. Some (point ∷ later))) (sym at_time ∙ x.1),
-          record { reads = before ∙ ap (λ (y : Reading). behind (point_of there ∷ []) y) x.2.reads ∙ ap (λ (y : TimePoint). record { points = y ∷ x.0; ending = NoFault }) same },
+          record {
+            reads = before ∙ ap (λ (y : Reading). behind (point_of there ∷ []) y) x.2.reads
+                ∙ ap (λ (y : TimePoint). record { points = y ∷ x.0; ending = NoFault }) same;
+          },
         )
         | inr y ↦ inr (
           first ∙ ap (option_and_then (λ later. Some (point ∷ later))) (sym at_time ∙ y.0),
-          record { points = point_of there ∷ y.1.points; fault = y.1.fault; reads = before ∙ ap (λ (z : Reading). behind (point_of there ∷ []) z) y.1.reads },
+          record {
+            points = point_of there ∷ y.1.points;
+            fault = y.1.fault;
+            reads = before
+                ∙ ap (λ (z : Reading). behind (point_of there ∷ []) z) y.1.reads;
+          },
         )
       ]
 
   -- the time-points from a stamp on, by what the stamp stands for
-  stamp_then : (found : Option ℕ) (c : Partial) (room : ℕ) (p : PointText) (log : List PointText) (ts : List Lexeme) → timestamp_of p.stamp ≡ found → HasStamp p
+  stamp_then : (found : Option ℕ) (c : Partial) (room : ℕ) (p : PointText) (log : List PointText) (ts : List Lexeme)
+      → timestamp_of p.stamp ≡ found → HasStamp p
       → c.points + room ≡ limits.points → c.events ≡ [] → c.groups ≡ 0
-      → symbols_of ts ≡ Says (Bare p.stamp) ∷ spell_mentions p.mentions (spell_end p.is_closed (spell_log log)) → Judge room log
-      → ((points : List TimePoint) × (log_value sig limits c.time (suc room) (p ∷ log) ≡ Some points) × Read (resting c AfterAt) ts points)
+      → symbols_of ts ≡ Says (Bare p.stamp) ∷ spell_mentions p.mentions (spell_end p.is_closed (spell_log log))
+      → Judge room log
+      → ((points : List TimePoint) × (log_value sig limits c.time (suc room) (p ∷ log) ≡ Some points)
+      × Read (resting c AfterAt) ts points)
       ⊎ ((log_value sig limits c.time (suc room) (p ∷ log) ≡ None) × Refused (resting c AfterAt) ts)
   stamp_then None c room p log ts found stamp sum clear none e later =
       let start = resting c AfterAt in
@@ -182,10 +230,14 @@ module _ (sig : List PredOf) (limits : Limits) (len : ℕ) where
       let says : content f.token ≡ p.stamp = bare_content f.token.kind (content f.token) p.stamp f.is in
       let many = nat_lt limits.events (group_count p.mentions) in
       inr (
-        log_is c.time room p log ∙ ap (λ (o : Option ℕ). log_by c.time room log (point_by o (mentions_value sig [] p.mentions) many)) found,
-        refused start ts (faults sig limits AfterAt (Says (Bare p.stamp)) start (TimestampRange f.token.at) ts _ f refl refl
+        log_is c.time room p log
+            ∙ ap (λ (o : Option ℕ). log_by c.time room log
+            (point_by o (mentions_value sig [] p.mentions) many)) found,
+        refused start ts (faults sig limits AfterAt (Says (Bare p.stamp)) start
+            (TimestampRange f.token.at) ts _ f refl refl
             (ap (λ (b : Bool). stepped sig limits start f.token (cond b (Some AfterStamp) None)) stamp
-            ∙ ap (λ (w : List ℕ). stamped f.token.at start (timestamp_of w)) says ∙ ap (stamped f.token.at start) found)),
+            ∙ ap (λ (w : List ℕ). stamped f.token.at start (timestamp_of w)) says
+            ∙ ap (stamped f.token.at start) found)),
       )
   stamp_then (Some time) c room p log ts found stamp sum clear none e later =
       let start = resting c AfterAt in
@@ -193,52 +245,72 @@ module _ (sig : List PredOf) (limits : Limits) (len : ℕ) where
       let says : content f.token ≡ p.stamp = bare_content f.token.kind (content f.token) p.stamp f.is in
       let many = nat_lt limits.events (group_count p.mentions) in
       let events = mentions_value sig [] p.mentions in
-      let value : log_value sig limits c.time (suc room) (p ∷ log) ≡ log_by c.time room log (point_by (Some time) events many) =
+      let value : log_value sig limits c.time (suc room) (p ∷ log)
+      ≡ log_by c.time room log (point_by (Some time) events many) =
       log_is c.time room p log ∙ ap (λ (o : Option ℕ). log_by c.time room log (point_by o events many)) found in
-      let steps : stepped sig limits start f.token (goes AfterAt (Says (Bare p.stamp))) ≡ stamped f.token.at start (Some time) =
+      let steps : stepped sig limits start f.token (goes AfterAt (Says (Bare p.stamp)))
+      ≡ stamped f.token.at start (Some time) =
       ap (λ (b : Bool). stepped sig limits start f.token (cond b (Some AfterStamp) None)) stamp
       ∙ ap (λ (w : List ℕ). stamped f.token.at start (timestamp_of w)) says ∙ ap (stamped f.token.at start) found in
       elim (cases_lt time c.time) [
         | inl falling ↦ inr (
           value ∙ falls c.time room time log events many (lt-ltb time c.time falling),
-          refused start ts (faults sig limits AfterAt (Says (Bare p.stamp)) start (FallingTime c.time time f.token.at) ts _ f refl refl
+          refused start ts (faults sig limits AfterAt (Says (Bare p.stamp)) start
+              (FallingTime c.time time f.token.at) ts _ f refl refl
               (steps ∙ rw (lt-ltb time c.time falling) refl)),
         )
         | inr rises ↦
             let c2 = record c { time = time } in
             let q = resting c2 AfterStamp in
-            let a = passes sig limits AfterAt (Says (Bare p.stamp)) start q ts _ f refl refl (steps ∙ rw (le-ltb time c.time rises) refl) in
+            let a = passes sig limits AfterAt (Says (Bare p.stamp)) start q ts _ f refl refl
+            (steps ∙ rw (le-ltb time c.time rises) refl) in
             let inner = spell_end p.is_closed (spell_log log) in
-            elim (mentions_judged sig limits p.mentions c2 AfterStamp a.others inner (after_stamp sig limits) a.spelled (omega (arith, none))) [
-              | inl r ↦ point_read time c room p log ts q a r refl value (le-ltb time c.time rises) sum clear none later
+            elim (mentions_judged sig limits p.mentions c2 AfterStamp a.others inner
+            (after_stamp sig limits) a.spelled (omega (arith, none))) [
+              | inl r ↦ point_read time c room p log ts q a r refl value
+                  (le-ltb time c.time rises) sum clear none later
               | inr z ↦
                   let why : (events ≡ None) ⊎ (many ≡ true) = elim z.0 [
-                    | inl missing ↦ inl (ap (λ (es : List Event). mentions_value sig es p.mentions) (sym clear) ∙ missing)
+                    | inl missing ↦ inl (ap (λ (es : List Event). mentions_value sig es p.mentions) (sym clear)
+                        ∙ missing)
                     | inr lots ↦ inr (lt-ltb limits.events (group_count p.mentions) (omega (arith, lots, none)))
                   ] in
-                  inr (value ∙ no_events c.time room time log events many why, refused start ts (Faulty-behind sig limits start q ts _ a z.1))
+                  inr (
+                    value ∙ no_events c.time room time log events many why,
+                    refused start ts
+                        (Faulty-behind sig limits start q ts _ a z.1),
+                  )
             ]
       ]
 
   -- a time-point in front of those that are judged
-  point_then : (c : Partial) (room : ℕ) (p : PointText) (log : List PointText) (ts : List Lexeme) → HasStamp p → c.points + suc room ≡ limits.points
+  point_then : (c : Partial) (room : ℕ) (p : PointText) (log : List PointText) (ts : List Lexeme) → HasStamp p
+      → c.points + suc room ≡ limits.points
       → symbols_of ts ≡ spell_log (p ∷ log) → Judge room log → LogJudged c (suc room) (p ∷ log) ts
   point_then c room p log ts stamp sum e later =
       let start = resting c Between in
       let f = front_of ts AtSign _ e in
       let c1 = record c { points = c.points + 1; events = []; groups = 0 } in
-      let a = passes sig limits Between AtSign start (resting c1 AfterAt) ts _ f refl refl (rw (lt-ltb c.points limits.points (omega arith)) refl) in
-      elim (stamp_then (timestamp_of p.stamp) c1 room p log a.others refl stamp (omega arith) refl refl a.spelled later) [
+      let a = passes sig limits Between AtSign start (resting c1 AfterAt) ts _ f refl refl
+      (rw (lt-ltb c.points limits.points (omega arith)) refl) in
+      elim (stamp_then (timestamp_of p.stamp) c1 room p log a.others refl stamp
+      (omega arith) refl refl a.spelled later) [
         | inl x ↦ inl (x.0, x.1, record { reads = a.reads last ∙ x.2.reads })
         | inr y ↦ inr (y.0, record { points = y.1.points; fault = y.1.fault; reads = a.reads last ∙ y.1.reads })
       ]
 
   pub log_judged : (log : List PointText) (room : ℕ) → AllByRecursion HasStamp log → Judge room log
   unfolding log_value run
-  log_judged [] room stamps c ts sum e = inl ([], refl, record { reads = ap (run sig limits last (resting c Between)) (nothing_spelled ts e) })
+  log_judged [] room stamps c ts sum e =
+      inl ([], refl, record { reads = ap (run sig limits last (resting c Between)) (nothing_spelled ts e) })
   log_judged (p ∷ log) zero stamps c ts sum e =
       let start = resting c Between in
       let f = front_of ts AtSign _ e in
-      inr (refl, refused start ts (faults sig limits Between AtSign start (TooManyPoints f.token.at) ts _ f refl refl (rw (le-ltb c.points limits.points (omega arith)) refl)))
+      inr (
+        refl,
+        refused start ts
+            (faults sig limits Between AtSign start (TooManyPoints f.token.at) ts _ f refl refl
+            (rw (le-ltb c.points limits.points (omega arith)) refl)),
+      )
   log_judged (p ∷ log) (suc room) stamps c ts sum e =
       point_then c room p log ts stamps.0 sum e (λ c ts sum e. log_judged log room stamps.1 c ts sum e)

@@ -1,5 +1,6 @@
 -- What is read to its end is spelled and keeps the rules, and what is spelled so is read to its end.
-use Rattle.std.proofs.Common.{◌≡◌, ◌⊎◌, inl, inr, ℕ, Bool, true, false, cond, List, length, Option, Some, None, Result, Ok, Err, refl, sym, ap, ◌∙◌, arith}
+use Rattle.std.proofs.Common.{◌≡◌, inl, inr, ℕ, Bool, true, false, cond, List, length, Option, Some, None}
+use Rattle.std.proofs.Common.{Result, Ok, Err, refl, sym, ap, ◌∙◌, arith}
 use Rattle.std.proofs.lemmas.Bool.{le-ltb, ltb-false}
 use Rattle.mfotl_lex.proofs.FirstFaultLaws.{bind_ok, one_answer}
 use Rattle.mfotl_lex.specs.FirstFault.{◌>>=◌, run, reading as reading_of, ReadIsValue, ValueIsRead, OneAnswer}
@@ -10,13 +11,12 @@ use Rattle.mfotl_sig.specs.Preds.{PredOf}
 use Rattle.log_reader.specs.declared.fault.LogFault.{LogFault}
 use Rattle.log_reader.specs.declared.fault.LogFault.TheVariants.{TooLong}
 use Rattle.log_reader.specs.declared.limits.Limits.{Limits}
-use Rattle.log_reader.specs.declared.stage.Stage.{Stage}
-use Rattle.log_reader.specs.declared.stage.Stage.TheVariants.{Between, AfterStamp, AfterClose}
 use Rattle.log_reader.specs.Grammar.{PointText, Spells, symbols_of}
 use Rattle.log_reader.specs.Laws.{answer_by, whole_answer}
 use Rattle.log_reader.specs.LogTexts.{is_long, log_text, tail_behind, tokens_of}
 use Rattle.log_reader.specs.Partials.{Partial, blank}
-use Rattle.log_reader.specs.Readings.{Reading, Ending, NoFault, Fault, stopped, run as run_points, finish_at, nothing_left, behind_tokens, reading, accepted}
+use Rattle.log_reader.specs.Readings.{Reading, Ending, NoFault, Fault, stopped, run as run_points, finish_at}
+use Rattle.log_reader.specs.Readings.{nothing_left, behind_tokens, reading, accepted}
 use Rattle.log_reader.specs.Rules.{log_value, IsValue}
 use Rattle.log_reader.specs.Steps.{step}
 use Rattle.log_reader.proofs.LogJudging.{last, LogJudged, log_judged}
@@ -40,7 +40,8 @@ no_ending : (r : Result Partial LogFault) → ending_by r ≡ NoFault → (p : P
 no_ending (Ok p) e = (p, refl)
 no_ending (Err fault) e = absurd cc
 
-may_end : (b : Bool) (n : ℕ) (p q : Partial) → accepts p.stage ≡ b → ended_at n p p.stage ≡ Ok q → accepts p.stage ≡ true
+may_end : (b : Bool) (n : ℕ) (p q : Partial) → accepts p.stage ≡ b → ended_at n p p.stage ≡ Ok q
+    → accepts p.stage ≡ true
 may_end true n p q e f = e
 may_end false n p q e f = absurd (let here = rw e at f in cc (here))
 
@@ -57,7 +58,8 @@ module _ (sig : List PredOf) (limits : Limits) (len : ℕ) (ts : List Lexeme) wh
     pub value : log_value sig limits 0 limits.points log ≡ Some points
 
   value_of_read : (points : List TimePoint) (log : List PointText) → Spells (symbols_of ts) log
-      → run_points sig limits (last sig limits len) blank ts ≡ whole points → LogJudged sig limits len blank limits.points log ts
+      → run_points sig limits (last sig limits len) blank ts ≡ whole points
+      → LogJudged sig limits len blank limits.points log ts
       → Spelled points
   value_of_read points log spells e (inl x) = record {
     log = log;
@@ -67,23 +69,27 @@ module _ (sig : List PredOf) (limits : Limits) (len : ℕ) (ts : List Lexeme) wh
   value_of_read points log spells e (inr y) =
       absurd (no_fault y.1.fault (ap (λ (r : Reading). r.ending) (sym y.1.reads ∙ e)))
 
-  pub tokens_spelled : (points : List TimePoint) → run_points sig limits (last sig limits len) blank ts ≡ whole points → Spelled points
+  pub tokens_spelled : (points : List TimePoint)
+      → run_points sig limits (last sig limits len) blank ts ≡ whole points → Spelled points
   tokens_spelled points e =
       let alike = λ (q : Partial). finish_ending len q q.stage in
       let ends : Partial → Result Partial LogFault = λ q. ended_at len q q.stage in
-      let ending = sym (run_ending sig limits (last sig limits len) ends alike blank ts) ∙ ap (λ (r : Reading). r.ending) e in
+      let ending = sym (run_ending sig limits (last sig limits len) ends alike blank ts)
+      ∙ ap (λ (r : Reading). r.ending) e in
       let done = no_ending _ ending in
       let first = bind_ok (run (step sig limits) ts blank) ends done.0 done.1 in
       let accepted = may_end (accepts first.0.stage) len first.0 done.0 refl first.2 in
       let spelled = accepted_by ts first.0.stage (run_paths sig limits blank first.0 ts first.1) accepted in
       value_of_read points spelled.0 spelled.1 e (judged spelled.0 spelled.1)
 
-  read_of_value : (points : List TimePoint) (s : Spelled points) → LogJudged sig limits len blank limits.points s.log ts
+  read_of_value : (points : List TimePoint) (s : Spelled points)
+      → LogJudged sig limits len blank limits.points s.log ts
       → run_points sig limits (last sig limits len) blank ts ≡ whole points
   read_of_value points s (inl x) = x.2.reads ∙ ap whole (same_some x.0 points (sym x.1 ∙ s.value))
   read_of_value points s (inr y) = absurd (none_some points (sym y.0 ∙ s.value))
 
-  pub spelled_tokens : (points : List TimePoint) → Spelled points → run_points sig limits (last sig limits len) blank ts ≡ whole points
+  pub spelled_tokens : (points : List TimePoint) → Spelled points
+      → run_points sig limits (last sig limits len) blank ts ≡ whole points
   spelled_tokens points s = read_of_value points s (judged s.log s.spells)
 
 -- ---- bytes that are all there are
@@ -93,7 +99,8 @@ record IsWhole (limits : Limits) (bytes : List ℕ) (fault : Option LexFault) : 
   pub short : is_long limits bytes ≡ false
   pub whole : fault ≡ None
 
-whole_by : (limits : Limits) (bytes : List ℕ) (fault : Option LexFault) (long : Bool) (p q : Partial) → is_long limits bytes ≡ long
+whole_by : (limits : Limits) (bytes : List ℕ) (fault : Option LexFault) (long : Bool) (p q : Partial)
+    → is_long limits bytes ≡ long
     → at_tail (tail_behind limits bytes true fault) p ≡ Ok q → IsWhole limits bytes fault
 whole_by limits bytes (Some fault) long p q l e = absurd cc
 whole_by limits bytes None true p q l e = absurd (let here = rw l at e in cc (here))
@@ -108,11 +115,14 @@ module _ (sig : List PredOf) (limits : Limits) (bytes : List ℕ) where
       → accepted sig limits bytes ≡ run_points sig limits (last sig limits (length bytes)) blank ts
   unfolding reading
   plainly whole short =
-      ap (λ (f : Option LexFault). run_points sig limits (behind_tokens f (nothing_left limits bytes true)) blank ts) whole
-      ∙ ap (λ (b : Bool). run_points sig limits (λ p. cond b (stopped (TooLong limits.bytes)) (finish_at (length bytes) p p.stage)) blank ts) short
+      ap (λ (f : Option LexFault). run_points sig limits
+      (behind_tokens f (nothing_left limits bytes true)) blank ts) whole
+      ∙ ap (λ (b : Bool). run_points sig limits
+      (λ p. cond b (stopped (TooLong limits.bytes)) (finish_at (length bytes) p p.stage)) blank ts) short
 
   told_run : (p : Partial) → reading_of (step sig limits) blank at_tail (log_text limits bytes true) ≡ Ok p
-      → (run (step sig limits) ts blank >>= at_tail (tail_behind limits bytes true (tokens_of limits bytes true).fault)) ≡ Ok p
+      → (run (step sig limits) ts blank >>= at_tail
+      (tail_behind limits bytes true (tokens_of limits bytes true).fault)) ≡ Ok p
   unfolding reading_of
   told_run p e = e
 
@@ -124,16 +134,26 @@ module _ (sig : List PredOf) (limits : Limits) (bytes : List ℕ) where
       let first = bind_ok (run (step sig limits) ts blank) ends done.0 (told_run done.0 done.1) in
       whole_by limits bytes fault (is_long limits bytes) first.0 done.0 refl first.2
 
-  pub read_spelled : (points : List TimePoint) → accepted sig limits bytes ≡ whole points → IsValue sig limits bytes points
+  pub read_spelled : (points : List TimePoint) → accepted sig limits bytes ≡ whole points
+      → IsValue sig limits bytes points
   read_spelled points e =
       let w = told (ap (λ (r : Reading). r.ending) e) in
       let s = tokens_spelled sig limits (length bytes) ts points (sym (plainly w.whole w.short) ∙ e) in
-      record { log = s.log; short = ltb-false limits.bytes (length bytes) w.short; whole = w.whole; spells = s.spells; value = s.value }
+      record {
+        log = s.log;
+        short = ltb-false limits.bytes (length bytes) w.short;
+        whole = w.whole;
+        spells =
+            s.spells;
+        value = s.value;
+      }
 
-  pub spelled_read : (points : List TimePoint) → IsValue sig limits bytes points → accepted sig limits bytes ≡ whole points
+  pub spelled_read : (points : List TimePoint) → IsValue sig limits bytes points
+      → accepted sig limits bytes ≡ whole points
   spelled_read points v =
       plainly v.whole (le-ltb limits.bytes (length bytes) v.short)
-      ∙ spelled_tokens sig limits (length bytes) ts points (record { log = v.log; spells = v.spells; value = v.value })
+      ∙ spelled_tokens sig limits (length bytes) ts points
+      (record { log = v.log; spells = v.spells; value = v.value })
 
 -- ---- answers
 
@@ -147,7 +167,8 @@ module _ (sig : List PredOf) (limits : Limits) where
   read_is_value bytes points e = read_spelled sig limits bytes points (answered _ _ points e)
 
   pub value_is_read : ValueIsRead (whole_answer sig limits) (IsValue sig limits)
-  value_is_read bytes points v = ap (λ (r : Reading). answer_by r.points r.ending) (spelled_read sig limits bytes points v)
+  value_is_read bytes points v =
+      ap (λ (r : Reading). answer_by r.points r.ending) (spelled_read sig limits bytes points v)
 
   pub one_of_two : OneAnswer (whole_answer sig limits) (IsValue sig limits)
   one_of_two = one_answer (whole_answer sig limits) (IsValue sig limits) read_is_value value_is_read

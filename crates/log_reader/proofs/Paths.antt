@@ -1,13 +1,21 @@
 -- The automaton of the grammar goes on with exactly the symbols of logs, and of what logs begin with.
-use Rattle.std.proofs.Common.{◌≡◌, ℕ, Bool, true, false, cond, List, [], ◌∷◌, ◌++◌, Option, Some, None, refl, sym, ap, subst, ◌∙◌}
+use Rattle.std.proofs.Common.{◌≡◌, ℕ, Bool, true, false, cond, List, [], ◌∷◌, ◌++◌, Option, Some, None, refl, sym, ap}
+use Rattle.std.proofs.Common.{◌∙◌}
 use Rattle.std.specs.Prelude.{option_and_then}
 use Rattle.std.specs.List.{AllByRecursion}
 use Rattle.mfotl_lex.specs.Lexemes.{Lexeme}
 use Rattle.log_reader.specs.declared.stage.Stage.{Stage}
-use Rattle.log_reader.specs.declared.stage.Stage.TheVariants.{Between, AfterAt, AfterStamp, AfterName, AfterOpen, AfterValue, AfterComma, AfterClose}
-use Rattle.log_reader.specs.Grammar.{Mention, PointText, spell_more, spell_values, spell_group, spell_groups, spell_mentions, spell_end, spell_log, HasStamp, Spells, symbols_of, IsAccepted, IsViable}
+use Rattle.log_reader.specs.declared.stage.Stage.TheVariants.{Between, AfterAt, AfterStamp, AfterName, AfterOpen}
+use Rattle.log_reader.specs.declared.stage.Stage.TheVariants.{AfterValue, AfterComma, AfterClose}
+use Rattle.log_reader.specs.Grammar.{Mention, PointText, spell_more, spell_values, spell_group, spell_groups}
+use Rattle.log_reader.specs.Grammar.{spell_mentions, spell_end, spell_log, HasStamp, Spells, symbols_of, IsAccepted}
+use Rattle.log_reader.specs.Grammar.{IsViable}
 use Rattle.log_reader.specs.Stages.{goes}
-use Rattle.log_reader.specs.Symbols.{Symbol, AtSign, Opening, Closing, Separator, Terminator, Says, Written, Bare, is_digits}
+use Rattle.log_reader.proofs.Transitions.{Transition, begins_first, begins_bare, begins_full, times, names_first}
+use Rattle.log_reader.proofs.Transitions.{names_more, opens_first, opens_more, gives_first, gives_more, separates}
+use Rattle.log_reader.proofs.Transitions.{closes_empty, closes, ends_bare, ends_full, transition}
+use Rattle.log_reader.specs.Symbols.{Symbol, AtSign, Opening, Closing, Separator, Terminator, Says, Written, Bare}
+use Rattle.log_reader.specs.Symbols.{is_digits}
 
 -- the stage behind symbols, if the grammar goes on with each
 abbrev pub paths : Stage → List Symbol → Option Stage
@@ -54,85 +62,86 @@ pub record Tail (s : Stage) (symbols : List Symbol) : Type 0 where
   pub digits : s ≡ AfterAt → is_digits parts.stamp ≡ true
 
 abbrev nothing : Parts
-nothing = record { stamp = []; value = Bare []; values = []; group = []; groups = []; mentions = []; is_closed = false; log = [] }
+nothing = record {
+  stamp = [];
+  value = Bare [];
+  values = [];
+  group = [];
+  groups = [];
+  mentions = [];
+  is_closed =
+      false;
+  log = [];
+}
 
 -- the symbols from a stage on, where one more stands before
-prepend : (s g : Stage) (x : Symbol) (xs : List Symbol) (parts : Parts) (t : Tail g xs) → x ∷ spell_from g t.parts ≡ spell_from s parts
+prepend : (s g : Stage) (x : Symbol) (xs : List Symbol) (parts : Parts) (t : Tail g xs)
+    → x ∷ spell_from g t.parts ≡ spell_from s parts
     → AllByRecursion HasStamp parts.log → (s ≡ AfterAt → is_digits parts.stamp ≡ true) → Tail s (x ∷ xs)
-prepend s g x xs parts t e stamps digits = record { parts = parts; spelled = ap (λ (ys : List Symbol). x ∷ ys) t.spelled ∙ e; stamps = stamps; digits = digits }
+prepend s g x xs parts t e stamps digits =
+    record {
+      parts = parts;
+      spelled = ap (λ (ys : List Symbol). x ∷ ys) t.spelled
+          ∙ e;
+      stamps = stamps;
+      digits = digits;
+    }
 
 -- the time-point that an `@` begins, before the others
 abbrev with_point : Parts → Parts
-with_point r = record nothing { log = record { stamp = r.stamp; mentions = r.mentions; is_closed = r.is_closed } ∷ r.log }
+with_point r = record nothing {
+  log =
+      record { stamp = r.stamp; mentions = r.mentions; is_closed = r.is_closed } ∷ r.log;
+}
 
 abbrev with_mention : List ℕ → Parts → Parts
-with_mention name r = record r { groups = []; mentions = record { name = name; first = r.group; more = r.groups } ∷ r.mentions }
+with_mention name r = record r {
+  groups = [];
+  mentions =
+      record { name = name; first = r.group; more = r.groups } ∷ r.mentions;
+}
 
 to_stage : (g h : Stage) → Some g ≡ Some h → g ≡ h
 to_stage g h e = cc
 
-at_stage : (g h : Stage) (xs : List Symbol) → Some g ≡ Some h → Tail h xs → Tail g xs
-at_stage g h xs e t = subst (λ (k : Stage). Tail k xs) (sym (to_stage g h e)) t
-
-stamp_before : (b : Bool) (g : Stage) (word : List ℕ) (xs : List Symbol) → is_digits word ≡ b → cond b (Some AfterStamp) None ≡ Some g → Tail g xs → Tail AfterAt (Says (Bare word) ∷ xs)
-stamp_before true g word xs is e t =
-    let u = at_stage AfterStamp g xs e t in
-    prepend AfterAt AfterStamp (Says (Bare word)) xs (record u.parts { stamp = word }) u refl u.stamps (λ f. is)
-stamp_before false g word xs is e t = absurd cc
-
 -- one symbol more, by where it leads
-before : (s g : Stage) (x : Symbol) (xs : List Symbol) → goes s x ≡ Some g → Tail g xs → Tail s (x ∷ xs)
-before Between g AtSign xs e t =
-    let u = at_stage AfterAt g xs e t in
+before : (s : Stage) (x : Symbol) (g : Stage) (xs : List Symbol) → Transition s x g → Tail g xs → Tail s (x ∷ xs)
+before _ _ _ xs begins_first u =
     prepend Between AfterAt AtSign xs (with_point u.parts) u refl (u.digits refl, u.stamps) (λ f. absurd cc)
-before Between g _ xs e t = absurd cc
-before AfterAt g (Says (Bare word)) xs e t = stamp_before (is_digits word) g word xs refl e t
-before AfterAt g _ xs e t = absurd cc
-before AfterStamp g AtSign xs e t =
-    let u = at_stage AfterAt g xs e t in
+before _ _ _ xs begins_bare u =
     prepend AfterStamp AfterAt AtSign xs (with_point u.parts) u refl (u.digits refl, u.stamps) (λ f. absurd cc)
-before AfterStamp g Terminator xs e t =
-    let u = at_stage Between g xs e t in
-    prepend AfterStamp Between Terminator xs (record nothing { is_closed = true; log = u.parts.log }) u refl u.stamps (λ f. absurd cc)
-before AfterStamp g (Says (Bare word)) xs e t =
-    let u = at_stage AfterName g xs e t in
-    prepend AfterStamp AfterName (Says (Bare word)) xs (with_mention word u.parts) u refl u.stamps (λ f. absurd cc)
-before AfterStamp g _ xs e t = absurd cc
-before AfterName g Opening xs e t =
-    let u = at_stage AfterOpen g xs e t in
-    prepend AfterName AfterOpen Opening xs (record u.parts { group = u.parts.values }) u refl u.stamps (λ f. absurd cc)
-before AfterName g _ xs e t = absurd cc
-before AfterOpen g (Says v) xs e t =
-    let u = at_stage AfterValue g xs e t in
-    prepend AfterOpen AfterValue (Says v) xs (record u.parts { values = v ∷ u.parts.values }) u refl u.stamps (λ f. absurd cc)
-before AfterOpen g Closing xs e t =
-    let u = at_stage AfterClose g xs e t in
-    prepend AfterOpen AfterClose Closing xs (record u.parts { values = [] }) u refl u.stamps (λ f. absurd cc)
-before AfterOpen g _ xs e t = absurd cc
-before AfterValue g Separator xs e t =
-    let u = at_stage AfterComma g xs e t in
-    prepend AfterValue AfterComma Separator xs (record u.parts { values = u.parts.value ∷ u.parts.values }) u refl u.stamps (λ f. absurd cc)
-before AfterValue g Closing xs e t =
-    let u = at_stage AfterClose g xs e t in
-    prepend AfterValue AfterClose Closing xs (record u.parts { values = [] }) u refl u.stamps (λ f. absurd cc)
-before AfterValue g _ xs e t = absurd cc
-before AfterComma g (Says v) xs e t =
-    let u = at_stage AfterValue g xs e t in
-    prepend AfterComma AfterValue (Says v) xs (record u.parts { value = v }) u refl u.stamps (λ f. absurd cc)
-before AfterComma g _ xs e t = absurd cc
-before AfterClose g Opening xs e t =
-    let u = at_stage AfterOpen g xs e t in
-    prepend AfterClose AfterOpen Opening xs (record u.parts { groups = u.parts.values ∷ u.parts.groups }) u refl u.stamps (λ f. absurd cc)
-before AfterClose g AtSign xs e t =
-    let u = at_stage AfterAt g xs e t in
+before _ _ _ xs begins_full u =
     prepend AfterClose AfterAt AtSign xs (with_point u.parts) u refl (u.digits refl, u.stamps) (λ f. absurd cc)
-before AfterClose g Terminator xs e t =
-    let u = at_stage Between g xs e t in
-    prepend AfterClose Between Terminator xs (record nothing { is_closed = true; log = u.parts.log }) u refl u.stamps (λ f. absurd cc)
-before AfterClose g (Says (Bare word)) xs e t =
-    let u = at_stage AfterName g xs e t in
+before _ _ _ xs (times word digits) u =
+    prepend AfterAt AfterStamp (Says (Bare word)) xs (record u.parts { stamp = word }) u refl u.stamps (λ f. digits)
+before _ _ _ xs (names_first word) u =
+    prepend AfterStamp AfterName (Says (Bare word)) xs (with_mention word u.parts) u refl u.stamps (λ f. absurd cc)
+before _ _ _ xs (names_more word) u =
     prepend AfterClose AfterName (Says (Bare word)) xs (with_mention word u.parts) u refl u.stamps (λ f. absurd cc)
-before AfterClose g _ xs e t = absurd cc
+before _ _ _ xs opens_first u =
+    prepend AfterName AfterOpen Opening xs (record u.parts { group = u.parts.values }) u refl u.stamps
+    (λ f. absurd cc)
+before _ _ _ xs opens_more u =
+    prepend AfterClose AfterOpen Opening xs
+    (record u.parts { groups = u.parts.values ∷ u.parts.groups }) u refl u.stamps (λ f. absurd cc)
+before _ _ _ xs (gives_first w) u =
+    prepend AfterOpen AfterValue (Says w) xs (record u.parts { values = w ∷ u.parts.values }) u refl u.stamps
+    (λ f. absurd cc)
+before _ _ _ xs (gives_more w) u =
+    prepend AfterComma AfterValue (Says w) xs (record u.parts { value = w }) u refl u.stamps (λ f. absurd cc)
+before _ _ _ xs separates u =
+    prepend AfterValue AfterComma Separator xs
+    (record u.parts { values = u.parts.value ∷ u.parts.values }) u refl u.stamps (λ f. absurd cc)
+before _ _ _ xs closes_empty u =
+    prepend AfterOpen AfterClose Closing xs (record u.parts { values = [] }) u refl u.stamps (λ f. absurd cc)
+before _ _ _ xs closes u =
+    prepend AfterValue AfterClose Closing xs (record u.parts { values = [] }) u refl u.stamps (λ f. absurd cc)
+before _ _ _ xs ends_bare u =
+    prepend AfterStamp Between Terminator xs (record nothing { is_closed = true; log = u.parts.log }) u refl u.stamps
+    (λ f. absurd cc)
+before _ _ _ xs ends_full u =
+    prepend AfterClose Between Terminator xs (record nothing { is_closed = true; log = u.parts.log }) u refl u.stamps
+    (λ f. absurd cc)
 
 ends : (s : Stage) → accepts s ≡ true → Tail s []
 ends Between a = record { parts = nothing; spelled = refl; stamps = tt; digits = λ f. absurd cc }
@@ -145,7 +154,8 @@ no_more : (s f : Stage) → Some s ≡ Some f → accepts f ≡ true → Tail s 
 no_more s f e a = ends s (ap accepts (to_stage s f e) ∙ a)
 
 -- the first step of a path
-first_step : (o : Option Stage) (f : Stage) (next : Stage → Option Stage) → option_and_then next o ≡ Some f → (g : Stage) × (o ≡ Some g) × (next g ≡ Some f)
+first_step : (o : Option Stage) (f : Stage) (next : Stage → Option Stage) → option_and_then next o ≡ Some f
+    → (g : Stage) × (o ≡ Some g) × (next g ≡ Some f)
 first_step (Some g) f next e = (g, refl, e)
 first_step None f next e = absurd cc
 
@@ -153,22 +163,25 @@ pub tail : (s : Stage) (xs : List Symbol) (f : Stage) → paths s xs ≡ Some f 
 tail s [] f e a = no_more s f e a
 tail s (x ∷ xs) f e a =
     let first = first_step (goes s x) f (λ g. paths g xs) e in
-    before s first.0 x xs first.1 (tail first.0 xs f first.2 a)
+    before s x first.0 xs (transition s x first.0 first.1) (tail first.0 xs f first.2 a)
 
 -- ---- the symbols of a log are accepted
 
 abbrev pub Ends : Stage → List Symbol → Type 0
 Ends s xs = (f : Stage) × (paths s xs ≡ Some f) × (accepts f ≡ true)
 
-more_ends : (values : List Written) (rest : List Symbol) → Ends AfterClose rest → Ends AfterValue (spell_more values (Closing ∷ rest))
+more_ends : (values : List Written) (rest : List Symbol) → Ends AfterClose rest
+    → Ends AfterValue (spell_more values (Closing ∷ rest))
 more_ends [] rest e = e
 more_ends (value ∷ values) rest e = more_ends values rest e
 
-values_end : (values : List Written) (rest : List Symbol) → Ends AfterClose rest → Ends AfterOpen (spell_values values (Closing ∷ rest))
+values_end : (values : List Written) (rest : List Symbol) → Ends AfterClose rest
+    → Ends AfterOpen (spell_values values (Closing ∷ rest))
 values_end [] rest e = e
 values_end (value ∷ values) rest e = more_ends values rest e
 
-groups_end : (groups : List (List Written)) (rest : List Symbol) → Ends AfterClose rest → Ends AfterClose (spell_groups groups rest)
+groups_end : (groups : List (List Written)) (rest : List Symbol) → Ends AfterClose rest
+    → Ends AfterClose (spell_groups groups rest)
 groups_end [] rest e = e
 groups_end (group ∷ groups) rest e = values_end group (spell_groups groups rest) (groups_end groups rest e)
 
@@ -180,31 +193,42 @@ mentions_end : (mentions : List Mention) (rest : List Symbol) → BothEnd rest �
 mentions_end [] rest e = e
 mentions_end (m ∷ mentions) rest e =
     let others = mentions_end mentions rest e in
-    let groups = values_end m.first (spell_groups m.more (spell_mentions mentions rest)) (groups_end m.more (spell_mentions mentions rest) others.1) in
+    let groups = values_end m.first (spell_groups m.more (spell_mentions mentions rest))
+    (groups_end m.more (spell_mentions mentions rest) others.1) in
     (groups, groups)
 
 whole_end : (log : List PointText) → Ends Between (spell_log log) → BothEnd (spell_log log)
 whole_end [] e = ((AfterStamp, refl, refl), (AfterClose, refl, refl))
 whole_end (p ∷ log) e = (e, e)
 
-closed_end : (is_closed : Bool) (log : List PointText) → Ends Between (spell_log log) → BothEnd (spell_end is_closed (spell_log log))
+closed_end : (is_closed : Bool) (log : List PointText) → Ends Between (spell_log log)
+    → BothEnd (spell_end is_closed (spell_log log))
 closed_end true log e = (e, e)
 closed_end false log e = whole_end log e
 
 pub log_ends : (log : List PointText) → AllByRecursion HasStamp log → Ends Between (spell_log log)
 log_ends [] stamps = (Between, refl, refl)
 log_ends (p ∷ log) stamps =
-    let others = mentions_end p.mentions (spell_end p.is_closed (spell_log log)) (closed_end p.is_closed log (log_ends log stamps.1)) in
-    (others.0.0, ap (λ (b : Bool). option_and_then (λ g. paths g (spell_mentions p.mentions (spell_end p.is_closed (spell_log log)))) (cond b (Some AfterStamp) None)) stamps.0 ∙ others.0.1, others.0.2)
+    let others = mentions_end p.mentions (spell_end p.is_closed (spell_log log))
+    (closed_end p.is_closed log (log_ends log stamps.1)) in (
+      others.0.0,
+      ap (λ (b : Bool). option_and_then
+          (λ g. paths g (spell_mentions p.mentions (spell_end p.is_closed (spell_log log))))
+          (cond b (Some AfterStamp) None)) stamps.0 ∙ others.0.1,
+      others.0.2,
+    )
 
 -- ---- viability
 
-paths_joined : (xs ys : List Symbol) (o : Option Stage) → ((g : Stage) → paths g (xs ++ ys) ≡ option_and_then (λ h. paths h ys) (paths g xs))
-    → option_and_then (λ g. paths g (xs ++ ys)) o ≡ option_and_then (λ g. paths g ys) (option_and_then (λ g. paths g xs) o)
+paths_joined : (xs ys : List Symbol) (o : Option Stage)
+    → ((g : Stage) → paths g (xs ++ ys) ≡ option_and_then (λ h. paths h ys) (paths g xs))
+    → option_and_then (λ g. paths g (xs ++ ys)) o
+    ≡ option_and_then (λ g. paths g ys) (option_and_then (λ g. paths g xs) o)
 paths_joined xs ys (Some g) each = each g
 paths_joined xs ys None each = refl
 
-pub paths-append : (s : Stage) (xs ys : List Symbol) → paths s (xs ++ ys) ≡ option_and_then (λ g. paths g ys) (paths s xs)
+pub paths-append : (s : Stage) (xs ys : List Symbol)
+    → paths s (xs ++ ys) ≡ option_and_then (λ g. paths g ys) (paths s xs)
 paths-append s [] ys = refl
 paths-append s (x ∷ xs) ys = paths_joined xs ys (goes s x) (λ g. paths-append g xs ys)
 
@@ -219,10 +243,12 @@ completion AfterValue = (Closing ∷ [], (AfterClose, refl, refl))
 completion AfterComma = (Says (Bare []) ∷ Closing ∷ [], (AfterClose, refl, refl))
 completion AfterClose = ([], (AfterClose, refl, refl))
 
-spells_by : (xs : List Symbol) (f : Stage) → paths Between xs ≡ Some f → accepts f ≡ true → (log : List PointText) × Spells xs log
+spells_by : (xs : List Symbol) (f : Stage) → paths Between xs ≡ Some f → accepts f ≡ true
+    → (log : List PointText) × Spells xs log
 spells_by xs f e a = let t = tail Between xs f e a in (t.parts.log, record { spelled = t.spelled; stamps = t.stamps })
 
-pub accepted_by : (ts : List Lexeme) (f : Stage) → paths Between (symbols_of ts) ≡ Some f → accepts f ≡ true → IsAccepted ts
+pub accepted_by : (ts : List Lexeme) (f : Stage) → paths Between (symbols_of ts) ≡ Some f → accepts f ≡ true
+    → IsAccepted ts
 accepted_by ts f e a = spells_by (symbols_of ts) f e a
 
 pub accepted_ends : (ts : List Lexeme) → IsAccepted ts → Ends Between (symbols_of ts)
@@ -231,7 +257,8 @@ accepted_ends ts accepted = rw (accepted.1.spelled) (log_ends accepted.0 accepte
 pub viable_by : (ts : List Lexeme) (s : Stage) → paths Between (symbols_of ts) ≡ Some s → IsViable ts
 viable_by ts s e =
     let c = completion s in
-    let joined : paths Between (symbols_of ts ++ c.0) ≡ Some c.1.0 = paths-append Between (symbols_of ts) c.0 ∙ ap (option_and_then (λ g. paths g c.0)) e ∙ c.1.1 in
+    let joined : paths Between (symbols_of ts ++ c.0) ≡ Some c.1.0 = paths-append Between (symbols_of ts) c.0
+    ∙ ap (option_and_then (λ g. paths g c.0)) e ∙ c.1.1 in
     let spelled = spells_by (symbols_of ts ++ c.0) c.1.0 joined c.1.2 in
     (c.0, spelled.0, spelled.1)
 

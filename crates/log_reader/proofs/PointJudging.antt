@@ -1,5 +1,6 @@
 -- A reading of what a time-point spells goes on exactly where the rules give a value.
-use Rattle.std.proofs.Common.{◌≡◌, ◌⊎◌, inl, inr, ℕ, suc, ◌+◌, ◌≤◌, ◌<◌, false, List, [], ◌∷◌, length, Option, Some, None, refl, ap, subst, ◌∙◌, arith}
+use Rattle.std.proofs.Common.{◌≡◌, ◌⊎◌, inl, inr, ℕ, suc, ◌+◌, ◌≤◌, ◌<◌, false, List, [], ◌∷◌, length, Option, Some}
+use Rattle.std.proofs.Common.{None, refl, ap, subst, ◌∙◌, arith}
 use Rattle.std.specs.BTreeSet.{insert_key}
 use Rattle.std.proofs.lemmas.Bool.{cases_lt, lt-ltb, le-ltb}
 use Rattle.mfotl_lex.specs.Lexemes.{Lexeme}
@@ -16,7 +17,8 @@ use Rattle.log_reader.specs.Rules.{groups_value, mentions_value, group_count}
 use Rattle.log_reader.specs.Stages.{goes, completes}
 use Rattle.log_reader.specs.Steps.{stepped, naming, grouped}
 use Rattle.log_reader.specs.Symbols.{Symbol, Opening, Closing, Says, Written, Bare, content}
-use Rattle.log_reader.proofs.Judging.{front_of, bare_content, Passed, Faulty, passes, faults, Passed-then, Faulty-behind, resting, within, values_judged}
+use Rattle.log_reader.proofs.Judging.{front_of, bare_content, Passed, Faulty, passes, faults, Passed-then}
+use Rattle.log_reader.proofs.Judging.{Faulty-behind, resting, within, values_judged}
 
 -- a time-point so far of a predicate's groups
 abbrev of_pred : Partial → PredOf → Partial
@@ -31,27 +33,39 @@ module _ (sig : List PredOf) (limits : Limits) where
 
   abbrev GroupsJudged : PredOf → Partial → Stage → List (List Written) → List Lexeme → List Symbol → Type 0
   GroupsJudged pred c stage groups ts rest =
-      ((events : List Event) × (groups_value pred c.events groups ≡ Some events) × (c.groups + length groups ≤ limits.events)
-      × Passed sig limits (resting (of_pred c pred) stage) (resting (of_pred (grown c (length groups) events) pred) AfterClose) ts rest)
-      ⊎ (((groups_value pred c.events groups ≡ None) ⊎ (limits.events < c.groups + length groups)) × Faulty sig limits (resting (of_pred c pred) stage) ts)
+      ((events : List Event) × (groups_value pred c.events groups ≡ Some events)
+      × (c.groups + length groups ≤ limits.events)
+      × Passed sig limits (resting (of_pred c pred) stage)
+      (resting (of_pred (grown c (length groups) events) pred) AfterClose) ts rest)
+      ⊎ (((groups_value pred c.events groups ≡ None) ⊎ (limits.events < c.groups + length groups))
+      × Faulty sig limits (resting (of_pred c pred) stage) ts)
 
-  one_group : (pred : PredOf) (c : Partial) (stage : Stage) (group : List Written) (groups : List (List Written)) (ts : List Lexeme) (rest : List Symbol)
-      → goes stage Opening ≡ Some AfterOpen → completes stage Opening ≡ false → symbols_of ts ≡ spell_group group (spell_groups groups rest)
-      → ((c : Partial) (ts : List Lexeme) → symbols_of ts ≡ spell_groups groups rest → c.groups ≤ limits.events → GroupsJudged pred c AfterClose groups ts rest)
+  one_group : (pred : PredOf) (c : Partial) (stage : Stage) (group : List Written) (groups : List (List Written))
+      (ts : List Lexeme) (rest : List Symbol)
+      → goes stage Opening ≡ Some AfterOpen → completes stage Opening ≡ false
+      → symbols_of ts ≡ spell_group group (spell_groups groups rest)
+      → ((c : Partial) (ts : List Lexeme) → symbols_of ts ≡ spell_groups groups rest → c.groups ≤ limits.events
+      → GroupsJudged pred c AfterClose groups ts rest)
       → GroupsJudged pred c stage (group ∷ groups) ts rest
   unfolding groups_value
   one_group pred c stage group groups ts rest g h e later =
       let p = resting (of_pred c pred) stage in
       let f = front_of ts Opening (spell_values group (Closing ∷ spell_groups groups rest)) e in
-      let steps : stepped sig limits p f.token (goes stage Opening) ≡ grouped limits f.token.at p = ap (stepped sig limits p f.token) g in
+      let steps : stepped sig limits p f.token (goes stage Opening) ≡ grouped limits f.token.at p =
+      ap (stepped sig limits p f.token) g in
       let begun = record (of_pred c pred) { groups = c.groups + 1 } in
       let opened = within begun AfterOpen pred.sorts [] in
       elim (cases_lt c.groups limits.events) [
         | inl room ↦
-            let a = passes sig limits stage Opening p opened ts _ f refl h (steps ∙ rw (lt-ltb c.groups limits.events room) refl) in
+            let a = passes sig limits stage Opening p opened ts _ f refl h
+            (steps ∙ rw (lt-ltb c.groups limits.events room) refl) in
             elim (values_judged sig limits begun pred.sorts [] group a.others (spell_groups groups rest) a.spelled) [
               | inl x ↦
-                  let c2 = record c { groups = c.groups + 1; events = insert_key event_cmp c.events (record { pred = pred.number; args = x.0 }) } in
+                  let c2 = record c {
+                    groups = c.groups + 1;
+                    events =
+                        insert_key event_cmp c.events (record { pred = pred.number; args = x.0 });
+                  } in
                   let mid = resting (of_pred c2 pred) AfterClose in
                   elim (later c2 x.2.others x.2.spelled (omega arith)) [
                     | inl y ↦
@@ -60,29 +74,45 @@ module _ (sig : List PredOf) (limits : Limits) where
                           y.0,
                           rw x.1 y.1,
                           omega (arith, y.2),
-                          subst (λ (n : ℕ). Passed sig limits p (resting (of_pred (record c { groups = n; events = y.0 }) pred) AfterClose) ts rest) sum
-                              (Passed-then sig limits p opened _ ts _ rest a (Passed-then sig limits opened mid _ a.others _ rest x.2 y.3)),
+                          subst (λ (n : ℕ). Passed sig limits p
+                              (resting (of_pred (record c { groups = n; events = y.0 }) pred) AfterClose) ts rest) sum
+                              (Passed-then sig limits p opened _ ts _ rest a
+                              (Passed-then sig limits opened mid _ a.others _ rest x.2 y.3)),
                         )
                     | inr z ↦ inr (
                       elim z.0 [ inl none ↦ inl (rw x.1 none) | inr many ↦ inr (omega (arith, many)) ],
-                      Faulty-behind sig limits p opened ts _ a (Faulty-behind sig limits opened mid a.others _ x.2 z.1),
+                      Faulty-behind sig limits p opened ts _ a
+                          (Faulty-behind sig limits opened mid a.others _ x.2 z.1),
                     )
                   ]
               | inr y ↦ inr (inl (rw y.0 refl), Faulty-behind sig limits p opened ts _ a y.1)
             ]
-        | inr full ↦ inr (inr (omega (arith, full)), faults sig limits stage Opening p (TooManyEvents f.token.at) ts _ f refl h (steps ∙ rw (le-ltb c.groups limits.events full) refl))
+        | inr full ↦ inr (
+          inr (omega (arith, full)),
+          faults sig limits stage Opening p
+              (TooManyEvents f.token.at) ts _ f refl h (steps ∙ rw (le-ltb c.groups limits.events full) refl),
+        )
       ]
 
-  groups_judged : (pred : PredOf) (groups : List (List Written)) (c : Partial) (ts : List Lexeme) (rest : List Symbol) → symbols_of ts ≡ spell_groups groups rest
+  groups_judged : (pred : PredOf) (groups : List (List Written)) (c : Partial) (ts : List Lexeme)
+      (rest : List Symbol) → symbols_of ts ≡ spell_groups groups rest
       → c.groups ≤ limits.events → GroupsJudged pred c AfterClose groups ts rest
   unfolding groups_value
   groups_judged pred [] c ts rest e room =
       let p = resting (of_pred c pred) AfterClose in
       let stays : Passed sig limits p p ts rest = record { others = ts; spelled = e; reads = λ last. refl } in
       let sum : c.groups ≡ c.groups + 0 = omega arith in
-      inl (c.events, refl, omega arith, subst (λ (n : ℕ). Passed sig limits p (resting (of_pred (record c { groups = n }) pred) AfterClose) ts rest) sum stays)
+      inl (
+        c.events,
+        refl,
+        omega arith,
+        subst
+            (λ (n : ℕ). Passed sig limits p
+            (resting (of_pred (record c { groups = n }) pred) AfterClose) ts rest) sum stays,
+      )
   groups_judged pred (group ∷ groups) c ts rest e room =
-      one_group pred c AfterClose group groups ts rest refl refl e (λ c ts e room. groups_judged pred groups c ts rest e room)
+      one_group pred c AfterClose group groups ts rest refl refl e
+      (λ c ts e room. groups_judged pred groups c ts rest e room)
 
   -- ---- predicates with their groups
 
@@ -99,7 +129,8 @@ module _ (sig : List PredOf) (limits : Limits) where
   after_close = record { goes = λ name. refl; none = λ name. refl; whole = inr refl }
 
   -- the events of a time-point were read
-  pub record MentionsRead (c : Partial) (stage : Stage) (mentions : List Mention) (ts : List Lexeme) (rest : List Symbol) : Type 0 where
+  pub record MentionsRead (c : Partial) (stage : Stage) (mentions : List Mention) (ts : List Lexeme)
+      (rest : List Symbol) : Type 0 where
     pub there : Partial
     pub at : Stage
     pub events : mentions_value sig c.events mentions ≡ Some there.events
@@ -112,11 +143,14 @@ module _ (sig : List PredOf) (limits : Limits) where
   abbrev pub MentionsJudged : Partial → Stage → List Mention → List Lexeme → List Symbol → Type 0
   MentionsJudged c stage mentions ts rest =
       MentionsRead c stage mentions ts rest
-      ⊎ (((mentions_value sig c.events mentions ≡ None) ⊎ (limits.events < c.groups + group_count mentions)) × Faulty sig limits (resting c stage) ts)
+      ⊎ (((mentions_value sig c.events mentions ≡ None) ⊎ (limits.events < c.groups + group_count mentions))
+      × Faulty sig limits (resting c stage) ts)
 
-  named_judged : (found : Option PredOf) (c : Partial) (stage : Stage) (m : Mention) (mentions : List Mention) (ts : List Lexeme) (rest : List Symbol) → IsOpen stage
+  named_judged : (found : Option PredOf) (c : Partial) (stage : Stage) (m : Mention) (mentions : List Mention)
+      (ts : List Lexeme) (rest : List Symbol) → IsOpen stage
       → named m.name sig ≡ found → symbols_of ts ≡ spell_mentions (m ∷ mentions) rest
-      → ((c : Partial) (ts : List Lexeme) → symbols_of ts ≡ spell_mentions mentions rest → c.groups ≤ limits.events → MentionsJudged c AfterClose mentions ts rest)
+      → ((c : Partial) (ts : List Lexeme) → symbols_of ts ≡ spell_mentions mentions rest → c.groups ≤ limits.events
+      → MentionsJudged c AfterClose mentions ts rest)
       → MentionsJudged c stage (m ∷ mentions) ts rest
   unfolding mentions_value
   named_judged None c stage m mentions ts rest o n e later =
@@ -126,7 +160,8 @@ module _ (sig : List PredOf) (limits : Limits) where
       inr (
         inl (rw n refl),
         faults sig limits stage (Says (Bare m.name)) p (UnknownPredicate f.token.at) ts _ f refl (o.none m.name)
-            (ap (stepped sig limits p f.token) (o.goes m.name) ∙ ap (λ (w : List ℕ). naming f.token.at p (named w sig)) says ∙ ap (naming f.token.at p) n),
+            (ap (stepped sig limits p f.token) (o.goes m.name)
+            ∙ ap (λ (w : List ℕ). naming f.token.at p (named w sig)) says ∙ ap (naming f.token.at p) n),
       )
   named_judged (Some pred) c stage m mentions ts rest o n e later =
       let p = resting c stage in
@@ -134,9 +169,11 @@ module _ (sig : List PredOf) (limits : Limits) where
       let says : content f.token ≡ m.name = bare_content f.token.kind (content f.token) m.name f.is in
       let q = resting (of_pred c pred) AfterName in
       let a = passes sig limits stage (Says (Bare m.name)) p q ts _ f refl (o.none m.name)
-      (ap (stepped sig limits p f.token) (o.goes m.name) ∙ ap (λ (w : List ℕ). naming f.token.at p (named w sig)) says ∙ ap (naming f.token.at p) n) in
+      (ap (stepped sig limits p f.token) (o.goes m.name)
+      ∙ ap (λ (w : List ℕ). naming f.token.at p (named w sig)) says ∙ ap (naming f.token.at p) n) in
       let inner = spell_mentions mentions rest in
-      elim (one_group pred c AfterName m.first m.more a.others inner refl refl a.spelled (λ c ts e room. groups_judged pred m.more c ts inner e room)) [
+      elim (one_group pred c AfterName m.first m.more a.others inner refl refl a.spelled
+      (λ c ts e room. groups_judged pred m.more c ts inner e room)) [
         | inl x ↦
             let c2 = of_pred (grown c (suc (length m.more)) x.0) pred in
             let mid = resting c2 AfterClose in
@@ -146,7 +183,8 @@ module _ (sig : List PredOf) (limits : Limits) where
                 at = y.at;
                 events = rw (n, x.1) y.events;
                 few = omega (arith, y.few);
-                passed = Passed-then sig limits p q _ ts _ rest a (Passed-then sig limits q mid _ a.others _ rest x.3 y.passed);
+                passed = Passed-then sig limits p q _ ts _ rest a
+                    (Passed-then sig limits q mid _ a.others _ rest x.3 y.passed);
                 whole = y.whole;
                 points = y.points;
                 time = y.time;
@@ -156,10 +194,18 @@ module _ (sig : List PredOf) (limits : Limits) where
                 Faulty-behind sig limits p q ts _ a (Faulty-behind sig limits q mid a.others _ x.3 z.1),
               )
             ]
-        | inr y ↦ inr (elim y.0 [ inl none ↦ inl (rw (n, none) refl) | inr many ↦ inr (omega (arith, many)) ], Faulty-behind sig limits p q ts _ a y.1)
+        | inr y ↦ inr (
+          elim y.0 [
+            | inl none ↦ inl (rw (n, none) refl)
+            | inr many ↦
+                inr (omega (arith, many))
+          ],
+          Faulty-behind sig limits p q ts _ a y.1,
+        )
       ]
 
-  pub mentions_judged : (mentions : List Mention) (c : Partial) (stage : Stage) (ts : List Lexeme) (rest : List Symbol) → IsOpen stage → symbols_of ts ≡ spell_mentions mentions rest
+  pub mentions_judged : (mentions : List Mention) (c : Partial) (stage : Stage) (ts : List Lexeme)
+      (rest : List Symbol) → IsOpen stage → symbols_of ts ≡ spell_mentions mentions rest
       → c.groups ≤ limits.events → MentionsJudged c stage mentions ts rest
   unfolding mentions_value
   mentions_judged [] c stage ts rest o e room =
@@ -174,4 +220,5 @@ module _ (sig : List PredOf) (limits : Limits) where
         time = refl;
       })
   mentions_judged (m ∷ mentions) c stage ts rest o e room =
-      named_judged (named m.name sig) c stage m mentions ts rest o refl e (λ c ts e room. mentions_judged mentions c AfterClose ts rest after_close e room)
+      named_judged (named m.name sig) c stage m mentions ts rest o refl e
+      (λ c ts e room. mentions_judged mentions c AfterClose ts rest after_close e room)

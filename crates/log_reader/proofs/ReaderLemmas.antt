@@ -1,41 +1,39 @@
--- A reader that keeps all bytes stands for one progress.
-use Rattle.std.proofs.Common.{◌≡◌, ◌≢◌, ℕ, ◌+◌, Bool, true, false, Result, Ok, Err, OnOk, IfErr, refl, sym, ap, subst, ◌∙◌}
+-- A reader that keeps all bytes stands for these alone.
+use Rattle.std.proofs.Common.{◌≡◌, ◌≢◌, ℕ, Bool, false, List, Result, Ok, Err, OnOk, IfErr}
+use Rattle.std.proofs.Common.{refl, sym, subst, ◌∙◌}
 use Rattle.log_reader.specs.declared.fault.LogFault.{LogFault}
 use Rattle.log_reader.specs.declared.fault.LogFault.TheVariants.{Memory}
 use Rattle.log_reader.specs.declared.next.Next.{Next}
 use Rattle.log_reader.specs.declared.next.Next.TheVariants.{Point, More, End}
 use Rattle.log_reader.specs.Partials.{Partial}
-use Rattle.log_reader.specs.Progress.{Progress}
-use Rattle.log_reader.specs.Readers.{Reader, StandsFor, Reads, ForEach, Proceeds, progress}
-use Rattle.log_reader.specs.Soundness.{is_wanting, CountsOn, told, MovesOn}
+use Rattle.log_reader.specs.Readers.{Reader, Reads, ReadsOn, ForEach, Proceeds}
+use Rattle.log_reader.specs.Soundness.{is_wanting, CountsOn}
 
-pub reads_told : (r : Reader) → Reads r (told r)
-unfolding StandsFor
-reads_told r = record { same = refl; text = refl }
+pub reads_kept : (r : Reader) (bytes : List ℕ) → r.kept.bytes ≡ bytes → Reads r bytes
+unfolding Reads
+reads_kept r bytes e = e
 
--- what is equal to it is stood for
-pub reads_by : (r : Reader) (p : Progress) → told r ≡ p → Reads r p
-reads_by r p e = subst (Reads r) e (reads_told r)
+pub for_each : (r : Reader) (P : List ℕ → Type 0) → P r.kept.bytes → ForEach r P
+unfolding Reads
+for_each r P holds bytes reads = subst P reads holds
 
-is_told : (r : Reader) (p : Progress) → Reads r p → told r ≡ p
-unfolding StandsFor
-is_told r p reads = ap (progress r) reads.text ∙ sym reads.same
-
-pub for_each : (r : Reader) (P : Progress → Type 0) → P (told r) → ForEach r P
-for_each r P holds p reads = subst P (is_told r p reads) holds
-
-pub proceeds : (old : Progress) (new : Reader) (result : Result Next LogFault) → MovesOn old (told new) result → Proceeds old new result
-proceeds old new (Ok (Point point)) e = reads_by new (record old { given = old.given + 1 }) e
-proceeds old new (Ok More) e = reads_by new old e
-proceeds old new (Ok End) e = reads_by new old e
-proceeds old new (Err Memory) e = e
-proceeds old new (Err fault) e = reads_by new old e
-
--- what a fault says of the one progress it says of each
-pub each_err : (r : Reader) (P : LogFault → Progress → Type 0) (result : Result Next LogFault)
-    → IfErr result (λ fault. fault ≢ Memory → P fault (told r)) → IfErr result (λ fault. fault ≢ Memory → ForEach r (P fault))
+-- what a fault says of the bytes that are kept it says of each
+pub each_err : (r : Reader) (P : LogFault → List ℕ → Type 0) (result : Result Next LogFault)
+    → IfErr result (λ fault. fault ≢ Memory → P fault r.kept.bytes)
+    → IfErr result (λ fault. fault ≢ Memory → ForEach r (P fault))
 each_err r P (Ok next) holds = tt
 each_err r P (Err fault) holds = λ wanting. for_each r (P fault) (holds wanting)
+
+-- a reader that keeps the same bytes reads the same
+pub same_reads : (old new : Reader) → new.kept.bytes ≡ old.kept.bytes → ForEach old (Reads new)
+unfolding Reads
+same_reads old new e bytes reads = e ∙ reads
+
+pub reads_on : (old new : Reader) (result : Result Next LogFault) → new.kept.bytes ≡ old.kept.bytes
+    → ReadsOn old new result
+reads_on old new (Ok next) e = same_reads old new e
+reads_on old new (Err Memory) e = tt
+reads_on old new (Err fault) e = same_reads old new e
 
 -- ---- an answer
 
@@ -49,11 +47,11 @@ abbrev pub behind : Reader → ℕ → Bool → ℕ → Partial → Reader
 behind r given wanting at p =
     record r { given = given; is_broken = wanting; kept = record { bytes = r.kept.bytes; at = at; partial = p } }
 
-pub moves_on : (r : Reader) (result : Result Next LogFault) (given : ℕ) (wanting : Bool) (at : ℕ) (p : Partial)
+pub proceeds : (r : Reader) (result : Result Next LogFault) (given : ℕ) (wanting : Bool) (at : ℕ) (p : Partial)
     → r.is_broken ≡ false → wanting ≡ is_wanting result → CountsOn r.given result given
-    → MovesOn (told r) (told (behind r given wanting at p)) result
-moves_on r (Ok (Point point)) given wanting at p works is counts = rw (counts, is ∙ sym works) refl
-moves_on r (Ok More) given wanting at p works is counts = rw (counts, is ∙ sym works) refl
-moves_on r (Ok End) given wanting at p works is counts = rw (counts, is ∙ sym works) refl
-moves_on r (Err Memory) given wanting at p works is counts = is
-moves_on r (Err fault) given wanting at p works is counts = rw (counts, is ∙ sym works) refl
+    → Proceeds r (behind r given wanting at p) result
+proceeds r (Ok (Point point)) given wanting at p works is counts = rw (counts, is ∙ sym works) refl
+proceeds r (Ok More) given wanting at p works is counts = rw (counts, is ∙ sym works) refl
+proceeds r (Ok End) given wanting at p works is counts = rw (counts, is ∙ sym works) refl
+proceeds r (Err Memory) given wanting at p works is counts = is
+proceeds r (Err fault) given wanting at p works is counts = rw (counts, is ∙ sym works) refl

@@ -1,5 +1,6 @@
 -- A log's tokens as the layer of first faults sees them: a run, and how it ends.
-use Rattle.std.proofs.Common.{◌≡◌, ℕ, Bool, true, false, cond, List, [], ◌∷◌, length, Option, Some, None, Result, Ok, Err, refl, ap, ◌∙◌}
+use Rattle.std.proofs.Common.{◌≡◌, ℕ, Bool, true, false, cond, List, [], ◌∷◌, length, Option, Some, None, Result, Ok}
+use Rattle.std.proofs.Common.{Err, refl, ap, ◌∙◌}
 use Rattle.std.specs.Prelude.{option_and_then, if◌then◌else◌}
 use Rattle.mfotl_lex.proofs.FirstFaultLaws.{bind_ok}
 use Rattle.mfotl_lex.specs.FirstFault.{◌>>=◌, Tail, Broken, End, More, run, reading as reading_of}
@@ -14,10 +15,9 @@ use Rattle.log_reader.specs.declared.stage.Stage.TheVariants.{Between, AfterStam
 use Rattle.log_reader.specs.Grammar.{symbols_of}
 use Rattle.log_reader.specs.LogTexts.{is_long, tail_behind, log_text, tokens_of}
 use Rattle.log_reader.specs.Partials.{Partial, blank}
-use Rattle.log_reader.specs.Readings.{Reading, Ending, NoFault, Fault, stopped, went_on, run as run_points, behind_tokens, finish_at, nothing_left, reading}
-use Rattle.log_reader.specs.Stages.{goes}
+use Rattle.log_reader.specs.Readings.{Reading, Ending, NoFault, Fault, stopped, went_on, run as run_points}
+use Rattle.log_reader.specs.Readings.{behind_tokens, finish_at, nothing_left, reading}
 use Rattle.log_reader.specs.Steps.{step}
-use Rattle.log_reader.specs.Symbols.{symbol}
 use Rattle.log_reader.proofs.Paths.{paths, accepts}
 use Rattle.log_reader.proofs.StepStages.{step_goes}
 
@@ -71,14 +71,16 @@ module _ (sig : List PredOf) (limits : Limits) where
 
 -- ---- the end
 
-pub finish_ending : (n : ℕ) (p : Partial) (stage : Stage) → (finish_at n p stage).ending ≡ ending_by (ended_at n p stage)
+pub finish_ending : (n : ℕ) (p : Partial) (stage : Stage)
+    → (finish_at n p stage).ending ≡ ending_by (ended_at n p stage)
 finish_ending n p Between = refl
 finish_ending n p AfterStamp = refl
 finish_ending n p AfterClose = refl
 finish_ending n p _ = refl
 
 left_ending : (limit n : ℕ) (long ended : Bool) (p : Partial)
-    → (cond long (stopped (TooLong limit)) (cond ended (finish_at n p p.stage) (record { points = []; ending = NoFault }))).ending
+    → (cond long (stopped (TooLong limit))
+    (cond ended (finish_at n p p.stage) (record { points = []; ending = NoFault }))).ending
     ≡ ending_by (at_tail (cond long (Broken (TooLong limit)) (cond ended (End n) More)) p)
 left_ending limit n true ended p = refl
 left_ending limit n false true p = finish_ending n p p.stage
@@ -97,5 +99,6 @@ pub log_ending : (sig : List PredOf) (limits : Limits) (bytes : List ℕ) (ended
 unfolding reading reading_of
 log_ending sig limits bytes ended =
     let ts = tokens_of limits bytes ended in
-    run_ending sig limits (behind_tokens ts.fault (nothing_left limits bytes ended)) (at_tail (tail_behind limits bytes ended ts.fault))
+    run_ending sig limits (behind_tokens ts.fault (nothing_left limits bytes ended))
+    (at_tail (tail_behind limits bytes ended ts.fault))
     (tail_ending limits bytes ended ts.fault) blank ts.list

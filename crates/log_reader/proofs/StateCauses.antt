@@ -5,10 +5,13 @@ use Rattle.mfotl_model.specs.declared.policy.Sort.{Sort}
 use Rattle.mfotl_model.specs.declared.policy.Sort.TheVariants.{Int}
 use Rattle.mfotl_sig.specs.Preds.{PredOf, named}
 use Rattle.log_reader.specs.declared.fault.LogFault.{LogFault}
-use Rattle.log_reader.specs.declared.fault.LogFault.TheVariants.{Syntax, UnknownPredicate, WrongArity, WrongSort, IntRange, TimestampRange, FallingTime, TooManyEvents, TooManyPoints}
+use Rattle.log_reader.specs.declared.fault.LogFault.TheVariants.{Syntax, UnknownPredicate, WrongArity, WrongSort}
+use Rattle.log_reader.specs.declared.fault.LogFault.TheVariants.{IntRange, TimestampRange, FallingTime, TooManyEvents}
+use Rattle.log_reader.specs.declared.fault.LogFault.TheVariants.{TooManyPoints}
 use Rattle.log_reader.specs.declared.limits.Limits.{Limits}
 use Rattle.log_reader.specs.declared.stage.Stage.{Stage}
-use Rattle.log_reader.specs.declared.stage.Stage.TheVariants.{AfterAt, AfterStamp, AfterName, AfterOpen, AfterValue, AfterClose}
+use Rattle.log_reader.specs.declared.stage.Stage.TheVariants.{AfterAt, AfterStamp, AfterName, AfterOpen, AfterValue}
+use Rattle.log_reader.specs.declared.stage.Stage.TheVariants.{AfterClose}
 use Rattle.log_reader.specs.Causes.{IsNoInteger, IsWide}
 use Rattle.log_reader.specs.Partials.{Partial}
 use Rattle.log_reader.specs.Stages.{goes}

@@ -1,10 +1,10 @@
 -- A token at an offset of the bytes, and where reading goes on behind it.
-use Rattle.std.proofs.Common.{◌≡◌, ℕ, ◌+◌, ◌≤◌, ◌<◌, Bool, true, false, List, length, drop, Some, Ok, refl, sym, ap, subst, ◌∙◌, arith}
+use Rattle.std.proofs.Common.{◌≡◌, ℕ, ◌+◌, ◌≤◌, ◌<◌, Bool, true, false, List, length, drop, Some, Ok, refl, sym, ap}
+use Rattle.std.proofs.Common.{subst, ◌∙◌, arith}
 use Rattle.std.proofs.lemmas.List.{length-drop, drop-drop}
 use Rattle.mfotl_lex.specs.Lexemes.{Lexeme, next_token, after}
 use Rattle.mfotl_lex.specs.Places.{Place, moved}
 use Rattle.log_reader.specs.Cursors.{place_in, IsLater}
-use Rattle.log_reader.specs.Readings.{behind}
 use Rattle.log_reader.proofs.Lexing.{token_moves, told, token_again}
 
 -- a token at an offset, and the offset behind it, whatever is told later
@@ -14,12 +14,16 @@ pub record TokenAt (looked : List ℕ) (ended : Bool) (at : ℕ) (t : Lexeme) (b
   pub further : at < behind
   pub within : behind ≤ length looked
 
-place_behind : (looked : List ℕ) (ended : Bool) (at count : ℕ) → moved (place_in looked ended at) count ≡ place_in looked ended (at + count)
-place_behind looked ended at count = ap (λ (rest : List ℕ). record (place_in looked ended at) { at = at + count; rest = rest }) (drop-drop count at looked)
+place_behind : (looked : List ℕ) (ended : Bool) (at count : ℕ)
+    → moved (place_in looked ended at) count ≡ place_in looked ended (at + count)
+place_behind looked ended at count =
+    ap (λ (rest : List ℕ). record (place_in looked ended at) { at = at + count; rest = rest })
+    (drop-drop count at looked)
 
 module _ (looked : List ℕ) (at : ℕ) (t : Lexeme) (n : ℕ) where
   abbrev Found : Bool → Type 0
-  Found ended = (next_token (place_in looked ended at) ≡ Ok (Some t)) × (after (place_in looked ended at) ≡ place_in looked ended n)
+  Found ended = (next_token (place_in looked ended at) ≡ Ok (Some t))
+      × (after (place_in looked ended at) ≡ place_in looked ended n)
 
   -- the same token is found whatever is told later
   found_later : (ended later : Bool) → IsLater ended later → Found ended → Found later
@@ -38,11 +42,14 @@ module _ (looked : List ℕ) (at : ℕ) (t : Lexeme) (n : ℕ) where
   }
 
 pub token_at_offset : (looked : List ℕ) (ended : Bool) (at : ℕ) (t : Lexeme) → at ≤ length looked
-    → next_token (place_in looked ended at) ≡ Ok (Some t) → TokenAt looked ended at t (after (place_in looked ended at)).at
+    → next_token (place_in looked ended at) ≡ Ok (Some t)
+    → TokenAt looked ended at t (after (place_in looked ended at)).at
 token_at_offset looked ended at t le e =
     let l = token_moves (place_in looked ended at) t e in
-    let here : after (place_in looked ended at) ≡ place_in looked ended (at + l.count) = l.place ∙ place_behind looked ended at l.count in
+    let here : after (place_in looked ended at) ≡ place_in looked ended (at + l.count) = l.place
+    ∙ place_behind looked ended at l.count in
     let n : at + l.count ≡ (after (place_in looked ended at)).at = sym (ap (λ (p : Place). p.at) here) in
     let inner : l.count ≤ length (drop at looked) = l.within in
     subst (TokenAt looked ended at t) n
-    (found_at looked at t (at + l.count) ended (omega (arith, l.some)) (omega (arith, inner, length-drop at looked)) (e, here))
+    (found_at looked at t (at + l.count) ended (omega (arith, l.some)) (omega (arith, inner, length-drop at looked))
+    (e, here))

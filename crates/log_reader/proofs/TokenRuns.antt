@@ -13,12 +13,14 @@ use Rattle.log_reader.specs.Steps.{step, completed}
 
 module _ (sig : List PredOf) (limits : Limits) (last : Partial → Reading) (p : Partial) (place : Place) where
   by_tokens : (r : Result (Option Lexeme) LexFault) → next_token place ≡ r
-      → run_from sig limits last p place ≡ (let ts = followed r (tokens (after place)) in run sig limits (behind_tokens ts.fault last) p ts.list)
+      → run_from sig limits last p place
+      ≡ (let ts = followed r (tokens (after place)) in run sig limits (behind_tokens ts.fault last) p ts.list)
   by_tokens r e = ap (λ (ts : Tokens). run sig limits (behind_tokens ts.fault last) p ts.list)
       (tokens_step place ∙ ap (λ (x : Result (Option Lexeme) LexFault). followed x (tokens (after place))) e)
 
   pub token_run : (t : Lexeme) → next_token place ≡ Ok (Some t)
-      → run_from sig limits last p place ≡ behind (completed p t) (went_on (step sig limits p t) (λ q. run_from sig limits last q (after place)))
+      → run_from sig limits last p place
+      ≡ behind (completed p t) (went_on (step sig limits p t) (λ q. run_from sig limits last q (after place)))
   unfolding run
   token_run t e = by_tokens (Ok (Some t)) e
 
@@ -26,6 +28,7 @@ module _ (sig : List PredOf) (limits : Limits) (last : Partial → Reading) (p :
   unfolding run
   none_run e = by_tokens (Ok None) e
 
-  pub fault_run : (fault : LexFault) → next_token place ≡ Err fault → run_from sig limits last p place ≡ stopped (Lex fault)
+  pub fault_run : (fault : LexFault) → next_token place ≡ Err fault
+      → run_from sig limits last p place ≡ stopped (Lex fault)
   unfolding run
   fault_run fault e = by_tokens (Err fault) e

@@ -1,5 +1,6 @@
 -- What one token does to a reading.
-use Rattle.std.proofs.Common.{◌≡◌, ◌⊎◌, inl, inr, ℕ, ◌≤◌, ◌<◌, Bool, true, false, cond, List, [], ◌∷◌, length, Some, Result, Ok, Err, refl, sym, ap, ◌∙◌, arith}
+use Rattle.std.proofs.Common.{◌≡◌, ◌⊎◌, inl, inr, ℕ, ◌≤◌, ◌<◌, Bool, true, false, cond, List, [], ◌∷◌, length, Some}
+use Rattle.std.proofs.Common.{Result, Ok, Err, refl, sym, ap, ◌∙◌, arith}
 use Rattle.mfotl_lex.specs.Lexemes.{Lexeme, next_token, after}
 use Rattle.mfotl_lex.specs.Places.{Place}
 use Rattle.mfotl_lex.specs.declared.kind.Kind.{Kind}
@@ -13,7 +14,8 @@ use Rattle.log_reader.specs.declared.fault.LogFault.TheVariants.{Memory}
 use Rattle.log_reader.specs.declared.limits.Limits.{Limits}
 use Rattle.log_reader.specs.declared.stage.Stage.{Stage}
 use Rattle.log_reader.specs.declared.stage.Stage.TheVariants.{Between, AfterAt, AfterStamp, AfterClose}
-use Rattle.log_reader.specs.Cursors.{place_in, IsLater, open_count, IsCounted, Leads, StepsOver, Halts, HaltsBy, TakesToken}
+use Rattle.log_reader.specs.Cursors.{place_in, IsLater, open_count, IsCounted, Leads, StepsOver, Halts, HaltsBy}
+use Rattle.log_reader.specs.Cursors.{TakesToken}
 use Rattle.log_reader.specs.Partials.{Partial, point_of, finished}
 use Rattle.log_reader.specs.Readings.{Reading, behind, went_on, run_from}
 use Rattle.log_reader.specs.Stages.{goes, completes, read_on}
@@ -25,7 +27,8 @@ use Rattle.log_reader.proofs.TokenPlaces.{TokenAt}
 use Rattle.log_reader.proofs.StepStages.{step_counts}
 
 pub completes_cases : (s : Stage) (x : Symbol) → completes s x ≡ true
-    → (open_count s ≡ 1) × (((x ≡ AtSign) × (goes s x ≡ Some AfterAt)) ⊎ ((x ≡ Terminator) × (goes s x ≡ Some Between)))
+    → (open_count s ≡ 1) × (((x ≡ AtSign) × (goes s x ≡ Some AfterAt))
+    ⊎ ((x ≡ Terminator) × (goes s x ≡ Some Between)))
 completes_cases AfterStamp AtSign h = (refl, inl (refl, refl))
 completes_cases AfterStamp Terminator h = (refl, inr (refl, refl))
 completes_cases AfterClose AtSign h = (refl, inl (refl, refl))
@@ -36,7 +39,8 @@ read_on-at : (k : Kind) (c : List ℕ) (before after : ℕ) → symbol_of k c �
 read_on-at Semicolon c before after e = absurd cc
 read_on-at _ c before after e = refl
 
-read_on-terminator : (k : Kind) (c : List ℕ) (before after : ℕ) → symbol_of k c ≡ Terminator → read_on k before after ≡ after
+read_on-terminator : (k : Kind) (c : List ℕ) (before after : ℕ) → symbol_of k c ≡ Terminator
+    → read_on k before after ≡ after
 read_on-terminator Semicolon c before after e = refl
 read_on-terminator _ c before after e = absurd cc
 
@@ -56,18 +60,21 @@ pub later_self : (b : Bool) → IsLater b b
 later_self true = refl
 later_self false = tt
 
-module _ (sig : List PredOf) (limits : Limits) (looked : List ℕ) (ended : Bool) (at : ℕ) (p : Partial) (t : Lexeme) where
+module _ (sig : List PredOf) (limits : Limits) (looked : List ℕ) (ended : Bool) (at : ℕ) (p : Partial)
+    (t : Lexeme) where
   abbrev steps_on : Bool → (Partial → Reading) → List TimePoint → Result Partial LogFault → Place → Reading
   steps_on later last points r place = behind points (went_on r (λ q. run_from sig limits last q place))
 
-  pub took_leads : (behind : ℕ) (q : Partial) → TokenAt looked ended at t behind → IsCounted p → completes p.stage (symbol t) ≡ false → step sig limits p t ≡ Ok q
+  pub took_leads : (behind : ℕ) (q : Partial) → TokenAt looked ended at t behind → IsCounted p
+      → completes p.stage (symbol t) ≡ false → step sig limits p t ≡ Ok q
       → Leads sig limits looked ended at p [] behind q × (at < behind)
   took_leads b q found c h e =
       let counts = step_counts sig limits p q t c h e in (
         record {
           reads = λ later is last.
               token_run sig limits last p (place_in looked later at) t (found.token later is)
-              ∙ ap (λ (ps : List TimePoint). steps_on later last ps (step sig limits p t) (after (place_in looked later at))) (completed_none p t h)
+              ∙ ap (λ (ps : List TimePoint). steps_on later last ps (step sig limits p t)
+              (after (place_in looked later at))) (completed_none p t h)
               ∙ ap (λ (r : Result Partial LogFault). steps_on later last [] r (after (place_in looked later at))) e
               ∙ ap (λ (place : Place). steps_on later last [] (Ok q) place) (found.place later is);
           within = found.within;
@@ -77,16 +84,19 @@ module _ (sig : List PredOf) (limits : Limits) (looked : List ℕ) (ended : Bool
         found.further,
       )
 
-  step-at : symbol t ≡ AtSign → goes p.stage (symbol t) ≡ Some AfterAt → step sig limits p t ≡ step sig limits (finished p) t
+  step-at : symbol t ≡ AtSign → goes p.stage (symbol t) ≡ Some AfterAt
+      → step sig limits p t ≡ step sig limits (finished p) t
   unfolding step
   step-at at_sign e =
-      ap (stepped sig limits p t) e ∙ sym (ap (λ (x : Symbol). stepped sig limits (finished p) t (goes Between x)) at_sign)
+      ap (stepped sig limits p t) e
+      ∙ sym (ap (λ (x : Symbol). stepped sig limits (finished p) t (goes Between x)) at_sign)
 
   step-terminator : goes p.stage (symbol t) ≡ Some Between → step sig limits p t ≡ Ok (finished p)
   unfolding step
   step-terminator e = ap (stepped sig limits p t) e
 
-  pub completed_leads : (behind : ℕ) → TokenAt looked ended at t behind → at ≤ length looked → IsCounted p → completes p.stage (symbol t) ≡ true
+  pub completed_leads : (behind : ℕ) → TokenAt looked ended at t behind → at ≤ length looked → IsCounted p
+      → completes p.stage (symbol t) ≡ true
       → Leads sig limits looked ended at p (point_of p ∷ []) (read_on t.kind at behind) (finished p)
   completed_leads b found le c h =
       let cases = completes_cases p.stage (symbol t) h in
@@ -95,11 +105,14 @@ module _ (sig : List PredOf) (limits : Limits) (looked : List ℕ) (ended : Bool
           reads = λ later is last.
               let place = place_in looked later at in
               token_run sig limits last p place t (found.token later is)
-              ∙ ap (λ (ps : List TimePoint). steps_on later last ps (step sig limits p t) (after place)) (completed_one p t h)
-              ∙ ap (λ (r : Result Partial LogFault). steps_on later last (point_of p ∷ []) r (after place)) (step-at x.0 x.1)
+              ∙ ap (λ (ps : List TimePoint). steps_on later last ps (step sig limits p t) (after place))
+              (completed_one p t h)
+              ∙ ap (λ (r : Result Partial LogFault). steps_on later last (point_of p ∷ []) r (after place))
+              (step-at x.0 x.1)
               ∙ ap (λ (r : Reading). behind (point_of p ∷ []) r)
               (sym (token_run sig limits last (finished p) place t (found.token later is)
-              ∙ ap (λ (ps : List TimePoint). steps_on later last ps (step sig limits (finished p) t) (after place)) (completed_between p t)));
+              ∙ ap (λ (ps : List TimePoint). steps_on later last ps (step sig limits (finished p) t) (after place))
+              (completed_between p t)));
           within = le;
           counted = omega arith;
           given = omega (arith, cases.0, c);
@@ -108,8 +121,10 @@ module _ (sig : List PredOf) (limits : Limits) (looked : List ℕ) (ended : Bool
           reads = λ later is last.
               let place = place_in looked later at in
               token_run sig limits last p place t (found.token later is)
-              ∙ ap (λ (ps : List TimePoint). steps_on later last ps (step sig limits p t) (after place)) (completed_one p t h)
-              ∙ ap (λ (r : Result Partial LogFault). steps_on later last (point_of p ∷ []) r (after place)) (step-terminator x.1)
+              ∙ ap (λ (ps : List TimePoint). steps_on later last ps (step sig limits p t) (after place))
+              (completed_one p t h)
+              ∙ ap (λ (r : Result Partial LogFault). steps_on later last (point_of p ∷ []) r (after place))
+              (step-terminator x.1)
               ∙ ap (λ (q : Place). steps_on later last (point_of p ∷ []) (Ok (finished p)) q) (found.place later is);
           within = found.within;
           counted = omega arith;
@@ -117,18 +132,21 @@ module _ (sig : List PredOf) (limits : Limits) (looked : List ℕ) (ended : Bool
         })
       ]
 
-  step_halts : (fault : LogFault) (q : Partial) → next_token (place_in looked ended at) ≡ Ok (Some t) → completes p.stage (symbol t) ≡ false
+  step_halts : (fault : LogFault) (q : Partial) → next_token (place_in looked ended at) ≡ Ok (Some t)
+      → completes p.stage (symbol t) ≡ false
       → step sig limits p t ≡ Err fault → q ≡ p → Halts sig limits looked ended at p fault at q
   step_halts fault q found h e same = record {
     reads = λ last.
         token_run sig limits last p (place_in looked ended at) t found
-        ∙ ap (λ (ps : List TimePoint). steps_on ended last ps (step sig limits p t) (after (place_in looked ended at))) (completed_none p t h)
+        ∙ ap (λ (ps : List TimePoint). steps_on ended last ps (step sig limits p t)
+        (after (place_in looked ended at))) (completed_none p t h)
         ∙ ap (λ (r : Result Partial LogFault). steps_on ended last [] r (after (place_in looked ended at))) e;
     same_at = refl;
     same = same;
   }
 
-  pub fault_halts : (fault : LogFault) (q : Partial) → next_token (place_in looked ended at) ≡ Ok (Some t) → completes p.stage (symbol t) ≡ false
+  pub fault_halts : (fault : LogFault) (q : Partial) → next_token (place_in looked ended at) ≡ Ok (Some t)
+      → completes p.stage (symbol t) ≡ false
       → Stays p q fault (step sig limits p t) → HaltsBy sig limits looked ended at p fault at q
   fault_halts Memory q found h s = tt
   fault_halts fault q found h s = step_halts fault q found h s.0 s.1

@@ -1,15 +1,17 @@
 -- The ways on of the automaton of the grammar, one by one.
-use Rattle.std.proofs.Common.{◌≡◌, ℕ, Bool, true, false, cond, List, Option, Some, None, refl, subst}
+use Rattle.std.proofs.Common.{◌≡◌, ℕ, Bool, true, false, cond, List, Some, None, refl, subst}
 use Rattle.log_reader.specs.declared.stage.Stage.{Stage}
-use Rattle.log_reader.specs.declared.stage.Stage.TheVariants.{Between, AfterAt, AfterStamp, AfterName, AfterOpen, AfterValue, AfterComma, AfterClose}
+use Rattle.log_reader.specs.declared.stage.Stage.TheVariants.{Between, AfterAt, AfterStamp, AfterName, AfterOpen}
+use Rattle.log_reader.specs.declared.stage.Stage.TheVariants.{AfterValue, AfterComma, AfterClose}
 use Rattle.log_reader.specs.Stages.{goes}
-use Rattle.log_reader.specs.Symbols.{Symbol, AtSign, Opening, Closing, Separator, Terminator, Says, Written, Bare, is_digits}
+use Rattle.log_reader.specs.Symbols.{Symbol, AtSign, Opening, Closing, Separator, Terminator, Says, Written, Bare}
+use Rattle.log_reader.specs.Symbols.{is_digits}
 
 pub data Transition : Stage → Symbol → Stage → Type 0 where
   begins_first : Transition Between AtSign AfterAt
   begins_bare : Transition AfterStamp AtSign AfterAt
   begins_full : Transition AfterClose AtSign AfterAt
-  stamps : (word : List ℕ) → is_digits word ≡ true → Transition AfterAt (Says (Bare word)) AfterStamp
+  times : (word : List ℕ) → is_digits word ≡ true → Transition AfterAt (Says (Bare word)) AfterStamp
   names_first : (word : List ℕ) → Transition AfterStamp (Says (Bare word)) AfterName
   names_more : (word : List ℕ) → Transition AfterClose (Says (Bare word)) AfterName
   opens_first : Transition AfterName Opening AfterOpen
@@ -27,7 +29,7 @@ to {s} {x} g h e t = let same : g ≡ h = cc in subst (λ (k : Stage). Transitio
 
 stamp_to : (b : Bool) (word : List ℕ) (g : Stage) → is_digits word ≡ b → cond b (Some AfterStamp) None ≡ Some g
     → Transition AfterAt (Says (Bare word)) g
-stamp_to true word g digits e = to AfterStamp g e (stamps word digits)
+stamp_to true word g digits e = to AfterStamp g e (times word digits)
 stamp_to false word g digits e = absurd cc
 
 -- each way that the automaton goes is one of these

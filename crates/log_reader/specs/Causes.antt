@@ -7,9 +7,12 @@ use Rattle.mfotl_model.specs.declared.policy.Sort.{Sort}
 use Rattle.mfotl_model.specs.declared.policy.Sort.TheVariants.{Int}
 use Rattle.mfotl_sig.specs.Preds.{PredOf, named}
 use Rattle.log_reader.specs.declared.fault.LogFault.{LogFault}
-use Rattle.log_reader.specs.declared.fault.LogFault.TheVariants.{Syntax, UnknownPredicate, WrongArity, WrongSort, IntRange, TimestampRange, FallingTime, TooManyEvents, TooManyPoints}
+use Rattle.log_reader.specs.declared.fault.LogFault.TheVariants.{Syntax, UnknownPredicate, WrongArity, WrongSort}
+use Rattle.log_reader.specs.declared.fault.LogFault.TheVariants.{IntRange, TimestampRange, FallingTime, TooManyEvents}
+use Rattle.log_reader.specs.declared.fault.LogFault.TheVariants.{TooManyPoints}
 use Rattle.log_reader.specs.declared.limits.Limits.{Limits}
-use Rattle.log_reader.specs.Fronts.{Role, PointBegins, Timestamp, Name, GroupBegins, Value, GroupEnds, before, role, points_begun, last_time, groups_begun, due_sorts}
+use Rattle.log_reader.specs.Fronts.{Role, PointBegins, Timestamp, Name, GroupBegins, Value, GroupEnds, before, role}
+use Rattle.log_reader.specs.Fronts.{points_begun, last_time, groups_begun, due_sorts}
 use Rattle.log_reader.specs.Grammar.{IsAccepted, IsViable}
 use Rattle.log_reader.specs.Symbols.{Written, Bare, Quoted, symbol, content, written}
 use Rattle.log_reader.specs.ValuesRead.{is_number, timestamp_of}
@@ -41,7 +44,8 @@ IsCause sig limits front t (UnknownPredicate at) = (at ≡ t.at) × Plays Name f
 -- a value where the group has all, or a `)` where it lacks one
 IsCause sig limits front t (WrongArity at) =
     (at ≡ t.at)
-    × ((Plays Value front t × (due_sorts sig (before front) ≡ [])) ⊎ (Plays GroupEnds front t × (due_sorts sig (before front) ≢ [])))
+    × ((Plays Value front t × (due_sorts sig (before front) ≡ []))
+    ⊎ (Plays GroupEnds front t × (due_sorts sig (before front) ≢ [])))
 IsCause sig limits front t (WrongSort at) =
     (at ≡ t.at) × Plays Value front t × IsIntegerDue sig front × IsNoInteger (written t)
 IsCause sig limits front t (IntRange at) =

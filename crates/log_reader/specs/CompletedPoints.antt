@@ -1,5 +1,5 @@
 -- The time-points that a log completes before its first fault, in the grammar's words.
-use Rattle.std.specs.Prelude.{◌≡◌, ◌⊎◌, ℕ, List, [], ◌∷◌, ◌++◌, true, Some}
+use Rattle.std.specs.Prelude.{◌≡◌, ◌⊎◌, List, [], ◌∷◌, ◌++◌, true, Some}
 use Rattle.mfotl_lex.specs.FirstFault.{Tail, End, Text}
 use Rattle.mfotl_lex.specs.Lexemes.{Lexeme}
 use Rattle.mfotl_model.specs.declared.event.TimePoint.{TimePoint}
@@ -18,7 +18,8 @@ Closes [] tail = ⊥
 Closes (x ∷ xs) tail = ends_point x ≡ true
 
 -- a front of the tokens spells whole time-points, the last of which is completed, and stands for these
-pub record Completes (sig : List PredOf) (limits : Limits) (x : Text Lexeme LogFault) (points : List TimePoint) : Type 0 where
+pub record Completes (sig : List PredOf) (limits : Limits) (x : Text Lexeme LogFault)
+    (points : List TimePoint) : Type 0 where
   pub front : List Lexeme
   pub back : List Lexeme
   pub log : List PointText
@@ -28,7 +29,8 @@ pub record Completes (sig : List PredOf) (limits : Limits) (x : Text Lexeme LogF
   pub closed : (front ≡ []) ⊎ Closes (symbols_of back) x.tail
 
 -- the longest such front stands for these: what any other stands for is a beginning of them
-pub record CompletesAll (sig : List PredOf) (limits : Limits) (x : Text Lexeme LogFault) (points : List TimePoint) : Type 0 where
+pub record CompletesAll (sig : List PredOf) (limits : Limits) (x : Text Lexeme LogFault)
+    (points : List TimePoint) : Type 0 where
   pub completes : Completes sig limits x points
   pub longest : (others : List TimePoint) → Completes sig limits x others
       → (more : List TimePoint) × (points ≡ others ++ more)

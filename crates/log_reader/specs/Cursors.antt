@@ -1,5 +1,6 @@
 -- How a reader moves through the bytes of a log, from an offset and what was read before it.
-use Rattle.std.specs.Prelude.{◌≡◌, ◌+◌, ◌-◌, ◌<◌, ◌≤◌, ℕ, List, [], ◌∷◌, length, drop, Bool, true, false, Option, Some, None, Result, Ok, Err}
+use Rattle.std.specs.Prelude.{◌≡◌, ◌+◌, ◌-◌, ◌<◌, ◌≤◌, ℕ, List, [], ◌∷◌, length, drop, Bool, true, false, Option}
+use Rattle.std.specs.Prelude.{Some, None, Result, Ok, Err}
 use Rattle.mfotl_lex.specs.Lexemes.{Lexeme, next_token}
 use Rattle.mfotl_lex.specs.Places.{Place}
 use Rattle.mfotl_lex.specs.declared.kind.Mode.TheVariants.{Log}
@@ -39,6 +40,7 @@ open_count _ = 1
 abbrev pub given_of : Partial → ℕ
 given_of p = p.points - open_count p.stage
 
+-- a time-point that is begun counts
 abbrev pub IsCounted : Partial → Type 0
 IsCounted p = open_count p.stage ≤ p.points
 
@@ -53,7 +55,8 @@ pub record Leads (sig : List PredOf) (limits : Limits) (looked : List ℕ) (ende
   pub given : given_of q ≡ given_of p + length points
 
 -- what a token does to what was read before it, where `behind` is the offset behind it
-abbrev pub StepsOver : List PredOf → Limits → Lexeme → ℕ → ℕ → Partial → Result TokenStep LogFault → ℕ → Partial → Type 0
+abbrev pub StepsOver : List PredOf → Limits → Lexeme → ℕ → ℕ → Partial → Result TokenStep LogFault → ℕ → Partial
+    → Type 0
 StepsOver sig limits t behind at p (Ok Took) at' q =
     (completes p.stage (symbol t) ≡ false) × (step sig limits p t ≡ Ok q) × (at' ≡ behind)
 StepsOver sig limits t behind at p (Ok (Completed point)) at' q =
@@ -77,14 +80,17 @@ pub record Rests (looked : List ℕ) (ended : Bool)
   pub same_at : at' ≡ at
   pub same : q ≡ p
 
+-- the same of a fault that isn't want of memory, of which nothing is said
 abbrev pub HaltsBy : List PredOf → Limits → List ℕ → Bool → ℕ → Partial → LogFault → ℕ → Partial → Type 0
 HaltsBy sig limits looked ended at p Memory at' q = Unit {0}
 HaltsBy sig limits looked ended at p fault at' q = Halts sig limits looked ended at p fault at' q
 
 -- what one token does
-abbrev pub TakesToken : List PredOf → Limits → List ℕ → Bool → ℕ → Partial → Result TokenStep LogFault → ℕ → Partial → Type 0
+abbrev pub TakesToken : List PredOf → Limits → List ℕ → Bool → ℕ → Partial → Result TokenStep LogFault → ℕ → Partial
+    → Type 0
 TakesToken sig limits looked ended at p (Ok Took) at' q = Leads sig limits looked ended at p [] at' q × (at < at')
-TakesToken sig limits looked ended at p (Ok (Completed point)) at' q = Leads sig limits looked ended at p (point ∷ []) at' q
+TakesToken sig limits looked ended at p (Ok (Completed point)) at' q =
+    Leads sig limits looked ended at p (point ∷ []) at' q
 TakesToken sig limits looked ended at p (Ok Empty) at' q = Rests looked ended at p at' q
 TakesToken sig limits looked ended at p (Err fault) at' q = HaltsBy sig limits looked ended at p fault at' q
 
@@ -100,12 +106,14 @@ pub record Breaks (sig : List PredOf) (limits : Limits) (looked : List ℕ) (end
   pub leads : Leads sig limits looked ended at p [] at' q
   pub again : (last : Partial → Reading) → run_from sig limits last q (place_in looked ended at') ≡ stopped fault
 
+-- the same of a fault that isn't want of memory, of which nothing is said
 abbrev pub BreaksBy : List PredOf → Limits → List ℕ → Bool → ℕ → Partial → LogFault → ℕ → Partial → Type 0
 BreaksBy sig limits looked ended at p Memory at' q = Unit {0}
 BreaksBy sig limits looked ended at p fault at' q = Breaks sig limits looked ended at p fault at' q
 
 -- what the tokens up to the next time-point do
-abbrev pub Advances : List PredOf → Limits → List ℕ → Bool → ℕ → Partial → Result (Option TimePoint) LogFault → ℕ → Partial → Type 0
+abbrev pub Advances : List PredOf → Limits → List ℕ → Bool → ℕ → Partial → Result (Option TimePoint) LogFault → ℕ
+    → Partial → Type 0
 Advances sig limits looked ended at p (Ok (Some point)) at' q = Leads sig limits looked ended at p (point ∷ []) at' q
 Advances sig limits looked ended at p (Ok None) at' q = Exhausts sig limits looked ended at p at' q
 Advances sig limits looked ended at p (Err fault) at' q = BreaksBy sig limits looked ended at p fault at' q

@@ -1,5 +1,6 @@
 -- What stands before a token of a log, by the symbols before it, the nearest first.
-use Rattle.std.specs.Prelude.{ℕ, ◌+◌, List, [], ◌∷◌, Bool, true, false, Option, Some, None, drop, option_and_then, reverse, unwrap_or}
+use Rattle.std.specs.Prelude.{ℕ, ◌+◌, List, [], ◌∷◌, Bool, true, false, Option, Some, None, drop, option_and_then}
+use Rattle.std.specs.Prelude.{reverse, unwrap_or}
 use Rattle.mfotl_lex.specs.Lexemes.{Lexeme}
 use Rattle.mfotl_model.specs.declared.policy.Sort.{Sort}
 use Rattle.mfotl_sig.specs.Preds.{PredOf, named}
@@ -13,6 +14,7 @@ before front = reverse (symbols_of front)
 
 -- ---- what a symbol is for, by what stands before it
 
+-- what a symbol is for in a log
 pub data Role : Type 0 where
   PointBegins : Role
   Timestamp : Role
@@ -42,6 +44,7 @@ said_role true in_group = Timestamp
 said_role false true = Value
 said_role false false = Name
 
+-- by what stands before it
 abbrev pub role : List Symbol → Symbol → Role
 role older AtSign = PointBegins
 role older (Says written) = said_role (is_behind_at older) (is_in_group older)

@@ -1,7 +1,6 @@
 -- What holds of every log.
-use Rattle.std.specs.Prelude.{◌≡◌, ◌↔◌, ℕ, List, Bool, true, Result, Ok, Err}
-use Rattle.mfotl_lex.specs.FirstFault.{ReadIsValue, ValueIsRead, OneAnswer as OneAnswerOf, ShowNone, IsFirst}
-use Rattle.mfotl_lex.specs.Lexemes.{Lexeme}
+use Rattle.std.specs.Prelude.{◌≡◌, ◌↔◌, ℕ, List, Bool, Result, Ok, Err}
+use Rattle.mfotl_lex.specs.FirstFault.{ReadIsValue, ValueIsRead, OneAnswer as OneAnswerOf, IsFirst}
 use Rattle.mfotl_model.specs.declared.event.TimePoint.{TimePoint}
 use Rattle.mfotl_sig.specs.Preds.{PredOf}
 use Rattle.log_reader.specs.declared.fault.LogFault.{LogFault}
@@ -11,7 +10,7 @@ use Rattle.log_reader.specs.Causes.{IsCause, IsLast}
 use Rattle.log_reader.specs.CompletedPoints.{CompletesAll}
 use Rattle.log_reader.specs.Grammar.{IsViable}
 use Rattle.log_reader.specs.LogTexts.{log_text}
-use Rattle.log_reader.specs.Readings.{Reading, Ending, NoFault, Fault, accepted, reading}
+use Rattle.log_reader.specs.Readings.{Ending, NoFault, Fault, accepted, reading}
 use Rattle.log_reader.specs.Rules.{IsValue}
 
 -- all time-points, where there is no fault
@@ -41,7 +40,8 @@ IsFirstFault sig limits bytes ended fault = (reading sig limits bytes ended).end
 
 -- the fault is the first that a token shows, or what stands behind all tokens
 abbrev pub IsShown : List PredOf → Limits → List ℕ → Bool → LogFault → Type 0
-IsShown sig limits bytes ended fault = IsFirst IsViable (IsCause sig limits) IsLast (log_text limits bytes ended) fault
+IsShown sig limits bytes ended fault =
+    IsFirst IsViable (IsCause sig limits) IsLast (log_text limits bytes ended) fault
 
 -- each fault comes exactly where it is shown
 abbrev pub ExactFaults : Type 0

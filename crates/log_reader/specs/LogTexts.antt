@@ -32,6 +32,7 @@ tail_behind limits bytes ended (Some fault) = Broken (Lex fault)
 tail_behind limits bytes ended None =
     if is_long limits bytes then Broken (TooLong limits.bytes) else (if ended then End (length bytes) else More)
 
+-- the whole tokens, and what stands behind them
 abbrev pub log_text : Limits → List ℕ → Bool → Text Lexeme LogFault
 log_text limits bytes ended = record {
   list = (tokens_of limits bytes ended).list;

@@ -7,6 +7,7 @@ use Rattle.mfotl_model.specs.declared.value.Value.{Value}
 use Rattle.log_reader.specs.declared.stage.Stage.{Stage}
 use Rattle.log_reader.specs.declared.stage.Stage.TheVariants.{Between}
 
+-- what the tokens so far leave to be known by the next
 pub record Partial : Type 0 where
   pub stage : Stage
   -- how many time-points were begun
@@ -25,7 +26,18 @@ pub record Partial : Type 0 where
 
 -- nothing
 abbrev pub blank : Partial
-blank = record { stage = Between; points = 0; time = 0; events = []; groups = 0; pred = 0; sorts = []; args = []; due = [] }
+blank = record {
+  stage = Between;
+  points = 0;
+  time = 0;
+  events = [];
+  groups = 0;
+  pred = 0;
+  sorts = [];
+  args =
+      [];
+  due = [];
+}
 
 -- the present time-point
 abbrev pub point_of : Partial → TimePoint

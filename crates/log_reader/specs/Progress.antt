@@ -1,5 +1,5 @@
 -- How far a log was read, and what is due next.
-use Rattle.std.specs.Prelude.{ℕ, List, [], ◌∷◌, drop, Bool, true, false, Result, Ok, Err, if◌then◌else◌}
+use Rattle.std.specs.Prelude.{ℕ, List, [], ◌∷◌, drop, Bool, false, Result, Ok, Err, if◌then◌else◌}
 use Rattle.mfotl_model.specs.declared.event.TimePoint.{TimePoint}
 use Rattle.mfotl_sig.specs.Preds.{PredOf}
 use Rattle.log_reader.specs.declared.fault.LogFault.{LogFault}
@@ -8,6 +8,7 @@ use Rattle.log_reader.specs.declared.next.Next.{Next}
 use Rattle.log_reader.specs.declared.next.Next.TheVariants.{Point, More, End}
 use Rattle.log_reader.specs.Readings.{Reading, Ending, NoFault, Fault, reading}
 
+-- the log's bytes so far, and what was given of them
 pub record Progress : Type 0 where
   pub sig : List PredOf
   pub limits : Limits
@@ -22,7 +23,16 @@ pub record Progress : Type 0 where
 
 -- nothing was fed
 abbrev pub start : List PredOf → Limits → Progress
-start sig limits = record { sig = sig; limits = limits; bytes = []; is_fed = false; is_ended = false; given = 0; is_broken = false }
+start sig limits = record {
+  sig = sig;
+  limits = limits;
+  bytes = [];
+  is_fed = false;
+  is_ended = false;
+  given =
+      0;
+  is_broken = false;
+}
 
 -- the first of these time-points, or else the fault behind them, or that there is none
 abbrev pub answer_by : Bool → List TimePoint → Ending → Result Next LogFault
@@ -30,6 +40,7 @@ answer_by ended (point ∷ points) ending = Ok (Point point)
 answer_by ended [] (Fault fault) = Err fault
 answer_by ended [] NoFault = Ok (if ended then End else More)
 
+-- the same of a reading
 abbrev pub answer_of : Bool → Reading → Result Next LogFault
 answer_of ended r = answer_by ended r.points r.ending
 

@@ -9,26 +9,34 @@ use Rattle.log_reader.specs.declared.next.Next.TheVariants.{Point}
 use Rattle.log_reader.specs.Partials.{Partial}
 use Rattle.log_reader.specs.Progress.{Progress}
 
--- what a reader keeps for itself: `StandsFor` alone says what of
+-- what a reader keeps for itself: `Reads` alone says what of
 pub record Kept : Type 0 where
   pub bytes : List ℕ
   pub at : ℕ
   pub partial : Partial
 
+-- what a reader is to its callers, and what it keeps
 pub record Reader : Type 0 where
   pub sig : List PredOf
   pub limits : Limits
+  -- whether bytes were fed, and whether they are known to be all
   pub is_fed : Bool
   pub is_ended : Bool
+  -- how many time-points were given
   pub given : ℕ
+  -- whether memory was wanting
   pub is_broken : Bool
   pub kept : Kept
 
--- what is kept may be of a log whose bytes so far are these
-unfoldable pub StandsFor : Kept → List ℕ → Type 0
-StandsFor kept bytes = kept.bytes ≡ bytes
+-- what the reader keeps may be of a log whose bytes so far are these
+unfoldable pub Reads : Reader → List ℕ → Type 0
+Reads r bytes = r.kept.bytes ≡ bytes
 
--- the reader's progress, if these are the bytes so far
+-- whatever bytes the reader may have been fed
+abbrev pub ForEach : Reader → (List ℕ → Type 0) → Type 0
+ForEach r P = (bytes : List ℕ) → Reads r bytes → P bytes
+
+-- how far it has read them
 abbrev pub progress : Reader → List ℕ → Progress
 progress r bytes = record {
   sig = r.sig;
@@ -40,18 +48,14 @@ progress r bytes = record {
   is_broken = r.is_broken;
 }
 
--- the reader may stand for this progress
-pub record Reads (r : Reader) (p : Progress) : Type 0 where
-  pub same : p ≡ progress r p.bytes
-  pub text : StandsFor r.kept p.bytes
+-- a time-point that was given counts; an answer without one changes nothing that a caller sees
+abbrev pub Proceeds : Reader → Reader → Result Next LogFault → Type 0
+Proceeds old new (Ok (Point point)) = new ≡ record old { given = old.given + 1; kept = new.kept }
+Proceeds old new (Ok next) = new ≡ record old { kept = new.kept }
+Proceeds old new (Err Memory) = new.is_broken ≡ true
+Proceeds old new (Err fault) = new ≡ record old { kept = new.kept }
 
--- whatever progress the reader stands for
-abbrev pub ForEach : Reader → (Progress → Type 0) → Type 0
-ForEach r P = (p : Progress) → Reads r p → P p
-
--- a time-point that was given counts; an answer without one changes nothing
-abbrev pub Proceeds : Progress → Reader → Result Next LogFault → Type 0
-Proceeds p new (Ok (Point point)) = Reads new (record p { given = p.given + 1 })
-Proceeds p new (Ok next) = Reads new p
-Proceeds p new (Err Memory) = new.is_broken ≡ true
-Proceeds p new (Err fault) = Reads new p
+-- it reads the bytes that it read before, unless memory was wanting
+abbrev pub ReadsOn : Reader → Reader → Result Next LogFault → Type 0
+ReadsOn old new (Err Memory) = Unit {0}
+ReadsOn old new answer = ForEach old (Reads new)

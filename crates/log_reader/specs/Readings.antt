@@ -1,5 +1,6 @@
 -- What a log's bytes say: its time-points up to the first fault, and that fault or the end.
-use Rattle.std.specs.Prelude.{ℕ, List, [], ◌∷◌, ◌++◌, length, Bool, true, false, Option, Some, None, Result, Ok, Err, if◌then◌else◌}
+use Rattle.std.specs.Prelude.{ℕ, List, [], ◌∷◌, ◌++◌, length, Bool, true, false, Option, Some, None, Result, Ok, Err}
+use Rattle.std.specs.Prelude.{if◌then◌else◌}
 use Rattle.mfotl_lex.specs.Lexemes.{Lexeme, tokens}
 use Rattle.mfotl_lex.specs.Places.{Place}
 use Rattle.mfotl_lex.specs.declared.fault.LexFault.{LexFault}
@@ -25,9 +26,11 @@ pub record Reading : Type 0 where
   pub points : List TimePoint
   pub ending : Ending
 
+-- nothing but a fault
 abbrev pub stopped : LogFault → Reading
 stopped fault = record { points = []; ending = Fault fault }
 
+-- a reading behind these time-points
 abbrev pub behind : List TimePoint → Reading → Reading
 behind points r = record { points = points ++ r.points; ending = r.ending }
 

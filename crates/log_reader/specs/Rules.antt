@@ -1,5 +1,6 @@
 -- The rules beside the grammar: what a log that is written stands for, if it keeps them.
-use Rattle.std.specs.Prelude.{◌≡◌, ◌≤◌, ◌+◌, ℕ, zero, suc, List, [], ◌∷◌, length, Bool, true, Option, Some, None, option_and_then, nat_lt, if◌then◌else◌}
+use Rattle.std.specs.Prelude.{◌≡◌, ◌≤◌, ◌+◌, ℕ, zero, suc, List, [], ◌∷◌, length, true, Option, Some, None}
+use Rattle.std.specs.Prelude.{option_and_then, nat_lt, if◌then◌else◌}
 use Rattle.std.specs.BTreeSet.{insert_key}
 use Rattle.std.specs.Result.{result_ok}
 use Rattle.mfotl_model.specs.Events.{event_cmp}
@@ -15,6 +16,7 @@ use Rattle.log_reader.specs.ValuesRead.{timestamp_of}
 use Rattle.log_reader.specs.Symbols.{Written}
 use Rattle.log_reader.specs.ValuesRead.{value_at}
 
+-- a value goes on, none stays none
 infixl 10 ◌>>=◌
 abbrev pub ◌>>=◌ : {A B : Type 0} → Option A → (A → Option B) → Option B
 o >>= f = option_and_then f o
@@ -40,6 +42,7 @@ groups_value pred events (group ∷ groups) = do
   args ← values_of pred.sorts group
   groups_value pred (insert_key event_cmp events (record { pred = pred.number; args = args })) groups
 
+-- the events of predicates with their groups put with those before
 unfoldable pub mentions_value : List PredOf → List Event → List Mention → Option (List Event)
 mentions_value sig events [] = Some events
 mentions_value sig events (m ∷ mentions) = do
@@ -52,6 +55,7 @@ abbrev pub group_count : List Mention → ℕ
 group_count [] = 0
 group_count (m ∷ mentions) = suc (length m.more) + group_count mentions
 
+-- the time-point that is written, with at most so many groups
 unfoldable pub point_value : List PredOf → Limits → PointText → Option TimePoint
 point_value sig limits p = do
   time ← timestamp_of p.stamp

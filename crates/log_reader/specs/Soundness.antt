@@ -19,6 +19,7 @@ pub record Remains (sig : List PredOf) (limits : Limits) (bytes : List ℕ) (end
       ≡ run_from sig limits (nothing_left limits bytes ended) p (place_at limits bytes ended at)
   pub few : given ≤ length (reading sig limits bytes ended).points
 
+-- the offset is within the bytes, and what remains is the rest of the reading, whatever is told later
 pub record IsSound (sig : List PredOf) (limits : Limits) (bytes : List ℕ) (is_ended : Bool)
     (at : ℕ) (p : Partial) : Type 0 where
   pub within : at ≤ length (take limits.bytes bytes)
@@ -45,10 +46,3 @@ CountsOn old answer new = new ≡ old
 -- the progress of a reader that keeps all bytes
 abbrev pub told : Reader → Progress
 told r = progress r r.kept.bytes
-
--- a time-point that was given counts; an answer without one changes nothing
-abbrev pub MovesOn : Progress → Progress → Result Next LogFault → Type 0
-MovesOn old new (Ok (Point point)) = new ≡ record old { given = old.given + 1 }
-MovesOn old new (Ok next) = new ≡ old
-MovesOn old new (Err Memory) = new.is_broken ≡ true
-MovesOn old new (Err fault) = new ≡ old

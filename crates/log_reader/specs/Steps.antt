@@ -8,10 +8,12 @@ use Rattle.mfotl_model.specs.declared.event.TimePoint.{TimePoint}
 use Rattle.mfotl_model.specs.declared.policy.Sort.{Sort}
 use Rattle.mfotl_sig.specs.Preds.{PredOf, named}
 use Rattle.log_reader.specs.declared.fault.LogFault.{LogFault}
-use Rattle.log_reader.specs.declared.fault.LogFault.TheVariants.{Syntax, UnknownPredicate, WrongArity, TimestampRange, FallingTime, TooManyEvents, TooManyPoints}
+use Rattle.log_reader.specs.declared.fault.LogFault.TheVariants.{Syntax, UnknownPredicate, WrongArity, TimestampRange}
+use Rattle.log_reader.specs.declared.fault.LogFault.TheVariants.{FallingTime, TooManyEvents, TooManyPoints}
 use Rattle.log_reader.specs.declared.limits.Limits.{Limits}
 use Rattle.log_reader.specs.declared.stage.Stage.{Stage}
-use Rattle.log_reader.specs.declared.stage.Stage.TheVariants.{Between, AfterAt, AfterStamp, AfterName, AfterOpen, AfterValue, AfterComma, AfterClose}
+use Rattle.log_reader.specs.declared.stage.Stage.TheVariants.{Between, AfterAt, AfterStamp, AfterName, AfterOpen}
+use Rattle.log_reader.specs.declared.stage.Stage.TheVariants.{AfterValue, AfterComma, AfterClose}
 use Rattle.log_reader.specs.Partials.{Partial, point_of, finished}
 use Rattle.mfotl_lex.specs.FirstFault.{◌>>=◌}
 use Rattle.log_reader.specs.Stages.{goes, completes}
@@ -71,6 +73,7 @@ stepped sig limits p t (Some AfterComma) = Ok (record p { stage = AfterComma })
 stepped sig limits p t (Some AfterClose) = closed t.at p p.due
 stepped sig limits p t (Some Between) = Ok (finished p)
 
+-- what a token makes of what was read
 unfoldable pub step : List PredOf → Limits → Partial → Lexeme → Result Partial LogFault
 step sig limits p t = stepped sig limits p t (goes p.stage (symbol t))
 

@@ -22,6 +22,7 @@ pub data Symbol : Type 0 where
   Says : Written → Symbol
   Stray : Symbol
 
+-- what the grammar sees of a kind of token with this content
 abbrev pub symbol_of : Kind → List ℕ → Symbol
 symbol_of Word content = Says (Bare content)
 symbol_of Text content = Says (Quoted content)
@@ -41,9 +42,11 @@ abbrev pub written_of : Kind → List ℕ → Written
 written_of Text content = Quoted content
 written_of _ content = Bare content
 
+-- the same of a token
 abbrev pub written : Lexeme → Written
 written t = written_of t.kind (content t)
 
+-- what the grammar sees of a token
 abbrev pub symbol : Lexeme → Symbol
 symbol t = symbol_of t.kind (content t)
 

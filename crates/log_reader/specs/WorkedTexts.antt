@@ -4,11 +4,12 @@ use Rattle.mfotl_lex.specs.declared.fault.LexFaultKind.TheVariants.{BadByte, Ope
 use Rattle.mfotl_model.specs.declared.event.Event.{Event}
 use Rattle.mfotl_model.specs.declared.event.TimePoint.{TimePoint}
 use Rattle.mfotl_model.specs.declared.policy.Sort.TheVariants as sorts
-use Rattle.mfotl_model.specs.declared.value.Value.{Value}
 use Rattle.mfotl_model.specs.declared.value.Value.TheVariants.{Int, Text}
 use Rattle.mfotl_sig.specs.Preds.{PredOf}
 use Rattle.log_reader.specs.declared.fault.LogFault.{LogFault}
-use Rattle.log_reader.specs.declared.fault.LogFault.TheVariants.{Lex, Syntax, UnknownPredicate, WrongArity, WrongSort, IntRange, TimestampRange, FallingTime, TooManyEvents, TooManyPoints, TooLong}
+use Rattle.log_reader.specs.declared.fault.LogFault.TheVariants.{Lex, Syntax, UnknownPredicate, WrongArity, WrongSort}
+use Rattle.log_reader.specs.declared.fault.LogFault.TheVariants.{IntRange, TimestampRange, FallingTime, TooManyEvents}
+use Rattle.log_reader.specs.declared.fault.LogFault.TheVariants.{TooManyPoints, TooLong}
 use Rattle.log_reader.specs.declared.limits.Limits.{Limits}
 use Rattle.log_reader.specs.Symbols.{Quoted}
 use Rattle.log_reader.specs.ValuesRead.{value_at}
@@ -29,15 +30,19 @@ at_most bytes points events = record { bytes = bytes; points = points; events = 
 abbrev pub read : List ℕ → Reading
 read text = accepted preds (at_most 99 9 9) text
 
+-- the event `publish(n)`
 abbrev pub publish : ℕ → Event
 publish n = record { pred = 0; args = Int (pos n) ∷ [] }
 
+-- a time-point
 abbrev pub at : ℕ → List Event → TimePoint
 at ts events = record { ts = ts; db = events }
 
+-- these time-points and no fault
 abbrev pub whole : List TimePoint → Reading
 whole points = record { points = points; ending = NoFault }
 
+-- these time-points, and then a fault
 abbrev pub stops : List TimePoint → LogFault → Reading
 stops points fault = record { points = points; ending = Fault fault }
 

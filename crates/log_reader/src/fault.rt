@@ -1,5 +1,6 @@
 ghost use Rattle.std.specs.Prelude.{◌≡◌};
 ghost use Rattle.log_reader.specs.declared.fault.LogFault.TheVariants.{Memory};
+ghost use Rattle.log_reader.specs.FaultTexts.{name, offset};
 
 use mfotl_lex::LexFault;
 use std::alloc::{AllocError, AllocFailed};
@@ -35,6 +36,44 @@ pub enum LogFault {
     Memory,
 }
 
+impl LogFault {
+    // The name of a fault that is printed with its offset alone.
+    fn name(&self) -> &'static str
+        ensures { result.now ≡ name self.now }
+    {
+        match self {
+            LogFault::Syntax(_) => "Syntax",
+            LogFault::UnknownPredicate(_) => "UnknownPredicate",
+            LogFault::WrongArity(_) => "WrongArity",
+            LogFault::WrongSort(_) => "WrongSort",
+            LogFault::IntRange(_) => "IntRange",
+            LogFault::TimestampRange(_) => "TimestampRange",
+            LogFault::TooManyEvents(_) => "TooManyEvents",
+            LogFault::TooManyPoints(_) => "TooManyPoints",
+            LogFault::TooLong(_) => "TooLong",
+            _ => "",
+        }
+    }
+
+    // Where it stands.
+    fn offset(&self) -> u64
+        ensures { result ≡ offset self.now }
+    {
+        match self {
+            LogFault::Syntax(at)
+            | LogFault::UnknownPredicate(at)
+            | LogFault::WrongArity(at)
+            | LogFault::WrongSort(at)
+            | LogFault::IntRange(at)
+            | LogFault::TimestampRange(at)
+            | LogFault::TooManyEvents(at)
+            | LogFault::TooManyPoints(at)
+            | LogFault::TooLong(at) => *at,
+            _ => 0,
+        }
+    }
+}
+
 // By hand, since a derived `Display` says nothing of its bytes to a contract.
 impl fmt::Display for LogFault {
     ghost use Rattle.std.specs.Prelude.{Some};
@@ -45,19 +84,15 @@ impl fmt::Display for LogFault {
     fn fmt<W: fmt::Write>(&self, f: &mut fmt::Formatter<W>) -> fmt::Result {
         match self {
             LogFault::Lex(fault) => write!(f, "Lex {fault}"),
-            LogFault::Syntax(at) => write!(f, "Syntax at {at}"),
-            LogFault::UnknownPredicate(at) => write!(f, "UnknownPredicate at {at}"),
-            LogFault::WrongArity(at) => write!(f, "WrongArity at {at}"),
-            LogFault::WrongSort(at) => write!(f, "WrongSort at {at}"),
-            LogFault::IntRange(at) => write!(f, "IntRange at {at}"),
-            LogFault::TimestampRange(at) => write!(f, "TimestampRange at {at}"),
             LogFault::FallingTime { before, now, at } => {
                 write!(f, "FallingTime {before} {now} at {at}")
             }
-            LogFault::TooManyEvents(at) => write!(f, "TooManyEvents at {at}"),
-            LogFault::TooManyPoints(at) => write!(f, "TooManyPoints at {at}"),
-            LogFault::TooLong(at) => write!(f, "TooLong at {at}"),
             LogFault::Memory => f.write_str("Memory"),
+            _ => {
+                let name = self.name();
+                let at = self.offset();
+                write!(f, "{name} at {at}")
+            }
         }
     }
 }

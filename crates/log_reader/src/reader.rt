@@ -1,4 +1,4 @@
-ghost use Rattle.std.specs.Prelude.{◌≡◌, ◌≢◌, ◌≤◌, ◌++◌, length, false, true, Ok, OnOk, OnErr, IfErr};
+ghost use Rattle.std.specs.Prelude.{◌≡◌, ◌≢◌, ◌≤◌, ◌++◌, [], length, false, true, Ok, OnOk, OnErr, IfErr};
 ghost use Rattle.log_reader.specs.declared.fault.LogFault.TheVariants.{Memory};
 ghost use Rattle.log_reader.specs.declared.next.Next.TheVariants.{End};
 ghost use Rattle.log_reader.specs.Given.{Gives};
@@ -51,12 +51,13 @@ impl<'a> Model for LogReader<'a> {
 impl<'a> LogReader<'a> {
     ghost use Rattle.log_reader.specs.Answers.{GivesPoints};
     ghost use Rattle.log_reader.specs.Progress.{start, read, due};
-    ghost use Rattle.log_reader.specs.Readers.{Reads, ForEach, Proceeds};
-    ghost use Rattle.log_reader.specs.Soundness.{told, MovesOn};
+    ghost use Rattle.log_reader.specs.Readers.{Reads, ReadsOn, ForEach, Proceeds, progress};
+    ghost use Rattle.log_reader.specs.Soundness.{told};
 
     /// A reader of a log over these predicates. It takes no memory.
     pub fn new(alloc: Global, sig: &'a Signature, limits: Limits) -> Self
-        ensures { Reads result (start sig.now limits) }
+        ensures start { progress result [] ≡ start sig.now limits }
+        ensures reads { Reads result [] }
     {
         LogReader {
             sig,
@@ -92,7 +93,8 @@ impl<'a> LogReader<'a> {
 
     /// Says that the bytes fed are all.
     pub fn finish(&mut self)
-        ensures { ForEach self.old (λ p. Reads self.new (record p { is_ended = true })) }
+        ensures ended { self.new ≡ record self.old { is_ended = true; kept = self.new.kept } }
+        ensures reads { ForEach self.old (Reads self.new) }
     {
         self.is_ended = true;
     }
@@ -102,8 +104,8 @@ impl<'a> LogReader<'a> {
         requires once { self.old.is_fed ≡ false }
         requires open { self.old.is_ended ≡ false }
         requires whole { self.old.is_broken ≡ false }
-        ensures ok { OnOk result (ForEach self.old (λ p.
-            Reads self.new (record p { bytes = p.bytes ++ piece.now; is_fed = true }))) }
+        ensures ok { OnOk result (self.new ≡ record self.old { is_fed = true; kept = self.new.kept }) }
+        ensures reads { OnOk result (ForEach self.old (λ bytes. Reads self.new (bytes ++ piece.now))) }
         ensures err { OnErr result (self.new ≡ self.old) }
     {
         let bytes = Vec::from_slice(alloc, piece)?;
@@ -116,8 +118,8 @@ impl<'a> LogReader<'a> {
         requires once { self.old.is_fed ≡ false }
         requires open { self.old.is_ended ≡ false }
         requires whole { self.old.is_broken ≡ false }
-        ensures { ForEach self.old (λ p.
-            Reads self.new (record p { bytes = p.bytes ++ bytes.items; is_fed = true })) }
+        ensures fed { self.new ≡ record self.old { is_fed = true; kept = self.new.kept } }
+        ensures reads { ForEach self.old (λ before. Reads self.new (before ++ bytes.items)) }
     {
         self.bytes = bytes;
         self.is_fed = true;
@@ -128,14 +130,16 @@ impl<'a> LogReader<'a> {
     /// The next time-point, or the first fault, which is answered again at each later call.
     pub fn next(&mut self, alloc: Global) -> Result<Next, LogFault>
         requires { self.old.is_broken ≡ false }
-        ensures answer { ForEach self.old (λ p. Gives (λ next. next) result (due p)) }
-        ensures after { ForEach self.old (λ p. Proceeds p self.new result) }
+        ensures answer { ForEach self.old (λ bytes.
+            Gives (λ next. next) result (due (progress self.old bytes))) }
+        ensures after { Proceeds self.old self.new result }
+        ensures reads { ReadsOn self.old self.new result }
         ensures few { OnOk result (self.new.given ≤ self.new.limits.points) }
-        ensures value { result ≡ Ok End → ForEach self.old (λ p.
-            IsValue p.sig p.limits p.bytes (accepted p.sig p.limits p.bytes).points) }
-        ensures points { ForEach self.old (λ p. GivesPoints p result) }
-        ensures shown { IfErr result (λ fault. fault ≢ Memory → ForEach self.old (λ p.
-            IsShown p.sig p.limits p.bytes p.is_ended fault)) }
+        ensures value { result ≡ Ok End → ForEach self.old (λ bytes. IsValue self.old.sig
+            self.old.limits bytes (accepted self.old.sig self.old.limits bytes).points) }
+        ensures points { ForEach self.old (λ bytes. GivesPoints (progress self.old bytes) result) }
+        ensures shown { IfErr result (λ fault. fault ≢ Memory → ForEach self.old (λ bytes.
+            IsShown self.old.sig self.old.limits bytes self.old.is_ended fault)) }
     {
         self.read_point(alloc)
     }
@@ -143,17 +147,14 @@ impl<'a> LogReader<'a> {
     fn read_point(&mut self, alloc: Global) -> Result<Next, LogFault>
         requires { self.old.is_broken ≡ false }
         ensures answer { Gives (λ next. next) result (due (told self.old)) }
-        ensures after { MovesOn (told self.old) (told self.new) result }
+        ensures after { Proceeds self.old self.new result }
+        ensures bytes { self.new.kept.bytes ≡ self.old.kept.bytes }
         ensures few { OnOk result (self.new.given ≤ self.new.limits.points) }
         ensures given { self.old.given ≤ length (read (told self.old)).points }
     {
-        let answer = self.cursor.read(
-            alloc,
-            &self.bytes,
-            self.is_ended,
-            self.sig,
-            &self.limits,
-        );
+        let answer = self
+            .cursor
+            .read(alloc, &self.bytes, self.is_ended, self.sig, &self.limits);
         self.is_broken = is_wanting(&answer);
         answer
     }

@@ -11,3 +11,5 @@ pub mod ShorteningLemmas
 pub mod FirstFaultLaws
 pub mod TextLaws
 pub mod AllTokensLaws
+pub mod Verdicts
+pub mod ByPlaces

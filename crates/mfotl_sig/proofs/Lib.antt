@@ -4,7 +4,6 @@ pub mod ReadingLemmas
 pub mod Spelling
 pub mod Runs
 pub mod Verdicts
-pub mod RuleLemmas
 pub mod Standing
 pub mod CauseLaw
 pub mod SignatureLaws

@@ -1,43 +1,70 @@
 -- Reading token by token, as the loop does: what is still to come says the same as the whole text.
-use Rattle.std.proofs.Common.{◌≡◌, ℕ, true, List, length, Option, Some, None, Result, Ok, Err, sym, ◌∙◌}
+use Rattle.std.proofs.Common.{◌≡◌, ℕ, true, List, length, Option, Some, None, Result, Ok, Err, refl, sym, ap, ◌∙◌}
 use Rattle.mfotl_lex.specs.declared.fault.LexFault.{LexFault}
 use Rattle.mfotl_lex.specs.declared.kind.Mode.TheVariants.{Plain}
-use Rattle.mfotl_lex.specs.Lexemes.{Lexeme, next_token, after}
+use Rattle.mfotl_lex.specs.FirstFault as layer
+use Rattle.mfotl_lex.specs.FirstFault.{◌>>=◌, run}
+use Rattle.mfotl_lex.specs.Lexemes.{Lexeme, tokens, next_token, after}
 use Rattle.mfotl_lex.specs.Places.{Place, beginning}
 use Rattle.mfotl_lex.specs.Texts.{tail_of, reading_on}
-use Rattle.mfotl_lex.proofs.TextLaws.{begins, on_step, on_stop, on_none, on_fault}
+use Rattle.mfotl_lex.proofs.TextLaws.{on_step, on_stop, on_none, on_fault, begins}
 use Rattle.mfotl_sig.specs.declared.fault.SigFault.{SigFault}
 use Rattle.mfotl_sig.specs.declared.fault.SigFault.TheVariants.{Lex, Memory}
 use Rattle.mfotl_sig.specs.Answers.{Fails}
-use Rattle.mfotl_sig.specs.Reading.{Partial, step, nothing_read, at_end, at_tail, reading}
+use Rattle.mfotl_sig.specs.Reading.{Partial, step, at_end, at_tail, unbroken, nothing_read, tokens_read, reading}
 
--- behind these tokens the text reads on like this
-abbrev pub Leads : List ℕ → Place → Partial → Type 0
-Leads bytes place p = reading_on step at_tail (tail_of true (length bytes)) place p ≡ reading bytes
+-- behind the tokens before this place the text reads on like this
+abbrev pub Leads : List ℕ → Partial → Place → Partial → Type 0
+Leads bytes first place p = reading_on step unbroken (tail_of true (length bytes)) place p ≡ tokens_read bytes first
 
-fails_on : {A B : Type 0} (fault : SigFault) (x : Result A SigFault) (y : Result B SigFault) → (x ≡ Err fault → y ≡ Err fault)
-    → Fails fault x → Fails fault y
+pub fails_on : {A B : Type 0} (fault : SigFault) (x : Result A SigFault) (y : Result B SigFault)
+    → (x ≡ Err fault → y ≡ Err fault) → Fails fault x → Fails fault y
 fails_on Memory x y stays given = tt
 fails_on _ x y stays given = stays given
 
-module _ (bytes : List ℕ) where
-  pub begins_so : Leads bytes (beginning Plain bytes) nothing_read
-  unfolding reading
-  begins_so = begins step nothing_read at_tail Plain bytes
+module _ (bytes : List ℕ) (first : Partial) where
+  pub begins_so : Leads bytes first (beginning Plain bytes) first
+  unfolding tokens_read
+  begins_so = begins step first unbroken Plain bytes
 
-  module _ (place : Place) (p : Partial) (leads : Leads bytes place p) where
-    pub goes_on : (q : Partial) (t : Lexeme) → next_token place ≡ Ok (Some t) → step p t ≡ Ok q → Leads bytes (after place) q
-    goes_on q t next stepped = sym (on_step step at_tail (tail_of true (length bytes)) place p q t next stepped) ∙ leads
+  module _ (place : Place) (p : Partial) (leads : Leads bytes first place p) where
+    pub goes_on : (q : Partial) (t : Lexeme) → next_token place ≡ Ok (Some t) → step p t ≡ Ok q
+        → Leads bytes first (after place) q
+    goes_on q t next stepped =
+        sym (on_step step unbroken (tail_of true (length bytes)) place p q t next stepped) ∙ leads
 
     pub step_fails : (t : Lexeme) (fault : SigFault) → next_token place ≡ Ok (Some t) → Fails fault (step p t)
-        → Fails fault (reading bytes)
+        → Fails fault (tokens_read bytes first)
     step_fails t fault next failed =
-        fails_on fault (step p t) (reading bytes)
-        (λ stop. sym leads ∙ on_stop step at_tail (tail_of true (length bytes)) place p t fault next stop) failed
+        fails_on fault (step p t) (tokens_read bytes first)
+        (λ stop. sym leads ∙ on_stop step unbroken (tail_of true (length bytes)) place p t fault next stop) failed
 
-    pub lex_fails : (fault : LexFault) → next_token place ≡ Err fault → reading bytes ≡ Err (Lex fault)
-    lex_fails fault next = sym leads ∙ on_fault step at_tail (tail_of true (length bytes)) place p fault next
+    pub lex_fails : (fault : LexFault) → next_token place ≡ Err fault → tokens_read bytes first ≡ Err (Lex fault)
+    lex_fails fault next = sym leads ∙ on_fault step unbroken (tail_of true (length bytes)) place p fault next
 
-    -- no token is left
-    pub all_read : next_token place ≡ Ok None → reading bytes ≡ at_end (length bytes) p.done p.draft
-    all_read next = sym leads ∙ on_none step at_tail (tail_of true (length bytes)) place p next
+    pub all_read : next_token place ≡ Ok None → tokens_read bytes first ≡ Ok p
+    all_read next = sym leads ∙ on_none step unbroken (tail_of true (length bytes)) place p next
+
+behind : (end : ℕ) (lexical : Option LexFault) (r : Result Partial SigFault)
+    → (r >>= λ p. at_tail (tail_of true end lexical) p)
+    ≡ ((r >>= λ p. unbroken (tail_of true end lexical) p) >>= λ p. at_end end p.done p.draft)
+behind end lexical (Err fault) = refl
+behind end None (Ok p) = refl
+behind end (Some fault) (Ok p) = refl
+
+-- behind all tokens stands the end
+pub end_behind : (bytes : List ℕ)
+    → reading bytes ≡ (tokens_read bytes nothing_read >>= λ p. at_end (length bytes) p.done p.draft)
+unfolding reading tokens_read layer.reading
+end_behind bytes =
+    let ts = tokens (beginning Plain bytes) in behind (length bytes) ts.fault (run step ts.list nothing_read)
+
+pub ends_fail : (bytes : List ℕ) (fault : SigFault) → Fails fault (tokens_read bytes nothing_read)
+    → Fails fault (reading bytes)
+ends_fail bytes fault failed =
+    fails_on fault (tokens_read bytes nothing_read) (reading bytes)
+    (λ e. end_behind bytes ∙ ap (λ r. r >>= λ p. at_end (length bytes) p.done p.draft) e) failed
+
+pub ends_so : (bytes : List ℕ) (p : Partial) → tokens_read bytes nothing_read ≡ Ok p
+    → reading bytes ≡ at_end (length bytes) p.done p.draft
+ends_so bytes p e = end_behind bytes ∙ ap (λ r. r >>= λ p. at_end (length bytes) p.done p.draft) e

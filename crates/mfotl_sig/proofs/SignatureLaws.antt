@@ -14,24 +14,26 @@ use Rattle.mfotl_sig.specs.declared.fault.SigFault.{SigFault}
 use Rattle.mfotl_sig.specs.declared.fault.SigFault.TheVariants.{Memory}
 use Rattle.mfotl_sig.specs.Answers.{Gives}
 use Rattle.mfotl_sig.specs.Causes.{IsCause, IsLast}
-use Rattle.mfotl_sig.specs.Grammar.{IsAccepted, IsViable, Spells}
+use Rattle.mfotl_sig.specs.Grammar.{IsAccepted, IsViable}
 use Rattle.mfotl_sig.specs.Laws.{ReadIsSpelled, SpelledIsRead, OneAnswer, IsShown, ExactFaults, ExactSoundness, StaysShown}
 use Rattle.mfotl_sig.specs.Preds.{PredOf}
 use Rattle.mfotl_sig.specs.Reading.{DraftOf, Partial, step, at_end, at_tail, nothing_read, reading}
-use Rattle.mfotl_sig.specs.Rules.{numbered, text_of, IsValue}
-use Rattle.mfotl_sig.proofs.CauseLaw.{follows, spelled_read, spelled_run}
-use Rattle.mfotl_sig.proofs.RuleLemmas.{rules_kept, kept_rules}
-use Rattle.mfotl_sig.proofs.Runs.{between}
-use Rattle.mfotl_sig.proofs.Standing.{Stands, stands}
-use Rattle.mfotl_sig.proofs.Verdicts.{keeps_judged}
+use Rattle.mfotl_sig.specs.Rules.{numbered, text_of, KeepsRules, IsValue}
+use Rattle.mfotl_sig.proofs.CauseLaw.{follows, stands}
+use Rattle.mfotl_sig.proofs.Runs.{between, judge}
+use Rattle.mfotl_sig.proofs.Standing.{Stands, spelled_read, spelled_run}
+use Rattle.mfotl_lex.proofs.Verdicts.{kept_ok}
+use Rattle.mfotl_sig.proofs.Verdicts.{IsRule, judged}
 
 -- ---- what is read, and what is spelled
 
-done_is : (end : ℕ) (done preds : List PredOf) (draft : Option DraftOf) → at_end end done draft ≡ Ok preds → (draft ≡ None) × (done ≡ preds)
+done_is : (end : ℕ) (done preds : List PredOf) (draft : Option DraftOf) → at_end end done draft ≡ Ok preds
+    → (draft ≡ None) × (done ≡ preds)
 done_is end done preds None e = (refl, cc)
 done_is end done preds (Some d) e = absurd cc
 
-ended : (end : ℕ) (lexical : Option LexFault) (p : Partial) (preds : List PredOf) → at_tail (tail_of true end lexical) p ≡ Ok preds
+ended : (end : ℕ) (lexical : Option LexFault) (p : Partial) (preds : List PredOf)
+    → at_tail (tail_of true end lexical) p ≡ Ok preds
     → (tail_of true end lexical ≡ End end) × (p.draft ≡ None) × (p.done ≡ preds)
 ended end None p preds e = let r = done_is end p.done preds p.draft e in (refl, r.0, r.1)
 ended end (Some fault) p preds e = absurd cc
@@ -52,16 +54,19 @@ read_is_spelled bytes preds e =
       written = accepted.0;
       whole = end.0;
       spelled = accepted.1;
-      rules = rules_kept accepted.0 spelled.1;
-      value = sym end.2 ∙ ap (λ (p : Partial). p.done) spelled.0;
+      rules = spelled.0;
+      value = sym end.2 ∙ ap (λ (p : Partial). p.done) spelled.1;
     }
 
 pub spelled_is_read : SpelledIsRead
-unfolding reading layer.reading
+unfolding reading layer.reading run
 spelled_is_read bytes preds v =
     let x = text_of bytes in
-    let judged = spelled_run x.list v.written v.spelled ∙ ap (λ r. r >>= λ done. Ok (between done)) (keeps_judged [] v.written (kept_rules v.written v.rules)) in
-    ap (λ r. r >>= λ p. at_tail x.tail p) judged
+    let passes =
+    kept_ok IsRule (KeepsRules v.written) (judge [] v.written) (numbered 0 v.written)
+    (judged v.written) v.rules in
+    ap (λ r. r >>= λ p. at_tail x.tail p)
+    (spelled_run x.list v.written v.spelled ∙ ap (λ r. r >>= λ done. run step [] (between done)) passes)
     ∙ ap (λ tail. at_tail tail (between (numbered 0 v.written))) v.whole
     ∙ ap (λ ps. Ok ps) (sym v.value)
 
@@ -72,7 +77,8 @@ one_answer = firsts.one_answer reading IsValue read_is_spelled spelled_is_read
 
 pub exact_faults : ExactFaults
 unfolding reading
-exact_faults bytes fault = firsts.exact_faults step nothing_read at_tail IsViable IsCause IsLast follows (text_of bytes) fault
+exact_faults bytes fault =
+    firsts.exact_faults step nothing_read at_tail IsViable IsCause IsLast follows (text_of bytes) fault
 
 pub exact_soundness : ExactSoundness
 exact_soundness = firsts.exact_soundness step nothing_read at_tail IsViable IsCause IsLast follows
@@ -85,7 +91,8 @@ stays_shown = texts.stays_shown step nothing_read at_tail none_shown
 
 -- ---- what the reader answers
 
-pub value_given : (bytes : List ℕ) (result : Result (List PredOf) SigFault) → Gives (λ s. s) result (reading bytes) → IfOk result (λ s. IsValue bytes s)
+pub value_given : (bytes : List ℕ) (result : Result (List PredOf) SigFault) → Gives (λ s. s) result (reading bytes)
+    → IfOk result (λ s. IsValue bytes s)
 value_given bytes (Ok preds) given = read_is_spelled bytes preds given
 value_given bytes (Err fault) given = tt
 

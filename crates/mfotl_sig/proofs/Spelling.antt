@@ -1,7 +1,7 @@
 -- What is spelled in front of a rest, and tokens behind it.
-use Rattle.std.proofs.Common.{◌≡◌, ℕ, List, [], ◌∷◌, ◌++◌, Option, Some, None, refl, ap, sym, ◌∙◌}
+use Rattle.std.proofs.Common.{◌≡◌, List, [], ◌∷◌, ◌++◌, Option, Some, None, refl, ap, sym, ◌∙◌}
 use Rattle.std.specs.List.{AllByRecursion}
-use Rattle.mfotl_lex.specs.declared.kind.Kind.TheVariants.{Word, CloseParen, Comma}
+use Rattle.mfotl_lex.specs.declared.kind.Kind.TheVariants.{CloseParen, Comma}
 use Rattle.mfotl_lex.specs.Lexemes.{Lexeme}
 use Rattle.mfotl_sig.specs.Causes.{Begun}
 use Rattle.mfotl_sig.specs.Grammar.{Argument, Only, Labelled, Listed, Written, FitsArgument, FitsListed, FitsLast, Fits}
@@ -30,15 +30,18 @@ preds_behind (w ∷ ws) ts us =
     ∙ ap (λ x. spell_pred w x) (preds_behind ws ts us)
 
 -- one more at the end
-listed_more : (ls : List Listed) (l : Listed) (ts : List Lexeme) → spell_listed (ls ++ l ∷ []) ts ≡ spell_listed ls (spell_argument l.argument (l.comma ∷ ts))
+listed_more : (ls : List Listed) (l : Listed) (ts : List Lexeme)
+    → spell_listed (ls ++ l ∷ []) ts ≡ spell_listed ls (spell_argument l.argument (l.comma ∷ ts))
 listed_more [] l ts = refl
 listed_more (m ∷ ls) l ts = ap (λ x. spell_argument m.argument (m.comma ∷ x)) (listed_more ls l ts)
 
-preds_more : (ws : List Written) (w : Written) (ts : List Lexeme) → spell_preds (ws ++ w ∷ []) ts ≡ spell_preds ws (spell_pred w ts)
+preds_more : (ws : List Written) (w : Written) (ts : List Lexeme)
+    → spell_preds (ws ++ w ∷ []) ts ≡ spell_preds ws (spell_pred w ts)
 preds_more [] w ts = refl
 preds_more (v ∷ ws) w ts = ap (λ x. spell_pred v x) (preds_more ws w ts)
 
-all_more : {X : Type 0} (P : X → Type 0) (xs : List X) (x : X) → AllByRecursion P xs → P x → AllByRecursion P (xs ++ x ∷ [])
+all_more : {X : Type 0} (P : X → Type 0) (xs : List X) (x : X) → AllByRecursion P xs → P x
+    → AllByRecursion P (xs ++ x ∷ [])
 all_more P [] x all one = (one, tt)
 all_more P (y ∷ xs) x all one = (all.0, all_more P xs x all.1 one)
 
@@ -65,7 +68,8 @@ module _ (front rest : List Lexeme) (t : Lexeme) (b : Begun front rest) where
       }
 
   -- a comma behind an argument
-  pub begun_listed : (a : Argument) → rest ≡ spell_argument a [] → FitsArgument a → t.kind ≡ Comma → Begun (front ++ t ∷ []) []
+  pub begun_listed : (a : Argument) → rest ≡ spell_argument a [] → FitsArgument a → t.kind ≡ Comma
+      → Begun (front ++ t ∷ []) []
   begun_listed a is fits kind =
       let l : Listed = record { argument = a; comma = t } in
       record {
@@ -84,12 +88,16 @@ module _ (front rest : List Lexeme) (t : Lexeme) (b : Begun front rest) where
       }
 
   -- a `)` behind all arguments
-  pub begun_closed : (last : Option Argument) → rest ≡ spell_last last [] → FitsLast b.listed last → t.kind ≡ CloseParen → IsAccepted (front ++ t ∷ [])
+  pub begun_closed : (last : Option Argument) → rest ≡ spell_last last [] → FitsLast b.listed last
+      → t.kind ≡ CloseParen → IsAccepted (front ++ t ∷ [])
   begun_closed last is fits kind =
-      let w : Written = record { name = b.name; opening = b.opening; listed = b.listed; last = last; closing = t } in (
+      let w : Written =
+      record { name = b.name; opening = b.opening; listed = b.listed; last = last; closing = t } in (
         b.whole ++ w ∷ [],
         record {
-          fits = all_more Fits b.whole w b.fits (record { named = b.named; opens = b.opens; listed = b.arguments; last = fits; closes = kind });
+          fits =
+              all_more Fits b.whole w b.fits
+              (record { named = b.named; opens = b.opens; listed = b.arguments; last = fits; closes = kind });
           spelled =
               behind ∙ ap (λ x. spell_preds b.whole (spell_begun b.name b.opening b.listed (x ++ t ∷ []))) is
               ∙ ap (λ x. spell_preds b.whole (spell_begun b.name b.opening b.listed x)) (last_behind last [] (t ∷ []))

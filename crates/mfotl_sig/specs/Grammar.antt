@@ -2,7 +2,7 @@
 --     signature := { predicate }
 --     predicate := Word "(" [ { argument "," } argument ] ")"
 --     argument  := Word | Word ":" Word
-use Rattle.std.specs.Prelude.{◌≡◌, ℕ, List, [], ◌∷◌, Option, Some, None}
+use Rattle.std.specs.Prelude.{◌≡◌, List, [], ◌∷◌, Option, Some, None}
 use Rattle.std.specs.List.{AllByRecursion}
 use Rattle.mfotl_lex.specs.declared.kind.Kind.TheVariants.{Word, OpenParen, CloseParen, Comma, Colon}
 use Rattle.mfotl_lex.specs.FirstFault as layer

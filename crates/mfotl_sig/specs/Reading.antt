@@ -139,6 +139,16 @@ at_tail (Broken fault) p = Err (Lex fault)
 at_tail (End end) p = at_end end p.done p.draft
 at_tail More p = Ok p.done
 
+-- what was read stands, where no fault of the lexer is behind the tokens
+abbrev pub unbroken : Tail LexFault → Partial → Result Partial SigFault
+unbroken (Broken fault) p = Err (Lex fault)
+unbroken _ p = Ok p
+
+-- what all tokens of a text make of what was read
+unfoldable pub tokens_read : List ℕ → Partial → Result Partial SigFault
+tokens_read bytes p = layer.reading step p unbroken (text_of bytes)
+
+-- no token was read
 abbrev pub nothing_read : Partial
 nothing_read = record { done = []; draft = None }
 

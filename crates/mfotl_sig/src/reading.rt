@@ -5,7 +5,7 @@ ghost use Rattle.mfotl_lex.specs.Lexemes.{lexeme};
 ghost use Rattle.mfotl_sig.specs.declared.fault.SigFault.TheVariants.{Memory};
 ghost use Rattle.mfotl_sig.specs.Answers.{Gives};
 ghost use Rattle.mfotl_sig.specs.Laws.{IsShown};
-ghost use Rattle.mfotl_sig.specs.Reading.{step, begins, at_end, reading, nothing_read};
+ghost use Rattle.mfotl_sig.specs.Reading.{step, begins, at_end, tokens_read, reading, nothing_read};
 ghost use Rattle.mfotl_sig.specs.Rules.{IsValue};
 
 use crate::arguments::{Arguments, Progress};
@@ -93,6 +93,17 @@ impl<'a> Reader<'a> {
         }
     }
 
+    /// Takes all tokens of a text.
+    fn read(&mut self, alloc: Global, bytes: &'a [u8]) -> Result<(), SigFault>
+        ensures { Gives (λ _. self.new) result (tokens_read bytes.now self.old) }
+    {
+        let mut lexer = Lexer::new(bytes, Mode::Plain);
+        while let Some(token) = lexer.next()? {
+            self.step(alloc, &token)?;
+        }
+        Ok(())
+    }
+
     /// The signature, where the input's end stands at `end`.
     fn finish(self, end: u64) -> Result<Signature, SigFault>
         ensures { Gives (λ s. s) result (at_end end self.entry.done self.entry.draft) }
@@ -113,16 +124,13 @@ pub fn read_signature(alloc: Global, bytes: &[u8]) -> Result<Signature, SigFault
     ensures value { IfOk result (λ s. IsValue bytes.now s) }
     ensures shown { IfErr result (λ fault. fault ≢ Memory → IsShown bytes.now fault) }
 {
-    read_tokens(alloc, bytes)
+    read_whole(alloc, bytes)
 }
 
-fn read_tokens(alloc: Global, bytes: &[u8]) -> Result<Signature, SigFault>
+fn read_whole(alloc: Global, bytes: &[u8]) -> Result<Signature, SigFault>
     ensures { Gives (λ s. s) result (reading bytes.now) }
 {
-    let mut lexer = Lexer::new(bytes, Mode::Plain);
     let mut reader = Reader::new(alloc);
-    while let Some(token) = lexer.next()? {
-        reader.step(alloc, &token)?;
-    }
+    reader.read(alloc, bytes)?;
     reader.finish(bytes.len() as u64)
 }

@@ -10,7 +10,8 @@ use Rattle.log_reader.specs.ValuesRead.{integer_at}
 use Rattle.log_reader.proofs.laws.worked_texts.Goals as goal
 
 pub returns-clause-values : goal.returns-clause-values
-unfolding mode_behind reading run step completed integer_at tokens tokens_within next_token after log_scan text_scan closed_text text_end digits_value integer_value blank_len comment_len
+unfolding mode_behind reading run step completed integer_at tokens tokens_within next_token after log_scan
+    text_scan closed_text text_end digits_value integer_value blank_len comment_len
 returns-clause-values c = record {
   empty = refl;
   two = refl;
@@ -24,7 +25,8 @@ returns-clause-values c = record {
 }
 
 pub returns-clause-faults : goal.returns-clause-faults
-unfolding mode_behind reading run step completed integer_at tokens tokens_within next_token after log_scan text_scan closed_text text_end digits_value integer_value blank_len comment_len
+unfolding mode_behind reading run step completed integer_at tokens tokens_within next_token after log_scan
+    text_scan closed_text text_end digits_value integer_value blank_len comment_len
 returns-clause-faults c = record {
   lexical = refl;
   lexical_behind = refl;
@@ -48,7 +50,8 @@ returns-clause-faults c = record {
 }
 
 pub returns-clause-fronts : goal.returns-clause-fronts
-unfolding mode_behind reading run step completed integer_at tokens tokens_within next_token after log_scan text_scan closed_text text_end digits_value integer_value blank_len comment_len
+unfolding mode_behind reading run step completed integer_at tokens tokens_within next_token after log_scan
+    text_scan closed_text text_end digits_value integer_value blank_len comment_len
 returns-clause-fronts c = record {
   next_begun = refl;
   not_yet = refl;

@@ -1,4 +1,5 @@
-use Rattle.std.proofs.Common.{◌≡◌, ◌≤◌, Bool, length, List, ℕ, Ok, Err, Some, None, Result, Option, refl, sym, ap, subst, ◌∙◌}
+use Rattle.std.proofs.Common.{◌≡◌, ◌≤◌, Bool, length, List, ℕ, Ok, Err, Some, None, Result, Option, refl, sym, ap}
+use Rattle.std.proofs.Common.{subst, ◌∙◌}
 use Rattle.mfotl_lex.specs.Lexemes.{Lexeme, lexeme, seen, next_token, after}
 use Rattle.mfotl_lex.specs.Places.{Place}
 use Rattle.mfotl_lex.specs.declared.fault.LexFault.{LexFault}
@@ -17,7 +18,9 @@ found_at place lexer result r e found is = ap next_token (sym e) ∙ sym found �
 pub returns-in-Ok-None : goal.returns-in-Ok-None
 returns-in-Ok-None c =
     let place = place_in c.args.looked.now c.args.ended c.args.self.now.at in
-    let e : next_token place ≡ Ok None = found_at place _ c.next.result (Ok None) c.lexer_at-lexer.ensures c.next.ensures.found (ap seen (c.in-Ok-None.is ∙ ap Ok c.in-Ok-None.field-0-is)) in
+    let e : next_token place ≡ Ok None =
+    found_at place _ c.next.result (Ok None) c.lexer_at-lexer.ensures c.next.ensures.found
+    (ap seen (c.in-Ok-None.is ∙ ap Ok c.in-Ok-None.field-0-is)) in
     record {
       empty = e;
       same_at = refl;
@@ -27,7 +30,9 @@ returns-in-Ok-None c =
 pub returns-in-Err : goal.returns-in-Err
 returns-in-Err c =
     let place = place_in c.args.looked.now c.args.ended c.args.self.now.at in
-    let e : next_token place ≡ Err c.in-Err.fault = found_at place _ c.next.result (Err c.in-Err.fault) c.lexer_at-lexer.ensures c.next.ensures.found (ap seen c.in-Err.is) in
+    let e : next_token place ≡ Err c.in-Err.fault =
+    found_at place _ c.next.result (Err c.in-Err.fault) c.lexer_at-lexer.ensures c.next.ensures.found
+    (ap seen c.in-Err.is) in
     record {
       reads = λ last. fault_run c.args.sig.now c.args.limits.now last c.args.self.now.partial place c.in-Err.fault e;
       same_at = refl;
@@ -35,11 +40,14 @@ returns-in-Err c =
     }
 
 -- the token that the lexer gave, and where it stood then
-located : (looked : List ℕ) (ended : Bool) (at : ℕ) (t : Lexeme) (lexer behind : Place) (offset : ℕ) → at ≤ length looked
-    → next_token (place_in looked ended at) ≡ Ok (Some t) → lexer ≡ place_in looked ended at → behind ≡ after lexer → offset ≡ behind.at
+located : (looked : List ℕ) (ended : Bool) (at : ℕ) (t : Lexeme) (lexer behind : Place) (offset : ℕ)
+    → at ≤ length looked
+    → next_token (place_in looked ended at) ≡ Ok (Some t) → lexer ≡ place_in looked ended at → behind ≡ after lexer
+    → offset ≡ behind.at
     → TokenAt looked ended at t offset
 located looked ended at t lexer behind offset le found here moved e =
-    let same : (after (place_in looked ended at)).at ≡ offset = sym (e ∙ ap (λ (p : Place). p.at) (moved ∙ ap after here)) in
+    let same : (after (place_in looked ended at)).at ≡ offset =
+    sym (e ∙ ap (λ (p : Place). p.at) (moved ∙ ap after here)) in
     subst (TokenAt looked ended at t) same (token_at_offset looked ended at t le found)
 
 pub returns-in-Ok-Some : goal.returns-in-Ok-Some

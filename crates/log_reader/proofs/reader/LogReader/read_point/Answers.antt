@@ -6,7 +6,7 @@ use Rattle.log_reader.specs.Readers.{Reader}
 use Rattle.log_reader.specs.Readings.{reading}
 use Rattle.log_reader.specs.Soundness.{IsSound, is_wanting}
 use Rattle.log_reader.proofs.Fewness.{given_few, sound_few}
-use Rattle.log_reader.proofs.ReaderLemmas.{on_ok, moves_on}
+use Rattle.log_reader.proofs.ReaderLemmas.{on_ok, proceeds}
 use Rattle.log_reader.proofs.reader.LogReader.read_point.Goals as goal
 
 pub read-answer-requires : goal.read-answer-requires
@@ -46,9 +46,10 @@ returns c =
       answer = rw (← c.self.view_is) (subst (λ (bytes : List ℕ). Gives (λ next. next) c.read-answer.result
           (answer_of inside.is_ended (skipped given (reading inside.sig.now inside.limits bytes inside.is_ended))))
           c.deref.ensures.value c.read-answer.ensures.answer);
-      after = rw (← c.self.view_is) (moves_on old c.read-answer.result _ _ c.read-answer.new.self.at
+      after = rw (← c.self.view_is) (proceeds old c.read-answer.result _ _ c.read-answer.new.self.at
           c.read-answer.new.self.partial works c.is_wanting-self-inside.ensures
           c.read-answer.ensures.counts);
+      bytes = ap (λ (r : Reader). r.kept.bytes) c.self.view_is;
       few = on_ok _ c.read-answer.result (λ fine. sound_few _ _ _ _ _ _ (sound_behind c fine));
       given = rw (← c.self.view_is) (given_few _ _ _ _ _ _ (c.self.invariant.sound works));
     }
