@@ -3,15 +3,14 @@ use Rattle.std.proofs.Common.{◌≡◌, [], ap, pos, ◌∙◌, Bool, true, fal
 use Rattle.mfotl_model.specs.Formulas.{Form}
 use Rattle.mfotl_model.specs.FreeVariables.{fv}
 use Rattle.mfotl_model.specs.declared.value.Value.TheVariants.{Int}
-use Rattle.monitorable.proofs.FragmentRenamed.{apart_fragment}
 use Rattle.monitorable.proofs.NormalFormLaws.{normal_form_holds, normal_form_settled}
 use Rattle.monitorable.proofs.NormalFormVariables.{normal_form_constants, normal_form_variables}
 use Rattle.monitorable.proofs.RenamedConstants.{apart_constants}
 use Rattle.monitorable.proofs.RenamedMeaning.{apart_means_the_same}
 use Rattle.monitorable.proofs.RenamedVariables.{apart_variables}
 use Rattle.monitorable.specs.CoreForms.{CoreForm, meaning}
-use Rattle.monitorable.specs.Domains.{within}
-use Rattle.monitorable.specs.Fragment.{Fits, Names, frag, frag_fault}
+use Rattle.mfotl_model.specs.Domains.{within}
+use Rattle.monitorable.specs.Fragment.{Names, frag, frag_fault}
 use Rattle.monitorable.specs.Limits.{node_limit}
 use Rattle.monitorable.specs.Negation.{HasConstantsOf, Negates, SettlesWith}
 use Rattle.monitorable.specs.NodeCount.{nodes}

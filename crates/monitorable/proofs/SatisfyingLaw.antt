@@ -16,7 +16,7 @@ use Rattle.mfotl_model.specs.Violations.{all_rows, violates, viol}
 use Rattle.mfotl_model.specs.declared.event.TimePoint.{TimePoint}
 use Rattle.mfotl_model.specs.declared.value.Value.{Value}
 use Rattle.monitorable.specs.CoreForms.{CoreForm, meaning}
-use Rattle.monitorable.specs.Domains.{within}
+use Rattle.mfotl_model.specs.Domains.{within}
 use Rattle.monitorable.specs.Laws.{ViolationsSatisfy}
 use Rattle.monitorable.specs.Negation.{HasConstantsOf, Negates}
 use Rattle.monitorable.specs.SatisfyingRows.{core_domain, satisfies, satisfying_rows}

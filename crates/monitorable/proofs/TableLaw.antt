@@ -1,5 +1,6 @@
--- A table that has the rows of which a core holds has the rows that satisfy it.
-use Rattle.std.proofs.Common.{◌≡◌, ℕ, true, ◌&&◌, nat_eq, List, [], ◌∷◌, length, map, None, sym, ap, ◌∙◌, inl, inr}
+-- A table that is exact for a core holds the rows that satisfy it.
+use Rattle.std.proofs.Common.{◌≡◌, ℕ, true, ◌&&◌, nat_eq, List, [], ◌∷◌, length, map, None, refl, sym, ap, ◌∙◌, inl}
+use Rattle.std.proofs.Common.{inr}
 use Rattle.std.proofs.lemmas.Bool.{and_parts, and_from, or_cases, eqb-true}
 use Rattle.std.proofs.lemmas.Map.Lookups.{btree_set_from_contains}
 use Rattle.std.proofs.lemmas.Map.Views.{tells_apart}
@@ -9,8 +10,8 @@ use Rattle.std.specs.List.Sorted.{IsStrictlySortedBy}
 use Rattle.std.specs.Ordering.{eq_by_cmp}
 use Rattle.mfotl_model.proofs.AscendingLemmas.{any_ascending, sorted_ascending}
 use Rattle.mfotl_model.proofs.RowLemmas.{row_exact}
+use Rattle.mfotl_model.specs.Exact.{Exact}
 use Rattle.mfotl_model.specs.FreeVariables.{fv}
-use Rattle.mfotl_model.specs.Satisfaction.{Valuation, sat}
 use Rattle.mfotl_model.specs.Tables.{TableOf, all_sized, has, has_row, valuation}
 use Rattle.mfotl_model.specs.Values.{row_cmp, row_total}
 use Rattle.mfotl_model.specs.Violations.{all_rows}
@@ -21,9 +22,9 @@ use Rattle.monitorable.proofs.DomainLemmas.{same_truth}
 use Rattle.monitorable.proofs.DomainRows.{found, has_constants, has_log, row_kept, row_within}
 use Rattle.monitorable.proofs.FreeVariableLemmas.{fv_apart}
 use Rattle.monitorable.specs.CoreForms.{CoreForm, meaning}
-use Rattle.monitorable.specs.Domains.{within}
+use Rattle.mfotl_model.specs.Domains.{within}
 use Rattle.monitorable.specs.Fragment.{Names, frag}
-use Rattle.monitorable.specs.Laws.{TablesSatisfy}
+use Rattle.monitorable.specs.Laws.{TablesSatisfy, whole_view}
 use Rattle.monitorable.specs.SatisfyingRows.{core_domain, satisfies, satisfying_rows}
 
 -- among rows of one size is no row of another
@@ -38,23 +39,24 @@ sized_row n (first ∷ rows) row sized h =
     ]
 
 module _ (log : List TimePoint) (names : Names) (g : CoreForm) (i : ℕ) (table : TableOf)
-    (accepted : frag names g ≡ None) (columns : table.columns ≡ fv (meaning g))
-    (sized : all_sized (length table.columns) table.rows ≡ true) (sorted : IsStrictlySortedBy row_cmp table.rows)
-    (exact : (v : Valuation) → has table v ≡ sat log (core_domain log g) v i (meaning g)) where
+    (accepted : frag names g ≡ None) (exact : Exact (whole_view log g) (meaning g) i table)
+    (sized : all_sized (length table.columns) table.rows ≡ true)
+    (sorted : IsStrictlySortedBy row_cmp table.rows) where
   abbrev vars : List ℕ
   vars = fv (meaning g)
 
   size_is : (row : List Value) → nat_eq (length row) (length table.columns) ≡ nat_eq (length row) (length vars)
-  size_is row = ap (λ cs. nat_eq (length row) (length cs)) columns
+  size_is row = ap (λ cs. nat_eq (length row) (length cs)) exact.columns
 
   -- a row with a value for each column is in the table exactly where the core holds of it
   alike : (row : List Value) → nat_eq (length row) (length vars) ≡ true
       → has_row table.rows row ≡ satisfies log g i row
   unfolding has
   alike row size =
-      ap (has_row table.rows) (sym (row_kept vars row (fv_apart (meaning g)) (eqb-true (length row) (length vars) size)))
-      ∙ ap (λ cs. has_row table.rows (map (valuation vars row) cs)) (sym columns)
-      ∙ exact (valuation vars row)
+      ap (has_row table.rows)
+      (sym (row_kept vars row (fv_apart (meaning g)) (eqb-true (length row) (length vars) size)))
+      ∙ ap (λ cs. has_row table.rows (map (valuation vars row) cs)) (sym exact.columns)
+      ∙ exact.rows (core_domain log g) (valuation vars row) (λ a h. h) refl
 
   -- and where it holds, the values lie in the domain
   inside : (row : List Value) → nat_eq (length row) (length vars) ≡ true → satisfies log g i row ≡ true
@@ -101,5 +103,5 @@ module _ (log : List TimePoint) (names : Names) (g : CoreForm) (i : ℕ) (table 
       row_exact
 
 pub tables_satisfy : TablesSatisfy
-tables_satisfy log names g i table accepted columns sized sorted exact =
-    same_rows log names g i table accepted columns sized sorted exact
+tables_satisfy log names g i table accepted exact sized sorted =
+    same_rows log names g i table accepted exact sized sorted

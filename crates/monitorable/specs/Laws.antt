@@ -3,12 +3,14 @@ use Rattle.std.specs.Prelude.{◌≡◌, ℕ, ◌+◌, ◌<◌, true, false, not
 use Rattle.std.specs.List.{list_all}
 use Rattle.std.specs.List.Sorted.{IsStrictlySortedBy}
 use Rattle.mfotl_model.specs.ActiveDomain.{constants, log_values}
+use Rattle.mfotl_model.specs.Exact.{Exact, View}
 use Rattle.mfotl_model.specs.Formulas.{Form}
 use Rattle.mfotl_model.specs.FreeVariables.{fv, among}
 use Rattle.mfotl_model.specs.Log.{Log, times}
+use Rattle.mfotl_model.specs.Regions.{everywhere}
 use Rattle.mfotl_model.specs.Satisfaction.{Valuation, sat}
 use Rattle.mfotl_model.specs.Settled.{settled}
-use Rattle.mfotl_model.specs.Tables.{TableOf, all_apart, all_sized, has}
+use Rattle.mfotl_model.specs.Tables.{TableOf, all_apart, all_sized}
 use Rattle.mfotl_model.specs.Values.{row_cmp}
 use Rattle.mfotl_model.specs.VerdictText.{text}
 use Rattle.mfotl_model.specs.Violations.{viol}
@@ -16,13 +18,14 @@ use Rattle.mfotl_model.specs.declared.event.TimePoint.{TimePoint}
 use Rattle.mfotl_model.specs.declared.value.Value.{Value}
 use Rattle.monitorable.specs.Conjuncts.{conjuncts_of, part_holds}
 use Rattle.monitorable.specs.CoreForms.{CoreForm, meaning}
-use Rattle.monitorable.specs.Domains.{Includes, within}
+use Rattle.mfotl_model.specs.Domains.{Includes, within}
 use Rattle.monitorable.specs.Fragment.{Names, frag, frag_fault}
 use Rattle.monitorable.specs.Negation.{HasConstantsOf, Negates}
 use Rattle.monitorable.specs.NormalForm.{positive, negative}
 use Rattle.monitorable.specs.Renaming.{apart_form, binders}
-use Rattle.monitorable.specs.SatisfyingRows.{HasViolationsOf, core_domain, satisfying_rows}
-use Rattle.monitorable.specs.Times.{NeverFalls}
+use Rattle.monitorable.specs.Soundness.{IsSound}
+use Rattle.monitorable.specs.SatisfyingRows.{HasViolationsOf, satisfying_rows}
+use Rattle.mfotl_model.specs.Times.{NeverFalls}
 
 -- whether a formula holds hangs on its free variables alone
 abbrev pub Coincidence : Type 0
@@ -149,12 +152,21 @@ ViolationsSatisfy =
     (f : Form) (g : CoreForm) → Negates g f → fv (meaning g) ≡ fv f → HasConstantsOf g f
     → HasViolationsOf g f
 
--- the rows that satisfy a core which the fragment accepts are those of each table over its free variables, with
--- strictly ascending rows, that has the row of a valuation exactly where the core holds of it
+-- the view of one worker alone on a core and a log: each row is near
+abbrev pub whole_view : List TimePoint → CoreForm → View
+whole_view log g = record { near = everywhere; log = log; whole = meaning g }
+
+-- A table that is exact for a core which the fragment accepts, on all rows, holds the rows that satisfy the core:
+-- where its rows ascend, and each has a value for each column, they are these rows.
 abbrev pub TablesSatisfy : Type 0
 TablesSatisfy =
     (log : List TimePoint) (names : Names) (g : CoreForm) (i : ℕ) (table : TableOf)
-    → frag names g ≡ None → table.columns ≡ fv (meaning g)
+    → frag names g ≡ None → Exact (whole_view log g) (meaning g) i table
     → all_sized (length table.columns) table.rows ≡ true → IsStrictlySortedBy row_cmp table.rows
-    → ((v : Valuation) → has table v ≡ sat log (core_domain log g) v i (meaning g))
     → table.rows ≡ satisfying_rows log g i
+
+-- a core that the fragment accepts, and no two of whose free and bound variables are the same, is sound in each part
+abbrev pub PartsAreSound : Type 0
+PartsAreSound =
+    (names : Names) (f : CoreForm)
+    → frag names f ≡ None → all_apart (fv (meaning f) ++ binders f) ≡ true → IsSound f f

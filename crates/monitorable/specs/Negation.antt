@@ -7,7 +7,7 @@ use Rattle.mfotl_model.specs.Settled.{settled}
 use Rattle.mfotl_model.specs.declared.event.TimePoint.{TimePoint}
 use Rattle.mfotl_model.specs.declared.value.Value.{Value}
 use Rattle.monitorable.specs.CoreForms.{CoreForm, meaning}
-use Rattle.monitorable.specs.Domains.{within}
+use Rattle.mfotl_model.specs.Domains.{within}
 
 -- g holds exactly where f doesn't
 abbrev pub Negates : CoreForm → Form → Type 0

@@ -35,7 +35,7 @@ fn free_variable(alloc: Global, vars: &[Var], number: u32) -> Result<Variable, A
 {
     let name = match vars.get(number as usize) {
         Some(var) => var.name.copy(alloc)?,
-        None => Name::new(Vec::new(alloc)),
+        None => Name::new(Vec::new(alloc))?,
     };
     Ok(Variable { number, name })
 }
