@@ -11,14 +11,15 @@ ghost use Rattle.monitorable.specs.Renaming.{apart_form};
 ghost use Rattle.monitorable.specs.SatisfyingRows.{HasViolationsOf};
 ghost use Rattle.monitorable.specs.declared.fault.FragmentFault.TheVariants.{Memory};
 
+use crate::apart::apart;
 use crate::count::pay_for_negated;
 use crate::fault::FragmentFault;
-use crate::fragment::{Role, judge};
+use crate::fragment::judge;
 use crate::limits::NODE_LIMIT;
 use crate::node::Node;
 use crate::normal_form::negated_normal_form;
 use crate::policy_core::Core;
-use crate::renaming::apart;
+use crate::role::Role;
 use crate::scope::Scope;
 use mfotl_model::Policy;
 use std::alloc::Global;
