@@ -56,7 +56,7 @@ finish_gives : (len : ℕ) (p : Partial) (s : Stage) (points : List TimePoint) �
 finish_gives len p Between points e = inl (ap (λ (r : Reading). r.points) (sym e))
 finish_gives len p AfterStamp points e = inr (ap (λ (r : Reading). r.points) (sym e), refl)
 finish_gives len p AfterClose points e = inr (ap (λ (r : Reading). r.points) (sym e), refl)
-finish_gives len p _ points e = absurd (let ending = ap (λ (r : Reading). r.ending) e in cc (ending))
+finish_gives len p _ points e = absurd (let ending = ap (λ (r : Reading). r.ending) e in cc)
 
 -- behind tokens that are not all there are, at most the present time-point is given, and where it is completed
 abbrev GivesAtMost : ℕ → (Partial → Reading) → Tail LogFault → Partial → Type 0
@@ -211,7 +211,7 @@ module _ (sig : List PredOf) (limits : Limits) (len : ℕ) (ends : Partial → R
         → Begins p (t ∷ front ++ back) points
     unfolding run
     begin_more p t front back points (Err fault) s e later =
-        absurd (let ending = ap (λ (r : Reading). r.ending) e in cc (ending))
+        absurd (let ending = ap (λ (r : Reading). r.ending) e in cc)
     begin_more p t front back points (Ok q) s e later =
         let inner = (fin q front).points in
         let clear : fin q front ≡ whole inner =

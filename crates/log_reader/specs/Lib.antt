@@ -15,7 +15,7 @@ pub mod Readings
 pub mod Laws
 pub mod Progress
 pub mod Readers
-pub mod Answers
+pub mod GivenPoints
 pub mod Cursors
 pub mod Soundness
 pub mod FaultTexts

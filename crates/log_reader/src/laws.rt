@@ -1,7 +1,7 @@
 //! What holds of every log. Each law is a function that does nothing: its clause is the law.
 
 ghost use Rattle.log_reader.specs.Laws.{ReadIsSpelled, SpelledIsRead, OneAnswer, ExactSyntax, ExactFaults, PointsAreCompleted};
-ghost use Rattle.log_reader.specs.WorkedTexts.{WorkedValues, WorkedFaults, WorkedFronts};
+ghost use Rattle.log_reader.specs.WorkedTexts.{WorkedValues, WorkedFaults, WorkedFronts, WorkedPrints};
 
 /// A log that is read to its end spells its time-points, and keeps the rules.
 pub fn read_is_spelled()
@@ -33,9 +33,10 @@ pub fn exact_faults()
     ensures { ExactFaults }
 {}
 
-/// Logs worked out by hand, and what is read of them.
+/// Logs worked out by hand, what is read of them, and how faults are printed.
 pub fn worked_texts()
     ensures values { WorkedValues }
     ensures faults { WorkedFaults }
     ensures fronts { WorkedFronts }
+    ensures prints { WorkedPrints }
 {}
