@@ -21,4 +21,5 @@ pub mod LogLaws
 pub mod CompletedFronts
 pub mod CompletedLaws
 pub mod ReaderLemmas
+pub mod GrowthLemmas
 pub mod AnswerLemmas

@@ -12,6 +12,7 @@ pub mod Given
 pub mod Partials
 pub mod Steps
 pub mod Readings
+pub mod Growth
 pub mod Laws
 pub mod Progress
 pub mod Readers

@@ -1,5 +1,6 @@
 //! What holds of every log. Each law is a function that does nothing: its clause is the law.
 
+ghost use Rattle.log_reader.specs.Growth.{ShownStays};
 ghost use Rattle.log_reader.specs.Laws.{ReadIsSpelled, SpelledIsRead, OneAnswer, ExactSyntax, ExactFaults, PointsAreCompleted};
 ghost use Rattle.log_reader.specs.WorkedTexts.{WorkedValues, WorkedFaults, WorkedFronts, WorkedPrints};
 
@@ -31,6 +32,11 @@ pub fn exact_syntax()
 /// Each fault comes exactly where a token, the bytes behind the tokens or their end are the first to show it.
 pub fn exact_faults()
     ensures { ExactFaults }
+{}
+
+/// What the front of a log shows, its end not told, is shown by the whole log.
+pub fn shown_stays()
+    ensures { ShownStays }
 {}
 
 /// Logs worked out by hand, what is read of them, and how faults are printed.
