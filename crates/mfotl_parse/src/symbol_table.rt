@@ -2,11 +2,13 @@
 ghost use Rattle.std.specs.Prelude.{◌≡◌, IfOk, OnOk, length, slice_get, option_map, Some, None, position, map, is_some, ◌++◌, ◌∷◌, []};
 ghost use Rattle.std.specs.Str.{bytes_eq};
 ghost use Rattle.indexmap.specs.IndexMap.{get_by};
-ghost use Rattle.mfotl_parse.specs.Names as sorting;
+ghost use Rattle.mfotl_parse.specs.SymbolTable as sorting;
+ghost use Rattle.mfotl_parse.specs.Limits.{max_free};
 ghost use Rattle.mfotl_parse.specs.States.{no_names};
 ghost use Rattle.mfotl_parse.specs.Views.{known_of, names_of, stack_of};
 
 use crate::frame::Frame;
+use crate::limits::MAX_FREE;
 use crate::stack::binder_of;
 use crate::term::{Pair, Variable};
 use indexmap::IndexMap;
@@ -14,7 +16,7 @@ use mfotl_model::{Name, Sort, Var, Vars};
 use std::alloc::{AllocError, Global};
 
 #[derive(Drop)]
-pub struct Names {
+pub struct SymbolTable {
     /// The free variables, each with the offset of its first occurrence.
     pub free: IndexMap<Vec<u8>, u64>,
     pub free_sorts: Vec<Option<Sort>>,
@@ -50,11 +52,11 @@ fn add_free(
     Ok(())
 }
 
-impl Names {
+impl SymbolTable {
     pub fn new(alloc: Global) -> Self
         ensures { names_of result ≡ no_names }
     {
-        Names {
+        SymbolTable {
             free: IndexMap::new(alloc),
             free_sorts: Vec::new(alloc),
             bound_sorts: Vec::new(alloc),
@@ -92,7 +94,7 @@ impl Names {
         frames: &[Frame],
     ) -> Result<Variable, AllocError>
         ensures variable { IfOk result (λ variable. variable
-            ≡ sorting.variable_of name.now (stack_of frames.now) (names_of self.old)) }
+            ≡ sorting.resolved name.now (stack_of frames.now) (names_of self.old)) }
         ensures noted { OnOk result (names_of self.new
             ≡ sorting.noted name.now at (stack_of frames.now) (names_of self.old)) }
     {
@@ -118,9 +120,9 @@ impl Names {
     /// Where the ninth free variable first occurs.
     pub fn ninth_free(&self) -> Option<u64>
         ensures { result
-            ≡ option_map (λ known. known.1) (slice_get (names_of self.now).free sorting.most_free) }
+            ≡ option_map (λ known. known.1) (slice_get (names_of self.now).free max_free) }
     {
-        match self.free.get_index(8) {
+        match self.free.get_index(MAX_FREE as usize) {
             Some((_, at)) => Some(*at),
             None => None,
         }

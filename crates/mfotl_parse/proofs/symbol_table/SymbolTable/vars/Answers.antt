@@ -1,10 +1,10 @@
 use Rattle.std.proofs.Common.{◌∙◌, ◌≤◌, ◌+◌, ◌++◌, ◌∷◌, [], List, ℕ, sym, ap, drop, map, length, append_assoc, add-one, arith}
 use Rattle.std.proofs.lemmas.List.{append-nil, length-map}
 use Rattle.mfotl_model.specs.declared.policy.Var.{Var}
-use Rattle.mfotl_parse.specs.Names.{vars_of}
+use Rattle.mfotl_parse.specs.SymbolTable.{vars_of}
 use Rattle.mfotl_parse.specs.Views.{known_of}
 use Rattle.mfotl_parse.proofs.NamesLemmas.{vars_of_more, vars_of_all}
-use Rattle.mfotl_parse.proofs.names.Names.vars.Goals as goal
+use Rattle.mfotl_parse.proofs.symbol_table.SymbolTable.vars.Goals as goal
 
 pub loop-place-preserved : goal.loop-place-preserved
 loop-place-preserved c =

@@ -4,7 +4,7 @@ use Rattle.indexmap.specs.IndexMap.{get_by}
 use Rattle.indexmap.proofs.CallerLemmas.{insert_entry-new}
 use Rattle.mfotl_parse.specs.Views.{known_of}
 use Rattle.mfotl_parse.proofs.NamesLemmas.{known_more}
-use Rattle.mfotl_parse.proofs.names.add_free.Goals as goal
+use Rattle.mfotl_parse.proofs.symbol_table.add_free.Goals as goal
 
 pub returns : goal.returns
 returns c =

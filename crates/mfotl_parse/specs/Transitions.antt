@@ -5,6 +5,7 @@ use Rattle.mfotl_model.specs.declared.policy.Sort.{Sort}
 use Rattle.mfotl_parse.specs.declared.fault.PolicyFault.{PolicyFault}
 use Rattle.mfotl_parse.specs.declared.fault.PolicyFault.TheVariants.{Syntax, EmptyInterval, BoundRange, UnknownPredicate, WrongArity, TooDeep, TooManyNodes}
 use Rattle.mfotl_parse.specs.States.{Context, Partial, depth, Frame}
+use Rattle.mfotl_parse.specs.Limits.{max_levels, max_nodes}
 
 -- the rules that a token may break where the grammar goes on
 pub data Limit : Type 0 where
@@ -29,15 +30,15 @@ fault_of Arity at = WrongArity at
 fault_of Deep at = TooDeep at
 fault_of Nodes at = TooManyNodes at
 
-pub record Move : Type 0 where
+pub record Transition : Type 0 where
   pub rules : List Rule
   pub next : Partial
 
-abbrev pub goes : List Rule → Partial → Option Move
+abbrev pub goes : List Rule → Partial → Option Transition
 goes rules next = Some (record { rules = rules; next = next })
 
 -- one rule before the others
-abbrev pub first_keeps : Rule → Option Move → Option Move
+abbrev pub first_keeps : Rule → Option Transition → Option Transition
 first_keeps rule None = None
 first_keeps rule (Some m) = Some (record { rules = rule ∷ m.rules; next = m.next })
 
@@ -47,23 +48,17 @@ kept [] next = Ok next
 kept (rule ∷ rules) next = if rule.broken then Err (fault_of rule.limit rule.at) else kept rules next
 
 -- what a token at the offset gives
-abbrev pub given : ℕ → Option Move → Result Partial PolicyFault
+abbrev pub given : ℕ → Option Transition → Result Partial PolicyFault
 given at None = Err (Syntax at)
 given at (Some m) = kept m.rules m.next
 
-abbrev pub most_open : ℕ
-most_open = 64
-
-abbrev pub most_nodes : ℕ
-most_nodes = 4096
-
 -- one level more fits in the stack
-abbrev pub shallow : ℕ → List Frame → Rule
-shallow at stack = record { broken = nat_le most_open (depth stack); limit = Deep; at = at }
+abbrev pub within_depth : ℕ → List Frame → Rule
+within_depth at stack = record { broken = nat_le max_levels (depth stack); limit = Deep; at = at }
 
 -- one node more fits
-abbrev pub few : ℕ → ℕ → Rule
-few at nodes = record { broken = nat_le most_nodes nodes; limit = Nodes; at = at }
+abbrev pub within_nodes : ℕ → ℕ → Rule
+within_nodes at nodes = record { broken = nat_le max_nodes nodes; limit = Nodes; at = at }
 
 abbrev pub is_empty : List Sort → Bool
 is_empty [] = true

@@ -14,15 +14,12 @@ use Rattle.mfotl_parse.specs.declared.term.Pair.{Pair}
 use Rattle.mfotl_parse.specs.declared.term.Side.{Side}
 use Rattle.mfotl_parse.specs.declared.term.Variable.{Variable}
 use Rattle.mfotl_parse.specs.declared.term.Variable.TheVariants as variables
-use Rattle.mfotl_parse.specs.States.{Frame, Parens, Negation, Moment, Binding, Left, Names}
-
--- how many free variables a policy may have; bound variables are numbered from there on
-abbrev pub most_free : ℕ
-most_free = 8
+use Rattle.mfotl_parse.specs.States.{Frame, Parens, Negation, Moment, Binding, Left, SymbolTable}
+use Rattle.mfotl_parse.specs.Limits.{max_free}
 
 abbrev pub number_of : Variable → ℕ
 number_of (variables.Free k) = k
-number_of (variables.Bound k) = most_free + k
+number_of (variables.Bound k) = max_free + k
 
 -- the variable that a frame binds to the name
 abbrev pub bound_as : List ℕ → Frame → Option ℕ
@@ -42,36 +39,36 @@ binder_of name [] = None
 binder_of name (frame ∷ stack) = inner_or (bound_as name frame) (binder_of name stack)
 
 -- which free variable the name is, if it was met before
-abbrev pub free_place : List ℕ → Names → Option ℕ
+abbrev pub free_place : List ℕ → SymbolTable → Option ℕ
 free_place name n = position (λ known. bytes_eq name known.0) n.free
 
-abbrev pub free_or_new : Option ℕ → Names → Variable
+abbrev pub free_or_new : Option ℕ → SymbolTable → Variable
 free_or_new (Some place) n = variables.Free place
 free_or_new None n = variables.Free (length n.free)
 
-abbrev pub bound_or_free : Option ℕ → List ℕ → Names → Variable
+abbrev pub bound_or_free : Option ℕ → List ℕ → SymbolTable → Variable
 bound_or_free (Some variable) name n = variables.Bound variable
 bound_or_free None name n = free_or_new (free_place name n) n
 
 -- the variable that a name stands for
-abbrev pub variable_of : List ℕ → List Frame → Names → Variable
-variable_of name stack n = bound_or_free (binder_of name stack) name n
+abbrev pub resolved : List ℕ → List Frame → SymbolTable → Variable
+resolved name stack n = bound_or_free (binder_of name stack) name n
 
 -- a name that was not met before is one more free variable
-abbrev pub with_free : Option ℕ → List ℕ → ℕ → Names → Names
+abbrev pub with_free : Option ℕ → List ℕ → ℕ → SymbolTable → SymbolTable
 with_free (Some place) name at n = n
 with_free None name at n = record n { free = n.free ++ (name, at) ∷ []; free_sorts = n.free_sorts ++ None ∷ [] }
 
-abbrev pub met : Option ℕ → List ℕ → ℕ → Names → Names
+abbrev pub met : Option ℕ → List ℕ → ℕ → SymbolTable → SymbolTable
 met (Some variable) name at n = n
 met None name at n = with_free (free_place name n) name at n
 
 -- after the name was met at the offset
-abbrev pub noted : List ℕ → ℕ → List Frame → Names → Names
+abbrev pub noted : List ℕ → ℕ → List Frame → SymbolTable → SymbolTable
 noted name at stack n = met (binder_of name stack) name at n
 
 -- one more bound variable
-abbrev pub bound_more : Option Sort → Names → Names
+abbrev pub bound_more : Option Sort → SymbolTable → SymbolTable
 bound_more sort n = record n { bound_sorts = n.bound_sorts ++ sort ∷ [] }
 
 abbrev pub given_at : Option (Option Sort) → Option Sort
@@ -79,11 +76,11 @@ given_at None = None
 given_at (Some given) = given
 
 -- the sort that a variable was given, if it was
-abbrev pub sort_of : Variable → Names → Option Sort
+abbrev pub sort_of : Variable → SymbolTable → Option Sort
 sort_of (variables.Free k) n = given_at (slice_get n.free_sorts k)
 sort_of (variables.Bound k) n = given_at (slice_get n.bound_sorts k)
 
-abbrev pub with_sort : Variable → Sort → Names → Names
+abbrev pub with_sort : Variable → Sort → SymbolTable → SymbolTable
 with_sort (variables.Free k) sort n = record n { free_sorts = slice_set n.free_sorts k (Some sort) }
 with_sort (variables.Bound k) sort n = record n { bound_sorts = slice_set n.bound_sorts k (Some sort) }
 
@@ -98,37 +95,37 @@ first_of (Some before) at = Some before
 first_of None at = Some at
 
 -- a clash; the first one counts
-abbrev pub clashed : ℕ → Names → Names
+abbrev pub clashed : ℕ → SymbolTable → SymbolTable
 clashed at n = record n { clash = first_of n.clash at }
 
-abbrev pub agreed : Sort → ℕ → Sort → Names → Names
+abbrev pub agreed : Sort → ℕ → Sort → SymbolTable → SymbolTable
 agreed before at sort n = if same_sort before sort then n else clashed at n
 
-abbrev pub occurred : Option Sort → Variable → ℕ → Sort → Names → Names
+abbrev pub occurred : Option Sort → Variable → ℕ → Sort → SymbolTable → SymbolTable
 occurred None variable at sort n = with_sort variable sort n
 occurred (Some before) variable at sort n = agreed before at sort n
 
 -- an occurrence of a variable at the offset, where it has a sort
-abbrev pub occurs : Variable → ℕ → Sort → Names → Names
-occurs variable at sort n = occurred (sort_of variable n) variable at sort n
+abbrev pub require_sort : Variable → ℕ → Sort → SymbolTable → SymbolTable
+require_sort variable at sort n = occurred (sort_of variable n) variable at sort n
 
 abbrev pub sort_of_value : Value → Sort
 sort_of_value (values.Int number) = sorts.Int
 sort_of_value (values.Text text) = sorts.Text
 
 -- a term where this sort is due
-abbrev pub placed : Operand → ℕ → Sort → Names → Names
-placed (operands.Variable variable) at sort n = occurs variable at sort n
-placed (operands.Constant value) at sort n = agreed (sort_of_value value) at sort n
+abbrev pub constrain_term : Operand → ℕ → Sort → SymbolTable → SymbolTable
+constrain_term (operands.Variable variable) at sort n = require_sort variable at sort n
+constrain_term (operands.Constant value) at sort n = agreed (sort_of_value value) at sort n
 
 -- the two sides of a comparison whose sign stands at the offset
-abbrev pub compared : Operand → ℕ → ℕ → Operand → ℕ → Names → Names
+abbrev pub compared : Operand → ℕ → ℕ → Operand → ℕ → SymbolTable → SymbolTable
 compared (operands.Variable v) left_at at (operands.Variable w) right_at n =
     record n { pairs = n.pairs ++ record { at = at; left = v; right = w } ∷ [] }
 compared (operands.Variable v) left_at at (operands.Constant value) right_at n =
-    occurs v left_at (sort_of_value value) n
+    require_sort v left_at (sort_of_value value) n
 compared (operands.Constant value) left_at at (operands.Variable w) right_at n =
-    occurs w right_at (sort_of_value value) n
+    require_sort w right_at (sort_of_value value) n
 compared (operands.Constant c) left_at at (operands.Constant d) right_at n =
     agreed (sort_of_value c) at (sort_of_value d) n
 
@@ -143,7 +140,7 @@ differ (Some left) None = false
 differ (Some left) (Some right) = not (same_sort left right)
 
 -- the first comparison of two variables of different sorts
-abbrev pub uneven_pair : Names → Option Pair
+abbrev pub uneven_pair : SymbolTable → Option Pair
 uneven_pair n = find (λ pair. differ (sort_of pair.left n) (sort_of pair.right n)) n.pairs
 
 -- the first clash among occurrences and constants; where there is none, the first sign between variables

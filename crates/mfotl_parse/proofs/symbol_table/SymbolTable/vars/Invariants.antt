@@ -1,7 +1,7 @@
 use Rattle.std.proofs.Common.{◌≡◌, ◌++◌, drop}
-use Rattle.mfotl_parse.specs.Names.{vars_of}
+use Rattle.mfotl_parse.specs.SymbolTable.{vars_of}
 use Rattle.mfotl_parse.specs.Views.{names_of}
-use Rattle.mfotl_parse.proofs.names.Names.vars.Given as goal
+use Rattle.mfotl_parse.proofs.symbol_table.SymbolTable.vars.Given as goal
 
 abbrev pub invariant-loop-place : goal.invariant-loop-place
 invariant-loop-place l =
