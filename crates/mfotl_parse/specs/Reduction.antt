@@ -10,7 +10,8 @@ use Rattle.mfotl_parse.specs.declared.class.Operator.TheVariants.{And, Or, Impli
 use Rattle.mfotl_parse.specs.declared.class.Quantifier.{Quantifier}
 use Rattle.mfotl_parse.specs.declared.class.Quantifier.TheVariants.{Exists, Forall}
 use Rattle.mfotl_parse.specs.declared.class.Temporal.{Temporal}
-use Rattle.mfotl_parse.specs.declared.class.Temporal.TheVariants.{Previous, Next, Once, Historically, Eventually, Always}
+use Rattle.mfotl_parse.specs.declared.class.Temporal.TheVariants.{Previous, Next, Once, Historically, Eventually}
+use Rattle.mfotl_parse.specs.declared.class.Temporal.TheVariants.{Always}
 use Rattle.mfotl_parse.specs.States.{Frame, Parens, Negation, Moment, Binding, Left}
 use Rattle.mfotl_parse.specs.Limits.{max_free}
 use Rattle.mfotl_parse.specs.Grammar.{right_precedence}
