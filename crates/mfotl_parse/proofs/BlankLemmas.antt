@@ -1,5 +1,5 @@
 -- EXISTS for several variables, from the innermost on.
-use Rattle.std.proofs.Common.{◌≡◌, ℕ, zero, suc, ◌+◌, List, refl, ap, sym, ◌∙◌, arith}
+use Rattle.std.proofs.Common.{◌≡◌, ℕ, zero, suc, ◌+◌, List, ap, sym, ◌∙◌, arith}
 use Rattle.std.specs.Prelude.{codes}
 use Rattle.mfotl_model.specs.Formulas.{Form, Exists}
 use Rattle.mfotl_parse.specs.Arguments.{blanks}

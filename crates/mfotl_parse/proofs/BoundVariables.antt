@@ -1,15 +1,14 @@
 -- No bound variable of a policy that was read is free in its formula.
-use Rattle.std.proofs.Common.{◌≡◌, ℕ, zero, suc, ◌+◌, ◌-◌, ◌<◌, ◌≤◌, ◌⊎◌, inl, inr, Bool, true, false, cond, not, ◌&&◌}
-use Rattle.std.proofs.Common.{◌||◌, nat_eq, List, [], ◌∷◌, ◌++◌, length, Option, Some, None, refl, sym, ap, ◌∙◌, arith}
+use Rattle.std.proofs.Common.{◌≡◌, ℕ, zero, suc, ◌+◌, ◌-◌, ◌<◌, ◌≤◌, ◌⊎◌, inl, inr, Bool, true, false, cond, not}
+use Rattle.std.proofs.Common.{◌||◌, nat_eq, List, [], ◌∷◌, length, Option, Some, None, refl, sym, ap, ◌∙◌, arith}
 use Rattle.std.proofs.lemmas.Bool.{cases_lt, lt-ltb, or_cases, and_parts, eqb-true, eq-eqb}
 use Rattle.std.proofs.lemmas.List.{length-append}
-use Rattle.std.specs.List.{filter}
 use Rattle.std.specs.Str.{bytes_eq}
 use Rattle.mfotl_model.specs.declared.policy.Sort.{Sort}
 use Rattle.mfotl_model.specs.declared.term.Term.{Term}
 use Rattle.mfotl_model.specs.Formulas as forms
 use Rattle.mfotl_model.specs.Formulas.{Form}
-use Rattle.mfotl_model.specs.FreeVariables.{among, without, joined, variable_in, variables_in, fv}
+use Rattle.mfotl_model.specs.FreeVariables.{among, without, variable_in, variables_in, fv}
 use Rattle.mfotl_model.proofs.LogicLemmas.{among_joined, among_without}
 use Rattle.mfotl_model.proofs.VariableLemmas.{variables_in-cons}
 use Rattle.mfotl_sig.specs.Preds.{PredOf, named}
@@ -24,11 +23,10 @@ use Rattle.mfotl_parse.specs.Meanings.{term_names, argument_term, argument_names
 use Rattle.mfotl_parse.specs.Meanings.{atom, variables_names, variables_scope, quantify, interval_of, names_behind}
 use Rattle.mfotl_parse.specs.Meanings.{value}
 use Rattle.mfotl_parse.specs.SymbolTable.{number_of, free_place, free_or_new, with_free, bound_or_free, met}
-use Rattle.mfotl_parse.specs.SymbolTable.{bound_more, inner_or, constrain_term, term_of}
-use Rattle.mfotl_parse.specs.Operands.{truth}
+use Rattle.mfotl_parse.specs.SymbolTable.{bound_more, inner_or, term_of}
 use Rattle.mfotl_parse.specs.States.{SymbolTable}
 use Rattle.mfotl_parse.specs.Limits.{max_free}
-use Rattle.mfotl_parse.proofs.NamesOrder.{Grows, placed_grows, term_grows, argument_grows, arguments_grow, tree_grows}
+use Rattle.mfotl_parse.proofs.NamesOrder.{placed_grows, term_grows, argument_grows, arguments_grow, tree_grows}
 use Rattle.mfotl_parse.proofs.NamesOrder.{sides_grow, found_within}
 use Rattle.mfotl_parse.proofs.VariableOrder.{is_free, free_in, fewer, last_only, truth_order, one_order, moment_order}
 use Rattle.mfotl_parse.proofs.VariableOrder.{joined_order}

@@ -1,19 +1,18 @@
 -- The columns of a policy that was read are the free variables of its formula, and its occurrences have their sorts.
-use Rattle.std.proofs.Common.{◌≡◌, ℕ, zero, suc, ◌+◌, ◌-◌, ◌<◌, ◌≤◌, Bool, true, List, [], ◌∷◌, length, map, Option}
+use Rattle.std.proofs.Common.{◌≡◌, ℕ, suc, ◌+◌, ◌-◌, ◌<◌, Bool, List, [], ◌∷◌, length, map, Option}
 use Rattle.std.proofs.Common.{Some, None, Result, Ok, Err, refl, sym, ap, subst, ◌∙◌, arith, cond}
 use Rattle.std.proofs.lemmas.Bool.{lt-ltb}
 use Rattle.std.specs.Prelude.{slice_get, IfOk}
 use Rattle.std.specs.List.{range_with_len}
 use Rattle.mfotl_model.specs.declared.policy.Policy.{Policy}
 use Rattle.mfotl_model.specs.declared.policy.Sort.{Sort}
-use Rattle.mfotl_model.specs.declared.policy.Var.{Var}
 use Rattle.mfotl_model.specs.Formulas.{form}
-use Rattle.mfotl_model.specs.FreeVariables.{joined, fv}
+use Rattle.mfotl_model.specs.FreeVariables.{fv}
 use Rattle.mfotl_model.proofs.VariableLemmas.{joined_none}
 use Rattle.mfotl_sig.specs.Preds.{PredOf}
 use Rattle.mfotl_parse.specs.declared.fault.PolicyFault.{PolicyFault}
 use Rattle.mfotl_parse.specs.Grammar.{Tree}
-use Rattle.mfotl_parse.specs.Meanings.{no_scope, all_names, value, KeepsRules, IsValue, policy_of}
+use Rattle.mfotl_parse.specs.Meanings.{no_scope, all_names, value, KeepsRules, IsValue}
 use Rattle.mfotl_parse.specs.SymbolTable.{given_at, sort_or_int, vars_of}
 use Rattle.mfotl_parse.specs.Reading.{PolicyOf, reading}
 use Rattle.mfotl_parse.specs.States.{SymbolTable, no_names}

@@ -8,7 +8,7 @@ use Rattle.mfotl_parse.specs.declared.fault.PolicyFault.{PolicyFault}
 use Rattle.mfotl_parse.specs.declared.fault.PolicyFault.TheVariants.{Syntax}
 use Rattle.mfotl_parse.specs.Transitions.{Limit, Empty, Range, Unknown, Arity, Deep, Nodes, Rule, Transition, fault_of}
 use Rattle.mfotl_parse.specs.Transitions.{kept, given}
-use Rattle.mfotl_parse.specs.Reading.{PolicyOf, and_then, transition, step, run}
+use Rattle.mfotl_parse.specs.Reading.{and_then, transition, step, run}
 use Rattle.mfotl_parse.specs.States.{Partial, start}
 use Rattle.mfotl_parse.specs.Viability.{if_moved, accepts, goes_on, IsViable, and_steps, steps}
 use Rattle.mfotl_parse.proofs.ViabilityLemmas.{completes}

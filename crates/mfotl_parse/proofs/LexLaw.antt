@@ -1,13 +1,12 @@
 -- A fault of the lexer is shown exactly behind the whole tokens, where they show none.
-use Rattle.std.proofs.Common.{◌≡◌, ℕ, Bool, true, false, cond, List, [], ◌∷◌, ◌++◌, length, Option, Some, None, Result}
-use Rattle.std.proofs.Common.{Ok, Err, refl, ap, sym, ◌∙◌, ◌⊎◌, inl, inr}
+use Rattle.std.proofs.Common.{◌≡◌, ℕ, Bool, true, false, cond, List, [], ◌∷◌, length, Option, Some, None}
+use Rattle.std.proofs.Common.{Err, ap, sym, ◌∙◌, inl, inr}
 use Rattle.std.proofs.lemmas.List.{append-nil}
 use Rattle.std.specs.Prelude.{slice_get}
 use Rattle.mfotl_lex.specs.declared.fault.LexFault.{LexFault}
 use Rattle.mfotl_lex.specs.Lexemes.{Lexeme}
 use Rattle.mfotl_model.specs.Formulas.{Form}
 use Rattle.mfotl_sig.specs.Preds.{PredOf}
-use Rattle.mfotl_parse.specs.declared.fault.PolicyFault.{PolicyFault}
 use Rattle.mfotl_parse.specs.declared.fault.PolicyFault.TheVariants.{Lex}
 use Rattle.mfotl_parse.specs.declared.term.Pair.{Pair}
 use Rattle.mfotl_parse.specs.GrammarLaws.{IsFirstFault, IsSilent, ExactLex}
@@ -21,7 +20,7 @@ use Rattle.mfotl_parse.specs.Reduction.{reduce}
 use Rattle.mfotl_parse.specs.States.{SymbolTable, Stage, Context, Partial, AfterOperand, start}
 use Rattle.mfotl_parse.specs.Limits.{max_free}
 use Rattle.mfotl_parse.proofs.SilentLaw.{are_read, are_silent}
-use Rattle.mfotl_parse.proofs.SyntaxLaw.{Stopped, Ended, shown, run_behind}
+use Rattle.mfotl_parse.proofs.SyntaxLaw.{shown, run_behind}
 
 -- no rule's fault is the lexer's
 no_lexical : (limit : Limit) (at : ℕ) (fault : LexFault) → fault_of limit at ≡ Lex fault → ⊥

@@ -1,6 +1,6 @@
 -- What the rules for the whole text leave.
 use Rattle.std.proofs.Common.{◌≡◌, ℕ, zero, suc, ◌≤◌, Bool, true, false, List, [], ◌∷◌, Option, Some, None, Result, Ok}
-use Rattle.std.proofs.Common.{Err, length, refl, sym, ap, ◌∙◌, subst, arith}
+use Rattle.std.proofs.Common.{Err, length, refl, ap, subst, arith}
 use Rattle.std.specs.Prelude.{slice_get, IfOk}
 use Rattle.mfotl_lex.specs.declared.fault.LexFault.{LexFault}
 use Rattle.mfotl_lex.specs.Lexemes.{Lexeme}

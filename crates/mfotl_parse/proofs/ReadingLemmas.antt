@@ -1,6 +1,6 @@
 -- What the reader's loop keeps: the rest of the text, behind what was read, reads as the whole text does.
-use Rattle.std.proofs.Common.{◌≡◌, ℕ, zero, suc, ◌+◌, ◌-◌, ◌<◌, ◌≤◌, List, [], ◌∷◌, length, Option, Some, None, Result}
-use Rattle.std.proofs.Common.{Ok, Err, ap, sym, ◌∙◌, arith, refl}
+use Rattle.std.proofs.Common.{◌≡◌, ℕ, suc, ◌+◌, ◌-◌, ◌<◌, ◌≤◌, List, length, Option, Some, None, Result}
+use Rattle.std.proofs.Common.{Ok, Err, ap, sym, ◌∙◌, arith}
 use Rattle.mfotl_lex.specs.declared.fault.LexFault.{LexFault}
 use Rattle.mfotl_lex.specs.declared.kind.Mode.TheVariants.{Plain}
 use Rattle.mfotl_lex.specs.Lexemes.{Lexeme, followed, next_token, after, tokens, tokens_within}
@@ -8,7 +8,7 @@ use Rattle.mfotl_lex.specs.Places.{Place, beginning}
 use Rattle.mfotl_sig.specs.Preds.{PredOf}
 use Rattle.mfotl_parse.specs.declared.fault.PolicyFault.{PolicyFault}
 use Rattle.mfotl_parse.specs.declared.fault.PolicyFault.TheVariants.{Lex, Memory}
-use Rattle.mfotl_parse.specs.Reading.{PolicyOf, and_then, step, run, ended_at, reading_on, reading}
+use Rattle.mfotl_parse.specs.Reading.{and_then, step, run, ended_at, reading_on, reading}
 use Rattle.mfotl_parse.specs.States.{Partial, start}
 use Rattle.mfotl_parse.specs.Views.{Fails}
 

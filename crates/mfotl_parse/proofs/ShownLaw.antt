@@ -1,6 +1,6 @@
 -- Each fault is the first one exactly where the grammar says that it is shown.
 use Rattle.std.proofs.Common.{◌≡◌, ◌↔◌, ℕ, Bool, true, false, cond, List, [], ◌∷◌, ◌++◌, length, Option, Some, None}
-use Rattle.std.proofs.Common.{Result, Ok, Err, refl, ap, sym, subst, ◌∙◌, ◌⊎◌, inl, inr}
+use Rattle.std.proofs.Common.{Result, Ok, Err, refl, ap, sym, subst, ◌∙◌, inl, inr}
 use Rattle.std.proofs.lemmas.List.{append-nil, append_assoc}
 use Rattle.std.specs.Prelude.{slice_get, IfOk, IfErr}
 use Rattle.std.specs.Option.{option_map}
@@ -14,26 +14,26 @@ use Rattle.mfotl_parse.specs.declared.fault.PolicyFault.TheVariants.{Lex, Syntax
 use Rattle.mfotl_parse.specs.declared.fault.PolicyFault.TheVariants.{UnknownPredicate, WrongArity, SortClash}
 use Rattle.mfotl_parse.specs.declared.fault.PolicyFault.TheVariants.{TooManyVariables, TooDeep, TooManyNodes, Memory}
 use Rattle.mfotl_parse.specs.declared.term.Pair.{Pair}
-use Rattle.mfotl_parse.specs.Grammar.{Tree, Fits, spelling, IsFormula}
+use Rattle.mfotl_parse.specs.Grammar.{Tree, spelling}
 use Rattle.mfotl_parse.specs.GrammarLaws.{IsFirstFault, ShowsFirst, IsUnspoiled, SortsClash, HasNinthVariable, IsShown}
-use Rattle.mfotl_parse.specs.GrammarLaws.{EachFaultIsShown, sort_clash, ninth_variable}
-use Rattle.mfotl_parse.specs.Meanings.{IsValue, no_scope, all_names, value, tokens_of, policy_of}
+use Rattle.mfotl_parse.specs.GrammarLaws.{EachFaultIsShown}
+use Rattle.mfotl_parse.specs.Meanings.{IsValue, no_scope, all_names, value, tokens_of}
 use Rattle.mfotl_parse.specs.Transitions.{Limit, Empty, Range, Unknown, Arity, Deep, Nodes, Rule, Transition, goes}
 use Rattle.mfotl_parse.specs.Transitions.{fault_of, kept, given}
 use Rattle.mfotl_parse.specs.SymbolTable.{uneven_pair, clash_or_pair, vars_of}
 use Rattle.mfotl_parse.specs.Reading.{PolicyOf, and_then, transition, step, run, sorted, finished, ended, ended_at}
 use Rattle.mfotl_parse.specs.Reading.{at_end, is_closed, reading}
 use Rattle.mfotl_parse.specs.Reduction.{Reduced, reduce}
-use Rattle.mfotl_parse.specs.Shows.{Showing, silent, shown_by}
+use Rattle.mfotl_parse.specs.Shows.{Showing, silent}
 use Rattle.mfotl_parse.specs.States.{SymbolTable, no_names, Stage, Context, Partial, AfterOperand, start}
 use Rattle.mfotl_parse.specs.Views.{policy_of as policy_seen, Fails, Gives}
-use Rattle.mfotl_parse.specs.Viability.{if_moved, is_whole, accepts, goes_on, and_steps, steps}
+use Rattle.mfotl_parse.specs.Viability.{if_moved, is_whole, goes_on, and_steps, steps}
 use Rattle.mfotl_parse.specs.Limits.{max_free}
 use Rattle.mfotl_parse.proofs.AcceptedLaw.{accepted_formula}
 use Rattle.mfotl_parse.proofs.FaultLemmas.{kept_next, viable_from, goes_on_behind}
 use Rattle.mfotl_parse.proofs.LexLaw.{exact_lex}
 use Rattle.mfotl_parse.proofs.ReadLaw.{read_is_spelled}
-use Rattle.mfotl_parse.proofs.SilentLaw.{kept_broken, first_broken, Read, silent_read, read_silent}
+use Rattle.mfotl_parse.proofs.SilentLaw.{kept_broken, first_broken, silent_read, read_silent}
 use Rattle.mfotl_parse.proofs.SpelledLaw.{whole, all_closed, accepts_behind}
 use Rattle.mfotl_parse.proofs.SpelledMoves.{behind_move, then_moves, moves, same_next}
 use Rattle.mfotl_parse.proofs.SyntaxLaw.{Stopped, Ended, shown, run_behind, exact_syntax}

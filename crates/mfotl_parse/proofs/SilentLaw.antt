@@ -1,14 +1,13 @@
 -- Tokens are read where none of them shows a fault, and only there.
-use Rattle.std.proofs.Common.{◌≡◌, ◌↔◌, ℕ, Bool, true, false, cond, List, [], ◌∷◌, ◌++◌, Option, Some, None, Result}
+use Rattle.std.proofs.Common.{◌≡◌, Bool, true, false, cond, List, [], ◌∷◌, ◌++◌, Option, Some, None, Result}
 use Rattle.std.proofs.Common.{Ok, Err, refl, ap, sym, ◌∙◌}
 use Rattle.mfotl_lex.specs.Lexemes.{Lexeme}
 use Rattle.mfotl_sig.specs.Preds.{PredOf}
 use Rattle.mfotl_parse.specs.declared.fault.PolicyFault.{PolicyFault}
-use Rattle.mfotl_parse.specs.Grammar.{Tree, Fits, spelling}
 use Rattle.mfotl_parse.specs.GrammarLaws.{AreRead, IsSilent, SilentAreRead}
 use Rattle.mfotl_parse.specs.Transitions.{Rule, Transition, fault_of, kept, given}
 use Rattle.mfotl_parse.specs.Reading.{transition, step}
-use Rattle.mfotl_parse.specs.Shows.{Showing, silent, if_broken, shown_by}
+use Rattle.mfotl_parse.specs.Shows.{Showing, silent, if_broken}
 use Rattle.mfotl_parse.specs.States.{Partial, start}
 use Rattle.mfotl_parse.specs.Viability.{and_steps, steps}
 use Rattle.mfotl_parse.proofs.AcceptedLaw.{accepted_formula}

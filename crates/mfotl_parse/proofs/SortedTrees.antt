@@ -1,17 +1,14 @@
 -- Each occurrence in a policy that was read has the sort of its variable.
 use Rattle.std.proofs.Common.{◌≡◌, ℕ, zero, suc, ◌+◌, ◌-◌, ◌<◌, ◌≤◌, Bool, true, false, cond, not, List, [], ◌∷◌, ◌++◌}
-use Rattle.std.proofs.Common.{length, Option, Some, None, refl, sym, ap, subst, ◌∙◌, arith}
+use Rattle.std.proofs.Common.{length, Option, Some, None, refl, sym, ap, ◌∙◌, arith}
 use Rattle.std.proofs.lemmas.Bool.{lt-ltb, le-ltb}
 use Rattle.std.proofs.lemmas.List.{append_assoc}
 use Rattle.std.specs.Prelude.{slice_get, find, nat_lt, Contains}
-use Rattle.mfotl_lex.specs.Lexemes.{Lexeme}
 use Rattle.mfotl_model.specs.declared.interval.Interval.{Interval}
 use Rattle.mfotl_model.specs.declared.policy.Sort.{Sort}
 use Rattle.mfotl_model.specs.declared.policy.Sort.TheVariants as sorts
-use Rattle.mfotl_model.specs.declared.term.Term.{Term}
 use Rattle.mfotl_model.specs.declared.value.Value.{Value}
 use Rattle.mfotl_model.specs.declared.value.Value.TheVariants as values
-use Rattle.mfotl_model.specs.Formulas as forms
 use Rattle.mfotl_model.specs.Formulas.{Form}
 use Rattle.mfotl_sig.specs.Preds.{PredOf, named}
 use Rattle.mfotl_parse.specs.declared.class.Operator.{Operator}
@@ -25,7 +22,7 @@ use Rattle.mfotl_parse.specs.declared.term.Operand.TheVariants as operands
 use Rattle.mfotl_parse.specs.declared.term.Pair.{Pair}
 use Rattle.mfotl_parse.specs.declared.term.Variable.{Variable}
 use Rattle.mfotl_parse.specs.declared.term.Variable.TheVariants as variables
-use Rattle.mfotl_parse.specs.Arguments.{call_of, due, after_due, blanks}
+use Rattle.mfotl_parse.specs.Arguments.{call_of, blanks}
 use Rattle.mfotl_parse.specs.Grammar.{WrittenTerm, Named, Number, Quoted, WrittenArgument, Given, Hidden}
 use Rattle.mfotl_parse.specs.Grammar.{WrittenArguments, LastArgument, MoreArguments, WrittenVariables, LastVariable}
 use Rattle.mfotl_parse.specs.Grammar.{MoreVariables, Tree, Truth, BareAtom, AtomOf, Comparison, Enclosed, Denied}
@@ -34,18 +31,18 @@ use Rattle.mfotl_parse.specs.Meanings.{Scope, inside, name_of, place_of_variable
 use Rattle.mfotl_parse.specs.Meanings.{argument_term, argument_names, arguments_terms, arguments_names, argument_count}
 use Rattle.mfotl_parse.specs.Meanings.{atom, variables_names, variables_scope, quantify, interval_of, names_behind}
 use Rattle.mfotl_parse.specs.Meanings.{value, HasArity, PartsKeep}
-use Rattle.mfotl_parse.specs.SymbolTable.{number_of, bound_or_free, met, bound_more, inner_or, given_at, sort_of}
-use Rattle.mfotl_parse.specs.SymbolTable.{same_sort, agreed, require_sort, sort_of_value, constrain_term, compared}
+use Rattle.mfotl_parse.specs.SymbolTable.{number_of, bound_or_free, bound_more, inner_or, given_at, sort_of}
+use Rattle.mfotl_parse.specs.SymbolTable.{same_sort, require_sort, sort_of_value, constrain_term, compared}
 use Rattle.mfotl_parse.specs.SymbolTable.{term_of, differ, uneven_pair}
 use Rattle.mfotl_parse.specs.Operands.{truth}
 use Rattle.mfotl_parse.specs.Reduction.{momentary, joined, quantified}
 use Rattle.mfotl_parse.specs.States.{SymbolTable}
-use Rattle.mfotl_parse.specs.WellSorted.{Sorting, sort_of_constant, HasSort, HaveSorts, FitsPredicate, SidesAgree}
+use Rattle.mfotl_parse.specs.WellSorted.{Sorting, sort_of_constant, HasSort, HaveSorts, SidesAgree}
 use Rattle.mfotl_parse.specs.WellSorted.{FitsSorts}
 use Rattle.mfotl_parse.specs.Limits.{max_free}
-use Rattle.mfotl_parse.proofs.NamesOrder.{Grows, grows_not, grows_then, given_last, bound_grows, placed_grows}
+use Rattle.mfotl_parse.proofs.NamesOrder.{Grows, grows_then, given_last, bound_grows, placed_grows}
 use Rattle.mfotl_parse.proofs.NamesOrder.{compared_grows, term_grows, argument_grows, arguments_grow, variables_grow}
-use Rattle.mfotl_parse.proofs.NamesOrder.{sides_grow, tree_grows, HasPlace, Inside, resolved_place, agreed_sort}
+use Rattle.mfotl_parse.proofs.NamesOrder.{tree_grows, HasPlace, Inside, resolved_place, agreed_sort}
 use Rattle.mfotl_parse.proofs.NamesOrder.{occurs_sort}
 
 -- the sorts that these names give, by the variables' numbers

@@ -1,8 +1,8 @@
 -- The frames in memory and the stack that clauses see.
-use Rattle.std.proofs.Common.{◌≡◌, ℕ, zero, suc, ◌+◌, ◌<◌, ◌≤◌, Bool, true, false, cond, ltb, List, [], ◌∷◌, ◌++◌}
+use Rattle.std.proofs.Common.{◌≡◌, ℕ, suc, ◌+◌, ◌<◌, ◌≤◌, true, false, cond, List, [], ◌∷◌, ◌++◌}
 use Rattle.std.proofs.Common.{length, map, reverse, Option, Some, None, option_to_list, IsSome, MatchOption, subst}
 use Rattle.std.proofs.Common.{refl, sym, ap, ◌∙◌, arith, add-one}
-use Rattle.std.proofs.lemmas.Bool.{ltb-false, le-ltb, lt-ltb}
+use Rattle.std.proofs.lemmas.Bool.{le-ltb, lt-ltb}
 use Rattle.std.proofs.lemmas.List.{map-append, reverse-append, length-append}
 use Rattle.mfotl_model.specs.Formulas.{Form}
 use Rattle.mfotl_parse.specs.declared.frame.Frame.{Frame as FrameValue}
@@ -11,7 +11,7 @@ use Rattle.mfotl_parse.specs.Intervals.{with_interval}
 use Rattle.mfotl_parse.specs.SymbolTable.{bound_as, inner_or, binder_of}
 use Rattle.mfotl_parse.specs.Operands.{around}
 use Rattle.mfotl_parse.specs.Reading.{is_closed}
-use Rattle.mfotl_parse.specs.Reduction.{Reduced, reduce, hold, closed}
+use Rattle.mfotl_parse.specs.Reduction.{reduce, hold, closed}
 use Rattle.mfotl_parse.specs.States.{Frame, opens_level, depth}
 use Rattle.mfotl_parse.specs.Views.{frame_of, stack_of}
 

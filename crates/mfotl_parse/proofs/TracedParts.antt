@@ -1,6 +1,6 @@
 -- What the tokens of atoms, comparisons and intervals show.
 use Rattle.std.proofs.Common.{◌≡◌, ℕ, suc, ◌+◌, ◌*◌, pos, Bool, true, false, List, [], ◌∷◌, ◌++◌, length, Option, Some}
-use Rattle.std.proofs.Common.{None, refl, ap, sym, subst, ◌∙◌, ◌⊎◌, inl, inr, arith}
+use Rattle.std.proofs.Common.{None, refl, ap, sym, subst, ◌∙◌, ◌⊎◌, inl, inr}
 use Rattle.std.proofs.lemmas.List.{append_assoc}
 use Rattle.std.specs.Prelude.{◌&&◌}
 use Rattle.mfotl_lex.specs.Contents.{content_of}
@@ -10,30 +10,28 @@ use Rattle.mfotl_model.specs.declared.policy.Sort.{Sort}
 use Rattle.mfotl_model.specs.declared.term.Sign.{Sign}
 use Rattle.mfotl_model.specs.declared.term.Term.{Term}
 use Rattle.mfotl_model.specs.declared.value.Value.TheVariants as values
-use Rattle.mfotl_model.specs.Formulas as forms
 use Rattle.mfotl_sig.specs.Preds.{PredOf, named}
 use Rattle.mfotl_parse.specs.declared.class.Class.{Class}
 use Rattle.mfotl_parse.specs.declared.class.Class.TheVariants as classes
 use Rattle.mfotl_parse.specs.declared.term.Operand.TheVariants as operands
 use Rattle.mfotl_parse.specs.declared.term.Side.{Side}
-use Rattle.mfotl_parse.specs.Arguments.{call_of, known, due, after_due, with_argument, atom_of}
+use Rattle.mfotl_parse.specs.Arguments.{call_of, due, after_due, with_argument}
 use Rattle.mfotl_parse.specs.Classes.{class_of}
 use Rattle.mfotl_parse.specs.Grammar.{Bare, Asked, WrittenTerm, Named, Number, Quoted, WrittenArgument, Given, Hidden}
 use Rattle.mfotl_parse.specs.Grammar.{WrittenArguments, LastArgument, MoreArguments, WrittenBound, Count, Counted}
 use Rattle.mfotl_parse.specs.Grammar.{WrittenEnd, Included, Excluded, Unbounded, WrittenInterval, Omitted, From, Above}
 use Rattle.mfotl_parse.specs.Grammar.{term_spelling, argument_spelling, arguments_spelling, bound_spelling}
 use Rattle.mfotl_parse.specs.Grammar.{end_spelling, interval_spelling, FitsTerm, FitsArgument, FitsArguments}
-use Rattle.mfotl_parse.specs.Grammar.{FitsBound, FitsEnd, FitsInterval, FitsOperator, IsAtomName}
-use Rattle.mfotl_parse.specs.Intervals.{any_distance, framed, with_interval, in_range, not_empty, low_unit, high_unit}
+use Rattle.mfotl_parse.specs.Grammar.{FitsBound, FitsEnd, FitsOperator, IsAtomName}
+use Rattle.mfotl_parse.specs.Intervals.{any_distance, framed, with_interval, in_range, low_unit, high_unit}
 use Rattle.mfotl_parse.specs.Intervals.{bracket, high_number_move}
 use Rattle.mfotl_parse.specs.Operands.{maybe_unit, now_behind}
 use Rattle.mfotl_parse.specs.Meanings.{place_of, operand_of, term_names, argument_term, argument_names}
 use Rattle.mfotl_parse.specs.Meanings.{arguments_terms, arguments_names, sorts_behind, atom, bound_value}
-use Rattle.mfotl_parse.specs.Meanings.{interval_from, interval_of, hidden_count}
-use Rattle.mfotl_parse.specs.Transitions.{Rule, goes, within_nodes}
-use Rattle.mfotl_parse.specs.SymbolTable.{compared, term_of}
+use Rattle.mfotl_parse.specs.Meanings.{interval_from, interval_of}
+use Rattle.mfotl_parse.specs.Transitions.{Rule, goes}
 use Rattle.mfotl_parse.specs.Shows.{Showing, silent, places_of, name_shown, node_shown, argument_shown}
-use Rattle.mfotl_parse.specs.Shows.{arguments_shown, closing_shown, range_shown, bound_shown, above_shown, empty_shown}
+use Rattle.mfotl_parse.specs.Shows.{arguments_shown, closing_shown, bound_shown, above_shown}
 use Rattle.mfotl_parse.specs.Shows.{end_shown, interval_shown, is_omitted}
 use Rattle.mfotl_parse.specs.States.{Frame, Call, SymbolTable, Stage, Partial, ExpectOperand, AfterTemporal}
 use Rattle.mfotl_parse.specs.States.{AfterOperand, AfterWord, AfterBlank, AfterMark, ExpectSign, AfterSign}

@@ -5,20 +5,16 @@ use Rattle.std.proofs.lemmas.List.{append_assoc}
 use Rattle.std.specs.Prelude.{cond, ◌&&◌}
 use Rattle.mfotl_lex.specs.Lexemes.{Lexeme}
 use Rattle.mfotl_model.specs.declared.interval.Interval.{Interval}
-use Rattle.mfotl_model.specs.declared.term.Sign.{Sign}
 use Rattle.mfotl_model.specs.declared.value.Value.TheVariants as values
-use Rattle.mfotl_model.specs.Formulas.{Form}
 use Rattle.mfotl_sig.specs.Preds.{PredOf}
 use Rattle.mfotl_parse.specs.declared.class.Class.{Class}
 use Rattle.mfotl_parse.specs.declared.class.Class.TheVariants as classes
-use Rattle.mfotl_parse.specs.declared.class.Operator.{Operator}
 use Rattle.mfotl_parse.specs.declared.class.Quantifier.{Quantifier}
 use Rattle.mfotl_parse.specs.declared.fault.PolicyFault.{PolicyFault}
 use Rattle.mfotl_parse.specs.declared.term.Operand.TheVariants as operands
-use Rattle.mfotl_parse.specs.declared.term.Side.{Side}
 use Rattle.mfotl_parse.specs.Classes.{class_of}
 use Rattle.mfotl_parse.specs.Grammar.{WrittenVariable, Bare, Asked, WrittenTerm, Named, Number, Quoted}
-use Rattle.mfotl_parse.specs.Grammar.{WrittenVariables, LastVariable, MoreVariables, WrittenInterval, Tree, Truth}
+use Rattle.mfotl_parse.specs.Grammar.{WrittenVariables, LastVariable, MoreVariables, Tree, Truth}
 use Rattle.mfotl_parse.specs.Grammar.{BareAtom, AtomOf, Comparison, Enclosed, Denied, Timed, Quantified, Joined}
 use Rattle.mfotl_parse.specs.Grammar.{term_spelling, variable_spelling, variables_spelling, interval_spelling}
 use Rattle.mfotl_parse.specs.Grammar.{spelling, FitsTerm, FitsVariable, FitsVariables, Fits, IsAtomName}
@@ -27,7 +23,7 @@ use Rattle.mfotl_parse.specs.Intervals.{any_distance}
 use Rattle.mfotl_parse.specs.Meanings.{name_of, interval_of, names_behind, value, variable_count, node_count}
 use Rattle.mfotl_parse.specs.Transitions.{Rule, Transition, goes, first_keeps, within_depth, within_nodes}
 use Rattle.mfotl_parse.specs.SymbolTable.{binder_of, bound_more}
-use Rattle.mfotl_parse.specs.Operands.{operand_move, maybe_move, maybe_number_move, compared_move, signed, deepening}
+use Rattle.mfotl_parse.specs.Operands.{operand_move, maybe_move, maybe_number_move, compared_move, deepening}
 use Rattle.mfotl_parse.specs.Operands.{now_behind}
 use Rattle.mfotl_parse.specs.Reading.{transition}
 use Rattle.mfotl_parse.specs.Reduction.{reduce}
@@ -39,8 +35,8 @@ use Rattle.mfotl_parse.specs.States.{Partial, ExpectOperand, AfterTemporal, Afte
 use Rattle.mfotl_parse.specs.States.{AfterVariableMark, AfterVariable, AfterParen, AfterParenNumber, no_names, start}
 use Rattle.mfotl_parse.proofs.SpelledMoves.{at_place, behind_move, then_moves, moves, moves_one, moves_both, no_move}
 use Rattle.mfotl_parse.proofs.SpelledMoves.{same_next}
-use Rattle.mfotl_parse.proofs.SpelledForms.{Takes, IsLoose, IsHave, reduce_here, enclosed, joins, fresh_too}
-use Rattle.mfotl_parse.proofs.SpelledParts.{scope_of, context_at}
+use Rattle.mfotl_parse.proofs.SpelledForms.{IsLoose, IsHave, reduce_here, enclosed, joins, fresh_too}
+use Rattle.mfotl_parse.proofs.SpelledParts.{scope_of}
 use Rattle.mfotl_parse.proofs.SpelledTrees.{Reaches, left_reaches, right_reaches, unary_reaches, one_reaches, looser}
 use Rattle.mfotl_parse.proofs.SpelledTrees.{level_left, reads}
 use Rattle.mfotl_parse.proofs.TracedMoves.{broken, traced, trace, trace_move, trace_first, trace_both, trace_any}

@@ -1,8 +1,7 @@
 -- From every state some tokens lead on to a whole text.
-use Rattle.std.proofs.Common.{◌≡◌, ℕ, zero, suc, Bool, true, false, List, [], ◌∷◌, ◌++◌, Option, Some, None, Result}
-use Rattle.std.proofs.Common.{Ok, Err, refl, sym, ap, ◌∙◌, append_assoc}
+use Rattle.std.proofs.Common.{◌≡◌, ℕ, zero, suc, Bool, true, false, List, [], ◌∷◌, ◌++◌, Option, Some, None}
+use Rattle.std.proofs.Common.{refl, ap, ◌∙◌}
 use Rattle.std.specs.Prelude.{codes}
-use Rattle.mfotl_lex.specs.declared.fault.LexFault.{LexFault}
 use Rattle.mfotl_lex.specs.declared.kind.Kind.{Kind}
 use Rattle.mfotl_lex.specs.declared.kind.Kind.TheVariants as kinds
 use Rattle.mfotl_lex.specs.Lexemes.{Lexeme}
@@ -10,21 +9,18 @@ use Rattle.mfotl_lex.specs.Numbers.{digits_value, integer_value}
 use Rattle.mfotl_model.specs.Formulas.{Form}
 use Rattle.mfotl_sig.specs.Preds.{PredOf}
 use Rattle.mfotl_parse.specs.declared.class.Operator.TheVariants.{And, Or, Implies, Equiv, Since, Until}
-use Rattle.mfotl_parse.specs.declared.fault.PolicyFault.{PolicyFault}
-use Rattle.mfotl_parse.specs.declared.fault.PolicyFault.TheVariants.{Syntax}
 use Rattle.mfotl_parse.specs.Classes.{word_class, operator_class, temporal_class}
-use Rattle.mfotl_parse.specs.Transitions.{Limit, Empty, Range, Unknown, Arity, Deep, Nodes, Rule, Transition, fault_of}
-use Rattle.mfotl_parse.specs.Transitions.{kept, given}
+use Rattle.mfotl_parse.specs.Transitions.{Transition}
 use Rattle.mfotl_parse.specs.Operands.{around, enclosed_move}
-use Rattle.mfotl_parse.specs.Reading.{PolicyOf, and_then, transition, step, run, is_closed}
+use Rattle.mfotl_parse.specs.Reading.{transition, is_closed}
 use Rattle.mfotl_parse.specs.Reduction.{Reduced, reduce, closed}
 use Rattle.mfotl_parse.specs.States.{Frame, Parens, Negation, Moment, Binding, Left, Context, Partial, Stage}
-use Rattle.mfotl_parse.specs.States.{with_stack, start, ExpectOperand, AfterTemporal, AfterOperand, AfterWord}
+use Rattle.mfotl_parse.specs.States.{with_stack, ExpectOperand, AfterTemporal, AfterOperand, AfterWord}
 use Rattle.mfotl_parse.specs.States.{AfterBlank, AfterMark, ExpectSign, AfterSign, AfterSignMark, FirstArgument}
 use Rattle.mfotl_parse.specs.States.{NextArgument, AfterArgument, AfterArgumentMark, ExpectVariable, AfterVariableMark}
 use Rattle.mfotl_parse.specs.States.{AfterVariable, AfterParen, AfterParenNumber, ExpectLow, AfterLowNumber, AfterLow}
 use Rattle.mfotl_parse.specs.States.{ExpectHigh, AfterHighNumber, AfterHigh, AfterStar}
-use Rattle.mfotl_parse.specs.Viability.{if_moved, is_whole, accepts, goes_on, and_steps, steps}
+use Rattle.mfotl_parse.specs.Viability.{if_moved, accepts}
 
 -- ---- the tokens that are due
 

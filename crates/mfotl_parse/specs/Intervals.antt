@@ -1,17 +1,17 @@
 -- The interval behind a temporal operator. Without one, any distance will do.
-use Rattle.std.specs.Prelude.{◌≡◌, ℕ, zero, suc, ◌+◌, ◌-◌, ◌*◌, ◌^◌, ◌≤◌, ℤ, pos, negsuc, Bool, List, [], ◌∷◌, Option}
-use Rattle.std.specs.Prelude.{Some, None, max, nat_lt, nat_le, if◌then◌else◌, refl}
+use Rattle.std.specs.Prelude.{◌≡◌, ℕ, ◌+◌, ◌-◌, ◌*◌, ◌≤◌, pos, List, [], ◌∷◌, Option}
+use Rattle.std.specs.Prelude.{Some, None, max, nat_lt, nat_le, if◌then◌else◌}
 use Rattle.std.specs.Option.{ForSome}
-use Rattle.std.proofs.Common.{subst, arith}
+use Rattle.std.proofs.Common.{subst}
 use Rattle.std.proofs.Math.Nat.{le-max_left}
 use Rattle.mfotl_lex.specs.Lexemes.{Lexeme}
 use Rattle.mfotl_model.specs.declared.interval.Interval.{Interval}
 use Rattle.mfotl_parse.specs.declared.class.Class.{Class}
 use Rattle.mfotl_parse.specs.declared.class.Class.TheVariants as classes
-use Rattle.mfotl_parse.specs.Classes.{class_of, unit_of}
+use Rattle.mfotl_parse.specs.Classes.{unit_of}
 use Rattle.mfotl_parse.specs.Transitions.{Range, Empty, Rule, Transition, goes}
 use Rattle.mfotl_parse.specs.States.{Frame, Parens, Negation, Moment, Binding, Left, Context, Partial, with_now}
-use Rattle.mfotl_parse.specs.States.{with_stack, ExpectOperand, ExpectLow, AfterLowNumber, AfterLow, ExpectHigh}
+use Rattle.mfotl_parse.specs.States.{with_stack, ExpectOperand, AfterLowNumber, AfterLow, ExpectHigh}
 use Rattle.mfotl_parse.specs.States.{AfterHighNumber, AfterHigh, AfterStar}
 use Rattle.mfotl_parse.specs.Limits.{max_bound}
 

@@ -1,5 +1,5 @@
 -- Where an operand begins, comparisons, quantifiers, and what stands behind an operand.
-use Rattle.std.specs.Prelude.{ℕ, zero, suc, ℤ, pos, negsuc, Bool, true, false, ◌+◌, ◌*◌, List, [], ◌∷◌, ◌++◌, Option}
+use Rattle.std.specs.Prelude.{ℕ, ℤ, pos, negsuc, Bool, true, false, ◌+◌, ◌*◌, List, [], ◌∷◌, Option}
 use Rattle.std.specs.Prelude.{Some, None, length, codes, if◌then◌else◌}
 use Rattle.mfotl_lex.specs.Lexemes.{Lexeme}
 use Rattle.mfotl_lex.specs.Contents.{content_of}
@@ -11,9 +11,7 @@ use Rattle.mfotl_sig.specs.Preds.{PredOf}
 use Rattle.mfotl_parse.specs.declared.class.Class.{Class}
 use Rattle.mfotl_parse.specs.declared.class.Class.TheVariants as classes
 use Rattle.mfotl_parse.specs.declared.class.Operator.{Operator}
-use Rattle.mfotl_parse.specs.declared.class.Operator.TheVariants as operators
 use Rattle.mfotl_parse.specs.declared.class.Quantifier.{Quantifier}
-use Rattle.mfotl_parse.specs.declared.class.Temporal.{Temporal}
 use Rattle.mfotl_parse.specs.declared.term.Operand.{Operand}
 use Rattle.mfotl_parse.specs.declared.term.Operand.TheVariants as operands
 use Rattle.mfotl_parse.specs.declared.term.Side.{Side}
@@ -28,7 +26,6 @@ use Rattle.mfotl_parse.specs.States.{with_stack, with_names, counted, pushed, Ex
 use Rattle.mfotl_parse.specs.States.{AfterOperand, AfterWord, AfterBlank, AfterMark, ExpectSign, AfterSign}
 use Rattle.mfotl_parse.specs.States.{AfterSignMark, ExpectVariable, AfterVariableMark, AfterVariable, AfterParen}
 use Rattle.mfotl_parse.specs.States.{AfterParenNumber, ExpectLow, AfterLow, ExpectHigh}
-use Rattle.mfotl_parse.specs.Limits.{max_nodes}
 use Rattle.mfotl_parse.specs.Grammar.{is_timed, precedence, deepens}
 
 abbrev pub truth : Bool → Form

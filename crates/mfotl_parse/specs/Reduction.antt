@@ -1,6 +1,6 @@
 -- How operators hold their operands. An operand that was read belongs to the innermost frame; an operator
 -- or a `)` behind it closes the frames that hold more tightly than itself.
-use Rattle.std.specs.Prelude.{ℕ, ◌≤◌, Bool, List, [], ◌∷◌, Option, Some, None, nat_lt, max, if◌then◌else◌, ◌+◌}
+use Rattle.std.specs.Prelude.{ℕ, List, [], ◌∷◌, nat_lt, if◌then◌else◌, ◌+◌}
 use Rattle.mfotl_model.specs.declared.formula.Bound.{Bound}
 use Rattle.mfotl_model.specs.declared.interval.Interval.{Interval}
 use Rattle.mfotl_model.specs.Formulas as forms

@@ -1,6 +1,6 @@
 -- What ties the columns of a policy to its formula: the free variables are numbered in the order in which they first
 -- occur, and each occurrence has the sort of its variable. It is said of the formula alone.
-use Rattle.std.specs.Prelude.{◌≡◌, ℕ, List, [], ◌∷◌, Option, None, Some, length, map, slice_get, Contains}
+use Rattle.std.specs.Prelude.{◌≡◌, ℕ, List, [], ◌∷◌, Option, None, Some, length, map, Contains}
 use Rattle.std.specs.List.{range_with_len}
 use Rattle.mfotl_model.specs.declared.policy.Sort.{Sort}
 use Rattle.mfotl_model.specs.declared.policy.Sort.TheVariants as sorts

@@ -1,4 +1,4 @@
-use Rattle.std.proofs.Common.{◌∙◌, ◌≤◌, ℕ, sym, ap, subst, arith}
+use Rattle.std.proofs.Common.{◌∙◌, ◌≤◌, ℕ, sym, subst, arith}
 use Rattle.mfotl_parse.proofs.StackLemmas.{reduce_nothing, keeps_loose, closes_popped}
 use Rattle.mfotl_parse.proofs.stack.pop_tighter.Goals as goal
 
