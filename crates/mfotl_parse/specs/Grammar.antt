@@ -75,7 +75,8 @@ pub data Tree : Type 0 where
   Enclosed : (opening : Lexeme) (inside : Tree) (closing : Lexeme) → Tree
   Denied : (token : Lexeme) (inside : Tree) → Tree
   Timed : (token : Lexeme) (operator : Temporal) (interval : WrittenInterval) (inside : Tree) → Tree
-  Quantified : (token : Lexeme) (quantifier : Quantifier) (variables : WrittenVariables) (dot : Lexeme) (inside : Tree) → Tree
+  Quantified : (token : Lexeme) (quantifier : Quantifier) (variables : WrittenVariables) (dot : Lexeme)
+      (inside : Tree) → Tree
   Joined : (left : Tree) (token : Lexeme) (operator : Operator) (interval : WrittenInterval) (right : Tree) → Tree
 
 -- ---- their tokens in order
@@ -123,8 +124,10 @@ spelling (Comparison left token sign right) = term_spelling left ++ token ∷ te
 spelling (Enclosed opening inside closing) = opening ∷ spelling inside ++ closing ∷ []
 spelling (Denied token inside) = token ∷ spelling inside
 spelling (Timed token operator interval inside) = token ∷ interval_spelling interval ++ spelling inside
-spelling (Quantified token quantifier variables dot inside) = token ∷ variables_spelling variables ++ dot ∷ spelling inside
-spelling (Joined left token operator interval right) = spelling left ++ token ∷ (interval_spelling interval ++ spelling right)
+spelling (Quantified token quantifier variables dot inside) =
+    token ∷ variables_spelling variables ++ dot ∷ spelling inside
+spelling (Joined left token operator interval right) =
+    spelling left ++ token ∷ (interval_spelling interval ++ spelling right)
 
 -- ---- which of them the grammar allows
 
@@ -143,16 +146,19 @@ FitsArgument (Hidden token) = class_of token ≡ classes.Blank
 
 abbrev pub FitsArguments : WrittenArguments → Type 0
 FitsArguments (LastArgument argument) = FitsArgument argument
-FitsArguments (MoreArguments argument comma rest) = FitsArgument argument × (class_of comma ≡ classes.Comma) × FitsArguments rest
+FitsArguments (MoreArguments argument comma rest) =
+    FitsArgument argument × (class_of comma ≡ classes.Comma) × FitsArguments rest
 
 abbrev pub FitsVariables : WrittenVariables → Type 0
 FitsVariables (LastVariable variable) = FitsVariable variable
-FitsVariables (MoreVariables variable comma rest) = FitsVariable variable × (class_of comma ≡ classes.Comma) × FitsVariables rest
+FitsVariables (MoreVariables variable comma rest) =
+    FitsVariable variable × (class_of comma ≡ classes.Comma) × FitsVariables rest
 
 abbrev pub FitsBound : WrittenBound → Type 0
 FitsBound (Count token number) = class_of token ≡ classes.Integer (pos number)
 FitsBound (Counted token number unit seconds) =
-    (class_of token ≡ classes.Integer (pos number)) × (class_of unit ≡ classes.Name) × (unit_of unit.text ≡ Some seconds)
+    (class_of token ≡ classes.Integer (pos number)) × (class_of unit ≡ classes.Name)
+    × (unit_of unit.text ≡ Some seconds)
 
 abbrev pub FitsEnd : WrittenEnd → Type 0
 FitsEnd (Included high closing) = FitsBound high × (class_of closing ≡ classes.CloseBracket)
@@ -161,8 +167,10 @@ FitsEnd (Unbounded star closing) = (class_of star ≡ classes.Star) × (class_of
 
 abbrev pub FitsInterval : WrittenInterval → Type 0
 FitsInterval Omitted = Unit {0}
-FitsInterval (From opening low comma end) = (class_of opening ≡ classes.OpenBracket) × FitsBound low × (class_of comma ≡ classes.Comma) × FitsEnd end
-FitsInterval (Above opening low comma end) = (class_of opening ≡ classes.OpenParen) × FitsBound low × (class_of comma ≡ classes.Comma) × FitsEnd end
+FitsInterval (From opening low comma end) =
+    (class_of opening ≡ classes.OpenBracket) × FitsBound low × (class_of comma ≡ classes.Comma) × FitsEnd end
+FitsInterval (Above opening low comma end) =
+    (class_of opening ≡ classes.OpenParen) × FitsBound low × (class_of comma ≡ classes.Comma) × FitsEnd end
 
 -- only SINCE and UNTIL take an interval
 abbrev pub FitsOperator : Bool → WrittenInterval → Type 0
@@ -235,7 +243,8 @@ Fits rule (Truth token value) = class_of token ≡ classes.Truth value
 Fits rule (BareAtom name opening closing) =
     IsAtomName name × (class_of opening ≡ classes.OpenParen) × (class_of closing ≡ classes.CloseParen)
 Fits rule (AtomOf name opening arguments closing) =
-    IsAtomName name × (class_of opening ≡ classes.OpenParen) × FitsArguments arguments × (class_of closing ≡ classes.CloseParen)
+    IsAtomName name × (class_of opening ≡ classes.OpenParen) × FitsArguments arguments
+    × (class_of closing ≡ classes.CloseParen)
 Fits rule (Comparison left token sign right) = FitsTerm left × (class_of token ≡ classes.Sign sign) × FitsTerm right
 Fits rule (Enclosed opening inside closing) =
     (class_of opening ≡ classes.OpenParen) × Fits 1 inside × (class_of closing ≡ classes.CloseParen)
@@ -243,9 +252,11 @@ Fits rule (Denied token inside) = (class_of token ≡ classes.Not) × Fits 6 ins
 Fits rule (Timed token operator interval inside) =
     (class_of token ≡ classes.Temporal operator) × FitsInterval interval × Fits 6 inside
 Fits rule (Quantified token quantifier variables dot inside) =
-    (class_of token ≡ classes.Quantifier quantifier) × FitsVariables variables × (class_of dot ≡ classes.Dot) × Fits 1 inside
+    (class_of token ≡ classes.Quantifier quantifier) × FitsVariables variables × (class_of dot ≡ classes.Dot)
+    × Fits 1 inside
 Fits rule (Joined left token operator interval right) =
-    (rule ≤ precedence operator) × Fits (left_precedence operator) left × (is_shut left ≡ true) × (class_of token ≡ classes.Operator operator)
+    (rule ≤ precedence operator) × Fits (left_precedence operator) left × (is_shut left ≡ true)
+    × (class_of token ≡ classes.Operator operator)
     × FitsOperator (is_timed operator) interval × Fits (right_precedence operator) right
 
 -- the tokens are those of a formula, the other rules apart

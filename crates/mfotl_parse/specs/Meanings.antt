@@ -1,5 +1,6 @@
 -- What a written policy means, and the rules beside the grammar that it has to keep.
-use Rattle.std.specs.Prelude.{◌≡◌, ℕ, suc, ◌+◌, ◌-◌, ◌*◌, ◌≤◌, ◌<◌, max, Bool, true, false, List, [], ◌∷◌, length, Option, Some, None, if◌then◌else◌}
+use Rattle.std.specs.Prelude.{◌≡◌, ℕ, suc, ◌+◌, ◌-◌, ◌*◌, ◌≤◌, ◌<◌, max, Bool, true, false, List, [], ◌∷◌, length}
+use Rattle.std.specs.Prelude.{Option, Some, None, if◌then◌else◌}
 use Rattle.std.specs.Str.{bytes_eq}
 use Rattle.mfotl_lex.specs.Contents.{content_of}
 use Rattle.mfotl_lex.specs.declared.kind.Mode.TheVariants.{Plain}
@@ -17,9 +18,15 @@ use Rattle.mfotl_parse.specs.declared.class.Quantifier.{Quantifier}
 use Rattle.mfotl_parse.specs.declared.term.Operand.{Operand}
 use Rattle.mfotl_parse.specs.declared.term.Operand.TheVariants as operands
 use Rattle.mfotl_parse.specs.Arguments.{call_of, due, after_due, blanks}
-use Rattle.mfotl_parse.specs.Grammar.{WrittenVariable, Bare, Asked, WrittenTerm, Named, Number, Quoted, WrittenArgument, Given, Hidden, WrittenArguments, LastArgument, MoreArguments, WrittenVariables, LastVariable, MoreVariables, WrittenBound, Count, Counted, WrittenEnd, Included, Excluded, Unbounded, WrittenInterval, Omitted, From, Above, Tree, Truth, BareAtom, AtomOf, Comparison, Enclosed, Denied, Timed, Quantified, Joined, Fits, spelling, deepens}
+use Rattle.mfotl_parse.specs.Grammar.{WrittenVariable, Bare, Asked, WrittenTerm, Named, Number, Quoted}
+use Rattle.mfotl_parse.specs.Grammar.{WrittenArgument, Given, Hidden, WrittenArguments, LastArgument, MoreArguments}
+use Rattle.mfotl_parse.specs.Grammar.{WrittenVariables, LastVariable, MoreVariables, WrittenBound, Count, Counted}
+use Rattle.mfotl_parse.specs.Grammar.{WrittenEnd, Included, Excluded, Unbounded, WrittenInterval, Omitted, From, Above}
+use Rattle.mfotl_parse.specs.Grammar.{Tree, Truth, BareAtom, AtomOf, Comparison, Enclosed, Denied, Timed, Quantified}
+use Rattle.mfotl_parse.specs.Grammar.{Joined, Fits, spelling, deepens}
 use Rattle.mfotl_parse.specs.Intervals.{distances, any_distance}
-use Rattle.mfotl_parse.specs.SymbolTable.{bound_or_free, met, bound_more, constrain_term, compared, term_of, inner_or, uneven_pair, vars_of}
+use Rattle.mfotl_parse.specs.SymbolTable.{bound_or_free, met, bound_more, constrain_term, compared, term_of, inner_or}
+use Rattle.mfotl_parse.specs.SymbolTable.{uneven_pair, vars_of}
 use Rattle.mfotl_parse.specs.Operands.{truth}
 use Rattle.mfotl_parse.specs.Reading.{PolicyOf}
 use Rattle.mfotl_parse.specs.Reduction.{momentary, joined, quantified}
@@ -67,7 +74,8 @@ argument_term (Given term) scope n = term_of (operand_of term scope n)
 argument_term (Hidden token) scope n = terms.Var (max_free + length n.bound_sorts)
 
 abbrev pub argument_names : WrittenArgument → Sort → Scope → SymbolTable → SymbolTable
-argument_names (Given term) sort scope n = constrain_term (operand_of term scope n) (place_of term) sort (term_names term scope n)
+argument_names (Given term) sort scope n =
+    constrain_term (operand_of term scope n) (place_of term) sort (term_names term scope n)
 argument_names (Hidden token) sort scope n = bound_more (Some sort) n
 
 abbrev pub arguments_terms : WrittenArguments → List Sort → Scope → SymbolTable → List Term
@@ -86,7 +94,8 @@ sorts_behind (LastArgument a) sorts = after_due sorts
 sorts_behind (MoreArguments a comma rest) sorts = sorts_behind rest (after_due sorts)
 
 abbrev pub atom : Option PredOf → List Term → ℕ → ℕ → Form
-atom found args outer inner = blanks (inner - outer) outer (forms.Atom (record { pred = (call_of found outer).pred; args = args }))
+atom found args outer inner =
+    blanks (inner - outer) outer (forms.Atom (record { pred = (call_of found outer).pred; args = args }))
 
 -- ---- quantifiers and intervals
 
@@ -96,12 +105,14 @@ variables_names (MoreVariables v comma rest) n = variables_names rest (bound_mor
 
 abbrev pub variables_scope : WrittenVariables → SymbolTable → Scope → Scope
 variables_scope (LastVariable v) n scope = inside (name_of v) (length n.bound_sorts) scope
-variables_scope (MoreVariables v comma rest) n scope = variables_scope rest (bound_more None n) (inside (name_of v) (length n.bound_sorts) scope)
+variables_scope (MoreVariables v comma rest) n scope =
+    variables_scope rest (bound_more None n) (inside (name_of v) (length n.bound_sorts) scope)
 
 -- the first variable outermost
 abbrev pub quantify : Quantifier → WrittenVariables → SymbolTable → Form → Form
 quantify q (LastVariable v) n f = quantified q (length n.bound_sorts) (name_of v) f
-quantify q (MoreVariables v comma rest) n f = quantified q (length n.bound_sorts) (name_of v) (quantify q rest (bound_more None n) f)
+quantify q (MoreVariables v comma rest) n f =
+    quantified q (length n.bound_sorts) (name_of v) (quantify q rest (bound_more None n) f)
 
 abbrev pub bound_value : WrittenBound → ℕ
 bound_value (Count token number) = number
@@ -126,20 +137,24 @@ names_behind sig (BareAtom name opening closing) scope n = n
 names_behind sig (AtomOf name opening arguments closing) scope n =
     arguments_names arguments (call_of (named name.text sig) 0).rest scope n
 names_behind sig (Comparison left token sign right) scope n =
-    compared (operand_of left scope n) (place_of left) token.at (operand_of right scope (term_names left scope n)) (place_of right)
+    compared (operand_of left scope n) (place_of left) token.at (operand_of right scope (term_names left scope n))
+    (place_of right)
     (term_names right scope (term_names left scope n))
 names_behind sig (Enclosed opening body closing) scope n = names_behind sig body scope n
 names_behind sig (Denied token body) scope n = names_behind sig body scope n
 names_behind sig (Timed token operator interval body) scope n = names_behind sig body scope n
 names_behind sig (Quantified token quantifier variables dot body) scope n =
     names_behind sig body (variables_scope variables n scope) (variables_names variables n)
-names_behind sig (Joined left token operator interval right) scope n = names_behind sig right scope (names_behind sig left scope n)
+names_behind sig (Joined left token operator interval right) scope n =
+    names_behind sig right scope (names_behind sig left scope n)
 
 abbrev pub value : List PredOf → Tree → Scope → SymbolTable → Form
 value sig (Truth token which) scope n = truth which
-value sig (BareAtom name opening closing) scope n = atom (named name.text sig) [] (length n.bound_sorts) (length n.bound_sorts)
+value sig (BareAtom name opening closing) scope n =
+    atom (named name.text sig) [] (length n.bound_sorts) (length n.bound_sorts)
 value sig (AtomOf name opening arguments closing) scope n =
-    atom (named name.text sig) (arguments_terms arguments (call_of (named name.text sig) 0).rest scope n) (length n.bound_sorts)
+    atom (named name.text sig) (arguments_terms arguments (call_of (named name.text sig) 0).rest scope n)
+    (length n.bound_sorts)
     (length (arguments_names arguments (call_of (named name.text sig) 0).rest scope n).bound_sorts)
 value sig (Comparison left token sign right) scope n =
     forms.Compare (record {
@@ -149,11 +164,13 @@ value sig (Comparison left token sign right) scope n =
     })
 value sig (Enclosed opening body closing) scope n = value sig body scope n
 value sig (Denied token body) scope n = forms.Not (value sig body scope n)
-value sig (Timed token operator interval body) scope n = momentary operator (interval_of interval) (value sig body scope n)
+value sig (Timed token operator interval body) scope n =
+    momentary operator (interval_of interval) (value sig body scope n)
 value sig (Quantified token quantifier variables dot body) scope n =
     quantify quantifier variables n (value sig body (variables_scope variables n scope) (variables_names variables n))
 value sig (Joined left token operator interval right) scope n =
-    joined operator (interval_of interval) (value sig left scope n) (value sig right scope (names_behind sig left scope n))
+    joined operator (interval_of interval) (value sig left scope n)
+    (value sig right scope (names_behind sig left scope n))
 
 -- ---- the other rules
 
@@ -199,7 +216,8 @@ nesting (Enclosed opening body closing) = suc (nesting body)
 nesting (Denied token body) = suc (nesting body)
 nesting (Timed token operator interval body) = suc (nesting body)
 nesting (Quantified token quantifier variables dot body) = variable_count variables + nesting body
-nesting (Joined left token operator interval right) = max (nesting left) (right_levels (deepens operator) (nesting right))
+nesting (Joined left token operator interval right) =
+    max (nesting left) (right_levels (deepens operator) (nesting right))
 
 -- a known predicate with so many arguments
 abbrev pub HasArity : Option PredOf → ℕ → Type 0
@@ -230,7 +248,8 @@ PartsKeep sig (Enclosed opening body closing) = PartsKeep sig body
 PartsKeep sig (Denied token body) = PartsKeep sig body
 PartsKeep sig (Timed token operator interval body) = IntervalKeeps interval × PartsKeep sig body
 PartsKeep sig (Quantified token quantifier variables dot body) = PartsKeep sig body
-PartsKeep sig (Joined left token operator interval right) = PartsKeep sig left × IntervalKeeps interval × PartsKeep sig right
+PartsKeep sig (Joined left token operator interval right) =
+    PartsKeep sig left × IntervalKeeps interval × PartsKeep sig right
 
 -- no name stands for a bound variable
 abbrev pub no_scope : Scope

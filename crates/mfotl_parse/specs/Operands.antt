@@ -1,5 +1,6 @@
 -- Where an operand begins, comparisons, quantifiers, and what stands behind an operand.
-use Rattle.std.specs.Prelude.{ℕ, zero, suc, ℤ, pos, negsuc, Bool, true, false, ◌+◌, ◌*◌, List, [], ◌∷◌, ◌++◌, Option, Some, None, length, codes, if◌then◌else◌}
+use Rattle.std.specs.Prelude.{ℕ, ℤ, pos, negsuc, Bool, true, false, ◌+◌, ◌*◌, List, [], ◌∷◌, Option}
+use Rattle.std.specs.Prelude.{Some, None, length, codes, if◌then◌else◌}
 use Rattle.mfotl_lex.specs.Lexemes.{Lexeme}
 use Rattle.mfotl_lex.specs.Contents.{content_of}
 use Rattle.mfotl_model.specs.declared.term.Sign.{Sign}
@@ -10,9 +11,7 @@ use Rattle.mfotl_sig.specs.Preds.{PredOf}
 use Rattle.mfotl_parse.specs.declared.class.Class.{Class}
 use Rattle.mfotl_parse.specs.declared.class.Class.TheVariants as classes
 use Rattle.mfotl_parse.specs.declared.class.Operator.{Operator}
-use Rattle.mfotl_parse.specs.declared.class.Operator.TheVariants as operators
 use Rattle.mfotl_parse.specs.declared.class.Quantifier.{Quantifier}
-use Rattle.mfotl_parse.specs.declared.class.Temporal.{Temporal}
 use Rattle.mfotl_parse.specs.declared.term.Operand.{Operand}
 use Rattle.mfotl_parse.specs.declared.term.Operand.TheVariants as operands
 use Rattle.mfotl_parse.specs.declared.term.Side.{Side}
@@ -22,8 +21,11 @@ use Rattle.mfotl_parse.specs.Intervals.{any_distance, in_range}
 use Rattle.mfotl_parse.specs.Transitions.{Rule, Transition, goes, first_keeps, within_depth, within_nodes}
 use Rattle.mfotl_parse.specs.SymbolTable.{resolved, noted, bound_more, compared, term_of}
 use Rattle.mfotl_parse.specs.Reduction.{Reduced, reduce}
-use Rattle.mfotl_parse.specs.States.{Stage, Frame, Parens, Negation, Moment, Binding, Left, Context, Partial, with_now, with_stack, with_names, counted, pushed, ExpectOperand, AfterTemporal, AfterOperand, AfterWord, AfterBlank, AfterMark, ExpectSign, AfterSign, AfterSignMark, ExpectVariable, AfterVariableMark, AfterVariable, AfterParen, AfterParenNumber, ExpectLow, AfterLow, ExpectHigh}
-use Rattle.mfotl_parse.specs.Limits.{max_nodes}
+use Rattle.mfotl_parse.specs.States.{Stage, Frame, Parens, Negation, Moment, Binding, Left, Context, Partial, with_now}
+use Rattle.mfotl_parse.specs.States.{with_stack, with_names, counted, pushed, ExpectOperand, AfterTemporal}
+use Rattle.mfotl_parse.specs.States.{AfterOperand, AfterWord, AfterBlank, AfterMark, ExpectSign, AfterSign}
+use Rattle.mfotl_parse.specs.States.{AfterSignMark, ExpectVariable, AfterVariableMark, AfterVariable, AfterParen}
+use Rattle.mfotl_parse.specs.States.{AfterParenNumber, ExpectLow, AfterLow, ExpectHigh}
 use Rattle.mfotl_parse.specs.Grammar.{is_timed, precedence, deepens}
 
 abbrev pub truth : Bool → Form
@@ -39,18 +41,21 @@ opened p at = goes (within_depth at p.stack ∷ []) (with_now (pushed Parens p) 
 
 -- where an operand is due
 abbrev pub operand_move : Context → Lexeme → Class → Option Transition
-operand_move p t (classes.Truth value) = goes (within_nodes t.at p.nodes ∷ []) (with_now (counted p) (AfterOperand (truth value)))
+operand_move p t (classes.Truth value) =
+    goes (within_nodes t.at p.nodes ∷ []) (with_now (counted p) (AfterOperand (truth value)))
 operand_move p t classes.Not =
     goes (within_depth t.at p.stack ∷ within_nodes t.at p.nodes ∷ []) (with_now (prefixed p Negation) ExpectOperand)
 operand_move p t (classes.Temporal operator) =
-    goes (within_depth t.at p.stack ∷ within_nodes t.at p.nodes ∷ []) (with_now (prefixed p (Moment operator any_distance)) AfterTemporal)
+    goes (within_depth t.at p.stack ∷ within_nodes t.at p.nodes ∷ [])
+    (with_now (prefixed p (Moment operator any_distance)) AfterTemporal)
 operand_move p t (classes.Quantifier quantifier) = goes [] (with_now p (ExpectVariable quantifier))
 operand_move p t classes.Name = goes [] (with_now p (AfterWord t.at t.text))
 operand_move p t classes.Blank = goes [] (with_now p (AfterBlank t.at))
 operand_move p t (classes.Integer z) =
     goes [] (with_now p (ExpectSign (record { at = t.at; operand = operands.Constant (values.Int z) })))
 operand_move p t classes.Text =
-    goes [] (with_now p (ExpectSign (record { at = t.at; operand = operands.Constant (values.Text (content_of t.kind t.text)) })))
+    goes [] (with_now p
+    (ExpectSign (record { at = t.at; operand = operands.Constant (values.Text (content_of t.kind t.text)) })))
 operand_move p t classes.OpenParen = opened p t.at
 operand_move p t classes.Question = goes [] (with_now p (AfterMark t.at))
 operand_move p t _ = None
@@ -110,7 +115,8 @@ blank_move sig p at classes.OpenParen = called sig p at (codes "_")
 blank_move sig p at _ = None
 
 abbrev pub marked_move : Context → ℕ → Lexeme → Class → Option Transition
-marked_move p mark t classes.Name = goes [] (with_now (with_noted p t.text mark) (ExpectSign (named_side p mark t.text)))
+marked_move p mark t classes.Name =
+    goes [] (with_now (with_noted p t.text mark) (ExpectSign (named_side p mark t.text)))
 marked_move p mark t _ = None
 
 abbrev pub compared_move : Context → Side → Lexeme → Class → Option Transition
@@ -125,12 +131,14 @@ comparison_done p left at sign right_at right =
 
 abbrev pub named_done : Context → Side → ℕ → Sign → ℕ → List ℕ → Partial
 named_done p left at sign right_at name =
-    comparison_done (with_noted p name right_at) left at sign right_at (operands.Variable (resolved name p.stack p.names))
+    comparison_done (with_noted p name right_at) left at sign right_at
+    (operands.Variable (resolved name p.stack p.names))
 
 abbrev pub against_move : Context → Side → ℕ → Sign → Lexeme → Class → Option Transition
 against_move p left at sign t classes.Name = goes [] (named_done p left at sign t.at t.text)
 against_move p left at sign t classes.Question = goes [] (with_now p (AfterSignMark left at sign t.at))
-against_move p left at sign t (classes.Integer z) = goes [] (comparison_done p left at sign t.at (operands.Constant (values.Int z)))
+against_move p left at sign t (classes.Integer z) =
+    goes [] (comparison_done p left at sign t.at (operands.Constant (values.Int z)))
 against_move p left at sign t classes.Text =
     goes [] (comparison_done p left at sign t.at (operands.Constant (values.Text (content_of t.kind t.text))))
 against_move p left at sign t _ = None
@@ -149,7 +157,8 @@ abbrev pub binder_move : Context → Quantifier → Lexeme → Class → Option 
 binder_move p quantifier t classes.Name =
     goes (within_depth t.at p.stack ∷ within_nodes t.at p.nodes ∷ []) (bound_now (counted p) quantifier t.text)
 binder_move p quantifier t classes.Question =
-    goes (within_depth t.at p.stack ∷ within_nodes t.at p.nodes ∷ []) (with_now (counted p) (AfterVariableMark quantifier t.at))
+    goes (within_depth t.at p.stack ∷ within_nodes t.at p.nodes ∷ [])
+    (with_now (counted p) (AfterVariableMark quantifier t.at))
 binder_move p quantifier t _ = None
 
 abbrev pub binder_marked_move : Context → Quantifier → Lexeme → Class → Option Transition
@@ -174,7 +183,8 @@ now_behind false = ExpectOperand
 abbrev pub joined_move : Context → Operator → Reduced → ℕ → Option Transition
 joined_move p operator left at =
     goes (deepening (deepens operator) at left.stack (within_nodes at p.nodes ∷ []))
-    (with_now (counted (with_stack p (Left operator any_distance left.form ∷ left.stack))) (now_behind (is_timed operator)))
+    (with_now (counted (with_stack p (Left operator any_distance left.form ∷ left.stack)))
+    (now_behind (is_timed operator)))
 
 -- the frames around the innermost one, where that is a `(`
 abbrev pub is_parens : Frame → Bool

@@ -1,6 +1,6 @@
 -- How operators hold their operands. An operand that was read belongs to the innermost frame; an operator
 -- or a `)` behind it closes the frames that hold more tightly than itself.
-use Rattle.std.specs.Prelude.{ℕ, ◌≤◌, Bool, List, [], ◌∷◌, Option, Some, None, nat_lt, max, if◌then◌else◌, ◌+◌}
+use Rattle.std.specs.Prelude.{ℕ, List, [], ◌∷◌, nat_lt, if◌then◌else◌, ◌+◌}
 use Rattle.mfotl_model.specs.declared.formula.Bound.{Bound}
 use Rattle.mfotl_model.specs.declared.interval.Interval.{Interval}
 use Rattle.mfotl_model.specs.Formulas as forms
@@ -10,7 +10,8 @@ use Rattle.mfotl_parse.specs.declared.class.Operator.TheVariants.{And, Or, Impli
 use Rattle.mfotl_parse.specs.declared.class.Quantifier.{Quantifier}
 use Rattle.mfotl_parse.specs.declared.class.Quantifier.TheVariants.{Exists, Forall}
 use Rattle.mfotl_parse.specs.declared.class.Temporal.{Temporal}
-use Rattle.mfotl_parse.specs.declared.class.Temporal.TheVariants.{Previous, Next, Once, Historically, Eventually, Always}
+use Rattle.mfotl_parse.specs.declared.class.Temporal.TheVariants.{Previous, Next, Once, Historically, Eventually}
+use Rattle.mfotl_parse.specs.declared.class.Temporal.TheVariants.{Always}
 use Rattle.mfotl_parse.specs.States.{Frame, Parens, Negation, Moment, Binding, Left}
 use Rattle.mfotl_parse.specs.Limits.{max_free}
 use Rattle.mfotl_parse.specs.Grammar.{right_precedence}

@@ -1,5 +1,6 @@
 -- Which variable a name stands for, and the sorts that variables were given.
-use Rattle.std.specs.Prelude.{ℕ, zero, suc, ◌+◌, Bool, true, false, not, List, [], ◌∷◌, ◌++◌, Option, Some, None, length, position, if◌then◌else◌, slice_set, slice_get, find}
+use Rattle.std.specs.Prelude.{ℕ, ◌+◌, Bool, true, false, not, List, [], ◌∷◌, ◌++◌, Option, Some, None}
+use Rattle.std.specs.Prelude.{length, position, if◌then◌else◌, slice_set, slice_get, find}
 use Rattle.std.specs.Str.{bytes_eq}
 use Rattle.mfotl_model.specs.declared.policy.Sort.{Sort}
 use Rattle.mfotl_model.specs.declared.policy.Sort.TheVariants as sorts
@@ -11,7 +12,6 @@ use Rattle.mfotl_model.specs.declared.value.Value.TheVariants as values
 use Rattle.mfotl_parse.specs.declared.term.Operand.{Operand}
 use Rattle.mfotl_parse.specs.declared.term.Operand.TheVariants as operands
 use Rattle.mfotl_parse.specs.declared.term.Pair.{Pair}
-use Rattle.mfotl_parse.specs.declared.term.Side.{Side}
 use Rattle.mfotl_parse.specs.declared.term.Variable.{Variable}
 use Rattle.mfotl_parse.specs.declared.term.Variable.TheVariants as variables
 use Rattle.mfotl_parse.specs.States.{Frame, Parens, Negation, Moment, Binding, Left, SymbolTable}

@@ -1,10 +1,13 @@
 -- What a token does: what is read with it as far as the grammar goes, and the limits and rules that it has
 -- to keep, in the order in which they are tried. No move is a token that the grammar can't go on with.
-use Rattle.std.specs.Prelude.{ℕ, Bool, true, false, not, List, [], ◌∷◌, Option, Some, None, Result, Ok, Err, nat_le, nat_lt, if◌then◌else◌, length}
+use Rattle.std.specs.Prelude.{ℕ, Bool, true, false, not, List, [], ◌∷◌, Option, Some, None, Result, Ok, Err, nat_le}
+use Rattle.std.specs.Prelude.{if◌then◌else◌}
 use Rattle.mfotl_model.specs.declared.policy.Sort.{Sort}
 use Rattle.mfotl_parse.specs.declared.fault.PolicyFault.{PolicyFault}
-use Rattle.mfotl_parse.specs.declared.fault.PolicyFault.TheVariants.{Syntax, EmptyInterval, BoundRange, UnknownPredicate, WrongArity, TooDeep, TooManyNodes}
-use Rattle.mfotl_parse.specs.States.{Context, Partial, depth, Frame}
+use Rattle.mfotl_parse.specs.declared.fault.PolicyFault.TheVariants.{Syntax, EmptyInterval, BoundRange}
+use Rattle.mfotl_parse.specs.declared.fault.PolicyFault.TheVariants.{UnknownPredicate, WrongArity, TooDeep}
+use Rattle.mfotl_parse.specs.declared.fault.PolicyFault.TheVariants.{TooManyNodes}
+use Rattle.mfotl_parse.specs.States.{Partial, depth, Frame}
 use Rattle.mfotl_parse.specs.Limits.{max_levels, max_nodes}
 
 -- the rules that a token may break where the grammar goes on

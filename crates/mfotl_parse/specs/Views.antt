@@ -1,5 +1,5 @@
 -- What the reader has in hand, without where it lies in memory.
-use Rattle.std.specs.Prelude.{◌≡◌, ℕ, List, [], ◌∷◌, ◌++◌, Option, Result, Ok, Err, map, reverse}
+use Rattle.std.specs.Prelude.{◌≡◌, ℕ, List, Result, Ok, Err, map, reverse}
 use Rattle.std.specs.Global.{Vec}
 use Rattle.mfotl_model.specs.Formulas.{form}
 use Rattle.mfotl_parse.specs.declared.fault.PolicyFault.{PolicyFault}
@@ -15,7 +15,12 @@ use Rattle.mfotl_parse.specs.declared.state.Parser.{Parser as ParserValue}
 use Rattle.mfotl_model.specs.declared.policy.Policy.{Policy}
 use Rattle.mfotl_parse.specs.Reading.{PolicyOf}
 use Rattle.mfotl_parse.specs.Transitions.{Rule, kept}
-use Rattle.mfotl_parse.specs.States.{Frame, Parens, Negation, Moment, Binding, Left, SymbolTable, Call, Context, Partial, Stage, ExpectOperand, AfterTemporal, AfterOperand, AfterWord, AfterBlank, AfterMark, ExpectSign, AfterSign, AfterSignMark, FirstArgument, NextArgument, AfterArgument, AfterArgumentMark, ExpectVariable, AfterVariableMark, AfterVariable, AfterParen, AfterParenNumber, ExpectLow, AfterLowNumber, AfterLow, ExpectHigh, AfterHighNumber, AfterHigh, AfterStar}
+use Rattle.mfotl_parse.specs.States.{Frame, Parens, Negation, Moment, Binding, Left, SymbolTable, Call, Context}
+use Rattle.mfotl_parse.specs.States.{Partial, Stage, ExpectOperand, AfterTemporal, AfterOperand, AfterWord, AfterBlank}
+use Rattle.mfotl_parse.specs.States.{AfterMark, ExpectSign, AfterSign, AfterSignMark, FirstArgument, NextArgument}
+use Rattle.mfotl_parse.specs.States.{AfterArgument, AfterArgumentMark, ExpectVariable, AfterVariableMark}
+use Rattle.mfotl_parse.specs.States.{AfterVariable, AfterParen, AfterParenNumber, ExpectLow, AfterLowNumber, AfterLow}
+use Rattle.mfotl_parse.specs.States.{ExpectHigh, AfterHighNumber, AfterHigh, AfterStar}
 
 abbrev pub frame_of : FrameValue → Frame
 frame_of frames.Parens = Parens
@@ -90,7 +95,9 @@ Gives view (Err fault) read = Fails fault read
 
 -- the context after what keeps these rules, or the first that is broken
 abbrev pub Enters : Result (Unit {0}) PolicyFault → ContextValue → List Rule → Context → Type 0
-Enters (Ok u) context rules next = kept rules (record { context = next; now = ExpectOperand }) ≡ Ok (record { context = context_of context; now = ExpectOperand })
+Enters (Ok u) context rules next =
+    kept rules (record { context = next; now = ExpectOperand })
+    ≡ Ok (record { context = context_of context; now = ExpectOperand })
 Enters (Err fault) context rules next = Fails fault (kept rules (record { context = next; now = ExpectOperand }))
 
 abbrev pub partial_of : ParserValue → Partial
