@@ -29,11 +29,13 @@ pub no_rows : (q : Query) → matching_rows q [] ≡ []
 unfolding matching_rows
 no_rows q = refl
 
-any_filter : {X : Type 0} (test p : X → Bool) (xs : List X) → list_any test (filter p xs) ≡ list_any (λ x. p x && test x) xs
+any_filter : {X : Type 0} (test p : X → Bool) (xs : List X) → list_any test (filter p xs) ≡ list_any
+    (λ x. p x && test x) xs
 any_filter test p [] = refl
 any_filter test p (x ∷ xs) = by (p x) ∙ ap (λ t. (p x && test x) || t) (any_filter test p xs)
   where
-    by : (b : Bool) → list_any test (cond b (x ∷ filter p xs) (filter p xs)) ≡ ((b && test x) || list_any test (filter p xs))
+    by : (b : Bool) → list_any test (cond b (x ∷ filter p xs) (filter p xs)) ≡ ((b && test x) || list_any test
+        (filter p xs))
     by true = refl
     by false = refl
 
@@ -52,5 +54,6 @@ pub rows_of_set : (q : Query) (events : List Event)
 rows_of_set q events =
     same_ascending row_total row_exact (matching_rows q events) (matching_rows q (ascending event_cmp events))
     (λ row. row_found q row events
-    ∙ sym (any_ascending event_total event_exact (λ e. is_match q.atom e && eq_by_cmp row_cmp row (row_read q e)) events)
+    ∙ sym (any_ascending event_total event_exact (λ e. is_match q.atom e && eq_by_cmp row_cmp row
+        (row_read q e)) events)
     ∙ sym (row_found q row (ascending event_cmp events)))

@@ -1,5 +1,7 @@
 -- What the front of a log shows stays shown by the whole log.
-use Rattle.std.proofs.Common.{◌≡◌, ◌∙◌, ap, ap₂, sym, refl, arith, ℕ, ◌+◌, ◌-◌, ◌<◌, ◌≤◌, Bool, true, false, not, ◌&&◌, nat_lt, List, [], ◌∷◌, ◌++◌, length, take, drop, Option, Some, None, append_assoc, append-nil}
+use Rattle.std.proofs.Common.{◌≡◌, ◌∙◌, ap, ap₂, sym, refl, arith, ℕ, ◌+◌, ◌-◌, ◌<◌, ◌≤◌, Bool, true, false}
+use Rattle.std.proofs.Common.{not, ◌&&◌, nat_lt, List, [], ◌∷◌, ◌++◌, length, take, drop, Option, Some, None}
+use Rattle.std.proofs.Common.{append_assoc, append-nil}
 use Rattle.std.specs.Prelude.{Result, Ok, Err}
 use Rattle.std.proofs.lemmas.Bool.{le-ltb, ltb-false, ltb-true, lt-ltb}
 use Rattle.mfotl_lex.specs.Growing.{grown, joined, joined_at, stopped as stopped_at}
@@ -12,7 +14,8 @@ use Rattle.mfotl_lex.proofs.GrowingLemmas.{more_bytes}
 use Rattle.mfotl_model.specs.declared.event.TimePoint.{TimePoint}
 use Rattle.mfotl_sig.specs.Preds.{PredOf}
 use Rattle.log_reader.specs.Partials.{Partial, blank}
-use Rattle.log_reader.specs.Readings.{NoFault, Reading, accepted, behind, behind_tokens, is_long, nothing_left, place_at, reading, run, shown, went_on}
+use Rattle.log_reader.specs.Readings.{NoFault, Reading, accepted, behind, behind_tokens, is_long}
+use Rattle.log_reader.specs.Readings.{nothing_left, place_at, reading, run, shown, went_on}
 use Rattle.monitor_main.specs.Growth.{Keeps, ShownStays}
 use Rattle.log_reader.specs.Steps.{completed, step}
 use Rattle.log_reader.specs.declared.fault.LogFault.{LogFault}
@@ -31,7 +34,8 @@ abbrev nothing : Reading
 nothing = record { points = []; ending = NoFault }
 
 module _ (sig : List PredOf) (limits : Limits) where
-  went_alike : (r : Result Partial LogFault) (f g : Partial → Reading) → ((q : Partial) → f q ≡ g q) → went_on r f ≡ went_on r g
+  went_alike : (r : Result Partial LogFault) (f g : Partial → Reading) → ((q : Partial) → f q ≡ g q)
+      → went_on r f ≡ went_on r g
   went_alike (Ok q) f g e = e q
   went_alike (Err fault) f g e = refl
 
@@ -49,7 +53,8 @@ module _ (sig : List PredOf) (limits : Limits) where
     stays = λ fault stops. ap (behind points) (k.stays fault stops);
   }
 
-  went_keeps : (r : Result Partial LogFault) (f g : Partial → Reading) → ((q : Partial) → Keeps (f q) (g q)) → Keeps (went_on r f) (went_on r g)
+  went_keeps : (r : Result Partial LogFault) (f g : Partial → Reading) → ((q : Partial) → Keeps (f q) (g q))
+      → Keeps (went_on r f) (went_on r g)
   went_keeps (Ok q) f g k = k q
   went_keeps (Err fault) f g k = same _ _ refl
 
@@ -123,17 +128,20 @@ module _ (sig : List PredOf) (limits : Limits) where
       ap (λ k. take k (seen ++ left)) count ∙ take-append-add seen left n ∙ ap (λ xs. xs ++ more) (sym front_is) in
       let place_is : place_at limits (seen ++ left) true 0 ≡ grown p more e =
       ap (λ bytes. record { mode = Log; at = 0; rest = drop 0 bytes; ended = true && e }) looked in
-      let tokens_are : tokens (place_at limits (seen ++ left) true 0) ≡ joined (tokens p) (tokens (grown (stopped_at p) more e)) =
+      let tokens_are : tokens (place_at limits (seen ++ left) true 0) ≡ joined (tokens p) (tokens (grown
+          (stopped_at p) more e)) =
       ap tokens place_is ∙ (more_bytes p more e refl).1 in
       let none : (q : Partial) → nothing_left limits seen false q ≡ nothing = λ q. rw front_short refl in
       let last = nothing_left limits (seen ++ left) true in
       rw (ap (run_tokens last) tokens_are)
-      (joined_keeps (nothing_left limits seen false) last none (tokens p).fault (tokens p).list (tokens (grown (stopped_at p) more e)))
+      (joined_keeps (nothing_left limits seen false) last none (tokens p).fault (tokens p).list (tokens (grown
+          (stopped_at p) more e)))
 
 -- what the front shows stays
 pub shown_stays : ShownStays
 shown_stays sig limits seen left = go (nat_lt limits.bytes (length seen)) refl
   where
-    go : (b : Bool) → nat_lt limits.bytes (length seen) ≡ b → Keeps (shown sig limits seen) (accepted sig limits (seen ++ left))
+    go : (b : Bool) → nat_lt limits.bytes (length seen) ≡ b → Keeps (shown sig limits seen) (accepted sig limits
+        (seen ++ left))
     go true e = same _ _ (long_same sig limits seen left (ltb-true _ _ e))
     go false e = short_keeps sig limits seen left (ltb-false _ _ e)

@@ -12,6 +12,7 @@ pub record Keeps (s a : Reading) : Type 0 where
   pub points : a.points ≡ s.points ++ more
   pub stays : (fault : LogFault) → s.ending ≡ Fault fault → a ≡ s
 
+-- so it is for every log, at whatever place it is cut
 abbrev pub ShownStays : Type 0
 ShownStays = (sig : List PredOf) (limits : Limits) (seen left : List ℕ)
     → Keeps (shown sig limits seen) (accepted sig limits (seen ++ left))
