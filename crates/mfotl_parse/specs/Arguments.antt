@@ -26,9 +26,11 @@ abbrev pub call_of : Option PredOf → ℕ → Call
 call_of None bound = record { pred = 0; rest = []; args = []; bound = bound }
 call_of (Some pred) bound = record { pred = pred.number; rest = pred.sorts; args = []; bound = bound }
 
+-- the signature has the predicate, whose name stands at the offset
 abbrev pub known : ℕ → Option PredOf → Rule
 known at found = record { broken = is_none found; limit = Unknown; at = at }
 
+-- an atom's `(` behind its name, which stands at the offset
 abbrev pub called : List PredOf → Context → ℕ → List ℕ → Option Transition
 called sig p at name =
     let found = named name sig in
@@ -40,6 +42,7 @@ abbrev pub due : List Sort → Sort
 due [] = sorts.Int
 due (sort ∷ rest) = sort
 
+-- the sorts of the arguments behind the one that is due
 abbrev pub after_due : List Sort → List Sort
 after_due [] = []
 after_due (sort ∷ rest) = rest
@@ -67,6 +70,7 @@ blank_taken p call =
     with_now (with_names (counted p) (bound_more (Some (due call.rest)) p.names))
     (AfterArgument (with_argument call (terms.Var (max_free + length p.names.bound_sorts))))
 
+-- where an argument is due
 abbrev pub argument_move : Context → Call → Lexeme → Class → Option Transition
 argument_move p call t classes.Name = goes (one_due t.at call.rest ∷ []) (variable_taken p call t.at t.text)
 argument_move p call t classes.Question = goes (one_due t.at call.rest ∷ []) (with_now p (AfterArgumentMark call t.at))
@@ -85,6 +89,7 @@ blanks zero first f = f
 blanks (suc count) first f =
     forms.Exists (record { number = max_free + first; name = codes "_" }) (blanks count (suc first) f)
 
+-- the atom of a call, with EXISTS for each `_` in it
 abbrev pub atom_of : Call → ℕ → Form
 atom_of call bound =
     blanks (bound - call.bound) call.bound (forms.Atom (record { pred = call.pred; args = call.args }))
@@ -94,15 +99,18 @@ abbrev pub call_closed : Context → Call → ℕ → Option Transition
 call_closed p call at =
     goes (none_due at call.rest ∷ []) (with_now p (AfterOperand (atom_of call (length p.names.bound_sorts))))
 
+-- behind an atom's `(`
 abbrev pub first_move : Context → Call → Lexeme → Class → Option Transition
 first_move p call t classes.CloseParen = call_closed p call t.at
 first_move p call t class = argument_move p call t class
 
+-- behind an argument
 abbrev pub taken_move : Context → Call → Lexeme → Class → Option Transition
 taken_move p call t classes.Comma = goes [] (with_now p (NextArgument call))
 taken_move p call t classes.CloseParen = call_closed p call t.at
 taken_move p call t _ = None
 
+-- behind an argument's `?`, which stands at the offset
 abbrev pub argument_marked_move : Context → Call → ℕ → Lexeme → Class → Option Transition
 argument_marked_move p call mark t classes.Name = goes [] (variable_taken p call mark t.text)
 argument_marked_move p call mark t _ = None

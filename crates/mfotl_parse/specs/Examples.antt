@@ -23,6 +23,7 @@ use Rattle.mfotl_parse.specs.declared.fault.PolicyFault.TheVariants.{TooManyVari
 use Rattle.mfotl_parse.specs.Reading.{run, reading}
 use Rattle.mfotl_parse.specs.States.{no_names, ExpectOperand}
 
+-- eight places for integers
 abbrev pub eight_integers : List Sort
 eight_integers = sorts.Int ∷ sorts.Int ∷ sorts.Int ∷ sorts.Int ∷ sorts.Int ∷ sorts.Int ∷ sorts.Int ∷ sorts.Int ∷ []
 
@@ -39,6 +40,7 @@ preds =
 abbrev pub FailsWith : List ℕ → PolicyFault → Type 0
 FailsWith text fault = reading text preds ≡ Err fault
 
+-- faults that one token or the end shows
 pub record FaultExamples : Type 0 where
   pub clash : FailsWith (codes "NOT (p(x) AND s(x))") (SortClash 16)
   pub arity : FailsWith (codes "NOT p(x,y)") (WrongArity 8)
@@ -77,33 +79,43 @@ pub record ClashExamples : Type 0 where
 abbrev pub Spells : List ℕ → Form → List Var → Type 0
 Spells text f vars = reading text preds ≡ Ok (record { formula = f; vars = vars })
 
+-- p of this variable
 abbrev pub variable : ℕ → Form
 variable number = forms.Atom (record { pred = 0; args = terms.Var number ∷ [] })
 
+-- s of this variable
 abbrev pub text_variable : ℕ → Form
 text_variable number = forms.Atom (record { pred = 1; args = terms.Var number ∷ [] })
 
+-- r of these variables
 abbrev pub pair : ℕ → ℕ → Form
 pair left right = forms.Atom (record { pred = 2; args = terms.Var left ∷ terms.Var right ∷ [] })
 
+-- the constant n
 abbrev pub int_term : ℕ → Term
 int_term n = terms.Const (values.Int (pos n))
 
+-- 1 and 2, compared
 abbrev pub one_and_two : Sign → Form
 one_and_two sign = forms.Compare (record { sign = sign; left = int_term 1; right = int_term 2 })
 
+-- a column of integers
 abbrev pub integer : List ℕ → Var
 integer name = record { name = name; sort = sorts.Int }
 
+-- x, bound before all others
 abbrev pub first_bound : Bound
 first_bound = record { number = 8; name = codes "x" }
 
+-- x, bound after one other
 abbrev pub second_bound : Bound
 second_bound = record { number = 9; name = codes "x" }
 
+-- the only column is x
 abbrev pub free_x : List Var
 free_x = integer (codes "x") ∷ []
 
+-- how operators group, and what intervals mean
 pub record FormulaExamples : Type 0 where
   pub and_left : Spells (codes "TRUE AND FALSE AND TRUE") (forms.And (forms.And forms.True forms.False) forms.True) []
   pub or_left : Spells (codes "TRUE OR FALSE OR TRUE") (forms.Or (forms.Or forms.True forms.False) forms.True) []
@@ -188,6 +200,7 @@ abbrev pub nots : ℕ → Form → Form
 nots zero f = f
 nots (suc times) f = forms.Not (nots times f)
 
+-- p(1)
 abbrev pub of_one : Form
 of_one = forms.Atom (record { pred = 0; args = int_term 1 ∷ [] })
 

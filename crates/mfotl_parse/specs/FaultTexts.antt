@@ -7,6 +7,7 @@ use Rattle.mfotl_parse.specs.declared.fault.PolicyFault.TheVariants.{Lex, Syntax
 use Rattle.mfotl_parse.specs.declared.fault.PolicyFault.TheVariants.{UnknownPredicate, WrongArity, SortClash}
 use Rattle.mfotl_parse.specs.declared.fault.PolicyFault.TheVariants.{TooManyVariables, TooDeep, TooManyNodes, Memory}
 
+-- the text of a fault
 abbrev pub fault_text : PolicyFault → List ℕ
 fault_text (Lex fault) = codes "Lex " ++ lex.fault_text fault
 fault_text (Syntax at) = codes "Syntax at " ++ decimal at

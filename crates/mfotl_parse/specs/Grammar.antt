@@ -31,11 +31,13 @@ pub data WrittenVariable : Type 0 where
   Bare : (name : Lexeme) → WrittenVariable
   Asked : (mark name : Lexeme) → WrittenVariable
 
+-- a term
 pub data WrittenTerm : Type 0 where
   Named : (variable : WrittenVariable) → WrittenTerm
   Number : (token : Lexeme) (value : ℤ) → WrittenTerm
   Quoted : (token : Lexeme) → WrittenTerm
 
+-- an argument: a term, or `_`
 pub data WrittenArgument : Type 0 where
   Given : (term : WrittenTerm) → WrittenArgument
   Hidden : (token : Lexeme) → WrittenArgument
@@ -67,6 +69,7 @@ pub data WrittenInterval : Type 0 where
   From : (opening : Lexeme) (low : WrittenBound) (comma : Lexeme) (end : WrittenEnd) → WrittenInterval
   Above : (opening : Lexeme) (low : WrittenBound) (comma : Lexeme) (end : WrittenEnd) → WrittenInterval
 
+-- a formula
 pub data Tree : Type 0 where
   Truth : (token : Lexeme) (value : Bool) → Tree
   BareAtom : (name opening closing : Lexeme) → Tree
@@ -81,41 +84,50 @@ pub data Tree : Type 0 where
 
 -- ---- their tokens in order
 
+-- the tokens of a variable
 abbrev pub variable_spelling : WrittenVariable → List Lexeme
 variable_spelling (Bare name) = name ∷ []
 variable_spelling (Asked mark name) = mark ∷ name ∷ []
 
+-- the tokens of a term
 abbrev pub term_spelling : WrittenTerm → List Lexeme
 term_spelling (Named variable) = variable_spelling variable
 term_spelling (Number token value) = token ∷ []
 term_spelling (Quoted token) = token ∷ []
 
+-- the tokens of an argument
 abbrev pub argument_spelling : WrittenArgument → List Lexeme
 argument_spelling (Given term) = term_spelling term
 argument_spelling (Hidden token) = token ∷ []
 
+-- the tokens of arguments, with their commas
 abbrev pub arguments_spelling : WrittenArguments → List Lexeme
 arguments_spelling (LastArgument argument) = argument_spelling argument
 arguments_spelling (MoreArguments argument comma rest) = argument_spelling argument ++ comma ∷ arguments_spelling rest
 
+-- the tokens of variables, with their commas
 abbrev pub variables_spelling : WrittenVariables → List Lexeme
 variables_spelling (LastVariable variable) = variable_spelling variable
 variables_spelling (MoreVariables variable comma rest) = variable_spelling variable ++ comma ∷ variables_spelling rest
 
+-- the tokens of a bound
 abbrev pub bound_spelling : WrittenBound → List Lexeme
 bound_spelling (Count token number) = token ∷ []
 bound_spelling (Counted token number unit seconds) = token ∷ unit ∷ []
 
+-- the tokens of an interval's end
 abbrev pub end_spelling : WrittenEnd → List Lexeme
 end_spelling (Included high closing) = bound_spelling high ++ closing ∷ []
 end_spelling (Excluded high closing) = bound_spelling high ++ closing ∷ []
 end_spelling (Unbounded star closing) = star ∷ closing ∷ []
 
+-- the tokens of an interval
 abbrev pub interval_spelling : WrittenInterval → List Lexeme
 interval_spelling Omitted = []
 interval_spelling (From opening low comma end) = opening ∷ bound_spelling low ++ comma ∷ end_spelling end
 interval_spelling (Above opening low comma end) = opening ∷ bound_spelling low ++ comma ∷ end_spelling end
 
+-- the tokens of a formula
 abbrev pub spelling : Tree → List Lexeme
 spelling (Truth token value) = token ∷ []
 spelling (BareAtom name opening closing) = name ∷ opening ∷ closing ∷ []
@@ -131,40 +143,48 @@ spelling (Joined left token operator interval right) =
 
 -- ---- which of them the grammar allows
 
+-- a variable is a name, perhaps behind `?`
 abbrev pub FitsVariable : WrittenVariable → Type 0
 FitsVariable (Bare name) = class_of name ≡ classes.Name
 FitsVariable (Asked mark name) = (class_of mark ≡ classes.Question) × (class_of name ≡ classes.Name)
 
+-- a term is a variable, an Integer or a Text
 abbrev pub FitsTerm : WrittenTerm → Type 0
 FitsTerm (Named variable) = FitsVariable variable
 FitsTerm (Number token value) = class_of token ≡ classes.Integer value
 FitsTerm (Quoted token) = class_of token ≡ classes.Text
 
+-- an argument is a term or `_`
 abbrev pub FitsArgument : WrittenArgument → Type 0
 FitsArgument (Given term) = FitsTerm term
 FitsArgument (Hidden token) = class_of token ≡ classes.Blank
 
+-- arguments have commas between them
 abbrev pub FitsArguments : WrittenArguments → Type 0
 FitsArguments (LastArgument argument) = FitsArgument argument
 FitsArguments (MoreArguments argument comma rest) =
     FitsArgument argument × (class_of comma ≡ classes.Comma) × FitsArguments rest
 
+-- variables have commas between them
 abbrev pub FitsVariables : WrittenVariables → Type 0
 FitsVariables (LastVariable variable) = FitsVariable variable
 FitsVariables (MoreVariables variable comma rest) =
     FitsVariable variable × (class_of comma ≡ classes.Comma) × FitsVariables rest
 
+-- a bound is an Integer that isn't negative, perhaps with a unit
 abbrev pub FitsBound : WrittenBound → Type 0
 FitsBound (Count token number) = class_of token ≡ classes.Integer (pos number)
 FitsBound (Counted token number unit seconds) =
     (class_of token ≡ classes.Integer (pos number)) × (class_of unit ≡ classes.Name)
     × (unit_of unit.text ≡ Some seconds)
 
+-- an interval ends with `]` or `)`, and with `)` behind `*`
 abbrev pub FitsEnd : WrittenEnd → Type 0
 FitsEnd (Included high closing) = FitsBound high × (class_of closing ≡ classes.CloseBracket)
 FitsEnd (Excluded high closing) = FitsBound high × (class_of closing ≡ classes.CloseParen)
 FitsEnd (Unbounded star closing) = (class_of star ≡ classes.Star) × (class_of closing ≡ classes.CloseParen)
 
+-- an interval begins with `[` or `(`
 abbrev pub FitsInterval : WrittenInterval → Type 0
 FitsInterval Omitted = Unit {0}
 FitsInterval (From opening low comma end) =
@@ -199,6 +219,7 @@ right_precedence And = 5
 right_precedence Since = 5
 right_precedence Until = 5
 
+-- the operators that may have an interval
 abbrev pub is_timed : Operator → Bool
 is_timed And = false
 is_timed Or = false

@@ -30,6 +30,7 @@ abbrev pub ReadIsSpelled : Type 0
 ReadIsSpelled =
     (bytes : List ℕ) (sig : List PredOf) (policy : PolicyOf) → reading bytes sig ≡ Ok policy → IsValue bytes sig policy
 
+-- the reader tells this fault of the text
 abbrev pub IsFirstFault : List ℕ → List PredOf → PolicyFault → Type 0
 IsFirstFault bytes sig fault = reading bytes sig ≡ Err fault
 

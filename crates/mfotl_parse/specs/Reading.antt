@@ -58,9 +58,11 @@ transition_at (AfterHighNumber at low number_at n) sig p t class = high_number_m
 transition_at (AfterHigh at low high) sig p t class = bracket p at low high class
 transition_at (AfterStar at low) sig p t class = endless_move p low class
 
+-- what a token does to what was read
 unfoldable pub transition : List PredOf → Partial → Lexeme → Option Transition
 transition sig p t = transition_at p.now sig p.context t (class_of t)
 
+-- what was read with the token, or the fault that the token shows
 unfoldable pub step : List PredOf → Partial → Lexeme → Result Partial PolicyFault
 step sig p t = given t.at (transition sig p t)
 
@@ -81,6 +83,7 @@ abbrev pub unless_refused : Option PolicyFault → PolicyOf → Result PolicyOf 
 unless_refused None policy = Ok policy
 unless_refused (Some fault) policy = Err fault
 
+-- the policy, unless sorts or the number of variables refuse it
 abbrev pub sorted : Option ℕ → Option Pair → Option (List ℕ × ℕ) → PolicyOf → Result PolicyOf PolicyFault
 sorted clash uneven ninth policy = unless_refused (refusal clash uneven ninth) policy
 
@@ -90,6 +93,7 @@ finished n f =
     sorted n.clash (uneven_pair n) (slice_get n.free max_free)
     (record { formula = f; vars = vars_of n.free n.free_sorts })
 
+-- nothing is open
 abbrev pub is_closed : List Frame → Bool
 is_closed [] = true
 is_closed (frame ∷ stack) = false
@@ -99,6 +103,7 @@ abbrev pub ended : SymbolTable → Form → Bool → ℕ → Result PolicyOf Pol
 ended n f true end = finished n f
 ended n f false end = Err (Syntax end)
 
+-- the end, by what may come next
 abbrev pub ended_at : Stage → Context → ℕ → Result PolicyOf PolicyFault
 ended_at (AfterOperand f) p end = ended p.names (reduce 0 f p.stack).form (is_closed (reduce 0 f p.stack).stack) end
 ended_at _ p end = Err (Syntax end)
@@ -108,10 +113,12 @@ abbrev pub at_end : Option LexFault → ℕ → Partial → Result PolicyOf Poli
 at_end (Some fault) end p = Err (Lex fault)
 at_end None end p = ended_at p.now p.context end
 
+-- a value goes on, a fault stays
 abbrev pub and_then : {A B : Type 0} → Result A PolicyFault → (A → Result B PolicyFault) → Result B PolicyFault
 and_then (Ok x) f = f x
 and_then (Err e) f = Err e
 
+-- what tokens give, and then the end or the fault behind them
 unfoldable pub run : List PredOf → ℕ → Option LexFault → List Lexeme → Partial → Result PolicyOf PolicyFault
 run sig end fault [] p = at_end fault end p
 run sig end fault (t ∷ ts) p = and_then (step sig p t) (run sig end fault ts)

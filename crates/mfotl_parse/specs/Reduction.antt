@@ -24,6 +24,7 @@ hold (Left operator interval left) = right_precedence operator
 hold Negation = 6
 hold (Moment operator interval) = 6
 
+-- a temporal operator with its interval and operand
 abbrev pub momentary : Temporal → Interval → Form → Form
 momentary Previous i f = forms.Previous i f
 momentary Next i f = forms.Next i f
@@ -32,6 +33,7 @@ momentary Historically i f = forms.Historically i f
 momentary Eventually i f = forms.Eventually i f
 momentary Always i f = forms.Always i f
 
+-- an operator with its interval and operands
 abbrev pub joined : Operator → Interval → Form → Form → Form
 joined And i f g = forms.And f g
 joined Or i f g = forms.Or f g
@@ -62,6 +64,7 @@ pub record Reduced : Type 0 where
   pub form : Form
   pub stack : List Frame
 
+-- the operand given to the frames that hold more tightly than the limit
 unfoldable pub reduce : ℕ → Form → List Frame → Reduced
 reduce limit f [] = record { form = f; stack = [] }
 reduce limit f (frame ∷ stack) =

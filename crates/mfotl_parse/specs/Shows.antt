@@ -71,6 +71,7 @@ argument_shown (Given term) due nodes =
 argument_shown (Hidden token) due nodes =
     if_broken (is_empty due) (WrongArity token.at) (node_shown token.at nodes) ∷ []
 
+-- what the tokens of arguments show
 abbrev pub arguments_shown : WrittenArguments → List Sort → ℕ → Showing
 arguments_shown (LastArgument a) due nodes = argument_shown a due nodes
 arguments_shown (MoreArguments a comma rest) due nodes =
@@ -101,16 +102,19 @@ above_shown (Counted token number unit seconds) = [] ∷ range_shown token.at (n
 abbrev pub empty_shown : (at low end : ℕ) → List PolicyFault
 empty_shown at low end = if_broken (nat_le end low) (EmptyInterval at) []
 
+-- what the tokens of an interval's end show
 abbrev pub end_shown : (at low : ℕ) → WrittenEnd → Showing
 end_shown at low (Included high closing) = bound_shown high ++ empty_shown at low (bound_value high + 1) ∷ []
 end_shown at low (Excluded high closing) = bound_shown high ++ empty_shown at low (bound_value high) ∷ []
 end_shown at low (Unbounded star closing) = [] ∷ [] ∷ []
 
+-- what the tokens of an interval show
 abbrev pub interval_shown : WrittenInterval → Showing
 interval_shown Omitted = []
 interval_shown (From opening low comma end) = [] ∷ bound_shown low ++ [] ∷ end_shown opening.at (bound_value low) end
 interval_shown (Above opening low comma end) = [] ∷ above_shown low ++ end_shown opening.at (bound_value low + 1) end
 
+-- no interval was written
 abbrev pub is_omitted : WrittenInterval → Bool
 is_omitted Omitted = true
 is_omitted (From opening low comma end) = false
@@ -118,10 +122,12 @@ is_omitted (Above opening low comma end) = false
 
 -- ---- parentheses and quantifiers
 
+-- the class of an Integer
 abbrev pub is_number : Class → Bool
 is_number (classes.Integer z) = true
 is_number _ = false
 
+-- the first token is an Integer
 abbrev pub begins_with_number : List Lexeme → Bool
 begins_with_number [] = false
 begins_with_number (t ∷ ts) = is_number (class_of t)
@@ -142,9 +148,11 @@ abbrev pub enclosed_shown : Bool → (at levels : ℕ) → List Lexeme → Showi
 enclosed_shown false at levels ts inside = level_shown at levels [] ∷ inside
 enclosed_shown true at levels ts inside = [] ∷ postponed at levels (begins_with_number ts) inside
 
+-- a quantified variable: a level and a node, shown by its first token
 abbrev pub variable_shown : WrittenVariable → (levels nodes : ℕ) → Showing
 variable_shown v levels nodes = at_first (prefix_shown (place_of_variable v) levels nodes) (variable_spelling v)
 
+-- what the tokens of quantified variables show
 abbrev pub variables_shown : WrittenVariables → (levels nodes : ℕ) → Showing
 variables_shown (LastVariable v) levels nodes = variable_shown v levels nodes
 variables_shown (MoreVariables v comma rest) levels nodes =
@@ -157,6 +165,7 @@ abbrev pub joint_shown : Bool → (at levels nodes : ℕ) → List PolicyFault
 joint_shown true at levels nodes = prefix_shown at levels nodes
 joint_shown false at levels nodes = node_shown at nodes
 
+-- how many levels are open around a right operand
 abbrev pub levels_right : Bool → ℕ → ℕ
 levels_right true levels = suc levels
 levels_right false levels = levels

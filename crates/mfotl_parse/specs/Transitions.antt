@@ -25,6 +25,7 @@ pub record Rule : Type 0 where
   pub limit : Limit
   pub at : ℕ
 
+-- the fault of a broken rule, at the offset
 abbrev pub fault_of : Limit → ℕ → PolicyFault
 fault_of Empty at = EmptyInterval at
 fault_of Range at = BoundRange at
@@ -33,10 +34,12 @@ fault_of Arity at = WrongArity at
 fault_of Deep at = TooDeep at
 fault_of Nodes at = TooManyNodes at
 
+-- what a token does
 pub record Transition : Type 0 where
   pub rules : List Rule
   pub next : Partial
 
+-- the grammar goes on
 abbrev pub goes : List Rule → Partial → Option Transition
 goes rules next = Some (record { rules = rules; next = next })
 
@@ -63,6 +66,7 @@ within_depth at stack = record { broken = nat_le max_levels (depth stack); limit
 abbrev pub within_nodes : ℕ → ℕ → Rule
 within_nodes at nodes = record { broken = nat_le max_nodes nodes; limit = Nodes; at = at }
 
+-- no argument is due
 abbrev pub is_empty : List Sort → Bool
 is_empty [] = true
 is_empty (sort ∷ rest) = false

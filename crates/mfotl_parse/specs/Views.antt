@@ -22,6 +22,7 @@ use Rattle.mfotl_parse.specs.States.{AfterArgument, AfterArgumentMark, ExpectVar
 use Rattle.mfotl_parse.specs.States.{AfterVariable, AfterParen, AfterParenNumber, ExpectLow, AfterLowNumber, AfterLow}
 use Rattle.mfotl_parse.specs.States.{ExpectHigh, AfterHighNumber, AfterHigh, AfterStar}
 
+-- a frame
 abbrev pub frame_of : FrameValue → Frame
 frame_of frames.Parens = Parens
 frame_of frames.Negation = Negation
@@ -33,9 +34,11 @@ frame_of (frames.Left operator interval left) = Left operator interval (form lef
 unfoldable pub stack_of : List FrameValue → List Frame
 stack_of frames = reverse (map frame_of frames)
 
+-- a free variable with the offset of its first occurrence
 abbrev pub known_of : Vec ℕ × ℕ → List ℕ × ℕ
 known_of entry = (entry.0.items, entry.1)
 
+-- the names that were met
 abbrev pub names_of : TableValue → SymbolTable
 names_of n = record {
   free = map known_of n.free.entries;
@@ -45,12 +48,15 @@ names_of n = record {
   pairs = n.pairs.items;
 }
 
+-- what is open and what was met
 abbrev pub context_of : ContextValue → Context
 context_of c = record { stack = stack_of c.frames.items; nodes = c.nodes; names = names_of c.names }
 
+-- an atom up to its last argument
 abbrev pub call_view : CallValue → Call
 call_view call = record { pred = call.pred; rest = call.rest.now; args = call.args.items; bound = call.bound }
 
+-- what may come next
 abbrev pub stage_of : StageValue → Stage
 stage_of stages.ExpectOperand = ExpectOperand
 stage_of stages.AfterTemporal = AfterTemporal
@@ -100,6 +106,7 @@ Enters (Ok u) context rules next =
     ≡ Ok (record { context = context_of context; now = ExpectOperand })
 Enters (Err fault) context rules next = Fails fault (kept rules (record { context = next; now = ExpectOperand }))
 
+-- a policy up to a token
 abbrev pub partial_of : ParserValue → Partial
 partial_of p = record { context = context_of p.context; now = stage_of p.now }
 
@@ -108,5 +115,6 @@ abbrev pub Steps : Result (Unit {0}) PolicyFault → ParserValue → Result Part
 Steps (Ok u) parser read = read ≡ Ok (partial_of parser)
 Steps (Err fault) parser read = Fails fault read
 
+-- a policy
 abbrev pub policy_of : Policy → PolicyOf
 policy_of p = record { formula = form p.formula; vars = p.vars }

@@ -19,6 +19,7 @@ use Rattle.mfotl_sig.specs.Preds.{PredOf}
 abbrev pub Sorting : Type 0
 Sorting = ℕ → Option Sort
 
+-- the sort of a constant
 abbrev pub sort_of_constant : Value → Sort
 sort_of_constant (values.Int number) = sorts.Int
 sort_of_constant (values.Text text) = sorts.Text
