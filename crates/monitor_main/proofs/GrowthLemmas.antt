@@ -129,13 +129,13 @@ module _ (sig : List PredOf) (limits : Limits) where
       let place_is : place_at limits (seen ++ left) true 0 ≡ grown p more e =
       ap (λ bytes. record { mode = Log; at = 0; rest = drop 0 bytes; ended = true && e }) looked in
       let tokens_are : tokens (place_at limits (seen ++ left) true 0) ≡ joined (tokens p) (tokens (grown
-          (stopped_at p) more e)) =
+      (stopped_at p) more e)) =
       ap tokens place_is ∙ (more_bytes p more e refl).1 in
       let none : (q : Partial) → nothing_left limits seen false q ≡ nothing = λ q. rw front_short refl in
       let last = nothing_left limits (seen ++ left) true in
       rw (ap (run_tokens last) tokens_are)
       (joined_keeps (nothing_left limits seen false) last none (tokens p).fault (tokens p).list (tokens (grown
-          (stopped_at p) more e)))
+      (stopped_at p) more e)))
 
 -- what the front shows stays
 pub shown_stays : ShownStays

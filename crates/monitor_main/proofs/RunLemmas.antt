@@ -228,7 +228,7 @@ module _ (checked : CheckedPolicy) (log : Name) (before after : InputsView) (old
           later_out = later_out;
           comes = told_map before.files _ _
               (λ files g. log_comes (task_on checked
-                  (content files log)) q asks e bytes failed g old.faults new.faults result ok stops front)
+              (content files log)) q asks e bytes failed g old.faults new.faults result ok stops front)
               gathered;
           causes = IfErr-weaker result _ _ (λ r h. log_causes e failed q _ old.written new.written r cause h) stops;
         };
