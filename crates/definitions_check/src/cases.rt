@@ -102,11 +102,14 @@ impl CaseReader {
 // The case that begins with a line of this first word.
 fn begun(alloc: Global, head: &[u8], words: &mut Words<'_>) -> Result<Draft, CaseFault> {
     match head {
-        b"case" => Ok(Draft {
-            number: natural(alloc, words.next()?)?,
-            log: Vec::new(alloc),
-            formula: None,
-        }),
+        b"case" => {
+            let number = natural(alloc, words.next()?)?;
+            Ok(Draft {
+                number,
+                log: Vec::new(alloc),
+                formula: None,
+            })
+        }
         b"point" | b"event" | b"formula" => Err(CaseFault::Misplaced),
         _ => Err(CaseFault::UnknownWord),
     }
@@ -166,11 +169,10 @@ impl Draft {
     }
 
     fn set_formula(&mut self, alloc: Global, words: &mut Words<'_>) -> Result<(), CaseFault> {
-        let formula = formula(alloc, words)?;
         if self.formula.is_some() {
             return Err(CaseFault::Misplaced);
         }
-        self.formula = Some(formula);
+        self.formula = Some(formula(alloc, words)?);
         Ok(())
     }
 }

@@ -34,31 +34,54 @@ fn nested(alloc: Global, words: &mut Words<'_>, depth: u32) -> Result<Formula, C
         Operator::Atom => Ok(Formula::Atom(atom(alloc, words)?)),
         Operator::Compare => Ok(Formula::Compare(comparison(alloc, words)?)),
         Operator::Not => Ok(Formula::Not(operand(alloc, words, depth)?)),
-        Operator::And => {
-            let (f, g) = operands(alloc, words, depth)?;
-            Ok(Formula::And(f, g))
+        operator @ (Operator::And | Operator::Or | Operator::Implies | Operator::Equiv) => {
+            joined(alloc, operator, words, depth)
         }
-        Operator::Or => {
-            let (f, g) = operands(alloc, words, depth)?;
-            Ok(Formula::Or(f, g))
-        }
-        Operator::Implies => {
-            let (f, g) = operands(alloc, words, depth)?;
-            Ok(Formula::Implies(f, g))
-        }
-        Operator::Equiv => {
-            let (f, g) = operands(alloc, words, depth)?;
-            Ok(Formula::Equiv(f, g))
-        }
-        Operator::Exists => {
-            let x = bound(alloc, words)?;
-            Ok(Formula::Exists(x, operand(alloc, words, depth)?))
-        }
-        Operator::Forall => {
-            let x = bound(alloc, words)?;
-            Ok(Formula::Forall(x, operand(alloc, words, depth)?))
-        }
+        operator @ (Operator::Exists | Operator::Forall) => quantified(
+            alloc, operator, words, depth,
+        ),
         operator => in_time(alloc, operator, words, depth),
+    }
+}
+
+// The formula of an operator that joins two operands, which come next.
+#[cycle(formulas)]
+#[tactic(auto, unfolding(crate::specs::Spelling::spelled))]
+fn joined(
+    alloc: Global,
+    operator: Operator,
+    words: &mut Words<'_>,
+    depth: u32,
+) -> Result<Formula, CaseFault>
+    ensures { IfOk result (λ f. word_of operator ∷ words.old ≡ spelled (form f) words.new) }
+{
+    let (f, g) = operands(alloc, words, depth)?;
+    match operator {
+        Operator::And => Ok(Formula::And(f, g)),
+        Operator::Or => Ok(Formula::Or(f, g)),
+        Operator::Implies => Ok(Formula::Implies(f, g)),
+        Operator::Equiv => Ok(Formula::Equiv(f, g)),
+        _ => Err(CaseFault::UnknownWord),
+    }
+}
+
+// The formula of a quantifier, whose variable and operand come next.
+#[cycle(formulas)]
+#[tactic(auto, unfolding(crate::specs::Spelling::spelled))]
+fn quantified(
+    alloc: Global,
+    operator: Operator,
+    words: &mut Words<'_>,
+    depth: u32,
+) -> Result<Formula, CaseFault>
+    ensures { IfOk result (λ f. word_of operator ∷ words.old ≡ spelled (form f) words.new) }
+{
+    let x = bound(alloc, words)?;
+    let f = operand(alloc, words, depth)?;
+    match operator {
+        Operator::Exists => Ok(Formula::Exists(x, f)),
+        Operator::Forall => Ok(Formula::Forall(x, f)),
+        _ => Err(CaseFault::UnknownWord),
     }
 }
 

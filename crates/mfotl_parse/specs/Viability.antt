@@ -1,38 +1,42 @@
 -- Where the grammar alone can go on, whatever rules a token breaks. Tokens are viable where some
 -- continuation of them is accepted.
-use Rattle.std.specs.Prelude.{◌≡◌, ◌↔◌, ℕ, Bool, true, false, IsTrue, List, [], ◌∷◌, ◌++◌, Option, Some, None, Result, Ok, Err}
+use Rattle.std.specs.Prelude.{◌≡◌, ◌↔◌, ℕ, Bool, true, false, IsTrue, List, [], ◌∷◌, ◌++◌, Option, Some, None, Result}
+use Rattle.std.specs.Prelude.{Ok, Err}
 use Rattle.mfotl_lex.specs.declared.fault.LexFault.{LexFault}
 use Rattle.mfotl_lex.specs.Lexemes.{Lexeme}
 use Rattle.mfotl_sig.specs.Preds.{PredOf}
 use Rattle.mfotl_parse.specs.declared.fault.PolicyFault.{PolicyFault}
 use Rattle.mfotl_parse.specs.declared.fault.PolicyFault.TheVariants.{Syntax}
-use Rattle.mfotl_parse.specs.Moves.{Move}
-use Rattle.mfotl_parse.specs.Reading.{PolicyOf, move_of, step, run, is_closed, reading}
+use Rattle.mfotl_parse.specs.Transitions.{Transition}
+use Rattle.mfotl_parse.specs.Reading.{PolicyOf, transition, step, run, is_closed, reading}
 use Rattle.mfotl_parse.specs.Reduction.{reduce}
-use Rattle.mfotl_parse.specs.States.{Frame, Now, Partial, Have, start}
+use Rattle.mfotl_parse.specs.States.{Frame, Stage, Partial, AfterOperand, start}
 
-abbrev pub if_moved : Option Move → (Partial → Bool) → Bool
+-- what follows, where the grammar goes on
+abbrev pub if_moved : Option Transition → (Partial → Bool) → Bool
 if_moved None test = false
 if_moved (Some m) test = test m.next
 
 -- an operand was read, and nothing else is open
-abbrev pub is_whole : Now → List Frame → Bool
-is_whole (Have f) stack = is_closed (reduce 0 f stack).stack
+abbrev pub is_whole : Stage → List Frame → Bool
+is_whole (AfterOperand f) stack = is_closed (reduce 0 f stack).stack
 is_whole _ stack = false
 
 -- with these tokens behind it the text is whole
 unfoldable pub accepts : List PredOf → List Lexeme → Partial → Bool
 accepts sig [] p = is_whole p.now p.context.stack
-accepts sig (t ∷ ts) p = if_moved (move_of sig p t) (accepts sig ts)
+accepts sig (t ∷ ts) p = if_moved (transition sig p t) (accepts sig ts)
 
 -- the grammar goes on with each of these tokens
 unfoldable pub goes_on : List PredOf → List Lexeme → Partial → Bool
 goes_on sig [] p = true
-goes_on sig (t ∷ ts) p = if_moved (move_of sig p t) (goes_on sig ts)
+goes_on sig (t ∷ ts) p = if_moved (transition sig p t) (goes_on sig ts)
 
+-- some continuation is accepted
 abbrev pub IsViable : List PredOf → List Lexeme → Type 0
 IsViable sig ts = (more : List Lexeme) × IsTrue (accepts sig (ts ++ more) start)
 
+-- what was read goes on, a fault stays
 abbrev pub and_steps : Result Partial PolicyFault → (Partial → Result Partial PolicyFault) → Result Partial PolicyFault
 and_steps (Ok p) next = next p
 and_steps (Err fault) next = Err fault
@@ -42,6 +46,7 @@ unfoldable pub steps : List PredOf → List Lexeme → Partial → Result Partia
 steps sig [] p = Ok p
 steps sig (t ∷ ts) p = and_steps (step sig p t) (steps sig ts)
 
+-- what the reader says of viable tokens and of the first fault
 pub record FirstFaults : Type 0 where
   -- tokens are viable exactly where the grammar goes on with each of them
   pub viable : (sig : List PredOf) (ts : List Lexeme) → IsTrue (goes_on sig ts start) ↔ IsViable sig ts

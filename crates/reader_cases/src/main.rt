@@ -24,7 +24,7 @@ fn answer(alloc: Global, case: &str) -> Result<String, Stop> {
         "predicate" | "policy" => readers::answer(alloc, kind, case),
         "core" => fragment::core(alloc, case),
         "points" | "limited" | "unfinished" => points::answer(alloc, kind, case),
-        "load" | "read" | "write" => outside::answer(alloc, kind, case),
+        "load" | "read" | "write" | "gather" => outside::answer(alloc, kind, case),
         "interval" | "lines" => model::answer(alloc, kind, case),
         _ => Err(Stop::Malformed),
     }

@@ -4,7 +4,8 @@ use crate::readers::{policy_of, signature_of};
 use crate::stop::Stop;
 use crate::texts::{bytes_of, halves, number, parted, shown};
 use log_reader::{Limits, LogReader, Next};
-use mfotl_model::{Formula, Interval, TimePoint, log_text};
+use mfotl_model::{Formula, Interval, TimePoint};
+use mfotl_plain::log_text;
 use std::alloc::Global;
 
 /// The answer to a case of this kind.
@@ -23,9 +24,13 @@ fn interval(alloc: Global, case: &str) -> Result<String, Stop> {
         "*" => None,
         digits => Some(number(digits)?),
     };
-    let Some(interval) = Interval::new(number(lo)?, hi) else {
-        return Ok(String::from_str(alloc, "None")?);
-    };
+    match Interval::new(number(lo)?, hi) {
+        Some(interval) => insides(alloc, interval, distances),
+        None => Ok(String::from_str(alloc, "None")?),
+    }
+}
+
+fn insides(alloc: Global, interval: Interval, distances: &str) -> Result<String, Stop> {
     let mut told = String::from_str(alloc, "Some")?;
     for distance in distances.split(' ') {
         let inside = interval.contains(number(distance)?);

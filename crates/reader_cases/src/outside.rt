@@ -1,10 +1,11 @@
 //! Cases of files and sinks in memory.
-ghost use Rattle.std.specs.Prelude.{◌<◌, IfOk};
+ghost use Rattle.std.specs.Prelude.{◌<◌, is_some, IfOk, IsTrue};
 
 use crate::stop::Stop;
-use crate::texts::{bytes_of, number, numbers, parted, shown};
+use crate::texts::{bytes_of, number, numbers, parted, put_word, shown};
 use mon_outside::{
-    Inputs, LoadFault, MemInputs, MemSink, NamedFile, load, read_more, read_to_end, write_whole,
+    BufferedSink, Failed, Inputs, LoadFault, MemInputs, MemSink, NamedFile, Sink, load, read_more,
+    read_to_end, write_whole,
 };
 use std::alloc::Global;
 
@@ -13,6 +14,7 @@ pub fn answer(alloc: Global, kind: &str, case: &str) -> Result<String, Stop> {
     match kind {
         "load" => loaded(alloc, case),
         "read" => read(alloc, case),
+        "gather" => gathered(alloc, case),
         _ => written(alloc, case),
     }
 }
@@ -44,7 +46,16 @@ fn loaded(alloc: Global, case: &str) -> Result<String, Stop> {
     let files = [file(alloc, text)?];
     let fail = numbers(alloc, fail)?;
     let mut inputs = MemInputs::new(&files, piece_of(piece)?, fail.as_slice());
-    match load(alloc, &mut inputs, name, number(limit)?) {
+    load_from(alloc, &mut inputs, name, number(limit)?)
+}
+
+fn load_from(
+    alloc: Global,
+    inputs: &mut MemInputs<'_>,
+    name: &str,
+    limit: u64,
+) -> Result<String, Stop> {
+    match load(alloc, inputs, name, limit) {
         Ok(bytes) => shown(alloc, bytes.as_slice()),
         Err(fault) => Ok(fault.to_string(alloc)?),
     }
@@ -58,24 +69,39 @@ fn read(alloc: Global, case: &str) -> Result<String, Stop> {
     let files = [file(alloc, text)?];
     let fail = numbers(alloc, fail)?;
     let mut inputs = MemInputs::new(&files, piece_of(piece)?, fail.as_slice());
-    if inputs.open("log").is_err() {
-        return Err(Stop::Malformed);
+    match inputs.open("log") {
+        Ok(()) => read_open(alloc, &mut inputs),
+        Err(_) => Err(Stop::Malformed),
     }
-    let mut bytes = Vec::new(alloc);
-    let mut buffer = [0; 4];
-    let Ok(count) = read_more(&mut inputs, &mut buffer, &mut bytes) else {
-        return Err(Stop::Malformed);
-    };
-    let end = ended(alloc, read_to_end(alloc, &mut inputs, &mut bytes, 1 << 20))?;
-    let given = shown(alloc, bytes.as_slice())?;
-    Ok(format!(in alloc; "{count} {end} {given}")?)
 }
 
-fn ended(alloc: Global, end: Result<(), LoadFault>) -> Result<String, Stop> {
-    match end {
-        Ok(()) => Ok(String::from_str(alloc, "Ok")?),
-        Err(fault) => Ok(fault.to_string(alloc)?),
+fn read_open(alloc: Global, inputs: &mut MemInputs<'_>) -> Result<String, Stop>
+    requires { IsTrue (is_some inputs.old.rest) }
+{
+    let mut bytes = Vec::new(alloc);
+    let mut buffer = [0; 4];
+    match read_more(inputs, &mut buffer, &mut bytes) {
+        Ok(count) => {
+            let end = read_to_end(alloc, inputs, &mut bytes, 1 << 20);
+            told_read(alloc, count, end, bytes.as_slice())
+        }
+        Err(_) => Err(Stop::Malformed),
     }
+}
+
+fn told_read(
+    alloc: Global,
+    count: usize,
+    end: Result<(), LoadFault>,
+    bytes: &[u8],
+) -> Result<String, Stop> {
+    let mut told = count.to_string(alloc)?;
+    match end {
+        Ok(()) => put_word(&mut told, "Ok")?,
+        Err(fault) => put_word(&mut told, fault.to_string(alloc)?.as_str())?,
+    }
+    put_word(&mut told, shown(alloc, bytes)?.as_str())?;
+    Ok(told)
 }
 
 // How each piece is written to a sink whose calls of these numbers fail, and what it then has.
@@ -84,13 +110,40 @@ fn written(alloc: Global, case: &str) -> Result<String, Stop> {
     let fail = numbers(alloc, fail)?;
     let mut sink = MemSink::new(alloc, fail.as_slice());
     let mut told = String::new(alloc);
+    put_pieces(alloc, &mut told, &mut sink, pieces)?;
+    put_word(&mut told, shown(alloc, sink.written())?.as_str())?;
+    Ok(told)
+}
+
+// The same of a sink that gathers what is written, and then how it is flushed, twice.
+fn gathered(alloc: Global, case: &str) -> Result<String, Stop> {
+    let (fail, pieces) = parted(case);
+    let fail = numbers(alloc, fail)?;
+    let mut sink = BufferedSink::new(alloc, MemSink::new(alloc, fail.as_slice()))?;
+    let mut told = String::new(alloc);
+    put_pieces(alloc, &mut told, &mut sink, pieces)?;
+    put_word(&mut told, "flushed")?;
+    put_ended(alloc, &mut told, sink.flush())?;
+    put_ended(alloc, &mut told, sink.flush())?;
+    Ok(told)
+}
+
+fn put_pieces<K: Sink>(
+    alloc: Global,
+    told: &mut String,
+    sink: &mut K,
+    pieces: &str,
+) -> Result<(), Stop> {
     for piece in pieces.split(" | ") {
         let piece = bytes_of(alloc, piece)?;
-        match write_whole(&mut sink, piece.as_slice()) {
-            Ok(()) => told.push_str("Ok ")?,
-            Err(fault) => told.push_str(format!(in alloc; "{fault} ")?.as_str())?,
-        }
+        put_ended(alloc, told, write_whole(sink, piece.as_slice()))?;
     }
-    told.push_str(shown(alloc, sink.written())?.as_str())?;
-    Ok(told)
+    Ok(())
+}
+
+fn put_ended(alloc: Global, told: &mut String, ended: Result<(), Failed>) -> Result<(), Stop> {
+    match ended {
+        Ok(()) => put_word(told, "Ok"),
+        Err(fault) => put_word(told, fault.to_string(alloc)?.as_str()),
+    }
 }

@@ -2,10 +2,9 @@
 
 use crate::readers::signature_of;
 use crate::stop::Stop;
-use crate::texts::{bytes_of, halves, number, parted};
+use crate::texts::{bytes_of, halves, number, parted, put_word};
 use log_reader::{Limits, LogFault, LogReader, Next};
-use mfotl_model::TimePoint;
-use mfotl_sig::Signature;
+use mfotl_model::{Event, TimePoint};
 use std::alloc::Global;
 
 /// The answer to a case of this kind.
@@ -37,7 +36,9 @@ fn within(alloc: Global, limits: Limits, case: &str) -> Result<String, Stop> {
     let mut reader = LogReader::new(alloc, &signature, limits);
     reader.feed_owned(alloc, bytes);
     reader.finish();
-    told(alloc, &mut reader)
+    let mut told = String::new(alloc);
+    put_points(alloc, &mut told, &mut reader)?;
+    Ok(told)
 }
 
 // What is told before the log's end is told, and twice what is told then.
@@ -47,36 +48,60 @@ fn unfinished(alloc: Global, case: &str) -> Result<String, Stop> {
     let bytes = bytes_of(alloc, log)?;
     let mut reader = LogReader::new(alloc, &signature, Limits::standard());
     reader.feed(alloc, bytes.as_slice())?;
-    let before = told(alloc, &mut reader)?;
+    told_thrice(alloc, &mut reader)
+}
+
+fn told_thrice(alloc: Global, reader: &mut LogReader<'_>) -> Result<String, Stop> {
+    let mut told = String::new(alloc);
+    put_points(alloc, &mut told, reader)?;
     reader.finish();
-    let behind = told(alloc, &mut reader)?;
-    let again = told(alloc, &mut reader)?;
-    Ok(format!(in alloc; "{before}; {behind}; {again}")?)
+    for _ in 0..2 {
+        told.push(';')?;
+        put_points(alloc, &mut told, reader)?;
+    }
+    Ok(told)
 }
 
-// What the reader answers, up to the first answer that is no time-point.
-fn told(alloc: Global, reader: &mut LogReader<'_>) -> Result<String, Stop> {
-    let mut text = String::new(alloc);
+// Puts what the reader answers, up to the first answer that is no time-point.
+fn put_points(alloc: Global, told: &mut String, reader: &mut LogReader<'_>) -> Result<(), Stop> {
     for _ in 0..u64::MAX {
-        if reader.is_broken() {
-            break;
-        }
-        let given = reader.next(alloc);
-        let goes_on = matches!(given, Ok(Next::Point(_)));
-        text.push_str(shown(alloc, given)?.as_str())?;
-        if !goes_on {
+        if reader.is_broken() || !put_given(alloc, told, reader.next(alloc))? {
             break;
         }
     }
-    Ok(text)
+    Ok(())
 }
 
-// A time-point as its timestamp and how many events it has.
-fn shown(alloc: Global, given: Result<Next, LogFault>) -> Result<String, Stop> {
+// Puts an answer, and whether it is a time-point.
+fn put_given(
+    alloc: Global,
+    told: &mut String,
+    given: Result<Next, LogFault>,
+) -> Result<bool, Stop> {
     match given {
-        Ok(Next::Point(point)) => Ok(format!(in alloc; "{}/{} ", point.ts, point.db.len())?),
-        Ok(Next::More) => Ok(String::from_str(alloc, "More")?),
-        Ok(Next::End) => Ok(String::from_str(alloc, "End")?),
-        Err(fault) => Ok(fault.to_string(alloc)?),
+        Ok(Next::Point(point)) => {
+            put_point(alloc, told, &point)?;
+            return Ok(true);
+        }
+        Ok(Next::More) => put_word(told, "More")?,
+        Ok(Next::End) => put_word(told, "End")?,
+        Err(fault) => put_word(told, fault.to_string(alloc)?.as_str())?,
     }
+    Ok(false)
+}
+
+// Puts a time-point's timestamp, and how many different events it has.
+fn put_point(alloc: Global, told: &mut String, point: &TimePoint) -> Result<(), Stop> {
+    let events = different(point.db.inserted());
+    put_word(told, format!(in alloc; "{}/{events}", point.ts)?.as_str())
+}
+
+fn different(events: &[Event]) -> usize {
+    let mut count = 0usize;
+    for at in 0..events.len() {
+        if !events[..at].contains(&events[at]) {
+            count = count.saturating_add(1);
+        }
+    }
+    count
 }

@@ -1,7 +1,7 @@
 //! Cases of signatures and policies.
 
 use crate::stop::Stop;
-use crate::texts::{bytes_of, halves, parted, shown};
+use crate::texts::{bytes_of, halves, parted, put_word, shown};
 use mfotl_model::{Policy, Sort, Var};
 use mfotl_parse::read_policy;
 use mfotl_sig::{Pred, Signature, read_signature};
@@ -57,8 +57,7 @@ fn found(alloc: Global, signature: &Signature, name: &str) -> Result<String, Sto
 fn described(alloc: Global, predicate: &Pred) -> Result<String, Stop> {
     let mut told = predicate.number.to_string(alloc)?;
     for sort in &predicate.sorts {
-        told.push(' ')?;
-        told.push_str(sort_word(*sort))?;
+        put_word(&mut told, sort_word(*sort))?;
     }
     Ok(told)
 }
@@ -88,13 +87,12 @@ fn told_columns(alloc: Global, policy: &Policy) -> Result<String, Stop> {
         put_column(alloc, &mut told, var)?;
     }
     let numbers = policy.formula.free_vars(alloc)?;
-    told.push_str(format!(in alloc; "{numbers:?}")?.as_str())?;
+    put_word(&mut told, format!(in alloc; "{numbers:?}")?.as_str())?;
     Ok(told)
 }
 
 fn put_column(alloc: Global, told: &mut String, var: &Var) -> Result<(), Stop> {
-    told.push_str(shown(alloc, var.name.as_bytes())?.as_str())?;
+    put_word(told, shown(alloc, var.name.as_bytes())?.as_str())?;
     told.push(':')?;
-    told.push_str(sort_word(var.sort))?;
-    Ok(told.push(' ')?)
+    Ok(told.push_str(sort_word(var.sort))?)
 }

@@ -94,3 +94,11 @@ fn put_repeated(bytes: &mut Vec<u8>, piece: &str) -> Result<(), Stop> {
 pub fn shown(alloc: Global, bytes: &[u8]) -> Result<String, Stop> {
     Ok(bytes.escape_ascii().to_string(alloc)?)
 }
+
+/// Puts a word behind others, with a space between.
+pub fn put_word(told: &mut String, word: &str) -> Result<(), Stop> {
+    if !told.is_empty() && !word.is_empty() {
+        told.push(' ')?;
+    }
+    Ok(told.push_str(word)?)
+}

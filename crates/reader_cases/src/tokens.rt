@@ -1,7 +1,7 @@
 //! Cases of tokens.
 
 use crate::stop::Stop;
-use crate::texts::{bytes_of, number, parted, shown};
+use crate::texts::{bytes_of, number, parted, put_word, shown};
 use mfotl_lex::{Kind, LexFault, Lexer, Mode, Token, read_integer};
 use std::alloc::Global;
 
@@ -65,10 +65,14 @@ fn front(alloc: Global, mode: Mode, case: &str) -> Result<String, Stop> {
     let (at, text) = parted(case);
     let at = number::<u32>(at)?;
     let text = bytes_of(alloc, text)?;
+    front_of(alloc, mode, at, text.as_slice())
+}
+
+fn front_of(alloc: Global, mode: Mode, at: u32, text: &[u8]) -> Result<String, Stop> {
     if text.len() >= LONGEST {
         return Err(Stop::Malformed);
     }
-    let mut lexer = Lexer::resume(text.as_slice(), mode, at as usize, false);
+    let mut lexer = Lexer::resume(text, mode, at as usize, false);
     let mut told = String::new(alloc);
     put_found(alloc, &mut told, lexer.next())?;
     put_word(&mut told, lexer.offset().to_string(alloc)?.as_str())?;
@@ -102,7 +106,7 @@ fn put_said(alloc: Global, told: &mut String, lexer: &mut Lexer<'_>) -> Result<b
 
 // An Integer's number, and any other token's content in brackets.
 fn said(alloc: Global, token: &Token<'_>) -> Result<String, Stop> {
-    if token.kind == Kind::Integer {
+    if let Kind::Integer = token.kind {
         return Ok(token.integer().to_string(alloc)?);
     }
     let content = shown(alloc, token.content())?;
@@ -123,18 +127,39 @@ fn put_found(
     told: &mut String,
     found: Result<Option<Token<'_>>, LexFault>,
 ) -> Result<(), Stop> {
-    let word = match found {
-        Ok(Some(token)) => format!(in alloc; "{:?} {}+{}", token.kind, token.at, token.text.len())?,
-        Ok(None) => String::from_str(alloc, "None")?,
-        Err(fault) => fault.to_string(alloc)?,
-    };
-    put_word(told, word.as_str())
+    match found {
+        Ok(Some(token)) => put_token(alloc, told, &token),
+        Ok(None) => put_word(told, "None"),
+        Err(fault) => put_word(told, fault.to_string(alloc)?.as_str()),
+    }
 }
 
-// Puts a word behind others, with a space between.
-fn put_word(told: &mut String, word: &str) -> Result<(), Stop> {
-    if !told.is_empty() {
-        told.push(' ')?;
+fn put_token(alloc: Global, told: &mut String, token: &Token<'_>) -> Result<(), Stop> {
+    let place = format!(in alloc; "{}+{}", token.at, token.text.len())?;
+    put_word(told, kind_word(token.kind))?;
+    put_word(told, place.as_str())
+}
+
+fn kind_word(kind: Kind) -> &'static str {
+    match kind {
+        Kind::Word => "Word",
+        Kind::Integer => "Integer",
+        Kind::Text => "Text",
+        Kind::OpenParen => "OpenParen",
+        Kind::CloseParen => "CloseParen",
+        Kind::OpenBracket => "OpenBracket",
+        Kind::CloseBracket => "CloseBracket",
+        Kind::Comma => "Comma",
+        Kind::Colon => "Colon",
+        Kind::Dot => "Dot",
+        Kind::Question => "Question",
+        Kind::Star => "Star",
+        Kind::Equal => "Equal",
+        Kind::Less => "Less",
+        Kind::LessEqual => "LessEqual",
+        Kind::Greater => "Greater",
+        Kind::GreaterEqual => "GreaterEqual",
+        Kind::At => "At",
+        Kind::Semicolon => "Semicolon",
     }
-    Ok(told.push_str(word)?)
 }

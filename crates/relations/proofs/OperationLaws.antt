@@ -105,7 +105,8 @@ filtered_has q p rows =
     any-filter_same (eq_by_cmp row_cmp q) p (p q) (λ z e. ap p (sym (tells_apart row_exact q z e))) rows
     ∙ and_turned (p q) (has_row rows q)
 
-part_of_own : (v : Valuation) (columns wanted : List ℕ) → all_among wanted columns ≡ true
+-- the part of the row that a valuation gives is the row that it gives
+pub part_of_own : (v : Valuation) (columns wanted : List ℕ) → all_among wanted columns ≡ true
     → part columns wanted (map v columns) ≡ map v wanted
 unfolding part
 part_of_own v columns wanted all =

@@ -3,4 +3,5 @@ pub mod Operations
 pub mod Entries
 pub mod Searches
 pub mod Indexes
+pub mod Pushed
 pub mod Examples

@@ -93,6 +93,14 @@ impl Table {
         (self.columns, self.rows)
     }
 
+    /// The rows themselves.
+    pub fn into_rows(self) -> Vec<Row>
+        ensures rows { result.items ≡ self.rows }
+        ensures is_table { IsTable self.columns self.rows }
+    {
+        self.rows
+    }
+
     pub fn columns(&self) -> &[u32]
         ensures columns { result.now ≡ self.now.columns }
         ensures apart { IsTrue (all_apart self.now.columns) }

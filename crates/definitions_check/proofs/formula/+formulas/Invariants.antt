@@ -12,3 +12,9 @@ decreases-operands l = 4 * l.depth + 1
 
 abbrev pub decreases-operand : goal.decreases-operand
 decreases-operand l = 4 * l.depth
+
+abbrev pub decreases-joined : goal.decreases-joined
+decreases-joined l = 4 * l.depth + 2
+
+abbrev pub decreases-quantified : goal.decreases-quantified
+decreases-quantified l = 4 * l.depth + 2

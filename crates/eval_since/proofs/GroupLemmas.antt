@@ -1,0 +1,257 @@
+-- What a change at one row leaves at each row.
+use Rattle.std.proofs.Common.{◌≡◌, ℕ, ◌+◌, ◌<◌, ◌≤◌, Bool, true, false, cond, nat_eq, ◌&&◌, ◌||◌, List, [], ◌∷◌, length, get_or, take, Option, Some, None, refl, sym, ap, ◌∙◌, arith}
+use Rattle.std.specs.BTreeMap.{is_at}
+use Rattle.std.specs.List.{list_any}
+use Rattle.std.specs.Map.{lookup, keys_of}
+use Rattle.std.specs.Option.{unwrap_or}
+use Rattle.std.specs.Ordering.{eq_by_cmp}
+use Rattle.std.specs.declared.cmp.Ordering.TheVariants.{Equal}
+use Rattle.mfotl_model.specs.Values.{row_cmp, row_total}
+use Rattle.mfotl_model.specs.declared.value.Value.{Value}
+use Rattle.mfotl_model.proofs.RowLemmas.{row_exact}
+use Rattle.std.proofs.lemmas.Bool.{eqb-true}
+use Rattle.std.proofs.lemmas.List.{take_all}
+use Rattle.std.proofs.lemmas.List.Folds.{list_any_more}
+use Rattle.std.specs.Cmp.{eq_by_cmp_equiv}
+use Rattle.std.proofs.lemmas.Map.{lookup-none}
+use Rattle.std.proofs.lemmas.Map.Entries.{none_past_head}
+use Rattle.std.proofs.lemmas.Map.Keys.{sorted_tail, IsDistinct-from_sorted}
+use Rattle.std.specs.List.Sorted.{IsStrictlySortedBy}
+use Rattle.mfotl_model.specs.declared.interval.Interval.{Interval}
+use Rattle.mfotl_model.specs.Tables.{has_row}
+use Rattle.relations.proofs.MapLemmas.{same_row}
+use Rattle.eval_since.specs.Groups.{hit, times_in, group_of, times_at}
+use Rattle.eval_since.specs.Times.{reaches, recent}
+
+pub recent_none : (hi x : ℕ) → recent hi x [] ≡ []
+unfolding recent
+recent_none hi x = refl
+
+pub empty_list : {X : Type 0} (ys : List X) → nat_eq (length ys) 0 ≡ true → [] ≡ ys
+empty_list [] e = refl
+empty_list (y ∷ ys) e = absurd (let w : length (y ∷ ys) ≡ 0 = eqb-true (length (y ∷ ys)) 0 e in omega arith)
+
+-- a change at one row of one group
+pub grouped : (h : List ℕ → List ℕ) (key row q v : List Value)
+    (old new : List (List Value × List (List Value × List ℕ))) (g : List (List Value × List ℕ))
+    → group_of new q ≡ cond (is_at (row_cmp key) q) g (group_of old q)
+    → times_in g v ≡ cond (is_at (row_cmp row) v) (h (times_in (group_of old key) v)) (times_in (group_of old key) v)
+    → times_at new q v ≡ cond (is_at (row_cmp key) q && is_at (row_cmp row) v) (h (times_at old q v))
+    (times_at old q v)
+grouped h key row q v old new g outer inner = ap (λ e. times_in e v) outer ∙ by (is_at (row_cmp key) q) refl
+  where
+    by : (b : Bool) → is_at (row_cmp key) q ≡ b
+        → times_in (cond b g (group_of old q)) v ≡ cond (b && is_at (row_cmp row) v) (h (times_at old q v))
+        (times_at old q v)
+    by true e = inner ∙ ap (λ k. cond (is_at (row_cmp row) v) (h (times_in (group_of old k) v))
+        (times_in (group_of old k) v)) (same_row key q e)
+    by false e = refl
+
+-- one part more
+pub has_more : (parts : List (List Value)) (i : ℕ) (x q : List Value) → i < length parts → x ≡ get_or parts i x
+    → has_row (take (i + 1) parts) q ≡ (has_row (take i parts) q || is_at (row_cmp x) q)
+has_more parts i x q low e =
+    list_any_more (eq_by_cmp row_cmp q) parts i x low
+    ∙ ap (λ y. has_row (take i parts) q || eq_by_cmp row_cmp q y) (sym e)
+    ∙ ap (λ b. has_row (take i parts) q || b) ((eq_by_cmp_equiv row_total).symm q x)
+
+has_all : (parts : List (List Value)) (i : ℕ) (q : List Value) → length parts ≤ i
+    → has_row (take i parts) q ≡ has_row parts q
+has_all parts i q l = ap (λ ps. has_row ps q) (take_all i parts l)
+
+-- the groups of the parts so far are gone
+abbrev pub AreGone : {X : Type 0} → List (List Value) → List (List Value × X) → List (List Value × X) → Type 0
+AreGone parts old new = (q : List Value) → lookup (is_at (row_cmp q)) new
+    ≡ cond (has_row parts q) None (lookup (is_at (row_cmp q)) old)
+
+-- they alone are there
+abbrev pub AreKept : {X : Type 0} → List (List Value) → List (List Value × X) → List (List Value × X) → Type 0
+AreKept parts old new = (q : List Value) → lookup (is_at (row_cmp q)) new
+    ≡ cond (has_row parts q) (lookup (is_at (row_cmp q)) old) None
+
+pub gone_more : {X : Type 0} (parts : List (List Value)) (i : ℕ) (x : List Value)
+    (old cur new : List (List Value × X)) → i < length parts → x ≡ get_or parts i x
+    → AreGone (take i parts) old cur
+    → ((q : List Value) → lookup (is_at (row_cmp q)) new
+    ≡ cond (is_at (row_cmp x) q) None (lookup (is_at (row_cmp q)) cur))
+    → AreGone (take (i + 1) parts) old new
+gone_more {X} parts i x old cur new low e before step = λ q.
+    step q ∙ ap (λ o. cond (is_at (row_cmp x) q) None o) (before q)
+    ∙ by (has_row (take i parts) q) (is_at (row_cmp x) q) (lookup (is_at (row_cmp q)) old)
+    ∙ sym (ap (λ b. cond b None (lookup (is_at (row_cmp q)) old)) (has_more parts i x q low e))
+  where
+    by : (b c : Bool) (o : Option X) → cond c None (cond b None o) ≡ cond (b || c) None o
+    by true true o = refl
+    by true false o = refl
+    by false true o = refl
+    by false false o = refl
+
+-- where nothing is found
+pub kept_none : {X : Type 0} (parts : List (List Value)) (i : ℕ) (x : List Value)
+    (old cur kept : List (List Value × X)) → i < length parts → x ≡ get_or parts i x
+    → AreGone (take i parts) old cur
+    → AreKept (take i parts) old kept
+    → None ≡ lookup (is_at (row_cmp x)) cur
+    → AreKept (take (i + 1) parts) old kept
+kept_none {X} parts i x old cur kept low e gone before none = λ q.
+    before q
+    ∙ by q (has_row (take i parts) q) (is_at (row_cmp x) q) refl (gone q)
+    ∙ sym (ap (λ b. cond b (lookup (is_at (row_cmp q)) old) None) (has_more parts i x q low e))
+  where
+    by : (q : List Value) (b c : Bool) → is_at (row_cmp x) q ≡ c
+        → lookup (is_at (row_cmp q)) cur ≡ cond b None (lookup (is_at (row_cmp q)) old)
+        → cond b (lookup (is_at (row_cmp q)) old) None ≡ cond (b || c) (lookup (is_at (row_cmp q)) old) None
+    by q true c e g = refl
+    by q false true e g = none ∙ ap (λ r. lookup (is_at (row_cmp r)) cur) (same_row x q e) ∙ g
+    by q false false e g = refl
+
+-- where a group is found and moved
+pub kept_some : {X : Type 0} (parts : List (List Value)) (i : ℕ) (x key : List Value)
+    (old cur kept new : List (List Value × X)) (g : X) → i < length parts → x ≡ get_or parts i x
+    → AreGone (take i parts) old cur
+    → AreKept (take i parts) old kept
+    → Some g ≡ lookup (is_at (row_cmp x)) cur
+    → row_cmp x key ≡ Equal
+    → ((q : List Value) → lookup (is_at (row_cmp q)) new
+    ≡ cond (is_at (row_cmp key) q) (Some g) (lookup (is_at (row_cmp q)) kept))
+    → AreKept (take (i + 1) parts) old new
+kept_some {X} parts i x key old cur kept new g low e gone before some same step = λ q.
+    step q
+    ∙ ap (λ k. cond (is_at (row_cmp k) q) (Some g) (lookup (is_at (row_cmp q)) kept)) (sym (row_exact x key same))
+    ∙ ap (λ o. cond (is_at (row_cmp x) q) (Some g) o) (before q)
+    ∙ by q (has_row (take i parts) q) (is_at (row_cmp x) q) refl (gone q)
+    ∙ sym (ap (λ b. cond b (lookup (is_at (row_cmp q)) old) None) (has_more parts i x q low e))
+  where
+    by : (q : List Value) (b c : Bool) → is_at (row_cmp x) q ≡ c
+        → lookup (is_at (row_cmp q)) cur ≡ cond b None (lookup (is_at (row_cmp q)) old)
+        → cond c (Some g) (cond b (lookup (is_at (row_cmp q)) old) None)
+        ≡ cond (b || c) (lookup (is_at (row_cmp q)) old) None
+    by q true true e h = absurd (let w : Some g ≡ None = some
+        ∙ ap (λ r. lookup (is_at (row_cmp r)) cur) (same_row x q e) ∙ h in cc)
+    by q true false e h = refl
+    by q false true e h = some ∙ ap (λ r. lookup (is_at (row_cmp r)) cur) (same_row x q e) ∙ h
+    by q false false e h = refl
+
+pub gone_all : (parts : List (List Value)) (i : ℕ) (old new : List (List Value × List (List Value × List ℕ)))
+    (q v : List Value) → length parts ≤ i
+    → AreGone (take i parts) old new → times_at new q v ≡ cond (has_row parts q) [] (times_at old q v)
+gone_all parts i old new q v l gone =
+    ap (λ o. times_in (unwrap_or o []) v) (gone q)
+    ∙ ap (λ b. times_in (unwrap_or (cond b None (lookup (is_at (row_cmp q)) old)) []) v) (has_all parts i q l)
+    ∙ by (has_row parts q)
+  where
+    by : (b : Bool) → times_in (unwrap_or (cond b None (lookup (is_at (row_cmp q)) old)) []) v
+        ≡ cond b [] (times_at old q v)
+    by true = refl
+    by false = refl
+
+pub kept_all : (parts : List (List Value)) (i : ℕ) (old new : List (List Value × List (List Value × List ℕ)))
+    (q v : List Value) → length parts ≤ i
+    → AreKept (take i parts) old new → times_at new q v ≡ cond (has_row parts q) (times_at old q v) []
+kept_all parts i old new q v l kept =
+    ap (λ o. times_in (unwrap_or o []) v) (kept q)
+    ∙ ap (λ b. times_in (unwrap_or (cond b (lookup (is_at (row_cmp q)) old) None) []) v) (has_all parts i q l)
+    ∙ by (has_row parts q)
+  where
+    by : (b : Bool) → times_in (unwrap_or (cond b (lookup (is_at (row_cmp q)) old) None) []) v
+        ≡ cond b (times_at old q v) []
+    by true = refl
+    by false = refl
+
+pub unwrapped : {X : Type 0} (d : X) (b : Bool) (w o p : Option X) → o ≡ cond b w p
+    → unwrap_or o d ≡ cond b (unwrap_or w d) (unwrap_or p d)
+unwrapped {X} d b w o p e = ap (λ r. unwrap_or r d) e ∙ by b
+  where
+    by : (c : Bool) → unwrap_or (cond c w p) d ≡ cond c (unwrap_or w d) (unwrap_or p d)
+    by true = refl
+    by false = refl
+
+-- the same, where the changed group was e
+pub regrouped : (h : List ℕ → List ℕ) (key row q v : List Value)
+    (old new : List (List Value × List (List Value × List ℕ))) (g e : List (List Value × List ℕ))
+    (w : Option (List (List Value × List ℕ)))
+    → lookup (is_at (row_cmp q)) new ≡ cond (is_at (row_cmp key) q) w (lookup (is_at (row_cmp q)) old)
+    → unwrap_or w [] ≡ g
+    → e ≡ group_of old key
+    → times_in g v ≡ cond (is_at (row_cmp row) v) (h (times_in e v)) (times_in e v)
+    → times_at new q v ≡ cond (is_at (row_cmp key) q && is_at (row_cmp row) v) (h (times_at old q v))
+    (times_at old q v)
+regrouped h key row q v old new g e w outer is was inner =
+    grouped h key row q v old new g
+    (unwrapped [] (is_at (row_cmp key) q) w (lookup (is_at (row_cmp q)) new) (lookup (is_at (row_cmp q)) old) outer
+    ∙ ap (λ r. cond (is_at (row_cmp key) q) r (group_of old q)) is)
+    (inner ∙ ap (λ r. cond (is_at (row_cmp row) v) (h (times_in r v)) (times_in r v)) was)
+
+-- an empty group has no times to forget
+pub none_recent : (hi x : ℕ) (row v : List Value) → times_in [] v
+    ≡ cond (is_at (row_cmp row) v) (recent hi x (times_in [] v)) (times_in [] v)
+none_recent hi x row v = by (is_at (row_cmp row) v)
+  where
+    by : (b : Bool) → [] ≡ cond b (recent hi x []) []
+    by true = sym (recent_none hi x)
+    by false = refl
+
+or_false : (b : Bool) → (b || false) ≡ b
+or_false true = refl
+or_false false = refl
+
+-- what is found among the entries is what the row's own entry gives
+pub hit_is : (interval : Interval) (x : ℕ) (u : List Value) (es : List (List Value × List ℕ))
+    → IsStrictlySortedBy row_cmp (keys_of es)
+    → list_any (hit interval x u) es ≡ reaches interval (times_in es u) x
+hit_is interval x u [] h = refl
+hit_is interval x u (e ∷ es) h = by (is_at (row_cmp u) e.0) refl
+    (hit_is interval x u es (sorted_tail row_cmp e.0 (keys_of es) h))
+  where
+    by : (b : Bool) → is_at (row_cmp u) e.0 ≡ b → list_any (hit interval x u) es ≡ reaches interval (times_in es u) x
+        → ((b && reaches interval e.1 x) || list_any (hit interval x u) es)
+        ≡ reaches interval (unwrap_or (cond b (Some e.1) (lookup (is_at (row_cmp u)) es)) []) x
+    by true at rest =
+        ap (λ r. reaches interval e.1 x || r) (rest ∙ ap (λ o. reaches interval (unwrap_or o []) x)
+        (lookup-none (is_at (row_cmp u)) es (none_past_head (eq_by_cmp_equiv row_total) u e es
+        (IsDistinct-from_sorted row_cmp (keys_of (e ∷ es)) h) at)))
+        ∙ or_false (reaches interval e.1 x)
+    by false at rest = rest
+
+-- rows stand in the group k alone
+abbrev pub StandsIn : List (List Value × List (List Value × List ℕ)) → List Value → List Value → Type 0
+StandsIn groups k u = (q : List Value) → is_at (row_cmp k) q ≡ false → times_at groups q u ≡ []
+
+stands_tail : (e : List Value × List (List Value × List ℕ)) (es : List (List Value × List (List Value × List ℕ)))
+    (k u : List Value)
+    → IsStrictlySortedBy row_cmp (keys_of (e ∷ es)) → StandsIn (e ∷ es) k u → StandsIn es k u
+stands_tail e es k u h stands q apart = by (is_at (row_cmp q) e.0) refl (stands q apart)
+  where
+    by : (b : Bool) → is_at (row_cmp q) e.0 ≡ b → times_in
+        (unwrap_or (cond b (Some e.1) (lookup (is_at (row_cmp q)) es)) []) u ≡ [] → times_at es q u ≡ []
+    by true at was = ap (λ o. times_in (unwrap_or o []) u)
+        (lookup-none (is_at (row_cmp q)) es (none_past_head (eq_by_cmp_equiv row_total) q e es
+        (IsDistinct-from_sorted row_cmp (keys_of (e ∷ es)) h) at))
+    by false at was = was
+
+-- where a row stands in one group alone, what is found in any group is found there
+pub group_is : (interval : Interval) (x : ℕ) (k u : List Value)
+    (es : List (List Value × List (List Value × List ℕ))) → IsStrictlySortedBy row_cmp (keys_of es) → StandsIn es k u
+    → list_any (λ e. reaches interval (times_in e.1 u) x) es ≡ reaches interval (times_at es k u) x
+group_is interval x k u [] h stands = refl
+group_is interval x k u (e ∷ es) h stands =
+    by (is_at (row_cmp k) e.0) refl (group_is interval x k u es (sorted_tail row_cmp e.0 (keys_of es) h)
+    (stands_tail e es k u h stands)) (stands e.0)
+  where
+    by : (b : Bool) → is_at (row_cmp k) e.0 ≡ b
+        → list_any (λ e. reaches interval (times_in e.1 u) x) es ≡ reaches interval (times_at es k u) x
+        → (is_at (row_cmp k) e.0 ≡ false → times_at (e ∷ es) e.0 u ≡ [])
+        → (reaches interval (times_in e.1 u) x || list_any (λ e. reaches interval (times_in e.1 u) x) es)
+        ≡ reaches interval (times_in (unwrap_or (cond b (Some e.1) (lookup (is_at (row_cmp k)) es)) []) u) x
+    by true at rest there =
+        ap (λ r. reaches interval (times_in e.1 u) x || r) (rest
+        ∙ ap (λ o. reaches interval (times_in (unwrap_or o []) u) x)
+        (lookup-none (is_at (row_cmp k)) es (none_past_head (eq_by_cmp_equiv row_total) k e es
+        (IsDistinct-from_sorted row_cmp (keys_of (e ∷ es)) h) at)))
+        ∙ or_false (reaches interval (times_in e.1 u) x)
+    by false at rest there =
+        let here : times_at (e ∷ es) e.0 u ≡ times_in e.1 u = ap
+        (λ b. times_in (unwrap_or (cond b (Some e.1) (lookup (is_at (row_cmp e.0)) es)) []) u)
+        ((eq_by_cmp_equiv row_total).refl e.0) in
+        ap (λ ts. reaches interval ts x || list_any (λ e. reaches interval (times_in e.1 u) x) es) (sym here
+        ∙ there at) ∙ rest

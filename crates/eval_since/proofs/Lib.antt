@@ -1,0 +1,10 @@
+pub mod PreviousLemmas
+pub mod SinceLemmas
+pub mod TimesLemmas
+pub mod GroupLemmas
+pub mod WindowLemmas
+pub mod ExpireLemmas
+pub mod WithinLemmas
+pub mod RuleLemmas
+pub mod StepLemmas
+pub mod FollowsLemmas

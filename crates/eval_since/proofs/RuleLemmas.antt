@@ -1,0 +1,51 @@
+-- The times of a row ascend, and without an upper end there is one at most.
+use Rattle.std.proofs.Common.{◌≡◌, ℕ, ◌-◌, ◌≤◌, Bool, true, false, cond, ◌&&◌, ◌||◌, nat_eq, not, List, [], ◌∷◌, ◌++◌, length, slice_index, refl, sym, subst, ap, ◌∙◌, arith, inl, inr}
+use Rattle.std.proofs.lemmas.Bool.{cases_lt}
+use Rattle.std.proofs.lemmas.Bool.Decides.{nat_tests}
+use Rattle.std.proofs.lemmas.List.{length_push}
+use Rattle.std.specs.List.Sorted.{IsStrictlyIncreasing}
+use Rattle.eval_since.specs.Times.{ArePast, added, is_new, recent}
+use Rattle.eval_since.specs.Windows.{IsThinned}
+use Rattle.eval_since.proofs.TimesLemmas.{increasing_added, increasing_tail, recent_all, recent_front}
+
+pub increasing_none : IsStrictlyIncreasing []
+increasing_none = λ k l. absurd (omega arith)
+
+-- without the old ones
+increasing_recent : (hi x : ℕ) (ys : List ℕ) → IsStrictlyIncreasing ys → IsStrictlyIncreasing (recent hi x ys)
+unfolding recent
+increasing_recent hi x [] h = h
+increasing_recent hi x (y ∷ ys) h = elim (cases_lt hi (x - y)) [
+  | inl far ↦ subst IsStrictlyIncreasing (sym (recent_front hi x y ys far))
+      (increasing_recent hi x ys (increasing_tail y ys h))
+  | inr near ↦ subst IsStrictlyIncreasing (sym (recent_all hi x (y ∷ ys) h (λ _. near))) h
+]
+
+pub increasing_thinned : (hi x : ℕ) (old new : List ℕ) → IsThinned hi x old new → IsStrictlyIncreasing old
+    → IsStrictlyIncreasing new
+increasing_thinned hi x old new (inl same) h = subst IsStrictlyIncreasing (sym same) h
+increasing_thinned hi x old new (inr thin) h = subst IsStrictlyIncreasing (sym thin) (increasing_recent hi x old h)
+
+-- with one more
+pub increasing_more : (bounded : Bool) (ys : List ℕ) (x : ℕ) → IsStrictlyIncreasing ys → ArePast x ys
+    → IsStrictlyIncreasing (added bounded ys x)
+unfolding added
+increasing_more bounded ys x h past = by (is_new bounded ys x) refl
+  where
+    by : (b : Bool) → is_new bounded ys x ≡ b → IsStrictlyIncreasing (cond b (ys ++ x ∷ []) ys)
+    by true e = increasing_added bounded ys x h past e
+    by false e = h
+
+-- without an upper end a second one is not kept
+pub one_more : (bounded : Bool) (ys : List ℕ) (x : ℕ) → bounded ≡ false → length ys ≤ 1
+    → length (added bounded ys x) ≤ 1
+unfolding added
+one_more bounded ys x unbounded one = by (is_new bounded ys x) refl
+  where
+    by : (b : Bool) → is_new bounded ys x ≡ b → length (cond b (ys ++ x ∷ []) ys) ≤ 1
+    by true e =
+        let none : (nat_eq (length ys) 0 || false) ≡ true =
+        sym (ap (λ c. nat_eq (length ys) 0 || (c && not (nat_eq (slice_index ys (length ys - 1)) x))) unbounded) ∙ e in
+        let empty : length ys ≡ 0 = grind (arith, nat_tests) in
+        omega (arith, length_push ys x)
+    by false e = one

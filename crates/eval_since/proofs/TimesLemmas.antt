@@ -1,0 +1,110 @@
+-- Ascending times: one more at the end, the old ones dropped, and what they reach.
+use Rattle.std.proofs.Common.{◌≡◌, ℕ, zero, suc, ◌+◌, ◌-◌, ◌<◌, ◌≤◌, Bool, true, false, not, cond, ◌&&◌, ◌||◌, nat_eq, nat_le, List, [], ◌∷◌, ◌++◌, length, slice_index, drop, get_or, refl, sym, ap, ◌∙◌, arith, add-one}
+use native.Mathlib.Numerals.{unary_clauses}
+use Rattle.std.proofs.lemmas.Bool.{and_parts}
+use Rattle.std.proofs.lemmas.Bool.Decides.{nat_tests}
+use Rattle.std.specs.List.{filter}
+use Rattle.std.specs.List.Sorted.{IsStrictlyIncreasing}
+use Rattle.mfotl_model.specs.Intervals.{in_interval, at_most}
+use Rattle.mfotl_model.specs.declared.interval.Interval.{Interval}
+use Rattle.eval_since.specs.Times.{reaches, ArePast, is_new, added, recent}
+
+pub increasing_tail : (y : ℕ) (ys : List ℕ) → IsStrictlyIncreasing (y ∷ ys) → IsStrictlyIncreasing ys
+increasing_tail y ys h = λ k l. let s : suc k + 1 < length (y ∷ ys) = omega arith in rw add-one
+    (rw add-one at (h (suc k) s))
+
+increasing_cons : (y z : ℕ) (zs : List ℕ) → y < z → IsStrictlyIncreasing (z ∷ zs) → IsStrictlyIncreasing (y ∷ z ∷ zs)
+increasing_cons y z zs low h = by
+  where
+    by : IsStrictlyIncreasing (y ∷ z ∷ zs)
+    by zero l = low
+    by (suc k) l = let s : k + 1 < length (z ∷ zs) = omega arith in rw add-one (rw add-one at (h k s))
+
+pub increasing_drop : (ys : List ℕ) → IsStrictlyIncreasing ys → IsStrictlyIncreasing (drop 1 ys)
+increasing_drop [] h = h
+increasing_drop (y ∷ ys) h = increasing_tail y ys h
+
+last_step : (y z : ℕ) (zs : List ℕ) (x : ℕ) → slice_index (y ∷ z ∷ zs) (length (y ∷ z ∷ zs) - 1) < x
+    → slice_index (z ∷ zs) (length (z ∷ zs) - 1) < x
+last_step y z zs x h = simp unary_clauses (simp unary_clauses at h)
+
+-- a later time at the end
+pub increasing_push : (ys : List ℕ) (x : ℕ) → IsStrictlyIncreasing ys
+    → (0 < length ys → slice_index ys (length ys - 1) < x) → IsStrictlyIncreasing (ys ++ x ∷ [])
+increasing_push [] x h last = λ k l. absurd (omega arith)
+increasing_push (y ∷ []) x h last = increasing_cons y x [] (last (omega arith)) (λ k l. absurd (omega arith))
+increasing_push (y ∷ z ∷ zs) x h last =
+    increasing_cons y z (zs ++ x ∷ []) (h zero (omega arith))
+    (increasing_push (z ∷ zs) x (increasing_tail y (z ∷ zs) h) (λ n. last_step y z zs x (last (omega arith))))
+
+-- what is old at the front is dropped
+pub recent_front : (hi x y : ℕ) (ys : List ℕ) → hi < x - y → recent hi x (y ∷ ys) ≡ recent hi x ys
+unfolding recent
+recent_front hi x y ys far = ap (λ b. cond b (y ∷ filter (λ z. nat_le (x - z) hi) ys)
+    (filter (λ z. nat_le (x - z) hi) ys)) (let e : nat_le (x - y) hi ≡ false = grind (arith, nat_tests) in e)
+
+-- where the first is recent, all are
+pub recent_all : (hi x : ℕ) (ys : List ℕ) → IsStrictlyIncreasing ys → (0 < length ys → x - slice_index ys 0 ≤ hi)
+    → recent hi x ys ≡ ys
+unfolding recent
+recent_all hi x [] h near = refl
+recent_all hi x (y ∷ []) h near =
+    let n : x - y ≤ hi = near (omega arith) in
+    ap (λ b. cond b (y ∷ []) []) (let e : nat_le (x - y) hi ≡ true = grind (arith, nat_tests) in e)
+recent_all hi x (y ∷ z ∷ zs) h near =
+    let n : x - y ≤ hi = near (omega arith) in
+    let l : y < z = h zero (omega arith) in
+    let e : nat_le (x - y) hi ≡ true = grind (arith, nat_tests) in
+    ap (λ b. cond b (y ∷ filter (λ w. nat_le (x - w) hi) (z ∷ zs)) (filter (λ w. nat_le (x - w) hi) (z ∷ zs))) e
+    ∙ ap (λ r. y ∷ r) (recent_all hi x (z ∷ zs) (increasing_tail y (z ∷ zs) h) (λ _. omega arith))
+
+too_near : (interval : Interval) (d : ℕ) → d < interval.lo → in_interval interval d ≡ false
+too_near interval d l = let e : nat_le interval.lo d ≡ false = grind (arith, nat_tests) in ap
+    (λ b. b && at_most interval.hi d) e
+
+-- where the first is too near, none reaches
+pub reaches_none : (interval : Interval) (x : ℕ) (ys : List ℕ) → IsStrictlyIncreasing ys
+    → (0 < length ys → x - slice_index ys 0 < interval.lo) → reaches interval ys x ≡ false
+reaches_none interval x [] h near = refl
+reaches_none interval x (y ∷ []) h near = ap (λ b. b || false) (too_near interval (x - y) (near (omega arith)))
+reaches_none interval x (y ∷ z ∷ zs) h near =
+    let n : x - y < interval.lo = near (omega arith) in
+    let l : y < z = h zero (omega arith) in
+    ap (λ b. b || reaches interval (z ∷ zs) x) (too_near interval (x - y) n)
+    ∙ reaches_none interval x (z ∷ zs) (increasing_tail y (z ∷ zs) h) (λ _. omega arith)
+
+-- one more time, no earlier than those kept, keeps them ascending
+pub increasing_added : (bounded : Bool) (ys : List ℕ) (x : ℕ) → IsStrictlyIncreasing ys → ArePast x ys
+    → is_new bounded ys x ≡ true → IsStrictlyIncreasing (ys ++ x ∷ [])
+increasing_added bounded ys x h past new =
+    increasing_push ys x h (λ n. let p : slice_index ys (length ys - 1) ≤ x = past (length ys - 1) (omega arith) in
+    let ne : nat_eq (length ys) 0 ≡ false = grind (arith, nat_tests) in
+    let apart : (bounded && not (nat_eq (slice_index ys (length ys - 1)) x))
+    ≡ true = sym (ap (λ b. b || (bounded && not (nat_eq (slice_index ys (length ys - 1)) x))) ne) ∙ new in
+    let q : not (nat_eq (slice_index ys (length ys - 1)) x) ≡ true = (and_parts bounded _ apart).1 in
+    grind (arith, nat_tests))
+
+pub added_yes : (bounded : Bool) (ys : List ℕ) (x : ℕ) → is_new bounded ys x ≡ true → ys ++ x ∷ [] ≡ added bounded ys x
+unfolding added
+added_yes bounded ys x e = sym (ap (λ b. cond b (ys ++ x ∷ []) ys) e)
+
+pub added_no : (bounded : Bool) (ys : List ℕ) (x : ℕ) → is_new bounded ys x ≡ false → ys ≡ added bounded ys x
+unfolding added
+added_no bounded ys x e = sym (ap (λ b. cond b (ys ++ x ∷ []) ys) e)
+
+-- the list that is left without its first one
+pub recent_pop : (hi x : ℕ) (ys : List ℕ) → hi < x - slice_index ys 0 → recent hi x (drop 1 ys) ≡ recent hi x ys
+recent_pop hi x [] far = refl
+recent_pop hi x (y ∷ ys) far = sym (recent_front hi x y ys far)
+
+pub front_is : (ys : List ℕ) (y : ℕ) → 0 < length ys → y ≡ get_or ys 0 y → ys ≡ y ∷ drop 1 ys
+front_is [] y n e = absurd (omega arith)
+front_is (x ∷ ys) y n e = ap (λ z. z ∷ ys) (sym e)
+
+-- where the time at a place is too near, none from there on reaches
+pub reaches_none_at : (interval : Interval) (x : ℕ) (ys : List ℕ) (i y : ℕ) → IsStrictlyIncreasing ys
+    → i < length ys → y ≡ get_or ys i y → x - y < interval.lo → reaches interval (drop i ys) x ≡ false
+reaches_none_at interval x [] i y h l e near = absurd (omega arith)
+reaches_none_at interval x (z ∷ zs) zero y h l e near = reaches_none interval x (z ∷ zs) h (λ _. omega (arith, e))
+reaches_none_at interval x (z ∷ zs) (suc i) y h l e near = reaches_none_at interval x zs i y
+    (increasing_tail z zs h) (omega arith) e near

@@ -1,0 +1,28 @@
+use Rattle.std.proofs.Common.{◌≡◌, [], Some, None, ap, ◌∙◌}
+use Rattle.std.specs.Option.{unwrap_or}
+use Rattle.std.specs.Map.{lookup}
+use Rattle.std.specs.BTreeMap.{is_at}
+use Rattle.mfotl_model.specs.Values.{row_cmp}
+use Rattle.eval_since.specs.Times.{added}
+use Rattle.relations.proofs.MapLemmas.{changed, written}
+use Rattle.eval_since.proofs.group.Group.add.Goals as goal
+
+pub returns-in-Some : goal.returns-in-Some
+returns-in-Some c = λ v.
+    let old = c.self.inside.rows in
+    let is : Some c.in-Some.times.now ≡ lookup (is_at (row_cmp c.args.row)) old.entries = c.in-Some.ensures.value in
+    rw (← c.self.view_is) (changed [] (λ ts. added c.args.bounded ts c.args.x) c.args.row v old.entries
+    (c.get_mut.follows.lender c.add.new.self).entries (Some c.add.new.self)
+    (written c.args.row v old (c.get_mut.follows.lender c.add.new.self) c.add.new.self c.in-Some.times.now
+    (c.get_mut.follows.holds c.add.new.self) is)
+    (c.in_ok-add.ensures ∙ ap (λ o. added c.args.bounded (unwrap_or o []) c.args.x) is))
+
+pub returns : goal.returns
+returns c = λ v.
+    let old = c.self.inside.rows in
+    let is : None ≡ lookup (is_at (row_cmp c.args.row)) old.entries = c.in_default.ensures.value in
+    rw (← c.self.view_is) (changed [] (λ ts. added c.args.bounded ts c.args.x) c.args.row v old.entries
+    c.insert.new.self.entries (Some c.add-2.new.self)
+    (rw c.get_mut.follows.holds-at-none at (c.in_ok-insert.ensures.updates.0 v))
+    (c.in_ok-add-2.ensures ∙ ap (λ ts. added c.args.bounded ts c.args.x) c.new-times.ensures
+    ∙ ap (λ o. added c.args.bounded (unwrap_or o []) c.args.x) is))

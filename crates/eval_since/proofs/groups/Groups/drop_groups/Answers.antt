@@ -1,0 +1,9 @@
+use Rattle.eval_since.proofs.GroupLemmas.{gone_more}
+use Rattle.std.proofs.Common.{arith}
+use Rattle.eval_since.proofs.groups.Groups.drop_groups.Goals as goal
+
+pub loop-part-preserved : goal.loop-part-preserved
+loop-part-preserved c =
+    gone_more c.args.parts.now c.loop-part.part-index c.part-item.result c.args.self.now
+    c.loop-part.self-inside.groups.entries c.remove.new.self.entries
+    (omega arith) c.part-item.is c.loop-part.invariant c.remove.ensures.updates.0

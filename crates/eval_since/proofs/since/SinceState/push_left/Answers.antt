@@ -1,0 +1,11 @@
+use Rattle.std.proofs.Common.{map, ◌∙◌}
+use Rattle.eval_since.proofs.FollowsLemmas.{follows_left, left_of}
+use Rattle.eval_since.proofs.since.SinceState.push_left.Goals as goal
+
+pub returns-clause-follows : goal.returns-clause-follows
+returns-clause-follows c = rw (← c.self.view_is, c.in_ok-push_back.ensures.items) (
+    let s = c.self.inside in
+    λ t a b v f e. follows_left s.window s.negated s.pulled s.newest s.times.items s.lefts.items s.rights.items
+    c.args.table t a b (map v s.window.right) f
+    (left_of c.args.table s.window.left s.window.right s.negated v c.self.invariant.inside
+    (rw (← c.self.view_is) at c.requires.columns) ∙ e))

@@ -1,0 +1,9 @@
+use Rattle.std.proofs.Common.{map, sym, ◌∙◌}
+use Rattle.eval_since.proofs.FollowsLemmas.{right_of, table_is}
+use Rattle.eval_since.proofs.since.SinceState.table.Goals as goal
+
+pub returns-clause-rows : goal.returns-clause-rows
+returns-clause-rows c = rw (← c.self.view_is) (
+    let s = c.self.inside in
+    λ t a b v f some. sym (right_of c.in_ok-table.table s.window.right v c.in_ok-table.ensures.columns)
+    ∙ c.in_ok-table.ensures.rows (map v s.window.right) ∙ table_is _ t a b (map v s.window.right) f some)

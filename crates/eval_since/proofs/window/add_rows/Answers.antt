@@ -1,0 +1,26 @@
+use Rattle.std.proofs.Common.{◌&&◌, ap, arith, take, ◌∙◌}
+use Rattle.std.specs.BTreeMap.{is_at}
+use Rattle.mfotl_model.specs.Values.{row_cmp}
+use Rattle.eval_since.specs.Groups.{times_at}
+use Rattle.mfotl_model.specs.Tables.{has_row, part}
+use Rattle.eval_since.specs.Times.{added, ArePast}
+use Rattle.eval_since.proofs.WindowLemmas.{rows_more, added_twice, past_added, either_list}
+use Rattle.eval_since.proofs.window.add_rows.Goals as goal
+
+pub add-requires : goal.add-requires
+add-requires c =
+    let q = c.in_ok-key.key in
+    let v = c.in_ok-copy.field-0 in
+    let old = times_at c.args.groups.now q v in
+    either_list (ArePast c.args.now) (is_at (row_cmp (part c.args.right.now c.args.left.now v)) q
+    && has_row (take c.loop-row.row-index c.args.rows.now) v)
+    (added c.args.bounded old c.args.now) old (times_at c.loop-row.groups q v) (c.loop-row.invariant q v)
+    (past_added c.args.bounded old c.args.now (c.requires q v)) (c.requires q v)
+
+pub loop-row-preserved : goal.loop-row-preserved
+loop-row-preserved c = λ q v.
+    rows_more (λ ts. added c.args.bounded ts c.args.now)
+    (added_twice c.args.bounded c.args.now) c.args.right.now c.args.left.now c.args.rows.now c.loop-row.row-index
+    c.row-item.result c.in_ok-key.key q v c.args.groups.now c.loop-row.groups c.add-in-loop-row.new.self
+    (omega arith) c.row-item.is (c.in_ok-key.ensures ∙ ap (part c.args.right.now c.args.left.now) c.values.ensures)
+    (c.loop-row.invariant q v) (rw c.in_ok-copy.ensures at (c.in_ok-add.ensures q v))

@@ -1,0 +1,26 @@
+-- Rows with the times kept for them, in groups by the part that the left operand speaks of.
+use Rattle.std.specs.Prelude.{ℕ, Bool, ◌&&◌, List, []}
+use Rattle.std.specs.BTreeMap.{is_at}
+use Rattle.std.specs.Map.{lookup}
+use Rattle.std.specs.Option.{unwrap_or}
+use Rattle.std.specs.Ordering.{eq_by_cmp}
+use Rattle.mfotl_model.specs.Values.{row_cmp}
+use Rattle.mfotl_model.specs.declared.interval.Interval.{Interval}
+use Rattle.mfotl_model.specs.declared.value.Value.{Value}
+use Rattle.eval_since.specs.Times.{reaches}
+
+-- the times that a group keeps for a row
+abbrev pub times_in : List (List Value × List ℕ) → List Value → List ℕ
+times_in group row = unwrap_or (lookup (is_at (row_cmp row)) group) []
+
+-- the group of a part
+abbrev pub group_of : List (List Value × List (List Value × List ℕ)) → List Value → List (List Value × List ℕ)
+group_of groups key = unwrap_or (lookup (is_at (row_cmp key)) groups) []
+
+-- the times kept for a row in the group of a part
+abbrev pub times_at : List (List Value × List (List Value × List ℕ)) → List Value → List Value → List ℕ
+times_at groups key row = times_in (group_of groups key) row
+
+-- whether an entry of a group is the row's and reaches
+abbrev pub hit : Interval → ℕ → List Value → List Value × List ℕ → Bool
+hit interval x row entry = eq_by_cmp row_cmp row entry.0 && reaches interval entry.1 x

@@ -1,0 +1,15 @@
+//! PREVIOUS and SINCE over the tables of their operands, which are pushed position by position.
+#![tactic(auto)]
+
+mod group;
+mod groups;
+pub mod laws;
+mod previous;
+mod recalled;
+mod since;
+mod times;
+mod window;
+
+pub use previous::PrevState;
+pub use recalled::{KeptRow, SinceData};
+pub use since::SinceState;

@@ -1,0 +1,174 @@
+//! PREVIOUS over tables that are pushed position by position.
+ghost use Rattle.std.specs.Prelude.{◌≡◌, ◌+◌, ◌-◌, ◌<◌, ◌^◌, ◌∷◌, ◌++◌, ◌&&◌, [], Bool, IfOk, IfSome, IsTrue, List, MatchOption, OnOk, OnErr, is_some, length, ℕ};
+ghost use Rattle.mfotl_model.specs.Satisfaction.{Valuation, previous, time_at, truth_at};
+ghost use Rattle.mfotl_model.specs.Tables.{all_apart, has};
+ghost use Rattle.eval_since.specs.PreviousView.{AdvancesPrevious, FollowsPrevious, previous_due};
+
+use mfotl_model::Interval;
+use relations::Table;
+use std::alloc::{AllocError, Global};
+use std::collections::VecDeque;
+use std::marker::Model;
+
+/// The state of PREVIOUS: what was pushed and is still needed. The n-th table pushed, and the n-th
+/// time, are those of position n.
+#[derive(Drop)]
+pub struct PrevState {
+    interval: Interval,
+    columns: Vec<u32>,
+    pulled: u64,
+    last: u64,
+    times: VecDeque<u64>,
+    tables: VecDeque<Table>,
+}
+
+impl Model for PrevState {
+    ghost use Rattle.std.specs.Prelude.{◌≡◌, ◌≤◌, ◌+◌, ◌^◌, length, true};
+    ghost use Rattle.mfotl_model.specs.Tables.{all_apart};
+    ghost use Rattle.relations.specs.Pushed.{AreOver};
+    ghost use Rattle.eval_since.specs.PreviousView.{PrevOf};
+
+    ghost Value = { PrevOf };
+
+    ghost view = { λ s. record { interval = s.interval; columns = s.columns.items; pulled = s.pulled; last = s.last; times = s.times.items; tables = s.tables.items } };
+
+    ghost invariant = { λ s. record { few : s.pulled + length s.times.items ≤ 2 ^ 63; apart : all_apart s.columns.items ≡ true; over : AreOver s.columns.items s.tables.items } };
+}
+
+// the operand's table where the distance lies in the interval, else no row
+fn where_inside(alloc: Global, inside: bool, table: Table, columns: Vec<u32>) -> Table
+    requires apart { IsTrue (all_apart columns.items) }
+    requires over { table.columns ≡ columns.items }
+    ensures columns { result.columns ≡ columns.items }
+    ensures has { (v : Valuation) → has result v ≡ (inside && has table v) }
+{
+    if inside {
+        table
+    } else {
+        Table::empty(alloc, columns)
+    }
+}
+
+impl PrevState {
+    /// The state before the first position, for an operand over these columns.
+    pub fn new(alloc: Global, interval: &Interval, columns: &[u32]) -> Result<Self, AllocError>
+        requires apart { IsTrue (all_apart columns.now) }
+        ensures state { IfOk result (λ state. state ≡ record { interval = interval.now; columns = columns.now; pulled = 0; last = 0; times = []; tables = [] }) }
+        ensures follows { IfOk result (λ state.
+            (t : List ℕ) (a : List Bool) (v : Valuation) → FollowsPrevious state t a v) }
+    {
+        let columns = Vec::from_slice(alloc, columns)?;
+        Ok(PrevState {
+            interval: *interval,
+            columns,
+            pulled: 0,
+            last: 0,
+            times: VecDeque::new(alloc),
+            tables: VecDeque::new(alloc),
+        })
+    }
+
+    /// Takes the operand's next table.
+    pub fn push_right(&mut self, table: Table) -> Result<(), AllocError>
+        requires columns { table.columns ≡ self.old.columns }
+        ensures pushed { OnOk result
+            (self.new ≡ record self.old { tables = self.old.tables ++ table ∷ [] }) }
+        ensures follows { OnOk result ((t : List ℕ) (a : List Bool) (v : Valuation) →
+            FollowsPrevious self.old t a v →
+            has table v ≡ truth_at a (self.old.pulled - 1 + length self.old.tables) →
+            FollowsPrevious self.new t a v) }
+    {
+        self.tables.push_back(table)?;
+        Ok(())
+    }
+
+    /// Takes the next position's time.
+    pub fn push_time(&mut self, ts: u64) -> Result<(), AllocError>
+        requires few { self.old.pulled + length self.old.times < 2 ^ 63 }
+        ensures pushed { OnOk result
+            (self.new ≡ record self.old { times = self.old.times ++ ts ∷ [] }) }
+        ensures follows { OnOk result ((t : List ℕ) (a : List Bool) (v : Valuation) →
+            FollowsPrevious self.old t a v →
+            ts ≡ time_at t (self.old.pulled + length self.old.times) →
+            FollowsPrevious self.new t a v) }
+    {
+        self.times.push_back(ts)?;
+        Ok(())
+    }
+
+    /// Whether the next position can be pulled.
+    pub fn is_due(&self) -> bool
+        ensures { result ≡ previous_due self.now }
+    {
+        !self.times.is_empty() && (self.pulled == 0 || !self.tables.is_empty())
+    }
+
+    // nothing is before the first position
+    fn pull_first(&mut self, alloc: Global, columns: Vec<u32>) -> Table
+        requires first { self.old.pulled ≡ 0 }
+        requires due { IsTrue (previous_due self.old) }
+        requires over { columns.items ≡ self.old.columns }
+        ensures advances { AdvancesPrevious self.old self.new }
+        ensures follows { (t : List ℕ) (a : List Bool) (v : Valuation) →
+            FollowsPrevious self.old t a v → FollowsPrevious self.new t a v }
+        ensures columns { result.columns ≡ self.old.columns }
+        ensures rows { (t : List ℕ) (a : List Bool) (v : Valuation) →
+            FollowsPrevious self.old t a v →
+            has result v ≡ previous self.old.interval t a self.old.pulled }
+    {
+        let Some(now) = self.times.pop_front() else {
+            unreachable!();
+        };
+        self.last = now;
+        self.pulled += 1;
+        Table::empty(alloc, columns)
+    }
+
+    fn pull_later(&mut self, alloc: Global, columns: Vec<u32>) -> Table
+        requires later { 0 < self.old.pulled }
+        requires due { IsTrue (previous_due self.old) }
+        requires over { columns.items ≡ self.old.columns }
+        ensures advances { AdvancesPrevious self.old self.new }
+        ensures follows { (t : List ℕ) (a : List Bool) (v : Valuation) →
+            FollowsPrevious self.old t a v → FollowsPrevious self.new t a v }
+        ensures columns { result.columns ≡ self.old.columns }
+        ensures rows { (t : List ℕ) (a : List Bool) (v : Valuation) →
+            FollowsPrevious self.old t a v →
+            has result v ≡ previous self.old.interval t a self.old.pulled }
+    {
+        let Some(now) = self.times.pop_front() else {
+            unreachable!();
+        };
+        let Some(table) = self.tables.pop_front() else {
+            unreachable!();
+        };
+        let inside = self.interval.contains(now.saturating_sub(self.last));
+        self.last = now;
+        self.pulled += 1;
+        where_inside(alloc, inside, table, columns)
+    }
+
+    /// The table of the next position, `None` while it is not due. Without memory the state stays.
+    pub fn pull(&mut self, alloc: Global) -> Result<Option<Table>, AllocError>
+        ensures due { IfOk result (λ answer. is_some answer ≡ previous_due self.old) }
+        ensures state { IfOk result (λ answer.
+            MatchOption answer (self.new ≡ self.old) (λ _. AdvancesPrevious self.old self.new)) }
+        ensures old { OnErr result (self.new ≡ self.old) }
+        ensures follows { OnOk result ((t : List ℕ) (a : List Bool) (v : Valuation) →
+            FollowsPrevious self.old t a v → FollowsPrevious self.new t a v) }
+        ensures columns { IfOk result (λ answer. IfSome answer (λ table.
+            table.columns ≡ self.old.columns)) }
+        ensures rows { IfOk result (λ answer. IfSome answer (λ table.
+            (t : List ℕ) (a : List Bool) (v : Valuation) → FollowsPrevious self.old t a v →
+            has table v ≡ previous self.old.interval t a self.old.pulled)) }
+    {
+        if !self.is_due() {
+            return Ok(None);
+        }
+        let columns = Vec::from_slice(alloc, self.columns.as_slice())?;
+        if self.pulled == 0 {
+            return Ok(Some(self.pull_first(alloc, columns)));
+        }
+        Ok(Some(self.pull_later(alloc, columns)))
+    }
+}

@@ -1,0 +1,266 @@
+//! SINCE over tables that are pushed position by position.
+ghost use Rattle.std.specs.Prelude.{◌≡◌, ◌+◌, ◌-◌, ◌<◌, ◌≤◌, ◌^◌, ◌∷◌, ◌++◌, [], Bool, IfOk, IfSome, IsTrue, List, MatchOption, None, OnOk, ◌&&◌, ◌||◌, drop, is_some, length, map, ℕ};
+ghost use Rattle.mfotl_model.specs.Satisfaction.{Valuation, since, time_at, truth_at};
+ghost use Rattle.mfotl_model.specs.Tables.{all_among, all_apart, has, valuation};
+ghost use Rattle.mfotl_model.specs.declared.value.Value.{Value};
+ghost use Rattle.eval_since.specs.LeftOperand.{left_has};
+ghost use Rattle.relations.specs.Pushed.{left_holds};
+ghost use Rattle.eval_since.specs.Recalled.{recalls};
+ghost use Rattle.eval_since.specs.WindowView.{within};
+ghost use Rattle.eval_since.specs.Windows.{Alone, Ascending, Bounded, Past, Placed};
+ghost use Rattle.eval_since.specs.SinceView.{Advances, Climbs, Follows, SinceOf, due};
+
+use crate::recalled::SinceData;
+use crate::window::Window;
+use mfotl_model::{Interval, Row};
+use relations::{Table, part_of};
+use std::alloc::{AllocError, Global};
+use std::collections::VecDeque;
+use std::marker::Model;
+
+/// The state of SINCE: its window after the positions pulled, and what was pushed for later ones. The
+/// n-th table pushed on a side, and the n-th time, are those of position n.
+#[derive(Drop)]
+pub struct SinceState {
+    window: Window,
+    negated: bool,
+    pulled: u64,
+    newest: u64,
+    times: VecDeque<u64>,
+    lefts: VecDeque<Table>,
+    rights: VecDeque<Table>,
+}
+
+impl Model for SinceState {
+    ghost use Rattle.std.specs.Prelude.{◌≡◌, ◌≤◌, ◌+◌, ◌^◌, length, true};
+    ghost use Rattle.mfotl_model.specs.Tables.{all_among};
+    ghost use Rattle.relations.specs.Pushed.{AreOver};
+    ghost use Rattle.eval_since.specs.SinceView.{Climbs, SinceOf};
+
+    ghost Value = { SinceOf };
+
+    ghost view = { λ s. record { window = s.window; negated = s.negated; pulled = s.pulled; newest = s.newest; times = s.times.items; lefts = s.lefts.items; rights = s.rights.items } };
+
+    ghost invariant = { λ s. record { climbs : Climbs s.window.last s.times.items s.newest; few : s.pulled + length s.times.items ≤ 2 ^ 63; inside : all_among s.window.left s.window.right ≡ true; over : AreOver s.window.right s.rights.items } };
+}
+
+impl SinceState {
+    /// The state before the first position, for operands over these columns.
+    pub fn new(
+        alloc: Global,
+        interval: &Interval,
+        left: &[u32],
+        right: &[u32],
+        negated: bool,
+    ) -> Result<Self, AllocError>
+        requires apart { IsTrue (all_apart right.now) }
+        requires inside { IsTrue (all_among left.now right.now) }
+        ensures state { IfOk result (λ state. state ≡ record { window = record { interval = interval.now; left = left.now; right = right.now; last = 0; groups = [] }; negated = negated; pulled = 0; newest = 0; times = []; lefts = []; rights = [] }) }
+        ensures follows { IfOk result (λ state.
+            (t : List ℕ) (a b : List Bool) (v : Valuation) → Follows state t a b v) }
+    {
+        let left = Vec::from_slice(alloc, left)?;
+        let right = Vec::from_slice(alloc, right)?;
+        Ok(SinceState {
+            window: Window::new(alloc, *interval, left, right),
+            negated,
+            pulled: 0,
+            newest: 0,
+            times: VecDeque::new(alloc),
+            lefts: VecDeque::new(alloc),
+            rights: VecDeque::new(alloc),
+        })
+    }
+
+    /// Takes the left operand's next table, which of a negated operand is the operand's own.
+    pub fn push_left(&mut self, table: Table) -> Result<(), AllocError>
+        requires columns { table.columns ≡ self.old.window.left }
+        ensures pushed { OnOk result
+            (self.new ≡ record self.old { lefts = self.old.lefts ++ table ∷ [] }) }
+        ensures follows { OnOk result ((t : List ℕ) (a b : List Bool) (v : Valuation) →
+            Follows self.old t a b v →
+            left_holds self.old.negated table v
+            ≡ truth_at a (self.old.pulled + length self.old.lefts) →
+            Follows self.new t a b v) }
+    {
+        self.lefts.push_back(table)?;
+        Ok(())
+    }
+
+    /// Takes the right operand's next table.
+    pub fn push_right(&mut self, table: Table) -> Result<(), AllocError>
+        requires columns { table.columns ≡ self.old.window.right }
+        ensures pushed { OnOk result
+            (self.new ≡ record self.old { rights = self.old.rights ++ table ∷ [] }) }
+        ensures follows { OnOk result ((t : List ℕ) (a b : List Bool) (v : Valuation) →
+            Follows self.old t a b v →
+            has table v ≡ truth_at b (self.old.pulled + length self.old.rights) →
+            Follows self.new t a b v) }
+    {
+        self.rights.push_back(table)?;
+        Ok(())
+    }
+
+    /// Takes the next position's time.
+    pub fn push_time(&mut self, ts: u64) -> Result<(), AllocError>
+        requires rises { self.old.newest ≤ ts }
+        requires few { self.old.pulled + length self.old.times < 2 ^ 63 }
+        ensures pushed { OnOk result
+            (self.new ≡ record self.old { newest = ts; times = self.old.times ++ ts ∷ [] }) }
+        ensures follows { OnOk result ((t : List ℕ) (a b : List Bool) (v : Valuation) →
+            Follows self.old t a b v →
+            ts ≡ time_at t (self.old.pulled + length self.old.times) →
+            Follows self.new t a b v) }
+    {
+        self.times.push_back(ts)?;
+        self.newest = ts;
+        Ok(())
+    }
+
+    /// Whether the next position can be pulled.
+    pub fn is_due(&self) -> bool
+        ensures { result ≡ due self.now }
+    {
+        !self.times.is_empty() && !self.lefts.is_empty() && !self.rights.is_empty()
+    }
+
+    /// Pulls one position, without its table.
+    pub fn advance(&mut self, alloc: Global) -> Result<(), AllocError>
+        requires due { IsTrue (due self.old) }
+        ensures advances { OnOk result (Advances self.old self.new) }
+        ensures follows { OnOk result ((t : List ℕ) (a b : List Bool) (v : Valuation) →
+            Follows self.old t a b v → Follows self.new t a b v) }
+    {
+        let Some(now) = self.times.pop_front() else {
+            unreachable!();
+        };
+        let Some(left) = self.lefts.pop_front() else {
+            unreachable!();
+        };
+        let Some(right) = self.rights.pop_front() else {
+            unreachable!();
+        };
+        let negated = self.negated;
+        self.window.step(alloc, negated, &left, right, now)?;
+        self.pulled += 1;
+        Ok(())
+    }
+
+    /// The table of the position that was pulled last.
+    pub fn table(&self, alloc: Global) -> Result<Table, AllocError>
+        ensures columns { IfOk result (λ table. table.columns ≡ self.now.window.right) }
+        ensures rows { IfOk result (λ table. (t : List ℕ) (a b : List Bool) (v : Valuation) →
+            Follows self.now t a b v → 0 < self.now.pulled →
+            has table v ≡ since self.now.window.interval t a b (self.now.pulled - 1)) }
+    {
+        let table = self.window.table(alloc)?;
+        Ok(table)
+    }
+
+    /// The table of the next position, `None` while it is not due.
+    pub fn pull(&mut self, alloc: Global) -> Result<Option<Table>, AllocError>
+        ensures due { IfOk result (λ answer. is_some answer ≡ due self.old) }
+        ensures state { IfOk result (λ answer.
+            MatchOption answer (self.new ≡ self.old) (λ _. Advances self.old self.new)) }
+        ensures follows { OnOk result ((t : List ℕ) (a b : List Bool) (v : Valuation) →
+            Follows self.old t a b v → Follows self.new t a b v) }
+        ensures columns { IfOk result (λ answer. IfSome answer (λ table.
+            table.columns ≡ self.old.window.right)) }
+        ensures rows { IfOk result (λ answer. IfSome answer (λ table.
+            (t : List ℕ) (a b : List Bool) (v : Valuation) → Follows self.old t a b v →
+            has table v ≡ since self.old.window.interval t a b self.old.pulled)) }
+    {
+        if !self.is_due() {
+            return Ok(None);
+        }
+        self.advance(alloc)?;
+        Ok(Some(self.table(alloc)?))
+    }
+
+    /// Of the times kept for a row: they ascend, lie no further back from the last position pulled
+    /// than the interval's greatest number, are not after that position's time, and stand in the
+    /// row's own group; without a greatest number there is one at most.
+    pub fn keeps_no_more(&self)
+        ensures bounded { IfSome self.now.window.interval.hi (λ hi.
+            Bounded hi self.now.window.last self.now.window.groups) }
+        ensures past { Past self.now.window.last self.now.window.groups }
+        ensures ascend { Ascending self.now.window.groups }
+        ensures alone { self.now.window.interval.hi ≡ None → Alone self.now.window.groups }
+        ensures placed { Placed self.now.window.right self.now.window.left self.now.window.groups }
+    {
+        self.window.is_bounded();
+    }
+
+    /// What the state keeps, as plain data.
+    pub fn state(&self, alloc: Global) -> Result<SinceData, AllocError>
+        ensures pulled { IfOk result (λ kept. kept.pulled ≡ self.now.pulled) }
+        ensures lefts { IfOk result (λ kept. kept.lefts.items ≡ self.now.lefts) }
+        ensures rights { IfOk result (λ kept. kept.rights.items ≡ self.now.rights) }
+        ensures rows { IfOk result (λ kept. (x : ℕ) (u : List Value) →
+            recalls self.now.window.interval kept.rows.items x u ≡ within self.now.window x u) }
+    {
+        Ok(SinceData {
+            pulled: self.pulled,
+            lefts: copied(alloc, &self.lefts)?,
+            rights: copied(alloc, &self.rights)?,
+            rows: self.window.kept(alloc)?,
+        })
+    }
+
+    /// Whether the next position's table has the valuation that a row gives to its columns, without
+    /// making the table. The columns are any, the right operand's among them.
+    pub fn holds(&self, alloc: Global, columns: &[u32], row: &Row) -> Result<bool, AllocError>
+        requires due { IsTrue (due self.now) }
+        ensures { IfOk result (λ yes. (t : List ℕ) (a b : List Bool) →
+            Follows self.now t a b (valuation columns.now row.now) →
+            yes ≡ since self.now.window.interval t a b self.now.pulled) }
+    {
+        let now = first(&self.times);
+        let left = first(&self.lefts);
+        let right = first(&self.rights);
+        let own = part_of(alloc, columns, self.window.right(), row.values())?;
+        let key = self.window.key(alloc, &own)?;
+        let kept = self.window.within(&key, &own, *now);
+        let held = holds_on(self.negated, left, &key);
+        let reached = self.window.interval().contains(0);
+        Ok(in_either(kept, held, reached, right.contains(&own)))
+    }
+}
+
+#[tactic(auto, using(relations::proofs::PushedLemmas::first_is))]
+fn first<T>(queue: &VecDeque<T>) -> &T
+    requires { 0 < length queue.now.items }
+    ensures { queue.now.items ≡ result.now ∷ drop 1 queue.now.items }
+{
+    match queue.front() {
+        Some(item) => item,
+        None => unreachable!(),
+    }
+}
+
+fn copied(alloc: Global, tables: &VecDeque<Table>) -> Result<Vec<Table>, AllocError>
+    ensures { IfOk result (λ copies. copies.items ≡ tables.now.items) }
+{
+    let mut copies = Vec::with_capacity(alloc, tables.len())?;
+    for i in 0..tables.len() {
+        copies.push(tables[i].copy(alloc)?)?;
+    }
+    Ok(copies)
+}
+
+fn holds_on(negated: bool, table: &Table, key: &Row) -> bool
+    ensures { result ≡ left_has negated table.now.rows key.now }
+{
+    if negated {
+        !table.contains(key)
+    } else {
+        table.contains(key)
+    }
+}
+
+// what was goes on where the left operand holds; the right one holds at the position itself
+fn in_either(kept: bool, held: bool, reached: bool, new: bool) -> bool
+    ensures { result ≡ ((kept && held) || (reached && new)) }
+{
+    (kept && held) || (reached && new)
+}

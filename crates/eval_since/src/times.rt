@@ -1,0 +1,113 @@
+//! The times that are kept for one row, strictly ascending.
+ghost use Rattle.std.specs.Prelude.{◌≡◌, ◌==◌, ◌∷◌, [], IfOk, OnOk, MatchOption, drop, length};
+ghost use Rattle.eval_since.specs.Times.{ArePast, added, is_new, reaches, recent};
+
+use mfotl_model::Interval;
+use std::alloc::{AllocError, Global};
+use std::collections::VecDeque;
+use std::marker::Model;
+
+#[derive(Drop)]
+pub struct Times {
+    list: VecDeque<u64>,
+}
+
+impl Model for Times {
+    ghost use Rattle.std.specs.Prelude.{List, ℕ};
+    ghost use Rattle.std.specs.List.Sorted.{IsStrictlyIncreasing};
+
+    ghost Value = { List ℕ };
+
+    ghost view = { λ t. t.list.items };
+
+    ghost invariant = { λ t. IsStrictlyIncreasing t.list.items };
+}
+
+/// The first time, if there is one.
+#[tactic(auto, using(crate::proofs::TimesLemmas::front_is))]
+fn oldest(list: &VecDeque<u64>) -> Option<u64>
+    ensures { MatchOption result (list.now.items ≡ []) (λ y. list.now.items ≡ y ∷ drop 1 list.now.items) }
+{
+    list.front().copied()
+}
+
+fn is_new(list: &VecDeque<u64>, x: u64, bounded: bool) -> bool
+    ensures { result ≡ is_new bounded list.now.items x }
+{
+    match list.back() {
+        None => true,
+        Some(last) => bounded && *last != x,
+    }
+}
+
+fn copied(alloc: Global, list: &VecDeque<u64>) -> Result<Vec<u64>, AllocError>
+    ensures { IfOk result (λ copy. copy.items ≡ list.now.items) }
+{
+    let mut copy = Vec::with_capacity(alloc, list.len())?;
+    for i in 0..list.len() {
+        copy.push(list[i])?;
+    }
+    Ok(copy)
+}
+
+impl Times {
+    pub fn new(alloc: Global) -> Self
+        ensures { result ≡ [] }
+    {
+        Times {
+            list: VecDeque::new(alloc),
+        }
+    }
+
+    pub fn is_empty(&self) -> bool
+        ensures { result ≡ (length self.now == 0) }
+    {
+        self.list.is_empty()
+    }
+
+    /// Keeps one more time, which is no earlier than those kept.
+    pub fn add(&mut self, x: u64, bounded: bool) -> Result<(), AllocError>
+        requires { ArePast x self.old }
+        ensures { OnOk result (self.new ≡ added bounded self.old x) }
+    {
+        if is_new(&self.list, x, bounded) {
+            self.list.push_back(x)?;
+        }
+        Ok(())
+    }
+
+    /// Forgets what lies further back than `hi`.
+    pub fn forget(&mut self, hi: u64, now: u64)
+        ensures { self.new ≡ recent hi now self.old }
+    {
+        while let Some(first) = oldest(&self.list) {
+            if now.saturating_sub(first) <= hi {
+                return;
+            }
+            self.list.pop_front();
+        }
+    }
+
+    /// Whether some kept time lies in the interval, seen from `x`.
+    pub fn reaches(&self, interval: &Interval, x: u64) -> bool
+        ensures { result ≡ reaches interval.now self.now x }
+    {
+        for i in 0..self.list.len() {
+            let distance = x.saturating_sub(self.list[i]);
+            if interval.contains(distance) {
+                return true;
+            }
+            // later times lie nearer still
+            if distance < interval.lo {
+                return false;
+            }
+        }
+        false
+    }
+
+    pub fn to_vec(&self, alloc: Global) -> Result<Vec<u64>, AllocError>
+        ensures { IfOk result (λ copy. copy.items ≡ self.now) }
+    {
+        copied(alloc, &self.list)
+    }
+}

@@ -1,0 +1,336 @@
+//! The window of SINCE: for each row the times at which the right operand held of it and from which
+//! the left one has held on.
+ghost use Rattle.std.specs.Prelude.{◌≡◌, ◌||◌, ◌&&◌, ◌-◌, ◌≤◌, [], ℕ, Bool, if◌then◌else◌, is_ok, IfOk, IfSome, IsTrue, List, None, OnOk, cond, length};
+ghost use Rattle.std.specs.BTreeMap.{is_at};
+ghost use Rattle.mfotl_model.specs.Intervals.{in_interval};
+ghost use Rattle.mfotl_model.specs.Tables.{all_apart, all_sized, has_row, part};
+ghost use Rattle.mfotl_model.specs.Values.{row_cmp};
+ghost use Rattle.mfotl_model.specs.declared.value.Value.{Value};
+ghost use Rattle.eval_since.specs.Groups.{times_at};
+ghost use Rattle.eval_since.specs.LeftOperand.{left_has};
+ghost use Rattle.eval_since.specs.Recalled.{recalls};
+ghost use Rattle.eval_since.specs.Times.{added, reaches, recent};
+ghost use Rattle.eval_since.specs.WindowView.{WindowOf, within};
+ghost use Rattle.eval_since.specs.Windows.{Alone, Ascending, Bounded, Covered, Fresh, IsThinned, Keeps, NotAfter, Past, Placed, Rising};
+
+use crate::groups::Groups;
+use crate::recalled::KeptRow;
+use mfotl_model::{Interval, Row};
+use relations::{Table, part_of};
+use std::alloc::{AllocError, Global};
+use std::collections::VecDeque;
+use std::marker::Model;
+use std::mem;
+
+/// The rows of one table of the right operand, with its time.
+#[derive(Drop)]
+pub struct Dated {
+    pub ts: u64,
+    pub rows: Vec<Row>,
+}
+
+// rows go on where the left operand holds at the new position
+fn apply_left(
+    alloc: Global,
+    groups: &mut Groups,
+    negated: bool,
+    lefts: &Table,
+) -> Result<(), AllocError>
+    ensures { OnOk result ((q v : List Value) → times_at groups.new q v
+        ≡ cond (left_has negated lefts.now.rows q) (times_at groups.old q v) []) }
+{
+    if negated {
+        groups.drop_groups(lefts.rows());
+        Ok(())
+    } else {
+        groups.keep(alloc, lefts.rows())
+    }
+}
+
+// rows begin where the right operand holds at the new position
+fn add_rows(
+    alloc: Global,
+    groups: &mut Groups,
+    right: &[u32],
+    left: &[u32],
+    rows: &[Row],
+    now: u64,
+    bounded: bool,
+) -> Result<(), AllocError>
+    requires { Past now groups.old }
+    ensures { OnOk result ((q v : List Value) → times_at groups.new q v
+        ≡ cond (is_at (row_cmp (part right.now left.now v)) q && has_row rows.now v)
+        (added bounded (times_at groups.old q v) now) (times_at groups.old q v)) }
+{
+    for row in rows {
+        let key = part_of(alloc, right, left, row.values())?;
+        groups.add(alloc, key, row.copy(alloc)?, now, bounded)?;
+    }
+    Ok(())
+}
+
+fn forget_rows(
+    alloc: Global,
+    groups: &mut Groups,
+    right: &[u32],
+    left: &[u32],
+    rows: &[Row],
+    now: u64,
+    hi: u64,
+) -> Result<(), AllocError>
+    ensures { OnOk result ((q v : List Value) → times_at groups.new q v
+        ≡ cond (is_at (row_cmp (part right.now left.now v)) q && has_row rows.now v)
+        (recent hi now (times_at groups.old q v)) (times_at groups.old q v)) }
+{
+    for row in rows {
+        groups.forget(&part_of(alloc, right, left, row.values())?, row, hi, now);
+    }
+    Ok(())
+}
+
+/// Forgets the times that lie further back than `hi`, by the rows that came with them.
+fn expire(
+    alloc: Global,
+    groups: &mut Groups,
+    dated: &mut VecDeque<Dated>,
+    right: &[u32],
+    left: &[u32],
+    now: u64,
+    hi: u64,
+) -> Result<(), AllocError>
+    requires placed { Placed right.now left.now groups.old }
+    requires covered { Covered dated.old.items groups.old }
+    requires rising { Rising dated.old.items }
+    ensures thin { OnOk result ((q v : List Value) →
+        IsThinned hi now (times_at groups.old q v) (times_at groups.new q v)) }
+    ensures covered { OnOk result (Covered dated.new.items groups.new) }
+    ensures rising { OnOk result (Rising dated.new.items) }
+    ensures fresh { OnOk result (Fresh hi now dated.new.items) }
+    ensures after { OnOk result ((x : ℕ) →
+        NotAfter x dated.old.items → NotAfter x dated.new.items) }
+{
+    while let Some(front) = dated.front() {
+        if now.saturating_sub(front.ts) <= hi {
+            return Ok(());
+        }
+        let Some(old) = dated.pop_front() else {
+            return Ok(());
+        };
+        forget_rows(alloc, groups, right, left, old.rows.as_slice(), now, hi)?;
+    }
+    Ok(())
+}
+
+/// What a window keeps, and the rows that its times came with, oldest first, so that old times are
+/// found. Without an upper end nothing gets old, and no rows are kept for that.
+#[derive(Drop)]
+struct Contents {
+    groups: Groups,
+    dated: VecDeque<Dated>,
+}
+
+/// One position more: the left operand's table, then the right operand's rows.
+fn stepped(
+    alloc: Global,
+    contents: Contents,
+    interval: &Interval,
+    right: &[u32],
+    left: &[u32],
+    negated: bool,
+    lefts: &Table,
+    rights: Vec<Row>,
+    last: u64,
+    now: u64,
+) -> Result<Contents, AllocError>
+    requires kept { Keeps interval.now.hi right.now left.now last contents.groups contents.dated.items }
+    requires sized { IsTrue (all_sized (length right.now) rights.items) }
+    requires rises { last ≤ now }
+    ensures within { IfOk result (λ next. (x : ℕ) (u : List Value) → now ≤ x →
+        reaches interval.now (times_at next.groups (part right.now left.now u) u) x
+        ≡ ((reaches interval.now (times_at contents.groups (part right.now left.now u) u) x
+        && left_has negated lefts.now.rows (part right.now left.now u))
+        || (in_interval interval.now (x - now) && has_row rights.items u))) }
+    ensures kept { IfOk result (λ next.
+        Keeps interval.now.hi right.now left.now now next.groups next.dated.items) }
+{
+    let Contents {
+        mut groups,
+        mut dated,
+    } = contents;
+    apply_left(alloc, &mut groups, negated, lefts)?;
+    let rows = rights.as_slice();
+    add_rows(
+        alloc,
+        &mut groups,
+        right,
+        left,
+        rows,
+        now,
+        interval.hi.is_some(),
+    )?;
+    let Some(hi) = interval.hi else {
+        return Ok(Contents { groups, dated });
+    };
+    dated.push_back(Dated {
+        ts: now,
+        rows: rights,
+    })?;
+    expire(alloc, &mut groups, &mut dated, right, left, now, hi)?;
+    Ok(Contents { groups, dated })
+}
+
+/// The window of SINCE after some positions.
+#[derive(Drop)]
+pub struct Window {
+    interval: Interval,
+    left: Vec<u32>,
+    right: Vec<u32>,
+    last: u64,
+    contents: Contents,
+}
+
+impl Model for Window {
+    ghost use Rattle.eval_since.specs.WindowView.{WindowOf};
+
+    ghost Value = { WindowOf };
+
+    ghost use Rattle.eval_since.specs.Windows.{Keeps};
+
+    ghost view = { λ k. record { interval = k.interval; left = k.left.items; right = k.right.items; last = k.last; groups = k.contents.groups } };
+
+    ghost invariant = { λ k. Keeps k.interval.hi k.right.items k.left.items k.last k.contents.groups k.contents.dated.items };
+}
+
+impl Window {
+    /// The window before the first position.
+    pub fn new(alloc: Global, interval: Interval, left: Vec<u32>, right: Vec<u32>) -> Self
+        requires apart { IsTrue (all_apart right.items) }
+        ensures state { result ≡ record { interval = interval; left = left.items; right = right.items; last = 0; groups = [] } }
+    {
+        Window {
+            interval,
+            left,
+            right,
+            last: 0,
+            contents: Contents {
+                groups: Groups::new(alloc),
+                dated: VecDeque::new(alloc),
+            },
+        }
+    }
+
+    /// One position more. Without memory the window is empty.
+    pub fn step(
+        &mut self,
+        alloc: Global,
+        negated: bool,
+        lefts: &Table,
+        rights: Table,
+        now: u64,
+    ) -> Result<(), AllocError>
+        requires rises { self.old.last ≤ now }
+        requires columns { rights.columns ≡ self.old.right }
+        ensures within { OnOk result ((x : ℕ) (u : List Value) → now ≤ x → within self.new x u
+            ≡ ((within self.old x u
+            && left_has negated lefts.now.rows (part self.old.right self.old.left u))
+            || (in_interval self.old.interval (x - now) && has_row rights.rows u))) }
+        ensures last { self.new.last ≡ (if is_ok result then now else self.old.last) }
+        ensures interval { self.new.interval ≡ self.old.interval }
+        ensures left { self.new.left ≡ self.old.left }
+        ensures right { self.new.right ≡ self.old.right }
+    {
+        let contents = mem::replace(
+            &mut self.contents,
+            Contents {
+                groups: Groups::new(alloc),
+                dated: VecDeque::new(alloc),
+            },
+        );
+        let last = self.last;
+        let right = self.right.as_slice();
+        let left = self.left.as_slice();
+        let rows = rights.into_rows();
+        self.contents = stepped(
+            alloc,
+            contents,
+            &self.interval,
+            right,
+            left,
+            negated,
+            lefts,
+            rows,
+            last,
+            now,
+        )?;
+        self.last = now;
+        Ok(())
+    }
+
+    /// The part of a row that the left operand speaks of.
+    pub fn key(&self, alloc: Global, row: &Row) -> Result<Row, AllocError>
+        ensures { IfOk result (λ key. key ≡ part self.now.right self.now.left row.now) }
+    {
+        part_of(
+            alloc,
+            self.right.as_slice(),
+            self.left.as_slice(),
+            row.values(),
+        )
+    }
+
+    /// Whether some kept time of a row lies in the interval, seen from `x`.
+    pub fn within(&self, key: &Row, row: &Row, x: u64) -> bool
+        requires { key.now ≡ part self.now.right self.now.left row.now }
+        ensures { result ≡ within self.now x row.now }
+    {
+        self.contents.groups.reaches(key, row, &self.interval, x)
+    }
+
+    /// The rows of which some kept time lies in the interval, seen from the last time.
+    pub fn table(&self, alloc: Global) -> Result<Table, AllocError>
+        ensures columns { IfOk result (λ table. table.columns ≡ self.now.right) }
+        ensures rows { IfOk result (λ table. (u : List Value) →
+            has_row table.rows u ≡ within self.now self.now.last u) }
+    {
+        let mut rows = Vec::new(alloc);
+        self.contents
+            .groups
+            .push_reaching(alloc, &mut rows, &self.interval, self.last)?;
+        let columns = Vec::from_slice(alloc, self.right.as_slice())?;
+        Ok(Table::from_rows(columns, rows))
+    }
+
+    /// The rows with the times kept for them.
+    pub fn kept(&self, alloc: Global) -> Result<Vec<KeptRow>, AllocError>
+        ensures { IfOk result (λ rows. (x : ℕ) (u : List Value) →
+            recalls self.now.interval rows.items x u ≡ within self.now x u) }
+    {
+        let mut rows = Vec::new(alloc);
+        self.contents.groups.push_kept(alloc, &mut rows)?;
+        Ok(rows)
+    }
+
+    pub fn right(&self) -> &[u32]
+        ensures { result.now ≡ self.now.right }
+    {
+        self.right.as_slice()
+    }
+
+    pub fn interval(&self) -> &Interval
+        ensures { result.now ≡ self.now.interval }
+    {
+        &self.interval
+    }
+
+    /// What a window keeps, and no more.
+    pub fn is_bounded(&self)
+        ensures bounded { IfSome self.now.interval.hi (λ hi.
+            Bounded hi self.now.last self.now.groups) }
+        ensures past { Past self.now.last self.now.groups }
+        ensures ascend { Ascending self.now.groups }
+        ensures alone { self.now.interval.hi ≡ None → Alone self.now.groups }
+        ensures placed { Placed self.now.right self.now.left self.now.groups }
+    {
+        let _ = &self.last;
+    }
+}

@@ -1,0 +1,81 @@
+-- What a change at one row leaves in a map at each row.
+use Rattle.std.proofs.Common.{◌≡◌, ℕ, ◌+◌, ◌<◌, ◌≤◌, Bool, true, false, cond, nat_eq, ◌&&◌, ◌||◌, List, [], ◌∷◌, length, get_or, take, Option, Some, None, refl, sym, subst, ap, ◌∙◌, arith}
+use Rattle.std.specs.BTreeMap.{BTreeMap, WritesThrough, is_at}
+use Rattle.std.specs.List.{list_any}
+use Rattle.std.specs.Map.{lookup, keys_of}
+use Rattle.std.specs.Option.{unwrap_or, IsSome}
+use Rattle.std.specs.Ordering.{is_eq, eq_by_cmp}
+use Rattle.std.specs.declared.cmp.Ordering.{Ordering}
+use Rattle.std.specs.declared.cmp.Ordering.TheVariants.{Less, Equal, Greater}
+use Rattle.mfotl_model.specs.Values.{row_cmp, row_total}
+use Rattle.mfotl_model.specs.declared.value.Value.{Value}
+use Rattle.mfotl_model.proofs.RowLemmas.{row_exact}
+use Rattle.std.proofs.lemmas.Bool.{eqb-true}
+use Rattle.std.proofs.lemmas.List.{take_all}
+use Rattle.std.proofs.lemmas.List.Folds.{list_any_more}
+use Rattle.std.specs.Cmp.{eq_by_cmp_equiv}
+use Rattle.std.proofs.lemmas.Map.{lookup-none}
+use Rattle.std.proofs.lemmas.Map.Entries.{none_past_head}
+use Rattle.std.proofs.lemmas.Map.Keys.{sorted_tail, IsDistinct-from_sorted}
+use Rattle.std.specs.List.Sorted.{IsStrictlySortedBy}
+use Rattle.mfotl_model.specs.declared.interval.Interval.{Interval}
+use Rattle.mfotl_model.specs.Tables.{has_row}
+
+is_equal : (o : Ordering) → is_eq o ≡ true → o ≡ Equal
+is_equal Less e = cc
+is_equal Equal e = refl
+is_equal Greater e = cc
+
+-- rows that compare as equal are one
+pub same_row : (u v : List Value) → is_at (row_cmp u) v ≡ true → u ≡ v
+same_row u v e = row_exact u v (is_equal (row_cmp u v) e)
+
+-- after a change at one key, the value there is changed, and no other
+pub changed : {X : Type 0} (d : X) (h : X → X) (row v : List Value) (m n : List (List Value × X)) (w : Option X)
+    → lookup (is_at (row_cmp v)) n ≡ cond (is_at (row_cmp row) v) w (lookup (is_at (row_cmp v)) m)
+    → unwrap_or w d ≡ h (unwrap_or (lookup (is_at (row_cmp row)) m) d)
+    → unwrap_or (lookup (is_at (row_cmp v)) n) d
+    ≡ cond (is_at (row_cmp row) v) (h (unwrap_or (lookup (is_at (row_cmp v)) m) d))
+    (unwrap_or (lookup (is_at (row_cmp v)) m) d)
+changed {X} d h row v m n w gets gives = ap (λ o. unwrap_or o d) gets ∙ by (is_at (row_cmp row) v) refl
+  where
+    by : (b : Bool) → is_at (row_cmp row) v ≡ b
+        → unwrap_or (cond b w (lookup (is_at (row_cmp v)) m)) d
+        ≡ cond b (h (unwrap_or (lookup (is_at (row_cmp v)) m) d)) (unwrap_or (lookup (is_at (row_cmp v)) m) d)
+    by true e = gives ∙ ap (λ r. h (unwrap_or (lookup (is_at (row_cmp r)) m) d)) (same_row row v e)
+    by false e = refl
+
+-- a look-up that finds nothing, in a list that stays
+pub nothing_there : {X : Type 0} (row v : List Value) (m n : List (List Value × X)) → n ≡ m
+    → None ≡ lookup (is_at (row_cmp row)) m
+    → lookup (is_at (row_cmp v)) n ≡ cond (is_at (row_cmp row) v) None (lookup (is_at (row_cmp v)) m)
+nothing_there {X} row v m n same none = ap (lookup (is_at (row_cmp v))) same ∙ by (is_at (row_cmp row) v) refl
+  where
+    by : (b : Bool) → is_at (row_cmp row) v ≡ b → lookup (is_at (row_cmp v)) m
+        ≡ cond b None (lookup (is_at (row_cmp v)) m)
+    by true e = sym (none ∙ ap (λ r. lookup (is_at (row_cmp r)) m) (same_row row v e))
+    by false e = refl
+
+some_there : {X : Type 0} (o : Option X) (x : X) → Some x ≡ o → IsSome o
+some_there o x e = subst IsSome e refl
+
+-- what a write through `get_mut` leaves at each key
+pub written : {X : Type 0} (row v : List Value) (m n : BTreeMap (List Value) X) (w old : X)
+    → WritesThrough row_cmp (row_cmp row) m w n → Some old ≡ lookup (is_at (row_cmp row)) m.entries
+    → lookup (is_at (row_cmp v)) n.entries ≡ cond (is_at (row_cmp row) v) (Some w)
+    (lookup (is_at (row_cmp v)) m.entries)
+written row v m n w old writes is = (writes.3 (some_there _ old is)).0 v
+
+-- what is left after a write and a removal at one key
+pub removed : {X : Type 0} (row v : List Value) (m n k : BTreeMap (List Value) X) (w : X)
+    → lookup (is_at (row_cmp v)) n.entries ≡ cond (is_at (row_cmp row) v) (Some w)
+    (lookup (is_at (row_cmp v)) m.entries)
+    → lookup (is_at (row_cmp v)) k.entries ≡ cond (is_at (row_cmp row) v) None (lookup (is_at (row_cmp v)) n.entries)
+    → lookup (is_at (row_cmp v)) k.entries ≡ cond (is_at (row_cmp row) v) None (lookup (is_at (row_cmp v)) m.entries)
+removed {X} row v m n k w first second = second ∙ ap (λ o. cond (is_at (row_cmp row) v) None o) first
+    ∙ by (is_at (row_cmp row) v)
+  where
+    by : (b : Bool) → cond b None (cond b (Some w) (lookup (is_at (row_cmp v)) m.entries))
+        ≡ cond b None (lookup (is_at (row_cmp v)) m.entries)
+    by true = refl
+    by false = refl
