@@ -1,0 +1,2 @@
+pub mod AtomLemmas
+pub mod AtomRows

@@ -1,3 +1,4 @@
+pub mod AtomSteps
 pub mod Firsts
 pub mod JoinView
 pub mod OrView

@@ -3,9 +3,11 @@
 
 mod atom;
 mod child;
+mod columns;
 mod conjunct;
 mod exists;
 mod join;
+mod matching;
 mod or;
 
 pub use atom::eval_atom;
