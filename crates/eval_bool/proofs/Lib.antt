@@ -1,2 +1,4 @@
 pub mod AtomLemmas
 pub mod AtomRows
+pub mod ReorderLemmas
+pub mod OrLemmas

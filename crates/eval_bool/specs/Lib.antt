@@ -1,4 +1,5 @@
 pub mod AtomSteps
 pub mod Firsts
 pub mod JoinView
+pub mod Heads
 pub mod OrView

@@ -9,9 +9,11 @@ mod exists;
 mod join;
 mod matching;
 mod or;
+mod reorder;
 
 pub use atom::eval_atom;
 pub use conjunct::Conjunct;
 pub use exists::eval_exists;
 pub use join::JoinState;
 pub use or::OrState;
+pub use reorder::reordered;
