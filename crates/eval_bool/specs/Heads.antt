@@ -1,10 +1,11 @@
 -- The tables of the next position, apart: those of the children to be joined, and those to be taken away.
-use Rattle.std.specs.Prelude.{◌≡◌, ℕ, zero, suc, Bool, true, not, cond, Option, Some, None, List, [], ◌∷◌, ◌++◌, take}
+use Rattle.std.specs.Prelude.{◌≡◌, ℕ, zero, suc, Bool, true, not, cond, ◌&&◌, Option, Some, None, List, [], ◌∷◌, ◌++◌, take}
 use Rattle.std.specs.List.{list_all, list_any}
 use Rattle.mfotl_model.specs.FreeVariables.{among}
 use Rattle.mfotl_model.specs.Satisfaction.{Valuation}
-use Rattle.mfotl_model.specs.Tables.{TableOf, all_among, has}
-use Rattle.eval_bool.specs.JoinView.{ChildOf, child_advanced}
+use Rattle.mfotl_model.specs.Tables.{TableOf, all_among, all_apart, has}
+use Rattle.relations.specs.Pushed.{AreOver}
+use Rattle.eval_bool.specs.JoinView.{ChildOf, JoinOf, child_advanced, child_holds, compared}
 
 -- the children, of which the first n lost their first tables
 abbrev pub advanced_to : ℕ → List ChildOf → List ChildOf
@@ -48,3 +49,16 @@ all_inside columns tables = list_all (λ t. all_among t.columns columns) tables
 abbrev pub IsFirst : List ℕ → List TableOf → Option TableOf → Type 0
 IsFirst columns tables None = tables ≡ []
 IsFirst columns tables (Some t) = (take 1 tables ≡ t ∷ []) × (t.columns ≡ columns)
+
+-- the first table of each child, if it has one, is over the child's columns
+abbrev pub FirstsOver : List ChildOf → Type 0
+FirstsOver [] = Unit {0}
+FirstsOver (c ∷ children) = AreOver c.columns (take 1 c.tables) × FirstsOver children
+
+-- what the tables taken say: which columns they have, and whether the children hold
+pub record AreHeads (s : JoinOf) (plain negated : List TableOf) : Type 0 where
+  pub apart : all_apart s.columns ≡ true
+  pub same : (y : ℕ) → among y s.columns ≡ in_columns y plain
+  pub inside : all_inside s.columns negated ≡ true
+  pub tests : list_all (λ t. all_among (compared t.comparison) s.columns) s.tests ≡ true
+  pub holds : (v : Valuation) → (all_have v plain && none_has v negated) ≡ list_all (child_holds v) s.children

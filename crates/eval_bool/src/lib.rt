@@ -4,8 +4,10 @@
 mod atom;
 mod child;
 mod columns;
+mod combined;
 mod conjunct;
 mod exists;
+mod heads;
 mod join;
 mod matching;
 mod or;
