@@ -1,7 +1,7 @@
 -- Children whose tables alone change: which columns they bind, and that what holds of a conjunction stays.
-use Rattle.std.proofs.Common.{◌≡◌, ℕ, zero, suc, ◌+◌, ◌<◌, ◌≤◌, ◌^◌, Bool, true, cond, ◌&&◌, List, [], ◌∷◌, ◌++◌, length, map, get_or, slice_set, drop, refl, sym, subst, ap, ap₂, ◌∙◌, arith}
-use Rattle.std.proofs.lemmas.Bool.{and_parts, and_from}
-use Rattle.std.proofs.lemmas.List.{length-append, length-drop}
+use Rattle.std.proofs.Common.{◌≡◌, ℕ, zero, suc, ◌+◌, ◌<◌, ◌≤◌, ◌^◌, Bool, true, cond, ◌&&◌, List, [], ◌∷◌, ◌++◌, length, map, get_or, slice_set, drop, refl, sym, subst, ap, ◌∙◌, arith}
+use Rattle.std.proofs.lemmas.Bool.{and_parts}
+use Rattle.std.proofs.lemmas.List.{length-append}
 use Rattle.std.specs.List.{list_all}
 use Rattle.mfotl_model.specs.FreeVariables.{among}
 use Rattle.mfotl_model.specs.Tables.{TableOf, all_among}
@@ -73,8 +73,8 @@ few_to p zero xs few = few
 few_to p (suc n) [] few = tt
 few_to p (suc n) (x ∷ xs) few = (
   let a = few.0 in
-  let b = shorter x.tables in
-  omega arith,
+      let b = shorter x.tables in
+      omega arith,
   few_to p n xs few.1,
 )
 
@@ -136,7 +136,7 @@ few_pushed : (p n : ℕ) (xs : List ChildOf) (t : TableOf) → FewFrom p xs → 
 few_pushed p n [] t few room = tt
 few_pushed p zero (x ∷ xs) t few room = (
   let size : length (x.tables ++ t ∷ []) ≡ length x.tables + 1 = length-append x.tables (t ∷ []) in
-  omega arith,
+      omega arith,
   few.1,
 )
 few_pushed p (suc n) (x ∷ xs) t few room = (few.0, few_pushed p n xs t few.1 room)

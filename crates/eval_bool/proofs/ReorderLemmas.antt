@@ -1,5 +1,5 @@
 -- Tables whose columns are put into another order, and tables that are joined in it.
-use Rattle.std.proofs.Common.{◌≡◌, ◌↔◌, ℕ, true, List, map, refl, sym, ap, ◌∙◌}
+use Rattle.std.proofs.Common.{◌≡◌, ◌↔◌, ℕ, true, List, refl, sym, ap, ◌∙◌}
 use Rattle.mfotl_model.specs.FreeVariables.{among}
 use Rattle.mfotl_model.specs.Satisfaction.{Valuation}
 use Rattle.mfotl_model.specs.Tables.{TableOf, all_among, has, has_row}

@@ -1,9 +1,9 @@
 -- The state of a conjunction as contracts see it.
-use Rattle.std.specs.Prelude.{ℕ, zero, suc, ◌+◌, Bool, true, cond, ◌&&◌, nat_lt, List, [], ◌∷◌, ◌++◌, length, map, drop}
+use Rattle.std.specs.Prelude.{ℕ, zero, suc, ◌+◌, Bool, cond, ◌&&◌, nat_lt, List, [], ◌∷◌, ◌++◌, length, map, drop}
 use Rattle.std.specs.List.{list_all}
 use Rattle.mfotl_model.specs.FreeVariables.{joined, variables_in}
 use Rattle.mfotl_model.specs.Satisfaction.{Valuation}
-use Rattle.mfotl_model.specs.Tables.{TableOf, all_among, all_apart}
+use Rattle.mfotl_model.specs.Tables.{TableOf, all_among}
 use Rattle.mfotl_model.specs.declared.term.Comparison.{Comparison}
 use Rattle.relations.specs.Operations.{chosen}
 use Rattle.relations.specs.Pushed.{turned}

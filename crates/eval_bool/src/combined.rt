@@ -14,11 +14,7 @@ use relations::Table;
 use std::alloc::{AllocError, Global};
 
 // the first table is moved, and each further one is joined to those before
-fn joined_with(
-    alloc: Global,
-    before: Option<Table>,
-    table: Table,
-) -> Result<Table, AllocError>
+fn joined_with(alloc: Global, before: Option<Table>, table: Table) -> Result<Table, AllocError>
     ensures columns { IfOk result (λ joined. (y : ℕ) →
         among y joined.columns ≡ (among y (joined_columns before) || among y table.columns)) }
     ensures has { IfOk result (λ joined. (v : Valuation) →

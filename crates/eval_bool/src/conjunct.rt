@@ -13,8 +13,14 @@ use std::marker::Model;
 /// has to come out as wanted.
 #[derive(Drop)]
 pub enum Conjunct {
-    Child { columns: Vec<u32>, negated: bool },
-    Test { comparison: Comparison, wanted: bool },
+    Child {
+        columns: Vec<u32>,
+        negated: bool,
+    },
+    Test {
+        comparison: Comparison,
+        wanted: bool,
+    },
 }
 
 /// A comparison, and how it has to come out.

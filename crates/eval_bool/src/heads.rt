@@ -46,10 +46,7 @@ fn move_head(child: &mut Child, heads: &mut Heads) -> Result<(), AllocError>
 }
 
 /// Takes the first table of each child. Without memory it may have taken those of the first ones alone.
-pub(crate) fn take_heads(
-    alloc: Global,
-    children: &mut [Child],
-) -> Result<Heads, AllocError>
+pub(crate) fn take_heads(alloc: Global, children: &mut [Child]) -> Result<Heads, AllocError>
     ensures some { (n : ℕ) × (children.new ≡ advanced_to n children.old) }
     ensures all { OnOk result (children.new ≡ map child_advanced children.old) }
     ensures plain { IfOk result (λ heads. heads.plain.items ≡ heads_of false children.old) }

@@ -88,12 +88,7 @@ fn value_read(
     }
 }
 
-fn row_read(
-    alloc: Global,
-    atom: &Atom,
-    columns: &[u32],
-    event: &Event,
-) -> Result<Row, AllocError>
+fn row_read(alloc: Global, atom: &Atom, columns: &[u32], event: &Event) -> Result<Row, AllocError>
     ensures { IfOk result (λ row.
         row ≡ row_read (record { atom = atom.now; columns = columns.now }) event.now) }
 {

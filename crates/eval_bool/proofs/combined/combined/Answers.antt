@@ -1,10 +1,8 @@
-use Rattle.std.proofs.Common.{◌≡◌, ◌∙◌, ℕ, true, sym, ap}
-use Rattle.std.specs.List.{list_all}
+use Rattle.std.proofs.Common.{◌≡◌, ◌∙◌, ℕ, sym, ap}
 use Rattle.mfotl_model.proofs.LogicLemmas.{all_alike}
 use Rattle.mfotl_model.specs.FreeVariables.{among}
 use Rattle.mfotl_model.specs.Tables.{all_among}
 use Rattle.eval_bool.proofs.ConjunctLemmas.{own_among, same_among}
-use Rattle.eval_bool.specs.Heads.{all_inside, joined_columns}
 use Rattle.eval_bool.specs.JoinView.{compared}
 use Rattle.eval_bool.proofs.combined.combined.Goals as goal
 

@@ -1,4 +1,4 @@
-use Rattle.std.proofs.Common.{◌≡◌, ◌+◌, ◌∷◌, ◌++◌, [], ◌<◌, ◌≤◌, ◌∙◌, ap, drop, get_or, length, false, subst, sym, true, arith}
+use Rattle.std.proofs.Common.{◌≡◌, ◌+◌, ◌∷◌, ◌++◌, [], ◌∙◌, ap, drop, get_or, false, subst, sym, true, arith}
 use Rattle.eval_bool.proofs.HeadLemmas.{all_taken, drop_at, one_more, over_more, taken_more}
 use Rattle.eval_bool.specs.Heads.{FirstsOver, heads_of}
 use Rattle.eval_bool.specs.JoinView.{ChildOf, child_advanced}
@@ -8,8 +8,7 @@ pub returns-in_err-move_head-clause-some : goal.returns-in_err-move_head-clause-
 returns-in_err-move_head-clause-some c =
     let old = c.child-item.result in
     let now : ChildOf = get_or c.loop-child.children c.loop-child.child-index old in
-    let advanced : c.move_head.new.child ≡ child_advanced now = c.in_err-move_head.ensures.advanced in
-    (
+    let advanced : c.move_head.new.child ≡ child_advanced now = c.in_err-move_head.ensures.advanced in (
       c.loop-child.child-index + 1,
       one_more c.args.children.now c.loop-child.children c.loop-child.child-index old c.move_head.new.child
           (omega arith) c.loop-child.invariant.items c.child-item.is

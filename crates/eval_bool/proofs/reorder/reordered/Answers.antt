@@ -1,4 +1,3 @@
-use Rattle.std.proofs.Common.{◌∙◌}
 use Rattle.eval_bool.proofs.ReorderLemmas.{has_reordered}
 use Rattle.eval_bool.proofs.reorder.reordered.Goals as goal
 

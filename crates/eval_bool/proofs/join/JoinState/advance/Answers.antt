@@ -1,4 +1,4 @@
-use Rattle.std.proofs.Common.{◌≡◌, ◌∙◌, ap, map, arith}
+use Rattle.std.proofs.Common.{◌∙◌, ap, map, arith}
 use Rattle.std.proofs.lemmas.List.{with_items_is}
 use Rattle.eval_bool.proofs.ChildLemmas.{few_pulled, join_advances, join_stays}
 use Rattle.eval_bool.proofs.HeadLemmas.{heads_are}
@@ -11,9 +11,11 @@ pub invariant_of-self : goal.invariant_of-self
 invariant_of-self c =
     let s = c.self.inside in
     let some = c.in_err-heads.ensures.some in
-    join_stays s.columns.items s.tests.items s.pulled s.children.items _ c.self.invariant
-    (some.0, with_items_is s.children c.take_heads.new.children (c.take_heads.auto.children ∙ c.deref_mut.ensures.len)
-    ∙ some.1 ∙ ap (advanced_to some.0) c.deref_mut.ensures.value)
+    join_stays s.columns.items s.tests.items s.pulled s.children.items _ c.self.invariant (
+      some.0,
+      with_items_is s.children c.take_heads.new.children (c.take_heads.auto.children ∙ c.deref_mut.ensures.len)
+          ∙ some.1 ∙ ap (advanced_to some.0) c.deref_mut.ensures.value,
+    )
 
 pub overflow_add-self : goal.overflow_add-self
 overflow_add-self c =

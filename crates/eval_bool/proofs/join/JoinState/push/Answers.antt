@@ -1,4 +1,4 @@
-use Rattle.std.proofs.Common.{◌≡◌, ◌∙◌, ◌∷◌, ◌++◌, [], List, ap, sym}
+use Rattle.std.proofs.Common.{◌∙◌, ◌∷◌, ◌++◌, [], List, ap, sym}
 use Rattle.eval_bool.proofs.ChildLemmas.{columns_at, join_pushed, pushed_at}
 use Rattle.eval_bool.specs.JoinView.{ChildOf, JoinOf}
 use Rattle.eval_bool.proofs.join.JoinState.push.Goals as goal

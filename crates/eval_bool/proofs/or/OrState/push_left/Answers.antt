@@ -1,4 +1,3 @@
-use Rattle.std.proofs.Common.{arith, ◌≡◌, ◌+◌, ◌∷◌, ◌++◌, [], length}
 use Rattle.relations.proofs.PushedLemmas.{over_push}
 use Rattle.eval_bool.proofs.OrLemmas.{one_more}
 use Rattle.eval_bool.proofs.or.OrState.push_left.Goals as goal
