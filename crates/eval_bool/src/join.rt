@@ -54,6 +54,25 @@ impl JoinState {
         })
     }
 
+    /// How many children there are.
+    pub fn children(&self) -> usize
+        ensures { result ≡ length self.now.children }
+    {
+        self.children.len()
+    }
+
+    /// Whether the table meets the conditions of `push`.
+    pub fn takes(&self, child: u32, table: &Table) -> bool
+        ensures child { IsTrue result → child < length self.now.children }
+        ensures columns { IsTrue result →
+            table.now.columns ≡ child_columns self.now.children child }
+        ensures few { IsTrue result →
+            self.now.pulled + length (child_tables self.now.children child) < 2 ^ 63 }
+    {
+        let child = child as usize;
+        child < self.children.len() && self.children[child].takes(self.pulled, table)
+    }
+
     /// Takes a child's next table.
     pub fn push(&mut self, child: u32, table: Table) -> Result<(), AllocError>
         requires child { child < length self.old.children }
