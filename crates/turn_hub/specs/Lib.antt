@@ -1,0 +1,6 @@
+-- The definitions that the contracts cite, in reading order.
+pub mod Work
+pub mod Rule
+pub mod Steps
+pub mod Ends
+pub mod Answers

@@ -1,0 +1,83 @@
+//! A hand's side: working what was handed over.
+
+ghost use Rattle.std.specs.Prelude.{◌≡◌, ◌++◌, List, IfOk};
+ghost use Rattle.turn_hub.specs.Work.{Takes, Leads};
+ghost use Rattle.turn_hub.specs.Ends.{IsHandOf, hand_cell, hand_view};
+ghost use Rattle.turn_hub.specs.Answers.{ServedAs};
+
+use crate::hub::{Hand, Hub, Served};
+use crate::plays::{GiveBack, HandLook};
+use crate::view::Cell;
+use crate::work::Work;
+use mon_outside::Gate;
+use std::alloc::{AllocError, Global};
+
+// Works the items in order.
+fn work_all<W: Work, G: Gate>(
+    alloc: Global,
+    gate: &G,
+    number: u32,
+    taken: &mut u64,
+    work: &mut W,
+    items: Vec<W::Item>,
+    outs: &mut Vec<W::Out>,
+) -> Result<(), AllocError>
+    requires { Takes W.stands W.may work.old items.items }
+    ensures { IfOk result (λ _. (gave : List W.Out) × (outs.new.items ≡ outs.old.items ++ gave) × Leads W.stands W.may work.old items.items work.new gave) }
+{
+    for item in items {
+        gate.pass(number, *taken);
+        *taken = taken.saturating_add(1);
+        work.work(alloc, item, outs)?;
+    }
+    Ok(())
+}
+
+impl<W: Work> Hub<W> {
+    /// Takes all items that were handed over, in order, and gives the turn back. The gate is passed before each
+    /// item with the cell's number and the item's number in that cell, counted from 0. Waits for nobody.
+    pub fn serve<G: Gate>(&self, alloc: Global, hand: &mut Hand<W>, gate: &G) -> Served
+        requires hand { IsHandOf self.now hand.old }
+        ensures hand { IsHandOf self.now hand.new × (hand_cell hand.new ≡ hand_cell hand.old) }
+        ensures did { ServedAs (hand_view hand.old) (hand_cell hand.old) result (hand_view hand.new) }
+    {
+        let shared = &self.table.shared;
+        let k = hand.cell as usize;
+        let found = shared.load::<HandLook<W>>(&mut hand.seat, k);
+        if found != 1 {
+            return Served::NotGiven;
+        }
+        let Some(cell) = shared.exchange(&mut hand.seat, k, None) else {
+            unreachable!()
+        };
+        let Cell {
+            mut work,
+            count,
+            items,
+            mut taken,
+            mut outs,
+        } = cell;
+        let given = items.len() as u64;
+        let done = work_all(
+            alloc, gate, hand.cell, &mut taken, &mut work, items, &mut outs,
+        );
+        let left = Cell {
+            work,
+            count,
+            items: Vec::new(alloc),
+            taken,
+            outs,
+        };
+        drop(shared.exchange(&mut hand.seat, k, Some(left)));
+        match done {
+            Ok(()) => {
+                shared.store::<GiveBack>(&mut hand.seat, k, 0);
+                Served::Worked(given)
+            }
+            Err(_) => {
+                shared.store::<GiveBack>(&mut hand.seat, k, 2);
+                Served::Memory
+            }
+        }
+    }
+}
