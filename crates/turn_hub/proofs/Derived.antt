@@ -1,6 +1,6 @@
 -- takes and leads, said by stands and may alone, meet the laws of a Work.
 use Rattle.turn_hub.specs.Work.{Takes, Leads}
-use Rattle.std.proofs.Common.{◌≡◌, List, [], ◌∷◌, ◌++◌, sym, refl, ap, ◌∙◌, subst, append-nil, append_assoc}
+use Rattle.std.proofs.Common.{List, [], ◌++◌, sym, subst, append-nil, append_assoc}
 
 module _ {W S I O : Type 0} (stands : S → List I → List O → W → Type 0) (may : S → List I → Type 0) (less : (s : S) (a b : List I) → may s (a ++ b) → may s a) where
   abbrev TakesT : W → List I → Type 0

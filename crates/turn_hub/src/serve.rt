@@ -11,24 +11,24 @@ use crate::view::Cell;
 use crate::work::Work;
 use mon_outside::Gate;
 use std::alloc::{AllocError, Global};
+use std::mem;
 
-// Works the items in order.
+// Works the cell's items in order.
 fn work_all<W: Work, G: Gate>(
     alloc: Global,
+    cell: &mut Cell<W, W::Item, W::Out>,
     gate: &G,
     number: u32,
-    taken: &mut u64,
-    work: &mut W,
-    items: Vec<W::Item>,
-    outs: &mut Vec<W::Out>,
 ) -> Result<(), AllocError>
-    requires { Takes W.stands W.may work.old items.items }
-    ensures { IfOk result (λ _. (gave : List W.Out) × (outs.new.items ≡ outs.old.items ++ gave) × Leads W.stands W.may work.old items.items work.new gave) }
+    requires { Takes W.stands W.may cell.old.work cell.old.items.items }
+    ensures count { IfOk result (λ _. cell.new.count ≡ cell.old.count) }
+    ensures did { IfOk result (λ _. (gave : List W.Out) × (cell.new.outs.items ≡ cell.old.outs.items ++ gave) × Leads W.stands W.may cell.old.work cell.old.items.items cell.new.work gave) }
 {
+    let items = mem::replace(&mut cell.items, Vec::new(alloc));
     for item in items {
-        gate.pass(number, *taken);
-        *taken = taken.saturating_add(1);
-        work.work(alloc, item, outs)?;
+        gate.pass(number, cell.taken);
+        cell.taken = cell.taken.saturating_add(1);
+        cell.work.work(alloc, item, &mut cell.outs)?;
     }
     Ok(())
 }
@@ -47,28 +47,12 @@ impl<W: Work> Hub<W> {
         if found != 1 {
             return Served::NotGiven;
         }
-        let Some(cell) = shared.exchange(&mut hand.seat, k, None) else {
+        let Some(mut cell) = shared.exchange(&mut hand.seat, k, None) else {
             unreachable!()
         };
-        let Cell {
-            mut work,
-            count,
-            items,
-            mut taken,
-            mut outs,
-        } = cell;
-        let given = items.len() as u64;
-        let done = work_all(
-            alloc, gate, hand.cell, &mut taken, &mut work, items, &mut outs,
-        );
-        let left = Cell {
-            work,
-            count,
-            items: Vec::new(alloc),
-            taken,
-            outs,
-        };
-        drop(shared.exchange(&mut hand.seat, k, Some(left)));
+        let given = cell.items.len() as u64;
+        let done = work_all(alloc, &mut cell, gate, hand.cell);
+        drop(shared.exchange(&mut hand.seat, k, Some(cell)));
         match done {
             Ok(()) => {
                 shared.store::<GiveBack>(&mut hand.seat, k, 0);

@@ -1,6 +1,6 @@
 //! Main's side: taking back and handing over.
 
-ghost use Rattle.std.specs.Prelude.{◌≡◌, ◌≢◌, ◌⊎◌, ◌<◌};
+ghost use Rattle.std.specs.Prelude.{◌≡◌, ◌≢◌, ◌⊎◌, ◌<◌, [], length};
 ghost use Rattle.turn_hub.specs.Ends.{IsMainOf, cell_count, main_view};
 ghost use Rattle.turn_hub.specs.Answers.{Swapped, MayHand};
 
@@ -8,12 +8,23 @@ use crate::hub::{Hub, Main, Swap};
 use crate::plays::{HandOver, MainLook};
 use crate::view::Cell;
 use crate::work::Work;
+use std::mem;
 
 // Whose turn it is after so many items were handed over.
 fn turn_after(given: u64) -> u64
     ensures { ((result ≡ 0) × (given ≡ 0)) ⊎ ((result ≡ 1) × (given ≢ 0)) }
 {
     if given == 0 { 0 } else { 1 }
+}
+
+// Lays the items into the cell, and takes out the count and the outs that it has.
+fn refill<W, I: Drop, O>(cell: &mut Cell<W, I, O>, items: Vec<I>, none: Vec<O>) -> (u64, Vec<O>)
+    ensures result { result ≡ (cell.old.count, cell.old.outs) }
+    ensures cell { (cell.new.work ≡ cell.old.work) × (cell.new.items ≡ items) × (cell.new.outs ≡ none) × (cell.new.count ≡ length items.items) }
+{
+    let count = mem::replace(&mut cell.count, items.len() as u64);
+    cell.items = items;
+    (count, mem::replace(&mut cell.outs, none))
 }
 
 impl<W: Work> Hub<W> {
@@ -34,26 +45,13 @@ impl<W: Work> Hub<W> {
         if found != 0 {
             return Swap::Broken(items);
         }
-        let Some(cell) = shared.exchange(&mut main.seat, number, None) else {
+        let Some(mut cell) = shared.exchange(&mut main.seat, number, None) else {
             unreachable!()
         };
-        let Cell {
-            work,
-            count,
-            items: _,
-            taken,
-            outs,
-        } = cell;
-        let given = items.len() as u64;
-        let left = Cell {
-            work,
-            count: given,
-            items,
-            taken,
-            outs: Vec::new(self.alloc),
-        };
-        drop(shared.exchange(&mut main.seat, number, Some(left)));
-        shared.store::<HandOver>(&mut main.seat, number, turn_after(given));
+        let turn = turn_after(items.len() as u64);
+        let (count, outs) = refill(&mut cell, items, Vec::new(self.alloc));
+        drop(shared.exchange(&mut main.seat, number, Some(cell)));
+        shared.store::<HandOver>(&mut main.seat, number, turn);
         Swap::Back(count, outs)
     }
 }
