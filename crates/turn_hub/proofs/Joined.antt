@@ -17,15 +17,19 @@ module _ {W S I O : Type 0} (stands : S → List I → List O → W → Type 0) 
   abbrev R : State (Option (Cell W I O)) V → Type 0
   R = Ruled stands may
 
-  module _ (s : State (Option (Cell W I O)) V) (r : R s) (j : ℕ) (w : V) (other : j ≢ 0) (at : get_elem? s.views j ≡ some w) (nothing : w.has ≡ None) where
+  module _ (s : State (Option (Cell W I O)) V) (r : R s) (j : ℕ) (w : V) (other : j ≢ 0)
+      (at : get_elem? s.views j ≡ some w) (nothing : w.has ≡ None) where
     abbrev views' : List V
     views' = set s.views j spent
 
     was : (i : ℕ) (u : V) (k : ℕ) → get_elem? views' i ≡ some u → u.number ≡ Some k → get_elem? s.views i ≡ some u
-    was i u k e num = ⊎_elim (λ t. absurd (none-some k (ap (λ (y : V). y.number) t.1 ∙ num))) (λ t. t.1) (at_set s.views j i spent u e)
+    was i u k e num = ⊎_elim (λ t. absurd (none-some k (ap (λ (y : V). y.number) t.1 ∙ num))) (λ t. t.1)
+        (at_set s.views j i spent u e)
 
     out' : (k : ℕ) → Out s.views k → Out views' k
-    out' k o = (o.0, o.1, set_else s.views j o.0 spent (λ e. o.4 (ap (λ (y : V). y.has) (some-injective o.1 w (sym o.2 ∙ ap (λ (i : ℕ). get_elem? s.views i) e ∙ at)) ∙ nothing)) ∙ o.2, o.3, o.4)
+    out' k o = (o.0, o.1, set_else s.views j o.0 spent
+        (λ e. o.4 (ap (λ (y : V). y.has)
+        (some-injective o.1 w (sym o.2 ∙ ap (λ (i : ℕ). get_elem? s.views i) e ∙ at)) ∙ nothing)) ∙ o.2, o.3, o.4)
 
     pub ends : R record { words = s.words; homes = s.homes; views = views' }
     ends = record {
@@ -35,7 +39,9 @@ module _ {W S I O : Type 0} (stands : S → List I → List O → W → Type 0) 
       wide = r.wide;
       lined = r.lined;
       has = r.has;
-      each_cell = λ k l e. let ok = r.each_cell k l e in record { known = ok.known; allowed = ok.allowed; mine = ok.mine; ready = ok.ready; due = λ one. ⊎_elim (λ t. inl t) (λ o. inr (out' k o)) (ok.due one) };
+      each_cell = λ k l e. let ok = r.each_cell k l e in
+          record { known = ok.known; allowed = ok.allowed; mine = ok.mine; ready = ok.ready; due =
+          λ one. ⊎_elim (λ t. inl t) (λ o. inr (out' k o)) (ok.due one) };
       each_hand = λ i u k e num. r.each_hand i u k (was i u k e num) num;
       once = λ i i' u y k e f num num'. r.once i i' u y k (was i u k e num) (was i' y k f num') num num';
     }

@@ -12,19 +12,22 @@ use Rattle.turn_hub.proofs.Keeps.{some_inj}
 use Rattle.turn_hub.proofs.Slots.{same_slot}
 
 -- no items, or some
-pub turn_is : {A : Type 0} (xs : List A) (n g : ℕ) → g ≡ length xs → ((n ≡ 0) × (g ≡ 0)) ⊎ ((n ≡ 1) × (g ≢ 0)) → ((n ≡ 0) × (xs ≡ [])) ⊎ ((n ≡ 1) × (xs ≢ []))
+pub turn_is : {A : Type 0} (xs : List A) (n g : ℕ) → g ≡ length xs → ((n ≡ 0) × (g ≡ 0)) ⊎ ((n ≡ 1) × (g ≢ 0))
+    → ((n ≡ 0) × (xs ≡ [])) ⊎ ((n ≡ 1) × (xs ≢ []))
 turn_is [] n g e (inl t) = inl (t.0, refl)
 turn_is [] n g e (inr t) = absurd (t.1 e)
 turn_is (x ∷ xs) n g e (inl t) = let z = t.1 in absurd (omega arith)
 turn_is (x ∷ xs) n g e (inr t) = inr (t.0, λ is. let z = ap length is in absurd (omega arith))
 
-pub turn_same : {A : Type 0} (xs : List A) (n : ℕ) → ((n ≡ 0) × (xs ≡ [])) ⊎ ((n ≡ 1) × (xs ≢ [])) → (n == 0) ≡ (length xs == 0)
+pub turn_same : {A : Type 0} (xs : List A) (n : ℕ) → ((n ≡ 0) × (xs ≡ [])) ⊎ ((n ≡ 1) × (xs ≢ []))
+    → (n == 0) ≡ (length xs == 0)
 turn_same [] n (inl t) = ap (λ (k : ℕ). k == 0) t.0
 turn_same [] n (inr t) = absurd (t.1 refl)
 turn_same (x ∷ xs) n (inl t) = let z = ap length t.1 in absurd (omega arith)
 turn_same (x ∷ xs) n (inr t) = ap (λ (k : ℕ). k == 0) t.0 ∙ sym (ne_eqb (suc (length xs)) 0 (λ e. omega arith))
 
-module _ {W S I O : Type 0} (stands : S → List I → List O → W → Type 0) (told : S → List I → List O → Type 0) (tells : (s : S) (t : List I) (g : List O) (w : W) → stands s t g w → told s t g) where
+module _ {W S I O : Type 0} (stands : S → List I → List O → W → Type 0) (told : S → List I → List O → Type 0)
+    (tells : (s : S) (t : List I) (g : List O) (w : W) → stands s t g w → told s t g) where
   abbrev M : Type 0
   M = Seated W S I O
 
@@ -47,7 +50,8 @@ module _ {W S I O : Type 0} (stands : S → List I → List O → W → Type 0) 
   pub swaps : (n k a : ℕ) (m0 me3 me4 : M) (cf c' : Cell W I O)
       → me3 ≡ (looked m0.0 k 0 (Some cf), (k, Some c') ∷ m0.1) → hands_over (step n k a 0 none) me3 a me4
       → ReadyAt stands m0.0.lines k cf
-      → (count : ℕ) (outs : List O) (items : List I) → count ≡ cf.count → outs ≡ cf.outs.items → c'.items.items ≡ items
+      → (count : ℕ) (outs : List O) (items : List I) → count ≡ cf.count → outs ≡ cf.outs.items
+          → c'.items.items ≡ items
       → (a == 0) ≡ (length items == 0)
       → LooksOnce m0.0 k 0 me4.0 × ((l : Line S I O) × (get_elem? m0.0.lines k ≡ some l) × (count ≡ l.last)
       × told l.seed l.handed (l.back ++ outs)

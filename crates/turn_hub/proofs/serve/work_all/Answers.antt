@@ -5,7 +5,8 @@ use Rattle.turn_hub.proofs.serve.work_all.Goals as goal
 
 pub loop-item-init : goal.loop-item-init
 loop-item-init g c =
-    let whole = ap (λ v. v.items) (sym c.replace-items.ensures.value) ∙ sym c.into_iter-item-iterator.ensures.into_iter_gives.0 in
+    let whole = ap (λ v. v.items) (sym c.replace-items.ensures.value)
+        ∙ sym c.into_iter-item-iterator.ensures.into_iter_gives.0 in
     let none = leads_none g.W.Work.stands g.W.Work.may g.met.W.Work.may_less c.args.cell.now.work in (
       whole,
       refl,
@@ -18,7 +19,8 @@ work-requires g c =
     let steps = (c.in-Some.ensures {u = tt}).steps in
     let work = c.loop-item.cell.work in
     let takes = subst (Takes g.W.Work.stands g.W.Work.may work) steps.0 c.loop-item.invariant.2 in
-    takes_less g.W.Work.stands g.W.Work.may g.met.W.Work.may_less work (c.in-Some.item ∷ []) c.next.new.self.rest.items takes
+    takes_less g.W.Work.stands g.W.Work.may g.met.W.Work.may_less work
+        (c.in-Some.item ∷ []) c.next.new.self.rest.items takes
 
 pub loop-item-preserved : goal.loop-item-preserved
 loop-item-preserved g c =
@@ -51,5 +53,6 @@ returns-clause-did g c =
     let gave = i.3 in
     let rest = c.loop-item.item-iterator.rest in
     let none = none_left rest.items rest.len rest.ok.0 (c.in-None.ensures {u = tt}).steps.0 in
-    let all : c.args.cell.now.items.items ≡ c.loop-item.yielded = i.0 ∙ ap (λ xs. c.loop-item.yielded ++ xs) none ∙ append-nil c.loop-item.yielded in
+    let all : c.args.cell.now.items.items ≡ c.loop-item.yielded = i.0 ∙ ap (λ xs. c.loop-item.yielded ++ xs) none
+        ∙ append-nil c.loop-item.yielded in
     (gave.0, gave.1, subst (λ xs. Leads g.W.Work.stands g.W.Work.may c.args.cell.now.work xs c.loop-item.cell.work gave.0) (sym all) gave.2)

@@ -6,7 +6,8 @@ use Rattle.turn_hub.proofs.Hands.{hand_loads, hand_stores, due_ready}
 use Rattle.turn_hub.proofs.hub.Hub.serve.Goals as goal
 
 pub load-found-requires : goal.load-found-requires
-load-found-requires g c = let m = c.requires.hand in let sized = c.args.self.now.sized in let near : c.args.hand.now.cell < c.args.self.now.table.shared.table_id.slots = m.4 in (
+load-found-requires g c = let m = c.requires.hand in let sized = c.args.self.now.sized in
+    let near : c.args.hand.now.cell < c.args.self.now.table.shared.table_id.slots = m.4 in (
   m.0,
   (let w : c.args.hand.now.cell < c.args.self.now.table.shared.table_id.words = omega arith in w),
   hand_loads g.W.Work.stands g.W.Work.may _ _ c.args.hand.now.cell c.args.hand.now.seat.me m.3 m.2 near,
@@ -17,7 +18,8 @@ exchange-requires g c = let l = c.load-found.ensures in let p = l.2.0 c.if-found
     (l.0 ∙ c.requires.hand.0, can_take c.args.hand.now.cell _ _ _ c.load-found.new.seat.me p.1)
 
 pub work_all-done-requires : goal.work_all-done-requires
-work_all-done-requires g c = let l = c.load-found.ensures in let p = l.2.0 c.if-found-ne1.false in let cf = p.0 in let out = c.exchange.ensures in
+work_all-done-requires g c = let l = c.load-found.ensures in let p = l.2.0 c.if-found-ne1.false in let cf = p.0 in
+    let out = c.exchange.ensures in
     let x : c.exchange.result ≡ Some cf = taken_out c.args.hand.now.cell _ _ _ _ c.load-found.new.seat.me p.1 out.2 in
     let same : c.in-Some.cell ≡ cf = some_inj _ _ (sym c.in-Some.is ∙ x) in
     subst (λ y. Takes g.W.Work.stands g.W.Work.may y.work y.items.items) (sym same) p.2.0
@@ -62,5 +64,6 @@ store-requires-in-Err g c =
       back.0 ∙ out.0 ∙ l.0 ∙ m.0,
       (let w : k < c.args.self.now.table.shared.table_id.words = omega arith in w),
       hand_stores g.W.Work.stands g.W.Work.may _ _ k c.exchange-2.new.seat.me _ c.in-Some.cell c.work_all-done.new.cell 2
-          (ap (λ y. y.0.number) left ∙ m.3) near (ap (λ y. y.1) left) (ap (λ y. y.0.has) left ∙ ap Some (sym same)) (inr refl),
+          (ap (λ y. y.0.number) left ∙ m.3) near (ap (λ y. y.1) left) (ap (λ y. y.0.has) left ∙ ap Some (sym same))
+              (inr refl),
     )

@@ -7,8 +7,10 @@ use Rattle.turn_hub.proofs.Slots.{taken_out, put_in, can_take}
 use Rattle.turn_hub.proofs.hub.Hub.swap.Goals as goal
 
 pub load-found-requires : goal.load-found-requires
-load-found-requires g c = let m = c.requires.main in let sized = c.args.self.now.sized in let near : c.args.k < c.args.self.now.table.shared.table_id.slots = m.1 in
-    (m.0.0, (let w : c.args.k < c.args.self.now.table.shared.table_id.words = omega arith in w), main_loads g.W.Work.stands g.W.Work.may _ _ c.args.k c.args.main.now.seat.me m.0.1 m.0.3 m.0.4 near)
+load-found-requires g c = let m = c.requires.main in let sized = c.args.self.now.sized in
+    let near : c.args.k < c.args.self.now.table.shared.table_id.slots = m.1 in
+    (m.0.0, (let w : c.args.k < c.args.self.now.table.shared.table_id.words = omega arith in
+        w), main_loads g.W.Work.stands g.W.Work.may _ _ c.args.k c.args.main.now.seat.me m.0.1 m.0.3 m.0.4 near)
 
 pub exchange-requires : goal.exchange-requires
 exchange-requires g c = let l = c.load-found.ensures in let p = l.2.0.0 c.if-found-ne0.false in
@@ -39,8 +41,10 @@ store-requires g c =
           (ap (λ y. y.0.has) left) (ap (λ y. y.0.cell) left) (new.0 ∙ ap (λ y. y.work) same)
           (ap (λ v. v.items) new.2 ∙ c.new.ensures.items) (new.3 ∙ ap length (sym laid))
           (subst (λ xs. g.W.Work.may may.0.seed (may.0.handed ++ xs)) (sym laid) may.2)
-          (subst (λ xs. ((c.turn_after-turn.result ≡ 0) × (xs ≡ [])) ⊎ ((c.turn_after-turn.result ≡ 1) × (xs ≢ []))) (sym laid)
-          (turn_is items.items c.turn_after-turn.result c.len.result (c.len.ensures ∙ items.ok.0) c.turn_after-turn.ensures)),
+          (subst (λ xs. ((c.turn_after-turn.result ≡ 0) × (xs ≡ [])) ⊎ ((c.turn_after-turn.result ≡ 1) × (xs ≢ [])))
+              (sym laid)
+          (turn_is items.items c.turn_after-turn.result c.len.result
+              (c.len.ensures ∙ items.ok.0) c.turn_after-turn.ensures)),
     )
 
 pub returns-clause-did : goal.returns-clause-did
@@ -57,12 +61,17 @@ returns-clause-did g c =
     let left = put_in k _ _ _ _ c.exchange.new.seat.me c.exchange-2.new.seat.me gone back.3 in
     let new = c.refill-count.ensures in
     let laid = ap (λ v. v.items) new.cell.1 in
-    let whole = left ∙ (λ i. (looked c.args.main.now.seat.me.0 k (c.if-found-ne0.false i) (Some p.0), (k, Some c.refill-count.new.cell) ∷ c.args.main.now.seat.me.1)) in
+    let whole = left ∙ (λ i.
+        (looked c.args.main.now.seat.me.0 k (c.if-found-ne0.false i) (Some p.0),
+        (k, Some c.refill-count.new.cell) ∷ c.args.main.now.seat.me.1)) in
     swaps g.W.Work.stands g.W.Work.told g.met.W.Work.tells c.args.self.now.table.shared.table_id.slots k c.turn_after-turn.result
     c.args.main.now.seat.me c.exchange-2.new.seat.me c.store.new.seat.me p.0 c.refill-count.new.cell whole c.store.ensures.2 p.2
     c.refill-count.result.0 c.refill-count.result.1.items items.items
-    (ap (λ r. r.0) new.result ∙ ap (λ y. y.count) same) (ap (λ r. r.1.items) new.result ∙ ap (λ y. y.outs.items) same) laid
-    (turn_same items.items c.turn_after-turn.result (turn_is items.items c.turn_after-turn.result c.len.result (c.len.ensures ∙ items.ok.0) c.turn_after-turn.ensures))
+    (ap (λ r. r.0) new.result ∙ ap (λ y. y.count) same)
+        (ap (λ r. r.1.items) new.result ∙ ap (λ y. y.outs.items) same) laid
+    (turn_same items.items c.turn_after-turn.result
+        (turn_is items.items c.turn_after-turn.result c.len.result
+        (c.len.ensures ∙ items.ok.0) c.turn_after-turn.ensures))
 
 pub returns-then-found-eq1-clause-did : goal.returns-then-found-eq1-clause-did
 returns-then-found-eq1-clause-did g c =
