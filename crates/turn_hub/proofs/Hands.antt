@@ -81,35 +81,60 @@ module _ {W S I O : Type 0} (stands : S → List I → List O → W → Type 0) 
     only q num = sym (some_inj k q (sym number ∙ num))
 
     pub takes_it : x ≡ 1 → (c : C) → DueT l c
-        → R record { words = set s.words k x; homes = set s.homes k maybe.none; views =
-        set s.views id (looked v k x (Some c)) }
+        → R record {
+          words = set s.words k x;
+          homes = set s.homes k maybe.none;
+          views =
+              set s.views id (looked v k x (Some c));
+        }
     takes_it one c due = let w : V = looked v k x (Some c) in
         moved stands may s r k x id (set s.homes k maybe.none) v w r.main record {
-      at = at;
-      near = near;
-      long = length-set s.homes k maybe.none;
-      homes = λ q other. set_else s.homes k q maybe.none other;
-      first = main_stays w;
-      no_hand = r.no_hand;
-      same_number = refl;
-      made = refl;
-      lined = refl;
-      lines = λ q other. refl;
-      has = λ c' h. main_has x c' one h;
-      here = λ l' e. subst (λ (y : L). CellOk stands may (set s.homes k maybe.none) (set s.views id w) r.main k x y)
-          (some-injective l l' (sym line ∙ e))
-          record { known = ok.known; allowed = ok.allowed; mine = ok.mine; ready = λ z. absurd (omega arith); due =
-              λ _. inr (id, w, set_here s.views id w (within stands may s.views id v at), number, some_is stands may
-              (Some c) c refl) };
-      others = λ q other has is. (has, is);
-      only = only;
-      mine = λ c' num h. (l, line, same_word (set s.words k x) words_same k
-          ∙ one, subst (DueT l) (some_inj c c' h) due);
-      kept = λ j u c' other at' num h. absurd (other (r.once j id u v k at' at num number));
-    }
+          at = at;
+          near = near;
+          long = length-set s.homes k maybe.none;
+          homes = λ q other. set_else s.homes k q maybe.none other;
+          first = main_stays w;
+          no_hand = r.no_hand;
+          same_number = refl;
+          made = refl;
+          lined = refl;
+          lines = λ q other. refl;
+          has = λ c' h. main_has x c' one h;
+          here = λ l' e. subst (λ (y : L). CellOk stands may (set s.homes k maybe.none) (set s.views id w) r.main k x y)
+              (some-injective l l' (sym line ∙ e))
+              record {
+                known = ok.known;
+                allowed = ok.allowed;
+                mine = ok.mine;
+                ready = λ z. absurd (omega arith);
+                due =
+                    λ _. inr (
+                      id,
+                      w,
+                      set_here s.views id w (within stands may s.views id v at),
+                      number,
+                      some_is stands may
+                          (Some c) c refl,
+                    );
+              };
+          others = λ q other has is. (has, is);
+          only = only;
+          mine = λ c' num h. (
+            l,
+            line,
+            same_word (set s.words k x) words_same k
+                ∙ one,
+            subst (DueT l) (some_inj c c' h) due,
+          );
+          kept = λ j u c' other at' num h. absurd (other (r.once j id u v k at' at num number));
+        }
 
-    pub leaves_it : x ≢ 1 → R record { words = set s.words k x; homes = s.homes; views =
-        set s.views id (looked v k x None) }
+    pub leaves_it : x ≢ 1 → R record {
+      words = set s.words k x;
+      homes = s.homes;
+      views =
+          set s.views id (looked v k x None);
+    }
     leaves_it other_turn = let w : V = looked v k x None in moved stands may s r k x id s.homes v w r.main record {
       at = at;
       near = near;
@@ -125,8 +150,14 @@ module _ {W S I O : Type 0} (stands : S → List I → List O → W → Type 0) 
           (was.0, was.1, same_word (set s.words k x) words_same r.main.cell ∙ was.2, was.3);
       here = λ l' e. subst (λ (y : L). CellOk stands may s.homes (set s.views id w) r.main k x y)
           (some-injective l l' (sym line ∙ e))
-          record { known = ok.known; allowed = ok.allowed; mine = ok.mine; ready = ok.ready; due =
-              λ one. absurd (other_turn one) };
+          record {
+            known = ok.known;
+            allowed = ok.allowed;
+            mine = ok.mine;
+            ready = ok.ready;
+            due =
+                λ one. absurd (other_turn one);
+          };
       others = λ q other has is. (has, is);
       only = only;
       mine = λ c' num h. absurd (none-some c' h);
@@ -136,8 +167,12 @@ module _ {W S I O : Type 0} (stands : S → List I → List O → W → Type 0) 
     -- the hand's store, of the word 0 or 2
     pub puts_back : (c c' : C) (new m : ℕ) → v.has ≡ Some c
         → ((new ≡ 0) × ((y : L) → may y.seed y.handed → (y.mine ≡ true → ⊥) → DueT y c → ReadyT y c')) ⊎ (new ≡ 2)
-        → R record { words = set s.words k new; homes = set s.homes k (some (Some c')); views =
-            set s.views id (emptied v new m) }
+        → R record {
+          words = set s.words k new;
+          homes = set s.homes k (some (Some c'));
+          views =
+              set s.views id (emptied v new m);
+        }
     puts_back c c' new m has turn = let w : V = emptied v new m in let h =
         (r.each_hand id v k at number).has c has in let one : x ≡ 1 = h.2 in
         let known' : new < 3 = ⊎_elim (λ t. let e = t.0 in omega arith) (λ e. omega arith) turn in
@@ -160,9 +195,12 @@ module _ {W S I O : Type 0} (stands : S → List I → List O → W → Type 0) 
                 known = known';
                 allowed = ok.allowed;
                 mine = λ m. let z : x ≡ 0 = ok.mine m in absurd (omega arith);
-                ready = λ z. ⊎_elim (λ t. inl
-                    (c', set_here s.homes k (some (Some c')) near, t.1 l ok.allowed
-                    (λ m. let z : x ≡ 0 = ok.mine m in absurd (omega arith)) due)) (λ two. absurd (omega arith)) turn;
+                ready = λ z. ⊎_elim (λ t. inl (
+                  c',
+                  set_here s.homes k (some (Some c')) near,
+                  t.1 l ok.allowed
+                      (λ m. let z : x ≡ 0 = ok.mine m in absurd (omega arith)) due,
+                )) (λ two. absurd (omega arith)) turn;
                 due = λ now. ⊎_elim (λ t. let e = t.0 in absurd (omega arith)) (λ two. absurd (omega arith)) turn;
               };
           others = λ q other h is. (h, is);
@@ -179,7 +217,7 @@ module _ {W S I O : Type 0} (stands : S → List I → List O → W → Type 0) 
   hand_loads n id k me number nothing near s r wide at small =
       let near' : k < length s.homes = omega arith in let lined : length r.main.lines ≡ length s.homes = r.lined in
       let t = there stands may r.main.lines k (omega arith) in let l : L = t.0 in let o = r.each_cell k l t.1 in
-          let y : ℕ = slice_index s.words k in
+      let y : ℕ = slice_index s.words k in
       dite (ℕ_discrete y 1)
       (λ one. ⊎_elim
       (λ h. let c : C = h.0 in let d = h.2 in (
@@ -187,14 +225,22 @@ module _ {W S I O : Type 0} (stands : S → List I → List O → W → Type 0) 
         takes_slot k (Some c),
         h.1,
         takes_it s r id k me.0 at number near' l t.1 one c d,
-        ((λ _. (c, refl, ((l.seed, d.0, l.back, d.2, subst (may l.seed) d.1 o.allowed), d.3))),
-            (λ no'. absurd (no' one)), o.known),
+        (
+          (λ _. (c, refl, ((l.seed, d.0, l.back, d.2, subst (may l.seed) d.1 o.allowed), d.3))),
+          (λ no'. absurd (no' one)),
+          o.known,
+        ),
       ))
       (λ h. absurd (h.4 (ap (λ (u : V). u.has) (holder s r id k me.0 at number near' l t.1 h.0 h.1 h.2 h.3)
-          ∙ nothing)))
+      ∙ nothing)))
       (o.due one))
-      (λ no'. (looked me.0 k y None, keeps, tt, leaves_it s r id k me.0 at number near' l t.1 no',
-          ((λ one. absurd (no' one)), (λ _. refl), o.known)))
+      (λ no'. (
+        looked me.0 k y None,
+        keeps,
+        tt,
+        leaves_it s r id k me.0 at number near' l t.1 no',
+        ((λ one. absurd (no' one)), (λ _. refl), o.known),
+      ))
 
   pub hand_stores : (n id k : ℕ) (me : M) (more : List (ℕ × Option C)) (c c' : C) (new : ℕ) → me.0.number ≡ Some k
       → k < n → me.1 ≡ (k, Some c') ∷ more → me.0.has ≡ Some c
@@ -206,8 +252,12 @@ module _ {W S I O : Type 0} (stands : S → List I → List O → W → Type 0) 
         emptied me.0 new (length c.items.items),
         gives,
         tt,
-        subst (λ (xs : List (ℕ × Option C)). R record { words = set s.words k new; homes =
-            put_back s.homes xs; views = set s.views id (emptied me.0 new (length c.items.items)) }) (sym holds)
+        subst (λ (xs : List (ℕ × Option C)). R record {
+          words = set s.words k new;
+          homes =
+              put_back s.homes xs;
+          views = set s.views id (emptied me.0 new (length c.items.items));
+        }) (sym holds)
             (puts_back s r id k me.0 at number near' t.0 t.1 c c' new (length c.items.items) has turn),
         (c, has, refl),
       )
@@ -218,7 +268,10 @@ module _ {W S I O : Type 0} (stands : S → List I → List O → W → Type 0) 
       → (y.mine ≡ true → ⊥) → DueT y c → ReadyT y c'
   due_ready c c' gave outs led count y allowed not_mine d =
       let all : c'.outs.items ≡ gave = outs ∙ ap (λ (xs : List O). xs ++ gave) d.3 in
-      let st = led y.seed d.0 y.back d.2 (subst (may y.seed) d.1 allowed) in
-      (subst (λ (xs : List I). stands y.seed xs (y.back ++ c'.outs.items) c'.work) (sym d.1)
-          (subst (λ (xs : List O). stands y.seed (d.0 ++ c.items.items) (y.back ++ xs) c'.work) (sym all) st), count
-          ∙ d.4, λ m. absurd (not_mine m))
+      let st = led y.seed d.0 y.back d.2 (subst (may y.seed) d.1 allowed) in (
+        subst (λ (xs : List I). stands y.seed xs (y.back ++ c'.outs.items) c'.work) (sym d.1)
+            (subst (λ (xs : List O). stands y.seed (d.0 ++ c.items.items) (y.back ++ xs) c'.work) (sym all) st),
+        count
+            ∙ d.4,
+        λ m. absurd (not_mine m),
+      )

@@ -27,9 +27,15 @@ module _ {W S I O : Type 0} (stands : S → List I → List O → W → Type 0) 
         (at_set s.views j i spent u e)
 
     out' : (k : ℕ) → Out s.views k → Out views' k
-    out' k o = (o.0, o.1, set_else s.views j o.0 spent
-        (λ e. o.4 (ap (λ (y : V). y.has)
-        (some-injective o.1 w (sym o.2 ∙ ap (λ (i : ℕ). get_elem? s.views i) e ∙ at)) ∙ nothing)) ∙ o.2, o.3, o.4)
+    out' k o = (
+      o.0,
+      o.1,
+      set_else s.views j o.0 spent
+          (λ e. o.4 (ap (λ (y : V). y.has)
+          (some-injective o.1 w (sym o.2 ∙ ap (λ (i : ℕ). get_elem? s.views i) e ∙ at)) ∙ nothing)) ∙ o.2,
+      o.3,
+      o.4,
+    )
 
     pub ends : R record { words = s.words; homes = s.homes; views = views' }
     ends = record {
@@ -40,8 +46,14 @@ module _ {W S I O : Type 0} (stands : S → List I → List O → W → Type 0) 
       lined = r.lined;
       has = r.has;
       each_cell = λ k l e. let ok = r.each_cell k l e in
-          record { known = ok.known; allowed = ok.allowed; mine = ok.mine; ready = ok.ready; due =
-          λ one. ⊎_elim (λ t. inl t) (λ o. inr (out' k o)) (ok.due one) };
+          record {
+            known = ok.known;
+            allowed = ok.allowed;
+            mine = ok.mine;
+            ready = ok.ready;
+            due =
+                λ one. ⊎_elim (λ t. inl t) (λ o. inr (out' k o)) (ok.due one);
+          };
       each_hand = λ i u k e num. r.each_hand i u k (was i u k e num) num;
       once = λ i i' u y k e f num num'. r.once i i' u y k (was i u k e num) (was i' y k f num') num num';
     }

@@ -91,10 +91,16 @@ module _ {W S I O : Type 0} (stands : S → List I → List O → W → Type 0) 
         (λ t. (u, t.1, refl)) (at_set s.views id j w u e)
 
     seen : (q : ℕ) → Out s.views q → q ≢ k → Out views' q
-    seen q o other = (o.0, o.1, set_else s.views id o.0 w
-        (λ e. other (m.only q (ap (λ (x : V). x.number)
-        (some-injective v o.1 (sym m.at ∙ ap (λ (i : ℕ). get_elem? s.views i) (sym e) ∙ o.2)) ∙ o.3)))
-        ∙ o.2, o.3, o.4)
+    seen q o other = (
+      o.0,
+      o.1,
+      set_else s.views id o.0 w
+          (λ e. other (m.only q (ap (λ (x : V). x.number)
+          (some-injective v o.1 (sym m.at ∙ ap (λ (i : ℕ). get_elem? s.views i) (sym e) ∙ o.2)) ∙ o.3)))
+          ∙ o.2,
+      o.3,
+      o.4,
+    )
 
     at_home : (q : ℕ) (P : C → Type 0) → q ≢ k → Rests s.homes q P → Rests homes' q P
     at_home q P other t = (t.0, m.homes q other ∙ t.1, t.2)
@@ -103,13 +109,13 @@ module _ {W S I O : Type 0} (stands : S → List I → List O → W → Type 0) 
         → CellOk stands may homes' views' main' q (slice_index words' q) l
     other_cell q l other e = let ok = r.each_cell q l (sym (m.lines q other) ∙ e) in let same =
         get_or-set_other s.words k q n 0 other in record {
-      known = subst (λ (x : ℕ). x < 3) (sym same) ok.known;
-      allowed = ok.allowed;
-      mine = λ y. same ∙ ok.mine y;
-      ready = λ z. ⊎_elim (λ t. inl (at_home q (ReadyT l) other t)) (λ t. inr (m.others q other t.0 t.1))
-          (ok.ready (sym same ∙ z));
-      due = λ z. ⊎_elim (λ t. inl (at_home q (DueT l) other t)) (λ o. inr (seen q o other)) (ok.due (sym same ∙ z));
-    }
+          known = subst (λ (x : ℕ). x < 3) (sym same) ok.known;
+          allowed = ok.allowed;
+          mine = λ y. same ∙ ok.mine y;
+          ready = λ z. ⊎_elim (λ t. inl (at_home q (ReadyT l) other t)) (λ t. inr (m.others q other t.0 t.1))
+              (ok.ready (sym same ∙ z));
+          due = λ z. ⊎_elim (λ t. inl (at_home q (DueT l) other t)) (λ o. inr (seen q o other)) (ok.due (sym same ∙ z));
+        }
 
     same_word : slice_index words' k ≡ n
     same_word = let near : k < length s.homes = m.near in let wide : length s.words ≡ length s.homes = r.wide in
@@ -136,10 +142,10 @@ module _ {W S I O : Type 0} (stands : S → List I → List O → W → Type 0) 
           has = ⊎_elim
               (λ t c h. let is : q ≡ k = m.only q (sym m.same_number ∙ ap (λ (x : V). x.number) t.1 ∙ num) in
               subst (λ (x : ℕ). Has stands words' main'.lines x 1 c DueT) (sym is)
-                  (m.mine c (ap (λ (x : V). x.number) t.1 ∙ num ∙ ap Some is) (ap (λ (x : V). x.has) t.1 ∙ h)))
+              (m.mine c (ap (λ (x : V). x.number) t.1 ∙ num ∙ ap Some is) (ap (λ (x : V). x.has) t.1 ∙ h)))
               (λ t c h. dite d (λ is. subst (λ (x : ℕ). Has stands words' main'.lines x 1 c DueT) (sym is)
-                  (m.kept j u c t.0 t.1 (num ∙ ap Some is) h))
-                  (λ other. has_of u q c other ((r.each_hand j u q t.1 num).has c h)))
+              (m.kept j u c t.0 t.1 (num ∙ ap Some is) h))
+              (λ other. has_of u q c other ((r.each_hand j u q t.1 num).has c h)))
               (at_set s.views id j w u e);
         }
 
@@ -186,10 +192,15 @@ module _ {W S I O : Type 0} (stands : S → List I → List O → W → Type 0) 
   -- who has the cell still has it, where another seat moves
   pub still_out : (views : List V) (id : ℕ) (v w : V) (k : ℕ) → get_elem? views id ≡ some v → v.number ≡ None
       → Out views k → Out (set views id w) k
-  still_out views id v w k at num o =
-      (o.0, o.1, set_else views id o.0 w
-      (λ e. no_number v k num (ap (λ (x : V). x.number)
-      (some-injective v o.1 (sym at ∙ ap (λ (i : ℕ). get_elem? views i) (sym e) ∙ o.2)) ∙ o.3)) ∙ o.2, o.3, o.4)
+  still_out views id v w k at num o = (
+    o.0,
+    o.1,
+    set_else views id o.0 w
+        (λ e. no_number v k num (ap (λ (x : V). x.number)
+        (some-injective v o.1 (sym at ∙ ap (λ (i : ℕ). get_elem? views i) (sym e) ∙ o.2)) ∙ o.3)) ∙ o.2,
+    o.3,
+    o.4,
+  )
 
   module _ (s : St) (r : R s) (k : ℕ) (v : V) (at : get_elem? s.views 0 ≡ some v) (none : v.has ≡ None)
       (near : k < length s.homes) (l : L) (line : get_elem? v.lines k ≡ some l) where
@@ -216,35 +227,54 @@ module _ {W S I O : Type 0} (stands : S → List I → List O → W → Type 0) 
     first_seat = within s.views 0 v at
 
     pub takes_back : x ≡ 0 → (c : C) → ReadyT l c
-        → R record { words = set s.words k x; homes = set s.homes k maybe.none; views =
-        set s.views 0 (looked v k x (Some c)) }
+        → R record {
+          words = set s.words k x;
+          homes = set s.homes k maybe.none;
+          views =
+              set s.views 0 (looked v k x (Some c));
+        }
     takes_back z c ready = let w : V = looked v k x (Some c) in
         moved s r k x 0 (set s.homes k maybe.none) v w w record {
-      at = at;
-      near = near;
-      long = length-set s.homes k maybe.none;
-      homes = λ q other. set_else s.homes k q maybe.none other;
-      first = set_here s.views 0 w first_seat;
-      no_hand = no_hand_main;
-      same_number = refl;
-      made = ap (λ (u : V). u.made) (sym is_main);
-      lined = ap (λ (u : V). length u.lines) (sym is_main);
-      lines = λ q other. ap (λ (u : V). get_elem? u.lines q) (sym is_main);
-      has = λ c' e. (l, line, ap (λ (ws : List ℕ). slice_index ws k) words_same
-          ∙ z, subst (ReadyT l) (some_inj c c' e) ready);
-      here = λ l' e. subst (λ (y : L). CellOk stands may (set s.homes k maybe.none) (set s.views 0 w) w k x y)
-          (some-injective l l' (sym line ∙ e))
-          record { known = ok.known; allowed = ok.allowed; mine = ok.mine; ready =
-              λ _. inr (some_is (Some c) c refl, refl); due = λ one. absurd (omega arith) };
-      others = λ q other has is. absurd (has nothing);
-      only = λ q num. absurd (no_number v q no_hand_main num);
-      mine = λ c' num has. absurd (no_number v k no_hand_main num);
-      kept = λ j u c' other at' num has. let h = (r.each_hand j u k at' num).has c' has in let one : x ≡ 1 = h.2 in
-          absurd (omega arith);
-    }
+          at = at;
+          near = near;
+          long = length-set s.homes k maybe.none;
+          homes = λ q other. set_else s.homes k q maybe.none other;
+          first = set_here s.views 0 w first_seat;
+          no_hand = no_hand_main;
+          same_number = refl;
+          made = ap (λ (u : V). u.made) (sym is_main);
+          lined = ap (λ (u : V). length u.lines) (sym is_main);
+          lines = λ q other. ap (λ (u : V). get_elem? u.lines q) (sym is_main);
+          has = λ c' e. (
+            l,
+            line,
+            ap (λ (ws : List ℕ). slice_index ws k) words_same
+                ∙ z,
+            subst (ReadyT l) (some_inj c c' e) ready,
+          );
+          here = λ l' e. subst (λ (y : L). CellOk stands may (set s.homes k maybe.none) (set s.views 0 w) w k x y)
+              (some-injective l l' (sym line ∙ e))
+              record {
+                known = ok.known;
+                allowed = ok.allowed;
+                mine = ok.mine;
+                ready =
+                    λ _. inr (some_is (Some c) c refl, refl);
+                due = λ one. absurd (omega arith);
+              };
+          others = λ q other has is. absurd (has nothing);
+          only = λ q num. absurd (no_number v q no_hand_main num);
+          mine = λ c' num has. absurd (no_number v k no_hand_main num);
+          kept = λ j u c' other at' num has. let h = (r.each_hand j u k at' num).has c' has in let one : x ≡ 1 = h.2 in
+              absurd (omega arith);
+        }
 
-    pub leaves_it : x ≢ 0 → R record { words = set s.words k x; homes = s.homes; views =
-        set s.views 0 (looked v k x None) }
+    pub leaves_it : x ≢ 0 → R record {
+      words = set s.words k x;
+      homes = s.homes;
+      views =
+          set s.views 0 (looked v k x None);
+    }
     leaves_it nz = let w : V = looked v k x None in moved s r k x 0 s.homes v w w record {
       at = at;
       near = near;
@@ -259,14 +289,24 @@ module _ {W S I O : Type 0} (stands : S → List I → List O → W → Type 0) 
       has = λ c e. absurd (none-some c e);
       here = λ l' e. subst (λ (y : L). CellOk stands may s.homes (set s.views 0 w) w k x y)
           (some-injective l l' (sym line ∙ e))
-          record { known = ok.known; allowed = ok.allowed; mine = ok.mine; ready = λ z. absurd (nz z); due =
-              λ one. ⊎_elim (λ t. inl t) (λ o. inr (still_out s.views 0 v w k at no_hand_main o)) (ok.due one) };
+          record {
+            known = ok.known;
+            allowed = ok.allowed;
+            mine = ok.mine;
+            ready = λ z. absurd (nz z);
+            due =
+                λ one. ⊎_elim (λ t. inl t) (λ o. inr (still_out s.views 0 v w k at no_hand_main o)) (ok.due one);
+          };
       others = λ q other has is. absurd (has nothing);
       only = λ q num. absurd (no_number v q no_hand_main num);
       mine = λ c' num has. absurd (no_number v k no_hand_main num);
-      kept = λ j u c' other at' num has. let h = (r.each_hand j u k at' num).has c' has in
-          (h.0, ap (λ (y : V). get_elem? y.lines k) (sym is_main)
-          ∙ h.1, ap (λ (ws : List ℕ). slice_index ws k) words_same ∙ h.2, h.3);
+      kept = λ j u c' other at' num has. let h = (r.each_hand j u k at' num).has c' has in (
+        h.0,
+        ap (λ (y : V). get_elem? y.lines k) (sym is_main)
+            ∙ h.1,
+        ap (λ (ws : List ℕ). slice_index ws k) words_same ∙ h.2,
+        h.3,
+      );
     }
 
   abbrev M : Type 0
@@ -280,25 +320,34 @@ module _ {W S I O : Type 0} (stands : S → List I → List O → W → Type 0) 
       let t = there me.0.lines k (omega arith) in let l : L = t.0 in
       let o = ok s r k me.0 at' none_held near' l t.1 in let y : ℕ = slice_index s.words k in
       subst (λ (i : ℕ). (w : V) × (a : Act (Option C)) × Valid s.homes me.1 a
-          × R record { words = set s.words k y; homes = homes_after s.homes me.1 a; views = set s.views i w }
-          × main_looks stands (step n k 0 0 none) me y (w, carried_after me.1 a)) (sym is_first) (
+      × R record { words = set s.words k y; homes = homes_after s.homes me.1 a; views = set s.views i w }
+      × main_looks stands (step n k 0 0 none) me y (w, carried_after me.1 a)) (sym is_first) (
       dite (ℕ_discrete y 0)
       (λ z. ⊎_elim
-      (λ h. let c : C = h.0 in
-          (looked me.0 k y (Some c), takes k (Some c), h.1, takes_back s r k me.0 at' none_held near' l t.1 z c h.2,
-          (((λ _. (c, refl, (l, t.1, h.2))), (λ nz. absurd (nz z)), o.known), (λ nz. absurd (nz z)))))
+      (λ h. let c : C = h.0 in (
+        looked me.0 k y (Some c),
+        takes k (Some c),
+        h.1,
+        takes_back s r k me.0 at' none_held near' l t.1 z c h.2,
+        (((λ _. (c, refl, (l, t.1, h.2))), (λ nz. absurd (nz z)), o.known), (λ nz. absurd (nz z))),
+      ))
       (λ h. absurd (h.0 (nothing s r k me.0 at' none_held near' l t.1)))
       (o.ready z))
-      (λ nz. (looked me.0 k y None, keeps, tt, leaves_it s r k me.0 at' none_held near' l t.1 nz,
-          (((λ z. absurd (nz z)), (λ _. refl), o.known), (λ _. (l, t.1, not_true l.mine (λ e. nz (o.mine e))))))))
+      (λ nz. (
+        looked me.0 k y None,
+        keeps,
+        tt,
+        leaves_it s r k me.0 at' none_held near' l t.1 nz,
+        (((λ z. absurd (nz z)), (λ _. refl), o.known), (λ _. (l, t.1, not_true l.mine (λ e. nz (o.mine e))))),
+      )))
 
   -- main's store
   module _ (s : St) (r : R s) (k : ℕ) (v : V) (at : get_elem? s.views 0 ≡ some v) (near : k < length s.homes) (l : L)
       (line : get_elem? v.lines k ≡ some l)
       (c c' : C) (has : v.has ≡ Some c) (cell : v.cell ≡ k) (work : c'.work ≡ c.work) (outs : c'.outs.items ≡ [])
-          (count : c'.count ≡ length c'.items.items)
+      (count : c'.count ≡ length c'.items.items)
       (allowed : may l.seed (l.handed ++ c'.items.items)) (new : ℕ)
-          (turn : ((new ≡ 0) × (c'.items.items ≡ [])) ⊎ ((new ≡ 1) × (c'.items.items ≢ []))) where
+      (turn : ((new ≡ 0) × (c'.items.items ≡ [])) ⊎ ((new ≡ 1) × (c'.items.items ≢ []))) where
     main_v : r.main ≡ v
     main_v = some-injective r.main v (sym r.first ∙ at)
 
@@ -326,8 +375,8 @@ module _ {W S I O : Type 0} (stands : S → List I → List O → W → Type 0) 
           subst (λ (xs : List I). stands l.seed xs ((l.back ++ c.outs.items) ++ c'.outs.items) c'.work)
               (sym (ap (λ (xs : List I). l.handed ++ xs) t.1 ∙ append-nil l.handed))
               (subst (λ (xs : List O). stands l.seed l.handed xs c'.work)
-                  (sym (ap (λ (xs : List O). (l.back ++ c.outs.items) ++ xs) outs
-                  ∙ append-nil (l.back ++ c.outs.items))) stood),
+              (sym (ap (λ (xs : List O). (l.back ++ c.outs.items) ++ xs) outs
+              ∙ append-nil (l.back ++ c.outs.items))) stood),
           count,
           λ _. outs,
         ))
@@ -336,8 +385,12 @@ module _ {W S I O : Type 0} (stands : S → List I → List O → W → Type 0) 
     mine_next : (new == 0) ≡ true → new ≡ 0
     mine_next e = eqb-true new 0 e
 
-    pub hands : R record { words = set s.words k new; homes = set s.homes k (some (Some c')); views =
-        set s.views 0 (with_line v k next_line) }
+    pub hands : R record {
+      words = set s.words k new;
+      homes = set s.homes k (some (Some c'));
+      views =
+          set s.views 0 (with_line v k next_line);
+    }
     hands = let w : V = with_line v k next_line in let near_line : k < length v.lines = within v.lines k l line in
         let home = set_here s.homes k (some (Some c')) near in
         moved s r k new 0 (set s.homes k (some (Some c'))) v w w record {
@@ -355,9 +408,15 @@ module _ {W S I O : Type 0} (stands : S → List I → List O → W → Type 0) 
           here = λ l' e. subst (λ (y : L). CellOk stands may (set s.homes k (some (Some c')))
               (set s.views 0 w) w k new y)
               (some-injective next_line l' (sym (set_here v.lines k next_line near_line) ∙ e))
-              record { known = below_three; allowed = allowed; mine = mine_next; ready =
-                  λ z. inl (c', home, ready_next z); due =
-                  λ one. inl (c', home, (l.handed, refl, stood, outs, count)) };
+              record {
+                known = below_three;
+                allowed = allowed;
+                mine = mine_next;
+                ready =
+                    λ z. inl (c', home, ready_next z);
+                due =
+                    λ one. inl (c', home, (l.handed, refl, stood, outs, count));
+              };
           others = λ q other h is. absurd (other (sym is ∙ ap (λ (u : V). u.cell) main_v ∙ cell));
           only = λ q num. absurd (no_number v q no_number_v num);
           mine = λ y num h. absurd (no_number v k no_number_v num);
@@ -368,21 +427,25 @@ module _ {W S I O : Type 0} (stands : S → List I → List O → W → Type 0) 
   pub main_stores : (n id k : ℕ) (me : M) (more : List (ℕ × Option C)) (l : L) (c c' : C) (new : ℕ) → id ≡ 0 → k < n
       → me.1 ≡ (k, Some c') ∷ more → get_elem? me.0.lines k ≡ some l → me.0.has ≡ Some c → me.0.cell ≡ k
       → c'.work ≡ c.work → c'.outs.items ≡ [] → c'.count ≡ length c'.items.items
-          → may l.seed (l.handed ++ c'.items.items)
-          → ((new ≡ 0) × (c'.items.items ≡ [])) ⊎ ((new ≡ 1) × (c'.items.items ≢ []))
+      → may l.seed (l.handed ++ c'.items.items)
+      → ((new ≡ 0) × (c'.items.items ≡ [])) ⊎ ((new ≡ 1) × (c'.items.items ≢ []))
       → Allows R n id me k (λ _. new) (λ _ m'. hands_over (step n k new 0 none) me new m')
   main_stores n id k me more l c c' new is_first near holds line has cell work outs count allowed turn s r wide at small =
       let at' : get_elem? s.views 0 ≡ some me.0 = ap (λ (i : ℕ). get_elem? s.views i) (sym is_first)
-          ∙ at in let near' : k < length s.homes = omega arith in
+      ∙ at in let near' : k < length s.homes = omega arith in
       let w : V = with_line me.0 k (handed_over l c c' new) in
       subst (λ (i : ℕ). (w : V) × (a : Act (Option C)) × Valid s.homes me.1 a
-          × R record { words = set s.words k new; homes = homes_after s.homes me.1 a; views = set s.views i w }
-          × hands_over (step n k new 0 none) me new (w, carried_after me.1 a)) (sym is_first) (
+      × R record { words = set s.words k new; homes = homes_after s.homes me.1 a; views = set s.views i w }
+      × hands_over (step n k new 0 none) me new (w, carried_after me.1 a)) (sym is_first) (
         w,
         gives,
         tt,
-        subst (λ (xs : List (ℕ × Option C)). R record { words = set s.words k new; homes =
-            put_back s.homes xs; views = set s.views 0 w }) (sym holds)
+        subst (λ (xs : List (ℕ × Option C)). R record {
+          words = set s.words k new;
+          homes =
+              put_back s.homes xs;
+          views = set s.views 0 w;
+        }) (sym holds)
             (hands s r k me.0 at' near' l line c c' has cell work outs count allowed new turn),
         (l, c, c', line, has, holds ∙ ap (λ xs. (k, Some c') ∷ rest xs) (sym holds), refl),
       )

@@ -5,4 +5,4 @@ pub mod Opens
 pub mod Swaps
 pub mod Closes
 pub mod Joined
-pub mod Derived
+pub mod WorkLemmas

@@ -3,7 +3,7 @@ use Rattle.std.proofs.Common.{◌≡◌, ◌≢◌, ◌⊎◌, ℕ, suc, zero, �
 use Rattle.std.proofs.lemmas.List.{length-map}
 use mathlib.Core.Option.{some, some-injective, some-ne-none}
 use lib.ListN.{get_elem?}
-use Rattle.std.specs.Prelude.{slice_index}
+use Rattle.std.specs.Prelude.{slice_index, All}
 use Rattle.std.proofs.lemmas.Option.{none-some}
 use Rattle.atomic_table.specs.Table.{State, opening, Splits}
 use Rattle.atomic_table.proofs.Lists.{at_set, set_here, at_longer, at_map}
@@ -49,14 +49,17 @@ module _ {W S I O : Type 0} (stands : S → List I → List O → W → Type 0) 
 
   fresh_ready : (s : S) (w : W) (c : C) → stands s [] [] w → c.work ≡ w → c.count ≡ 0 → c.outs.items ≡ []
       → Ready stands (started s) c
-  fresh_ready s w c st work count outs =
-      (subst (λ (y : W). stands s [] c.outs.items y) (sym work)
-      (subst (λ (xs : List O). stands s [] xs w) (sym outs) st), count, λ _. outs)
+  fresh_ready s w c st work count outs = (
+    subst (λ (y : W). stands s [] c.outs.items y) (sym work)
+        (subst (λ (xs : List O). stands s [] xs w) (sym outs) st),
+    count,
+    λ _. outs,
+  )
 
   pub opens : (seed : W → S) (works : List W) (words : List ℕ) (slots : List (Option C)) → ((s : S) → may s [])
       → ((k : ℕ) (w : W) → get_elem? works k ≡ some w → stands (seed w) [] [] w)
       → length words ≡ length works → ((k : ℕ) → k < length words → slice_index words k ≡ 0)
-          → length slots ≡ length works → ((k : ℕ) (w : W) → get_elem? works k ≡ some w → IsFresh slots k w)
+      → length slots ≡ length works → ((k : ℕ) (w : W) → get_elem? works k ≡ some w → IsFresh slots k w)
       → R (opening words slots (first_view seed works))
   opens seed works words slots none_may starts long zeros wide fresh =
       let main : V = first_view seed works in let homes = length-map slots some in record {
@@ -74,8 +77,12 @@ module _ {W S I O : Type 0} (stands : S → List I → List O → W → Type 0) 
               known = (let z : slice_index words k ≡ 0 = zero_word in omega arith);
               allowed = none_may (seed w);
               mine = λ _. zero_word;
-              ready = λ _. inl (f.0, at_map some slots k (Some f.0) f.1, fresh_ready (seed w) w f.0
-                  (starts k w t.1) f.2 f.3 f.4);
+              ready = λ _. inl (
+                f.0,
+                at_map some slots k (Some f.0) f.1,
+                fresh_ready (seed w) w f.0
+                    (starts k w t.1) f.2 f.3 f.4,
+              );
               due = λ one. let z : slice_index words k ≡ 0 = zero_word in absurd (omega arith);
             };
         each_hand = λ j v k at num. absurd (alone main j v k refl at num);
@@ -108,10 +115,14 @@ module _ {W S I O : Type 0} (stands : S → List I → List O → W → Type 0) 
     split j u k e num = ⊎_elim
         (λ t. ⊎_elim (λ h. absurd (none-some k (sym no_number_v ∙ ap (λ (y : V). y.number) h.1 ∙ num)))
         (λ h. let b : k < r.main.made = (r.each_hand j u k h.1 num).below in
-            inl (h.1, subst (λ (y : V). k < y.made) is_main b))
+        inl (h.1, subst (λ (y : V). k < y.made) is_main b))
         (at_set s.views 0 j main' u t))
-        (λ t. inr (t.0, sym (some_inj v.made k (ap (λ (y : V). y.number) t.1 ∙ num)), ap (λ (y : V). y.has)
-            (sym t.1)))
+        (λ t. inr (
+          t.0,
+          sym (some_inj v.made k (ap (λ (y : V). y.number) t.1 ∙ num)),
+          ap (λ (y : V). y.has)
+              (sym t.1),
+        ))
         (at_end (set s.views 0 main') (new_hand v) u j e)
 
     out' : (k : ℕ) → Out s.views k → Out views' k
@@ -138,22 +149,35 @@ module _ {W S I O : Type 0} (stands : S → List I → List O → W → Type 0) 
       };
       each_hand = λ j u k e num. ⊎_elim
           (λ t. let old = r.each_hand j u k t.0 num in let b : k < v.made = t.1 in
-              record { below = omega arith; has =
-              λ c h. subst (λ (y : V). Has stands s.words y.lines k 1 c (Due stands)) is_main (old.has c h) })
+          record {
+            below = omega arith;
+            has =
+                λ c h. subst (λ (y : V). Has stands s.words y.lines k 1 c (Due stands)) is_main (old.has c h);
+          })
           (λ t. let is : k ≡ v.made = t.1 in
-              record { below = omega arith; has = λ c h. absurd (none-some c (sym t.2 ∙ h)) })
+          record { below = omega arith; has = λ c h. absurd (none-some c (sym t.2 ∙ h)) })
           (split j u k e num);
       once = λ i j u y k e f num num'. ⊎_elim
           (λ t. ⊎_elim (λ t'. r.once i j u y k t.0 t'.0 num num')
-              (λ t'. let a : k < v.made = t.1 in let b : k ≡ v.made = t'.1 in absurd (omega arith))
-              (split j y k f num'))
+          (λ t'. let a : k < v.made = t.1 in let b : k ≡ v.made = t'.1 in absurd (omega arith))
+          (split j y k f num'))
           (λ t. ⊎_elim (λ t'. let a : k < v.made = t'.1 in let b : k ≡ v.made = t.1 in absurd (omega arith))
-              (λ t'. t.0 ∙ sym t'.0) (split j y k f num'))
+          (λ t'. t.0 ∙ sym t'.0) (split j y k f num'))
           (split i u k e num);
     }
 
   pub new_hands : (id : ℕ) (v : V) → id ≡ 0 → Splits R id v (one_more v) (new_hand v)
   new_hands id v is_first s r at =
-      subst (λ (i : ℕ). R record { words = s.words; homes = s.homes; views =
-      set s.views i (one_more v) ++ new_hand v ∷ [] }) (sym is_first)
+      subst (λ (i : ℕ). R record {
+        words = s.words;
+        homes = s.homes;
+        views =
+            set s.views i (one_more v) ++ new_hand v ∷ [];
+      }) (sym is_first)
       (splits s r v (ap (λ (i : ℕ). get_elem? s.views i) (sym is_first) ∙ at))
+
+-- what holds in each place holds of each
+pub all_at : {A : Type 0} (P : A → Type 0) (xs : List A) → ((k : ℕ) (x : A) → get_elem? xs k ≡ some x → P x) → All P xs
+all_at P [] f k d near = absurd (omega arith)
+all_at P (x ∷ xs) f zero d near = f 0 x refl
+all_at P (x ∷ xs) f (suc k) d near = all_at P xs (λ j y e. f (suc j) y e) k d (omega arith)

@@ -51,7 +51,7 @@ module _ {W S I O : Type 0} (stands : S → List I → List O → W → Type 0) 
       → me3 ≡ (looked m0.0 k 0 (Some cf), (k, Some c') ∷ m0.1) → hands_over (step n k a 0 none) me3 a me4
       → ReadyAt stands m0.0.lines k cf
       → (count : ℕ) (outs : List O) (items : List I) → count ≡ cf.count → outs ≡ cf.outs.items
-          → c'.items.items ≡ items
+      → c'.items.items ≡ items
       → (a == 0) ≡ (length items == 0)
       → LooksOnce m0.0 k 0 me4.0 × ((l : Line S I O) × (get_elem? m0.0.lines k ≡ some l) × (count ≡ l.last)
       × told l.seed l.handed (l.back ++ outs)

@@ -41,7 +41,11 @@ module _ {W S I O : Type 0} where
   IsHandOf hub hand = (hand.seat.table_id ≡ hub_id hub) × (hand.seat.me.1 ≡ []) × ((hand_view hand).has ≡ None)
       × ((hand_view hand).number ≡ Some (hand_cell hand)) × (hand_cell hand < cell_count hub)
 
-  -- each is the hand of the cell of its place
+  -- they are the hands of the cells, in the order of the cells
+  abbrev pub AreInOrder : List (Hand W I O S) → Type 0
+  AreInOrder hands = (k : ℕ) (h : Hand W I O S) → get_elem? hands k ≡ some h → hand_cell h ≡ k
+
+  -- each is the hub's hand of the cell of its place
   abbrev pub AreHands : Hub W I O S → List (Hand W I O S) → Type 0
   AreHands hub hands = (k : ℕ) (h : Hand W I O S) → get_elem? hands k ≡ some h → (hand_cell h ≡ k) × IsHandOf hub h
 

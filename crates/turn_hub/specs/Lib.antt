@@ -1,5 +1,6 @@
 -- The definitions that the contracts cite, in reading order.
 pub mod Work
+pub mod Laws
 pub mod Rule
 pub mod Steps
 pub mod Ends

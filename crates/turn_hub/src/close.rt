@@ -1,8 +1,8 @@
 //! How a hub is closed.
 
-ghost use Rattle.std.specs.Prelude.{◌≡◌, ◌≤◌, [], length, vec_capacity, IfOk};
+ghost use Rattle.std.specs.Prelude.{◌≡◌, ◌≤◌, [], vec_capacity, All, IfOk};
 ghost use Rattle.std.specs.Mem.Slots.{slots_items, slots_len, IsFull};
-ghost use Rattle.turn_hub.specs.Ends.{IsMainOf, AreHands, AllMine, Closes, Works, StandEach, cell_count, main_view};
+ghost use Rattle.turn_hub.specs.Ends.{IsMainOf, IsHandOf, AllMine, Closes, Works, StandEach, main_view};
 
 use crate::hub::{Hand, Hub, Main};
 use crate::plays::{JoinHand, Place};
@@ -26,9 +26,10 @@ fn works_of<W: Work>(mut closed: Closed<Place<W>, Global>, works: &mut Vec<W>)
 }
 
 impl<W: Work> Hub<W> {
+    // Main takes the hands in.
     fn join_hands(&self, main: &mut Main<W>, hands: Vec<Hand<W>>)
         requires main { IsMainOf self.now main.old }
-        requires hands { AreHands self.now hands.items }
+        requires hands { All (λ h. IsHandOf self.now h) hands.items }
         ensures { IsMainOf self.now main.new × (main_view main.new ≡ main_view main.old) }
     {
         for hand in hands {
@@ -38,7 +39,7 @@ impl<W: Work> Hub<W> {
         }
     }
 
-    /// The works, in the order of the cells. Main must have left all turns with itself.
+    /// The works, in the order of the cells. The hands are given up.
     pub fn close(
         self,
         alloc: Global,
@@ -46,7 +47,7 @@ impl<W: Work> Hub<W> {
         hands: Vec<Hand<W>>,
     ) -> Result<Vec<W>, AllocError>
         requires main { IsMainOf self main × AllMine (main_view main) }
-        requires hands { (length hands.items ≡ cell_count self) × AreHands self hands.items }
+        requires hands { All (λ h. IsHandOf self h) hands.items }
         ensures { IfOk result (λ works. StandEach W.stands (main_view main).lines works.items) }
     {
         let mut works = Vec::with_capacity(alloc, self.table.slot_count())?;

@@ -4,6 +4,7 @@
 
 mod close;
 mod hub;
+pub mod laws;
 mod open;
 mod plays;
 mod serve;

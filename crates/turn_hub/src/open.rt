@@ -1,10 +1,10 @@
 //! How a hub is opened.
 
-ghost use Rattle.std.specs.Prelude.{◌≡◌, ◌<◌, ◌≤◌, ◌^◌, ℕ, [], length, vec_capacity, map, IfOk};
+ghost use Rattle.std.specs.Prelude.{◌≡◌, ◌<◌, ◌≤◌, ◌^◌, ℕ, [], length, vec_capacity, map, All, IfOk};
 ghost use mathlib.Core.Option.{some};
 ghost use lib.ListN.{get_elem?};
 ghost use Rattle.turn_hub.specs.Steps.{one_more, started};
-ghost use Rattle.turn_hub.specs.Ends.{IsMainOf, IsHandOf, AreHands, IsFresh, Starts, cell_count, hand_cell, main_view};
+ghost use Rattle.turn_hub.specs.Ends.{IsMainOf, IsHandOf, AreHands, AreInOrder, IsFresh, Starts, cell_count, hand_cell, main_view};
 
 use crate::hub::{Hand, Hub, Main};
 use crate::plays::{MakeHand, Place};
@@ -46,24 +46,25 @@ impl<W: Work> Hub<W> {
         }
     }
 
-    // The next hand, whose cell is `k`.
-    fn next_hand(&self, main: &mut Main<W>, k: u32) -> Hand<W>
-        requires { IsMainOf self.now main.old × ((main_view main.old).made ≡ k) × (k < cell_count self.now) }
+    // The next hand, whose cell has this number.
+    fn next_hand(&self, main: &mut Main<W>, number: u32) -> Hand<W>
+        requires { IsMainOf self.now main.old × ((main_view main.old).made ≡ number) × (number < cell_count self.now) }
         ensures main { IsMainOf self.now main.new × (main_view main.new ≡ one_more (main_view main.old)) }
-        ensures hand { (hand_cell result ≡ k) × IsHandOf self.now result }
+        ensures hand { (hand_cell result ≡ number) × IsHandOf self.now result }
     {
         let seat = self.table.shared.split_seat::<MakeHand>(&mut main.seat);
-        Hand { seat, cell: k }
+        Hand { seat, cell: number }
     }
 
+    // A hand for each cell, in the order of the cells.
     fn all_hands(&self, main: &mut Main<W>, count: u32, hands: &mut Vec<Hand<W>>)
         requires main { IsMainOf self.now main.old × ((main_view main.old).made ≡ 0) × (count ≡ cell_count self.now) }
         requires room { (hands.old.items ≡ []) × (count ≤ vec_capacity hands.old) }
         ensures main { IsMainOf self.now main.new × ((main_view main.new).lines ≡ (main_view main.old).lines) }
         ensures hands { (length hands.new.items ≡ count) × AreHands self.now hands.new.items }
     {
-        for k in 0..count {
-            hands.push_reserved(self.next_hand(main, k));
+        for number in 0..count {
+            hands.push_reserved(self.next_hand(main, number));
         }
     }
 
@@ -72,7 +73,7 @@ impl<W: Work> Hub<W> {
         requires count { (0 < length works.items) × (length works.items < 2 ^ 32) }
         requires starts { Starts W.stands W.seed works.items }
         ensures main { IfOk result (λ r. (cell_count r.0 ≡ length works.items) × IsMainOf r.0 r.1 × ((main_view r.1).lines ≡ map (λ w. started (W.seed w)) works.items)) }
-        ensures hands { IfOk result (λ r. (length r.2.items ≡ length works.items) × AreHands r.0 r.2.items) }
+        ensures hands { IfOk result (λ r. (length r.2.items ≡ length works.items) × AreInOrder r.2.items × All (λ h. IsHandOf r.0 h) r.2.items) }
     {
         let count = works.len() as u32;
         let mut hands = Vec::with_capacity(alloc, works.len())?;

@@ -42,24 +42,24 @@ impl<W: Work> Hub<W> {
         ensures did { ServedAs (hand_view hand.old) (hand_cell hand.old) result (hand_view hand.new) }
     {
         let shared = &self.table.shared;
-        let k = hand.cell as usize;
-        let found = shared.load::<HandLook<W>>(&mut hand.seat, k);
+        let place = hand.cell as usize;
+        let found = shared.load::<HandLook<W>>(&mut hand.seat, place);
         if found != 1 {
             return Served::NotGiven;
         }
-        let Some(mut cell) = shared.exchange(&mut hand.seat, k, None) else {
+        let Some(mut cell) = shared.exchange(&mut hand.seat, place, None) else {
             unreachable!()
         };
         let given = cell.items.len() as u64;
         let done = work_all(alloc, &mut cell, gate, hand.cell);
-        drop(shared.exchange(&mut hand.seat, k, Some(cell)));
+        drop(shared.exchange(&mut hand.seat, place, Some(cell)));
         match done {
             Ok(()) => {
-                shared.store::<GiveBack>(&mut hand.seat, k, 0);
+                shared.store::<GiveBack>(&mut hand.seat, place, 0);
                 Served::Worked(given)
             }
             Err(_) => {
-                shared.store::<GiveBack>(&mut hand.seat, k, 2);
+                shared.store::<GiveBack>(&mut hand.seat, place, 2);
                 Served::Memory
             }
         }

@@ -30,28 +30,33 @@ fn refill<W, I: Drop, O>(cell: &mut Cell<W, I, O>, items: Vec<I>, none: Vec<O>) 
 impl<W: Work> Hub<W> {
     /// Takes back all that the cell gave, and hands the items over. Without items the turn stays main's.
     /// Waits for nobody, and takes no memory.
-    pub fn swap(&self, main: &mut Main<W>, k: u32, items: Vec<W::Item>) -> Swap<W::Item, W::Out>
-        requires main { IsMainOf self.now main.old × (k < cell_count self.now) }
-        requires may { MayHand W.may (main_view main.old) k items.items }
+    pub fn swap(
+        &self,
+        main: &mut Main<W>,
+        number: u32,
+        items: Vec<W::Item>,
+    ) -> Swap<W::Item, W::Out>
+        requires main { IsMainOf self.now main.old × (number < cell_count self.now) }
+        requires may { MayHand W.may (main_view main.old) number items.items }
         ensures main { IsMainOf self.now main.new }
-        ensures did { Swapped W.told k items.items (main_view main.old) result (main_view main.new) }
+        ensures did { Swapped W.told number items.items (main_view main.old) result (main_view main.new) }
     {
         let shared = &self.table.shared;
-        let number = k as usize;
-        let found = shared.load::<MainLook<W>>(&mut main.seat, number);
+        let place = number as usize;
+        let found = shared.load::<MainLook<W>>(&mut main.seat, place);
         if found == 1 {
             return Swap::NotYet(items);
         }
         if found != 0 {
             return Swap::Broken(items);
         }
-        let Some(mut cell) = shared.exchange(&mut main.seat, number, None) else {
+        let Some(mut cell) = shared.exchange(&mut main.seat, place, None) else {
             unreachable!()
         };
         let turn = turn_after(items.len() as u64);
         let (count, outs) = refill(&mut cell, items, Vec::new(self.alloc));
-        drop(shared.exchange(&mut main.seat, number, Some(cell)));
-        shared.store::<HandOver>(&mut main.seat, number, turn);
+        drop(shared.exchange(&mut main.seat, place, Some(cell)));
+        shared.store::<HandOver>(&mut main.seat, place, turn);
         Swap::Back(count, outs)
     }
 }

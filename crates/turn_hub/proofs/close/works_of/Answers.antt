@@ -15,12 +15,12 @@ use Rattle.turn_hub.proofs.close.works_of.Goals as goal
 more_works : {W I O : Type 0} (slots : List (Option (Cell W I O))) (works : List W) (n : ℕ) (c : Cell W I O)
     → length works ≡ n → get_elem? slots n ≡ some (Some c)
     → ((k : ℕ) (x : Cell W I O) → k < n → get_elem? slots k ≡ some (Some x) → get_elem? works k ≡ some x.work)
-        → (k : ℕ) (x : Cell W I O) → k < n + 1 → get_elem? slots k ≡ some (Some x)
-        → get_elem? (works ++ c.work ∷ []) k ≡ some x.work
+    → (k : ℕ) (x : Cell W I O) → k < n + 1 → get_elem? slots k ≡ some (Some x)
+    → get_elem? (works ++ c.work ∷ []) k ≡ some x.work
 more_works slots works n c long at old k x below e = dite (ℕ_discrete k n)
     (λ is. ap (get_elem? (works ++ c.work ∷ [])) is ∙ at_last works c.work n long
     ∙ ap (λ (y : Cell _ _ _). some y.work)
-        (some_inj c x (some-injective (Some c) (Some x) (sym at ∙ ap (get_elem? slots) (sym is) ∙ e))))
+    (some_inj c x (some-injective (Some c) (Some x) (sym at ∙ ap (get_elem? slots) (sym is) ∙ e))))
     (λ other. at_longer works (c.work ∷ []) k x.work (old k x (omega arith) e))
 
 all_taken : (fs : List Bool) (k n : ℕ) → k < n → n ≡ length fs → ((q : ℕ) → q < k → get_or fs q false ≡ false)
@@ -39,7 +39,7 @@ unreachable-requires g c = let i = c.loop-k.invariant in let t = (c.in-None.ensu
     c.requires.full in let k : ℕ = c.loop-k.k in
     let test : k < c.slot_count-k-end.result = c.loop-k-test.true in
     let has = full.1 k (subst (λ (n : ℕ). k < n) (i.3 ∙ i.4 ∙ c.args.closed.slots.ok.0) test) in
-        none-some has.0 (some-injective _ _ (sym t ∙ ap (λ xs. get_elem? xs k) i.2 ∙ has.1))
+    none-some has.0 (some-injective _ _ (sym t ∙ ap (λ xs. get_elem? xs k) i.2 ∙ has.1))
 
 pub loop-k-preserved : goal.loop-k-preserved
 loop-k-preserved g c = let i = c.loop-k.invariant in let t = c.in-Some.ensures {u = tt} in let o = t.others in
@@ -65,7 +65,7 @@ loop-k-preserved g c = let i = c.loop-k.invariant in let t = c.in-Some.ensures {
 pub returns : goal.returns
 returns g c = let i = c.loop-k.invariant in let n : ℕ = slots_len c.args.closed.slots in let k : ℕ = c.loop-k.k in
     let test : c.slot_count-k-end.result ≤ k = c.loop-k-test.false in let upto : k ≤ c.slot_count-k-end.result =
-        c.loop-k.auto.k-end in
+    c.loop-k.auto.k-end in
     let whole : k ≡ n = (let e : k ≡ c.slot_count-k-end.result = omega arith in e) ∙ i.3 ∙ i.4 in
     let long : n ≡ length (slots_items c.args.closed.slots) = c.args.closed.slots.ok.0 in (
       i.5 ∙ whole ∙ long,

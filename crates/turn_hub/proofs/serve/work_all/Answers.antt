@@ -1,12 +1,12 @@
 use Rattle.std.proofs.Common.{◌≡◌, ◌++◌, [], ◌∷◌, ap, sym, ◌∙◌, subst, append-nil, append_assoc, ℕ, List, length, refl, arith}
 use Rattle.turn_hub.specs.Work.{Takes, Leads}
-use Rattle.turn_hub.proofs.Derived.{leads_none, leads_on, takes_less, takes_on}
+use Rattle.turn_hub.proofs.WorkLemmas.{leads_none, leads_on, takes_less, takes_on}
 use Rattle.turn_hub.proofs.serve.work_all.Goals as goal
 
 pub loop-item-init : goal.loop-item-init
 loop-item-init g c =
     let whole = ap (λ v. v.items) (sym c.replace-items.ensures.value)
-        ∙ sym c.into_iter-item-iterator.ensures.into_iter_gives.0 in
+    ∙ sym c.into_iter-item-iterator.ensures.into_iter_gives.0 in
     let none = leads_none g.W.Work.stands g.W.Work.may g.met.W.Work.may_less c.args.cell.now.work in (
       whole,
       refl,
@@ -20,7 +20,7 @@ work-requires g c =
     let work = c.loop-item.cell.work in
     let takes = subst (Takes g.W.Work.stands g.W.Work.may work) steps.0 c.loop-item.invariant.2 in
     takes_less g.W.Work.stands g.W.Work.may g.met.W.Work.may_less work
-        (c.in-Some.item ∷ []) c.next.new.self.rest.items takes
+    (c.in-Some.item ∷ []) c.next.new.self.rest.items takes
 
 pub loop-item-preserved : goal.loop-item-preserved
 loop-item-preserved g c =
@@ -54,5 +54,5 @@ returns-clause-did g c =
     let rest = c.loop-item.item-iterator.rest in
     let none = none_left rest.items rest.len rest.ok.0 (c.in-None.ensures {u = tt}).steps.0 in
     let all : c.args.cell.now.items.items ≡ c.loop-item.yielded = i.0 ∙ ap (λ xs. c.loop-item.yielded ++ xs) none
-        ∙ append-nil c.loop-item.yielded in
+    ∙ append-nil c.loop-item.yielded in
     (gave.0, gave.1, subst (λ xs. Leads g.W.Work.stands g.W.Work.may c.args.cell.now.work xs c.loop-item.cell.work gave.0) (sym all) gave.2)

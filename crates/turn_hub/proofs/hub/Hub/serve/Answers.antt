@@ -8,10 +8,10 @@ use Rattle.turn_hub.proofs.hub.Hub.serve.Goals as goal
 pub load-found-requires : goal.load-found-requires
 load-found-requires g c = let m = c.requires.hand in let sized = c.args.self.now.sized in
     let near : c.args.hand.now.cell < c.args.self.now.table.shared.table_id.slots = m.4 in (
-  m.0,
-  (let w : c.args.hand.now.cell < c.args.self.now.table.shared.table_id.words = omega arith in w),
-  hand_loads g.W.Work.stands g.W.Work.may _ _ c.args.hand.now.cell c.args.hand.now.seat.me m.3 m.2 near,
-)
+      m.0,
+      (let w : c.args.hand.now.cell < c.args.self.now.table.shared.table_id.words = omega arith in w),
+      hand_loads g.W.Work.stands g.W.Work.may _ _ c.args.hand.now.cell c.args.hand.now.seat.me m.3 m.2 near,
+    )
 
 pub exchange-requires : goal.exchange-requires
 exchange-requires g c = let l = c.load-found.ensures in let p = l.2.0 c.if-found-ne1.false in
@@ -65,5 +65,5 @@ store-requires-in-Err g c =
       (let w : k < c.args.self.now.table.shared.table_id.words = omega arith in w),
       hand_stores g.W.Work.stands g.W.Work.may _ _ k c.exchange-2.new.seat.me _ c.in-Some.cell c.work_all-done.new.cell 2
           (ap (λ y. y.0.number) left ∙ m.3) near (ap (λ y. y.1) left) (ap (λ y. y.0.has) left ∙ ap Some (sym same))
-              (inr refl),
+          (inr refl),
     )

@@ -21,7 +21,7 @@ module _ {W S I O : Type 0} (stands : S → List I → List O → W → Type 0) 
       let both : may s ((t ++ a) ++ b) = subst (may s) (sym (append_assoc t a b)) may_all in
       let mid = l s t g st (less s (t ++ a) b both) in let end = m s (t ++ a) (g ++ p) mid both in
       subst (λ (xs : List I). stands s xs (g ++ (p ++ q)) y) (append_assoc t a b)
-          (subst (λ (xs : List O). stands s ((t ++ a) ++ b) xs y) (append_assoc g p q) end)
+      (subst (λ (xs : List O). stands s ((t ++ a) ++ b) xs y) (append_assoc g p q) end)
 
   pub takes_less : (w : W) (a b : List I) → TakesT w (a ++ b) → TakesT w a
   takes_less w a b k = (k.0, k.1, k.2, k.3, less k.0 (k.1 ++ a) b (subst (may k.0) (sym (append_assoc k.1 a b)) k.4))
