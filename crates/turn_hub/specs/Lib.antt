@@ -1,4 +1,5 @@
 -- The definitions that the contracts cite, in reading order.
+pub mod Words
 pub mod Work
 pub mod Laws
 pub mod Rule

@@ -4,6 +4,7 @@ use mathlib.Core.Option.{some}
 use mathlib.Core.Option as maybe
 use lib.ListN.{get_elem?}
 use Rattle.atomic_table.specs.Table.{State}
+use Rattle.turn_hub.specs.Words.{main_turn, hand_turn}
 use Rattle.turn_hub.specs.declared.view.Cell.{Cell}
 use Rattle.turn_hub.specs.declared.view.Line.{Line}
 use Rattle.turn_hub.specs.declared.view.View.{View}
@@ -37,19 +38,19 @@ module _ {W S I O : Type 0} (stands : S → List I → List O → W → Type 0) 
   Has words lines k n c P = (l : Line S I O) × (get_elem? lines k ≡ some l) × (slice_index words k ≡ n) × P l c
 
   module _ (may : S → List I → Type 0) where
-    -- The cell k, whose word is n. The words are 0 main's turn, 1 the hand's, 2 main's of a broken cell
+    -- The cell k, whose word is n
     pub record CellOk (homes : Homes (Cell W I O)) (views : List (View W S I O)) (main : View W S I O) (k n : ℕ)
         (l : Line S I O) : Type 0 where
       pub known : n < 3
       pub allowed : may l.seed l.handed
-      pub mine : l.mine ≡ true → n ≡ 0
-      pub ready : n ≡ 0 → Rests homes k (Ready l) ⊎ ((main.has ≢ None) × (main.cell ≡ k))
-      pub due : n ≡ 1 → Rests homes k (Due l) ⊎ Out views k
+      pub mine : l.mine ≡ true → n ≡ main_turn
+      pub ready : n ≡ main_turn → Rests homes k (Ready l) ⊎ ((main.has ≢ None) × (main.cell ≡ k))
+      pub due : n ≡ hand_turn → Rests homes k (Due l) ⊎ Out views k
 
     -- the hand of the cell k was made, and where it has the cell, the word is the hand's
     pub record HandOk (words : List ℕ) (main : View W S I O) (v : View W S I O) (k : ℕ) : Type 0 where
       pub below : k < main.made
-      pub has : (c : Cell W I O) → v.has ≡ Some c → Has words main.lines k 1 c Due
+      pub has : (c : Cell W I O) → v.has ≡ Some c → Has words main.lines k hand_turn c Due
 
     -- There is one main, and each cell has at most one hand. Where main has a cell, the word is main's
     pub record Ruled (s : State (Option (Cell W I O)) (View W S I O)) : Type 0 where
@@ -58,7 +59,7 @@ module _ {W S I O : Type 0} (stands : S → List I → List O → W → Type 0) 
       pub no_hand : main.number ≡ None
       pub wide : length s.words ≡ length s.homes
       pub lined : length main.lines ≡ length s.homes
-      pub has : (c : Cell W I O) → main.has ≡ Some c → Has s.words main.lines main.cell 0 c Ready
+      pub has : (c : Cell W I O) → main.has ≡ Some c → Has s.words main.lines main.cell main_turn c Ready
       pub each_cell : (k : ℕ) (l : Line S I O) → get_elem? main.lines k ≡ some l
           → CellOk s.homes s.views main k (slice_index s.words k) l
       pub each_hand : (j : ℕ) (v : View W S I O) (k : ℕ) → get_elem? s.views j ≡ some v → v.number ≡ Some k

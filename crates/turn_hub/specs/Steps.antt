@@ -3,6 +3,7 @@ use Rattle.std.specs.Prelude.{◌≡◌, ◌≢◌, ℕ, ◌+◌, ◌<◌, ◌==
 use mathlib.Core.Option.{some}
 use lib.ListN.{get_elem?}
 use Rattle.atomic_table.specs.Table.{Me, Step, rest}
+use Rattle.turn_hub.specs.Words.{main_turn, hand_turn}
 use Rattle.turn_hub.specs.declared.view.Cell.{Cell}
 use Rattle.turn_hub.specs.declared.view.Line.{Line}
 use Rattle.turn_hub.specs.declared.view.View.{View}
@@ -71,7 +72,7 @@ module _ {W S I O : Type 0} where
     handed = l.handed ++ c'.items.items;
     back = l.back ++ c.outs.items;
     last = length c'.items.items;
-    mine = n == 0;
+    mine = n == main_turn;
   }
 
   -- main's view with another line of the cell k, once it has left the cell
@@ -149,13 +150,13 @@ module _ {W S I O : Type 0} where
   abbrev pub main_looks : (S → List I → List O → W → Type 0) → Step (Option (Cell W I O)) → Seated W S I O → ℕ
       → Seated W S I O → Type 0
   main_looks stands st m n m' =
-      Looks 0 (ReadyAt stands m.0.lines st.word) st.word m n m' × (n ≢ 0 → IsLeft m.0.lines st.word)
+      Looks main_turn (ReadyAt stands m.0.lines st.word) st.word m n m' × (n ≢ main_turn → IsLeft m.0.lines st.word)
 
   -- a hand's look: where the turn is the hand's it has the cell, whose work takes the items beside it
   abbrev pub hand_looks : (S → List I → List O → W → Type 0) → (S → List I → Type 0) → Step (Option (Cell W I O))
       → Seated W S I O → ℕ → Seated W S I O → Type 0
   hand_looks stands may st m n m' =
-      Looks 1 (λ c. Takes stands may c.work c.items.items × (c.outs.items ≡ [])) st.word m n m'
+      Looks hand_turn (λ c. Takes stands may c.work c.items.items × (c.outs.items ≡ [])) st.word m n m'
 
   -- main's store: the line of the cell has what came back and what was handed over
   abbrev pub hands_over : Step (Option (Cell W I O)) → Seated W S I O → ℕ → Seated W S I O → Type 0

@@ -10,6 +10,7 @@ mod plays;
 mod serve;
 mod swap;
 mod view;
+mod words;
 mod work;
 
 pub use hub::{Hand, Hub, Main, Served, Swap};

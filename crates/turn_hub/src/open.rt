@@ -3,12 +3,15 @@
 ghost use Rattle.std.specs.Prelude.{◌≡◌, ◌<◌, ◌≤◌, ◌^◌, ℕ, [], length, vec_capacity, map, All, IfOk};
 ghost use mathlib.Core.Option.{some};
 ghost use lib.ListN.{get_elem?};
-ghost use Rattle.turn_hub.specs.Steps.{one_more, started};
+ghost use Rattle.atomic_table.specs.Table.{opening};
+ghost use Rattle.turn_hub.specs.Rule.{Ruled};
+ghost use Rattle.turn_hub.specs.Steps.{first_view, one_more, started};
 ghost use Rattle.turn_hub.specs.Ends.{IsMainOf, IsHandOf, AreHands, AreInOrder, IsFresh, Starts, cell_count, hand_cell, main_view};
 
 use crate::hub::{Hand, Hub, Main};
 use crate::plays::{MakeHand, Place};
 use crate::view::Cell;
+use crate::words::MAIN_TURN;
 use crate::work::Work;
 use atomic_table::{Refused, Table};
 use std::alloc::{AllocError, Global};
@@ -32,18 +35,32 @@ fn cells<W: Work>(alloc: Global, works: Vec<W>) -> Result<Vec<Place<W>>, AllocEr
 }
 
 impl<W: Work> Hub<W> {
-    // A hub with no hands.
-    fn without_hands(alloc: Global, works: Vec<W>) -> Result<(Hub<W>, Main<W>), AllocError>
-        requires starts { Starts W.stands W.seed works.items }
-        ensures { IfOk result (λ r. (cell_count r.0 ≡ length works.items) × IsMainOf r.0 r.1 × ((main_view r.1).lines ≡ map (λ w. started (W.seed w)) works.items) × ((main_view r.1).made ≡ 0)) }
+    // A hub over these words and slots, with no hands.
+    fn over(
+        alloc: Global,
+        words: &[u64],
+        slots: Vec<Place<W>>,
+        about: &Snapshot<Vec<W>>,
+    ) -> Result<(Hub<W>, Main<W>), AllocError>
+        requires rule { Ruled W.stands W.may (opening words.now slots.items (first_view W.seed about.now.value.items)) }
+        requires sizes { (length words.now ≡ length slots.items) × (length about.now.value.items ≡ length slots.items) }
+        ensures { IfOk result (λ r. (cell_count r.0 ≡ length slots.items) × IsMainOf r.0 r.1 × (main_view r.1 ≡ first_view W.seed about.now.value.items)) }
     {
-        let about = Snapshot::of(&works);
-        let words = Vec::from_elem(alloc, 0u64, works.len())?;
-        let slots = cells(alloc, works)?;
-        match Table::new(alloc, words.as_slice(), slots, &about) {
+        match Table::new(alloc, words, slots, about) {
             Ok((table, seat)) => Ok((Hub { table, alloc }, Main { seat })),
             Err(Refused { slots: _ }) => Err(AllocError),
         }
+    }
+
+    // A hub with no hands.
+    fn without_hands(alloc: Global, works: Vec<W>) -> Result<(Hub<W>, Main<W>), AllocError>
+        requires starts { Starts W.stands W.seed works.items }
+        ensures { IfOk result (λ r. (cell_count r.0 ≡ length works.items) × IsMainOf r.0 r.1 × (main_view r.1 ≡ first_view W.seed works.items)) }
+    {
+        let about = Snapshot::of(&works);
+        let words = Vec::from_elem(alloc, MAIN_TURN, works.len())?;
+        let slots = cells(alloc, works)?;
+        Hub::over(alloc, words.as_slice(), slots, &about)
     }
 
     // The next hand, whose cell has this number.

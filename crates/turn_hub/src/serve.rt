@@ -8,6 +8,7 @@ ghost use Rattle.turn_hub.specs.Answers.{ServedAs};
 use crate::hub::{Hand, Hub, Served};
 use crate::plays::{GiveBack, HandLook};
 use crate::view::Cell;
+use crate::words::{BROKEN, HAND_TURN, MAIN_TURN};
 use crate::work::Work;
 use mon_outside::Gate;
 use std::alloc::{AllocError, Global};
@@ -44,7 +45,7 @@ impl<W: Work> Hub<W> {
         let shared = &self.table.shared;
         let place = hand.cell as usize;
         let found = shared.load::<HandLook<W>>(&mut hand.seat, place);
-        if found != 1 {
+        if found != HAND_TURN {
             return Served::NotGiven;
         }
         let Some(mut cell) = shared.exchange(&mut hand.seat, place, None) else {
@@ -55,11 +56,11 @@ impl<W: Work> Hub<W> {
         drop(shared.exchange(&mut hand.seat, place, Some(cell)));
         match done {
             Ok(()) => {
-                shared.store::<GiveBack>(&mut hand.seat, place, 0);
+                shared.store::<GiveBack>(&mut hand.seat, place, MAIN_TURN);
                 Served::Worked(given)
             }
             Err(_) => {
-                shared.store::<GiveBack>(&mut hand.seat, place, 2);
+                shared.store::<GiveBack>(&mut hand.seat, place, BROKEN);
                 Served::Memory
             }
         }

@@ -1,20 +1,22 @@
 //! Main's side: taking back and handing over.
 
 ghost use Rattle.std.specs.Prelude.{◌≡◌, ◌≢◌, ◌⊎◌, ◌<◌, [], length};
+ghost use Rattle.turn_hub.specs.Words.{main_turn, hand_turn};
 ghost use Rattle.turn_hub.specs.Ends.{IsMainOf, cell_count, main_view};
 ghost use Rattle.turn_hub.specs.Answers.{Swapped, MayHand};
 
 use crate::hub::{Hub, Main, Swap};
 use crate::plays::{HandOver, MainLook};
 use crate::view::Cell;
+use crate::words::{HAND_TURN, MAIN_TURN};
 use crate::work::Work;
 use std::mem;
 
 // Whose turn it is after so many items were handed over.
 fn turn_after(given: u64) -> u64
-    ensures { ((result ≡ 0) × (given ≡ 0)) ⊎ ((result ≡ 1) × (given ≢ 0)) }
+    ensures { ((result ≡ main_turn) × (given ≡ 0)) ⊎ ((result ≡ hand_turn) × (given ≢ 0)) }
 {
-    if given == 0 { 0 } else { 1 }
+    if given == 0 { MAIN_TURN } else { HAND_TURN }
 }
 
 // Lays the items into the cell, and takes out the count and the outs that it has.
@@ -44,10 +46,10 @@ impl<W: Work> Hub<W> {
         let shared = &self.table.shared;
         let place = number as usize;
         let found = shared.load::<MainLook<W>>(&mut main.seat, place);
-        if found == 1 {
+        if found == HAND_TURN {
             return Swap::NotYet(items);
         }
-        if found != 0 {
+        if found != MAIN_TURN {
             return Swap::Broken(items);
         }
         let Some(mut cell) = shared.exchange(&mut main.seat, place, None) else {

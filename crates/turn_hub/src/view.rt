@@ -40,7 +40,7 @@ pub struct View<W, S, I, O> {
     pub looks: u64,
     /// The cell of the last look.
     pub cell: u64,
-    /// The word that the last look found: 0 main's turn, 1 the hand's, 2 main's of a broken cell.
+    /// The word that the last look found (`specs/Words`).
     pub word: u64,
     /// A hand's: the number of its cell.
     pub number: Option<u64>,

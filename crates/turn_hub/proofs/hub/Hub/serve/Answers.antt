@@ -14,11 +14,11 @@ load-found-requires g c = let m = c.requires.hand in let sized = c.args.self.now
     )
 
 pub exchange-requires : goal.exchange-requires
-exchange-requires g c = let l = c.load-found.ensures in let p = l.2.0 c.if-found-ne1.false in
+exchange-requires g c = let l = c.load-found.ensures in let p = l.2.0 c.if-found-ne-HAND_TURN.false in
     (l.0 ∙ c.requires.hand.0, can_take c.args.hand.now.cell _ _ _ c.load-found.new.seat.me p.1)
 
 pub work_all-done-requires : goal.work_all-done-requires
-work_all-done-requires g c = let l = c.load-found.ensures in let p = l.2.0 c.if-found-ne1.false in let cf = p.0 in
+work_all-done-requires g c = let l = c.load-found.ensures in let p = l.2.0 c.if-found-ne-HAND_TURN.false in let cf = p.0 in
     let out = c.exchange.ensures in
     let x : c.exchange.result ≡ Some cf = taken_out c.args.hand.now.cell _ _ _ _ c.load-found.new.seat.me p.1 out.2 in
     let same : c.in-Some.cell ≡ cf = some_inj _ _ (sym c.in-Some.is ∙ x) in
@@ -27,7 +27,7 @@ work_all-done-requires g c = let l = c.load-found.ensures in let p = l.2.0 c.if-
 pub store-requires : goal.store-requires
 store-requires g c =
     let l = c.load-found.ensures in
-    let p = l.2.0 c.if-found-ne1.false in
+    let p = l.2.0 c.if-found-ne-HAND_TURN.false in
     let m = c.requires.hand in
     let out = c.exchange.ensures in
     let back = c.exchange-2.ensures in
@@ -50,7 +50,7 @@ store-requires g c =
 pub store-requires-in-Err : goal.store-requires-in-Err
 store-requires-in-Err g c =
     let l = c.load-found.ensures in
-    let p = l.2.0 c.if-found-ne1.false in
+    let p = l.2.0 c.if-found-ne-HAND_TURN.false in
     let m = c.requires.hand in
     let out = c.exchange.ensures in
     let back = c.exchange-2.ensures in

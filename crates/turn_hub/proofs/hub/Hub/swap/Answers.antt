@@ -16,13 +16,13 @@ load-found-requires g c = let m = c.requires.main in let sized = c.args.self.now
     )
 
 pub exchange-requires : goal.exchange-requires
-exchange-requires g c = let l = c.load-found.ensures in let p = l.2.0.0 c.if-found-ne0.false in
+exchange-requires g c = let l = c.load-found.ensures in let p = l.2.0.0 c.if-found-ne-MAIN_TURN.false in
     (l.0 ∙ c.requires.main.0.0, can_take c.args.number _ _ _ c.load-found.new.seat.me p.1)
 
 pub store-requires : goal.store-requires
 store-requires g c =
     let l = c.load-found.ensures in
-    let p = l.2.0.0 c.if-found-ne0.false in
+    let p = l.2.0.0 c.if-found-ne-MAIN_TURN.false in
     let m = c.requires.main in
     let may = c.requires.may in
     let out = c.exchange.ensures in
@@ -53,7 +53,7 @@ store-requires g c =
 pub returns-clause-did : goal.returns-clause-did
 returns-clause-did g c =
     let l = c.load-found.ensures in
-    let p = l.2.0.0 c.if-found-ne0.false in
+    let p = l.2.0.0 c.if-found-ne-MAIN_TURN.false in
     let out = c.exchange.ensures in
     let back = c.exchange-2.ensures in
     let k = c.args.number in
@@ -65,7 +65,7 @@ returns-clause-did g c =
     let new = c.refill-count.ensures in
     let laid = ap (λ v. v.items) new.cell.1 in
     let whole = left ∙ (λ i. (
-      looked c.args.main.now.seat.me.0 k (c.if-found-ne0.false i) (Some p.0),
+      looked c.args.main.now.seat.me.0 k (c.if-found-ne-MAIN_TURN.false i) (Some p.0),
       (k, Some c.refill-count.new.cell) ∷ c.args.main.now.seat.me.1,
     )) in
     swaps g.W.Work.stands g.W.Work.told g.met.W.Work.tells c.args.self.now.table.shared.table_id.slots k c.turn_after-turn.result
@@ -77,18 +77,18 @@ returns-clause-did g c =
     (turn_is items.items c.turn_after-turn.result c.len.result
     (c.len.ensures ∙ items.ok.0) c.turn_after-turn.ensures))
 
-pub returns-then-found-eq1-clause-did : goal.returns-then-found-eq1-clause-did
-returns-then-found-eq1-clause-did g c =
+pub returns-then-found-eq-HAND_TURN-clause-did : goal.returns-then-found-eq-HAND_TURN-clause-did
+returns-then-found-eq-HAND_TURN-clause-did g c =
     let l = c.load-found.ensures in
-    let one : c.load-found.result ≡ 1 = c.if-found-eq1.true in
+    let one : c.load-found.result ≡ 1 = c.if-found-eq-HAND_TURN.true in
     let seen = looks_once g.W.Work.stands g.W.Work.told g.met.W.Work.tells c.args.self.now.table.shared.table_id.slots c.args.number c.load-found.result 1 c.args.main.now.seat.me c.load-found.new.seat.me one (λ z. omega arith) l.2 in
     (seen.0, refl, seen.1, seen.2)
 
-pub returns-then-found-ne0-clause-did : goal.returns-then-found-ne0-clause-did
-returns-then-found-ne0-clause-did g c =
+pub returns-then-found-ne-MAIN_TURN-clause-did : goal.returns-then-found-ne-MAIN_TURN-clause-did
+returns-then-found-ne-MAIN_TURN-clause-did g c =
     let l = c.load-found.ensures in
     let below : c.load-found.result < 3 = l.2.0.2 in
-    let not_one = c.if-found-eq1.false in
-    let not_zero = c.if-found-ne0.true in
+    let not_one = c.if-found-eq-HAND_TURN.false in
+    let not_zero = c.if-found-ne-MAIN_TURN.true in
     let seen = looks_once g.W.Work.stands g.W.Work.told g.met.W.Work.tells c.args.self.now.table.shared.table_id.slots c.args.number c.load-found.result 2 c.args.main.now.seat.me c.load-found.new.seat.me (omega arith) not_zero l.2 in
     (seen.0, refl, seen.1, seen.2)

@@ -7,8 +7,8 @@ use Rattle.turn_hub.specs.Steps.{first_view}
 use Rattle.turn_hub.proofs.Opens.{opens}
 use Rattle.turn_hub.proofs.hub.Hub.without_hands.Goals as goal
 
-pub new-requires : goal.new-requires
-new-requires g c = let about = c.of-about.ensures in let cells = c.in_ok-slots.ensures {u = tt} in let words =
+pub over-requires-clause-rule : goal.over-requires-clause-rule
+over-requires-clause-rule g c = let about = c.of-about.ensures in let cells = c.in_ok-slots.ensures {u = tt} in let words =
     c.in_ok-words.ensures {u = tt} in let row = c.as_slice.ensures in
     let n : ℕ = c.len.result in let long : n ≡ length c.args.works.items = c.len.ensures
     ∙ c.args.works.ok.0 in let zeros : c.as_slice.result.now ≡ replicate n 0 = row.value
