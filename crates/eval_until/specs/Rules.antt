@@ -12,6 +12,10 @@ abbrev pub Waiting : ℕ → ℕ → List (List Value × List Entry) → Type 0
 Waiting pulled taken rows = (u : List Value)
     → list_all (λ e. nat_le pulled e.place && nat_lt e.place taken && nat_le e.start e.place) (entries_of rows u) ≡ true
 
+-- whether each of the entries stands before a position
+abbrev pub all_before : ℕ → List Entry → Bool
+all_before p entries = list_all (λ e. nat_lt e.place p) entries
+
 -- the positions of entries ascend strictly
 abbrev pub PlacesAscend : List Entry → Type 0
 PlacesAscend [] = Unit {0}
