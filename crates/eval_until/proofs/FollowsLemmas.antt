@@ -14,6 +14,7 @@ use Rattle.relations.proofs.OperationLaws.{has_as, part_of_own}
 use Rattle.relations.proofs.PushedLemmas.{stand_push}
 use Rattle.relations.specs.Pushed.{StandFrom, left_holds, turned}
 use Rattle.eval_until.specs.AheadView.{AheadOf, met, run_start}
+use Rattle.eval_until.specs.Entries.{entries_of, met_by}
 use Rattle.eval_until.specs.Starts.{start_of}
 use Rattle.eval_until.specs.UntilBefore.{until_before, start}
 use Rattle.eval_until.specs.UntilView.{Follows, FollowsLeft, UntilOf, due, past_bound, to_take, took_all}
@@ -28,13 +29,26 @@ left_begins k a v taken starts = record {
   lefts = tt;
   runs = λ i low.
       ap₂ (λ s p. nat_le (start_of k.negated p s (map v k.left)) i) starts taken
-      ∙ by k.negated
+      ∙ ap (λ s. nat_le s i) (by k.negated 0)
       ∙ ap (λ p. nat_le (start a p) i) (sym taken);
 }
   where
-    by : (b : Bool) → nat_le (cond b 0 0) i ≡ nat_le 0 i
-    by true = refl
-    by false = refl
+    by : (b : Bool) (n : ℕ) → cond b n n ≡ n
+    by true n = refl
+    by false n = refl
+
+pub begins : (k : AheadOf) (t : List ℕ) (a b : List Bool) (v : Valuation) → k.pulled ≡ 0 → k.taken ≡ 0
+    → k.starts ≡ [] → k.rows ≡ []
+    → Follows (record { ahead = k; times = []; lefts = []; rights = [] }) t a b v
+begins k t a b v pulled taken starts rows = record {
+  left = left_begins k a v taken starts;
+  long = omega (arith, pulled);
+  times = tt;
+  rights = tt;
+  window = λ i low.
+      ap (λ es. met_by k.interval i (time_at t i) (entries_of es (map v k.right))) rows
+      ∙ sym (ap (λ p. until_before k.interval t a b p i) taken ∙ none_yet k.interval t a b 0 i (omega arith));
+}
 
 -- one position more, whether the position asked lies below it or not
 more_anywhere : (interval : Interval) (t : List ℕ) (a b : List Bool) (p i : ℕ)

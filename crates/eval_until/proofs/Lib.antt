@@ -6,3 +6,4 @@ pub mod RowsLemmas
 pub mod QueueLemmas
 pub mod KeepingLemmas
 pub mod FollowsLemmas
+pub mod TakingLemmas

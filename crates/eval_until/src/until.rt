@@ -166,7 +166,8 @@ impl UntilState {
         let Some(right) = self.rights.pop_front() else {
             unreachable!();
         };
-        self.ahead.take(alloc, left, right, ts)
+        self.ahead.take(alloc, left, right, ts)?;
+        Ok(())
     }
 
     /// Takes the positions that can be taken.
@@ -223,7 +224,8 @@ impl UntilState {
             has table v ≡ until self.now.ahead.interval t a b self.now.ahead.pulled) }
     {
         let now = first(&self.times);
-        self.ahead.table(alloc, self.ahead.pulled(), *now)
+        let table = self.ahead.table(alloc, self.ahead.pulled(), *now)?;
+        Ok(table)
     }
 
     fn go_on(&mut self)
