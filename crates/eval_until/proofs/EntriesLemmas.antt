@@ -4,7 +4,7 @@ use borrow.Author.Tests.{ltb-true}
 use Rattle.std.proofs.lemmas.Bool.{and_parts, and_from}
 use Rattle.std.proofs.lemmas.Bool.Decides.{nat_tests}
 use Rattle.std.proofs.lemmas.List.Folds.{list_all-append}
-use Rattle.std.specs.List.{list_any, list_all, filter}
+use Rattle.std.specs.List.{list_all}
 use Rattle.mfotl_model.specs.Intervals.{in_interval}
 use Rattle.mfotl_model.specs.declared.interval.Interval.{Interval}
 use Rattle.eval_until.specs.declared.entries.Entry.{Entry}
@@ -92,11 +92,10 @@ pub ascend_push : (es : List Entry) (e : Entry) → PlacesAscend es → all_befo
     → PlacesAscend (es ++ e ∷ [])
 ascend_push [] e ascend all = (refl, tt)
 ascend_push (f ∷ fs) e ascend all =
-    let parts = and_parts (nat_lt f.place e.place) (all_before e.place fs) all in
-    (
+    let parts = and_parts (nat_lt f.place e.place) (all_before e.place fs) all in (
       list_all-append (λ g. nat_lt f.place g.place) fs (e ∷ [])
-      ∙ and_from (list_all (λ g. nat_lt f.place g.place) fs) (nat_lt f.place e.place && true) ascend.0
-      (and_from (nat_lt f.place e.place) true parts.0 refl),
+          ∙ and_from (list_all (λ g. nat_lt f.place g.place) fs) (nat_lt f.place e.place && true) ascend.0
+          (and_from (nat_lt f.place e.place) true parts.0 refl),
       ascend_push fs e ascend.1 parts.1,
     )
 

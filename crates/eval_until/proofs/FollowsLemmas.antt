@@ -1,5 +1,5 @@
 -- The state of UNTIL: what a push, a position that is taken, and one that is pulled keep, and what it answers.
-use Rattle.std.proofs.Common.{◌≡◌, ℕ, zero, suc, ◌+◌, ◌-◌, ◌<◌, ◌≤◌, Bool, true, false, not, cond, ◌&&◌, ◌||◌, nat_eq, nat_le, nat_lt, min, List, [], ◌∷◌, ◌++◌, Option, Some, None, length, map, get_or, slice_index, drop, refl, sym, subst, ap, ap₂, ◌∙◌, arith, inl, inr}
+use Rattle.std.proofs.Common.{◌≡◌, ℕ, zero, suc, ◌+◌, ◌-◌, ◌<◌, ◌≤◌, Bool, true, false, cond, ◌&&◌, ◌||◌, nat_le, nat_lt, min, List, [], ◌∷◌, ◌++◌, Option, Some, None, length, map, get_or, slice_index, refl, sym, subst, ap, ap₂, ◌∙◌, arith, inl, inr}
 use borrow.Author.Tests.{ltb-true}
 use Rattle.std.proofs.lemmas.Bool.{cases_lt, eqb-true}
 use Rattle.std.proofs.lemmas.Bool.Decides.{nat_tests}
@@ -56,21 +56,21 @@ more_anywhere : (interval : Interval) (t : List ℕ) (a b : List Bool) (p i : �
     || (truth_at b p && (nat_le (start a p) i && nat_le i p && in_interval interval (time_at t p - time_at t i))))
     ≡ until_before interval t a b (p + 1) i
 more_anywhere interval t a b p i = elim (cases_lt p i) [
-      | inl past ↦
-          let f : nat_le i p ≡ false = grind (arith, nat_tests) in
-          ap (λ c. until_before interval t a b p i || (truth_at b p && (nat_le (start a p) i && c
-          && in_interval interval (time_at t p - time_at t i)))) f
-          ∙ none (until_before interval t a b p i) (truth_at b p) (nat_le (start a p) i)
-          (in_interval interval (time_at t p - time_at t i))
-          ∙ none_yet interval t a b p i (omega arith) ∙ sym (none_yet interval t a b (p + 1) i (omega arith))
-      | inr low ↦
-          let f : nat_le i p ≡ true = grind (arith, nat_tests) in
-          ap (λ c. until_before interval t a b p i || (truth_at b p && (nat_le (start a p) i && c
-          && in_interval interval (time_at t p - time_at t i)))) f
-          ∙ ap (λ r. until_before interval t a b p i || r)
-          (turned_round (truth_at b p) (nat_le (start a p) i) (in_interval interval (time_at t p - time_at t i)))
-          ∙ sym (one_more interval t a b p i low)
-    ]
+  | inl past ↦
+      let f : nat_le i p ≡ false = grind (arith, nat_tests) in
+      ap (λ c. until_before interval t a b p i || (truth_at b p && (nat_le (start a p) i && c
+      && in_interval interval (time_at t p - time_at t i)))) f
+      ∙ none (until_before interval t a b p i) (truth_at b p) (nat_le (start a p) i)
+      (in_interval interval (time_at t p - time_at t i))
+      ∙ none_yet interval t a b p i (omega arith) ∙ sym (none_yet interval t a b (p + 1) i (omega arith))
+  | inr low ↦
+      let f : nat_le i p ≡ true = grind (arith, nat_tests) in
+      ap (λ c. until_before interval t a b p i || (truth_at b p && (nat_le (start a p) i && c
+      && in_interval interval (time_at t p - time_at t i)))) f
+      ∙ ap (λ r. until_before interval t a b p i || r)
+      (turned_round (truth_at b p) (nat_le (start a p) i) (in_interval interval (time_at t p - time_at t i)))
+      ∙ sym (one_more interval t a b p i low)
+]
   where
     none : (m c s d : Bool) → (m || (c && (s && false && d))) ≡ m
     none true c s d = refl
@@ -203,7 +203,7 @@ decided interval hi t a b next taken times e never low high long stands some pas
     let at = stands_at t next times (min (taken - next) (length times - 1)) stands (omega arith) in
     let z : next + 0 ≡ next = omega arith in
     let x : time_at t next + hi < time_at t (next + min (taken - next) (length times - 1)) = omega
-        (arith, first, at, ap (time_at t) z) in
+    (arith, first, at, ap (time_at t) z) in
     let n : taken + (length t - taken) ≡ length t = omega arith in
     sym (past_the_bound interval hi t a b next taken (length t - taken) e low
     (λ j l m. let g : time_at t (next + min (taken - next) (length times - 1)) ≤ time_at t j = never
@@ -232,15 +232,16 @@ met_next s x rest t a b v f never is all times low high = by s.ahead.interval.hi
         → met s.ahead s.ahead.pulled x (map v s.ahead.right) ≡ until s.ahead.interval t a b s.ahead.pulled
     by None e h = cc
     by (Some hi) e h =
-        let same = same_place s.ahead.pulled s.ahead.taken (length s.lefts) (length s.rights) (length s.times) low high
-            none in
+        let same = same_place s.ahead.pulled s.ahead.taken (length s.lefts) (length s.rights)
+            (length s.times) low high
+        none in
         let past : hi < slice_index s.times (min (s.ahead.taken - s.ahead.pulled) (length s.times - 1))
-            - slice_index s.times 0 = ltb-true hi _
-            (sym (ap (λ k. nat_lt hi (slice_index s.times k - slice_index s.times 0)) same) ∙ h) in
+        - slice_index s.times 0 = ltb-true hi _
+        (sym (ap (λ k. nat_lt hi (slice_index s.times k - slice_index s.times 0)) same) ∙ h) in
         let some = nonempty s.times (min (s.ahead.taken - s.ahead.pulled) (length s.times - 1)) hi past in
         let z : s.ahead.pulled + 0 ≡ s.ahead.pulled = omega arith in
         let first : x ≡ time_at t s.ahead.pulled = sym (ap (λ (xs : List ℕ). slice_index xs 0) times)
-            ∙ stands_at t s.ahead.pulled s.times 0 f.times some ∙ ap (time_at t) z in
+        ∙ stands_at t s.ahead.pulled s.times 0 f.times some ∙ ap (time_at t) z in
         ap (λ y. met s.ahead s.ahead.pulled y (map v s.ahead.right)) first
         ∙ f.window s.ahead.pulled (omega arith)
         ∙ decided s.ahead.interval hi t a b s.ahead.pulled s.ahead.taken s.times e never low high f.long f.times some
@@ -275,11 +276,12 @@ due_taken s is all low high = by s.ahead.interval.hi is
         → s.ahead.pulled < s.ahead.taken
     by None h = cc
     by (Some hi) h =
-        let same = same_place s.ahead.pulled s.ahead.taken (length s.lefts) (length s.rights) (length s.times) low high
-            none in
+        let same = same_place s.ahead.pulled s.ahead.taken (length s.lefts) (length s.rights)
+            (length s.times) low high
+        none in
         let n = further s.times
-            (min (s.ahead.taken + min (length s.lefts) (length s.rights) - s.ahead.pulled) (length s.times - 1)) hi
-            (ltb-true hi _ h) in
+        (min (s.ahead.taken + min (length s.lefts) (length s.rights) - s.ahead.pulled) (length s.times - 1)) hi
+        (ltb-true hi _ h) in
         omega arith
 
 pub read_at : (xs : List ℕ) (k x : ℕ) → k < length xs → x ≡ get_or xs k x → x ≡ slice_index xs k

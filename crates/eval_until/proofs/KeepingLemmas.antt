@@ -1,5 +1,5 @@
 -- What UNTIL keeps: one position is taken, one is pulled.
-use Rattle.std.proofs.Common.{◌≡◌, ℕ, ◌+◌, ◌-◌, ◌<◌, ◌≤◌, Bool, true, false, cond, nat_eq, nat_le, nat_lt, ◌&&◌, ◌||◌, List, [], ◌∷◌, ◌++◌, Option, Some, None, length, refl, sym, subst, ap, ap₂, ◌∙◌, arith, inl, inr}
+use Rattle.std.proofs.Common.{◌≡◌, ℕ, ◌+◌, ◌<◌, ◌≤◌, Bool, true, false, cond, nat_eq, nat_le, nat_lt, ◌&&◌, ◌||◌, List, [], ◌∷◌, ◌++◌, Option, Some, None, length, refl, sym, subst, ap, ap₂, ◌∙◌, arith, inl, inr}
 use borrow.Author.Tests.{ltb-true}
 use Rattle.std.proofs.lemmas.Bool.{and_from, and_parts, or_left, or_right}
 use Rattle.std.proofs.lemmas.Bool.Decides.{nat_tests}
@@ -7,11 +7,9 @@ use Rattle.std.proofs.lemmas.List.Folds.{list_any-append, list_all-append}
 use Rattle.std.proofs.lemmas.Map.Views.{tells_apart}
 use Rattle.std.specs.Cmp.{eq_by_cmp_equiv}
 use Rattle.std.specs.List.{list_all}
-use Rattle.std.specs.List.Sorted.{IsStrictlySortedBy}
 use Rattle.std.specs.Option.{IfSome, unwrap_or}
 use Rattle.std.specs.Ordering.{eq_by_cmp}
 use Rattle.mfotl_model.proofs.RowLemmas.{row_exact}
-use Rattle.mfotl_model.specs.Intervals.{in_interval}
 use Rattle.mfotl_model.specs.Tables.{all_apart, all_sized, has_row, part}
 use Rattle.mfotl_model.specs.Values.{row_cmp, row_total}
 use Rattle.mfotl_model.specs.declared.interval.Interval.{Interval}
@@ -21,7 +19,7 @@ use Rattle.eval_until.specs.declared.ahead.Taken.{Taken}
 use Rattle.eval_until.specs.declared.entries.Entry.{Entry}
 use Rattle.eval_until.specs.Entries.{entries_of, meets, met_by}
 use Rattle.eval_until.specs.Keeping.{Below, Covered, CoveredStarts, Fresh, IsLater, IsThinned, Keeps, NotAfter, Rising, Sized, breaks_before, names}
-use Rattle.eval_until.specs.Rules.{Ascending, PlacesAscend, StartsAbove, StartsBelow, Waiting, all_before}
+use Rattle.eval_until.specs.Rules.{PlacesAscend, StartsAbove, Waiting, all_before}
 use Rattle.eval_until.specs.Starts.{kept_start, later_start, start_of, start_taken}
 use Rattle.eval_until.proofs.EntriesLemmas.{all_thinned, ascend_push, ascend_thinned, none_thinned}
 use Rattle.eval_until.proofs.QueueLemmas.{after_push, breaks_last, breaks_push, broken_fresh, entries_waiting, fresh_push, names_last, names_push, rising_push}
@@ -51,7 +49,7 @@ below_more : (p : ℕ) (es : List Entry) → list_all (λ e. nat_lt e.place p &&
 below_more p [] all = refl
 below_more p (e ∷ es) all =
     let both = and_parts (nat_lt e.place p && nat_le e.start e.place)
-        (list_all (λ f. nat_lt f.place p && nat_le f.start f.place) es) all in
+    (list_all (λ f. nat_lt f.place p && nat_le f.start f.place) es) all in
     let parts = and_parts (nat_lt e.place p) (nat_le e.start e.place) both.0 in
     let l : e.place < p = ltb-true e.place p parts.0 in
     and_from (nat_lt e.place (p + 1) && nat_le e.start e.place)
@@ -65,7 +63,7 @@ before_is : (p : ℕ) (es : List Entry) → list_all (λ e. nat_lt e.place p && 
 before_is p [] all = refl
 before_is p (e ∷ es) all =
     let both = and_parts (nat_lt e.place p && nat_le e.start e.place)
-        (list_all (λ f. nat_lt f.place p && nat_le f.start f.place) es) all in
+    (list_all (λ f. nat_lt f.place p && nat_le f.start f.place) es) all in
     and_from (nat_lt e.place p) (all_before p es) (and_parts (nat_lt e.place p) (nat_le e.start e.place) both.0).0
     (before_is p es both.1)
 
@@ -102,13 +100,15 @@ module _ (negated : Bool) (right left : List ℕ) (pulled ts : ℕ) (lefts : Lis
     pub kept : Keeps negated right pulled q.place starts rows queue
     pub breaks : negated ≡ true → q.breaks.items ≡ lefts
     pub entries : (u : List Value) → entries_of new u ≡ cond (has_row q.rights.items u)
-        (entries_of rows u ++ record { place = q.place; start = start_of negated q.place starts (part right left u); ts = ts } ∷ [])
+        (entries_of rows u ++ record { place = q.place; start =
+            start_of negated q.place starts (part right left u); ts = ts } ∷ [])
         (entries_of rows u)
     pub runs : (w : List Value) → kept_start more w ≡ start_taken negated q.place lefts starts w
 
   pub kept_taken : Stepped → Keeps negated right pulled (q.place + 1) more new (queue ++ q ∷ [])
   kept_taken j =
-      let entry : List Value → Entry = λ u. record { place = q.place; start = start_of negated q.place starts (part right left u); ts = ts } in
+      let entry : List Value → Entry =
+          λ u. record { place = q.place; start = start_of negated q.place starts (part right left u); ts = ts } in
       record {
         apart = j.kept.apart;
         sized = λ u apart. j.entries u
@@ -128,12 +128,16 @@ module _ (negated : Bool) (right left : List ℕ) (pulled ts : ℕ) (lefts : Lis
             list_all-append (λ e. nat_lt e.place (q.place + 1) && nat_le e.start e.place) (entries_of rows u)
             (entry u ∷ [])
             ∙ and_from (list_all (λ e. nat_lt e.place (q.place + 1) && nat_le e.start e.place) (entries_of rows u))
-            ((nat_lt q.place (q.place + 1) && nat_le (start_of negated q.place starts (part right left u)) q.place) && true)
+            ((nat_lt q.place (q.place + 1) && nat_le
+                (start_of negated q.place starts (part right left u)) q.place) && true)
             (below_more q.place (entries_of rows u) (j.kept.below u))
-            (and_from (nat_lt q.place (q.place + 1) && nat_le (start_of negated q.place starts (part right left u)) q.place) true
-            (and_from (nat_lt q.place (q.place + 1)) (nat_le (start_of negated q.place starts (part right left u)) q.place)
+            (and_from (nat_lt q.place (q.place + 1) && nat_le
+                (start_of negated q.place starts (part right left u)) q.place) true
+            (and_from (nat_lt q.place (q.place + 1))
+                (nat_le (start_of negated q.place starts (part right left u)) q.place)
             (let h : nat_lt q.place (q.place + 1) ≡ true = grind (arith, nat_tests) in h)
-            (let h : nat_le (start_of negated q.place starts (part right left u)) q.place ≡ true = grind (arith, nat_tests) in h))
+            (let h : nat_le (start_of negated q.place starts (part right left u)) q.place ≡ true =
+                grind (arith, nat_tests) in h))
             refl))
             (below_more q.place (entries_of rows u) (j.kept.below u));
         low = λ w. taken_low negated (has_row lefts w) q.place (start_of false q.place starts w)
@@ -148,7 +152,8 @@ module _ (negated : Bool) (right left : List ℕ) (pulled ts : ℕ) (lefts : Lis
     where
       by_rows : Stepped → (u : List Value) (b : Bool) → has_row q.rights.items u ≡ b
           → entries_of new u ≡ cond b
-          (entries_of rows u ++ record { place = q.place; start = start_of negated q.place starts (part right left u); ts = ts } ∷ [])
+          (entries_of rows u ++ record { place = q.place; start =
+              start_of negated q.place starts (part right left u); ts = ts } ∷ [])
           (entries_of rows u)
           → list_all (λ e. names (queue ++ q ∷ []) u e.place) (entries_of new u) ≡ true
       by_rows j u true has e =
@@ -251,18 +256,18 @@ pub kept_pulled : (negated : Bool) (right : List ℕ) (pulled taken next : ℕ) 
     → Keeps negated right next taken more new rest
 kept_pulled negated right pulled taken next starts more rows new queue rest kept thin later covered breaks rising
     fresh after = record {
-  apart = kept.apart;
-  sized = λ u apart. none_thinned next (entries_of rows u) (entries_of new u) (thin u) (kept.sized u apart);
-  ascend = λ u. ascend_thinned next (entries_of rows u) (entries_of new u) (thin u) (kept.ascend u);
-  below = λ u. all_thinned (λ e. nat_lt e.place taken && nat_le e.start e.place) next (entries_of rows u)
-      (entries_of new u) (thin u) (kept.below u);
-  low = λ w. later_low negated next taken (kept_start starts w) (kept_start more w) (later w) (kept.low w);
-  covered = covered;
-  breaks = λ is. breaks is (kept.breaks is);
-  rising = rising;
-  after = after taken kept.after;
-  fresh = fresh;
-}
+      apart = kept.apart;
+      sized = λ u apart. none_thinned next (entries_of rows u) (entries_of new u) (thin u) (kept.sized u apart);
+      ascend = λ u. ascend_thinned next (entries_of rows u) (entries_of new u) (thin u) (kept.ascend u);
+      below = λ u. all_thinned (λ e. nat_lt e.place taken && nat_le e.start e.place) next (entries_of rows u)
+          (entries_of new u) (thin u) (kept.below u);
+      low = λ w. later_low negated next taken (kept_start starts w) (kept_start more w) (later w) (kept.low w);
+      covered = covered;
+      breaks = λ is. breaks is (kept.breaks is);
+      rising = rising;
+      after = after taken kept.after;
+      fresh = fresh;
+    }
 
 -- nothing is kept
 pub kept_none : (negated : Bool) (right : List ℕ) (pulled taken : ℕ) → all_apart right ≡ true

@@ -214,7 +214,7 @@ broken_fresh next w s (q ∷ qs) fresh named =
     elim (or_cases (nat_eq (q.place + 1) s && has_row q.breaks.items w) (breaks_before qs w s) named) [
       | inl here ↦
           let e : q.place + 1 ≡ s = eqb-true (q.place + 1) s
-              (and_parts (nat_eq (q.place + 1) s) (has_row q.breaks.items w) here).0 in
+          (and_parts (nat_eq (q.place + 1) s) (has_row q.breaks.items w) here).0 in
           let l : next ≤ q.place = leb-true next q.place parts.0 in
           omega arith
       | inr there ↦ broken_fresh next w s qs parts.1 there
@@ -229,7 +229,7 @@ entries_waiting pulled taken u qs [] fresh covered below = refl
 entries_waiting pulled taken u qs (e ∷ es) fresh covered below =
     let here = and_parts (names qs u e.place) (list_all (λ f. names qs u f.place) es) covered in
     let both = and_parts (nat_lt e.place taken && nat_le e.start e.place)
-        (list_all (λ f. nat_lt f.place taken && nat_le f.start f.place) es) below in
+    (list_all (λ f. nat_lt f.place taken && nat_le f.start f.place) es) below in
     let parts = and_parts (nat_lt e.place taken) (nat_le e.start e.place) both.0 in
     let l : pulled ≤ e.place = named_fresh pulled u e.place qs fresh here.0 in
     and_from (nat_le pulled e.place && nat_lt e.place taken && nat_le e.start e.place)

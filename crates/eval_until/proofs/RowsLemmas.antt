@@ -1,9 +1,9 @@
 -- Entries of rows and starts of runs, one row of a table after another.
-use Rattle.std.proofs.Common.{◌≡◌, ℕ, zero, suc, ◌+◌, ◌<◌, ◌≤◌, Bool, true, false, cond, nat_eq, ◌&&◌, ◌||◌, nat_le, List, [], ◌∷◌, ◌++◌, Option, Some, None, length, get_or, take, refl, sym, ap, ap₂, ◌∙◌, arith, inl, inr}
+use Rattle.std.proofs.Common.{◌≡◌, ℕ, zero, suc, ◌+◌, ◌<◌, ◌≤◌, Bool, true, false, cond, nat_eq, ◌&&◌, ◌||◌, nat_le, List, [], ◌∷◌, ◌++◌, Option, Some, None, length, get_or, take, refl, sym, ap, ap₂, ◌∙◌, arith}
 use Rattle.std.proofs.lemmas.Bool.{eqb-true}
 use Rattle.std.proofs.lemmas.Bool.Decides.{nat_tests}
 use Rattle.std.proofs.lemmas.List.{take_all}
-use Rattle.std.proofs.lemmas.List.Folds.{list_any-append, list_any_more}
+use Rattle.std.proofs.lemmas.List.Folds.{list_any_more}
 use Rattle.std.proofs.lemmas.Map.{lookup-none}
 use Rattle.std.proofs.lemmas.Map.Entries.{none_past_head}
 use Rattle.std.proofs.lemmas.Map.Keys.{sorted_tail, IsDistinct-from_sorted}
@@ -14,16 +14,14 @@ use Rattle.std.specs.List.Sorted.{IsStrictlySortedBy}
 use Rattle.std.specs.Map.{keys_of, lookup}
 use Rattle.std.specs.Option.{unwrap_or}
 use Rattle.std.specs.Ordering.{eq_by_cmp}
-use Rattle.mfotl_model.specs.Tables.{has_row, part}
+use Rattle.mfotl_model.specs.Tables.{has_row}
 use Rattle.mfotl_model.specs.Values.{row_cmp, row_total}
 use Rattle.mfotl_model.specs.declared.interval.Interval.{Interval}
 use Rattle.mfotl_model.specs.declared.value.Value.{Value}
 use Rattle.relations.proofs.MapLemmas.{same_row}
 use Rattle.eval_until.specs.declared.entries.Entry.{Entry}
-use Rattle.eval_until.specs.Entries.{entries_of, from_place, met_by}
-use Rattle.eval_until.specs.Keeping.{IsLater}
-use Rattle.eval_until.specs.Starts.{later_start, start_of}
-use Rattle.eval_until.proofs.EntriesLemmas.{from_twice}
+use Rattle.eval_until.specs.Entries.{entries_of, met_by}
+use Rattle.eval_until.specs.Starts.{later_start}
 
 or_false : (b : Bool) → (b || false) ≡ b
 or_false true = refl
@@ -178,7 +176,7 @@ start_same next row w m o is same = by (is_at (row_cmp row) w) refl
         ≡ cond b (later_start next (lookup (is_at (row_cmp w)) m)) (lookup (is_at (row_cmp w)) m)
     by true at =
         let here : lookup (is_at (row_cmp w)) m ≡ o = ap (λ r. lookup (is_at (row_cmp r)) m) (sym (same_row row w at))
-            ∙ sym is in
+        ∙ sym is in
         here ∙ same ∙ ap (later_start next) (sym here)
     by false at = refl
 
@@ -204,7 +202,8 @@ hit_is interval i x u (e ∷ es) h = by (is_at (row_cmp u) e.0) refl
     (hit_is interval i x u es (sorted_tail row_cmp e.0 (keys_of es) h))
   where
     by : (b : Bool) → is_at (row_cmp u) e.0 ≡ b
-        → list_any (λ e. eq_by_cmp row_cmp u e.0 && met_by interval i x e.1) es ≡ met_by interval i x (entries_of es u)
+        → list_any (λ e. eq_by_cmp row_cmp u e.0 && met_by interval i x e.1) es
+            ≡ met_by interval i x (entries_of es u)
         → ((b && met_by interval i x e.1)
         || list_any (λ e. eq_by_cmp row_cmp u e.0 && met_by interval i x e.1) es)
         ≡ met_by interval i x (unwrap_or (cond b (Some e.1) (lookup (is_at (row_cmp u)) es)) [])

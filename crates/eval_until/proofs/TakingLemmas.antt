@@ -1,7 +1,6 @@
 -- How many positions were taken, and how many can be.
-use Rattle.std.proofs.Common.{◌≡◌, ℕ, zero, suc, ◌+◌, ◌-◌, ◌<◌, ◌≤◌, Bool, true, false, not, nat_eq, min, List, [], ◌∷◌, Option, length, drop, refl, sym, subst, ap, ap₂, ◌∙◌, arith}
+use Rattle.std.proofs.Common.{◌≡◌, ℕ, zero, suc, ◌+◌, ◌-◌, ◌<◌, ◌≤◌, Bool, true, false, not, nat_eq, min, List, [], ◌∷◌, Option, length, drop, refl, subst, ap, ap₂, ◌∙◌, arith}
 use Rattle.std.proofs.lemmas.Bool.{eqb-true}
-use Rattle.std.proofs.lemmas.Bool.Decides.{nat_tests}
 use Rattle.std.proofs.lemmas.List.{length-drop}
 use Rattle.eval_until.specs.UntilView.{Advances, Takes, UntilOf, due, past_bound, to_take, took_all}
 
@@ -45,7 +44,8 @@ takes_none s =
 pub takes_more : (s m e : UntilOf) → Takes (m.ahead.taken - s.ahead.taken) s m → Takes 1 m e
     → Takes (e.ahead.taken - s.ahead.taken) s e
 takes_more s m e first more =
-    let z : m.ahead.taken - s.ahead.taken + 1 ≡ e.ahead.taken - s.ahead.taken = omega (arith, first.taken, more.taken) in
+    let z : m.ahead.taken - s.ahead.taken + 1 ≡ e.ahead.taken - s.ahead.taken =
+        omega (arith, first.taken, more.taken) in
     record {
       interval = more.interval ∙ first.interval;
       left = more.left ∙ first.left;
@@ -95,8 +95,8 @@ due_stays k s m takes few =
     let l = ap length takes.lefts ∙ length-drop k s.lefts in
     let r = ap length takes.rights ∙ length-drop k s.rights in
     let place : m.ahead.taken + min (length m.lefts) (length m.rights) - m.ahead.pulled
-        ≡ s.ahead.taken + min (length s.lefts) (length s.rights) - s.ahead.pulled
-        = omega (arith, l, r, takes.taken, takes.pulled, few) in
+    ≡ s.ahead.taken + min (length s.lefts) (length s.rights) - s.ahead.pulled
+    = omega (arith, l, r, takes.taken, takes.pulled, few) in
     ap₂ (λ (o : Option ℕ) (p : ℕ). past_bound o p m.times) (ap (λ i. i.hi) takes.interval) place
     ∙ ap (past_bound s.ahead.interval.hi (s.ahead.taken + min (length s.lefts) (length s.rights) - s.ahead.pulled))
     takes.times

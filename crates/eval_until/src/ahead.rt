@@ -79,7 +79,9 @@ fn stepped(
         mut queue,
     } = contents;
     let table = rights.as_slice();
-    add_rows(alloc, &mut rows, &starts, right, left, negated, table, place, ts)?;
+    add_rows(
+        alloc, &mut rows, &starts, right, left, negated, table, place, ts,
+    )?;
     apply_left(alloc, &mut starts, negated, lefts.as_slice(), place)?;
     let breaks = breaks_of(alloc, negated, lefts);
     queue.push_back(Taken {

@@ -16,13 +16,7 @@ pub fn start_at(starts: &BTreeMap<Row, u64>, negated: bool, place: u64, row: &Ro
 {
     match starts.get(row) {
         Some(start) => *start,
-        None => {
-            if negated {
-                0
-            } else {
-                place
-            }
-        }
+        None => { if negated { 0 } else { place } }
     }
 }
 

@@ -197,12 +197,7 @@ impl UntilState {
 
     /// Whether the next position's table has the valuation that a row gives to its columns, without
     /// making the table. The columns are any, the right operand's among them.
-    pub fn holds(
-        &self,
-        alloc: Global,
-        columns: &[u32],
-        row: &Row,
-    ) -> Result<bool, AllocError>
+    pub fn holds(&self, alloc: Global, columns: &[u32], row: &Row) -> Result<bool, AllocError>
         requires due { IsTrue (due self.now) }
         requires all { IsTrue (took_all self.now) }
         ensures { IfOk result (λ yes. (t : List ℕ) (a b : List Bool) →

@@ -1,4 +1,4 @@
-use Rattle.std.proofs.Common.{◌≡◌, ◌∷◌, List, subst, arith}
+use Rattle.std.proofs.Common.{◌≡◌, ◌∷◌, List, subst}
 use Rattle.mfotl_model.specs.Tables.{has_row}
 use Rattle.eval_until.specs.declared.ahead.Taken.{Taken}
 use Rattle.eval_until.specs.Entries.{entries_of}

@@ -1,4 +1,4 @@
-use Rattle.std.proofs.Common.{◌≡◌, List, [], ◌∷◌, ◌++◌, Some, None, sym, ap, ◌∙◌}
+use Rattle.std.proofs.Common.{◌≡◌, [], ◌∷◌, ◌++◌, Some, None, ap, ◌∙◌}
 use Rattle.std.specs.Option.{unwrap_or}
 use Rattle.std.specs.Map.{lookup}
 use Rattle.std.specs.BTreeMap.{is_at}
@@ -17,7 +17,8 @@ pub returns-in-Some : goal.returns-in-Some
 returns-in-Some c = λ u.
     let old = c.args.rows.now in
     let is : Some c.in-Some.entries.now ≡ lookup (is_at (row_cmp c.args.row)) old.entries = c.in-Some.ensures.value in
-    changed [] (λ es. es ++ c.args.entry ∷ []) c.args.row u old.entries (c.get_mut.follows.lender c.push.new.self).entries
+    changed [] (λ es. es ++ c.args.entry ∷ []) c.args.row u old.entries
+        (c.get_mut.follows.lender c.push.new.self).entries
     (Some c.push.new.self)
     (written c.args.row u old (c.get_mut.follows.lender c.push.new.self) c.push.new.self c.in-Some.entries.now
     (c.get_mut.follows.holds c.push.new.self) is)

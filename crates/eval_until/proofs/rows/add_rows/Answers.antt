@@ -1,4 +1,4 @@
-use Rattle.std.proofs.Common.{◌∷◌, ◌++◌, [], List, ap, arith, sym, ◌∙◌}
+use Rattle.std.proofs.Common.{◌∷◌, ◌++◌, [], List, ap, arith, ◌∙◌}
 use Rattle.mfotl_model.specs.Tables.{part}
 use Rattle.mfotl_model.specs.declared.value.Value.{Value}
 use Rattle.eval_until.specs.declared.entries.Entry.{Entry}
@@ -13,7 +13,8 @@ add_entry-requires c =
     let x = c.row-item.result in
     let entry : List Value → Entry = λ u. record {
       place = c.args.place;
-      start = start_of c.args.negated c.args.place c.args.starts.now.entries (part c.args.right.now c.args.left.now u);
+      start = start_of c.args.negated c.args.place c.args.starts.now.entries
+          (part c.args.right.now c.args.left.now u);
       ts = c.args.ts;
     } in
     let old = entries_of c.args.rows.now.entries x in
@@ -28,7 +29,8 @@ loop-row-preserved c = λ u.
     let x = c.row-item.result in
     let entry : List Value → Entry = λ v. record {
       place = c.args.place;
-      start = start_of c.args.negated c.args.place c.args.starts.now.entries (part c.args.right.now c.args.left.now v);
+      start = start_of c.args.negated c.args.place c.args.starts.now.entries
+          (part c.args.right.now c.args.left.now v);
       ts = c.args.ts;
     } in
     added_more c.args.table.now c.loop-row.row-index x u entry

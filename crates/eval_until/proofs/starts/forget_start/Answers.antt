@@ -1,5 +1,5 @@
 use Rattle.eval_until.proofs.RowsLemmas.{later_kept, start_gone, start_same}
-use Rattle.std.proofs.Common.{None, Some, refl, sym, ap, ◌∙◌, arith}
+use Rattle.std.proofs.Common.{None, Some, refl, arith}
 use Rattle.eval_until.proofs.starts.forget_start.Goals as goal
 
 pub returns-in_default : goal.returns-in_default

@@ -1,4 +1,3 @@
-use Rattle.eval_until.specs.Rules.{all_before}
 use Rattle.eval_until.proofs.EntriesLemmas.{ascend_push}
 use Rattle.eval_until.proofs.entries.Entries.push.Goals as goal
 

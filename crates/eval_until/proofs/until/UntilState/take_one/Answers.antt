@@ -1,4 +1,4 @@
-use Rattle.std.proofs.Common.{◌-◌, ◌∷◌, ℕ, List, refl, subst}
+use Rattle.std.proofs.Common.{◌-◌, ◌∷◌, List, refl, subst}
 use Rattle.mfotl_model.specs.Tables.{TableOf}
 use Rattle.relations.proofs.PushedLemmas.{over_first}
 use Rattle.eval_until.specs.UntilView.{Follows, FollowsLeft}
