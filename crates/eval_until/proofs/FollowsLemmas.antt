@@ -247,43 +247,6 @@ met_next s x rest t a b v f never is all times low high = by s.ahead.interval.hi
         ∙ decided s.ahead.interval hi t a b s.ahead.pulled s.ahead.taken s.times e never low high f.long f.times some
         past
 
--- where it is due, a time is there
-pub due_time : (s : UntilOf) → due s ≡ true → 0 < length s.times
-due_time s is = by s.ahead.interval.hi is
-  where
-    by : (o : Option ℕ)
-        → past_bound o (s.ahead.taken + min (length s.lefts) (length s.rights) - s.ahead.pulled) s.times ≡ true
-        → 0 < length s.times
-    by None h = cc
-    by (Some hi) h = nonempty s.times
-        (min (s.ahead.taken + min (length s.lefts) (length s.rights) - s.ahead.pulled) (length s.times - 1)) hi
-        (ltb-true hi _ h)
-
--- and where all were taken, its position was taken
-pub due_taken : (s : UntilOf) → due s ≡ true → took_all s ≡ true → s.ahead.pulled ≤ s.ahead.taken
-    → s.ahead.taken ≤ s.ahead.pulled + length s.times → s.ahead.pulled < s.ahead.taken
-due_taken s is all low high = by s.ahead.interval.hi is
-  where
-    none : to_take s ≡ 0
-    none = eqb-true (to_take s) 0 all
-
-    further : (xs : List ℕ) (k hi : ℕ) → hi < slice_index xs k - slice_index xs 0 → 0 < k
-    further xs zero hi l = absurd (omega arith)
-    further xs (suc k) hi l = omega arith
-
-    by : (o : Option ℕ)
-        → past_bound o (s.ahead.taken + min (length s.lefts) (length s.rights) - s.ahead.pulled) s.times ≡ true
-        → s.ahead.pulled < s.ahead.taken
-    by None h = cc
-    by (Some hi) h =
-        let same = same_place s.ahead.pulled s.ahead.taken (length s.lefts) (length s.rights)
-            (length s.times) low high
-        none in
-        let n = further s.times
-        (min (s.ahead.taken + min (length s.lefts) (length s.rights) - s.ahead.pulled) (length s.times - 1)) hi
-        (ltb-true hi _ h) in
-        omega arith
-
 pub read_at : (xs : List ℕ) (k x : ℕ) → k < length xs → x ≡ get_or xs k x → x ≡ slice_index xs k
 read_at [] k x l e = absurd (omega arith)
 read_at (y ∷ ys) zero x l e = e

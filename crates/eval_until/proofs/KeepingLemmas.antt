@@ -10,7 +10,7 @@ use Rattle.std.specs.List.{list_all}
 use Rattle.std.specs.Option.{IfSome, unwrap_or}
 use Rattle.std.specs.Ordering.{eq_by_cmp}
 use Rattle.mfotl_model.proofs.RowLemmas.{row_exact}
-use Rattle.mfotl_model.specs.Tables.{all_apart, all_sized, has_row, part}
+use Rattle.mfotl_model.specs.Tables.{all_sized, has_row, part}
 use Rattle.mfotl_model.specs.Values.{row_cmp, row_total}
 use Rattle.mfotl_model.specs.declared.interval.Interval.{Interval}
 use Rattle.mfotl_model.specs.declared.value.Value.{Value}
@@ -268,22 +268,6 @@ kept_pulled negated right pulled taken next starts more rows new queue rest kept
       after = after taken kept.after;
       fresh = fresh;
     }
-
--- nothing is kept
-pub kept_none : (negated : Bool) (right : List ℕ) (pulled taken : ℕ) → all_apart right ≡ true
-    → Keeps negated right pulled taken [] [] []
-kept_none negated right pulled taken apart = record {
-  apart = apart;
-  sized = λ u e. refl;
-  ascend = λ u. tt;
-  below = λ u. refl;
-  low = λ w. tt;
-  covered = λ u. refl;
-  breaks = λ is w. tt;
-  rising = tt;
-  after = refl;
-  fresh = refl;
-}
 
 -- what is kept is of positions that were taken and not pulled
 pub waiting_is : (negated : Bool) (right : List ℕ) (pulled taken : ℕ) (starts : List (List Value × ℕ))

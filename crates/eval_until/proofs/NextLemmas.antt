@@ -8,21 +8,9 @@ use Rattle.mfotl_model.specs.Intervals.{in_interval}
 use Rattle.mfotl_model.specs.Satisfaction.{Valuation, next, time_at, truth_at}
 use Rattle.mfotl_model.specs.Settled.{next_settled}
 use Rattle.mfotl_model.specs.Tables.{TableOf, has}
-use Rattle.mfotl_model.specs.declared.interval.Interval.{Interval}
 use Rattle.relations.specs.Pushed.{StandFrom}
 use Rattle.eval_until.specs.NextView.{FollowsNext, NextDueIsSettled, NextOf, next_due, tables_pushed}
 use Rattle.relations.proofs.PushedLemmas.{stand_first, stand_push}
-
-pub next_begins : (interval : Interval) (columns : List ℕ) (t : List ℕ) (a : List Bool) (v : Valuation)
-    → FollowsNext (record {
-      interval = interval;
-      columns = columns;
-      pulled = 0;
-      times = [];
-      started = false;
-      tables = [];
-    }) t a v
-next_begins interval columns t a v = record { long = omega arith; times = tt; tables = tt }
 
 pub table_kept : (s : NextOf) (table : TableOf) → s.started ≡ true → (t : List ℕ) (a : List Bool) (v : Valuation)
     → FollowsNext s t a v → has table v ≡ truth_at a (tables_pushed s)

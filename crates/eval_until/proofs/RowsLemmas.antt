@@ -2,7 +2,6 @@
 use Rattle.std.proofs.Common.{◌≡◌, ℕ, zero, suc, ◌+◌, ◌<◌, ◌≤◌, Bool, true, false, cond, nat_eq, ◌&&◌, ◌||◌, nat_le, List, [], ◌∷◌, ◌++◌, Option, Some, None, length, get_or, take, refl, sym, ap, ap₂, ◌∙◌, arith}
 use Rattle.std.proofs.lemmas.Bool.{eqb-true}
 use Rattle.std.proofs.lemmas.Bool.Decides.{nat_tests}
-use Rattle.std.proofs.lemmas.List.{take_all}
 use Rattle.std.proofs.lemmas.List.Folds.{list_any_more}
 use Rattle.std.proofs.lemmas.Map.{lookup-none}
 use Rattle.std.proofs.lemmas.Map.Entries.{none_past_head}
@@ -34,10 +33,6 @@ has_more table k x q low e =
     list_any_more (eq_by_cmp row_cmp q) table k x low
     ∙ ap (λ y. has_row (take k table) q || eq_by_cmp row_cmp q y) (sym e)
     ∙ ap (λ b. has_row (take k table) q || b) ((eq_by_cmp_equiv row_total).symm q x)
-
-has_all : (table : List (List Value)) (k : ℕ) (q : List Value) → length table ≤ k
-    → has_row (take k table) q ≡ has_row table q
-has_all table k q l = ap (λ rows. has_row rows q) (take_all k table l)
 
 -- what holds of each item holds of that at a place
 equals_one : (eq : List Value → List Value → Bool) (k : List Value) (rows : List (List Value)) (i : ℕ)
@@ -113,10 +108,6 @@ changed_more {X} h twice table k x u old cur new low is before step =
     by true false e = e
     by false true e = ap h e
     by false false e = e
-
-pub changed_all : {X : Type 0} (table : List (List Value)) (k : ℕ) (u : List Value) (more old cur : X)
-    → length table ≤ k → cur ≡ cond (has_row (take k table) u) more old → cur ≡ cond (has_row table u) more old
-changed_all table k u more old cur l e = e ∙ ap (λ b. cond b more old) (has_all table k u l)
 
 -- one more start that is kept
 pub kept_more : (table : List (List Value)) (k : ℕ) (row w : List Value) (starts : List Value → ℕ) (s : ℕ)

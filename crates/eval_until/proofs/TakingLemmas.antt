@@ -1,8 +1,7 @@
 -- How many positions were taken, and how many can be.
-use Rattle.std.proofs.Common.{◌≡◌, ℕ, zero, suc, ◌+◌, ◌-◌, ◌<◌, ◌≤◌, Bool, true, false, not, nat_eq, min, List, [], ◌∷◌, Option, length, drop, refl, subst, ap, ap₂, ◌∙◌, arith}
-use Rattle.std.proofs.lemmas.Bool.{eqb-true}
+use Rattle.std.proofs.Common.{◌≡◌, ℕ, zero, suc, ◌+◌, ◌-◌, ◌<◌, ◌≤◌, true, not, nat_eq, min, List, [], ◌∷◌, Option, length, drop, refl, ap, ap₂, ◌∙◌, arith}
 use Rattle.std.proofs.lemmas.List.{length-drop}
-use Rattle.eval_until.specs.UntilView.{Advances, Takes, UntilOf, due, past_bound, to_take, took_all}
+use Rattle.eval_until.specs.UntilView.{Takes, UntilOf, due, past_bound, to_take, took_all}
 
 drop_one : {X : Type 0} (k : ℕ) (xs : List X) → drop 1 (drop k xs) ≡ drop (k + 1) xs
 drop_one zero xs = refl
@@ -25,21 +24,6 @@ left_over k s m takes =
     let r = ap length takes.rights ∙ length-drop k s.rights in
     let n = ap length takes.times in
     omega (arith, l, r, n, takes.taken, takes.pulled)
-
-pub takes_none : (s : UntilOf) → Takes (s.ahead.taken - s.ahead.taken) s s
-takes_none s =
-    let z : 0 ≡ s.ahead.taken - s.ahead.taken = omega arith in
-    record {
-      interval = refl;
-      left = refl;
-      right = refl;
-      negated = refl;
-      pulled = refl;
-      taken = omega arith;
-      times = refl;
-      lefts = ap (λ n. drop n s.lefts) z;
-      rights = ap (λ n. drop n s.rights) z;
-    }
 
 pub takes_more : (s m e : UntilOf) → Takes (m.ahead.taken - s.ahead.taken) s m → Takes 1 m e
     → Takes (e.ahead.taken - s.ahead.taken) s e
@@ -68,27 +52,6 @@ few_more s m e first more rest few =
     let o = one_left m rest in
     omega (arith, l, o, few, first.taken, more.taken)
 
-pub fewer : (m e : UntilOf) → Takes 1 m e → not (took_all m) ≡ true → to_take e < to_take m
-fewer m e more rest =
-    let l = left_over 1 m e more in
-    let o = one_left m rest in
-    omega (arith, l, o)
-
-not_not : (b : Bool) → not b ≡ false → b ≡ true
-not_not true e = refl
-not_not false e = cc
-
-pub all_taken : (s m : UntilOf) → Takes (m.ahead.taken - s.ahead.taken) s m
-    → m.ahead.taken - s.ahead.taken ≤ to_take s → not (took_all m) ≡ false → Takes (to_take s) s m
-all_taken s m takes few all =
-    let l = left_over (m.ahead.taken - s.ahead.taken) s m takes in
-    let z = eqb-true (to_take m) 0 (not_not (took_all m) all) in
-    let e : m.ahead.taken - s.ahead.taken ≡ to_take s = omega (arith, l, z, few) in
-    subst (λ n. Takes n s m) e takes
-
-pub took : (m : UntilOf) → not (took_all m) ≡ false → took_all m ≡ true
-took m e = not_not (took_all m) e
-
 -- whether the next position is due doesn't hang on what was taken
 pub due_stays : (k : ℕ) (s m : UntilOf) → Takes k s m → k ≤ to_take s → due m ≡ due s
 due_stays k s m takes few =
@@ -100,20 +63,6 @@ due_stays k s m takes few =
     ap₂ (λ (o : Option ℕ) (p : ℕ). past_bound o p m.times) (ap (λ i. i.hi) takes.interval) place
     ∙ ap (past_bound s.ahead.interval.hi (s.ahead.taken + min (length s.lefts) (length s.rights) - s.ahead.pulled))
     takes.times
-
--- a position is pulled after those were taken that could be
-pub takes_then : (n : ℕ) (s m e : UntilOf) → Takes n s m → Advances 0 m e → Advances n s e
-takes_then n s m e takes one = record {
-  interval = one.interval ∙ takes.interval;
-  left = one.left ∙ takes.left;
-  right = one.right ∙ takes.right;
-  negated = one.negated ∙ takes.negated;
-  pulled = one.pulled ∙ ap (λ p. p + 1) takes.pulled;
-  taken = omega (arith, one.taken, takes.taken);
-  times = one.times ∙ ap (drop 1) takes.times;
-  lefts = one.lefts ∙ takes.lefts;
-  rights = one.rights ∙ takes.rights;
-}
 
 -- the time of the position to take is there
 pub time_there : (s : UntilOf) → not (took_all s) ≡ true → s.ahead.pulled ≤ s.ahead.taken
