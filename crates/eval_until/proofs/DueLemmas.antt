@@ -43,11 +43,11 @@ module _ (t : List ℕ) (p hi : ℕ) (times : List ℕ) (l r : ℕ) (long : leng
       let at = stands_at t p times k stands (omega arith) in
       let x : time_at t p + hi < time_at t (p + k) = omega (arith, f, at) in
       and_from (nat_lt p (length t) && list_any (λ j. nat_lt (time_at t p + hi) (time_at t j))
-          (range_with_len 0 (length t)))
+      (range_with_len 0 (length t)))
       (list_all (λ j. nat_lt (time_at t p + hi) (time_at t j) || (nat_lt j l && nat_lt j r))
-          (range_with_len p (length t - p)))
+      (range_with_len p (length t - p)))
       (and_from (nat_lt p (length t))
-          (list_any (λ j. nat_lt (time_at t p + hi) (time_at t j)) (range_with_len 0 (length t)))
+      (list_any (λ j. nat_lt (time_at t p + hi) (time_at t j)) (range_with_len 0 (length t)))
       (lt-ltb p (length t) (omega arith))
       (any_from (λ j. nat_lt (time_at t p + hi) (time_at t j)) 0 (length t) (p + k) (omega arith) (omega arith)
       (lt-ltb _ _ x)))
@@ -67,11 +67,11 @@ module _ (t : List ℕ) (p hi : ℕ) (times : List ℕ) (l r : ℕ) (long : leng
   far_from settled =
       let k : ℕ = min (min l r - p) (length times - 1) in
       let both = and_parts (nat_lt p (length t) && list_any (λ j. nat_lt (time_at t p + hi) (time_at t j))
-          (range_with_len 0 (length t)))
+      (range_with_len 0 (length t)))
       (list_all (λ j. nat_lt (time_at t p + hi) (time_at t j) || (nat_lt j l && nat_lt j r))
-          (range_with_len p (length t - p))) settled in
+      (range_with_len p (length t - p))) settled in
       let parts = and_parts (nat_lt p (length t))
-          (list_any (λ j. nat_lt (time_at t p + hi) (time_at t j)) (range_with_len 0 (length t))) both.0 in
+      (list_any (λ j. nat_lt (time_at t p + hi) (time_at t j)) (range_with_len 0 (length t))) both.0 in
       let n : p < length t = ltb-true p (length t) parts.0 in
       let w = any_in (λ j. nat_lt (time_at t p + hi) (time_at t j)) 0 (length t) parts.1 in
       let x : time_at t p + hi < time_at t w.0 = ltb-true (time_at t p + hi) (time_at t w.0) w.3 in

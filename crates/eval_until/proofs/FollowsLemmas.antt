@@ -233,7 +233,7 @@ met_next s x rest t a b v f never is all times low high = by s.ahead.interval.hi
     by None e h = cc
     by (Some hi) e h =
         let same = same_place s.ahead.pulled s.ahead.taken (length s.lefts) (length s.rights)
-            (length s.times) low high
+        (length s.times) low high
         none in
         let past : hi < slice_index s.times (min (s.ahead.taken - s.ahead.pulled) (length s.times - 1))
         - slice_index s.times 0 = ltb-true hi _

@@ -100,15 +100,19 @@ module _ (negated : Bool) (right left : List ℕ) (pulled ts : ℕ) (lefts : Lis
     pub kept : Keeps negated right pulled q.place starts rows queue
     pub breaks : negated ≡ true → q.breaks.items ≡ lefts
     pub entries : (u : List Value) → entries_of new u ≡ cond (has_row q.rights.items u)
-        (entries_of rows u ++ record { place = q.place; start =
-            start_of negated q.place starts (part right left u); ts = ts } ∷ [])
+        (entries_of rows u ++ record {
+          place = q.place;
+          start =
+              start_of negated q.place starts (part right left u);
+          ts = ts;
+        } ∷ [])
         (entries_of rows u)
     pub runs : (w : List Value) → kept_start more w ≡ start_taken negated q.place lefts starts w
 
   pub kept_taken : Stepped → Keeps negated right pulled (q.place + 1) more new (queue ++ q ∷ [])
   kept_taken j =
       let entry : List Value → Entry =
-          λ u. record { place = q.place; start = start_of negated q.place starts (part right left u); ts = ts } in
+      λ u. record { place = q.place; start = start_of negated q.place starts (part right left u); ts = ts } in
       record {
         apart = j.kept.apart;
         sized = λ u apart. j.entries u
@@ -129,15 +133,15 @@ module _ (negated : Bool) (right left : List ℕ) (pulled ts : ℕ) (lefts : Lis
             (entry u ∷ [])
             ∙ and_from (list_all (λ e. nat_lt e.place (q.place + 1) && nat_le e.start e.place) (entries_of rows u))
             ((nat_lt q.place (q.place + 1) && nat_le
-                (start_of negated q.place starts (part right left u)) q.place) && true)
+            (start_of negated q.place starts (part right left u)) q.place) && true)
             (below_more q.place (entries_of rows u) (j.kept.below u))
             (and_from (nat_lt q.place (q.place + 1) && nat_le
-                (start_of negated q.place starts (part right left u)) q.place) true
+            (start_of negated q.place starts (part right left u)) q.place) true
             (and_from (nat_lt q.place (q.place + 1))
-                (nat_le (start_of negated q.place starts (part right left u)) q.place)
+            (nat_le (start_of negated q.place starts (part right left u)) q.place)
             (let h : nat_lt q.place (q.place + 1) ≡ true = grind (arith, nat_tests) in h)
             (let h : nat_le (start_of negated q.place starts (part right left u)) q.place ≡ true =
-                grind (arith, nat_tests) in h))
+            grind (arith, nat_tests) in h))
             refl))
             (below_more q.place (entries_of rows u) (j.kept.below u));
         low = λ w. taken_low negated (has_row lefts w) q.place (start_of false q.place starts w)
@@ -152,8 +156,12 @@ module _ (negated : Bool) (right left : List ℕ) (pulled ts : ℕ) (lefts : Lis
     where
       by_rows : Stepped → (u : List Value) (b : Bool) → has_row q.rights.items u ≡ b
           → entries_of new u ≡ cond b
-          (entries_of rows u ++ record { place = q.place; start =
-              start_of negated q.place starts (part right left u); ts = ts } ∷ [])
+          (entries_of rows u ++ record {
+            place = q.place;
+            start =
+                start_of negated q.place starts (part right left u);
+            ts = ts;
+          } ∷ [])
           (entries_of rows u)
           → list_all (λ e. names (queue ++ q ∷ []) u e.place) (entries_of new u) ≡ true
       by_rows j u true has e =

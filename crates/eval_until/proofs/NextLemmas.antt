@@ -69,7 +69,7 @@ module _ (s : NextOf) (now then : ℕ) (ts : List ℕ) (table : TableOf) (rest :
       let m = f.long in grind (arith, nat_tests)) in
       ap₂ (λ d h. in_interval s.interval d && h)
       (ap₂ (λ x y. x - y) (stands_next ts at.1
-          (omega (arith, later_time s due, ap (λ (xs : List ℕ). length xs) times)) e)
+      (omega (arith, later_time s due, ap (λ (xs : List ℕ). length xs) times)) e)
       at.0)
       (stand_first (λ i (x : TableOf). has x v ≡ truth_at a i) (s.pulled + 1) s.tables rest table tables f.tables).0
       ∙ sym (ap (λ b. b && in_interval s.interval (time_at t (s.pulled + 1) - time_at t s.pulled)
@@ -79,7 +79,7 @@ pub next_due_settled : NextDueIsSettled
 unfolding next_settled
 next_due_settled s t e =
     ap₂ (λ a b. a && b) (let l : nat_lt 1 (length s.times) ≡ nat_lt (s.pulled + 1) (length t) =
-        grind (arith, nat_tests)
+    grind (arith, nat_tests)
     in l) (by s.started)
   where
     by : (b : Bool) → (b && nat_lt 0 (length s.tables))

@@ -194,7 +194,7 @@ hit_is interval i x u (e ∷ es) h = by (is_at (row_cmp u) e.0) refl
   where
     by : (b : Bool) → is_at (row_cmp u) e.0 ≡ b
         → list_any (λ e. eq_by_cmp row_cmp u e.0 && met_by interval i x e.1) es
-            ≡ met_by interval i x (entries_of es u)
+        ≡ met_by interval i x (entries_of es u)
         → ((b && met_by interval i x e.1)
         || list_any (λ e. eq_by_cmp row_cmp u e.0 && met_by interval i x e.1) es)
         ≡ met_by interval i x (unwrap_or (cond b (Some e.1) (lookup (is_at (row_cmp u)) es)) [])

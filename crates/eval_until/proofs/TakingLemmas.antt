@@ -29,7 +29,7 @@ pub takes_more : (s m e : UntilOf) → Takes (m.ahead.taken - s.ahead.taken) s m
     → Takes (e.ahead.taken - s.ahead.taken) s e
 takes_more s m e first more =
     let z : m.ahead.taken - s.ahead.taken + 1 ≡ e.ahead.taken - s.ahead.taken =
-        omega (arith, first.taken, more.taken) in
+    omega (arith, first.taken, more.taken) in
     record {
       interval = more.interval ∙ first.interval;
       left = more.left ∙ first.left;

@@ -95,7 +95,7 @@ pub one_more : OneMore
 unfolding until_before
 one_more interval t a b p i low =
     let test : ℕ → Bool = λ j. in_interval interval (time_at t j - time_at t i) && truth_at b j && list_all
-        (truth_at a) (range_with_len i (j - i)) in
+    (truth_at a) (range_with_len i (j - i)) in
     let e : p + 1 - i ≡ p - i + 1 = omega arith in
     let last : i + (p - i) ≡ p = omega arith in
     ap (λ n. list_any test (range_with_len i n)) e
@@ -104,7 +104,7 @@ one_more interval t a b p i low =
     ∙ ap (λ k. list_any test (range_with_len i (p - i)) || (test k || false)) last
     ∙ ap (λ r. list_any test (range_with_len i (p - i)) || r) (or_false (test p))
     ∙ ap (λ r. list_any test (range_with_len i (p - i)) ||
-        (in_interval interval (time_at t p - time_at t i) && truth_at b p && r)) (sym (start_is a p i low))
+    (in_interval interval (time_at t p - time_at t i) && truth_at b p && r)) (sym (start_is a p i low))
 
 too_far : (interval : Interval) (hi d : ℕ) → interval.hi ≡ Some hi → hi < d → in_interval interval d ≡ false
 too_far interval hi d e far = ap (λ o. nat_le interval.lo d && at_most o d) e
@@ -120,6 +120,6 @@ past_the_bound interval hi t a b i p (suc n) e low far =
     ap (λ q. until_before interval t a b q i) z
     ∙ one_more interval t a b (p + n) i (omega arith)
     ∙ ap (λ c. until_before interval t a b (p + n) i || (c && truth_at b (p + n) && nat_le (start a (p + n)) i))
-        (too_far interval hi (time_at t (p + n) - time_at t i) e (omega arith))
+    (too_far interval hi (time_at t (p + n) - time_at t i) e (omega arith))
     ∙ or_false (until_before interval t a b (p + n) i)
     ∙ past_the_bound interval hi t a b i p n e low (λ j l m. far j l (omega arith))

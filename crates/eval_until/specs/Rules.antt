@@ -11,7 +11,7 @@ use Rattle.eval_until.specs.Starts.{kept_start}
 abbrev pub Waiting : ℕ → ℕ → List (List Value × List Entry) → Type 0
 Waiting pulled taken rows = (u : List Value)
     → list_all (λ e. nat_le pulled e.place && nat_lt e.place taken && nat_le e.start e.place) (entries_of rows u)
-        ≡ true
+    ≡ true
 
 -- whether each of the entries stands before a position
 abbrev pub all_before : ℕ → List Entry → Bool

@@ -18,7 +18,7 @@ returns-in-Some c = λ u.
     let old = c.args.rows.now in
     let is : Some c.in-Some.entries.now ≡ lookup (is_at (row_cmp c.args.row)) old.entries = c.in-Some.ensures.value in
     changed [] (λ es. es ++ c.args.entry ∷ []) c.args.row u old.entries
-        (c.get_mut.follows.lender c.push.new.self).entries
+    (c.get_mut.follows.lender c.push.new.self).entries
     (Some c.push.new.self)
     (written c.args.row u old (c.get_mut.follows.lender c.push.new.self) c.push.new.self c.in-Some.entries.now
     (c.get_mut.follows.holds c.push.new.self) is)
