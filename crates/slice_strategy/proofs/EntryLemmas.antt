@@ -1,0 +1,222 @@
+-- Entries one by one, as the loops over them go.
+use Rattle.std.proofs.Common.{◌≡◌, ◌∙◌, ℕ, zero, suc, ◌+◌, ◌*◌, ◌/◌, ◌%◌, ◌<◌, ◌≤◌, Bool, true, false, not, nat_eq}
+use Rattle.std.proofs.Common.{◌&&◌, ◌||◌, List, [], ◌∷◌, length, drop, get_or, Some, option_map}
+use Rattle.std.proofs.Common.{slice_get, add-zero, ap, refl, sym, subst, arith}
+use Rattle.std.proofs.lemmas.List.{drop_more}
+use Rattle.std.proofs.lemmas.Nat.{mul-le, mod_below, div-mul-add}
+use Rattle.std.proofs.Math.Nat.{mul_comm, mul_assoc, add-mul, mul-one, zero-mul}
+use Rattle.std.proofs.lemmas.Option.{slice_get-map, slice_get-get_or}
+use Rattle.mfotl_model.specs.FreeVariables.{among}
+use Rattle.mfotl_model.specs.Regions.{near_from, near_of}
+use Rattle.mfotl_model.specs.Satisfaction.{Valuation}
+use Rattle.mfotl_model.specs.Strategies.{Entry as EntryOf, Strategy, owner_from, owner_of, strategy_part, parts_of}
+use Rattle.mfotl_model.specs.Strategies.{workers_of}
+use Rattle.slice_strategy.specs.declared.entry.Entry.{Entry}
+use Rattle.slice_strategy.specs.Entries.{entry_of, entries_of, HasWorkers}
+use Rattle.mfotl_model.specs.declared.value.Value.{Value}
+use Rattle.slice_strategy.specs.Slicers.{full_row}
+use Rattle.slice_strategy.specs.Limits.{max_workers}
+use Rattle.slice_strategy.specs.SlicerLemmas.{both_some, one_owner}
+
+pub drop_past : {X : Type 0} (xs : List X) (i : ℕ) → length xs ≤ i → drop i xs ≡ []
+drop_past [] zero past = refl
+drop_past [] (suc i) past = refl
+drop_past (x ∷ xs) zero past = absurd (omega arith)
+drop_past (x ∷ xs) (suc i) past = drop_past xs i (omega arith)
+
+-- the entries from place i on
+abbrev pub behind : List Entry → ℕ → Strategy
+behind items i = entries_of (drop i items)
+
+entry_next : (items : List Entry) (i : ℕ) (e : Entry) → i < length items → e ≡ get_or items i e
+    → behind items i ≡ entry_of e ∷ behind items (i + 1)
+entry_next items i e low is =
+    ap entries_of (drop_more items i e low) ∙ ap (λ x. entry_of x ∷ behind items (i + 1)) (sym is)
+
+none_behind : (items : List Entry) (i : ℕ) → length items ≤ i → behind items i ≡ []
+none_behind items i past = ap entries_of (drop_past items i past)
+
+quotient : (p w : ℕ) → 0 < p → p * w / p ≡ w
+quotient p w some = ap (λ n. n / p) (mul_comm p w) ∙ by
+  where
+    by : w * p / p ≡ w
+    by = ap (λ n. n / p) (sym (add-zero (w * p))) ∙ div-mul-add w p 0 some
+
+up_to : (n w : ℕ) → 0 < w → n ≤ n * w
+up_to n w some = let one : n * 1 ≤ n * w = mul-le n 1 n w (omega arith) (omega arith) in
+    let same : n * 1 ≡ n = mul-one n in omega (arith, one, same)
+
+-- ---- an entry's part
+
+-- each entry has parts, and no more than there may be workers
+pub has_parts : (es : Strategy) (i : ℕ) (e : EntryOf) → HasWorkers es → slice_get es i ≡ Some e
+    → (0 < parts_of e) × (parts_of e ≤ max_workers)
+has_parts es i e has found = let r = by es i found has.some in (r.0, omega (arith, r.1, has.few))
+  where
+    by : (es : Strategy) (i : ℕ) → slice_get es i ≡ Some e → 0 < workers_of es
+        → (0 < parts_of e) × (parts_of e ≤ workers_of es)
+    by [] i found some = absurd cc
+    by (d ∷ es) zero found some =
+        let same : d ≡ e = cc in
+        let both = both_some (parts_of d) (workers_of es) some in
+        subst (λ x. (0 < parts_of x) × (parts_of x ≤ parts_of d * workers_of es)) same
+        (both.0, up_to (parts_of d) (workers_of es) both.1)
+    by (d ∷ es) (suc i) found some =
+        let both = both_some (parts_of d) (workers_of es) some in
+        let r = by es i found both.1 in
+        let up : workers_of es ≤ parts_of d * workers_of es =
+        subst (λ n. workers_of es ≤ n) (mul_comm (workers_of es) (parts_of d))
+        (up_to (workers_of es) (parts_of d) both.0) in
+        (r.0, omega (arith, r.1, up))
+
+pub found_entry : (items : List Entry) (i : ℕ) (e : Entry) → i < length items → e ≡ get_or items i e
+    → slice_get (entries_of items) i ≡ Some (entry_of e)
+found_entry items i e low is =
+    slice_get-map entry_of items i
+    ∙ ap (option_map entry_of) (slice_get-get_or items i e low ∙ ap (λ x. Some x) (sym is))
+
+pub entries_size : (items : List Entry) → length (entries_of items) ≡ length items
+entries_size [] = refl
+entries_size (e ∷ items) = ap suc (entries_size items)
+
+-- the same of a strategy that has these entries
+pub read_entry : (items : List Entry) (strategy : Strategy) (i : ℕ) (e : Entry) → entries_of items ≡ strategy
+    → i < length strategy → e ≡ get_or items i e
+    → slice_get (entries_of items) i ≡ Some (entry_of e)
+read_entry items strategy i e same low is =
+    let size = ap length same in found_entry items i e (omega (arith, low, size, entries_size items)) is
+
+-- ---- an owner's digits, from the first entry on
+
+-- with the digits of the entries before place i, the owner's number is this
+pub record Owes (items : List Entry) (row : List Value) (number i : ℕ) : Type 0 where
+  pub within : HasWorkers (entries_of items)
+  pub owner : number * workers_of (behind items i) + owner_from i (behind items i) (full_row row)
+      ≡ owner_of (entries_of items) (full_row row)
+
+pub owes_all : (items : List Entry) (row : List Value) → HasWorkers (entries_of items) → Owes items row 0 0
+owes_all items row within =
+    record { within = within; owner = omega (arith, zero-mul (workers_of (entries_of items))) }
+
+horner : (n p w a r : ℕ) → (n * p + a) * w + r ≡ n * (p * w) + (a * w + r)
+horner n p w a r =
+    let one : (n * p + a) * w ≡ n * p * w + a * w = add-mul (n * p) a w in
+    let two : n * p * w ≡ n * (p * w) = mul_assoc n p w in
+    omega (arith, one, two)
+
+module _ (items : List Entry) (row : List Value) (number i : ℕ) (owes : Owes items row number i) (e : Entry)
+    (low : i < length items) (is : e ≡ get_or items i e) where
+  abbrev own : ℕ
+  own = owner_of (entries_of items) (full_row row)
+
+  abbrev w : ℕ
+  w = workers_of (behind items (i + 1))
+
+  pub owes_next : (a : ℕ) → a ≡ strategy_part (entry_of e) (full_row row i)
+      → Owes items row (number * parts_of (entry_of e) + a) (i + 1)
+  owes_next a part =
+      record {
+        within = owes.within;
+        owner =
+            horner number (parts_of (entry_of e)) w a (owner_from (i + 1) (behind items (i + 1)) (full_row row))
+            ∙ ap (λ n. number * (parts_of (entry_of e) * w)
+            + (n * w + owner_from (i + 1) (behind items (i + 1)) (full_row row))) part
+            ∙ sym (ap (λ es. number * workers_of es + owner_from i es (full_row row)) (entry_next items i e low is))
+            ∙ owes.owner;
+      }
+
+pub owes_bound : (items : List Entry) (row : List Value) (number i : ℕ) → Owes items row number i → number < max_workers
+owes_bound items row number i owes =
+    let some = some_behind items i owes.within.some in
+    let up = up_to number (workers_of (behind items i)) some in
+    let below = one_owner (entries_of items) (full_row row) owes.within.some in
+    omega (arith, up, below, owes.owner, owes.within.few)
+  where
+    some_behind : (items : List Entry) (i : ℕ) → 0 < workers_of (entries_of items) → 0 < workers_of (behind items i)
+    some_behind items zero some = some
+    some_behind [] (suc i) some = some
+    some_behind (e ∷ items) (suc i) some =
+        some_behind items i (both_some (parts_of (entry_of e)) (workers_of (entries_of items)) some).1
+
+pub owes_parts : (items : List Entry) (row : List Value) (number i : ℕ) → Owes items row number i → (e : Entry)
+    → i < length items → e ≡ get_or items i e
+    → (0 < parts_of (entry_of e)) × (parts_of (entry_of e) ≤ max_workers)
+    × (number * parts_of (entry_of e) ≤ max_workers * max_workers)
+owes_parts items row number i owes e low is =
+    let h = has_parts (entries_of items) i (entry_of e) owes.within (found_entry items i e low is) in
+    let few = owes_bound items row number i owes in
+    (h.0, h.1, mul-le number (parts_of (entry_of e)) max_workers max_workers (omega (arith, few)) h.1)
+
+pub owes_done : (items : List Entry) (row : List Value) (number i : ℕ) → Owes items row number i → length items ≤ i
+    → number ≡ owner_of (entries_of items) (full_row row)
+owes_done items row number i owes past =
+    let last = sym (ap (λ es. number * workers_of es + owner_from i es (full_row row)) (none_behind items i past))
+    ∙ owes.owner in
+    omega (arith, last, mul-one number)
+
+-- ---- a worker's digits, from the first entry on
+
+-- the worker has these digits in the places behind the entries before place i, which the row lies in
+pub record Nears (items : List Entry) (vs : List ℕ) (v : Valuation) (k digits place i : ℕ) : Type 0 where
+  pub places : place ≡ workers_of (behind items i)
+  pub low : digits < place
+  pub near : near_from i (behind items i) digits vs v ≡ near_of (entries_of items) k vs v
+
+pub nears_all : (items : List Entry) (vs : List ℕ) (v : Valuation) (k place : ℕ) → place ≡ workers_of (entries_of items)
+    → k < place → Nears items vs v k k place 0
+nears_all items vs v k place is low = record { places = is; low = low; near = refl }
+
+module _ (items : List Entry) (vs : List ℕ) (v : Valuation) (k digits place i : ℕ)
+    (nears : Nears items vs v k digits place i) (e : Entry) (low : i < length items) (is : e ≡ get_or items i e) where
+  abbrev pub others : ℕ
+  others = workers_of (behind items (i + 1))
+
+  product : place ≡ parts_of (entry_of e) * others
+  product = nears.places ∙ ap workers_of (entry_next items i e low is)
+
+  positive : (0 < parts_of (entry_of e)) × (0 < others)
+  positive = both_some (parts_of (entry_of e)) others (omega (arith, product, nears.low))
+
+  pub some_parts : 0 < parts_of (entry_of e)
+  some_parts = positive.0
+
+  pub divides : place / parts_of (entry_of e) ≡ others
+  divides = ap (λ n. n / parts_of (entry_of e)) product ∙ quotient (parts_of (entry_of e)) others positive.0
+
+  pub some_others : 0 < place / parts_of (entry_of e)
+  some_others = subst (λ n. 0 < n) (sym divides) positive.1
+
+  abbrev lies : ℕ → Bool
+  lies n = not (among i vs) || nat_eq (strategy_part (entry_of e) (v i)) (digits / n)
+
+  both : (lies others && near_from (i + 1) (behind items (i + 1)) (digits % others) vs v)
+      ≡ near_of (entries_of items) k vs v
+  both = sym (ap (λ es. near_from i es digits vs v) (entry_next items i e low is)) ∙ nears.near
+
+  pub nears_next : lies (place / parts_of (entry_of e)) ≡ true
+      → Nears items vs v k (digits % (place / parts_of (entry_of e))) (place / parts_of (entry_of e)) (i + 1)
+  nears_next here =
+      record {
+        places = divides;
+        low = mod_below digits (place / parts_of (entry_of e)) some_others;
+        near =
+            ap (λ n. near_from (i + 1) (behind items (i + 1)) (digits % n) vs v) divides
+            ∙ sym (ap (λ b. b && near_from (i + 1) (behind items (i + 1)) (digits % others) vs v)
+            (sym (ap lies divides) ∙ here))
+            ∙ both;
+      }
+
+  pub nears_not : lies (place / parts_of (entry_of e)) ≡ false → false ≡ near_of (entries_of items) k vs v
+  nears_not other =
+      sym (ap (λ b. b && near_from (i + 1) (behind items (i + 1)) (digits % others) vs v)
+      (sym (ap lies divides) ∙ other))
+      ∙ both
+
+pub nears_done : (items : List Entry) (vs : List ℕ) (v : Valuation) (k digits place i : ℕ)
+    → Nears items vs v k digits place i → length items ≤ i → true ≡ near_of (entries_of items) k vs v
+nears_done items vs v k digits place i nears past =
+    let one : place ≡ 1 = nears.places ∙ ap workers_of (none_behind items i past) in
+    let zero_is : digits ≡ 0 = omega (arith, one, nears.low) in
+    sym (ap (λ n. nat_eq n 0) zero_is)
+    ∙ sym (ap (λ es. near_from i es digits vs v) (none_behind items i past))
+    ∙ nears.near

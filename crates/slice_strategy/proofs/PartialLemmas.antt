@@ -1,0 +1,67 @@
+-- Values that rows give to variables.
+use Rattle.std.proofs.Common.{◌≡◌, ◌≢◌, ◌∙◌, ℕ, zero, suc, ◌+◌, ◌<◌, ◌≤◌, true, false, cond, nat_eq, ◌||◌}
+use Rattle.std.proofs.Common.{List, [], ◌∷◌, length, drop, get_or, ap, refl, sym, arith, zero-add}
+use Rattle.std.proofs.lemmas.Bool.Decides.{nat_tests}
+use Rattle.std.proofs.lemmas.List.{drop_more}
+use Rattle.std.specs.List.{range_with_len}
+use Rattle.mfotl_model.specs.FreeVariables.{among}
+use Rattle.mfotl_model.specs.Tables.{valuation}
+use Rattle.mfotl_model.specs.declared.value.Value.{Value}
+use Rattle.slice_strategy.proofs.EntryLemmas.{drop_past}
+use Rattle.slice_strategy.specs.Slicers.{full_row}
+
+-- what is still to be looked at says the same of the variable
+pub record Reads (cols : List ℕ) (row : List Value) (y i : ℕ) : Type 0 where
+  pub bound : among y (drop i cols) ≡ among y cols
+  pub value : valuation (drop i cols) (drop i row) y ≡ valuation cols row y
+
+pub reads_all : (cols : List ℕ) (row : List Value) (y : ℕ) → Reads cols row y 0
+reads_all cols row y = record { bound = refl; value = refl }
+
+module _ (cols : List ℕ) (row : List Value) (y i : ℕ) (a : Value) (in_cols : i < length cols) (in_row : i < length row)
+    (reads : Reads cols row y i) where
+  first : nat_eq y (get_or cols i 0) || among y (drop (i + 1) cols) ≡ among y cols
+  first = sym (ap (among y) (drop_more cols i 0 in_cols)) ∙ reads.bound
+
+  taken : cond (nat_eq y (get_or cols i 0)) (get_or row i a) (valuation (drop (i + 1) cols) (drop (i + 1) row) y)
+      ≡ valuation cols row y
+  taken =
+      sym (ap (λ cs. valuation cs (drop i row) y) (drop_more cols i 0 in_cols)
+      ∙ ap (λ r. valuation (get_or cols i 0 ∷ drop (i + 1) cols) r y) (drop_more row i a in_row)) ∙ reads.value
+
+  pub reads_next : get_or cols i 0 ≢ y → Reads cols row y (i + 1)
+  reads_next other =
+      let apart : nat_eq y (get_or cols i 0) ≡ false = grind (arith, nat_tests) in
+      record {
+        bound = sym (ap (λ b. b || among y (drop (i + 1) cols)) apart) ∙ first;
+        value =
+            sym (ap (λ b. cond b (get_or row i a) (valuation (drop (i + 1) cols) (drop (i + 1) row) y)) apart) ∙ taken;
+      }
+
+  pub read_here : get_or cols i 0 ≡ y → (among y cols ≡ true) × (get_or row i a ≡ valuation cols row y)
+  read_here same =
+      let here : nat_eq y (get_or cols i 0) ≡ true = grind (arith, nat_tests) in (
+        sym first ∙ ap (λ b. b || among y (drop (i + 1) cols)) here,
+        sym (ap (λ b. cond b (get_or row i a) (valuation (drop (i + 1) cols) (drop (i + 1) row) y)) here) ∙ taken,
+      )
+
+pub read_none : (cols : List ℕ) (row : List Value) (y i : ℕ) → length cols ≤ i → Reads cols row y i
+    → among y cols ≡ false
+read_none cols row y i past reads = sym reads.bound ∙ ap (among y) (drop_past cols i past)
+
+full_from : (s i : ℕ) (row : List Value) (a : Value) → i < length row
+    → valuation (range_with_len s (length row)) row (s + i) ≡ get_or row i a
+full_from s i [] a low = absurd (omega arith)
+full_from s zero (b ∷ row) a low =
+    let here : nat_eq (s + 0) s ≡ true = grind (arith, nat_tests) in
+    ap (λ t. cond t b (valuation (range_with_len (s + 1) (length row)) row (s + 0))) here
+full_from s (suc i) (b ∷ row) a low =
+    let apart : nat_eq (s + suc i) s ≡ false = grind (arith, nat_tests) in
+    let next : s + suc i ≡ s + 1 + i = omega arith in
+    ap (λ t. cond t b (valuation (range_with_len (s + 1) (length row)) row (s + suc i))) apart
+    ∙ ap (λ n. valuation (range_with_len (s + 1) (length row)) row n) next
+    ∙ full_from (s + 1) i row a (omega arith)
+
+-- a full row gives each variable the value of its number
+pub full_value : (row : List Value) (i : ℕ) (a : Value) → i < length row → full_row row i ≡ get_or row i a
+full_value row i a low = ap (valuation (range_with_len 0 (length row)) row) (sym (zero-add i)) ∙ full_from 0 i row a low

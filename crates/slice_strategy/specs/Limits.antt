@@ -1,0 +1,6 @@
+-- How many workers there may be.
+use Rattle.std.specs.Prelude.{ℕ}
+
+-- the workers of a strategy
+abbrev pub max_workers : ℕ
+max_workers = 64
