@@ -1,0 +1,3 @@
+pub mod AtomLemmas
+pub mod PartLemmas
+pub mod SightingLemmas

@@ -1,0 +1,5 @@
+pub mod AtomSteps
+pub mod Sightings
+pub mod SightingView
+pub mod Parts
+pub mod Examples

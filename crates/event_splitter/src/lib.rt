@@ -1,0 +1,10 @@
+//! Splits time-points among workers: each gets the events that its rows can see.
+#![tactic(auto)]
+
+pub mod examples;
+mod matching;
+mod reading;
+mod sighting;
+mod time_point;
+
+pub use time_point::split;

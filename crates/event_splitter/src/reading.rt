@@ -1,0 +1,81 @@
+//! What events give to the variables of atoms.
+ghost use Rattle.std.specs.Prelude.{◌≡◌, ◌<◌, IfOk};
+ghost use Rattle.std.specs.List.{flat_map};
+ghost use Rattle.mfotl_model.specs.FreeVariables.{variable_in};
+ghost use Rattle.event_splitter.specs.Sightings.{is_near, reading_of, readings_of};
+
+use crate::matching::{is_match, row_read};
+use mfotl_model::{Atom, Event, Partial, Row, Term};
+use slice_strategy::Slicer;
+use std::alloc::{AllocError, Global};
+use std::marker::Model;
+
+/// The variables of an atom, and the values that an event gives to them.
+#[derive(Drop)]
+pub(crate) struct Reading {
+    columns: Vec<u32>,
+    row: Row,
+}
+
+impl Model for Reading {
+    ghost use Rattle.std.specs.Prelude.{◌≡◌, length};
+    ghost use Rattle.event_splitter.specs.Sightings.{ReadingOf};
+
+    ghost Value = { ReadingOf };
+
+    ghost view = { λ r. record { columns = r.columns.items; row = r.row } };
+
+    ghost invariant = { λ r. length r.columns.items ≡ length r.row };
+}
+
+impl Reading {
+    pub(crate) fn new(alloc: Global, atom: &Atom, event: &Event) -> Result<Self, AllocError>
+        ensures { IfOk result (λ reading. reading ≡ reading_of event.now atom.now) }
+    {
+        let columns = variables(alloc, atom.args.as_slice())?;
+        let row = row_read(alloc, atom, columns.as_slice(), event)?;
+        Ok(Reading { columns, row })
+    }
+
+    /// Whether it may be of concern to worker `k`.
+    pub(crate) fn is_near<S: Slicer>(&self, slicer: &S, k: u32) -> bool
+        requires { k < S.count slicer.now }
+        ensures { result ≡ is_near (S.region slicer.now k) self.now }
+    {
+        let part = Partial {
+            cols: &self.columns,
+            row: &self.row,
+        };
+        slicer.near(k, &part)
+    }
+}
+
+// The variables of the terms, as often as they stand there.
+fn variables(alloc: Global, terms: &[Term]) -> Result<Vec<u32>, AllocError>
+    ensures { IfOk result (λ vars. vars.items ≡ flat_map variable_in terms.now) }
+{
+    let mut vars = Vec::new(alloc);
+    for term in terms {
+        if let Term::Var(x) = term {
+            vars.push(*x)?;
+        }
+    }
+    Ok(vars)
+}
+
+/// What the event gives to the atoms that stand for it.
+pub(crate) fn readings(
+    alloc: Global,
+    atoms: &[Atom],
+    event: &Event,
+) -> Result<Vec<Reading>, AllocError>
+    ensures { IfOk result (λ readings. readings.items ≡ readings_of atoms.now event.now) }
+{
+    let mut readings = Vec::new(alloc);
+    for atom in atoms {
+        if is_match(atom, event) {
+            readings.push(Reading::new(alloc, atom, event)?)?;
+        }
+    }
+    Ok(readings)
+}
