@@ -1,5 +1,5 @@
 -- What is gathered of the time-points that have no verdict yet.
-use Rattle.std.specs.Prelude.{ℕ, Bool, ◌&&◌, cond, nat_eq, not, List, [], ◌∷◌, length, filter, Option, Some, None}
+use Rattle.std.specs.Prelude.{ℕ, Bool, ◌&&◌, cond, nat_eq, not, List, length, filter, Option, Some, None}
 use Rattle.std.specs.List.{find, flat_map}
 use Rattle.mfotl_model.specs.declared.value.Value.{Value}
 use Rattle.verdict_merge.specs.declared.rows.Rows.{Rows}
