@@ -1,0 +1,35 @@
+-- Laws of merged rows.
+use Rattle.std.specs.Prelude.{◌≡◌, ◌≢◌, ℕ, ◌<◌, ⊤, nat_eq, List, [], ◌∷◌, length, map, filter}
+use Rattle.std.specs.List.{AllByRecursion}
+use Rattle.std.specs.List.Sorted.{IsPermutation, IsStrictlySortedBy}
+use Rattle.mfotl_model.specs.Ascending.{ascending}
+use Rattle.mfotl_model.specs.Values.{row_cmp}
+use Rattle.mfotl_model.specs.declared.value.Value.{Value}
+use Rattle.verdict_merge.specs.declared.rows.Rows.{Rows}
+use Rattle.verdict_merge.specs.Gathers.{all_rows}
+
+-- where the Rows are a partition of an ascending list, the merged rows are that list
+abbrev pub PartitionMerges : Type 0
+PartitionMerges =
+    (given : List Rows) (all : List (List Value)) → IsStrictlySortedBy row_cmp all
+    → IsPermutation (all_rows given) all → ascending row_cmp (all_rows given) ≡ all
+
+-- no number stands twice
+abbrev pub Apart : List ℕ → Type 0
+Apart [] = ⊤
+Apart (k ∷ ks) = AllByRecursion (λ j. k ≢ j) ks × Apart ks
+
+-- the Rows of so many workers are by owner a partition of a list: each worker's Rows are there once, with the
+-- rows of the list that the worker owns
+pub record IsPartition (owner : List Value → ℕ) (count : ℕ) (given : List Rows) (all : List (List Value)) : Type 0 where
+  pub owned : AllByRecursion (λ row. owner row < count) all
+  pub parts : AllByRecursion (λ (r : Rows). r.rows ≡ filter (λ row. nat_eq (owner row) r.worker) all) given
+  pub near : AllByRecursion (λ k. k < count) (map (λ (r : Rows). r.worker) given)
+  pub apart : Apart (map (λ (r : Rows). r.worker) given)
+  pub whole : length (map (λ (r : Rows). r.worker) given) ≡ count
+
+-- where the Rows are by owner a partition of an ascending list, the merged rows are that list
+abbrev pub OwnersMerge : Type 0
+OwnersMerge =
+    (owner : List Value → ℕ) (count : ℕ) (given : List Rows) (all : List (List Value)) → IsStrictlySortedBy row_cmp all
+    → IsPartition owner count given all → ascending row_cmp (all_rows given) ≡ all

@@ -1,0 +1,12 @@
+//! Laws of merged rows, as theorems on the definitions. Each call does nothing: its clause is the law.
+ghost use Rattle.verdict_merge.specs.Laws.{OwnersMerge, PartitionMerges};
+
+/// Where what the workers say is a partition of an ascending list, the merged rows are that list.
+pub fn partition_merges()
+    ensures { PartitionMerges }
+{}
+
+/// Where what the workers say is by owner a partition of an ascending list, the merged rows are that list.
+pub fn owners_merge()
+    ensures { OwnersMerge }
+{}

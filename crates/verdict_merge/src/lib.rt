@@ -1,0 +1,11 @@
+//! The verdicts of many workers put together: one for each time-point, in order.
+#![tactic(auto)]
+
+mod gather;
+pub mod laws;
+mod rows;
+mod text;
+
+pub use gather::Gather;
+pub use rows::{Rows, Verdict};
+pub use text::line;
