@@ -15,7 +15,7 @@ use Rattle.mfotl_model.specs.declared.value.Value.{Value}
 use Rattle.verdict_merge.proofs.CountLemmas.{at_most}
 use Rattle.verdict_merge.proofs.MergeLemmas.{both_ways}
 use Rattle.verdict_merge.specs.Gathers.{all_rows}
-use Rattle.verdict_merge.specs.Laws.{IsPartition, OwnersMerge}
+use Rattle.verdict_merge.specs.Laws.{EveryWorker, IsPartition, OwnersMerge}
 use Rattle.verdict_merge.specs.declared.rows.Rows.{Rows}
 
 or_true : (a : Bool) → (a || true) ≡ true
@@ -88,12 +88,15 @@ module _ (p : List Value → Bool) where
       found k (r ∷ rs) parts h = at (ℕ_discrete k r.worker) (found k rs parts.1 h)
         where
           at : Dec (k ≡ r.worker) → (list_any p (all_rows rs) ≡ true) ⊎ AllByRecursion (λ j. k ≢ j) (workers rs)
-              → (list_any p (r.rows ++ all_rows rs) ≡ true) ⊎ ((k ≢ r.worker) × AllByRecursion (λ j. k ≢ j) (workers rs))
+              → (list_any p (r.rows ++ all_rows rs) ≡ true)
+              ⊎ ((k ≢ r.worker) × AllByRecursion (λ j. k ≢ j) (workers rs))
           at (yes e) next =
-              let here : list_any p r.rows ≡ true = ap (list_any p) parts.0 ∙ subst (λ j. list_any p (part j all) ≡ true) e h in
+              let here : list_any p r.rows ≡ true =
+              ap (list_any p) parts.0 ∙ subst (λ j. list_any p (part j all) ≡ true) e h in
               inl (list_any-append p r.rows (all_rows rs) ∙ ap (λ b. b || list_any p (all_rows rs)) here)
           at (no ne) (inl t) =
-              inl (list_any-append p r.rows (all_rows rs) ∙ ap (λ b. list_any p r.rows || b) t ∙ or_true (list_any p r.rows))
+              inl (list_any-append p r.rows (all_rows rs)
+              ∙ ap (λ b. list_any p r.rows || b) t ∙ or_true (list_any p r.rows))
           at (no ne) (inr none) = inr (ne, none)
 
       in_given : (n : ℕ) (given : List Rows) → IsPartition owner n given all → list_any p all ≡ true
@@ -101,7 +104,8 @@ module _ (p : List Value → Bool) where
       in_given n given is h =
           let (k, low, t) = some_part n all is.owned h in
           ⊎_elim (λ e. e)
-          (λ none. absurd (let more = at_most n (k ∷ workers given) (none, is.apart) (low, is.near) in let w = is.whole in omega arith))
+          (λ none. absurd (let more = at_most n (k ∷ workers given) (none, is.apart) (low, is.near) in
+          let w = is.whole in omega arith))
           (found k given is.parts t)
 
 pub owners_merge : OwnersMerge
@@ -113,3 +117,19 @@ owners_merge owner n given all sorted is =
     ∙ both_ways (list_any (eq_by_cmp row_cmp q) (all_rows given)) (list_any (eq_by_cmp row_cmp q) all)
     (in_all (eq_by_cmp row_cmp q) owner all given is.parts) (in_given (eq_by_cmp row_cmp q) owner all n given is))
     row_exact
+
+among : (k : ℕ) (ks : List ℕ) → (list_any (nat_eq k) ks ≡ true) ⊎ AllByRecursion (λ j. k ≢ j) ks
+among k [] = inr tt
+among k (j ∷ js) = at (ℕ_discrete k j) (among k js)
+  where
+    at : Dec (k ≡ j) → (list_any (nat_eq k) js ≡ true) ⊎ AllByRecursion (λ i. k ≢ i) js
+        → ((nat_eq k j || list_any (nat_eq k) js) ≡ true) ⊎ ((k ≢ j) × AllByRecursion (λ i. k ≢ i) js)
+    at (yes e) next = inl (ap (λ b. b || list_any (nat_eq k) js) (eq-eqb k j e))
+    at (no n) (inl t) = inl (ap (λ b. nat_eq k j || b) t ∙ or_true (nat_eq k j))
+    at (no n) (inr none) = inr (n, none)
+
+pub every_worker : EveryWorker
+every_worker count workers apart near whole k low =
+    ⊎_elim (λ e. e)
+    (λ none. absurd (let more = at_most count (k ∷ workers) (none, apart) (low, near) in omega arith))
+    (among k workers)

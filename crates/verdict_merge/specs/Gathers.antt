@@ -39,7 +39,8 @@ rows_after point added = filter (λ rows. not (at_point point rows)) added
 
 -- whether both are of the same worker and time-point
 abbrev pub is_from : Rows → Rows → Bool
-is_from one other = nat_eq one.point other.point && (nat_eq one.generation other.generation && nat_eq one.worker other.worker)
+is_from one other =
+    nat_eq one.point other.point && (nat_eq one.generation other.generation && nat_eq one.worker other.worker)
 
 -- all rows of all Rows
 abbrev pub all_rows : List Rows → List (List Value)

@@ -1,6 +1,6 @@
 -- Laws of merged rows.
-use Rattle.std.specs.Prelude.{◌≡◌, ◌≢◌, ℕ, ◌<◌, ⊤, nat_eq, List, [], ◌∷◌, length, map, filter}
-use Rattle.std.specs.List.{AllByRecursion}
+use Rattle.std.specs.Prelude.{◌≡◌, ◌≢◌, ℕ, ◌<◌, ⊤, true, nat_eq, List, [], ◌∷◌, length, map, filter}
+use Rattle.std.specs.List.{AllByRecursion, list_any}
 use Rattle.std.specs.List.Sorted.{IsPermutation, IsStrictlySortedBy}
 use Rattle.mfotl_model.specs.Ascending.{ascending}
 use Rattle.mfotl_model.specs.Values.{row_cmp}
@@ -33,3 +33,9 @@ abbrev pub OwnersMerge : Type 0
 OwnersMerge =
     (owner : List Value → ℕ) (count : ℕ) (given : List Rows) (all : List (List Value)) → IsStrictlySortedBy row_cmp all
     → IsPartition owner count given all → ascending row_cmp (all_rows given) ≡ all
+
+-- so many Rows of workers below a number as the number, no worker's twice, are the Rows of every one of them
+abbrev pub EveryWorker : Type 0
+EveryWorker =
+    (count : ℕ) (workers : List ℕ) → Apart workers → AllByRecursion (λ k. k < count) workers
+    → length workers ≡ count → (k : ℕ) → k < count → list_any (nat_eq k) workers ≡ true
