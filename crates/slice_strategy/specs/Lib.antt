@@ -2,3 +2,6 @@ pub mod Limits
 pub mod Entries
 pub mod Slicers
 pub mod SlicerLemmas
+pub mod Reading
+pub mod Answers
+pub mod FaultTexts

@@ -2,9 +2,12 @@
 #![tactic(auto)]
 
 mod entry;
+mod fault;
 mod limits;
 mod slicer;
+mod stage;
 mod strategy;
 
+pub use fault::StrategyFault;
 pub use slicer::Slicer;
 pub use strategy::Strategy;
