@@ -25,12 +25,12 @@ drop_past (x ∷ xs) (suc i) past = drop_past xs i (omega arith)
 abbrev pub behind : List Entry → ℕ → Strategy
 behind items i = entries_of (drop i items)
 
-entry_next : (items : List Entry) (i : ℕ) (e : Entry) → i < length items → e ≡ get_or items i e
+pub entry_next : (items : List Entry) (i : ℕ) (e : Entry) → i < length items → e ≡ get_or items i e
     → behind items i ≡ entry_of e ∷ behind items (i + 1)
 entry_next items i e low is =
     ap entries_of (drop_more items i e low) ∙ ap (λ x. entry_of x ∷ behind items (i + 1)) (sym is)
 
-none_behind : (items : List Entry) (i : ℕ) → length items ≤ i → behind items i ≡ []
+pub none_behind : (items : List Entry) (i : ℕ) → length items ≤ i → behind items i ≡ []
 none_behind items i past = ap entries_of (drop_past items i past)
 
 quotient : (p w : ℕ) → 0 < p → p * w / p ≡ w

@@ -1,3 +1,4 @@
 pub mod RemainderLemmas
 pub mod PartialLemmas
 pub mod EntryLemmas
+pub mod CountLemmas

@@ -173,9 +173,13 @@ complete end entries _ = Err (Syntax end)
 abbrev pub at_end : ℕ → Partial → Result Strategy StrategyFault
 at_end end p = ended p.entries p.stage >>= λ q. complete end q.entries q.stage
 
+-- a fault of the lexer stands at this offset
+abbrev pub broken : Partial → ℕ → Result Strategy StrategyFault
+broken p at = ended p.entries p.stage >>= λ q. Err (Syntax at)
+
 -- behind the whole tokens: a fault of the lexer, the end, or the entries so far where more may come
 abbrev pub at_tail : Tail LexFault → Partial → Result Strategy StrategyFault
-at_tail (Broken fault) p = ended p.entries p.stage >>= λ q. Err (Syntax fault.at)
+at_tail (Broken fault) p = broken p fault.at
 at_tail (End end) p = at_end end p
 at_tail More p = Ok p.entries
 

@@ -4,6 +4,7 @@
 mod entry;
 mod fault;
 mod limits;
+mod reading;
 mod slicer;
 mod stage;
 mod strategy;
