@@ -1,5 +1,7 @@
 -- Entries one by one, as the loops over them go.
-use Rattle.std.proofs.Common.{◌≡◌, ◌∙◌, ℕ, zero, suc, ◌+◌, ◌*◌, ◌/◌, ◌%◌, ◌<◌, ◌≤◌, Bool, true, false, not, nat_eq, ◌&&◌, ◌||◌, List, [], ◌∷◌, length, drop, get_or, Option, Some, None, option_map, slice_get, add-zero, ap, refl, sym, subst, arith}
+use Rattle.std.proofs.Common.{◌≡◌, ◌∙◌, ℕ, zero, suc, ◌+◌, ◌*◌, ◌/◌, ◌%◌, ◌<◌, ◌≤◌, Bool, true, false, not, nat_eq}
+use Rattle.std.proofs.Common.{◌&&◌, ◌||◌, List, [], ◌∷◌, length, drop, get_or, Some, option_map}
+use Rattle.std.proofs.Common.{slice_get, add-zero, ap, refl, sym, subst, arith}
 use Rattle.std.proofs.lemmas.List.{drop_more}
 use Rattle.std.proofs.lemmas.Nat.{mul-le, mod_below, div-mul-add}
 use Rattle.std.proofs.Math.Nat.{mul_comm, mul_assoc, add-mul, mul-one, zero-mul}
@@ -7,7 +9,8 @@ use Rattle.std.proofs.lemmas.Option.{slice_get-map, slice_get-get_or}
 use Rattle.mfotl_model.specs.FreeVariables.{among}
 use Rattle.mfotl_model.specs.Regions.{near_from, near_of}
 use Rattle.mfotl_model.specs.Satisfaction.{Valuation}
-use Rattle.mfotl_model.specs.Strategies.{Entry as EntryOf, Strategy, owner_from, owner_of, strategy_part, parts_of, workers_of}
+use Rattle.mfotl_model.specs.Strategies.{Entry as EntryOf, Strategy, owner_from, owner_of, strategy_part, parts_of}
+use Rattle.mfotl_model.specs.Strategies.{workers_of}
 use Rattle.slice_strategy.specs.declared.entry.Entry.{Entry}
 use Rattle.slice_strategy.specs.Entries.{entry_of, entries_of, HasWorkers}
 use Rattle.mfotl_model.specs.declared.value.Value.{Value}
@@ -62,13 +65,15 @@ has_parts es i e has found = let r = by es i found has.some in (r.0, omega (arit
         let both = both_some (parts_of d) (workers_of es) some in
         let r = by es i found both.1 in
         let up : workers_of es ≤ parts_of d * workers_of es =
-        subst (λ n. workers_of es ≤ n) (mul_comm (workers_of es) (parts_of d)) (up_to (workers_of es) (parts_of d) both.0) in
+        subst (λ n. workers_of es ≤ n) (mul_comm (workers_of es) (parts_of d))
+        (up_to (workers_of es) (parts_of d) both.0) in
         (r.0, omega (arith, r.1, up))
 
 pub found_entry : (items : List Entry) (i : ℕ) (e : Entry) → i < length items → e ≡ get_or items i e
     → slice_get (entries_of items) i ≡ Some (entry_of e)
 found_entry items i e low is =
-    slice_get-map entry_of items i ∙ ap (option_map entry_of) (slice_get-get_or items i e low ∙ ap (λ x. Some x) (sym is))
+    slice_get-map entry_of items i
+    ∙ ap (option_map entry_of) (slice_get-get_or items i e low ∙ ap (λ x. Some x) (sym is))
 
 pub entries_size : (items : List Entry) → length (entries_of items) ≡ length items
 entries_size [] = refl

@@ -1,5 +1,6 @@
 -- Values that rows give to variables.
-use Rattle.std.proofs.Common.{◌≡◌, ◌≢◌, ◌∙◌, ℕ, zero, suc, ◌+◌, ◌<◌, ◌≤◌, Bool, true, false, cond, nat_eq, ◌||◌, List, [], ◌∷◌, length, drop, get_or, ap, refl, sym, arith, zero-add}
+use Rattle.std.proofs.Common.{◌≡◌, ◌≢◌, ◌∙◌, ℕ, zero, suc, ◌+◌, ◌<◌, ◌≤◌, true, false, cond, nat_eq, ◌||◌}
+use Rattle.std.proofs.Common.{List, [], ◌∷◌, length, drop, get_or, ap, refl, sym, arith, zero-add}
 use Rattle.std.proofs.lemmas.Bool.Decides.{nat_tests}
 use Rattle.std.proofs.lemmas.List.{drop_more}
 use Rattle.std.specs.List.{range_with_len}
@@ -33,7 +34,8 @@ module _ (cols : List ℕ) (row : List Value) (y i : ℕ) (a : Value) (in_cols :
       let apart : nat_eq y (get_or cols i 0) ≡ false = grind (arith, nat_tests) in
       record {
         bound = sym (ap (λ b. b || among y (drop (i + 1) cols)) apart) ∙ first;
-        value = sym (ap (λ b. cond b (get_or row i a) (valuation (drop (i + 1) cols) (drop (i + 1) row) y)) apart) ∙ taken;
+        value =
+            sym (ap (λ b. cond b (get_or row i a) (valuation (drop (i + 1) cols) (drop (i + 1) row) y)) apart) ∙ taken;
       }
 
   pub read_here : get_or cols i 0 ≡ y → (among y cols ≡ true) × (get_or row i a ≡ valuation cols row y)

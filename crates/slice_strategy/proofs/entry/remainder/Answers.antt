@@ -1,4 +1,4 @@
-use Rattle.std.proofs.Common.{◌≡◌, ◌∙◌, ap, unsigned_abs, to_z, of_z, arith}
+use Rattle.std.proofs.Common.{arith}
 use Rattle.slice_strategy.proofs.RemainderLemmas.{euclid}
 use Rattle.slice_strategy.proofs.entry.remainder.Goals as goal
 

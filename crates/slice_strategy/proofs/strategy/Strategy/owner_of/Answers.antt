@@ -1,4 +1,4 @@
-use Rattle.std.proofs.Common.{◌≡◌, ◌<◌, ◌∙◌, ap, sym, length, arith}
+use Rattle.std.proofs.Common.{◌<◌, ◌∙◌, ap, sym, length, arith}
 use Rattle.mfotl_model.specs.Strategies.{strategy_part}
 use Rattle.slice_strategy.specs.Entries.{entry_of}
 use Rattle.slice_strategy.specs.SlicerLemmas.{part_below}
@@ -45,7 +45,8 @@ loop-variable-preserved c =
     rw c.parts.ensures
     (owes_next c.deref-entry-items.result.now c.args.row.now l.number l.variable l.invariant c.entry-item.result
     c.loop-variable-test.true c.entry-item.is c.part.result
-    (c.part.ensures ∙ ap (strategy_part (entry_of c.entry-item.result)) (rw c.values-values.ensures at item ∙ sym value)))
+    (c.part.ensures ∙ ap (strategy_part (entry_of c.entry-item.result))
+    (rw c.values-values.ensures at item ∙ sym value)))
 
 pub overflow_cast-result : goal.overflow_cast-result
 overflow_cast-result c =

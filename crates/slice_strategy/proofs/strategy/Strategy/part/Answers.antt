@@ -1,4 +1,4 @@
-use Rattle.std.proofs.Common.{◌≡◌, ◌∙◌, ap, sym, slice_get, arith}
+use Rattle.std.proofs.Common.{◌∙◌, ap, sym, slice_get, arith}
 use Rattle.slice_strategy.specs.Entries.{entries_of, entry_of, part_by}
 use Rattle.slice_strategy.specs.SlicerLemmas.{part_below}
 use Rattle.slice_strategy.proofs.EntryLemmas.{read_entry, has_parts}
