@@ -42,7 +42,7 @@ quotient p w some = ap (λ n. n / p) (mul_comm p w) ∙ by
     by : w * p / p ≡ w
     by = ap (λ n. n / p) (sym (add-zero (w * p))) ∙ div-mul-add w p 0 some
 
-up_to : (n w : ℕ) → 0 < w → n ≤ n * w
+pub up_to : (n w : ℕ) → 0 < w → n ≤ n * w
 up_to n w some = let one : n * 1 ≤ n * w = mul-le n 1 n w (omega arith) (omega arith) in
     let same : n * 1 ≡ n = mul-one n in omega (arith, one, same)
 
