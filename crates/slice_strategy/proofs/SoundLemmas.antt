@@ -1,31 +1,33 @@
 -- What a reader has read stays sound, token by token.
-use Rattle.std.proofs.Common.{◌≡◌, ◌∙◌, ℕ, zero, suc, ◌+◌, ◌*◌, ◌<◌, ◌≤◌, Bool, true, false, nat_le, if◌then◌else◌}
+use Rattle.std.proofs.Common.{◌≡◌, ◌∙◌, ℕ, zero, suc, ◌-◌, ◌^◌, ◌<◌, ◌≤◌, Bool, true, false, nat_le, if◌then◌else◌, min}
 use Rattle.std.proofs.Common.{List, [], ◌∷◌, ◌++◌, length, replicate, Option, Some, None, Result, Ok, Err}
 use Rattle.std.proofs.Common.{slice_get, slice_set, ap, refl, sym, subst, arith}
-use Rattle.std.specs.Prelude.{ℤ, pos, negsuc, unsigned_abs, int_le, codes}
+use Rattle.std.specs.Prelude.{ℤ, pos, negsuc, codes}
 use Rattle.std.specs.Str.{bytes_eq}
-use Rattle.std.proofs.lemmas.Bool.{leb-true}
+use Rattle.std.proofs.lemmas.Bool.{le-leb, leb-true, lt-leb}
 use Rattle.std.proofs.lemmas.Option.{slice_get_within}
-use Rattle.std.proofs.lemmas.List.{length-set}
+use Rattle.std.proofs.lemmas.List.{map-set}
 use Rattle.std.proofs.Math.Nat.{one-mul, one-le-mul}
 use Rattle.mfotl_lex.specs.declared.kind.Kind.{Kind}
-use Rattle.mfotl_lex.specs.declared.kind.Kind.TheVariants.{Word, Integer, Comma, Colon, Equal}
-use Rattle.mfotl_lex.specs.FirstFault.{◌>>=◌}
+use Rattle.mfotl_lex.specs.declared.kind.Kind.TheVariants.{Word, Integer, Colon, Equal}
 use Rattle.mfotl_lex.specs.Lexemes.{Lexeme}
 use Rattle.mfotl_lex.specs.Numbers.{integer_value}
 use Rattle.mfotl_model.specs.Strategies.{Entry, Strategy, parts_of, workers_of}
 use Rattle.mfotl_model.specs.Strategies.Entry.{Uncut, Hash, Cut}
 use Rattle.mfotl_model.specs.declared.policy.Var.{Var}
-use Rattle.slice_strategy.specs.declared.fault.StrategyFault.TheVariants.{CutSort, CutOrder}
+use Rattle.slice_strategy.specs.declared.fault.StrategyFault.{StrategyFault}
+use Rattle.slice_strategy.specs.declared.fault.StrategyFault.TheVariants.{BadCount, CutSort, CutOrder}
+use Rattle.slice_strategy.specs.declared.fault.StrategyFault.TheVariants.{TooManyWorkers}
+use Rattle.slice_strategy.specs.declared.entry.Entry.{Entry as Item}
 use Rattle.slice_strategy.specs.declared.stage.Head.{Head}
 use Rattle.slice_strategy.specs.declared.stage.Method.{Method}
 use Rattle.slice_strategy.specs.declared.stage.Method.TheVariants as method
-use Rattle.slice_strategy.specs.Entries.{HasWorkers}
+use Rattle.slice_strategy.specs.Entries.{entries_of, entry_of}
 use Rattle.slice_strategy.specs.Limits.{max_workers}
 use Rattle.slice_strategy.specs.Reading.{StageOf, Between, Named, Chosen, Divided, Counting, Cutting, Behind, Partial}
-use Rattle.slice_strategy.specs.Reading.{StageFits, IsSound, variable_of, fresh, named, begins, after_name, chosen}
-use Rattle.slice_strategy.specs.Reading.{after_equal, after_method, counted, count_step, is_above, divided, cut_step}
-use Rattle.slice_strategy.specs.Reading.{goes_on, stage_step, holds_text, syntax_at, nothing_read, with_entry, ended}
+use Rattle.slice_strategy.specs.Reading.{StageFits, IsSound, variable_of, fresh, named, begins, after_name}
+use Rattle.slice_strategy.specs.Reading.{after_equal, after_method, counted, count_step, is_above, cut_step}
+use Rattle.slice_strategy.specs.Reading.{goes_on, stage_step, holds_text, syntax_at, ended}
 use Rattle.slice_strategy.specs.SlicerLemmas.{both_some}
 
 -- ---- the stages
@@ -74,11 +76,14 @@ module _ (n : ℕ) (head : Head) (low : head.variable < n) (t : Lexeme) (s : Sta
   method_fits method.Cut Colon is = let same : Cutting head [] ≡ s = cc in subst (λ x. StageFits n x) same low
   method_fits m _ is = absurd cc
 
+  counted_by : (m : ℕ) (enough : Bool) → nat_le 1 m ≡ enough
+      → (if enough then Ok (Behind head (Hash m)) else Err (BadCount t.at)) ≡ Ok s → StageFits n s
+  counted_by m true enough is =
+      let same : Behind head (Hash m) ≡ s = cc in subst (λ x. StageFits n x) same (low, leb-true 1 m enough)
+  counted_by m false few is = absurd cc
+
   counted_fits : (v : ℤ) → counted head v t.at ≡ Ok s → StageFits n s
-  counted_fits (pos zero) is = absurd cc
-  counted_fits (pos (suc k)) is =
-      let same : Behind head (Hash (suc k)) ≡ s = cc in
-      subst (λ x. StageFits n x) same (low, omega arith)
+  counted_fits (pos m) is = counted_by m (nat_le 1 m) refl is
   counted_fits (negsuc k) is = absurd cc
 
   count_fits : (kind : Kind) → count_step head t kind ≡ Ok s → StageFits n s
@@ -130,3 +135,46 @@ some_set [] i e parts some = some
 some_set (d ∷ es) zero e parts some = one-le-mul parts (both_some (parts_of d) (workers_of es) some).1
 some_set (d ∷ es) (suc i) e parts some =
     let both = both_some (parts_of d) (workers_of es) some in one-le-mul both.0 (some_set es i e parts both.1)
+
+-- An open entry becomes its variable's, and the workers are counted then.
+module _ (items : List Item) (head : Head) (entry : Item) (slice : List Item) (n : ℕ)
+    (is : slice ≡ slice_set items head.variable entry)
+    (counted_so : n ≡ min (workers_of (entries_of slice)) (2 ^ 64 - 1)) where
+  abbrev pub set_entries : Strategy
+  set_entries = slice_set (entries_of items) head.variable (entry_of entry)
+
+  same : entries_of (slice_set items head.variable entry) ≡ set_entries
+  same = map-set entry_of items head.variable entry
+
+  count : n ≡ min (workers_of set_entries) (2 ^ 64 - 1)
+  count = counted_so ∙ ap (λ es. min (workers_of (entries_of es)) (2 ^ 64 - 1)) is
+      ∙ ap (λ es. min (workers_of es) (2 ^ 64 - 1)) same
+
+  abbrev due : Bool → Result Partial StrategyFault
+  due few =
+      if few then Ok (record { entries = set_entries; stage = Between }) else Err (TooManyWorkers head.at)
+
+  pub too_many : max_workers < n → ended (entries_of items) (Behind head (entry_of entry)) ≡ Err (TooManyWorkers head.at)
+  too_many many = ap due (lt-leb (workers_of set_entries) max_workers (omega (arith, count, many)))
+
+  few_workers : n ≤ max_workers → workers_of set_entries ≤ max_workers
+  few_workers few = omega (arith, count, few)
+
+  pub not_too_many : n ≤ max_workers → ended (entries_of items) (Behind head (entry_of entry))
+      ≡ Ok (record { entries = entries_of (slice_set items head.variable entry); stage = Between })
+  not_too_many few =
+      ap due (le-leb (workers_of set_entries) max_workers (few_workers few))
+      ∙ ap (λ es. Ok (record { entries = es; stage = Between })) (sym same)
+
+  pub set_sound : n ≤ max_workers
+      → IsSound (record { entries = entries_of items; stage = Behind head (entry_of entry) })
+      → IsSound (record { entries = entries_of (slice_set items head.variable entry); stage = Between })
+  set_sound few sound =
+      subst (λ es. IsSound (record { entries = es; stage = Between })) (sym same)
+      (record {
+        within = record {
+          some = some_set (entries_of items) head.variable (entry_of entry) sound.fits.1 sound.within.some;
+          few = few_workers few;
+        };
+        fits = tt;
+      })

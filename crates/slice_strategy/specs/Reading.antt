@@ -1,5 +1,5 @@
 -- Reading a strategy token by token, up to the first fault.
-use Rattle.std.specs.Prelude.{◌≡◌, ◌<◌, ℕ, pos, ℤ, Bool, List, [], ◌∷◌, ◌++◌, length, Option, Some, None, Result, Ok}
+use Rattle.std.specs.Prelude.{◌<◌, ℕ, pos, ℤ, Bool, List, [], ◌∷◌, ◌++◌, length, Option, Some, None, Result, Ok}
 use Rattle.std.specs.Prelude.{Err, if◌then◌else◌, nat_le, int_le, position, replicate, slice_get, slice_set, codes}
 use Rattle.std.specs.Prelude.{unsigned_abs, int_lt, true, false, ◌-◌}
 use Rattle.std.specs.Str.{bytes_eq}

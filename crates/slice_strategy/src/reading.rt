@@ -3,7 +3,7 @@ ghost use Rattle.std.specs.Prelude.{◌≡◌, IfOk, length, replicate};
 ghost use Rattle.mfotl_model.specs.Strategies.Entry.{Uncut};
 ghost use Rattle.slice_strategy.specs.Entries.{entries_of};
 ghost use Rattle.mfotl_lex.specs.Lexemes.{lexeme};
-ghost use Rattle.slice_strategy.specs.Answers.{Gives};
+ghost use Rattle.slice_strategy.specs.Answers.{Fails, Gives};
 ghost use Rattle.slice_strategy.specs.Reading.{step, settled, ended, at_end, broken, nothing_read, reading};
 
 use crate::entry::{Entry, count_workers};
@@ -104,7 +104,7 @@ impl Reader {
 
     /// Where the lexer has a fault at this offset.
     fn broken(self, at: u64) -> StrategyFault
-        ensures { broken self at ≡ Err result }
+        ensures { Fails result (broken self at) }
     {
         match self.ended() {
             Ok(_) => StrategyFault::Syntax(at),
