@@ -12,7 +12,7 @@ use crate::limits::MAX_WORKERS;
 use crate::stage::Stage;
 use crate::strategy::Strategy;
 use mfotl_lex::{Kind, Lexer, Mode, Token};
-use mfotl_model::Var;
+use mfotl_model::{Policy, Var};
 use std::alloc::{AllocError, Global};
 use std::marker::Model;
 
@@ -86,7 +86,10 @@ impl Reader {
                 if count_workers(entries.as_slice()) > MAX_WORKERS {
                     return Err(StrategyFault::TooManyWorkers(head.at));
                 }
-                Ok(Reader { entries, stage: Stage::Between })
+                Ok(Reader {
+                    entries,
+                    stage: Stage::Between,
+                })
             }
             stage => Ok(Reader { entries, stage }),
         }
@@ -114,11 +117,7 @@ impl Reader {
 }
 
 /// The strategy of a text over these variables, or its first fault.
-pub fn read_strategy(
-    alloc: Global,
-    bytes: &[u8],
-    vars: &[Var],
-) -> Result<Strategy, StrategyFault>
+fn read_strategy(alloc: Global, bytes: &[u8], vars: &[Var]) -> Result<Strategy, StrategyFault>
     ensures { Gives (λ s. s) result (reading vars.now bytes.now) }
 {
     let mut reader = Reader::new(alloc, vars)?;
@@ -129,5 +128,18 @@ pub fn read_strategy(
             Ok(None) => return reader.finish(bytes.len() as u64),
             Err(fault) => return Err(reader.broken(fault.at)),
         }
+    }
+}
+
+impl Strategy {
+    /// The strategy of a text, over a policy's free variables.
+    ///
+    /// `StrategyFault` is the first fault from left to right, each at the token that shows it, but
+    /// `TooManyWorkers` at the Word of the entry, and waiting for what follows its last integer. Where the
+    /// lexer has a fault it is `Syntax`.
+    pub fn read(alloc: Global, bytes: &[u8], policy: &Policy) -> Result<Self, StrategyFault>
+        ensures reads { Gives (λ s. s) result (reading policy.now.vars bytes.now) }
+    {
+        read_strategy(alloc, bytes, policy.vars.as_slice())
     }
 }
