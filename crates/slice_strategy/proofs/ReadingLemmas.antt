@@ -6,12 +6,14 @@ use Rattle.mfotl_lex.specs.FirstFault.{◌>>=◌}
 use Rattle.mfotl_lex.specs.Lexemes.{Lexeme, next_token, after}
 use Rattle.mfotl_lex.specs.Places.{Place, beginning}
 use Rattle.mfotl_lex.specs.Texts.{tail_of, reading_on}
+use Rattle.mfotl_lex.proofs.TextLaws as texts
 use Rattle.mfotl_lex.proofs.TextLaws.{on_step, on_stop, on_none, on_fault, begins}
 use Rattle.mfotl_model.specs.Strategies.{Strategy}
 use Rattle.mfotl_model.specs.declared.policy.Var.{Var}
 use Rattle.slice_strategy.specs.declared.fault.StrategyFault.{StrategyFault}
 use Rattle.slice_strategy.specs.declared.fault.StrategyFault.TheVariants.{Memory, Syntax}
 use Rattle.slice_strategy.specs.Answers.{Fails}
+use Rattle.slice_strategy.specs.Laws.{StaysShown}
 use Rattle.slice_strategy.specs.Reading.{Partial, step, at_end, at_tail, broken, ended, nothing_read, reading}
 
 -- behind the tokens before this place the text reads on like this
@@ -60,3 +62,6 @@ module _ (vars : List Var) (bytes : List ℕ) where
 
     pub all_read : next_token place ≡ Ok None → reading vars bytes ≡ at_end (length bytes) p
     all_read next = sym leads ∙ on_none (step vars) at_tail (tail_of true (length bytes)) place p next
+
+pub stays_shown : StaysShown
+stays_shown vars = texts.stays_shown (step vars) (nothing_read vars) at_tail (λ p fault e. absurd cc)
