@@ -53,13 +53,13 @@ module _ (f : Form) (q : Query) (is : IsQueryFor f q) where
       let ts_is : time_at (times log) (length front) ≡ point.ts =
       ap (λ xs. slice_index xs (length front)) (map-append (λ (p : TimePoint). p.ts) front (point ∷ more))
       ∙ ap (λ k. slice_index (times front ++ point.ts ∷ times more) k) (sym (length-map front (λ
-          (p : TimePoint). p.ts)))
+      (p : TimePoint). p.ts)))
       ∙ get_or-append_seam (times front) point.ts (times more) 0 in
       let dbs = map (λ (p : TimePoint). p.db) in
       let db_is : database_at log (length front) ≡ point.db =
       ap (λ xs. slice_index_or xs (length front) []) (map-append (λ (p : TimePoint). p.db) front (point ∷ more))
       ∙ ap (λ k. slice_index_or (map (λ (p : TimePoint). p.db) front
-          ++ point.db ∷ map (λ (p : TimePoint). p.db) more) k []) (sym (length-map front (λ (p : TimePoint). p.db)))
+      ++ point.db ∷ map (λ (p : TimePoint). p.db) more) k []) (sym (length-map front (λ (p : TimePoint). p.db)))
       ∙ get_or-append_seam (map (λ (p : TimePoint). p.db) front) point.db (map (λ (p : TimePoint). p.db) more) [] in
       let rows_are : viol log f (length front) ≡ ascending row_cmp (matching_rows q point.db) =
       rows_are_violations f q is log (length front)
@@ -109,7 +109,7 @@ text_is_lines f q is points closed =
 -- some verdict has a row exactly where some time-point has
 pub rows_are_some : (f : Form) (q : Query) → IsQueryFor f q → (points : List TimePoint) (closed : Bool)
     → list_any (λ v. not (is_empty v.rows)) (verdicts
-        (record { points = points; closed = closed }) f) ≡ some_rows q points
+    (record { points = points; closed = closed }) f) ≡ some_rows q points
 rows_are_some f q is points closed =
     ap (list_any (λ (v : VerdictOf). not (is_empty v.rows))) (verdicts_are f q is points closed)
-        ∙ rows_on f q is [] points
+    ∙ rows_on f q is [] points

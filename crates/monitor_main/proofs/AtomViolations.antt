@@ -82,7 +82,7 @@ module _ (q : Query) (row : List Value) (apart : all_apart q.columns ≡ true)
       same_event_of (reads q.atom wanted) (valuation q.columns row) q.atom read_again in
       let read : row_read q wanted ≡ row =
       same_columns (reads q.atom wanted) (valuation q.columns row) q.columns (λ y h. read_again y (sym
-          (columns_are y) ∙ h))
+      (columns_are y) ∙ h))
       ∙ row_kept q.columns row apart same in
       and_from (is_match q.atom wanted) (eq_by_cmp row_cmp row (row_read q wanted))
       (ap (λ e. eq_by_cmp event_cmp e wanted) again ∙ event_itself wanted)
@@ -106,7 +106,7 @@ module _ (q : Query) (row : List Value) (apart : all_apart q.columns ≡ true)
   event_alike same event =
       same_truth (eq_by_cmp event_cmp wanted event) (is_match q.atom event && eq_by_cmp row_cmp row (row_read q event))
       (λ h. ap (λ e. is_match q.atom e && eq_by_cmp row_cmp row (row_read q e)) (sym
-          (tells_apart event_exact wanted event h))
+      (tells_apart event_exact wanted event h))
       ∙ wanted_matches same)
       (matches_wanted event)
 
@@ -141,7 +141,7 @@ module _ (q : Query) (row : List Value) (apart : all_apart q.columns ≡ true)
       let same : length row ≡ length q.columns = eqb-true (length row) (length q.columns) e in
       and_turned (has_event (database_at log i) wanted) (list_all (within (adom log f)) row)
       ∙ absorbed (list_all (within (adom log f)) row) (has_event (database_at log i) wanted)
-          (values_found log f i same)
+      (values_found log f i same)
       ∙ any_alike (eq_by_cmp event_cmp wanted) (λ e. is_match q.atom e && eq_by_cmp row_cmp row (row_read q e))
       (database_at log i) (event_alike same)
       ∙ sym (row_found q row (database_at log i))

@@ -73,13 +73,13 @@ unwritten before after out = record { before = before; after = after; old = out;
 module _ (command : Command) (sources : Sources)
     (names : (last : InputFile) → IsSource last → names_to command last ≡ source_names sources last)
     (bytes : (files : Files) (last : InputFile) → IsSource last
-        → bytes_of command files last ≡ source_bytes sources files last)
+    → bytes_of command files last ≡ source_bytes sources files last)
     (due : (files : Files) (last : InputFile) (seen : List ℕ) → IsSource last
-        → text_at_failure command files last seen ≡ Some [])
+    → text_at_failure command files last seen ≡ Some [])
     (refuses : (files : Files) (r : Refusal) → policy_at sources files ≡ Err r
-        → command_answer command files ≡ refused r)
+    → command_answer command files ≡ refused r)
     (before after : InputsView) (out : SinkView) (same : after.files ≡ before.files)
-        (later : before.faults ≤ after.faults) where
+    (later : before.faults ≤ after.faults) where
   module _ (r : Refusal) (s : StopsInSources sources before after r) where
     asked_there : after.asked ≡ asked_more before.asked (names_to command s.last)
     asked_there = s.asked ∙ ap (asked_more before.asked) (sym (names s.last s.is_source))
@@ -107,18 +107,18 @@ module _ (command : Command) (sources : Sources)
     ends_there : (files : Files) (all : List ℕ) → source_bytes sources files s.last ≡ Some all → (other : Refusal)
         → IsLoadFault s.last before after other → HasNoPolicy sources files all after other
         → Ends (command_answer command files) (CommandFails command files
-            (unwritten before after out)) out.written out.written other
+        (unwritten before after out)) out.written out.written other
     ends_there files all reached Usage fault why = absurd fault
     ends_there files all reached (Read told) fault why =
         subst (CommandFails command files (unwritten before after out)) (sym fault.0)
-            (fails_there files all reached why)
+        (fails_there files all reached why)
     ends_there files all reached Write fault why = absurd fault
     ends_there files all reached Memory fault why = tt
     ends_there files all reached other fault why = rw (refuses files other why) (refuses_at other out.written)
 
     comes_there : (files : Files) → NoPolicy sources files s.last after r
         → ComesTo (command_answer command files) (CommandFails command files
-            (unwritten before after out)) out.written out.written (Err r)
+        (unwritten before after out)) out.written out.written (Err r)
     comes_there files n = record {
       ok = tt;
       refused = ends_there files n.all n.reached r s.fault n.why;
@@ -281,7 +281,7 @@ module _ (sources : Sources) (log : Name) (before mid : InputsView) (checked : C
       fails_at_log : FailsInLog (task_on checked (content files log))
           (record { before = mid; after = after; old = old; new = new }) file.Log
           → CommandFails (Run sources log) files
-              (record { before = before; after = after; old = old; new = new }) file.Log
+          (record { before = before; after = after; old = old; new = new }) file.Log
       unfolding text_at_failure
       fails_at_log f =
           let task : Task = task_on checked (content files log) in
@@ -293,13 +293,13 @@ module _ (sources : Sources) (log : Name) (before mid : InputsView) (checked : C
             text = text_on task.policy.formula (seen_of task f.stops.seen);
             due = ap (λ (t : Result Task Refusal). text_of_seen t f.stops.seen) made_at
                 ∙ before_clear task.policy.formula (seen_of task f.stops.seen)
-                    (seen_of task f.stops.seen).ending f.clear;
+                (seen_of task f.stops.seen).ending f.clear;
             written = f.written;
           }
 
       fails_by_name : (name : InputFile) → name ≡ file.Log
           → FailsInLog (task_on checked (content files log))
-              (record { before = mid; after = after; old = old; new = new }) name
+          (record { before = mid; after = after; old = old; new = new }) name
           → CommandFails (Run sources log) files (record { before = before; after = after; old = old; new = new }) name
       fails_by_name file.Signature e f = absurd cc
       fails_by_name file.Policy e f = absurd cc
@@ -332,9 +332,9 @@ module _ (sources : Sources) (log : Name) (before mid : InputsView) (checked : C
           later_out = m.decides.later_out;
           comes = told_both before.files _ _ _
               (λ files e c. comes_as _ _ (answer_is files (Ok (task_on checked (content files log))) e (made
-                  (content files log))) _ _
+              (content files log))) _ _
               (λ name f. fails_by_name after old new made m.asked files e name f.named f) old.written new.written
-                  result c)
+              result c)
               loads.is comes;
           causes = IfErr-weaker result _ _ (later_causes after old new made m.asked) m.decides.causes;
         };
@@ -427,7 +427,7 @@ module _ (words : List Text) (e : Effect) (command : Command) (given : command_o
 module _ (words : List Text) (inputs : InputsView) (out : SinkView) where
   refused_words : (files : Files) → command_of words ≡ None
       → ComesTo (answer words files) (FailsAt words files (unwritten inputs inputs out)) out.written out.written
-          (Err Usage)
+      (Err Usage)
   unfolding answer
   refused_words files none = rw none (comes_refused Usage _ out.written (refuses_at Usage out.written))
 
@@ -442,7 +442,7 @@ module _ (words : List Text) (inputs : InputsView) (out : SinkView) where
 
   not_read : (r : Refusal)
       → ((files : Files) → ComesTo (answer words files) (FailsAt words files
-          (unwritten inputs inputs out)) out.written out.written (Err r))
+      (unwritten inputs inputs out)) out.written out.written (Err r))
       → HasCauses (command_of words ≡ None) (unwritten inputs inputs out) r
       → Obeys words (unwritten inputs inputs out) (Err r)
   not_read r comes causes = record {
@@ -506,7 +506,7 @@ module _ (words : List Text) (before after : InputsView) (old mid new : SinkView
       comes = told_map before.files _ _
           (λ files c. subst (λ (written : Option (List ℕ)). ComesTo (answer words files)
           (FailsAt words files
-              (record { before = before; after = after; old = old; new = new })) old.written written result)
+          (record { before = before; after = after; old = old; new = new })) old.written written result)
           (sym kept) (comes_as _ _ refl _ _ (fails_flushed files) old.written mid.written result c))
           o.decides.comes;
       causes = IfErr-weaker result _ _ causes_flushed o.decides.causes;

@@ -118,13 +118,11 @@ module _ (q : Query) where
 
   -- so many time-points were given, and their lines were written
   pub record SoFar (start : Progress) (reader : Reader) (number : ℕ) (old new : Option (List ℕ)) (violated : Bool)
-      (before now : ℕ) : Type 0 where
+      : Type 0 where
     pub reads : Reads reader start.bytes
     pub reader_is : progress reader start.bytes ≡ record start { given = number }
     pub written : Appends old new (lines_from q 0 (take number (read start).points))
     pub some : violated ≡ some_rows q (take number (read start).points)
-    pub later : before ≤ now
-    pub few : number ≤ start.limits.points
 
   module _ (start : Progress) (number : ℕ) (old mid : Option (List ℕ)) (violated : Bool)
       (written : Appends old mid (lines_from q 0 (take number (read start).points)))
@@ -183,20 +181,18 @@ module _ (q : Query) where
     )
 
   -- nothing was given
-  pub begins : (reader : Reader) (bytes : List ℕ) (old : Option (List ℕ)) (before : ℕ) → reader.given ≡ 0
-      → Reads reader bytes → SoFar (progress reader bytes) reader 0 old old false before before
+  pub begins : (reader : Reader) (bytes : List ℕ) (old : Option (List ℕ)) → reader.given ≡ 0
+      → Reads reader bytes → SoFar (progress reader bytes) reader 0 old old false
   unfolding lines_from some_rows
-  begins reader bytes old before first reads = record {
+  begins reader bytes old first reads = record {
     reads = reads;
     reader_is = ap (λ n. record (progress reader bytes) { given = n }) first;
     written = appends_none old;
     some = refl;
-    later = omega arith;
-    few = omega arith;
   }
 
   module _ (start : Progress) (reader : Reader) (number : ℕ) (old mid : Option (List ℕ)) (violated : Bool)
-      (before now : ℕ) (so_far : SoFar start reader number old mid violated before now) where
+      (so_far : SoFar start reader number old mid violated) where
     due_is : (answer : Result Next LogFault) → due (progress reader start.bytes) ≡ answer
         → due (record start { given = number }) ≡ answer
     due_is answer e = subst (λ (p : Progress). due p ≡ answer) so_far.reader_is e
@@ -211,10 +207,9 @@ module _ (q : Query) where
 
     pub goes_on : (point : TimePoint) → due (progress reader start.bytes) ≡ Ok (Point point) → (next : Reader)
         → next ≡ record reader { given = reader.given + 1; kept = next.kept } → ForEach reader (Reads next)
-        → next.given ≤ next.limits.points → (new : Option (List ℕ)) (has_row : Bool)
-        → WritesPoint q number point mid new has_row → (later_now : ℕ) → now ≤ later_now
-        → SoFar start next (number + 1) old new (violated || has_row) before later_now
-    goes_on point e next next_is reads_on next_few new has_row w later_now not_before =
+        → (new : Option (List ℕ)) (has_row : Bool) → WritesPoint q number point mid new has_row
+        → SoFar start next (number + 1) old new (violated || has_row)
+    goes_on point e next next_is reads_on new has_row w =
         let due_point = due_is (Ok (Point point)) e in
         let next_at : progress next start.bytes ≡ record start { given = number + 1 } =
         ap (λ (r : Reader). progress r start.bytes) next_is
@@ -224,8 +219,6 @@ module _ (q : Query) where
           reader_is = next_at;
           written = one_more start number old mid violated so_far.written so_far.some point due_point new has_row w;
           some = one_more_row start number old mid violated so_far.written so_far.some point due_point new has_row w;
-          later = omega (arith, so_far.later, not_before);
-          few = subst (λ (p : Progress). p.given ≤ p.limits.points) next_at next_few;
         }
 
     pub ends_more : due (progress reader start.bytes) ≡ Ok More → EndsClear q (read start) old mid violated
@@ -243,6 +236,7 @@ module _ (q : Query) where
 
     -- the fault stops the lines
     pub stops_by : (fault : LogFault) (r : Refusal) → r ≡ log_refusal fault
-        → Fails fault (due (progress reader start.bytes)) → StopsLines q (read start) old mid before now r
-    stops_by log.Memory r is e = rw is tt
-    stops_by fault r is e = rw is (stops fault e)
+        → Fails fault (due (progress reader start.bytes)) → (before now : ℕ)
+        → StopsLines q (read start) old mid before now r
+    stops_by log.Memory r is e before now = rw is tt
+    stops_by fault r is e before now = rw is (stops fault e)

@@ -23,11 +23,11 @@ use Rattle.monitor_main.specs.Answer.{CheckedPolicy, Task, task_on, ended, log_a
 use Rattle.monitor_main.specs.Answer.{standard, text_on, verdict_status, violated_on}
 use Rattle.monitor_main.specs.AtomText.{lines_from, some_rows}
 use Rattle.monitor_main.specs.Decisions.{ComesTo, Effect, Ends, FailsInLog, Finishes, HasCauses, MonitorsLog, Refuses}
-use Rattle.monitor_main.specs.Growth.{Keeps}
+use Rattle.log_reader.specs.Growth.{Keeps}
 use Rattle.log_reader.specs.Limits.{byte_limit}
 use Rattle.monitor_main.specs.LogRuns.{EndsClear, IsGathered, StopsBytes, lines_of}
 use Rattle.monitor_main.proofs.AtomTextLemmas.{rows_are_some, text_is_lines}
-use Rattle.monitor_main.proofs.GrowthLemmas.{long_same, shown_stays}
+use Rattle.log_reader.proofs.GrowthLemmas.{long_same, shown_stays}
 use Rattle.monitor_main.proofs.PointLemmas.{lines_from-append}
 use Rattle.monitor_main.proofs.SinkLemmas.{longer_front, no_front}
 use Rattle.monitor_main.proofs.ToldLemmas.{told_all, told_map}
@@ -228,7 +228,7 @@ module _ (checked : CheckedPolicy) (log : Name) (before after : InputsView) (old
           later_out = later_out;
           comes = told_map before.files _ _
               (λ files g. log_comes (task_on checked
-                  (content files log)) q asks e bytes failed g old.faults new.faults result ok stops front)
+              (content files log)) q asks e bytes failed g old.faults new.faults result ok stops front)
               gathered;
           causes = IfErr-weaker result _ _ (λ r h. log_causes e failed q _ old.written new.written r cause h) stops;
         };

@@ -1,0 +1,22 @@
+//! Atoms, quantified formulas, conjunctions and disjunctions over the tables of their operands.
+#![tactic(auto)]
+
+mod atom;
+mod child;
+mod columns;
+mod combined;
+mod conjunct;
+mod exists;
+mod heads;
+mod join;
+mod matching;
+mod or;
+mod reorder;
+mod room;
+
+pub use atom::eval_atom;
+pub use conjunct::Conjunct;
+pub use exists::eval_exists;
+pub use join::JoinState;
+pub use or::OrState;
+pub use reorder::reordered;
