@@ -130,7 +130,8 @@ nothing_sound n =
     record { within = record { some = omega (arith, one); few = omega (arith, one) }; fits = tt }
 
 -- an entry that has parts leaves some workers
-pub some_set : (es : Strategy) (i : ℕ) (e : Entry) → 0 < parts_of e → 0 < workers_of es → 0 < workers_of (slice_set es i e)
+pub some_set : (es : Strategy) (i : ℕ) (e : Entry) → 0 < parts_of e → 0 < workers_of es
+    → 0 < workers_of (slice_set es i e)
 some_set [] i e parts some = some
 some_set (d ∷ es) zero e parts some = one-le-mul parts (both_some (parts_of d) (workers_of es) some).1
 some_set (d ∷ es) (suc i) e parts some =
@@ -154,7 +155,8 @@ module _ (items : List Item) (head : Head) (entry : Item) (slice : List Item) (n
   due few =
       if few then Ok (record { entries = set_entries; stage = Between }) else Err (TooManyWorkers head.at)
 
-  pub too_many : max_workers < n → ended (entries_of items) (Behind head (entry_of entry)) ≡ Err (TooManyWorkers head.at)
+  pub too_many : max_workers < n
+      → ended (entries_of items) (Behind head (entry_of entry)) ≡ Err (TooManyWorkers head.at)
   too_many many = ap due (lt-leb (workers_of set_entries) max_workers (omega (arith, count, many)))
 
   few_workers : n ≤ max_workers → workers_of set_entries ≤ max_workers
