@@ -4,3 +4,4 @@ pub mod EntryLemmas
 pub mod CountLemmas
 pub mod SoundLemmas
 pub mod ReadingLemmas
+pub mod SizeLemmas

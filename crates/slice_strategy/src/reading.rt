@@ -139,6 +139,7 @@ impl Strategy {
     /// lexer has a fault it is `Syntax`.
     pub fn read(alloc: Global, bytes: &[u8], policy: &Policy) -> Result<Self, StrategyFault>
         ensures reads { Gives (λ s. s) result (reading policy.now.vars bytes.now) }
+        ensures sized { IfOk result (λ s. length s ≡ length policy.now.vars) }
     {
         read_strategy(alloc, bytes, policy.vars.as_slice())
     }
