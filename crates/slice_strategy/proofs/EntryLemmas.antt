@@ -28,12 +28,12 @@ drop_past (x ∷ xs) (suc i) past = drop_past xs i (omega arith)
 abbrev pub behind : List Entry → ℕ → Strategy
 behind items i = entries_of (drop i items)
 
-entry_next : (items : List Entry) (i : ℕ) (e : Entry) → i < length items → e ≡ get_or items i e
+pub entry_next : (items : List Entry) (i : ℕ) (e : Entry) → i < length items → e ≡ get_or items i e
     → behind items i ≡ entry_of e ∷ behind items (i + 1)
 entry_next items i e low is =
     ap entries_of (drop_more items i e low) ∙ ap (λ x. entry_of x ∷ behind items (i + 1)) (sym is)
 
-none_behind : (items : List Entry) (i : ℕ) → length items ≤ i → behind items i ≡ []
+pub none_behind : (items : List Entry) (i : ℕ) → length items ≤ i → behind items i ≡ []
 none_behind items i past = ap entries_of (drop_past items i past)
 
 quotient : (p w : ℕ) → 0 < p → p * w / p ≡ w
@@ -42,7 +42,7 @@ quotient p w some = ap (λ n. n / p) (mul_comm p w) ∙ by
     by : w * p / p ≡ w
     by = ap (λ n. n / p) (sym (add-zero (w * p))) ∙ div-mul-add w p 0 some
 
-up_to : (n w : ℕ) → 0 < w → n ≤ n * w
+pub up_to : (n w : ℕ) → 0 < w → n ≤ n * w
 up_to n w some = let one : n * 1 ≤ n * w = mul-le n 1 n w (omega arith) (omega arith) in
     let same : n * 1 ≡ n = mul-one n in omega (arith, one, same)
 

@@ -1,7 +1,7 @@
 //! What is done with the values of one variable.
 ghost use Rattle.std.specs.Prelude.{◌≡◌, ◌<◌, IfOk};
 ghost use Rattle.mfotl_model.specs.Strategies.{parts_of, strategy_part};
-ghost use Rattle.slice_strategy.specs.Entries.{entry_of};
+ghost use Rattle.slice_strategy.specs.Entries.{entries_of, entry_of};
 
 use mfotl_model::{Text, Value};
 use std::alloc::{AllocError, Global};
@@ -53,10 +53,21 @@ impl Entry {
     }
 }
 
-ghost use Rattle.std.specs.Prelude.{◌%◌, ◌^◌, length, sum};
+ghost use Rattle.std.specs.Prelude.{◌%◌, ◌^◌, ◌-◌, length, min, sum};
 ghost use Rattle.std.specs.List.{filter};
 ghost use Rattle.std.specs.Ordering.{int_cmp, is_le};
-ghost use Rattle.mfotl_model.specs.Strategies.{remainder};
+ghost use Rattle.mfotl_model.specs.Strategies.{remainder, workers_of};
+
+/// How many workers there are with these entries, or the greatest number if there are more.
+pub fn count_workers(entries: &[Entry]) -> u64
+    ensures { result ≡ min (workers_of (entries_of entries.now)) (2 ^ 64 - 1) }
+{
+    let mut workers = 1u64;
+    for entry in entries {
+        workers = workers.saturating_mul(entry.parts());
+    }
+    workers
+}
 
 // Of a negative integer too it is at least 0.
 fn remainder(number: i64, count: u64) -> u64

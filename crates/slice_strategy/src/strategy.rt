@@ -4,10 +4,10 @@ ghost use Rattle.mfotl_model.specs.FreeVariables.{among};
 ghost use Rattle.mfotl_model.specs.Regions.{near_of};
 ghost use Rattle.mfotl_model.specs.Strategies.{owner_of, parts_of, strategy_part, workers_of};
 ghost use Rattle.mfotl_model.specs.Tables.{valuation};
-ghost use Rattle.slice_strategy.specs.Entries.{HasWorkers, entry_of, part_by};
+ghost use Rattle.slice_strategy.specs.Entries.{HasWorkers, entries_of, entry_of, part_by};
 ghost use Rattle.slice_strategy.specs.Slicers.{full_row};
 
-use crate::entry::Entry;
+use crate::entry::{Entry, count_workers};
 use mfotl_model::{Partial, Row, Value};
 use std::alloc::{AllocError, Global};
 use std::marker::Model;
@@ -62,6 +62,15 @@ fn lies_in(part: &Partial, variable: usize, entry: &Entry, number: u64) -> bool
 }
 
 impl Strategy {
+    /// The strategy of these entries.
+    pub(crate) fn new(entries: Vec<Entry>) -> Self
+        requires { HasWorkers (entries_of entries.items) }
+        ensures { result ≡ entries_of entries.items }
+    {
+        let workers = count_workers(entries.as_slice());
+        Strategy { entries, workers }
+    }
+
     /// The part of a free variable's values that this one is in, counted from 0.
     pub fn part(&self, variable: u32, value: &Value) -> u32
         requires { variable < length self.now }

@@ -1,0 +1,32 @@
+use Rattle.std.proofs.Common.{◌∙◌, ap, sym, subst}
+use Rattle.slice_strategy.specs.Answers.{stage_of}
+use Rattle.slice_strategy.specs.Entries.{entries_of}
+use Rattle.slice_strategy.specs.Reading.{IsSound, ended}
+use Rattle.slice_strategy.proofs.SoundLemmas.{too_many, not_too_many, set_sound}
+use Rattle.slice_strategy.proofs.reading.Reader.ended.Goals as goal
+
+pub returns-then-count_workers-gt-MAX_WORKERS : goal.returns-then-count_workers-gt-MAX_WORKERS
+returns-then-count_workers-gt-MAX_WORKERS c =
+    let items = c.self.inside.entries.items in
+    let many =
+    too_many items c.in-Behind.head c.in-Behind.entry c.as_slice.result.now c.count_workers.result
+    c.as_slice.ensures.value c.count_workers.ensures c.if-count_workers-gt-MAX_WORKERS.true in
+    sym (ap (λ p. ended p.entries p.stage) c.self.view_is)
+    ∙ ap (λ stage. ended (entries_of items) (stage_of stage)) c.in-Behind.is ∙ many
+
+pub invariant_of-result : goal.invariant_of-result
+invariant_of-result c =
+    let items = c.self.inside.entries.items in
+    set_sound items c.in-Behind.head c.in-Behind.entry c.as_slice.result.now c.count_workers.result
+    c.as_slice.ensures.value c.count_workers.ensures c.if-count_workers-gt-MAX_WORKERS.false
+    (subst (λ stage. IsSound (record { entries = entries_of items; stage = stage_of stage })) c.in-Behind.is
+    c.self.invariant)
+
+pub returns-else-count_workers-gt-MAX_WORKERS : goal.returns-else-count_workers-gt-MAX_WORKERS
+returns-else-count_workers-gt-MAX_WORKERS c =
+    let items = c.self.inside.entries.items in
+    let few =
+    not_too_many items c.in-Behind.head c.in-Behind.entry c.as_slice.result.now c.count_workers.result
+    c.as_slice.ensures.value c.count_workers.ensures c.if-count_workers-gt-MAX_WORKERS.false in
+    sym (ap (λ p. ended p.entries p.stage) c.self.view_is)
+    ∙ ap (λ stage. ended (entries_of items) (stage_of stage)) c.in-Behind.is ∙ few

@@ -1,0 +1,18 @@
+-- How a fault is printed: `CutSort at 2`.
+use Rattle.std.specs.Prelude.{ℕ, List, ◌++◌, codes}
+use Rattle.std.specs.Fmt.{decimal}
+use Rattle.slice_strategy.specs.declared.fault.StrategyFault.{StrategyFault}
+use Rattle.slice_strategy.specs.declared.fault.StrategyFault.TheVariants.{Syntax, UnknownVariable, RepeatedVariable}
+use Rattle.slice_strategy.specs.declared.fault.StrategyFault.TheVariants.{BadCount, CutSort, CutOrder, TooManyWorkers}
+use Rattle.slice_strategy.specs.declared.fault.StrategyFault.TheVariants.{Memory}
+
+-- the name, and the offset
+abbrev pub fault_text : StrategyFault → List ℕ
+fault_text (Syntax at) = codes "Syntax at " ++ decimal at
+fault_text (UnknownVariable at) = codes "UnknownVariable at " ++ decimal at
+fault_text (RepeatedVariable at) = codes "RepeatedVariable at " ++ decimal at
+fault_text (BadCount at) = codes "BadCount at " ++ decimal at
+fault_text (CutSort at) = codes "CutSort at " ++ decimal at
+fault_text (CutOrder at) = codes "CutOrder at " ++ decimal at
+fault_text (TooManyWorkers at) = codes "TooManyWorkers at " ++ decimal at
+fault_text Memory = codes "Memory"

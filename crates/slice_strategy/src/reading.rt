@@ -1,0 +1,146 @@
+//! A strategy, token by token.
+ghost use Rattle.std.specs.Prelude.{◌≡◌, IfOk, length, replicate};
+ghost use Rattle.mfotl_model.specs.Strategies.Entry.{Uncut};
+ghost use Rattle.slice_strategy.specs.Entries.{entries_of};
+ghost use Rattle.mfotl_lex.specs.Lexemes.{lexeme};
+ghost use Rattle.slice_strategy.specs.Answers.{Fails, Gives};
+ghost use Rattle.slice_strategy.specs.Reading.{step, settled, ended, at_end, broken, nothing_read, reading};
+
+use crate::entry::{Entry, count_workers};
+use crate::fault::StrategyFault;
+use crate::limits::MAX_WORKERS;
+use crate::stage::Stage;
+use crate::strategy::Strategy;
+use mfotl_lex::{Kind, Lexer, Mode, Token};
+use mfotl_model::{Policy, Var};
+use std::alloc::{AllocError, Global};
+use std::marker::Model;
+
+/// The entries that are settled, by variable, and a part of the next one.
+#[derive(Drop)]
+pub struct Reader {
+    entries: Vec<Entry>,
+    stage: Stage,
+}
+
+impl Model for Reader {
+    ghost use Rattle.slice_strategy.specs.Answers.{stage_of};
+    ghost use Rattle.slice_strategy.specs.Entries.{entries_of};
+    ghost use Rattle.slice_strategy.specs.Reading.{Partial, IsSound};
+
+    ghost Value = { Partial };
+
+    ghost view = { λ r. record { entries = entries_of r.entries.items; stage = stage_of r.stage } };
+
+    ghost invariant = { λ r. IsSound (record { entries = entries_of r.entries.items; stage = stage_of r.stage }) };
+}
+
+fn uncut(alloc: Global, count: usize) -> Result<Vec<Entry>, AllocError>
+    ensures { IfOk result (λ entries. entries_of entries.items ≡ replicate count Uncut) }
+{
+    let mut entries = Vec::with_capacity(alloc, count)?;
+    for _ in 0..count {
+        entries.push(Entry::Uncut)?;
+    }
+    Ok(entries)
+}
+
+impl Reader {
+    fn new(alloc: Global, vars: &[Var]) -> Result<Self, AllocError>
+        ensures { IfOk result (λ reader. reader ≡ nothing_read vars.now) }
+    {
+        Ok(Reader {
+            entries: uncut(alloc, vars.len())?,
+            stage: Stage::Between,
+        })
+    }
+
+    /// Takes the next token.
+    #[tactic(auto, unfolding(crate::specs::Reading::step))]
+    fn step(self, alloc: Global, vars: &[Var], token: &Token) -> Result<Self, StrategyFault>
+        ensures { Gives (λ reader. reader) result (step vars.now self (lexeme token.now)) }
+    {
+        let Reader { entries, stage } = self.settled(token.kind)?;
+        let stage = stage.step(alloc, vars, entries.as_slice(), token)?;
+        Ok(Reader { entries, stage })
+    }
+
+    /// Only a comma leaves an entry open that is behind an integer.
+    fn settled(self, kind: Kind) -> Result<Self, StrategyFault>
+        ensures { Gives (λ reader. reader) result (settled self kind) }
+    {
+        match kind {
+            Kind::Comma => Ok(self),
+            _ => self.ended(),
+        }
+    }
+
+    /// No more of the open entry comes.
+    fn ended(self) -> Result<Self, StrategyFault>
+        ensures { Gives (λ reader. reader) result (ended self.entries self.stage) }
+    {
+        let Reader { mut entries, stage } = self;
+        match stage {
+            Stage::Behind(head, entry) => {
+                entries[head.variable] = entry;
+                if count_workers(entries.as_slice()) > MAX_WORKERS {
+                    return Err(StrategyFault::TooManyWorkers(head.at));
+                }
+                Ok(Reader {
+                    entries,
+                    stage: Stage::Between,
+                })
+            }
+            stage => Ok(Reader { entries, stage }),
+        }
+    }
+
+    fn finish(self, end: u64) -> Result<Strategy, StrategyFault>
+        ensures { Gives (λ s. s) result (at_end end self) }
+    {
+        let Reader { entries, stage } = self.ended()?;
+        match stage {
+            Stage::Between => Ok(Strategy::new(entries)),
+            _ => Err(StrategyFault::Syntax(end)),
+        }
+    }
+
+    /// Where the lexer has a fault at this offset.
+    fn broken(self, at: u64) -> StrategyFault
+        ensures { Fails result (broken self at) }
+    {
+        match self.ended() {
+            Ok(_) => StrategyFault::Syntax(at),
+            Err(fault) => fault,
+        }
+    }
+}
+
+/// The strategy of a text over these variables, or its first fault.
+fn read_strategy(alloc: Global, bytes: &[u8], vars: &[Var]) -> Result<Strategy, StrategyFault>
+    ensures { Gives (λ s. s) result (reading vars.now bytes.now) }
+{
+    let mut reader = Reader::new(alloc, vars)?;
+    let mut lexer = Lexer::new(bytes, Mode::Plain);
+    loop {
+        match lexer.next() {
+            Ok(Some(token)) => reader = reader.step(alloc, vars, &token)?,
+            Ok(None) => return reader.finish(bytes.len() as u64),
+            Err(fault) => return Err(reader.broken(fault.at)),
+        }
+    }
+}
+
+impl Strategy {
+    /// The strategy of a text, over a policy's free variables.
+    ///
+    /// `StrategyFault` is the first fault from left to right, each at the token that shows it, but
+    /// `TooManyWorkers` at the Word of the entry, and waiting for what follows its last integer. Where the
+    /// lexer has a fault it is `Syntax`.
+    pub fn read(alloc: Global, bytes: &[u8], policy: &Policy) -> Result<Self, StrategyFault>
+        ensures reads { Gives (λ s. s) result (reading policy.now.vars bytes.now) }
+        ensures sized { IfOk result (λ s. length s ≡ length policy.now.vars) }
+    {
+        read_strategy(alloc, bytes, policy.vars.as_slice())
+    }
+}
