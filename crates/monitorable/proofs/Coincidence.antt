@@ -1,11 +1,15 @@
 -- Whether a formula holds hangs on its free variables alone.
-use Rattle.std.proofs.Common.{◌≡◌, ℕ, Bool, true, false, not, ◌&&◌, ◌||◌, cond, nat_eq, List, [], ◌∷◌, ◌++◌, map, length, refl, ap, ap₂, ◌∙◌}
+use Rattle.std.proofs.Common.{◌≡◌, ℕ, Bool, true, false, not, ◌&&◌, ◌||◌, cond, nat_eq, List, [], ◌∷◌, ◌++◌, map}
+use Rattle.std.proofs.Common.{length, refl, ap, ap₂, ◌∙◌}
 use Rattle.std.proofs.lemmas.Bool.{or_left, or_right}
 use Rattle.std.proofs.lemmas.List.Folds.{list_any-append}
 use Rattle.std.specs.List.{list_any, list_all, flat_map}
-use Rattle.mfotl_model.specs.Formulas.Form.{True, False, Atom, Compare, Not, And, Or, Implies, Equiv, Exists, Forall, Previous, Next, Once, Historically, Eventually, Always, Since, Until}
+use Rattle.mfotl_model.specs.Formulas.Form.{True, False, Atom, Compare, Not, And, Or, Implies, Equiv, Exists}
+use Rattle.mfotl_model.specs.Formulas.Form.{Forall, Previous, Next, Once, Historically, Eventually, Always, Since}
+use Rattle.mfotl_model.specs.Formulas.Form.{Until}
 use Rattle.mfotl_model.specs.Log.{times}
-use Rattle.mfotl_model.specs.Satisfaction.{Valuation, sat, term_value, with_value, has_event, database_at, compares, since, until, previous, next, truths}
+use Rattle.mfotl_model.specs.Satisfaction.{Valuation, sat, term_value, with_value, has_event, database_at, compares}
+use Rattle.mfotl_model.specs.Satisfaction.{since, until, previous, next, truths}
 use Rattle.mfotl_model.specs.declared.term.Comparison.{Comparison}
 use Rattle.mfotl_model.specs.declared.term.Term.{Term}
 use Rattle.mfotl_model.specs.declared.term.Term.TheVariants.{Var, Const}
@@ -92,24 +96,31 @@ coincidence log dom (Equiv f g) v w i a =
     ap₂ beq (coincidence log dom f v w i (in_left (fv f) (fv g) v w a))
     (coincidence log dom g v w i (in_right (fv f) (fv g) v w a))
 coincidence log dom (Exists x f) v w i a =
-    ap (λ p. list_any p dom) (funext _ _ (λ b. coincidence log dom f (with_value v x.number b) (with_value w x.number b) i (bound x.number (fv f) v w b a)))
+    ap (λ p. list_any p dom)
+    (funext _ _ (λ b. coincidence log dom f (with_value v x.number b) (with_value w x.number b) i
+    (bound x.number (fv f) v w b a)))
 coincidence log dom (Forall x f) v w i a =
-    ap (λ p. list_all p dom) (funext _ _ (λ b. coincidence log dom f (with_value v x.number b) (with_value w x.number b) i (bound x.number (fv f) v w b a)))
+    ap (λ p. list_all p dom)
+    (funext _ _ (λ b. coincidence log dom f (with_value v x.number b) (with_value w x.number b) i
+    (bound x.number (fv f) v w b a)))
 coincidence log dom (Previous interval f) v w i a =
-    ap (λ p. previous interval (times log) (truths (length log) p) i) (funext _ _ (λ j. coincidence log dom f v w j a))
+    ap (λ p. previous interval (times log) (truths (length log) p) i)
+    (funext _ _ (λ j. coincidence log dom f v w j a))
 coincidence log dom (Next interval f) v w i a =
     ap (λ p. next interval (times log) (truths (length log) p) i) (funext _ _ (λ j. coincidence log dom f v w j a))
 coincidence log dom (Once interval f) v w i a =
     ap (λ p. since interval (times log) (truths (length log) (λ j. true)) (truths (length log) p) i)
     (funext _ _ (λ j. coincidence log dom f v w j a))
 coincidence log dom (Historically interval f) v w i a =
-    ap (λ p. not (since interval (times log) (truths (length log) (λ j. true)) (truths (length log) (λ j. not (p j))) i))
+    ap (λ p. not (since interval (times log) (truths (length log) (λ j. true))
+    (truths (length log) (λ j. not (p j))) i))
     (funext _ _ (λ j. coincidence log dom f v w j a))
 coincidence log dom (Eventually interval f) v w i a =
     ap (λ p. until interval (times log) (truths (length log) (λ j. true)) (truths (length log) p) i)
     (funext _ _ (λ j. coincidence log dom f v w j a))
 coincidence log dom (Always interval f) v w i a =
-    ap (λ p. not (until interval (times log) (truths (length log) (λ j. true)) (truths (length log) (λ j. not (p j))) i))
+    ap (λ p. not (until interval (times log) (truths (length log) (λ j. true))
+    (truths (length log) (λ j. not (p j))) i))
     (funext _ _ (λ j. coincidence log dom f v w j a))
 coincidence log dom (Since interval f g) v w i a =
     ap₂ (λ p q. since interval (times log) (truths (length log) p) (truths (length log) q) i)

@@ -1,7 +1,8 @@
 -- A formula holds exactly where all its conjuncts do.
 use Rattle.std.proofs.Common.{◌≡◌, ℕ, Bool, true, false, not, ◌&&◌, cond, List, refl, sym, ap₂, ◌∙◌}
 use Rattle.std.proofs.lemmas.List.Folds.{list_all-append}
-use Rattle.monitorable.specs.CoreForms.{CoreForm, meaning, True, False, Atom, Compare, Not, And, Or, Exists, Previous, Next, Since, Until}
+use Rattle.monitorable.specs.CoreForms.{CoreForm, meaning, True, False, Atom, Compare, Not, And, Or, Exists}
+use Rattle.monitorable.specs.CoreForms.{Previous, Next, Since, Until}
 use Rattle.mfotl_model.specs.Satisfaction.{Valuation, sat}
 use Rattle.mfotl_model.specs.declared.event.TimePoint.{TimePoint}
 use Rattle.mfotl_model.specs.declared.value.Value.{Value}
@@ -39,7 +40,8 @@ conjuncts_mean log dom (Not f) v i =
 conjuncts_mean log dom (Compare c) v i =
     held (binds c) ∙ alone (part_holds log dom v i (cond (binds c) (Child (Compare c) false) (Test c true)))
   where
-    held : (b : Bool) → sat log dom v i (meaning (Compare c)) ≡ part_holds log dom v i (cond b (Child (Compare c) false) (Test c true))
+    held : (b : Bool) → sat log dom v i (meaning (Compare c))
+        ≡ part_holds log dom v i (cond b (Child (Compare c) false) (Test c true))
     held true = refl
     held false = refl
 conjuncts_mean log dom True v i = refl

@@ -1,5 +1,6 @@
 -- Values in a domain, and tests over a domain.
-use Rattle.std.proofs.Common.{◌≡◌, ℕ, zero, suc, ◌+◌, ◌-◌, Bool, true, false, ◌&&◌, ◌||◌, nat_lt, nat_eq, List, [], ◌∷◌, ◌++◌, map, length, refl, sym, ap, ap₂, ◌∙◌, inl, inr, arith}
+use Rattle.std.proofs.Common.{◌≡◌, ℕ, zero, suc, ◌+◌, ◌-◌, Bool, true, false, ◌&&◌, ◌||◌, nat_lt, nat_eq, List, []}
+use Rattle.std.proofs.Common.{◌∷◌, ◌++◌, map, length, refl, sym, ap, ap₂, ◌∙◌, inl, inr, arith}
 use Rattle.std.proofs.lemmas.Bool.{and_parts, or_cases, or_left, or_right, eqb-true, cases_lt}
 use Rattle.std.proofs.lemmas.Cmp.{tied_itself}
 use Rattle.std.proofs.lemmas.List.{get_or_past}
@@ -14,7 +15,8 @@ use Rattle.mfotl_model.specs.ActiveDomain.{log_values}
 use Rattle.mfotl_model.specs.Events.{event_cmp}
 use Rattle.mfotl_model.specs.FreeVariables.{among, variable_in}
 use Rattle.mfotl_model.specs.Intervals.{in_interval}
-use Rattle.mfotl_model.specs.Satisfaction.{Valuation, term_value, has_event, database_at, time_at, truth_at, truths, since, until, previous, next}
+use Rattle.mfotl_model.specs.Satisfaction.{Valuation, term_value, has_event, database_at, time_at, truth_at, truths}
+use Rattle.mfotl_model.specs.Satisfaction.{since, until, previous, next}
 use Rattle.mfotl_model.specs.Values.{value_cmp, value_total}
 use Rattle.mfotl_model.specs.declared.event.Event.{Event}
 use Rattle.mfotl_model.specs.declared.event.TimePoint.{TimePoint}
@@ -49,7 +51,8 @@ any_witness q (a ∷ dom) h =
           (w.0, w.1, or_right (eq_by_cmp value_cmp w.0 a) (within dom w.0) w.2)
     ]
 
-pub any_with : (q : Value → Bool) (a : Value) (dom : List Value) → q a ≡ true → within dom a ≡ true → list_any q dom ≡ true
+pub any_with : (q : Value → Bool) (a : Value) (dom : List Value) → q a ≡ true → within dom a ≡ true
+    → list_any q dom ≡ true
 any_with q a dom h m =
     any_member (eq_by_cmp value_cmp a) q dom
     (λ b e. ap q (sym (tells_apart value_exact a b e)) ∙ h) m
@@ -86,8 +89,11 @@ value_among v y [] h = h
 value_among v y (t ∷ terms) h =
     elim (or_cases (among y (variable_in t)) (among y (flat_map variable_in terms))
     (sym (list_any-append (nat_eq y) (variable_in t) (flat_map variable_in terms)) ∙ h)) [
-      | inl here ↦ or_left (eq_by_cmp value_cmp (v y) (term_value v t)) (within (map (term_value v) terms) (v y)) (own t here)
-      | inr there ↦ or_right (eq_by_cmp value_cmp (v y) (term_value v t)) (within (map (term_value v) terms) (v y)) (value_among v y terms there)
+      | inl here ↦
+          or_left (eq_by_cmp value_cmp (v y) (term_value v t)) (within (map (term_value v) terms) (v y)) (own t here)
+      | inr there ↦
+          or_right (eq_by_cmp value_cmp (v y) (term_value v t)) (within (map (term_value v) terms) (v y))
+          (value_among v y terms there)
     ]
   where
     own : (t : Term) → among y (variable_in t) ≡ true → eq_by_cmp value_cmp (v y) (term_value v t) ≡ true
@@ -113,7 +119,8 @@ any_any a (p ∷ log) =
     ap₂ (λ x y. x || y) (sym (any_flat_map (eq_by_cmp value_cmp a) (λ event. event.args) p.db)) (any_any a log)
     ∙ sym (list_any-append (eq_by_cmp value_cmp a) (flat_map (λ event. event.args) p.db) (log_values log))
 
-pub event_value : (log : List TimePoint) (i : ℕ) (event : Event) (a : Value) → has_event (database_at log i) event ≡ true
+pub event_value : (log : List TimePoint) (i : ℕ) (event : Event) (a : Value)
+    → has_event (database_at log i) event ≡ true
     → within event.args a ≡ true → within (log_values log) a ≡ true
 event_value log i event a h m =
     sym (any_any a log)
@@ -137,26 +144,38 @@ pub since_witness : (I : Interval) (times : List ℕ) (a : List Bool) (p : ℕ �
 unfolding since
 since_witness I times a p n i h =
     let w = any_in (λ j. in_interval I (time_at times i - time_at times j) && truth_at (truths n p) j
-    && list_all (truth_at a) (range_with_len (j + 1) (i - j))) 0 (i + 1) h in
-    (w.0, truth_holds p n w.0 (and_parts _ (truth_at (truths n p) w.0) (and_parts _ (list_all (truth_at a) (range_with_len (w.0 + 1) (i - w.0))) w.3).0).1)
+    && list_all (truth_at a) (range_with_len (j + 1) (i - j))) 0 (i + 1) h in (
+      w.0,
+      truth_holds p n w.0
+          (and_parts _ (truth_at (truths n p) w.0)
+          (and_parts _ (list_all (truth_at a) (range_with_len (w.0 + 1) (i - w.0))) w.3).0).1,
+    )
 
 pub until_witness : (I : Interval) (times : List ℕ) (a : List Bool) (p : ℕ → Bool) (n i : ℕ)
     → until I times a (truths n p) i ≡ true → (j : ℕ) × (p j ≡ true)
 unfolding until
 until_witness I times a p n i h =
     let w = any_in (λ j. in_interval I (time_at times j - time_at times i) && truth_at (truths n p) j
-    && list_all (truth_at a) (range_with_len i (j - i))) i (length times - i) h in
-    (w.0, truth_holds p n w.0 (and_parts _ (truth_at (truths n p) w.0) (and_parts _ (list_all (truth_at a) (range_with_len i (w.0 - i))) w.3).0).1)
+    && list_all (truth_at a) (range_with_len i (j - i))) i (length times - i) h in (
+      w.0,
+      truth_holds p n w.0
+          (and_parts _ (truth_at (truths n p) w.0)
+          (and_parts _ (list_all (truth_at a) (range_with_len i (w.0 - i))) w.3).0).1,
+    )
 
 -- where PREVIOUS or NEXT holds, the operand holds beside
 pub previous_witness : (I : Interval) (times : List ℕ) (p : ℕ → Bool) (n i : ℕ)
     → previous I times (truths n p) i ≡ true → p (i - 1) ≡ true
 unfolding previous
 previous_witness I times p n i h =
-    truth_holds p n (i - 1) (and_parts (nat_lt 0 i && in_interval I (time_at times i - time_at times (i - 1))) (truth_at (truths n p) (i - 1)) h).1
+    truth_holds p n (i - 1)
+    (and_parts (nat_lt 0 i && in_interval I (time_at times i - time_at times (i - 1)))
+    (truth_at (truths n p) (i - 1)) h).1
 
 pub next_witness : (I : Interval) (times : List ℕ) (p : ℕ → Bool) (n i : ℕ)
     → next I times (truths n p) i ≡ true → p (i + 1) ≡ true
 unfolding next
 next_witness I times p n i h =
-    truth_holds p n (i + 1) (and_parts (nat_lt (i + 1) (length times) && in_interval I (time_at times (i + 1) - time_at times i)) (truth_at (truths n p) (i + 1)) h).1
+    truth_holds p n (i + 1)
+    (and_parts (nat_lt (i + 1) (length times) && in_interval I (time_at times (i + 1) - time_at times i))
+    (truth_at (truths n p) (i + 1)) h).1

@@ -1,6 +1,8 @@
 -- The active domain, and the rows over it.
-use Rattle.std.proofs.Common.{◌≡◌, ℕ, Bool, true, false, not, ◌&&◌, ◌||◌, nat_eq, List, [], ◌∷◌, ◌++◌, length, map, refl, sym, ap, ap₂, ◌∙◌, arith}
-use Rattle.std.proofs.lemmas.Bool.{and_parts, and_from, or_left, or_right, cond-true, cond-false, not-true, eqb-true, ne_eqb}
+use Rattle.std.proofs.Common.{◌≡◌, ℕ, Bool, true, false, not, ◌&&◌, ◌||◌, nat_eq, List, [], ◌∷◌, ◌++◌, length, map}
+use Rattle.std.proofs.Common.{refl, sym, ap, ap₂, ◌∙◌, arith}
+use Rattle.std.proofs.lemmas.Bool.{and_parts, and_from, or_left, or_right, cond-true, cond-false, not-true}
+use Rattle.std.proofs.lemmas.Bool.{eqb-true, ne_eqb}
 use Rattle.std.proofs.lemmas.Grind.{flat_map-append}
 use Rattle.std.proofs.lemmas.List.Folds.{list_any-append}
 use Rattle.std.proofs.lemmas.Map.Views.{any-filter_same, tells_apart}
@@ -21,7 +23,8 @@ use Rattle.mfotl_model.specs.declared.value.Value.{Value}
 use Rattle.mfotl_model.specs.Domains.{within, Includes}
 
 -- the active domain has the values of the log and of the policy
-pub adom_has : (log : List TimePoint) (f : Form) (a : Value) → within (adom log f) a ≡ within (log_values log ++ constants f) a
+pub adom_has : (log : List TimePoint) (f : Form) (a : Value)
+    → within (adom log f) a ≡ within (log_values log ++ constants f) a
 adom_has log f a = any_ascending value_total value_exact (eq_by_cmp value_cmp a) (log_values log ++ constants f)
 
 pub has_log : (log : List TimePoint) (f : Form) → Includes (adom log f) (log_values log)

@@ -1,15 +1,20 @@
 -- What is settled stays as it is in every longer log.
-use Rattle.std.proofs.Common.{◌≡◌, ℕ, zero, suc, ◌+◌, ◌-◌, ◌<◌, ◌≤◌, Bool, true, not, ◌&&◌, ◌||◌, nat_lt, nat_eq, List, [], ◌++◌, map, length, refl, sym, ap, ap₂, ◌∙◌, inl, inr, arith, length-append, get_or}
+use Rattle.std.proofs.Common.{◌≡◌, ℕ, zero, suc, ◌+◌, ◌-◌, ◌<◌, ◌≤◌, Bool, true, not, ◌&&◌, ◌||◌, nat_lt, nat_eq}
+use Rattle.std.proofs.Common.{List, [], ◌++◌, map, length, refl, sym, ap, ap₂, ◌∙◌, inl, inr, arith, length-append}
+use Rattle.std.proofs.Common.{get_or}
 use Rattle.std.proofs.Math.Bool.{beq}
 use Rattle.std.proofs.lemmas.Bool.{and_parts, or_cases, ltb-true, lt-ltb, eqb-true}
 use Rattle.std.proofs.lemmas.List.{get_or_append_left, length-map, map-append}
 use Rattle.std.specs.List.{list_any, list_all}
 use Rattle.mfotl_model.proofs.LogicLemmas.{funext, truth_is}
 use Rattle.mfotl_model.specs.Formulas.{Form}
-use Rattle.mfotl_model.specs.Formulas.Form.{True, False, Atom, Compare, Not, And, Or, Implies, Equiv, Exists, Forall, Previous, Next, Once, Historically, Eventually, Always, Since, Until}
+use Rattle.mfotl_model.specs.Formulas.Form.{True, False, Atom, Compare, Not, And, Or, Implies, Equiv, Exists}
+use Rattle.mfotl_model.specs.Formulas.Form.{Forall, Previous, Next, Once, Historically, Eventually, Always, Since}
+use Rattle.mfotl_model.specs.Formulas.Form.{Until}
 use Rattle.mfotl_model.specs.Intervals.{in_interval}
 use Rattle.mfotl_model.specs.Log.{times}
-use Rattle.mfotl_model.specs.Satisfaction.{sat, with_value, has_event, event_of, database_at, time_at, truth_at, since, until, previous, next, truths}
+use Rattle.mfotl_model.specs.Satisfaction.{sat, with_value, has_event, event_of, database_at, time_at, truth_at}
+use Rattle.mfotl_model.specs.Satisfaction.{since, until, previous, next, truths}
 use Rattle.mfotl_model.specs.Settled.{settled, previous_settled, next_settled, until_settled}
 use Rattle.mfotl_model.specs.declared.event.TimePoint.{TimePoint}
 use Rattle.mfotl_model.specs.declared.interval.Interval.{Interval}
@@ -40,7 +45,8 @@ module _ (log more : List TimePoint) where
   truth_same : (p q : ℕ → Bool) (j : ℕ) → j < length log → p j ≡ q j
       → truth_at (truths (length log) p) j ≡ truth_at (truths (length (log ++ more)) q) j
   truth_same p q j l e =
-      truth_is p (length log) j l ∙ e ∙ sym (truth_is q (length (log ++ more)) j (omega (arith, length-append log more)))
+      truth_is p (length log) j l ∙ e
+      ∙ sym (truth_is q (length (log ++ more)) j (omega (arith, length-append log more)))
 
   agree : (p q r s : ℕ → Bool) (j : ℕ) → j < length log → p j ≡ r j → q j ≡ s j
       → Same (times log) (times (log ++ more)) (truths (length log) p) (truths (length log) q)
@@ -80,7 +86,8 @@ module _ (log more : List TimePoint) where
       (ap₂ (λ x y. in_interval I (x - y)) (time_same (i + 1) l) (time_same i now)))
       (truth_same p q (i + 1) l e)
 
-  since_final : (I : Interval) (p q r s : ℕ → Bool) (i : ℕ) → ((j : ℕ) → j ≤ i → (j < length log) × (p j ≡ r j) × (q j ≡ s j))
+  since_final : (I : Interval) (p q r s : ℕ → Bool) (i : ℕ)
+      → ((j : ℕ) → j ≤ i → (j < length log) × (p j ≡ r j) × (q j ≡ s j))
       → since I (times log) (truths (length log) p) (truths (length log) q) i
       ≡ since I (times (log ++ more)) (truths (length (log ++ more)) r) (truths (length (log ++ more)) s) i
   since_final I p q r s i same =
@@ -149,7 +156,8 @@ finality log more dom (Next interval f) v i r s =
     next_same log more interval (λ j. sat log dom v j f) (λ j. sat (log ++ more) dom v j f) i
     (within_log log f (i + 1) h) (finality log more dom f v (i + 1) r h)
 finality log more dom (Once interval f) v i r s =
-    since_final log more interval (λ j. true) (λ j. sat log dom v j f) (λ j. true) (λ j. sat (log ++ more) dom v j f) i
+    since_final log more interval (λ j. true) (λ j. sat log dom v j f) (λ j. true)
+    (λ j. sat (log ++ more) dom v j f) i
     (λ j l.
     let h : settled (times log) f j ≡ true = since_ready (settled (times log) f) i j s l in
     (within_log log f j h, refl, finality log more dom f v j r h))
@@ -160,7 +168,8 @@ finality log more dom (Historically interval f) v i r s =
     let h : settled (times log) f j ≡ true = since_ready (settled (times log) f) i j s l in
     (within_log log f j h, refl, ap not (finality log more dom f v j r h))))
 finality log more dom (Eventually interval f) v i r s =
-    until_final log more r interval (λ j. true) (λ j. sat log dom v j f) (λ j. true) (λ j. sat (log ++ more) dom v j f)
+    until_final log more r interval (λ j. true) (λ j. sat log dom v j f) (λ j. true)
+    (λ j. sat (log ++ more) dom v j f)
     (settled (times log) f) i s
     (λ j l h. (refl, finality log more dom f v j r h))
 finality log more dom (Always interval f) v i r s =

@@ -1,15 +1,18 @@
 -- What the lack of a fault says of the variables.
-use Rattle.std.proofs.Common.{◌≡◌, ℕ, Bool, true, false, ◌||◌, nat_eq, List, [], ◌∷◌, Option, Some, None, refl, sym, ap, ap₂, ◌∙◌, inl, inr}
+use Rattle.std.proofs.Common.{◌≡◌, ℕ, Bool, true, false, ◌||◌, nat_eq, List, [], ◌∷◌, Option, Some, None, refl, sym}
+use Rattle.std.proofs.Common.{ap, ap₂, ◌∙◌, inl, inr}
 use Rattle.std.proofs.lemmas.Bool.{or_cases, or_left, or_right, cases_Bool, cond-true, cond-false, eqb-true}
 use Rattle.std.proofs.lemmas.List.Folds.{list_any-append}
 use Rattle.mfotl_model.proofs.LogicLemmas.{among_joined, same_number}
 use Rattle.mfotl_model.specs.FreeVariables.{fv, among, joined}
-use Rattle.monitorable.specs.CoreForms.{CoreForm, meaning, True, False, Atom, Compare, Not, And, Or, Exists, Previous, Next, Since, Until}
+use Rattle.monitorable.specs.CoreForms.{CoreForm, meaning, True, False, Atom, Compare, Not, And, Or, Exists}
+use Rattle.monitorable.specs.CoreForms.{Previous, Next, Since, Until}
 use Rattle.mfotl_model.specs.declared.formula.Bound.{Bound}
-use Rattle.monitorable.specs.Fragment.{Names, named, first, first_outside, at_variable, binds, bound_by, needed_by, guards, evens, uses, covers, fault_in}
+use Rattle.monitorable.specs.Fragment.{Names, named, first, first_outside, at_variable, binds, bound_by, needed_by}
+use Rattle.monitorable.specs.Fragment.{guards, evens, uses, covers, fault_in}
 use Rattle.monitorable.specs.declared.fault.FragmentFault.{FragmentFault}
 use Rattle.monitorable.specs.declared.fault.FragmentFault.TheVariants.{Uneven, Unguarded, UnusedBound, LooseLeft}
-use Rattle.monitorable.specs.declared.fragment.Role.TheVariants.{Whole, Part, Negated}
+use Rattle.monitorable.specs.declared.role.Role.TheVariants.{Whole, Part, Negated}
 
 -- where there is no first of two faults, there is none
 pub no_first : (a b : Option FragmentFault) → first a b ≡ None → (a ≡ None) × (b ≡ None)
@@ -36,11 +39,13 @@ none_outside xs (z ∷ ys) y h m =
                 none_outside xs ys y (sym (cond-true (among z xs) (first_outside xs ys) (Some z) inside) ∙ h) rest
           ]
       | inr outside ↦
-          absurd (let e : Some z ≡ None = sym (cond-false (among z xs) (first_outside xs ys) (Some z) outside) ∙ h in cc)
+          absurd (let e : Some z ≡ None = sym (cond-false (among z xs) (first_outside xs ys) (Some z) outside)
+          ∙ h in cc)
     ]
 
 -- each free variable of a formula is bound by a conjunct or needed by one
-pub bound_or_needed : (f : CoreForm) (y : ℕ) → among y (fv (meaning f)) ≡ true → (among y (bound_by f) || among y (needed_by f)) ≡ true
+pub bound_or_needed : (f : CoreForm) (y : ℕ) → among y (fv (meaning f)) ≡ true
+    → (among y (bound_by f) || among y (needed_by f)) ≡ true
 unfolding fv bound_by needed_by
 bound_or_needed (Compare c) y h =
     elim (cases_Bool (binds c)) [
@@ -53,9 +58,14 @@ bound_or_needed (Not f) y h = h
 bound_or_needed (And f g) y h =
     let split = ap₂ (λ a b. a || b) (list_any-append (nat_eq y) (bound_by f) (bound_by g))
     (list_any-append (nat_eq y) (needed_by f) (needed_by g)) in
-    split ∙ elim (or_cases (among y (fv (meaning f))) (among y (fv (meaning g))) (sym (among_joined y (fv (meaning f)) (fv (meaning g))) ∙ h)) [
-      | inl e ↦ front (among y (bound_by f)) (among y (bound_by g)) (among y (needed_by f)) (among y (needed_by g)) (bound_or_needed f y e)
-      | inr e ↦ back (among y (bound_by f)) (among y (bound_by g)) (among y (needed_by f)) (among y (needed_by g)) (bound_or_needed g y e)
+    split ∙ elim (or_cases (among y (fv (meaning f))) (among y (fv (meaning g)))
+    (sym (among_joined y (fv (meaning f)) (fv (meaning g))) ∙ h)) [
+      | inl e ↦
+          front (among y (bound_by f)) (among y (bound_by g)) (among y (needed_by f)) (among y (needed_by g))
+          (bound_or_needed f y e)
+      | inr e ↦
+          back (among y (bound_by f)) (among y (bound_by g)) (among y (needed_by f)) (among y (needed_by g))
+          (bound_or_needed g y e)
     ]
   where
     front : (a b c d : Bool) → (a || c) ≡ true → ((a || b) || (c || d)) ≡ true
@@ -80,7 +90,8 @@ bound_or_needed (Since interval f g) y h = or_left _ _ h
 bound_or_needed (Until interval f g) y h = or_left _ _ h
 
 -- where a conjunction is guarded, each of its free variables is bound by a conjunct
-pub guarded : (names : Names) (f : CoreForm) (y : ℕ) → guards names f ≡ None → among y (fv (meaning f)) ≡ true → among y (bound_by f) ≡ true
+pub guarded : (names : Names) (f : CoreForm) (y : ℕ) → guards names f ≡ None → among y (fv (meaning f)) ≡ true
+    → among y (bound_by f) ≡ true
 guarded names f y h m =
     elim (or_cases (among y (bound_by f)) (among y (needed_by f)) (bound_or_needed f y m)) [
       | inl e ↦ e
@@ -132,13 +143,17 @@ part_of_whole names (Since interval f g) h = h
 part_of_whole names (Until interval f g) h = h
 
 -- both sides of an OR have each of its variables
-pub even_variables : (f g : CoreForm) (y : ℕ) → evens f g ≡ None → among y (joined (fv (meaning f)) (fv (meaning g))) ≡ true
+pub even_variables : (f g : CoreForm) (y : ℕ) → evens f g ≡ None
+    → among y (joined (fv (meaning f)) (fv (meaning g))) ≡ true
     → (among y (fv (meaning f)) ≡ true) × (among y (fv (meaning g)) ≡ true)
 even_variables f g y h m =
-    let both = no_first (at_variable (λ z. Uneven) (first_outside (fv (meaning f)) (fv (meaning g)))) (at_variable (λ z. Uneven) (first_outside (fv (meaning g)) (fv (meaning f)))) h in
+    let both =
+    no_first (at_variable (λ z. Uneven) (first_outside (fv (meaning f)) (fv (meaning g))))
+    (at_variable (λ z. Uneven) (first_outside (fv (meaning g)) (fv (meaning f)))) h in
     let left = no_variable (λ z. Uneven) (first_outside (fv (meaning f)) (fv (meaning g))) both.0 in
     let right = no_variable (λ z. Uneven) (first_outside (fv (meaning g)) (fv (meaning f))) both.1 in
-    elim (or_cases (among y (fv (meaning f))) (among y (fv (meaning g))) (sym (among_joined y (fv (meaning f)) (fv (meaning g))) ∙ m)) [
+    elim (or_cases (among y (fv (meaning f))) (among y (fv (meaning g)))
+    (sym (among_joined y (fv (meaning f)) (fv (meaning g))) ∙ m)) [
       | inl e ↦ (e, none_outside (fv (meaning g)) (fv (meaning f)) y right e)
       | inr e ↦ (none_outside (fv (meaning f)) (fv (meaning g)) y left e, e)
     ]
@@ -147,14 +162,17 @@ even_variables f g y h m =
 pub used_variable : (x : Bound) (f : CoreForm) → uses x f ≡ None → among x.number (fv (meaning f)) ≡ true
 used_variable x f h =
     none_outside (fv (meaning f)) (x.number ∷ []) x.number
-    (no_variable (λ y. UnusedBound (record { number = y; name = x.name })) (first_outside (fv (meaning f)) (x.number ∷ [])) h)
+    (no_variable (λ y. UnusedBound (record { number = y; name = x.name }))
+    (first_outside (fv (meaning f)) (x.number ∷ [])) h)
     (or_left (nat_eq x.number x.number) false (same_number x.number))
 
 -- each variable of SINCE or UNTIL is free in the right operand
-pub right_variable : (names : Names) (f g : CoreForm) (y : ℕ) → covers names f g ≡ None → among y (joined (fv (meaning f)) (fv (meaning g))) ≡ true
+pub right_variable : (names : Names) (f g : CoreForm) (y : ℕ) → covers names f g ≡ None
+    → among y (joined (fv (meaning f)) (fv (meaning g))) ≡ true
     → among y (fv (meaning g)) ≡ true
 right_variable names f g y h m =
-    elim (or_cases (among y (fv (meaning f))) (among y (fv (meaning g))) (sym (among_joined y (fv (meaning f)) (fv (meaning g))) ∙ m)) [
+    elim (or_cases (among y (fv (meaning f))) (among y (fv (meaning g)))
+    (sym (among_joined y (fv (meaning f)) (fv (meaning g))) ∙ m)) [
       | inl e ↦
           none_outside (fv (meaning g)) (fv (meaning f)) y
           (no_variable (λ z. LooseLeft (named names z)) (first_outside (fv (meaning g)) (fv (meaning f))) h) e

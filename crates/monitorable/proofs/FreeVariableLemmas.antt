@@ -2,7 +2,9 @@
 use Rattle.std.proofs.Common.{◌≡◌, true, not, nat_eq, ◌∷◌, [], refl}
 use Rattle.std.specs.List.{flat_map}
 use Rattle.mfotl_model.specs.Formulas.{Form}
-use Rattle.mfotl_model.specs.Formulas.Form.{True, False, Atom, Compare, Not, And, Or, Implies, Equiv, Exists, Forall, Previous, Next, Once, Historically, Eventually, Always, Since, Until}
+use Rattle.mfotl_model.specs.Formulas.Form.{True, False, Atom, Compare, Not, And, Or, Implies, Equiv, Exists}
+use Rattle.mfotl_model.specs.Formulas.Form.{Forall, Previous, Next, Once, Historically, Eventually, Always, Since}
+use Rattle.mfotl_model.specs.Formulas.Form.{Until}
 use Rattle.mfotl_model.specs.FreeVariables.{fv, variable_in}
 use Rattle.mfotl_model.specs.Tables.{all_apart}
 use Rattle.monitorable.proofs.VariableListLemmas.{distinct_apart, filter_apart, joined_apart}

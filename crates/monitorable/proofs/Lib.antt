@@ -11,6 +11,7 @@ pub mod DomainRows
 pub mod ViolationsFinal
 pub mod SatisfyingLaw
 pub mod TableLaw
+pub mod SoundLaw
 pub mod CoreLaws
 pub mod TextFinal
 pub mod FragmentRenamed

@@ -1,8 +1,11 @@
 -- The normal forms hold where they should, and are settled where the formula is.
-use Rattle.std.proofs.Common.{◌≡◌, ℕ, Bool, true, false, not, ◌&&◌, ◌||◌, nat_lt, List, [], ◌∷◌, length, refl, sym, ap, ap₂, ◌∙◌}
+use Rattle.std.proofs.Common.{◌≡◌, ℕ, Bool, true, false, not, ◌&&◌, ◌||◌, nat_lt, List, [], ◌∷◌, length, refl, sym}
+use Rattle.std.proofs.Common.{ap, ap₂, ◌∙◌}
 use Rattle.std.specs.List.{list_any, list_all}
 use Rattle.mfotl_model.specs.Formulas.{Form}
-use Rattle.mfotl_model.specs.Formulas.Form.{True, False, Atom, Compare, Not, And, Or, Implies, Equiv, Exists, Forall, Previous, Next, Once, Historically, Eventually, Always, Since, Until}
+use Rattle.mfotl_model.specs.Formulas.Form.{True, False, Atom, Compare, Not, And, Or, Implies, Equiv, Exists}
+use Rattle.mfotl_model.specs.Formulas.Form.{Forall, Previous, Next, Once, Historically, Eventually, Always, Since}
+use Rattle.mfotl_model.specs.Formulas.Form.{Until}
 use Rattle.mfotl_model.specs.Log.{times}
 use Rattle.mfotl_model.specs.Satisfaction.{sat, with_value, since, until, previous, next, truths}
 use Rattle.mfotl_model.specs.declared.value.Value.{Value}
@@ -49,7 +52,8 @@ normal_form_holds log dom (Compare c) v i = (refl, refl)
 normal_form_holds log dom (Not f) v i =
     let l = normal_form_holds log dom f v i in (l.1, l.0 ∙ not_not (sat log dom v i f))
 normal_form_holds log dom (And f g) v i =
-    let e : (sat log dom v i (meaning (positive f)) && sat log dom v i (meaning (positive g))) ≡ (sat log dom v i f && sat log dom v i g) =
+    let e : (sat log dom v i (meaning (positive f)) && sat log dom v i (meaning (positive g)))
+    ≡ (sat log dom v i f && sat log dom v i g) =
     ap₂ (λ b c. b && c) (normal_form_holds log dom f v i).0 (normal_form_holds log dom g v i).0 in
     (e, ap not e)
 normal_form_holds log dom (Or f g) v i =
@@ -71,7 +75,8 @@ normal_form_holds log dom (Equiv f g) v i =
     ∙ both_ways (sat log dom v i f) (sat log dom v i g) in
     (e, ap not e)
 normal_form_holds log dom (Exists x f) v i =
-    let e = ap (λ p. list_any p dom) (funext _ _ (λ a. (normal_form_holds log dom f (with_value v x.number a) i).0)) in
+    let e =
+    ap (λ p. list_any p dom) (funext _ _ (λ a. (normal_form_holds log dom f (with_value v x.number a) i).0)) in
     (e, ap not e)
 normal_form_holds log dom (Forall x f) v i =
     let e = ap (λ p. list_any p dom) (funext _ _ (λ a. (normal_form_holds log dom f (with_value v x.number a) i).1))

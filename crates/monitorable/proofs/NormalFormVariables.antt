@@ -1,5 +1,6 @@
 -- The normal forms have the free variables and the constants of the formula.
-use Rattle.std.proofs.Common.{◌≡◌, ℕ, Bool, true, false, not, ◌||◌, nat_eq, List, [], ◌∷◌, ◌++◌, append-nil, refl, sym, ap, ap₂, ◌∙◌}
+use Rattle.std.proofs.Common.{◌≡◌, ℕ, Bool, true, false, not, ◌||◌, nat_eq, List, [], ◌∷◌, ◌++◌, append-nil, refl}
+use Rattle.std.proofs.Common.{sym, ap, ap₂, ◌∙◌}
 use Rattle.std.proofs.lemmas.Bool.{or_left, or_right}
 use Rattle.std.proofs.lemmas.List.Folds.{list_any-append}
 use Rattle.std.specs.List.{filter}
@@ -8,14 +9,17 @@ use Rattle.mfotl_model.proofs.LogicLemmas.{among_joined, same_number}
 use Rattle.mfotl_model.proofs.VariableLemmas.{joined_none}
 use Rattle.mfotl_model.specs.ActiveDomain.{constants}
 use Rattle.mfotl_model.specs.FreeVariables.{fv, among, joined, without}
-use Rattle.mfotl_model.specs.Formulas.Form.{True, False, Atom, Compare, Not, And, Or, Implies, Equiv, Exists, Forall, Previous, Next, Once, Historically, Eventually, Always, Since, Until}
+use Rattle.mfotl_model.specs.Formulas.Form.{True, False, Atom, Compare, Not, And, Or, Implies, Equiv, Exists}
+use Rattle.mfotl_model.specs.Formulas.Form.{Forall, Previous, Next, Once, Historically, Eventually, Always, Since}
+use Rattle.mfotl_model.specs.Formulas.Form.{Until}
 use Rattle.mfotl_model.specs.Values.{value_cmp}
 use Rattle.mfotl_model.specs.declared.value.Value.{Value}
 use Rattle.mfotl_model.specs.Domains.{within}
 use Rattle.monitorable.specs.Laws.{NormalFormVariables, NormalFormConstants}
 use Rattle.monitorable.specs.NormalForm.{positive, negative}
 
-none_more : (xs ys : List ℕ) → ((y : ℕ) → among y ys ≡ true → among y xs ≡ true) → filter (λ z. not (among z xs)) ys ≡ []
+none_more : (xs ys : List ℕ) → ((y : ℕ) → among y ys ≡ true → among y xs ≡ true)
+    → filter (λ z. not (among z xs)) ys ≡ []
 none_more xs [] h = refl
 none_more xs (y ∷ ys) h =
     let here : not (among y xs) ≡ false = ap not (h y (or_left (nat_eq y y) (among y ys) (same_number y))) in
@@ -89,7 +93,8 @@ both_over false false = refl
 twice_within : (a : Value) (xs ys : List Value) → within ((xs ++ ys) ++ (ys ++ xs)) a ≡ within (xs ++ ys) a
 twice_within a xs ys =
     list_any-append (eq_by_cmp value_cmp a) (xs ++ ys) (ys ++ xs)
-    ∙ ap₂ (λ b c. b || c) (list_any-append (eq_by_cmp value_cmp a) xs ys) (list_any-append (eq_by_cmp value_cmp a) ys xs)
+    ∙ ap₂ (λ b c. b || c) (list_any-append (eq_by_cmp value_cmp a) xs ys)
+    (list_any-append (eq_by_cmp value_cmp a) ys xs)
     ∙ both_over (within xs a) (within ys a)
     ∙ sym (list_any-append (eq_by_cmp value_cmp a) xs ys)
 

@@ -3,7 +3,8 @@ use Rattle.std.proofs.Common.{◌≡◌, ℕ, ◌+◌, List, [], ◌∷◌, ◌+
 use Rattle.std.specs.List.{flat_map}
 use Rattle.mfotl_model.specs.ActiveDomain.{constant_in, constants}
 use Rattle.mfotl_model.specs.FreeVariables.{fv}
-use Rattle.monitorable.specs.CoreForms.{CoreForm, meaning, True, False, Atom, Compare, Not, And, Or, Exists, Previous, Next, Since, Until}
+use Rattle.monitorable.specs.CoreForms.{CoreForm, meaning, True, False, Atom, Compare, Not, And, Or, Exists}
+use Rattle.monitorable.specs.CoreForms.{Previous, Next, Since, Until}
 use Rattle.mfotl_model.specs.declared.term.Term.{Term}
 use Rattle.mfotl_model.specs.declared.term.Term.TheVariants.{Var, Const}
 use Rattle.monitorable.specs.Laws.{ApartConstants}

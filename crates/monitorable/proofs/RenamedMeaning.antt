@@ -1,14 +1,17 @@
 -- A formula in new numbers holds where it did, and is settled where it was.
-use Rattle.std.proofs.Common.{◌≡◌, ℕ, ◌+◌, ◌<◌, ◌≤◌, Bool, true, false, not, ◌&&◌, ◌||◌, cond, nat_eq, List, [], ◌∷◌, ◌++◌, map, length, refl, ap, ap₂, ◌∙◌, arith}
+use Rattle.std.proofs.Common.{◌≡◌, ℕ, ◌+◌, ◌<◌, ◌≤◌, Bool, true, false, not, ◌&&◌, ◌||◌, cond, nat_eq, List, []}
+use Rattle.std.proofs.Common.{◌∷◌, ◌++◌, map, length, refl, ap, ap₂, ◌∙◌, arith}
 use Rattle.std.proofs.lemmas.Bool.{or_left, or_right, or_cases, eqb-true, ne_eqb}
 use Rattle.std.proofs.lemmas.List.Folds.{list_any-append}
 use Rattle.std.proofs.Common.{inl, inr}
 use Rattle.std.specs.List.{list_any, flat_map}
 use Rattle.mfotl_model.proofs.LogicLemmas.{funext, among_joined, among_without, among_distinct, same_number}
 use Rattle.mfotl_model.specs.FreeVariables.{fv, among, joined, without, variable_in, variables_in}
-use Rattle.monitorable.specs.CoreForms.{CoreForm, meaning, True, False, Atom, Compare, Not, And, Or, Exists, Previous, Next, Since, Until}
+use Rattle.monitorable.specs.CoreForms.{CoreForm, meaning, True, False, Atom, Compare, Not, And, Or, Exists}
+use Rattle.monitorable.specs.CoreForms.{Previous, Next, Since, Until}
 use Rattle.mfotl_model.specs.Log.{times}
-use Rattle.mfotl_model.specs.Satisfaction.{Valuation, sat, term_value, with_value, has_event, database_at, compares, since, until, previous, next, truths}
+use Rattle.mfotl_model.specs.Satisfaction.{Valuation, sat, term_value, with_value, has_event, database_at, compares}
+use Rattle.mfotl_model.specs.Satisfaction.{since, until, previous, next, truths}
 use Rattle.mfotl_model.specs.Settled.{settled, previous_settled, next_settled, since_settled, until_settled}
 use Rattle.mfotl_model.specs.declared.event.TimePoint.{TimePoint}
 use Rattle.mfotl_model.specs.declared.term.Comparison.{Comparison}
@@ -24,7 +27,8 @@ pub record Carries (numbers : Numbers) (n : ℕ) (xs : List ℕ) (v w : Valuatio
   pub below : (y : ℕ) → among y xs ≡ true → numbers y < n
 
 -- fewer variables, and more room
-fewer : (numbers : Numbers) (m n : ℕ) (xs ys : List ℕ) (v w : Valuation) → ((y : ℕ) → among y ys ≡ true → among y xs ≡ true)
+fewer : (numbers : Numbers) (m n : ℕ) (xs ys : List ℕ) (v w : Valuation)
+    → ((y : ℕ) → among y ys ≡ true → among y xs ≡ true)
     → m ≤ n → Carries numbers m xs v w → Carries numbers n ys v w
 fewer numbers m n xs ys v w sub more c = record {
   same = λ y h. c.same y (sub y h);
@@ -43,7 +47,8 @@ right numbers n k xs ys v w c =
     fewer numbers n (n + k) (joined xs ys) ys v w
     (λ y h. among_joined y xs ys ∙ or_right (among y xs) (among y ys) h) (omega arith) c
 
-bound_same : (numbers : Numbers) (n x : ℕ) (xs : List ℕ) (v w : Valuation) (a : Value) (y : ℕ) (b : Bool) → nat_eq y x ≡ b
+bound_same : (numbers : Numbers) (n x : ℕ) (xs : List ℕ) (v w : Valuation) (a : Value) (y : ℕ) (b : Bool)
+    → nat_eq y x ≡ b
     → Carries numbers n (without x xs) v w → among y xs ≡ true
     → with_value v n a (cond b n (numbers y)) ≡ cond b a (w y)
 bound_same numbers n x xs v w a y true e c h = ap (λ t. cond t a (v n)) (same_number n)
@@ -62,14 +67,16 @@ bound_below numbers n x xs v w y false e c h =
     omega arith
 
 -- under a quantifier, whose variable gets the number n and has the value a
-bound : (numbers : Numbers) (n x : ℕ) (xs : List ℕ) (v w : Valuation) (a : Value) → Carries numbers n (without x xs) v w
+bound : (numbers : Numbers) (n x : ℕ) (xs : List ℕ) (v w : Valuation) (a : Value)
+    → Carries numbers n (without x xs) v w
     → Carries (with_number numbers x n) (n + 1) xs (with_value v n a) (with_value w x a)
 bound numbers n x xs v w a c = record {
   same = λ y h. bound_same numbers n x xs v w a y (nat_eq y x) refl c h;
   below = λ y h. bound_below numbers n x xs v w y (nat_eq y x) refl c h;
 }
 
-term_same : (numbers : Numbers) (t : Term) (v w : Valuation) → ((y : ℕ) → among y (variable_in t) ≡ true → v (numbers y) ≡ w y)
+term_same : (numbers : Numbers) (t : Term) (v w : Valuation)
+    → ((y : ℕ) → among y (variable_in t) ≡ true → v (numbers y) ≡ w y)
     → term_value v (renamed_term numbers t) ≡ term_value w t
 term_same numbers (Var x) v w agree = agree x (or_left (nat_eq x x) false (same_number x))
 term_same numbers (Const a) v w agree = refl
@@ -107,8 +114,10 @@ comparison_same numbers c v w agree =
     (term_same numbers c.left v w (λ y h. agree y (split y ∙ or_left _ _ h)))
     (term_same numbers c.right v w (λ y h. agree y (split y ∙ or_right _ _ (rest y ∙ or_left _ _ h))))
 
-pub renamed_holds : (log : List TimePoint) (dom : List Value) (numbers : Numbers) (n : ℕ) (f : CoreForm) (v w : Valuation) (i : ℕ)
-    → Carries numbers n (fv (meaning f)) v w → sat log dom v i (meaning (renamed numbers n f)) ≡ sat log dom w i (meaning f)
+pub renamed_holds : (log : List TimePoint) (dom : List Value) (numbers : Numbers) (n : ℕ) (f : CoreForm)
+    (v w : Valuation) (i : ℕ)
+    → Carries numbers n (fv (meaning f)) v w
+    → sat log dom v i (meaning (renamed numbers n f)) ≡ sat log dom w i (meaning f)
 unfolding sat fv renamed
 renamed_holds log dom p n True v w i a = refl
 renamed_holds log dom p n False v w i a = refl
@@ -119,24 +128,32 @@ renamed_holds log dom p n (Compare c) v w i a = comparison_same p c v w a.same
 renamed_holds log dom p n (Not f) v w i a = ap not (renamed_holds log dom p n f v w i a)
 renamed_holds log dom p n (And f g) v w i a =
     ap₂ (λ b c. b && c) (renamed_holds log dom p n f v w i (left p n (fv (meaning f)) (fv (meaning g)) v w a))
-    (renamed_holds log dom p (n + binder_count f) g v w i (right p n (binder_count f) (fv (meaning f)) (fv (meaning g)) v w a))
+    (renamed_holds log dom p (n + binder_count f) g v w i
+    (right p n (binder_count f) (fv (meaning f)) (fv (meaning g)) v w a))
 renamed_holds log dom p n (Or f g) v w i a =
     ap₂ (λ b c. b || c) (renamed_holds log dom p n f v w i (left p n (fv (meaning f)) (fv (meaning g)) v w a))
-    (renamed_holds log dom p (n + binder_count f) g v w i (right p n (binder_count f) (fv (meaning f)) (fv (meaning g)) v w a))
+    (renamed_holds log dom p (n + binder_count f) g v w i
+    (right p n (binder_count f) (fv (meaning f)) (fv (meaning g)) v w a))
 renamed_holds log dom p n (Exists x f) v w i a =
-    ap (λ q. list_any q dom) (funext _ _ (λ b. renamed_holds log dom (with_number p x.number n) (n + 1) f (with_value v n b) (with_value w x.number b) i (bound p n x.number (fv (meaning f)) v w b a)))
+    ap (λ q. list_any q dom)
+    (funext _ _ (λ b. renamed_holds log dom (with_number p x.number n) (n + 1) f (with_value v n b)
+    (with_value w x.number b) i (bound p n x.number (fv (meaning f)) v w b a)))
 renamed_holds log dom p n (Previous interval f) v w i a =
-    ap (λ q. previous interval (times log) (truths (length log) q) i) (funext _ _ (λ j. renamed_holds log dom p n f v w j a))
+    ap (λ q. previous interval (times log) (truths (length log) q) i)
+    (funext _ _ (λ j. renamed_holds log dom p n f v w j a))
 renamed_holds log dom p n (Next interval f) v w i a =
-    ap (λ q. next interval (times log) (truths (length log) q) i) (funext _ _ (λ j. renamed_holds log dom p n f v w j a))
+    ap (λ q. next interval (times log) (truths (length log) q) i)
+    (funext _ _ (λ j. renamed_holds log dom p n f v w j a))
 renamed_holds log dom p n (Since interval f g) v w i a =
     ap₂ (λ q r. since interval (times log) (truths (length log) q) (truths (length log) r) i)
     (funext _ _ (λ j. renamed_holds log dom p n f v w j (left p n (fv (meaning f)) (fv (meaning g)) v w a)))
-    (funext _ _ (λ j. renamed_holds log dom p (n + binder_count f) g v w j (right p n (binder_count f) (fv (meaning f)) (fv (meaning g)) v w a)))
+    (funext _ _ (λ j. renamed_holds log dom p (n + binder_count f) g v w j
+    (right p n (binder_count f) (fv (meaning f)) (fv (meaning g)) v w a)))
 renamed_holds log dom p n (Until interval f g) v w i a =
     ap₂ (λ q r. until interval (times log) (truths (length log) q) (truths (length log) r) i)
     (funext _ _ (λ j. renamed_holds log dom p n f v w j (left p n (fv (meaning f)) (fv (meaning g)) v w a)))
-    (funext _ _ (λ j. renamed_holds log dom p (n + binder_count f) g v w j (right p n (binder_count f) (fv (meaning f)) (fv (meaning g)) v w a)))
+    (funext _ _ (λ j. renamed_holds log dom p (n + binder_count f) g v w j
+    (right p n (binder_count f) (fv (meaning f)) (fv (meaning g)) v w a)))
 
 pub renamed_settled : (times : List ℕ) (numbers : Numbers) (n : ℕ) (f : CoreForm) (i : ℕ)
     → settled times (meaning (renamed numbers n f)) i ≡ settled times (meaning f) i

@@ -1,20 +1,24 @@
 -- The variables of a formula in new numbers: its free ones are the old ones in new numbers, and its
 -- quantifiers bind the numbers from n on.
-use Rattle.std.proofs.Common.{◌≡◌, ℕ, ◌+◌, ◌<◌, ◌≤◌, true, false, not, ◌&&◌, nat_eq, List, [], ◌∷◌, ◌++◌, map, refl, sym, ap, ap₂, ◌∙◌, inl, inr, arith, map-id}
+use Rattle.std.proofs.Common.{◌≡◌, ℕ, ◌+◌, ◌<◌, ◌≤◌, true, false, not, ◌&&◌, nat_eq, List, [], ◌∷◌, ◌++◌, map, refl}
+use Rattle.std.proofs.Common.{sym, ap, ap₂, ◌∙◌, inl, inr, arith, map-id}
 use Rattle.std.proofs.lemmas.Bool.{cond-true, cond-false, eq-eqb, ne_eqb, cases_eq}
 use Rattle.std.proofs.lemmas.List.{map-append}
 use Rattle.std.specs.List.{flat_map, range_with_len}
 use Rattle.mfotl_model.proofs.LogicLemmas.{among_without, range_front}
 use Rattle.mfotl_model.specs.FreeVariables.{fv, among, joined, without, distinct, variable_in, variables_in}
-use Rattle.monitorable.specs.CoreForms.{CoreForm, meaning, True, False, Atom, Compare, Not, And, Or, Exists, Previous, Next, Since, Until}
+use Rattle.monitorable.specs.CoreForms.{CoreForm, meaning, True, False, Atom, Compare, Not, And, Or, Exists}
+use Rattle.monitorable.specs.CoreForms.{Previous, Next, Since, Until}
 use Rattle.mfotl_model.specs.declared.term.Term.{Term}
 use Rattle.mfotl_model.specs.declared.term.Term.TheVariants.{Var, Const}
 use Rattle.mfotl_model.specs.Tables.{all_apart}
 use Rattle.monitorable.specs.Laws.{ApartVariables}
-use Rattle.monitorable.specs.Renaming.{Numbers, with_number, renamed, renamed_term, binders, binder_count, above, apart_form}
+use Rattle.monitorable.specs.Renaming.{Numbers, with_number, renamed, renamed_term, binders, binder_count, above}
+use Rattle.monitorable.specs.Renaming.{apart_form}
 use Rattle.monitorable.proofs.FreeVariableLemmas.{fv_apart}
 use Rattle.monitorable.proofs.RenamedMeaning.{below_above}
-use Rattle.monitorable.proofs.VariableListLemmas.{Injective, filter_mapped, joined_mapped, distinct_mapped, in_left, in_right, append_apart, range_outside, range_apart}
+use Rattle.monitorable.proofs.VariableListLemmas.{Injective, filter_mapped, joined_mapped, distinct_mapped, in_left}
+use Rattle.monitorable.proofs.VariableListLemmas.{in_right, append_apart, range_outside, range_apart}
 
 -- different variables have different new numbers, all below n
 pub record Spread (numbers : Numbers) (n : ℕ) (xs : List ℕ) : Type 0 where
@@ -31,7 +35,8 @@ fewer numbers m n xs ys sub more s = record {
 pub left : (numbers : Numbers) (n : ℕ) (xs ys : List ℕ) → Spread numbers n (joined xs ys) → Spread numbers n xs
 left numbers n xs ys s = fewer numbers n n (joined xs ys) xs (in_left xs ys) (omega arith) s
 
-pub right : (numbers : Numbers) (n k : ℕ) (xs ys : List ℕ) → Spread numbers n (joined xs ys) → Spread numbers (n + k) ys
+pub right : (numbers : Numbers) (n k : ℕ) (xs ys : List ℕ) → Spread numbers n (joined xs ys)
+    → Spread numbers (n + k) ys
 right numbers n k xs ys s = fewer numbers n (n + k) (joined xs ys) ys (in_right xs ys) (omega arith) s
 
 at_bound : (numbers : Numbers) (x n y : ℕ) → y ≡ x → with_number numbers x n y ≡ n
@@ -143,7 +148,8 @@ in_turn n k m xs ys e h = ap₂ (λ a b. a ++ b) e h ∙ sym (range_front n k m)
 first_more : (n k : ℕ) (xs : List ℕ) → xs ≡ range_with_len (n + 1) k → n ∷ xs ≡ range_with_len n (1 + k)
 first_more n k xs e = ap (λ bs. n ∷ bs) e ∙ sym (range_front n 1 k)
 
-pub renamed_binders : (numbers : Numbers) (n : ℕ) (f : CoreForm) → binders (renamed numbers n f) ≡ range_with_len n (binder_count f)
+pub renamed_binders : (numbers : Numbers) (n : ℕ) (f : CoreForm)
+    → binders (renamed numbers n f) ≡ range_with_len n (binder_count f)
 unfolding binders binder_count renamed
 renamed_binders p n True = refl
 renamed_binders p n False = refl
@@ -174,7 +180,8 @@ pub apart_variables : ApartVariables
 apart_variables f = (
   apart_fv f,
   ap₂ (λ a b. all_apart (a ++ b)) (apart_fv f) (renamed_binders (λ y. y) (above (fv (meaning f))) f)
-      ∙ append_apart (fv (meaning f)) (range_with_len (above (fv (meaning f))) (binder_count f)) (fv_apart (meaning f))
+      ∙ append_apart (fv (meaning f)) (range_with_len (above (fv (meaning f))) (binder_count f))
+      (fv_apart (meaning f))
       (range_apart (above (fv (meaning f))) (binder_count f))
       (λ y h. range_outside y (above (fv (meaning f))) (binder_count f) (below_above y (fv (meaning f)) h)),
 )

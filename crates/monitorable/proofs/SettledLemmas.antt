@@ -1,10 +1,14 @@
 -- Settled positions: they were reached, and all positions before them are settled too.
-use Rattle.std.proofs.Common.{◌≡◌, ℕ, zero, suc, ◌+◌, ◌-◌, ◌<◌, ◌≤◌, Bool, true, false, ◌&&◌, ◌||◌, nat_lt, nat_eq, List, length, Option, Some, None, refl, sym, ap, ◌∙◌, inl, inr, arith}
-use Rattle.std.proofs.lemmas.Bool.{and_parts, and_from, or_cases, or_left, or_right, ltb-true, lt-ltb, le-ltb, eqb-true, cases_eq, cases_lt}
+use Rattle.std.proofs.Common.{◌≡◌, ℕ, zero, suc, ◌+◌, ◌-◌, ◌<◌, ◌≤◌, Bool, true, false, ◌&&◌, ◌||◌, nat_lt, nat_eq}
+use Rattle.std.proofs.Common.{List, length, Option, Some, None, refl, sym, ap, ◌∙◌, inl, inr, arith}
+use Rattle.std.proofs.lemmas.Bool.{and_parts, and_from, or_cases, or_left, or_right, ltb-true, lt-ltb, le-ltb}
+use Rattle.std.proofs.lemmas.Bool.{eqb-true, cases_eq, cases_lt}
 use Rattle.std.specs.List.{list_any, list_all, range_with_len}
 use Rattle.mfotl_model.proofs.LogicLemmas.{all_in, all_from, any_in, any_from}
 use Rattle.mfotl_model.specs.Formulas.{Form}
-use Rattle.mfotl_model.specs.Formulas.Form.{True, False, Atom, Compare, Not, And, Or, Implies, Equiv, Exists, Forall, Previous, Next, Once, Historically, Eventually, Always, Since, Until}
+use Rattle.mfotl_model.specs.Formulas.Form.{True, False, Atom, Compare, Not, And, Or, Implies, Equiv, Exists}
+use Rattle.mfotl_model.specs.Formulas.Form.{Forall, Previous, Next, Once, Historically, Eventually, Always, Since}
+use Rattle.mfotl_model.specs.Formulas.Form.{Until}
 use Rattle.mfotl_model.specs.Satisfaction.{time_at}
 use Rattle.mfotl_model.specs.Settled.{settled, previous_settled, next_settled, since_settled, until_settled}
 use Rattle.monitorable.specs.Laws.{SettledBefore, SettledWithin}
@@ -46,7 +50,8 @@ settled_within times (Next interval f) i h =
     let l : i + 1 < length times =
     ltb-true (i + 1) (length times) (and_parts (nat_lt (i + 1) (length times)) (settled times f (i + 1)) h).0 in
     lt-ltb i (length times) (omega arith)
-settled_within times (Once interval f) i h = settled_within times f i (since_ready (settled times f) i i h (omega arith))
+settled_within times (Once interval f) i h =
+    settled_within times f i (since_ready (settled times f) i i h (omega arith))
 settled_within times (Historically interval f) i h =
     settled_within times f i (since_ready (settled times f) i i h (omega arith))
 settled_within times (Eventually interval f) i h = until_reached interval.hi times (settled times f) i h
@@ -65,15 +70,22 @@ unfolding until_settled
 until_before None times ready i rising down h = h
 until_before (Some hi) times ready i rising down h =
     let n : ℕ = length times in
-    let parts = and_parts (nat_lt (i + 1) n && list_any (λ k. nat_lt (time_at times (i + 1) + hi) (time_at times k)) (range_with_len 0 n))
-    (list_all (λ j. nat_lt (time_at times (i + 1) + hi) (time_at times j) || ready j) (range_with_len (i + 1) (n - (i + 1)))) h in
-    let front = and_parts (nat_lt (i + 1) n) (list_any (λ k. nat_lt (time_at times (i + 1) + hi) (time_at times k)) (range_with_len 0 n)) parts.0 in
+    let parts =
+    and_parts (nat_lt (i + 1) n
+    && list_any (λ k. nat_lt (time_at times (i + 1) + hi) (time_at times k)) (range_with_len 0 n))
+    (list_all (λ j. nat_lt (time_at times (i + 1) + hi) (time_at times j) || ready j)
+    (range_with_len (i + 1) (n - (i + 1)))) h in
+    let front =
+    and_parts (nat_lt (i + 1) n)
+    (list_any (λ k. nat_lt (time_at times (i + 1) + hi) (time_at times k)) (range_with_len 0 n)) parts.0 in
     let next : i + 1 < n = ltb-true (i + 1) n front.0 in
     let rises : time_at times i ≤ time_at times (i + 1) = rising i (i + 1) (omega arith) next in
     let far = any_in (λ k. nat_lt (time_at times (i + 1) + hi) (time_at times k)) 0 n front.1 in
-    let past : time_at times (i + 1) + hi < time_at times far.0 = ltb-true (time_at times (i + 1) + hi) (time_at times far.0) far.3 in
+    let past : time_at times (i + 1) + hi < time_at times far.0 =
+    ltb-true (time_at times (i + 1) + hi) (time_at times far.0) far.3 in
     let near = λ (j : ℕ) (low : i + 1 ≤ j) (high : j < n).
-    all_in (λ j. nat_lt (time_at times (i + 1) + hi) (time_at times j) || ready j) (i + 1) (n - (i + 1)) j parts.1 low (omega arith) in
+    all_in (λ j. nat_lt (time_at times (i + 1) + hi) (time_at times j) || ready j) (i + 1) (n - (i + 1)) j parts.1 low
+    (omega arith) in
     and_from (nat_lt i n && list_any (λ k. nat_lt (time_at times i + hi) (time_at times k)) (range_with_len 0 n))
     (list_all (λ j. nat_lt (time_at times i + hi) (time_at times j) || ready j) (range_with_len i (n - i)))
     (and_from (nat_lt i n) (list_any (λ k. nat_lt (time_at times i + hi) (time_at times k)) (range_with_len 0 n))
@@ -84,7 +96,8 @@ until_before (Some hi) times ready i rising down h =
     (λ j low high. elim (cases_eq i j) [
       | inl e ↦
           or_right (nat_lt (time_at times i + hi) (time_at times j)) (ready j)
-          (ap ready (sym e) ∙ down i (still (nat_lt (time_at times (i + 1) + hi) (time_at times (i + 1))) (ready (i + 1))
+          (ap ready (sym e) ∙ down i
+          (still (nat_lt (time_at times (i + 1) + hi) (time_at times (i + 1))) (ready (i + 1))
           (le-ltb (time_at times (i + 1) + hi) (time_at times (i + 1)) (omega arith))
           (near (i + 1) (omega arith) next)))
       | inr ne ↦ elim (cases_lt (time_at times i + hi) (time_at times j)) [
@@ -112,12 +125,14 @@ previous_before : (times : List ℕ) (ready : ℕ → Bool) (i : ℕ) → ((j : 
     → previous_settled times ready (i + 1) ≡ true → previous_settled times ready i ≡ true
 unfolding previous_settled
 previous_before times ready zero down h =
-    let l : 0 + 1 < length times = ltb-true (0 + 1) (length times) (and_parts (nat_lt (0 + 1) (length times)) _ h).0 in
+    let l : 0 + 1 < length times =
+    ltb-true (0 + 1) (length times) (and_parts (nat_lt (0 + 1) (length times)) _ h).0 in
     and_from (nat_lt 0 (length times)) (nat_eq 0 0 || ready (0 - 1)) (lt-ltb 0 (length times) (omega arith)) refl
 previous_before times ready (suc i) down h =
     let parts = and_parts (nat_lt (suc i + 1) (length times)) (nat_eq (suc i + 1) 0 || ready (suc i + 1 - 1)) h in
     let l : suc i + 1 < length times = ltb-true (suc i + 1) (length times) parts.0 in
-    and_from (nat_lt (suc i) (length times)) (nat_eq (suc i) 0 || ready (suc i - 1)) (lt-ltb (suc i) (length times) (omega arith))
+    and_from (nat_lt (suc i) (length times)) (nat_eq (suc i) 0 || ready (suc i - 1))
+    (lt-ltb (suc i) (length times) (omega arith))
     (or_right (nat_eq (suc i) 0) (ready (suc i - 1))
     (elim (or_cases (nat_eq (suc i + 1) 0) (ready (suc i + 1 - 1)) parts.1) [
       | inl e ↦ let z : suc i + 1 ≡ 0 = eqb-true (suc i + 1) 0 e in absurd (omega arith)
@@ -128,23 +143,31 @@ previous_before times ready (suc i) down h =
 
 pub settled_before : SettledBefore
 unfolding settled next_settled
-settled_before times rising True i h = lt-ltb i (length times) (let l : i + 1 < length times = ltb-true (i + 1) (length times) h in omega arith)
-settled_before times rising False i h = lt-ltb i (length times) (let l : i + 1 < length times = ltb-true (i + 1) (length times) h in omega arith)
-settled_before times rising (Atom atom) i h = lt-ltb i (length times) (let l : i + 1 < length times = ltb-true (i + 1) (length times) h in omega arith)
-settled_before times rising (Compare c) i h = lt-ltb i (length times) (let l : i + 1 < length times = ltb-true (i + 1) (length times) h in omega arith)
+settled_before times rising True i h =
+    lt-ltb i (length times) (let l : i + 1 < length times = ltb-true (i + 1) (length times) h in omega arith)
+settled_before times rising False i h =
+    lt-ltb i (length times) (let l : i + 1 < length times = ltb-true (i + 1) (length times) h in omega arith)
+settled_before times rising (Atom atom) i h =
+    lt-ltb i (length times) (let l : i + 1 < length times = ltb-true (i + 1) (length times) h in omega arith)
+settled_before times rising (Compare c) i h =
+    lt-ltb i (length times) (let l : i + 1 < length times = ltb-true (i + 1) (length times) h in omega arith)
 settled_before times rising (Not f) i h = settled_before times rising f i h
 settled_before times rising (And f g) i h =
     let p = and_parts (settled times f (i + 1)) (settled times g (i + 1)) h in
-    and_from (settled times f i) (settled times g i) (settled_before times rising f i p.0) (settled_before times rising g i p.1)
+    and_from (settled times f i) (settled times g i) (settled_before times rising f i p.0)
+    (settled_before times rising g i p.1)
 settled_before times rising (Or f g) i h =
     let p = and_parts (settled times f (i + 1)) (settled times g (i + 1)) h in
-    and_from (settled times f i) (settled times g i) (settled_before times rising f i p.0) (settled_before times rising g i p.1)
+    and_from (settled times f i) (settled times g i) (settled_before times rising f i p.0)
+    (settled_before times rising g i p.1)
 settled_before times rising (Implies f g) i h =
     let p = and_parts (settled times f (i + 1)) (settled times g (i + 1)) h in
-    and_from (settled times f i) (settled times g i) (settled_before times rising f i p.0) (settled_before times rising g i p.1)
+    and_from (settled times f i) (settled times g i) (settled_before times rising f i p.0)
+    (settled_before times rising g i p.1)
 settled_before times rising (Equiv f g) i h =
     let p = and_parts (settled times f (i + 1)) (settled times g (i + 1)) h in
-    and_from (settled times f i) (settled times g i) (settled_before times rising f i p.0) (settled_before times rising g i p.1)
+    and_from (settled times f i) (settled times g i) (settled_before times rising f i p.0)
+    (settled_before times rising g i p.1)
 settled_before times rising (Exists x f) i h = settled_before times rising f i h
 settled_before times rising (Forall x f) i h = settled_before times rising f i h
 settled_before times rising (Previous interval f) i h =
@@ -165,7 +188,8 @@ settled_before times rising (Until interval f g) i h =
     until_before interval.hi times (λ j. settled times f j && settled times g j) i rising
     (λ j k.
     let p = and_parts (settled times f (j + 1)) (settled times g (j + 1)) k in
-    and_from (settled times f j) (settled times g j) (settled_before times rising f j p.0) (settled_before times rising g j p.1))
+    and_from (settled times f j) (settled times g j) (settled_before times rising f j p.0)
+    (settled_before times rising g j p.1))
     h
 
 pub settled_in_log : SettledWithin

@@ -1,5 +1,6 @@
 -- A table that is exact for a core holds the rows that satisfy it.
-use Rattle.std.proofs.Common.{◌≡◌, ℕ, true, ◌&&◌, nat_eq, List, [], ◌∷◌, length, map, None, refl, sym, ap, ◌∙◌, inl, inr}
+use Rattle.std.proofs.Common.{◌≡◌, ℕ, true, ◌&&◌, nat_eq, List, [], ◌∷◌, length, map, None, refl, sym, ap, ◌∙◌, inl}
+use Rattle.std.proofs.Common.{inr}
 use Rattle.std.proofs.lemmas.Bool.{and_parts, and_from, or_cases, eqb-true}
 use Rattle.std.proofs.lemmas.Map.Lookups.{btree_set_from_contains}
 use Rattle.std.proofs.lemmas.Map.Views.{tells_apart}
@@ -39,7 +40,8 @@ sized_row n (first ∷ rows) row sized h =
 
 module _ (log : List TimePoint) (names : Names) (g : CoreForm) (i : ℕ) (table : TableOf)
     (accepted : frag names g ≡ None) (exact : Exact (whole_view log g) (meaning g) i table)
-    (sized : all_sized (length table.columns) table.rows ≡ true) (sorted : IsStrictlySortedBy row_cmp table.rows) where
+    (sized : all_sized (length table.columns) table.rows ≡ true)
+    (sorted : IsStrictlySortedBy row_cmp table.rows) where
   abbrev vars : List ℕ
   vars = fv (meaning g)
 
@@ -51,7 +53,8 @@ module _ (log : List TimePoint) (names : Names) (g : CoreForm) (i : ℕ) (table 
       → has_row table.rows row ≡ satisfies log g i row
   unfolding has
   alike row size =
-      ap (has_row table.rows) (sym (row_kept vars row (fv_apart (meaning g)) (eqb-true (length row) (length vars) size)))
+      ap (has_row table.rows)
+      (sym (row_kept vars row (fv_apart (meaning g)) (eqb-true (length row) (length vars) size)))
       ∙ ap (λ cs. has_row table.rows (map (valuation vars row) cs)) (sym exact.columns)
       ∙ exact.rows (core_domain log g) (valuation vars row) (λ a h. h) refl
 

@@ -1,5 +1,6 @@
 -- Temporal operators on lists of truth values that agree where it matters.
-use Rattle.std.proofs.Common.{◌≡◌, ℕ, zero, suc, ◌+◌, ◌-◌, ◌<◌, ◌≤◌, Bool, true, false, ◌&&◌, ◌||◌, nat_lt, nat_le, List, length, Option, Some, None, refl, sym, ap, ap₂, ◌∙◌, inl, inr, arith}
+use Rattle.std.proofs.Common.{◌≡◌, ℕ, zero, suc, ◌+◌, ◌-◌, ◌<◌, ◌≤◌, Bool, true, false, ◌&&◌, ◌||◌, nat_lt, nat_le}
+use Rattle.std.proofs.Common.{List, length, Option, Some, None, refl, sym, ap, ap₂, ◌∙◌, inl, inr, arith}
 use Rattle.std.proofs.lemmas.Bool.{and_parts, and_right, and_left, or_from, ltb-true, le-ltb, lt-leb, cases_lt}
 use Rattle.std.proofs.lemmas.List.Folds.{list_any-append}
 use Rattle.std.specs.List.{list_any, list_all, range_with_len}
@@ -11,7 +12,8 @@ use Rattle.mfotl_model.specs.declared.interval.Interval.{Interval}
 use Rattle.mfotl_model.specs.Times.{NeverFalls}
 
 -- a test that holds nowhere in a range finds nothing
-pub any_none : (p : ℕ → Bool) (a n : ℕ) → ((k : ℕ) → a ≤ k → k < a + n → p k ≡ false) → list_any p (range_with_len a n) ≡ false
+pub any_none : (p : ℕ → Bool) (a n : ℕ) → ((k : ℕ) → a ≤ k → k < a + n → p k ≡ false)
+    → list_any p (range_with_len a n) ≡ false
 any_none p a zero h = refl
 any_none p a (suc n) h =
     or_from (p a) (list_any p (range_with_len (a + 1) n)) (h a (omega arith) (omega arith))
@@ -28,8 +30,10 @@ pub since_same : (I : Interval) (t u : List ℕ) (a b c d : List Bool) (i : ℕ)
 unfolding since
 since_same I t u a b c d i same =
     any_same
-    (λ j. in_interval I (time_at t i - time_at t j) && truth_at b j && list_all (truth_at a) (range_with_len (j + 1) (i - j)))
-    (λ j. in_interval I (time_at u i - time_at u j) && truth_at d j && list_all (truth_at c) (range_with_len (j + 1) (i - j)))
+    (λ j. in_interval I (time_at t i - time_at t j) && truth_at b j
+    && list_all (truth_at a) (range_with_len (j + 1) (i - j)))
+    (λ j. in_interval I (time_at u i - time_at u j) && truth_at d j
+    && list_all (truth_at c) (range_with_len (j + 1) (i - j)))
     0 (i + 1)
     (λ j low high.
     let s : Same t u a b c d j = same j (omega arith) in
@@ -47,19 +51,23 @@ beyond I hi d e l =
 module _ (I : Interval) (t : List ℕ) (a b : List Bool) (i : ℕ) where
   -- the position j meets UNTIL's line at i
   abbrev meets : ℕ → Bool
-  meets j = in_interval I (time_at t j - time_at t i) && truth_at b j && list_all (truth_at a) (range_with_len i (j - i))
+  meets j =
+      in_interval I (time_at t j - time_at t i) && truth_at b j && list_all (truth_at a) (range_with_len i (j - i))
 
   meets_not : (hi j : ℕ) → I.hi ≡ Some hi → time_at t i + hi < time_at t j → meets j ≡ false
   meets_not hi j e l =
-      and_left (in_interval I (time_at t j - time_at t i) && truth_at b j) (list_all (truth_at a) (range_with_len i (j - i)))
+      and_left (in_interval I (time_at t j - time_at t i) && truth_at b j)
+      (list_all (truth_at a) (range_with_len i (j - i)))
       (and_left (in_interval I (time_at t j - time_at t i)) (truth_at b j)
       (beyond I hi (time_at t j - time_at t i) e (omega arith)))
 
-module _ (I : Interval) (t u : List ℕ) (a b c d : List Bool) (i hi : ℕ) (e : I.hi ≡ Some hi) (more : length t ≤ length u)
+module _ (I : Interval) (t u : List ℕ) (a b c d : List Bool) (i hi : ℕ) (e : I.hi ≡ Some hi)
+    (more : length t ≤ length u)
     (rising : NeverFalls u) (times : (j : ℕ) → j < length t → time_at t j ≡ time_at u j)
     (same : (j : ℕ) → i ≤ j → j < length t → time_at t j ≤ time_at t i + hi → Same t u a b c d j)
     (here : i < length t) where
-  meets_same_at : (j : ℕ) → i ≤ j → j < length t → time_at t j ≤ time_at t i + hi → meets I t a b i j ≡ meets I u c d i j
+  meets_same_at : (j : ℕ) → i ≤ j → j < length t → time_at t j ≤ time_at t i + hi
+      → meets I t a b i j ≡ meets I u c d i j
   meets_same_at j low high near =
       let s : Same t u a b c d j = same j low high near in
       let now : time_at t i ≡ time_at u i = times i here in
@@ -92,12 +100,14 @@ module _ (I : Interval) (t u : List ℕ) (a b c d : List Bool) (i hi : ℕ) (e :
 
   split_at : (n m : ℕ) → i ≤ n → n ≤ m
       → list_any (meets I u c d i) (range_with_len i (m - i))
-      ≡ (list_any (meets I u c d i) (range_with_len i (n - i)) || list_any (meets I u c d i) (range_with_len n (m - n)))
+      ≡ (list_any (meets I u c d i) (range_with_len i (n - i))
+      || list_any (meets I u c d i) (range_with_len n (m - n)))
   split_at n m low high =
       ap (λ k. list_any (meets I u c d i) (range_with_len i k)) (omega arith)
       ∙ ap (list_any (meets I u c d i)) (range_front i (n - i) (m - n))
       ∙ list_any-append (meets I u c d i) (range_with_len i (n - i)) (range_with_len (i + (n - i)) (m - n))
-      ∙ ap (λ k. list_any (meets I u c d i) (range_with_len i (n - i)) || list_any (meets I u c d i) (range_with_len k (m - n)))
+      ∙ ap (λ k. list_any (meets I u c d i) (range_with_len i (n - i))
+      || list_any (meets I u c d i) (range_with_len k (m - n)))
       (omega arith)
 
   pub until_same_from : (k : ℕ) → k < length t → time_at t i + hi < time_at t k → until I t a b i ≡ until I u c d i
@@ -115,7 +125,8 @@ module _ (I : Interval) (t u : List ℕ) (a b c d : List Bool) (i hi : ℕ) (e :
       or_nothing false = refl
 
 -- UNTIL where it is settled: the operands agree wherever they are ready
-pub until_same : (I : Interval) (h : Option ℕ) (t u : List ℕ) (a b c d : List Bool) (ready : ℕ → Bool) (i : ℕ) → I.hi ≡ h
+pub until_same : (I : Interval) (h : Option ℕ) (t u : List ℕ) (a b c d : List Bool) (ready : ℕ → Bool) (i : ℕ)
+    → I.hi ≡ h
     → until_settled h t ready i ≡ true → length t ≤ length u → NeverFalls u
     → ((j : ℕ) → j < length t → time_at t j ≡ time_at u j)
     → ((j : ℕ) → j < length t → ready j ≡ true → Same t u a b c d j)
@@ -123,9 +134,13 @@ pub until_same : (I : Interval) (h : Option ℕ) (t u : List ℕ) (a b c d : Lis
 unfolding until_settled
 until_same I None t u a b c d ready i e s more rising times same = cc
 until_same I (Some hi) t u a b c d ready i e s more rising times same =
-    let parts = and_parts (nat_lt i (length t) && list_any (λ k. nat_lt (time_at t i + hi) (time_at t k)) (range_with_len 0 (length t)))
+    let parts =
+    and_parts (nat_lt i (length t)
+    && list_any (λ k. nat_lt (time_at t i + hi) (time_at t k)) (range_with_len 0 (length t)))
     (list_all (λ j. nat_lt (time_at t i + hi) (time_at t j) || ready j) (range_with_len i (length t - i))) s in
-    let front = and_parts (nat_lt i (length t)) (list_any (λ k. nat_lt (time_at t i + hi) (time_at t k)) (range_with_len 0 (length t))) parts.0 in
+    let front =
+    and_parts (nat_lt i (length t))
+    (list_any (λ k. nat_lt (time_at t i + hi) (time_at t k)) (range_with_len 0 (length t))) parts.0 in
     let here : i < length t = ltb-true i (length t) front.0 in
     let far = any_in (λ k. nat_lt (time_at t i + hi) (time_at t k)) 0 (length t) front.1 in
     until_same_from I t u a b c d i hi e more rising times

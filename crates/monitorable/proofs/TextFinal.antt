@@ -1,5 +1,6 @@
 -- The text of a log is a prefix of the text of every longer one.
-use Rattle.std.proofs.Common.{◌≡◌, ℕ, zero, suc, ◌+◌, ◌≤◌, Bool, true, List, [], ◌∷◌, ◌++◌, map, length, None, refl, sym, ap, ap₂, ◌∙◌, subst, inl, inr, arith, length-append}
+use Rattle.std.proofs.Common.{◌≡◌, ℕ, zero, suc, ◌+◌, ◌≤◌, Bool, true, List, [], ◌∷◌, ◌++◌, map, length, None, refl}
+use Rattle.std.proofs.Common.{sym, ap, ap₂, ◌∙◌, subst, inl, inr, arith, length-append}
 use Rattle.std.proofs.lemmas.Bool.{cases_Bool, cond-true, cond-false}
 use Rattle.std.proofs.lemmas.Grind.{flat_map-append}
 use Rattle.std.proofs.lemmas.List.{map-append}
@@ -53,7 +54,8 @@ text_final log more names f rising h =
     let joined : times (log ++ more) ≡ times log ++ times more = map-append (λ t. t.ts) log more in
     let r = longer p q (verdict_at log f) (verdict_at (log ++ more) f)
     (λ i h. ap (λ t. settled t f i) joined
-    ∙ settled_stays (times log) (times more) (rises (times (log ++ more)) (times log ++ times more) joined rising) f i h)
+    ∙ settled_stays (times log) (times more)
+    (rises (times (log ++ more)) (times log ++ times more) joined rising) f i h)
     (λ i h. ap₂ (λ t rows. record { point = i; ts = t; rows = rows })
     (time_same log more i (within_log log f i h))
     (violations_final log more names f i rising fits h))

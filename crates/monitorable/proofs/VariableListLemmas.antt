@@ -1,6 +1,8 @@
 -- Lists of variables under a change of numbers, and lists without repeats.
-use Rattle.std.proofs.Common.{◌≡◌, ℕ, zero, suc, ◌+◌, ◌<◌, Bool, true, false, not, ◌&&◌, ◌||◌, cond, nat_eq, List, [], ◌∷◌, ◌++◌, map, refl, sym, ap, ap₂, ◌∙◌, inl, inr, arith}
-use Rattle.std.proofs.lemmas.Bool.{or_left, or_right, and_parts, and_from, eqb-true, eq-eqb, ne_eqb, cases_eq, not-true, cond-true, cond-false}
+use Rattle.std.proofs.Common.{◌≡◌, ℕ, zero, suc, ◌+◌, ◌<◌, Bool, true, false, not, ◌&&◌, ◌||◌, cond, nat_eq, List}
+use Rattle.std.proofs.Common.{[], ◌∷◌, ◌++◌, map, refl, sym, ap, ap₂, ◌∙◌, inl, inr, arith}
+use Rattle.std.proofs.lemmas.Bool.{or_left, or_right, and_parts, and_from, eqb-true, eq-eqb, ne_eqb, cases_eq}
+use Rattle.std.proofs.lemmas.Bool.{not-true, cond-true, cond-false}
 use Rattle.std.proofs.lemmas.List.{map-append}
 use Rattle.std.proofs.lemmas.List.Folds.{list_any-append}
 use Rattle.std.proofs.lemmas.Map.Views.{any-filter_same}
@@ -16,7 +18,8 @@ Injective p xs = (y z : ℕ) → among y xs ≡ true → among z xs ≡ true →
 -- a filter of mapped variables is the map of a filter, where both answer alike on these variables
 filter_mapped_at : (p q : ℕ → ℕ) (s t : ℕ → Bool) (y : ℕ) (ys zs : List ℕ) (b : Bool) → t y ≡ b → s (q y) ≡ t y
     → (t y ≡ true → q y ≡ p y) → filter s (map q ys) ≡ map p (filter t ys)
-    → cond (s (q y)) (q y ∷ filter s (map q ys)) (filter s (map q ys)) ≡ map p (cond (t y) (y ∷ filter t ys) (filter t ys))
+    → cond (s (q y)) (q y ∷ filter s (map q ys)) (filter s (map q ys))
+    ≡ map p (cond (t y) (y ∷ filter t ys) (filter t ys))
 filter_mapped_at p q s t y ys zs true e same number rest =
     cond-true (s (q y)) (q y ∷ filter s (map q ys)) (filter s (map q ys)) (same ∙ e)
     ∙ ap₂ (λ a bs. a ∷ bs) (number e) rest
@@ -66,15 +69,18 @@ in_left xs ys y h = among_joined y xs ys ∙ or_left (among y xs) (among y ys) h
 pub in_right : (xs ys : List ℕ) (y : ℕ) → among y ys ≡ true → among y (joined xs ys) ≡ true
 in_right xs ys y h = among_joined y xs ys ∙ or_right (among y xs) (among y ys) h
 
-pub distinct_mapped : (p : ℕ → ℕ) (xs : List ℕ) → Injective p (distinct xs) → distinct (map p xs) ≡ map p (distinct xs)
+pub distinct_mapped : (p : ℕ → ℕ) (xs : List ℕ) → Injective p (distinct xs)
+    → distinct (map p xs) ≡ map p (distinct xs)
 distinct_mapped p [] inj = refl
 distinct_mapped p (x ∷ xs) inj =
     ap (joined (p x ∷ []))
-    (distinct_mapped p xs (λ y z h m. inj y z (in_right (x ∷ []) (distinct xs) y h) (in_right (x ∷ []) (distinct xs) z m)))
+    (distinct_mapped p xs
+    (λ y z h m. inj y z (in_right (x ∷ []) (distinct xs) y h) (in_right (x ∷ []) (distinct xs) z m)))
     ∙ joined_mapped p (x ∷ []) (distinct xs) inj
 
 -- lists without repeats
-filter_apart_at : (s : ℕ → Bool) (x : ℕ) (xs : List ℕ) (b : Bool) → s x ≡ b → among x xs ≡ false → all_apart (filter s xs) ≡ true
+filter_apart_at : (s : ℕ → Bool) (x : ℕ) (xs : List ℕ) (b : Bool) → s x ≡ b → among x xs ≡ false
+    → all_apart (filter s xs) ≡ true
     → all_apart (cond (s x) (x ∷ filter s xs) (filter s xs)) ≡ true
 filter_apart_at s x xs true e out rest =
     ap all_apart (cond-true (s x) (x ∷ filter s xs) (filter s xs) e)

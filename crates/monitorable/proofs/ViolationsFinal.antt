@@ -1,5 +1,6 @@
 -- The violations at a settled position stay as they are in every longer log.
-use Rattle.std.proofs.Common.{◌≡◌, ℕ, Bool, true, false, ◌&&◌, nat_eq, List, ◌++◌, length, None, refl, sym, ap, ap₂, ◌∙◌}
+use Rattle.std.proofs.Common.{◌≡◌, ℕ, Bool, true, false, ◌&&◌, nat_eq, List, ◌++◌, length, None, refl, sym, ap, ap₂}
+use Rattle.std.proofs.Common.{◌∙◌}
 use Rattle.std.specs.List.{list_all, filter}
 use Rattle.mfotl_model.proofs.AscendingLemmas.{same_ascending}
 use Rattle.mfotl_model.proofs.RowLemmas.{row_exact}
@@ -41,11 +42,14 @@ agreeing false t len l m e h = ap (λ x. x && (len && m)) e
 
 module _ (log more : List TimePoint) (names : Names) (f : Form) (i : ℕ) (rising : NeverFalls (times (log ++ more)))
     (accepted : frag names (negative f) ≡ None) (set : settled (times log) f i ≡ true) where
-  negation_same : (v : Valuation) → sat log (adom log f) v i (meaning (negative f)) ≡ sat (log ++ more) (adom (log ++ more) f) v i (meaning (negative f))
+  negation_same : (v : Valuation)
+      → sat log (adom log f) v i (meaning (negative f))
+      ≡ sat (log ++ more) (adom (log ++ more) f) v i (meaning (negative f))
   negation_same v =
       (domain log (adom log f) names (negative f) accepted (has_log log f) (negation_constants log f) v i).1
       (adom log f) (adom (log ++ more) f) (itself (adom log f)) (grows log more f)
-      ∙ finality log more (adom (log ++ more) f) (meaning (negative f)) v i rising ((normal_form_settled (times log) f i).1 ∙ set)
+      ∙ finality log more (adom (log ++ more) f) (meaning (negative f)) v i rising
+      ((normal_form_settled (times log) f i).1 ∙ set)
 
   violates_same : (q : List Value) → violates log f i q ≡ violates (log ++ more) f i q
   violates_same q =

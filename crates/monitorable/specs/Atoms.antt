@@ -1,6 +1,7 @@
 -- The atoms of a core.
 use Rattle.std.specs.Prelude.{List, [], ◌∷◌, ◌++◌, Option, Some, None}
-use Rattle.monitorable.specs.CoreForms.{CoreForm, True, False, Atom, Compare, Not, And, Or, Exists, Previous, Next, Since, Until}
+use Rattle.monitorable.specs.CoreForms.{CoreForm, True, False, Atom, Compare, Not, And, Or, Exists, Previous, Next}
+use Rattle.monitorable.specs.CoreForms.{Since, Until}
 use Rattle.mfotl_model.specs.declared.term.Atom.{Atom as OneAtom}
 
 -- the atoms of a core, from left to right, as often as they stand there

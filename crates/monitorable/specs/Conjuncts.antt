@@ -31,6 +31,7 @@ conjuncts_of f = lone_part f ∷ []
 
 -- whether a conjunct holds
 abbrev pub part_holds : List TimePoint → List Value → Valuation → ℕ → PartForm → Bool
-part_holds log dom v i (Child f negated) = cond negated (not (sat log dom v i (meaning f))) (sat log dom v i (meaning f))
+part_holds log dom v i (Child f negated) =
+    cond negated (not (sat log dom v i (meaning f))) (sat log dom v i (meaning f))
 part_holds log dom v i (Test c wanted) =
     cond wanted (sat log dom v i (meaning (Compare c))) (not (sat log dom v i (meaning (Compare c))))

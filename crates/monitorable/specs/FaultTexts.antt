@@ -2,7 +2,8 @@
 use Rattle.std.specs.Prelude.{ℕ, cond, List, [], ◌++◌, codes}
 use Rattle.std.specs.Str.{is_utf8}
 use Rattle.monitorable.specs.declared.fault.FragmentFault.{FragmentFault}
-use Rattle.monitorable.specs.declared.fault.FragmentFault.TheVariants.{TooLarge, UnboundedFuture, Unguarded, Uneven, LooseLeft, UnusedBound, Memory}
+use Rattle.monitorable.specs.declared.fault.FragmentFault.TheVariants.{TooLarge, UnboundedFuture, Unguarded, Uneven}
+use Rattle.monitorable.specs.declared.fault.FragmentFault.TheVariants.{LooseLeft, UnusedBound, Memory}
 
 -- the bytes of a fault's text, the variable's name as it stands in the policy
 abbrev pub fault_text : FragmentFault → List ℕ

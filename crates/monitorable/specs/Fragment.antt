@@ -1,9 +1,11 @@
 -- Which normal forms can be monitored, and else the first reason why one can't (this project's own).
 -- Each variable is to be bound by something that has finitely many rows at a time-point: an atom, or
 -- an equation with a constant.
-use Rattle.std.specs.Prelude.{◌≡◌, ℕ, Bool, true, false, ◌&&◌, nat_lt, nat_eq, cond, List, [], ◌∷◌, ◌++◌, map, Option, Some, None, slice_index_or}
+use Rattle.std.specs.Prelude.{◌≡◌, ℕ, Bool, true, false, ◌&&◌, nat_lt, nat_eq, cond, List, [], ◌∷◌, ◌++◌, map}
+use Rattle.std.specs.Prelude.{Option, Some, None, slice_index_or}
 use Rattle.mfotl_model.specs.Formulas.{Form}
-use Rattle.monitorable.specs.CoreForms.{CoreForm, meaning, True, False, Atom, Compare, Not, And, Or, Exists, Previous, Next, Since, Until}
+use Rattle.monitorable.specs.CoreForms.{CoreForm, meaning, True, False, Atom, Compare, Not, And, Or, Exists}
+use Rattle.monitorable.specs.CoreForms.{Previous, Next, Since, Until}
 use Rattle.mfotl_model.specs.declared.formula.Bound.{Bound}
 use Rattle.mfotl_model.specs.declared.policy.Var.{Var as FreeVar}
 use Rattle.mfotl_model.specs.declared.term.Comparison.{Comparison}
@@ -17,9 +19,10 @@ use Rattle.monitorable.specs.NodeCount.{nodes}
 use Rattle.monitorable.specs.NormalForm.{negative}
 use Rattle.monitorable.specs.declared.fault.Variable.{Variable}
 use Rattle.monitorable.specs.declared.fault.FragmentFault.{FragmentFault}
-use Rattle.monitorable.specs.declared.fault.FragmentFault.TheVariants.{TooLarge, UnboundedFuture, Unguarded, Uneven, LooseLeft, UnusedBound}
-use Rattle.monitorable.specs.declared.fragment.Role.{Role}
-use Rattle.monitorable.specs.declared.fragment.Role.TheVariants.{Whole, Part, Negated, Left}
+use Rattle.monitorable.specs.declared.fault.FragmentFault.TheVariants.{TooLarge, UnboundedFuture, Unguarded, Uneven}
+use Rattle.monitorable.specs.declared.fault.FragmentFault.TheVariants.{LooseLeft, UnusedBound}
+use Rattle.monitorable.specs.declared.role.Role.{Role}
+use Rattle.monitorable.specs.declared.role.Role.TheVariants.{Whole, Part, Negated, Left}
 
 -- the name of each variable where a core stands, by its number
 abbrev pub Names : Type 0
@@ -52,7 +55,7 @@ abbrev pub at_variable : (ℕ → FragmentFault) → Option ℕ → Option Fragm
 at_variable fault None = None
 at_variable fault (Some y) = Some (fault y)
 
--- the equations x = c and c = x, which give the variable x one value
+-- whether the sign is that of an equation
 abbrev pub is_equal : Sign → Bool
 is_equal Equal = true
 is_equal Less = false
@@ -60,12 +63,14 @@ is_equal LessEqual = false
 is_equal Greater = false
 is_equal GreaterEqual = false
 
+-- whether one of the terms is a variable and the other a constant
 abbrev pub pairs_constant : Term → Term → Bool
 pairs_constant (Var x) (Var y) = false
 pairs_constant (Var x) (Const b) = true
 pairs_constant (Const a) (Var y) = true
 pairs_constant (Const a) (Const b) = false
 
+-- the equations x = c and c = x, which give the variable x one value
 abbrev pub binds : Comparison → Bool
 binds c = is_equal c.sign && pairs_constant c.left c.right
 

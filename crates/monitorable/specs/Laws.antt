@@ -23,6 +23,7 @@ use Rattle.monitorable.specs.Fragment.{Names, frag, frag_fault}
 use Rattle.monitorable.specs.Negation.{HasConstantsOf, Negates}
 use Rattle.monitorable.specs.NormalForm.{positive, negative}
 use Rattle.monitorable.specs.Renaming.{apart_form, binders}
+use Rattle.monitorable.specs.Soundness.{IsSound}
 use Rattle.monitorable.specs.SatisfyingRows.{HasViolationsOf, satisfying_rows}
 use Rattle.mfotl_model.specs.Times.{NeverFalls}
 
@@ -163,3 +164,9 @@ TablesSatisfy =
     → frag names g ≡ None → Exact (whole_view log g) (meaning g) i table
     → all_sized (length table.columns) table.rows ≡ true → IsStrictlySortedBy row_cmp table.rows
     → table.rows ≡ satisfying_rows log g i
+
+-- a core that the fragment accepts, and no two of whose free and bound variables are the same, is sound in each part
+abbrev pub PartsAreSound : Type 0
+PartsAreSound =
+    (names : Names) (f : CoreForm)
+    → frag names f ≡ None → all_apart (fv (meaning f) ++ binders f) ≡ true → IsSound f f

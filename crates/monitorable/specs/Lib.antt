@@ -13,6 +13,7 @@ pub mod Atoms
 pub mod Cores
 pub mod Negation
 pub mod SatisfyingRows
+pub mod Soundness
 pub mod Conjuncts
 pub mod PartView
 pub mod Laws

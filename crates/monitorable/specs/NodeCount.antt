@@ -1,7 +1,8 @@
 -- How many nodes a core has: one for each TRUE, FALSE, atom, comparison, quantified variable and
 -- operator (this project's own).
 use Rattle.std.specs.Prelude.{ℕ, ◌+◌}
-use Rattle.monitorable.specs.CoreForms.{CoreForm, True, False, Atom, Compare, Not, And, Or, Exists, Previous, Next, Since, Until}
+use Rattle.monitorable.specs.CoreForms.{CoreForm, True, False, Atom, Compare, Not, And, Or, Exists, Previous, Next}
+use Rattle.monitorable.specs.CoreForms.{Since, Until}
 
 -- the nodes of a core
 unfoldable pub nodes : CoreForm → ℕ

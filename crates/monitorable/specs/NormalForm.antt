@@ -2,10 +2,12 @@
 -- NOT stands before no OR, IMPLIES or FORALL.
 use Rattle.mfotl_model.specs.Formulas as form
 use Rattle.mfotl_model.specs.Formulas.{Form}
-use Rattle.monitorable.specs.CoreForms.{CoreForm, True, False, Atom, Compare, Not, And, Or, Exists, Previous, Next, Since, Until}
+use Rattle.monitorable.specs.CoreForms.{CoreForm, True, False, Atom, Compare, Not, And, Or, Exists, Previous, Next}
+use Rattle.monitorable.specs.CoreForms.{Since, Until}
 
 -- the normal form of f, and that of NOT f
 unfoldable mutual
+  -- the normal form of f
   pub positive : Form → CoreForm
   positive form.True = True
   positive form.False = False
@@ -27,6 +29,7 @@ unfoldable mutual
   positive (form.Since interval f g) = Since interval (positive f) (positive g)
   positive (form.Until interval f g) = Until interval (positive f) (positive g)
 
+  -- the normal form of NOT f
   pub negative : Form → CoreForm
   negative form.True = Not True
   negative form.False = Not False

@@ -1,7 +1,8 @@
 -- A core with other numbers for its bound variables, so that no two quantifiers bind the same one
 -- and none binds a free one. Names stay (this project's own).
 use Rattle.std.specs.Prelude.{ℕ, ◌+◌, nat_eq, cond, max, List, [], ◌∷◌, ◌++◌, map}
-use Rattle.monitorable.specs.CoreForms.{CoreForm, meaning, True, False, Atom, Compare, Not, And, Or, Exists, Previous, Next, Since, Until}
+use Rattle.monitorable.specs.CoreForms.{CoreForm, meaning, True, False, Atom, Compare, Not, And, Or, Exists}
+use Rattle.monitorable.specs.CoreForms.{Previous, Next, Since, Until}
 use Rattle.mfotl_model.specs.FreeVariables.{fv}
 use Rattle.mfotl_model.specs.declared.term.Atom.{Atom as OneAtom}
 use Rattle.mfotl_model.specs.declared.term.Comparison.{Comparison}
@@ -46,13 +47,16 @@ Numbers = ℕ → ℕ
 abbrev pub with_number : Numbers → ℕ → ℕ → Numbers
 with_number numbers x n y = cond (nat_eq y x) n (numbers y)
 
+-- a term in new numbers
 abbrev pub renamed_term : Numbers → Term → Term
 renamed_term numbers (Var x) = Var (numbers x)
 renamed_term numbers (Const a) = Const a
 
+-- an atom in new numbers
 abbrev pub renamed_atom : Numbers → OneAtom → OneAtom
 renamed_atom numbers atom = record { pred = atom.pred; args = map (renamed_term numbers) atom.args }
 
+-- a comparison in new numbers
 abbrev pub renamed_comparison : Numbers → Comparison → Comparison
 renamed_comparison numbers c =
     record { sign = c.sign; left = renamed_term numbers c.left; right = renamed_term numbers c.right }

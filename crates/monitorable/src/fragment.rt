@@ -1,68 +1,18 @@
 //! Whether a normal form can be monitored.
 ghost use Rattle.std.specs.Prelude.{◌≡◌};
 ghost use Rattle.monitorable.specs.CoreForms.{node_form};
-ghost use Rattle.monitorable.specs.Fragment.{asked, covers, evens, fault_in, first, guards, is_conjunction, judges_comparison, judges_not, looks_within, under_not, uses};
+ghost use Rattle.monitorable.specs.Fragment.{asked, covers, evens, fault_in, first, guards, is_conjunction, judges_not, looks_within, under_not, uses, with_name};
 ghost use Rattle.monitorable.specs.Judging.{Judges};
-ghost use Rattle.monitorable.specs.declared.fragment.Role.TheVariants.{Part, Whole};
+ghost use Rattle.monitorable.specs.declared.role.Role.TheVariants.{Left, Part, Whole};
 ghost use Rattle.monitorable.specs.Scope.{scope_names};
 
 use crate::fault::{FragmentFault, Variable};
 use crate::node::Node;
+use crate::role::Role;
 use crate::scope::Scope;
 use crate::variables::{bound_by, first_outside, needed_by};
 use mfotl_model::{Bound, Interval};
 use std::alloc::Global;
-
-/// What a node is in the one around it.
-#[derive(Clone, Copy, PartialEq, Eq)]
-pub enum Role {
-    /// A node by itself.
-    Whole,
-    /// A conjunct of a conjunction.
-    Part,
-    /// What stands under a NOT that is a conjunct.
-    Negated,
-    /// The left side of SINCE or UNTIL.
-    Left,
-}
-
-impl Role {
-    pub fn under_not(self) -> Role
-        ensures { result ≡ under_not self }
-    {
-        match self {
-            Role::Left => Role::Whole,
-            Role::Whole | Role::Part | Role::Negated => Role::Negated,
-        }
-    }
-
-    pub fn is_conjunction(self) -> bool
-        ensures { result ≡ is_conjunction self }
-    {
-        match self {
-            Role::Part => false,
-            Role::Whole | Role::Negated | Role::Left => true,
-        }
-    }
-
-    pub fn judges_not(self) -> bool
-        ensures { result ≡ judges_not self }
-    {
-        match self {
-            Role::Part | Role::Left => false,
-            Role::Whole | Role::Negated => true,
-        }
-    }
-
-    pub fn judges_comparison(self) -> bool
-        ensures { result ≡ judges_comparison self }
-    {
-        match self {
-            Role::Part | Role::Negated => false,
-            Role::Whole | Role::Left => true,
-        }
-    }
-}
 
 /// The first fault of a normal form in its role, as an error.
 #[cycle(judging)]
@@ -73,93 +23,100 @@ pub fn judge(alloc: Global, node: &Node, role: Role, scope: &Scope) -> Result<()
     match node {
         Node::True | Node::False | Node::Atom(_) => Ok(()),
         Node::Compare(_) => guard(alloc, role.judges_comparison(), node, scope),
-        Node::Not(inner) => {
-            judge(alloc, inner, role.under_not(), scope)?;
-            guard(alloc, role.judges_not(), node, scope)
-        }
-        Node::And(left, right) => {
-            judge(alloc, left, Role::Part, scope)?;
-            judge_right_of_and(alloc, right, node, role, scope)
-        }
-        Node::Or(left, right) => {
-            judge(alloc, left, Role::Whole, scope)?;
-            judge_right_of_or(alloc, right, left, scope)
-        }
-        Node::Exists(bound, inner) => {
-            judge(alloc, inner, Role::Whole, &Scope::Under(&*bound, &*scope))?;
-            used(alloc, bound, inner)
-        }
+        Node::Not(inner) => judge_not(alloc, inner, node, role, scope),
+        Node::And(left, right) => judge_and(alloc, left, right, node, role, scope),
+        Node::Or(left, right) => judge_or(alloc, left, right, scope),
+        Node::Exists(bound, inner) => judge_exists(alloc, bound, inner, scope),
         Node::Previous(_, inner) | Node::Next(_, inner) => judge(alloc, inner, Role::Whole, scope),
-        Node::Since(_, left, right) => {
-            judge(alloc, left, Role::Left, scope)?;
-            judge_right_of_since(alloc, right, left, scope)
-        }
-        Node::Until(interval, left, right) => {
-            judge(alloc, left, Role::Left, scope)?;
-            judge_right_of_until(alloc, right, left, interval, scope)
-        }
+        Node::Since(_, left, right) => judge_since(alloc, left, right, scope),
+        Node::Until(interval, left, right) => judge_until(alloc, interval, left, right, scope),
     }
 }
 
-// The right side of AND, and the conjunction's variables.
 #[cycle(judging)]
-fn judge_right_of_and(
+fn judge_not(
     alloc: Global,
+    inner: &Node,
+    whole: &Node,
+    role: Role,
+    scope: &Scope,
+) -> Result<(), FragmentFault>
+    ensures { Judges result (first (fault_in (scope_names scope.now) (under_not role) (node_form inner.now))
+        (asked (judges_not role) (guards (scope_names scope.now) (node_form whole.now)))) }
+{
+    judge(alloc, inner, role.under_not(), scope)?;
+    guard(alloc, role.judges_not(), whole, scope)
+}
+
+#[cycle(judging)]
+fn judge_and(
+    alloc: Global,
+    left: &Node,
     right: &Node,
     whole: &Node,
     role: Role,
     scope: &Scope,
 ) -> Result<(), FragmentFault>
-    ensures { Judges result (first (fault_in (scope_names scope.now) Part (node_form right.now))
-        (asked (is_conjunction role) (guards (scope_names scope.now) (node_form whole.now)))) }
+    ensures { Judges result (first (fault_in (scope_names scope.now) Part (node_form left.now))
+        (first (fault_in (scope_names scope.now) Part (node_form right.now))
+        (asked (is_conjunction role) (guards (scope_names scope.now) (node_form whole.now))))) }
 {
+    judge(alloc, left, Role::Part, scope)?;
     judge(alloc, right, Role::Part, scope)?;
     guard(alloc, role.is_conjunction(), whole, scope)
 }
 
-// The right side of OR, and both sides' variables.
 #[cycle(judging)]
-fn judge_right_of_or(
-    alloc: Global,
-    right: &Node,
-    left: &Node,
-    scope: &Scope,
-) -> Result<(), FragmentFault>
-    ensures { Judges result (first (fault_in (scope_names scope.now) Whole (node_form right.now))
-        (evens (node_form left.now) (node_form right.now))) }
+fn judge_or(alloc: Global, left: &Node, right: &Node, scope: &Scope) -> Result<(), FragmentFault>
+    ensures { Judges result (first (fault_in (scope_names scope.now) Whole (node_form left.now))
+        (first (fault_in (scope_names scope.now) Whole (node_form right.now))
+        (evens (node_form left.now) (node_form right.now)))) }
 {
+    judge(alloc, left, Role::Whole, scope)?;
     judge(alloc, right, Role::Whole, scope)?;
     even(alloc, left, right)
 }
 
-// The right side of SINCE, and both sides' variables.
 #[cycle(judging)]
-fn judge_right_of_since(
+fn judge_exists(
     alloc: Global,
-    right: &Node,
-    left: &Node,
+    bound: &Bound,
+    inner: &Node,
     scope: &Scope,
 ) -> Result<(), FragmentFault>
-    ensures { Judges result (first (fault_in (scope_names scope.now) Whole (node_form right.now))
-        (covers (scope_names scope.now) (node_form left.now) (node_form right.now))) }
+    ensures { Judges result (first
+        (fault_in (with_name (scope_names scope.now) bound.now) Whole (node_form inner.now))
+        (uses bound.now (node_form inner.now))) }
 {
+    judge(alloc, inner, Role::Whole, &Scope::Under(&*bound, &*scope))?;
+    used(alloc, bound, inner)
+}
+
+#[cycle(judging)]
+fn judge_since(alloc: Global, left: &Node, right: &Node, scope: &Scope) -> Result<(), FragmentFault>
+    ensures { Judges result (first (fault_in (scope_names scope.now) Left (node_form left.now))
+        (first (fault_in (scope_names scope.now) Whole (node_form right.now))
+        (covers (scope_names scope.now) (node_form left.now) (node_form right.now)))) }
+{
+    judge(alloc, left, Role::Left, scope)?;
     judge(alloc, right, Role::Whole, scope)?;
     covered(alloc, left, right, scope)
 }
 
-// The right side of UNTIL, its interval, and both sides' variables.
 #[cycle(judging)]
-fn judge_right_of_until(
+fn judge_until(
     alloc: Global,
-    right: &Node,
-    left: &Node,
     interval: &Interval,
+    left: &Node,
+    right: &Node,
     scope: &Scope,
 ) -> Result<(), FragmentFault>
-    ensures { Judges result (first (fault_in (scope_names scope.now) Whole (node_form right.now))
+    ensures { Judges result (first (fault_in (scope_names scope.now) Left (node_form left.now))
+        (first (fault_in (scope_names scope.now) Whole (node_form right.now))
         (first (looks_within interval.now.hi)
-        (covers (scope_names scope.now) (node_form left.now) (node_form right.now)))) }
+        (covers (scope_names scope.now) (node_form left.now) (node_form right.now))))) }
 {
+    judge(alloc, left, Role::Left, scope)?;
     judge(alloc, right, Role::Whole, scope)?;
     bounded(interval)?;
     covered(alloc, left, right, scope)

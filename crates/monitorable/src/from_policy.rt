@@ -1,24 +1,26 @@
 //! The core of a policy.
-ghost use Rattle.std.specs.Prelude.{◌≡◌, IfErr, IfOk, None};
+ghost use Rattle.std.specs.Prelude.{◌≡◌, ◌++◌, IfErr, IfOk, IsTrue, None};
 ghost use Rattle.mfotl_model.specs.FreeVariables.{fv};
+ghost use Rattle.mfotl_model.specs.Tables.{all_apart};
 ghost use Rattle.monitorable.specs.CoreForms.{meaning, node_form};
 ghost use Rattle.monitorable.specs.Cores.{core_form, policy_fault, policy_form};
-ghost use Rattle.monitorable.specs.Fragment.{Names, frag};
+ghost use Rattle.monitorable.specs.Fragment.{Fits, Names, frag};
 ghost use Rattle.monitorable.specs.Judging.{Judges};
 ghost use Rattle.monitorable.specs.Negation.{HasConstantsOf, Negates, SettlesWith};
 ghost use Rattle.monitorable.specs.NormalForm.{negative};
-ghost use Rattle.monitorable.specs.Renaming.{apart_form};
+ghost use Rattle.monitorable.specs.Renaming.{apart_form, binders};
 ghost use Rattle.monitorable.specs.SatisfyingRows.{HasViolationsOf};
 ghost use Rattle.monitorable.specs.declared.fault.FragmentFault.TheVariants.{Memory};
 
+use crate::apart::apart;
 use crate::count::pay_for_negated;
 use crate::fault::FragmentFault;
-use crate::fragment::{Role, judge};
+use crate::fragment::judge;
 use crate::limits::NODE_LIMIT;
 use crate::node::Node;
 use crate::normal_form::negated_normal_form;
 use crate::policy_core::Core;
-use crate::renaming::apart;
+use crate::role::Role;
 use crate::scope::Scope;
 use mfotl_model::Policy;
 use std::alloc::Global;
@@ -30,8 +32,11 @@ pub fn to_core(alloc: Global, policy: &Policy) -> Result<Core, FragmentFault>
     ensures core { IfOk result (λ core. core_form core ≡ apart_form (negative (policy_form policy.now))) }
     ensures negates { IfOk result (λ core. Negates (core_form core) (policy_form policy.now)) }
     ensures settles { IfOk result (λ core. SettlesWith (core_form core) (policy_form policy.now)) }
+    ensures fits { IfOk result (λ core. Fits (core_form core)) }
     ensures variables { IfOk result (λ core. fv (meaning (core_form core)) ≡ fv (policy_form policy.now)) }
     ensures constants { IfOk result (λ core. HasConstantsOf (core_form core) (policy_form policy.now)) }
+    ensures apart { IfOk result (λ core. IsTrue
+        (all_apart (fv (meaning (core_form core)) ++ binders (core_form core)))) }
     ensures violations { IfOk result (λ core.
         HasViolationsOf (core_form core) (policy_form policy.now)) }
 {

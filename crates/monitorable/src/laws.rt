@@ -1,5 +1,5 @@
 //! Laws of the logic, each stated by the contract of a function that does nothing.
-ghost use Rattle.monitorable.specs.Laws.{ApartConstants, ApartFragment, ApartMeansTheSame, ApartVariables, Coincidence, ConjunctsMean, Domain, Finality, NormalFormConstants, NormalFormHolds, NormalFormSettled, NormalFormVariables, SettledBefore, SettledStays, SettledWithin, TablesSatisfy, TextFinal, ViolationsFinal, ViolationsSatisfy};
+ghost use Rattle.monitorable.specs.Laws.{ApartConstants, ApartFragment, ApartMeansTheSame, ApartVariables, Coincidence, ConjunctsMean, Domain, Finality, NormalFormConstants, NormalFormHolds, NormalFormSettled, NormalFormVariables, PartsAreSound, SettledBefore, SettledStays, SettledWithin, TablesSatisfy, TextFinal, ViolationsFinal, ViolationsSatisfy};
 
 /// Whether a formula holds hangs on its free variables alone.
 pub fn only_free_variables_matter()
@@ -96,4 +96,9 @@ pub fn violations_satisfy()
 /// A table that is exact for a core, on all rows, holds the rows that satisfy it.
 pub fn tables_satisfy()
     ensures { TablesSatisfy }
+{}
+
+/// A core has in each part all that evaluating it relies on.
+pub fn parts_are_sound()
+    ensures { PartsAreSound }
 {}

@@ -2,6 +2,7 @@
 //! makes a policy's core, or learns the first reason why it has none.
 #![tactic(auto)]
 
+mod apart;
 mod atoms;
 mod count;
 mod fault;
@@ -15,13 +16,14 @@ mod node;
 mod normal_form;
 mod policy_core;
 mod renaming;
+mod role;
 mod scope;
 mod variables;
 
 pub use fault::{FragmentFault, Variable};
-pub use fragment::Role;
 pub use from_policy::to_core;
 pub use join::{Part, conjuncts};
 pub use node::Node;
 pub use policy_core::Core;
+pub use role::Role;
 pub use variables::binds;

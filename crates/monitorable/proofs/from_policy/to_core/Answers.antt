@@ -1,16 +1,17 @@
 -- What the laws of the normal form and of new numbers say of the core.
-use Rattle.std.proofs.Common.{◌≡◌, IfOk, None, Result, Ok, Err, ap, sym, subst, ◌∙◌}
+use Rattle.std.proofs.Common.{◌≡◌, ◌++◌, IfOk, IsTrue, None, Result, Ok, Err, ap, sym, subst, ◌∙◌}
 use Rattle.mfotl_model.specs.FreeVariables.{fv}
 use Rattle.mfotl_model.specs.Formulas.{Form}
+use Rattle.mfotl_model.specs.Tables.{all_apart}
 use Rattle.monitorable.proofs.CoreLaws.{accepted, core_of, negates, same_constants, same_variables, settles}
 use Rattle.monitorable.proofs.SatisfyingLaw.{violations_satisfy}
 use Rattle.monitorable.proofs.from_policy.to_core.Goals as goal
 use Rattle.monitorable.specs.CoreForms.{CoreForm, meaning}
 use Rattle.monitorable.specs.Cores.{core_form, policy_form}
-use Rattle.monitorable.specs.Fragment.{frag, free_names}
+use Rattle.monitorable.specs.Fragment.{Fits, frag, free_names}
 use Rattle.monitorable.specs.Negation.{HasConstantsOf, Negates, SettlesWith}
 use Rattle.monitorable.specs.NormalForm.{negative}
-use Rattle.monitorable.specs.Renaming.{apart_form}
+use Rattle.monitorable.specs.Renaming.{apart_form, binders}
 use Rattle.monitorable.specs.SatisfyingRows.{HasViolationsOf}
 use Rattle.monitorable.specs.declared.fault.FragmentFault.{FragmentFault}
 use Rattle.monitorable.specs.declared.policy_core.Core.{Core}
@@ -60,3 +61,19 @@ returns-clause-violations c =
     carried (λ g. HasViolationsOf g f) f _ c.core_apart.result
     (violations_satisfy f (core_of f) (negates f) (same_variables f) (same_constants f))
     c.in_ok-negation.ensures.negation c.core_apart.ensures.core
+
+-- a core's facts are its own
+pub returns-clause-fits : goal.returns-clause-fits
+returns-clause-fits c = its_own c.core_apart.result
+  where
+    its_own : (result : Result Core FragmentFault) → IfOk result (λ core. Fits (core_form core))
+    its_own (Ok core) = core.in_fragment
+    its_own (Err fault) = tt
+
+pub returns-clause-apart : goal.returns-clause-apart
+returns-clause-apart c = its_own c.core_apart.result
+  where
+    its_own : (result : Result Core FragmentFault)
+        → IfOk result (λ core. IsTrue (all_apart (fv (meaning (core_form core)) ++ binders (core_form core))))
+    its_own (Ok core) = core.is_apart
+    its_own (Err fault) = tt

@@ -1,7 +1,7 @@
 -- How deep the nodes are that a function still goes down.
 use Rattle.std.proofs.Common.{◌+◌, ◌*◌, max}
 use Rattle.monitorable.specs.declared.node.Node.{size-Node}
-use Rattle.monitorable.proofs.renaming.+renaming.Given as goal
+use Rattle.monitorable.proofs.apart.+renaming.Given as goal
 
 abbrev pub decreases-renamed : goal.decreases-renamed
 decreases-renamed l = 3 * size-Node l.node.now
