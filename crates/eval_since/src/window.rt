@@ -298,6 +298,12 @@ impl Window {
         Ok(Table::from_rows(columns, rows))
     }
 
+    pub fn left(&self) -> &[u32]
+        ensures { result.now ≡ self.now.left }
+    {
+        self.left.as_slice()
+    }
+
     pub fn right(&self) -> &[u32]
         ensures { result.now ≡ self.now.right }
     {
