@@ -1,0 +1,9 @@
+-- Stacks of lists of tables, the top last.
+use Rattle.std.specs.Prelude.{◌≡◌, List, [], ◌∷◌, ◌++◌}
+use Rattle.mfotl_model.specs.Tables.{TableOf}
+
+-- the top leaves the stack, if there is one
+abbrev pub Pops : List (List TableOf) → List (List TableOf) → List TableOf → Type 0
+Pops old new top =
+    (below : List (List TableOf)) (tables : List TableOf) → old ≡ below ++ tables ∷ []
+    → (new ≡ below) × (top ≡ tables)

@@ -1,0 +1,13 @@
+//! The state of a monitor: it takes time-points one by one, and gives the tables of the positions that
+//! they settle.
+#![tactic(auto)]
+
+mod atoms;
+mod node;
+mod ordering;
+mod since;
+mod stack;
+mod tables;
+
+pub use node::Node;
+pub use tables::Tables;
