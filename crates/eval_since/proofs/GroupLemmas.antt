@@ -1,12 +1,11 @@
 -- What a change at one row leaves at each row.
-use Rattle.std.proofs.Common.{◌≡◌, ℕ, ◌+◌, ◌<◌, ◌≤◌, Bool, true, false, cond, nat_eq, ◌&&◌, ◌||◌, List, [], ◌∷◌, length, get_or, take, Option, Some, None, refl, sym, subst, ap, ◌∙◌, arith}
-use Rattle.std.specs.BTreeMap.{BTreeMap, WritesThrough, is_at}
+use Rattle.std.proofs.Common.{◌≡◌, ℕ, ◌+◌, ◌<◌, ◌≤◌, Bool, true, false, cond, nat_eq, ◌&&◌, ◌||◌, List, [], ◌∷◌, length, get_or, take, Option, Some, None, refl, sym, ap, ◌∙◌, arith}
+use Rattle.std.specs.BTreeMap.{is_at}
 use Rattle.std.specs.List.{list_any}
 use Rattle.std.specs.Map.{lookup, keys_of}
-use Rattle.std.specs.Option.{unwrap_or, IsSome}
-use Rattle.std.specs.Ordering.{is_eq, eq_by_cmp}
-use Rattle.std.specs.declared.cmp.Ordering.{Ordering}
-use Rattle.std.specs.declared.cmp.Ordering.TheVariants.{Less, Equal, Greater}
+use Rattle.std.specs.Option.{unwrap_or}
+use Rattle.std.specs.Ordering.{eq_by_cmp}
+use Rattle.std.specs.declared.cmp.Ordering.TheVariants.{Equal}
 use Rattle.mfotl_model.specs.Values.{row_cmp, row_total}
 use Rattle.mfotl_model.specs.declared.value.Value.{Value}
 use Rattle.mfotl_model.proofs.RowLemmas.{row_exact}
@@ -20,7 +19,7 @@ use Rattle.std.proofs.lemmas.Map.Keys.{sorted_tail, IsDistinct-from_sorted}
 use Rattle.std.specs.List.Sorted.{IsStrictlySortedBy}
 use Rattle.mfotl_model.specs.declared.interval.Interval.{Interval}
 use Rattle.mfotl_model.specs.Tables.{has_row}
-use Rattle.relations.proofs.MapLemmas.{changed, nothing_there, removed, same_row, written}
+use Rattle.relations.proofs.MapLemmas.{same_row}
 use Rattle.eval_since.specs.Groups.{hit, times_in, group_of, times_at}
 use Rattle.eval_since.specs.Times.{reaches, recent}
 

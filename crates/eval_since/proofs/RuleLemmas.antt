@@ -1,5 +1,5 @@
 -- The times of a row ascend, and without an upper end there is one at most.
-use Rattle.std.proofs.Common.{◌≡◌, ℕ, ◌+◌, ◌-◌, ◌<◌, ◌≤◌, Bool, true, false, cond, ◌&&◌, ◌||◌, nat_eq, not, List, [], ◌∷◌, ◌++◌, length, slice_index, refl, sym, subst, ap, ◌∙◌, arith, inl, inr}
+use Rattle.std.proofs.Common.{◌≡◌, ℕ, ◌-◌, ◌≤◌, Bool, true, false, cond, ◌&&◌, ◌||◌, nat_eq, not, List, [], ◌∷◌, ◌++◌, length, slice_index, refl, sym, subst, ap, ◌∙◌, arith, inl, inr}
 use Rattle.std.proofs.lemmas.Bool.{cases_lt}
 use Rattle.std.proofs.lemmas.Bool.Decides.{nat_tests}
 use Rattle.std.proofs.lemmas.List.{length_push}
@@ -16,7 +16,8 @@ increasing_recent : (hi x : ℕ) (ys : List ℕ) → IsStrictlyIncreasing ys →
 unfolding recent
 increasing_recent hi x [] h = h
 increasing_recent hi x (y ∷ ys) h = elim (cases_lt hi (x - y)) [
-  | inl far ↦ subst IsStrictlyIncreasing (sym (recent_front hi x y ys far)) (increasing_recent hi x ys (increasing_tail y ys h))
+  | inl far ↦ subst IsStrictlyIncreasing (sym (recent_front hi x y ys far))
+      (increasing_recent hi x ys (increasing_tail y ys h))
   | inr near ↦ subst IsStrictlyIncreasing (sym (recent_all hi x (y ∷ ys) h (λ _. near))) h
 ]
 
@@ -36,7 +37,8 @@ increasing_more bounded ys x h past = by (is_new bounded ys x) refl
     by false e = h
 
 -- without an upper end a second one is not kept
-pub one_more : (bounded : Bool) (ys : List ℕ) (x : ℕ) → bounded ≡ false → length ys ≤ 1 → length (added bounded ys x) ≤ 1
+pub one_more : (bounded : Bool) (ys : List ℕ) (x : ℕ) → bounded ≡ false → length ys ≤ 1
+    → length (added bounded ys x) ≤ 1
 unfolding added
 one_more bounded ys x unbounded one = by (is_new bounded ys x) refl
   where

@@ -82,7 +82,8 @@ module _ (interval : Interval) (right left : List ℕ) (negated : Bool) (lefts :
 
   ascend_held : Joined → Ascending held
   ascend_held j = λ q v.
-      either_list IsStrictlyIncreasing (left_has negated lefts q) (times_at old q v) [] (times_at held q v) (j.first q v)
+      either_list IsStrictlyIncreasing (left_has negated lefts q) (times_at old q v) [] (times_at held q v)
+      (j.first q v)
       (j.kept.ascend q v) increasing_none
 
   pub ascend_after : Joined → Ascending new
@@ -95,7 +96,8 @@ module _ (interval : Interval) (right left : List ℕ) (negated : Bool) (lefts :
 
   alone_held : interval.hi ≡ None → Joined → Alone held
   alone_held e j = λ q v.
-      either_list (λ ys. length ys ≤ 1) (left_has negated lefts q) (times_at old q v) [] (times_at held q v) (j.first q v)
+      either_list (λ ys. length ys ≤ 1) (left_has negated lefts q) (times_at old q v) [] (times_at held q v)
+      (j.first q v)
       (j.kept.alone e q v) (omega arith)
 
   alone_after : interval.hi ≡ None → Joined → Alone new
@@ -124,7 +126,10 @@ module _ (interval : Interval) (right left : List ℕ) (negated : Bool) (lefts :
   pub kept_unbounded : interval.hi ≡ None → Joined → Keeps interval.hi right left d.ts new queue
   kept_unbounded e j = record {
     apart = j.kept.apart;
-    sized = sized_after j; ascend = ascend_after j; alone = λ n. alone_after e j; placed = placed_after j;
+    sized = sized_after j;
+    ascend = ascend_after j;
+    alone = λ n. alone_after e j;
+    placed = placed_after j;
     past =
         past_after j;
     finds = subst (λ (o : Option ℕ). Finds o d.ts new queue) (sym e) tt;
@@ -161,8 +166,8 @@ module _ (interval : Interval) (right left : List ℕ) (negated : Bool) (lefts :
     sized = λ q v apart. placed_thinned hi d.ts (times_at new q v) (times_at thin q v) (thins q v)
         (sized_after j q v apart);
     ascend = λ q v. increasing_thinned hi d.ts (times_at new q v) (times_at thin q v) (thins q v) (ascend_after j q v);
-      alone = λ n. absurd (let f : Some hi ≡ None = sym e ∙ n in cc);
-      placed = λ q v apart. placed_thinned hi d.ts (times_at new q v) (times_at thin q v) (thins q v)
+    alone = λ n. absurd (let f : Some hi ≡ None = sym e ∙ n in cc);
+    placed = λ q v apart. placed_thinned hi d.ts (times_at new q v) (times_at thin q v) (thins q v)
         (placed_after j q v apart);
     past = λ q v. past_thinned hi d.ts d.ts (times_at new q v) (times_at thin q v) (thins q v) (past_after j q v);
     finds = subst (λ (o : Option ℕ). Finds o d.ts thin rest) (sym e)

@@ -7,3 +7,4 @@ pub mod Groups
 pub mod Windows
 pub mod WindowView
 pub mod SinceView
+pub mod Recalled

@@ -1,5 +1,5 @@
 //! Rows with the times kept for them.
-ghost use Rattle.std.specs.Prelude.{◌≡◌, ◌||◌, ◌==◌, [], List, OnOk, cond, length};
+ghost use Rattle.std.specs.Prelude.{◌≡◌, ◌||◌, ◌==◌, [], List, ℕ, OnOk, cond, length};
 ghost use Rattle.std.specs.BTreeMap.{is_at};
 ghost use Rattle.mfotl_model.specs.Values.{row_cmp};
 ghost use Rattle.mfotl_model.specs.declared.value.Value.{Value};
@@ -9,7 +9,10 @@ ghost use Rattle.eval_since.specs.Times.{ArePast, added, reaches, recent};
 ghost use Rattle.std.specs.List.{list_any};
 ghost use Rattle.std.specs.List.Sorted.{IsStrictlySortedBy};
 ghost use Rattle.std.specs.Map.{keys_of};
+ghost use Rattle.mfotl_model.specs.declared.interval.Interval.{Interval};
+ghost use Rattle.eval_since.specs.Recalled.{recalls};
 
+use crate::recalled::KeptRow;
 use crate::times::Times;
 use mfotl_model::{Interval, Row};
 use std::alloc::{AllocError, Global};
@@ -48,7 +51,9 @@ impl Group {
     /// The times of a row, with one more.
     pub fn add(&mut self, alloc: Global, row: Row, x: u64, bounded: bool) -> Result<(), AllocError>
         requires { ArePast x (times_in self.old row) }
-        ensures { OnOk result ((v : List Value) → times_in self.new v ≡ cond (is_at (row_cmp row) v) (added bounded (times_in self.old v) x) (times_in self.old v)) }
+        ensures { OnOk result ((v : List Value) → times_in self.new v
+            ≡ cond (is_at (row_cmp row) v)
+            (added bounded (times_in self.old v) x) (times_in self.old v)) }
     {
         if let Some(times) = self.rows.get_mut(&row) {
             times.add(x, bounded)?;
@@ -62,7 +67,9 @@ impl Group {
 
     /// Forgets the times of a row that lie further back than `hi`.
     pub fn forget(&mut self, row: &Row, hi: u64, now: u64)
-        ensures { (v : List Value) → times_in self.new v ≡ cond (is_at (row_cmp row.now) v) (recent hi now (times_in self.old v)) (times_in self.old v) }
+        ensures { (v : List Value) → times_in self.new v
+            ≡ cond (is_at (row_cmp row.now) v)
+            (recent hi now (times_in self.old v)) (times_in self.old v) }
     {
         let Some(times) = self.rows.get_mut(row) else {
             return;
@@ -91,7 +98,8 @@ impl Group {
         interval: &Interval,
         x: u64,
     ) -> Result<(), AllocError>
-        ensures { OnOk result ((u : List Value) → has_row out.new.items u ≡ (has_row out.old.items u || reaches interval.now (times_in self.now u) x)) }
+        ensures { OnOk result ((u : List Value) → has_row out.new.items u
+            ≡ (has_row out.old.items u || reaches interval.now (times_in self.now u) x)) }
     {
         self.push_hits(alloc, out, interval, x)
     }
@@ -103,13 +111,38 @@ impl Group {
         interval: &Interval,
         x: u64,
     ) -> Result<(), AllocError>
-        ensures rows { OnOk result ((u : List Value) → has_row out.new.items u ≡ (has_row out.old.items u || list_any (hit interval.now x u) self.now)) }
+        ensures rows { OnOk result ((u : List Value) → has_row out.new.items u
+            ≡ (has_row out.old.items u || list_any (hit interval.now x u) self.now)) }
         ensures ascend { IsStrictlySortedBy row_cmp (keys_of self.now) }
     {
         for (row, times) in &self.rows {
             if times.reaches(interval, x) {
                 out.push(row.copy(alloc)?)?;
             }
+        }
+        Ok(())
+    }
+
+    /// Appends the rows with their times.
+    pub fn push_kept(&self, alloc: Global, out: &mut Vec<KeptRow>) -> Result<(), AllocError>
+        ensures { OnOk result ((interval : Interval) (x : ℕ) (u : List Value) →
+            recalls interval out.new.items x u
+            ≡ (recalls interval out.old.items x u || reaches interval (times_in self.now u) x)) }
+    {
+        self.push_entries(alloc, out)
+    }
+
+    fn push_entries(&self, alloc: Global, out: &mut Vec<KeptRow>) -> Result<(), AllocError>
+        ensures rows { OnOk result ((interval : Interval) (x : ℕ) (u : List Value) →
+            recalls interval out.new.items x u
+            ≡ (recalls interval out.old.items x u || list_any (hit interval x u) self.now)) }
+        ensures ascend { IsStrictlySortedBy row_cmp (keys_of self.now) }
+    {
+        for (row, times) in &self.rows {
+            out.push(KeptRow {
+                row: row.copy(alloc)?,
+                times: times.to_vec(alloc)?,
+            })?;
         }
         Ok(())
     }

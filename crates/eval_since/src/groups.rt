@@ -1,9 +1,11 @@
 //! Rows with the times kept for them, in groups by the part that the left operand speaks of.
-ghost use Rattle.std.specs.Prelude.{◌≡◌, ◌||◌, ◌&&◌, ◌==◌, [], List, OnOk, cond, length, not};
+ghost use Rattle.std.specs.Prelude.{◌≡◌, ◌||◌, ◌&&◌, ◌==◌, [], List, ℕ, OnOk, cond, length, not};
 ghost use Rattle.std.specs.BTreeMap.{is_at};
 ghost use Rattle.std.specs.List.{list_any};
 ghost use Rattle.std.specs.List.Sorted.{IsStrictlySortedBy};
 ghost use Rattle.std.specs.Map.{keys_of};
+ghost use Rattle.mfotl_model.specs.declared.interval.Interval.{Interval};
+ghost use Rattle.eval_since.specs.Recalled.{recalls};
 ghost use Rattle.mfotl_model.specs.Values.{row_cmp};
 ghost use Rattle.mfotl_model.specs.declared.value.Value.{Value};
 ghost use Rattle.eval_since.specs.Groups.{times_at, times_in};
@@ -11,6 +13,7 @@ ghost use Rattle.mfotl_model.specs.Tables.{has_row};
 ghost use Rattle.eval_since.specs.Times.{ArePast, added, reaches, recent};
 
 use crate::group::Group;
+use crate::recalled::KeptRow;
 use mfotl_model::{Interval, Row};
 use std::alloc::{AllocError, Global};
 use std::collections::BTreeMap;
@@ -49,7 +52,9 @@ impl Groups {
         bounded: bool,
     ) -> Result<(), AllocError>
         requires { ArePast x (times_at self.old key row) }
-        ensures { OnOk result ((q v : List Value) → times_at self.new q v ≡ cond (is_at (row_cmp key) q && is_at (row_cmp row) v) (added bounded (times_at self.old q v) x) (times_at self.old q v)) }
+        ensures { OnOk result ((q v : List Value) → times_at self.new q v
+            ≡ cond (is_at (row_cmp key) q && is_at (row_cmp row) v)
+            (added bounded (times_at self.old q v) x) (times_at self.old q v)) }
     {
         if let Some(group) = self.groups.get_mut(&key) {
             group.add(alloc, row, x, bounded)?;
@@ -63,7 +68,9 @@ impl Groups {
 
     /// Forgets the times of a row that lie further back than `hi`.
     pub fn forget(&mut self, key: &Row, row: &Row, hi: u64, now: u64)
-        ensures { (q v : List Value) → times_at self.new q v ≡ cond (is_at (row_cmp key.now) q && is_at (row_cmp row.now) v) (recent hi now (times_at self.old q v)) (times_at self.old q v) }
+        ensures { (q v : List Value) → times_at self.new q v
+            ≡ cond (is_at (row_cmp key.now) q && is_at (row_cmp row.now) v)
+            (recent hi now (times_at self.old q v)) (times_at self.old q v) }
     {
         let Some(group) = self.groups.get_mut(key) else {
             return;
@@ -76,7 +83,8 @@ impl Groups {
 
     /// Keeps the groups of these parts alone.
     pub fn keep(&mut self, alloc: Global, parts: &[Row]) -> Result<(), AllocError>
-        ensures { OnOk result ((q v : List Value) → times_at self.new q v ≡ cond (has_row parts.now q) (times_at self.old q v) []) }
+        ensures { OnOk result ((q v : List Value) → times_at self.new q v
+            ≡ cond (has_row parts.now q) (times_at self.old q v) []) }
     {
         let mut kept = BTreeMap::new(alloc);
         for part in parts {
@@ -115,12 +123,29 @@ impl Groups {
         interval: &Interval,
         x: u64,
     ) -> Result<(), AllocError>
-        ensures rows { OnOk result ((u : List Value) → has_row out.new.items u ≡ (has_row out.old.items u || list_any (λ e. reaches interval.now (times_in e.1 u) x) self.now)) }
+        ensures rows { OnOk result ((u : List Value) → has_row out.new.items u
+            ≡ (has_row out.old.items u
+            || list_any (λ e. reaches interval.now (times_in e.1 u) x) self.now)) }
         ensures ascend { IsStrictlySortedBy row_cmp (keys_of self.now) }
     {
         for (key, group) in &self.groups {
             let _ = key;
             group.push_reaching(alloc, out, interval, x)?;
+        }
+        Ok(())
+    }
+
+    /// Appends the rows with their times.
+    pub fn push_kept(&self, alloc: Global, out: &mut Vec<KeptRow>) -> Result<(), AllocError>
+        ensures rows { OnOk result ((interval : Interval) (x : ℕ) (u : List Value) →
+            recalls interval out.new.items x u
+            ≡ (recalls interval out.old.items x u
+            || list_any (λ e. reaches interval (times_in e.1 u) x) self.now)) }
+        ensures ascend { IsStrictlySortedBy row_cmp (keys_of self.now) }
+    {
+        for (key, group) in &self.groups {
+            let _ = key;
+            group.push_kept(alloc, out)?;
         }
         Ok(())
     }

@@ -5,9 +5,11 @@ mod group;
 mod groups;
 pub mod laws;
 mod previous;
+mod recalled;
 mod since;
 mod times;
 mod window;
 
 pub use previous::PrevState;
+pub use recalled::{KeptRow, SinceData};
 pub use since::SinceState;

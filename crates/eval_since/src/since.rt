@@ -5,9 +5,12 @@ ghost use Rattle.mfotl_model.specs.Tables.{all_among, all_apart, has, valuation}
 ghost use Rattle.mfotl_model.specs.declared.value.Value.{Value};
 ghost use Rattle.eval_since.specs.LeftOperand.{left_has};
 ghost use Rattle.relations.specs.Pushed.{left_holds};
+ghost use Rattle.eval_since.specs.Recalled.{recalls};
+ghost use Rattle.eval_since.specs.WindowView.{within};
 ghost use Rattle.eval_since.specs.Windows.{Alone, Ascending, Bounded, Past, Placed};
 ghost use Rattle.eval_since.specs.SinceView.{Advances, Climbs, Follows, SinceOf, due};
 
+use crate::recalled::SinceData;
 use crate::window::Window;
 use mfotl_model::{Interval, Row};
 use relations::{Table, part_of};
@@ -211,14 +214,25 @@ impl SinceState {
         self.window.is_bounded();
     }
 
+    /// What the state keeps, as plain data.
+    pub fn state(&self, alloc: Global) -> Result<SinceData, AllocError>
+        ensures pulled { IfOk result (λ kept. kept.pulled ≡ self.now.pulled) }
+        ensures lefts { IfOk result (λ kept. kept.lefts.items ≡ self.now.lefts) }
+        ensures rights { IfOk result (λ kept. kept.rights.items ≡ self.now.rights) }
+        ensures rows { IfOk result (λ kept. (x : ℕ) (u : List Value) →
+            recalls self.now.window.interval kept.rows.items x u ≡ within self.now.window x u) }
+    {
+        Ok(SinceData {
+            pulled: self.pulled,
+            lefts: copied(alloc, &self.lefts)?,
+            rights: copied(alloc, &self.rights)?,
+            rows: self.window.kept(alloc)?,
+        })
+    }
+
     /// Whether the next position's table has the valuation that a row gives to its columns, without
     /// making the table. The columns are any, the right operand's among them.
-    pub fn holds(
-        &self,
-        alloc: Global,
-        columns: &[u32],
-        row: &Row,
-    ) -> Result<bool, AllocError>
+    pub fn holds(&self, alloc: Global, columns: &[u32], row: &Row) -> Result<bool, AllocError>
         requires due { IsTrue (due self.now) }
         ensures { IfOk result (λ yes. (t : List ℕ) (a b : List Bool) →
             Follows self.now t a b (valuation columns.now row.now) →
@@ -245,6 +259,16 @@ fn first<T>(queue: &VecDeque<T>) -> &T
         Some(item) => item,
         None => unreachable!(),
     }
+}
+
+fn copied(alloc: Global, tables: &VecDeque<Table>) -> Result<Vec<Table>, AllocError>
+    ensures { IfOk result (λ copies. copies.items ≡ tables.now.items) }
+{
+    let mut copies = Vec::with_capacity(alloc, tables.len())?;
+    for i in 0..tables.len() {
+        copies.push(tables[i].copy(alloc)?)?;
+    }
+    Ok(copies)
 }
 
 fn holds_on(negated: bool, table: &Table, key: &Row) -> bool

@@ -1,5 +1,5 @@
 //! The times that are kept for one row, strictly ascending.
-ghost use Rattle.std.specs.Prelude.{◌≡◌, ◌==◌, ◌∷◌, [], OnOk, MatchOption, drop, length};
+ghost use Rattle.std.specs.Prelude.{◌≡◌, ◌==◌, ◌∷◌, [], IfOk, OnOk, MatchOption, drop, length};
 ghost use Rattle.eval_since.specs.Times.{ArePast, added, is_new, reaches, recent};
 
 use mfotl_model::Interval;
@@ -38,6 +38,16 @@ fn is_new(list: &VecDeque<u64>, x: u64, bounded: bool) -> bool
         None => true,
         Some(last) => bounded && *last != x,
     }
+}
+
+fn copied(alloc: Global, list: &VecDeque<u64>) -> Result<Vec<u64>, AllocError>
+    ensures { IfOk result (λ copy. copy.items ≡ list.now.items) }
+{
+    let mut copy = Vec::with_capacity(alloc, list.len())?;
+    for i in 0..list.len() {
+        copy.push(list[i])?;
+    }
+    Ok(copy)
 }
 
 impl Times {
@@ -93,5 +103,11 @@ impl Times {
             }
         }
         false
+    }
+
+    pub fn to_vec(&self, alloc: Global) -> Result<Vec<u64>, AllocError>
+        ensures { IfOk result (λ copy. copy.items ≡ self.now) }
+    {
+        copied(alloc, &self.list)
     }
 }

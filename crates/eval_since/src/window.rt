@@ -8,11 +8,13 @@ ghost use Rattle.mfotl_model.specs.Values.{row_cmp};
 ghost use Rattle.mfotl_model.specs.declared.value.Value.{Value};
 ghost use Rattle.eval_since.specs.Groups.{times_at};
 ghost use Rattle.eval_since.specs.LeftOperand.{left_has};
+ghost use Rattle.eval_since.specs.Recalled.{recalls};
 ghost use Rattle.eval_since.specs.Times.{added, reaches, recent};
 ghost use Rattle.eval_since.specs.WindowView.{WindowOf, within};
 ghost use Rattle.eval_since.specs.Windows.{Alone, Ascending, Bounded, Covered, Fresh, IsThinned, Keeps, NotAfter, Past, Placed, Rising};
 
 use crate::groups::Groups;
+use crate::recalled::KeptRow;
 use mfotl_model::{Interval, Row};
 use relations::{Table, part_of};
 use std::alloc::{AllocError, Global};
@@ -302,6 +304,16 @@ impl Window {
         ensures { result.now ≡ self.now.left }
     {
         self.left.as_slice()
+    }
+
+    /// The rows with the times kept for them.
+    pub fn kept(&self, alloc: Global) -> Result<Vec<KeptRow>, AllocError>
+        ensures { IfOk result (λ rows. (x : ℕ) (u : List Value) →
+            recalls self.now.interval rows.items x u ≡ within self.now x u) }
+    {
+        let mut rows = Vec::new(alloc);
+        self.contents.groups.push_kept(alloc, &mut rows)?;
+        Ok(rows)
     }
 
     pub fn right(&self) -> &[u32]

@@ -7,7 +7,7 @@ use Rattle.log_reader.specs.declared.fault.LogFault.{LogFault}
 use Rattle.log_reader.specs.declared.fault.LogFault.TheVariants.{Memory}
 use Rattle.log_reader.specs.declared.next.Next.{Next}
 use Rattle.log_reader.specs.declared.next.Next.TheVariants.{Point, More, End}
-use Rattle.log_reader.specs.Answers.{GivesPoints, IsNextPoint, GaveAll}
+use Rattle.log_reader.specs.GivenPoints.{GivesPoints, IsNextPoint, GaveAll}
 use Rattle.log_reader.specs.Given.{Gives}
 use Rattle.log_reader.specs.Laws.{IsShown}
 use Rattle.log_reader.specs.Progress.{Progress, answer_by, read, due}

@@ -25,7 +25,8 @@ use Rattle.log_reader.specs.Stages.{goes}
 use Rattle.log_reader.specs.Steps.{step}
 use Rattle.log_reader.specs.Symbols.{Symbol, symbol}
 use Rattle.log_reader.proofs.CauseSteps.{step_why, step_shows}
-use Rattle.log_reader.proofs.FrontLemmas.{Stands, is_in_brackets, role_to, role_is, same_stage, run_stands}
+use Rattle.log_reader.proofs.FrontSteps.{Stands, is_in_brackets}
+use Rattle.log_reader.proofs.FrontLemmas.{role_to, role_is, same_stage, run_stands}
 use Rattle.log_reader.proofs.Paths.{paths, paths-append, accepts, accepted_by, accepted_ends, viable_by, viable_path}
 use Rattle.log_reader.proofs.Runs.{ended_at, at_tail, ending_by, fault_by, run_paths, log_ending}
 use Rattle.log_reader.proofs.StateCauses.{LeadsTo, ShowsFault}

@@ -12,10 +12,11 @@ pub mod Given
 pub mod Partials
 pub mod Steps
 pub mod Readings
+pub mod Growth
 pub mod Laws
 pub mod Progress
 pub mod Readers
-pub mod Answers
+pub mod GivenPoints
 pub mod Cursors
 pub mod Soundness
 pub mod FaultTexts

@@ -1,5 +1,6 @@
 -- Logs and what is read of them, worked out by hand.
-use Rattle.std.specs.Prelude.{◌≡◌, ℕ, List, [], ◌∷◌, codes, pos, Ok, Err}
+use Rattle.std.specs.Prelude.{◌≡◌, ℕ, List, [], ◌∷◌, codes, pos, negsuc, Ok, Err}
+use Rattle.mfotl_lex.specs.declared.kind.Kind.TheVariants as kinds
 use Rattle.mfotl_lex.specs.declared.fault.LexFaultKind.TheVariants.{BadByte, OpenText}
 use Rattle.mfotl_model.specs.declared.event.Event.{Event}
 use Rattle.mfotl_model.specs.declared.event.TimePoint.{TimePoint}
@@ -11,7 +12,8 @@ use Rattle.log_reader.specs.declared.fault.LogFault.TheVariants.{Lex, Syntax, Un
 use Rattle.log_reader.specs.declared.fault.LogFault.TheVariants.{IntRange, TimestampRange, FallingTime, TooManyEvents}
 use Rattle.log_reader.specs.declared.fault.LogFault.TheVariants.{TooManyPoints, TooLong}
 use Rattle.log_reader.specs.declared.limits.Limits.{Limits}
-use Rattle.log_reader.specs.Symbols.{Quoted}
+use Rattle.log_reader.specs.FaultTexts.{fault_text}
+use Rattle.log_reader.specs.Symbols.{Says, Quoted, symbol_of}
 use Rattle.log_reader.specs.ValuesRead.{value_at}
 use Rattle.log_reader.specs.Readings.{Reading, NoFault, Fault, accepted, shown}
 
@@ -54,6 +56,9 @@ pub record WorkedValues : Type 0 where
   pub equal_events_are_one : read (codes "@07 publish(-0)(007)(0)") ≡ whole (at 7 (publish 0 ∷ publish 7 ∷ []) ∷ [])
   pub word_as_text : read (codes "@1 note(7,7)")
       ≡ whole (at 1 (record { pred = 2; args = Text (codes "7") ∷ Int (pos 7) ∷ [] } ∷ []) ∷ [])
+  pub text_is_quoted : symbol_of kinds.Text (codes "7") ≡ Says (Quoted (codes "7"))
+  pub least : read (codes "@1 publish(-9223372036854775808)")
+      ≡ whole (at 1 (record { pred = 0; args = Int (negsuc 9223372036854775807) ∷ [] } ∷ []) ∷ [])
   pub quoted_text : value_at sorts.Text 5 (Quoted (codes "a b")) ≡ Ok (Text (codes "a b"))
   pub last_time : read (codes "@4611686018427387904") ≡ whole (at 4611686018427387904 [] ∷ [])
   pub full : accepted preds (at_most 9 3 0) (codes "@1;@2;@3;") ≡ whole (at 1 [] ∷ at 2 [] ∷ at 3 [] ∷ [])
@@ -74,6 +79,9 @@ pub record WorkedFaults : Type 0 where
   pub arity_before_sort : read (codes "@1 publish(1,a)") ≡ stops [] (WrongArity 13)
   pub text_for_integer : value_at sorts.Int 5 (Quoted (codes "7")) ≡ Err (WrongSort 5)
   pub word_for_integer : read (codes "@1 note(a,b)") ≡ stops [] (WrongSort 10)
+  pub sign_alone : read (codes "@1 publish(-)") ≡ stops [] (WrongSort 11)
+  pub letter_behind : read (codes "@1 publish(1a)") ≡ stops [] (WrongSort 11)
+  pub wide_below : read (codes "@1 publish(-9223372036854775809)") ≡ stops [] (IntRange 11)
   pub wide : read (codes "@1 publish(9223372036854775808)") ≡ stops [] (IntRange 11)
   pub late : read (codes "@4611686018427387905") ≡ stops [] (TimestampRange 1)
   pub falling : read (codes "@9 publish(1) @5 publish(2)") ≡ stops (at 9 (publish 1 ∷ []) ∷ []) (FallingTime 9 5 15)
@@ -86,3 +94,17 @@ pub record WorkedFronts : Type 0 where
   pub next_begun : shown preds (at_most 99 9 9) (codes "@1 publish(7) @") ≡ whole (at 1 (publish 7 ∷ []) ∷ [])
   pub not_yet : shown preds (at_most 99 9 9) (codes "@1 publish(7)") ≡ whole []
   pub fault : shown preds (at_most 99 9 9) (codes "@1; publish(") ≡ stops (at 1 [] ∷ []) (Syntax 4)
+
+-- how faults are printed
+pub record WorkedPrints : Type 0 where
+  pub lexical : fault_text (Lex (record { kind = BadByte; at = 4 })) ≡ codes "Lex BadByte at 4"
+  pub syntax : fault_text (Syntax 26) ≡ codes "Syntax at 26"
+  pub unknown : fault_text (UnknownPredicate 3) ≡ codes "UnknownPredicate at 3"
+  pub arity : fault_text (WrongArity 13) ≡ codes "WrongArity at 13"
+  pub sort : fault_text (WrongSort 11) ≡ codes "WrongSort at 11"
+  pub wide : fault_text (IntRange 11) ≡ codes "IntRange at 11"
+  pub late : fault_text (TimestampRange 1) ≡ codes "TimestampRange at 1"
+  pub falling : fault_text (FallingTime 9 5 15) ≡ codes "FallingTime 9 5 at 15"
+  pub groups : fault_text (TooManyEvents 24) ≡ codes "TooManyEvents at 24"
+  pub points : fault_text (TooManyPoints 5) ≡ codes "TooManyPoints at 5"
+  pub long : fault_text (TooLong 8) ≡ codes "TooLong at 8"

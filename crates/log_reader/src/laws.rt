@@ -1,7 +1,8 @@
 //! What holds of every log. Each law is a function that does nothing: its clause is the law.
 
+ghost use Rattle.log_reader.specs.Growth.{ShownStays};
 ghost use Rattle.log_reader.specs.Laws.{ReadIsSpelled, SpelledIsRead, OneAnswer, ExactSyntax, ExactFaults, PointsAreCompleted};
-ghost use Rattle.log_reader.specs.WorkedTexts.{WorkedValues, WorkedFaults, WorkedFronts};
+ghost use Rattle.log_reader.specs.WorkedTexts.{WorkedValues, WorkedFaults, WorkedFronts, WorkedPrints};
 
 /// A log that is read to its end spells its time-points, and keeps the rules.
 pub fn read_is_spelled()
@@ -33,9 +34,15 @@ pub fn exact_faults()
     ensures { ExactFaults }
 {}
 
-/// Logs worked out by hand, and what is read of them.
+/// What the front of a log shows, its end not told, is shown by the whole log.
+pub fn shown_stays()
+    ensures { ShownStays }
+{}
+
+/// Logs worked out by hand, what is read of them, and how faults are printed.
 pub fn worked_texts()
     ensures values { WorkedValues }
     ensures faults { WorkedFaults }
     ensures fronts { WorkedFronts }
+    ensures prints { WorkedPrints }
 {}

@@ -49,7 +49,7 @@ impl<'a> Model for LogReader<'a> {
 }
 
 impl<'a> LogReader<'a> {
-    ghost use Rattle.log_reader.specs.Answers.{GivesPoints};
+    ghost use Rattle.log_reader.specs.GivenPoints.{GivesPoints};
     ghost use Rattle.log_reader.specs.Progress.{start, read, due};
     ghost use Rattle.log_reader.specs.Readers.{Reads, ReadsOn, ForEach, Proceeds, progress};
     ghost use Rattle.log_reader.specs.Soundness.{told};

@@ -22,9 +22,11 @@ module _ {S T E : Type 0} (step : S → T → Result S E) (start : S) (at : T �
     pub further : (front : List T) (s : S) (t : T) → run step front start ≡ Ok s → Stands front s
         → Further IsViable IsCause (syntax (at t)) Stands front t (step s t)
     -- a token that shows Syntax ends viability, and is the cause
-    pub unviable : (front : List T) (s : S) (t : T) (place : ℕ) → run step front start ≡ Ok s → step s t ≡ Err (syntax place)
+    pub unviable : (front : List T) (s : S) (t : T) (place : ℕ) → run step front start ≡ Ok s
+        → step s t ≡ Err (syntax place)
         → IsViable (front ++ t ∷ []) → ⊥
-    pub caused : (front : List T) (t : T) (place : ℕ) → EndsViability IsViable at front t place → IsCause front t (syntax place)
+    pub caused : (front : List T) (t : T) (place : ℕ) → EndsViability IsViable at front t place
+        → IsCause front t (syntax place)
 
   record Reached (front : List T) (s : S) : Type 0 where
     ran : run step front start ≡ Ok s
@@ -44,21 +46,27 @@ module _ {S T E : Type 0} (step : S → T → Result S E) (start : S) (at : T �
     -- wherever a run without a fault ends
     pub reached : (ts : List T) (s : S) → run step ts start ≡ Ok s → Stands ts s
     reached ts s ran =
-        (holds_behind step Reached keeps [] ts start s (record { ran = run_none step start; stands = knows.begins }) ran).stands
+        let begins : Reached [] start = record { ran = run_none step start; stands = knows.begins } in
+        (holds_behind step Reached keeps [] ts start s begins ran).stands
 
     -- a fault's token is its cause
-    pub token_caused : (front : List T) (s : S) (t : T) (fault : E) → run step front start ≡ Ok s → step s t ≡ Err fault
+    pub token_caused : (front : List T) (s : S) (t : T) (fault : E) → run step front start ≡ Ok s
+        → step s t ≡ Err fault
         → IsCause front t fault
     token_caused front s t fault ran e =
         elim (knows.further front s t ran (reached front s ran)) [
           | inl stops ↦
               let same : syntax (at t) ≡ fault = cc (stops, e) in
-              subst (IsCause front t) same (knows.caused front t (at t) (record { ends = knows.unviable front s t (at t) ran stops; stands = refl }))
+              subst (IsCause front t) same (knows.caused front t (at t) (record {
+                ends = knows.unviable front s t (at t) ran stops;
+                stands = refl;
+              }))
           | inr goes ↦ subst (λ r. IfErr r (IsCause front t)) e goes.cause
         ]
 
     -- and one that ends viability shows Syntax
-    pub ends_shown : (front : List T) (s : S) (t : T) (place : ℕ) → run step front start ≡ Ok s → EndsViability IsViable at front t place
+    pub ends_shown : (front : List T) (s : S) (t : T) (place : ℕ) → run step front start ≡ Ok s
+        → EndsViability IsViable at front t place
         → step s t ≡ Err (syntax place)
     ends_shown front s t place ran v =
         elim (knows.further front s t ran (reached front s ran)) [

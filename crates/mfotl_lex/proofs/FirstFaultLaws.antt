@@ -1,8 +1,8 @@
 -- What follows of a reader that owes what `FollowsGrammar` says.
-use Rattle.std.proofs.Common.{◌≡◌, ◌⊎◌, inl, inr, ℕ, List, [], ◌∷◌, ◌++◌, Result, Ok, Err, refl, sym, ap, subst, ◌∙◌}
+use Rattle.std.proofs.Common.{◌≡◌, ◌⊎◌, inl, inr, List, [], ◌∷◌, ◌++◌, Result, Ok, Err, refl, sym, ap, subst, ◌∙◌}
 use Rattle.std.proofs.lemmas.List.{append-nil, append_assoc}
 use Rattle.mfotl_lex.specs.FirstFault.{◌>>=◌, Tail, Text, run, StopsAt, if_sound, given, reading, ShowNone}
-use Rattle.mfotl_lex.specs.FirstFault.{ShownByToken, ShownByTail, IsFirst, FollowsGrammar, ExactSoundness}
+use Rattle.mfotl_lex.specs.FirstFault.{ShownByToken, IsFirst, FollowsGrammar, ExactSoundness}
 use Rattle.mfotl_lex.specs.FirstFault.{ExactFaults, ReadIsValue, ValueIsRead, HasValue, HasFault, OneAnswer}
 
 pub bind_ok : {A B E : Type 0} (r : Result A E) (f : A → Result B E) (y : B) → (r >>= f) ≡ Ok y

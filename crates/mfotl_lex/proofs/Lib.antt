@@ -13,3 +13,4 @@ pub mod TextLaws
 pub mod AllTokensLaws
 pub mod Verdicts
 pub mod ByPlaces
+pub mod WorkedCuts

@@ -1,13 +1,13 @@
 -- How a reader goes over bytes token by token, and that what is shown stays shown.
-use Rattle.std.proofs.Common.{◌≡◌, ℕ, ◌+◌, ◌<◌, Bool, true, false, List, [], ◌∷◌, ◌++◌, length, Option, Some, None}
-use Rattle.std.proofs.Common.{Result, Ok, Err, refl, sym, ap, subst, ◌∙◌}
+use Rattle.std.proofs.Common.{◌≡◌, ℕ, ◌+◌, Bool, true, false, List, ◌++◌, length, Option, Some, None}
+use Rattle.std.proofs.Common.{Result, Ok, Err, refl, sym, ap, ◌∙◌}
 use Rattle.mfotl_lex.specs.declared.fault.LexFault.{LexFault}
 use Rattle.mfotl_lex.specs.declared.kind.Mode.{Mode}
-use Rattle.mfotl_lex.specs.FirstFault.{◌>>=◌, Tail, Broken, End, More, Text, run, reading, if_sound, given}
+use Rattle.mfotl_lex.specs.FirstFault.{◌>>=◌, Tail, More, run, reading, if_sound, given}
 use Rattle.mfotl_lex.specs.Growing.{grown, stopped, joined}
 use Rattle.mfotl_lex.specs.Lexemes.{Lexeme, Tokens, next_token, after, tokens}
 use Rattle.mfotl_lex.specs.Places.{Place, beginning}
-use Rattle.mfotl_lex.specs.Texts.{tail_of, text_at, text_of, reading_on, given_on, StaysShown}
+use Rattle.mfotl_lex.specs.Texts.{tail_of, text_of, reading_on, given_on, StaysShown}
 use Rattle.mfotl_lex.proofs.FirstFaultLaws.{fault_stays}
 use Rattle.mfotl_lex.proofs.GrowingLemmas.{more_bytes}
 use Rattle.mfotl_lex.proofs.Sequence.{tokens_token, tokens_none, tokens_fault}
@@ -104,7 +104,8 @@ module _ {S E V : Type 0} (step : S → Lexeme → Result S E) (start : S) (at_t
       let rest = tokens (grown (stopped p) more ended) in
       let grows = (more_bytes p more ended untold).1 in
       let end = p.at + length p.rest in
-      let behind = λ (b : Bool) (n : ℕ) (ts : Tokens). run step ts.list start >>= λ s. at_tail (tail_of b n ts.fault) s in
+      let behind =
+      λ (b : Bool) (n : ℕ) (ts : Tokens). run step ts.list start >>= λ s. at_tail (tail_of b n ts.fault) s in
       let told = ap (λ (b : Bool). behind b end (tokens p)) untold in
       ap (behind ended (place.at + length place.rest)) grows
       ∙ stays (tokens p) rest (p.at + length p.rest) (place.at + length place.rest) ended fault (λ s. none s fault)

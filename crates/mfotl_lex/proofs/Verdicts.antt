@@ -13,7 +13,8 @@ module _ {E : Type 0} (IsRule : E → Type 0) where
   abbrev pub Judged : {A : Type 0} → Type 0 → Result A E → A → Type 0
   Judged rules r x = (rules × (r ≡ Ok x)) ⊎ Broken rules r
 
-  pub breaks : {A : Type 0} (rules : Type 0) (fault : E) → IsRule fault → (rules → ⊥) → Broken {A = A} rules (Err fault)
+  pub breaks : {A : Type 0} (rules : Type 0) (fault : E) → IsRule fault → (rules → ⊥)
+      → Broken {A = A} rules (Err fault)
   breaks rules fault is_rule broken = record { broken = broken; fault = fault; is_rule = is_rule; shown = refl }
 
   module _ {A : Type 0} (rules : Type 0) (r : Result A E) (x : A) where
@@ -30,7 +31,8 @@ module _ {E : Type 0} (IsRule : E → Type 0) where
     judged_rule fault (inr b) e = let same : b.fault ≡ fault = cc (e, b.shown) in subst IsRule same b.is_rule
 
     -- a verdict, and then one more
-    pub then_judged : {B : Type 0} (more all : Type 0) (f : A → Result B E) (y : B) → (rules → more → all) → (all → rules × more)
+    pub then_judged : {B : Type 0} (more all : Type 0) (f : A → Result B E) (y : B) → (rules → more → all)
+        → (all → rules × more)
         → Judged rules r x → (rules → Judged more (f x) y) → Judged all (r >>= f) y
     then_judged more all f y to from (inr b) later =
         inr (record {
@@ -52,7 +54,8 @@ module _ {E : Type 0} (IsRule : E → Type 0) where
             })
 
     -- the same verdict in other words
-    pub judged_as : (others : Type 0) (y : A) → (rules → others) → (others → rules) → x ≡ y → Judged rules r x → Judged others r y
+    pub judged_as : (others : Type 0) (y : A) → (rules → others) → (others → rules) → x ≡ y → Judged rules r x
+        → Judged others r y
     judged_as others y to from same (inl kept) = inl (to kept.0, kept.1 ∙ ap (λ x. Ok x) same)
     judged_as others y to from same (inr b) =
         inr (record { broken = λ k. b.broken (from k); fault = b.fault; is_rule = b.is_rule; shown = b.shown })

@@ -2,7 +2,7 @@
 -- form no token show a fault.
 use Rattle.std.specs.Prelude.{◌≡◌, List, [], ◌∷◌, ◌++◌, Result, Ok, Err}
 use Rattle.mfotl_lex.specs.declared.fault.LexFault.{LexFault}
-use Rattle.mfotl_lex.specs.FirstFault.{Tail, Broken, End, More, Text, reading, ExactFaults, ExactSoundness, OneAnswer}
+use Rattle.mfotl_lex.specs.FirstFault.{Tail, Broken, Text, reading, ExactFaults, ExactSoundness, OneAnswer}
 use Rattle.mfotl_lex.specs.Lexemes.{Lexeme}
 use Rattle.mfotl_lex.specs.Texts.{StaysShown}
 

@@ -2,6 +2,7 @@
 use Rattle.std.specs.Prelude.{ℕ, suc, ◌+◌, Bool, List, [], ◌∷◌, ◌==◌, if◌then◌else◌}
 use Rattle.mfotl_lex.specs.Bytes.{line_feed, hash, is_space}
 
+-- whitespace and comments, one in front of the other
 unfoldable mutual
   -- how many bytes of blanks stand at the front; `ended` says that the bytes are at their end
   pub blank_len : Bool → List ℕ → ℕ

@@ -15,6 +15,7 @@ pub record Lexeme : Type 0 where
   pub at : ℕ
   pub text : List ℕ
 
+-- the same of a token that a call returned
 abbrev pub lexeme : Token → Lexeme
 lexeme t = record { kind = t.kind; at = t.at; text = t.text.now }
 

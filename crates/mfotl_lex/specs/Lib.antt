@@ -13,3 +13,4 @@ pub mod FaultTexts
 pub mod FirstFault
 pub mod Texts
 pub mod AllTokens
+pub mod WorkedTexts

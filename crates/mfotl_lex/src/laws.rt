@@ -4,6 +4,7 @@ ghost use Rattle.mfotl_lex.specs.AllTokens.{TokensAreTaken};
 ghost use Rattle.mfotl_lex.specs.Growing.{MoreBytesChangeNothing};
 ghost use Rattle.mfotl_lex.specs.Shortening.{OpenCommentsShorten};
 ghost use Rattle.mfotl_lex.specs.Lexemes.{ModesStay};
+ghost use Rattle.mfotl_lex.specs.WorkedTexts.{WorkedTexts};
 ghost use Rattle.mfotl_lex.specs.Covering.{TokensAreTheBytes};
 
 /// More bytes never change a token or a fault that is shown, so bytes may come in any pieces.
@@ -29,4 +30,9 @@ pub fn open_comments_shorten()
 /// The layer of first faults, at the reader that takes every token.
 pub fn tokens_are_taken()
     ensures { TokensAreTaken }
+{}
+
+/// Texts worked out by hand, and the tokens that they are cut into.
+pub fn worked_texts()
+    ensures { WorkedTexts }
 {}

@@ -12,11 +12,11 @@ use Rattle.mfotl_parse.specs.declared.term.Operand.TheVariants as operands
 use Rattle.mfotl_parse.specs.Classes.{class_of, unit_of}
 use Rattle.mfotl_parse.specs.Grammar.{WrittenVariable, Bare, Asked, WrittenVariables, LastVariable, MoreVariables, WrittenBound, Count, Counted, WrittenEnd, Included, Excluded, Unbounded, WrittenInterval, Omitted, From, Above, variable_spelling, variables_spelling, bound_spelling, end_spelling, interval_spelling, FitsVariable, FitsVariables, FitsBound, FitsEnd, FitsInterval}
 use Rattle.mfotl_parse.specs.Intervals.{framed, with_interval, low_move, low_unit, low_number_move, low_done_move, high_move, high_unit, high_number_move, bracket, endless_move}
-use Rattle.mfotl_parse.specs.Moves.{Rule, Move, first_keeps, shallow}
+use Rattle.mfotl_parse.specs.Transitions.{Rule, Transition, first_keeps, within_depth}
 use Rattle.mfotl_parse.specs.Operands.{operand_move, fresh_move, maybe_move, maybe_number_move, maybe_word, maybe_unit, maybe_low, binder_move, binder_marked_move, bound_move}
-use Rattle.mfotl_parse.specs.Reading.{move_of, move_at}
+use Rattle.mfotl_parse.specs.Reading.{transition, transition_at}
 use Rattle.mfotl_parse.specs.Reduction.{hold}
-use Rattle.mfotl_parse.specs.States.{Frame, Parens, Negation, Moment, Binding, Left, Names, Partial, Want, Fresh, Binder, BinderMarked, Bound, Compared, Maybe, MaybeNumber, Low, LowNumber, LowDone, High, HighNumber, HighDone, Endless}
+use Rattle.mfotl_parse.specs.States.{Frame, Parens, Negation, Moment, Binding, Left, SymbolTable, Partial, ExpectOperand, AfterTemporal, ExpectVariable, AfterVariableMark, AfterVariable, ExpectSign, AfterParen, AfterParenNumber, ExpectLow, AfterLowNumber, AfterLow, ExpectHigh, AfterHighNumber, AfterHigh, AfterStar}
 use Rattle.mfotl_parse.specs.Viability.{if_moved, accepts}
 use Rattle.mfotl_parse.proofs.SpelledMoves.{at_place}
 use Rattle.mfotl_parse.proofs.SpelledParts.{context_at}
@@ -26,8 +26,8 @@ use Rattle.mfotl_parse.proofs.AcceptedParts.{refused}
 pub record Wanting (sig : List PredOf) (holds : List ℕ) (rest : List Lexeme) : Type 0 where
   pub stack : List Frame
   pub nodes : ℕ
-  pub names : Names
-  pub accepted : accepts sig rest (at_place Want stack nodes names) ≡ true
+  pub names : SymbolTable
+  pub accepted : accepts sig rest (at_place ExpectOperand stack nodes names) ≡ true
   pub held : map hold stack ≡ holds
 
 -- ---- intervals
@@ -72,8 +72,8 @@ pub record Timing (sig : List PredOf) (holds : List ℕ) (ts : List Lexeme) : Ty
   pub shorter : length rest ≤ length ts
   pub wanting : Wanting sig holds rest
 
-module _ (sig : List PredOf) (stack : List Frame) (nodes : ℕ) (names : Names) where
-  timed_wanting : (i : Interval) (rest : List Lexeme) → accepts sig rest (at_place Want (with_interval i stack) nodes names) ≡ true → Wanting sig (map hold stack) rest
+module _ (sig : List PredOf) (stack : List Frame) (nodes : ℕ) (names : SymbolTable) where
+  timed_wanting : (i : Interval) (rest : List Lexeme) → accepts sig rest (at_place ExpectOperand (with_interval i stack) nodes names) ≡ true → Wanting sig (map hold stack) rest
   timed_wanting i rest h = record { stack = with_interval i stack; nodes = nodes; names = names; accepted = h; held = holds_same i stack }
 
   bracket_one : (high : WrittenBound) (at low top : ℕ) (t : Lexeme) (ts : List Lexeme) (c : Class) → FitsBound high → class_of t ≡ c
@@ -85,8 +85,8 @@ module _ (sig : List PredOf) (stack : List Frame) (nodes : ℕ) (names : Names) 
   bracket_one high at low top t ts _ fits class h = refused h _
 
   high_done : (high : WrittenBound) (at low top : ℕ) (ts : List Lexeme) → FitsBound high
-      → accepts sig ts (at_place (HighDone at low top) stack nodes names) ≡ true → UpTo sig (map hold stack) (bound_spelling high ++ ts)
-  unfolding accepts move_of
+      → accepts sig ts (at_place (AfterHigh at low top) stack nodes names) ≡ true → UpTo sig (map hold stack) (bound_spelling high ++ ts)
+  unfolding accepts transition
   high_done high at low top [] fits h = refused h _
   high_done high at low top (t ∷ ts) fits h = bracket_one high at low top t ts (class_of t) fits refl h
 
@@ -101,8 +101,8 @@ module _ (sig : List PredOf) (stack : List Frame) (nodes : ℕ) (names : Names) 
   high_number_one token at low number_at n t ts c number class h = bracket_one (Count token n) at low n t ts c number class h
 
   high_number : (token : Lexeme) (at low number_at n : ℕ) (ts : List Lexeme) → class_of token ≡ classes.Integer (pos n)
-      → accepts sig ts (at_place (HighNumber at low number_at n) stack nodes names) ≡ true → UpTo sig (map hold stack) (token ∷ ts)
-  unfolding accepts move_of
+      → accepts sig ts (at_place (AfterHighNumber at low number_at n) stack nodes names) ≡ true → UpTo sig (map hold stack) (token ∷ ts)
+  unfolding accepts transition
   high_number token at low number_at n [] number h = refused h _
   high_number token at low number_at n (t ∷ ts) number h = high_number_one token at low number_at n t ts (class_of t) number refl h
 
@@ -113,8 +113,8 @@ module _ (sig : List PredOf) (stack : List Frame) (nodes : ℕ) (names : Names) 
   endless_one star low t ts _ stars class h = refused h _
 
   endless : (star : Lexeme) (at low : ℕ) (ts : List Lexeme) → class_of star ≡ classes.Star
-      → accepts sig ts (at_place (Endless at low) stack nodes names) ≡ true → UpTo sig (map hold stack) (star ∷ ts)
-  unfolding accepts move_of
+      → accepts sig ts (at_place (AfterStar at low) stack nodes names) ≡ true → UpTo sig (map hold stack) (star ∷ ts)
+  unfolding accepts transition
   endless star at low [] stars h = refused h _
   endless star at low (t ∷ ts) stars h = endless_one star low t ts (class_of t) stars refl h
 
@@ -124,14 +124,14 @@ module _ (sig : List PredOf) (stack : List Frame) (nodes : ℕ) (names : Names) 
   high_one at low t ts classes.Star class h = endless t at low ts class h
   high_one at low t ts _ class h = refused h _
 
-  high : (at low : ℕ) (ts : List Lexeme) → accepts sig ts (at_place (High at low) stack nodes names) ≡ true → UpTo sig (map hold stack) ts
-  unfolding accepts move_of
+  high : (at low : ℕ) (ts : List Lexeme) → accepts sig ts (at_place (ExpectHigh at low) stack nodes names) ≡ true → UpTo sig (map hold stack) ts
+  unfolding accepts transition
   high at low [] h = refused h _
   high at low (t ∷ ts) h = high_one at low t ts (class_of t) refl h
 
   -- a lower bound, its comma and the rest
   comma_back : (low : WrittenBound) (at from : ℕ) (t : Lexeme) (ts : List Lexeme) → FitsBound low → class_of t ≡ classes.Comma
-      → accepts sig ts (at_place (High at from) stack nodes names) ≡ true → FromLow sig (map hold stack) (bound_spelling low ++ t ∷ ts)
+      → accepts sig ts (at_place (ExpectHigh at from) stack nodes names) ≡ true → FromLow sig (map hold stack) (bound_spelling low ++ t ∷ ts)
   comma_back low at from t ts fits class h =
       let u = high at from ts h in
       record {
@@ -153,8 +153,8 @@ module _ (sig : List PredOf) (stack : List Frame) (nodes : ℕ) (names : Names) 
   low_done_one low at from t ts _ fits class h = refused h _
 
   low_done : (low : WrittenBound) (at from : ℕ) (ts : List Lexeme) → FitsBound low
-      → accepts sig ts (at_place (LowDone at from) stack nodes names) ≡ true → FromLow sig (map hold stack) (bound_spelling low ++ ts)
-  unfolding accepts move_of
+      → accepts sig ts (at_place (AfterLow at from) stack nodes names) ≡ true → FromLow sig (map hold stack) (bound_spelling low ++ ts)
+  unfolding accepts transition
   low_done low at from [] fits h = refused h _
   low_done low at from (t ∷ ts) fits h = low_done_one low at from t ts (class_of t) fits refl h
 
@@ -170,8 +170,8 @@ module _ (sig : List PredOf) (stack : List Frame) (nodes : ℕ) (names : Names) 
   low_number_one token at number_at n t ts _ number class h = refused h _
 
   low_number : (token : Lexeme) (at number_at n : ℕ) (ts : List Lexeme) → class_of token ≡ classes.Integer (pos n)
-      → accepts sig ts (at_place (LowNumber at number_at n) stack nodes names) ≡ true → FromLow sig (map hold stack) (token ∷ ts)
-  unfolding accepts move_of
+      → accepts sig ts (at_place (AfterLowNumber at number_at n) stack nodes names) ≡ true → FromLow sig (map hold stack) (token ∷ ts)
+  unfolding accepts transition
   low_number token at number_at n [] number h = refused h _
   low_number token at number_at n (t ∷ ts) number h = low_number_one token at number_at n t ts (class_of t) number refl h
 
@@ -180,24 +180,24 @@ module _ (sig : List PredOf) (stack : List Frame) (nodes : ℕ) (names : Names) 
   low_one at t ts (classes.Integer (pos n)) class h = low_number t at t.at n ts class h
   low_one at t ts _ class h = refused h _
 
-  low : (at : ℕ) (ts : List Lexeme) → accepts sig ts (at_place (Low at) stack nodes names) ≡ true → FromLow sig (map hold stack) ts
-  unfolding accepts move_of
+  low : (at : ℕ) (ts : List Lexeme) → accepts sig ts (at_place (ExpectLow at) stack nodes names) ≡ true → FromLow sig (map hold stack) ts
+  unfolding accepts transition
   low at [] h = refused h _
   low at (t ∷ ts) h = low_one at t ts (class_of t) refl h
 
 -- ---- behind a temporal operator
 
 -- a token of this class
-accepts_is : (sig : List PredOf) (p : Partial) (t : Lexeme) (ts : List Lexeme) (c : Class) → class_of t ≡ c → accepts sig (t ∷ ts) p ≡ if_moved (move_at p.now sig p.context t c) (accepts sig ts)
-unfolding accepts move_of
-accepts_is sig p t ts c e = ap (λ (x : Class). if_moved (move_at p.now sig p.context t x) (accepts sig ts)) e
+accepts_is : (sig : List PredOf) (p : Partial) (t : Lexeme) (ts : List Lexeme) (c : Class) → class_of t ≡ c → accepts sig (t ∷ ts) p ≡ if_moved (transition_at p.now sig p.context t c) (accepts sig ts)
+unfolding accepts transition
+accepts_is sig p t ts c e = ap (λ (x : Class). if_moved (transition_at p.now sig p.context t x) (accepts sig ts)) e
 
-moved_first : (rule : Rule) (m : Option Move) (f : Partial → Bool) → if_moved (first_keeps rule m) f ≡ if_moved m f
+moved_first : (rule : Rule) (m : Option Transition) (f : Partial → Bool) → if_moved (first_keeps rule m) f ≡ if_moved m f
 moved_first rule None f = refl
 moved_first rule (Some m) f = refl
 
-module _ (sig : List PredOf) (stack : List Frame) (nodes : ℕ) (names : Names) where
-  no_interval : (ts : List Lexeme) → accepts sig ts (at_place Want stack nodes names) ≡ true → Timing sig (map hold stack) ts
+module _ (sig : List PredOf) (stack : List Frame) (nodes : ℕ) (names : SymbolTable) where
+  no_interval : (ts : List Lexeme) → accepts sig ts (at_place ExpectOperand stack nodes names) ≡ true → Timing sig (map hold stack) ts
   no_interval ts h =
       record { interval = Omitted; rest = ts; fits = tt; parts = refl; shorter = omega arith; wanting = record { stack = stack; nodes = nodes; names = names; accepted = h; held = refl } }
 
@@ -232,15 +232,15 @@ module _ (sig : List PredOf) (stack : List Frame) (nodes : ℕ) (names : Names) 
   maybe_numbers t number next z ts classes.Name opens counts class h = maybe_words t number next t.at number.at z ts opens counts class h
   maybe_numbers t number next z ts (classes.Sign sign) opens counts class h =
       no_interval (t ∷ number ∷ next ∷ ts)
-      (accepts_is sig (at_place Want stack nodes names) t (number ∷ next ∷ ts) classes.OpenParen opens
-      ∙ accepts_is sig (at_place Want (Parens ∷ stack) nodes names) number (next ∷ ts) (classes.Integer z) counts
-      ∙ accepts_is sig (at_place (Compared (record { at = number.at; operand = operands.Constant (values.Int z) })) (Parens ∷ stack) nodes names) next ts (classes.Sign sign) class
+      (accepts_is sig (at_place ExpectOperand stack nodes names) t (number ∷ next ∷ ts) classes.OpenParen opens
+      ∙ accepts_is sig (at_place ExpectOperand (Parens ∷ stack) nodes names) number (next ∷ ts) (classes.Integer z) counts
+      ∙ accepts_is sig (at_place (ExpectSign (record { at = number.at; operand = operands.Constant (values.Int z) })) (Parens ∷ stack) nodes names) next ts (classes.Sign sign) class
       ∙ h)
   maybe_numbers t number next z ts _ opens counts class h = refused h _
 
   maybe_number : (t number : Lexeme) (z : ℤ) (ts : List Lexeme) → class_of t ≡ classes.OpenParen → class_of number ≡ classes.Integer z
-      → accepts sig ts (at_place (MaybeNumber t.at number.at z) stack nodes names) ≡ true → Timing sig (map hold stack) (t ∷ number ∷ ts)
-  unfolding accepts move_of
+      → accepts sig ts (at_place (AfterParenNumber t.at number.at z) stack nodes names) ≡ true → Timing sig (map hold stack) (t ∷ number ∷ ts)
+  unfolding accepts transition
   maybe_number t number z [] opens counts h = refused h _
   maybe_number t number z (next ∷ ts) opens counts h = maybe_numbers t number next z ts (class_of next) opens counts refl h
 
@@ -249,12 +249,12 @@ module _ (sig : List PredOf) (stack : List Frame) (nodes : ℕ) (names : Names) 
   maybe_one t u ts (classes.Integer z) opens class h = maybe_number t u z ts opens class h
   maybe_one t u ts c opens class h =
       no_interval (t ∷ u ∷ ts)
-      (accepts_is sig (at_place Want stack nodes names) t (u ∷ ts) classes.OpenParen opens
-      ∙ accepts_is sig (at_place Want (Parens ∷ stack) nodes names) u ts c class
-      ∙ sym (moved_first (shallow t.at stack) (operand_move (context_at (Parens ∷ stack) nodes names) u c) (accepts sig ts)) ∙ h)
+      (accepts_is sig (at_place ExpectOperand stack nodes names) t (u ∷ ts) classes.OpenParen opens
+      ∙ accepts_is sig (at_place ExpectOperand (Parens ∷ stack) nodes names) u ts c class
+      ∙ sym (moved_first (within_depth t.at stack) (operand_move (context_at (Parens ∷ stack) nodes names) u c) (accepts sig ts)) ∙ h)
 
-  maybe_back : (t : Lexeme) (ts : List Lexeme) → class_of t ≡ classes.OpenParen → accepts sig ts (at_place (Maybe t.at) stack nodes names) ≡ true → Timing sig (map hold stack) (t ∷ ts)
-  unfolding accepts move_of
+  maybe_back : (t : Lexeme) (ts : List Lexeme) → class_of t ≡ classes.OpenParen → accepts sig ts (at_place (AfterParen t.at) stack nodes names) ≡ true → Timing sig (map hold stack) (t ∷ ts)
+  unfolding accepts transition
   maybe_back t [] opens h = refused h _
   maybe_back t (u ∷ ts) opens h = maybe_one t u ts (class_of u) opens refl h
 
@@ -262,10 +262,10 @@ module _ (sig : List PredOf) (stack : List Frame) (nodes : ℕ) (names : Names) 
       → if_moved (fresh_move (context_at stack nodes names) t c) (accepts sig ts) ≡ true → Timing sig (map hold stack) (t ∷ ts)
   fresh_one t ts classes.OpenBracket class h = from_bracket t ts class (low sig stack nodes names t.at ts h)
   fresh_one t ts classes.OpenParen class h = maybe_back t ts class h
-  fresh_one t ts c class h = no_interval (t ∷ ts) (accepts_is sig (at_place Want stack nodes names) t ts c class ∙ h)
+  fresh_one t ts c class h = no_interval (t ∷ ts) (accepts_is sig (at_place ExpectOperand stack nodes names) t ts c class ∙ h)
 
-  pub fresh_back : (ts : List Lexeme) → accepts sig ts (at_place Fresh stack nodes names) ≡ true → Timing sig (map hold stack) ts
-  unfolding accepts move_of
+  pub fresh_back : (ts : List Lexeme) → accepts sig ts (at_place AfterTemporal stack nodes names) ≡ true → Timing sig (map hold stack) ts
+  unfolding accepts transition
   fresh_back [] h = refused h _
   fresh_back (t ∷ ts) h = fresh_one t ts (class_of t) refl h
 
@@ -288,10 +288,10 @@ pub record Quantifying (sig : List PredOf) (holds : List ℕ) (ts : List Lexeme)
 
 module _ (sig : List PredOf) (q : Quantifier) where
   abbrev LaterVariables : ℕ → Type 0
-  LaterVariables n = (stack : List Frame) (nodes : ℕ) (names : Names) (ts : List Lexeme) → length ts ≤ n
-      → accepts sig ts (at_place (Binder q) stack nodes names) ≡ true → Quantifying sig (map hold stack) ts
+  LaterVariables n = (stack : List Frame) (nodes : ℕ) (names : SymbolTable) (ts : List Lexeme) → length ts ≤ n
+      → accepts sig ts (at_place (ExpectVariable q) stack nodes names) ≡ true → Quantifying sig (map hold stack) ts
 
-  bound_one : (n : ℕ) (x : WrittenVariable) (variable : ℕ) (name : List ℕ) (stack : List Frame) (nodes : ℕ) (names : Names) (t : Lexeme) (ts : List Lexeme) (c : Class) → LaterVariables n → length ts ≤ n → FitsVariable x → class_of t ≡ c
+  bound_one : (n : ℕ) (x : WrittenVariable) (variable : ℕ) (name : List ℕ) (stack : List Frame) (nodes : ℕ) (names : SymbolTable) (t : Lexeme) (ts : List Lexeme) (c : Class) → LaterVariables n → length ts ≤ n → FitsVariable x → class_of t ≡ c
       → if_moved (bound_move (context_at (Binding q variable name ∷ stack) nodes names) q c) (accepts sig ts) ≡ true → Quantifying sig (map hold stack) (variable_spelling x ++ t ∷ ts)
   bound_one n x variable name stack nodes names t ts classes.Comma later few fits class h =
       let more = later (Binding q variable name ∷ stack) nodes names ts few h in
@@ -318,35 +318,35 @@ module _ (sig : List PredOf) (q : Quantifier) where
       }
   bound_one n x variable name stack nodes names t ts _ later few fits class h = refused h _
 
-  bound_back : (n : ℕ) (x : WrittenVariable) (variable : ℕ) (name : List ℕ) (stack : List Frame) (nodes : ℕ) (names : Names) (ts : List Lexeme) → LaterVariables n → length ts ≤ suc n → FitsVariable x
-      → accepts sig ts (at_place (Bound q) (Binding q variable name ∷ stack) nodes names) ≡ true → Quantifying sig (map hold stack) (variable_spelling x ++ ts)
-  unfolding accepts move_of
+  bound_back : (n : ℕ) (x : WrittenVariable) (variable : ℕ) (name : List ℕ) (stack : List Frame) (nodes : ℕ) (names : SymbolTable) (ts : List Lexeme) → LaterVariables n → length ts ≤ suc n → FitsVariable x
+      → accepts sig ts (at_place (AfterVariable q) (Binding q variable name ∷ stack) nodes names) ≡ true → Quantifying sig (map hold stack) (variable_spelling x ++ ts)
+  unfolding accepts transition
   bound_back n x variable name stack nodes names [] later few fits h = refused h _
   bound_back n x variable name stack nodes names (t ∷ ts) later few fits h = bound_one n x variable name stack nodes names t ts (class_of t) later (omega (arith, few)) fits refl h
 
-  binder_marked_one : (n : ℕ) (mark : Lexeme) (stack : List Frame) (nodes : ℕ) (names : Names) (t : Lexeme) (ts : List Lexeme) (c : Class) → LaterVariables n → length ts ≤ n → class_of mark ≡ classes.Question → class_of t ≡ c
+  binder_marked_one : (n : ℕ) (mark : Lexeme) (stack : List Frame) (nodes : ℕ) (names : SymbolTable) (t : Lexeme) (ts : List Lexeme) (c : Class) → LaterVariables n → length ts ≤ n → class_of mark ≡ classes.Question → class_of t ≡ c
       → if_moved (binder_marked_move (context_at stack nodes names) q t c) (accepts sig ts) ≡ true → Quantifying sig (map hold stack) (mark ∷ t ∷ ts)
   binder_marked_one n mark stack nodes names t ts classes.Name later few marks class h = bound_back n (Asked mark t) _ _ stack nodes _ ts later (omega (arith, few)) (marks, class) h
   binder_marked_one n mark stack nodes names t ts _ later few marks class h = refused h _
 
-  binder_mark : (n at : ℕ) (mark : Lexeme) (stack : List Frame) (nodes : ℕ) (names : Names) (ts : List Lexeme) → LaterVariables n → length ts ≤ suc n → class_of mark ≡ classes.Question
-      → accepts sig ts (at_place (BinderMarked q at) stack nodes names) ≡ true → Quantifying sig (map hold stack) (mark ∷ ts)
-  unfolding accepts move_of
+  binder_mark : (n at : ℕ) (mark : Lexeme) (stack : List Frame) (nodes : ℕ) (names : SymbolTable) (ts : List Lexeme) → LaterVariables n → length ts ≤ suc n → class_of mark ≡ classes.Question
+      → accepts sig ts (at_place (AfterVariableMark q at) stack nodes names) ≡ true → Quantifying sig (map hold stack) (mark ∷ ts)
+  unfolding accepts transition
   binder_mark n at mark stack nodes names [] later few marks h = refused h _
   binder_mark n at mark stack nodes names (t ∷ ts) later few marks h = binder_marked_one n mark stack nodes names t ts (class_of t) later (omega (arith, few)) marks refl h
 
-  binder_one : (n : ℕ) (stack : List Frame) (nodes : ℕ) (names : Names) (t : Lexeme) (ts : List Lexeme) (c : Class) → LaterVariables n → length ts ≤ suc n → class_of t ≡ c
+  binder_one : (n : ℕ) (stack : List Frame) (nodes : ℕ) (names : SymbolTable) (t : Lexeme) (ts : List Lexeme) (c : Class) → LaterVariables n → length ts ≤ suc n → class_of t ≡ c
       → if_moved (binder_move (context_at stack nodes names) q t c) (accepts sig ts) ≡ true → Quantifying sig (map hold stack) (t ∷ ts)
   binder_one n stack nodes names t ts classes.Name later few class h = bound_back n (Bare t) _ _ stack (suc nodes) _ ts later few class h
   binder_one n stack nodes names t ts classes.Question later few class h = binder_mark n t.at t stack (suc nodes) names ts later few class h
   binder_one n stack nodes names t ts _ later few class h = refused h _
 
   binder_fuel : (n : ℕ) → LaterVariables n
-  unfolding accepts move_of
+  unfolding accepts transition
   binder_fuel n stack nodes names [] few h = refused h _
   binder_fuel zero stack nodes names (t ∷ ts) few h = absurd (omega (arith, few))
   binder_fuel (suc n) stack nodes names (t ∷ ts) few h = binder_one n stack nodes names t ts (class_of t) (binder_fuel n) (omega (arith, few)) refl h
 
-  pub binder_back : (stack : List Frame) (nodes : ℕ) (names : Names) (ts : List Lexeme)
-      → accepts sig ts (at_place (Binder q) stack nodes names) ≡ true → Quantifying sig (map hold stack) ts
+  pub binder_back : (stack : List Frame) (nodes : ℕ) (names : SymbolTable) (ts : List Lexeme)
+      → accepts sig ts (at_place (ExpectVariable q) stack nodes names) ≡ true → Quantifying sig (map hold stack) ts
   binder_back stack nodes names ts h = binder_fuel (length ts) stack nodes names ts (omega arith) h

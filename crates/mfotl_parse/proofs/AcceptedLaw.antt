@@ -9,12 +9,12 @@ use Rattle.mfotl_parse.specs.declared.class.Class.{Class}
 use Rattle.mfotl_parse.specs.declared.class.Class.TheVariants as classes
 use Rattle.mfotl_parse.specs.declared.class.Operator.{Operator}
 use Rattle.mfotl_parse.specs.Classes.{class_of}
-use Rattle.mfotl_parse.specs.Grammar.{Number, Quoted, WrittenInterval, Omitted, Tree, Truth, Enclosed, variables_spelling, interval_spelling, spelling, FitsOperator, is_shut, Fits, IsFormula}
+use Rattle.mfotl_parse.specs.Grammar.{Number, Quoted, WrittenInterval, Omitted, Tree, Truth, Enclosed, variables_spelling, interval_spelling, spelling, FitsOperator, is_shut, Fits, IsFormula, precedence, right_precedence, is_timed}
 use Rattle.mfotl_parse.specs.Intervals.{any_distance}
-use Rattle.mfotl_parse.specs.Operands.{operand_move, have_move, joined_move, enclosed_move, around, is_parens, is_timed, now_behind}
-use Rattle.mfotl_parse.specs.Reading.{move_of, is_closed}
-use Rattle.mfotl_parse.specs.Reduction.{Reduced, reduce, hold, level, right_rule}
-use Rattle.mfotl_parse.specs.States.{Frame, Parens, Negation, Moment, Binding, Left, Names, Context, start}
+use Rattle.mfotl_parse.specs.Operands.{operand_move, have_move, joined_move, enclosed_move, around, is_parens, now_behind}
+use Rattle.mfotl_parse.specs.Reading.{transition, is_closed}
+use Rattle.mfotl_parse.specs.Reduction.{Reduced, reduce, hold}
+use Rattle.mfotl_parse.specs.States.{Frame, Parens, Negation, Moment, Binding, Left, SymbolTable, Context, start}
 use Rattle.mfotl_parse.specs.Viability.{if_moved, accepts}
 use Rattle.mfotl_parse.proofs.SpelledMoves.{at_place}
 use Rattle.mfotl_parse.proofs.SpelledParts.{context_at}
@@ -59,7 +59,7 @@ heads m n ms ns e = cc
 closed_alike : (rule : ℕ) (f : Form) (stack : List Frame) (hs : List Held) (tree : Tree) (c : Closed rule hs tree) → map hold stack ≡ holds_of hs → map hold (reduce rule f stack).stack ≡ holds_of c.around
 closed_alike rule f stack hs tree c held = holds_reduced rule f stack ∙ ap (drop_tight rule) held ∙ c.holds
 
-no_level : (o : Operator) → level o ≡ 0 → ⊥
+no_level : (o : Operator) → precedence o ≡ 0 → ⊥
 no_level o e = omega (arith, e, level_least o)
 
 close_all : (hs : List Held) (tree : Tree) → FitAll hs → Operand tree → Closed 0 hs tree
@@ -96,7 +96,7 @@ module _ (sig : List PredOf) where
   parenthesis (HeldBound token quantifier variables dot ∷ hs) holds e =
       let f = first_one variables (holds_of hs) in absurd (omega (arith, heads 0 1 holds f.0 (e ∙ f.1)))
   parenthesis (HeldLeft left token operator interval ∷ hs) holds e =
-      absurd (omega (arith, heads 0 (right_rule operator) holds (holds_of hs) e, right_least operator))
+      absurd (omega (arith, heads 0 (right_precedence operator) holds (holds_of hs) e, right_least operator))
 
   inside_parens : (frame : Frame) (stack : List Frame) → is_parens frame ≡ true → map hold (frame ∷ stack) ≡ 0 ∷ map hold stack
   inside_parens Parens stack e = refl
@@ -147,18 +147,18 @@ module _ (sig : List PredOf) where
       ∙ ap (λ (xs : List Lexeme). held_tokens outer ++ xs) (sym (append_assoc (spelling whole) (t ∷ interval_spelling i) rest))
       ∙ sym (append_assoc (held_tokens outer) (spelling whole ++ t ∷ interval_spelling i) rest)
 
-  timing_of : (timed : Bool) (stack : List Frame) (nodes : ℕ) (names : Names) (ts : List Lexeme) → accepts sig ts (at_place (now_behind timed) stack nodes names) ≡ true
+  timing_of : (timed : Bool) (stack : List Frame) (nodes : ℕ) (names : SymbolTable) (ts : List Lexeme) → accepts sig ts (at_place (now_behind timed) stack nodes names) ≡ true
       → (i : WrittenInterval) × (rest : List Lexeme) × FitsOperator timed i × (ts ≡ interval_spelling i ++ rest) × (length rest ≤ length ts) × Wanting sig (map hold stack) rest
   timing_of true stack nodes names ts h =
       let t = fresh_back sig stack nodes names ts h in (t.interval, t.rest, t.fits, t.parts, t.shorter, t.wanting)
   timing_of false stack nodes names ts h =
       (Omitted, ts, refl, refl, omega arith, record { stack = stack; nodes = nodes; names = names; accepted = h; held = refl })
 
-  no_zero : (o : Operator) (hs : List Held) → (wanted hs ≤ level o) ⊎ (level o ≡ 0) → wanted hs ≤ level o
+  no_zero : (o : Operator) (hs : List Held) → (wanted hs ≤ precedence o) ⊎ (precedence o ≡ 0) → wanted hs ≤ precedence o
   no_zero o hs (inl h) = h
   no_zero o hs (inr e) = absurd (no_level o e)
 
-  at_operator : (n : ℕ) (hs : List Held) (tree : Tree) (o : Operator) (t : Lexeme) (ts : List Lexeme) (p : Context) (reduced : Reduced) (c : Closed (level o) hs tree)
+  at_operator : (n : ℕ) (hs : List Held) (tree : Tree) (o : Operator) (t : Lexeme) (ts : List Lexeme) (p : Context) (reduced : Reduced) (c : Closed (precedence o) hs tree)
       → WantLater sig n → length ts ≤ n → class_of t ≡ classes.Operator o → map hold reduced.stack ≡ holds_of c.around
       → if_moved (joined_move p o reduced t.at) (accepts sig ts) ≡ true → IsFormula (held_tokens hs ++ (spelling tree ++ t ∷ ts))
   unfolding WantLater
@@ -169,13 +169,13 @@ module _ (sig : List PredOf) where
       let fit : FitAll held2 = ((c.left o refl, c.shut (level_least o), class, timing.2), no_zero o c.around c.loose, c.fit_all) in
       formula_as _ _ (joined_tokens hs c.around tree c.whole t o timing.0 ts timing.1 c.tokens timing.3)
       (later held2 timing.1 (omega (arith, few, timing.4)) fit
-      (record { stack = w.stack; nodes = w.nodes; names = w.names; accepted = w.accepted; held = w.held ∙ ap (λ (ns : List ℕ). right_rule o ∷ ns) held }))
+      (record { stack = w.stack; nodes = w.nodes; names = w.names; accepted = w.accepted; held = w.held ∙ ap (λ (ns : List ℕ). right_precedence o ∷ ns) held }))
 
-  have_one : (n : ℕ) (hs : List Held) (stack : List Frame) (tree : Tree) (f : Form) (nodes : ℕ) (names : Names) (t : Lexeme) (ts : List Lexeme) (c : Class) → HaveLater sig n → WantLater sig n → length ts ≤ n → FitAll hs → map hold stack ≡ holds_of hs → Operand tree
+  have_one : (n : ℕ) (hs : List Held) (stack : List Frame) (tree : Tree) (f : Form) (nodes : ℕ) (names : SymbolTable) (t : Lexeme) (ts : List Lexeme) (c : Class) → HaveLater sig n → WantLater sig n → length ts ≤ n → FitAll hs → map hold stack ≡ holds_of hs → Operand tree
       → class_of t ≡ c → if_moved (have_move (context_at stack nodes names) f t c) (accepts sig ts) ≡ true → IsFormula (held_tokens hs ++ (spelling tree ++ t ∷ ts))
   have_one n hs stack tree f nodes names t ts (classes.Operator o) have want few fit held operand class h =
-      let c = close (level o) (omega (arith, level_most o)) hs tree fit (operand.fits (wanted hs)) (λ p e. operand.fits _) (λ some. operand.shut) in
-      at_operator n hs tree o t ts (context_at stack nodes names) (reduce (level o) f stack) c want few class (closed_alike (level o) f stack hs tree c held) h
+      let c = close (precedence o) (omega (arith, level_most o)) hs tree fit (operand.fits (wanted hs)) (λ p e. operand.fits _) (λ some. operand.shut) in
+      at_operator n hs tree o t ts (context_at stack nodes names) (reduce (precedence o) f stack) c want few class (closed_alike (precedence o) f stack hs tree c held) h
   have_one n hs stack tree f nodes names t ts classes.CloseParen have want few fit held operand class h =
       let c = close_all hs tree fit operand in
       at_paren n hs tree c t ts (context_at stack nodes names) (reduce 0 f stack).form (reduce 0 f stack).stack have few class (closed_alike 0 f stack hs tree c held) h
@@ -194,7 +194,7 @@ module _ (sig : List PredOf) where
   held_then n h hs ts rest later few fit parts w =
       formula_as _ _ (ap (λ (xs : List Lexeme). held_tokens hs ++ xs) parts ∙ sym (append_assoc (held_tokens hs) (own_tokens h) rest)) (later (h ∷ hs) rest few fit w)
 
-  want_one : (n : ℕ) (hs : List Held) (stack : List Frame) (nodes : ℕ) (names : Names) (t : Lexeme) (ts : List Lexeme) (c : Class) → HaveLater sig n → WantLater sig n → length ts ≤ n → FitAll hs → map hold stack ≡ holds_of hs
+  want_one : (n : ℕ) (hs : List Held) (stack : List Frame) (nodes : ℕ) (names : SymbolTable) (t : Lexeme) (ts : List Lexeme) (c : Class) → HaveLater sig n → WantLater sig n → length ts ≤ n → FitAll hs → map hold stack ≡ holds_of hs
       → class_of t ≡ c → if_moved (operand_move (context_at stack nodes names) t c) (accepts sig ts) ≡ true → IsFormula (held_tokens hs ++ t ∷ ts)
   want_one n hs stack nodes names t ts (classes.Truth which) have want few fit held class h =
       primary_then n hs stack (t ∷ ts) have (omega (arith, few)) fit held
@@ -231,14 +231,14 @@ module _ (sig : List PredOf) where
   -- ---- all tokens
 
   have_all : (n : ℕ) → ((m : ℕ) → n ≡ suc m → HaveLater sig m × WantLater sig m) → HaveLater sig n
-  unfolding HaveLater accepts move_of
+  unfolding HaveLater accepts transition
   have_all n later hs stack tree [] few fit held operand b = at_end hs stack tree fit held operand b
   have_all zero later hs stack tree (t ∷ ts) few fit held operand b = absurd (omega (arith, few))
   have_all (suc n) later hs stack tree (t ∷ ts) few fit held operand b =
       have_one n hs stack tree b.form b.nodes b.names t ts (class_of t) (later n refl).0 (later n refl).1 (omega (arith, few)) fit held operand refl b.accepted
 
   want_all : (n : ℕ) → ((m : ℕ) → n ≡ suc m → HaveLater sig m × WantLater sig m) → WantLater sig n
-  unfolding WantLater accepts move_of
+  unfolding WantLater accepts transition
   want_all n later hs [] few fit w = refused w.accepted _
   want_all zero later hs (t ∷ ts) few fit w = absurd (omega (arith, few))
   want_all (suc n) later hs (t ∷ ts) few fit w =

@@ -11,9 +11,8 @@ use Rattle.mfotl_parse.specs.declared.class.Operator.TheVariants.{And, Or, Impli
 use Rattle.mfotl_parse.specs.declared.class.Quantifier.{Quantifier}
 use Rattle.mfotl_parse.specs.declared.class.Temporal.{Temporal}
 use Rattle.mfotl_parse.specs.Classes.{class_of}
-use Rattle.mfotl_parse.specs.Grammar.{WrittenVariables, LastVariable, MoreVariables, WrittenInterval, Tree, Denied, Timed, Quantified, Joined, variables_spelling, interval_spelling, spelling, FitsVariables, FitsInterval, FitsOperator, left_rule, is_shut, Fits}
-use Rattle.mfotl_parse.specs.Operands.{is_timed}
-use Rattle.mfotl_parse.specs.Reduction.{reduce, hold, closed, level, right_rule}
+use Rattle.mfotl_parse.specs.Grammar.{WrittenVariables, LastVariable, MoreVariables, WrittenInterval, Tree, Denied, Timed, Quantified, Joined, variables_spelling, interval_spelling, spelling, FitsVariables, FitsInterval, FitsOperator, left_precedence, is_shut, Fits, precedence, right_precedence, is_timed}
+use Rattle.mfotl_parse.specs.Reduction.{reduce, hold, closed}
 use Rattle.mfotl_parse.specs.States.{Frame}
 use Rattle.mfotl_parse.proofs.AcceptedIntervals.{push_ones}
 
@@ -42,7 +41,7 @@ push_hold (HeldParens opening) holds = 0 ∷ holds
 push_hold (HeldNot token) holds = 6 ∷ holds
 push_hold (HeldTimed token operator interval) holds = 6 ∷ holds
 push_hold (HeldBound token quantifier variables dot) holds = push_ones variables holds
-push_hold (HeldLeft left token operator interval) holds = right_rule operator ∷ holds
+push_hold (HeldLeft left token operator interval) holds = right_precedence operator ∷ holds
 
 abbrev pub holds_of : List Held → List ℕ
 holds_of [] = []
@@ -54,7 +53,7 @@ FitsHeld (HeldNot token) = class_of token ≡ classes.Not
 FitsHeld (HeldTimed token operator interval) = (class_of token ≡ classes.Temporal operator) × FitsInterval interval
 FitsHeld (HeldBound token quantifier variables dot) = (class_of token ≡ classes.Quantifier quantifier) × FitsVariables variables × (class_of dot ≡ classes.Dot)
 FitsHeld (HeldLeft left token operator interval) =
-    Fits (left_rule operator) left × (is_shut left ≡ true) × (class_of token ≡ classes.Operator operator) × FitsOperator (is_timed operator) interval
+    Fits (left_precedence operator) left × (is_shut left ≡ true) × (class_of token ≡ classes.Operator operator) × FitsOperator (is_timed operator) interval
 
 -- the rule of the operand that is wanted
 abbrev pub wanted : List Held → ℕ
@@ -63,10 +62,10 @@ wanted (HeldParens opening ∷ hs) = 1
 wanted (HeldNot token ∷ hs) = 6
 wanted (HeldTimed token operator interval ∷ hs) = 6
 wanted (HeldBound token quantifier variables dot ∷ hs) = 1
-wanted (HeldLeft left token operator interval ∷ hs) = right_rule operator
+wanted (HeldLeft left token operator interval ∷ hs) = right_precedence operator
 
 abbrev pub FitsBelow : Held → List Held → Type 0
-FitsBelow (HeldLeft left token operator interval) hs = wanted hs ≤ level operator
+FitsBelow (HeldLeft left token operator interval) hs = wanted hs ≤ precedence operator
 FitsBelow _ hs = Unit {0}
 
 abbrev pub FitAll : List Held → Type 0
@@ -109,32 +108,32 @@ remain_ones rule vs ns h =
 
 -- ---- the rules of operators
 
-pub level_least : (o : Operator) → 1 ≤ level o
+pub level_least : (o : Operator) → 1 ≤ precedence o
 level_least Equiv = omega arith
 level_least o = omega arith
 
-pub level_most : (o : Operator) → level o ≤ 5
+pub level_most : (o : Operator) → precedence o ≤ 5
 level_most Equiv = omega arith
 level_most o = omega arith
 
-tight_two : (o : Operator) → 3 ≤ right_rule o → 3 ≤ level o
+tight_two : (o : Operator) → 3 ≤ right_precedence o → 3 ≤ precedence o
 tight_two Equiv h = omega (arith, h)
 tight_two o h = omega (arith, h)
 
-tight_four : (o : Operator) → 5 ≤ right_rule o → 4 ≤ level o
+tight_four : (o : Operator) → 5 ≤ right_precedence o → 4 ≤ precedence o
 tight_four Equiv h = omega (arith, h)
 tight_four o h = omega (arith, h)
 
-right_most : (o : Operator) → right_rule o ≤ 5
+right_most : (o : Operator) → right_precedence o ≤ 5
 right_most Equiv = omega arith
 right_most o = omega arith
 
-pub right_least : (o : Operator) → 1 ≤ right_rule o
+pub right_least : (o : Operator) → 1 ≤ right_precedence o
 right_least Equiv = omega arith
 right_least o = omega arith
 
 -- what an operator closes may stand left of it
-closes_left : (p o : Operator) → level p < right_rule o → left_rule p ≤ level o
+closes_left : (p o : Operator) → precedence p < right_precedence o → left_precedence p ≤ precedence o
 closes_left Equiv o h = level_least o
 closes_left Implies o h = tight_two o (omega (arith, h))
 closes_left Or o h = tight_two o (omega (arith, h))
@@ -150,14 +149,14 @@ pub record Closed (rule : ℕ) (hs : List Held) (tree : Tree) : Type 0 where
   pub around : List Held
   pub fit_all : FitAll around
   pub fits : Fits (wanted around) whole
-  pub left : (o : Operator) → level o ≡ rule → Fits (left_rule o) whole
+  pub left : (o : Operator) → precedence o ≡ rule → Fits (left_precedence o) whole
   pub shut : 1 ≤ rule → is_shut whole ≡ true
   pub tokens : held_tokens hs ++ spelling tree ≡ held_tokens around ++ spelling whole
   pub holds : drop_tight rule (holds_of hs) ≡ holds_of around
   pub loose : wanted around ≤ rule ⊎ (rule ≡ 0)
 
 module _ (rule : ℕ) (below_six : rule < 6) where
-  stays : (hs : List Held) (tree : Tree) → FitAll hs → Fits (wanted hs) tree → ((o : Operator) → level o ≡ rule → Fits (left_rule o) tree) → (1 ≤ rule → is_shut tree ≡ true)
+  stays : (hs : List Held) (tree : Tree) → FitAll hs → Fits (wanted hs) tree → ((o : Operator) → precedence o ≡ rule → Fits (left_precedence o) tree) → (1 ≤ rule → is_shut tree ≡ true)
       → drop_tight rule (holds_of hs) ≡ holds_of hs → wanted hs ≤ rule ⊎ (rule ≡ 0) → Closed rule hs tree
   stays hs tree fit fits left shut same loose =
       record { whole = tree; around = hs; fit_all = fit; fits = fits; left = left; shut = shut; tokens = refl; holds = same; loose = loose }
@@ -170,7 +169,7 @@ module _ (rule : ℕ) (below_six : rule < 6) where
   one_or_zero : 1 ≤ rule ⊎ (rule ≡ 0)
   one_or_zero = elim (cases_lt rule 1) [ inl none ↦ inr (omega (arith, none)) | inr some ↦ inl some ]
 
-  pub close : (hs : List Held) (tree : Tree) → FitAll hs → Fits (wanted hs) tree → ((o : Operator) → level o ≡ rule → Fits (left_rule o) tree) → (1 ≤ rule → is_shut tree ≡ true) → Closed rule hs tree
+  pub close : (hs : List Held) (tree : Tree) → FitAll hs → Fits (wanted hs) tree → ((o : Operator) → precedence o ≡ rule → Fits (left_precedence o) tree) → (1 ≤ rule → is_shut tree ≡ true) → Closed rule hs tree
   close [] tree fit fits left shut = stays [] tree fit fits left shut refl one_or_zero
   close (HeldParens opening ∷ hs) tree fit fits left shut =
       stays (HeldParens opening ∷ hs) tree fit fits left shut (remains rule 0 (holds_of hs) (omega arith)) one_or_zero
@@ -191,13 +190,13 @@ module _ (rule : ℕ) (below_six : rule < 6) where
             (close hs (Quantified token quantifier variables dot tree) fit.2 (fit.0.0, fit.0.1, fit.0.2, fits) (λ o e. (fit.0.0, fit.0.1, fit.0.2, fits)) (λ some. absurd (omega (arith, some, none))))
       ]
   close (HeldLeft l token operator interval ∷ hs) tree fit fits left shut =
-      elim (cases_lt rule (right_rule operator)) [
+      elim (cases_lt rule (right_precedence operator)) [
         | inl tight ↦
             closes (HeldLeft l token operator interval) hs tree (Joined l token operator interval tree)
             (append_assoc (held_tokens hs) (spelling l ++ token ∷ interval_spelling interval) (spelling tree)
             ∙ ap (λ (ts : List Lexeme). held_tokens hs ++ ts) (append_assoc (spelling l) (token ∷ interval_spelling interval) (spelling tree)))
-            (drops rule (right_rule operator) (holds_of hs) tight)
+            (drops rule (right_precedence operator) (holds_of hs) tight)
             (close hs (Joined l token operator interval tree) fit.2 (fit.1, fit.0.0, fit.0.1, fit.0.2, fit.0.3, fits)
             (λ o e. (closes_left o operator (omega (arith, e, tight)), fit.0.0, fit.0.1, fit.0.2, fit.0.3, fits)) shut)
-        | inr loose ↦ stays (HeldLeft l token operator interval ∷ hs) tree fit fits left shut (remains rule (right_rule operator) (holds_of hs) loose) (inl loose)
+        | inr loose ↦ stays (HeldLeft l token operator interval ∷ hs) tree fit fits left shut (remains rule (right_precedence operator) (holds_of hs) loose) (inl loose)
       ]

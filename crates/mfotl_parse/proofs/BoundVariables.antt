@@ -16,19 +16,20 @@ use Rattle.mfotl_parse.specs.declared.class.Quantifier.{Quantifier}
 use Rattle.mfotl_parse.specs.Arguments.{call_of, due, after_due, blanks}
 use Rattle.mfotl_parse.specs.Grammar.{WrittenTerm, Named, Number, Quoted, WrittenArgument, Given, Hidden, WrittenArguments, LastArgument, MoreArguments, WrittenVariables, LastVariable, MoreVariables, Tree, Truth, BareAtom, AtomOf, Comparison, Enclosed, Denied, Timed, Quantified, Joined}
 use Rattle.mfotl_parse.specs.Meanings.{Scope, no_scope, inside, name_of, place_of_variable, place_of, operand_of, term_names, argument_term, argument_names, arguments_terms, arguments_names, atom, variables_names, variables_scope, quantify, interval_of, names_behind, value}
-use Rattle.mfotl_parse.specs.Names.{most_free, number_of, free_place, free_or_new, with_free, bound_or_free, met, bound_more, inner_or, placed, term_of}
+use Rattle.mfotl_parse.specs.SymbolTable.{number_of, free_place, free_or_new, with_free, bound_or_free, met, bound_more, inner_or, constrain_term, term_of}
 use Rattle.mfotl_parse.specs.Operands.{truth}
-use Rattle.mfotl_parse.specs.States.{Names}
+use Rattle.mfotl_parse.specs.States.{SymbolTable}
+use Rattle.mfotl_parse.specs.Limits.{max_free}
 use Rattle.mfotl_parse.proofs.NamesOrder.{Grows, placed_grows, term_grows, argument_grows, arguments_grow, tree_grows, sides_grow, found_within}
 use Rattle.mfotl_parse.proofs.VariableOrder.{is_free, free_in, fewer, last_only, truth_order, one_order, moment_order, joined_order}
 
-module _ (y : ℕ) (above : most_free ≤ y) where
+module _ (y : ℕ) (above : max_free ≤ y) where
   -- a bound variable that a name stands for
   record InScope (scope : Scope) : Type 0 where
     name : List ℕ
     number : ℕ
     bound : scope name ≡ Some number
-    is : y ≡ most_free + number
+    is : y ≡ max_free + number
 
   Occurs : List ℕ → Type 0
   Occurs xs = among y xs ≡ true
@@ -36,16 +37,16 @@ module _ (y : ℕ) (above : most_free ≤ y) where
   only : (x : ℕ) → (nat_eq y x || false) ≡ true → y ≡ x
   only x e = elim (or_cases (nat_eq y x) false e) [ inl here ↦ eqb-true y x here | inr none ↦ absurd cc ]
 
-  name_escapes : (name : List ℕ) (at : ℕ) (n : Names) (bound : Option ℕ) → length (met bound name at n).free ≤ most_free → y ≡ number_of (bound_or_free bound name n)
-      → (k : ℕ) × (bound ≡ Some k) × (y ≡ most_free + k)
+  name_escapes : (name : List ℕ) (at : ℕ) (n : SymbolTable) (bound : Option ℕ) → length (met bound name at n).free ≤ max_free → y ≡ number_of (bound_or_free bound name n)
+      → (k : ℕ) × (bound ≡ Some k) × (y ≡ max_free + k)
   name_escapes name at n (Some k) few e = (k, refl, e)
   name_escapes name at n None few e = absurd (by_place (free_place name n) refl few e)
     where
-      by_place : (place : Option ℕ) → free_place name n ≡ place → length (with_free place name at n).free ≤ most_free → y ≡ number_of (free_or_new place n) → ⊥
+      by_place : (place : Option ℕ) → free_place name n ≡ place → length (with_free place name at n).free ≤ max_free → y ≡ number_of (free_or_new place n) → ⊥
       by_place (Some place) f below g = omega (arith, found_within name n place f, below, g, above)
       by_place None f below g = omega (arith, length-append n.free ((name, at) ∷ []), below, g, above)
 
-  term_escapes : (t : WrittenTerm) (scope : Scope) (n : Names) → length (term_names t scope n).free ≤ most_free → Occurs (variable_in (term_of (operand_of t scope n))) → InScope scope
+  term_escapes : (t : WrittenTerm) (scope : Scope) (n : SymbolTable) → length (term_names t scope n).free ≤ max_free → Occurs (variable_in (term_of (operand_of t scope n))) → InScope scope
   unfolding Occurs
   term_escapes (Named v) scope n few e =
       let k = name_escapes (name_of v) (place_of_variable v) n (scope (name_of v)) few (only (number_of (bound_or_free (scope (name_of v)) (name_of v) n)) e) in
@@ -55,21 +56,21 @@ module _ (y : ℕ) (above : most_free ≤ y) where
 
   -- a variable of a `_` between these
   Blank : ℕ → ℕ → Type 0
-  Blank from to = (k : ℕ) × (from ≤ k) × (k < to) × (y ≡ most_free + k)
+  Blank from to = (k : ℕ) × (from ≤ k) × (k < to) × (y ≡ max_free + k)
 
-  argument_escapes : (a : WrittenArgument) (sort : Sort) (scope : Scope) (n : Names) → length (argument_names a sort scope n).free ≤ most_free → Occurs (variable_in (argument_term a scope n))
+  argument_escapes : (a : WrittenArgument) (sort : Sort) (scope : Scope) (n : SymbolTable) → length (argument_names a sort scope n).free ≤ max_free → Occurs (variable_in (argument_term a scope n))
       → InScope scope ⊎ Blank (length n.bound_sorts) (length (argument_names a sort scope n).bound_sorts)
   unfolding Occurs Blank
   argument_escapes (Given t) sort scope n few e =
       inl (term_escapes t scope n (fewer (term_names t scope n) _ (placed_grows (operand_of t scope n) (place_of t) sort (term_names t scope n)) few) e)
   argument_escapes (Hidden token) sort scope n few e =
-      inr (length n.bound_sorts, omega arith, omega (arith, length-append n.bound_sorts (Some sort ∷ [])), only (most_free + length n.bound_sorts) e)
+      inr (length n.bound_sorts, omega arith, omega (arith, length-append n.bound_sorts (Some sort ∷ [])), only (max_free + length n.bound_sorts) e)
 
   wider : (from to from' to' : ℕ) → from' ≤ from → to ≤ to' → Blank from to → Blank from' to'
   unfolding Blank
   wider from to from' to' h k b = (b.0, omega (arith, b.1, h), omega (arith, b.2, k), b.3)
 
-  arguments_escape : (xs : WrittenArguments) (places : List Sort) (scope : Scope) (n : Names) → length (arguments_names xs places scope n).free ≤ most_free → Occurs (variables_in (arguments_terms xs places scope n))
+  arguments_escape : (xs : WrittenArguments) (places : List Sort) (scope : Scope) (n : SymbolTable) → length (arguments_names xs places scope n).free ≤ max_free → Occurs (variables_in (arguments_terms xs places scope n))
       → InScope scope ⊎ Blank (length n.bound_sorts) (length (arguments_names xs places scope n).bound_sorts)
   unfolding Occurs
   arguments_escape (LastArgument a) places scope n few e =
@@ -103,11 +104,11 @@ module _ (y : ℕ) (above : most_free ≤ y) where
       let parts = and_parts (not (nat_eq y x)) (among y xs) (sym (among_without y x xs) ∙ e) in
       (λ same. not_same x (nat_eq y x) refl parts.0 same, parts.1)
 
-  blanks_escape : (count first : ℕ) (f : Form) → Occurs (fv (blanks count first f)) → Occurs (fv f) × ((k : ℕ) → first ≤ k → k < first + count → y ≡ most_free + k → ⊥)
+  blanks_escape : (count first : ℕ) (f : Form) → Occurs (fv (blanks count first f)) → Occurs (fv f) × ((k : ℕ) → first ≤ k → k < first + count → y ≡ max_free + k → ⊥)
   unfolding fv
   blanks_escape zero first f e = (e, λ k h l same. omega (arith, h, l))
   blanks_escape (suc count) first f e =
-      let outer = without_escapes (most_free + first) (fv (blanks count (suc first) f)) e in
+      let outer = without_escapes (max_free + first) (fv (blanks count (suc first) f)) e in
       let inner = blanks_escape count (suc first) f outer.1 in
       (inner.0, λ k h l same. elim (later_or_here first k h) [ inl past ↦ inner.1 k past (omega (arith, l)) same | inr is ↦ outer.0 (omega (arith, is, same)) ])
     where
@@ -124,26 +125,26 @@ module _ (y : ℕ) (above : most_free ≤ y) where
       elim (inside parts.0) [ inl s ↦ s | inr b ↦ absurd (parts.1 b.0 b.1 (omega (arith, b.1, b.2)) b.3) ]
 
   -- inside a quantifier only its variable is more
-  scope_one : (name : List ℕ) (k : ℕ) (scope : Scope) → (y ≡ most_free + k → ⊥) → InScope (inside name k scope) → InScope scope
+  scope_one : (name : List ℕ) (k : ℕ) (scope : Scope) → (y ≡ max_free + k → ⊥) → InScope (inside name k scope) → InScope scope
   scope_one bound k scope other s = by_test (bytes_eq s.name bound) s.bound
     where
       by_test : (b : Bool) → inner_or (cond b (Some k) None) (scope s.name) ≡ Some s.number → InScope scope
       by_test true e = let same : k ≡ s.number = cc in absurd (other (omega (arith, s.is, same)))
       by_test false e = record { name = s.name; number = s.number; bound = e; is = s.is }
 
-  quantify_escapes : (q : Quantifier) (vs : WrittenVariables) (n : Names) (scope : Scope) (f : Form) → (Occurs (fv f) → InScope (variables_scope vs n scope)) → Occurs (fv (quantify q vs n f)) → InScope scope
+  quantify_escapes : (q : Quantifier) (vs : WrittenVariables) (n : SymbolTable) (scope : Scope) (f : Form) → (Occurs (fv f) → InScope (variables_scope vs n scope)) → Occurs (fv (quantify q vs n f)) → InScope scope
   unfolding Occurs
   quantify_escapes q (LastVariable v) n scope f inside e =
       let k = length n.bound_sorts in
-      let parts = without_escapes (most_free + k) (fv f) (sym (ap (λ (xs : List ℕ). among y xs) (one_order q k (name_of v) f)) ∙ e) in
+      let parts = without_escapes (max_free + k) (fv f) (sym (ap (λ (xs : List ℕ). among y xs) (one_order q k (name_of v) f)) ∙ e) in
       scope_one (name_of v) k scope parts.0 (inside parts.1)
   quantify_escapes q (MoreVariables v comma rest) n scope f inner e =
       let k = length n.bound_sorts in
       let body = quantify q rest (bound_more None n) f in
-      let parts = without_escapes (most_free + k) (fv body) (sym (ap (λ (xs : List ℕ). among y xs) (one_order q k (name_of v) body)) ∙ e) in
+      let parts = without_escapes (max_free + k) (fv body) (sym (ap (λ (xs : List ℕ). among y xs) (one_order q k (name_of v) body)) ∙ e) in
       scope_one (name_of v) k scope parts.0 (quantify_escapes q rest (bound_more None n) (inside (name_of v) k scope) f inner parts.1)
 
-  tree_escapes : (sig : List PredOf) (tree : Tree) (scope : Scope) (n : Names) → length (names_behind sig tree scope n).free ≤ most_free → Occurs (fv (value sig tree scope n)) → InScope scope
+  tree_escapes : (sig : List PredOf) (tree : Tree) (scope : Scope) (n : SymbolTable) → length (names_behind sig tree scope n).free ≤ max_free → Occurs (fv (value sig tree scope n)) → InScope scope
   unfolding Occurs fv
   tree_escapes sig (Truth token which) scope n few e = let none = sym (ap (λ (xs : List ℕ). among y xs) (truth_order which)) ∙ e in absurd cc
   tree_escapes sig (BareAtom name opening closing) scope n few e = atom_escapes (named name.text sig) [] (length n.bound_sorts) (length n.bound_sorts) scope (λ none. absurd cc) e
@@ -180,7 +181,7 @@ module _ (y : ℕ) (above : most_free ≤ y) where
         | inr there ↦ tree_escapes sig right scope between few there
       ]
 
-  pub none_escapes : (sig : List PredOf) (tree : Tree) (n : Names) → length (names_behind sig tree no_scope n).free ≤ most_free → among y (fv (value sig tree no_scope n)) ≡ true → ⊥
+  pub none_escapes : (sig : List PredOf) (tree : Tree) (n : SymbolTable) → length (names_behind sig tree no_scope n).free ≤ max_free → among y (fv (value sig tree no_scope n)) ≡ true → ⊥
   unfolding Occurs
   none_escapes sig tree n few e = let s = tree_escapes sig tree no_scope n few e in by_none s.bound
     where
@@ -203,8 +204,8 @@ all_free (x ∷ xs) each =
     there false c e = e
 
 -- all free variables of a whole policy are numbered as free ones
-pub only_free : (sig : List PredOf) (tree : Tree) (n : Names) → length (names_behind sig tree no_scope n).free ≤ most_free → free_in (fv (value sig tree no_scope n)) ≡ fv (value sig tree no_scope n)
+pub only_free : (sig : List PredOf) (tree : Tree) (n : SymbolTable) → length (names_behind sig tree no_scope n).free ≤ max_free → free_in (fv (value sig tree no_scope n)) ≡ fv (value sig tree no_scope n)
 only_free sig tree n few = all_free (fv (value sig tree no_scope n)) (λ y e. by_number y e)
   where
     by_number : (y : ℕ) → among y (fv (value sig tree no_scope n)) ≡ true → is_free y ≡ true
-    by_number y e = elim (cases_lt y most_free) [ inl below ↦ lt-ltb y most_free below | inr above ↦ absurd (none_escapes y above sig tree n few e) ]
+    by_number y e = elim (cases_lt y max_free) [ inl below ↦ lt-ltb y max_free below | inr above ↦ absurd (none_escapes y above sig tree n few e) ]

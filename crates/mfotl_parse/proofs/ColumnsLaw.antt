@@ -13,11 +13,12 @@ use Rattle.mfotl_sig.specs.Preds.{PredOf}
 use Rattle.mfotl_parse.specs.declared.fault.PolicyFault.{PolicyFault}
 use Rattle.mfotl_parse.specs.Grammar.{Tree}
 use Rattle.mfotl_parse.specs.Meanings.{no_scope, all_names, value, KeepsRules, IsValue, policy_of}
-use Rattle.mfotl_parse.specs.Names.{most_free, given_at, sort_or_int, vars_of}
+use Rattle.mfotl_parse.specs.SymbolTable.{given_at, sort_or_int, vars_of}
 use Rattle.mfotl_parse.specs.Reading.{PolicyOf, reading}
-use Rattle.mfotl_parse.specs.States.{Names, no_names}
+use Rattle.mfotl_parse.specs.States.{SymbolTable, no_names}
 use Rattle.mfotl_parse.specs.Views.{policy_of as policy_seen, Gives}
 use Rattle.mfotl_parse.specs.WellSorted.{sort_or_integer, IsWellSorted}
+use Rattle.mfotl_parse.specs.Limits.{max_free}
 use Rattle.mfotl_parse.proofs.BoundVariables.{only_free}
 use Rattle.mfotl_parse.proofs.LimitLemmas.{length_vars_of}
 use Rattle.mfotl_parse.proofs.NamesOrder.{grows_not, tree_grows}
@@ -46,7 +47,7 @@ columns_from given from (known ∷ free) (sort ∷ sorts) sized each =
     next k = omega arith
 
 module _ (sig : List PredOf) (tree : Tree) (rules : KeepsRules sig tree) where
-  abbrev last : Names
+  abbrev last : SymbolTable
   last = all_names sig tree
 
   free_is : fv (value sig tree no_scope no_names) ≡ range_with_len 0 (length (vars_of last.free last.free_sorts))
@@ -64,10 +65,10 @@ module _ (sig : List PredOf) (tree : Tree) (rules : KeepsRules sig tree) where
       zero_more : (k : ℕ) → 0 + k ≡ k
       zero_more k = omega arith
 
-      low : (k : ℕ) → k < most_free → given_by last (0 + k) ≡ given_at (slice_get last.free_sorts k)
+      low : (k : ℕ) → k < max_free → given_by last (0 + k) ≡ given_at (slice_get last.free_sorts k)
       low k below =
           ap (given_by last) (zero_more k)
-          ∙ ap (λ (b : Bool). cond b (given_at (slice_get last.free_sorts k)) (given_at (slice_get last.bound_sorts (k - most_free)))) (lt-ltb k most_free below)
+          ∙ ap (λ (b : Bool). cond b (given_at (slice_get last.free_sorts k)) (given_at (slice_get last.bound_sorts (k - max_free)))) (lt-ltb k max_free below)
 
   none_open : (name : List ℕ) (k : ℕ) → no_scope name ≡ Some k → k < length (no_names).bound_sorts
   none_open name k e = absurd cc

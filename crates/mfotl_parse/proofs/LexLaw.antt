@@ -11,11 +11,12 @@ use Rattle.mfotl_parse.specs.declared.fault.PolicyFault.TheVariants.{Lex}
 use Rattle.mfotl_parse.specs.declared.term.Pair.{Pair}
 use Rattle.mfotl_parse.specs.GrammarLaws.{IsFirstFault, IsSilent, ExactLex}
 use Rattle.mfotl_parse.specs.Meanings.{tokens_of}
-use Rattle.mfotl_parse.specs.Moves.{Limit, Empty, Range, Unknown, Arity, Deep, Nodes, Rule, Move, fault_of, kept, given}
-use Rattle.mfotl_parse.specs.Names.{most_free, uneven_pair, vars_of}
-use Rattle.mfotl_parse.specs.Reading.{PolicyOf, move_of, step, run, sorted, ended, ended_at, at_end, is_closed, reading}
+use Rattle.mfotl_parse.specs.Transitions.{Limit, Empty, Range, Unknown, Arity, Deep, Nodes, Rule, Transition, fault_of, kept, given}
+use Rattle.mfotl_parse.specs.SymbolTable.{uneven_pair, vars_of}
+use Rattle.mfotl_parse.specs.Reading.{PolicyOf, transition, step, run, sorted, ended, ended_at, at_end, is_closed, reading}
 use Rattle.mfotl_parse.specs.Reduction.{reduce}
-use Rattle.mfotl_parse.specs.States.{Names, Now, Context, Partial, Have, start}
+use Rattle.mfotl_parse.specs.States.{SymbolTable, Stage, Context, Partial, AfterOperand, start}
+use Rattle.mfotl_parse.specs.Limits.{max_free}
 use Rattle.mfotl_parse.proofs.SilentLaw.{are_read, are_silent}
 use Rattle.mfotl_parse.proofs.SyntaxLaw.{Stopped, Ended, shown, run_behind}
 
@@ -36,13 +37,13 @@ never_kept (rule ∷ rules) next fault e = by_broken rule.broken (never_kept rul
     by_broken true later f = let same : fault_of rule.limit rule.at ≡ Lex fault = cc in no_lexical rule.limit rule.at fault same
     by_broken false later f = later f
 
-never_given : (at : ℕ) (m : Option Move) (fault : LexFault) → given at m ≡ Err (Lex fault) → ⊥
+never_given : (at : ℕ) (m : Option Transition) (fault : LexFault) → given at m ≡ Err (Lex fault) → ⊥
 never_given at None fault e = absurd cc
 never_given at (Some m) fault e = never_kept m.rules m.next fault e
 
 never_step : (sig : List PredOf) (p : Partial) (t : Lexeme) (fault : LexFault) → step sig p t ≡ Err (Lex fault) → ⊥
 unfolding step
-never_step sig p t fault e = never_given t.at (move_of sig p t) fault e
+never_step sig p t fault e = never_given t.at (transition sig p t) fault e
 
 never_sorted : (clash : Option ℕ) (uneven : Option Pair) (ninth : Option (List ℕ × ℕ)) (policy : PolicyOf) (fault : LexFault) → sorted clash uneven ninth policy ≡ Err (Lex fault) → ⊥
 never_sorted (Some place) uneven ninth policy fault e = absurd cc
@@ -50,12 +51,12 @@ never_sorted None (Some pair) ninth policy fault e = absurd cc
 never_sorted None None (Some known) policy fault e = absurd cc
 never_sorted None None None policy fault e = absurd cc
 
-never_ended : (n : Names) (f : Form) (closed : Bool) (end : ℕ) (fault : LexFault) → ended n f closed end ≡ Err (Lex fault) → ⊥
-never_ended n f true end fault e = never_sorted n.clash (uneven_pair n) (slice_get n.free most_free) (record { formula = f; vars = vars_of n.free n.free_sorts }) fault e
+never_ended : (n : SymbolTable) (f : Form) (closed : Bool) (end : ℕ) (fault : LexFault) → ended n f closed end ≡ Err (Lex fault) → ⊥
+never_ended n f true end fault e = never_sorted n.clash (uneven_pair n) (slice_get n.free max_free) (record { formula = f; vars = vars_of n.free n.free_sorts }) fault e
 never_ended n f false end fault e = absurd cc
 
-never_at : (now : Now) (c : Context) (end : ℕ) (fault : LexFault) → ended_at now c end ≡ Err (Lex fault) → ⊥
-never_at (Have f) c end fault e = never_ended c.names (reduce 0 f c.stack).form (is_closed (reduce 0 f c.stack).stack) end fault e
+never_at : (now : Stage) (c : Context) (end : ℕ) (fault : LexFault) → ended_at now c end ≡ Err (Lex fault) → ⊥
+never_at (AfterOperand f) c end fault e = never_ended c.names (reduce 0 f c.stack).form (is_closed (reduce 0 f c.stack).stack) end fault e
 never_at _ c end fault e = absurd cc
 
 told : (lexical : Option LexFault) (end : ℕ) (p : Partial) (fault : LexFault) → at_end lexical end p ≡ Err (Lex fault) → lexical ≡ Some fault

@@ -8,7 +8,7 @@ use Rattle.std.proofs.lemmas.List.{length-map, map-append, drop_all}
 use Rattle.mfotl_model.specs.declared.policy.Sort.{Sort}
 use Rattle.mfotl_model.specs.declared.policy.Sort.TheVariants as sorts
 use Rattle.mfotl_model.specs.declared.policy.Var.{Var}
-use Rattle.mfotl_parse.specs.Names.{given_at, sort_or_int, var_of, vars_of}
+use Rattle.mfotl_parse.specs.SymbolTable.{given_at, sort_or_int, var_of, vars_of}
 use Rattle.mfotl_parse.specs.Views.{known_of}
 
 prefix_len_map : {A B : Type 0} (p : B → Bool) (f : A → B) (xs : List A) → prefix_len p (map f xs) ≡ prefix_len (λ x. p (f x)) xs

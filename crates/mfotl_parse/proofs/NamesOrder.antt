@@ -16,11 +16,11 @@ use Rattle.mfotl_parse.specs.declared.term.Variable.TheVariants as variables
 use Rattle.mfotl_parse.specs.Arguments.{call_of, due, after_due}
 use Rattle.mfotl_parse.specs.Grammar.{WrittenTerm, Named, Number, Quoted, WrittenArgument, Given, Hidden, WrittenArguments, LastArgument, MoreArguments, WrittenVariables, LastVariable, MoreVariables, Tree, Truth, BareAtom, AtomOf, Comparison, Enclosed, Denied, Timed, Quantified, Joined}
 use Rattle.mfotl_parse.specs.Meanings.{Scope, name_of, place_of_variable, place_of, operand_of, term_names, argument_names, arguments_names, variables_names, variables_scope, names_behind}
-use Rattle.mfotl_parse.specs.Names.{free_place, bound_or_free, free_or_new, with_free, met, bound_more, given_at, sort_of, with_sort, same_sort, first_of, clashed, agreed, occurred, occurs, sort_of_value, placed, compared}
-use Rattle.mfotl_parse.specs.States.{Names}
+use Rattle.mfotl_parse.specs.SymbolTable.{free_place, bound_or_free, free_or_new, with_free, met, bound_more, given_at, sort_of, with_sort, same_sort, first_of, clashed, agreed, occurred, require_sort, sort_of_value, constrain_term, compared}
+use Rattle.mfotl_parse.specs.States.{SymbolTable}
 
 -- these names came to be those: what was given stays, and what was met
-pub record Grows (n m : Names) : Type 0 where
+pub record Grows (n m : SymbolTable) : Type 0 where
   pub sorts : (v : Variable) (s : Sort) → sort_of v n ≡ Some s → sort_of v m ≡ Some s
   pub clash : m.clash ≡ None → n.clash ≡ None
   pub free : length n.free ≤ length m.free
@@ -30,7 +30,7 @@ pub record Grows (n m : Names) : Type 0 where
   -- each free variable keeps a place for its sort
   pub sized : length n.free_sorts ≡ length n.free → length m.free_sorts ≡ length m.free
 
-pub grows_not : (n : Names) → Grows n n
+pub grows_not : (n : SymbolTable) → Grows n n
 grows_not n = record {
   sorts = λ v s e. e;
   clash = λ e. e;
@@ -41,7 +41,7 @@ grows_not n = record {
   sized = λ e. e;
 }
 
-pub grows_then : (n m k : Names) → Grows n m → Grows m k → Grows n k
+pub grows_then : (n m k : SymbolTable) → Grows n m → Grows m k → Grows n k
 grows_then n m k g h = record {
   sorts = λ v s e. h.sorts v s (g.sorts v s e);
   clash = λ e. g.clash (h.clash e);
@@ -77,7 +77,7 @@ given_last (y ∷ xs) s = given_last xs s
 
 -- ---- each step
 
-met_grows : (bound : Option ℕ) (name : List ℕ) (at : ℕ) (n : Names) → Grows n (met bound name at n)
+met_grows : (bound : Option ℕ) (name : List ℕ) (at : ℕ) (n : SymbolTable) → Grows n (met bound name at n)
 met_grows (Some variable) name at n = grows_not n
 met_grows None name at n = by_place (free_place name n)
   where
@@ -97,7 +97,7 @@ met_grows None name at n = by_place (free_place name n)
       sized = λ e. omega (arith, e, length-append n.free ((name, at) ∷ []), length-append n.free_sorts (None ∷ []));
     }
 
-pub bound_grows : (sort : Option Sort) (n : Names) → Grows n (bound_more sort n)
+pub bound_grows : (sort : Option Sort) (n : SymbolTable) → Grows n (bound_more sort n)
 bound_grows sort n = record {
   sorts = λ v s e. by_variable v s e;
   clash = λ e. e;
@@ -112,7 +112,7 @@ bound_grows sort n = record {
     by_variable (variables.Free k) s e = e
     by_variable (variables.Bound k) s e = given_more n.bound_sorts sort k s e
 
-sort_grows : (v : Variable) (sort : Sort) (n : Names) → sort_of v n ≡ None → Grows n (with_sort v sort n)
+sort_grows : (v : Variable) (sort : Sort) (n : SymbolTable) → sort_of v n ≡ None → Grows n (with_sort v sort n)
 sort_grows (variables.Free k) sort n none = record {
   sorts = λ v s e. by_variable v s e;
   clash = λ e. e;
@@ -144,7 +144,7 @@ never_first : (before : Option ℕ) (at : ℕ) → first_of before at ≡ None �
 never_first (Some place) at e = absurd cc
 never_first None at e = absurd cc
 
-clash_grows : (at : ℕ) (n : Names) → Grows n (clashed at n)
+clash_grows : (at : ℕ) (n : SymbolTable) → Grows n (clashed at n)
 clash_grows at n = record {
   sorts = λ v s e. by_variable v s e;
   clash = λ e. absurd (never_first n.clash at e);
@@ -159,25 +159,25 @@ clash_grows at n = record {
     by_variable (variables.Free j) s e = e
     by_variable (variables.Bound j) s e = e
 
-agreed_grows : (before : Sort) (at : ℕ) (sort : Sort) (n : Names) → Grows n (agreed before at sort n)
+agreed_grows : (before : Sort) (at : ℕ) (sort : Sort) (n : SymbolTable) → Grows n (agreed before at sort n)
 agreed_grows before at sort n = by_same (same_sort before sort)
   where
     by_same : (b : Bool) → Grows n (cond b n (clashed at n))
     by_same true = grows_not n
     by_same false = clash_grows at n
 
-occurs_grows : (v : Variable) (at : ℕ) (sort : Sort) (n : Names) → Grows n (occurs v at sort n)
+occurs_grows : (v : Variable) (at : ℕ) (sort : Sort) (n : SymbolTable) → Grows n (require_sort v at sort n)
 occurs_grows v at sort n = by_given (sort_of v n) refl
   where
     by_given : (given : Option Sort) → sort_of v n ≡ given → Grows n (occurred given v at sort n)
     by_given None e = sort_grows v sort n e
     by_given (Some before) e = agreed_grows before at sort n
 
-pub placed_grows : (o : Operand) (at : ℕ) (sort : Sort) (n : Names) → Grows n (placed o at sort n)
+pub placed_grows : (o : Operand) (at : ℕ) (sort : Sort) (n : SymbolTable) → Grows n (constrain_term o at sort n)
 placed_grows (operands.Variable v) at sort n = occurs_grows v at sort n
 placed_grows (operands.Constant value) at sort n = agreed_grows (sort_of_value value) at sort n
 
-pair_grows : (pair : Pair) (n : Names) → Grows n (record n { pairs = n.pairs ++ pair ∷ [] })
+pair_grows : (pair : Pair) (n : SymbolTable) → Grows n (record n { pairs = n.pairs ++ pair ∷ [] })
 pair_grows pair n = record {
   sorts = λ v s e. by_variable v s e;
   clash = λ e. e;
@@ -192,7 +192,7 @@ pair_grows pair n = record {
     by_variable (variables.Free j) s e = e
     by_variable (variables.Bound j) s e = e
 
-pub compared_grows : (l : Operand) (left_at at : ℕ) (r : Operand) (right_at : ℕ) (n : Names) → Grows n (compared l left_at at r right_at n)
+pub compared_grows : (l : Operand) (left_at at : ℕ) (r : Operand) (right_at : ℕ) (n : SymbolTable) → Grows n (compared l left_at at r right_at n)
 compared_grows (operands.Variable v) left_at at (operands.Variable w) right_at n = pair_grows (record { at = at; left = v; right = w }) n
 compared_grows (operands.Variable v) left_at at (operands.Constant d) right_at n = occurs_grows v left_at (sort_of_value d) n
 compared_grows (operands.Constant c) left_at at (operands.Variable w) right_at n = occurs_grows w right_at (sort_of_value c) n
@@ -200,31 +200,31 @@ compared_grows (operands.Constant c) left_at at (operands.Constant d) right_at n
 
 -- ---- terms, arguments and formulas
 
-pub term_grows : (t : WrittenTerm) (scope : Scope) (n : Names) → Grows n (term_names t scope n)
+pub term_grows : (t : WrittenTerm) (scope : Scope) (n : SymbolTable) → Grows n (term_names t scope n)
 term_grows (Named v) scope n = met_grows (scope (name_of v)) (name_of v) (place_of_variable v) n
 term_grows (Number token z) scope n = grows_not n
 term_grows (Quoted token) scope n = grows_not n
 
-pub argument_grows : (a : WrittenArgument) (sort : Sort) (scope : Scope) (n : Names) → Grows n (argument_names a sort scope n)
+pub argument_grows : (a : WrittenArgument) (sort : Sort) (scope : Scope) (n : SymbolTable) → Grows n (argument_names a sort scope n)
 argument_grows (Given t) sort scope n =
     grows_then n (term_names t scope n) _ (term_grows t scope n) (placed_grows (operand_of t scope n) (place_of t) sort (term_names t scope n))
 argument_grows (Hidden token) sort scope n = bound_grows (Some sort) n
 
-pub arguments_grow : (xs : WrittenArguments) (places : List Sort) (scope : Scope) (n : Names) → Grows n (arguments_names xs places scope n)
+pub arguments_grow : (xs : WrittenArguments) (places : List Sort) (scope : Scope) (n : SymbolTable) → Grows n (arguments_names xs places scope n)
 arguments_grow (LastArgument a) places scope n = argument_grows a (due places) scope n
 arguments_grow (MoreArguments a comma rest) places scope n =
     let between = argument_names a (due places) scope n in
     grows_then n between _ (argument_grows a (due places) scope n) (arguments_grow rest (after_due places) scope between)
 
-pub variables_grow : (vs : WrittenVariables) (n : Names) → Grows n (variables_names vs n)
+pub variables_grow : (vs : WrittenVariables) (n : SymbolTable) → Grows n (variables_names vs n)
 variables_grow (LastVariable v) n = bound_grows None n
 variables_grow (MoreVariables v comma rest) n = grows_then n (bound_more None n) _ (bound_grows None n) (variables_grow rest (bound_more None n))
 
-pub sides_grow : (left right : WrittenTerm) (at : ℕ) (scope : Scope) (n : Names)
+pub sides_grow : (left right : WrittenTerm) (at : ℕ) (scope : Scope) (n : SymbolTable)
     → Grows (term_names right scope (term_names left scope n)) (compared (operand_of left scope n) (place_of left) at (operand_of right scope (term_names left scope n)) (place_of right) (term_names right scope (term_names left scope n)))
 sides_grow left right at scope n = compared_grows (operand_of left scope n) (place_of left) at (operand_of right scope (term_names left scope n)) (place_of right) (term_names right scope (term_names left scope n))
 
-pub tree_grows : (sig : List PredOf) (tree : Tree) (scope : Scope) (n : Names) → Grows n (names_behind sig tree scope n)
+pub tree_grows : (sig : List PredOf) (tree : Tree) (scope : Scope) (n : SymbolTable) → Grows n (names_behind sig tree scope n)
 tree_grows sig (Truth token which) scope n = grows_not n
 tree_grows sig (BareAtom name opening closing) scope n = grows_not n
 tree_grows sig (AtomOf name opening arguments closing) scope n = arguments_grow arguments (call_of (named name.text sig) 0).rest scope n
@@ -244,18 +244,18 @@ tree_grows sig (Joined left token operator interval right) scope n =
 -- ---- the variable that a name stands for
 
 -- the variable has a place for its sort
-abbrev pub HasPlace : Variable → Names → Type 0
+abbrev pub HasPlace : Variable → SymbolTable → Type 0
 HasPlace (variables.Free k) n = k < length n.free_sorts
 HasPlace (variables.Bound k) n = k < length n.bound_sorts
 
 -- a scope's variables were bound before
-abbrev pub Inside : Scope → Names → Type 0
+abbrev pub Inside : Scope → SymbolTable → Type 0
 Inside scope n = (name : List ℕ) (k : ℕ) → scope name ≡ Some k → k < length n.bound_sorts
 
-pub found_within : (name : List ℕ) (n : Names) (place : ℕ) → free_place name n ≡ Some place → place < length n.free
+pub found_within : (name : List ℕ) (n : SymbolTable) (place : ℕ) → free_place name n ≡ Some place → place < length n.free
 found_within name n place e = (position-Some (λ (known : List ℕ × ℕ). bytes_eq name known.0) n.free place ([], 0) e).0
 
-pub resolved_place : (name : List ℕ) (at : ℕ) (n : Names) (bound : Option ℕ) → ((k : ℕ) → bound ≡ Some k → k < length n.bound_sorts) → length n.free_sorts ≡ length n.free
+pub resolved_place : (name : List ℕ) (at : ℕ) (n : SymbolTable) (bound : Option ℕ) → ((k : ℕ) → bound ≡ Some k → k < length n.bound_sorts) → length n.free_sorts ≡ length n.free
     → HasPlace (bound_or_free bound name n) (met bound name at n)
 resolved_place name at n (Some k) inside sized = inside k refl
 resolved_place name at n None inside sized = by_place (free_place name n) refl
@@ -271,18 +271,18 @@ same_sorts sorts.Int sorts.Text e = absurd cc
 same_sorts sorts.Text sorts.Int e = absurd cc
 same_sorts sorts.Text sorts.Text e = refl
 
-pub agreed_sort : (before : Sort) (at : ℕ) (sort : Sort) (n : Names) → (agreed before at sort n).clash ≡ None → before ≡ sort
+pub agreed_sort : (before : Sort) (at : ℕ) (sort : Sort) (n : SymbolTable) → (agreed before at sort n).clash ≡ None → before ≡ sort
 agreed_sort before at sort n e = by_same (same_sort before sort) refl e
   where
     by_same : (b : Bool) → same_sort before sort ≡ b → (cond b n (clashed at n)).clash ≡ None → before ≡ sort
     by_same true is f = same_sorts before sort is
     by_same false is f = absurd (never_first n.clash at f)
 
-sort_there : (v : Variable) (sort : Sort) (n : Names) → HasPlace v n → sort_of v (with_sort v sort n) ≡ Some sort
+sort_there : (v : Variable) (sort : Sort) (n : SymbolTable) → HasPlace v n → sort_of v (with_sort v sort n) ≡ Some sort
 sort_there (variables.Free k) sort n within = given_there n.free_sorts k sort within
 sort_there (variables.Bound k) sort n within = given_there n.bound_sorts k sort within
 
-pub occurs_sort : (v : Variable) (at : ℕ) (sort : Sort) (n : Names) → HasPlace v n → (occurs v at sort n).clash ≡ None → sort_of v (occurs v at sort n) ≡ Some sort
+pub occurs_sort : (v : Variable) (at : ℕ) (sort : Sort) (n : SymbolTable) → HasPlace v n → (require_sort v at sort n).clash ≡ None → sort_of v (require_sort v at sort n) ≡ Some sort
 occurs_sort v at sort n within e = by_given (sort_of v n) refl e
   where
     by_given : (given : Option Sort) → sort_of v n ≡ given → (occurred given v at sort n).clash ≡ None → sort_of v (occurred given v at sort n) ≡ Some sort

@@ -14,14 +14,15 @@ use Rattle.mfotl_parse.specs.declared.term.Pair.{Pair}
 use Rattle.mfotl_parse.specs.Grammar.{Tree, Fits, spelling, IsFormula}
 use Rattle.mfotl_parse.specs.GrammarLaws.{IsFirstFault, ShowsFirst, IsUnspoiled, SortsClash, HasNinthVariable, IsShown, EachFaultIsShown, sort_clash, ninth_variable}
 use Rattle.mfotl_parse.specs.Meanings.{IsValue, no_scope, all_names, value, tokens_of, policy_of}
-use Rattle.mfotl_parse.specs.Moves.{Limit, Empty, Range, Unknown, Arity, Deep, Nodes, Rule, Move, goes, fault_of, kept, given}
-use Rattle.mfotl_parse.specs.Names.{most_free, uneven_pair, clash_or_pair, vars_of}
-use Rattle.mfotl_parse.specs.Reading.{PolicyOf, and_then, move_of, step, run, sorted, finished, ended, ended_at, at_end, is_closed, reading}
+use Rattle.mfotl_parse.specs.Transitions.{Limit, Empty, Range, Unknown, Arity, Deep, Nodes, Rule, Transition, goes, fault_of, kept, given}
+use Rattle.mfotl_parse.specs.SymbolTable.{uneven_pair, clash_or_pair, vars_of}
+use Rattle.mfotl_parse.specs.Reading.{PolicyOf, and_then, transition, step, run, sorted, finished, ended, ended_at, at_end, is_closed, reading}
 use Rattle.mfotl_parse.specs.Reduction.{Reduced, reduce}
 use Rattle.mfotl_parse.specs.Shows.{Showing, silent, shown_by}
-use Rattle.mfotl_parse.specs.States.{Names, no_names, Now, Context, Partial, Have, start}
+use Rattle.mfotl_parse.specs.States.{SymbolTable, no_names, Stage, Context, Partial, AfterOperand, start}
 use Rattle.mfotl_parse.specs.Views.{policy_of as policy_seen, Fails, Gives}
 use Rattle.mfotl_parse.specs.Viability.{if_moved, is_whole, accepts, goes_on, and_steps, steps}
+use Rattle.mfotl_parse.specs.Limits.{max_free}
 use Rattle.mfotl_parse.proofs.AcceptedLaw.{accepted_formula}
 use Rattle.mfotl_parse.proofs.FaultLemmas.{kept_next, viable_from, goes_on_behind}
 use Rattle.mfotl_parse.proofs.LexLaw.{exact_lex}
@@ -46,7 +47,7 @@ IsRuleFault _ = ⊥
 -- ---- a token that shows a fault
 
 module _ (sig : List PredOf) where
-  step_shows : (at : ℕ) (m : Option Move) (more : List Lexeme) (fault : PolicyFault) (others : List PolicyFault) (later : Showing)
+  step_shows : (at : ℕ) (m : Option Transition) (more : List Lexeme) (fault : PolicyFault) (others : List PolicyFault) (later : Showing)
       → traced at m (trace sig more) ≡ (fault ∷ others) ∷ later → given at m ≡ Err fault
   step_shows at None more fault others later e = cc
   step_shows at (Some m) more fault others later e = let first : broken m.rules ≡ fault ∷ others = cc in kept_broken m.rules m.next fault others first
@@ -63,7 +64,7 @@ module _ (sig : List PredOf) where
         read = r.read;
         parts = s.parts;
         sound = r.sound;
-        stop = step_shows s.token.at (move_of sig r.read s.token) s.more fault s.others s.later r.rest;
+        stop = step_shows s.token.at (transition sig r.read s.token) s.more fault s.others s.later r.rest;
       }
 
   run_stopped : (end : ℕ) (lexical : Option LexFault) (ts : List Lexeme) (fault : PolicyFault) → Stopped sig ts start fault → run sig end lexical ts start ≡ Err fault
@@ -74,15 +75,15 @@ module _ (sig : List PredOf) where
       ∙ ap (λ (r : Result Partial PolicyFault). and_then r (run sig end lexical s.back)) s.stop
 
   -- what a token shows behind others, from its move
-  moved : (at : ℕ) (o : Option Move) (fault : PolicyFault) → IsRuleFault fault → given at o ≡ Err fault → (m : Move) × (o ≡ Some m) × (kept m.rules m.next ≡ Err fault)
+  moved : (at : ℕ) (o : Option Transition) (fault : PolicyFault) → IsRuleFault fault → given at o ≡ Err fault → (m : Transition) × (o ≡ Some m) × (kept m.rules m.next ≡ Err fault)
   unfolding IsRuleFault
   moved at None fault rule e = let one : Syntax at ≡ fault = cc in absurd (subst (λ (x : PolicyFault). IsRuleFault x) (sym one) rule)
   moved at (Some m) fault rule e = (m, refl, e)
 
-  first_by : (ts : List Lexeme) (fault : PolicyFault) (s : Stopped sig ts start fault) (m : Move) → move_of sig s.read s.token ≡ Some m → kept m.rules m.next ≡ Err fault → ShowsFirst sig ts fault
+  first_by : (ts : List Lexeme) (fault : PolicyFault) (s : Stopped sig ts start fault) (m : Transition) → transition sig s.read s.token ≡ Some m → kept m.rules m.next ≡ Err fault → ShowsFirst sig ts fault
   unfolding trace goes_on
   first_by ts fault s m e kept_so =
-      let on : goes_on sig (s.front ++ s.token ∷ []) start ≡ true = goes_on_behind sig s.front (s.token ∷ []) start s.read s.sound ∙ ap (λ (o : Option Move). if_moved o (goes_on sig [])) e in
+      let on : goes_on sig (s.front ++ s.token ∷ []) start ≡ true = goes_on_behind sig s.front (s.token ∷ []) start s.read s.sound ∙ ap (λ (o : Option Transition). if_moved o (goes_on sig [])) e in
       let v = viable_from sig (s.front ++ s.token ∷ []) start on in
       let formula = accepted_formula sig ((s.front ++ s.token ∷ []) ++ v.0) v.1 in
       let spelled : spelling formula.0 ≡ s.front ++ s.token ∷ v.0 = sym formula.2 ∙ append_assoc s.front (s.token ∷ []) v.0 in
@@ -101,14 +102,14 @@ module _ (sig : List PredOf) where
         shown = sym (shows_whole sig formula.0 formula.1)
             ∙ ap (λ (xs : List Lexeme). trace sig xs start) spelled
             ∙ read_silent sig s.front (s.token ∷ v.0) start s.read s.sound
-            ∙ ap (λ (o : Option Move). silent s.front ++ traced s.token.at o (trace sig v.0)) e
+            ∙ ap (λ (o : Option Transition). silent s.front ++ traced s.token.at o (trace sig v.0)) e
             ∙ ap (λ (x : List PolicyFault). silent s.front ++ x ∷ trace sig v.0 m.next) first.1;
       }
 
   first_shown : (ts : List Lexeme) (fault : PolicyFault) → IsRuleFault fault → Stopped sig ts start fault → ShowsFirst sig ts fault
   unfolding step
   first_shown ts fault rule s =
-      let m = moved s.token.at (move_of sig s.read s.token) fault rule s.stop in first_by ts fault s m.0 m.1 m.2
+      let m = moved s.token.at (transition sig s.read s.token) fault rule s.stop in first_by ts fault s m.0 m.1 m.2
 
 -- ---- which faults tokens show, and which the end
 
@@ -151,14 +152,14 @@ kept_fault (rule ∷ rules) next fault e = by_broken rule.broken (λ f. kept_fau
     by_broken true later f = let one : fault_of rule.limit rule.at ≡ fault = cc in same_fault IsTokenFault _ fault (of_token rule.limit rule.at) one
     by_broken false later f = later f
 
-given_fault : (at : ℕ) (m : Option Move) (fault : PolicyFault) → given at m ≡ Err fault → IsTokenFault fault
+given_fault : (at : ℕ) (m : Option Transition) (fault : PolicyFault) → given at m ≡ Err fault → IsTokenFault fault
 unfolding IsTokenFault
 given_fault at None fault e = let one : Syntax at ≡ fault = cc in same_fault IsTokenFault (Syntax at) fault tt one
 given_fault at (Some m) fault e = kept_fault m.rules m.next fault e
 
 step_fault : (sig : List PredOf) (p : Partial) (t : Lexeme) (fault : PolicyFault) → step sig p t ≡ Err fault → IsTokenFault fault
 unfolding step
-step_fault sig p t fault e = given_fault t.at (move_of sig p t) fault e
+step_fault sig p t fault e = given_fault t.at (transition sig p t) fault e
 
 sorted_fault : (clash : Option ℕ) (uneven : Option Pair) (ninth : Option (List ℕ × ℕ)) (policy : PolicyOf) (fault : PolicyFault) → sorted clash uneven ninth policy ≡ Err fault → IsEndFault fault
 unfolding IsEndFault
@@ -167,14 +168,14 @@ sorted_fault None (Some pair) ninth policy fault e = let one : SortClash pair.at
 sorted_fault None None (Some known) policy fault e = let one : TooManyVariables known.1 ≡ fault = cc in same_fault IsEndFault (TooManyVariables known.1) fault tt one
 sorted_fault None None None policy fault e = absurd cc
 
-ended_fault : (n : Names) (f : Form) (closed : Bool) (end : ℕ) (fault : PolicyFault) → ended n f closed end ≡ Err fault → IsEndFault fault
+ended_fault : (n : SymbolTable) (f : Form) (closed : Bool) (end : ℕ) (fault : PolicyFault) → ended n f closed end ≡ Err fault → IsEndFault fault
 unfolding IsEndFault
-ended_fault n f true end fault e = sorted_fault n.clash (uneven_pair n) (slice_get n.free most_free) (record { formula = f; vars = vars_of n.free n.free_sorts }) fault e
+ended_fault n f true end fault e = sorted_fault n.clash (uneven_pair n) (slice_get n.free max_free) (record { formula = f; vars = vars_of n.free n.free_sorts }) fault e
 ended_fault n f false end fault e = let one : Syntax end ≡ fault = cc in same_fault IsEndFault (Syntax end) fault tt one
 
-ended_at_fault : (now : Now) (c : Context) (end : ℕ) (fault : PolicyFault) → ended_at now c end ≡ Err fault → IsEndFault fault
+ended_at_fault : (now : Stage) (c : Context) (end : ℕ) (fault : PolicyFault) → ended_at now c end ≡ Err fault → IsEndFault fault
 unfolding IsEndFault
-ended_at_fault (Have f) c end fault e = ended_fault c.names (reduce 0 f c.stack).form (is_closed (reduce 0 f c.stack).stack) end fault e
+ended_at_fault (AfterOperand f) c end fault e = ended_fault c.names (reduce 0 f c.stack).form (is_closed (reduce 0 f c.stack).stack) end fault e
 ended_at_fault _ c end fault e = let one : Syntax end ≡ fault = cc in same_fault IsEndFault (Syntax end) fault tt one
 
 end_fault : (lexical : Option LexFault) (end : ℕ) (p : Partial) (fault : PolicyFault) → at_end lexical end p ≡ Err fault → IsEndFault fault
@@ -188,29 +189,29 @@ end_fault None end p fault e = ended_at_fault p.now p.context end fault e
 steps_moves : (sig : List PredOf) (ts : List Lexeme) (p q : Partial) → steps sig ts p ≡ Ok q → (rules : List Rule) × (moves sig ts p ≡ goes rules q)
 unfolding steps moves step
 steps_moves sig [] p q e = let one : p ≡ q = cc in ([], ap (goes []) one)
-steps_moves sig (t ∷ ts) p q e = by_move (move_of sig p t) (λ n f. steps_moves sig ts n q f) e
+steps_moves sig (t ∷ ts) p q e = by_move (transition sig p t) (λ n f. steps_moves sig ts n q f) e
   where
-    by_rest : (m : Move) (o : Option Move) (rest : List Rule) → moves sig ts m.next ≡ o → o ≡ goes rest q → behind_move m o ≡ goes (m.rules ++ rest) q
+    by_rest : (m : Transition) (o : Option Transition) (rest : List Rule) → moves sig ts m.next ≡ o → o ≡ goes rest q → behind_move m o ≡ goes (m.rules ++ rest) q
     by_rest m o rest e f = ap (behind_move m) f
 
-    by_kept : (m : Move) → ((n : Partial) → steps sig ts n ≡ Ok q → (rules : List Rule) × (moves sig ts n ≡ goes rules q))
+    by_kept : (m : Transition) → ((n : Partial) → steps sig ts n ≡ Ok q → (rules : List Rule) × (moves sig ts n ≡ goes rules q))
         → (r : Result Partial PolicyFault) → kept m.rules m.next ≡ r → and_steps r (steps sig ts) ≡ Ok q → (rules : List Rule) × (behind_move m (moves sig ts m.next) ≡ goes rules q)
     by_kept m later (Ok n) f g =
         let l = later n g in
         (m.rules ++ l.0, by_rest m (moves sig ts m.next) l.0 refl (ap (moves sig ts) (kept_next m.rules m.next n f) ∙ l.1))
     by_kept m later (Err fault) f g = absurd cc
 
-    by_move : (m : Option Move) → ((n : Partial) → steps sig ts n ≡ Ok q → (rules : List Rule) × (moves sig ts n ≡ goes rules q))
+    by_move : (m : Option Transition) → ((n : Partial) → steps sig ts n ≡ Ok q → (rules : List Rule) × (moves sig ts n ≡ goes rules q))
         → and_steps (given t.at m) (steps sig ts) ≡ Ok q → (rules : List Rule) × (then_moves m (moves sig ts) ≡ goes rules q)
     by_move None later f = absurd cc
     by_move (Some m) later f = by_kept m later (kept m.rules m.next) refl f
 
-ended_closed : (n : Names) (f : Form) (closed : Bool) (end : ℕ) (fault : PolicyFault) → (fault ≡ Syntax end → ⊥) → ended n f closed end ≡ Err fault → closed ≡ true
+ended_closed : (n : SymbolTable) (f : Form) (closed : Bool) (end : ℕ) (fault : PolicyFault) → (fault ≡ Syntax end → ⊥) → ended n f closed end ≡ Err fault → closed ≡ true
 ended_closed n f true end fault never e = refl
 ended_closed n f false end fault never e = absurd (never cc)
 
-ended_whole : (now : Now) (c : Context) (end : ℕ) (fault : PolicyFault) → (fault ≡ Syntax end → ⊥) → ended_at now c end ≡ Err fault → is_whole now c.stack ≡ true
-ended_whole (Have f) c end fault never e = ended_closed c.names (reduce 0 f c.stack).form (is_closed (reduce 0 f c.stack).stack) end fault never e
+ended_whole : (now : Stage) (c : Context) (end : ℕ) (fault : PolicyFault) → (fault ≡ Syntax end → ⊥) → ended_at now c end ≡ Err fault → is_whole now c.stack ≡ true
+ended_whole (AfterOperand f) c end fault never e = ended_closed c.names (reduce 0 f c.stack).form (is_closed (reduce 0 f c.stack).stack) end fault never e
 ended_whole _ c end fault never e = absurd (never cc)
 
 no_lexical : (lexical : Option LexFault) (end : ℕ) (p : Partial) (fault : PolicyFault) → ((l : LexFault) → fault ≡ Lex l → ⊥) → at_end lexical end p ≡ Err fault → (lexical ≡ None) × (ended_at p.now p.context end ≡ Err fault)
@@ -237,7 +238,7 @@ module _ (bytes : List ℕ) (sig : List PredOf) where
       let tree = formula.0 in
       let t = whole sig tree formula.1 in
       let there = steps_moves sig (tokens_of bytes).list start s.read s.sound in
-      let here : s.read ≡ record { context = record { stack = t.stack; nodes = _; names = all_names sig tree }; now = Have t.form } =
+      let here : s.read ≡ record { context = record { stack = t.stack; nodes = _; names = all_names sig tree }; now = AfterOperand t.form } =
       same_next (sym there.1 ∙ ap (λ (ts : List Lexeme). moves sig ts start) formula.2 ∙ t.reached) in (
         tree,
         record {
@@ -265,7 +266,7 @@ module _ (bytes : List ℕ) (sig : List PredOf) where
       let r = silent_read sig ts [] [] start quiet in
       let t = whole sig tree u.fits in
       let there = steps_moves sig ts start r.read r.sound in
-      let here : r.read ≡ record { context = record { stack = t.stack; nodes = _; names = all_names sig tree }; now = Have t.form } =
+      let here : r.read ≡ record { context = record { stack = t.stack; nodes = _; names = all_names sig tree }; now = AfterOperand t.form } =
       same_next (sym there.1 ∙ ap (λ (xs : List Lexeme). moves sig xs start) u.spelled ∙ t.reached) in
       ap (λ (xs : List Lexeme). run sig (length bytes) (tokens_of bytes).fault xs start) (sym (append-nil ts))
       ∙ run_behind sig (length bytes) (tokens_of bytes).fault ts [] start r.read r.sound
@@ -335,9 +336,9 @@ module _ (bytes : List ℕ) (sig : List PredOf) where
   many_fault at = (
     λ e.
         let j = judged (TooManyVariables at) (λ l x. cc) (λ x. cc) (end_only (TooManyVariables at) (λ x. x) e) in
-        let m = many_sorted (all_names sig j.0).clash (uneven_pair (all_names sig j.0)) (slice_get (all_names sig j.0).free most_free) _ at j.2 in
+        let m = many_sorted (all_names sig j.0).clash (uneven_pair (all_names sig j.0)) (slice_get (all_names sig j.0).free max_free) _ at j.2 in
         record { tree = j.0; unspoiled = j.1; even = m.0; ninth = m.1 },
-    λ s. judges s.tree (TooManyVariables at) s.unspoiled (sorted_many (all_names sig s.tree).clash (uneven_pair (all_names sig s.tree)) (slice_get (all_names sig s.tree).free most_free) _ at s.even s.ninth),
+    λ s. judges s.tree (TooManyVariables at) s.unspoiled (sorted_many (all_names sig s.tree).clash (uneven_pair (all_names sig s.tree)) (slice_get (all_names sig s.tree).free max_free) _ at s.even s.ninth),
   )
 
   no_memory : IsFirstFault bytes sig Memory → ⊥

@@ -5,8 +5,8 @@ use Rattle.mfotl_sig.specs.Preds.{PredOf}
 use Rattle.mfotl_parse.specs.declared.fault.PolicyFault.{PolicyFault}
 use Rattle.mfotl_parse.specs.Grammar.{Tree, Fits, spelling}
 use Rattle.mfotl_parse.specs.GrammarLaws.{AreRead, IsSilent, SilentAreRead}
-use Rattle.mfotl_parse.specs.Moves.{Rule, Move, fault_of, kept, given}
-use Rattle.mfotl_parse.specs.Reading.{move_of, step}
+use Rattle.mfotl_parse.specs.Transitions.{Rule, Transition, fault_of, kept, given}
+use Rattle.mfotl_parse.specs.Reading.{transition, step}
 use Rattle.mfotl_parse.specs.Shows.{Showing, silent, if_broken, shown_by}
 use Rattle.mfotl_parse.specs.States.{Partial, start}
 use Rattle.mfotl_parse.specs.Viability.{and_steps, steps}
@@ -63,7 +63,7 @@ pub record Read (sig : List PredOf) (ts more : List Lexeme) (later : Showing) (p
   pub rest : trace sig more read ≡ later
 
 module _ (sig : List PredOf) where
-  read_one : (t : Lexeme) (ts more : List Lexeme) (later : Showing) (m : Option Move) → ((n : Partial) → trace sig (ts ++ more) n ≡ silent ts ++ later → Read sig ts more later n)
+  read_one : (t : Lexeme) (ts more : List Lexeme) (later : Showing) (m : Option Transition) → ((n : Partial) → trace sig (ts ++ more) n ≡ silent ts ++ later → Read sig ts more later n)
       → traced t.at m (trace sig (ts ++ more)) ≡ [] ∷ (silent ts ++ later)
       → (read : Partial) × (and_steps (given t.at m) (steps sig ts) ≡ Ok read) × (trace sig more read ≡ later)
   read_one t ts more later None further e = absurd cc
@@ -77,10 +77,10 @@ module _ (sig : List PredOf) where
   unfolding trace steps step
   silent_read [] more later p e = record { read = p; sound = refl; rest = e }
   silent_read (t ∷ ts) more later p e =
-      let r = read_one t ts more later (move_of sig p t) (λ n f. silent_read ts more later n f) e in
+      let r = read_one t ts more later (transition sig p t) (λ n f. silent_read ts more later n f) e in
       record { read = r.0; sound = r.1; rest = r.2 }
 
-  silent_one : (t : Lexeme) (ts more : List Lexeme) (q : Partial) (m : Option Move) → ((n : Partial) → steps sig ts n ≡ Ok q → trace sig (ts ++ more) n ≡ silent ts ++ trace sig more q)
+  silent_one : (t : Lexeme) (ts more : List Lexeme) (q : Partial) (m : Option Transition) → ((n : Partial) → steps sig ts n ≡ Ok q → trace sig (ts ++ more) n ≡ silent ts ++ trace sig more q)
       → and_steps (given t.at m) (steps sig ts) ≡ Ok q → traced t.at m (trace sig (ts ++ more)) ≡ [] ∷ (silent ts ++ trace sig more q)
   silent_one t ts more q None further e = absurd cc
   silent_one t ts more q (Some m) further e = by_kept (kept m.rules m.next) refl e
@@ -95,7 +95,7 @@ module _ (sig : List PredOf) where
   pub read_silent : (ts more : List Lexeme) (p q : Partial) → steps sig ts p ≡ Ok q → trace sig (ts ++ more) p ≡ silent ts ++ trace sig more q
   unfolding trace steps step
   read_silent [] more p q e = let one : p ≡ q = cc in ap (trace sig more) one
-  read_silent (t ∷ ts) more p q e = silent_one t ts more q (move_of sig p t) (λ n f. read_silent ts more n q f) e
+  read_silent (t ∷ ts) more p q e = silent_one t ts more q (transition sig p t) (λ n f. read_silent ts more n q f) e
 
   -- ---- in the grammar's words
 

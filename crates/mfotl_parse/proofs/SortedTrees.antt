@@ -27,35 +27,36 @@ use Rattle.mfotl_parse.specs.declared.term.Variable.TheVariants as variables
 use Rattle.mfotl_parse.specs.Arguments.{call_of, due, after_due, blanks}
 use Rattle.mfotl_parse.specs.Grammar.{WrittenTerm, Named, Number, Quoted, WrittenArgument, Given, Hidden, WrittenArguments, LastArgument, MoreArguments, WrittenVariables, LastVariable, MoreVariables, Tree, Truth, BareAtom, AtomOf, Comparison, Enclosed, Denied, Timed, Quantified, Joined}
 use Rattle.mfotl_parse.specs.Meanings.{Scope, inside, name_of, place_of_variable, place_of, operand_of, term_names, argument_term, argument_names, arguments_terms, arguments_names, argument_count, atom, variables_names, variables_scope, quantify, interval_of, names_behind, value, HasArity, PartsKeep}
-use Rattle.mfotl_parse.specs.Names.{most_free, number_of, bound_or_free, met, bound_more, inner_or, given_at, sort_of, same_sort, agreed, occurs, sort_of_value, placed, compared, term_of, differ, uneven_pair}
+use Rattle.mfotl_parse.specs.SymbolTable.{number_of, bound_or_free, met, bound_more, inner_or, given_at, sort_of, same_sort, agreed, require_sort, sort_of_value, constrain_term, compared, term_of, differ, uneven_pair}
 use Rattle.mfotl_parse.specs.Operands.{truth}
 use Rattle.mfotl_parse.specs.Reduction.{momentary, joined, quantified}
-use Rattle.mfotl_parse.specs.States.{Names}
+use Rattle.mfotl_parse.specs.States.{SymbolTable}
 use Rattle.mfotl_parse.specs.WellSorted.{Sorting, sort_of_constant, HasSort, HaveSorts, FitsPredicate, SidesAgree, FitsSorts}
+use Rattle.mfotl_parse.specs.Limits.{max_free}
 use Rattle.mfotl_parse.proofs.NamesOrder.{Grows, grows_not, grows_then, given_last, bound_grows, placed_grows, compared_grows, term_grows, argument_grows, arguments_grow, variables_grow, sides_grow, tree_grows, HasPlace, Inside, resolved_place, agreed_sort, occurs_sort}
 
 -- the sorts that these names give, by the variables' numbers
-abbrev pub given_by : Names → Sorting
-given_by n x = cond (nat_lt x most_free) (given_at (slice_get n.free_sorts x)) (given_at (slice_get n.bound_sorts (x - most_free)))
+abbrev pub given_by : SymbolTable → Sorting
+given_by n x = cond (nat_lt x max_free) (given_at (slice_get n.free_sorts x)) (given_at (slice_get n.bound_sorts (x - max_free)))
 
 -- a variable whose number is below those of bound variables, where it is free
 abbrev IsLow : Variable → Type 0
-IsLow (variables.Free k) = k < most_free
+IsLow (variables.Free k) = k < max_free
 IsLow (variables.Bound k) = Unit {0}
 
-pub given_is : (n : Names) (v : Variable) → IsLow v → given_by n (number_of v) ≡ sort_of v n
+pub given_is : (n : SymbolTable) (v : Variable) → IsLow v → given_by n (number_of v) ≡ sort_of v n
 given_is n (variables.Free k) low =
-    ap (λ (b : Bool). cond b (given_at (slice_get n.free_sorts k)) (given_at (slice_get n.bound_sorts (k - most_free)))) (lt-ltb k most_free low)
+    ap (λ (b : Bool). cond b (given_at (slice_get n.free_sorts k)) (given_at (slice_get n.bound_sorts (k - max_free)))) (lt-ltb k max_free low)
 given_is n (variables.Bound k) low =
-    let same : most_free + k - most_free ≡ k = omega arith in
-    ap (λ (b : Bool). cond b (given_at (slice_get n.free_sorts (most_free + k))) (given_at (slice_get n.bound_sorts (most_free + k - most_free)))) (le-ltb (most_free + k) most_free (omega arith))
+    let same : max_free + k - max_free ≡ k = omega arith in
+    ap (λ (b : Bool). cond b (given_at (slice_get n.free_sorts (max_free + k))) (given_at (slice_get n.bound_sorts (max_free + k - max_free)))) (le-ltb (max_free + k) max_free (omega arith))
     ∙ ap (λ (j : ℕ). given_at (slice_get n.bound_sorts j)) same
 
 same_constant : (c : Value) → sort_of_value c ≡ sort_of_constant c
 same_constant (values.Int z) = refl
 same_constant (values.Text t) = refl
 
-pub inside_grows : (scope : Scope) (n m : Names) → Inside scope n → Grows n m → Inside scope m
+pub inside_grows : (scope : Scope) (n m : SymbolTable) → Inside scope n → Grows n m → Inside scope m
 inside_grows scope n m inside g name k e = omega (arith, inside name k e, g.bound)
 
 -- ---- lists
@@ -86,22 +87,22 @@ even_sorts sorts.Int sorts.Text e = absurd cc
 even_sorts sorts.Text sorts.Int e = absurd cc
 even_sorts sorts.Text sorts.Text e = refl
 
-module _ (sig : List PredOf) (last : Names) (clash : last.clash ≡ None) (even : uneven_pair last ≡ None) (few : length last.free ≤ most_free) where
-  abbrev Sized : Names → Type 0
+module _ (sig : List PredOf) (last : SymbolTable) (clash : last.clash ≡ None) (even : uneven_pair last ≡ None) (few : length last.free ≤ max_free) where
+  abbrev Sized : SymbolTable → Type 0
   Sized n = length n.free_sorts ≡ length n.free
 
-  low : (v : Variable) (m : Names) → HasPlace v m → Sized m → Grows m last → IsLow v
+  low : (v : Variable) (m : SymbolTable) → HasPlace v m → Sized m → Grows m last → IsLow v
   low (variables.Free k) m within sized g = omega (arith, within, sized, g.free, few)
   low (variables.Bound k) m within sized g = tt
 
   -- an occurrence with a sort
-  given_so : (v : Variable) (at : ℕ) (sort : Sort) (m : Names) → HasPlace v m → Sized m → Grows (occurs v at sort m) last → given_by last (number_of v) ≡ Some sort
+  given_so : (v : Variable) (at : ℕ) (sort : Sort) (m : SymbolTable) → HasPlace v m → Sized m → Grows (require_sort v at sort m) last → given_by last (number_of v) ≡ Some sort
   given_so v at sort m within sized g =
-      let all = grows_then m (occurs v at sort m) last (placed_grows (operands.Variable v) at sort m) g in
+      let all = grows_then m (require_sort v at sort m) last (placed_grows (operands.Variable v) at sort m) g in
       given_is last v (low v m within sized all) ∙ g.sorts v sort (occurs_sort v at sort m within (g.clash clash))
 
-  term_sorted : (t : WrittenTerm) (sort : Sort) (scope : Scope) (n : Names) → Inside scope n → Sized n
-      → Grows (placed (operand_of t scope n) (place_of t) sort (term_names t scope n)) last → HasSort (given_by last) (term_of (operand_of t scope n)) sort
+  term_sorted : (t : WrittenTerm) (sort : Sort) (scope : Scope) (n : SymbolTable) → Inside scope n → Sized n
+      → Grows (constrain_term (operand_of t scope n) (place_of t) sort (term_names t scope n)) last → HasSort (given_by last) (term_of (operand_of t scope n)) sort
   term_sorted (Named v) sort scope n inside sized g =
       let name = name_of v in
       given_so (bound_or_free (scope name) name n) (place_of_variable v) sort (term_names (Named v) scope n)
@@ -109,13 +110,13 @@ module _ (sig : List PredOf) (last : Names) (clash : last.clash ≡ None) (even 
   term_sorted (Number token z) sort scope n inside sized g = agreed_sort sorts.Int token.at sort n (g.clash clash)
   term_sorted (Quoted token) sort scope n inside sized g = agreed_sort sorts.Text token.at sort n (g.clash clash)
 
-  argument_sorted : (a : WrittenArgument) (sort : Sort) (scope : Scope) (n : Names) → Inside scope n → Sized n
+  argument_sorted : (a : WrittenArgument) (sort : Sort) (scope : Scope) (n : SymbolTable) → Inside scope n → Sized n
       → Grows (argument_names a sort scope n) last → HasSort (given_by last) (argument_term a scope n) sort
   argument_sorted (Given t) sort scope n inside sized g = term_sorted t sort scope n inside sized g
   argument_sorted (Hidden token) sort scope n inside sized g =
       given_is last (variables.Bound (length n.bound_sorts)) tt ∙ g.sorts (variables.Bound (length n.bound_sorts)) sort (given_last n.bound_sorts sort)
 
-  arguments_sorted : (xs : WrittenArguments) (places : List Sort) (scope : Scope) (n : Names) → Inside scope n → Sized n
+  arguments_sorted : (xs : WrittenArguments) (places : List Sort) (scope : Scope) (n : SymbolTable) → Inside scope n → Sized n
       → Grows (arguments_names xs places scope n) last → length places ≡ argument_count xs → HaveSorts (given_by last) (arguments_terms xs places scope n) places
   arguments_sorted (LastArgument a) [] scope n inside sized g count = absurd (omega (arith, count))
   arguments_sorted (LastArgument a) (sort ∷ []) scope n inside sized g count = (argument_sorted a sort scope n inside sized g, tt)
@@ -130,26 +131,26 @@ module _ (sig : List PredOf) (last : Names) (clash : last.clash ≡ None) (even 
 
   -- ---- comparisons
 
-  OperandPlace : Operand → Names → Type 0
+  OperandPlace : Operand → SymbolTable → Type 0
   OperandPlace (operands.Variable v) m = HasPlace v m
   OperandPlace (operands.Constant c) m = Unit {0}
 
-  place_stays : (v : Variable) (n m : Names) → HasPlace v n → Sized n → Grows n m → HasPlace v m
+  place_stays : (v : Variable) (n m : SymbolTable) → HasPlace v n → Sized n → Grows n m → HasPlace v m
   place_stays (variables.Free k) n m within sized g = omega (arith, within, sized, g.sized sized, g.free)
   place_stays (variables.Bound k) n m within sized g = omega (arith, within, g.bound)
 
-  operand_stays : (o : Operand) (n m : Names) → OperandPlace o n → Sized n → Grows n m → OperandPlace o m
+  operand_stays : (o : Operand) (n m : SymbolTable) → OperandPlace o n → Sized n → Grows n m → OperandPlace o m
   unfolding OperandPlace
   operand_stays (operands.Variable v) n m within sized g = place_stays v n m within sized g
   operand_stays (operands.Constant c) n m within sized g = tt
 
-  operand_place : (t : WrittenTerm) (scope : Scope) (n : Names) → Inside scope n → Sized n → OperandPlace (operand_of t scope n) (term_names t scope n)
+  operand_place : (t : WrittenTerm) (scope : Scope) (n : SymbolTable) → Inside scope n → Sized n → OperandPlace (operand_of t scope n) (term_names t scope n)
   unfolding OperandPlace
   operand_place (Named v) scope n inside sized = resolved_place (name_of v) (place_of_variable v) n (scope (name_of v)) (inside (name_of v)) sized
   operand_place (Number token z) scope n inside sized = tt
   operand_place (Quoted token) scope n inside sized = tt
 
-  pair_even : (v w : Variable) (at : ℕ) (m : Names) (left right : Sort) → Grows (compared (operands.Variable v) at at (operands.Variable w) at m) last
+  pair_even : (v w : Variable) (at : ℕ) (m : SymbolTable) (left right : Sort) → Grows (compared (operands.Variable v) at at (operands.Variable w) at m) last
       → sort_of v last ≡ Some left → sort_of w last ≡ Some right → left ≡ right
   pair_even v w at m left right g e f =
       let pair : Pair = record { at = at; left = v; right = w } in
@@ -158,7 +159,7 @@ module _ (sig : List PredOf) (last : Names) (clash : last.clash ≡ None) (even 
       let here : differ (sort_of v last) (sort_of w last) ≡ false = none_passes (λ (p : Pair). differ (sort_of p.left last) (sort_of p.right last)) m.pairs pair g.more none in
       even_sorts left right (sym (ap (λ (o : Option Sort). differ o (sort_of w last)) e ∙ ap (λ (o : Option Sort). differ (Some left) o) f) ∙ here)
 
-  sides_sorted : (l r : Operand) (left_at at right_at : ℕ) (m : Names) → OperandPlace l m → OperandPlace r m → Sized m
+  sides_sorted : (l r : Operand) (left_at at right_at : ℕ) (m : SymbolTable) → OperandPlace l m → OperandPlace r m → Sized m
       → Grows (compared l left_at at r right_at m) last → SidesAgree (given_by last) (term_of l) (term_of r)
   unfolding OperandPlace
   sides_sorted (operands.Variable v) (operands.Variable w) left_at at right_at m p q sized g =
@@ -186,7 +187,7 @@ module _ (sig : List PredOf) (last : Names) (clash : last.clash ≡ None) (even 
       none_due [] e = tt
       none_due (sort ∷ places) e = absurd (omega (arith, e))
 
-  atom_sorted : (found : Option PredOf) (name : List ℕ) (xs : WrittenArguments) (outer inner : ℕ) (scope : Scope) (n : Names) → named name sig ≡ found → HasArity found (argument_count xs)
+  atom_sorted : (found : Option PredOf) (name : List ℕ) (xs : WrittenArguments) (outer inner : ℕ) (scope : Scope) (n : SymbolTable) → named name sig ≡ found → HasArity found (argument_count xs)
       → Inside scope n → Sized n → Grows (arguments_names xs (call_of found 0).rest scope n) last
       → FitsSorts sig (given_by last) (atom found (arguments_terms xs (call_of found 0).rest scope n) outer inner)
   atom_sorted None name xs outer inner scope n is count inside sized g = absurd count
@@ -198,7 +199,7 @@ module _ (sig : List PredOf) (last : Names) (clash : last.clash ≡ None) (even 
   one_sorted quantifiers.Exists k name f h = h
   one_sorted quantifiers.Forall k name f h = h
 
-  quantify_sorted : (q : Quantifier) (vs : WrittenVariables) (n : Names) (f : Form) → FitsSorts sig (given_by last) f → FitsSorts sig (given_by last) (quantify q vs n f)
+  quantify_sorted : (q : Quantifier) (vs : WrittenVariables) (n : SymbolTable) (f : Form) → FitsSorts sig (given_by last) f → FitsSorts sig (given_by last) (quantify q vs n f)
   quantify_sorted q (LastVariable v) n f h = one_sorted q _ _ f h
   quantify_sorted q (MoreVariables v comma rest) n f h = one_sorted q _ _ _ (quantify_sorted q rest (bound_more None n) f h)
 
@@ -222,13 +223,13 @@ module _ (sig : List PredOf) (last : Names) (clash : last.clash ≡ None) (even 
   truth_sorted true = tt
   truth_sorted false = tt
 
-  inner_one : (b : Bool) (variable : ℕ) (outer : Option ℕ) (n : Names) (k : ℕ) → ((j : ℕ) → outer ≡ Some j → j < length n.bound_sorts) → variable ≡ length n.bound_sorts
+  inner_one : (b : Bool) (variable : ℕ) (outer : Option ℕ) (n : SymbolTable) (k : ℕ) → ((j : ℕ) → outer ≡ Some j → j < length n.bound_sorts) → variable ≡ length n.bound_sorts
       → inner_or (cond b (Some variable) None) outer ≡ Some k → k < suc (length n.bound_sorts)
   inner_one true variable outer n k within is e = let same : variable ≡ k = cc in omega (arith, same, is)
   inner_one false variable outer n k within is e = omega (arith, within k e)
 
   -- a quantifier's variable is bound inside it
-  inside_one : (name : List ℕ) (scope : Scope) (n : Names) → Inside scope n → Inside (inside name (length n.bound_sorts) scope) (bound_more None n)
+  inside_one : (name : List ℕ) (scope : Scope) (n : SymbolTable) → Inside scope n → Inside (inside name (length n.bound_sorts) scope) (bound_more None n)
   inside_one bound scope n within name k e =
       let below = inner_one _ (length n.bound_sorts) (scope name) n k (within name) refl e in omega (arith, below, (bound_grows None n).bound, longer)
     where
@@ -239,11 +240,11 @@ module _ (sig : List PredOf) (last : Names) (clash : last.clash ≡ None) (even 
       longer : suc (length n.bound_sorts) ≡ length (bound_more None n).bound_sorts
       longer = one_more n.bound_sorts
 
-  inside_all : (vs : WrittenVariables) (scope : Scope) (n : Names) → Inside scope n → Inside (variables_scope vs n scope) (variables_names vs n)
+  inside_all : (vs : WrittenVariables) (scope : Scope) (n : SymbolTable) → Inside scope n → Inside (variables_scope vs n scope) (variables_names vs n)
   inside_all (LastVariable v) scope n within = inside_one (name_of v) scope n within
   inside_all (MoreVariables v comma rest) scope n within = inside_all rest (inside (name_of v) (length n.bound_sorts) scope) (bound_more None n) (inside_one (name_of v) scope n within)
 
-  pub tree_sorted : (tree : Tree) (scope : Scope) (n : Names) → Inside scope n → Sized n → PartsKeep sig tree → Grows (names_behind sig tree scope n) last
+  pub tree_sorted : (tree : Tree) (scope : Scope) (n : SymbolTable) → Inside scope n → Sized n → PartsKeep sig tree → Grows (names_behind sig tree scope n) last
       → FitsSorts sig (given_by last) (value sig tree scope n)
   tree_sorted (Truth token which) scope n inside sized keeps g = truth_sorted which
   tree_sorted (BareAtom name opening closing) scope n inside sized keeps g = bare_sorted (named name.text sig) name.text (length n.bound_sorts) refl keeps

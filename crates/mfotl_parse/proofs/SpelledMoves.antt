@@ -7,56 +7,57 @@ use Rattle.mfotl_lex.specs.Lexemes.{Lexeme}
 use Rattle.mfotl_sig.specs.Preds.{PredOf}
 use Rattle.mfotl_parse.specs.declared.class.Class.{Class}
 use Rattle.mfotl_parse.specs.Classes.{class_of}
-use Rattle.mfotl_parse.specs.Moves.{Rule, Move, goes, fault_of, kept, given, most_open}
-use Rattle.mfotl_parse.specs.Reading.{move_at, move_of, step, run, and_then}
-use Rattle.mfotl_parse.specs.States.{Frame, Names, Now, Partial}
+use Rattle.mfotl_parse.specs.Transitions.{Rule, Transition, goes, fault_of, kept, given}
+use Rattle.mfotl_parse.specs.Reading.{transition_at, transition, step, run, and_then}
+use Rattle.mfotl_parse.specs.States.{Frame, SymbolTable, Stage, Partial}
+use Rattle.mfotl_parse.specs.Limits.{max_levels}
 
-abbrev pub at_place : Now → List Frame → ℕ → Names → Partial
+abbrev pub at_place : Stage → List Frame → ℕ → SymbolTable → Partial
 at_place now stack nodes names = record { context = record { stack = stack; nodes = nodes; names = names }; now = now }
 
-abbrev pub behind_move : Move → Option Move → Option Move
+abbrev pub behind_move : Transition → Option Transition → Option Transition
 behind_move m None = None
 behind_move m (Some n) = goes (m.rules ++ n.rules) n.next
 
-abbrev pub then_moves : Option Move → (Partial → Option Move) → Option Move
+abbrev pub then_moves : Option Transition → (Partial → Option Transition) → Option Transition
 then_moves None f = None
 then_moves (Some m) f = behind_move m (f m.next)
 
 -- where tokens lead as far as the grammar goes, with all rules on the way
-unfoldable pub moves : List PredOf → List Lexeme → Partial → Option Move
+unfoldable pub moves : List PredOf → List Lexeme → Partial → Option Transition
 moves sig [] p = goes [] p
-moves sig (t ∷ ts) p = then_moves (move_of sig p t) (moves sig ts)
+moves sig (t ∷ ts) p = then_moves (transition sig p t) (moves sig ts)
 
 -- a token of this class
-pub move_is : (sig : List PredOf) (p : Partial) (t : Lexeme) (c : Class) → class_of t ≡ c → move_of sig p t ≡ move_at p.now sig p.context t c
-unfolding move_of
-move_is sig p t c e = ap (move_at p.now sig p.context t) e
+pub move_is : (sig : List PredOf) (p : Partial) (t : Lexeme) (c : Class) → class_of t ≡ c → transition sig p t ≡ transition_at p.now sig p.context t c
+unfolding transition
+move_is sig p t c e = ap (transition_at p.now sig p.context t) e
 
 pub moves_nothing : (sig : List PredOf) (p : Partial) → moves sig [] p ≡ goes [] p
 unfolding moves
 moves_nothing sig p = refl
 
 pub moves_first : (sig : List PredOf) (t : Lexeme) (ts : List Lexeme) (p q r : Partial) (rules others : List Rule)
-    → move_of sig p t ≡ goes rules q → moves sig ts q ≡ goes others r → moves sig (t ∷ ts) p ≡ goes (rules ++ others) r
+    → transition sig p t ≡ goes rules q → moves sig ts q ≡ goes others r → moves sig (t ∷ ts) p ≡ goes (rules ++ others) r
 unfolding moves
 moves_first sig t ts p q r rules others e f =
     ap (λ m. then_moves m (moves sig ts)) e ∙ ap (behind_move (record { rules = rules; next = q })) f
 
 pub moves_one : (sig : List PredOf) (t : Lexeme) (p q : Partial) (rules : List Rule)
-    → move_of sig p t ≡ goes rules q → moves sig (t ∷ []) p ≡ goes rules q
+    → transition sig p t ≡ goes rules q → moves sig (t ∷ []) p ≡ goes rules q
 moves_one sig t p q rules e =
     moves_first sig t [] p q q rules [] e (moves_nothing sig q) ∙ ap (λ x. goes x q) (append-nil rules)
 
-moves_both_at : (sig : List PredOf) (b : List Lexeme) (m : Option Move) (f : Partial → Option Move) (g : Partial → Option Move)
+moves_both_at : (sig : List PredOf) (b : List Lexeme) (m : Option Transition) (f : Partial → Option Transition) (g : Partial → Option Transition)
     → ((p : Partial) → g p ≡ then_moves (f p) (moves sig b)) → then_moves m g ≡ then_moves (then_moves m f) (moves sig b)
 moves_both_at sig b None f g each = refl
 moves_both_at sig b (Some m) f g each = ap (behind_move m) (each m.next) ∙ associated m (f m.next)
   where
-    behind_all : (m n : Move) (o : Option Move) → behind_move m (behind_move n o) ≡ behind_move (record { rules = m.rules ++ n.rules; next = n.next }) o
+    behind_all : (m n : Transition) (o : Option Transition) → behind_move m (behind_move n o) ≡ behind_move (record { rules = m.rules ++ n.rules; next = n.next }) o
     behind_all m n None = refl
     behind_all m n (Some o) = ap (λ x. goes x o.next) (sym (append_assoc m.rules n.rules o.rules))
 
-    associated : (m : Move) (n : Option Move) → behind_move m (then_moves n (moves sig b)) ≡ then_moves (behind_move m n) (moves sig b)
+    associated : (m : Transition) (n : Option Transition) → behind_move m (then_moves n (moves sig b)) ≡ then_moves (behind_move m n) (moves sig b)
     associated m None = refl
     associated m (Some n) = behind_all m n (moves sig b n.next)
 
@@ -65,10 +66,10 @@ pub moves_append : (sig : List PredOf) (a b : List Lexeme) (p : Partial) → mov
 unfolding moves
 moves_append sig [] b p = nothing_before (moves sig b p)
   where
-    nothing_before : (m : Option Move) → m ≡ behind_move (record { rules = []; next = p }) m
+    nothing_before : (m : Option Transition) → m ≡ behind_move (record { rules = []; next = p }) m
     nothing_before None = refl
     nothing_before (Some m) = refl
-moves_append sig (t ∷ a) b p = moves_both_at sig b (move_of sig p t) (moves sig a) (moves sig (a ++ b)) (moves_append sig a b)
+moves_append sig (t ∷ a) b p = moves_both_at sig b (transition sig p t) (moves sig a) (moves sig (a ++ b)) (moves_append sig a b)
 
 pub moves_both : (sig : List PredOf) (a b : List Lexeme) (p q r : Partial) (rules others : List Rule)
     → moves sig a p ≡ goes rules q → moves sig b q ≡ goes others r → moves sig (a ++ b) p ≡ goes (rules ++ others) r
@@ -96,7 +97,7 @@ kept_back (rule ∷ a) b k = kept_back a b k.1
 
 -- the rules are kept exactly where this holds, if no more levels were open before than may be
 abbrev pub Exactly : ℕ → Type 0 → List Rule → Type 0
-Exactly levels keeps rules = (keeps → AreKept rules) × (levels ≤ most_open → AreKept rules → keeps)
+Exactly levels keeps rules = (keeps → AreKept rules) × (levels ≤ max_levels → AreKept rules → keeps)
 
 pub kept_goes : (rules : List Rule) (p : Partial) → AreKept rules → kept rules p ≡ Ok p
 kept_goes [] p k = refl
@@ -105,11 +106,11 @@ kept_goes (rule ∷ rules) p k = ap (λ b. cond b (Err (fault_of rule.limit rule
 pub no_move : {q : Partial} {rules : List Rule} → None ≡ goes rules q → ⊥
 no_move e = cc
 
-next_or : Partial → Option Move → Partial
+next_or : Partial → Option Transition → Partial
 next_or p None = p
 next_or p (Some m) = m.next
 
-rules_in : Option Move → List Rule
+rules_in : Option Transition → List Rule
 rules_in None = []
 rules_in (Some m) = m.rules
 
@@ -122,7 +123,7 @@ unfolding rules_in
 same_rules e = ap rules_in e
 
 -- tokens whose rules are kept are read
-run_behind : (sig : List PredOf) (end : ℕ) (fault : Option LexFault) (ts : List Lexeme) (q : Partial) (rules : List Rule) (m : Move) (o : Option Move)
+run_behind : (sig : List PredOf) (end : ℕ) (fault : Option LexFault) (ts : List Lexeme) (q : Partial) (rules : List Rule) (m : Transition) (o : Option Transition)
     → ((rest : List Rule) → moves sig ts m.next ≡ goes rest q → AreKept rest → run sig end fault ts m.next ≡ run sig end fault [] q)
     → moves sig ts m.next ≡ o → behind_move m o ≡ goes rules q → AreKept rules
     → and_then (kept m.rules m.next) (run sig end fault ts) ≡ run sig end fault [] q
@@ -134,7 +135,7 @@ run_behind sig end fault ts q rules m (Some n) later f g k =
     ap (λ r. and_then r (run sig end fault ts)) (kept_goes m.rules m.next (kept_front m.rules n.rules k_all))
     ∙ later n.rules (f ∙ ap (goes n.rules) there) (kept_back m.rules n.rules k_all)
 
-run_by : (sig : List PredOf) (end : ℕ) (fault : Option LexFault) (t : Lexeme) (ts : List Lexeme) (q : Partial) (rules : List Rule) (m : Option Move)
+run_by : (sig : List PredOf) (end : ℕ) (fault : Option LexFault) (t : Lexeme) (ts : List Lexeme) (q : Partial) (rules : List Rule) (m : Option Transition)
     → ((p : Partial) (rest : List Rule) → moves sig ts p ≡ goes rest q → AreKept rest → run sig end fault ts p ≡ run sig end fault [] q)
     → then_moves m (moves sig ts) ≡ goes rules q → AreKept rules → and_then (given t.at m) (run sig end fault ts) ≡ run sig end fault [] q
 run_by sig end fault t ts q rules None later f k = absurd (no_move f)
@@ -145,4 +146,4 @@ pub run_moves : (sig : List PredOf) (end : ℕ) (fault : Option LexFault) (ts : 
 unfolding moves run step
 run_moves sig end fault [] p q rules e k = ap (run sig end fault []) (same_next e)
 run_moves sig end fault (t ∷ ts) p q rules e k =
-    run_by sig end fault t ts q rules (move_of sig p t) (λ x rest f h. run_moves sig end fault ts x q rest f h) e k
+    run_by sig end fault t ts q rules (transition sig p t) (λ x rest f h. run_moves sig end fault ts x q rest f h) e k

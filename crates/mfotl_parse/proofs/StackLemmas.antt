@@ -6,7 +6,7 @@ use Rattle.mfotl_model.specs.Formulas.{Form}
 use Rattle.mfotl_parse.specs.declared.frame.Frame.{Frame as FrameValue}
 use Rattle.mfotl_model.specs.declared.interval.Interval.{Interval}
 use Rattle.mfotl_parse.specs.Intervals.{with_interval}
-use Rattle.mfotl_parse.specs.Names.{bound_as, inner_or, binder_of}
+use Rattle.mfotl_parse.specs.SymbolTable.{bound_as, inner_or, binder_of}
 use Rattle.mfotl_parse.specs.Operands.{around}
 use Rattle.mfotl_parse.specs.Reading.{is_closed}
 use Rattle.mfotl_parse.specs.Reduction.{Reduced, reduce, hold, closed}

@@ -10,12 +10,13 @@ use Rattle.mfotl_parse.specs.declared.fault.PolicyFault.{PolicyFault}
 use Rattle.mfotl_parse.specs.declared.fault.PolicyFault.TheVariants.{Syntax}
 use Rattle.mfotl_parse.specs.GrammarLaws.{IsFirstFault, EndsViability, EndsTooEarly, ExactSyntax}
 use Rattle.mfotl_parse.specs.Meanings.{tokens_of}
-use Rattle.mfotl_parse.specs.Moves.{Move, given}
-use Rattle.mfotl_parse.specs.Names.{most_free, uneven_pair, vars_of}
-use Rattle.mfotl_parse.specs.Reading.{and_then, move_of, step, run, ended, ended_at, at_end, is_closed, reading}
+use Rattle.mfotl_parse.specs.Transitions.{Transition, given}
+use Rattle.mfotl_parse.specs.SymbolTable.{uneven_pair, vars_of}
+use Rattle.mfotl_parse.specs.Reading.{and_then, transition, step, run, ended, ended_at, at_end, is_closed, reading}
 use Rattle.mfotl_parse.specs.Reduction.{reduce}
-use Rattle.mfotl_parse.specs.States.{Names, Now, Context, Partial, Have, start}
+use Rattle.mfotl_parse.specs.States.{SymbolTable, Stage, Context, Partial, AfterOperand, start}
 use Rattle.mfotl_parse.specs.Viability.{and_steps, steps}
+use Rattle.mfotl_parse.specs.Limits.{max_free}
 use Rattle.mfotl_parse.proofs.FaultLemmas.{never_syntax}
 use Rattle.mfotl_parse.proofs.SilentLaw.{are_read, are_silent}
 use Rattle.mfotl_parse.proofs.SpelledLaw.{never_sorted, syntax_exactly}
@@ -76,13 +77,13 @@ unfolding steps run
 run_behind sig end lexical [] more p q e = let same : p ≡ q = cc in ap (run sig end lexical more) same
 run_behind sig end lexical (t ∷ ts) more p q e = run_step sig end lexical ts more q (step sig p t) (λ x f. run_behind sig end lexical ts more x q f) e
 
-at_token : (at place : ℕ) (m : Option Move) → given at m ≡ Err (Syntax place) → place ≡ at
+at_token : (at place : ℕ) (m : Option Transition) → given at m ≡ Err (Syntax place) → place ≡ at
 at_token at place None e = cc
 at_token at place (Some m) e = absurd (never_syntax m.rules m.next place e)
 
 token_place : (sig : List PredOf) (p : Partial) (t : Lexeme) (at : ℕ) → step sig p t ≡ Err (Syntax at) → at ≡ t.at
 unfolding step
-token_place sig p t at e = at_token t.at at (move_of sig p t) e
+token_place sig p t at e = at_token t.at at (transition sig p t) e
 
 by_token : (sig : List PredOf) (ts : List Lexeme) (at : ℕ) → Stopped sig ts start (Syntax at) → EndsViability sig ts at
 by_token sig ts at s =
@@ -98,12 +99,12 @@ by_token sig ts at s =
       place = place;
     }
 
-ended_place : (n : Names) (f : Form) (closed : Bool) (end at : ℕ) → ended n f closed end ≡ Err (Syntax at) → at ≡ end
-ended_place n f true end at e = absurd (never_sorted n.clash (uneven_pair n) (slice_get n.free most_free) (record { formula = f; vars = vars_of n.free n.free_sorts }) at e)
+ended_place : (n : SymbolTable) (f : Form) (closed : Bool) (end at : ℕ) → ended n f closed end ≡ Err (Syntax at) → at ≡ end
+ended_place n f true end at e = absurd (never_sorted n.clash (uneven_pair n) (slice_get n.free max_free) (record { formula = f; vars = vars_of n.free n.free_sorts }) at e)
 ended_place n f false end at e = cc
 
-end_place : (now : Now) (c : Context) (end at : ℕ) → ended_at now c end ≡ Err (Syntax at) → at ≡ end
-end_place (Have f) c end at e = ended_place c.names (reduce 0 f c.stack).form (is_closed (reduce 0 f c.stack).stack) end at e
+end_place : (now : Stage) (c : Context) (end at : ℕ) → ended_at now c end ≡ Err (Syntax at) → at ≡ end
+end_place (AfterOperand f) c end at e = ended_place c.names (reduce 0 f c.stack).form (is_closed (reduce 0 f c.stack).stack) end at e
 end_place _ c end at e = cc
 
 no_lexical : (lexical : Option LexFault) (end : ℕ) (p : Partial) (at : ℕ) → at_end lexical end p ≡ Err (Syntax at) → (lexical ≡ None) × (ended_at p.now p.context end ≡ Err (Syntax at))

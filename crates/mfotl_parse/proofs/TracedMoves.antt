@@ -8,11 +8,11 @@ use Rattle.mfotl_parse.specs.declared.class.Class.TheVariants as classes
 use Rattle.mfotl_parse.specs.declared.fault.PolicyFault.{PolicyFault}
 use Rattle.mfotl_parse.specs.declared.fault.PolicyFault.TheVariants.{Syntax}
 use Rattle.mfotl_parse.specs.Classes.{class_of}
-use Rattle.mfotl_parse.specs.Moves.{Rule, Move, goes, fault_of}
+use Rattle.mfotl_parse.specs.Transitions.{Rule, Transition, goes, fault_of}
 use Rattle.mfotl_parse.specs.Operands.{operand_move, fresh_move, now_behind}
-use Rattle.mfotl_parse.specs.Reading.{move_at, move_of}
+use Rattle.mfotl_parse.specs.Reading.{transition_at, transition}
 use Rattle.mfotl_parse.specs.Shows.{Showing, if_broken}
-use Rattle.mfotl_parse.specs.States.{Frame, Names, Context, Partial, Want, Fresh}
+use Rattle.mfotl_parse.specs.States.{Frame, SymbolTable, Context, Partial, ExpectOperand, AfterTemporal}
 use Rattle.mfotl_parse.proofs.SpelledMoves.{at_place, behind_move, then_moves, moves, move_is, moves_one, moves_both, no_move, same_next}
 
 -- the faults of the rules that are broken
@@ -20,14 +20,14 @@ abbrev pub broken : List Rule → List PolicyFault
 broken [] = []
 broken (rule ∷ rules) = if_broken rule.broken (fault_of rule.limit rule.at) (broken rules)
 
-abbrev pub traced : ℕ → Option Move → (Partial → Showing) → Showing
+abbrev pub traced : ℕ → Option Transition → (Partial → Showing) → Showing
 traced at None later = (Syntax at ∷ []) ∷ []
 traced at (Some m) later = broken m.rules ∷ later m.next
 
 -- what each token shows, up to the first one that the grammar can't go on with
 unfoldable pub trace : List PredOf → List Lexeme → Partial → Showing
 trace sig [] p = []
-trace sig (t ∷ ts) p = traced t.at (move_of sig p t) (trace sig ts)
+trace sig (t ∷ ts) p = traced t.at (transition sig p t) (trace sig ts)
 
 -- tokens lead from here to there, and show these faults
 pub record Leads (sig : List PredOf) (ts : List Lexeme) (p q : Partial) (shown : Showing) : Type 0 where
@@ -38,36 +38,36 @@ pub record Leads (sig : List PredOf) (ts : List Lexeme) (p q : Partial) (shown :
 module _ (sig : List PredOf) where
   -- one token, and those behind it
   pub trace_move : (t : Lexeme) (ts : List Lexeme) (p q : Partial) (rules : List Rule)
-      → move_of sig p t ≡ goes rules q → trace sig (t ∷ ts) p ≡ broken rules ∷ trace sig ts q
+      → transition sig p t ≡ goes rules q → trace sig (t ∷ ts) p ≡ broken rules ∷ trace sig ts q
   unfolding trace
-  trace_move t ts p q rules e = ap (λ (m : Option Move). traced t.at m (trace sig ts)) e
+  trace_move t ts p q rules e = ap (λ (m : Option Transition). traced t.at m (trace sig ts)) e
 
   pub trace_first : (t : Lexeme) (ts : List Lexeme) (c : Class) (p q : Partial) (rules : List Rule)
-      → class_of t ≡ c → move_at p.now sig p.context t c ≡ goes rules q → trace sig (t ∷ ts) p ≡ broken rules ∷ trace sig ts q
+      → class_of t ≡ c → transition_at p.now sig p.context t c ≡ goes rules q → trace sig (t ∷ ts) p ≡ broken rules ∷ trace sig ts q
   trace_first t ts c p q rules class e = trace_move t ts p q rules (move_is sig p t c class ∙ e)
 
   pub trace_both : (a b : List Lexeme) (p q : Partial) (rules : List Rule)
       → moves sig a p ≡ goes rules q → trace sig (a ++ b) p ≡ trace sig a p ++ trace sig b q
   unfolding trace moves
   trace_both [] b p q rules e = ap (trace sig b) (same_next e)
-  trace_both (t ∷ a) b p q rules e = by_move (move_of sig p t) (λ n rest f. trace_both a b n q rest f) e
+  trace_both (t ∷ a) b p q rules e = by_move (transition sig p t) (λ n rest f. trace_both a b n q rest f) e
     where
-      by_rest : (m : Move) (o : Option Move) → ((n : Partial) (rest : List Rule) → moves sig a n ≡ goes rest q → trace sig (a ++ b) n ≡ trace sig a n ++ trace sig b q)
+      by_rest : (m : Transition) (o : Option Transition) → ((n : Partial) (rest : List Rule) → moves sig a n ≡ goes rest q → trace sig (a ++ b) n ≡ trace sig a n ++ trace sig b q)
           → moves sig a m.next ≡ o → behind_move m o ≡ goes rules q → trace sig (a ++ b) m.next ≡ trace sig a m.next ++ trace sig b q
       by_rest m None later f g = absurd (no_move g)
       by_rest m (Some n) later f g = later m.next n.rules (f ∙ ap (goes n.rules) (same_next g))
 
-      by_move : (m : Option Move) → ((n : Partial) (rest : List Rule) → moves sig a n ≡ goes rest q → trace sig (a ++ b) n ≡ trace sig a n ++ trace sig b q)
+      by_move : (m : Option Transition) → ((n : Partial) (rest : List Rule) → moves sig a n ≡ goes rest q → trace sig (a ++ b) n ≡ trace sig a n ++ trace sig b q)
           → then_moves m (moves sig a) ≡ goes rules q → traced t.at m (trace sig (a ++ b)) ≡ traced t.at m (trace sig a) ++ trace sig b q
       by_move None later f = absurd (no_move f)
       by_move (Some m) later f = ap (λ (x : Showing). broken m.rules ∷ x) (by_rest m (moves sig a m.next) later refl f)
 
-  pub leads_move : (t : Lexeme) (p q : Partial) (rules : List Rule) → move_of sig p t ≡ goes rules q → Leads sig (t ∷ []) p q (broken rules ∷ [])
+  pub leads_move : (t : Lexeme) (p q : Partial) (rules : List Rule) → transition sig p t ≡ goes rules q → Leads sig (t ∷ []) p q (broken rules ∷ [])
   unfolding trace
   leads_move t p q rules e = record { rules = rules; moved = moves_one sig t p q rules e; shows = trace_move t [] p q rules e }
 
   pub leads_one : (t : Lexeme) (c : Class) (p q : Partial) (rules : List Rule)
-      → class_of t ≡ c → move_at p.now sig p.context t c ≡ goes rules q → Leads sig (t ∷ []) p q (broken rules ∷ [])
+      → class_of t ≡ c → transition_at p.now sig p.context t c ≡ goes rules q → Leads sig (t ∷ []) p q (broken rules ∷ [])
   leads_one t c p q rules class e = leads_move t p q rules (move_is sig p t c class ∙ e)
 
   -- some tokens, and then others
@@ -83,7 +83,7 @@ module _ (sig : List PredOf) where
       }
 
   pub leads_first : (t : Lexeme) (ts : List Lexeme) (c : Class) (p q r : Partial) (rules : List Rule) (y : Showing)
-      → class_of t ≡ c → move_at p.now sig p.context t c ≡ goes rules q → Leads sig ts q r y → Leads sig (t ∷ ts) p r (broken rules ∷ y)
+      → class_of t ≡ c → transition_at p.now sig p.context t c ≡ goes rules q → Leads sig ts q r y → Leads sig (t ∷ ts) p r (broken rules ∷ y)
   leads_first t ts c p q r rules y class e k = leads_both (t ∷ []) ts p q r (broken rules ∷ []) y (leads_one t c p q rules class e) k
 
   pub leads_none : (p : Partial) → Leads sig [] p p []
@@ -100,12 +100,12 @@ module _ (sig : List PredOf) where
   fresh_same p t classes.OpenParen square round = absurd (round refl)
   fresh_same p t _ square round = refl
 
-  pub trace_any : (timed : Bool) (t : Lexeme) (ts : List Lexeme) (c : Class) (stack : List Frame) (nodes : ℕ) (names : Names) → class_of t ≡ c → (c ≡ classes.OpenBracket → ⊥) → (c ≡ classes.OpenParen → ⊥)
-      → trace sig (t ∷ ts) (at_place (now_behind timed) stack nodes names) ≡ trace sig (t ∷ ts) (at_place Want stack nodes names)
+  pub trace_any : (timed : Bool) (t : Lexeme) (ts : List Lexeme) (c : Class) (stack : List Frame) (nodes : ℕ) (names : SymbolTable) → class_of t ≡ c → (c ≡ classes.OpenBracket → ⊥) → (c ≡ classes.OpenParen → ⊥)
+      → trace sig (t ∷ ts) (at_place (now_behind timed) stack nodes names) ≡ trace sig (t ∷ ts) (at_place ExpectOperand stack nodes names)
   unfolding trace
   trace_any false t ts c stack nodes names class square round = refl
   trace_any true t ts c stack nodes names class square round =
       let here : Context = record { stack = stack; nodes = nodes; names = names } in
-      let fresh = move_is sig (at_place Fresh stack nodes names) t c class in
-      let want = move_is sig (at_place Want stack nodes names) t c class in
-      ap (λ (m : Option Move). traced t.at m (trace sig ts)) (fresh ∙ fresh_same here t c square round ∙ sym want)
+      let fresh = move_is sig (at_place AfterTemporal stack nodes names) t c class in
+      let want = move_is sig (at_place ExpectOperand stack nodes names) t c class in
+      ap (λ (m : Option Transition). traced t.at m (trace sig ts)) (fresh ∙ fresh_same here t c square round ∙ sym want)

@@ -30,17 +30,18 @@ use Rattle.mfotl_parse.specs.declared.term.Variable.TheVariants as variables
 use Rattle.mfotl_parse.specs.Arguments.{call_of, due, after_due, blanks}
 use Rattle.mfotl_parse.specs.Grammar.{WrittenVariable, WrittenTerm, Named, Number, Quoted, WrittenArgument, Given, Hidden, WrittenArguments, LastArgument, MoreArguments, WrittenVariables, LastVariable, MoreVariables, Tree, Truth, BareAtom, AtomOf, Comparison, Enclosed, Denied, Timed, Quantified, Joined}
 use Rattle.mfotl_parse.specs.Meanings.{Scope, name_of, place_of_variable, place_of, operand_of, term_names, argument_term, argument_names, arguments_terms, arguments_names, atom, variables_names, variables_scope, quantify, interval_of, names_behind, value}
-use Rattle.mfotl_parse.specs.Names.{most_free, number_of, free_place, free_or_new, with_free, bound_or_free, met, bound_more, sort_of, same_sort, agreed, clashed, occurred, occurs, sort_of_value, placed, compared, term_of}
+use Rattle.mfotl_parse.specs.SymbolTable.{number_of, free_place, free_or_new, with_free, bound_or_free, met, bound_more, sort_of, same_sort, agreed, clashed, occurred, require_sort, sort_of_value, constrain_term, compared, term_of}
 use Rattle.mfotl_parse.specs.Operands.{truth}
 use Rattle.mfotl_parse.specs.Reduction.{momentary, joined as joined_form, quantified}
-use Rattle.mfotl_parse.specs.States.{Names}
+use Rattle.mfotl_parse.specs.States.{SymbolTable}
+use Rattle.mfotl_parse.specs.Limits.{max_free}
 use Rattle.mfotl_parse.proofs.NamesOrder.{Grows, placed_grows, compared_grows, term_grows, argument_grows, arguments_grow, tree_grows, sides_grow, found_within}
 
 -- ---- lists of variables
 
 -- the number of a free variable
 abbrev pub is_free : ℕ → Bool
-is_free y = nat_lt y most_free
+is_free y = nat_lt y max_free
 
 abbrev pub free_in : List ℕ → List ℕ
 free_in xs = filter is_free xs
@@ -64,19 +65,19 @@ free_joined xs ys =
     (filter-filter is_free others both (λ y. refl) ys
     ∙ sym (filter-filter free_others is_free both (λ y. both_tests (is_free y) (among y xs) ∙ ap (λ (b : Bool). is_free y && not b) (sym (among_free y xs))) ys))
 
-bound_differs : (x y : ℕ) → most_free ≤ x → is_free y ≡ (not (nat_eq y x) && is_free y)
+bound_differs : (x y : ℕ) → max_free ≤ x → is_free y ≡ (not (nat_eq y x) && is_free y)
 bound_differs x y above = by_test (nat_eq y x) refl
   where
     by_test : (b : Bool) → nat_eq y x ≡ b → is_free y ≡ (not b && is_free y)
-    by_test true e = let same = eqb-true y x e in le-ltb y most_free (omega (arith, same, above))
+    by_test true e = let same = eqb-true y x e in le-ltb y max_free (omega (arith, same, above))
     by_test false e = refl
 
-pub free_without : (x : ℕ) (xs : List ℕ) → most_free ≤ x → free_in (without x xs) ≡ free_in xs
+pub free_without : (x : ℕ) (xs : List ℕ) → max_free ≤ x → free_in (without x xs) ≡ free_in xs
 free_without x xs above = filter-filter is_free (λ y. not (nat_eq y x)) is_free (λ y. bound_differs x y above) xs
 
 -- ---- the free variables that were met
 
-abbrev pub seen : Names → List ℕ
+abbrev pub seen : SymbolTable → List ℕ
 seen n = range_with_len 0 (length n.free)
 
 among_range : (a k n : ℕ) → k < n → among (a + k) (range_with_len a n) ≡ true
@@ -117,19 +118,19 @@ joined_known xs k e = ap (λ (b : Bool). xs ++ cond (not b) (k ∷ []) []) e ∙
 joined_new : (xs : List ℕ) (k : ℕ) → among k xs ≡ false → joined xs (k ∷ []) ≡ xs ++ k ∷ []
 joined_new xs k e = ap (λ (b : Bool). xs ++ cond (not b) (k ∷ []) []) e
 
-free_one : (k : ℕ) → k < most_free → free_in (k ∷ []) ≡ k ∷ []
-free_one k below = ap (λ (b : Bool). cond b (k ∷ []) []) (lt-ltb k most_free below)
+free_one : (k : ℕ) → k < max_free → free_in (k ∷ []) ≡ k ∷ []
+free_one k below = ap (λ (b : Bool). cond b (k ∷ []) []) (lt-ltb k max_free below)
 
-free_none : (k : ℕ) → free_in ((most_free + k) ∷ []) ≡ []
-free_none k = ap (λ (b : Bool). cond b ((most_free + k) ∷ []) []) (le-ltb (most_free + k) most_free (omega arith))
+free_none : (k : ℕ) → free_in ((max_free + k) ∷ []) ≡ []
+free_none k = ap (λ (b : Bool). cond b ((max_free + k) ∷ []) []) (le-ltb (max_free + k) max_free (omega arith))
 
 -- a name that was met
-name_order : (name : List ℕ) (at : ℕ) (n : Names) (bound : Option ℕ) → length (met bound name at n).free ≤ most_free
+name_order : (name : List ℕ) (at : ℕ) (n : SymbolTable) (bound : Option ℕ) → length (met bound name at n).free ≤ max_free
     → joined (seen n) (free_in (number_of (bound_or_free bound name n) ∷ [])) ≡ seen (met bound name at n)
 name_order name at n (Some k) few = ap (joined (seen n)) (free_none k) ∙ joined_nothing (seen n)
 name_order name at n None few = by_place (free_place name n) refl few
   where
-    by_place : (place : Option ℕ) → free_place name n ≡ place → length (with_free place name at n).free ≤ most_free
+    by_place : (place : Option ℕ) → free_place name n ≡ place → length (with_free place name at n).free ≤ max_free
         → joined (seen n) (free_in (number_of (free_or_new place n) ∷ [])) ≡ seen (with_free place name at n)
     by_place (Some place) e below =
         let within = found_within name n place e in
@@ -142,21 +143,21 @@ name_order name at n None few = by_place (free_place name n) refl few
         ∙ joined_new (seen n) (length n.free) (past_range 0 (length n.free) (length n.free) (omega arith))
         ∙ sym (range_more (length n.free)) ∙ ap (range_with_len 0) one_more
 
-term_order : (t : WrittenTerm) (scope : Scope) (n : Names) → length (term_names t scope n).free ≤ most_free
+term_order : (t : WrittenTerm) (scope : Scope) (n : SymbolTable) → length (term_names t scope n).free ≤ max_free
     → joined (seen n) (free_in (variable_in (term_of (operand_of t scope n)))) ≡ seen (term_names t scope n)
 term_order (Named v) scope n few = name_order (name_of v) (place_of_variable v) n (scope (name_of v)) few
 term_order (Number token z) scope n few = joined_nothing (seen n)
 term_order (Quoted token) scope n few = joined_nothing (seen n)
 
 -- sorts change no names
-agreed_free : (before : Sort) (at : ℕ) (sort : Sort) (n : Names) → (agreed before at sort n).free ≡ n.free
+agreed_free : (before : Sort) (at : ℕ) (sort : Sort) (n : SymbolTable) → (agreed before at sort n).free ≡ n.free
 agreed_free before at sort n = by_same (same_sort before sort)
   where
     by_same : (b : Bool) → (cond b n (clashed at n)).free ≡ n.free
     by_same true = refl
     by_same false = refl
 
-occurs_free : (v : Variable) (at : ℕ) (sort : Sort) (n : Names) → (occurs v at sort n).free ≡ n.free
+occurs_free : (v : Variable) (at : ℕ) (sort : Sort) (n : SymbolTable) → (require_sort v at sort n).free ≡ n.free
 occurs_free v at sort n = by_given v (sort_of v n)
   where
     by_given : (w : Variable) (given : Option Sort) → (occurred given w at sort n).free ≡ n.free
@@ -164,25 +165,25 @@ occurs_free v at sort n = by_given v (sort_of v n)
     by_given (variables.Bound k) None = refl
     by_given w (Some before) = agreed_free before at sort n
 
-placed_free : (o : Operand) (at : ℕ) (sort : Sort) (n : Names) → (placed o at sort n).free ≡ n.free
+placed_free : (o : Operand) (at : ℕ) (sort : Sort) (n : SymbolTable) → (constrain_term o at sort n).free ≡ n.free
 placed_free (operands.Variable v) at sort n = occurs_free v at sort n
 placed_free (operands.Constant c) at sort n = agreed_free (sort_of_value c) at sort n
 
-compared_free : (l : Operand) (left_at at : ℕ) (r : Operand) (right_at : ℕ) (n : Names) → (compared l left_at at r right_at n).free ≡ n.free
+compared_free : (l : Operand) (left_at at : ℕ) (r : Operand) (right_at : ℕ) (n : SymbolTable) → (compared l left_at at r right_at n).free ≡ n.free
 compared_free (operands.Variable v) left_at at (operands.Variable w) right_at n = refl
 compared_free (operands.Variable v) left_at at (operands.Constant d) right_at n = occurs_free v left_at (sort_of_value d) n
 compared_free (operands.Constant c) left_at at (operands.Variable w) right_at n = occurs_free w right_at (sort_of_value c) n
 compared_free (operands.Constant c) left_at at (operands.Constant d) right_at n = agreed_free (sort_of_value c) at (sort_of_value d) n
 
-seen_same : (n m : Names) → n.free ≡ m.free → seen n ≡ seen m
+seen_same : (n m : SymbolTable) → n.free ≡ m.free → seen n ≡ seen m
 seen_same n m e = ap (λ (xs : List (List ℕ × ℕ)). range_with_len 0 (length xs)) e
 
-pub fewer : (n m : Names) → Grows n m → length m.free ≤ most_free → length n.free ≤ most_free
+pub fewer : (n m : SymbolTable) → Grows n m → length m.free ≤ max_free → length n.free ≤ max_free
 fewer n m g few = omega (arith, g.free, few)
 
 -- ---- arguments and formulas
 
-argument_order : (a : WrittenArgument) (sort : Sort) (scope : Scope) (n : Names) → length (argument_names a sort scope n).free ≤ most_free
+argument_order : (a : WrittenArgument) (sort : Sort) (scope : Scope) (n : SymbolTable) → length (argument_names a sort scope n).free ≤ max_free
     → joined (seen n) (free_in (variable_in (argument_term a scope n))) ≡ seen (argument_names a sort scope n)
 argument_order (Given t) sort scope n few =
     let there = term_names t scope n in
@@ -190,7 +191,7 @@ argument_order (Given t) sort scope n few =
     term_order t scope n (omega (arith, ap length same, few)) ∙ seen_same there (argument_names (Given t) sort scope n) (sym same)
 argument_order (Hidden token) sort scope n few = ap (joined (seen n)) (free_none (length n.bound_sorts)) ∙ joined_nothing (seen n)
 
-one_then : (n m k : Names) (xs ys : List ℕ) → joined (seen n) (free_in xs) ≡ seen m → joined (seen m) (free_in ys) ≡ seen k → joined (seen n) (free_in (joined xs ys)) ≡ seen k
+one_then : (n m k : SymbolTable) (xs ys : List ℕ) → joined (seen n) (free_in xs) ≡ seen m → joined (seen m) (free_in ys) ≡ seen k → joined (seen n) (free_in (joined xs ys)) ≡ seen k
 one_then n m k xs ys e f =
     ap (joined (seen n)) (free_joined xs ys) ∙ sym (joined_assoc (seen n) (free_in xs) (free_in ys)) ∙ ap (λ (s : List ℕ). joined s (free_in ys)) e ∙ f
 
@@ -198,7 +199,7 @@ pub last_only : (t : Term) → variables_in (t ∷ []) ≡ variable_in t
 last_only (Var x) = refl
 last_only (Const c) = refl
 
-arguments_order : (xs : WrittenArguments) (places : List Sort) (scope : Scope) (n : Names) → length (arguments_names xs places scope n).free ≤ most_free
+arguments_order : (xs : WrittenArguments) (places : List Sort) (scope : Scope) (n : SymbolTable) → length (arguments_names xs places scope n).free ≤ max_free
     → joined (seen n) (free_in (variables_in (arguments_terms xs places scope n))) ≡ seen (arguments_names xs places scope n)
 arguments_order (LastArgument a) places scope n few =
     ap (λ (vs : List ℕ). joined (seen n) (free_in vs)) (last_only (argument_term a scope n)) ∙ argument_order a (due places) scope n few
@@ -211,20 +212,20 @@ arguments_order (MoreArguments a comma rest) places scope n few =
 blanks_order : (count first : ℕ) (f : Form) → free_in (fv (blanks count first f)) ≡ free_in (fv f)
 unfolding fv
 blanks_order zero first f = refl
-blanks_order (suc count) first f = free_without (most_free + first) (fv (blanks count (suc first) f)) (omega arith) ∙ blanks_order count (suc first) f
+blanks_order (suc count) first f = free_without (max_free + first) (fv (blanks count (suc first) f)) (omega arith) ∙ blanks_order count (suc first) f
 
-pub one_order : (q : Quantifier) (k : ℕ) (name : List ℕ) (f : Form) → fv (quantified q k name f) ≡ without (most_free + k) (fv f)
+pub one_order : (q : Quantifier) (k : ℕ) (name : List ℕ) (f : Form) → fv (quantified q k name f) ≡ without (max_free + k) (fv f)
 unfolding fv
 one_order quantifiers.Exists k name f = refl
 one_order quantifiers.Forall k name f = refl
 
-quantify_order : (q : Quantifier) (vs : WrittenVariables) (n : Names) (f : Form) → free_in (fv (quantify q vs n f)) ≡ free_in (fv f)
+quantify_order : (q : Quantifier) (vs : WrittenVariables) (n : SymbolTable) (f : Form) → free_in (fv (quantify q vs n f)) ≡ free_in (fv f)
 quantify_order q (LastVariable v) n f =
-    ap free_in (one_order q (length n.bound_sorts) (name_of v) f) ∙ free_without (most_free + length n.bound_sorts) (fv f) (omega arith)
+    ap free_in (one_order q (length n.bound_sorts) (name_of v) f) ∙ free_without (max_free + length n.bound_sorts) (fv f) (omega arith)
 quantify_order q (MoreVariables v comma rest) n f =
     let body = quantify q rest (bound_more None n) f in
     ap free_in (one_order q (length n.bound_sorts) (name_of v) body)
-    ∙ free_without (most_free + length n.bound_sorts) (fv body) (omega arith) ∙ quantify_order q rest (bound_more None n) f
+    ∙ free_without (max_free + length n.bound_sorts) (fv body) (omega arith) ∙ quantify_order q rest (bound_more None n) f
 
 pub moment_order : (o : Temporal) (i : Interval) (f : Form) → fv (momentary o i f) ≡ fv f
 unfolding fv
@@ -244,7 +245,7 @@ joined_order operators.Equiv i f g = refl
 joined_order operators.Since i f g = refl
 joined_order operators.Until i f g = refl
 
-variables_free : (vs : WrittenVariables) (n : Names) → (variables_names vs n).free ≡ n.free
+variables_free : (vs : WrittenVariables) (n : SymbolTable) → (variables_names vs n).free ≡ n.free
 variables_free (LastVariable v) n = refl
 variables_free (MoreVariables v comma rest) n = variables_free rest (bound_more None n)
 
@@ -258,7 +259,7 @@ atom_fv : (found : Option PredOf) (args : List Term) (outer inner : ℕ) → fre
 unfolding fv
 atom_fv found args outer inner = blanks_order (inner - outer) outer (forms.Atom (record { pred = (call_of found outer).pred; args = args }))
 
-sides_order : (left right : WrittenTerm) (scope : Scope) (n : Names) → length (term_names right scope (term_names left scope n)).free ≤ most_free
+sides_order : (left right : WrittenTerm) (scope : Scope) (n : SymbolTable) → length (term_names right scope (term_names left scope n)).free ≤ max_free
     → joined (seen n) (free_in (variables_in (term_of (operand_of left scope n) ∷ term_of (operand_of right scope (term_names left scope n)) ∷ []))) ≡ seen (term_names right scope (term_names left scope n))
 sides_order left right scope n few =
     let first = term_names left scope n in
@@ -268,7 +269,7 @@ sides_order left right scope n few =
     ∙ one_then n first (term_names right scope first) (variable_in l) (variable_in r) (term_order left scope n (fewer first (term_names right scope first) (term_grows right scope first) few)) (term_order right scope first few)
 
 -- the free variables of a formula come behind those that were met before it
-pub tree_order : (sig : List PredOf) (tree : Tree) (scope : Scope) (n : Names) → length (names_behind sig tree scope n).free ≤ most_free
+pub tree_order : (sig : List PredOf) (tree : Tree) (scope : Scope) (n : SymbolTable) → length (names_behind sig tree scope n).free ≤ max_free
     → joined (seen n) (free_in (fv (value sig tree scope n))) ≡ seen (names_behind sig tree scope n)
 unfolding fv
 tree_order sig (Truth token which) scope n few = ap (λ (vs : List ℕ). joined (seen n) (free_in vs)) (truth_order which) ∙ joined_nothing (seen n)

@@ -12,11 +12,11 @@ use Rattle.mfotl_parse.specs.declared.class.Operator.TheVariants.{And, Or, Impli
 use Rattle.mfotl_parse.specs.declared.fault.PolicyFault.{PolicyFault}
 use Rattle.mfotl_parse.specs.declared.fault.PolicyFault.TheVariants.{Syntax}
 use Rattle.mfotl_parse.specs.Classes.{word_class, operator_class, temporal_class}
-use Rattle.mfotl_parse.specs.Moves.{Limit, Empty, Range, Unknown, Arity, Deep, Nodes, Rule, Move, fault_of, kept, given}
+use Rattle.mfotl_parse.specs.Transitions.{Limit, Empty, Range, Unknown, Arity, Deep, Nodes, Rule, Transition, fault_of, kept, given}
 use Rattle.mfotl_parse.specs.Operands.{around, enclosed_move}
-use Rattle.mfotl_parse.specs.Reading.{PolicyOf, and_then, move_of, step, run, is_closed}
+use Rattle.mfotl_parse.specs.Reading.{PolicyOf, and_then, transition, step, run, is_closed}
 use Rattle.mfotl_parse.specs.Reduction.{Reduced, reduce, closed}
-use Rattle.mfotl_parse.specs.States.{Frame, Parens, Negation, Moment, Binding, Left, Context, Partial, Now, with_stack, start, Want, Fresh, Have, Word, Blank, Marked, Compared, Against, AgainstMarked, First, Next, Taken, ArgumentMarked, Binder, BinderMarked, Bound, Maybe, MaybeNumber, Low, LowNumber, LowDone, High, HighNumber, HighDone, Endless}
+use Rattle.mfotl_parse.specs.States.{Frame, Parens, Negation, Moment, Binding, Left, Context, Partial, Stage, with_stack, start, ExpectOperand, AfterTemporal, AfterOperand, AfterWord, AfterBlank, AfterMark, ExpectSign, AfterSign, AfterSignMark, FirstArgument, NextArgument, AfterArgument, AfterArgumentMark, ExpectVariable, AfterVariableMark, AfterVariable, AfterParen, AfterParenNumber, ExpectLow, AfterLowNumber, AfterLow, ExpectHigh, AfterHighNumber, AfterHigh, AfterStar}
 use Rattle.mfotl_parse.specs.Viability.{if_moved, is_whole, accepts, goes_on, and_steps, steps}
 
 -- ---- the tokens that are due
@@ -42,44 +42,44 @@ comparing = token kinds.Equal (codes "=") ∷ one ∷ []
 abbrev unending : List Lexeme
 unending = token kinds.Star (codes "*") ∷ closing_paren ∷ operand
 
-abbrev due : Now → List Lexeme
-due Want = operand
-due Fresh = operand
-due (Have f) = []
-due (Word at text) = comparing
-due (Blank at) = token kinds.OpenParen (codes "(") ∷ closing_paren ∷ []
-due (Marked mark) = name ∷ comparing
-due (Compared left) = comparing
-due (Against left at sign) = one ∷ []
-due (AgainstMarked left at sign mark) = name ∷ []
-due (First call) = closing_paren ∷ []
-due (Next call) = one ∷ closing_paren ∷ []
-due (Taken call) = closing_paren ∷ []
-due (ArgumentMarked call mark) = name ∷ closing_paren ∷ []
-due (Binder quantifier) = name ∷ token kinds.Dot (codes ".") ∷ operand
-due (BinderMarked quantifier mark) = name ∷ token kinds.Dot (codes ".") ∷ operand
-due (Bound quantifier) = token kinds.Dot (codes ".") ∷ operand
-due (Maybe at) = operand
-due (MaybeNumber at number_at z) = comparing
-due (Low at) = one ∷ token kinds.Comma (codes ",") ∷ unending
-due (LowNumber at number_at n) = token kinds.Comma (codes ",") ∷ unending
-due (LowDone at low) = token kinds.Comma (codes ",") ∷ unending
-due (High at low) = unending
-due (HighNumber at low number_at n) = closing_paren ∷ operand
-due (HighDone at low high) = closing_paren ∷ operand
-due (Endless at low) = closing_paren ∷ operand
+abbrev due : Stage → List Lexeme
+due ExpectOperand = operand
+due AfterTemporal = operand
+due (AfterOperand f) = []
+due (AfterWord at text) = comparing
+due (AfterBlank at) = token kinds.OpenParen (codes "(") ∷ closing_paren ∷ []
+due (AfterMark mark) = name ∷ comparing
+due (ExpectSign left) = comparing
+due (AfterSign left at sign) = one ∷ []
+due (AfterSignMark left at sign mark) = name ∷ []
+due (FirstArgument call) = closing_paren ∷ []
+due (NextArgument call) = one ∷ closing_paren ∷ []
+due (AfterArgument call) = closing_paren ∷ []
+due (AfterArgumentMark call mark) = name ∷ closing_paren ∷ []
+due (ExpectVariable quantifier) = name ∷ token kinds.Dot (codes ".") ∷ operand
+due (AfterVariableMark quantifier mark) = name ∷ token kinds.Dot (codes ".") ∷ operand
+due (AfterVariable quantifier) = token kinds.Dot (codes ".") ∷ operand
+due (AfterParen at) = operand
+due (AfterParenNumber at number_at z) = comparing
+due (ExpectLow at) = one ∷ token kinds.Comma (codes ",") ∷ unending
+due (AfterLowNumber at number_at n) = token kinds.Comma (codes ",") ∷ unending
+due (AfterLow at low) = token kinds.Comma (codes ",") ∷ unending
+due (ExpectHigh at low) = unending
+due (AfterHighNumber at low number_at n) = closing_paren ∷ operand
+due (AfterHigh at low high) = closing_paren ∷ operand
+due (AfterStar at low) = closing_paren ∷ operand
 
-abbrev moved : Option Move → (Partial → Option Partial) → Option Partial
+abbrev moved : Option Transition → (Partial → Option Partial) → Option Partial
 moved None next = None
 moved (Some m) next = next m.next
 
 -- what the grammar makes of these tokens
 unfoldable shifts : List PredOf → List Lexeme → Partial → Option Partial
 shifts sig [] p = Some p
-shifts sig (t ∷ ts) p = moved (move_of sig p t) (shifts sig ts)
+shifts sig (t ∷ ts) p = moved (transition sig p t) (shifts sig ts)
 
-abbrev is_operand : Now → Bool
-is_operand (Have f) = true
+abbrev is_operand : Stage → Bool
+is_operand (AfterOperand f) = true
 is_operand _ = false
 
 abbrev has_operand : Option Partial → Bool
@@ -87,33 +87,33 @@ has_operand None = false
 has_operand (Some p) = is_operand p.now
 
 -- the tokens that are due end in an operand
-due_operand : (sig : List PredOf) (c : Context) (now : Now) → has_operand (shifts sig (due now) (record { context = c; now = now })) ≡ true
-unfolding shifts move_of word_class operator_class temporal_class integer_value digits_value
-due_operand sig c Want = refl
-due_operand sig c Fresh = refl
-due_operand sig c (Have f) = refl
-due_operand sig c (Word at text) = refl
-due_operand sig c (Blank at) = refl
-due_operand sig c (Marked mark) = refl
-due_operand sig c (Compared left) = refl
-due_operand sig c (Against left at sign) = refl
-due_operand sig c (AgainstMarked left at sign mark) = refl
-due_operand sig c (First call) = refl
-due_operand sig c (Next call) = refl
-due_operand sig c (Taken call) = refl
-due_operand sig c (ArgumentMarked call mark) = refl
-due_operand sig c (Binder quantifier) = refl
-due_operand sig c (BinderMarked quantifier mark) = refl
-due_operand sig c (Bound quantifier) = refl
-due_operand sig c (Maybe at) = refl
-due_operand sig c (MaybeNumber at number_at z) = refl
-due_operand sig c (Low at) = refl
-due_operand sig c (LowNumber at number_at n) = refl
-due_operand sig c (LowDone at low) = refl
-due_operand sig c (High at low) = refl
-due_operand sig c (HighNumber at low number_at n) = refl
-due_operand sig c (HighDone at low high) = refl
-due_operand sig c (Endless at low) = refl
+due_operand : (sig : List PredOf) (c : Context) (now : Stage) → has_operand (shifts sig (due now) (record { context = c; now = now })) ≡ true
+unfolding shifts transition word_class operator_class temporal_class integer_value digits_value
+due_operand sig c ExpectOperand = refl
+due_operand sig c AfterTemporal = refl
+due_operand sig c (AfterOperand f) = refl
+due_operand sig c (AfterWord at text) = refl
+due_operand sig c (AfterBlank at) = refl
+due_operand sig c (AfterMark mark) = refl
+due_operand sig c (ExpectSign left) = refl
+due_operand sig c (AfterSign left at sign) = refl
+due_operand sig c (AfterSignMark left at sign mark) = refl
+due_operand sig c (FirstArgument call) = refl
+due_operand sig c (NextArgument call) = refl
+due_operand sig c (AfterArgument call) = refl
+due_operand sig c (AfterArgumentMark call mark) = refl
+due_operand sig c (ExpectVariable quantifier) = refl
+due_operand sig c (AfterVariableMark quantifier mark) = refl
+due_operand sig c (AfterVariable quantifier) = refl
+due_operand sig c (AfterParen at) = refl
+due_operand sig c (AfterParenNumber at number_at z) = refl
+due_operand sig c (ExpectLow at) = refl
+due_operand sig c (AfterLowNumber at number_at n) = refl
+due_operand sig c (AfterLow at low) = refl
+due_operand sig c (ExpectHigh at low) = refl
+due_operand sig c (AfterHighNumber at low number_at n) = refl
+due_operand sig c (AfterHigh at low high) = refl
+due_operand sig c (AfterStar at low) = refl
 
 -- ---- the parentheses that are due
 
@@ -130,7 +130,7 @@ parens_in (Binding quantifier variable bound ∷ stack) = parens_in stack
 parens_in (Left operator interval left ∷ stack) = parens_in stack
 
 abbrev having : Context → List Frame → Form → Partial
-having c stack f = record { context = with_stack c stack; now = Have f }
+having c stack f = record { context = with_stack c stack; now = AfterOperand f }
 
 -- a `)` doesn't see the frames that it closes
 enclosed_alike : (test : Partial → Bool) (c : Context) (above below : List Frame) (f : Form) (o : Option (List Frame))
@@ -141,7 +141,7 @@ enclosed_alike test c above below f (Some stack) = refl
 -- neither does the end
 closed_alike : (sig : List PredOf) (n : ℕ) (c : Context) (above below : List Frame) (f g : Form) → reduce 0 f above ≡ reduce 0 g below
     → accepts sig (parens n) (having c above f) ≡ accepts sig (parens n) (having c below g)
-unfolding accepts move_of
+unfolding accepts transition
 closed_alike sig zero c above below f g same = ap (λ (r : Reduced). is_closed r.stack) same
 closed_alike sig (suc n) c above below f g same =
     ap (λ (r : Reduced). if_moved (enclosed_move (with_stack c above) r.form (around r.stack)) (accepts sig (parens n))) same
@@ -158,7 +158,7 @@ closes_left f Since interval left stack = refl
 closes_left f Until interval left stack = refl
 
 closing : (sig : List PredOf) (stack : List Frame) (c : Context) (f : Form) → accepts sig (parens (parens_in stack)) (having c stack f) ≡ true
-unfolding accepts move_of reduce
+unfolding accepts transition reduce
 closing sig [] c f = refl
 closing sig (Parens ∷ stack) c f = closing sig stack c f
 closing sig (Negation ∷ stack) c f =
@@ -182,17 +182,17 @@ after_due : (sig : List PredOf) (o : Option Partial) → has_operand o ≡ true 
 after_due sig None there = absurd cc
 after_due sig (Some p) there = operand_closes p.context p.now there
   where
-    operand_closes : (c : Context) (now : Now) → is_operand now ≡ true → (q : Partial) × (Some (record { context = c; now = now }) ≡ Some q) × Completes sig q
-    operand_closes c (Have f) there = (record { context = c; now = Have f }, refl, (parens (parens_in c.stack), closing sig c.stack c f))
+    operand_closes : (c : Context) (now : Stage) → is_operand now ≡ true → (q : Partial) × (Some (record { context = c; now = now }) ≡ Some q) × Completes sig q
+    operand_closes c (AfterOperand f) there = (record { context = c; now = AfterOperand f }, refl, (parens (parens_in c.stack), closing sig c.stack c f))
     operand_closes c _ there = absurd cc
 
 -- tokens that the grammar takes, and then those that end the text
 accepts_behind : (sig : List PredOf) (ts more : List Lexeme) (p q : Partial) → shifts sig ts p ≡ Some q → accepts sig more q ≡ true → accepts sig (ts ++ more) p ≡ true
 unfolding accepts shifts
 accepts_behind sig [] more p q same ends = let one : p ≡ q = cc in ap (accepts sig more) one ∙ ends
-accepts_behind sig (t ∷ ts) more p q same ends = by_move (move_of sig p t) (λ n so. accepts_behind sig ts more n q so ends) same
+accepts_behind sig (t ∷ ts) more p q same ends = by_move (transition sig p t) (λ n so. accepts_behind sig ts more n q so ends) same
   where
-    by_move : (m : Option Move) → ((n : Partial) → shifts sig ts n ≡ Some q → accepts sig (ts ++ more) n ≡ true)
+    by_move : (m : Option Transition) → ((n : Partial) → shifts sig ts n ≡ Some q → accepts sig (ts ++ more) n ≡ true)
         → moved m (shifts sig ts) ≡ Some q → if_moved m (accepts sig (ts ++ more)) ≡ true
     by_move None further same = absurd cc
     by_move (Some m) further same = further m.next same

@@ -18,7 +18,7 @@ use Rattle.mfotl_sig.specs.Preds.{PredOf}
 use Rattle.mfotl_parse.specs.declared.fault.PolicyFault.{PolicyFault}
 use Rattle.mfotl_parse.specs.declared.fault.PolicyFault.TheVariants.{Lex, Syntax, EmptyInterval, BoundRange, UnknownPredicate, WrongArity, SortClash, TooManyVariables, TooDeep, TooManyNodes}
 use Rattle.mfotl_parse.specs.Reading.{run, reading}
-use Rattle.mfotl_parse.specs.States.{no_names, Want}
+use Rattle.mfotl_parse.specs.States.{no_names, ExpectOperand}
 
 abbrev pub eight_integers : List Sort
 eight_integers = sorts.Int ∷ sorts.Int ∷ sorts.Int ∷ sorts.Int ∷ sorts.Int ∷ sorts.Int ∷ sorts.Int ∷ sorts.Int ∷ []
@@ -180,7 +180,7 @@ pub record BoundExamples : Type 0 where
 abbrev pub FailsBehind : ℕ → List ℕ → PolicyFault → Type 0
 FailsBehind nodes text fault =
     run preds (length text) (tokens_of text).fault (tokens_of text).list
-    (record { context = record { stack = []; nodes = nodes; names = no_names }; now = Want }) ≡ Err fault
+    (record { context = record { stack = []; nodes = nodes; names = no_names }; now = ExpectOperand }) ≡ Err fault
 
 -- which token makes a node too many
 pub record NodeExamples : Type 0 where

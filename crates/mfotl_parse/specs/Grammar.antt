@@ -23,8 +23,6 @@ use Rattle.mfotl_parse.specs.declared.class.Operator.TheVariants.{And, Or, Impli
 use Rattle.mfotl_parse.specs.declared.class.Quantifier.{Quantifier}
 use Rattle.mfotl_parse.specs.declared.class.Temporal.{Temporal}
 use Rattle.mfotl_parse.specs.Classes.{class_of, unit_of}
-use Rattle.mfotl_parse.specs.Operands.{is_timed}
-use Rattle.mfotl_parse.specs.Reduction.{level, right_rule}
 
 -- ---- what is written, with its tokens
 
@@ -175,14 +173,49 @@ FitsOperator false interval = interval ≡ Omitted
 abbrev pub IsAtomName : Lexeme → Type 0
 IsAtomName t = (class_of t ≡ classes.Name) ⊎ (class_of t ≡ classes.Blank)
 
+-- the rule that an operator makes: 1 EQUIV, 2 IMPLIES, 3 OR, 4 AND, 5 SINCE and UNTIL
+abbrev pub precedence : Operator → ℕ
+precedence Equiv = 1
+precedence Implies = 2
+precedence Or = 3
+precedence And = 4
+precedence Since = 5
+precedence Until = 5
+
+-- the rule of an operator's right operand: IMPLIES, SINCE and UNTIL group to the right, the others to the left
+abbrev pub right_precedence : Operator → ℕ
+right_precedence Equiv = 2
+right_precedence Implies = 2
+right_precedence Or = 4
+right_precedence And = 5
+right_precedence Since = 5
+right_precedence Until = 5
+
+abbrev pub is_timed : Operator → Bool
+is_timed And = false
+is_timed Or = false
+is_timed Implies = false
+is_timed Equiv = false
+is_timed Since = true
+is_timed Until = true
+
+-- the operators whose right operand is a precedence of its own
+abbrev pub deepens : Operator → Bool
+deepens And = false
+deepens Or = false
+deepens Implies = true
+deepens Equiv = false
+deepens Since = true
+deepens Until = true
+
 -- the rule of an operator's left operand, by the numbers of the rules
-abbrev pub left_rule : Operator → ℕ
-left_rule Equiv = 1
-left_rule Implies = 3
-left_rule Or = 3
-left_rule And = 4
-left_rule Since = 6
-left_rule Until = 6
+abbrev pub left_precedence : Operator → ℕ
+left_precedence Equiv = 1
+left_precedence Implies = 3
+left_precedence Or = 3
+left_precedence And = 4
+left_precedence Since = 6
+left_precedence Until = 6
 
 -- no quantifier's body reaches to the end: only such a tree stands left of an operator
 abbrev pub is_shut : Tree → Bool
@@ -212,8 +245,8 @@ Fits rule (Timed token operator interval inside) =
 Fits rule (Quantified token quantifier variables dot inside) =
     (class_of token ≡ classes.Quantifier quantifier) × FitsVariables variables × (class_of dot ≡ classes.Dot) × Fits 1 inside
 Fits rule (Joined left token operator interval right) =
-    (rule ≤ level operator) × Fits (left_rule operator) left × (is_shut left ≡ true) × (class_of token ≡ classes.Operator operator)
-    × FitsOperator (is_timed operator) interval × Fits (right_rule operator) right
+    (rule ≤ precedence operator) × Fits (left_precedence operator) left × (is_shut left ≡ true) × (class_of token ≡ classes.Operator operator)
+    × FitsOperator (is_timed operator) interval × Fits (right_precedence operator) right
 
 -- the tokens are those of a formula, the other rules apart
 abbrev pub IsFormula : List Lexeme → Type 0

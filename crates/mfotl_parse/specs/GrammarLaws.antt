@@ -8,11 +8,12 @@ use Rattle.mfotl_parse.specs.declared.fault.PolicyFault.{PolicyFault}
 use Rattle.mfotl_parse.specs.declared.fault.PolicyFault.TheVariants.{Lex, Syntax, SortClash, TooManyVariables, Memory}
 use Rattle.mfotl_parse.specs.Grammar.{Tree, Fits, spelling, IsFormula, BeginsFormula}
 use Rattle.mfotl_parse.specs.Meanings.{IsValue, all_names, tokens_of}
-use Rattle.mfotl_parse.specs.Names.{most_free, uneven_pair, clash_or_pair}
+use Rattle.mfotl_parse.specs.SymbolTable.{uneven_pair, clash_or_pair}
 use Rattle.mfotl_parse.specs.Reading.{PolicyOf, step, ended_at, reading}
 use Rattle.mfotl_parse.specs.Shows.{Showing, silent, shown_by}
 use Rattle.mfotl_parse.specs.States.{Partial, start}
 use Rattle.mfotl_parse.specs.Viability.{accepts, steps}
+use Rattle.mfotl_parse.specs.Limits.{max_free}
 
 -- the reader takes exactly the formulas of the grammar, the other rules apart
 abbrev pub AcceptedExactly : Type 0
@@ -129,7 +130,7 @@ sort_clash sig tree = clash_or_pair (all_names sig tree).clash (uneven_pair (all
 
 -- where its ninth free variable stands first
 abbrev pub ninth_variable : List PredOf → Tree → Option ℕ
-ninth_variable sig tree = option_map (λ known. known.1) (slice_get (all_names sig tree).free most_free)
+ninth_variable sig tree = option_map (λ known. known.1) (slice_get (all_names sig tree).free max_free)
 
 -- sorts clash in a text without another fault
 pub record SortsClash (bytes : List ℕ) (sig : List PredOf) (at : ℕ) : Type 0 where

@@ -8,8 +8,9 @@ use Rattle.mfotl_model.specs.declared.interval.Interval.{Interval}
 use Rattle.mfotl_parse.specs.declared.class.Class.{Class}
 use Rattle.mfotl_parse.specs.declared.class.Class.TheVariants as classes
 use Rattle.mfotl_parse.specs.Classes.{class_of, unit_of}
-use Rattle.mfotl_parse.specs.Moves.{Range, Empty, Rule, Move, goes}
-use Rattle.mfotl_parse.specs.States.{Frame, Parens, Negation, Moment, Binding, Left, Context, Partial, with_now, with_stack, Want, Low, LowNumber, LowDone, High, HighNumber, HighDone, Endless}
+use Rattle.mfotl_parse.specs.Transitions.{Range, Empty, Rule, Transition, goes}
+use Rattle.mfotl_parse.specs.States.{Frame, Parens, Negation, Moment, Binding, Left, Context, Partial, with_now, with_stack, ExpectOperand, ExpectLow, AfterLowNumber, AfterLow, ExpectHigh, AfterHighNumber, AfterHigh, AfterStar}
+use Rattle.mfotl_parse.specs.Limits.{max_bound}
 
 pub endless_ordered : (low : ℕ) → ForSome None (λ h. low ≤ h)
 endless_ordered low = λ h e. absurd cc
@@ -38,12 +39,9 @@ abbrev pub with_interval : Interval → List Frame → List Frame
 with_interval interval [] = []
 with_interval interval (frame ∷ stack) = framed interval frame ∷ stack
 
-abbrev pub most_bound : ℕ
-most_bound = 2 ^ 62
-
 -- a bound may be this long; its number stands at the offset
 abbrev pub in_range : ℕ → ℕ → Rule
-in_range at bound = record { broken = nat_lt most_bound bound; limit = Range; at = at }
+in_range at bound = record { broken = nat_lt max_bound bound; limit = Range; at = at }
 
 -- some number from low on lies below the end
 abbrev pub not_empty : ℕ → ℕ → ℕ → Rule
@@ -51,49 +49,49 @@ not_empty at low end = record { broken = nat_le end low; limit = Empty; at = at 
 
 -- behind the interval
 abbrev pub timed : Context → ℕ → Option ℕ → Partial
-timed p low high = with_now (with_stack p (with_interval (distances low high) p.stack)) Want
+timed p low high = with_now (with_stack p (with_interval (distances low high) p.stack)) ExpectOperand
 
 -- the bracket behind an upper bound: `]` includes it and `)` doesn't
-abbrev pub bracket : Context → ℕ → ℕ → ℕ → Class → Option Move
+abbrev pub bracket : Context → ℕ → ℕ → ℕ → Class → Option Transition
 bracket p at low high classes.CloseBracket = goes (not_empty at low (high + 1) ∷ []) (timed p low (Some high))
 bracket p at low high classes.CloseParen = goes (not_empty at low high ∷ []) (timed p low (Some (high - 1)))
 bracket p at low high _ = None
 
-abbrev pub low_move : Context → ℕ → Lexeme → Class → Option Move
-low_move p at t (classes.Integer (pos n)) = goes (in_range t.at n ∷ []) (with_now p (LowNumber at t.at n))
+abbrev pub low_move : Context → ℕ → Lexeme → Class → Option Transition
+low_move p at t (classes.Integer (pos n)) = goes (in_range t.at n ∷ []) (with_now p (AfterLowNumber at t.at n))
 low_move p at t _ = None
 
 -- the unit behind a lower bound's number
-abbrev pub low_unit : Context → ℕ → ℕ → ℕ → Option ℕ → Option Move
+abbrev pub low_unit : Context → ℕ → ℕ → ℕ → Option ℕ → Option Transition
 low_unit p at number_at n None = None
-low_unit p at number_at n (Some unit) = goes (in_range number_at (n * unit) ∷ []) (with_now p (LowDone at (n * unit)))
+low_unit p at number_at n (Some unit) = goes (in_range number_at (n * unit) ∷ []) (with_now p (AfterLow at (n * unit)))
 
-abbrev pub low_number_move : Context → ℕ → ℕ → ℕ → Lexeme → Class → Option Move
-low_number_move p at number_at n t classes.Comma = goes [] (with_now p (High at n))
+abbrev pub low_number_move : Context → ℕ → ℕ → ℕ → Lexeme → Class → Option Transition
+low_number_move p at number_at n t classes.Comma = goes [] (with_now p (ExpectHigh at n))
 low_number_move p at number_at n t classes.Name = low_unit p at number_at n (unit_of t.text)
 low_number_move p at number_at n t _ = None
 
-abbrev pub low_done_move : Context → ℕ → ℕ → Class → Option Move
-low_done_move p at low classes.Comma = goes [] (with_now p (High at low))
+abbrev pub low_done_move : Context → ℕ → ℕ → Class → Option Transition
+low_done_move p at low classes.Comma = goes [] (with_now p (ExpectHigh at low))
 low_done_move p at low _ = None
 
-abbrev pub high_move : Context → ℕ → ℕ → Lexeme → Class → Option Move
-high_move p at low t (classes.Integer (pos n)) = goes (in_range t.at n ∷ []) (with_now p (HighNumber at low t.at n))
-high_move p at low t classes.Star = goes [] (with_now p (Endless at low))
+abbrev pub high_move : Context → ℕ → ℕ → Lexeme → Class → Option Transition
+high_move p at low t (classes.Integer (pos n)) = goes (in_range t.at n ∷ []) (with_now p (AfterHighNumber at low t.at n))
+high_move p at low t classes.Star = goes [] (with_now p (AfterStar at low))
 high_move p at low t _ = None
 
-abbrev pub high_unit : Context → ℕ → ℕ → ℕ → ℕ → Option ℕ → Option Move
+abbrev pub high_unit : Context → ℕ → ℕ → ℕ → ℕ → Option ℕ → Option Transition
 high_unit p at low number_at n None = None
-high_unit p at low number_at n (Some unit) = goes (in_range number_at (n * unit) ∷ []) (with_now p (HighDone at low (n * unit)))
+high_unit p at low number_at n (Some unit) = goes (in_range number_at (n * unit) ∷ []) (with_now p (AfterHigh at low (n * unit)))
 
-abbrev pub high_number_move : Context → ℕ → ℕ → ℕ → ℕ → Lexeme → Class → Option Move
+abbrev pub high_number_move : Context → ℕ → ℕ → ℕ → ℕ → Lexeme → Class → Option Transition
 high_number_move p at low number_at n t classes.Name = high_unit p at low number_at n (unit_of t.text)
 high_number_move p at low number_at n t class = bracket p at low n class
 
-abbrev pub endless_move : Context → ℕ → Class → Option Move
+abbrev pub endless_move : Context → ℕ → Class → Option Transition
 endless_move p low classes.CloseParen = goes [] (timed p low None)
 endless_move p low _ = None
 
 -- a bound with its unit, unless it is too long
 abbrev pub bound_of : ℕ → ℕ → Option ℕ
-bound_of n unit = if nat_lt most_bound (n * unit) then None else Some (n * unit)
+bound_of n unit = if nat_lt max_bound (n * unit) then None else Some (n * unit)

@@ -1,8 +1,9 @@
+pub mod Limits
 pub mod Classes
 pub mod States
-pub mod Names
+pub mod SymbolTable
 pub mod Reduction
-pub mod Moves
+pub mod Transitions
 pub mod Operands
 pub mod Intervals
 pub mod Arguments

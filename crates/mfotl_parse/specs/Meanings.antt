@@ -17,14 +17,14 @@ use Rattle.mfotl_parse.specs.declared.class.Quantifier.{Quantifier}
 use Rattle.mfotl_parse.specs.declared.term.Operand.{Operand}
 use Rattle.mfotl_parse.specs.declared.term.Operand.TheVariants as operands
 use Rattle.mfotl_parse.specs.Arguments.{call_of, due, after_due, blanks}
-use Rattle.mfotl_parse.specs.Grammar.{WrittenVariable, Bare, Asked, WrittenTerm, Named, Number, Quoted, WrittenArgument, Given, Hidden, WrittenArguments, LastArgument, MoreArguments, WrittenVariables, LastVariable, MoreVariables, WrittenBound, Count, Counted, WrittenEnd, Included, Excluded, Unbounded, WrittenInterval, Omitted, From, Above, Tree, Truth, BareAtom, AtomOf, Comparison, Enclosed, Denied, Timed, Quantified, Joined, Fits, spelling}
-use Rattle.mfotl_parse.specs.Intervals.{distances, any_distance, most_bound}
-use Rattle.mfotl_parse.specs.Moves.{most_open, most_nodes}
-use Rattle.mfotl_parse.specs.Names.{most_free, bound_or_free, met, bound_more, placed, compared, term_of, inner_or, uneven_pair, vars_of}
+use Rattle.mfotl_parse.specs.Grammar.{WrittenVariable, Bare, Asked, WrittenTerm, Named, Number, Quoted, WrittenArgument, Given, Hidden, WrittenArguments, LastArgument, MoreArguments, WrittenVariables, LastVariable, MoreVariables, WrittenBound, Count, Counted, WrittenEnd, Included, Excluded, Unbounded, WrittenInterval, Omitted, From, Above, Tree, Truth, BareAtom, AtomOf, Comparison, Enclosed, Denied, Timed, Quantified, Joined, Fits, spelling, deepens}
+use Rattle.mfotl_parse.specs.Intervals.{distances, any_distance}
+use Rattle.mfotl_parse.specs.SymbolTable.{bound_or_free, met, bound_more, constrain_term, compared, term_of, inner_or, uneven_pair, vars_of}
 use Rattle.mfotl_parse.specs.Operands.{truth}
 use Rattle.mfotl_parse.specs.Reading.{PolicyOf}
 use Rattle.mfotl_parse.specs.Reduction.{momentary, joined, quantified}
-use Rattle.mfotl_parse.specs.States.{Names, no_names, deepens}
+use Rattle.mfotl_parse.specs.States.{SymbolTable, no_names}
+use Rattle.mfotl_parse.specs.Limits.{max_levels, max_nodes, max_free, max_bound}
 
 -- the bound variable that a name stands for, where it stands for one
 abbrev pub Scope : Type 0
@@ -49,33 +49,33 @@ place_of (Named variable) = place_of_variable variable
 place_of (Number token value) = token.at
 place_of (Quoted token) = token.at
 
-abbrev pub operand_of : WrittenTerm → Scope → Names → Operand
+abbrev pub operand_of : WrittenTerm → Scope → SymbolTable → Operand
 operand_of (Named variable) scope n = operands.Variable (bound_or_free (scope (name_of variable)) (name_of variable) n)
 operand_of (Number token value) scope n = operands.Constant (values.Int value)
 operand_of (Quoted token) scope n = operands.Constant (values.Text (content_of token.kind token.text))
 
 -- after the term was met
-abbrev pub term_names : WrittenTerm → Scope → Names → Names
+abbrev pub term_names : WrittenTerm → Scope → SymbolTable → SymbolTable
 term_names (Named variable) scope n = met (scope (name_of variable)) (name_of variable) (place_of_variable variable) n
 term_names (Number token value) scope n = n
 term_names (Quoted token) scope n = n
 
 -- ---- atoms: each `_` is a variable of its own
 
-abbrev pub argument_term : WrittenArgument → Scope → Names → Term
+abbrev pub argument_term : WrittenArgument → Scope → SymbolTable → Term
 argument_term (Given term) scope n = term_of (operand_of term scope n)
-argument_term (Hidden token) scope n = terms.Var (most_free + length n.bound_sorts)
+argument_term (Hidden token) scope n = terms.Var (max_free + length n.bound_sorts)
 
-abbrev pub argument_names : WrittenArgument → Sort → Scope → Names → Names
-argument_names (Given term) sort scope n = placed (operand_of term scope n) (place_of term) sort (term_names term scope n)
+abbrev pub argument_names : WrittenArgument → Sort → Scope → SymbolTable → SymbolTable
+argument_names (Given term) sort scope n = constrain_term (operand_of term scope n) (place_of term) sort (term_names term scope n)
 argument_names (Hidden token) sort scope n = bound_more (Some sort) n
 
-abbrev pub arguments_terms : WrittenArguments → List Sort → Scope → Names → List Term
+abbrev pub arguments_terms : WrittenArguments → List Sort → Scope → SymbolTable → List Term
 arguments_terms (LastArgument a) sorts scope n = argument_term a scope n ∷ []
 arguments_terms (MoreArguments a comma rest) sorts scope n =
     argument_term a scope n ∷ arguments_terms rest (after_due sorts) scope (argument_names a (due sorts) scope n)
 
-abbrev pub arguments_names : WrittenArguments → List Sort → Scope → Names → Names
+abbrev pub arguments_names : WrittenArguments → List Sort → Scope → SymbolTable → SymbolTable
 arguments_names (LastArgument a) sorts scope n = argument_names a (due sorts) scope n
 arguments_names (MoreArguments a comma rest) sorts scope n =
     arguments_names rest (after_due sorts) scope (argument_names a (due sorts) scope n)
@@ -90,16 +90,16 @@ atom found args outer inner = blanks (inner - outer) outer (forms.Atom (record {
 
 -- ---- quantifiers and intervals
 
-abbrev pub variables_names : WrittenVariables → Names → Names
+abbrev pub variables_names : WrittenVariables → SymbolTable → SymbolTable
 variables_names (LastVariable v) n = bound_more None n
 variables_names (MoreVariables v comma rest) n = variables_names rest (bound_more None n)
 
-abbrev pub variables_scope : WrittenVariables → Names → Scope → Scope
+abbrev pub variables_scope : WrittenVariables → SymbolTable → Scope → Scope
 variables_scope (LastVariable v) n scope = inside (name_of v) (length n.bound_sorts) scope
 variables_scope (MoreVariables v comma rest) n scope = variables_scope rest (bound_more None n) (inside (name_of v) (length n.bound_sorts) scope)
 
 -- the first variable outermost
-abbrev pub quantify : Quantifier → WrittenVariables → Names → Form → Form
+abbrev pub quantify : Quantifier → WrittenVariables → SymbolTable → Form → Form
 quantify q (LastVariable v) n f = quantified q (length n.bound_sorts) (name_of v) f
 quantify q (MoreVariables v comma rest) n f = quantified q (length n.bound_sorts) (name_of v) (quantify q rest (bound_more None n) f)
 
@@ -120,7 +120,7 @@ interval_of (Above opening low comma end) = interval_from (bound_value low + 1) 
 -- ---- formulas
 
 -- the names after the formula was read
-abbrev pub names_behind : List PredOf → Tree → Scope → Names → Names
+abbrev pub names_behind : List PredOf → Tree → Scope → SymbolTable → SymbolTable
 names_behind sig (Truth token value) scope n = n
 names_behind sig (BareAtom name opening closing) scope n = n
 names_behind sig (AtomOf name opening arguments closing) scope n =
@@ -135,7 +135,7 @@ names_behind sig (Quantified token quantifier variables dot body) scope n =
     names_behind sig body (variables_scope variables n scope) (variables_names variables n)
 names_behind sig (Joined left token operator interval right) scope n = names_behind sig right scope (names_behind sig left scope n)
 
-abbrev pub value : List PredOf → Tree → Scope → Names → Form
+abbrev pub value : List PredOf → Tree → Scope → SymbolTable → Form
 value sig (Truth token which) scope n = truth which
 value sig (BareAtom name opening closing) scope n = atom (named name.text sig) [] (length n.bound_sorts) (length n.bound_sorts)
 value sig (AtomOf name opening arguments closing) scope n =
@@ -207,7 +207,7 @@ HasArity None count = ⊥
 HasArity (Some pred) count = length pred.sorts ≡ count
 
 abbrev pub InRange : WrittenBound → Type 0
-InRange bound = bound_value bound ≤ most_bound
+InRange bound = bound_value bound ≤ max_bound
 
 abbrev pub EndKeeps : ℕ → WrittenEnd → Type 0
 EndKeeps low (Included high closing) = InRange high × (low ≤ bound_value high)
@@ -237,20 +237,20 @@ abbrev pub no_scope : Scope
 no_scope name = None
 
 -- the names after the whole policy was read
-abbrev pub all_names : List PredOf → Tree → Names
+abbrev pub all_names : List PredOf → Tree → SymbolTable
 all_names sig tree = names_behind sig tree no_scope no_names
 
 pub record KeepsRules (sig : List PredOf) (tree : Tree) : Type 0 where
   pub parts : PartsKeep sig tree
   -- at most 4,096 nodes
-  pub few_nodes : node_count tree ≤ most_nodes
+  pub few_nodes : node_count tree ≤ max_nodes
   -- at most 64 levels open at once
-  pub few_levels : nesting tree ≤ most_open
+  pub few_levels : nesting tree ≤ max_levels
   -- no two occurrences or constants clash, and no two compared variables
   pub unclashed : (all_names sig tree).clash ≡ None
   pub even : uneven_pair (all_names sig tree) ≡ None
   -- at most 8 free variables
-  pub few_free : length (all_names sig tree).free ≤ most_free
+  pub few_free : length (all_names sig tree).free ≤ max_free
 
 abbrev pub tokens_of : List ℕ → Tokens
 tokens_of bytes = tokens (beginning Plain bytes)

@@ -19,10 +19,12 @@ use Rattle.mfotl_parse.specs.declared.term.Side.{Side}
 use Rattle.mfotl_parse.specs.Arguments.{called}
 use Rattle.mfotl_parse.specs.Classes.{unit_of}
 use Rattle.mfotl_parse.specs.Intervals.{any_distance, in_range}
-use Rattle.mfotl_parse.specs.Moves.{Rule, Move, goes, first_keeps, shallow, few, most_nodes}
-use Rattle.mfotl_parse.specs.Names.{variable_of, noted, bound_more, compared, term_of}
-use Rattle.mfotl_parse.specs.Reduction.{Reduced, reduce, level}
-use Rattle.mfotl_parse.specs.States.{Now, Frame, Parens, Negation, Moment, Binding, Left, deepens, Context, Partial, with_now, with_stack, with_names, counted, pushed, Want, Fresh, Have, Word, Blank, Marked, Compared, Against, AgainstMarked, Binder, BinderMarked, Bound, Maybe, MaybeNumber, Low, LowDone, High}
+use Rattle.mfotl_parse.specs.Transitions.{Rule, Transition, goes, first_keeps, within_depth, within_nodes}
+use Rattle.mfotl_parse.specs.SymbolTable.{resolved, noted, bound_more, compared, term_of}
+use Rattle.mfotl_parse.specs.Reduction.{Reduced, reduce}
+use Rattle.mfotl_parse.specs.States.{Stage, Frame, Parens, Negation, Moment, Binding, Left, Context, Partial, with_now, with_stack, with_names, counted, pushed, ExpectOperand, AfterTemporal, AfterOperand, AfterWord, AfterBlank, AfterMark, ExpectSign, AfterSign, AfterSignMark, ExpectVariable, AfterVariableMark, AfterVariable, AfterParen, AfterParenNumber, ExpectLow, AfterLow, ExpectHigh}
+use Rattle.mfotl_parse.specs.Limits.{max_nodes}
+use Rattle.mfotl_parse.specs.Grammar.{is_timed, precedence, deepens}
 
 abbrev pub truth : Bool → Form
 truth true = forms.True
@@ -32,86 +34,86 @@ truth false = forms.False
 abbrev pub prefixed : Context → Frame → Context
 prefixed p frame = pushed frame (counted p)
 
-abbrev pub opened : Context → ℕ → Option Move
-opened p at = goes (shallow at p.stack ∷ []) (with_now (pushed Parens p) Want)
+abbrev pub opened : Context → ℕ → Option Transition
+opened p at = goes (within_depth at p.stack ∷ []) (with_now (pushed Parens p) ExpectOperand)
 
 -- where an operand is due
-abbrev pub operand_move : Context → Lexeme → Class → Option Move
-operand_move p t (classes.Truth value) = goes (few t.at p.nodes ∷ []) (with_now (counted p) (Have (truth value)))
+abbrev pub operand_move : Context → Lexeme → Class → Option Transition
+operand_move p t (classes.Truth value) = goes (within_nodes t.at p.nodes ∷ []) (with_now (counted p) (AfterOperand (truth value)))
 operand_move p t classes.Not =
-    goes (shallow t.at p.stack ∷ few t.at p.nodes ∷ []) (with_now (prefixed p Negation) Want)
+    goes (within_depth t.at p.stack ∷ within_nodes t.at p.nodes ∷ []) (with_now (prefixed p Negation) ExpectOperand)
 operand_move p t (classes.Temporal operator) =
-    goes (shallow t.at p.stack ∷ few t.at p.nodes ∷ []) (with_now (prefixed p (Moment operator any_distance)) Fresh)
-operand_move p t (classes.Quantifier quantifier) = goes [] (with_now p (Binder quantifier))
-operand_move p t classes.Name = goes [] (with_now p (Word t.at t.text))
-operand_move p t classes.Blank = goes [] (with_now p (Blank t.at))
+    goes (within_depth t.at p.stack ∷ within_nodes t.at p.nodes ∷ []) (with_now (prefixed p (Moment operator any_distance)) AfterTemporal)
+operand_move p t (classes.Quantifier quantifier) = goes [] (with_now p (ExpectVariable quantifier))
+operand_move p t classes.Name = goes [] (with_now p (AfterWord t.at t.text))
+operand_move p t classes.Blank = goes [] (with_now p (AfterBlank t.at))
 operand_move p t (classes.Integer z) =
-    goes [] (with_now p (Compared (record { at = t.at; operand = operands.Constant (values.Int z) })))
+    goes [] (with_now p (ExpectSign (record { at = t.at; operand = operands.Constant (values.Int z) })))
 operand_move p t classes.Text =
-    goes [] (with_now p (Compared (record { at = t.at; operand = operands.Constant (values.Text (content_of t.kind t.text)) })))
+    goes [] (with_now p (ExpectSign (record { at = t.at; operand = operands.Constant (values.Text (content_of t.kind t.text)) })))
 operand_move p t classes.OpenParen = opened p t.at
-operand_move p t classes.Question = goes [] (with_now p (Marked t.at))
+operand_move p t classes.Question = goes [] (with_now p (AfterMark t.at))
 operand_move p t _ = None
 
 -- behind a temporal operator
-abbrev pub fresh_move : Context → Lexeme → Class → Option Move
-fresh_move p t classes.OpenBracket = goes [] (with_now p (Low t.at))
-fresh_move p t classes.OpenParen = goes [] (with_now p (Maybe t.at))
+abbrev pub fresh_move : Context → Lexeme → Class → Option Transition
+fresh_move p t classes.OpenBracket = goes [] (with_now p (ExpectLow t.at))
+fresh_move p t classes.OpenParen = goes [] (with_now p (AfterParen t.at))
 fresh_move p t class = operand_move p t class
 
 -- behind a `(` there: only an Integer leaves it open whether this is an interval
-abbrev pub maybe_move : Context → ℕ → Lexeme → Class → Option Move
-maybe_move p at t (classes.Integer z) = goes [] (with_now p (MaybeNumber at t.at z))
-maybe_move p at t class = first_keeps (shallow at p.stack) (operand_move (pushed Parens p) t class)
+abbrev pub maybe_move : Context → ℕ → Lexeme → Class → Option Transition
+maybe_move p at t (classes.Integer z) = goes [] (with_now p (AfterParenNumber at t.at z))
+maybe_move p at t class = first_keeps (within_depth at p.stack) (operand_move (pushed Parens p) t class)
 
 -- a comparison's sign behind its left side
-abbrev pub signed : Context → Side → ℕ → Sign → Option Move
-signed p left at sign = goes (few at p.nodes ∷ []) (with_now (counted p) (Against left at sign))
+abbrev pub signed : Context → Side → ℕ → Sign → Option Transition
+signed p left at sign = goes (within_nodes at p.nodes ∷ []) (with_now (counted p) (AfterSign left at sign))
 
 -- a variable as the left side
 abbrev pub named_side : Context → ℕ → List ℕ → Side
-named_side p at name = record { at = at; operand = operands.Variable (variable_of name p.stack p.names) }
+named_side p at name = record { at = at; operand = operands.Variable (resolved name p.stack p.names) }
 
 abbrev pub with_noted : Context → List ℕ → ℕ → Context
 with_noted p name at = with_names p (noted name at p.stack p.names)
 
-abbrev pub maybe_unit : Context → ℕ → ℕ → ℕ → Option ℕ → Option Move
+abbrev pub maybe_unit : Context → ℕ → ℕ → ℕ → Option ℕ → Option Transition
 maybe_unit p at number_at n None = None
 maybe_unit p at number_at n (Some unit) =
-    goes (in_range number_at (n * unit) ∷ []) (with_now p (LowDone at (n * unit + 1)))
+    goes (in_range number_at (n * unit) ∷ []) (with_now p (AfterLow at (n * unit + 1)))
 
-abbrev pub maybe_word : Context → ℕ → ℕ → ℤ → List ℕ → Option Move
+abbrev pub maybe_word : Context → ℕ → ℕ → ℤ → List ℕ → Option Transition
 maybe_word p at number_at (pos n) word = maybe_unit p at number_at n (unit_of word)
 maybe_word p at number_at (negsuc n) word = None
 
 -- a comma there; no bound is negative
-abbrev pub maybe_low : Context → ℕ → ℕ → ℤ → Option Move
-maybe_low p at number_at (pos n) = goes (in_range number_at n ∷ []) (with_now p (High at (n + 1)))
+abbrev pub maybe_low : Context → ℕ → ℕ → ℤ → Option Transition
+maybe_low p at number_at (pos n) = goes (in_range number_at n ∷ []) (with_now p (ExpectHigh at (n + 1)))
 maybe_low p at number_at (negsuc n) = None
 
 -- behind an Integer behind that `(`
-abbrev pub maybe_number_move : Context → ℕ → ℕ → ℤ → Lexeme → Class → Option Move
+abbrev pub maybe_number_move : Context → ℕ → ℕ → ℤ → Lexeme → Class → Option Transition
 maybe_number_move p at number_at z t classes.Comma = maybe_low p at number_at z
 maybe_number_move p at number_at z t classes.Name = maybe_word p at number_at z t.text
 maybe_number_move p at number_at z t (classes.Sign sign) =
-    first_keeps (shallow at p.stack)
+    first_keeps (within_depth at p.stack)
     (signed (pushed Parens p) (record { at = number_at; operand = operands.Constant (values.Int z) }) t.at sign)
 maybe_number_move p at number_at z t _ = None
 
-abbrev pub word_move : List PredOf → Context → ℕ → List ℕ → Lexeme → Class → Option Move
+abbrev pub word_move : List PredOf → Context → ℕ → List ℕ → Lexeme → Class → Option Transition
 word_move sig p at name t classes.OpenParen = called sig p at name
 word_move sig p at name t (classes.Sign sign) = signed (with_noted p name at) (named_side p at name) t.at sign
 word_move sig p at name t _ = None
 
-abbrev pub blank_move : List PredOf → Context → ℕ → Class → Option Move
+abbrev pub blank_move : List PredOf → Context → ℕ → Class → Option Transition
 blank_move sig p at classes.OpenParen = called sig p at (codes "_")
 blank_move sig p at _ = None
 
-abbrev pub marked_move : Context → ℕ → Lexeme → Class → Option Move
-marked_move p mark t classes.Name = goes [] (with_now (with_noted p t.text mark) (Compared (named_side p mark t.text)))
+abbrev pub marked_move : Context → ℕ → Lexeme → Class → Option Transition
+marked_move p mark t classes.Name = goes [] (with_now (with_noted p t.text mark) (ExpectSign (named_side p mark t.text)))
 marked_move p mark t _ = None
 
-abbrev pub compared_move : Context → Side → Lexeme → Class → Option Move
+abbrev pub compared_move : Context → Side → Lexeme → Class → Option Transition
 compared_move p left t (classes.Sign sign) = signed p left t.at sign
 compared_move p left t _ = None
 
@@ -119,21 +121,21 @@ compared_move p left t _ = None
 abbrev pub comparison_done : Context → Side → ℕ → Sign → ℕ → Operand → Partial
 comparison_done p left at sign right_at right =
     with_now (with_names p (compared left.operand left.at at right right_at p.names))
-    (Have (forms.Compare (record { sign = sign; left = term_of left.operand; right = term_of right })))
+    (AfterOperand (forms.Compare (record { sign = sign; left = term_of left.operand; right = term_of right })))
 
 abbrev pub named_done : Context → Side → ℕ → Sign → ℕ → List ℕ → Partial
 named_done p left at sign right_at name =
-    comparison_done (with_noted p name right_at) left at sign right_at (operands.Variable (variable_of name p.stack p.names))
+    comparison_done (with_noted p name right_at) left at sign right_at (operands.Variable (resolved name p.stack p.names))
 
-abbrev pub against_move : Context → Side → ℕ → Sign → Lexeme → Class → Option Move
+abbrev pub against_move : Context → Side → ℕ → Sign → Lexeme → Class → Option Transition
 against_move p left at sign t classes.Name = goes [] (named_done p left at sign t.at t.text)
-against_move p left at sign t classes.Question = goes [] (with_now p (AgainstMarked left at sign t.at))
+against_move p left at sign t classes.Question = goes [] (with_now p (AfterSignMark left at sign t.at))
 against_move p left at sign t (classes.Integer z) = goes [] (comparison_done p left at sign t.at (operands.Constant (values.Int z)))
 against_move p left at sign t classes.Text =
     goes [] (comparison_done p left at sign t.at (operands.Constant (values.Text (content_of t.kind t.text))))
 against_move p left at sign t _ = None
 
-abbrev pub against_marked_move : Context → Side → ℕ → Sign → ℕ → Lexeme → Class → Option Move
+abbrev pub against_marked_move : Context → Side → ℕ → Sign → ℕ → Lexeme → Class → Option Transition
 against_marked_move p left at sign mark t classes.Name = goes [] (named_done p left at sign mark t.text)
 against_marked_move p left at sign mark t _ = None
 
@@ -141,45 +143,37 @@ against_marked_move p left at sign mark t _ = None
 abbrev pub bound_now : Context → Quantifier → List ℕ → Partial
 bound_now p quantifier name =
     with_now (pushed (Binding quantifier (length p.names.bound_sorts) name) (with_names p (bound_more None p.names)))
-    (Bound quantifier)
+    (AfterVariable quantifier)
 
-abbrev pub binder_move : Context → Quantifier → Lexeme → Class → Option Move
+abbrev pub binder_move : Context → Quantifier → Lexeme → Class → Option Transition
 binder_move p quantifier t classes.Name =
-    goes (shallow t.at p.stack ∷ few t.at p.nodes ∷ []) (bound_now (counted p) quantifier t.text)
+    goes (within_depth t.at p.stack ∷ within_nodes t.at p.nodes ∷ []) (bound_now (counted p) quantifier t.text)
 binder_move p quantifier t classes.Question =
-    goes (shallow t.at p.stack ∷ few t.at p.nodes ∷ []) (with_now (counted p) (BinderMarked quantifier t.at))
+    goes (within_depth t.at p.stack ∷ within_nodes t.at p.nodes ∷ []) (with_now (counted p) (AfterVariableMark quantifier t.at))
 binder_move p quantifier t _ = None
 
-abbrev pub binder_marked_move : Context → Quantifier → Lexeme → Class → Option Move
+abbrev pub binder_marked_move : Context → Quantifier → Lexeme → Class → Option Transition
 binder_marked_move p quantifier t classes.Name = goes [] (bound_now p quantifier t.text)
 binder_marked_move p quantifier t _ = None
 
-abbrev pub bound_move : Context → Quantifier → Class → Option Move
-bound_move p quantifier classes.Comma = goes [] (with_now p (Binder quantifier))
-bound_move p quantifier classes.Dot = goes [] (with_now p Want)
+abbrev pub bound_move : Context → Quantifier → Class → Option Transition
+bound_move p quantifier classes.Comma = goes [] (with_now p (ExpectVariable quantifier))
+bound_move p quantifier classes.Dot = goes [] (with_now p ExpectOperand)
 bound_move p quantifier _ = None
 
 -- the rules of an operator between operands: only some are levels
 abbrev pub deepening : Bool → ℕ → List Frame → List Rule → List Rule
-deepening true at stack rules = shallow at stack ∷ rules
+deepening true at stack rules = within_depth at stack ∷ rules
 deepening false at stack rules = rules
 
-abbrev pub is_timed : Operator → Bool
-is_timed operators.And = false
-is_timed operators.Or = false
-is_timed operators.Implies = false
-is_timed operators.Equiv = false
-is_timed operators.Since = true
-is_timed operators.Until = true
-
-abbrev pub now_behind : Bool → Now
-now_behind true = Fresh
-now_behind false = Want
+abbrev pub now_behind : Bool → Stage
+now_behind true = AfterTemporal
+now_behind false = ExpectOperand
 
 -- an operator behind its left operand
-abbrev pub joined_move : Context → Operator → Reduced → ℕ → Option Move
+abbrev pub joined_move : Context → Operator → Reduced → ℕ → Option Transition
 joined_move p operator left at =
-    goes (deepening (deepens operator) at left.stack (few at p.nodes ∷ []))
+    goes (deepening (deepens operator) at left.stack (within_nodes at p.nodes ∷ []))
     (with_now (counted (with_stack p (Left operator any_distance left.form ∷ left.stack))) (now_behind (is_timed operator)))
 
 -- the frames around the innermost one, where that is a `(`
@@ -195,12 +189,12 @@ around [] = None
 around (frame ∷ stack) = if is_parens frame then Some stack else None
 
 -- a `)` behind an operand
-abbrev pub enclosed_move : Context → Form → Option (List Frame) → Option Move
+abbrev pub enclosed_move : Context → Form → Option (List Frame) → Option Transition
 enclosed_move p f None = None
-enclosed_move p f (Some stack) = goes [] (with_now (with_stack p stack) (Have f))
+enclosed_move p f (Some stack) = goes [] (with_now (with_stack p stack) (AfterOperand f))
 
-abbrev pub have_move : Context → Form → Lexeme → Class → Option Move
-have_move p f t (classes.Operator operator) = joined_move p operator (reduce (level operator) f p.stack) t.at
+abbrev pub have_move : Context → Form → Lexeme → Class → Option Transition
+have_move p f t (classes.Operator operator) = joined_move p operator (reduce (precedence operator) f p.stack) t.at
 have_move p f t classes.CloseParen =
     enclosed_move p (reduce 0 f p.stack).form (around (reduce 0 f p.stack).stack)
 have_move p f t _ = None

@@ -14,45 +14,46 @@ use Rattle.mfotl_parse.specs.declared.term.Pair.{Pair}
 use Rattle.mfotl_parse.specs.Arguments.{first_move, argument_move, taken_move, argument_marked_move}
 use Rattle.mfotl_parse.specs.Classes.{class_of}
 use Rattle.mfotl_parse.specs.Intervals.{low_move, low_number_move, low_done_move, high_move, high_number_move, bracket, endless_move}
-use Rattle.mfotl_parse.specs.Moves.{Move, given}
-use Rattle.mfotl_parse.specs.Names.{most_free, uneven_pair, vars_of}
+use Rattle.mfotl_parse.specs.Transitions.{Transition, given}
+use Rattle.mfotl_parse.specs.SymbolTable.{uneven_pair, vars_of}
 use Rattle.mfotl_parse.specs.Operands.{operand_move, fresh_move, maybe_move, maybe_number_move, word_move, blank_move, marked_move, compared_move, against_move, against_marked_move, binder_move, binder_marked_move, bound_move, have_move}
 use Rattle.mfotl_parse.specs.Reduction.{Reduced, reduce}
-use Rattle.mfotl_parse.specs.States.{Frame, Names, Now, Context, Partial, start, Want, Fresh, Have, Word, Blank, Marked, Compared, Against, AgainstMarked, First, Next, Taken, ArgumentMarked, Binder, BinderMarked, Bound, Maybe, MaybeNumber, Low, LowNumber, LowDone, High, HighNumber, HighDone, Endless}
+use Rattle.mfotl_parse.specs.States.{Frame, SymbolTable, Stage, Context, Partial, start, ExpectOperand, AfterTemporal, AfterOperand, AfterWord, AfterBlank, AfterMark, ExpectSign, AfterSign, AfterSignMark, FirstArgument, NextArgument, AfterArgument, AfterArgumentMark, ExpectVariable, AfterVariableMark, AfterVariable, AfterParen, AfterParenNumber, ExpectLow, AfterLowNumber, AfterLow, ExpectHigh, AfterHighNumber, AfterHigh, AfterStar}
+use Rattle.mfotl_parse.specs.Limits.{max_free}
 
 -- what a token of this class does, by what may come next
-abbrev pub move_at : Now → List PredOf → Context → Lexeme → Class → Option Move
-move_at Want sig p t class = operand_move p t class
-move_at Fresh sig p t class = fresh_move p t class
-move_at (Have f) sig p t class = have_move p f t class
-move_at (Word at name) sig p t class = word_move sig p at name t class
-move_at (Blank at) sig p t class = blank_move sig p at class
-move_at (Marked mark) sig p t class = marked_move p mark t class
-move_at (Compared left) sig p t class = compared_move p left t class
-move_at (Against left at sign) sig p t class = against_move p left at sign t class
-move_at (AgainstMarked left at sign mark) sig p t class = against_marked_move p left at sign mark t class
-move_at (First call) sig p t class = first_move p call t class
-move_at (Next call) sig p t class = argument_move p call t class
-move_at (Taken call) sig p t class = taken_move p call t class
-move_at (ArgumentMarked call mark) sig p t class = argument_marked_move p call mark t class
-move_at (Binder quantifier) sig p t class = binder_move p quantifier t class
-move_at (BinderMarked quantifier mark) sig p t class = binder_marked_move p quantifier t class
-move_at (Bound quantifier) sig p t class = bound_move p quantifier class
-move_at (Maybe at) sig p t class = maybe_move p at t class
-move_at (MaybeNumber at number_at z) sig p t class = maybe_number_move p at number_at z t class
-move_at (Low at) sig p t class = low_move p at t class
-move_at (LowNumber at number_at n) sig p t class = low_number_move p at number_at n t class
-move_at (LowDone at low) sig p t class = low_done_move p at low class
-move_at (High at low) sig p t class = high_move p at low t class
-move_at (HighNumber at low number_at n) sig p t class = high_number_move p at low number_at n t class
-move_at (HighDone at low high) sig p t class = bracket p at low high class
-move_at (Endless at low) sig p t class = endless_move p low class
+abbrev pub transition_at : Stage → List PredOf → Context → Lexeme → Class → Option Transition
+transition_at ExpectOperand sig p t class = operand_move p t class
+transition_at AfterTemporal sig p t class = fresh_move p t class
+transition_at (AfterOperand f) sig p t class = have_move p f t class
+transition_at (AfterWord at name) sig p t class = word_move sig p at name t class
+transition_at (AfterBlank at) sig p t class = blank_move sig p at class
+transition_at (AfterMark mark) sig p t class = marked_move p mark t class
+transition_at (ExpectSign left) sig p t class = compared_move p left t class
+transition_at (AfterSign left at sign) sig p t class = against_move p left at sign t class
+transition_at (AfterSignMark left at sign mark) sig p t class = against_marked_move p left at sign mark t class
+transition_at (FirstArgument call) sig p t class = first_move p call t class
+transition_at (NextArgument call) sig p t class = argument_move p call t class
+transition_at (AfterArgument call) sig p t class = taken_move p call t class
+transition_at (AfterArgumentMark call mark) sig p t class = argument_marked_move p call mark t class
+transition_at (ExpectVariable quantifier) sig p t class = binder_move p quantifier t class
+transition_at (AfterVariableMark quantifier mark) sig p t class = binder_marked_move p quantifier t class
+transition_at (AfterVariable quantifier) sig p t class = bound_move p quantifier class
+transition_at (AfterParen at) sig p t class = maybe_move p at t class
+transition_at (AfterParenNumber at number_at z) sig p t class = maybe_number_move p at number_at z t class
+transition_at (ExpectLow at) sig p t class = low_move p at t class
+transition_at (AfterLowNumber at number_at n) sig p t class = low_number_move p at number_at n t class
+transition_at (AfterLow at low) sig p t class = low_done_move p at low class
+transition_at (ExpectHigh at low) sig p t class = high_move p at low t class
+transition_at (AfterHighNumber at low number_at n) sig p t class = high_number_move p at low number_at n t class
+transition_at (AfterHigh at low high) sig p t class = bracket p at low high class
+transition_at (AfterStar at low) sig p t class = endless_move p low class
 
-unfoldable pub move_of : List PredOf → Partial → Lexeme → Option Move
-move_of sig p t = move_at p.now sig p.context t (class_of t)
+unfoldable pub transition : List PredOf → Partial → Lexeme → Option Transition
+transition sig p t = transition_at p.now sig p.context t (class_of t)
 
 unfoldable pub step : List PredOf → Partial → Lexeme → Result Partial PolicyFault
-step sig p t = given t.at (move_of sig p t)
+step sig p t = given t.at (transition sig p t)
 
 -- a policy without where it lies in memory
 pub record PolicyOf : Type 0 where
@@ -73,9 +74,9 @@ sorted None uneven ninth policy = sorted_pairs uneven ninth policy
 sorted (Some at) uneven ninth policy = Err (SortClash at)
 
 -- the rules that are looked at when the whole text was read: sorts, and then the number of free variables
-abbrev pub finished : Names → Form → Result PolicyOf PolicyFault
+abbrev pub finished : SymbolTable → Form → Result PolicyOf PolicyFault
 finished n f =
-    sorted n.clash (uneven_pair n) (slice_get n.free most_free)
+    sorted n.clash (uneven_pair n) (slice_get n.free max_free)
     (record { formula = f; vars = vars_of n.free n.free_sorts })
 
 abbrev pub is_closed : List Frame → Bool
@@ -83,12 +84,12 @@ is_closed [] = true
 is_closed (frame ∷ stack) = false
 
 -- the end wants nothing to be open
-abbrev pub ended : Names → Form → Bool → ℕ → Result PolicyOf PolicyFault
+abbrev pub ended : SymbolTable → Form → Bool → ℕ → Result PolicyOf PolicyFault
 ended n f true end = finished n f
 ended n f false end = Err (Syntax end)
 
-abbrev pub ended_at : Now → Context → ℕ → Result PolicyOf PolicyFault
-ended_at (Have f) p end = ended p.names (reduce 0 f p.stack).form (is_closed (reduce 0 f p.stack).stack) end
+abbrev pub ended_at : Stage → Context → ℕ → Result PolicyOf PolicyFault
+ended_at (AfterOperand f) p end = ended p.names (reduce 0 f p.stack).form (is_closed (reduce 0 f p.stack).stack) end
 ended_at _ p end = Err (Syntax end)
 
 -- at the end of the text, or at the fault behind its whole tokens

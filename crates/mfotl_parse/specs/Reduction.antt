@@ -1,6 +1,7 @@
 -- How operators hold their operands. An operand that was read belongs to the innermost frame; an operator
 -- or a `)` behind it closes the frames that hold more tightly than itself.
 use Rattle.std.specs.Prelude.{ℕ, ◌≤◌, Bool, List, [], ◌∷◌, Option, Some, None, nat_lt, max, if◌then◌else◌, ◌+◌}
+use Rattle.mfotl_model.specs.declared.formula.Bound.{Bound}
 use Rattle.mfotl_model.specs.declared.interval.Interval.{Interval}
 use Rattle.mfotl_model.specs.Formulas as forms
 use Rattle.mfotl_model.specs.Formulas.{Form}
@@ -11,31 +12,14 @@ use Rattle.mfotl_parse.specs.declared.class.Quantifier.TheVariants.{Exists, Fora
 use Rattle.mfotl_parse.specs.declared.class.Temporal.{Temporal}
 use Rattle.mfotl_parse.specs.declared.class.Temporal.TheVariants.{Previous, Next, Once, Historically, Eventually, Always}
 use Rattle.mfotl_parse.specs.States.{Frame, Parens, Negation, Moment, Binding, Left}
-use Rattle.mfotl_parse.specs.Names.{most_free}
-
--- the rule that an operator makes: 1 EQUIV, 2 IMPLIES, 3 OR, 4 AND, 5 SINCE and UNTIL
-abbrev pub level : Operator → ℕ
-level Equiv = 1
-level Implies = 2
-level Or = 3
-level And = 4
-level Since = 5
-level Until = 5
-
--- the rule of an operator's right operand: IMPLIES, SINCE and UNTIL group to the right, the others to the left
-abbrev pub right_rule : Operator → ℕ
-right_rule Equiv = 2
-right_rule Implies = 2
-right_rule Or = 4
-right_rule And = 5
-right_rule Since = 5
-right_rule Until = 5
+use Rattle.mfotl_parse.specs.Limits.{max_free}
+use Rattle.mfotl_parse.specs.Grammar.{right_precedence}
 
 -- how tightly a frame holds; a quantifier's body reaches as far as it can
 abbrev pub hold : Frame → ℕ
 hold Parens = 0
 hold (Binding quantifier variable name) = 1
-hold (Left operator interval left) = right_rule operator
+hold (Left operator interval left) = right_precedence operator
 hold Negation = 6
 hold (Moment operator interval) = 6
 
@@ -55,9 +39,14 @@ joined Equiv i f g = forms.Equiv f g
 joined Since i f g = forms.Since i f g
 joined Until i f g = forms.Until i f g
 
+-- a quantifier with its variable and body
+abbrev pub bound_by : Quantifier → Bound → Form → Form
+bound_by Exists bound f = forms.Exists bound f
+bound_by Forall bound f = forms.Forall bound f
+
+-- the variable is numbered behind the free ones
 abbrev pub quantified : Quantifier → ℕ → List ℕ → Form → Form
-quantified Exists variable name f = forms.Exists (record { number = most_free + variable; name = name }) f
-quantified Forall variable name f = forms.Forall (record { number = most_free + variable; name = name }) f
+quantified q variable name f = bound_by q (record { number = max_free + variable; name = name }) f
 
 -- a frame with its operand
 abbrev pub closed : Frame → Form → Form

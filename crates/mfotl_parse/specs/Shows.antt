@@ -9,12 +9,10 @@ use Rattle.mfotl_parse.specs.declared.fault.PolicyFault.{PolicyFault}
 use Rattle.mfotl_parse.specs.declared.fault.PolicyFault.TheVariants.{EmptyInterval, BoundRange, UnknownPredicate, WrongArity, TooDeep, TooManyNodes}
 use Rattle.mfotl_parse.specs.Arguments.{after_due}
 use Rattle.mfotl_parse.specs.Classes.{class_of}
-use Rattle.mfotl_parse.specs.Grammar.{WrittenVariable, WrittenArgument, Given, Hidden, WrittenArguments, LastArgument, MoreArguments, WrittenVariables, LastVariable, MoreVariables, WrittenBound, Count, Counted, WrittenEnd, Included, Excluded, Unbounded, WrittenInterval, Omitted, From, Above, Tree, Truth, BareAtom, AtomOf, Comparison, Enclosed, Denied, Timed, Quantified, Joined, variable_spelling, term_spelling, spelling}
-use Rattle.mfotl_parse.specs.Intervals.{most_bound}
+use Rattle.mfotl_parse.specs.Grammar.{WrittenVariable, WrittenArgument, Given, Hidden, WrittenArguments, LastArgument, MoreArguments, WrittenVariables, LastVariable, MoreVariables, WrittenBound, Count, Counted, WrittenEnd, Included, Excluded, Unbounded, WrittenInterval, Omitted, From, Above, Tree, Truth, BareAtom, AtomOf, Comparison, Enclosed, Denied, Timed, Quantified, Joined, variable_spelling, term_spelling, spelling, is_timed, deepens}
 use Rattle.mfotl_parse.specs.Meanings.{place_of_variable, place_of, sorts_behind, bound_value, hidden_count, variable_count, node_count}
-use Rattle.mfotl_parse.specs.Moves.{is_empty, most_open, most_nodes}
-use Rattle.mfotl_parse.specs.Operands.{is_timed}
-use Rattle.mfotl_parse.specs.States.{deepens}
+use Rattle.mfotl_parse.specs.Transitions.{is_empty}
+use Rattle.mfotl_parse.specs.Limits.{max_levels, max_nodes, max_bound}
 
 -- the faults that tokens show, a list for each token
 abbrev pub Showing : Type 0
@@ -36,11 +34,11 @@ if_broken broken fault others = if broken then fault ∷ others else others
 
 -- one more is open at once, in front of other faults
 abbrev pub level_shown : (at levels : ℕ) → List PolicyFault → List PolicyFault
-level_shown at levels others = if_broken (nat_le most_open levels) (TooDeep at) others
+level_shown at levels others = if_broken (nat_le max_levels levels) (TooDeep at) others
 
 -- one more node
 abbrev pub node_shown : (at nodes : ℕ) → List PolicyFault
-node_shown at nodes = if_broken (nat_le most_nodes nodes) (TooManyNodes at) []
+node_shown at nodes = if_broken (nat_le max_nodes nodes) (TooManyNodes at) []
 
 -- an operator before its operand: a level and a node
 abbrev pub prefix_shown : (at levels nodes : ℕ) → List PolicyFault
@@ -75,7 +73,7 @@ closing_shown at due = if_broken (not (is_empty due)) (WrongArity at) []
 
 -- a bound, whose number stands at the offset
 abbrev pub range_shown : (at bound : ℕ) → List PolicyFault
-range_shown at bound = if_broken (nat_lt most_bound bound) (BoundRange at) []
+range_shown at bound = if_broken (nat_lt max_bound bound) (BoundRange at) []
 
 -- the number by itself, and then with its unit
 abbrev pub bound_shown : WrittenBound → Showing

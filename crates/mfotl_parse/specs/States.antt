@@ -11,6 +11,7 @@ use Rattle.mfotl_parse.specs.declared.class.Quantifier.{Quantifier}
 use Rattle.mfotl_parse.specs.declared.class.Temporal.{Temporal}
 use Rattle.mfotl_parse.specs.declared.term.Side.{Side}
 use Rattle.mfotl_parse.specs.declared.term.Pair.{Pair}
+use Rattle.mfotl_parse.specs.Grammar.{deepens}
 
 -- what is open and waits for its operand, the right one where it has two
 pub data Frame : Type 0 where
@@ -19,15 +20,6 @@ pub data Frame : Type 0 where
   Moment : (operator : Temporal) (interval : Interval) → Frame
   Binding : (quantifier : Quantifier) (variable : ℕ) (name : List ℕ) → Frame
   Left : (operator : Operator) (interval : Interval) (left : Form) → Frame
-
--- the operators whose right operand is a level of its own
-abbrev pub deepens : Operator → Bool
-deepens operators.And = false
-deepens operators.Or = false
-deepens operators.Implies = true
-deepens operators.Equiv = false
-deepens operators.Since = true
-deepens operators.Until = true
 
 -- what opens a level
 abbrev pub opens_level : Frame → Bool
@@ -46,46 +38,46 @@ pub record Call : Type 0 where
   pub bound : ℕ
 
 -- what may come next
-pub data Now : Type 0 where
+pub data Stage : Type 0 where
   -- an operand; behind a temporal operator, also an interval
-  Want : Now
-  Fresh : Now
+  ExpectOperand : Stage
+  AfterTemporal : Stage
   -- an operand was read
-  Have : (form : Form) → Now
-  -- a Word or `_` where an operand begins, `?` there
-  Word : (at : ℕ) (name : List ℕ) → Now
-  Blank : (at : ℕ) → Now
-  Marked : (mark : ℕ) → Now
+  AfterOperand : (form : Form) → Stage
+  -- a AfterWord or `_` where an operand begins, `?` there
+  AfterWord : (at : ℕ) (name : List ℕ) → Stage
+  AfterBlank : (at : ℕ) → Stage
+  AfterMark : (mark : ℕ) → Stage
   -- a comparison's left side, its sign, and `?` behind that
-  Compared : (left : Side) → Now
-  Against : (left : Side) (at : ℕ) (sign : Sign) → Now
-  AgainstMarked : (left : Side) (at : ℕ) (sign : Sign) (mark : ℕ) → Now
+  ExpectSign : (left : Side) → Stage
+  AfterSign : (left : Side) (at : ℕ) (sign : Sign) → Stage
+  AfterSignMark : (left : Side) (at : ℕ) (sign : Sign) (mark : ℕ) → Stage
   -- in an atom: behind its `(`, behind a comma, behind an argument, behind `?`
-  First : (call : Call) → Now
-  Next : (call : Call) → Now
-  Taken : (call : Call) → Now
-  ArgumentMarked : (call : Call) (mark : ℕ) → Now
+  FirstArgument : (call : Call) → Stage
+  NextArgument : (call : Call) → Stage
+  AfterArgument : (call : Call) → Stage
+  AfterArgumentMark : (call : Call) (mark : ℕ) → Stage
   -- behind a quantifier or the comma of its variables, behind `?`, behind a variable
-  Binder : (quantifier : Quantifier) → Now
-  BinderMarked : (quantifier : Quantifier) (mark : ℕ) → Now
-  Bound : (quantifier : Quantifier) → Now
+  ExpectVariable : (quantifier : Quantifier) → Stage
+  AfterVariableMark : (quantifier : Quantifier) (mark : ℕ) → Stage
+  AfterVariable : (quantifier : Quantifier) → Stage
   -- behind `(` that may begin an interval, and behind an Integer there
-  Maybe : (at : ℕ) → Now
-  MaybeNumber : (at number_at : ℕ) (value : ℤ) → Now
+  AfterParen : (at : ℕ) → Stage
+  AfterParenNumber : (at number_at : ℕ) (value : ℤ) → Stage
   -- in an interval that begins at `at`: the lower bound, its number, behind its unit
-  Low : (at : ℕ) → Now
-  LowNumber : (at number_at number : ℕ) → Now
-  LowDone : (at low : ℕ) → Now
+  ExpectLow : (at : ℕ) → Stage
+  AfterLowNumber : (at number_at number : ℕ) → Stage
+  AfterLow : (at low : ℕ) → Stage
   -- the upper bound, its number, behind its unit, behind `*`
-  High : (at low : ℕ) → Now
-  HighNumber : (at low number_at number : ℕ) → Now
-  HighDone : (at low high : ℕ) → Now
-  Endless : (at low : ℕ) → Now
+  ExpectHigh : (at low : ℕ) → Stage
+  AfterHighNumber : (at low number_at number : ℕ) → Stage
+  AfterHigh : (at low high : ℕ) → Stage
+  AfterStar : (at low : ℕ) → Stage
 
 -- the free variables in order of first occurrence, each with the offset of that; the sorts of these and
 -- of the bound variables, where an occurrence gave one; the first clash of sorts among occurrences and
 -- constants; and the comparisons of two variables
-pub record Names : Type 0 where
+pub record SymbolTable : Type 0 where
   pub free : List (List ℕ × ℕ)
   pub free_sorts : List (Option Sort)
   pub bound_sorts : List (Option Sort)
@@ -96,17 +88,17 @@ pub record Names : Type 0 where
 pub record Context : Type 0 where
   pub stack : List Frame
   pub nodes : ℕ
-  pub names : Names
+  pub names : SymbolTable
 
 pub record Partial : Type 0 where
   pub context : Context
-  pub now : Now
+  pub now : Stage
 
-abbrev pub no_names : Names
+abbrev pub no_names : SymbolTable
 no_names = record { free = []; free_sorts = []; bound_sorts = []; clash = None; pairs = [] }
 
 abbrev pub start : Partial
-start = record { context = record { stack = []; nodes = 0; names = no_names }; now = Want }
+start = record { context = record { stack = []; nodes = 0; names = no_names }; now = ExpectOperand }
 
 -- how many levels are open
 unfoldable pub depth : List Frame → ℕ
@@ -114,13 +106,13 @@ depth [] = 0
 depth (frame ∷ stack) = if opens_level frame then suc (depth stack) else depth stack
 
 -- what may come next here
-abbrev pub with_now : Context → Now → Partial
+abbrev pub with_now : Context → Stage → Partial
 with_now c now = record { context = c; now = now }
 
 abbrev pub with_stack : Context → List Frame → Context
 with_stack c stack = record c { stack = stack }
 
-abbrev pub with_names : Context → Names → Context
+abbrev pub with_names : Context → SymbolTable → Context
 with_names c names = record c { names = names }
 
 -- a node more

@@ -6,29 +6,29 @@ use Rattle.mfotl_lex.specs.Lexemes.{Lexeme}
 use Rattle.mfotl_sig.specs.Preds.{PredOf}
 use Rattle.mfotl_parse.specs.declared.fault.PolicyFault.{PolicyFault}
 use Rattle.mfotl_parse.specs.declared.fault.PolicyFault.TheVariants.{Syntax}
-use Rattle.mfotl_parse.specs.Moves.{Move}
-use Rattle.mfotl_parse.specs.Reading.{PolicyOf, move_of, step, run, is_closed, reading}
+use Rattle.mfotl_parse.specs.Transitions.{Transition}
+use Rattle.mfotl_parse.specs.Reading.{PolicyOf, transition, step, run, is_closed, reading}
 use Rattle.mfotl_parse.specs.Reduction.{reduce}
-use Rattle.mfotl_parse.specs.States.{Frame, Now, Partial, Have, start}
+use Rattle.mfotl_parse.specs.States.{Frame, Stage, Partial, AfterOperand, start}
 
-abbrev pub if_moved : Option Move → (Partial → Bool) → Bool
+abbrev pub if_moved : Option Transition → (Partial → Bool) → Bool
 if_moved None test = false
 if_moved (Some m) test = test m.next
 
 -- an operand was read, and nothing else is open
-abbrev pub is_whole : Now → List Frame → Bool
-is_whole (Have f) stack = is_closed (reduce 0 f stack).stack
+abbrev pub is_whole : Stage → List Frame → Bool
+is_whole (AfterOperand f) stack = is_closed (reduce 0 f stack).stack
 is_whole _ stack = false
 
 -- with these tokens behind it the text is whole
 unfoldable pub accepts : List PredOf → List Lexeme → Partial → Bool
 accepts sig [] p = is_whole p.now p.context.stack
-accepts sig (t ∷ ts) p = if_moved (move_of sig p t) (accepts sig ts)
+accepts sig (t ∷ ts) p = if_moved (transition sig p t) (accepts sig ts)
 
 -- the grammar goes on with each of these tokens
 unfoldable pub goes_on : List PredOf → List Lexeme → Partial → Bool
 goes_on sig [] p = true
-goes_on sig (t ∷ ts) p = if_moved (move_of sig p t) (goes_on sig ts)
+goes_on sig (t ∷ ts) p = if_moved (transition sig p t) (goes_on sig ts)
 
 abbrev pub IsViable : List PredOf → List Lexeme → Type 0
 IsViable sig ts = (more : List Lexeme) × IsTrue (accepts sig (ts ++ more) start)

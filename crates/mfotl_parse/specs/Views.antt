@@ -6,16 +6,16 @@ use Rattle.mfotl_parse.specs.declared.fault.PolicyFault.{PolicyFault}
 use Rattle.mfotl_parse.specs.declared.fault.PolicyFault.TheVariants.{Memory}
 use Rattle.mfotl_parse.specs.declared.frame.Frame.{Frame as FrameValue}
 use Rattle.mfotl_parse.specs.declared.frame.Frame.TheVariants as frames
-use Rattle.mfotl_parse.specs.declared.names.Names.{Names as NamesValue}
+use Rattle.mfotl_parse.specs.declared.symbol_table.SymbolTable.{SymbolTable as TableValue}
 use Rattle.mfotl_parse.specs.declared.call.Call.{Call as CallValue}
 use Rattle.mfotl_parse.specs.declared.state.Context.{Context as ContextValue}
-use Rattle.mfotl_parse.specs.declared.state.Now.{Now as NowValue}
-use Rattle.mfotl_parse.specs.declared.state.Now.TheVariants as nows
+use Rattle.mfotl_parse.specs.declared.state.Stage.{Stage as StageValue}
+use Rattle.mfotl_parse.specs.declared.state.Stage.TheVariants as stages
 use Rattle.mfotl_parse.specs.declared.state.Parser.{Parser as ParserValue}
 use Rattle.mfotl_model.specs.declared.policy.Policy.{Policy}
 use Rattle.mfotl_parse.specs.Reading.{PolicyOf}
-use Rattle.mfotl_parse.specs.Moves.{Rule, kept}
-use Rattle.mfotl_parse.specs.States.{Frame, Parens, Negation, Moment, Binding, Left, Names, Call, Context, Partial, Now, Want, Fresh, Have, Word, Blank, Marked, Compared, Against, AgainstMarked, First, Next, Taken, ArgumentMarked, Binder, BinderMarked, Bound, Maybe, MaybeNumber, Low, LowNumber, LowDone, High, HighNumber, HighDone, Endless}
+use Rattle.mfotl_parse.specs.Transitions.{Rule, kept}
+use Rattle.mfotl_parse.specs.States.{Frame, Parens, Negation, Moment, Binding, Left, SymbolTable, Call, Context, Partial, Stage, ExpectOperand, AfterTemporal, AfterOperand, AfterWord, AfterBlank, AfterMark, ExpectSign, AfterSign, AfterSignMark, FirstArgument, NextArgument, AfterArgument, AfterArgumentMark, ExpectVariable, AfterVariableMark, AfterVariable, AfterParen, AfterParenNumber, ExpectLow, AfterLowNumber, AfterLow, ExpectHigh, AfterHighNumber, AfterHigh, AfterStar}
 
 abbrev pub frame_of : FrameValue → Frame
 frame_of frames.Parens = Parens
@@ -31,7 +31,7 @@ stack_of frames = reverse (map frame_of frames)
 abbrev pub known_of : Vec ℕ × ℕ → List ℕ × ℕ
 known_of entry = (entry.0.items, entry.1)
 
-abbrev pub names_of : NamesValue → Names
+abbrev pub names_of : TableValue → SymbolTable
 names_of n = record {
   free = map known_of n.free.entries;
   free_sorts = n.free_sorts.items;
@@ -46,32 +46,32 @@ context_of c = record { stack = stack_of c.frames.items; nodes = c.nodes; names 
 abbrev pub call_view : CallValue → Call
 call_view call = record { pred = call.pred; rest = call.rest.now; args = call.args.items; bound = call.bound }
 
-abbrev pub now_of : NowValue → Now
-now_of nows.Want = Want
-now_of nows.Fresh = Fresh
-now_of (nows.Have formula) = Have (form formula)
-now_of (nows.Word at name) = Word at name.now
-now_of (nows.Blank at) = Blank at
-now_of (nows.Marked mark) = Marked mark
-now_of (nows.Compared left) = Compared left
-now_of (nows.Against left at sign) = Against left at sign
-now_of (nows.AgainstMarked left at sign mark) = AgainstMarked left at sign mark
-now_of (nows.First call) = First (call_view call)
-now_of (nows.Next call) = Next (call_view call)
-now_of (nows.Taken call) = Taken (call_view call)
-now_of (nows.ArgumentMarked call mark) = ArgumentMarked (call_view call) mark
-now_of (nows.Binder quantifier) = Binder quantifier
-now_of (nows.BinderMarked quantifier mark) = BinderMarked quantifier mark
-now_of (nows.Bound quantifier) = Bound quantifier
-now_of (nows.Maybe at) = Maybe at
-now_of (nows.MaybeNumber at number_at value) = MaybeNumber at number_at value
-now_of (nows.Low at) = Low at
-now_of (nows.LowNumber at number_at number) = LowNumber at number_at number
-now_of (nows.LowDone at low) = LowDone at low
-now_of (nows.High at low) = High at low
-now_of (nows.HighNumber at low number_at number) = HighNumber at low number_at number
-now_of (nows.HighDone at low high) = HighDone at low high
-now_of (nows.Endless at low) = Endless at low
+abbrev pub stage_of : StageValue → Stage
+stage_of stages.ExpectOperand = ExpectOperand
+stage_of stages.AfterTemporal = AfterTemporal
+stage_of (stages.AfterOperand formula) = AfterOperand (form formula)
+stage_of (stages.AfterWord at name) = AfterWord at name.now
+stage_of (stages.AfterBlank at) = AfterBlank at
+stage_of (stages.AfterMark mark) = AfterMark mark
+stage_of (stages.ExpectSign left) = ExpectSign left
+stage_of (stages.AfterSign left at sign) = AfterSign left at sign
+stage_of (stages.AfterSignMark left at sign mark) = AfterSignMark left at sign mark
+stage_of (stages.FirstArgument call) = FirstArgument (call_view call)
+stage_of (stages.NextArgument call) = NextArgument (call_view call)
+stage_of (stages.AfterArgument call) = AfterArgument (call_view call)
+stage_of (stages.AfterArgumentMark call mark) = AfterArgumentMark (call_view call) mark
+stage_of (stages.ExpectVariable quantifier) = ExpectVariable quantifier
+stage_of (stages.AfterVariableMark quantifier mark) = AfterVariableMark quantifier mark
+stage_of (stages.AfterVariable quantifier) = AfterVariable quantifier
+stage_of (stages.AfterParen at) = AfterParen at
+stage_of (stages.AfterParenNumber at number_at value) = AfterParenNumber at number_at value
+stage_of (stages.ExpectLow at) = ExpectLow at
+stage_of (stages.AfterLowNumber at number_at number) = AfterLowNumber at number_at number
+stage_of (stages.AfterLow at low) = AfterLow at low
+stage_of (stages.ExpectHigh at low) = ExpectHigh at low
+stage_of (stages.AfterHighNumber at low number_at number) = AfterHighNumber at low number_at number
+stage_of (stages.AfterHigh at low high) = AfterHigh at low high
+stage_of (stages.AfterStar at low) = AfterStar at low
 
 -- a fault is the one that reading gives; want of memory says nothing
 abbrev pub Fails : {T : Type 0} → PolicyFault → Result T PolicyFault → Type 0
@@ -79,8 +79,8 @@ Fails Memory read = Unit {0}
 Fails fault read = read ≡ Err fault
 
 -- a step gives what may come next, in this context
-abbrev pub GoesOn : Result NowValue PolicyFault → ContextValue → Result Partial PolicyFault → Type 0
-GoesOn (Ok now) context read = read ≡ Ok (record { context = context_of context; now = now_of now })
+abbrev pub GoesOn : Result StageValue PolicyFault → ContextValue → Result Partial PolicyFault → Type 0
+GoesOn (Ok now) context read = read ≡ Ok (record { context = context_of context; now = stage_of now })
 GoesOn (Err fault) context read = Fails fault read
 
 -- a call gives what reading gives, unless memory ran out
@@ -90,11 +90,11 @@ Gives view (Err fault) read = Fails fault read
 
 -- the context after what keeps these rules, or the first that is broken
 abbrev pub Enters : Result (Unit {0}) PolicyFault → ContextValue → List Rule → Context → Type 0
-Enters (Ok u) context rules next = kept rules (record { context = next; now = Want }) ≡ Ok (record { context = context_of context; now = Want })
-Enters (Err fault) context rules next = Fails fault (kept rules (record { context = next; now = Want }))
+Enters (Ok u) context rules next = kept rules (record { context = next; now = ExpectOperand }) ≡ Ok (record { context = context_of context; now = ExpectOperand })
+Enters (Err fault) context rules next = Fails fault (kept rules (record { context = next; now = ExpectOperand }))
 
 abbrev pub partial_of : ParserValue → Partial
-partial_of p = record { context = context_of p.context; now = now_of p.now }
+partial_of p = record { context = context_of p.context; now = stage_of p.now }
 
 -- a step leaves this behind
 abbrev pub Steps : Result (Unit {0}) PolicyFault → ParserValue → Result Partial PolicyFault → Type 0

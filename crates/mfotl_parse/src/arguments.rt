@@ -2,14 +2,14 @@
 ghost use Rattle.std.specs.Prelude.{◌≡◌, ◌∷◌, [], false};
 ghost use Rattle.mfotl_lex.specs.Lexemes.{lexeme};
 ghost use Rattle.mfotl_parse.specs.Arguments as calls;
-ghost use Rattle.mfotl_parse.specs.Moves.{given, goes, few, is_empty};
+ghost use Rattle.mfotl_parse.specs.Transitions.{given, goes, within_nodes, is_empty};
 ghost use Rattle.mfotl_parse.specs.Views.{context_of, call_view, GoesOn};
 
 use crate::call::Call;
 use crate::class::Class;
 use crate::fault::PolicyFault;
-use crate::frame::MOST_FREE;
-use crate::state::{Context, Now, text_value};
+use crate::limits::MAX_FREE;
+use crate::state::{Context, Stage, text_value};
 use crate::term::{Operand, term_of};
 use mfotl_lex::Token;
 use mfotl_model::{Term, Value};
@@ -24,7 +24,7 @@ impl Context {
         signature: &'a Signature,
         name_at: u64,
         name: &[u8],
-    ) -> Result<Now<'a>, PolicyFault>
+    ) -> Result<Stage<'a>, PolicyFault>
         ensures { GoesOn result self.new
             (given 0 (calls.called signature.now (context_of self.old) name_at name.now)) }
     {
@@ -38,7 +38,7 @@ impl Context {
         let Ok(bound) = u32::try_from(self.names.bound_sorts.len()) else {
             return Err(PolicyFault::Memory);
         };
-        Ok(Now::First(Call {
+        Ok(Stage::FirstArgument(Call {
             pred: pred.number,
             rest: pred.sorts.as_slice(),
             args: Vec::new(alloc),
@@ -51,14 +51,14 @@ impl Context {
         call: Call<'a>,
         at: u64,
         operand: Operand,
-    ) -> Result<Now<'a>, PolicyFault>
+    ) -> Result<Stage<'a>, PolicyFault>
         ensures { GoesOn result self.new
             (given 0 (goes [] (calls.term_taken (context_of self.old)
             (call_view call.entry) at operand))) }
     {
         self.names.place(&operand, at, call.due());
         let term = term_of(operand)?;
-        Ok(Now::Taken(call.with(term)?))
+        Ok(Stage::AfterArgument(call.with(term)?))
     }
 
     fn take_variable<'a>(
@@ -67,7 +67,7 @@ impl Context {
         call: Call<'a>,
         at: u64,
         name: &[u8],
-    ) -> Result<Now<'a>, PolicyFault>
+    ) -> Result<Stage<'a>, PolicyFault>
         ensures { GoesOn result self.new
             (given 0 (goes [] (calls.variable_taken (context_of self.old)
             (call_view call.entry) at name.now))) }
@@ -76,9 +76,9 @@ impl Context {
         self.take_term(call, at, Operand::Variable(variable))
     }
 
-    fn take_blank<'a>(&mut self, call: Call<'a>, at: u64) -> Result<Now<'a>, PolicyFault>
+    fn take_blank<'a>(&mut self, call: Call<'a>, at: u64) -> Result<Stage<'a>, PolicyFault>
         ensures { GoesOn result self.new
-            (given 0 (goes (few at (context_of self.old).nodes ∷ []) (calls.blank_taken
+            (given 0 (goes (within_nodes at (context_of self.old).nodes ∷ []) (calls.blank_taken
             (context_of self.old) (call_view call.entry)))) }
     {
         if self.is_full() {
@@ -86,10 +86,10 @@ impl Context {
         }
         self.nodes += 1;
         let place = self.names.bind(Some(call.due()))?;
-        let Some(number) = place.checked_add(MOST_FREE) else {
+        let Some(number) = place.checked_add(MAX_FREE) else {
             return Err(PolicyFault::Memory);
         };
-        Ok(Now::Taken(call.with(Term::Var(number))?))
+        Ok(Stage::AfterArgument(call.with(Term::Var(number))?))
     }
 
     fn take_argument<'a>(
@@ -98,7 +98,7 @@ impl Context {
         call: Call<'a>,
         token: &Token<'a>,
         class: Class,
-    ) -> Result<Now<'a>, PolicyFault>
+    ) -> Result<Stage<'a>, PolicyFault>
         requires { is_empty (call_view call).rest ≡ false }
         ensures { GoesOn result self.new
             (given token.now.at (calls.argument_move (context_of self.old)
@@ -107,7 +107,7 @@ impl Context {
         let at = token.at as u64;
         match class {
             Class::Name => self.take_variable(alloc, call, at, token.text),
-            Class::Question => Ok(Now::ArgumentMarked(call, at)),
+            Class::Question => Ok(Stage::AfterArgumentMark(call, at)),
             Class::Integer(number) => self.take_term(
                 call,
                 at,
@@ -129,7 +129,7 @@ impl Context {
         call: Call<'a>,
         token: &Token<'a>,
         class: Class,
-    ) -> Result<Now<'a>, PolicyFault>
+    ) -> Result<Stage<'a>, PolicyFault>
         ensures { GoesOn result self.new
             (given token.now.at (calls.argument_move (context_of self.old)
             (call_view call.entry) (lexeme token.now) class)) }
@@ -153,7 +153,7 @@ impl Context {
         alloc: Global,
         call: Call<'a>,
         at: u64,
-    ) -> Result<Now<'a>, PolicyFault>
+    ) -> Result<Stage<'a>, PolicyFault>
         ensures { GoesOn result self.new
             (given 0 (calls.call_closed (context_of self.old) (call_view call.entry) at)) }
     {
@@ -163,7 +163,7 @@ impl Context {
         let Ok(bound) = u32::try_from(self.names.bound_sorts.len()) else {
             return Err(PolicyFault::Memory);
         };
-        Ok(Now::Have(call.close(alloc, bound)?))
+        Ok(Stage::AfterOperand(call.close(alloc, bound)?))
     }
 
     /// Behind an atom's `(`.
@@ -173,7 +173,7 @@ impl Context {
         call: Call<'a>,
         token: &Token<'a>,
         class: Class,
-    ) -> Result<Now<'a>, PolicyFault>
+    ) -> Result<Stage<'a>, PolicyFault>
         ensures { GoesOn result self.new
             (given token.now.at (calls.first_move (context_of self.old) (call_view call.entry)
             (lexeme token.now) class)) }
@@ -191,13 +191,13 @@ impl Context {
         call: Call<'a>,
         token: &Token<'a>,
         class: Class,
-    ) -> Result<Now<'a>, PolicyFault>
+    ) -> Result<Stage<'a>, PolicyFault>
         ensures { GoesOn result self.new
             (given token.now.at (calls.taken_move (context_of self.old) (call_view call.entry)
             (lexeme token.now) class)) }
     {
         match class {
-            Class::Comma => Ok(Now::Next(call)),
+            Class::Comma => Ok(Stage::NextArgument(call)),
             Class::CloseParen => self.close_call(alloc, call, token.at as u64),
             _ => Err(PolicyFault::Syntax(token.at as u64)),
         }
@@ -211,7 +211,7 @@ impl Context {
         mark: u64,
         token: &Token<'a>,
         class: Class,
-    ) -> Result<Now<'a>, PolicyFault>
+    ) -> Result<Stage<'a>, PolicyFault>
         ensures { GoesOn result self.new
             (given token.now.at (calls.argument_marked_move (context_of self.old)
             (call_view call.entry) mark (lexeme token.now) class)) }

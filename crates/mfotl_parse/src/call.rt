@@ -2,10 +2,10 @@
 ghost use Rattle.std.specs.Prelude.{◌≡◌, ◌-◌, IfOk};
 ghost use Rattle.mfotl_model.specs.Formulas.{form};
 ghost use Rattle.mfotl_parse.specs.Arguments as calls;
-ghost use Rattle.mfotl_parse.specs.Moves.{is_empty};
+ghost use Rattle.mfotl_parse.specs.Transitions.{is_empty};
 ghost use Rattle.mfotl_parse.specs.Views.{call_view};
 
-use crate::frame::MOST_FREE;
+use crate::limits::MAX_FREE;
 use mfotl_model::{Atom, Bound, Formula, Name, Sort, Term, Terms};
 use std::alloc::{AllocError, Global};
 
@@ -89,7 +89,7 @@ fn blanks(alloc: Global, first: u32, end: u32, inner: Formula) -> Result<Formula
     let mut place = end;
     while first < place {
         place -= 1;
-        let Some(number) = place.checked_add(MOST_FREE) else {
+        let Some(number) = place.checked_add(MAX_FREE) else {
             return Err(AllocError);
         };
         let name = Name::from_slice(alloc, b"_")?;

@@ -2,13 +2,13 @@
 ghost use Rattle.std.specs.Prelude.{◌≡◌, ◌∷◌, []};
 ghost use Rattle.mfotl_lex.specs.Lexemes.{lexeme};
 ghost use Rattle.mfotl_model.specs.Formulas.{form};
-ghost use Rattle.mfotl_parse.specs.Moves.{given, goes};
+ghost use Rattle.mfotl_parse.specs.Transitions.{given, goes};
 ghost use Rattle.mfotl_parse.specs.Operands as operands;
 ghost use Rattle.mfotl_parse.specs.Views.{context_of, GoesOn};
 
 use crate::class::Class;
 use crate::fault::PolicyFault;
-use crate::state::{Context, Now, text_value};
+use crate::state::{Context, Stage, text_value};
 use crate::term::{Operand, Side, term_of};
 use mfotl_lex::Token;
 use mfotl_model::{Comparison, Formula, Sign, Value};
@@ -22,7 +22,7 @@ impl Context {
         mark: u64,
         token: &Token<'a>,
         class: Class,
-    ) -> Result<Now<'a>, PolicyFault>
+    ) -> Result<Stage<'a>, PolicyFault>
         ensures { GoesOn result self.new
             (given token.now.at (operands.marked_move (context_of self.old) mark
             (lexeme token.now) class)) }
@@ -30,7 +30,7 @@ impl Context {
         match class {
             Class::Name => {
                 let variable = self.meet(alloc, token.text, mark)?;
-                Ok(Now::Compared(Side {
+                Ok(Stage::ExpectSign(Side {
                     at: mark,
                     operand: Operand::Variable(variable),
                 }))
@@ -45,7 +45,7 @@ impl Context {
         left: Side,
         token: &Token<'a>,
         class: Class,
-    ) -> Result<Now<'a>, PolicyFault>
+    ) -> Result<Stage<'a>, PolicyFault>
         ensures { GoesOn result self.new
             (given token.now.at (operands.compared_move (context_of self.old) left
             (lexeme token.now) class)) }
@@ -57,7 +57,7 @@ impl Context {
     }
 
     /// A comparison's sign behind its left side.
-    pub fn sign<'a>(&mut self, left: Side, at: u64, sign: Sign) -> Result<Now<'a>, PolicyFault>
+    pub fn sign<'a>(&mut self, left: Side, at: u64, sign: Sign) -> Result<Stage<'a>, PolicyFault>
         ensures { GoesOn result self.new
             (given 0 (operands.signed (context_of self.old) left at sign)) }
     {
@@ -65,7 +65,7 @@ impl Context {
             return Err(PolicyFault::TooManyNodes(at));
         }
         self.nodes += 1;
-        Ok(Now::Against(left, at, sign))
+        Ok(Stage::AfterSign(left, at, sign))
     }
 
     /// Behind a comparison's sign.
@@ -77,7 +77,7 @@ impl Context {
         sign: Sign,
         token: &Token<'a>,
         class: Class,
-    ) -> Result<Now<'a>, PolicyFault>
+    ) -> Result<Stage<'a>, PolicyFault>
         ensures { GoesOn result self.new
             (given token.now.at (operands.against_move (context_of self.old) left sign_at sign
             (lexeme token.now) class)) }
@@ -85,7 +85,7 @@ impl Context {
         let at = token.at as u64;
         match class {
             Class::Name => self.compare_variable(alloc, left, sign_at, sign, at, token.text),
-            Class::Question => Ok(Now::AgainstMarked(left, sign_at, sign, at)),
+            Class::Question => Ok(Stage::AfterSignMark(left, sign_at, sign, at)),
             Class::Integer(number) => {
                 let operand = Operand::Constant(Value::Int(number));
                 self.compare(left, sign_at, sign, Side { at, operand })
@@ -108,7 +108,7 @@ impl Context {
         mark: u64,
         token: &Token<'a>,
         class: Class,
-    ) -> Result<Now<'a>, PolicyFault>
+    ) -> Result<Stage<'a>, PolicyFault>
         ensures { GoesOn result self.new
             (given token.now.at (operands.against_marked_move
             (context_of self.old) left sign_at sign mark (lexeme token.now) class)) }
@@ -126,7 +126,7 @@ impl Context {
         at: u64,
         sign: Sign,
         right: Side,
-    ) -> Result<Now<'a>, PolicyFault>
+    ) -> Result<Stage<'a>, PolicyFault>
         ensures { GoesOn result self.new
             (given 0 (goes [] (operands.comparison_done
             (context_of self.old) left at sign right.at right.operand))) }
@@ -142,7 +142,7 @@ impl Context {
         } = right;
         let left = term_of(left)?;
         let right = term_of(right)?;
-        Ok(Now::Have(Formula::Compare(Comparison { sign, left, right })))
+        Ok(Stage::AfterOperand(Formula::Compare(Comparison { sign, left, right })))
     }
 
     fn compare_variable<'a>(
@@ -153,7 +153,7 @@ impl Context {
         sign: Sign,
         right_at: u64,
         name: &[u8],
-    ) -> Result<Now<'a>, PolicyFault>
+    ) -> Result<Stage<'a>, PolicyFault>
         ensures { GoesOn result self.new
             (given 0 (goes [] (operands.named_done
             (context_of self.old) left at sign right_at name.now))) }

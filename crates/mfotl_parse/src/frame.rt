@@ -1,14 +1,17 @@
 //! What is open while a policy is read: parentheses, quantifiers and operators that wait for an operand.
 ghost use Rattle.std.specs.Prelude.{◌≡◌, ◌++◌, ◌∷◌, [], IfOk, OnOk, OnErr, Option, None, Some, ℕ, List, IfSome, IfNone, nat_lt};
+ghost use Rattle.mfotl_model.specs.Formulas as forms;
 ghost use Rattle.mfotl_model.specs.Formulas.{form};
-ghost use Rattle.mfotl_parse.specs.States.{opens_level, depth, deepens};
-ghost use Rattle.mfotl_parse.specs.Names.{bound_as};
-ghost use Rattle.mfotl_parse.specs.Reduction.{hold, level, right_rule, closed, reduce, momentary, joined, quantified};
-ghost use Rattle.mfotl_parse.specs.Operands.{is_parens, is_timed};
+ghost use Rattle.mfotl_parse.specs.States.{opens_level, depth};
+ghost use Rattle.mfotl_parse.specs.SymbolTable.{bound_as};
+ghost use Rattle.mfotl_parse.specs.Reduction.{hold, closed, reduce, momentary, joined, bound_by, quantified};
+ghost use Rattle.mfotl_parse.specs.Operands.{is_parens};
 ghost use Rattle.mfotl_parse.specs.Intervals.{framed};
 ghost use Rattle.mfotl_parse.specs.Views.{frame_of, stack_of};
+ghost use Rattle.mfotl_parse.specs.Grammar.{precedence, right_precedence, is_timed, deepens};
 
 use crate::class::{Operator, Quantifier, Temporal};
+use crate::limits::MAX_FREE;
 use mfotl_model::{Bound, Formula, Interval, Name};
 use std::alloc::{AllocError, Global};
 
@@ -25,11 +28,8 @@ pub enum Frame {
     Left(Operator, Interval, Formula),
 }
 
-/// Bound variables are numbered from here on, behind the free ones.
-pub const MOST_FREE: u32 = 8;
-
 impl Operator {
-    /// Whether the right operand is a level of nesting of its own.
+    /// Whether the right operand is a precedence of nesting of its own.
     pub fn deepens(self) -> bool
         ensures { result ≡ deepens self }
     {
@@ -50,8 +50,8 @@ impl Operator {
     }
 
     /// The grammar's rule that the operator makes, from 1, EQUIV's, to 5.
-    pub fn level(self) -> u8
-        ensures { result ≡ level self }
+    pub fn precedence(self) -> u8
+        ensures { result ≡ precedence self }
     {
         match self {
             Operator::Equiv => 1,
@@ -63,14 +63,29 @@ impl Operator {
     }
 
     /// The rule of its right operand.
-    pub fn right_rule(self) -> u8
-        ensures { result ≡ right_rule self }
+    pub fn right_precedence(self) -> u8
+        ensures { result ≡ right_precedence self }
     {
         match self {
             Operator::Equiv | Operator::Implies => 2,
             Operator::Or => 4,
             Operator::And | Operator::Since | Operator::Until => 5,
         }
+    }
+
+    /// The formula of its two operands.
+    fn between(
+        self,
+        alloc: Global,
+        interval: Interval,
+        left: Formula,
+        right: Formula,
+    ) -> Result<Formula, AllocError>
+        ensures { IfOk result (λ whole. form whole ≡ joined self interval (form left) (form right)) }
+    {
+        let left = Box::new(alloc, left)?;
+        let right = Box::new(alloc, right)?;
+        Ok(self.join(interval, left, right))
     }
 
     fn join(self, interval: Interval, left: Box<Formula>, right: Box<Formula>) -> Formula
@@ -88,6 +103,13 @@ impl Operator {
 }
 
 impl Temporal {
+    /// The formula of its operand.
+    fn over(self, alloc: Global, interval: Interval, inner: Formula) -> Result<Formula, AllocError>
+        ensures { IfOk result (λ whole. form whole ≡ momentary self interval (form inner)) }
+    {
+        Ok(self.apply(interval, Box::new(alloc, inner)?))
+    }
+
     fn apply(self, interval: Interval, inner: Box<Formula>) -> Formula
         ensures { form result ≡ momentary self interval (form inner.value) }
     {
@@ -100,6 +122,40 @@ impl Temporal {
             Temporal::Always => Formula::Always(interval, inner),
         }
     }
+}
+
+impl Quantifier {
+    /// The formula of its body, where the variable is bound by its place among all of them.
+    fn over(
+        self,
+        alloc: Global,
+        variable: u32,
+        name: Name,
+        inner: Formula,
+    ) -> Result<Formula, AllocError>
+        ensures { IfOk result (λ whole. form whole ≡ quantified self variable name (form inner)) }
+    {
+        let Some(number) = variable.checked_add(MAX_FREE) else {
+            return Err(AllocError);
+        };
+        let inner = Box::new(alloc, inner)?;
+        Ok(self.apply(Bound { number, name }, inner))
+    }
+
+    fn apply(self, bound: Bound, inner: Box<Formula>) -> Formula
+        ensures { form result ≡ bound_by self bound (form inner.value) }
+    {
+        match self {
+            Quantifier::Exists => Formula::Exists(bound, inner),
+            Quantifier::Forall => Formula::Forall(bound, inner),
+        }
+    }
+}
+
+fn negated(alloc: Global, inner: Formula) -> Result<Formula, AllocError>
+    ensures { IfOk result (λ whole. form whole ≡ forms.Not (form inner)) }
+{
+    Ok(Formula::Not(Box::new(alloc, inner)?))
 }
 
 impl Frame {
@@ -134,7 +190,7 @@ impl Frame {
         match self {
             Frame::Parens => 0,
             Frame::Binding(_, _, _) => 1,
-            Frame::Left(operator, _, _) => operator.right_rule(),
+            Frame::Left(operator, _, _) => operator.right_precedence(),
             Frame::Negation => 6,
             Frame::Moment(_, _) => 6,
         }
@@ -174,24 +230,12 @@ impl Frame {
     {
         match self {
             Frame::Parens => Ok(inner),
-            Frame::Negation => Ok(Formula::Not(Box::new(alloc, inner)?)),
-            Frame::Moment(operator, interval) => {
-                Ok(operator.apply(interval, Box::new(alloc, inner)?))
-            }
+            Frame::Negation => negated(alloc, inner),
+            Frame::Moment(operator, interval) => operator.over(alloc, interval, inner),
             Frame::Binding(quantifier, variable, name) => {
-                let Some(number) = variable.checked_add(MOST_FREE) else {
-                    return Err(AllocError);
-                };
-                let bound = Bound { number, name };
-                let inner = Box::new(alloc, inner)?;
-                match quantifier {
-                    Quantifier::Exists => Ok(Formula::Exists(bound, inner)),
-                    Quantifier::Forall => Ok(Formula::Forall(bound, inner)),
-                }
+                quantifier.over(alloc, variable, name, inner)
             }
-            Frame::Left(operator, interval, left) => {
-                Ok(operator.join(interval, Box::new(alloc, left)?, Box::new(alloc, inner)?))
-            }
+            Frame::Left(operator, interval, left) => operator.between(alloc, interval, left, inner),
         }
     }
 }

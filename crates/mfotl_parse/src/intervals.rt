@@ -2,17 +2,17 @@
 ghost use Rattle.std.specs.Prelude.{◌≡◌, ◌≤◌, ◌^◌, [], IfSome};
 ghost use Rattle.mfotl_lex.specs.Lexemes.{lexeme};
 ghost use Rattle.mfotl_parse.specs.Intervals.{bound_of, distances, any_distance, timed, bracket, low_move, low_unit, low_number_move, low_done_move, high_move, high_unit, high_number_move, endless_move};
-ghost use Rattle.mfotl_parse.specs.Moves.{given, goes};
+ghost use Rattle.mfotl_parse.specs.Limits.{max_bound};
+ghost use Rattle.mfotl_parse.specs.Transitions.{given, goes};
 ghost use Rattle.mfotl_parse.specs.Views.{context_of, GoesOn};
 
 use crate::class::{Class, unit_of};
 use crate::fault::PolicyFault;
+use crate::limits::MAX_BOUND;
 use crate::stack;
-use crate::state::{Context, Now};
+use crate::state::{Context, Stage};
 use mfotl_lex::Token;
 use mfotl_model::Interval;
-
-pub const MOST_BOUND: u64 = 1 << 62;
 
 /// The distances from `low` on, up to `high` where that isn't below `low`.
 fn distances(low: u64, high: Option<u64>) -> Interval
@@ -35,12 +35,12 @@ pub fn any_distance() -> Interval
 }
 
 impl Context {
-    fn time<'a>(&mut self, low: u64, high: Option<u64>) -> Result<Now<'a>, PolicyFault>
+    fn time<'a>(&mut self, low: u64, high: Option<u64>) -> Result<Stage<'a>, PolicyFault>
         ensures { GoesOn result self.new
             (given 0 (goes [] (timed (context_of self.old) low high))) }
     {
         stack::set_interval(&mut self.frames, distances(low, high))?;
-        Ok(Now::Want)
+        Ok(Stage::ExpectOperand)
     }
 
     /// The bracket behind an upper bound: `]` includes it and `)` doesn't.
@@ -51,7 +51,7 @@ impl Context {
         high: u64,
         token: &Token<'a>,
         class: Class,
-    ) -> Result<Now<'a>, PolicyFault>
+    ) -> Result<Stage<'a>, PolicyFault>
         ensures { GoesOn result self.new
             (given token.now.at (bracket (context_of self.old) start low high class)) }
     {
@@ -77,7 +77,7 @@ impl Context {
         start: u64,
         token: &Token<'a>,
         class: Class,
-    ) -> Result<Now<'a>, PolicyFault>
+    ) -> Result<Stage<'a>, PolicyFault>
         ensures { GoesOn result self.new
             (given token.now.at (low_move (context_of self.old) start (lexeme token.now) class)) }
     {
@@ -85,10 +85,10 @@ impl Context {
         match class {
             Class::Integer(number) => match u64::try_from(number) {
                 Ok(number) => {
-                    if number > MOST_BOUND {
+                    if number > MAX_BOUND {
                         return Err(PolicyFault::BoundRange(at));
                     }
-                    Ok(Now::LowNumber(start, at, number))
+                    Ok(Stage::AfterLowNumber(start, at, number))
                 }
                 Err(_) => Err(PolicyFault::Syntax(at)),
             },
@@ -103,17 +103,17 @@ impl Context {
         number: u64,
         token: &Token<'a>,
         class: Class,
-    ) -> Result<Now<'a>, PolicyFault>
+    ) -> Result<Stage<'a>, PolicyFault>
         ensures { GoesOn result self.new
             (given token.now.at (low_number_move (context_of self.old) start number_at number
             (lexeme token.now) class)) }
     {
         let at = token.at as u64;
         match class {
-            Class::Comma => Ok(Now::High(start, number)),
+            Class::Comma => Ok(Stage::ExpectHigh(start, number)),
             Class::Name => match unit_of(token.text) {
                 Some(unit) => match bound_of(number, unit) {
-                    Some(low) => Ok(Now::LowDone(start, low)),
+                    Some(low) => Ok(Stage::AfterLow(start, low)),
                     None => Err(PolicyFault::BoundRange(number_at)),
                 },
                 None => Err(PolicyFault::Syntax(at)),
@@ -128,12 +128,12 @@ impl Context {
         low: u64,
         token: &Token<'a>,
         class: Class,
-    ) -> Result<Now<'a>, PolicyFault>
+    ) -> Result<Stage<'a>, PolicyFault>
         ensures { GoesOn result self.new
             (given token.now.at (low_done_move (context_of self.old) start low class)) }
     {
         match class {
-            Class::Comma => Ok(Now::High(start, low)),
+            Class::Comma => Ok(Stage::ExpectHigh(start, low)),
             _ => Err(PolicyFault::Syntax(token.at as u64)),
         }
     }
@@ -144,7 +144,7 @@ impl Context {
         low: u64,
         token: &Token<'a>,
         class: Class,
-    ) -> Result<Now<'a>, PolicyFault>
+    ) -> Result<Stage<'a>, PolicyFault>
         ensures { GoesOn result self.new
             (given token.now.at (high_move (context_of self.old) start low
             (lexeme token.now) class)) }
@@ -153,14 +153,14 @@ impl Context {
         match class {
             Class::Integer(number) => match u64::try_from(number) {
                 Ok(number) => {
-                    if number > MOST_BOUND {
+                    if number > MAX_BOUND {
                         return Err(PolicyFault::BoundRange(at));
                     }
-                    Ok(Now::HighNumber(start, low, at, number))
+                    Ok(Stage::AfterHighNumber(start, low, at, number))
                 }
                 Err(_) => Err(PolicyFault::Syntax(at)),
             },
-            Class::Star => Ok(Now::Endless(start, low)),
+            Class::Star => Ok(Stage::AfterStar(start, low)),
             _ => Err(PolicyFault::Syntax(at)),
         }
     }
@@ -173,7 +173,7 @@ impl Context {
         number: u64,
         token: &Token<'a>,
         class: Class,
-    ) -> Result<Now<'a>, PolicyFault>
+    ) -> Result<Stage<'a>, PolicyFault>
         ensures { GoesOn result self.new
             (given token.now.at (high_number_move
             (context_of self.old) start low number_at number (lexeme token.now) class)) }
@@ -181,7 +181,7 @@ impl Context {
         match class {
             Class::Name => match unit_of(token.text) {
                 Some(unit) => match bound_of(number, unit) {
-                    Some(high) => Ok(Now::HighDone(start, low, high)),
+                    Some(high) => Ok(Stage::AfterHigh(start, low, high)),
                     None => Err(PolicyFault::BoundRange(number_at)),
                 },
                 None => Err(PolicyFault::Syntax(token.at as u64)),
@@ -195,7 +195,7 @@ impl Context {
         low: u64,
         token: &Token<'a>,
         class: Class,
-    ) -> Result<Now<'a>, PolicyFault>
+    ) -> Result<Stage<'a>, PolicyFault>
         ensures { GoesOn result self.new
             (given token.now.at (endless_move (context_of self.old) low class)) }
     {
@@ -209,8 +209,8 @@ impl Context {
 /// A bound with its unit, unless it is above 2^62.
 pub fn bound_of(number: u64, unit: u64) -> Option<u64>
     ensures bound { result ≡ bound_of number unit }
-    ensures within { IfSome result (λ bound. bound ≤ 2 ^ 62) }
+    ensures within { IfSome result (λ bound. bound ≤ max_bound) }
 {
     let bound = number.checked_mul(unit)?;
-    (bound <= MOST_BOUND).then_some(bound)
+    (bound <= MAX_BOUND).then_some(bound)
 }

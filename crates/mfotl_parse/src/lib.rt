@@ -10,8 +10,8 @@ mod fault;
 mod frame;
 mod intervals;
 pub mod laws;
+mod limits;
 mod lookahead;
-mod names;
 mod operands;
 mod operators;
 mod quantifiers;
@@ -19,6 +19,7 @@ mod reading;
 mod sorts;
 mod stack;
 mod state;
+mod symbol_table;
 mod term;
 
 pub use fault::PolicyFault;

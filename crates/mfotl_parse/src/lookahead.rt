@@ -1,7 +1,7 @@
 //! A `(` behind a temporal operator, which may begin an interval or an operand.
 ghost use Rattle.std.specs.Prelude.{◌≡◌};
 ghost use Rattle.mfotl_lex.specs.Lexemes.{lexeme};
-ghost use Rattle.mfotl_parse.specs.Moves.{given, shallow, first_keeps};
+ghost use Rattle.mfotl_parse.specs.Transitions.{given, within_depth, first_keeps};
 ghost use Rattle.mfotl_parse.specs.Operands as operands;
 ghost use Rattle.mfotl_parse.specs.States as states;
 ghost use Rattle.mfotl_parse.specs.Views.{context_of, GoesOn};
@@ -9,8 +9,9 @@ ghost use Rattle.mfotl_parse.specs.Views.{context_of, GoesOn};
 use crate::class::{Class, unit_of};
 use crate::fault::PolicyFault;
 use crate::frame::Frame;
-use crate::intervals::{MOST_BOUND, bound_of};
-use crate::state::{Context, Now};
+use crate::intervals::bound_of;
+use crate::limits::MAX_BOUND;
+use crate::state::{Context, Stage};
 use crate::term::{Operand, Side};
 use mfotl_lex::Token;
 use mfotl_model::Value;
@@ -24,13 +25,13 @@ impl Context {
         start: u64,
         token: &Token<'a>,
         class: Class,
-    ) -> Result<Now<'a>, PolicyFault>
+    ) -> Result<Stage<'a>, PolicyFault>
         ensures { GoesOn result self.new
             (given token.now.at (operands.maybe_move (context_of self.old) start
             (lexeme token.now) class)) }
     {
         match class {
-            Class::Integer(number) => Ok(Now::MaybeNumber(start, token.at as u64, number)),
+            Class::Integer(number) => Ok(Stage::AfterParenNumber(start, token.at as u64, number)),
             class => self.enclosed_operand(alloc, start, token, class),
         }
     }
@@ -41,9 +42,9 @@ impl Context {
         start: u64,
         token: &Token<'a>,
         class: Class,
-    ) -> Result<Now<'a>, PolicyFault>
+    ) -> Result<Stage<'a>, PolicyFault>
         ensures { GoesOn result self.new
-            (given token.now.at (first_keeps (shallow start (context_of self.old).stack)
+            (given token.now.at (first_keeps (within_depth start (context_of self.old).stack)
             (operands.operand_move (states.pushed states.Parens (context_of self.old)) (lexeme token.now) class))) }
     {
         if !begins_operand(class) {
@@ -64,7 +65,7 @@ impl Context {
         number: i64,
         token: &Token<'a>,
         class: Class,
-    ) -> Result<Now<'a>, PolicyFault>
+    ) -> Result<Stage<'a>, PolicyFault>
         ensures { GoesOn result self.new
             (given token.now.at (operands.maybe_number_move
             (context_of self.old) start number_at number (lexeme token.now) class)) }
@@ -96,16 +97,16 @@ impl Context {
         number_at: u64,
         number: i64,
         at: u64,
-    ) -> Result<Now<'a>, PolicyFault>
+    ) -> Result<Stage<'a>, PolicyFault>
         ensures { GoesOn result self.new
             (given at (operands.maybe_low (context_of self.old) start number_at number)) }
     {
         match u64::try_from(number) {
             Ok(number) => {
-                if number > MOST_BOUND {
+                if number > MAX_BOUND {
                     return Err(PolicyFault::BoundRange(number_at));
                 }
-                Ok(Now::High(start, number + 1))
+                Ok(Stage::ExpectHigh(start, number + 1))
             }
             Err(_) => Err(PolicyFault::Syntax(at)),
         }
@@ -119,14 +120,14 @@ impl Context {
         number: i64,
         at: u64,
         word: &[u8],
-    ) -> Result<Now<'a>, PolicyFault>
+    ) -> Result<Stage<'a>, PolicyFault>
         ensures { GoesOn result self.new
             (given at (operands.maybe_word (context_of self.old) start number_at number word.now)) }
     {
         match u64::try_from(number) {
             Ok(number) => match unit_of(word) {
                 Some(unit) => match bound_of(number, unit) {
-                    Some(low) => Ok(Now::LowDone(start, low + 1)),
+                    Some(low) => Ok(Stage::AfterLow(start, low + 1)),
                     None => Err(PolicyFault::BoundRange(number_at)),
                 },
                 None => Err(PolicyFault::Syntax(at)),

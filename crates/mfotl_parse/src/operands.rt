@@ -1,7 +1,7 @@
 //! Where an operand begins.
 ghost use Rattle.std.specs.Prelude.{◌≡◌, ◌∷◌, []};
 ghost use Rattle.mfotl_lex.specs.Lexemes.{lexeme};
-ghost use Rattle.mfotl_parse.specs.Moves.{given, goes, few, shallow};
+ghost use Rattle.mfotl_parse.specs.Transitions.{given, goes, within_nodes, within_depth};
 ghost use Rattle.mfotl_parse.specs.Operands as operands;
 ghost use Rattle.mfotl_parse.specs.States as states;
 ghost use Rattle.mfotl_parse.specs.Views.{context_of, frame_of, GoesOn, Enters};
@@ -10,7 +10,7 @@ use crate::class::Class;
 use crate::fault::PolicyFault;
 use crate::frame::Frame;
 use crate::intervals::any_distance;
-use crate::state::{Context, Now, text_value};
+use crate::state::{Context, Stage, text_value};
 use crate::term::{Operand, Side};
 use mfotl_lex::Token;
 use mfotl_model::{Formula, Value};
@@ -24,7 +24,7 @@ impl Context {
         alloc: Global,
         token: &Token<'a>,
         class: Class,
-    ) -> Result<Now<'a>, PolicyFault>
+    ) -> Result<Stage<'a>, PolicyFault>
         ensures { GoesOn result self.new
             (given token.now.at (operands.operand_move (context_of self.old)
             (lexeme token.now) class)) }
@@ -34,28 +34,28 @@ impl Context {
             Class::Truth(value) => self.truth(at, value),
             Class::Not => {
                 self.prefix(at, Frame::Negation)?;
-                Ok(Now::Want)
+                Ok(Stage::ExpectOperand)
             }
             Class::Temporal(operator) => {
                 self.prefix(at, Frame::Moment(operator, any_distance()))?;
-                Ok(Now::Fresh)
+                Ok(Stage::AfterTemporal)
             }
-            Class::Quantifier(quantifier) => Ok(Now::Binder(quantifier)),
-            Class::Name => Ok(Now::Word(at, token.text)),
-            Class::Blank => Ok(Now::Blank(at)),
+            Class::Quantifier(quantifier) => Ok(Stage::ExpectVariable(quantifier)),
+            Class::Name => Ok(Stage::AfterWord(at, token.text)),
+            Class::Blank => Ok(Stage::AfterBlank(at)),
             Class::Integer(number) => {
                 let operand = Operand::Constant(Value::Int(number));
-                Ok(Now::Compared(Side { at, operand }))
+                Ok(Stage::ExpectSign(Side { at, operand }))
             }
             Class::Text => {
                 let operand = Operand::Constant(text_value(alloc, token)?);
-                Ok(Now::Compared(Side { at, operand }))
+                Ok(Stage::ExpectSign(Side { at, operand }))
             }
             Class::OpenParen => {
                 self.open(at)?;
-                Ok(Now::Want)
+                Ok(Stage::ExpectOperand)
             }
-            Class::Question => Ok(Now::Marked(at)),
+            Class::Question => Ok(Stage::AfterMark(at)),
             _ => Err(PolicyFault::Syntax(at)),
         }
     }
@@ -66,14 +66,14 @@ impl Context {
         alloc: Global,
         token: &Token<'a>,
         class: Class,
-    ) -> Result<Now<'a>, PolicyFault>
+    ) -> Result<Stage<'a>, PolicyFault>
         ensures { GoesOn result self.new
             (given token.now.at (operands.fresh_move (context_of self.old)
             (lexeme token.now) class)) }
     {
         match class {
-            Class::OpenBracket => Ok(Now::Low(token.at as u64)),
-            Class::OpenParen => Ok(Now::Maybe(token.at as u64)),
+            Class::OpenBracket => Ok(Stage::ExpectLow(token.at as u64)),
+            Class::OpenParen => Ok(Stage::AfterParen(token.at as u64)),
             class => self.operand(alloc, token, class),
         }
     }
@@ -87,7 +87,7 @@ impl Context {
         name: &[u8],
         token: &Token<'a>,
         class: Class,
-    ) -> Result<Now<'a>, PolicyFault>
+    ) -> Result<Stage<'a>, PolicyFault>
         ensures { GoesOn result self.new
             (given token.now.at (operands.word_move signature.now
             (context_of self.old) name_at name.now (lexeme token.now) class)) }
@@ -118,7 +118,7 @@ impl Context {
         name_at: u64,
         token: &Token<'a>,
         class: Class,
-    ) -> Result<Now<'a>, PolicyFault>
+    ) -> Result<Stage<'a>, PolicyFault>
         ensures { GoesOn result self.new
             (given token.now.at (operands.blank_move signature.now
             (context_of self.old) name_at class)) }
@@ -129,25 +129,25 @@ impl Context {
         }
     }
 
-    fn truth<'a>(&mut self, at: u64, value: bool) -> Result<Now<'a>, PolicyFault>
+    fn truth<'a>(&mut self, at: u64, value: bool) -> Result<Stage<'a>, PolicyFault>
         ensures { GoesOn result self.new
-            (given 0 (goes (few at (context_of self.old).nodes ∷ []) (states.with_now
-            (states.counted (context_of self.old)) (states.Have (operands.truth value))))) }
+            (given 0 (goes (within_nodes at (context_of self.old).nodes ∷ []) (states.with_now
+            (states.counted (context_of self.old)) (states.AfterOperand (operands.truth value))))) }
     {
         if self.is_full() {
             return Err(PolicyFault::TooManyNodes(at));
         }
         self.nodes += 1;
         if value {
-            Ok(Now::Have(Formula::True))
+            Ok(Stage::AfterOperand(Formula::True))
         } else {
-            Ok(Now::Have(Formula::False))
+            Ok(Stage::AfterOperand(Formula::False))
         }
     }
 
     /// An operator before its operand.
     fn prefix(&mut self, at: u64, frame: Frame) -> Result<(), PolicyFault>
-        ensures { Enters result self.new (shallow at (context_of self.old).stack ∷ few at (context_of self.old).nodes ∷ []) (operands.prefixed (context_of self.old) (frame_of frame)) }
+        ensures { Enters result self.new (within_depth at (context_of self.old).stack ∷ within_nodes at (context_of self.old).nodes ∷ []) (operands.prefixed (context_of self.old) (frame_of frame)) }
     {
         if self.is_deep() {
             return Err(PolicyFault::TooDeep(at));
@@ -162,7 +162,7 @@ impl Context {
 
     /// A `(` of a formula.
     pub fn open(&mut self, at: u64) -> Result<(), PolicyFault>
-        ensures { Enters result self.new (shallow at (context_of self.old).stack ∷ []) (states.pushed states.Parens (context_of self.old)) }
+        ensures { Enters result self.new (within_depth at (context_of self.old).stack ∷ []) (states.pushed states.Parens (context_of self.old)) }
     {
         if self.is_deep() {
             return Err(PolicyFault::TooDeep(at));

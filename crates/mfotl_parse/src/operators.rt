@@ -2,17 +2,18 @@
 ghost use Rattle.std.specs.Prelude.{◌≡◌};
 ghost use Rattle.mfotl_lex.specs.Lexemes.{lexeme};
 ghost use Rattle.mfotl_model.specs.Formulas.{form};
-ghost use Rattle.mfotl_parse.specs.Moves.{given};
+ghost use Rattle.mfotl_parse.specs.Transitions.{given};
 ghost use Rattle.mfotl_parse.specs.Operands as operands;
-ghost use Rattle.mfotl_parse.specs.Reduction.{level, reduce};
+ghost use Rattle.mfotl_parse.specs.Reduction.{reduce};
 ghost use Rattle.mfotl_parse.specs.Views.{context_of, GoesOn};
+ghost use Rattle.mfotl_parse.specs.Grammar.{precedence};
 
 use crate::class::{Class, Operator};
 use crate::fault::PolicyFault;
 use crate::frame::Frame;
 use crate::intervals::any_distance;
 use crate::stack;
-use crate::state::{Context, Now};
+use crate::state::{Context, Stage};
 use mfotl_lex::Token;
 use mfotl_model::Formula;
 use std::alloc::Global;
@@ -25,7 +26,7 @@ impl Context {
         formula: Formula,
         token: &Token<'a>,
         class: Class,
-    ) -> Result<Now<'a>, PolicyFault>
+    ) -> Result<Stage<'a>, PolicyFault>
         ensures { GoesOn result self.new
             (given token.now.at (operands.have_move (context_of self.old) (form formula)
             (lexeme token.now) class)) }
@@ -44,12 +45,12 @@ impl Context {
         formula: Formula,
         operator: Operator,
         at: u64,
-    ) -> Result<Now<'a>, PolicyFault>
+    ) -> Result<Stage<'a>, PolicyFault>
         ensures { GoesOn result self.new
             (given 0 (operands.joined_move (context_of self.old) operator
-            (reduce (level operator) (form formula) (context_of self.old).stack) at)) }
+            (reduce (precedence operator) (form formula) (context_of self.old).stack) at)) }
     {
-        let left = stack::reduce(alloc, &mut self.frames, operator.level(), formula)?;
+        let left = stack::reduce(alloc, &mut self.frames, operator.precedence(), formula)?;
         if operator.deepens() {
             if self.is_deep() {
                 return Err(PolicyFault::TooDeep(at));
@@ -61,9 +62,9 @@ impl Context {
         self.nodes += 1;
         self.push(Frame::Left(operator, any_distance(), left))?;
         if operator.is_timed() {
-            Ok(Now::Fresh)
+            Ok(Stage::AfterTemporal)
         } else {
-            Ok(Now::Want)
+            Ok(Stage::ExpectOperand)
         }
     }
 
@@ -73,13 +74,13 @@ impl Context {
         alloc: Global,
         formula: Formula,
         at: u64,
-    ) -> Result<Now<'a>, PolicyFault>
+    ) -> Result<Stage<'a>, PolicyFault>
         ensures { GoesOn result self.new (given at (operands.enclosed_move (context_of self.old)
             (reduce 0 (form formula) (context_of self.old).stack).form (operands.around (reduce 0 (form formula) (context_of self.old).stack).stack))) }
     {
         let whole = stack::reduce(alloc, &mut self.frames, 0, formula)?;
         if stack::pop_parens(&mut self.frames) {
-            Ok(Now::Have(whole))
+            Ok(Stage::AfterOperand(whole))
         } else {
             Err(PolicyFault::Syntax(at))
         }

@@ -1,14 +1,14 @@
 //! A quantifier's variables.
 ghost use Rattle.std.specs.Prelude.{◌≡◌, ◌∷◌, []};
 ghost use Rattle.mfotl_lex.specs.Lexemes.{lexeme};
-ghost use Rattle.mfotl_parse.specs.Moves.{given, goes};
+ghost use Rattle.mfotl_parse.specs.Transitions.{given, goes};
 ghost use Rattle.mfotl_parse.specs.Operands as operands;
 ghost use Rattle.mfotl_parse.specs.Views.{context_of, GoesOn};
 
 use crate::class::{Class, Quantifier};
 use crate::fault::PolicyFault;
 use crate::frame::Frame;
-use crate::state::{Context, Now};
+use crate::state::{Context, Stage};
 use mfotl_lex::Token;
 use mfotl_model::Name;
 use std::alloc::Global;
@@ -21,7 +21,7 @@ impl Context {
         quantifier: Quantifier,
         token: &Token<'a>,
         class: Class,
-    ) -> Result<Now<'a>, PolicyFault>
+    ) -> Result<Stage<'a>, PolicyFault>
         ensures { GoesOn result self.new
             (given token.now.at (operands.binder_move (context_of self.old) quantifier
             (lexeme token.now) class)) }
@@ -46,7 +46,7 @@ impl Context {
                     return Err(PolicyFault::TooManyNodes(at));
                 }
                 self.nodes += 1;
-                Ok(Now::BinderMarked(quantifier, at))
+                Ok(Stage::AfterVariableMark(quantifier, at))
             }
             _ => Err(PolicyFault::Syntax(at)),
         }
@@ -59,7 +59,7 @@ impl Context {
         quantifier: Quantifier,
         token: &Token<'a>,
         class: Class,
-    ) -> Result<Now<'a>, PolicyFault>
+    ) -> Result<Stage<'a>, PolicyFault>
         ensures { GoesOn result self.new
             (given token.now.at (operands.binder_marked_move (context_of self.old) quantifier
             (lexeme token.now) class)) }
@@ -76,13 +76,13 @@ impl Context {
         quantifier: Quantifier,
         token: &Token<'a>,
         class: Class,
-    ) -> Result<Now<'a>, PolicyFault>
+    ) -> Result<Stage<'a>, PolicyFault>
         ensures { GoesOn result self.new
             (given token.now.at (operands.bound_move (context_of self.old) quantifier class)) }
     {
         match class {
-            Class::Comma => Ok(Now::Binder(quantifier)),
-            Class::Dot => Ok(Now::Want),
+            Class::Comma => Ok(Stage::ExpectVariable(quantifier)),
+            Class::Dot => Ok(Stage::ExpectOperand),
             _ => Err(PolicyFault::Syntax(token.at as u64)),
         }
     }
@@ -92,13 +92,13 @@ impl Context {
         alloc: Global,
         quantifier: Quantifier,
         name: &[u8],
-    ) -> Result<Now<'a>, PolicyFault>
+    ) -> Result<Stage<'a>, PolicyFault>
         ensures { GoesOn result self.new
             (given 0 (goes [] (operands.bound_now (context_of self.old) quantifier name.now))) }
     {
         let name = Name::from_slice(alloc, name)?;
         let place = self.names.bind(None)?;
         self.push(Frame::Binding(quantifier, place, name))?;
-        Ok(Now::Bound(quantifier))
+        Ok(Stage::AfterVariable(quantifier))
     }
 }

@@ -3,6 +3,7 @@ ghost use Rattle.std.specs.Prelude.{◌≡◌, ◌≢◌, ◌≤◌, length, IfO
 ghost use Rattle.mfotl_lex.specs.Lexemes.{lexeme};
 ghost use Rattle.mfotl_model.specs.Formulas.{form};
 ghost use Rattle.mfotl_parse.specs.GrammarLaws.{IsShown};
+ghost use Rattle.mfotl_parse.specs.Limits.{max_free};
 ghost use Rattle.mfotl_parse.specs.Meanings.{IsValue};
 ghost use Rattle.mfotl_parse.specs.declared.fault.PolicyFault.TheVariants.{Memory};
 ghost use Rattle.mfotl_parse.specs.Reading.{step, ended_at, finished, is_closed, reading};
@@ -10,13 +11,13 @@ ghost use Rattle.mfotl_parse.specs.Reading as reading_words;
 ghost use Rattle.mfotl_parse.specs.Reduction.{reduce};
 ghost use Rattle.mfotl_parse.specs.States.{start};
 ghost use Rattle.mfotl_parse.specs.WellSorted.{IsWellSorted};
-ghost use Rattle.mfotl_parse.specs.Views.{context_of, names_of, now_of, partial_of, policy_of, GoesOn, Gives, Steps};
+ghost use Rattle.mfotl_parse.specs.Views.{context_of, names_of, stage_of, partial_of, policy_of, GoesOn, Gives, Steps};
 
 use crate::class::class_of;
 use crate::fault::PolicyFault;
-use crate::names::Names;
 use crate::stack;
-use crate::state::{Context, Now, Parser};
+use crate::state::{Context, Parser, Stage};
+use crate::symbol_table::SymbolTable;
 use mfotl_lex::{Lexer, Mode, Token};
 use mfotl_model::{Formula, Policy};
 use mfotl_sig::Signature;
@@ -29,7 +30,7 @@ impl<'a> Parser<'a> {
     {
         Parser {
             context: Context::new(alloc),
-            now: Now::Want,
+            now: Stage::ExpectOperand,
         }
     }
 
@@ -42,67 +43,73 @@ impl<'a> Parser<'a> {
     ) -> Result<(), PolicyFault>
         ensures { Steps result self.new (step signature.now (partial_of self.old) (lexeme token.now)) }
     {
-        let now = mem::replace(&mut self.now, Now::Want);
+        let now = mem::replace(&mut self.now, Stage::ExpectOperand);
         self.now = advance(alloc, &mut self.context, signature, now, token)?;
         Ok(())
     }
 
     /// The policy, where the text ends at the offset.
     fn finish(self, alloc: Global, end: u64) -> Result<Policy, PolicyFault>
-        ensures { Gives policy_of result (ended_at (now_of self.entry.now) (context_of self.entry.context) end) }
+        ensures { Gives policy_of result (ended_at (stage_of self.entry.now) (context_of self.entry.context) end) }
     {
         let Parser { context, now } = self;
         match now {
-            Now::Have(formula) => close(alloc, context, formula, end),
+            Stage::AfterOperand(formula) => close(alloc, context, formula, end),
             _ => Err(PolicyFault::Syntax(end)),
         }
     }
 }
 
 /// What may come behind the next token.
-#[tactic(auto, unfolding(crate::specs::Reading::step, crate::specs::Reading::move_of))]
+#[tactic(auto, unfolding(crate::specs::Reading::step, crate::specs::Reading::transition))]
 fn advance<'a>(
     alloc: Global,
     context: &mut Context,
     signature: &'a Signature,
-    now: Now<'a>,
+    now: Stage<'a>,
     token: &Token<'a>,
-) -> Result<Now<'a>, PolicyFault>
-    ensures { GoesOn result context.new (step signature.now (record { context = context_of context.old; now = now_of now.entry }) (lexeme token.now)) }
+) -> Result<Stage<'a>, PolicyFault>
+    ensures { GoesOn result context.new (step signature.now (record { context = context_of context.old; now = stage_of now.entry }) (lexeme token.now)) }
 {
     let class = class_of(token);
     match now {
-        Now::Want => context.operand(alloc, token, class),
-        Now::Fresh => context.fresh(alloc, token, class),
-        Now::Have(formula) => context.have(alloc, formula, token, class),
-        Now::Word(at, name) => context.word(alloc, signature, at, name, token, class),
-        Now::Blank(at) => context.blank(alloc, signature, at, token, class),
-        Now::Marked(mark) => context.marked(alloc, mark, token, class),
-        Now::Compared(left) => context.compared(left, token, class),
-        Now::Against(left, at, sign) => context.against(alloc, left, at, sign, token, class),
-        Now::AgainstMarked(left, at, sign, mark) => {
+        Stage::ExpectOperand => context.operand(alloc, token, class),
+        Stage::AfterTemporal => context.fresh(alloc, token, class),
+        Stage::AfterOperand(formula) => context.have(alloc, formula, token, class),
+        Stage::AfterWord(at, name) => context.word(alloc, signature, at, name, token, class),
+        Stage::AfterBlank(at) => context.blank(alloc, signature, at, token, class),
+        Stage::AfterMark(mark) => context.marked(alloc, mark, token, class),
+        Stage::ExpectSign(left) => context.compared(left, token, class),
+        Stage::AfterSign(left, at, sign) => context.against(alloc, left, at, sign, token, class),
+        Stage::AfterSignMark(left, at, sign, mark) => {
             context.against_marked(alloc, left, at, sign, mark, token, class)
         }
-        Now::First(call) => context.first_argument(alloc, call, token, class),
-        Now::Next(call) => context.argument(alloc, call, token, class),
-        Now::Taken(call) => context.after_argument(alloc, call, token, class),
-        Now::ArgumentMarked(call, mark) => context.marked_argument(alloc, call, mark, token, class),
-        Now::Binder(quantifier) => context.binder(alloc, quantifier, token, class),
-        Now::BinderMarked(quantifier, _) => context.binder_marked(alloc, quantifier, token, class),
-        Now::Bound(quantifier) => context.bound(quantifier, token, class),
-        Now::Maybe(start) => context.maybe(alloc, start, token, class),
-        Now::MaybeNumber(start, at, number) => context.maybe_number(
+        Stage::FirstArgument(call) => context.first_argument(alloc, call, token, class),
+        Stage::NextArgument(call) => context.argument(alloc, call, token, class),
+        Stage::AfterArgument(call) => context.after_argument(alloc, call, token, class),
+        Stage::AfterArgumentMark(call, mark) => context.marked_argument(
+            alloc, call, mark, token, class,
+        ),
+        Stage::ExpectVariable(quantifier) => context.binder(alloc, quantifier, token, class),
+        Stage::AfterVariableMark(quantifier, _) => context.binder_marked(
+            alloc, quantifier, token, class,
+        ),
+        Stage::AfterVariable(quantifier) => context.bound(quantifier, token, class),
+        Stage::AfterParen(start) => context.maybe(alloc, start, token, class),
+        Stage::AfterParenNumber(start, at, number) => context.maybe_number(
             start, at, number, token, class,
         ),
-        Now::Low(start) => context.low(start, token, class),
-        Now::LowNumber(start, at, number) => context.low_number(start, at, number, token, class),
-        Now::LowDone(start, low) => context.low_done(start, low, token, class),
-        Now::High(start, low) => context.high(start, low, token, class),
-        Now::HighNumber(start, low, at, number) => {
+        Stage::ExpectLow(start) => context.low(start, token, class),
+        Stage::AfterLowNumber(start, at, number) => context.low_number(
+            start, at, number, token, class,
+        ),
+        Stage::AfterLow(start, low) => context.low_done(start, low, token, class),
+        Stage::ExpectHigh(start, low) => context.high(start, low, token, class),
+        Stage::AfterHighNumber(start, low, at, number) => {
             context.high_number(start, low, at, number, token, class)
         }
-        Now::HighDone(start, low, high) => context.bracket(start, low, high, token, class),
-        Now::Endless(_, low) => context.endless(low, token, class),
+        Stage::AfterHigh(start, low, high) => context.bracket(start, low, high, token, class),
+        Stage::AfterStar(_, low) => context.endless(low, token, class),
     }
 }
 
@@ -125,7 +132,7 @@ fn close(alloc: Global, context: Context, formula: Formula, end: u64) -> Result<
 }
 
 /// The policy, unless sorts clash or there are too many free variables.
-fn checked(alloc: Global, names: Names, formula: Formula) -> Result<Policy, PolicyFault>
+fn checked(alloc: Global, names: SymbolTable, formula: Formula) -> Result<Policy, PolicyFault>
     ensures { Gives policy_of result (finished (names_of names) (form formula)) }
 {
     if let Some(at) = names.clash {
@@ -172,7 +179,7 @@ pub fn read_policy<'a>(
     ensures value { IfOk result (λ policy. IsValue bytes.now signature.now (policy_of policy)) }
     ensures shown { IfErr result (λ fault. fault ≢ Memory → IsShown bytes.now signature.now fault) }
     ensures columns { IfOk result (λ policy. IsWellSorted signature.now policy.vars (form policy.formula)) }
-    ensures few { IfOk result (λ policy. length policy.vars ≤ 8) }
+    ensures few { IfOk result (λ policy. length policy.vars ≤ max_free) }
 {
     read(alloc, bytes, signature)
 }

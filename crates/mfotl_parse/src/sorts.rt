@@ -1,15 +1,15 @@
 //! The sorts that variables are given, and where they clash.
 ghost use Rattle.std.specs.Prelude.{◌≡◌, OnOk, slice_get, slice_set, Some, find};
 ghost use Rattle.std.specs.Option.{option_copied};
-ghost use Rattle.mfotl_parse.specs.Names as sorting;
+ghost use Rattle.mfotl_parse.specs.SymbolTable as sorting;
 ghost use Rattle.mfotl_parse.specs.Views.{names_of};
 
-use crate::names::Names;
+use crate::symbol_table::SymbolTable;
 use crate::term::{Operand, Pair, Side, Variable};
 use mfotl_model::{Sort, Value};
 use std::alloc::AllocError;
 
-impl Names {
+impl SymbolTable {
     fn sort_of(&self, variable: Variable) -> Option<Sort>
         ensures { result ≡ sorting.sort_of variable (names_of self.now) }
     {
@@ -45,7 +45,7 @@ impl Names {
     }
 
     fn occur(&mut self, variable: Variable, at: u64, sort: Sort)
-        ensures { names_of self.new ≡ sorting.occurs variable at sort (names_of self.old) }
+        ensures { names_of self.new ≡ sorting.require_sort variable at sort (names_of self.old) }
     {
         match self.sort_of(variable) {
             None => self.give_sort(variable, sort),
@@ -55,7 +55,7 @@ impl Names {
 
     /// A term at the offset, where this sort is due.
     pub fn place(&mut self, operand: &Operand, at: u64, sort: Sort)
-        ensures { names_of self.new ≡ sorting.placed operand.now at sort (names_of self.old) }
+        ensures { names_of self.new ≡ sorting.constrain_term operand.now at sort (names_of self.old) }
     {
         match operand {
             Operand::Variable(variable) => self.occur(*variable, at, sort),

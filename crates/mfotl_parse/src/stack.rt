@@ -2,7 +2,7 @@
 ghost use Rattle.std.specs.Prelude.{◌≡◌, ◌∷◌, [], ◌<◌, IfOk, OnOk, MatchOption, IfSome, vec_len, ℕ, Some, None, if◌then◌else◌};
 ghost use Rattle.mfotl_model.specs.Formulas.{Form, form};
 ghost use Rattle.mfotl_parse.specs.States.{depth};
-ghost use Rattle.mfotl_parse.specs.Names.{binder_of};
+ghost use Rattle.mfotl_parse.specs.SymbolTable.{binder_of};
 ghost use Rattle.mfotl_parse.specs.Intervals.{with_interval};
 ghost use Rattle.mfotl_parse.specs.Operands.{around};
 ghost use Rattle.mfotl_parse.specs.Reading.{is_closed};

@@ -2,17 +2,18 @@
 ghost use Rattle.std.specs.Prelude.{◌≡◌, OnOk, IfOk, nat_le};
 ghost use Rattle.mfotl_lex.specs.Contents.{content_of};
 ghost use Rattle.mfotl_model.specs.declared.value.Value.TheVariants as values;
-ghost use Rattle.mfotl_parse.specs.Moves.{most_open, most_nodes};
-ghost use Rattle.mfotl_parse.specs.Names.{variable_of};
+ghost use Rattle.mfotl_parse.specs.SymbolTable.{resolved};
 ghost use Rattle.mfotl_parse.specs.Operands.{with_noted};
 ghost use Rattle.mfotl_parse.specs.States.{start, depth, pushed};
 ghost use Rattle.mfotl_parse.specs.Views.{context_of, frame_of};
+ghost use Rattle.mfotl_parse.specs.Limits.{max_levels, max_nodes};
 
 use crate::call::Call;
 use crate::class::Quantifier;
 use crate::frame::Frame;
-use crate::names::Names;
+use crate::limits::{MAX_LEVELS, MAX_NODES};
 use crate::stack;
+use crate::symbol_table::SymbolTable;
 use crate::term::{Side, Variable};
 use mfotl_lex::Token;
 use mfotl_model::{Formula, Sign, Text, Value};
@@ -20,57 +21,57 @@ use std::alloc::{AllocError, Global};
 
 /// What may come next. Each number is an offset unless its variant says otherwise.
 #[derive(Drop)]
-pub enum Now<'a> {
+pub enum Stage<'a> {
     /// An operand.
-    Want,
+    ExpectOperand,
     /// Behind a temporal operator: an interval or an operand.
-    Fresh,
+    AfterTemporal,
     /// An operand was read.
-    Have(Formula),
+    AfterOperand(Formula),
     /// A Word where an operand begins: an atom's name or a variable.
-    Word(u64, &'a [u8]),
+    AfterWord(u64, &'a [u8]),
     /// `_` there.
-    Blank(u64),
+    AfterBlank(u64),
     /// `?` there.
-    Marked(u64),
+    AfterMark(u64),
     /// The left side of a comparison.
-    Compared(Side),
+    ExpectSign(Side),
     /// Behind the sign, which stands at the offset.
-    Against(Side, u64, Sign),
+    AfterSign(Side, u64, Sign),
     /// Behind `?` there.
-    AgainstMarked(Side, u64, Sign, u64),
+    AfterSignMark(Side, u64, Sign, u64),
     /// Behind an atom's `(`.
-    First(Call<'a>),
+    FirstArgument(Call<'a>),
     /// Behind a comma between arguments.
-    Next(Call<'a>),
+    NextArgument(Call<'a>),
     /// Behind an argument.
-    Taken(Call<'a>),
+    AfterArgument(Call<'a>),
     /// Behind `?` where an argument begins.
-    ArgumentMarked(Call<'a>, u64),
+    AfterArgumentMark(Call<'a>, u64),
     /// A quantified variable.
-    Binder(Quantifier),
+    ExpectVariable(Quantifier),
     /// Behind its `?`.
-    BinderMarked(Quantifier, u64),
+    AfterVariableMark(Quantifier, u64),
     /// Behind a quantified variable.
-    Bound(Quantifier),
+    AfterVariable(Quantifier),
     /// Behind `(` behind a temporal operator.
-    Maybe(u64),
+    AfterParen(u64),
     /// An Integer behind that, with its offset and its value.
-    MaybeNumber(u64, u64, i64),
+    AfterParenNumber(u64, u64, i64),
     /// Behind the `[` of an interval. Each of the following begins with the offset of the bracket.
-    Low(u64),
+    ExpectLow(u64),
     /// The lower bound's Integer, with its offset and value.
-    LowNumber(u64, u64, u64),
+    AfterLowNumber(u64, u64, u64),
     /// The unit was read: the least distance.
-    LowDone(u64, u64),
+    AfterLow(u64, u64),
     /// Behind the comma: the least distance.
-    High(u64, u64),
+    ExpectHigh(u64, u64),
     /// The upper bound's Integer: the least distance, the Integer's offset and value.
-    HighNumber(u64, u64, u64, u64),
+    AfterHighNumber(u64, u64, u64, u64),
     /// Its unit was read: the least distance and the bound.
-    HighDone(u64, u64, u64),
+    AfterHigh(u64, u64, u64),
     /// Behind `*`: the least distance.
-    Endless(u64, u64),
+    AfterStar(u64, u64),
 }
 
 /// What is open, how many nodes were read, and the names that were met.
@@ -78,14 +79,14 @@ pub enum Now<'a> {
 pub struct Context {
     pub frames: Vec<Frame>,
     pub nodes: u32,
-    pub names: Names,
+    pub names: SymbolTable,
 }
 
 /// A policy up to a token.
 #[derive(Drop)]
 pub struct Parser<'a> {
     pub context: Context,
-    pub now: Now<'a>,
+    pub now: Stage<'a>,
 }
 
 impl Context {
@@ -96,22 +97,22 @@ impl Context {
         Context {
             frames: Vec::new(alloc),
             nodes: 0,
-            names: Names::new(alloc),
+            names: SymbolTable::new(alloc),
         }
     }
 
     /// Whether no level of nesting more may open.
     pub fn is_deep(&self) -> bool
-        ensures { result ≡ nat_le most_open (depth (context_of self.now).stack) }
+        ensures { result ≡ nat_le max_levels (depth (context_of self.now).stack) }
     {
-        stack::depth(&self.frames) >= 64
+        stack::depth(&self.frames) >= MAX_LEVELS
     }
 
     /// Whether there may be no node more.
     pub fn is_full(&self) -> bool
-        ensures { result ≡ nat_le most_nodes (context_of self.now).nodes }
+        ensures { result ≡ nat_le max_nodes (context_of self.now).nodes }
     {
-        self.nodes >= 4096
+        self.nodes >= MAX_NODES
     }
 
     pub fn push(&mut self, frame: Frame) -> Result<(), AllocError>
@@ -125,7 +126,7 @@ impl Context {
     /// The variable that a name at the offset stands for, which may be a new one.
     pub fn meet(&mut self, alloc: Global, name: &[u8], at: u64) -> Result<Variable, AllocError>
         ensures variable { IfOk result (λ variable. variable
-            ≡ variable_of name.now (context_of self.old).stack (context_of self.old).names) }
+            ≡ resolved name.now (context_of self.old).stack (context_of self.old).names) }
         ensures noted { OnOk result (context_of self.new
             ≡ with_noted (context_of self.old) name.now at) }
     {

@@ -1,8 +1,8 @@
 //! Variables and constants, as they are met in the text.
 ghost use Rattle.std.specs.Prelude.{◌≡◌, IfOk, IfSome};
-ghost use Rattle.mfotl_parse.specs.Names.{number_of, term_of};
+ghost use Rattle.mfotl_parse.specs.SymbolTable.{number_of, term_of};
 
-use crate::frame::MOST_FREE;
+use crate::limits::MAX_FREE;
 use mfotl_model::{Term, Value};
 use std::alloc::AllocError;
 
@@ -40,7 +40,7 @@ fn number_of(variable: Variable) -> Option<u32>
 {
     match variable {
         Variable::Free(place) => Some(place),
-        Variable::Bound(place) => place.checked_add(MOST_FREE),
+        Variable::Bound(place) => place.checked_add(MAX_FREE),
     }
 }
 

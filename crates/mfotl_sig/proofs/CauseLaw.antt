@@ -1,5 +1,6 @@
 -- Behind tokens that show no fault, the reader shows a fault exactly where the token or the tail is its cause.
-use Rattle.std.proofs.Common.{◌≡◌, ℕ, ◌≤◌, Bool, true, false, cond, List, [], ◌∷◌, ◌++◌, length, Option, Some, None, Contains}
+use Rattle.std.proofs.Common.{◌≡◌, ℕ, ◌≤◌, Bool, true, false, cond, List, [], ◌∷◌, ◌++◌, length, Option, Some, None}
+use Rattle.std.proofs.Common.{Contains}
 use Rattle.std.proofs.Common.{Result, Ok, Err, refl, ap, sym, subst, ◌∙◌, inl, inr, arith}
 use Rattle.std.proofs.lemmas.Bool.{le-leb}
 use Rattle.std.proofs.lemmas.List.{append_assoc}
@@ -14,12 +15,15 @@ use Rattle.mfotl_lex.proofs.FirstFaultLaws.{bind_ok, run_fault, run_behind}
 use Rattle.mfotl_model.specs.declared.policy.Sort.{Sort}
 use Rattle.mfotl_sig.specs.declared.arguments.Stage.TheVariants.{AfterOpen, AfterLabel, AfterSort, AfterComma}
 use Rattle.mfotl_sig.specs.declared.fault.SigFault.{SigFault}
-use Rattle.mfotl_sig.specs.declared.fault.SigFault.TheVariants.{Lex, Syntax, RepeatedName, UnknownSort, Arity, TooMany, Memory}
-use Rattle.mfotl_sig.specs.Causes.{IsRepeated, IsOneTooMany, IsNinth, IsUnknownLabelled, IsUnknownOnly, IsCause, IsLast}
+use Rattle.mfotl_sig.specs.declared.fault.SigFault.TheVariants.{Lex, Syntax, RepeatedName, UnknownSort, Arity}
+use Rattle.mfotl_sig.specs.declared.fault.SigFault.TheVariants.{TooMany, Memory}
+use Rattle.mfotl_sig.specs.Causes.{IsRepeated, IsOneTooMany, IsNinth, IsUnknownLabelled, IsUnknownOnly, IsCause}
+use Rattle.mfotl_sig.specs.Causes.{IsLast}
 use Rattle.mfotl_sig.specs.Grammar.{Written, Listed, IsAccepted, IsViable}
 use Rattle.mfotl_sig.specs.Limits.{max_predicates, max_arguments}
 use Rattle.mfotl_sig.specs.Preds.{PredOf}
-use Rattle.mfotl_sig.specs.Reading.{DraftOf, Partial, with_sort, word_stage, goes_on, step, at_end, at_tail, nothing_read}
+use Rattle.mfotl_sig.specs.Reading.{DraftOf, Partial, with_sort, word_stage, goes_on, step, at_end, at_tail}
+use Rattle.mfotl_sig.specs.Reading.{nothing_read}
 use Rattle.mfotl_sig.specs.Rules.{sort_of, numbered, KeepsRules}
 use Rattle.mfotl_sig.proofs.NamedLemmas.{look_up, absent}
 use Rattle.mfotl_sig.proofs.Runs.{between, within, stage_in, settle, kind_step, label_step, word_step, judge}

@@ -15,7 +15,8 @@ use Rattle.mfotl_sig.specs.declared.arguments.Stage.TheVariants.{AfterSort, Afte
 use Rattle.mfotl_sig.specs.declared.fault.SigFault.{SigFault}
 use Rattle.mfotl_sig.specs.declared.fault.SigFault.TheVariants.{RepeatedName, Arity, TooMany}
 use Rattle.mfotl_sig.specs.Causes.{Begun}
-use Rattle.mfotl_sig.specs.Grammar.{Argument, Only, Labelled, Listed, Written, FitsArgument, FitsListed, FitsLast, Fits}
+use Rattle.mfotl_sig.specs.Grammar.{Argument, Only, Labelled, Listed, Written, FitsArgument, FitsListed, FitsLast}
+use Rattle.mfotl_sig.specs.Grammar.{Fits}
 use Rattle.mfotl_sig.specs.Grammar.{spell_argument, spell_listed, spell_last, spell_pred, spell_preds}
 use Rattle.mfotl_sig.specs.Limits.{max_predicates, max_arguments}
 use Rattle.mfotl_sig.specs.Preds.{PredOf, named, with_pred}

@@ -1,5 +1,6 @@
 -- The laws of `specs/Laws.antt`.
-use Rattle.std.proofs.Common.{◌≡◌, ◌≢◌, ℕ, true, List, [], length, Option, Some, None, Result, Ok, Err, IfOk, IfErr, refl, ap, sym, ◌∙◌}
+use Rattle.std.proofs.Common.{◌≡◌, ◌≢◌, ℕ, true, List, [], length, Option, Some, None, Result, Ok, Err, IfOk, IfErr}
+use Rattle.std.proofs.Common.{refl, ap, sym, ◌∙◌}
 use Rattle.mfotl_lex.specs.declared.fault.LexFault.{LexFault}
 use Rattle.mfotl_lex.specs.FirstFault.{◌>>=◌, End, More, run}
 use Rattle.mfotl_lex.specs.FirstFault as layer
@@ -15,7 +16,8 @@ use Rattle.mfotl_sig.specs.declared.fault.SigFault.TheVariants.{Memory}
 use Rattle.mfotl_sig.specs.Answers.{Gives}
 use Rattle.mfotl_sig.specs.Causes.{IsCause, IsLast}
 use Rattle.mfotl_sig.specs.Grammar.{IsAccepted, IsViable}
-use Rattle.mfotl_sig.specs.Laws.{ReadIsSpelled, SpelledIsRead, OneAnswer, IsShown, ExactFaults, ExactSoundness, StaysShown}
+use Rattle.mfotl_sig.specs.Laws.{ReadIsSpelled, SpelledIsRead, OneAnswer, IsShown, ExactFaults, ExactSoundness}
+use Rattle.mfotl_sig.specs.Laws.{StaysShown}
 use Rattle.mfotl_sig.specs.Preds.{PredOf}
 use Rattle.mfotl_sig.specs.Reading.{DraftOf, Partial, step, at_end, at_tail, nothing_read, reading}
 use Rattle.mfotl_sig.specs.Rules.{numbered, text_of, KeepsRules, IsValue}

@@ -4,8 +4,10 @@ use Rattle.std.specs.List.{AllByRecursion}
 use Rattle.mfotl_lex.specs.declared.kind.Kind.TheVariants.{CloseParen, Comma}
 use Rattle.mfotl_lex.specs.Lexemes.{Lexeme}
 use Rattle.mfotl_sig.specs.Causes.{Begun}
-use Rattle.mfotl_sig.specs.Grammar.{Argument, Only, Labelled, Listed, Written, FitsArgument, FitsListed, FitsLast, Fits}
-use Rattle.mfotl_sig.specs.Grammar.{spell_argument, spell_listed, spell_last, spell_begun, spell_pred, spell_preds, IsAccepted}
+use Rattle.mfotl_sig.specs.Grammar.{Argument, Only, Labelled, Listed, Written, FitsArgument, FitsListed, FitsLast}
+use Rattle.mfotl_sig.specs.Grammar.{Fits}
+use Rattle.mfotl_sig.specs.Grammar.{spell_argument, spell_listed, spell_last, spell_begun, spell_pred, spell_preds}
+use Rattle.mfotl_sig.specs.Grammar.{IsAccepted}
 
 argument_behind : (a : Argument) (ts us : List Lexeme) → spell_argument a ts ++ us ≡ spell_argument a (ts ++ us)
 argument_behind (Only word) ts us = refl

@@ -1,5 +1,6 @@
 -- What the tokens so far are in the grammar, wherever the reader stands, and what the next one is the cause of.
-use Rattle.std.proofs.Common.{◌≡◌, ℕ, suc, ◌≤◌, Bool, true, false, cond, List, [], ◌∷◌, ◌++◌, length, Option, Some, None}
+use Rattle.std.proofs.Common.{◌≡◌, ℕ, suc, ◌≤◌, Bool, true, false, cond, List, [], ◌∷◌, ◌++◌, length, Option, Some}
+use Rattle.std.proofs.Common.{None}
 use Rattle.std.proofs.Common.{Contains, Result, Ok, Err, refl, ap, sym, subst, ◌∙◌, ◌⊎◌, inl, inr, arith}
 use Rattle.std.proofs.lemmas.Bool.{leb-true}
 use Rattle.std.proofs.lemmas.List.{append-nil, append_assoc}
@@ -22,7 +23,8 @@ use Rattle.mfotl_sig.specs.Grammar.{Argument, Only, Labelled, Written, FitsArgum
 use Rattle.mfotl_sig.specs.Grammar.{Spells, IsAccepted, IsViable}
 use Rattle.mfotl_sig.specs.Limits.{max_predicates, max_arguments}
 use Rattle.mfotl_sig.specs.Preds.{PredOf}
-use Rattle.mfotl_sig.specs.Reading.{ProgressOf, Open, Closed, DraftOf, Partial, with_sort, word_stage, goes_on, stage_step}
+use Rattle.mfotl_sig.specs.Reading.{ProgressOf, Open, Closed, DraftOf, Partial, with_sort, word_stage, goes_on}
+use Rattle.mfotl_sig.specs.Reading.{stage_step}
 use Rattle.mfotl_sig.specs.Reading.{begins, settled, step_from, step, nothing_read}
 use Rattle.mfotl_sig.specs.Rules.{sort_of, names_of, numbered, KeepsRules}
 use Rattle.mfotl_sig.proofs.NamedLemmas.{names, Finds, Lacks, look_up, absent}
@@ -215,7 +217,16 @@ module _ (front : List Lexeme) (t : Lexeme) where
   unknown_labelled : t.kind ≡ Word → StandsAt front AfterLabel → sort_of t.text ≡ None
       → IsCause front t (UnknownSort t.at)
   unknown_labelled kind l unknown =
-      inl (record { label = l.0; colon = l.1; begun = l.2; labels = l.3; divides = l.4; kind = kind; unknown = unknown; place = refl })
+      inl (record {
+        label = l.0;
+        colon = l.1;
+        begun = l.2;
+        labels = l.3;
+        divides = l.4;
+        kind = kind;
+        unknown = unknown;
+        place = refl;
+      })
 
   next_moves : (sorts : List Sort) (full : Bool) (b : Begun front []) → t.kind ≡ Word
       → (length sorts ≡ length b.listed) × (length b.listed ≤ max_arguments)

@@ -7,7 +7,8 @@ use Rattle.mfotl_lex.specs.FirstFault.{Tail, Broken, EndsViability, EndsTooEarly
 use Rattle.mfotl_lex.specs.Lexemes.{Lexeme}
 use Rattle.mfotl_sig.specs.declared.fault.SigFault.{SigFault}
 use Rattle.mfotl_sig.specs.declared.fault.SigFault.TheVariants.{Lex, Syntax, RepeatedName, UnknownSort, Arity, TooMany}
-use Rattle.mfotl_sig.specs.Grammar.{Listed, Written, Fits, FitsListed, spell_begun, spell_preds, Spells, IsAccepted, IsViable}
+use Rattle.mfotl_sig.specs.Grammar.{Listed, Written, Fits, FitsListed, spell_begun, spell_preds, Spells, IsAccepted}
+use Rattle.mfotl_sig.specs.Grammar.{IsViable}
 use Rattle.mfotl_sig.specs.Limits.{max_predicates, max_arguments}
 use Rattle.mfotl_sig.specs.Rules.{sort_of, names_of}
 

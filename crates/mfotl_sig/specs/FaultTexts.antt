@@ -3,7 +3,8 @@ use Rattle.std.specs.Prelude.{ℕ, List, ◌++◌, codes}
 use Rattle.std.specs.Fmt.{decimal}
 use Rattle.mfotl_lex.specs.FaultTexts as lex
 use Rattle.mfotl_sig.specs.declared.fault.SigFault.{SigFault}
-use Rattle.mfotl_sig.specs.declared.fault.SigFault.TheVariants.{Lex, Syntax, RepeatedName, UnknownSort, Arity, TooMany, Memory}
+use Rattle.mfotl_sig.specs.declared.fault.SigFault.TheVariants.{Lex, Syntax, RepeatedName, UnknownSort, Arity}
+use Rattle.mfotl_sig.specs.declared.fault.SigFault.TheVariants.{TooMany, Memory}
 
 -- the name, and the offset
 abbrev pub fault_text : SigFault → List ℕ

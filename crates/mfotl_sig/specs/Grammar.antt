@@ -48,14 +48,17 @@ pub record Fits (pred : Written) : Type 0 where
   pub last : FitsLast pred.listed pred.last
   pub closes : pred.closing.kind ≡ CloseParen
 
+-- an argument's tokens, in front of the rest
 abbrev pub spell_argument : Argument → List Lexeme → List Lexeme
 spell_argument (Only word) rest = word ∷ rest
 spell_argument (Labelled label colon word) rest = label ∷ colon ∷ word ∷ rest
 
+-- arguments, each with its comma
 abbrev pub spell_listed : List Listed → List Lexeme → List Lexeme
 spell_listed [] rest = rest
 spell_listed (l ∷ listed) rest = spell_argument l.argument (l.comma ∷ spell_listed listed rest)
 
+-- the last argument, if there is any
 abbrev pub spell_last : Option Argument → List Lexeme → List Lexeme
 spell_last None rest = rest
 spell_last (Some argument) rest = spell_argument argument rest
@@ -64,6 +67,7 @@ spell_last (Some argument) rest = spell_argument argument rest
 abbrev pub spell_begun : Lexeme → Lexeme → List Listed → List Lexeme → List Lexeme
 spell_begun name opening listed rest = name ∷ opening ∷ spell_listed listed rest
 
+-- a predicate from its name to its closing bracket
 abbrev pub spell_pred : Written → List Lexeme → List Lexeme
 spell_pred p rest = spell_begun p.name p.opening p.listed (spell_last p.last (p.closing ∷ rest))
 

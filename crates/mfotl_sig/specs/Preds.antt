@@ -11,6 +11,7 @@ pub record PredOf : Type 0 where
   pub name : List ℕ
   pub sorts : List Sort
 
+-- the same of a predicate that a call lends
 abbrev pub pred_of : Pred → PredOf
 pred_of p = record { number = p.number; name = p.name; sorts = p.sorts.items }
 

@@ -33,6 +33,7 @@ words_of [] None = []
 words_of [] (Some argument) = (sort_word argument).text ∷ []
 words_of (l ∷ listed) last = (sort_word l.argument).text ∷ words_of listed last
 
+-- and of a predicate
 abbrev pub sort_words : Written → List (List ℕ)
 sort_words p = words_of p.listed p.last
 
@@ -44,6 +45,7 @@ names_of preds = map (λ p. p.name.text) preds
 abbrev pub AllKnown : List (List ℕ) → Type 0
 AllKnown words = AllByRecursion (λ word. IsSome (sort_of word)) words
 
+-- the rules that the grammar doesn't say
 pub record KeepsRules (preds : List Written) : Type 0 where
   -- no name stands twice
   pub distinct : IsDistinct bytes_eq (names_of preds)

@@ -64,9 +64,10 @@ impl Signature {
     {
         let number = self.len() as u32;
         let key = Vec::from_slice(alloc, name)?;
+        let text = Name::from_slice(alloc, name)?;
         let pred = Pred {
             number,
-            name: Name::from_slice(alloc, name)?,
+            name: text,
             sorts,
         };
         self.preds.insert(key, pred)?;

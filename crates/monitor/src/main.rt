@@ -1,7 +1,7 @@
 //! The monitor: writes, for each time-point of a log, the valuations that violate a policy there.
 #![tactic(auto)]
 
-use mon_outside::{OpenGate, write_whole};
+use mon_outside::{BufferedSink, OpenGate, write_whole};
 use monitor_main::{RealInputs, RealSink, Status, run};
 use std::process::ExitCode;
 use std::rt::Env;
@@ -18,10 +18,10 @@ fn words<R: Env + AllocGlobal>(rt: &R) -> io::Result<Vec<String>> {
 
 fn main(rt: HostRuntime) -> ExitCode {
     let mut inputs = RealInputs::new(&rt, rt.stdin());
-    let mut out = RealSink::new(rt.stdout());
     let mut err = RealSink::new(rt.stderr());
-    let status = match words(&rt) {
-        Ok(words) => run(
+    let out = BufferedSink::new(rt.alloc(), RealSink::new(rt.stdout()));
+    let status = match (words(&rt), out) {
+        (Ok(words), Ok(mut out)) => run(
             &rt,
             rt.alloc(),
             words,
@@ -30,7 +30,7 @@ fn main(rt: HostRuntime) -> ExitCode {
             &mut err,
             &OpenGate,
         ),
-        Err(_) => {
+        _ => {
             let _ = write_whole(&mut err, b"memory\n");
             Status::Memory
         }

@@ -5,7 +5,7 @@ use Rattle.clap.specs.Words.{Text}
 use Rattle.mon_outside.specs.Files.{Files, content}
 use Rattle.mfotl_model.specs.Formulas.{Form}
 use Rattle.mfotl_model.specs.declared.term.Atom.{Atom as OneAtom}
-use Rattle.log_reader.specs.Readings.{Ending, Reading, Clear, Stops}
+use Rattle.log_reader.specs.Readings.{Ending, Reading, NoFault, Fault}
 use Rattle.monitor_main.specs.Answer.{Answer, CheckedPolicy, Task, answer, answer_to, command_answer, core_atom, ended, log_answer, policy_at, reading_of, run_answer, task_at, task_of, unless_later}
 use Rattle.monitor_main.specs.AnswerLaws.{CheckAccepts, LaterExactly}
 use Rattle.monitor_main.specs.Refusals.{line_of}
@@ -21,8 +21,8 @@ differ e = absurd cc
 -- an answer on a log is no refusal of the policy
 log_is_not_later : (f : Form) (r : Reading) (ending : Ending) → (ended f r ending).err ≡ codes "policy: Later\n" → ⊥
 unfolding line_of begins_with_p
-log_is_not_later f r Clear e = differ (ap begins_with_p e)
-log_is_not_later f r (Stops fault) e = differ (ap begins_with_p e)
+log_is_not_later f r NoFault e = differ (ap begins_with_p e)
+log_is_not_later f r (Fault fault) e = differ (ap begins_with_p e)
 
 task_not_later : (task : Task) → (log_answer task).err ≡ codes "policy: Later\n" → ⊥
 unfolding log_answer

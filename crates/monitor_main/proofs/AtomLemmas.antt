@@ -10,6 +10,7 @@ use Rattle.std.specs.Cmp.{unsigned_tied}
 use Rattle.std.specs.List.{flat_map, list_all, prefix_len, zip}
 use Rattle.std.specs.Ordering.{eq_by_cmp, nat_cmp}
 use Rattle.mfotl_model.proofs.LogicLemmas.{same_number}
+use Rattle.mfotl_model.proofs.MatchingLemmas.{first_more}
 use Rattle.mfotl_model.proofs.RowLemmas.{eq_then, row_exact}
 use Rattle.mfotl_model.specs.FreeVariables.{among, variable_in}
 use Rattle.mfotl_model.specs.Satisfaction.{term_value}
@@ -20,7 +21,7 @@ use Rattle.mfotl_model.specs.declared.term.Term.{Term}
 use Rattle.mfotl_model.specs.declared.term.Term.TheVariants.{Var, Const}
 use Rattle.mfotl_model.specs.declared.value.Value.TheVariants.{Int}
 use Rattle.mfotl_model.specs.declared.value.Value.{Value}
-use Rattle.monitor_main.specs.Atom.{first_value, is_match, is_variable, read_off, reads}
+use Rattle.mfotl_model.specs.Matching.{first_value, is_match, is_variable, read_off, reads}
 use Rattle.monitor_main.specs.AtomSteps.{give_back, is_first, stands_for}
 
 pub or_second : (a b : Bool) → a ≡ false → (a || b) ≡ true → b ≡ true
@@ -32,31 +33,6 @@ eqb_turned x y = elim (cases_eq x y) [
   | inl e ↦ eq-eqb x y e ∙ sym (eq-eqb y x (sym e))
   | inr ne ↦ ne_eqb x y ne ∙ sym (ne_eqb y x (λ e. ne (sym e)))
 ]
-
--- the first value with one place more in front
-pub first_more : (t : Term) (terms : List Term) (a : Value) (values : List Value) (y : ℕ)
-    → first_value (t ∷ terms) (a ∷ values) y ≡ cond (is_variable y t) (Some a) (first_value terms values y)
-unfolding first_value
-first_more t terms a values y = by (is_variable y t)
-  where
-    k : ℕ
-    k = prefix_len (λ u. not (is_variable y u)) terms
-
-    at : Bool → ℕ → Option Value
-    at b n = option_and_then (slice_get (a ∷ values)) (cond b (Some n) None)
-
-    inside : nat_lt (1 + k) (suc (length terms)) ≡ nat_lt k (length terms)
-    inside = ap (λ n. nat_lt n (suc (length terms))) (one-add k) ∙ leb-suc-suc (suc k) (length terms)
-
-    further : (b : Bool) → at b (suc k) ≡ option_and_then (slice_get values) (cond b (Some k) None)
-    further true = refl
-    further false = refl
-
-    by : (b : Bool)
-        → at (nat_lt (cond (not b) (1 + k) 0) (suc (length terms))) (cond (not b) (1 + k) 0)
-        ≡ cond b (Some a) (option_and_then (slice_get values) (cond (nat_lt k (length terms)) (Some k) None))
-    by true = ap (λ b. at b 0) (lt-ltb 0 (suc (length terms)) (omega arith))
-    by false = ap₂ at inside (one-add k) ∙ further (nat_lt k (length terms))
 
 -- each variable of the terms has a first value, where there are as many values
 pub has_first : (terms : List Term) (values : List Value) (y : ℕ) → length terms ≡ length values

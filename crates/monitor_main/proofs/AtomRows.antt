@@ -1,45 +1,56 @@
--- The rows of one event more.
-use Rattle.std.proofs.Common.{◌≡◌, ◌∙◌, ap, sym, true, false, List, [], ◌∷◌, ◌++◌, refl, map, Bor}
-use Rattle.std.specs.BTreeSet.{insert_key}
-use Rattle.std.specs.List.{filter}
-use Rattle.std.proofs.lemmas.List.{append-nil, map-append}
-use Rattle.std.proofs.lemmas.List.Elements.{filter-append}
-use Rattle.mfotl_model.proofs.AscendingLemmas.{insert_behind}
-use Rattle.mfotl_model.proofs.RowLemmas.{row_exact}
-use Rattle.mfotl_model.specs.ActiveDomain.{ascending}
+-- The rows that are read off events, one event after another, and of a set of events.
+use Rattle.std.proofs.Common.{◌≡◌, ◌∙◌, ap, sym, refl, Bool, true, false, cond, ◌&&◌, ◌||◌, List, [], ◌∷◌, map}
+use Rattle.std.specs.List.{filter, list_any}
+use Rattle.std.specs.Ordering.{eq_by_cmp}
+use Rattle.mfotl_model.proofs.AscendingLemmas.{any_ascending, same_ascending}
+use Rattle.mfotl_model.proofs.LogicLemmas.{any_map}
+use Rattle.mfotl_model.proofs.RowLemmas.{event_exact, row_exact}
+use Rattle.mfotl_model.specs.Ascending.{ascending}
+use Rattle.mfotl_model.specs.Events.{event_cmp, event_total}
+use Rattle.mfotl_model.specs.Matching.{Query, is_match, matching_rows, row_read}
 use Rattle.mfotl_model.specs.Values.{row_cmp, row_total}
 use Rattle.mfotl_model.specs.declared.event.Event.{Event}
-use Rattle.monitor_main.specs.Atom.{Query, is_match, matching_rows, row_read}
+use Rattle.mfotl_model.specs.declared.value.Value.{Value}
 
-module _ (q : Query) where
-  rows-append : (xs ys : List Event) → matching_rows q (xs ++ ys) ≡ matching_rows q xs ++ matching_rows q ys
-  unfolding matching_rows
-  rows-append xs ys =
-      ap (map (row_read q)) (filter-append (is_match q.atom) xs ys)
-      ∙ map-append (row_read q) (filter (is_match q.atom) xs) (filter (is_match q.atom) ys)
-
-  rows_more : (seen : List (Bor Event)) (event : Bor Event)
-      → matching_rows q (map (λ e. e.now) (seen ++ event ∷ []))
-      ≡ matching_rows q (map (λ e. e.now) seen) ++ matching_rows q (event.now ∷ [])
-  rows_more seen event =
-      ap (matching_rows q) (map-append (λ (e : Bor Event). e.now) seen (event ∷ []))
-      ∙ rows-append (map (λ e. e.now) seen) (event.now ∷ [])
-
--- an event that the atom doesn't stand for leaves the rows as they are
-pub event_left : (q : Query) (seen : List (Bor Event)) (event : Bor Event)
-    → is_match q.atom event.now ≡ false
-    → matching_rows q (map (λ e. e.now) (seen ++ event ∷ [])) ≡ matching_rows q (map (λ e. e.now) seen)
+-- an event that the atom doesn't stand for gives no row
+pub event_left : (q : Query) (event : Event) (more : List Event) → is_match q.atom event ≡ false
+    → matching_rows q (event ∷ more) ≡ matching_rows q more
 unfolding matching_rows
-event_left q seen event fails = rows_more q seen event ∙ rw fails (append-nil _)
+event_left q event more fails = rw fails refl
 
--- the row of an event that the atom stands for joins the others
-pub row_taken : (q : Query) (seen : List (Bor Event)) (event : Bor Event)
-    → is_match q.atom event.now ≡ true
-    → ascending row_cmp (matching_rows q (map (λ e. e.now) (seen ++ event ∷ [])))
-    ≡ insert_key row_cmp (ascending row_cmp (matching_rows q (map (λ e. e.now) seen))) (row_read q event.now)
+-- an event that the atom stands for gives a row
+pub row_taken : (q : Query) (event : Event) (more : List Event) → is_match q.atom event ≡ true
+    → matching_rows q (event ∷ more) ≡ row_read q event ∷ matching_rows q more
 unfolding matching_rows
-row_taken q seen event holds =
-    let rows = matching_rows q (map (λ e. e.now) seen) in
-    let more : matching_rows q (map (λ e. e.now) (seen ++ event ∷ [])) ≡ rows ++ row_read q event.now ∷ [] =
-    rows_more q seen event ∙ rw holds refl in
-    ap (ascending row_cmp) more ∙ sym (insert_behind row_total row_exact rows (row_read q event.now))
+row_taken q event more holds = rw holds refl
+
+-- no events give no rows
+pub no_rows : (q : Query) → matching_rows q [] ≡ []
+unfolding matching_rows
+no_rows q = refl
+
+any_filter : {X : Type 0} (test p : X → Bool) (xs : List X) → list_any test (filter p xs) ≡ list_any (λ x. p x && test x) xs
+any_filter test p [] = refl
+any_filter test p (x ∷ xs) = by (p x) ∙ ap (λ t. (p x && test x) || t) (any_filter test p xs)
+  where
+    by : (b : Bool) → list_any test (cond b (x ∷ filter p xs) (filter p xs)) ≡ ((b && test x) || list_any test (filter p xs))
+    by true = refl
+    by false = refl
+
+-- a row is found among those that are read off events
+pub row_found : (q : Query) (row : List Value) (events : List Event)
+    → list_any (eq_by_cmp row_cmp row) (matching_rows q events)
+    ≡ list_any (λ e. is_match q.atom e && eq_by_cmp row_cmp row (row_read q e)) events
+unfolding matching_rows
+row_found q row events =
+    any_map (eq_by_cmp row_cmp row) (row_read q) (filter (is_match q.atom) events)
+    ∙ any_filter (λ e. eq_by_cmp row_cmp row (row_read q e)) (is_match q.atom) events
+
+-- the rows of events are those of their set
+pub rows_of_set : (q : Query) (events : List Event)
+    → ascending row_cmp (matching_rows q events) ≡ ascending row_cmp (matching_rows q (ascending event_cmp events))
+rows_of_set q events =
+    same_ascending row_total row_exact (matching_rows q events) (matching_rows q (ascending event_cmp events))
+    (λ row. row_found q row events
+    ∙ sym (any_ascending event_total event_exact (λ e. is_match q.atom e && eq_by_cmp row_cmp row (row_read q e)) events)
+    ∙ sym (row_found q row (ascending event_cmp events)))

@@ -5,7 +5,7 @@ use Rattle.std.proofs.Math.Seq.{get_or-append_seam}
 use Rattle.std.proofs.lemmas.List.{length-map, map-append, length-append}
 use Rattle.std.proofs.lemmas.List.Sums.{take_while-cons}
 use Rattle.std.proofs.lemmas.Bool.{lt-ltb}
-use Rattle.mfotl_model.specs.ActiveDomain.{ascending}
+use Rattle.mfotl_model.specs.Ascending.{ascending}
 use Rattle.mfotl_model.specs.Values.{row_cmp}
 use Rattle.mfotl_model.specs.Formulas.{Form}
 use Rattle.mfotl_model.specs.Log.{times}
@@ -14,7 +14,8 @@ use Rattle.mfotl_model.specs.Settled.{settled}
 use Rattle.mfotl_model.specs.VerdictText.{VerdictOf, line_of, verdict_at, verdicts}
 use Rattle.mfotl_model.specs.Violations.{viol}
 use Rattle.mfotl_model.specs.declared.event.TimePoint.{TimePoint}
-use Rattle.monitor_main.specs.Atom.{IsQueryFor, Query, matching_rows}
+use Rattle.mfotl_model.specs.Matching.{Query, matching_rows}
+use Rattle.monitor_main.specs.Atom.{IsQueryFor}
 use Rattle.monitor_main.specs.AtomText.{is_empty, line_at, lines_from, rows_at, some_rows}
 use Rattle.monitor_main.specs.TextLaw.{TextIsLines}
 use Rattle.monitor_main.proofs.AtomViolations.{rows_are_violations}

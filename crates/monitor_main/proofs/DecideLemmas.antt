@@ -8,7 +8,7 @@ use Rattle.mon_outside.specs.Files.{Files, ToldFiles, content}
 use Rattle.mon_outside.specs.Inputs.{Name, StopsIn, asked_more}
 use Rattle.mon_outside.specs.Sink.{AppendsFront}
 use Rattle.mon_outside.specs.Views.{InputsView, SinkView}
-use Rattle.log_reader.specs.Readings.{Clear, Ending, Reading}
+use Rattle.log_reader.specs.Readings.{NoFault, Ending, Reading}
 use Rattle.mfotl_model.specs.Formulas.{Form}
 use Rattle.mfotl_sig.specs.Preds.{PredOf}
 use Rattle.monitor_main.specs.declared.refusal.InputFile.{InputFile}
@@ -255,7 +255,7 @@ module _ (sources : Sources) (log : Name) (before mid : InputsView) (checked : C
       unfolding bytes_of
       log_reached = ap (λ (t : Result Task Refusal). option_map (λ (t : Task). t.log) (ok_value t)) made_at
 
-      before_clear : (f : Form) (r : Reading) (ending : Ending) → ending ≡ Clear → text_before f r ending ≡ Some (text_on f r)
+      before_clear : (f : Form) (r : Reading) (ending : Ending) → ending ≡ NoFault → text_before f r ending ≡ Some (text_on f r)
       before_clear f r ending e = rw e refl
 
       fails_at_log : FailsInLog (task_on checked (content files log)) (record { before = mid; after = after; old = old; new = new }) file.Log

@@ -12,7 +12,7 @@ use Rattle.mfotl_lex.proofs.GrowingLemmas.{more_bytes}
 use Rattle.mfotl_model.specs.declared.event.TimePoint.{TimePoint}
 use Rattle.mfotl_sig.specs.Preds.{PredOf}
 use Rattle.log_reader.specs.Partials.{Partial, blank}
-use Rattle.log_reader.specs.Readings.{Clear, Reading, accepted, behind, behind_tokens, is_long, nothing_left, place_at, reading, run, shown, went_on}
+use Rattle.log_reader.specs.Readings.{NoFault, Reading, accepted, behind, behind_tokens, is_long, nothing_left, place_at, reading, run, shown, went_on}
 use Rattle.monitor_main.specs.Growth.{Keeps, ShownStays}
 use Rattle.log_reader.specs.Steps.{completed, step}
 use Rattle.log_reader.specs.declared.fault.LogFault.{LogFault}
@@ -28,7 +28,7 @@ same s a e = record {
 
 -- nothing is shown
 abbrev nothing : Reading
-nothing = record { points = []; ending = Clear }
+nothing = record { points = []; ending = NoFault }
 
 module _ (sig : List PredOf) (limits : Limits) where
   went_alike : (r : Result Partial LogFault) (f g : Partial → Reading) → ((q : Partial) → f q ≡ g q) → went_on r f ≡ went_on r g

@@ -8,7 +8,7 @@ use Rattle.mon_outside.specs.Inputs.{Name, asked_more}
 use Rattle.mon_outside.specs.Views.{InputsView, SinkView}
 use Rattle.mon_outside.specs.Sink.{Appends, AppendsFront}
 use Rattle.mfotl_sig.specs.Preds.{PredOf}
-use Rattle.log_reader.specs.Readings.{Clear, Ending, Reading, Stops, accepted, reading, shown}
+use Rattle.log_reader.specs.Readings.{NoFault, Ending, Reading, Fault, accepted, reading, shown}
 use Rattle.log_reader.specs.declared.fault.LogFault.{LogFault}
 use Rattle.log_reader.specs.declared.limits.Limits.{Limits}
 use Rattle.monitor_main.specs.declared.refusal.InputFile.{InputFile}
@@ -16,12 +16,13 @@ use Rattle.monitor_main.specs.declared.refusal.InputFile.TheVariants as file
 use Rattle.monitor_main.specs.declared.refusal.Refusal.{Refusal}
 use Rattle.monitor_main.specs.declared.refusal.Refusal.TheVariants.{Log, Read, Write, Memory}
 use Rattle.mfotl_model.specs.Formulas.{Form}
-use Rattle.monitor_main.specs.Atom.{IsQueryFor, Query}
+use Rattle.mfotl_model.specs.Matching.{Query}
+use Rattle.monitor_main.specs.Atom.{IsQueryFor}
 use Rattle.monitor_main.specs.Answer.{CheckedPolicy, Task, task_on, ended, log_answer, reading_of, seen_of, standard, text_on, verdict_status, violated_on}
 use Rattle.monitor_main.specs.AtomText.{lines_from, some_rows}
 use Rattle.monitor_main.specs.Decisions.{ComesTo, Effect, Ends, FailsInLog, Finishes, HasCauses, MonitorsLog, Refuses}
 use Rattle.monitor_main.specs.Growth.{Keeps}
-use Rattle.monitor_main.specs.Limits.{max_log}
+use Rattle.log_reader.specs.Limits.{byte_limit}
 use Rattle.monitor_main.specs.LogRuns.{EndsClear, IsGathered, StopsBytes, lines_of}
 use Rattle.monitor_main.proofs.AtomTextLemmas.{rows_are_some, text_is_lines}
 use Rattle.monitor_main.proofs.GrowthLemmas.{long_same, shown_stays}
@@ -47,11 +48,11 @@ whole_reading sig limits bytes left (inr long) =
 
 -- the answer's output is the text in each case
 out_of_ended : (f : Form) (r : Reading) (ending : Ending) → (ended f r ending).out ≡ text_on f r
-out_of_ended f r Clear = refl
-out_of_ended f r (Stops fault) = refl
+out_of_ended f r NoFault = refl
+out_of_ended f r (Fault fault) = refl
 
 module _ (task : Task) (q : Query) (asks : IsQueryFor task.policy.formula q) (e : Effect)
-    (bytes : List ℕ) (failed : Bool) (gathered : IsGathered max_log task.log e.after bytes failed) where
+    (bytes : List ℕ) (failed : Bool) (gathered : IsGathered byte_limit task.log e.after bytes failed) where
   -- the log as it was given
   given : Reading
   given = reading task.sig standard bytes (not failed)
@@ -80,7 +81,7 @@ module _ (task : Task) (q : Query) (asks : IsQueryFor task.policy.formula q) (e 
   keeps : Keeps (reading task.sig standard bytes (not failed)) (reading_of task)
   keeps = kept failed refl
 
-  finishes_by : (r : Reading) (ending : Ending) (old new : Option (List ℕ)) (violated : Bool) → ending ≡ Clear
+  finishes_by : (r : Reading) (ending : Ending) (old new : Option (List ℕ)) (violated : Bool) → ending ≡ NoFault
       → Appends old new (lines_of q r) → violated ≡ some_rows q r.points
       → Finishes (ended task.policy.formula r ending) old new violated
   finishes_by r ending old new violated clear written some = rw clear (record {
@@ -101,7 +102,7 @@ module _ (task : Task) (q : Query) (asks : IsQueryFor task.policy.formula q) (e 
       subst (λ r. EndsClear q r old new violated) same h in
       finishes_by (reading_of task) (reading_of task).ending old new violated here.clear here.written here.some
 
-  refuses_by : (r : Reading) (ending : Ending) (fault : LogFault) (old new : Option (List ℕ)) → ending ≡ Stops fault
+  refuses_by : (r : Reading) (ending : Ending) (fault : LogFault) (old new : Option (List ℕ)) → ending ≡ Fault fault
       → Appends old new (lines_of q r) → Refuses (ended task.policy.formula r ending) old new (Log fault)
   refuses_by r ending fault old new stops written = rw stops (record {
     status = refl;
@@ -110,7 +111,7 @@ module _ (task : Task) (q : Query) (asks : IsQueryFor task.policy.formula q) (e 
   })
 
   log_refused : (fault : LogFault) (old new : Option (List ℕ)) (r : Reading) → Keeps r (reading_of task)
-      → (r.ending ≡ Stops fault) × Appends old new (lines_of q r) → Refuses (log_answer task) old new (Log fault)
+      → (r.ending ≡ Fault fault) × Appends old new (lines_of q r) → Refuses (log_answer task) old new (Log fault)
   unfolding log_answer
   log_refused fault old new r k h =
       let same : r ≡ reading_of task = sym (k.stays fault h.0) in
@@ -118,7 +119,7 @@ module _ (task : Task) (q : Query) (asks : IsQueryFor task.policy.formula q) (e 
       (ap (λ (r : Reading). r.ending) (sym same) ∙ h.0) (subst (λ r. Appends old new (lines_of q r)) same h.1)
 
   log_failed : (name : InputFile) → name ≡ file.Log → failed ≡ true
-      → (reading task.sig standard bytes (not failed)).ending ≡ Clear
+      → (reading task.sig standard bytes (not failed)).ending ≡ NoFault
       → Appends e.old.written e.new.written (lines_of q (reading task.sig standard bytes (not failed)))
       → FailsInLog task e name
   unfolding seen_of
@@ -202,7 +203,7 @@ module _ (checked : CheckedPolicy) (log : Name) (before after : InputsView) (old
 
   -- the log was gathered, and the bytes given of it monitored
   pub log_monitored : (q : Query) → IsQueryFor checked.policy.formula q → (bytes : List ℕ) (failed : Bool)
-      → ToldFiles before.files (λ files. IsGathered max_log (content files log) after bytes failed)
+      → ToldFiles before.files (λ files. IsGathered byte_limit (content files log) after bytes failed)
       → (failed ≡ true → Rose before.faults after.faults) → (result : Result Bool Refusal)
       → IfOk result (λ violated. (failed ≡ false)
       × EndsClear q (reading checked.sig standard bytes (not failed)) old.written new.written violated)

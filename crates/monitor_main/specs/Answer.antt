@@ -17,7 +17,8 @@ use Rattle.monitorable.specs.Fragment.{frag_fault, free_names}
 use Rattle.monitorable.specs.NormalForm.{negative}
 use Rattle.monitorable.specs.Renaming.{apart_form}
 use Rattle.monitorable.specs.declared.fault.FragmentFault.{FragmentFault}
-use Rattle.log_reader.specs.Readings.{Ending, Clear, Reading, Stops, accepted, shown}
+use Rattle.log_reader.specs.Limits.{byte_limit, event_limit, point_limit}
+use Rattle.log_reader.specs.Readings.{Ending, NoFault, Reading, Fault, accepted, shown}
 use Rattle.log_reader.specs.declared.limits.Limits.{Limits}
 use Rattle.monitor_main.specs.declared.refusal.InputFile.{InputFile}
 use Rattle.monitor_main.specs.declared.refusal.InputFile.TheVariants as file
@@ -27,7 +28,7 @@ use Rattle.monitor_main.specs.declared.status.Status.{Status}
 use Rattle.monitor_main.specs.declared.status.Status.TheVariants as status
 use Rattle.monitor_main.specs.AtomText.{is_empty}
 use Rattle.monitor_main.specs.CheckLine.{monitorable_line}
-use Rattle.monitor_main.specs.Limits.{max_file, max_log}
+use Rattle.monitor_main.specs.Limits.{max_file}
 use Rattle.monitor_main.specs.Refusals.{line_of, status_of}
 use Rattle.monitor_main.specs.Words.{Sources, Command, Run, Check, command_of}
 
@@ -120,7 +121,7 @@ task_at sources log files = policy_at sources files >>= λ checked. task_of chec
 
 -- how much a log may have
 abbrev pub standard : Limits
-standard = record { bytes = max_log; points = 2 ^ 32 - 1; events = 65536 }
+standard = record { bytes = byte_limit; points = point_limit; events = event_limit }
 
 -- the time-points that were read, behind which more could come
 abbrev pub log_in : Reading → Log
@@ -141,9 +142,9 @@ verdict_status false = status.Clean
 
 -- the answer on a log that was read to this ending
 abbrev pub ended : Form → Reading → Ending → Answer
-ended policy r Clear =
+ended policy r NoFault =
     record { status = verdict_status (violated_on policy r); out = text_on policy r; err = [] }
-ended policy r (Stops fault) =
+ended policy r (Fault fault) =
     record { status = status.Log; out = text_on policy r; err = line_of (refusal.Log fault) }
 
 -- what a task's log says
@@ -211,8 +212,8 @@ bytes_of (Check sources) files file = source_bytes sources files file
 -- the text that is due where the reading of the log failed, and `seen` was given of it before: that
 -- of the time-points which these bytes complete; none where they show a fault
 abbrev pub text_before : Form → Reading → Ending → Option (List ℕ)
-text_before policy r Clear = Some (text_on policy r)
-text_before policy r (Stops fault) = None
+text_before policy r NoFault = Some (text_on policy r)
+text_before policy r (Fault fault) = None
 
 -- what the bytes that were given of a task's log show
 unfoldable pub seen_of : Task → List ℕ → Reading

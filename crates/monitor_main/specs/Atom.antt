@@ -1,66 +1,23 @@
--- An atom, the variables whose values are wanted of it, and the rows that a database's events give.
-use Rattle.std.specs.Prelude.{◌≡◌, ℕ, Bool, false, nat_eq, List, map, pos, Option, option_and_then, position, slice_get, unwrap_or}
-use Rattle.std.specs.List.{filter}
-use Rattle.std.specs.Ordering.{eq_by_cmp}
-use Rattle.mfotl_model.specs.Events.{event_cmp}
+-- The query of a policy whose core is a single atom.
+use Rattle.std.specs.Prelude.{◌≡◌}
 use Rattle.mfotl_model.specs.Formulas.{Form}
-use Rattle.mfotl_model.specs.Formulas.Form.{Atom}
 use Rattle.mfotl_model.specs.FreeVariables.{fv}
-use Rattle.mfotl_model.specs.Satisfaction.{Valuation, event_of}
-use Rattle.mfotl_model.specs.declared.event.Event.{Event}
-use Rattle.mfotl_model.specs.declared.term.Atom.{Atom as OneAtom}
-use Rattle.mfotl_model.specs.declared.term.Term.{Term}
-use Rattle.mfotl_model.specs.declared.term.Term.TheVariants.{Var, Const}
-use Rattle.mfotl_model.specs.declared.value.Value.{Value}
-use Rattle.mfotl_model.specs.declared.value.Value.TheVariants.{Int}
-use Rattle.monitorable.specs.CoreForm.{Denies, SettlesWith}
+use Rattle.mfotl_model.specs.Matching.{Query}
+use Rattle.monitorable.specs.CoreForms.{CoreForm, Atom, meaning}
+use Rattle.monitorable.specs.Negation.{Negates, SettlesWith}
 use Rattle.monitor_main.specs.declared.atom.AtomQuery.{AtomQuery}
 
 -- an atom, and the variables that are a row's columns
-pub record Query : Type 0 where
-  pub atom : OneAtom
-  pub columns : List ℕ
-
 abbrev pub query_of : AtomQuery → Query
 query_of query = record { atom = query.atom.now; columns = query.columns.now }
 
--- the formula that is the query's atom
-abbrev pub atom_form : Query → Form
-atom_form q = Atom q.atom
+-- the core that is the query's atom
+abbrev pub atom_core : Query → CoreForm
+atom_core q = Atom q.atom
 
--- whether the term is the variable
-abbrev pub is_variable : ℕ → Term → Bool
-is_variable y (Var x) = nat_eq x y
-is_variable y (Const c) = false
-
--- the value at the first place where the terms have the variable
-unfoldable pub first_value : List Term → List Value → ℕ → Option Value
-first_value terms values y =
-    option_and_then (slice_get values) (position (is_variable y) terms)
-
--- the valuation that gives each variable its first value; other variables, on which nothing hangs, are 0
-abbrev pub read_off : List Term → List Value → Valuation
-read_off terms values y = unwrap_or (first_value terms values y) (Int (pos 0))
-
--- the valuation that the atom reads off the event
-abbrev pub reads : OneAtom → Event → Valuation
-reads atom event = read_off atom.args event.args
-
--- whether the atom stands for the event, where its variables are what it reads off the event
-unfoldable pub is_match : OneAtom → Event → Bool
-is_match atom event = eq_by_cmp event_cmp (event_of (reads atom event) atom) event
-
--- the values of the columns that are read off the event
-abbrev pub row_read : Query → Event → List Value
-row_read q event = map (reads q.atom event) q.columns
-
--- the rows that are read off the events which the atom stands for, in the order of the events
-unfoldable pub matching_rows : Query → List Event → List (List Value)
-matching_rows q events = map (row_read q) (filter (is_match q.atom) events)
-
--- the query's rows are where f fails: its atom denies f, and its columns are f's free variables
+-- the query's rows are where f fails: its atom negates f, and its columns are f's free variables
 pub record IsQueryFor (f : Form) (q : Query) : Type 0 where
-  pub denies : Denies (atom_form q) f
-  pub settles : SettlesWith (atom_form q) f
-  pub variables : fv (atom_form q) ≡ fv f
+  pub negates : Negates (atom_core q) f
+  pub settles : SettlesWith (atom_core q) f
+  pub variables : fv (meaning (atom_core q)) ≡ fv f
   pub columns_are : q.columns ≡ fv f

@@ -6,7 +6,7 @@ use Rattle.mfotl_model.specs.Values.{row_cmp, value_cmp}
 use Rattle.mfotl_model.specs.declared.term.Term.{Term}
 use Rattle.mfotl_model.specs.declared.term.Term.TheVariants.{Var, Const}
 use Rattle.mfotl_model.specs.declared.value.Value.{Value}
-use Rattle.monitor_main.specs.Atom.{first_value, read_off}
+use Rattle.mfotl_model.specs.Matching.{first_value, read_off}
 
 -- whether there is a first value, and it is this one
 abbrev pub is_first : Option Value → Value → Bool

@@ -1,12 +1,12 @@
 -- The verdicts that a query comes to, time-point by time-point.
 use Rattle.std.specs.Prelude.{ℕ, ◌+◌, Bool, true, false, not, List, [], ◌∷◌, ◌++◌}
 use Rattle.std.specs.List.{list_any}
-use Rattle.mfotl_model.specs.ActiveDomain.{ascending}
+use Rattle.mfotl_model.specs.Ascending.{ascending}
 use Rattle.mfotl_model.specs.Values.{row_cmp}
 use Rattle.mfotl_model.specs.VerdictText.{line_of}
 use Rattle.mfotl_model.specs.declared.event.TimePoint.{TimePoint}
 use Rattle.mfotl_model.specs.declared.value.Value.{Value}
-use Rattle.monitor_main.specs.Atom.{Query, matching_rows}
+use Rattle.mfotl_model.specs.Matching.{Query, matching_rows}
 
 abbrev pub is_empty : {X : Type 0} → List X → Bool
 is_empty [] = true

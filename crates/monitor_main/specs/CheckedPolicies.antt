@@ -3,7 +3,9 @@ use Rattle.std.specs.Prelude.{◌≡◌, Result, Ok, Err}
 use Rattle.mfotl_model.specs.Formulas.{Form}
 use Rattle.mfotl_model.specs.FreeVariables.{fv}
 use Rattle.mfotl_parse.specs.Views.{policy_of}
-use Rattle.monitorable.specs.CoreForm.{core_form, Denies, SettlesWith}
+use Rattle.monitorable.specs.CoreForms.{meaning}
+use Rattle.monitorable.specs.Cores.{core_form}
+use Rattle.monitorable.specs.Negation.{Negates, SettlesWith}
 use Rattle.monitorable.specs.NormalForm.{negative}
 use Rattle.monitorable.specs.Renaming.{apart_form}
 use Rattle.monitorable.specs.declared.policy_core.Core.{Core}
@@ -19,9 +21,9 @@ checked_in checked = record { sig = checked.sig; policy = policy_of checked.poli
 -- the core is made from this formula
 pub record IsCoreOf (core : Core) (f : Form) : Type 0 where
   pub core_is : core_form core ≡ apart_form (negative f)
-  pub denies : Denies (core_form core) f
+  pub negates : Negates (core_form core) f
   pub settles : SettlesWith (core_form core) f
-  pub variables : fv (core_form core) ≡ fv f
+  pub variables : fv (meaning (core_form core)) ≡ fv f
 
 -- the refusal is the one due; want of memory may come at any time
 abbrev pub Fails : {Y : Type 0} → Refusal → Result Y Refusal → Type 0

@@ -8,7 +8,7 @@ use Rattle.mon_outside.specs.Sink.{Appends, AppendsFront}
 use Rattle.mon_outside.specs.Views.{InputsView, SinkView, inputs_view, sink_view}
 use Rattle.mon_outside.specs.declared.inputs.Inputs.{Ghosts as InputsGhosts}
 use Rattle.mon_outside.specs.declared.sink.Sink.{Ghosts as SinkGhosts}
-use Rattle.log_reader.specs.Readings.{Clear}
+use Rattle.log_reader.specs.Readings.{NoFault}
 use Rattle.monitor_main.specs.declared.refusal.InputFile.{InputFile}
 use Rattle.monitor_main.specs.declared.refusal.InputFile.TheVariants as file
 use Rattle.monitor_main.specs.declared.refusal.Refusal.{Refusal}
@@ -86,7 +86,7 @@ pub record Decides (usage : Type 0) (answer : Files → Answer) (fails : Files �
 pub record FailsInLog (task : Task) (e : Effect) (name : InputFile) : Type 0 where
   pub named : name ≡ file.Log
   pub stops : StopsIn e.after.is_open e.after.rest task.log
-  pub clear : (seen_of task stops.seen).ending ≡ Clear
+  pub clear : (seen_of task stops.seen).ending ≡ NoFault
   pub written : Appends e.old.written e.new.written (text_on task.policy.formula (seen_of task stops.seen))
 
 -- the log of this name was monitored, and no other file asked for

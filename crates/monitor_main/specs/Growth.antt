@@ -2,7 +2,7 @@
 use Rattle.std.specs.Prelude.{◌≡◌, ℕ, List, ◌++◌}
 use Rattle.mfotl_model.specs.declared.event.TimePoint.{TimePoint}
 use Rattle.mfotl_sig.specs.Preds.{PredOf}
-use Rattle.log_reader.specs.Readings.{Reading, Stops, accepted, shown}
+use Rattle.log_reader.specs.Readings.{Reading, Fault, accepted, shown}
 use Rattle.log_reader.specs.declared.fault.LogFault.{LogFault}
 use Rattle.log_reader.specs.declared.limits.Limits.{Limits}
 
@@ -10,7 +10,7 @@ use Rattle.log_reader.specs.declared.limits.Limits.{Limits}
 pub record Keeps (s a : Reading) : Type 0 where
   pub more : List TimePoint
   pub points : a.points ≡ s.points ++ more
-  pub stays : (fault : LogFault) → s.ending ≡ Stops fault → a ≡ s
+  pub stays : (fault : LogFault) → s.ending ≡ Fault fault → a ≡ s
 
 abbrev pub ShownStays : Type 0
 ShownStays = (sig : List PredOf) (limits : Limits) (seen left : List ℕ)

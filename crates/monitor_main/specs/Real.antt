@@ -1,5 +1,5 @@
 -- What is told of a real source.
-use Rattle.std.specs.Prelude.{ℕ, Bool, true, false, List, Option, None}
+use Rattle.std.specs.Prelude.{ℕ, Bool, true, false, List, [], Option, None}
 use Rattle.monitor_main.specs.declared.real_inputs.Source.{Source}
 use Rattle.monitor_main.specs.declared.real_inputs.Source.TheVariants.{Closed, Input, File}
 
@@ -8,6 +8,14 @@ abbrev pub is_opened : {F : Type 0} → Source F → Bool
 is_opened Closed = false
 is_opened Input = true
 is_opened (File f) = true
+
+-- nothing is told of the bytes
+abbrev pub untold : {X : Type 0} → X → Option (List ℕ)
+untold x = None
+
+-- a real sink holds nothing back
+abbrev pub none_held : {X : Type 0} → X → List ℕ
+none_held x = []
 
 -- what standard input or the open file has left, where its reader tells that
 abbrev pub rest_told : {S F : Type 0} → (S → Option (List ℕ)) → (F → Option (List ℕ)) → S → Source F → Option (List ℕ)

@@ -6,7 +6,7 @@ use Rattle.monitor_main.specs.declared.refusal.Refusal.{Refusal}
 use Rattle.monitor_main.specs.declared.refusal.Refusal.TheVariants.{Usage, LongSignature, Signature}
 use Rattle.monitor_main.specs.declared.refusal.Refusal.TheVariants.{LongPolicy, Policy, Fragment, Later}
 use Rattle.monitor_main.specs.declared.refusal.Refusal.TheVariants.{Log, Read, Write, Memory}
-use Rattle.monitor_main.specs.FaultLines.{fault_line, file_text}
+use Rattle.monitor_main.specs.FaultLines.{fault_line, file_text, too_long}
 use Rattle.mfotl_sig.specs.FaultTexts.{fault_text as sig_text}
 use Rattle.mfotl_parse.specs.FaultTexts.{fault_text as policy_text}
 use Rattle.monitorable.specs.FaultTexts.{fault_text as fragment_text}
@@ -68,9 +68,9 @@ usage_line = codes "usage: run --sig F --policy F --log F [--strategy S] [--chan
 -- the line that says why
 unfoldable pub line_of : Refusal → List ℕ
 line_of Usage = usage_line
-line_of LongSignature = codes "signature: TooLong at 1048576\n"
+line_of LongSignature = fault_line (codes "signature") too_long
 line_of (Signature fault) = fault_line (codes "signature") (sig_text fault)
-line_of LongPolicy = codes "policy: TooLong at 1048576\n"
+line_of LongPolicy = fault_line (codes "policy") too_long
 line_of (Policy fault) = fault_line (codes "policy") (policy_text fault)
 line_of (Fragment fault) = fault_line (codes "policy") (fragment_text fault)
 line_of Later = codes "policy: Later\n"

@@ -1,13 +1,14 @@
 -- What a query's rows have to do with a policy.
 use Rattle.std.specs.Prelude.{◌≡◌, ℕ, List, Bool}
-use Rattle.mfotl_model.specs.ActiveDomain.{ascending}
+use Rattle.mfotl_model.specs.Ascending.{ascending}
 use Rattle.mfotl_model.specs.Formulas.{Form}
 use Rattle.mfotl_model.specs.Satisfaction.{database_at}
 use Rattle.mfotl_model.specs.Values.{row_cmp}
 use Rattle.mfotl_model.specs.VerdictText.{text}
 use Rattle.mfotl_model.specs.Violations.{viol}
 use Rattle.mfotl_model.specs.declared.event.TimePoint.{TimePoint}
-use Rattle.monitor_main.specs.Atom.{IsQueryFor, Query, matching_rows}
+use Rattle.mfotl_model.specs.Matching.{Query, matching_rows}
+use Rattle.monitor_main.specs.Atom.{IsQueryFor}
 use Rattle.monitor_main.specs.AtomText.{lines_from}
 
 -- the violations of a policy are the rows of its query

@@ -1,15 +1,15 @@
 //! The rows that an atom's events give.
 ghost use Rattle.std.specs.Prelude.{◌≡◌, IfOk, option_map, position};
 ghost use Rattle.std.specs.List.{list_all, zip};
-ghost use Rattle.mfotl_model.specs.ActiveDomain.{ascending};
+ghost use Rattle.mfotl_model.specs.Ascending.{ascending};
 ghost use Rattle.mfotl_model.specs.Values.{row_cmp};
-ghost use Rattle.monitor_main.specs.Atom.{first_value, is_match, is_variable, matching_rows, query_of};
-ghost use Rattle.monitor_main.specs.Atom.{read_off, row_read};
+ghost use Rattle.mfotl_model.specs.Matching.{first_value, is_match, is_variable, matching_rows};
+ghost use Rattle.mfotl_model.specs.Matching.{read_off, row_read};
+ghost use Rattle.monitor_main.specs.Atom.{query_of};
 ghost use Rattle.monitor_main.specs.AtomSteps.{give_back, stands_for};
 
 use mfotl_model::{Atom, Db, Event, Row, RowList, Term, Value};
 use std::alloc::{AllocError, Global};
-use std::collections::BTreeSet;
 
 /// An atom, and the variables whose values are a row, in the order of its columns.
 #[derive(Clone, Copy)]
@@ -35,7 +35,7 @@ fn first_place(terms: &[Term], variable: u32) -> Option<usize>
 }
 
 // The value at this place.
-#[tactic(auto, unfolding(crate::specs::Atom::first_value))]
+#[tactic(auto, unfolding(mfotl_model::specs::Matching::first_value))]
 fn first_value<'a>(terms: &[Term], values: &'a [Value], variable: u32) -> Option<&'a Value>
     ensures { option_map (λ value. value.now) result ≡ first_value terms.now values.now variable }
 {
@@ -102,24 +102,37 @@ fn row_read(alloc: Global, query: &AtomQuery<'_>, event: &Event) -> Result<Row, 
     ensures { IfOk result (λ row. row ≡ row_read (query_of query.now) event.now) }
 {
     let (terms, values) = (query.atom.args.as_slice(), event.args.values());
-    let mut row = Vec::with_capacity(alloc, query.columns.len())?;
+    let mut row = Row::empty();
     for column in query.columns {
-        row.push(value_read(alloc, terms, values, *column)?)?;
+        row = row.push(alloc, value_read(alloc, terms, values, *column)?)?;
     }
-    Ok(Row::new(row))
+    Ok(row)
 }
 
 /// The rows of the events that the query's atom stands for, in ascending order.
-#[tactic(auto, using(crate::proofs::AtomRows::row_taken, crate::proofs::AtomRows::event_left))]
+#[tactic(auto, using(crate::proofs::AtomRows::rows_of_set))]
 pub fn atom_rows(alloc: Global, db: &Db, query: &AtomQuery<'_>) -> Result<RowList, AllocError>
     ensures { IfOk result (λ rows.
         rows ≡ ascending row_cmp (matching_rows (query_of query.now) db.now)) }
 {
-    let mut rows: BTreeSet<Row> = BTreeSet::new(alloc);
-    for event in db.events() {
+    let rows = rows_read(alloc, db.inserted(), query)?;
+    Ok(RowList::in_order(rows))
+}
+
+// The rows of those of the events that the query's atom stands for.
+#[tactic(auto, using(crate::proofs::AtomRows::row_taken, crate::proofs::AtomRows::event_left, crate::proofs::AtomRows::no_rows))]
+fn rows_read(
+    alloc: Global,
+    events: &[Event],
+    query: &AtomQuery<'_>,
+) -> Result<Vec<Row>, AllocError>
+    ensures { IfOk result (λ rows. rows.items ≡ matching_rows (query_of query.now) events.now) }
+{
+    let mut rows = Vec::new(alloc);
+    for event in events {
         if is_match(query.atom, event) {
-            rows.insert(row_read(alloc, query, event)?)?;
+            rows.push(row_read(alloc, query, event)?)?;
         }
     }
-    Ok(RowList::new(rows.into_iter().collect(alloc)?))
+    Ok(rows)
 }

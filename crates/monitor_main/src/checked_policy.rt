@@ -20,11 +20,19 @@ use monitorable::{Core, to_core};
 use std::alloc::Global;
 
 /// A policy that can be monitored, over its signature.
-#[derive(Drop)]
 pub struct CheckedPolicy {
     pub sig: Signature,
     pub policy: Policy,
     pub core: Core,
+}
+
+impl Drop for CheckedPolicy {
+    fn drop(self) {
+        let CheckedPolicy { sig, policy, core } = self;
+        drop(sig);
+        drop(policy);
+        drop(core);
+    }
 }
 
 // The signature in a file that isn't too long.

@@ -4,9 +4,10 @@ ghost use Rattle.mfotl_sig.specs.FaultTexts.{fault_text as sig_text};
 ghost use Rattle.mfotl_parse.specs.FaultTexts.{fault_text as policy_text};
 ghost use Rattle.monitorable.specs.FaultTexts.{fault_text as fragment_text};
 ghost use Rattle.log_reader.specs.FaultTexts.{fault_text as log_text};
-ghost use Rattle.monitor_main.specs.FaultLines.{fault_line, file_text};
+ghost use Rattle.monitor_main.specs.FaultLines.{fault_line, file_text, too_long};
 ghost use Rattle.monitor_main.specs.Refusals.{line_of};
 
+use crate::limits::MAX_FILE;
 use crate::refusal::{InputFile, Refusal};
 use log_reader::LogFault;
 use mfotl_parse::PolicyFault;
@@ -25,6 +26,14 @@ fn file_text(file: InputFile) -> &'static str
         InputFile::Policy => "policy",
         InputFile::Log => "log",
     }
+}
+
+// The line of a signature or a policy that is too long.
+#[tactic(auto, unfolding(crate::specs::FaultLines::too_long))]
+fn long_line(alloc: Global, input: &str) -> Result<Vec<u8>, AllocError>
+    ensures { IfOk result (λ line. line.items ≡ fault_line input.now too_long) }
+{
+    Ok(format!(in alloc; "{input}: TooLong at {MAX_FILE}\n")?.into_bytes())
 }
 
 // The line of a signature's fault.
@@ -80,9 +89,9 @@ impl Refusal {
     {
         match self {
             Refusal::Usage => Vec::from_slice(alloc, USAGE),
-            Refusal::LongSignature => Vec::from_slice(alloc, b"signature: TooLong at 1048576\n"),
+            Refusal::LongSignature => long_line(alloc, "signature"),
             Refusal::Signature(fault) => sig_line(alloc, fault),
-            Refusal::LongPolicy => Vec::from_slice(alloc, b"policy: TooLong at 1048576\n"),
+            Refusal::LongPolicy => long_line(alloc, "policy"),
             Refusal::Policy(fault) => policy_line(alloc, fault),
             Refusal::Fragment(fault) => fragment_line(alloc, fault),
             Refusal::Later => Vec::from_slice(alloc, b"policy: Later\n"),

@@ -1,7 +1,4 @@
-//! How many bytes a file may have.
+//! How many bytes a file may have. A log's limits are log_reader's.
 
 /// The most bytes of a signature or a policy.
 pub const MAX_FILE: u64 = 1 << 20;
-
-/// The most bytes of a log.
-pub const MAX_LOG: u64 = 1 << 40;

@@ -1,21 +1,23 @@
 //! The log: read whole, and monitored time-point by time-point.
-ghost use Rattle.std.specs.Prelude.{◌≡◌, ◌-◌, ◌^◌, ◌<◌, ◌≤◌, ◌∷◌, [], ℕ, not, IfOk, IfErr, true, false};
+ghost use Rattle.std.specs.Prelude.{◌≡◌, ◌-◌, ◌^◌, ◌<◌, ◌≤◌, ◌∷◌, [], ℕ, not, IfOk, IfErr, OnOk, true, false};
 ghost use Rattle.mon_outside.specs.Causes.{Rose};
 ghost use Rattle.mon_outside.specs.Files.{ToldFiles, content};
 ghost use Rattle.mon_outside.specs.Inputs.{asked_more};
 ghost use Rattle.mon_outside.specs.Sink.{AppendsFront};
 ghost use Rattle.mon_outside.specs.Views.{inputs_view};
+ghost use Rattle.log_reader.specs.Progress.{read};
+ghost use Rattle.log_reader.specs.Readers.{ForEach};
 ghost use Rattle.log_reader.specs.Readings.{reading};
 ghost use Rattle.monitor_main.specs.Answer.{standard};
 ghost use Rattle.monitor_main.specs.Atom.{query_of};
 ghost use Rattle.monitor_main.specs.AtomText.{is_empty, line_at, rows_at};
 ghost use Rattle.monitor_main.specs.LogRuns.{EndsClear, IsGathered, IsOutputFault, StopsBytes};
-ghost use Rattle.monitor_main.specs.LogRuns.{StopsLines, WritesPoint, lines_of, reading_in};
+ghost use Rattle.monitor_main.specs.LogRuns.{StopsLines, WritesPoint, lines_of};
 
 use crate::atom::{AtomQuery, atom_rows};
 use crate::refusal::{InputFile, Refusal};
 use log_reader::{Limits, LogReader, Next};
-use mfotl_model::{Row, TimePoint, verdict_line};
+use mfotl_model::{Row, TimePoint, push_verdict};
 use mfotl_sig::Signature;
 use mon_outside::{Inputs, LoadFault, Sink, read_to_end, write_whole};
 use std::alloc::{AllocError, Global};
@@ -63,30 +65,23 @@ pub fn gather<I: Inputs>(
     }
 }
 
-// The line of a time-point, and whether it has a row.
-#[derive(Drop)]
-struct PointLine {
-    bytes: Vec<u8>,
-    has_row: bool,
-}
-
+// Makes the line of a time-point, and answers whether it has a row.
 #[tactic(auto, unfolding(crate::specs::AtomText::line_at, crate::specs::AtomText::rows_at))]
-fn point_line(
+fn make_line(
     alloc: Global,
     query: &AtomQuery<'_>,
     number: u64,
     point: &TimePoint,
-) -> Result<PointLine, AllocError>
-    ensures line { IfOk result (λ line.
-        line.bytes.items ≡ line_at (query_of query.now) number point.now) }
-    ensures row { IfOk result (λ line.
-        line.has_row ≡ not (is_empty (rows_at (query_of query.now) point.now))) }
+    line: &mut Vec<u8>,
+) -> Result<bool, AllocError>
+    ensures line { OnOk result (line.new.items ≡ line_at (query_of query.now) number point.now) }
+    ensures row { IfOk result (λ has_row.
+        has_row ≡ not (is_empty (rows_at (query_of query.now) point.now))) }
 {
     let rows = atom_rows(alloc, &point.db, query)?;
-    Ok(PointLine {
-        bytes: verdict_line(alloc, number, point.ts, rows.rows())?,
-        has_row: !has_none(rows.rows()),
-    })
+    line.clear();
+    push_verdict(line, number, point.ts, rows.rows())?;
+    Ok(!has_none(rows.rows()))
 }
 
 fn has_none(rows: &[Row]) -> bool
@@ -98,13 +93,15 @@ fn has_none(rows: &[Row]) -> bool
     }
 }
 
-// Writes the line of a time-point, and answers whether it has a row.
+// Writes the line of a time-point, and answers whether it has a row. The line is made in a buffer that is
+// there for each.
 #[tactic(auto, using(crate::proofs::SinkLemmas::whole_front))]
 fn write_point<O: Sink>(
     alloc: Global,
     query: &AtomQuery<'_>,
     number: u64,
     point: &TimePoint,
+    line: &mut Vec<u8>,
     out: &mut O,
 ) -> Result<bool, Refusal>
     ensures ok { IfOk result (λ has_row. WritesPoint (query_of query.now) number point.now
@@ -115,11 +112,11 @@ fn write_point<O: Sink>(
         (line_at (query_of query.now) number point.now) }
     ensures later { O.faults out.old ≤ O.faults out.new }
 {
-    let Ok(line) = point_line(alloc, query, number, point) else {
+    let Ok(has_row) = make_line(alloc, query, number, point, line) else {
         return Err(Refusal::Memory);
     };
-    match write_whole(out, line.bytes.as_slice()) {
-        Ok(()) => Ok(line.has_row),
+    match write_whole(out, line.as_slice()) {
+        Ok(()) => Ok(has_row),
         Err(_) => Err(Refusal::Write),
     }
 }
@@ -134,21 +131,24 @@ fn write_points<O: Sink>(
     requires works { reader.old.is_broken ≡ false }
     requires first { reader.old.given ≡ 0 }
     requires few { reader.old.limits.points < 2 ^ 64 - 1 }
-    ensures ok { IfOk result (λ violated. EndsClear (query_of query.now) (reading_in reader.old)
-        (O.written out.old) (O.written out.new) violated) }
-    ensures stops { IfErr result (λ r. StopsLines (query_of query.now) (reading_in reader.old)
-        (O.written out.old) (O.written out.new) (O.faults out.old) (O.faults out.new) r) }
-    ensures front { AppendsFront (O.written out.old) (O.written out.new)
-        (lines_of (query_of query.now) (reading_in reader.old)) }
+    ensures ok { IfOk result (λ violated. ForEach reader.old (λ p. EndsClear (query_of query.now)
+        (read p) (O.written out.old) (O.written out.new) violated)) }
+    ensures stops { IfErr result (λ r. ForEach reader.old (λ p. StopsLines (query_of query.now)
+        (read p) (O.written out.old) (O.written out.new) (O.faults out.old) (O.faults out.new) r)) }
+    ensures front { ForEach reader.old (λ p. AppendsFront (O.written out.old) (O.written out.new)
+        (lines_of (query_of query.now) (read p))) }
     ensures later { O.faults out.old ≤ O.faults out.new }
 {
+    let mut line = Vec::new(alloc);
     let mut violated = false;
     for number in 0..u64::MAX {
         match reader.next(alloc) {
-            Ok(Next::Point(point)) => match write_point(alloc, query, number, &point, out) {
-                Ok(has_row) => violated |= has_row,
-                Err(refusal) => return Err(refusal),
-            },
+            Ok(Next::Point(point)) => {
+                match write_point(alloc, query, number, &point, &mut line, out) {
+                    Ok(has_row) => violated |= has_row,
+                    Err(refusal) => return Err(refusal),
+                }
+            }
             Ok(Next::More) => return Ok(violated),
             Ok(Next::End) => return Ok(violated),
             Err(fault) => return Err(Refusal::from(fault)),

@@ -8,10 +8,10 @@ ghost use Rattle.monitor_main.specs.Words.{Run};
 
 use crate::atom::AtomQuery;
 use crate::checked_policy::{CheckedPolicy, load_sources};
-use crate::limits::MAX_LOG;
 use crate::log::{gather, monitor_bytes};
 use crate::refusal::Refusal;
 use crate::words::Sources;
+use log_reader::Limits;
 use mon_outside::{Inputs, Sink};
 use std::alloc::Global;
 
@@ -28,7 +28,7 @@ fn monitor_log<I: Inputs, O: Sink>(
     ensures { MonitorsLog (checked_in checked.now) log.now
         (effect I.Inputs O.Sink inputs.old inputs.new out.old out.new) result }
 {
-    let gathered = gather(alloc, inputs, log, MAX_LOG)?;
+    let gathered = gather(alloc, inputs, log, Limits::standard().bytes)?;
     monitor_bytes(alloc, &checked.sig, query, gathered, out)
 }
 

@@ -1,8 +1,9 @@
 //! The real files and standard input, about whose names and contents nothing is told.
-ghost use Rattle.std.specs.Prelude.{◌≡◌, ◌<◌, ◌≤◌, ℕ, ◌∷◌, [], None, length, is_ok, IfOk, OnErr, OnOk, IsTrue};
+ghost use Rattle.std.specs.Prelude.{◌≡◌, ◌<◌, ◌≤◌, None, length, IfOk, OnErr, IsTrue};
 ghost use Rattle.std.specs.Io.KnownBytes.{ReadConsumes};
 ghost use Rattle.mon_outside.specs.Causes.{HasCause};
-ghost use Rattle.monitor_main.specs.Real.{is_opened, rest_told};
+ghost use Rattle.mon_outside.specs.Inputs.{Moves};
+ghost use Rattle.monitor_main.specs.Real.{is_opened, rest_told, untold};
 
 use crate::retrying::{one_more, read_some};
 use mon_outside::{Failed, Inputs};
@@ -57,7 +58,7 @@ impl<'a, R: Files, S: Read + Drop> RealInputs<'a, R, S> {
 impl<R: Files, S: Read + Drop> Inputs for RealInputs<'_, R, S> {
     ghost files = { λ _. None };
 
-    ghost rest = { λ _. None };
+    ghost rest = { untold };
 
     ghost is_open = { λ s. is_opened s.source };
 
@@ -83,7 +84,19 @@ impl<R: Files, S: Read + Drop> Inputs for RealInputs<'_, R, S> {
         }
     }
 
-    fn read(&mut self, buffer: &mut [u8]) -> Result<usize, Failed> {
+    // Beside what each input keeps to: what the open file's reader tells is what was read.
+    fn read(&mut self, buffer: &mut [u8]) -> Result<usize, Failed>
+        requires room { 0 < length buffer.old }
+        requires opened { IsTrue (is_opened self.old.source) }
+        ensures stays_open { is_opened self.new.source ≡ is_opened self.old.source }
+        ensures within { IfOk result (λ count. count ≤ length buffer.new) }
+        ensures moves { IfOk result (Moves (untold self.old) (untold self.new) buffer.new) }
+        ensures failed { OnErr result (untold self.new ≡ untold self.old) }
+        ensures cause { HasCause self.old.failures self.new.failures result }
+        ensures told { ReadConsumes
+            (rest_told S.remaining R.File.remaining self.old.input self.old.source)
+            (rest_told S.remaining R.File.remaining self.new.input self.new.source) result buffer.new }
+    {
         let read = self.read_source(buffer);
         if read.is_err() {
             self.failures = one_more(self.failures);

@@ -79,4 +79,3 @@ removed {X} row v m n k w first second = second ∙ ap (λ o. cond (is_at (row_c
         ≡ cond b None (lookup (is_at (row_cmp v)) m.entries)
     by true = refl
     by false = refl
-

@@ -1,4 +1,5 @@
 use Rattle.std.proofs.Common.{refl}
+use Rattle.std.specs.Fmt.{digits}
 use Rattle.mfotl_lex.specs.Blanks.{blank_len, comment_len}
 use Rattle.mfotl_lex.specs.Lexemes.{next_token, after, tokens, tokens_within}
 use Rattle.mfotl_lex.specs.Places.{mode_behind}
@@ -18,6 +19,8 @@ returns-clause-values c = record {
   unclosed = refl;
   equal_events_are_one = refl;
   word_as_text = refl;
+  text_is_quoted = refl;
+  least = refl;
   quoted_text = refl;
   last_time = refl;
   full = refl;
@@ -41,6 +44,9 @@ returns-clause-faults c = record {
   arity_before_sort = refl;
   text_for_integer = refl;
   word_for_integer = refl;
+  sign_alone = refl;
+  letter_behind = refl;
+  wide_below = refl;
   wide = refl;
   late = refl;
   falling = refl;
@@ -56,4 +62,20 @@ returns-clause-fronts c = record {
   next_begun = refl;
   not_yet = refl;
   fault = refl;
+}
+
+pub returns-clause-prints : goal.returns-clause-prints
+unfolding digits
+returns-clause-prints c = record {
+  lexical = refl;
+  syntax = refl;
+  unknown = refl;
+  arity = refl;
+  sort = refl;
+  wide = refl;
+  late = refl;
+  falling = refl;
+  groups = refl;
+  points = refl;
+  long = refl;
 }

@@ -9,7 +9,8 @@ use Rattle.mfotl_sig.specs.Reading.{step, reading}
 use Rattle.mfotl_sig.proofs.laws.worked_texts.Goals as goal
 
 pub returns-clause-values : goal.returns-clause-values
-unfolding reading layer.reading run step tokens tokens_within next_token after mode_behind plain_scan minus_scan text_scan order_scan blank_len comment_len
+unfolding reading layer.reading run step tokens tokens_within next_token after mode_behind
+    plain_scan minus_scan text_scan order_scan blank_len comment_len
 returns-clause-values c = record {
   empty = refl;
   no_argument = refl;
@@ -19,7 +20,8 @@ returns-clause-values c = record {
 }
 
 pub returns-clause-faults : goal.returns-clause-faults
-unfolding reading layer.reading run step tokens tokens_within next_token after mode_behind plain_scan minus_scan text_scan order_scan blank_len comment_len
+unfolding reading layer.reading run step tokens tokens_within next_token after mode_behind
+    plain_scan minus_scan text_scan order_scan blank_len comment_len
 returns-clause-faults c = record {
   repeated = refl;
   first_of_two = refl;

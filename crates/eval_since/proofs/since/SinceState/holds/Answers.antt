@@ -7,9 +7,19 @@ pub returns : goal.returns
 unfolding part
 returns c = rw (← c.self.view_is) (
     let s = c.self.inside in
-    λ t a b f. rw (c.in_either.ensures, c.within-kept.ensures, c.holds_on-held.ensures, c.in_ok-key.ensures, c.contains-reached.ensures, c.interval.ensures, c.contains.ensures)
-      (next_at s.window s.negated s.pulled s.newest c.first-now.result.now s.times.items (drop 1 s.times.items)
-      c.first-left.result.now s.lefts.items (drop 1 s.lefts.items) c.first-right.result.now s.rights.items (drop 1 s.rights.items)
-      t a b (valuation c.args.columns.now c.args.row.now) c.in_ok-own.own
-      c.first-now.ensures c.first-left.ensures c.first-right.ensures c.self.invariant.climbs
-      (sym (c.in_ok-own.ensures ∙ (λ i. map (valuation c.args.columns.now (c.values.ensures i)) (c.right.ensures i)))) f))
+    λ t a b f. rw (
+      c.in_either.ensures,
+      c.within-kept.ensures,
+      c.holds_on-held.ensures,
+      c.in_ok-key.ensures,
+      c.contains-reached.ensures,
+      c.interval.ensures,
+      c.contains.ensures,
+    )
+    (next_at s.window s.negated s.pulled s.newest c.first-now.result.now s.times.items (drop 1 s.times.items)
+    c.first-left.result.now s.lefts.items (drop 1 s.lefts.items) c.first-right.result.now s.rights.items
+    (drop 1 s.rights.items)
+    t a b (valuation c.args.columns.now c.args.row.now) c.in_ok-own.own
+    c.first-now.ensures c.first-left.ensures c.first-right.ensures c.self.invariant.climbs
+    (sym (c.in_ok-own.ensures ∙ (λ i. map (valuation c.args.columns.now (c.values.ensures i))
+    (c.right.ensures i)))) f))

@@ -2,7 +2,7 @@ use Rattle.std.proofs.Common.{◌≡◌, ◌++◌, ℕ, List, [], false, refl, s
 use Rattle.log_reader.specs.Cursors.{given_of}
 use Rattle.log_reader.specs.Readers.{Reader, Reads}
 use Rattle.log_reader.specs.Soundness.{IsSound}
-use Rattle.log_reader.proofs.Keeping.{sound_start, none_given}
+use Rattle.log_reader.proofs.ReaderSoundness.{sound_start, none_given}
 use Rattle.log_reader.proofs.ReaderLemmas.{for_each, reads_kept}
 use Rattle.log_reader.proofs.reader.LogReader.feed_owned.Goals as goal
 

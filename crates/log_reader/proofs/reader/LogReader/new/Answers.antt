@@ -1,5 +1,5 @@
 use Rattle.std.proofs.Common.{[], refl}
-use Rattle.log_reader.proofs.Keeping.{sound_start}
+use Rattle.log_reader.proofs.ReaderSoundness.{sound_start}
 use Rattle.log_reader.proofs.ReaderLemmas.{reads_kept}
 use Rattle.log_reader.proofs.reader.LogReader.new.Goals as goal
 

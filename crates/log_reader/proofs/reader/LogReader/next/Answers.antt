@@ -1,4 +1,4 @@
-use Rattle.log_reader.specs.Answers.{GivesPoints}
+use Rattle.log_reader.specs.GivenPoints.{GivesPoints}
 use Rattle.log_reader.specs.Given.{Gives}
 use Rattle.log_reader.specs.Laws.{IsShown}
 use Rattle.log_reader.specs.Progress.{due}
@@ -14,7 +14,7 @@ pub returns-clause-answer : goal.returns-clause-answer
 returns-clause-answer c =
     let old = c.args.self.now in
     for_each old (λ bytes. Gives (λ next. next) c.read_point.result
-        (due (progress old bytes))) c.read_point.ensures.answer
+    (due (progress old bytes))) c.read_point.ensures.answer
 
 pub returns-clause-reads : goal.returns-clause-reads
 returns-clause-reads c =

