@@ -1,0 +1,3 @@
+pub mod UntilLemmas
+pub mod NextLemmas
+pub mod DueLemmas

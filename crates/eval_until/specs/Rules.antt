@@ -1,0 +1,30 @@
+-- What is kept of positions, and no more.
+use Rattle.std.specs.Prelude.{◌≡◌, ℕ, ◌<◌, ◌≤◌, Bool, true, ◌&&◌, nat_le, nat_lt, List, [], ◌∷◌}
+use Rattle.std.specs.List.{list_all}
+use Rattle.std.specs.Option.{IfSome}
+use Rattle.mfotl_model.specs.declared.value.Value.{Value}
+use Rattle.eval_until.specs.declared.entries.Entry.{Entry}
+use Rattle.eval_until.specs.Entries.{entries_of}
+use Rattle.eval_until.specs.Starts.{kept_start}
+
+-- each entry stands at a position that was taken and not pulled, and its run doesn't begin behind it
+abbrev pub Waiting : ℕ → ℕ → List (List Value × List Entry) → Type 0
+Waiting pulled taken rows = (u : List Value)
+    → list_all (λ e. nat_le pulled e.place && nat_lt e.place taken && nat_le e.start e.place) (entries_of rows u) ≡ true
+
+-- the positions of entries ascend strictly
+abbrev pub PlacesAscend : List Entry → Type 0
+PlacesAscend [] = Unit {0}
+PlacesAscend (e ∷ es) = (list_all (λ f. nat_lt e.place f.place) es ≡ true) × PlacesAscend es
+
+-- those of each row do
+abbrev pub Ascending : List (List Value × List Entry) → Type 0
+Ascending rows = (u : List Value) → PlacesAscend (entries_of rows u)
+
+-- no kept start is behind the positions taken
+abbrev pub StartsBelow : ℕ → List (List Value × ℕ) → Type 0
+StartsBelow taken starts = (w : List Value) → IfSome (kept_start starts w) (λ s. s ≤ taken)
+
+-- no kept start is at or below the next position to pull, of which it would tell nothing
+abbrev pub StartsAbove : ℕ → List (List Value × ℕ) → Type 0
+StartsAbove pulled starts = (w : List Value) → IfSome (kept_start starts w) (λ s. pulled < s)

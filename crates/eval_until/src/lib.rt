@@ -1,0 +1,12 @@
+//! NEXT and UNTIL over the tables of their operands, which are pushed position by position.
+#![tactic(auto)]
+
+mod ahead;
+mod entries;
+pub mod laws;
+mod next;
+mod until;
+
+pub use entries::Entry;
+pub use next::NextState;
+pub use until::UntilState;

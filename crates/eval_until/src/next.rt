@@ -1,0 +1,152 @@
+//! NEXT over tables that are pushed position by position.
+ghost use Rattle.std.specs.Prelude.{◌≡◌, ◌+◌, ◌<◌, ◌^◌, ◌∷◌, ◌++◌, ◌&&◌, [], ℕ, Bool, false, IfOk, IfSome, IsTrue, List, MatchOption, OnOk, OnErr, is_some, length};
+ghost use Rattle.mfotl_model.specs.Satisfaction.{Valuation, next, time_at, truth_at};
+ghost use Rattle.mfotl_model.specs.Tables.{all_apart, has};
+ghost use Rattle.eval_until.specs.NextView.{AdvancesNext, FollowsNext, next_due, tables_pushed, with_table};
+
+use mfotl_model::Interval;
+use relations::Table;
+use std::alloc::{AllocError, Global};
+use std::collections::VecDeque;
+use std::marker::Model;
+
+/// The state of NEXT: what was pushed and is still needed. The n-th table pushed, and the n-th time, are
+/// those of position n.
+#[derive(Drop)]
+pub struct NextState {
+    interval: Interval,
+    columns: Vec<u32>,
+    pulled: u64,
+    times: VecDeque<u64>,
+    started: bool,
+    tables: VecDeque<Table>,
+}
+
+impl Model for NextState {
+    ghost use Rattle.std.specs.Prelude.{◌≡◌, ◌≤◌, ◌+◌, ◌^◌, length, true};
+    ghost use Rattle.mfotl_model.specs.Tables.{all_apart};
+    ghost use Rattle.relations.specs.Pushed.{AreOver};
+    ghost use Rattle.eval_until.specs.NextView.{NextOf};
+
+    ghost Value = { NextOf };
+
+    ghost view = { λ s. record { interval = s.interval; columns = s.columns.items; pulled = s.pulled; times = s.times.items; started = s.started; tables = s.tables.items } };
+
+    ghost invariant = { λ s. record { few : s.pulled + length s.times.items ≤ 2 ^ 63; apart : all_apart s.columns.items ≡ true; over : AreOver s.columns.items s.tables.items } };
+}
+
+// the operand's table where the distance lies in the interval, else no row
+fn where_inside(alloc: Global, inside: bool, table: Table, columns: Vec<u32>) -> Table
+    requires apart { IsTrue (all_apart columns.items) }
+    requires over { table.columns ≡ columns.items }
+    ensures columns { result.columns ≡ columns.items }
+    ensures has { (v : Valuation) → has result v ≡ (inside && has table v) }
+{
+    if inside {
+        table
+    } else {
+        Table::empty(alloc, columns)
+    }
+}
+
+impl NextState {
+    /// The state before the first position, for an operand over these columns.
+    pub fn new(alloc: Global, interval: &Interval, columns: &[u32]) -> Result<Self, AllocError>
+        requires apart { IsTrue (all_apart columns.now) }
+        ensures state { IfOk result (λ state. state ≡ record { interval = interval.now; columns = columns.now; pulled = 0; times = []; started = false; tables = [] }) }
+        ensures follows { IfOk result (λ state.
+            (t : List ℕ) (a : List Bool) (v : Valuation) → FollowsNext state t a v) }
+    {
+        let columns = Vec::from_slice(alloc, columns)?;
+        Ok(NextState {
+            interval: *interval,
+            columns,
+            pulled: 0,
+            times: VecDeque::new(alloc),
+            started: false,
+            tables: VecDeque::new(alloc),
+        })
+    }
+
+    /// Takes the operand's next table. The first position's is dropped: no position is before it.
+    pub fn push_right(&mut self, table: Table) -> Result<(), AllocError>
+        requires columns { table.columns ≡ self.old.columns }
+        ensures pushed { OnOk result (self.new ≡ with_table self.old table) }
+        ensures follows { OnOk result ((t : List ℕ) (a : List Bool) (v : Valuation) →
+            FollowsNext self.old t a v →
+            has table v ≡ truth_at a (tables_pushed self.old) →
+            FollowsNext self.new t a v) }
+    {
+        if self.started {
+            self.tables.push_back(table)?;
+        } else {
+            self.started = true;
+        }
+        Ok(())
+    }
+
+    /// Takes the next position's time.
+    pub fn push_time(&mut self, ts: u64) -> Result<(), AllocError>
+        requires few { self.old.pulled + length self.old.times < 2 ^ 63 }
+        ensures pushed { OnOk result
+            (self.new ≡ record self.old { times = self.old.times ++ ts ∷ [] }) }
+        ensures follows { OnOk result ((t : List ℕ) (a : List Bool) (v : Valuation) →
+            FollowsNext self.old t a v →
+            ts ≡ time_at t (self.old.pulled + length self.old.times) →
+            self.old.pulled + length self.old.times < length t →
+            FollowsNext self.new t a v) }
+    {
+        self.times.push_back(ts)?;
+        Ok(())
+    }
+
+    /// Whether the next position can be pulled.
+    pub fn is_due(&self) -> bool
+        ensures { result ≡ next_due self.now }
+    {
+        self.times.len() > 1 && self.started && !self.tables.is_empty()
+    }
+
+    fn pull_due(&mut self, alloc: Global, columns: Vec<u32>) -> Table
+        requires due { IsTrue (next_due self.old) }
+        requires over { columns.items ≡ self.old.columns }
+        ensures advances { AdvancesNext self.old self.new }
+        ensures follows { (t : List ℕ) (a : List Bool) (v : Valuation) →
+            FollowsNext self.old t a v → FollowsNext self.new t a v }
+        ensures columns { result.columns ≡ self.old.columns }
+        ensures rows { (t : List ℕ) (a : List Bool) (v : Valuation) →
+            FollowsNext self.old t a v →
+            has result v ≡ next self.old.interval t a self.old.pulled }
+    {
+        let Some(now) = self.times.pop_front() else {
+            unreachable!();
+        };
+        let Some(table) = self.tables.pop_front() else {
+            unreachable!();
+        };
+        let inside = self.interval.contains(self.times[0].saturating_sub(now));
+        self.pulled += 1;
+        where_inside(alloc, inside, table, columns)
+    }
+
+    /// The table of the next position, `None` while it is not due. Without memory the state stays.
+    pub fn pull(&mut self, alloc: Global) -> Result<Option<Table>, AllocError>
+        ensures due { IfOk result (λ answer. is_some answer ≡ next_due self.old) }
+        ensures state { IfOk result (λ answer.
+            MatchOption answer (self.new ≡ self.old) (λ _. AdvancesNext self.old self.new)) }
+        ensures old { OnErr result (self.new ≡ self.old) }
+        ensures follows { OnOk result ((t : List ℕ) (a : List Bool) (v : Valuation) →
+            FollowsNext self.old t a v → FollowsNext self.new t a v) }
+        ensures columns { IfOk result (λ answer. IfSome answer (λ table.
+            table.columns ≡ self.old.columns)) }
+        ensures rows { IfOk result (λ answer. IfSome answer (λ table.
+            (t : List ℕ) (a : List Bool) (v : Valuation) → FollowsNext self.old t a v →
+            has table v ≡ next self.old.interval t a self.old.pulled)) }
+    {
+        if !self.is_due() {
+            return Ok(None);
+        }
+        let columns = Vec::from_slice(alloc, self.columns.as_slice())?;
+        Ok(Some(self.pull_due(alloc, columns)))
+    }
+}
