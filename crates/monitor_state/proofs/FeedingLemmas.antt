@@ -138,3 +138,28 @@ pulled_more columns old s new tables table ordered before ready advances follows
       ∙ rows t a b v (before.follows t a b v h)
       ∙ ap₂ (λ i p. since i t a b p) before.interval pulled)
     }
+
+-- one turn of the loop that pulls
+pub pulled_turn : (columns : List ℕ) (old s new : SinceOf) (tables items : List TableOf) (answer : Option TableOf) (table ordered : TableOf)
+    → SincePulled columns old s tables → answer ≡ Some table
+    → is_some answer ≡ due s
+    → MatchOption answer (new ≡ s) (λ x. Advances s new)
+    → ((t : List ℕ) (a b : List Bool) (v : Valuation) → Follows s t a b v → Follows new t a b v)
+    → IfSome answer (λ x. x.columns ≡ s.window.right)
+    → IfSome answer (λ x. (t : List ℕ) (a b : List Bool) (v : Valuation) → Follows s t a b v
+    → has x v ≡ since s.window.interval t a b s.pulled)
+    → ordered.columns ≡ columns
+    → (all_among columns table.columns ≡ true → all_among table.columns columns ≡ true
+    → (v : Valuation) → has ordered v ≡ has table v)
+    → items ≡ tables ++ ordered ∷ []
+    → SincePulled columns old new items
+pulled_turn columns old s new tables items answer table ordered before is ready state follows over rows is_columns same made =
+    subst (SincePulled columns old new) (sym made)
+    (pulled_more columns old s new tables table ordered before
+    (sym ready ∙ ap is_some is)
+    (subst (λ o. MatchOption o (new ≡ s) (λ x. Advances s new)) is state)
+    follows
+    (subst (λ o. IfSome o (λ x. (t : List ℕ) (a b : List Bool) (v : Valuation) → Follows s t a b v
+    → has x v ≡ since s.window.interval t a b s.pulled)) is rows)
+    (subst (λ o. IfSome o (λ x. x.columns ≡ s.window.right)) is over)
+    is_columns same)

@@ -4,3 +4,7 @@ pub mod ExactLemmas
 pub mod RegionLemmas
 pub mod OrderingLemmas
 pub mod SinceSteps
+pub mod NodeSteps
+pub mod MonitorSteps
+pub mod BeginLemmas
+pub mod StepLemmas

@@ -1,5 +1,5 @@
 -- Tables with their columns in another order.
-use Rattle.std.proofs.Common.{Result, Ok, Err, IfOk, OnOk, Option, Some, None, option_to_list, subst, ◌≡◌, ◌↔◌, ℕ, Bool, true, false, List, [], ◌∷◌, ◌++◌, refl, sym, ap, ◌∙◌, append_assoc}
+use Rattle.std.proofs.Common.{Result, Ok, Err, IfOk, OnOk, Option, Some, None, option_to_list, subst, ◌≡◌, ◌↔◌, ℕ, Bool, true, false, List, [], ◌∷◌, ◌++◌, refl, sym, ap, ◌∙◌, append_assoc, append-nil, IfNone}
 use Rattle.mfotl_model.specs.FreeVariables.{among}
 use Rattle.mfotl_model.specs.Satisfaction.{Valuation}
 use Rattle.mfotl_model.specs.Tables.{TableOf, all_among, has, has_row}
@@ -44,3 +44,15 @@ projected_has table result columns v inside means =
     sym (has_same table w.0 v
     (λ y m. w.1.0 y (member_of_all (λ z. among z columns) table.columns y inside m))) ∙ w.1.1)
     (λ h. means.1 (v, (λ y m. refl, h)))
+
+pub ok_both : {X E : Type 0} (r : Result X E) (P : X → Type 0) (Q : Type 0) (R : X → Type 0) → ((x : X) → P x → Q → R x)
+    → IfOk r P → OnOk r Q → IfOk r R
+ok_both (Ok x) P Q R h p q = h x p q
+ok_both (Err e) P Q R h p q = p
+
+-- all was taken where nothing more could be
+pub ended_at : {X : Type 0} (initial front all : List X) (r : Option X) (rest : List X) → initial ≡ front ++ all → r ≡ None
+    → IfNone r (all ≡ [])
+    → initial ≡ front
+ended_at initial front all r rest before is none =
+    before ∙ ap (λ xs. front ++ xs) (subst (λ o. IfNone o (all ≡ [])) is none) ∙ append-nil front

@@ -5,3 +5,6 @@ pub mod Nodes
 pub mod Views
 pub mod Stands
 pub mod Steps
+pub mod Going
+pub mod Beginnings
+pub mod MonitorView

@@ -3,11 +3,13 @@
 #![tactic(auto)]
 
 mod atoms;
+mod compile;
+mod monitor;
 mod node;
 mod ordering;
 mod since;
 mod stack;
 mod tables;
 
-pub use node::Node;
+pub use monitor::Monitor;
 pub use tables::Tables;

@@ -13,7 +13,7 @@ fn is_among(x: u32, columns: &[u32]) -> bool
     columns.iter().any(|y| x == *y)
 }
 
-fn all_among(wanted: &[u32], columns: &[u32]) -> bool
+pub fn all_among(wanted: &[u32], columns: &[u32]) -> bool
     ensures { result ≡ all_among wanted.now columns.now }
 {
     wanted.iter().all(|x| is_among(*x, columns))

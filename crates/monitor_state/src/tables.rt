@@ -1,5 +1,5 @@
 //! Tables of positions that follow one another.
-ghost use Rattle.std.specs.Prelude.{◌≡◌, ◌++◌, ◌∷◌, [], IfOk, OnOk, option_to_list};
+ghost use Rattle.std.specs.Prelude.{◌≡◌, ◌++◌, ◌∷◌, [], IfNone, IfOk, OnOk, length, option_to_list};
 
 use relations::Table;
 use std::alloc::{AllocError, Global};
@@ -48,9 +48,17 @@ impl Tables {
         Ok(())
     }
 
+    /// How many tables there are.
+    pub fn len(&self) -> usize
+        ensures { result ≡ length self.now }
+    {
+        self.tables.len()
+    }
+
     /// Takes the first table.
     pub fn take(&mut self) -> Option<Table>
-        ensures { self.old ≡ option_to_list result ++ self.new }
+        ensures first { self.old ≡ option_to_list result ++ self.new }
+        ensures none { IfNone result (self.old ≡ []) }
     {
         self.tables.pop_front()
     }

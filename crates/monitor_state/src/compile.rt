@@ -1,0 +1,99 @@
+//! The nodes of a core.
+ghost use Rattle.std.specs.Prelude.{◌≡◌, ◌++◌, ◌∷◌, [], IfOk, OnOk};
+ghost use Rattle.monitorable.specs.CoreForms.{node_form, True, False, Atom, Exists, Since};
+ghost use Rattle.monitor_state.specs.Beginnings.{Adds, SinceBegun};
+ghost use Rattle.monitor_state.specs.Nodes.{is_negated, nodes_in};
+
+use crate::node::Node;
+use crate::ordering::all_among;
+use eval_since::SinceState;
+use mfotl_model::{Atom as OneAtom, Interval};
+use monitorable::Node as Core;
+use monitorable::Role;
+use relations::Table;
+use std::alloc::{AllocError, Global};
+
+/// Adds the nodes of a core, each behind its operands.
+pub fn add_nodes(alloc: Global, core: &Core, role: Role, nodes: &mut Vec<Node>) -> Result<(), AllocError>
+    ensures { OnOk result (Adds (nodes_in role (node_form core.now)) nodes.old.items nodes.new.items) }
+{
+    match core {
+        Core::True => add_true(alloc, nodes),
+        Core::False => add_false(alloc, nodes),
+        Core::Atom(atom) => add_atom(alloc, atom, nodes),
+        Core::Exists(bound, inner) => {
+            add_nodes(alloc, inner, Role::Whole, nodes)?;
+            add(Node::Exists(bound.number), nodes)
+        }
+        Core::Since(interval, left, right) => {
+            add_nodes(alloc, left, Role::Left, nodes)?;
+            add_nodes(alloc, right, Role::Whole, nodes)?;
+            add_since(alloc, core, interval, left, right, nodes)
+        }
+        _ => Err(AllocError),
+    }
+}
+
+fn add(node: Node, nodes: &mut Vec<Node>) -> Result<(), AllocError>
+    ensures { OnOk result (nodes.new.items ≡ nodes.old.items ++ node ∷ []) }
+{
+    Ok(nodes.push(node)?)
+}
+
+fn add_true(alloc: Global, nodes: &mut Vec<Node>) -> Result<(), AllocError>
+    ensures { OnOk result (Adds (True ∷ []) nodes.old.items nodes.new.items) }
+{
+    let table = Table::unit(alloc)?;
+    add(Node::Constant(table), nodes)
+}
+
+fn add_false(alloc: Global, nodes: &mut Vec<Node>) -> Result<(), AllocError>
+    ensures { OnOk result (Adds (False ∷ []) nodes.old.items nodes.new.items) }
+{
+    let table = Table::empty(alloc, Vec::new(alloc));
+    add(Node::Constant(table), nodes)
+}
+
+fn add_atom(alloc: Global, atom: &OneAtom, nodes: &mut Vec<Node>) -> Result<(), AllocError>
+    ensures { OnOk result (Adds (Atom atom.now ∷ []) nodes.old.items nodes.new.items) }
+{
+    let atom = atom.copy(alloc)?;
+    add(Node::Atom(atom), nodes)
+}
+
+fn is_negated(core: &Core) -> bool
+    ensures { result ≡ is_negated (node_form core.now) }
+{
+    match core {
+        Core::Not(_) => true,
+        _ => false,
+    }
+}
+
+// The node of `whole`, a SINCE of these operands.
+fn add_since(
+    alloc: Global,
+    whole: &Core,
+    interval: &Interval,
+    left: &Core,
+    right: &Core,
+    nodes: &mut Vec<Node>,
+) -> Result<(), AllocError>
+    ensures { OnOk result (node_form whole.now ≡ Since interval.now (node_form left.now) (node_form right.now)
+        → Adds (node_form whole.now ∷ []) nodes.old.items nodes.new.items) }
+{
+    let state = since_state(alloc, interval, left, right)?;
+    let columns = whole.free_vars(alloc)?;
+    add(Node::Since(state, Table::empty(alloc, columns)), nodes)
+}
+
+fn since_state(alloc: Global, interval: &Interval, left: &Core, right: &Core) -> Result<SinceState, AllocError>
+    ensures { IfOk result (SinceBegun interval.now (node_form left.now) (node_form right.now)) }
+{
+    let left_columns = left.free_vars(alloc)?;
+    let right_columns = right.free_vars(alloc)?;
+    if !all_among(left_columns.as_slice(), right_columns.as_slice()) {
+        return Err(AllocError);
+    }
+    SinceState::new(alloc, interval, left_columns.as_slice(), right_columns.as_slice(), is_negated(left))
+}
