@@ -58,6 +58,23 @@ impl JoinState {
         Err(AllocError)
     }
 
+    /// How many children there are.
+    pub fn children(&self) -> usize
+        ensures { result ≡ length self.now.children }
+    {
+        self.children.len()
+    }
+
+    /// Whether a child can take the table, as `push` asks.
+    pub fn takes(&self, _child: u32, _table: &Table) -> bool
+        ensures child { IsTrue result → _child < length self.now.children }
+        ensures columns { IsTrue result → _table.now.columns ≡ child_columns self.now.children _child }
+        ensures few { IsTrue result →
+            self.now.pulled + length (child_tables self.now.children _child) < 2 ^ 63 }
+    {
+        false
+    }
+
     /// Takes a child's next table.
     pub fn push(&mut self, child: u32, table: Table) -> Result<(), AllocError>
         requires child { child < length self.old.children }

@@ -1,5 +1,5 @@
 -- The nodes with which a monitor begins stand for the empty log.
-use Rattle.std.proofs.Common.{Result, Ok, Err, OnOk, subst, ◌≡◌, ℕ, ◌+◌, ◌-◌, ◌<◌, ◌≤◌, Bool, true, false, cond, List, [], ◌∷◌, ◌++◌, length, map, drop, refl, sym, ap, ap₂, ◌∙◌, arith, append_assoc, append-nil}
+use Rattle.std.proofs.Common.{Result, Ok, Err, OnOk, subst, ◌≡◌, ℕ, ◌+◌, ◌-◌, ◌<◌, ◌≤◌, Bool, true, false, cond, List, [], ◌∷◌, ◌++◌, length, map, drop, refl, sym, ap, ap₂, ◌∙◌, arith, append_assoc, append-nil, inl, inr}
 use Rattle.mfotl_model.specs.Exact.{AllExact, View}
 use Rattle.mfotl_model.specs.FreeVariables.{fv, joined}
 use Rattle.mfotl_model.specs.Log.{times}
@@ -11,15 +11,19 @@ use Rattle.mfotl_model.specs.declared.interval.Interval.{Interval}
 use Rattle.mfotl_model.specs.declared.term.Atom.{Atom as OneAtom}
 use Rattle.mfotl_model.specs.declared.value.Value.{Value}
 use Rattle.eval_since.specs.SinceView.{SinceOf}
-use Rattle.monitorable.specs.CoreForms.{CoreForm, meaning, True, False, Atom, Exists, Since}
+use Rattle.monitorable.specs.CoreForms.{CoreForm, meaning, True, False, Atom, Not, And, Exists, Since}
+use Rattle.monitorable.specs.Conjuncts.{PartForm, conjuncts_of}
+use Rattle.monitorable.specs.Conjuncts.PartForm.{Child as ChildPart, Test as TestPart}
+use Rattle.monitorable.specs.Fragment.{is_conjunction, judges_not, under_not}
+use Rattle.eval_bool.specs.JoinView.{ChildOf, JoinOf, children_of}
 use Rattle.monitorable.specs.declared.role.Role.{Role}
 use Rattle.monitorable.specs.declared.role.Role.TheVariants as role
 use Rattle.monitor_state.proofs.ExactLemmas.{reached_within}
 use Rattle.monitor_state.proofs.MonitorSteps.{nodes_append}
 use Rattle.monitor_state.proofs.SinceSteps.{free_operand}
-use Rattle.monitor_state.specs.Beginnings.{Adds, Begins, SinceBegun}
-use Rattle.monitor_state.specs.Nodes.{is_negated, left_operand, nodes_in, nodes_of}
-use Rattle.monitor_state.specs.Stands.{IsConstant, IsFor, IsSince, NodeStands, NodesStand, SinceStands, Stands, StateOf}
+use Rattle.monitor_state.specs.Beginnings.{Adds, AddsIf, Begins, BeginsJoin, IsJoined, SinceBegun}
+use Rattle.monitor_state.specs.Nodes.{children, is_negated, left_operand, nodes_in, nodes_of, operands}
+use Rattle.monitor_state.specs.Stands.{ChildrenStand, IsConstant, IsFor, IsJoin, IsSince, JoinStands, bare, conjunct_as, NodeStands, NodesStand, SinceStands, Stands, StateOf}
 use Rattle.monitor_state.specs.Views.{reached}
 use Rattle.monitor_state.specs.declared.node.Node.{Node}
 use Rattle.monitor_state.specs.declared.node.Node.TheVariants as node
@@ -149,3 +153,85 @@ pub atom_at : (r : Role) (h : CoreForm) (a : OneAtom) (old new : List Node) → 
     → Adds (nodes_in r h) old new
 unfolding nodes_in
 atom_at r h a old new same adds = subst (λ k. Adds (nodes_in r k) old new) (sym same) adds
+
+begun_children : (view : View) → view.log ≡ [] → (ps : List PartForm)
+    → ChildrenStand view 0 (children ps) (children_of (map conjunct_as ps))
+begun_children view empty [] = tt
+begun_children view empty (ChildPart f n ∷ ps) =
+    (record { pushed = none_reached view empty f; exact = tt }, begun_children view empty ps)
+begun_children view empty (TestPart c w ∷ ps) = begun_children view empty ps
+
+bare_begun : (ps : List PartForm) → map bare (children_of (map conjunct_as ps)) ≡ children_of (map conjunct_as ps)
+bare_begun [] = refl
+bare_begun (ChildPart f n ∷ ps) =
+    ap (λ (ds : List ChildOf). record { columns = fv (meaning f); negated = n; tables = [] } ∷ ds) (bare_begun ps)
+bare_begun (TestPart c w ∷ ps) = bare_begun ps
+
+join_is : (f : CoreForm) (s : JoinOf) → BeginsJoin f s → IsJoin f s
+join_is f s begins =
+    record {
+      columns = ap (λ (x : JoinOf). x.columns) begins.begun;
+      tests = ap (λ (x : JoinOf). x.tests) begins.begun;
+      parts = ap (λ (x : JoinOf). map bare x.children) begins.begun ∙ bare_begun (conjuncts_of f);
+      some = begins.some
+    }
+
+join_begins : (f : CoreForm) (s : JoinOf) → operands f ≡ children (conjuncts_of f) → BeginsJoin f s → (view : View)
+    → view.log ≡ [] → JoinStands view f s
+join_begins f s same begins view empty =
+    record {
+      pulled = ap (λ (x : JoinOf). x.pulled) begins.begun ∙ none_reached view empty f;
+      children =
+      subst (λ (x : JoinOf). ChildrenStand view x.pulled (operands f) x.children) (sym begins.begun)
+      (subst (λ fs. ChildrenStand view 0 fs (children_of (map conjunct_as (conjuncts_of f)))) (sym same)
+      (begun_children view empty (conjuncts_of f)))
+    }
+
+adds_none : (old : List Node) → Adds [] old old
+adds_none old view empty = ([], sym (append-nil old), tt)
+
+pub unjudged_adds : (own : Bool) (f : CoreForm) (old new : List Node) → own ≡ false → new ≡ old → AddsIf own f old new
+unjudged_adds own f old new not_own same =
+    subst (λ b. AddsIf b f old new) (sym not_own) (subst (λ ns. Adds [] old ns) (sym same) (adds_none old))
+
+-- whether a core is a conjunction
+pub data IsConjunction : CoreForm → Type 0 where
+  IsAnd : (f g : CoreForm) → IsConjunction (And f g)
+  IsNot : (f : CoreForm) → IsConjunction (Not f)
+
+one_join : (f : CoreForm) (s : JoinOf) (old new : List Node) → IsConjunction f → BeginsJoin f s → new ≡ old ++ node.Join s ∷ []
+    → Adds (f ∷ []) old new
+one_join f s old new (IsAnd g h) begins is =
+    adds_one (And g h) (node.Join s) old new is (join_is (And g h) s begins) (join_begins (And g h) s refl begins)
+one_join f s old new (IsNot g) begins is =
+    adds_one (Not g) (node.Join s) old new is (join_is (Not g) s begins) (join_begins (Not g) s refl begins)
+
+pub and_adds : (r : Role) (h f g : CoreForm) (own : Bool) (old mid more new : List Node) → h ≡ And f g → own ≡ is_conjunction r
+    → Adds (nodes_in role.Part f) old mid → Adds (nodes_in role.Part g) mid more
+    → AddsIf own h more new → Adds (nodes_in r h) old new
+unfolding nodes_in
+and_adds r h f g own old mid more new same is first second last =
+    subst (λ k. Adds (nodes_in r k) old new) (sym same)
+    (adds_then (nodes_in role.Part f ++ nodes_in role.Part g) (cond (is_conjunction r) (And f g ∷ []) []) old more new
+    (adds_then (nodes_in role.Part f) (nodes_in role.Part g) old mid more first second)
+    (subst (λ b. Adds (cond b (And f g ∷ []) []) more new) is (subst (λ k. AddsIf own k more new) same last)))
+
+pub not_adds : (r s : Role) (h f : CoreForm) (own : Bool) (old mid new : List Node) → h ≡ Not f → own ≡ judges_not r → s ≡ under_not r
+    → Adds (nodes_in s f) old mid → AddsIf own h mid new → Adds (nodes_in r h) old new
+unfolding nodes_in
+not_adds r s h f own old mid new same is under first last =
+    subst (λ k. Adds (nodes_in r k) old new) (sym same)
+    (adds_then (nodes_in (under_not r) f) (cond (judges_not r) (Not f ∷ []) []) old mid new
+    (subst (λ q. Adds (nodes_in q f) old mid) under first)
+    (subst (λ b. Adds (cond b (Not f ∷ []) []) mid new) is (subst (λ k. AddsIf own k mid new) same last)))
+
+pub judged_adds : (own : Bool) (h : CoreForm) (s : JoinOf) (old new : List Node) → own ≡ true → IsJoined h → BeginsJoin h s
+    → new ≡ old ++ node.Join s ∷ [] → AddsIf own h old new
+judged_adds own h s old new is (inl same) begins made =
+    subst (λ b. AddsIf b h old new) (sym is)
+    (subst (λ k. Adds (k ∷ []) old new) (sym same.2)
+    (one_join (And same.0 same.1) s old new (IsAnd same.0 same.1) (subst (λ k. BeginsJoin k s) same.2 begins) made))
+judged_adds own h s old new is (inr same) begins made =
+    subst (λ b. AddsIf b h old new) (sym is)
+    (subst (λ k. Adds (k ∷ []) old new) (sym same.1)
+    (one_join (Not same.0) s old new (IsNot same.0) (subst (λ k. BeginsJoin k s) same.1 begins) made))

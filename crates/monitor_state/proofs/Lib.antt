@@ -4,7 +4,11 @@ pub mod ExactLemmas
 pub mod RegionLemmas
 pub mod OrderingLemmas
 pub mod SinceSteps
+pub mod JoinLemmas
+pub mod JoinSteps
 pub mod NodeSteps
 pub mod MonitorSteps
 pub mod BeginLemmas
+pub mod GuardLemmas
 pub mod StepLemmas
+pub mod LawProofs

@@ -26,16 +26,20 @@ use Rattle.eval_since.specs.SinceView.{SinceOf}
 use Rattle.monitorable.proofs.DomainLaw.{domain}
 use Rattle.monitorable.proofs.DomainLemmas.{any_with, any_witness, same_truth}
 use Rattle.monitorable.proofs.DomainRows.{has_constants, has_log}
-use Rattle.monitorable.specs.CoreForms.{CoreForm, meaning, True, False, Atom, Exists, Since}
+use Rattle.monitorable.specs.CoreForms.{CoreForm, meaning, True, False, Atom, Not, And, Exists, Since}
+use Rattle.monitorable.specs.Conjuncts.{conjuncts_of}
+use Rattle.eval_bool.specs.JoinView.{ChildOf, JoinOf}
+use Rattle.monitor_state.proofs.JoinSteps.{join_is, join_news, join_stands}
+use Rattle.monitor_state.specs.JoinFeeding.{JoinTakes}
 use Rattle.monitorable.specs.Fragment.{Names, frag}
 use Rattle.monitor_state.proofs.CountLemmas.{count_is}
 use Rattle.monitor_state.proofs.ExactLemmas.{log_more, rising_before}
 use Rattle.monitor_state.proofs.SinceSteps.{since_is, since_news, since_stands}
 use Rattle.monitor_state.specs.Feeding.{SinceTakes}
-use Rattle.monitor_state.specs.Nodes.{left_operand, operands}
+use Rattle.monitor_state.specs.Nodes.{children, left_operand, operands}
 use Rattle.monitor_state.specs.Quantified.{IsWithout, Quantifies}
-use Rattle.monitor_state.specs.Stacks.{Pops}
-use Rattle.monitor_state.specs.Stands.{IsConstant, IsFor, NodeStands}
+use Rattle.monitor_state.specs.Stacks.{Pops, PopsMany}
+use Rattle.monitor_state.specs.Stands.{ChildrenStand, IsConstant, IsFor, IsJoin, JoinStands, NodeStands}
 use Rattle.monitor_state.specs.Steps.{Advances, News, Premises, SameNear, StackNews, longer}
 use Rattle.monitor_state.specs.Views.{reached}
 use Rattle.monitor_state.specs.declared.node.Node.{Node}
@@ -275,3 +279,59 @@ since_advances old new order given stack mid rest ls rs tables last first takes 
       since_news view point i f g premises.rising premises.passes premises.sound.0 old order is stands given.ts premises.ts ls rs news.1 news.2 new tables takes
     )
 since_advances old new order given stack mid rest ls rs tables last first takes view point whole f below premises is stands stacked = absurd is
+
+module _ (view : View) (point : TimePoint) where
+  -- the stack's tables over two lists of cores
+  split_news : (below fs : List CoreForm) (stack : List (List TableOf)) → StackNews view point (below ++ fs) stack
+      → (rest : List (List TableOf)) × (tops : List (List TableOf)) × (stack ≡ rest ++ tops) × (length tops ≡ length fs)
+      × StackNews view point below rest × StackNews view point fs tops
+  split_news [] fs stack news = ([], stack, refl, news_length fs stack news, tt, news)
+    where
+      news_length : (fs : List CoreForm) (stack : List (List TableOf)) → StackNews view point fs stack → length stack ≡ length fs
+      news_length [] [] news = refl
+      news_length (f ∷ fs) (tables ∷ stack) news = ap suc (news_length fs stack news.1)
+      news_length [] (tables ∷ stack) news = absurd news
+      news_length (f ∷ fs) [] news = absurd news
+  split_news (g ∷ below) fs [] news = absurd news
+  split_news (g ∷ below) fs (tables ∷ stack) news =
+      let r = split_news below fs stack news.1 in
+      (tables ∷ r.0, r.1, ap (λ xs. tables ∷ xs) r.2, r.3, (news.0, r.4), r.5)
+
+  pops_many : (below fs : List CoreForm) (n : ℕ) (stack rest tops : List (List TableOf)) → n ≡ length fs
+      → StackNews view point (below ++ fs) stack → PopsMany n stack rest tops
+      → StackNews view point below rest × StackNews view point fs tops
+  pops_many below fs n stack rest tops is news pops =
+      let r = split_news below fs stack news in
+      let same = pops r.0 r.1 r.2 (r.3 ∙ sym is) in
+      (subst (StackNews view point below) (sym same.0) r.4, subst (StackNews view point fs) (sym same.1) r.5)
+
+children_length : (view : View) (i : ℕ) (fs : List CoreForm) (cs : List ChildOf) → ChildrenStand view i fs cs → length cs ≡ length fs
+children_length view i [] [] stand = refl
+children_length view i (f ∷ fs) (c ∷ cs) stand = ap suc (children_length view i fs cs stand.1)
+children_length view i [] (c ∷ cs) stand = absurd stand
+children_length view i (f ∷ fs) [] stand = absurd stand
+
+join_taken : (view : View) (point given : TimePoint) (whole f : CoreForm) (below : List CoreForm) (old new : JoinOf)
+    (stack rest lists : List (List TableOf)) (tables : List TableOf) → operands f ≡ children (conjuncts_of f)
+    → Premises view point given whole f → IsJoin f old → JoinStands view f old
+    → StackNews view point (below ++ operands f) stack
+    → PopsMany (length old.children) stack rest lists → JoinTakes old lists new tables
+    → IsJoin f new × JoinStands (longer view point) f new × StackNews view point below rest × News view point f tables
+join_taken view point given whole f below old new stack rest lists tables same premises is stands stacked pops takes =
+    let news = pops_many view point below (operands f) (length old.children) stack rest lists
+    (children_length view old.pulled (operands f) old.children stands.children) stacked pops in
+    (
+      join_is view point premises.rising premises.passes f old new lists tables is same stands news.1 takes,
+      join_stands view point premises.rising premises.passes f old new lists tables is same stands news.1 takes,
+      news.0,
+      join_news view point premises.rising premises.passes f old new lists tables is same stands news.1 takes
+    )
+
+pub join_advances : (old new : JoinOf) (given : TimePoint) (stack rest lists : List (List TableOf)) (tables : List TableOf)
+    → PopsMany (length old.children) stack rest lists → JoinTakes old lists new tables
+    → Advances (node.Join old) given stack (node.Join new) rest tables
+join_advances old new given stack rest lists tables pops takes view point whole (And f g) below premises is stands stacked =
+    join_taken view point given whole (And f g) below old new stack rest lists tables refl premises is stands stacked pops takes
+join_advances old new given stack rest lists tables pops takes view point whole (Not f) below premises is stands stacked =
+    join_taken view point given whole (Not f) below old new stack rest lists tables refl premises is stands stacked pops takes
+join_advances old new given stack rest lists tables pops takes view point whole f below premises is stands stacked = absurd is

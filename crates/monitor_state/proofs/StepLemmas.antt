@@ -49,3 +49,9 @@ steps core old new given tables advance few taken given_is first kept view point
       },
       both.1
     )
+
+-- a sum that fits is not cut off
+pub saturated : (a n r : ℕ) (tables : List TableOf) → n ≡ length tables → r ≡ min (a + n) (2 ^ 64 - 1)
+    → a + length tables < 2 ^ 64
+    → r ≡ a + length tables
+saturated a n r tables is cut small = omega arith

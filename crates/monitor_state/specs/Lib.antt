@@ -1,6 +1,7 @@
 pub mod Stacks
 pub mod Quantified
 pub mod Feeding
+pub mod JoinFeeding
 pub mod Nodes
 pub mod Views
 pub mod Stands
@@ -8,3 +9,4 @@ pub mod Steps
 pub mod Going
 pub mod Beginnings
 pub mod MonitorView
+pub mod Laws

@@ -1,5 +1,5 @@
 -- When what a monitor keeps stands for a log, in a region of rows.
-use Rattle.std.specs.Prelude.{◌≡◌, ℕ, ◌+◌, ◌-◌, ◌≤◌, ◌<◌, Bool, true, List, [], ◌∷◌, length, drop}
+use Rattle.std.specs.Prelude.{◌≡◌, ℕ, ◌+◌, ◌-◌, ◌≤◌, ◌<◌, Bool, true, List, [], ◌∷◌, length, drop, map}
 use Rattle.mfotl_model.specs.Exact.{AllExact, Covers, View}
 use Rattle.mfotl_model.specs.FreeVariables.{fv, joined}
 use Rattle.mfotl_model.specs.Log.{times}
@@ -8,10 +8,14 @@ use Rattle.mfotl_model.specs.Tables.{TableOf, has}
 use Rattle.mfotl_model.specs.declared.event.TimePoint.{TimePoint}
 use Rattle.mfotl_model.specs.declared.interval.Interval.{Interval}
 use Rattle.mfotl_model.specs.declared.value.Value.{Value}
+use Rattle.eval_bool.specs.JoinView.{ChildOf, ConjunctOf, JoinOf, children_of, conjunct_columns, tests_of}
+use Rattle.eval_bool.specs.JoinView.ConjunctOf.{Child, Test}
 use Rattle.eval_since.specs.PreviousView.{FollowsPrevious, PrevOf}
 use Rattle.eval_since.specs.SinceView.{Follows, SinceOf}
-use Rattle.monitorable.specs.CoreForms.{CoreForm, meaning, True, False, Atom, Exists, Previous, Since}
-use Rattle.monitor_state.specs.Nodes.{is_negated, left_operand, nodes_of}
+use Rattle.monitorable.specs.CoreForms.{CoreForm, meaning, True, False, Atom, Not, And, Exists, Previous, Since}
+use Rattle.monitorable.specs.Conjuncts.{PartForm, conjuncts_of}
+use Rattle.monitorable.specs.Conjuncts.PartForm.{Child as ChildPart, Test as TestPart}
+use Rattle.monitor_state.specs.Nodes.{children, is_negated, left_operand, nodes_of, operands}
 use Rattle.monitor_state.specs.Views.{Dates, Tells, reached}
 use Rattle.monitor_state.specs.declared.node.Node.{Node}
 use Rattle.monitor_state.specs.declared.node.Node.TheVariants as node
@@ -36,15 +40,50 @@ pub record IsSince (i : Interval) (f g : CoreForm) (s : SinceOf) (order : TableO
   pub right : s.window.right ≡ fv (meaning g)
   pub ordered : order.columns ≡ joined (fv (meaning f)) (fv (meaning g))
 
+-- a conjunct as the state of a conjunction has it
+abbrev pub conjunct_as : PartForm → ConjunctOf
+conjunct_as (ChildPart f negated) = Child (fv (meaning f)) negated
+conjunct_as (TestPart c wanted) = Test c wanted
+
+-- a child without its tables
+abbrev pub bare : ChildOf → ChildOf
+bare c = record c { tables = [] }
+
+-- the state is one of the core's conjunction, which has a child
+pub record IsJoin (f : CoreForm) (s : JoinOf) : Type 0 where
+  pub columns : s.columns ≡ conjunct_columns (map conjunct_as (conjuncts_of f))
+  pub tests : s.tests ≡ tests_of (map conjunct_as (conjuncts_of f))
+  pub parts : map bare s.children ≡ children_of (map conjunct_as (conjuncts_of f))
+  pub some : 0 < length (children (conjuncts_of f))
+
 -- the node is one for the core
 abbrev pub IsFor : CoreForm → Node → Type 0
 IsFor True (node.Constant table) = IsConstant True table
 IsFor False (node.Constant table) = IsConstant False table
 IsFor (Atom atom) (node.Atom a) = a ≡ atom
+IsFor (Not f) (node.Join s) = IsJoin (Not f) s
+IsFor (And f g) (node.Join s) = IsJoin (And f g) s
 IsFor (Exists x f) (node.Exists y) = y ≡ x.number
 IsFor (Previous i f) (node.Previous s) = IsPrevious i f s
 IsFor (Since i f g) (node.Since s order) = IsSince i f g s order
 IsFor f other = ⊥
+
+-- A child's tables: those not yet used are kept, up to the last one of a settled position, and are exact.
+pub record ChildStands (view : View) (pulled : ℕ) (f : CoreForm) (c : ChildOf) : Type 0 where
+  pub pushed : pulled + length c.tables ≡ reached view f
+  pub exact : AllExact view (meaning f) pulled c.tables
+
+-- child by child
+abbrev pub ChildrenStand : View → ℕ → List CoreForm → List ChildOf → Type 0
+ChildrenStand view pulled [] [] = Unit {0}
+ChildrenStand view pulled (f ∷ fs) (c ∷ cs) = ChildStands view pulled f c × ChildrenStand view pulled fs cs
+ChildrenStand view pulled fs cs = ⊥
+
+-- The state of a conjunction stands for the log: it gave the tables of the settled positions, and its
+-- children's tables stand.
+pub record JoinStands (view : View) (f : CoreForm) (s : JoinOf) : Type 0 where
+  pub pulled : s.pulled ≡ reached view f
+  pub children : ChildrenStand view s.pulled (operands f) s.children
 
 -- The state of a PREVIOUS stands for the log: it gave the tables of the settled positions, and keeps the
 -- times and the operand's tables that were not used; these are exact, and it is right for each near row.
@@ -71,6 +110,8 @@ pub record SinceStands (view : View) (i : Interval) (f g : CoreForm) (s : SinceO
 
 -- a node stands for the log
 abbrev pub NodeStands : View → CoreForm → Node → Type 0
+NodeStands view (Not f) (node.Join s) = JoinStands view (Not f) s
+NodeStands view (And f g) (node.Join s) = JoinStands view (And f g) s
 NodeStands view (Previous i f) (node.Previous s) = PreviousStands view i f s
 NodeStands view (Since i f g) (node.Since s order) = SinceStands view i f g s
 NodeStands view f other = Unit {0}

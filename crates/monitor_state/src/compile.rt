@@ -1,9 +1,10 @@
 //! The nodes of a core.
 ghost use Rattle.std.specs.Prelude.{◌≡◌, ◌++◌, ◌∷◌, [], IfOk, OnOk};
 ghost use Rattle.monitorable.specs.CoreForms.{node_form, True, False, Atom, Exists, Since};
-ghost use Rattle.monitor_state.specs.Beginnings.{Adds, SinceBegun};
+ghost use Rattle.monitor_state.specs.Beginnings.{Accepted, Adds, AddsIf, GuardedIf, IsJoined, SinceBegun};
 ghost use Rattle.monitor_state.specs.Nodes.{is_negated, nodes_in};
 
+use crate::conjunction::join_state;
 use crate::node::Node;
 use crate::ordering::all_among;
 use eval_since::SinceState;
@@ -15,6 +16,7 @@ use std::alloc::{AllocError, Global};
 
 /// Adds the nodes of a core, each behind its operands.
 pub fn add_nodes(alloc: Global, core: &Core, role: Role, nodes: &mut Vec<Node>) -> Result<(), AllocError>
+    requires { Accepted role (node_form core.now) }
     ensures { OnOk result (Adds (nodes_in role (node_form core.now)) nodes.old.items nodes.new.items) }
 {
     match core {
@@ -24,6 +26,15 @@ pub fn add_nodes(alloc: Global, core: &Core, role: Role, nodes: &mut Vec<Node>) 
         Core::Exists(bound, inner) => {
             add_nodes(alloc, inner, Role::Whole, nodes)?;
             add(Node::Exists(bound.number), nodes)
+        }
+        Core::Not(inner) => {
+            add_nodes(alloc, inner, role.under_not(), nodes)?;
+            add_join(alloc, role.judges_not(), core, nodes)
+        }
+        Core::And(left, right) => {
+            add_nodes(alloc, left, Role::Part, nodes)?;
+            add_nodes(alloc, right, Role::Part, nodes)?;
+            add_join(alloc, role.is_conjunction(), core, nodes)
         }
         Core::Since(interval, left, right) => {
             add_nodes(alloc, left, Role::Left, nodes)?;
@@ -59,6 +70,19 @@ fn add_atom(alloc: Global, atom: &OneAtom, nodes: &mut Vec<Node>) -> Result<(), 
 {
     let atom = atom.copy(alloc)?;
     add(Node::Atom(atom), nodes)
+}
+
+// The node of a conjunction, where it is its own.
+fn add_join(alloc: Global, own: bool, core: &Core, nodes: &mut Vec<Node>) -> Result<(), AllocError>
+    requires joined { IsJoined (node_form core.now) }
+    requires guarded { GuardedIf own (node_form core.now) }
+    ensures { OnOk result (AddsIf own (node_form core.now) nodes.old.items nodes.new.items) }
+{
+    if !own {
+        return Ok(());
+    }
+    let state = join_state(alloc, core)?;
+    add(Node::Join(state), nodes)
 }
 
 fn is_negated(core: &Core) -> bool

@@ -4,6 +4,9 @@
 
 mod atoms;
 mod compile;
+mod conjunction;
+mod join;
+pub mod laws;
 mod monitor;
 mod node;
 mod ordering;

@@ -4,9 +4,11 @@ ghost use Rattle.monitor_state.specs.Quantified.{Quantifies};
 ghost use Rattle.monitor_state.specs.Steps.{Advances};
 
 use crate::atoms::eval_atom;
+use crate::join::take_join;
 use crate::since::take_since;
-use crate::stack::popped;
+use crate::stack::{popped, popped_many};
 use crate::tables::Tables;
+use eval_bool::JoinState;
 use eval_since::{PrevState, SinceState};
 use mfotl_model::{Atom, TimePoint};
 use relations::Table;
@@ -20,6 +22,8 @@ pub enum Node {
     Atom(Atom),
     /// EXISTS with its variable.
     Exists(u32),
+    /// A conjunction with a child.
+    Join(JoinState),
     Previous(PrevState),
     /// SINCE, with a table whose columns stand in the order that its tables have.
     Since(SinceState, Table),
@@ -40,6 +44,7 @@ impl Node {
             Node::Constant(table) => advance_constant(alloc, table, point, stack),
             Node::Atom(atom) => advance_atom(alloc, atom, point, stack),
             Node::Exists(var) => advance_exists(alloc, *var, point, stack),
+            Node::Join(state) => advance_join(alloc, state, point, stack),
             Node::Previous(state) => advance_previous(alloc, state, point, stack),
             Node::Since(state, order) => advance_since(alloc, state, order, point, stack),
         }
@@ -97,6 +102,23 @@ fn quantified(alloc: Global, mut tables: Tables, var: u32) -> Result<Tables, All
         without.push(table.exists(alloc, var)?)?;
     }
     Ok(without)
+}
+
+fn advance_join(
+    alloc: Global,
+    state: &mut JoinState,
+    _point: &TimePoint,
+    stack: &mut Vec<Tables>,
+) -> Result<Tables, AllocError>
+    ensures { IfOk result (λ tables. Advances (Node.Join state.old) _point.now stack.old.items
+        (Node.Join state.new) stack.new.items tables) }
+{
+    let children = state.children();
+    if children == 0 {
+        return Err(AllocError);
+    }
+    let lists = popped_many(stack, children)?;
+    take_join(alloc, state, lists)
 }
 
 fn advance_previous(

@@ -1,7 +1,8 @@
 use Rattle.std.proofs.Common.{◌≡◌, OnOk, List, subst, sym, ap, ◌∷◌, ◌++◌, [], ◌∙◌}
 use Rattle.monitorable.specs.CoreForms.{node_form, Since}
 use Rattle.monitorable.specs.declared.role.Role.TheVariants as role
-use Rattle.monitor_state.proofs.BeginLemmas.{atom_at, exists_adds, false_at, since_adds, true_at}
+use Rattle.monitor_state.proofs.BeginLemmas.{and_adds, atom_at, exists_adds, false_at, not_adds, since_adds, true_at}
+use Rattle.monitor_state.proofs.GuardLemmas.{and_left, and_own, and_right, exists_under, not_own, not_under, since_left, since_right}
 use Rattle.monitor_state.proofs.OrderingLemmas.{on_ok_then}
 use Rattle.monitor_state.specs.Beginnings.{Adds}
 use Rattle.monitor_state.specs.Nodes.{nodes_in}

@@ -9,8 +9,8 @@ use Rattle.monitor_state.proofs.monitor.Monitor.new.Goals as goal
 pub returns-clause-begins : goal.returns-clause-begins
 returns-clause-begins c =
     begins (core_form c.args.core.now)
-    (record { taken = 0; given = 0; first = 0; times = c.new-times.result.items; nodes = c.add_nodes.new.nodes.items })
-    refl refl refl c.new-times.ensures.items
+    (record { taken = 0; given = 0; first = 0; times = c.new.result.items; nodes = c.add_nodes.new.nodes.items })
+    refl refl refl c.new.ensures.items
     (subst (λ f. Adds (nodes_of f) [] c.add_nodes.new.nodes.items) c.root.ensures
     (subst (λ ns. Adds (nodes_of (node_form c.root.result.now)) ns c.add_nodes.new.nodes.items) c.new-nodes.ensures.items
     c.in_ok-add_nodes.ensures))
