@@ -1,5 +1,5 @@
 -- What the fragment gives the parts of a core: no variable of a conjunction that a child doesn't bind.
-use Rattle.std.proofs.Common.{◌≡◌, ℕ, ◌<◌, ◌≤◌, Bool, true, false, not, ◌&&◌, ◌||◌, cond, List, [], ◌∷◌, ◌++◌, length, map, Option, None, refl, sym, ap, ap₂, ◌∙◌, inl, inr, arith, append_assoc, append-nil}
+use Rattle.std.proofs.Common.{◌≡◌, ℕ, ◌<◌, ◌≤◌, Bool, true, false, not, ◌&&◌, ◌||◌, cond, List, [], ◌∷◌, ◌++◌, length, map, Option, None, refl, sym, ap, ap₂, subst, ◌∙◌, inl, inr, arith, append_assoc, append-nil}
 use Rattle.std.proofs.lemmas.Bool.{and_from, or_cases, or_left, or_right}
 use Rattle.std.specs.List.{list_all, list_any}
 use Rattle.mfotl_model.proofs.LogicLemmas.{among_joined}
@@ -19,7 +19,7 @@ use Rattle.monitorable.specs.declared.role.Role.{Role}
 use Rattle.monitorable.specs.declared.role.Role.TheVariants as role
 use Rattle.monitor_state.proofs.JoinSteps.{columns_are}
 use Rattle.monitor_state.proofs.RegionLemmas.{all_from_each}
-use Rattle.monitor_state.specs.Beginnings.{Accepted, is_child}
+use Rattle.monitor_state.specs.Beginnings.{Accepted, GuardedIf, is_child}
 use Rattle.monitor_state.specs.Nodes.{children}
 use Rattle.monitor_state.specs.Stands.{conjunct_as}
 
@@ -148,3 +148,30 @@ unfolding fault_in
 since_right r i f g a =
     (a.0, (no_first (fault_in a.0 role.Whole g) (covers a.0 f g)
     (no_first (fault_in a.0 role.Left f) (first (fault_in a.0 role.Whole g) (covers a.0 f g)) a.1).1).0)
+
+-- the same of a core that is known to be so
+pub and_left_at : (r : Role) (h f g : CoreForm) → h ≡ And f g → Accepted r h → Accepted role.Part f
+and_left_at r h f g same a = and_left r f g (subst (Accepted r) same a)
+
+pub and_right_at : (r : Role) (h f g : CoreForm) → h ≡ And f g → Accepted r h → Accepted role.Part g
+and_right_at r h f g same a = and_right r f g (subst (Accepted r) same a)
+
+pub and_own_at : (r : Role) (h f g : CoreForm) (own : Bool) → h ≡ And f g → own ≡ is_conjunction r → Accepted r h → GuardedIf own h
+and_own_at r h f g own same is a yes =
+    subst (λ k. (names : Names) × (guards names k ≡ None)) (sym same) (and_own r f g (subst (Accepted r) same a) (sym is ∙ yes))
+
+pub not_under_at : (r s : Role) (h f : CoreForm) → h ≡ Not f → s ≡ under_not r → Accepted r h → Accepted s f
+not_under_at r s h f same under a = subst (λ q. Accepted q f) (sym under) (not_under r f (subst (Accepted r) same a))
+
+pub not_own_at : (r : Role) (h f : CoreForm) (own : Bool) → h ≡ Not f → own ≡ judges_not r → Accepted r h → GuardedIf own h
+not_own_at r h f own same is a yes =
+    subst (λ k. (names : Names) × (guards names k ≡ None)) (sym same) (not_own r f (subst (Accepted r) same a) (sym is ∙ yes))
+
+pub exists_under_at : (r : Role) (h : CoreForm) (x : Bound) (f : CoreForm) → h ≡ Exists x f → Accepted r h → Accepted role.Whole f
+exists_under_at r h x f same a = exists_under r x f (subst (Accepted r) same a)
+
+pub since_left_at : (r : Role) (h : CoreForm) (i : Interval) (f g : CoreForm) → h ≡ Since i f g → Accepted r h → Accepted role.Left f
+since_left_at r h i f g same a = since_left r i f g (subst (Accepted r) same a)
+
+pub since_right_at : (r : Role) (h : CoreForm) (i : Interval) (f g : CoreForm) → h ≡ Since i f g → Accepted r h → Accepted role.Whole g
+since_right_at r h i f g same a = since_right r i f g (subst (Accepted r) same a)

@@ -23,16 +23,17 @@ fed_none [] n = refl
 fed_none (c ∷ cs) zero = ap (λ xs. record c { tables = xs } ∷ cs) (sym (append-nil c.tables))
 fed_none (c ∷ cs) (suc n) = ap (λ ds. c ∷ ds) (fed_none cs n)
 
+-- no tables
+pub fed_nothing : (ds : List ChildOf) → ds ≡ children_fed ds []
+fed_nothing [] = refl
+fed_nothing (d ∷ ds) = refl
+
 -- the tables of one child more
 pub fed_next : (cs : List ChildOf) (lists : List (List TableOf)) (tables : List TableOf)
     → child_fed (children_fed cs lists) (length lists) tables ≡ children_fed cs (lists ++ tables ∷ [])
 fed_next [] [] tables = refl
 fed_next [] (l ∷ lists) tables = refl
 fed_next (c ∷ cs) [] tables = ap (λ ds. record c { tables = c.tables ++ tables } ∷ ds) (fed_nothing cs)
-  where
-    fed_nothing : (ds : List ChildOf) → ds ≡ children_fed ds []
-    fed_nothing [] = refl
-    fed_nothing (d ∷ ds) = refl
 fed_next (c ∷ cs) (l ∷ lists) tables = ap (λ ds. record c { tables = c.tables ++ l } ∷ ds) (fed_next cs lists tables)
 
 pub fed_length : (cs : List ChildOf) (lists : List (List TableOf)) → length (children_fed cs lists) ≡ length cs
@@ -95,7 +96,7 @@ join_pulled_more old s new tables items answer table before is ready state over 
     (record {
       state =
       advanced ∙ ap join_advanced before.state
-      ∙ ap₂ (λ n cs. record old { pulled = n; children = cs }) (let e : old.pulled + length tables + 1 ≡ old.pulled + length (tables ++ table ∷ []) = omega arith in e)
+      ∙ ap₂ (λ n cs. record old { pulled = n; children = cs }) (let e : old.pulled + length tables + 1 ≡ old.pulled + length (tables ++ table ∷ []) = omega (arith, size) in e)
       (dropped_more (length tables) old.children ∙ ap (λ n. map (child_dropped n) old.children) (sym size));
       room =
       ap (λ n. list_all (λ c. nat_le n (length c.tables)) old.children) size

@@ -1,8 +1,8 @@
-use Rattle.std.proofs.Common.{◌≡◌, OnOk, List, subst, sym, ap, ◌∷◌, ◌++◌, [], ◌∙◌}
-use Rattle.monitorable.specs.CoreForms.{node_form, Since}
+use Rattle.std.proofs.Common.{rules, ◌≡◌, OnOk, List, subst, sym, ap, ◌∷◌, ◌++◌, [], ◌∙◌}
+use Rattle.monitorable.specs.CoreForms.{node_form, And, Exists, Not, Since}
 use Rattle.monitorable.specs.declared.role.Role.TheVariants as role
 use Rattle.monitor_state.proofs.BeginLemmas.{and_adds, atom_at, exists_adds, false_at, not_adds, since_adds, true_at}
-use Rattle.monitor_state.proofs.GuardLemmas.{and_left, and_own, and_right, exists_under, not_own, not_under, since_left, since_right}
+use Rattle.monitor_state.proofs.GuardLemmas.{and_left_at, and_own_at, and_right_at, exists_under_at, not_own_at, not_under_at, since_left_at, since_right_at}
 use Rattle.monitor_state.proofs.OrderingLemmas.{on_ok_then}
 use Rattle.monitor_state.specs.Beginnings.{Adds}
 use Rattle.monitor_state.specs.Nodes.{nodes_in}
@@ -49,3 +49,80 @@ returns-in_ok-add_nodes-in-Since-2 t c =
     ∙ ap (λ f. Since c.in-Since.interval f (node_form c.in-Since.right.value)) (sym left)
     ∙ ap (λ g. Since c.in-Since.interval (node_form c.deref-in-Since-3.result.now) g) (sym right))))
     c.add_since.ensures
+
+pub add_nodes-requires : goal.add_nodes-requires
+add_nodes-requires t c =
+    (
+      search rules,
+      exists_under_at c.args.role (node_form c.args.core.now) c.in-Exists.bound (node_form c.deref.result.now)
+      (ap node_form c.in-Exists.is ∙ ap (λ n. Exists c.in-Exists.bound (node_form n)) (sym c.deref.ensures)) c.requires
+    )
+
+pub add_nodes-requires-in-Not : goal.add_nodes-requires-in-Not
+add_nodes-requires-in-Not t c =
+    (
+      search rules,
+      not_under_at c.args.role c.under_not.result (node_form c.args.core.now) (node_form c.deref-in-Not.result.now)
+      (ap node_form c.in-Not.is ∙ ap (λ n. Not (node_form n)) (sym c.deref-in-Not.ensures)) c.under_not.ensures c.requires
+    )
+
+pub add_join-requires-clause-guarded : goal.add_join-requires-clause-guarded
+add_join-requires-clause-guarded t c =
+    not_own_at c.args.role (node_form c.args.core.now) (node_form c.in-Not.inner.value) c.judges_not.result
+    (ap node_form c.in-Not.is) c.judges_not.ensures c.requires
+
+pub add_nodes-requires-in-And : goal.add_nodes-requires-in-And
+add_nodes-requires-in-And t c =
+    (
+      search rules,
+      and_left_at c.args.role (node_form c.args.core.now) (node_form c.deref-in-And.result.now) (node_form c.in-And.right.value)
+      (ap node_form c.in-And.is ∙ ap (λ n. And (node_form n) (node_form c.in-And.right.value)) (sym c.deref-in-And.ensures)) c.requires
+    )
+
+pub add_nodes-requires-in-And-2 : goal.add_nodes-requires-in-And-2
+add_nodes-requires-in-And-2 t c =
+    (
+      search rules,
+      and_right_at c.args.role (node_form c.args.core.now) (node_form c.in-And.left.value) (node_form c.deref-in-And-2.result.now)
+      (ap node_form c.in-And.is ∙ ap (λ n. And (node_form c.in-And.left.value) (node_form n)) (sym c.deref-in-And-2.ensures)) c.requires
+    )
+
+pub add_join-requires-in-And-clause-guarded : goal.add_join-requires-in-And-clause-guarded
+add_join-requires-in-And-clause-guarded t c =
+    and_own_at c.args.role (node_form c.args.core.now) (node_form c.in-And.left.value) (node_form c.in-And.right.value)
+    c.is_conjunction.result (ap node_form c.in-And.is) c.is_conjunction.ensures c.requires
+
+pub add_nodes-requires-in-Since : goal.add_nodes-requires-in-Since
+add_nodes-requires-in-Since t c =
+    (
+      search rules,
+      since_left_at c.args.role (node_form c.args.core.now) c.in-Since.interval (node_form c.deref-in-Since.result.now) (node_form c.in-Since.right.value)
+      (ap node_form c.in-Since.is ∙ ap (λ n. Since c.in-Since.interval (node_form n) (node_form c.in-Since.right.value)) (sym c.deref-in-Since.ensures)) c.requires
+    )
+
+pub add_nodes-requires-in-Since-2 : goal.add_nodes-requires-in-Since-2
+add_nodes-requires-in-Since-2 t c =
+    (
+      search rules,
+      since_right_at c.args.role (node_form c.args.core.now) c.in-Since.interval (node_form c.in-Since.left.value) (node_form c.deref-in-Since-2.result.now)
+      (ap node_form c.in-Since.is ∙ ap (λ n. Since c.in-Since.interval (node_form c.in-Since.left.value) (node_form n)) (sym c.deref-in-Since-2.ensures)) c.requires
+    )
+
+pub returns-in_ok-add_nodes-in-Not : goal.returns-in_ok-add_nodes-in-Not
+returns-in_ok-add_nodes-in-Not t c =
+    on_ok_then c.add_join.result _ _
+    (not_adds c.args.role c.under_not.result (node_form c.args.core.now) (node_form c.in-Not.inner.value) c.judges_not.result
+    c.args.nodes.now.items c.add_nodes-in-Not.new.nodes.items c.add_join.new.nodes.items
+    (ap node_form c.in-Not.is) c.judges_not.ensures c.under_not.ensures
+    (subst (λ n. Adds (nodes_in c.under_not.result (node_form n)) c.args.nodes.now.items c.add_nodes-in-Not.new.nodes.items) c.deref-in-Not.ensures c.in_ok-add_nodes-in-Not.ensures))
+    c.add_join.ensures
+
+pub returns-in_ok-add_nodes-in-And-2 : goal.returns-in_ok-add_nodes-in-And-2
+returns-in_ok-add_nodes-in-And-2 t c =
+    on_ok_then c.add_join-in-And.result _ _
+    (and_adds c.args.role (node_form c.args.core.now) (node_form c.in-And.left.value) (node_form c.in-And.right.value) c.is_conjunction.result
+    c.args.nodes.now.items c.add_nodes-in-And.new.nodes.items c.add_nodes-in-And-2.new.nodes.items c.add_join-in-And.new.nodes.items
+    (ap node_form c.in-And.is) c.is_conjunction.ensures
+    (subst (λ n. Adds (nodes_in role.Part (node_form n)) c.args.nodes.now.items c.add_nodes-in-And.new.nodes.items) c.deref-in-And.ensures c.in_ok-add_nodes-in-And.ensures)
+    (subst (λ n. Adds (nodes_in role.Part (node_form n)) c.add_nodes-in-And.new.nodes.items c.add_nodes-in-And-2.new.nodes.items) c.deref-in-And-2.ensures c.in_ok-add_nodes-in-And-2.ensures))
+    c.add_join-in-And.ensures

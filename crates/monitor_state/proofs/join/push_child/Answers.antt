@@ -20,7 +20,7 @@ loop-table-preserved c =
       front ++ c.in-Some.table ∷ [],
       moved_one c.args.tables front c.loop-table.tables c.take.new.self c.in-Some.table c.loop-table.invariant.1
       (taken_one c.take.result c.in-Some.table c.loop-table.tables c.take.new.self c.in-Some.is c.take.ensures.first),
-      c.in_ok-push.ensures
+      c.in_ok-push.ensures.pushed
       ∙ ap (λ (x : JoinOf). record x { children = child_pushed x.children c.args.child c.in-Some.table }) c.loop-table.invariant.2
       ∙ ap (λ (cs : List ChildOf). record c.args.state.now { children = cs })
       (fed_one c.args.state.now.children c.args.child front c.in-Some.table)
