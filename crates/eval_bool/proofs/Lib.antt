@@ -1,0 +1,7 @@
+pub mod AtomLemmas
+pub mod AtomRows
+pub mod ReorderLemmas
+pub mod OrLemmas
+pub mod ChildLemmas
+pub mod HeadLemmas
+pub mod ConjunctLemmas

@@ -1,9 +1,9 @@
 -- The state of a conjunction as contracts see it.
-use Rattle.std.specs.Prelude.{ℕ, zero, suc, ◌+◌, Bool, true, cond, ◌&&◌, nat_lt, List, [], ◌∷◌, ◌++◌, length, map, drop}
+use Rattle.std.specs.Prelude.{ℕ, zero, suc, ◌+◌, Bool, cond, ◌&&◌, nat_lt, List, [], ◌∷◌, ◌++◌, length, map, drop}
 use Rattle.std.specs.List.{list_all}
 use Rattle.mfotl_model.specs.FreeVariables.{joined, variables_in}
 use Rattle.mfotl_model.specs.Satisfaction.{Valuation}
-use Rattle.mfotl_model.specs.Tables.{TableOf, all_among, all_apart}
+use Rattle.mfotl_model.specs.Tables.{TableOf, all_among}
 use Rattle.mfotl_model.specs.declared.term.Comparison.{Comparison}
 use Rattle.relations.specs.Operations.{chosen}
 use Rattle.relations.specs.Pushed.{turned}
@@ -44,11 +44,15 @@ pub record JoinOf : Type 0 where
 abbrev pub compared : Comparison → List ℕ
 compared c = variables_in (c.left ∷ c.right ∷ [])
 
+-- the columns of a child, and the variables of a test
+abbrev pub own_columns : ConjunctOf → List ℕ
+own_columns (Child columns negated) = columns
+own_columns (Test c wanted) = compared c
+
 -- the columns of a conjunction: those of each conjunct, each at its first occurrence
 abbrev pub conjunct_columns : List ConjunctOf → List ℕ
 conjunct_columns [] = []
-conjunct_columns (Child columns negated ∷ conjuncts) = joined columns (conjunct_columns conjuncts)
-conjunct_columns (Test c wanted ∷ conjuncts) = joined (compared c) (conjunct_columns conjuncts)
+conjunct_columns (c ∷ conjuncts) = joined (own_columns c) (conjunct_columns conjuncts)
 
 -- the children among the conjuncts, in order, without tables
 abbrev pub children_of : List ConjunctOf → List ChildOf

@@ -1,3 +1,6 @@
+pub mod AtomSteps
 pub mod Firsts
 pub mod JoinView
+pub mod IsJoin
+pub mod Heads
 pub mod OrView

@@ -4,15 +4,19 @@ ghost use Rattle.mfotl_model.specs.FreeVariables.{variables_in};
 ghost use Rattle.mfotl_model.specs.Satisfaction.{Valuation, event_of, has_event};
 ghost use Rattle.mfotl_model.specs.Tables.{has};
 
+use crate::columns::variables_in;
+use crate::matching::atom_rows;
 use mfotl_model::{Atom, TimePoint};
 use relations::Table;
 use std::alloc::{AllocError, Global};
 
 /// The rows that the events of the time-point give to the atom's variables.
-pub fn eval_atom(_alloc: Global, _point: &TimePoint, _atom: &Atom) -> Result<Table, AllocError>
-    ensures columns { IfOk result (λ table. table.columns ≡ variables_in _atom.now.args) }
+pub fn eval_atom(alloc: Global, point: &TimePoint, atom: &Atom) -> Result<Table, AllocError>
+    ensures columns { IfOk result (λ table. table.columns ≡ variables_in atom.now.args) }
     ensures has { IfOk result (λ table. (v : Valuation) →
-        has table v ≡ has_event _point.now.db (event_of v _atom.now)) }
+        has table v ≡ has_event point.now.db (event_of v atom.now)) }
 {
-    Err(AllocError)
+    let columns = variables_in(alloc, atom.args.as_slice())?;
+    let rows = atom_rows(alloc, atom, columns.as_slice(), point.db.inserted())?;
+    Ok(Table::from_rows(columns, rows))
 }

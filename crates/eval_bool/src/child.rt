@@ -1,4 +1,6 @@
 //! A child of a conjunction, and its tables.
+ghost use Rattle.eval_bool.specs.JoinView.{child_advanced};
+ghost use Rattle.eval_bool.specs.Heads.{IsFirst};
 ghost use Rattle.std.specs.Prelude.{◌≡◌, ◌∷◌, ◌++◌, [], IfOk, OnOk, OnErr, length, nat_lt};
 
 use relations::Table;
@@ -26,10 +28,45 @@ impl Model for Child {
 }
 
 impl Child {
+    pub(crate) fn new(alloc: Global, columns: Vec<u32>, negated: bool) -> Self
+        ensures { result ≡ record { columns = columns.items; negated = negated; tables = [] } }
+    {
+        Child {
+            columns,
+            negated,
+            tables: VecDeque::new(alloc),
+        }
+    }
+
+    pub(crate) fn is_negated(&self) -> bool
+        ensures { result ≡ self.now.negated }
+    {
+        self.negated
+    }
+
     /// Whether the table of the next position was pushed.
     pub(crate) fn is_ready(&self) -> bool
         ensures { result ≡ nat_lt 0 (length self.now.tables) }
     {
         !self.tables.is_empty()
+    }
+
+    /// Takes the next table.
+    pub(crate) fn push(&mut self, table: Table) -> Result<(), AllocError>
+        requires columns { table.columns ≡ self.old.columns }
+        ensures pushed { OnOk result
+            (self.new ≡ record self.old { tables = self.old.tables ++ table ∷ [] }) }
+        ensures old { OnErr result (self.new ≡ self.old) }
+    {
+        self.tables.push_back(table)?;
+        Ok(())
+    }
+
+    /// Gives the first of its tables away.
+    pub(crate) fn pop(&mut self) -> Option<Table>
+        ensures advanced { self.new ≡ child_advanced self.old }
+        ensures first { IsFirst self.old.columns self.old.tables result }
+    {
+        self.tables.pop_front()
     }
 }

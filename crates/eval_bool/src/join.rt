@@ -2,30 +2,17 @@
 ghost use Rattle.std.specs.Prelude.{◌≡◌, ◌+◌, ◌<◌, ◌^◌, ◌∷◌, ◌++◌, [], IfOk, IfSome, IsTrue, MatchOption, OnOk, is_some, length, map};
 ghost use Rattle.mfotl_model.specs.Satisfaction.{Valuation};
 ghost use Rattle.mfotl_model.specs.Tables.{all_apart, has};
+ghost use Rattle.eval_bool.specs.Heads.{AreHeads};
 ghost use Rattle.eval_bool.specs.JoinView.{all_children, child_columns, child_pushed, child_tables, children_of, conjunct_of};
 ghost use Rattle.eval_bool.specs.JoinView.{is_guarded, join_advanced, join_begun, join_due, joins, tests_of};
 
 use crate::child::Child;
-use crate::conjunct::Conjunct;
-use mfotl_model::Comparison;
+use crate::combined::combined;
+use crate::conjunct::{Conjunct, Parts, Test, conjunct_columns, split};
+use crate::heads::{Heads, take_heads};
 use relations::Table;
 use std::alloc::{AllocError, Global};
 use std::marker::Model;
-
-/// A comparison, and how it has to come out.
-#[derive(Drop)]
-pub(crate) struct Test {
-    comparison: Comparison,
-    wanted: bool,
-}
-
-impl Model for Test {
-    ghost use Rattle.eval_bool.specs.JoinView.{TestOf};
-
-    ghost Value = { TestOf };
-
-    ghost view = { λ t. record { comparison = t.comparison; wanted = t.wanted } };
-}
 
 /// The state of a conjunction: its conjuncts, and what was pushed for later positions. The n-th table
 /// pushed for a child is that of position n. Children are numbered from 0, in the order of the conjuncts.
@@ -38,11 +25,14 @@ pub struct JoinState {
 }
 
 impl Model for JoinState {
+    ghost use Rattle.eval_bool.specs.IsJoin.{IsJoin};
     ghost use Rattle.eval_bool.specs.JoinView.{JoinOf};
 
     ghost Value = { JoinOf };
 
     ghost view = { λ s. record { columns = s.columns.items; tests = s.tests.items; pulled = s.pulled; children = s.children.items } };
+
+    ghost invariant = { λ s. IsJoin s.columns.items s.tests.items s.pulled s.children.items };
 }
 
 impl JoinState {
@@ -54,8 +44,14 @@ impl JoinState {
         requires guarded { IsTrue (is_guarded (children_of (map conjunct_of conjuncts.items)) (tests_of (map conjunct_of conjuncts.items))) }
         ensures state { IfOk result (λ state. state ≡ join_begun (map conjunct_of conjuncts.items)) }
     {
-        let _ = (alloc, conjuncts);
-        Err(AllocError)
+        let columns = conjunct_columns(alloc, conjuncts.as_slice())?;
+        let Parts { tests, children } = split(alloc, conjuncts)?;
+        Ok(JoinState {
+            columns,
+            tests,
+            pulled: 0,
+            children,
+        })
     }
 
     /// How many children there are.
@@ -83,8 +79,8 @@ impl JoinState {
         ensures pushed { OnOk result
             (self.new ≡ record self.old { children = child_pushed self.old.children child table }) }
     {
-        let _ = (child, table);
-        Err(AllocError)
+        self.children[child as usize].push(table)?;
+        Ok(())
     }
 
     /// Whether the next position can be pulled.
@@ -92,6 +88,18 @@ impl JoinState {
         ensures { result ≡ join_due self.now }
     {
         self.children.iter().all(|child| child.is_ready())
+    }
+
+    // takes the first table of each child
+    fn advance(&mut self, alloc: Global) -> Result<Heads, AllocError>
+        requires due { IsTrue (join_due self.old) }
+        ensures advanced { OnOk result (self.new ≡ join_advanced self.old) }
+        ensures heads { IfOk result (λ heads.
+            AreHeads self.old heads.plain.items heads.negated.items) }
+    {
+        let heads = take_heads(alloc, &mut self.children)?;
+        self.pulled += 1;
+        Ok(heads)
     }
 
     /// The table of the next position, `None` while it is not due: the rows whose parts pass every
@@ -105,7 +113,11 @@ impl JoinState {
         ensures rows { IfOk result (λ answer. IfSome answer (λ table.
             (v : Valuation) → has table v ≡ joins self.old v)) }
     {
-        let _ = alloc;
-        Err(AllocError)
+        if !self.is_due() {
+            return Ok(None);
+        }
+        let heads = self.advance(alloc)?;
+        let table = combined(alloc, heads, self.tests.as_slice(), self.columns.as_slice())?;
+        Ok(Some(table))
     }
 }

@@ -3,13 +3,19 @@
 
 mod atom;
 mod child;
+mod columns;
+mod combined;
 mod conjunct;
 mod exists;
+mod heads;
 mod join;
+mod matching;
 mod or;
+mod reorder;
 
 pub use atom::eval_atom;
 pub use conjunct::Conjunct;
 pub use exists::eval_exists;
 pub use join::JoinState;
 pub use or::OrState;
+pub use reorder::reordered;

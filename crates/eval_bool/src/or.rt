@@ -1,10 +1,11 @@
 //! OR over the tables of its operands, which are pushed position by position.
-ghost use Rattle.std.specs.Prelude.{◌≡◌, ◌+◌, ◌<◌, ◌^◌, ◌||◌, IfOk, IfSome, IsTrue, MatchOption, OnOk, is_some, length};
+ghost use Rattle.std.specs.Prelude.{◌≡◌, ◌+◌, ◌<◌, ◌^◌, ◌||◌, ◌∷◌, ◌++◌, [], IfOk, IfSome, IsTrue, MatchOption, OnOk, is_some, length};
 ghost use Rattle.mfotl_model.specs.Satisfaction.{Valuation};
 ghost use Rattle.mfotl_model.specs.Tables.{all_apart, has};
 ghost use Rattle.eval_bool.specs.Firsts.{first_has};
 ghost use Rattle.eval_bool.specs.OrView.{operand_columns, operand_tables, or_advanced, or_begun, or_due, or_pushed, same_columns};
 
+use crate::reorder::reordered;
 use relations::Table;
 use std::alloc::{AllocError, Global};
 use std::collections::VecDeque;
@@ -34,6 +35,17 @@ impl Model for OrState {
     ghost invariant = { λ s. record { apart : all_apart s.left.items ≡ true; same : same_columns s.left.items s.right.items ≡ true; few : s.pulled + length s.lefts.items ≤ 2 ^ 63; over_left : AreOver s.left.items s.lefts.items; over_right : AreOver s.right.items s.rights.items } };
 }
 
+// the rows of either table, over the first one's columns
+fn either(alloc: Global, left: Table, right: Table) -> Result<Table, AllocError>
+    requires same { IsTrue (same_columns left.columns right.columns) }
+    ensures columns { IfOk result (λ table. table.columns ≡ left.columns) }
+    ensures has { IfOk result (λ table. (v : Valuation) → has table v ≡ (has left v || has right v)) }
+{
+    let right = reordered(alloc, right, left.columns())?;
+    let table = left.united(right)?;
+    Ok(table)
+}
+
 impl OrState {
     /// The state before the first position, for operands over the same columns, in whatever order.
     pub fn new(alloc: Global, left: &[u32], right: &[u32]) -> Result<Self, AllocError>
@@ -52,6 +64,25 @@ impl OrState {
         })
     }
 
+    fn push_left(&mut self, table: Table) -> Result<(), AllocError>
+        requires columns { table.columns ≡ self.old.left }
+        requires few { self.old.pulled + length self.old.lefts < 2 ^ 63 }
+        ensures pushed { OnOk result
+            (self.new ≡ record self.old { lefts = self.old.lefts ++ table ∷ [] }) }
+    {
+        self.lefts.push_back(table)?;
+        Ok(())
+    }
+
+    fn push_right(&mut self, table: Table) -> Result<(), AllocError>
+        requires columns { table.columns ≡ self.old.right }
+        ensures pushed { OnOk result
+            (self.new ≡ record self.old { rights = self.old.rights ++ table ∷ [] }) }
+    {
+        self.rights.push_back(table)?;
+        Ok(())
+    }
+
     /// Takes an operand's next table, over that operand's columns.
     pub fn push(&mut self, child: u32, table: Table) -> Result<(), AllocError>
         requires child { child < 2 }
@@ -59,8 +90,11 @@ impl OrState {
         requires few { self.old.pulled + length (operand_tables self.old child) < 2 ^ 63 }
         ensures pushed { OnOk result (self.new ≡ or_pushed self.old child table) }
     {
-        let _ = (child, table);
-        Err(AllocError)
+        if child == 0 {
+            self.push_left(table)
+        } else {
+            self.push_right(table)
+        }
     }
 
     /// Whether the next position can be pulled.
@@ -80,7 +114,17 @@ impl OrState {
         ensures rows { IfOk result (λ answer. IfSome answer (λ table.
             (v : Valuation) → has table v ≡ (first_has v self.old.lefts || first_has v self.old.rights))) }
     {
-        let _ = alloc;
-        Err(AllocError)
+        if !self.is_due() {
+            return Ok(None);
+        }
+        let Some(left) = self.lefts.pop_front() else {
+            unreachable!();
+        };
+        let Some(right) = self.rights.pop_front() else {
+            unreachable!();
+        };
+        self.pulled += 1;
+        let table = either(alloc, left, right)?;
+        Ok(Some(table))
     }
 }

@@ -1,0 +1,119 @@
+-- The rows that are read off events, one event after another, and the events that they stand for.
+use Rattle.std.proofs.Common.{◌≡◌, ◌∙◌, ap, sym, refl, ℕ, Bool, true, false, nat_eq, cond, ◌&&◌, ◌||◌, List, [], ◌∷◌, length, map}
+use Rattle.std.proofs.lemmas.Bool.{and_from, and_parts, eq-eqb}
+use Rattle.std.proofs.lemmas.List.{length-map}
+use Rattle.std.proofs.lemmas.Map.Views.{tells_apart}
+use Rattle.std.specs.List.{filter, flat_map, list_any}
+use Rattle.std.specs.Ordering.{eq_by_cmp}
+use Rattle.mfotl_model.proofs.AscendingLemmas.{any_ascending}
+use Rattle.mfotl_model.proofs.LogicLemmas.{among_distinct, any_alike, any_map}
+use Rattle.mfotl_model.proofs.MatchingLemmas.{reads_own, same_event_of}
+use Rattle.mfotl_model.proofs.RowLemmas.{event_exact, row_exact}
+use Rattle.mfotl_model.specs.Ascending.{ascending}
+use Rattle.mfotl_model.specs.Events.{event_cmp, event_total}
+use Rattle.mfotl_model.specs.FreeVariables.{among, distinct, variable_in, variables_in}
+use Rattle.mfotl_model.specs.Matching.{Query, is_match, matching_rows, reads, row_read}
+use Rattle.mfotl_model.specs.Satisfaction.{Valuation, event_of, has_event}
+use Rattle.mfotl_model.specs.Tables.{all_apart, all_sized, has_row}
+use Rattle.mfotl_model.specs.Values.{row_cmp}
+use Rattle.mfotl_model.specs.declared.event.Event.{Event}
+use Rattle.mfotl_model.specs.declared.term.Atom.{Atom as OneAtom}
+use Rattle.mfotl_model.specs.declared.term.Term.{Term}
+use Rattle.eval_bool.specs.AtomSteps.{atom_rows}
+use Rattle.relations.proofs.ColumnLemmas.{apart_joined}
+use Rattle.relations.proofs.JoinLemmas.{map_same_on, row_itself, same_each, same_truth}
+
+-- an event that the atom doesn't stand for gives no row
+pub event_left : (atom : OneAtom) (columns : List ℕ) (event : Event) (more : List Event) → is_match atom event ≡ false
+    → atom_rows atom columns (event ∷ more)
+    ≡ atom_rows atom columns more
+unfolding atom_rows matching_rows
+event_left atom columns event more fails = rw fails refl
+
+-- an event that the atom stands for gives a row
+pub row_taken : (atom : OneAtom) (columns : List ℕ) (event : Event) (more : List Event) → is_match atom event ≡ true
+    → atom_rows atom columns (event ∷ more)
+    ≡ row_read (record { atom = atom; columns = columns }) event
+    ∷ atom_rows atom columns more
+unfolding atom_rows matching_rows
+row_taken atom columns event more holds = rw holds refl
+
+-- no events give no rows
+pub no_rows : (atom : OneAtom) (columns : List ℕ) → atom_rows atom columns [] ≡ []
+unfolding atom_rows matching_rows
+no_rows atom columns = refl
+
+-- the variables of terms are distinct
+pub variables_apart : (terms : List Term) → all_apart (variables_in terms) ≡ true
+variables_apart terms = distinct_apart (flat_map variable_in terms)
+  where
+    distinct_apart : (xs : List ℕ) → all_apart (distinct xs) ≡ true
+    distinct_apart [] = refl
+    distinct_apart (x ∷ xs) = apart_joined (x ∷ []) (distinct xs) refl (distinct_apart xs)
+
+-- each row has a value for each column
+all_read : (q : Query) (events : List Event) → all_sized (length q.columns) (map (row_read q) events) ≡ true
+all_read q [] = refl
+all_read q (e ∷ events) =
+    and_from (nat_eq (length (row_read q e)) (length q.columns))
+    (all_sized (length q.columns) (map (row_read q) events))
+    (eq-eqb (length (row_read q e)) (length q.columns) (length-map q.columns (reads q.atom e)))
+    (all_read q events)
+
+pub sized_rows : (atom : OneAtom) (columns : List ℕ) (events : List Event)
+    → all_sized (length columns) (atom_rows atom columns events) ≡ true
+unfolding atom_rows matching_rows
+sized_rows atom columns events =
+    all_read (record { atom = atom; columns = columns }) (filter (is_match atom) events)
+
+any_kept : (test p : Event → Bool) (xs : List Event) → list_any test (filter p xs) ≡ list_any (λ x. p x && test x) xs
+any_kept test p [] = refl
+any_kept test p (x ∷ xs) = step (p x) ∙ ap (λ t. (p x && test x) || t) (any_kept test p xs)
+  where
+    step : (b : Bool) → list_any test (cond b (x ∷ filter p xs) (filter p xs)) ≡ ((b && test x) || list_any test (filter p xs))
+    step true = refl
+    step false = refl
+
+module _ (v : Valuation) (atom : OneAtom) where
+  -- an event's own row is v's exactly where it is the event that the atom stands for at v
+  event_alike : (event : Event)
+      → (is_match atom event && eq_by_cmp row_cmp (map v (variables_in atom.args)) (row_read (record { atom = atom; columns = variables_in atom.args }) event))
+      ≡ eq_by_cmp event_cmp (event_of v atom) event
+  unfolding is_match
+  event_alike event =
+      let columns = variables_in atom.args in
+      let q : Query = record { atom = atom; columns = columns } in
+      same_truth (is_match atom event && eq_by_cmp row_cmp (map v columns) (row_read q event))
+      (eq_by_cmp event_cmp (event_of v atom) event)
+      (λ h.
+      let parts = and_parts (is_match atom event) (eq_by_cmp row_cmp (map v columns) (row_read q event)) h in
+      let row_is : map v columns ≡ map (reads atom event) columns =
+      tells_apart row_exact (map v columns) (row_read q event) parts.1 in
+      ap (λ e. eq_by_cmp event_cmp e event)
+      (same_event_of v (reads atom event) atom (λ y m. same_each v (reads atom event) columns row_is y
+      (among_distinct y (flat_map variable_in atom.args) ∙ m)))
+      ∙ parts.0)
+      (λ h.
+      let is : event_of v atom ≡ event = tells_apart event_exact (event_of v atom) event h in
+      let own : (y : ℕ) → among y (flat_map variable_in atom.args) ≡ true → v y ≡ reads atom event y =
+      λ y m. sym (reads_own v atom.args y m) ∙ ap (λ e. reads atom e y) is in
+      and_from (is_match atom event) (eq_by_cmp row_cmp (map v columns) (row_read q event))
+      (ap (λ e. eq_by_cmp event_cmp e event) (sym (same_event_of v (reads atom event) atom own)) ∙ h)
+      (ap (eq_by_cmp row_cmp (map v columns)) (sym (map_same_on v (reads atom event) columns
+      (λ y m. own y (sym (among_distinct y (flat_map variable_in atom.args)) ∙ m))))
+      ∙ row_itself (map v columns)))
+
+  -- the rows that are read off have v's row exactly where the event is in the database
+  pub has_matching : (events : List Event)
+      → has_row (atom_rows atom (variables_in atom.args) events) (map v (variables_in atom.args))
+      ≡ has_event (ascending event_cmp events) (event_of v atom)
+  unfolding atom_rows matching_rows
+  has_matching events =
+      let columns = variables_in atom.args in
+      let q : Query = record { atom = atom; columns = columns } in
+      let row = map v columns in
+      any_map (eq_by_cmp row_cmp row) (row_read q) (filter (is_match atom) events)
+      ∙ any_kept (λ e. eq_by_cmp row_cmp row (row_read q e)) (is_match atom) events
+      ∙ any_alike (λ e. is_match atom e && eq_by_cmp row_cmp row (row_read q e)) (eq_by_cmp event_cmp (event_of v atom))
+      events event_alike
+      ∙ sym (any_ascending event_total event_exact (eq_by_cmp event_cmp (event_of v atom)) events)

@@ -1,0 +1,10 @@
+use Rattle.std.proofs.Common.{arith}
+use Rattle.std.proofs.lemmas.Grind.{common_steps}
+use Rattle.eval_bool.proofs.AtomRows.{event_left, no_rows, row_taken}
+use Rattle.eval_bool.proofs.matching.atom_rows.Goals as goal
+
+pub loop-event-preserved : goal.loop-event-preserved
+loop-event-preserved c = grind (arith, common_steps, row_taken, event_left)
+
+pub returns : goal.returns
+returns c = grind (arith, common_steps, no_rows)

@@ -1,0 +1,104 @@
+//! One table of those of the children of a conjunction.
+ghost use Rattle.std.specs.Prelude.{◌≡◌, ◌&&◌, ◌||◌, ℕ, IfOk, IsTrue};
+ghost use Rattle.std.specs.List.{list_all};
+ghost use Rattle.mfotl_model.specs.FreeVariables.{among};
+ghost use Rattle.mfotl_model.specs.Satisfaction.{Valuation};
+ghost use Rattle.mfotl_model.specs.Tables.{all_among, all_apart, has};
+ghost use Rattle.eval_bool.specs.Heads.{all_have, all_inside, in_columns, joined_columns, joined_has, none_has};
+ghost use Rattle.eval_bool.specs.JoinView.{compared, test_holds};
+
+use crate::conjunct::Test;
+use crate::heads::Heads;
+use crate::reorder::reordered;
+use relations::Table;
+use std::alloc::{AllocError, Global};
+
+// the first table is moved, and each further one is joined to those before
+fn joined_with(alloc: Global, before: Option<Table>, table: Table) -> Result<Table, AllocError>
+    ensures columns { IfOk result (λ joined. (y : ℕ) →
+        among y joined.columns ≡ (among y (joined_columns before) || among y table.columns)) }
+    ensures has { IfOk result (λ joined. (v : Valuation) →
+        has joined v ≡ (joined_has v before && has table v)) }
+{
+    match before {
+        None => Ok(table),
+        Some(before) => {
+            let joined = before.join(alloc, &table)?;
+            Ok(joined)
+        }
+    }
+}
+
+fn all_joined(alloc: Global, tables: Vec<Table>) -> Result<Option<Table>, AllocError>
+    ensures columns { IfOk result (λ joined. (y : ℕ) →
+        among y (joined_columns joined) ≡ in_columns y tables.items) }
+    ensures has { IfOk result (λ joined. (v : Valuation) →
+        joined_has v joined ≡ all_have v tables.items) }
+{
+    let mut joined = None;
+    for table in tables {
+        joined = Some(joined_with(alloc, joined, table)?);
+    }
+    Ok(joined)
+}
+
+fn or_unit(alloc: Global, joined: Option<Table>) -> Result<Table, AllocError>
+    ensures columns { IfOk result (λ table. table.columns ≡ joined_columns joined) }
+    ensures has { IfOk result (λ table. (v : Valuation) → has table v ≡ joined_has v joined) }
+{
+    match joined {
+        Some(table) => Ok(table),
+        None => Table::unit(alloc),
+    }
+}
+
+fn without_any(alloc: Global, table: Table, others: Vec<Table>) -> Result<Table, AllocError>
+    requires inside { IsTrue (all_inside table.columns others.items) }
+    ensures columns { IfOk result (λ rest. rest.columns ≡ table.columns) }
+    ensures has { IfOk result (λ rest. (v : Valuation) →
+        has rest v ≡ (has table v && none_has v others.items)) }
+{
+    let mut rest = table;
+    for other in others {
+        rest = rest.antijoined(alloc, &other)?;
+    }
+    Ok(rest)
+}
+
+fn tested(table: Table, tests: &[Test]) -> Table
+    requires inside { IsTrue (list_all (λ t. all_among (compared t.comparison) table.columns) tests.now) }
+    ensures columns { result.columns ≡ table.columns }
+    ensures has { (v : Valuation) →
+        has result v ≡ (has table v && list_all (test_holds v) tests.now) }
+{
+    let mut rest = table;
+    for test in tests {
+        rest = rest.selected(&test.comparison, test.wanted);
+    }
+    rest
+}
+
+/// The rows over these columns whose parts all plain tables have and no negated one, and that pass
+/// the tests.
+pub(crate) fn combined(
+    alloc: Global,
+    heads: Heads,
+    tests: &[Test],
+    columns: &[u32],
+) -> Result<Table, AllocError>
+    requires apart { IsTrue (all_apart columns.now) }
+    requires same { (y : ℕ) → among y columns.now ≡ in_columns y heads.plain.items }
+    requires negated { IsTrue (all_inside columns.now heads.negated.items) }
+    requires tests { IsTrue (list_all (λ t. all_among (compared t.comparison) columns.now) tests.now) }
+    ensures columns { IfOk result (λ table. table.columns ≡ columns.now) }
+    ensures has { IfOk result (λ table. (v : Valuation) → has table v
+        ≡ ((all_have v heads.plain.items && none_has v heads.negated.items)
+        && list_all (test_holds v) tests.now)) }
+{
+    let joined = all_joined(alloc, heads.plain)?;
+    let joined = or_unit(alloc, joined)?;
+    let rest = without_any(alloc, joined, heads.negated)?;
+    let kept = tested(rest, tests);
+    let table = reordered(alloc, kept, columns)?;
+    Ok(table)
+}
