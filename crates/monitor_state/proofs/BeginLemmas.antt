@@ -31,11 +31,10 @@ use Rattle.monitor_state.specs.declared.node.Node.TheVariants as node
 adds_then : (fs gs : List CoreForm) (old mid new : List Node) → Adds fs old mid → Adds gs mid new → Adds (fs ++ gs) old new
 adds_then fs gs old mid new first second view empty =
     let one = first view empty in
-    let two = second view empty in
-    (
+    let two = second view empty in (
       one.0 ++ two.0,
       two.1 ∙ ap (λ ns. ns ++ two.0) one.1 ∙ append_assoc old one.0 two.0,
-      nodes_append view fs gs one.0 two.0 one.2 two.2
+      nodes_append view fs gs one.0 two.0 one.2 two.2,
     )
 
 adds_one : (f : CoreForm) (n : Node) (old new : List Node) → new ≡ old ++ n ∷ [] → IsFor f n
@@ -84,7 +83,7 @@ since_is i f g s order begun columns =
       negated = ap (λ (x : SinceOf). x.negated) begun.begun;
       left = ap (λ (x : SinceOf). x.window.left) begun.begun ∙ sym (free_operand f);
       right = ap (λ (x : SinceOf). x.window.right) begun.begun;
-      ordered = columns
+      ordered = columns;
     }
 
 since_begins : (i : Interval) (f g : CoreForm) (s : SinceOf) → SinceBegun i f g s → (view : View) → view.log ≡ []
@@ -104,7 +103,7 @@ since_begins i f g s begun view empty =
       right_pushed = omega arith;
       lefts = subst (λ xs. AllExact view (meaning (left_operand f)) s.pulled xs) (sym (ap (λ (x : SinceOf). x.lefts) begun.begun)) tt;
       rights = subst (λ xs. AllExact view (meaning g) s.pulled xs) (sym (ap (λ (x : SinceOf). x.rights) begun.begun)) tt;
-      follows = λ dom v covers near t a b dates tells tells_right. begun.follows t a b v
+      follows = λ dom v covers near t a b dates tells tells_right. begun.follows t a b v;
     }
 
 pub since_adds : (r : Role) (h : CoreForm) (i : Interval) (f g : CoreForm) (old mid more new : List Node) → h ≡ Since i f g
@@ -137,7 +136,7 @@ begins core state taken given first times_are adds view empty =
       given = given ∙ none_reached view empty core;
       first = omega arith;
       times = times_are ∙ sym (ap (λ log. drop state.first (times log)) empty ∙ ap (λ n. drop n []) first);
-      nodes = subst (NodesStand view (nodes_of core)) (sym added.1) added.2
+      nodes = subst (NodesStand view (nodes_of core)) (sym added.1) added.2;
     }
 
 -- a core without operands has one node
@@ -173,7 +172,7 @@ join_is f s begins =
       columns = ap (λ (x : JoinOf). x.columns) begins.begun;
       tests = ap (λ (x : JoinOf). x.tests) begins.begun;
       parts = ap (λ (x : JoinOf). map bare x.children) begins.begun ∙ bare_begun (conjuncts_of f);
-      some = begins.some
+      some = begins.some;
     }
 
 join_begins : (f : CoreForm) (s : JoinOf) → operands f ≡ children (conjuncts_of f) → BeginsJoin f s → (view : View)
@@ -182,9 +181,9 @@ join_begins f s same begins view empty =
     record {
       pulled = ap (λ (x : JoinOf). x.pulled) begins.begun ∙ none_reached view empty f;
       children =
-      subst (λ (x : JoinOf). ChildrenStand view x.pulled (operands f) x.children) (sym begins.begun)
-      (subst (λ fs. ChildrenStand view 0 fs (children_of (map conjunct_as (conjuncts_of f)))) (sym same)
-      (begun_children view empty (conjuncts_of f)))
+          subst (λ (x : JoinOf). ChildrenStand view x.pulled (operands f) x.children) (sym begins.begun)
+          (subst (λ fs. ChildrenStand view 0 fs (children_of (map conjunct_as (conjuncts_of f)))) (sym same)
+          (begun_children view empty (conjuncts_of f)));
     }
 
 adds_none : (old : List Node) → Adds [] old old

@@ -47,11 +47,10 @@ pub stand_exact : (view : View) (f : Form) (columns : List ℕ) (i : ℕ) (table
     → StandFrom (λ k table. has table v ≡ sat view.log dom v k f) i tables)
     → AllExact view f i tables
 stand_exact view f columns i [] is over stand = tt
-stand_exact view f columns i (table ∷ tables) is over stand =
-    (
-      record { columns = over.0 ∙ is; rows = λ dom v covers near. (stand dom v covers near).0 },
-      stand_exact view f columns (i + 1) tables is over.1 (λ dom v covers near. (stand dom v covers near).1)
-    )
+stand_exact view f columns i (table ∷ tables) is over stand = (
+  record { columns = over.0 ∙ is; rows = λ dom v covers near. (stand dom v covers near).0 },
+  stand_exact view f columns (i + 1) tables is over.1 (λ dom v covers near. (stand dom v covers near).1),
+)
 
 -- exact tables hold what a list tells
 pub exact_tell : (view : View) (f : CoreForm) (dom : List Value) (v : Valuation) (a : List Bool) (i : ℕ) (tables : List TableOf)
@@ -59,21 +58,19 @@ pub exact_tell : (view : View) (f : CoreForm) (dom : List Value) (v : Valuation)
     → AllExact view (meaning f) i tables
     → StandFrom (λ k table. has table v ≡ truth_at a k) i tables
 exact_tell view f dom v a i [] covers near tells most all = tt
-exact_tell view f dom v a i (table ∷ tables) covers near tells most all =
-    (
-      all.0.rows dom v covers near ∙ sym (tells i (omega arith)),
-      exact_tell view f dom v a (i + 1) tables covers near tells (omega arith) all.1
-    )
+exact_tell view f dom v a i (table ∷ tables) covers near tells most all = (
+  all.0.rows dom v covers near ∙ sym (tells i (omega arith)),
+  exact_tell view f dom v a (i + 1) tables covers near tells (omega arith) all.1,
+)
 
 -- what stands for places stands for others that it means as much for
 pub stand_as : {X : Type 0} (P Q : ℕ → X → Type 0) (i : ℕ) (xs : List X)
     → ((k : ℕ) (x : X) → i ≤ k → k < i + length xs → P k x → Q k x) → StandFrom P i xs → StandFrom Q i xs
 stand_as P Q i [] means stand = tt
-stand_as P Q i (x ∷ xs) means stand =
-    (
-      means i x (omega arith) (omega arith) stand.0,
-      stand_as P Q (i + 1) xs (λ k y low high. means k y (omega arith) (omega arith)) stand.1
-    )
+stand_as P Q i (x ∷ xs) means stand = (
+  means i x (omega arith) (omega arith) stand.0,
+  stand_as P Q (i + 1) xs (λ k y low high. means k y (omega arith) (omega arith)) stand.1,
+)
 
 -- the truths of a log tell of it
 pub truths_tell : (view : View) (dom : List Value) (v : Valuation) (f : CoreForm)
@@ -151,14 +148,13 @@ module _ (view : View) (point : TimePoint) (rising : NeverFalls (times (longer v
       record {
         columns = e.columns;
         rows = λ dom v covers near.
-        e.rows dom v (covers_before dom covers) near ∙ finality view.log (point ∷ []) dom f v i rising s
+            e.rows dom v (covers_before dom covers) near ∙ finality view.log (point ∷ []) dom f v i rising s;
       }
 
   pub all_stay : (f : CoreForm) (i : ℕ) (tables : List TableOf) → i + length tables ≤ reached view f
       → AllExact view (meaning f) i tables → AllExact (longer view point) (meaning f) i tables
   all_stay f i [] low all = tt
-  all_stay f i (table ∷ tables) low all =
-      (
-        exact_stays (meaning f) i table (counted_settled (times view.log) (meaning f) i (omega arith)) all.0,
-        all_stay f (i + 1) tables (omega arith) all.1
-      )
+  all_stay f i (table ∷ tables) low all = (
+    exact_stays (meaning f) i table (counted_settled (times view.log) (meaning f) i (omega arith)) all.0,
+    all_stay f (i + 1) tables (omega arith) all.1,
+  )

@@ -14,17 +14,16 @@ pub stand_split : {X : Type 0} (P : ℕ → X → Type 0) (p : ℕ) (xs : List X
     → StandFrom P p xs × P (p + length xs) x
 stand_split P p [] x all = (tt, (let e : p ≡ p + 0 = omega arith in subst (λ i. P i x) e all.0))
 stand_split P p (y ∷ ys) x all =
-    let rest = stand_split P (p + 1) ys x all.1 in
-    (
+    let rest = stand_split P (p + 1) ys x all.1 in (
       (all.0, rest.0),
-      (let e : p + 1 + length ys ≡ p + length (y ∷ ys) = omega arith in subst (λ i. P i x) e rest.1)
+      (let e : p + 1 + length ys ≡ p + length (y ∷ ys) = omega arith in subst (λ i. P i x) e rest.1),
     )
 
 pub lefts_none : (s : SinceOf) → LeftsPushed s s []
 lefts_none s =
     record {
       pushed = ap (λ (xs : List TableOf). record s { lefts = xs }) (sym (append-nil s.lefts));
-      follows = λ t a b v h stand. h
+      follows = λ t a b v h stand. h;
     }
 
 pub lefts_more : (old s new : SinceOf) (front : List TableOf) (table : TableOf) → LeftsPushed old s front
@@ -40,20 +39,20 @@ lefts_more old s new front table before pushed follows =
     let place : old.pulled + length old.lefts + length front ≡ s.pulled + length s.lefts = omega arith in
     record {
       pushed =
-      pushed
-      ∙ ap (λ (x : SinceOf). record x { lefts = x.lefts ++ table ∷ [] }) before.pushed
-      ∙ ap (λ (xs : List TableOf). record old { lefts = xs }) (append_assoc old.lefts front (table ∷ []));
+          pushed
+          ∙ ap (λ (x : SinceOf). record x { lefts = x.lefts ++ table ∷ [] }) before.pushed
+          ∙ ap (λ (xs : List TableOf). record old { lefts = xs }) (append_assoc old.lefts front (table ∷ []));
       follows = λ t a b v h stand.
-      let parts = stand_split (λ i x. left_holds old.negated x v ≡ truth_at a i) (old.pulled + length old.lefts) front table stand in
-      follows t a b v (before.follows t a b v h parts.0)
-      (ap (λ n. left_holds n table v) (ap (λ (x : SinceOf). x.negated) before.pushed) ∙ parts.1 ∙ ap (truth_at a) place)
+          let parts = stand_split (λ i x. left_holds old.negated x v ≡ truth_at a i) (old.pulled + length old.lefts) front table stand in
+          follows t a b v (before.follows t a b v h parts.0)
+          (ap (λ n. left_holds n table v) (ap (λ (x : SinceOf). x.negated) before.pushed) ∙ parts.1 ∙ ap (truth_at a) place);
     }
 
 pub rights_none : (s : SinceOf) → RightsPushed s s []
 rights_none s =
     record {
       pushed = ap (λ (xs : List TableOf). record s { rights = xs }) (sym (append-nil s.rights));
-      follows = λ t a b v h stand. h
+      follows = λ t a b v h stand. h;
     }
 
 pub rights_more : (old s new : SinceOf) (front : List TableOf) (table : TableOf) → RightsPushed old s front
@@ -69,20 +68,31 @@ rights_more old s new front table before pushed follows =
     let place : old.pulled + length old.rights + length front ≡ s.pulled + length s.rights = omega arith in
     record {
       pushed =
-      pushed
-      ∙ ap (λ (x : SinceOf). record x { rights = x.rights ++ table ∷ [] }) before.pushed
-      ∙ ap (λ (xs : List TableOf). record old { rights = xs }) (append_assoc old.rights front (table ∷ []));
+          pushed
+          ∙ ap (λ (x : SinceOf). record x { rights = x.rights ++ table ∷ [] }) before.pushed
+          ∙ ap (λ (xs : List TableOf). record old { rights = xs }) (append_assoc old.rights front (table ∷ []));
       follows = λ t a b v h stand.
-      let parts = stand_split (λ i x. has x v ≡ truth_at b i) (old.pulled + length old.rights) front table stand in
-      follows t a b v (before.follows t a b v h parts.0) (parts.1 ∙ ap (truth_at b) place)
+          let parts = stand_split (λ i x. has x v ≡ truth_at b i) (old.pulled + length old.rights) front table stand in
+          follows t a b v (before.follows t a b v h parts.0) (parts.1 ∙ ap (truth_at b) place);
     }
 
 pub pulled_none : (columns : List ℕ) (s : SinceOf) → SincePulled columns s s []
 pulled_none columns s =
     record {
-      pulled = omega arith; negated = refl; interval = refl; left = refl; right = refl; times = refl; lefts = refl;
-      rights = refl; in_times = omega arith; in_lefts = omega arith; in_rights = omega arith; over = tt;
-      follows = λ t a b v h. h; rows = λ t a b v h one other. tt
+      pulled = omega arith;
+      negated = refl;
+      interval = refl;
+      left = refl;
+      right = refl;
+      times = refl;
+      lefts = refl;
+      rights = refl;
+      in_times = omega arith;
+      in_lefts = omega arith;
+      in_rights = omega arith;
+      over = tt;
+      follows = λ t a b v h. h;
+      rows = λ t a b v h one other. tt;
     }
 
 due_parts : (s : SinceOf) → due s ≡ true → (0 < length s.times) × (0 < length s.lefts) × (0 < length s.rights)
@@ -132,11 +142,11 @@ pulled_more columns old s new tables table ordered before ready advances follows
       over = over_push columns tables ordered before.over is;
       follows = λ t a b v h. follows t a b v (before.follows t a b v h);
       rows = λ t a b v h one other.
-      stand_push (λ i x. has x v ≡ since old.window.interval t a b i) old.pulled tables ordered
-      (before.rows t a b v h one other)
-      (same (ap (all_among columns) (over ∙ before.right) ∙ one) (ap (λ cs. all_among cs columns) (over ∙ before.right) ∙ other) v
-      ∙ rows t a b v (before.follows t a b v h)
-      ∙ ap₂ (λ i p. since i t a b p) before.interval pulled)
+          stand_push (λ i x. has x v ≡ since old.window.interval t a b i) old.pulled tables ordered
+          (before.rows t a b v h one other)
+          (same (ap (all_among columns) (over ∙ before.right) ∙ one) (ap (λ cs. all_among cs columns) (over ∙ before.right) ∙ other) v
+          ∙ rows t a b v (before.follows t a b v h)
+          ∙ ap₂ (λ i p. since i t a b p) before.interval pulled);
     }
 
 -- one turn of the loop that pulls

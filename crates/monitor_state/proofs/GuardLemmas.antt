@@ -61,24 +61,22 @@ parts_among [] bound each = (refl, refl)
 parts_among (ChildPart f n ∷ ps) bound each =
     let rest = parts_among ps bound
     (λ y m. each y (among_joined y (fv (meaning f)) (conjunct_columns (map conjunct_as ps))
-    ∙ or_right (among y (fv (meaning f))) (among y (conjunct_columns (map conjunct_as ps))) m)) in
-    (
+    ∙ or_right (among y (fv (meaning f))) (among y (conjunct_columns (map conjunct_as ps))) m)) in (
       and_from (all_among (fv (meaning f)) bound) (all_children (λ columns. all_among columns bound) (children_of (map conjunct_as ps)))
-      (all_from_each (fv (meaning f)) bound
-      (λ y m. each y (among_joined y (fv (meaning f)) (conjunct_columns (map conjunct_as ps))
-      ∙ or_left (among y (fv (meaning f))) (among y (conjunct_columns (map conjunct_as ps))) m))) rest.0,
-      rest.1
+          (all_from_each (fv (meaning f)) bound
+          (λ y m. each y (among_joined y (fv (meaning f)) (conjunct_columns (map conjunct_as ps))
+          ∙ or_left (among y (fv (meaning f))) (among y (conjunct_columns (map conjunct_as ps))) m))) rest.0,
+      rest.1,
     )
 parts_among (TestPart c w ∷ ps) bound each =
     let rest = parts_among ps bound
     (λ y m. each y (among_joined y (compared c) (conjunct_columns (map conjunct_as ps))
-    ∙ or_right (among y (compared c)) (among y (conjunct_columns (map conjunct_as ps))) m)) in
-    (
+    ∙ or_right (among y (compared c)) (among y (conjunct_columns (map conjunct_as ps))) m)) in (
       rest.0,
       and_from (all_among (compared c) bound) (list_all (λ t. all_among (compared t.comparison) bound) (tests_of (map conjunct_as ps)))
-      (all_from_each (compared c) bound
-      (λ y m. each y (among_joined y (compared c) (conjunct_columns (map conjunct_as ps))
-      ∙ or_left (among y (compared c)) (among y (conjunct_columns (map conjunct_as ps))) m))) rest.1
+          (all_from_each (compared c) bound
+          (λ y m. each y (among_joined y (compared c) (conjunct_columns (map conjunct_as ps))
+          ∙ or_left (among y (compared c)) (among y (conjunct_columns (map conjunct_as ps))) m))) rest.1,
     )
 
 -- a guarded conjunction can be joined
@@ -112,17 +110,21 @@ and_left r f g a =
 
 pub and_right : (r : Role) (f g : CoreForm) → Accepted r (And f g) → Accepted role.Part g
 unfolding fault_in
-and_right r f g a =
-    (a.0, (no_first (fault_in a.0 role.Part g) (asked (is_conjunction r) (guards a.0 (And f g)))
-    (no_first (fault_in a.0 role.Part f) (first (fault_in a.0 role.Part g) (asked (is_conjunction r) (guards a.0 (And f g)))) a.1).1).0)
+and_right r f g a = (
+  a.0,
+  (no_first (fault_in a.0 role.Part g) (asked (is_conjunction r) (guards a.0 (And f g)))
+      (no_first (fault_in a.0 role.Part f) (first (fault_in a.0 role.Part g) (asked (is_conjunction r) (guards a.0 (And f g)))) a.1).1).0,
+)
 
 pub and_own : (r : Role) (f g : CoreForm) → Accepted r (And f g) → is_conjunction r ≡ true
     → (names : Names) × (guards names (And f g) ≡ None)
 unfolding fault_in
-and_own r f g a own =
-    (a.0, ap (λ b. asked b (guards a.0 (And f g))) (sym own)
-    ∙ (no_first (fault_in a.0 role.Part g) (asked (is_conjunction r) (guards a.0 (And f g)))
-    (no_first (fault_in a.0 role.Part f) (first (fault_in a.0 role.Part g) (asked (is_conjunction r) (guards a.0 (And f g)))) a.1).1).1)
+and_own r f g a own = (
+  a.0,
+  ap (λ b. asked b (guards a.0 (And f g))) (sym own)
+      ∙ (no_first (fault_in a.0 role.Part g) (asked (is_conjunction r) (guards a.0 (And f g)))
+      (no_first (fault_in a.0 role.Part f) (first (fault_in a.0 role.Part g) (asked (is_conjunction r) (guards a.0 (And f g)))) a.1).1).1,
+)
 
 pub not_under : (r : Role) (f : CoreForm) → Accepted r (Not f) → Accepted (under_not r) f
 unfolding fault_in
@@ -131,9 +133,11 @@ not_under r f a = (a.0, (no_first (fault_in a.0 (under_not r) f) (asked (judges_
 pub not_own : (r : Role) (f : CoreForm) → Accepted r (Not f) → judges_not r ≡ true
     → (names : Names) × (guards names (Not f) ≡ None)
 unfolding fault_in
-not_own r f a own =
-    (a.0, ap (λ b. asked b (guards a.0 (Not f))) (sym own)
-    ∙ (no_first (fault_in a.0 (under_not r) f) (asked (judges_not r) (guards a.0 (Not f))) a.1).1)
+not_own r f a own = (
+  a.0,
+  ap (λ b. asked b (guards a.0 (Not f))) (sym own)
+      ∙ (no_first (fault_in a.0 (under_not r) f) (asked (judges_not r) (guards a.0 (Not f))) a.1).1,
+)
 
 pub exists_under : (r : Role) (x : Bound) (f : CoreForm) → Accepted r (Exists x f) → Accepted role.Whole f
 unfolding fault_in
@@ -145,9 +149,11 @@ since_left r i f g a = (a.0, (no_first (fault_in a.0 role.Left f) (first (fault_
 
 pub since_right : (r : Role) (i : Interval) (f g : CoreForm) → Accepted r (Since i f g) → Accepted role.Whole g
 unfolding fault_in
-since_right r i f g a =
-    (a.0, (no_first (fault_in a.0 role.Whole g) (covers a.0 f g)
-    (no_first (fault_in a.0 role.Left f) (first (fault_in a.0 role.Whole g) (covers a.0 f g)) a.1).1).0)
+since_right r i f g a = (
+  a.0,
+  (no_first (fault_in a.0 role.Whole g) (covers a.0 f g)
+      (no_first (fault_in a.0 role.Left f) (first (fault_in a.0 role.Whole g) (covers a.0 f g)) a.1).1).0,
+)
 
 -- the same of a core that is known to be so
 pub and_left_at : (r : Role) (h f g : CoreForm) → h ≡ And f g → Accepted r h → Accepted role.Part f

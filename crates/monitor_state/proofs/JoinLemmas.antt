@@ -76,7 +76,7 @@ join_pulled_none s =
       state = ap₂ (λ n cs. record s { pulled = n; children = cs }) (let e : s.pulled ≡ s.pulled + 0 = omega arith in e) (dropped_none s.children);
       room = all_room s.children;
       over = tt;
-      rows = λ v. tt
+      rows = λ v. tt;
     }
   where
     all_room : (cs : List ChildOf) → list_all (λ c. nat_le 0 (length c.tables)) cs ≡ true
@@ -95,31 +95,37 @@ join_pulled_more old s new tables items answer table before is ready state over 
     subst (JoinPulled old new) (sym made)
     (record {
       state =
-      advanced ∙ ap join_advanced before.state
-      ∙ ap₂ (λ n cs. record old { pulled = n; children = cs }) (let e : old.pulled + length tables + 1 ≡ old.pulled + length (tables ++ table ∷ []) = omega (arith, size) in e)
-      (dropped_more (length tables) old.children ∙ ap (λ n. map (child_dropped n) old.children) (sym size));
+          advanced ∙ ap join_advanced before.state
+          ∙ ap₂ (λ n cs. record old { pulled = n; children = cs }) (let e : old.pulled + length tables + 1 ≡ old.pulled + length (tables ++ table ∷ []) = omega (arith, size) in e)
+          (dropped_more (length tables) old.children ∙ ap (λ n. map (child_dropped n) old.children) (sym size));
       room =
-      ap (λ n. list_all (λ c. nat_le n (length c.tables)) old.children) size
-      ∙ room_more (length tables) old.children before.room
-      (ap (λ cs. list_all (λ c. nat_lt 0 (length c.tables)) cs) (sym children) ∙ sym ready ∙ ap is_some is);
+          ap (λ n. list_all (λ c. nat_le n (length c.tables)) old.children) size
+          ∙ room_more (length tables) old.children before.room
+          (ap (λ cs. list_all (λ c. nat_lt 0 (length c.tables)) cs) (sym children) ∙ sym ready ∙ ap is_some is);
       over = over_push old.columns tables table before.over (columns ∙ ap (λ (x : JoinOf). x.columns) before.state);
       rows = λ v.
-      stand_push (λ k x. has x v ≡ joins (join_pulled k old) v) 0 tables table (before.rows v)
-      (joined_rows v ∙ ap (λ x. joins x v) (before.state ∙ ap (λ n. join_pulled n old) (let e : length tables ≡ 0 + length tables = omega arith in e)))
+          stand_push (λ k x. has x v ≡ joins (join_pulled k old) v) 0 tables table (before.rows v)
+          (joined_rows v ∙ ap (λ x. joins x v) (before.state ∙ ap (λ n. join_pulled n old) (let e : length tables ≡ 0 + length tables = omega arith in e)));
     })
   where
     size_of : length (tables ++ table ∷ []) ≡ length tables + length (table ∷ [])
     size_of = length-append tables (table ∷ [])
+
     one : length (table ∷ []) ≡ 1
     one = omega arith
+
     size : length (tables ++ table ∷ []) ≡ length tables + 1
     size = omega (arith, size_of, one)
+
     advanced : new ≡ join_advanced s
     advanced = subst (λ o. MatchOption o (new ≡ s) (λ x. new ≡ join_advanced s)) is state
+
     columns : table.columns ≡ s.columns
     columns = subst (λ o. IfSome o (λ x. x.columns ≡ s.columns)) is over
+
     joined_rows : (v : Valuation) → has table v ≡ joins s v
     joined_rows = subst (λ o. IfSome o (λ x. (v : Valuation) → has x v ≡ joins s v)) is rows
+
     children : s.children ≡ map (child_dropped (length tables)) old.children
     children = ap (λ (x : JoinOf). x.children) before.state
 

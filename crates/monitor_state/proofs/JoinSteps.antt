@@ -149,10 +149,9 @@ dropped_stand view i k (f ∷ fs) (c ∷ cs) room stand =
     let parts = and_parts (nat_le k (length c.tables)) (list_all (λ c. nat_le k (length c.tables)) cs) room in
     let low : k ≤ length c.tables = leb-true k (length c.tables) parts.0 in
     let size : length (drop k c.tables) ≡ length c.tables - k = length-drop k c.tables in
-    let pushed : i + length c.tables ≡ reached view f = stand.0.pushed in
-    (
+    let pushed : i + length c.tables ≡ reached view f = stand.0.pushed in (
       record { pushed = omega arith; exact = exact_drop view (meaning f) i k c.tables stand.0.exact },
-      dropped_stand view i k fs cs parts.1 stand.1
+      dropped_stand view i k fs cs parts.1 stand.1,
     )
 dropped_stand view i k [] (c ∷ cs) room stand = absurd stand
 dropped_stand view i k (f ∷ fs) [] room stand = absurd stand
@@ -166,11 +165,10 @@ less_room k n (c ∷ cs) low room =
     let parts = and_parts (nat_le n (length c.tables)) (list_all (λ c. nat_le n (length c.tables)) cs) room in
     let high : n ≤ length c.tables = leb-true n (length c.tables) parts.0 in
     let size : length (drop k c.tables) ≡ length c.tables - k = length-drop k c.tables in
-    let rest = less_room k n cs low parts.1 in
-    (
+    let rest = less_room k n cs low parts.1 in (
       and_from (nat_le k (length c.tables)) (list_all (λ c. nat_le k (length c.tables)) cs) (le-leb k (length c.tables) (omega arith)) rest.0,
       and_from (nat_lt 0 (length (drop k c.tables))) (list_all (λ c. nat_lt 0 (length c.tables)) (map (child_dropped k) cs))
-      (lt-ltb 0 (length (drop k c.tables)) (omega arith)) rest.1
+          (lt-ltb 0 (length (drop k c.tables)) (omega arith)) rest.1,
     )
 
 -- a position at which each of the cores is settled
@@ -301,14 +299,13 @@ module _ (view : View) (point : TimePoint) (rising : NeverFalls (times (longer v
   fed_stand i (f ∷ fs) (c ∷ cs) (tables ∷ lists) stand news =
       let pushed : i + length c.tables ≡ reached view f = stand.0.pushed in
       let more : reached view f + length tables ≡ reached (longer view point) f = news.0.count in
-      let sum : length (c.tables ++ tables) ≡ length c.tables + length tables = length-append c.tables tables in
-      (
+      let sum : length (c.tables ++ tables) ≡ length c.tables + length tables = length-append c.tables tables in (
         record {
           pushed = omega arith;
           exact = exact_append (longer view point) (meaning f) i (reached view f) c.tables tables (omega arith)
-          (all_stay view point rising f i c.tables (omega arith) stand.0.exact) news.0.exact
+              (all_stay view point rising f i c.tables (omega arith) stand.0.exact) news.0.exact;
         },
-        fed_stand i fs cs lists stand.1 news.1
+        fed_stand i fs cs lists stand.1 news.1,
       )
   fed_stand i [] [] (tables ∷ lists) stand news = absurd news
   fed_stand i [] (c ∷ cs) lists stand news = absurd stand
@@ -362,11 +359,10 @@ module _ (view : View) (point : TimePoint) (rising : NeverFalls (times (longer v
         → ((k : ℕ) (x : X) → i ≤ k → k < i + length xs → P k x → Q (p + k) x) → StandFrom P i xs → StandFrom Q (p + i) xs
     shifted P Q p i [] means stand = tt
     shifted P Q p i (x ∷ xs) means stand =
-        let at : p + (i + 1) ≡ p + i + 1 = omega arith in
-        (
+        let at : p + (i + 1) ≡ p + i + 1 = omega arith in (
           means i x (omega arith) (omega arith) stand.0,
           subst (λ j. StandFrom Q j xs) at
-          (shifted P Q p (i + 1) xs (λ k y low high. means k y (omega arith) (omega arith)) stand.1)
+              (shifted P Q p (i + 1) xs (λ k y low high. means k y (omega arith) (omega arith)) stand.1),
         )
 
     join_exact : AllExact (longer view point) (meaning f) old.pulled tables
@@ -385,19 +381,19 @@ module _ (view : View) (point : TimePoint) (rising : NeverFalls (times (longer v
           columns = ap (λ (x : JoinOf). x.columns) takes.pulls.state ∙ is.columns;
           tests = ap (λ (x : JoinOf). x.tests) takes.pulls.state ∙ is.tests;
           parts = ap (map bare) new_children ∙ bare_dropped (length tables) (children_fed old.children lists) ∙ bare_is;
-          some = is.some
+          some = is.some;
         }
 
     pub join_stands : JoinStands (longer view point) f new
     join_stands =
         record {
           pulled = count;
-          children = subst (λ fs. ChildrenStand (longer view point) new.pulled fs new.children) (sym same) new_stand
+          children = subst (λ fs. ChildrenStand (longer view point) new.pulled fs new.children) (sym same) new_stand;
         }
 
     pub join_news : News view point f tables
     join_news =
         record {
           count = ap (λ n. n + length tables) (sym stands.pulled) ∙ sym new_pulled ∙ count;
-          exact = subst (λ k. AllExact (longer view point) (meaning f) k tables) stands.pulled join_exact
+          exact = subst (λ k. AllExact (longer view point) (meaning f) k tables) stands.pulled join_exact;
         }

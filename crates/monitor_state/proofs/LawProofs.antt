@@ -26,15 +26,14 @@ module _ (view : View) (given db : List Event) (passes : Passes (fv view.whole) 
   enough_both : (f g : CoreForm) → Enough f → Enough g → (before after : List OneAtom)
       → HasEach given (slice view.near (before ++ ((atoms_of f ++ atoms_of g) ++ after)) db)
       → SameNear view f given db × SameNear view g given db
-  enough_both f g first second before after has =
-      (
-        first before (atoms_of g ++ after)
+  enough_both f g first second before after has = (
+    first before (atoms_of g ++ after)
         (subst (λ atoms. HasEach given (slice view.near (before ++ atoms) db)) (append_assoc (atoms_of f) (atoms_of g) after) has),
-        second (before ++ atoms_of f) after
+    second (before ++ atoms_of f) after
         (subst (λ atoms. HasEach given (slice view.near atoms db))
         (ap (λ atoms. before ++ atoms) (append_assoc (atoms_of f) (atoms_of g) after)
-        ∙ sym (append_assoc before (atoms_of f) (atoms_of g ++ after))) has)
-      )
+        ∙ sym (append_assoc before (atoms_of f) (atoms_of g ++ after))) has),
+  )
 
   enough : (f : CoreForm) → Enough f
   unfolding atoms_of
@@ -81,7 +80,7 @@ lone_worker_steps log point core fits apart rising =
       whole_is = refl;
       sound = parts_are_sound (λ y. []) core (fits (λ y. [])) apart;
       ts = refl;
-      same = itself (whole_view log core) core point.db
+      same = itself (whole_view log core) core point.db;
     }
 
 pub tables_are_violations : TablesAreViolations

@@ -136,11 +136,14 @@ module _ (goal : CoreForm) where
     where
       own : List CoreForm
       own = cond (is_conjunction r) (And f g ∷ []) []
+
       split : operands (And f g) ≡ children (conjuncts_of f) ++ children (conjuncts_of g)
       split = children_append (conjuncts_of f) (conjuncts_of g)
+
       whole : Works goal (pending ++ And f g ∷ []) rest
           → Works goal ((pending ++ children (conjuncts_of f)) ++ children (conjuncts_of g)) (And f g ∷ rest)
       whole w = after_two (And f g) pending rest (children (conjuncts_of f)) (children (conjuncts_of g)) split w
+
       last : (r : Role) → Works goal (pending ++ roots r (And f g)) rest
           → Works goal ((pending ++ children (conjuncts_of f)) ++ children (conjuncts_of g))
           (cond (is_conjunction r) (And f g ∷ []) [] ++ rest)
@@ -263,9 +266,9 @@ going_begins view point given whole nodes premises stand =
       took = tt;
       take = stand;
       works =
-      subst (Works whole []) (append-nil (nodes_of whole)) (nodes_work whole role.Whole whole [] [] refl);
+          subst (Works whole []) (append-nil (nodes_of whole)) (nodes_work whole role.Whole whole [] [] refl);
       premises = premises_all view point given whole role.Whole whole premises;
-      news = tt
+      news = tt;
     }
 
 turn : (view : View) (point given : TimePoint) (whole : CoreForm) (done todo : List Node) (stack rest items : List (List TableOf))
@@ -290,8 +293,8 @@ turn view point given whole done todo stack rest items tables node new old (f �
       works = works.2;
       premises = premises.1;
       news =
-      subst (StackNews view point (works.0 ++ f ∷ [])) (sym is)
-      (stack_append view point works.0 f rest tables took_one.2 took_one.3)
+          subst (StackNews view point (works.0 ++ f ∷ [])) (sym is)
+          (stack_append view point works.0 f rest tables took_one.2 took_one.3);
     }
 
 -- one node more takes the time-point
@@ -327,11 +330,10 @@ ended : (view : View) (point given : TimePoint) (whole : CoreForm) (done : List 
     → Works whole pending next → StackNews view point pending stack → Pops stack rest top
     → NodesStand (longer view point) (nodes_of whole) done × News view point whole top
 ended view point given whole done stack rest top old (f ∷ next) pending all took take works news pops = absurd take
-ended view point given whole done stack rest top old [] pending all took take works news pops =
-    (
-      subst (λ fs. NodesStand (longer view point) fs done) (sym (all ∙ append-nil old)) took,
-      top_only view point whole stack rest top (subst (λ fs. StackNews view point fs stack) works news) pops
-    )
+ended view point given whole done stack rest top old [] pending all took take works news pops = (
+  subst (λ fs. NodesStand (longer view point) fs done) (sym (all ∙ append-nil old)) took,
+  top_only view point whole stack rest top (subst (λ fs. StackNews view point fs stack) works news) pops,
+)
 
 -- the step ends
 pub going_ends : (view : View) (point given : TimePoint) (whole : CoreForm) (nodes : List Node) (n : ℕ) (stack rest : List (List TableOf))

@@ -102,7 +102,7 @@ module _ (view : View) (point : TimePoint) (rising : NeverFalls (times (longer v
   one_new table exact =
       record {
         count = (let one : length (table ∷ []) ≡ 1 = omega arith in ap (λ n. reached view f + n) one) ∙ reached_more;
-        exact = (subst (λ k. Exact (longer view point) (meaning f) k table) (sym reached_all) exact, tt)
+        exact = (subst (λ k. Exact (longer view point) (meaning f) k table) (sym reached_all) exact, tt);
       }
 
 true_all : (t : List ℕ) (i : ℕ) → settled t (meaning True) i ≡ nat_lt i (length t)
@@ -123,20 +123,22 @@ constant_new view f i table is =
 
 pub constant_advances : (table : TableOf) (given : TimePoint) (stack : List (List TableOf)) (tables : List TableOf)
     → tables ≡ table ∷ [] → Advances (node.Constant table) given stack (node.Constant table) stack tables
-constant_advances table given stack tables made view point whole True below premises is stands stacked =
-    (
-      is, tt, subst (λ fs. StackNews view point fs stack) (append-nil below) stacked,
-      subst (News view point True) (sym made)
+constant_advances table given stack tables made view point whole True below premises is stands stacked = (
+  is,
+  tt,
+  subst (λ fs. StackNews view point fs stack) (append-nil below) stacked,
+  subst (News view point True) (sym made)
       (one_new view point premises.rising True true_all table
-      (constant_new (longer view point) True (length view.log) table is))
-    )
-constant_advances table given stack tables made view point whole False below premises is stands stacked =
-    (
-      is, tt, subst (λ fs. StackNews view point fs stack) (append-nil below) stacked,
-      subst (News view point False) (sym made)
+      (constant_new (longer view point) True (length view.log) table is)),
+)
+constant_advances table given stack tables made view point whole False below premises is stands stacked = (
+  is,
+  tt,
+  subst (λ fs. StackNews view point fs stack) (append-nil below) stacked,
+  subst (News view point False) (sym made)
       (one_new view point premises.rising False false_all table
-      (constant_new (longer view point) False (length view.log) table is))
-    )
+      (constant_new (longer view point) False (length view.log) table is)),
+)
 constant_advances table given stack tables made view point whole f below premises is stands stacked = absurd is
 
 -- the database of the new time-point
@@ -152,20 +154,21 @@ pub atom_advances : (atom : OneAtom) (given : TimePoint) (stack : List (List Tab
     → tables ≡ table ∷ []
     → Advances (node.Atom atom) given stack (node.Atom atom) stack tables
 unfolding sat fv
-atom_advances atom given stack table tables columns rows made view point whole (Atom a) below premises is stands stacked =
-    (
-      is, tt, subst (λ fs. StackNews view point fs stack) (append-nil below) stacked,
-      subst (News view point (Atom a)) (sym made)
+atom_advances atom given stack table tables columns rows made view point whole (Atom a) below premises is stands stacked = (
+  is,
+  tt,
+  subst (λ fs. StackNews view point fs stack) (append-nil below) stacked,
+  subst (News view point (Atom a)) (sym made)
       (one_new view point premises.rising (Atom a) (atom_all a) table
       (record {
         columns = columns ∙ ap (λ (b : OneAtom). variables_in b.args) is;
         rows = λ dom v covers near.
-        rows v
-        ∙ ap (λ b. has_event given.db (event_of v b)) is
-        ∙ premises.same v near
-        ∙ ap (λ db. has_event db (event_of v a)) (sym (new_database view.log point))
-      }))
-    )
+            rows v
+            ∙ ap (λ b. has_event given.db (event_of v b)) is
+            ∙ premises.same v near
+            ∙ ap (λ db. has_event db (event_of v a)) (sym (new_database view.log point));
+      })),
+)
 atom_advances atom given stack table tables columns rows made view point whole f below premises is stands stacked = absurd is
 
 module _ (view : View) (x : Bound) (f whole : CoreForm) (passes : Passes (fv view.whole) view.near)
@@ -181,10 +184,9 @@ module _ (view : View) (x : Bound) (f whole : CoreForm) (passes : Passes (fv vie
       (λ y m free.
       let other : nat_eq y x.number ≡ false = ne_eqb y x.number
       (λ e. let clash : true ≡ false = sym free ∙ ap (λ z. among z (fv view.whole)) e
-      ∙ ap (λ w. among x.number (fv w)) whole_is ∙ apart in cc) in
-      (
+      ∙ ap (λ w. among x.number (fv w)) whole_is ∙ apart in cc) in (
         among_without y x.number (fv (meaning f)) ∙ ap (λ b. not b && among y (fv (meaning f))) other ∙ m,
-        sym (cond-false (nat_eq y x.number) a (v y) other)
+        sym (cond-false (nat_eq y x.number) a (v y) other),
       )) h
 
   with_itself : (v : Valuation) (a : Value) → with_value v x.number a x.number ≡ a
@@ -209,15 +211,15 @@ module _ (view : View) (x : Bound) (f whole : CoreForm) (passes : Passes (fv vie
       record {
         columns = is.columns ∙ ap (without x.number) exact.columns;
         rows = λ dom v covers near.
-        same_truth (has quantified v) (list_any (λ a. sat view.log dom (with_value v x.number a) i (meaning f)) dom)
-        (λ h.
-        let w = (is.rows v).0 h in
-        let holds : sat view.log dom (with_value v x.number w.0) i (meaning f) ≡ true =
-        sym (exact.rows dom (with_value v x.number w.0) covers (near_with v w.0 near)) ∙ w.1 in
-        any_with (λ a. sat view.log dom (with_value v x.number a) i (meaning f)) w.0 dom holds (ranges dom v i w.0 covers holds))
-        (λ h.
-        let w = any_witness (λ a. sat view.log dom (with_value v x.number a) i (meaning f)) dom h in
-        (is.rows v).1 (w.0, exact.rows dom (with_value v x.number w.0) covers (near_with v w.0 near) ∙ w.1))
+            same_truth (has quantified v) (list_any (λ a. sat view.log dom (with_value v x.number a) i (meaning f)) dom)
+            (λ h.
+            let w = (is.rows v).0 h in
+            let holds : sat view.log dom (with_value v x.number w.0) i (meaning f) ≡ true =
+            sym (exact.rows dom (with_value v x.number w.0) covers (near_with v w.0 near)) ∙ w.1 in
+            any_with (λ a. sat view.log dom (with_value v x.number a) i (meaning f)) w.0 dom holds (ranges dom v i w.0 covers holds))
+            (λ h.
+            let w = any_witness (λ a. sat view.log dom (with_value v x.number a) i (meaning f)) dom h in
+            (is.rows v).1 (w.0, exact.rows dom (with_value v x.number w.0) covers (near_with v w.0 near) ∙ w.1));
       }
 
   exists_all : (i : ℕ) (tables qs : List TableOf) → Quantifies x.number tables qs → AllExact view (meaning f) i tables
@@ -251,18 +253,19 @@ exists_advances var given stack rest tables qs pops q view point whole (Exists x
     let news = pops_top view point below f stack rest tables stacked pops in
     let sound = premises.sound in
     let qx : Quantifies x.number tables qs = subst (λ y. Quantifies y tables qs) is q in
-    let size : length tables ≡ length qs = quantifies_length x.number tables qs qx in
-    (
-      is, tt, news.0,
+    let size : length tables ≡ length qs = quantifies_length x.number tables qs qx in (
+      is,
+      tt,
+      news.0,
       record {
         count =
-        ap₂ (λ a b. a + b) (exists_count (times view.log) x f) (sym size) ∙ news.1.count
-        ∙ sym (exists_count (times (longer view point).log) x f);
+            ap₂ (λ a b. a + b) (exists_count (times view.log) x f) (sym size) ∙ news.1.count
+            ∙ sym (exists_count (times (longer view point).log) x f);
         exact =
-        subst (λ k. AllExact (longer view point) (meaning (Exists x f)) k qs) (sym (exists_count (times view.log) x f))
-        (exists_all (longer view point) x f whole premises.passes premises.whole_is sound.0 sound.1 sound.2.0 sound.2.1 sound.3
-        (reached view f) tables qs qx news.1.exact)
-      }
+            subst (λ k. AllExact (longer view point) (meaning (Exists x f)) k qs) (sym (exists_count (times view.log) x f))
+            (exists_all (longer view point) x f whole premises.passes premises.whole_is sound.0 sound.1 sound.2.0 sound.2.1 sound.3
+            (reached view f) tables qs qx news.1.exact);
+      },
     )
 exists_advances var given stack rest tables qs pops q view point whole f below premises is stands stacked = absurd is
 
@@ -271,12 +274,11 @@ pub since_advances : (old new : SinceOf) (order : TableOf) (given : TimePoint) (
     → Pops stack mid rs → Pops mid rest ls → SinceTakes order.columns old given.ts ls rs new tables
     → Advances (node.Since old order) given stack (node.Since new order) rest tables
 since_advances old new order given stack mid rest ls rs tables last first takes view point whole (Since i f g) below premises is stands stacked =
-    let news = pops_two view point below (left_operand f) g stack mid rest ls rs stacked last first in
-    (
+    let news = pops_two view point below (left_operand f) g stack mid rest ls rs stacked last first in (
       since_is view point i f g premises.rising premises.passes premises.sound.0 old order is stands given.ts premises.ts ls rs news.1 news.2 new tables takes,
       since_stands view point i f g premises.rising premises.passes premises.sound.0 old order is stands given.ts premises.ts ls rs news.1 news.2 new tables takes,
       news.0,
-      since_news view point i f g premises.rising premises.passes premises.sound.0 old order is stands given.ts premises.ts ls rs news.1 news.2 new tables takes
+      since_news view point i f g premises.rising premises.passes premises.sound.0 old order is stands given.ts premises.ts ls rs news.1 news.2 new tables takes,
     )
 since_advances old new order given stack mid rest ls rs tables last first takes view point whole f below premises is stands stacked = absurd is
 
@@ -319,12 +321,11 @@ join_taken : (view : View) (point given : TimePoint) (whole f : CoreForm) (below
     → IsJoin f new × JoinStands (longer view point) f new × StackNews view point below rest × News view point f tables
 join_taken view point given whole f below old new stack rest lists tables same premises is stands stacked pops takes =
     let news = pops_many view point below (operands f) (length old.children) stack rest lists
-    (children_length view old.pulled (operands f) old.children stands.children) stacked pops in
-    (
+    (children_length view old.pulled (operands f) old.children stands.children) stacked pops in (
       join_is view point premises.rising premises.passes f old new lists tables is same stands news.1 takes,
       join_stands view point premises.rising premises.passes f old new lists tables is same stands news.1 takes,
       news.0,
-      join_news view point premises.rising premises.passes f old new lists tables is same stands news.1 takes
+      join_news view point premises.rising premises.passes f old new lists tables is same stands news.1 takes,
     )
 
 pub join_advances : (old new : JoinOf) (given : TimePoint) (stack rest lists : List (List TableOf)) (tables : List TableOf)

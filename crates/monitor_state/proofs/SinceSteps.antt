@@ -46,11 +46,10 @@ negated_tell : (view : View) (f : CoreForm) (dom : List Value) (v : Valuation) (
     → StandFrom (λ k table. left_holds true table v ≡ truth_at a k) i tables
 unfolding sat fv
 negated_tell view f dom v a i [] covers near tells most all = tt
-negated_tell view f dom v a i (table ∷ tables) covers near tells most all =
-    (
-      ap not (all.0.rows dom v covers near) ∙ sym (tells i (omega arith)),
-      negated_tell view f dom v a (i + 1) tables covers near tells (omega arith) all.1
-    )
+negated_tell view f dom v a i (table ∷ tables) covers near tells most all = (
+  ap not (all.0.rows dom v covers near) ∙ sym (tells i (omega arith)),
+  negated_tell view f dom v a (i + 1) tables covers near tells (omega arith) all.1,
+)
 
 -- the left operand's tables hold what a list tells, turned round where it is negated
 pub left_tell : (view : View) (f : CoreForm) (dom : List Value) (v : Valuation) (a : List Bool) (i : ℕ) (tables : List TableOf)
@@ -239,7 +238,7 @@ module _ (view : View) (point : TimePoint) (i : Interval) (f g : CoreForm)
           negated = takes.pulls.negated ∙ ap (λ (x : SinceOf). x.negated) fed_is ∙ is.negated;
           left = takes.pulls.left ∙ ap (λ (x : SinceOf). x.window.left) fed_is ∙ is.left;
           right = takes.pulls.right ∙ ap (λ (x : SinceOf). x.window.right) fed_is ∙ is.right;
-          ordered = is.ordered
+          ordered = is.ordered;
         }
 
     pub since_stands : SinceStands (longer view point) i f g new
@@ -250,22 +249,22 @@ module _ (view : View) (point : TimePoint) (i : Interval) (f g : CoreForm)
           left_pushed = kept_lefts;
           right_pushed = kept_rights;
           lefts =
-          subst (λ xs. AllExact (longer view point) (meaning (left_operand f)) new.pulled xs)
-          (sym (takes.pulls.lefts ∙ ap (λ (x : SinceOf). drop (length tables) x.lefts) fed_is))
-          (subst (λ k. AllExact (longer view point) (meaning (left_operand f)) k (drop (length tables) (old.lefts ++ ls))) (sym pulled_is)
-          (exact_drop (longer view point) (meaning (left_operand f)) old.pulled (length tables) (old.lefts ++ ls) fed_lefts));
+              subst (λ xs. AllExact (longer view point) (meaning (left_operand f)) new.pulled xs)
+              (sym (takes.pulls.lefts ∙ ap (λ (x : SinceOf). drop (length tables) x.lefts) fed_is))
+              (subst (λ k. AllExact (longer view point) (meaning (left_operand f)) k (drop (length tables) (old.lefts ++ ls))) (sym pulled_is)
+              (exact_drop (longer view point) (meaning (left_operand f)) old.pulled (length tables) (old.lefts ++ ls) fed_lefts));
           rights =
-          subst (λ xs. AllExact (longer view point) (meaning g) new.pulled xs)
-          (sym (takes.pulls.rights ∙ ap (λ (x : SinceOf). drop (length tables) x.rights) fed_is))
-          (subst (λ k. AllExact (longer view point) (meaning g) k (drop (length tables) (old.rights ++ rs))) (sym pulled_is)
-          (exact_drop (longer view point) (meaning g) old.pulled (length tables) (old.rights ++ rs) fed_rights));
+              subst (λ xs. AllExact (longer view point) (meaning g) new.pulled xs)
+              (sym (takes.pulls.rights ∙ ap (λ (x : SinceOf). drop (length tables) x.rights) fed_is))
+              (subst (λ k. AllExact (longer view point) (meaning g) k (drop (length tables) (old.rights ++ rs))) (sym pulled_is)
+              (exact_drop (longer view point) (meaning g) old.pulled (length tables) (old.rights ++ rs) fed_rights));
           follows = λ dom v covers near t a b dates tells tells_right.
-          takes.pulls.follows t a b v (fed_follows dom v covers near t a b dates tells tells_right)
+              takes.pulls.follows t a b v (fed_follows dom v covers near t a b dates tells tells_right);
         }
 
     pub since_news : News view point (Since i f g) tables
     since_news =
         record {
           count = ap (λ n. n + length tables) (sym stands.pulled) ∙ sym pulled_is ∙ all_pulled;
-          exact = subst (λ k. AllExact (longer view point) (meaning (Since i f g)) k tables) stands.pulled tables_exact
+          exact = subst (λ k. AllExact (longer view point) (meaning (Since i f g)) k tables) stands.pulled tables_exact;
         }

@@ -31,23 +31,22 @@ steps core old new given tables advance few taken given_is first kept view point
     let small : old.given + length tables < 2 ^ 64 = omega arith in
     let now : new.given ≡ old.given + length tables = given_is small in
     let size : length (times view.log) ≡ length view.log = length-map view.log (λ p. p.ts) in
-    let sum : old.first + (old.given - old.first) ≡ old.given = omega arith in
-    (
+    let sum : old.first + (old.given - old.first) ≡ old.given = omega arith in (
       record {
         taken = omega arith;
         given = omega arith;
         first = omega arith;
         times =
-        kept
-        ∙ ap₂ (λ xs ts. xs ++ ts ∷ [])
-        (ap (drop (old.given - old.first)) stands.times
-        ∙ drop-drop (old.given - old.first) old.first (times view.log)
-        ∙ ap (λ n. drop n (times view.log)) (sum ∙ sym first)) premises.ts
-        ∙ sym (drop-append-le new.first (times view.log) (point.ts ∷ []) (omega arith))
-        ∙ ap (drop new.first) (sym (times_more view point premises.rising));
-        nodes = both.0
+            kept
+            ∙ ap₂ (λ xs ts. xs ++ ts ∷ [])
+            (ap (drop (old.given - old.first)) stands.times
+            ∙ drop-drop (old.given - old.first) old.first (times view.log)
+            ∙ ap (λ n. drop n (times view.log)) (sum ∙ sym first)) premises.ts
+            ∙ sym (drop-append-le new.first (times view.log) (point.ts ∷ []) (omega arith))
+            ∙ ap (drop new.first) (sym (times_more view point premises.rising));
+        nodes = both.0;
       },
-      both.1
+      both.1,
     )
 
 -- a sum that fits is not cut off

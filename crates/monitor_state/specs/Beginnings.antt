@@ -46,7 +46,12 @@ AddsIf own f old new = Adds (cond own (f ∷ []) []) old new
 pub record SinceBegun (i : Interval) (f g : CoreForm) (s : SinceOf) : Type 0 where
   pub begun : s ≡ record {
     window = record { interval = i; left = fv (meaning f); right = fv (meaning g); last = 0; groups = [] };
-    negated = is_negated f; pulled = 0; newest = 0; times = []; lefts = []; rights = []
+    negated = is_negated f;
+    pulled = 0;
+    newest = 0;
+    times = [];
+    lefts = [];
+    rights = [];
   }
   pub follows : (t : List ℕ) (a b : List Bool) (v : Valuation) → Follows s t a b v
 

@@ -9,13 +9,17 @@ use crate::node::Node;
 use crate::ordering::all_among;
 use eval_since::SinceState;
 use mfotl_model::{Atom as OneAtom, Interval};
-use monitorable::Node as Core;
-use monitorable::Role;
+use monitorable::{Node as Core, Role};
 use relations::Table;
 use std::alloc::{AllocError, Global};
 
 /// Adds the nodes of a core, each behind its operands.
-pub fn add_nodes(alloc: Global, core: &Core, role: Role, nodes: &mut Vec<Node>) -> Result<(), AllocError>
+pub fn add_nodes(
+    alloc: Global,
+    core: &Core,
+    role: Role,
+    nodes: &mut Vec<Node>,
+) -> Result<(), AllocError>
     requires { Accepted role (node_form core.now) }
     ensures { OnOk result (Adds (nodes_in role (node_form core.now)) nodes.old.items nodes.new.items) }
 {
@@ -111,7 +115,12 @@ fn add_since(
     add(Node::Since(state, Table::empty(alloc, columns)), nodes)
 }
 
-fn since_state(alloc: Global, interval: &Interval, left: &Core, right: &Core) -> Result<SinceState, AllocError>
+fn since_state(
+    alloc: Global,
+    interval: &Interval,
+    left: &Core,
+    right: &Core,
+) -> Result<SinceState, AllocError>
     ensures { IfOk result (SinceBegun interval.now (node_form left.now) (node_form right.now)) }
 {
     let left_columns = left.free_vars(alloc)?;
@@ -119,5 +128,11 @@ fn since_state(alloc: Global, interval: &Interval, left: &Core, right: &Core) ->
     if !all_among(left_columns.as_slice(), right_columns.as_slice()) {
         return Err(AllocError);
     }
-    SinceState::new(alloc, interval, left_columns.as_slice(), right_columns.as_slice(), is_negated(left))
+    SinceState::new(
+        alloc,
+        interval,
+        left_columns.as_slice(),
+        right_columns.as_slice(),
+        is_negated(left),
+    )
 }

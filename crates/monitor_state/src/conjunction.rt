@@ -9,8 +9,7 @@ ghost use Rattle.monitor_state.specs.Beginnings.{BeginsJoin, GuardedIf, is_child
 ghost use Rattle.monitor_state.specs.Stands.{conjunct_as};
 
 use eval_bool::{Conjunct, JoinState};
-use monitorable::Node as Core;
-use monitorable::{Part, conjuncts};
+use monitorable::{Node as Core, Part, conjuncts};
 use std::alloc::{AllocError, Global};
 
 /// The state of the conjunction that a core is, before the first position.

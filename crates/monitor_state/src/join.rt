@@ -8,7 +8,11 @@ use eval_bool::JoinState;
 use std::alloc::{AllocError, Global};
 
 /// Pushes the children's tables, one list for each child, and pulls all tables that are due then.
-pub fn take_join(alloc: Global, state: &mut JoinState, lists: Vec<Tables>) -> Result<Tables, AllocError>
+pub fn take_join(
+    alloc: Global,
+    state: &mut JoinState,
+    lists: Vec<Tables>,
+) -> Result<Tables, AllocError>
     requires { 0 < length state.old.children }
     ensures { IfOk result (JoinTakes state.old lists.items state.new) }
 {

@@ -51,20 +51,18 @@ returns-in_ok-add_nodes-in-Since-2 t c =
     c.add_since.ensures
 
 pub add_nodes-requires : goal.add_nodes-requires
-add_nodes-requires t c =
-    (
-      search rules,
-      exists_under_at c.args.role (node_form c.args.core.now) c.in-Exists.bound (node_form c.deref.result.now)
-      (ap node_form c.in-Exists.is ∙ ap (λ n. Exists c.in-Exists.bound (node_form n)) (sym c.deref.ensures)) c.requires
-    )
+add_nodes-requires t c = (
+  search rules,
+  exists_under_at c.args.role (node_form c.args.core.now) c.in-Exists.bound (node_form c.deref.result.now)
+      (ap node_form c.in-Exists.is ∙ ap (λ n. Exists c.in-Exists.bound (node_form n)) (sym c.deref.ensures)) c.requires,
+)
 
 pub add_nodes-requires-in-Not : goal.add_nodes-requires-in-Not
-add_nodes-requires-in-Not t c =
-    (
-      search rules,
-      not_under_at c.args.role c.under_not.result (node_form c.args.core.now) (node_form c.deref-in-Not.result.now)
-      (ap node_form c.in-Not.is ∙ ap (λ n. Not (node_form n)) (sym c.deref-in-Not.ensures)) c.under_not.ensures c.requires
-    )
+add_nodes-requires-in-Not t c = (
+  search rules,
+  not_under_at c.args.role c.under_not.result (node_form c.args.core.now) (node_form c.deref-in-Not.result.now)
+      (ap node_form c.in-Not.is ∙ ap (λ n. Not (node_form n)) (sym c.deref-in-Not.ensures)) c.under_not.ensures c.requires,
+)
 
 pub add_join-requires-clause-guarded : goal.add_join-requires-clause-guarded
 add_join-requires-clause-guarded t c =
@@ -72,20 +70,18 @@ add_join-requires-clause-guarded t c =
     (ap node_form c.in-Not.is) c.judges_not.ensures c.requires
 
 pub add_nodes-requires-in-And : goal.add_nodes-requires-in-And
-add_nodes-requires-in-And t c =
-    (
-      search rules,
-      and_left_at c.args.role (node_form c.args.core.now) (node_form c.deref-in-And.result.now) (node_form c.in-And.right.value)
-      (ap node_form c.in-And.is ∙ ap (λ n. And (node_form n) (node_form c.in-And.right.value)) (sym c.deref-in-And.ensures)) c.requires
-    )
+add_nodes-requires-in-And t c = (
+  search rules,
+  and_left_at c.args.role (node_form c.args.core.now) (node_form c.deref-in-And.result.now) (node_form c.in-And.right.value)
+      (ap node_form c.in-And.is ∙ ap (λ n. And (node_form n) (node_form c.in-And.right.value)) (sym c.deref-in-And.ensures)) c.requires,
+)
 
 pub add_nodes-requires-in-And-2 : goal.add_nodes-requires-in-And-2
-add_nodes-requires-in-And-2 t c =
-    (
-      search rules,
-      and_right_at c.args.role (node_form c.args.core.now) (node_form c.in-And.left.value) (node_form c.deref-in-And-2.result.now)
-      (ap node_form c.in-And.is ∙ ap (λ n. And (node_form c.in-And.left.value) (node_form n)) (sym c.deref-in-And-2.ensures)) c.requires
-    )
+add_nodes-requires-in-And-2 t c = (
+  search rules,
+  and_right_at c.args.role (node_form c.args.core.now) (node_form c.in-And.left.value) (node_form c.deref-in-And-2.result.now)
+      (ap node_form c.in-And.is ∙ ap (λ n. And (node_form c.in-And.left.value) (node_form n)) (sym c.deref-in-And-2.ensures)) c.requires,
+)
 
 pub add_join-requires-in-And-clause-guarded : goal.add_join-requires-in-And-clause-guarded
 add_join-requires-in-And-clause-guarded t c =
@@ -93,20 +89,18 @@ add_join-requires-in-And-clause-guarded t c =
     c.is_conjunction.result (ap node_form c.in-And.is) c.is_conjunction.ensures c.requires
 
 pub add_nodes-requires-in-Since : goal.add_nodes-requires-in-Since
-add_nodes-requires-in-Since t c =
-    (
-      search rules,
-      since_left_at c.args.role (node_form c.args.core.now) c.in-Since.interval (node_form c.deref-in-Since.result.now) (node_form c.in-Since.right.value)
-      (ap node_form c.in-Since.is ∙ ap (λ n. Since c.in-Since.interval (node_form n) (node_form c.in-Since.right.value)) (sym c.deref-in-Since.ensures)) c.requires
-    )
+add_nodes-requires-in-Since t c = (
+  search rules,
+  since_left_at c.args.role (node_form c.args.core.now) c.in-Since.interval (node_form c.deref-in-Since.result.now) (node_form c.in-Since.right.value)
+      (ap node_form c.in-Since.is ∙ ap (λ n. Since c.in-Since.interval (node_form n) (node_form c.in-Since.right.value)) (sym c.deref-in-Since.ensures)) c.requires,
+)
 
 pub add_nodes-requires-in-Since-2 : goal.add_nodes-requires-in-Since-2
-add_nodes-requires-in-Since-2 t c =
-    (
-      search rules,
-      since_right_at c.args.role (node_form c.args.core.now) c.in-Since.interval (node_form c.in-Since.left.value) (node_form c.deref-in-Since-2.result.now)
-      (ap node_form c.in-Since.is ∙ ap (λ n. Since c.in-Since.interval (node_form c.in-Since.left.value) (node_form n)) (sym c.deref-in-Since-2.ensures)) c.requires
-    )
+add_nodes-requires-in-Since-2 t c = (
+  search rules,
+  since_right_at c.args.role (node_form c.args.core.now) c.in-Since.interval (node_form c.in-Since.left.value) (node_form c.deref-in-Since-2.result.now)
+      (ap node_form c.in-Since.is ∙ ap (λ n. Since c.in-Since.interval (node_form c.in-Since.left.value) (node_form n)) (sym c.deref-in-Since-2.ensures)) c.requires,
+)
 
 pub returns-in_ok-add_nodes-in-Not : goal.returns-in_ok-add_nodes-in-Not
 returns-in_ok-add_nodes-in-Not t c =

@@ -6,7 +6,7 @@ use Rattle.monitor_state.proofs.join.pulled.Given as goal
 abbrev pub invariant-loop-tables : goal.invariant-loop-tables
 invariant-loop-tables l = record {
   some : 0 < length l.state.children;
-  pulled : JoinPulled l.initial.state l.state l.tables
+  pulled : JoinPulled l.initial.state l.state l.tables;
 }
 
 abbrev pub decreases-loop-tables : goal.decreases-loop-tables

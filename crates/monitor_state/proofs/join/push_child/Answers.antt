@@ -7,23 +7,22 @@ use Rattle.monitor_state.specs.JoinFeeding.{child_fed}
 use Rattle.monitor_state.proofs.join.push_child.Goals as goal
 
 pub loop-table-init : goal.loop-table-init
-loop-table-init c =
-    (
-      [], refl,
-      ap (λ (cs : List ChildOf). record c.args.state.now { children = cs }) (fed_none c.args.state.now.children c.args.child)
-    )
+loop-table-init c = (
+  [],
+  refl,
+  ap (λ (cs : List ChildOf). record c.args.state.now { children = cs }) (fed_none c.args.state.now.children c.args.child),
+)
 
 pub loop-table-preserved : goal.loop-table-preserved
 loop-table-preserved c =
-    let front : List TableOf = c.loop-table.invariant.0 in
-    (
+    let front : List TableOf = c.loop-table.invariant.0 in (
       front ++ c.in-Some.table ∷ [],
       moved_one c.args.tables front c.loop-table.tables c.take.new.self c.in-Some.table c.loop-table.invariant.1
-      (taken_one c.take.result c.in-Some.table c.loop-table.tables c.take.new.self c.in-Some.is c.take.ensures.first),
+          (taken_one c.take.result c.in-Some.table c.loop-table.tables c.take.new.self c.in-Some.is c.take.ensures.first),
       c.in_ok-push.ensures.pushed
-      ∙ ap (λ (x : JoinOf). record x { children = child_pushed x.children c.args.child c.in-Some.table }) c.loop-table.invariant.2
-      ∙ ap (λ (cs : List ChildOf). record c.args.state.now { children = cs })
-      (fed_one c.args.state.now.children c.args.child front c.in-Some.table)
+          ∙ ap (λ (x : JoinOf). record x { children = child_pushed x.children c.args.child c.in-Some.table }) c.loop-table.invariant.2
+          ∙ ap (λ (cs : List ChildOf). record c.args.state.now { children = cs })
+          (fed_one c.args.state.now.children c.args.child front c.in-Some.table),
     )
 
 pub returns : goal.returns

@@ -5,5 +5,5 @@ use Rattle.monitor_state.proofs.join.push_children.Given as goal
 abbrev pub invariant-loop-tables : goal.invariant-loop-tables
 invariant-loop-tables l = record {
   number : l.child ≡ length l.yielded;
-  fed : l.state ≡ join_fed l.initial.state l.yielded
+  fed : l.state ≡ join_fed l.initial.state l.yielded;
 }

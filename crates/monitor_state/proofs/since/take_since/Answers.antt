@@ -20,6 +20,6 @@ returns c =
       lefts = c.in_ok-push_lefts.ensures;
       rights = c.in_ok-push_rights.ensures;
       pulls = pulls;
-      ends = ends
+      ends = ends;
     })
     c.pulled.ensures.pulled c.pulled.ensures.ends
