@@ -70,14 +70,16 @@ any_kept : (test p : Event → Bool) (xs : List Event) → list_any test (filter
 any_kept test p [] = refl
 any_kept test p (x ∷ xs) = step (p x) ∙ ap (λ t. (p x && test x) || t) (any_kept test p xs)
   where
-    step : (b : Bool) → list_any test (cond b (x ∷ filter p xs) (filter p xs)) ≡ ((b && test x) || list_any test (filter p xs))
+    step : (b : Bool) → list_any test (cond b (x ∷ filter p xs) (filter p xs))
+        ≡ ((b && test x) || list_any test (filter p xs))
     step true = refl
     step false = refl
 
 module _ (v : Valuation) (atom : OneAtom) where
   -- an event's own row is v's exactly where it is the event that the atom stands for at v
   event_alike : (event : Event)
-      → (is_match atom event && eq_by_cmp row_cmp (map v (variables_in atom.args)) (row_read (record { atom = atom; columns = variables_in atom.args }) event))
+      → (is_match atom event && eq_by_cmp row_cmp (map v (variables_in atom.args))
+      (row_read (record { atom = atom; columns = variables_in atom.args }) event))
       ≡ eq_by_cmp event_cmp (event_of v atom) event
   unfolding is_match
   event_alike event =
@@ -114,6 +116,7 @@ module _ (v : Valuation) (atom : OneAtom) where
       let row = map v columns in
       any_map (eq_by_cmp row_cmp row) (row_read q) (filter (is_match atom) events)
       ∙ any_kept (λ e. eq_by_cmp row_cmp row (row_read q e)) (is_match atom) events
-      ∙ any_alike (λ e. is_match atom e && eq_by_cmp row_cmp row (row_read q e)) (eq_by_cmp event_cmp (event_of v atom))
+      ∙ any_alike (λ e. is_match atom e && eq_by_cmp row_cmp row (row_read q e))
+      (eq_by_cmp event_cmp (event_of v atom))
       events event_alike
       ∙ sym (any_ascending event_total event_exact (eq_by_cmp event_cmp (event_of v atom)) events)

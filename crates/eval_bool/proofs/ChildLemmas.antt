@@ -86,7 +86,8 @@ join_to columns tests p n xs is =
 
 pub join_stays : (columns : List ℕ) (tests : List TestOf) (p : ℕ) (xs ys : List ChildOf)
     → IsJoin columns tests p xs → ((n : ℕ) × (ys ≡ advanced_to n xs)) → IsJoin columns tests p ys
-join_stays columns tests p xs ys is to = subst (IsJoin columns tests p) (sym to.1) (join_to columns tests p to.0 xs is)
+join_stays columns tests p xs ys is to =
+    subst (IsJoin columns tests p) (sym to.1) (join_to columns tests p to.0 xs is)
 
 alike_advanced : (xs : List ChildOf) → Alike xs (map child_advanced xs)
 alike_advanced [] = tt
@@ -105,12 +106,14 @@ few_advanced p (x ∷ xs) due few =
     (one_less p x.tables parts.0 few.0, few_advanced p xs parts.1 few.1)
 
 -- after all of them were taken
-pub join_advances : (columns : List ℕ) (tests : List TestOf) (p : ℕ) (xs ys : List ChildOf) → IsJoin columns tests p xs
+pub join_advances : (columns : List ℕ) (tests : List TestOf) (p : ℕ) (xs ys : List ChildOf)
+    → IsJoin columns tests p xs
     → list_all (λ c. nat_lt 0 (length c.tables)) xs ≡ true → ys ≡ map child_advanced xs
     → IsJoin columns tests (p + 1) ys
 join_advances columns tests p xs ys is due e =
     subst (IsJoin columns tests (p + 1)) (sym e)
-    (join_alike columns tests p (p + 1) xs (map child_advanced xs) is (alike_advanced xs) (few_advanced p xs due is.few))
+    (join_alike columns tests p (p + 1) xs (map child_advanced xs) is (alike_advanced xs)
+    (few_advanced p xs due is.few))
 
 -- where a position is due, fewer than 2^63 were pulled
 pub few_pulled : (p : ℕ) (xs : List ChildOf) → 0 < length xs → list_all (λ c. nat_lt 0 (length c.tables)) xs ≡ true
@@ -154,6 +157,11 @@ pub columns_at : (xs : List ChildOf) (n : ℕ) (d : ChildOf) → n < length xs
 columns_at [] n d within = absurd (omega arith)
 columns_at (x ∷ xs) zero d within = refl
 columns_at (x ∷ xs) (suc n) d within = columns_at xs n d (omega arith)
+
+pub tables_at : (xs : List ChildOf) (n : ℕ) (d : ChildOf) → n < length xs → child_tables xs n ≡ (get_or xs n d).tables
+tables_at [] n d within = absurd (omega arith)
+tables_at (x ∷ xs) zero d within = refl
+tables_at (x ∷ xs) (suc n) d within = tables_at xs n d (omega arith)
 
 pub pushed_at : (xs : List ChildOf) (n : ℕ) (d new : ChildOf) (t : TableOf) → n < length xs
     → new ≡ record (get_or xs n d) { tables = (get_or xs n d).tables ++ t ∷ [] }

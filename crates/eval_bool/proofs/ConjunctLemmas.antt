@@ -23,7 +23,8 @@ conjunct_apart (Child columns negated ∷ cs) apart =
     let parts = and_parts (all_apart columns) (all_children all_apart (children_of cs)) apart in
     apart_joined columns (conjunct_columns cs) parts.0 (conjunct_apart cs parts.1)
 conjunct_apart (Test c wanted ∷ cs) apart =
-    apart_joined (compared c) (conjunct_columns cs) (variables_apart (c.left ∷ c.right ∷ [])) (conjunct_apart cs apart)
+    apart_joined (compared c) (conjunct_columns cs) (variables_apart (c.left ∷ c.right ∷ []))
+    (conjunct_apart cs apart)
 
 module _ (y : ℕ) where
   either : (xs ys bound : List ℕ) → all_among xs bound ≡ true → (among y ys ≡ true → among y bound ≡ true)
@@ -48,10 +49,12 @@ module _ (y : ℕ) where
       (list_all (λ t. all_among (compared t.comparison) bound) (tests_of cs)) tests in
       either (compared c) (conjunct_columns cs) bound parts.0 (inside bound cs children parts.1) h
 
-  whole : (cs : List ConjunctOf) → among y (bound_columns (children_of cs)) ≡ true → among y (conjunct_columns cs) ≡ true
+  whole : (cs : List ConjunctOf) → among y (bound_columns (children_of cs)) ≡ true
+      → among y (conjunct_columns cs) ≡ true
   whole [] h = h
   whole (Child columns true ∷ cs) h =
-      among_joined y columns (conjunct_columns cs) ∙ or_right (among y columns) (among y (conjunct_columns cs)) (whole cs h)
+      among_joined y columns (conjunct_columns cs)
+      ∙ or_right (among y columns) (among y (conjunct_columns cs)) (whole cs h)
   whole (Child columns false ∷ cs) h =
       among_joined y columns (conjunct_columns cs)
       ∙ elim (or_cases (among y columns) (among y (bound_columns (children_of cs)))

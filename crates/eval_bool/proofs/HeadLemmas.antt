@@ -46,9 +46,11 @@ drop_at xs now i old within e is =
     ∙ ap (λ c. c ∷ drop (suc i) xs) (sym (is ∙ ap (λ zs. get_or zs i old) e ∙ at_same xs i old))
     ∙ ap (λ k. old ∷ drop k xs) (sym (add-one i))
 
-heads_cons : (b : Bool) (c : ChildOf) (rest : List ChildOf) → heads_of b (c ∷ rest) ≡ heads_of b (c ∷ []) ++ heads_of b rest
+heads_cons : (b : Bool) (c : ChildOf) (rest : List ChildOf)
+    → heads_of b (c ∷ rest) ≡ heads_of b (c ∷ []) ++ heads_of b rest
 heads_cons b c rest =
-    sym (append_assoc (cond b (cond c.negated (take 1 c.tables) []) (cond c.negated [] (take 1 c.tables))) [] (heads_of b rest))
+    sym (append_assoc (cond b (cond c.negated (take 1 c.tables) []) (cond c.negated [] (take 1 c.tables))) []
+    (heads_of b rest))
 
 -- the tables taken, and those of the rest
 pub taken_more : (b : Bool) (xs rest : List ChildOf) (i : ℕ) (old : ChildOf) (heads more : List TableOf)
@@ -90,7 +92,8 @@ heads_hold v (c ∷ xs) due =
         && (all_have v (heads_of false xs) && none_has v (heads_of true xs)))
     by true [] some = cc
     by false [] some = cc
-    by true (t ∷ tables) some = swapped (all_have v (heads_of false xs)) (not (has t v)) (none_has v (heads_of true xs))
+    by true (t ∷ tables) some =
+        swapped (all_have v (heads_of false xs)) (not (has t v)) (none_has v (heads_of true xs))
       where
         swapped : (a b c : Bool) → (a && (b && c)) ≡ (b && (a && c))
         swapped true true c = refl

@@ -17,7 +17,8 @@ advanced_to (suc n) (c ∷ children) = child_advanced c ∷ advanced_to n childr
 abbrev pub heads_of : Bool → List ChildOf → List TableOf
 heads_of negated [] = []
 heads_of negated (c ∷ children) =
-    cond negated (cond c.negated (take 1 c.tables) []) (cond c.negated [] (take 1 c.tables)) ++ heads_of negated children
+    cond negated (cond c.negated (take 1 c.tables) [])
+    (cond c.negated [] (take 1 c.tables)) ++ heads_of negated children
 
 -- whether each of the tables has the valuation's row
 abbrev pub all_have : Valuation → List TableOf → Bool

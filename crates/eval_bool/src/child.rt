@@ -1,8 +1,9 @@
 //! A child of a conjunction, and its tables.
 ghost use Rattle.eval_bool.specs.JoinView.{child_advanced};
 ghost use Rattle.eval_bool.specs.Heads.{IsFirst};
-ghost use Rattle.std.specs.Prelude.{◌≡◌, ◌∷◌, ◌++◌, [], IfOk, OnOk, OnErr, length, nat_lt};
+ghost use Rattle.std.specs.Prelude.{◌≡◌, ◌∷◌, ◌++◌, [], IfOk, OnOk, OnErr, length, nat_lt, ◌+◌, ◌<◌, ◌^◌, IsTrue};
 
+use crate::room::fits;
 use relations::Table;
 use std::alloc::{AllocError, Global};
 use std::collections::VecDeque;
@@ -49,6 +50,14 @@ impl Child {
         ensures { result ≡ nat_lt 0 (length self.now.tables) }
     {
         !self.tables.is_empty()
+    }
+
+    /// Whether `push` may take the table after so many positions were pulled.
+    pub(crate) fn takes(&self, pulled: u64, table: &Table) -> bool
+        ensures columns { IsTrue result → table.now.columns ≡ self.now.columns }
+        ensures few { IsTrue result → pulled + length self.now.tables < 2 ^ 63 }
+    {
+        fits(self.columns.as_slice(), pulled, self.tables.len(), table)
     }
 
     /// Takes the next table.

@@ -61,14 +61,16 @@ impl JoinState {
         self.children.len()
     }
 
-    /// Whether a child can take the table, as `push` asks.
-    pub fn takes(&self, _child: u32, _table: &Table) -> bool
-        ensures child { IsTrue result → _child < length self.now.children }
-        ensures columns { IsTrue result → _table.now.columns ≡ child_columns self.now.children _child }
+    /// Whether the table meets the conditions of `push`.
+    pub fn takes(&self, child: u32, table: &Table) -> bool
+        ensures child { IsTrue result → child < length self.now.children }
+        ensures columns { IsTrue result →
+            table.now.columns ≡ child_columns self.now.children child }
         ensures few { IsTrue result →
-            self.now.pulled + length (child_tables self.now.children _child) < 2 ^ 63 }
+            self.now.pulled + length (child_tables self.now.children child) < 2 ^ 63 }
     {
-        false
+        let child = child as usize;
+        child < self.children.len() && self.children[child].takes(self.pulled, table)
     }
 
     /// Takes a child's next table.

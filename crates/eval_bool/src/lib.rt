@@ -12,6 +12,7 @@ mod join;
 mod matching;
 mod or;
 mod reorder;
+mod room;
 
 pub use atom::eval_atom;
 pub use conjunct::Conjunct;

@@ -6,6 +6,7 @@ ghost use Rattle.eval_bool.specs.Firsts.{first_has};
 ghost use Rattle.eval_bool.specs.OrView.{operand_columns, operand_tables, or_advanced, or_begun, or_due, or_pushed, same_columns};
 
 use crate::reorder::reordered;
+use crate::room::fits;
 use relations::Table;
 use std::alloc::{AllocError, Global};
 use std::collections::VecDeque;
@@ -81,6 +82,19 @@ impl OrState {
     {
         self.rights.push_back(table)?;
         Ok(())
+    }
+
+    /// Whether the table meets the conditions of `push`.
+    pub fn takes(&self, child: u32, table: &Table) -> bool
+        ensures child { IsTrue result → child < 2 }
+        ensures columns { IsTrue result → table.now.columns ≡ operand_columns self.now child }
+        ensures few { IsTrue result →
+            self.now.pulled + length (operand_tables self.now child) < 2 ^ 63 }
+    {
+        if child == 0 {
+            return fits(self.left.as_slice(), self.pulled, self.lefts.len(), table);
+        }
+        child == 1 && fits(self.right.as_slice(), self.pulled, self.rights.len(), table)
     }
 
     /// Takes an operand's next table, over that operand's columns.

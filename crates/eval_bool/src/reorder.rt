@@ -6,7 +6,7 @@ ghost use Rattle.mfotl_model.specs.Tables.{all_among, all_apart, has};
 use relations::Table;
 use std::alloc::{AllocError, Global};
 
-fn are_same(first: &[u32], second: &[u32]) -> bool
+pub(crate) fn are_same(first: &[u32], second: &[u32]) -> bool
     ensures { IsTrue result ↔ (first.now ≡ second.now) }
 {
     first == second

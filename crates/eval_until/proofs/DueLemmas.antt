@@ -1,5 +1,5 @@
 -- When the next position of UNTIL is due.
-use Rattle.std.proofs.Common.{◌≡◌, ℕ, zero, suc, ◌+◌, ◌-◌, ◌<◌, ◌≤◌, Bool, true, false, ◌&&◌, ◌||◌, nat_lt, min, List, [], ◌∷◌, Option, Some, None, length, slice_index, refl, sym, ap, ◌∙◌, arith, inl, inr, lt-ltb}
+use Rattle.std.proofs.Common.{◌≡◌, ℕ, zero, suc, ◌+◌, ◌-◌, ◌<◌, ◌≤◌, Bool, true, false, ◌&&◌, ◌||◌, nat_lt, min, List, [], ◌∷◌, Option, Some, None, length, slice_index, refl, ap, ◌∙◌, arith, inl, inr, lt-ltb}
 use borrow.Author.Tests.{ltb-true}
 use Rattle.std.proofs.lemmas.Bool.{cases_lt, and_parts, and_from, or_cases, or_left, or_right}
 use Rattle.std.specs.Cmp.{both_ways}
@@ -42,9 +42,12 @@ module _ (t : List ℕ) (p hi : ℕ) (times : List ℕ) (l r : ℕ) (long : leng
       let f = first some in
       let at = stands_at t p times k stands (omega arith) in
       let x : time_at t p + hi < time_at t (p + k) = omega (arith, f, at) in
-      and_from (nat_lt p (length t) && list_any (λ j. nat_lt (time_at t p + hi) (time_at t j)) (range_with_len 0 (length t)))
-      (list_all (λ j. nat_lt (time_at t p + hi) (time_at t j) || (nat_lt j l && nat_lt j r)) (range_with_len p (length t - p)))
-      (and_from (nat_lt p (length t)) (list_any (λ j. nat_lt (time_at t p + hi) (time_at t j)) (range_with_len 0 (length t)))
+      and_from (nat_lt p (length t) && list_any (λ j. nat_lt (time_at t p + hi) (time_at t j))
+      (range_with_len 0 (length t)))
+      (list_all (λ j. nat_lt (time_at t p + hi) (time_at t j) || (nat_lt j l && nat_lt j r))
+      (range_with_len p (length t - p)))
+      (and_from (nat_lt p (length t))
+      (list_any (λ j. nat_lt (time_at t p + hi) (time_at t j)) (range_with_len 0 (length t)))
       (lt-ltb p (length t) (omega arith))
       (any_from (λ j. nat_lt (time_at t p + hi) (time_at t j)) 0 (length t) (p + k) (omega arith) (omega arith)
       (lt-ltb _ _ x)))
@@ -63,9 +66,12 @@ module _ (t : List ℕ) (p hi : ℕ) (times : List ℕ) (l r : ℕ) (long : leng
   unfolding until_settled
   far_from settled =
       let k : ℕ = min (min l r - p) (length times - 1) in
-      let both = and_parts (nat_lt p (length t) && list_any (λ j. nat_lt (time_at t p + hi) (time_at t j)) (range_with_len 0 (length t)))
-          (list_all (λ j. nat_lt (time_at t p + hi) (time_at t j) || (nat_lt j l && nat_lt j r)) (range_with_len p (length t - p))) settled in
-      let parts = and_parts (nat_lt p (length t)) (list_any (λ j. nat_lt (time_at t p + hi) (time_at t j)) (range_with_len 0 (length t))) both.0 in
+      let both = and_parts (nat_lt p (length t) && list_any (λ j. nat_lt (time_at t p + hi) (time_at t j))
+      (range_with_len 0 (length t)))
+      (list_all (λ j. nat_lt (time_at t p + hi) (time_at t j) || (nat_lt j l && nat_lt j r))
+      (range_with_len p (length t - p))) settled in
+      let parts = and_parts (nat_lt p (length t))
+      (list_any (λ j. nat_lt (time_at t p + hi) (time_at t j)) (range_with_len 0 (length t))) both.0 in
       let n : p < length t = ltb-true p (length t) parts.0 in
       let w = any_in (λ j. nat_lt (time_at t p + hi) (time_at t j)) 0 (length t) parts.1 in
       let x : time_at t p + hi < time_at t w.0 = ltb-true (time_at t p + hi) (time_at t w.0) w.3 in

@@ -1,5 +1,5 @@
 -- The state of NEXT: what a push and a pull keep, and what a pull answers.
-use Rattle.std.proofs.Common.{◌≡◌, ℕ, ◌+◌, ◌-◌, ◌<◌, ◌≤◌, Bool, true, false, ◌&&◌, cond, nat_lt, List, [], ◌∷◌, ◌++◌, length, get_or, drop, refl, sym, subst, ap, ap₂, ◌∙◌, arith}
+use Rattle.std.proofs.Common.{◌≡◌, ℕ, ◌+◌, ◌-◌, ◌<◌, Bool, true, false, ◌&&◌, cond, nat_lt, List, [], ◌∷◌, ◌++◌, length, get_or, sym, ap, ap₂, ◌∙◌, arith}
 use borrow.Author.Tests.{ltb-true}
 use Rattle.std.proofs.lemmas.Bool.{and_parts}
 use Rattle.std.proofs.lemmas.Bool.Decides.{nat_tests}
@@ -8,21 +8,9 @@ use Rattle.mfotl_model.specs.Intervals.{in_interval}
 use Rattle.mfotl_model.specs.Satisfaction.{Valuation, next, time_at, truth_at}
 use Rattle.mfotl_model.specs.Settled.{next_settled}
 use Rattle.mfotl_model.specs.Tables.{TableOf, has}
-use Rattle.mfotl_model.specs.declared.interval.Interval.{Interval}
 use Rattle.relations.specs.Pushed.{StandFrom}
 use Rattle.eval_until.specs.NextView.{FollowsNext, NextDueIsSettled, NextOf, next_due, tables_pushed}
 use Rattle.relations.proofs.PushedLemmas.{stand_first, stand_push}
-
-pub next_begins : (interval : Interval) (columns : List ℕ) (t : List ℕ) (a : List Bool) (v : Valuation)
-    → FollowsNext (record {
-      interval = interval;
-      columns = columns;
-      pulled = 0;
-      times = [];
-      started = false;
-      tables = [];
-    }) t a v
-next_begins interval columns t a v = record { long = omega arith; times = tt; tables = tt }
 
 pub table_kept : (s : NextOf) (table : TableOf) → s.started ≡ true → (t : List ℕ) (a : List Bool) (v : Valuation)
     → FollowsNext s t a v → has table v ≡ truth_at a (tables_pushed s)
@@ -78,9 +66,10 @@ module _ (s : NextOf) (now then : ℕ) (ts : List ℕ) (table : TableOf) (rest :
   next_answers e =
       let at = stand_first (λ i x. x ≡ time_at t i) s.pulled s.times ts now times f.times in
       let l : nat_lt (s.pulled + 1) (length t) ≡ true = (let n = ap (λ (xs : List ℕ). length xs) times in
-          let m = f.long in grind (arith, nat_tests)) in
+      let m = f.long in grind (arith, nat_tests)) in
       ap₂ (λ d h. in_interval s.interval d && h)
-      (ap₂ (λ x y. x - y) (stands_next ts at.1 (omega (arith, later_time s due, ap (λ (xs : List ℕ). length xs) times)) e)
+      (ap₂ (λ x y. x - y) (stands_next ts at.1
+      (omega (arith, later_time s due, ap (λ (xs : List ℕ). length xs) times)) e)
       at.0)
       (stand_first (λ i (x : TableOf). has x v ≡ truth_at a i) (s.pulled + 1) s.tables rest table tables f.tables).0
       ∙ sym (ap (λ b. b && in_interval s.interval (time_at t (s.pulled + 1) - time_at t s.pulled)
@@ -89,7 +78,8 @@ module _ (s : NextOf) (now then : ℕ) (ts : List ℕ) (table : TableOf) (rest :
 pub next_due_settled : NextDueIsSettled
 unfolding next_settled
 next_due_settled s t e =
-    ap₂ (λ a b. a && b) (let l : nat_lt 1 (length s.times) ≡ nat_lt (s.pulled + 1) (length t) = grind (arith, nat_tests)
+    ap₂ (λ a b. a && b) (let l : nat_lt 1 (length s.times) ≡ nat_lt (s.pulled + 1) (length t) =
+    grind (arith, nat_tests)
     in l) (by s.started)
   where
     by : (b : Bool) → (b && nat_lt 0 (length s.tables))

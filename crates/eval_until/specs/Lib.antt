@@ -5,4 +5,5 @@ pub mod Entries
 pub mod Starts
 pub mod AheadView
 pub mod Rules
+pub mod Keeping
 pub mod UntilView

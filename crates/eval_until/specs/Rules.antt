@@ -10,7 +10,12 @@ use Rattle.eval_until.specs.Starts.{kept_start}
 -- each entry stands at a position that was taken and not pulled, and its run doesn't begin behind it
 abbrev pub Waiting : ℕ → ℕ → List (List Value × List Entry) → Type 0
 Waiting pulled taken rows = (u : List Value)
-    → list_all (λ e. nat_le pulled e.place && nat_lt e.place taken && nat_le e.start e.place) (entries_of rows u) ≡ true
+    → list_all (λ e. nat_le pulled e.place && nat_lt e.place taken && nat_le e.start e.place) (entries_of rows u)
+    ≡ true
+
+-- whether each of the entries stands before a position
+abbrev pub all_before : ℕ → List Entry → Bool
+all_before p entries = list_all (λ e. nat_lt e.place p) entries
 
 -- the positions of entries ascend strictly
 abbrev pub PlacesAscend : List Entry → Type 0

@@ -1,5 +1,5 @@
 -- UNTIL as far as the first positions decide it, and where the left operand's present run begins.
-use Rattle.std.specs.Prelude.{ℕ, zero, suc, ◌+◌, ◌-◌, Bool, cond, ◌&&◌, List}
+use Rattle.std.specs.Prelude.{ℕ, zero, suc, ◌-◌, Bool, cond, ◌&&◌, List}
 use Rattle.std.specs.List.{list_any, list_all, range_with_len}
 use Rattle.mfotl_model.specs.Intervals.{in_interval}
 use Rattle.mfotl_model.specs.Satisfaction.{time_at, truth_at}

@@ -54,29 +54,29 @@ abbrev pub due : UntilOf → Bool
 due s = past_bound s.ahead.interval.hi
     (s.ahead.taken + min (length s.lefts) (length s.rights) - s.ahead.pulled) s.times
 
--- all were taken that could be, and nothing else was done
-pub record Takes (old new : UntilOf) : Type 0 where
+-- the tables of n positions more were taken, and nothing else was done
+pub record Takes (n : ℕ) (old new : UntilOf) : Type 0 where
   pub interval : new.ahead.interval ≡ old.ahead.interval
   pub left : new.ahead.left ≡ old.ahead.left
   pub right : new.ahead.right ≡ old.ahead.right
   pub negated : new.ahead.negated ≡ old.ahead.negated
   pub pulled : new.ahead.pulled ≡ old.ahead.pulled
-  pub taken : new.ahead.taken ≡ old.ahead.taken + to_take old
+  pub taken : new.ahead.taken ≡ old.ahead.taken + n
   pub times : new.times ≡ old.times
-  pub lefts : new.lefts ≡ drop (to_take old) old.lefts
-  pub rights : new.rights ≡ drop (to_take old) old.rights
+  pub lefts : new.lefts ≡ drop n old.lefts
+  pub rights : new.rights ≡ drop n old.rights
 
 -- the same, and one position was pulled
-pub record Advances (old new : UntilOf) : Type 0 where
+pub record Advances (n : ℕ) (old new : UntilOf) : Type 0 where
   pub interval : new.ahead.interval ≡ old.ahead.interval
   pub left : new.ahead.left ≡ old.ahead.left
   pub right : new.ahead.right ≡ old.ahead.right
   pub negated : new.ahead.negated ≡ old.ahead.negated
   pub pulled : new.ahead.pulled ≡ old.ahead.pulled + 1
-  pub taken : new.ahead.taken ≡ old.ahead.taken + to_take old
+  pub taken : new.ahead.taken ≡ old.ahead.taken + n
   pub times : new.times ≡ drop 1 old.times
-  pub lefts : new.lefts ≡ drop (to_take old) old.lefts
-  pub rights : new.rights ≡ drop (to_take old) old.rights
+  pub lefts : new.lefts ≡ drop n old.lefts
+  pub rights : new.rights ≡ drop n old.rights
 
 -- the next position is due exactly where the times settle it, of which as many were pushed, for operands
 -- that are ready at the positions whose tables were pushed

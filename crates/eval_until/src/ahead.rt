@@ -1,19 +1,147 @@
 //! What UNTIL has seen from the next position on.
-ghost use Rattle.std.specs.Prelude.{◌≡◌, [], IsTrue};
-ghost use Rattle.mfotl_model.specs.Tables.{all_apart};
+ghost use Rattle.std.specs.Prelude.{◌≡◌, ◌||◌, ◌&&◌, ◌+◌, ◌-◌, ◌∷◌, ◌++◌, ◌≤◌, ◌<◌, ◌^◌, [], ℕ, Bool, true, IfOk, IsTrue, List, OnOk, cond, if◌then◌else◌, is_ok, length, nat_le};
+ghost use Rattle.std.specs.List.Sorted.{IsStrictlySortedBy};
+ghost use Rattle.mfotl_model.specs.Intervals.{in_interval};
+ghost use Rattle.mfotl_model.specs.Tables.{all_apart, all_sized, has_row, part};
+ghost use Rattle.mfotl_model.specs.Values.{row_cmp};
+ghost use Rattle.mfotl_model.specs.declared.value.Value.{Value};
+ghost use Rattle.relations.specs.Pushed.{turned};
+ghost use Rattle.eval_until.specs.AheadView.{AheadOf, met, run_start};
+ghost use Rattle.eval_until.specs.Entries.{entries_of};
+ghost use Rattle.eval_until.specs.Keeping.{Covered, CoveredStarts, Fresh, IsLater, IsThinned, Keeps, NotAfter, Rising};
+ghost use Rattle.eval_until.specs.Rules.{Ascending, StartsAbove, StartsBelow, Waiting};
+ghost use Rattle.eval_until.specs.Starts.{kept_start, later_start, start_of, start_taken};
 
 use crate::entries::Entries;
+use crate::rows::{add_rows, forget_rows, push_met};
+use crate::starts::{apply_left, forget_starts};
 use mfotl_model::{Interval, Row};
-use std::alloc::Global;
-use std::collections::BTreeMap;
+use relations::Table;
+use std::alloc::{AllocError, Global};
+use std::collections::{BTreeMap, VecDeque};
 use std::marker::Model;
+use std::mem;
 
+/// The rows of the tables of one position: the right operand's, and those of a negated left one, whose
+/// runs break there.
+#[derive(Drop)]
+pub struct Taken {
+    pub place: u64,
+    pub rights: Vec<Row>,
+    pub breaks: Vec<Row>,
+}
+
+/// What is kept of the positions that were taken, and the rows that it came with, by their positions,
+/// so that what is pulled is found.
 #[derive(Drop)]
 struct Contents {
     starts: BTreeMap<Row, u64>,
     rows: BTreeMap<Row, Entries>,
+    queue: VecDeque<Taken>,
 }
 
+// the rows of the left operand's table that the queue needs: none where it is not negated
+fn breaks_of(alloc: Global, negated: bool, lefts: Vec<Row>) -> Vec<Row>
+    ensures { negated ≡ true → result.items ≡ lefts.items }
+{
+    if negated { lefts } else { Vec::new(alloc) }
+}
+
+/// One position more: the right operand's rows, then the left operand's.
+fn stepped(
+    alloc: Global,
+    contents: Contents,
+    left: &[u32],
+    right: &[u32],
+    negated: bool,
+    lefts: Vec<Row>,
+    rights: Vec<Row>,
+    pulled: u64,
+    place: u64,
+    ts: u64,
+) -> Result<Contents, AllocError>
+    requires kept { Keeps negated right.now pulled place contents.starts.entries contents.rows.entries contents.queue.items }
+    requires sized { IsTrue (all_sized (length right.now) rights.items) }
+    requires sorted { IsStrictlySortedBy row_cmp rights.items }
+    requires low { pulled ≤ place }
+    requires few { place < 2 ^ 63 }
+    ensures rows { IfOk result (λ next. (u : List Value) → entries_of next.rows.entries u
+        ≡ cond (has_row rights.items u) (entries_of contents.rows.entries u ++ record { place = place; start = start_of negated place contents.starts.entries (part right.now left.now u); ts = ts } ∷ [])
+        (entries_of contents.rows.entries u)) }
+    ensures starts { IfOk result (λ next. (w : List Value) → kept_start next.starts.entries w
+        ≡ start_taken negated place lefts.items contents.starts.entries w) }
+    ensures kept { IfOk result (λ next.
+        Keeps negated right.now pulled (place + 1) next.starts.entries next.rows.entries next.queue.items) }
+{
+    let Contents {
+        mut starts,
+        mut rows,
+        mut queue,
+    } = contents;
+    let table = rights.as_slice();
+    add_rows(
+        alloc, &mut rows, &starts, right, left, negated, table, place, ts,
+    )?;
+    apply_left(alloc, &mut starts, negated, lefts.as_slice(), place)?;
+    let breaks = breaks_of(alloc, negated, lefts);
+    queue.push_back(Taken {
+        place,
+        rights,
+        breaks,
+    })?;
+    Ok(Contents {
+        starts,
+        rows,
+        queue,
+    })
+}
+
+// a run that began with the position `next` or before tells nothing more; only those of a negated
+// operand may be forgotten, since they are taken to begin with the first position
+fn forget_breaks(starts: &mut BTreeMap<Row, u64>, negated: bool, table: &[Row], next: u64)
+    ensures { (w : List Value) → kept_start starts.new.entries w
+        ≡ cond (negated && has_row table.now w) (later_start next (kept_start starts.old.entries w))
+        (kept_start starts.old.entries w) }
+{
+    if negated {
+        forget_starts(starts, table, next);
+    }
+}
+
+/// Forgets what stands before the position `next`, by the rows that it came with.
+fn expire(
+    rows: &mut BTreeMap<Row, Entries>,
+    starts: &mut BTreeMap<Row, u64>,
+    queue: &mut VecDeque<Taken>,
+    negated: bool,
+    next: u64,
+)
+    requires rows { Covered queue.old.items rows.old.entries }
+    requires rising { Rising queue.old.items }
+    ensures rows { (u : List Value) →
+        IsThinned next (entries_of rows.old.entries u) (entries_of rows.new.entries u) }
+    ensures starts { (w : List Value) →
+        IsLater negated next (kept_start starts.old.entries w) (kept_start starts.new.entries w) }
+    ensures covered { Covered queue.new.items rows.new.entries }
+    ensures breaks { negated ≡ true → CoveredStarts queue.old.items starts.old.entries →
+        CoveredStarts queue.new.items starts.new.entries }
+    ensures rising { Rising queue.new.items }
+    ensures fresh { Fresh next queue.new.items }
+    ensures after { (p : ℕ) → NotAfter p queue.old.items → NotAfter p queue.new.items }
+{
+    while let Some(front) = queue.front() {
+        if front.place >= next {
+            return;
+        }
+        let Some(old) = queue.pop_front() else {
+            return;
+        };
+        forget_rows(rows, old.rights.as_slice(), next);
+        forget_breaks(starts, negated, old.breaks.as_slice(), next);
+    }
+}
+
+/// What UNTIL has seen from the next position on.
 #[derive(Drop)]
 pub struct Ahead {
     interval: Interval,
@@ -27,10 +155,13 @@ pub struct Ahead {
 
 impl Model for Ahead {
     ghost use Rattle.eval_until.specs.AheadView.{AheadOf};
+    ghost use Rattle.eval_until.specs.Keeping.{Keeps};
 
     ghost Value = { AheadOf };
 
     ghost view = { λ k. record { interval = k.interval; left = k.left.items; right = k.right.items; negated = k.negated; pulled = k.pulled; taken = k.taken; starts = k.contents.starts.entries; rows = k.contents.rows.entries } };
+
+    ghost invariant = { λ k. Keeps k.negated k.right.items k.pulled k.taken k.contents.starts.entries k.contents.rows.entries k.contents.queue.items };
 }
 
 impl Ahead {
@@ -55,8 +186,108 @@ impl Ahead {
             contents: Contents {
                 starts: BTreeMap::new(alloc),
                 rows: BTreeMap::new(alloc),
+                queue: VecDeque::new(alloc),
             },
         }
+    }
+
+    /// Takes one position more. Without memory nothing is kept.
+    pub fn take(
+        &mut self,
+        alloc: Global,
+        lefts: Table,
+        rights: Table,
+        ts: u64,
+    ) -> Result<(), AllocError>
+        requires low { self.old.pulled ≤ self.old.taken }
+        requires few { self.old.taken < 2 ^ 63 }
+        requires columns { rights.columns ≡ self.old.right }
+        ensures met { OnOk result ((i x : ℕ) (u : List Value) → met self.new i x u
+            ≡ (met self.old i x u || (has_row rights.rows u
+            && (nat_le (run_start self.old (part self.old.right self.old.left u)) i
+            && nat_le i self.old.taken && in_interval self.old.interval (ts - x))))) }
+        ensures start { OnOk result ((w : List Value) → run_start self.new w
+            ≡ cond (turned self.old.negated (has_row lefts.rows w)) (run_start self.old w)
+            (self.old.taken + 1)) }
+        ensures taken { self.new.taken ≡ (if is_ok result then self.old.taken + 1 else self.old.taken) }
+        ensures pulled { self.new.pulled ≡ self.old.pulled }
+        ensures interval { self.new.interval ≡ self.old.interval }
+        ensures left { self.new.left ≡ self.old.left }
+        ensures right { self.new.right ≡ self.old.right }
+        ensures negated { self.new.negated ≡ self.old.negated }
+    {
+        let contents = mem::replace(
+            &mut self.contents,
+            Contents {
+                starts: BTreeMap::new(alloc),
+                rows: BTreeMap::new(alloc),
+                queue: VecDeque::new(alloc),
+            },
+        );
+        let left = self.left.as_slice();
+        let right = self.right.as_slice();
+        let lefts = lefts.into_rows();
+        let rights = rights.into_rows();
+        self.contents = stepped(
+            alloc,
+            contents,
+            left,
+            right,
+            self.negated,
+            lefts,
+            rights,
+            self.pulled,
+            self.taken,
+            ts,
+        )?;
+        self.taken += 1;
+        Ok(())
+    }
+
+    /// Goes on to the next position, and forgets what stands before it.
+    pub fn advance(&mut self)
+        requires { self.old.pulled < 2 ^ 63 }
+        ensures met { (i x : ℕ) (u : List Value) → self.old.pulled + 1 ≤ i →
+            met self.new i x u ≡ met self.old i x u }
+        ensures start { (i : ℕ) (w : List Value) → self.old.pulled + 1 ≤ i →
+            nat_le (run_start self.new w) i ≡ nat_le (run_start self.old w) i }
+        ensures pulled { self.new.pulled ≡ self.old.pulled + 1 }
+        ensures taken { self.new.taken ≡ self.old.taken }
+        ensures interval { self.new.interval ≡ self.old.interval }
+        ensures left { self.new.left ≡ self.old.left }
+        ensures right { self.new.right ≡ self.old.right }
+        ensures negated { self.new.negated ≡ self.old.negated }
+    {
+        let next = self.pulled + 1;
+        let Contents {
+            starts,
+            rows,
+            queue,
+        } = &mut self.contents;
+        expire(rows, starts, queue, self.negated, next);
+        self.pulled = next;
+    }
+
+    /// Whether some entry of a row meets UNTIL at the position `i`, whose time is `x`.
+    pub fn met(&self, row: &Row, i: u64, x: u64) -> bool
+        ensures { result ≡ met self.now i x row.now }
+    {
+        match self.contents.rows.get(row) {
+            Some(entries) => entries.met(&self.interval, i, x),
+            None => false,
+        }
+    }
+
+    /// The rows of which some entry meets UNTIL at the position `i`, whose time is `x`.
+    pub fn table(&self, alloc: Global, i: u64, x: u64) -> Result<Table, AllocError>
+        ensures columns { IfOk result (λ table. table.columns ≡ self.now.right) }
+        ensures rows { IfOk result (λ table. (u : List Value) →
+            has_row table.rows u ≡ met self.now i x u) }
+    {
+        let mut rows = Vec::new(alloc);
+        push_met(alloc, &self.contents.rows, &mut rows, &self.interval, i, x)?;
+        let columns = Vec::from_slice(alloc, self.right.as_slice())?;
+        Ok(Table::from_rows(columns, rows))
     }
 
     pub fn taken(&self) -> u64
@@ -75,5 +306,21 @@ impl Ahead {
         ensures { result.now ≡ self.now.interval }
     {
         &self.interval
+    }
+
+    pub fn right(&self) -> &[u32]
+        ensures { result.now ≡ self.now.right }
+    {
+        self.right.as_slice()
+    }
+
+    /// What is kept of positions, and no more.
+    pub fn is_bounded(&self)
+        ensures waiting { Waiting self.now.pulled self.now.taken self.now.rows }
+        ensures ascend { Ascending self.now.rows }
+        ensures below { StartsBelow self.now.taken self.now.starts }
+        ensures above { self.now.negated ≡ true → StartsAbove self.now.pulled self.now.starts }
+    {
+        let _ = &self.taken;
     }
 }

@@ -4,7 +4,10 @@
 mod ahead;
 mod entries;
 pub mod laws;
+mod meeting;
 mod next;
+mod rows;
+mod starts;
 mod until;
 
 pub use entries::Entry;

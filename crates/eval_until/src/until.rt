@@ -1,15 +1,15 @@
 //! UNTIL over tables that are pushed position by position.
-ghost use Rattle.std.specs.Prelude.{◌≡◌, ◌+◌, ◌-◌, ◌<◌, ◌≤◌, ◌^◌, ◌∷◌, ◌++◌, [], ℕ, Bool, true, IfOk, IfSome, IsTrue, List, MatchOption, OnOk, is_some, length, min};
+ghost use Rattle.std.specs.Prelude.{◌≡◌, ◌+◌, ◌-◌, ◌<◌, ◌≤◌, ◌^◌, ◌∷◌, ◌++◌, [], ℕ, Bool, true, IfOk, IfSome, IsTrue, List, MatchOption, OnOk, drop, is_some, length, min, not};
 ghost use Rattle.mfotl_model.specs.Satisfaction.{Valuation, time_at, truth_at, until};
 ghost use Rattle.mfotl_model.specs.Tables.{all_among, all_apart, has, valuation};
 ghost use Rattle.mfotl_model.specs.Times.{NeverFalls};
 ghost use Rattle.relations.specs.Pushed.{left_holds};
 ghost use Rattle.eval_until.specs.Rules.{Ascending, StartsAbove, StartsBelow, Waiting};
-ghost use Rattle.eval_until.specs.UntilView.{Advances, Follows, FollowsLeft, Takes, UntilOf, due, past_bound, took_all};
+ghost use Rattle.eval_until.specs.UntilView.{Advances, Follows, FollowsLeft, Takes, UntilOf, due, past_bound, to_take, took_all};
 
 use crate::ahead::Ahead;
 use mfotl_model::{Interval, Row};
-use relations::Table;
+use relations::{Table, part_of};
 use std::alloc::{AllocError, Global};
 use std::collections::VecDeque;
 use std::marker::Model;
@@ -36,6 +36,17 @@ impl Model for UntilState {
     ghost view = { λ s. record { ahead = s.ahead; times = s.times.items; lefts = s.lefts.items; rights = s.rights.items } };
 
     ghost invariant = { λ s. record { low : s.ahead.pulled ≤ s.ahead.taken; high : s.ahead.taken ≤ s.ahead.pulled + length s.times.items; few : s.ahead.pulled + length s.times.items ≤ 2 ^ 63; inside : all_among s.ahead.left s.ahead.right ≡ true; left : AreOver s.ahead.left s.lefts.items; right : AreOver s.ahead.right s.rights.items } };
+}
+
+#[tactic(auto, using(relations::proofs::PushedLemmas::first_is))]
+fn first<T>(queue: &VecDeque<T>) -> &T
+    requires { 0 < length queue.now.items }
+    ensures { queue.now.items ≡ result.now ∷ drop 1 queue.now.items }
+{
+    match queue.front() {
+        Some(item) => item,
+        None => unreachable!(),
+    }
 }
 
 // whether the time at the place, or the last one, lies further than `hi` from the first
@@ -69,7 +80,14 @@ impl UntilState {
         ensures follows { IfOk result (λ state.
             (t : List ℕ) (a b : List Bool) (v : Valuation) → Follows state t a b v) }
     {
-        Err(AllocError)
+        let left = Vec::from_slice(alloc, left)?;
+        let right = Vec::from_slice(alloc, right)?;
+        Ok(UntilState {
+            ahead: Ahead::new(alloc, *interval, left, right, negated),
+            times: VecDeque::new(alloc),
+            lefts: VecDeque::new(alloc),
+            rights: VecDeque::new(alloc),
+        })
     }
 
     /// Takes the left operand's next table, which of a negated operand is the operand's own.
@@ -88,7 +106,8 @@ impl UntilState {
             ≡ truth_at a (self.old.ahead.taken + length self.old.lefts) →
             Follows self.new t a b v) }
     {
-        Err(AllocError)
+        self.lefts.push_back(table)?;
+        Ok(())
     }
 
     /// Takes the right operand's next table.
@@ -103,7 +122,8 @@ impl UntilState {
             has table v ≡ truth_at b (self.old.ahead.taken + length self.old.rights) →
             Follows self.new t a b v) }
     {
-        Err(AllocError)
+        self.rights.push_back(table)?;
+        Ok(())
     }
 
     /// Takes the next position's time.
@@ -119,12 +139,40 @@ impl UntilState {
             self.old.ahead.pulled + length self.old.times < length t →
             Follows self.new t a b v) }
     {
-        Err(AllocError)
+        self.times.push_back(ts)?;
+        Ok(())
+    }
+
+    fn can_take(&self) -> bool
+        ensures { result ≡ not (took_all self.now) }
+    {
+        let place = self.ahead.taken() - self.ahead.pulled();
+        place < self.times.len() as u64 && !self.lefts.is_empty() && !self.rights.is_empty()
+    }
+
+    fn take_one(&mut self, alloc: Global) -> Result<(), AllocError>
+        requires { IsTrue (not (took_all self.old)) }
+        ensures takes { OnOk result (Takes 1 self.old self.new) }
+        ensures left { OnOk result ((a : List Bool) (v : Valuation) →
+            FollowsLeft self.old a v → FollowsLeft self.new a v) }
+        ensures follows { OnOk result ((t : List ℕ) (a b : List Bool) (v : Valuation) →
+            Follows self.old t a b v → Follows self.new t a b v) }
+    {
+        let place = self.ahead.taken() - self.ahead.pulled();
+        let ts = self.times[place as usize];
+        let Some(left) = self.lefts.pop_front() else {
+            unreachable!();
+        };
+        let Some(right) = self.rights.pop_front() else {
+            unreachable!();
+        };
+        self.ahead.take(alloc, left, right, ts)?;
+        Ok(())
     }
 
     /// Takes the positions that can be taken.
     pub fn take_all(&mut self, alloc: Global) -> Result<(), AllocError>
-        ensures takes { OnOk result (Takes self.old self.new) }
+        ensures takes { OnOk result (Takes (to_take self.old) self.old self.new) }
         ensures all { OnOk result (IsTrue (took_all self.new)) }
         ensures due { OnOk result (due self.new ≡ due self.old) }
         ensures left { OnOk result ((a : List Bool) (v : Valuation) →
@@ -132,7 +180,10 @@ impl UntilState {
         ensures follows { OnOk result ((t : List ℕ) (a b : List Bool) (v : Valuation) →
             Follows self.old t a b v → Follows self.new t a b v) }
     {
-        Err(AllocError)
+        while self.can_take() {
+            self.take_one(alloc)?;
+        }
+        Ok(())
     }
 
     /// Whether the next position can be pulled.
@@ -146,19 +197,16 @@ impl UntilState {
 
     /// Whether the next position's table has the valuation that a row gives to its columns, without
     /// making the table. The columns are any, the right operand's among them.
-    pub fn holds(
-        &self,
-        alloc: Global,
-        columns: &[u32],
-        row: &Row,
-    ) -> Result<bool, AllocError>
+    pub fn holds(&self, alloc: Global, columns: &[u32], row: &Row) -> Result<bool, AllocError>
         requires due { IsTrue (due self.now) }
         requires all { IsTrue (took_all self.now) }
         ensures { IfOk result (λ yes. (t : List ℕ) (a b : List Bool) →
             Follows self.now t a b (valuation columns.now row.now) → NeverFalls t →
             yes ≡ until self.now.ahead.interval t a b self.now.ahead.pulled) }
     {
-        Err(AllocError)
+        let now = first(&self.times);
+        let own = part_of(alloc, columns, self.ahead.right(), row.values())?;
+        Ok(self.ahead.met(&own, self.ahead.pulled(), *now))
     }
 
     /// The table of the next position.
@@ -170,19 +218,38 @@ impl UntilState {
             Follows self.now t a b v → NeverFalls t →
             has table v ≡ until self.now.ahead.interval t a b self.now.ahead.pulled) }
     {
-        Err(AllocError)
+        let now = first(&self.times);
+        let table = self.ahead.table(alloc, self.ahead.pulled(), *now)?;
+        Ok(table)
+    }
+
+    fn go_on(&mut self)
+        requires due { IsTrue (due self.old) }
+        requires all { IsTrue (took_all self.old) }
+        ensures advances { Advances 0 self.old self.new }
+        ensures left { (a : List Bool) (v : Valuation) →
+            FollowsLeft self.old a v → FollowsLeft self.new a v }
+        ensures follows { (t : List ℕ) (a b : List Bool) (v : Valuation) →
+            Follows self.old t a b v → Follows self.new t a b v }
+    {
+        let Some(_now) = self.times.pop_front() else {
+            unreachable!();
+        };
+        self.ahead.advance();
     }
 
     /// Pulls one position, without its table.
     pub fn advance(&mut self, alloc: Global) -> Result<(), AllocError>
         requires due { IsTrue (due self.old) }
-        ensures advances { OnOk result (Advances self.old self.new) }
+        ensures advances { OnOk result (Advances (to_take self.old) self.old self.new) }
         ensures left { OnOk result ((a : List Bool) (v : Valuation) →
             FollowsLeft self.old a v → FollowsLeft self.new a v) }
         ensures follows { OnOk result ((t : List ℕ) (a b : List Bool) (v : Valuation) →
             Follows self.old t a b v → Follows self.new t a b v) }
     {
-        Err(AllocError)
+        self.take_all(alloc)?;
+        self.go_on();
+        Ok(())
     }
 
     /// The table of the next position, `None` while it is not due. Either way the positions are taken
@@ -190,7 +257,7 @@ impl UntilState {
     pub fn pull(&mut self, alloc: Global) -> Result<Option<Table>, AllocError>
         ensures due { IfOk result (λ answer. is_some answer ≡ due self.old) }
         ensures state { IfOk result (λ answer.
-            MatchOption answer (Takes self.old self.new) (λ _. Advances self.old self.new)) }
+            MatchOption answer (Takes (to_take self.old) self.old self.new) (λ _. Advances (to_take self.old) self.old self.new)) }
         ensures left { OnOk result ((a : List Bool) (v : Valuation) →
             FollowsLeft self.old a v → FollowsLeft self.new a v) }
         ensures follows { OnOk result ((t : List ℕ) (a b : List Bool) (v : Valuation) →
@@ -202,6 +269,27 @@ impl UntilState {
             Follows self.old t a b v → NeverFalls t →
             has table v ≡ until self.old.ahead.interval t a b self.old.ahead.pulled)) }
     {
-        Err(AllocError)
+        self.take_all(alloc)?;
+        if !self.is_due() {
+            return Ok(None);
+        }
+        let table = self.table(alloc)?;
+        self.go_on();
+        Ok(Some(table))
+    }
+
+    /// Of what is kept: each entry stands at a position that was taken and not pulled, those of a row by
+    /// strictly ascending positions, and no run begins behind the entry that names it; no start is behind
+    /// the positions taken, and one of a negated operand is behind the next position to pull.
+    pub fn keeps_no_more(&self)
+        ensures low { self.now.ahead.pulled ≤ self.now.ahead.taken }
+        ensures high { self.now.ahead.taken ≤ self.now.ahead.pulled + length self.now.times }
+        ensures waiting { Waiting self.now.ahead.pulled self.now.ahead.taken self.now.ahead.rows }
+        ensures ascend { Ascending self.now.ahead.rows }
+        ensures below { StartsBelow self.now.ahead.taken self.now.ahead.starts }
+        ensures above { self.now.ahead.negated ≡ true →
+            StartsAbove self.now.ahead.pulled self.now.ahead.starts }
+    {
+        self.ahead.is_bounded();
     }
 }

@@ -1,5 +1,6 @@
 -- Intervals and quantified variables at the head of tokens that the reader accepts.
-use Rattle.std.proofs.Common.{◌≡◌, ℕ, ℤ, zero, suc, ◌<◌, ◌≤◌, pos, negsuc, Bool, true, List, [], ◌∷◌, ◌++◌, length, map, Option, Some, None, refl, ap, sym, ◌∙◌, arith}
+use Rattle.std.proofs.Common.{◌≡◌, ℕ, ℤ, zero, suc, ◌<◌, ◌≤◌, pos, negsuc, Bool, true, List, [], ◌∷◌, ◌++◌, length}
+use Rattle.std.proofs.Common.{map, Option, Some, None, refl, ap, sym, ◌∙◌, arith}
 use Rattle.std.proofs.lemmas.List.{append_assoc, length-append}
 use Rattle.mfotl_lex.specs.Lexemes.{Lexeme}
 use Rattle.mfotl_model.specs.declared.interval.Interval.{Interval}
@@ -10,13 +11,22 @@ use Rattle.mfotl_parse.specs.declared.class.Class.TheVariants as classes
 use Rattle.mfotl_parse.specs.declared.class.Quantifier.{Quantifier}
 use Rattle.mfotl_parse.specs.declared.term.Operand.TheVariants as operands
 use Rattle.mfotl_parse.specs.Classes.{class_of, unit_of}
-use Rattle.mfotl_parse.specs.Grammar.{WrittenVariable, Bare, Asked, WrittenVariables, LastVariable, MoreVariables, WrittenBound, Count, Counted, WrittenEnd, Included, Excluded, Unbounded, WrittenInterval, Omitted, From, Above, variable_spelling, variables_spelling, bound_spelling, end_spelling, interval_spelling, FitsVariable, FitsVariables, FitsBound, FitsEnd, FitsInterval}
-use Rattle.mfotl_parse.specs.Intervals.{framed, with_interval, low_move, low_unit, low_number_move, low_done_move, high_move, high_unit, high_number_move, bracket, endless_move}
+use Rattle.mfotl_parse.specs.Grammar.{WrittenVariable, Bare, Asked, WrittenVariables, LastVariable, MoreVariables}
+use Rattle.mfotl_parse.specs.Grammar.{WrittenBound, Count, Counted, WrittenEnd, Included, Excluded, Unbounded}
+use Rattle.mfotl_parse.specs.Grammar.{WrittenInterval, Omitted, From, Above, variable_spelling, variables_spelling}
+use Rattle.mfotl_parse.specs.Grammar.{bound_spelling, end_spelling, interval_spelling, FitsVariable, FitsVariables}
+use Rattle.mfotl_parse.specs.Grammar.{FitsBound, FitsEnd, FitsInterval}
+use Rattle.mfotl_parse.specs.Intervals.{framed, with_interval, low_move, low_unit, low_number_move, low_done_move}
+use Rattle.mfotl_parse.specs.Intervals.{high_move, high_unit, high_number_move, bracket, endless_move}
 use Rattle.mfotl_parse.specs.Transitions.{Rule, Transition, first_keeps, within_depth}
-use Rattle.mfotl_parse.specs.Operands.{operand_move, fresh_move, maybe_move, maybe_number_move, maybe_word, maybe_unit, maybe_low, binder_move, binder_marked_move, bound_move}
+use Rattle.mfotl_parse.specs.Operands.{operand_move, fresh_move, maybe_move, maybe_number_move, maybe_word, maybe_unit}
+use Rattle.mfotl_parse.specs.Operands.{maybe_low, binder_move, binder_marked_move, bound_move}
 use Rattle.mfotl_parse.specs.Reading.{transition, transition_at}
 use Rattle.mfotl_parse.specs.Reduction.{hold}
-use Rattle.mfotl_parse.specs.States.{Frame, Parens, Negation, Moment, Binding, Left, SymbolTable, Partial, ExpectOperand, AfterTemporal, ExpectVariable, AfterVariableMark, AfterVariable, ExpectSign, AfterParen, AfterParenNumber, ExpectLow, AfterLowNumber, AfterLow, ExpectHigh, AfterHighNumber, AfterHigh, AfterStar}
+use Rattle.mfotl_parse.specs.States.{Frame, Parens, Negation, Moment, Binding, Left, SymbolTable, Partial}
+use Rattle.mfotl_parse.specs.States.{ExpectOperand, AfterTemporal, ExpectVariable, AfterVariableMark, AfterVariable}
+use Rattle.mfotl_parse.specs.States.{ExpectSign, AfterParen, AfterParenNumber, ExpectLow, AfterLowNumber, AfterLow}
+use Rattle.mfotl_parse.specs.States.{ExpectHigh, AfterHighNumber, AfterHigh, AfterStar}
 use Rattle.mfotl_parse.specs.Viability.{if_moved, accepts}
 use Rattle.mfotl_parse.proofs.SpelledMoves.{at_place}
 use Rattle.mfotl_parse.proofs.SpelledParts.{context_at}
@@ -73,43 +83,86 @@ pub record Timing (sig : List PredOf) (holds : List ℕ) (ts : List Lexeme) : Ty
   pub wanting : Wanting sig holds rest
 
 module _ (sig : List PredOf) (stack : List Frame) (nodes : ℕ) (names : SymbolTable) where
-  timed_wanting : (i : Interval) (rest : List Lexeme) → accepts sig rest (at_place ExpectOperand (with_interval i stack) nodes names) ≡ true → Wanting sig (map hold stack) rest
-  timed_wanting i rest h = record { stack = with_interval i stack; nodes = nodes; names = names; accepted = h; held = holds_same i stack }
+  timed_wanting : (i : Interval) (rest : List Lexeme)
+      → accepts sig rest (at_place ExpectOperand (with_interval i stack) nodes names) ≡ true
+      → Wanting sig (map hold stack) rest
+  timed_wanting i rest h =
+      record { stack = with_interval i stack; nodes = nodes; names = names; accepted = h; held = holds_same i stack }
 
-  bracket_one : (high : WrittenBound) (at low top : ℕ) (t : Lexeme) (ts : List Lexeme) (c : Class) → FitsBound high → class_of t ≡ c
-      → if_moved (bracket (context_at stack nodes names) at low top c) (accepts sig ts) ≡ true → UpTo sig (map hold stack) (bound_spelling high ++ t ∷ ts)
+  bracket_one : (high : WrittenBound) (at low top : ℕ) (t : Lexeme) (ts : List Lexeme) (c : Class) → FitsBound high
+      → class_of t ≡ c
+      → if_moved (bracket (context_at stack nodes names) at low top c) (accepts sig ts) ≡ true
+      → UpTo sig (map hold stack) (bound_spelling high ++ t ∷ ts)
   bracket_one high at low top t ts classes.CloseBracket fits class h =
-      record { end = Included high t; rest = ts; fits = (fits, class); parts = sym (append_assoc (bound_spelling high) (t ∷ []) ts); shorter = omega (arith, length-append (bound_spelling high) (t ∷ ts)); wanting = timed_wanting _ ts h }
+      record {
+        end = Included high t;
+        rest = ts;
+        fits = (fits, class);
+        parts = sym
+            (append_assoc (bound_spelling high) (t ∷ []) ts);
+        shorter = omega
+            (arith, length-append (bound_spelling high) (t ∷ ts));
+        wanting = timed_wanting _ ts h;
+      }
   bracket_one high at low top t ts classes.CloseParen fits class h =
-      record { end = Excluded high t; rest = ts; fits = (fits, class); parts = sym (append_assoc (bound_spelling high) (t ∷ []) ts); shorter = omega (arith, length-append (bound_spelling high) (t ∷ ts)); wanting = timed_wanting _ ts h }
+      record {
+        end = Excluded high t;
+        rest = ts;
+        fits = (fits, class);
+        parts = sym
+            (append_assoc (bound_spelling high) (t ∷ []) ts);
+        shorter = omega
+            (arith, length-append (bound_spelling high) (t ∷ ts));
+        wanting = timed_wanting _ ts h;
+      }
   bracket_one high at low top t ts _ fits class h = refused h _
 
   high_done : (high : WrittenBound) (at low top : ℕ) (ts : List Lexeme) → FitsBound high
-      → accepts sig ts (at_place (AfterHigh at low top) stack nodes names) ≡ true → UpTo sig (map hold stack) (bound_spelling high ++ ts)
+      → accepts sig ts (at_place (AfterHigh at low top) stack nodes names) ≡ true
+      → UpTo sig (map hold stack) (bound_spelling high ++ ts)
   unfolding accepts transition
   high_done high at low top [] fits h = refused h _
   high_done high at low top (t ∷ ts) fits h = bracket_one high at low top t ts (class_of t) fits refl h
 
-  high_units : (token unit : Lexeme) (at low number_at n : ℕ) (ts : List Lexeme) (seconds : Option ℕ) → class_of token ≡ classes.Integer (pos n) → class_of unit ≡ classes.Name → unit_of unit.text ≡ seconds
-      → if_moved (high_unit (context_at stack nodes names) at low number_at n seconds) (accepts sig ts) ≡ true → UpTo sig (map hold stack) (token ∷ unit ∷ ts)
+  high_units : (token unit : Lexeme) (at low number_at n : ℕ) (ts : List Lexeme) (seconds : Option ℕ)
+      → class_of token ≡ classes.Integer (pos n) → class_of unit ≡ classes.Name → unit_of unit.text ≡ seconds
+      → if_moved (high_unit (context_at stack nodes names) at low number_at n seconds) (accepts sig ts) ≡ true
+      → UpTo sig (map hold stack) (token ∷ unit ∷ ts)
   high_units token unit at low number_at n ts None number class lasts h = refused h _
-  high_units token unit at low number_at n ts (Some seconds) number class lasts h = high_done (Counted token n unit seconds) at low _ ts (number, class, lasts) h
+  high_units token unit at low number_at n ts (Some seconds) number class lasts h =
+      high_done (Counted token n unit seconds) at low _ ts (number, class, lasts) h
 
-  high_number_one : (token : Lexeme) (at low number_at n : ℕ) (t : Lexeme) (ts : List Lexeme) (c : Class) → class_of token ≡ classes.Integer (pos n) → class_of t ≡ c
-      → if_moved (high_number_move (context_at stack nodes names) at low number_at n t c) (accepts sig ts) ≡ true → UpTo sig (map hold stack) (token ∷ t ∷ ts)
-  high_number_one token at low number_at n t ts classes.Name number class h = high_units token t at low number_at n ts (unit_of t.text) number class refl h
-  high_number_one token at low number_at n t ts c number class h = bracket_one (Count token n) at low n t ts c number class h
+  high_number_one : (token : Lexeme) (at low number_at n : ℕ) (t : Lexeme) (ts : List Lexeme) (c : Class)
+      → class_of token ≡ classes.Integer (pos n) → class_of t ≡ c
+      → if_moved (high_number_move (context_at stack nodes names) at low number_at n t c) (accepts sig ts) ≡ true
+      → UpTo sig (map hold stack) (token ∷ t ∷ ts)
+  high_number_one token at low number_at n t ts classes.Name number class h =
+      high_units token t at low number_at n ts (unit_of t.text) number class refl h
+  high_number_one token at low number_at n t ts c number class h =
+      bracket_one (Count token n) at low n t ts c number class h
 
   high_number : (token : Lexeme) (at low number_at n : ℕ) (ts : List Lexeme) → class_of token ≡ classes.Integer (pos n)
-      → accepts sig ts (at_place (AfterHighNumber at low number_at n) stack nodes names) ≡ true → UpTo sig (map hold stack) (token ∷ ts)
+      → accepts sig ts (at_place (AfterHighNumber at low number_at n) stack nodes names) ≡ true
+      → UpTo sig (map hold stack) (token ∷ ts)
   unfolding accepts transition
   high_number token at low number_at n [] number h = refused h _
-  high_number token at low number_at n (t ∷ ts) number h = high_number_one token at low number_at n t ts (class_of t) number refl h
+  high_number token at low number_at n (t ∷ ts) number h =
+      high_number_one token at low number_at n t ts (class_of t) number refl h
 
-  endless_one : (star : Lexeme) (low : ℕ) (t : Lexeme) (ts : List Lexeme) (c : Class) → class_of star ≡ classes.Star → class_of t ≡ c
-      → if_moved (endless_move (context_at stack nodes names) low c) (accepts sig ts) ≡ true → UpTo sig (map hold stack) (star ∷ t ∷ ts)
+  endless_one : (star : Lexeme) (low : ℕ) (t : Lexeme) (ts : List Lexeme) (c : Class) → class_of star ≡ classes.Star
+      → class_of t ≡ c
+      → if_moved (endless_move (context_at stack nodes names) low c) (accepts sig ts) ≡ true
+      → UpTo sig (map hold stack) (star ∷ t ∷ ts)
   endless_one star low t ts classes.CloseParen stars class h =
-      record { end = Unbounded star t; rest = ts; fits = (stars, class); parts = refl; shorter = omega arith; wanting = timed_wanting _ ts h }
+      record {
+        end = Unbounded star t;
+        rest = ts;
+        fits =
+            (stars, class);
+        parts = refl;
+        shorter = omega arith;
+        wanting = timed_wanting _ ts h;
+      }
   endless_one star low t ts _ stars class h = refused h _
 
   endless : (star : Lexeme) (at low : ℕ) (ts : List Lexeme) → class_of star ≡ classes.Star
@@ -119,19 +172,23 @@ module _ (sig : List PredOf) (stack : List Frame) (nodes : ℕ) (names : SymbolT
   endless star at low (t ∷ ts) stars h = endless_one star low t ts (class_of t) stars refl h
 
   high_one : (at low : ℕ) (t : Lexeme) (ts : List Lexeme) (c : Class) → class_of t ≡ c
-      → if_moved (high_move (context_at stack nodes names) at low t c) (accepts sig ts) ≡ true → UpTo sig (map hold stack) (t ∷ ts)
+      → if_moved (high_move (context_at stack nodes names) at low t c) (accepts sig ts) ≡ true
+      → UpTo sig (map hold stack) (t ∷ ts)
   high_one at low t ts (classes.Integer (pos n)) class h = high_number t at low t.at n ts class h
   high_one at low t ts classes.Star class h = endless t at low ts class h
   high_one at low t ts _ class h = refused h _
 
-  high : (at low : ℕ) (ts : List Lexeme) → accepts sig ts (at_place (ExpectHigh at low) stack nodes names) ≡ true → UpTo sig (map hold stack) ts
+  high : (at low : ℕ) (ts : List Lexeme) → accepts sig ts (at_place (ExpectHigh at low) stack nodes names) ≡ true
+      → UpTo sig (map hold stack) ts
   unfolding accepts transition
   high at low [] h = refused h _
   high at low (t ∷ ts) h = high_one at low t ts (class_of t) refl h
 
   -- a lower bound, its comma and the rest
-  comma_back : (low : WrittenBound) (at from : ℕ) (t : Lexeme) (ts : List Lexeme) → FitsBound low → class_of t ≡ classes.Comma
-      → accepts sig ts (at_place (ExpectHigh at from) stack nodes names) ≡ true → FromLow sig (map hold stack) (bound_spelling low ++ t ∷ ts)
+  comma_back : (low : WrittenBound) (at from : ℕ) (t : Lexeme) (ts : List Lexeme) → FitsBound low → class_of t
+      ≡ classes.Comma
+      → accepts sig ts (at_place (ExpectHigh at from) stack nodes names) ≡ true
+      → FromLow sig (map hold stack) (bound_spelling low ++ t ∷ ts)
   comma_back low at from t ts fits class h =
       let u = high at from ts h in
       record {
@@ -142,45 +199,60 @@ module _ (sig : List PredOf) (stack : List Frame) (nodes : ℕ) (names : SymbolT
         fits = fits;
         commas = class;
         fits_end = u.fits;
-        parts = ap (λ (xs : List Lexeme). bound_spelling low ++ t ∷ xs) u.parts ∙ sym (append_assoc (bound_spelling low) (t ∷ end_spelling u.end) u.rest);
+        parts = ap (λ (xs : List Lexeme). bound_spelling low ++ t ∷ xs) u.parts
+            ∙ sym (append_assoc (bound_spelling low) (t ∷ end_spelling u.end) u.rest);
         shorter = omega (arith, u.shorter, length-append (bound_spelling low) (t ∷ ts));
         wanting = u.wanting;
       }
 
-  low_done_one : (low : WrittenBound) (at from : ℕ) (t : Lexeme) (ts : List Lexeme) (c : Class) → FitsBound low → class_of t ≡ c
-      → if_moved (low_done_move (context_at stack nodes names) at from c) (accepts sig ts) ≡ true → FromLow sig (map hold stack) (bound_spelling low ++ t ∷ ts)
+  low_done_one : (low : WrittenBound) (at from : ℕ) (t : Lexeme) (ts : List Lexeme) (c : Class) → FitsBound low
+      → class_of t ≡ c
+      → if_moved (low_done_move (context_at stack nodes names) at from c) (accepts sig ts) ≡ true
+      → FromLow sig (map hold stack) (bound_spelling low ++ t ∷ ts)
   low_done_one low at from t ts classes.Comma fits class h = comma_back low at from t ts fits class h
   low_done_one low at from t ts _ fits class h = refused h _
 
   low_done : (low : WrittenBound) (at from : ℕ) (ts : List Lexeme) → FitsBound low
-      → accepts sig ts (at_place (AfterLow at from) stack nodes names) ≡ true → FromLow sig (map hold stack) (bound_spelling low ++ ts)
+      → accepts sig ts (at_place (AfterLow at from) stack nodes names) ≡ true
+      → FromLow sig (map hold stack) (bound_spelling low ++ ts)
   unfolding accepts transition
   low_done low at from [] fits h = refused h _
   low_done low at from (t ∷ ts) fits h = low_done_one low at from t ts (class_of t) fits refl h
 
-  low_units : (token unit : Lexeme) (at number_at n : ℕ) (ts : List Lexeme) (seconds : Option ℕ) → class_of token ≡ classes.Integer (pos n) → class_of unit ≡ classes.Name → unit_of unit.text ≡ seconds
-      → if_moved (low_unit (context_at stack nodes names) at number_at n seconds) (accepts sig ts) ≡ true → FromLow sig (map hold stack) (token ∷ unit ∷ ts)
+  low_units : (token unit : Lexeme) (at number_at n : ℕ) (ts : List Lexeme) (seconds : Option ℕ) → class_of token
+      ≡ classes.Integer (pos n) → class_of unit ≡ classes.Name → unit_of unit.text ≡ seconds
+      → if_moved (low_unit (context_at stack nodes names) at number_at n seconds) (accepts sig ts) ≡ true
+      → FromLow sig (map hold stack) (token ∷ unit ∷ ts)
   low_units token unit at number_at n ts None number class lasts h = refused h _
-  low_units token unit at number_at n ts (Some seconds) number class lasts h = low_done (Counted token n unit seconds) at _ ts (number, class, lasts) h
+  low_units token unit at number_at n ts (Some seconds) number class lasts h =
+      low_done (Counted token n unit seconds) at _ ts (number, class, lasts) h
 
-  low_number_one : (token : Lexeme) (at number_at n : ℕ) (t : Lexeme) (ts : List Lexeme) (c : Class) → class_of token ≡ classes.Integer (pos n) → class_of t ≡ c
-      → if_moved (low_number_move (context_at stack nodes names) at number_at n t c) (accepts sig ts) ≡ true → FromLow sig (map hold stack) (token ∷ t ∷ ts)
-  low_number_one token at number_at n t ts classes.Comma number class h = comma_back (Count token n) at _ t ts number class h
-  low_number_one token at number_at n t ts classes.Name number class h = low_units token t at number_at n ts (unit_of t.text) number class refl h
+  low_number_one : (token : Lexeme) (at number_at n : ℕ) (t : Lexeme) (ts : List Lexeme) (c : Class) → class_of token
+      ≡ classes.Integer (pos n) → class_of t ≡ c
+      → if_moved (low_number_move (context_at stack nodes names) at number_at n t c) (accepts sig ts) ≡ true
+      → FromLow sig (map hold stack) (token ∷ t ∷ ts)
+  low_number_one token at number_at n t ts classes.Comma number class h =
+      comma_back (Count token n) at _ t ts number class h
+  low_number_one token at number_at n t ts classes.Name number class h =
+      low_units token t at number_at n ts (unit_of t.text) number class refl h
   low_number_one token at number_at n t ts _ number class h = refused h _
 
   low_number : (token : Lexeme) (at number_at n : ℕ) (ts : List Lexeme) → class_of token ≡ classes.Integer (pos n)
-      → accepts sig ts (at_place (AfterLowNumber at number_at n) stack nodes names) ≡ true → FromLow sig (map hold stack) (token ∷ ts)
+      → accepts sig ts (at_place (AfterLowNumber at number_at n) stack nodes names) ≡ true
+      → FromLow sig (map hold stack) (token ∷ ts)
   unfolding accepts transition
   low_number token at number_at n [] number h = refused h _
-  low_number token at number_at n (t ∷ ts) number h = low_number_one token at number_at n t ts (class_of t) number refl h
+  low_number token at number_at n (t ∷ ts) number h =
+      low_number_one token at number_at n t ts (class_of t) number refl h
 
   low_one : (at : ℕ) (t : Lexeme) (ts : List Lexeme) (c : Class) → class_of t ≡ c
-      → if_moved (low_move (context_at stack nodes names) at t c) (accepts sig ts) ≡ true → FromLow sig (map hold stack) (t ∷ ts)
+      → if_moved (low_move (context_at stack nodes names) at t c) (accepts sig ts) ≡ true
+      → FromLow sig (map hold stack) (t ∷ ts)
   low_one at t ts (classes.Integer (pos n)) class h = low_number t at t.at n ts class h
   low_one at t ts _ class h = refused h _
 
-  low : (at : ℕ) (ts : List Lexeme) → accepts sig ts (at_place (ExpectLow at) stack nodes names) ≡ true → FromLow sig (map hold stack) ts
+  low : (at : ℕ) (ts : List Lexeme) → accepts sig ts (at_place (ExpectLow at) stack nodes names) ≡ true
+      → FromLow sig (map hold stack) ts
   unfolding accepts transition
   low at [] h = refused h _
   low at (t ∷ ts) h = low_one at t ts (class_of t) refl h
@@ -188,83 +260,132 @@ module _ (sig : List PredOf) (stack : List Frame) (nodes : ℕ) (names : SymbolT
 -- ---- behind a temporal operator
 
 -- a token of this class
-accepts_is : (sig : List PredOf) (p : Partial) (t : Lexeme) (ts : List Lexeme) (c : Class) → class_of t ≡ c → accepts sig (t ∷ ts) p ≡ if_moved (transition_at p.now sig p.context t c) (accepts sig ts)
+accepts_is : (sig : List PredOf) (p : Partial) (t : Lexeme) (ts : List Lexeme) (c : Class) → class_of t ≡ c
+    → accepts sig (t ∷ ts) p ≡ if_moved (transition_at p.now sig p.context t c) (accepts sig ts)
 unfolding accepts transition
 accepts_is sig p t ts c e = ap (λ (x : Class). if_moved (transition_at p.now sig p.context t x) (accepts sig ts)) e
 
-moved_first : (rule : Rule) (m : Option Transition) (f : Partial → Bool) → if_moved (first_keeps rule m) f ≡ if_moved m f
+moved_first : (rule : Rule) (m : Option Transition) (f : Partial → Bool) → if_moved (first_keeps rule m) f
+    ≡ if_moved m f
 moved_first rule None f = refl
 moved_first rule (Some m) f = refl
 
 module _ (sig : List PredOf) (stack : List Frame) (nodes : ℕ) (names : SymbolTable) where
-  no_interval : (ts : List Lexeme) → accepts sig ts (at_place ExpectOperand stack nodes names) ≡ true → Timing sig (map hold stack) ts
+  no_interval : (ts : List Lexeme) → accepts sig ts (at_place ExpectOperand stack nodes names) ≡ true
+      → Timing sig (map hold stack) ts
   no_interval ts h =
       record { interval = Omitted; rest = ts; fits = tt; parts = refl; shorter = omega arith; wanting = record { stack = stack; nodes = nodes; names = names; accepted = h; held = refl } }
 
-  from_bracket : (t : Lexeme) (ts : List Lexeme) → class_of t ≡ classes.OpenBracket → FromLow sig (map hold stack) ts → Timing sig (map hold stack) (t ∷ ts)
+  from_bracket : (t : Lexeme) (ts : List Lexeme) → class_of t ≡ classes.OpenBracket → FromLow sig (map hold stack) ts
+      → Timing sig (map hold stack) (t ∷ ts)
   from_bracket t ts class f =
-      record { interval = From t f.low f.comma f.end; rest = f.rest; fits = (class, f.fits, f.commas, f.fits_end); parts = ap (λ (xs : List Lexeme). t ∷ xs) f.parts; shorter = omega (arith, f.shorter); wanting = f.wanting }
+      record {
+        interval = From t f.low f.comma f.end;
+        rest = f.rest;
+        fits =
+            (class, f.fits, f.commas, f.fits_end);
+        parts = ap (λ (xs : List Lexeme). t ∷ xs) f.parts;
+        shorter = omega
+            (arith, f.shorter);
+        wanting = f.wanting;
+      }
 
-  from_paren : (t : Lexeme) (ts : List Lexeme) → class_of t ≡ classes.OpenParen → FromLow sig (map hold stack) ts → Timing sig (map hold stack) (t ∷ ts)
+  from_paren : (t : Lexeme) (ts : List Lexeme) → class_of t ≡ classes.OpenParen → FromLow sig (map hold stack) ts
+      → Timing sig (map hold stack) (t ∷ ts)
   from_paren t ts class f =
-      record { interval = Above t f.low f.comma f.end; rest = f.rest; fits = (class, f.fits, f.commas, f.fits_end); parts = ap (λ (xs : List Lexeme). t ∷ xs) f.parts; shorter = omega (arith, f.shorter); wanting = f.wanting }
+      record {
+        interval = Above t f.low f.comma f.end;
+        rest = f.rest;
+        fits =
+            (class, f.fits, f.commas, f.fits_end);
+        parts = ap (λ (xs : List Lexeme). t ∷ xs) f.parts;
+        shorter = omega
+            (arith, f.shorter);
+        wanting = f.wanting;
+      }
 
-  maybe_units : (t number unit : Lexeme) (at number_at n : ℕ) (ts : List Lexeme) (seconds : Option ℕ) → class_of t ≡ classes.OpenParen → class_of number ≡ classes.Integer (pos n) → class_of unit ≡ classes.Name → unit_of unit.text ≡ seconds
-      → if_moved (maybe_unit (context_at stack nodes names) at number_at n seconds) (accepts sig ts) ≡ true → Timing sig (map hold stack) (t ∷ number ∷ unit ∷ ts)
+  maybe_units : (t number unit : Lexeme) (at number_at n : ℕ) (ts : List Lexeme) (seconds : Option ℕ) → class_of t
+      ≡ classes.OpenParen → class_of number ≡ classes.Integer (pos n) → class_of unit ≡ classes.Name
+      → unit_of unit.text ≡ seconds
+      → if_moved (maybe_unit (context_at stack nodes names) at number_at n seconds) (accepts sig ts) ≡ true
+      → Timing sig (map hold stack) (t ∷ number ∷ unit ∷ ts)
   maybe_units t number unit at number_at n ts None opens counts class lasts h = refused h _
   maybe_units t number unit at number_at n ts (Some seconds) opens counts class lasts h =
-      from_paren t (number ∷ unit ∷ ts) opens (low_done sig stack nodes names (Counted number n unit seconds) at _ ts (counts, class, lasts) h)
+      from_paren t (number ∷ unit ∷ ts) opens
+      (low_done sig stack nodes names (Counted number n unit seconds) at _ ts (counts, class, lasts) h)
 
-  maybe_words : (t number unit : Lexeme) (at number_at : ℕ) (z : ℤ) (ts : List Lexeme) → class_of t ≡ classes.OpenParen → class_of number ≡ classes.Integer z → class_of unit ≡ classes.Name
-      → if_moved (maybe_word (context_at stack nodes names) at number_at z unit.text) (accepts sig ts) ≡ true → Timing sig (map hold stack) (t ∷ number ∷ unit ∷ ts)
-  maybe_words t number unit at number_at (pos n) ts opens counts class h = maybe_units t number unit at number_at n ts (unit_of unit.text) opens counts class refl h
+  maybe_words : (t number unit : Lexeme) (at number_at : ℕ) (z : ℤ) (ts : List Lexeme) → class_of t
+      ≡ classes.OpenParen → class_of number ≡ classes.Integer z → class_of unit ≡ classes.Name
+      → if_moved (maybe_word (context_at stack nodes names) at number_at z unit.text) (accepts sig ts) ≡ true
+      → Timing sig (map hold stack) (t ∷ number ∷ unit ∷ ts)
+  maybe_words t number unit at number_at (pos n) ts opens counts class h =
+      maybe_units t number unit at number_at n ts (unit_of unit.text) opens counts class refl h
   maybe_words t number unit at number_at (negsuc n) ts opens counts class h = refused h _
 
-  maybe_commas : (t number comma : Lexeme) (at number_at : ℕ) (z : ℤ) (ts : List Lexeme) → class_of t ≡ classes.OpenParen → class_of number ≡ classes.Integer z → class_of comma ≡ classes.Comma
-      → if_moved (maybe_low (context_at stack nodes names) at number_at z) (accepts sig ts) ≡ true → Timing sig (map hold stack) (t ∷ number ∷ comma ∷ ts)
+  maybe_commas : (t number comma : Lexeme) (at number_at : ℕ) (z : ℤ) (ts : List Lexeme) → class_of t
+      ≡ classes.OpenParen → class_of number ≡ classes.Integer z → class_of comma ≡ classes.Comma
+      → if_moved (maybe_low (context_at stack nodes names) at number_at z) (accepts sig ts) ≡ true
+      → Timing sig (map hold stack) (t ∷ number ∷ comma ∷ ts)
   maybe_commas t number comma at number_at (pos n) ts opens counts class h =
-      from_paren t (number ∷ comma ∷ ts) opens (comma_back sig stack nodes names (Count number n) at _ comma ts counts class h)
+      from_paren t (number ∷ comma ∷ ts) opens
+      (comma_back sig stack nodes names (Count number n) at _ comma ts counts class h)
   maybe_commas t number comma at number_at (negsuc n) ts opens counts class h = refused h _
 
-  maybe_numbers : (t number next : Lexeme) (z : ℤ) (ts : List Lexeme) (c : Class) → class_of t ≡ classes.OpenParen → class_of number ≡ classes.Integer z → class_of next ≡ c
-      → if_moved (maybe_number_move (context_at stack nodes names) t.at number.at z next c) (accepts sig ts) ≡ true → Timing sig (map hold stack) (t ∷ number ∷ next ∷ ts)
-  maybe_numbers t number next z ts classes.Comma opens counts class h = maybe_commas t number next t.at number.at z ts opens counts class h
-  maybe_numbers t number next z ts classes.Name opens counts class h = maybe_words t number next t.at number.at z ts opens counts class h
+  maybe_numbers : (t number next : Lexeme) (z : ℤ) (ts : List Lexeme) (c : Class) → class_of t ≡ classes.OpenParen
+      → class_of number ≡ classes.Integer z → class_of next ≡ c
+      → if_moved (maybe_number_move (context_at stack nodes names) t.at number.at z next c) (accepts sig ts) ≡ true
+      → Timing sig (map hold stack) (t ∷ number ∷ next ∷ ts)
+  maybe_numbers t number next z ts classes.Comma opens counts class h =
+      maybe_commas t number next t.at number.at z ts opens counts class h
+  maybe_numbers t number next z ts classes.Name opens counts class h =
+      maybe_words t number next t.at number.at z ts opens counts class h
   maybe_numbers t number next z ts (classes.Sign sign) opens counts class h =
       no_interval (t ∷ number ∷ next ∷ ts)
       (accepts_is sig (at_place ExpectOperand stack nodes names) t (number ∷ next ∷ ts) classes.OpenParen opens
-      ∙ accepts_is sig (at_place ExpectOperand (Parens ∷ stack) nodes names) number (next ∷ ts) (classes.Integer z) counts
-      ∙ accepts_is sig (at_place (ExpectSign (record { at = number.at; operand = operands.Constant (values.Int z) })) (Parens ∷ stack) nodes names) next ts (classes.Sign sign) class
+      ∙ accepts_is sig (at_place ExpectOperand (Parens ∷ stack) nodes names) number (next ∷ ts)
+      (classes.Integer z) counts
+      ∙ accepts_is sig
+      (at_place (ExpectSign (record { at = number.at; operand = operands.Constant (values.Int z) }))
+      (Parens ∷ stack) nodes names) next ts (classes.Sign sign) class
       ∙ h)
   maybe_numbers t number next z ts _ opens counts class h = refused h _
 
-  maybe_number : (t number : Lexeme) (z : ℤ) (ts : List Lexeme) → class_of t ≡ classes.OpenParen → class_of number ≡ classes.Integer z
-      → accepts sig ts (at_place (AfterParenNumber t.at number.at z) stack nodes names) ≡ true → Timing sig (map hold stack) (t ∷ number ∷ ts)
+  maybe_number : (t number : Lexeme) (z : ℤ) (ts : List Lexeme) → class_of t ≡ classes.OpenParen → class_of number
+      ≡ classes.Integer z
+      → accepts sig ts (at_place (AfterParenNumber t.at number.at z) stack nodes names) ≡ true
+      → Timing sig (map hold stack) (t ∷ number ∷ ts)
   unfolding accepts transition
   maybe_number t number z [] opens counts h = refused h _
-  maybe_number t number z (next ∷ ts) opens counts h = maybe_numbers t number next z ts (class_of next) opens counts refl h
+  maybe_number t number z (next ∷ ts) opens counts h =
+      maybe_numbers t number next z ts (class_of next) opens counts refl h
 
   maybe_one : (t u : Lexeme) (ts : List Lexeme) (c : Class) → class_of t ≡ classes.OpenParen → class_of u ≡ c
-      → if_moved (maybe_move (context_at stack nodes names) t.at u c) (accepts sig ts) ≡ true → Timing sig (map hold stack) (t ∷ u ∷ ts)
+      → if_moved (maybe_move (context_at stack nodes names) t.at u c) (accepts sig ts) ≡ true
+      → Timing sig (map hold stack) (t ∷ u ∷ ts)
   maybe_one t u ts (classes.Integer z) opens class h = maybe_number t u z ts opens class h
   maybe_one t u ts c opens class h =
       no_interval (t ∷ u ∷ ts)
       (accepts_is sig (at_place ExpectOperand stack nodes names) t (u ∷ ts) classes.OpenParen opens
       ∙ accepts_is sig (at_place ExpectOperand (Parens ∷ stack) nodes names) u ts c class
-      ∙ sym (moved_first (within_depth t.at stack) (operand_move (context_at (Parens ∷ stack) nodes names) u c) (accepts sig ts)) ∙ h)
+      ∙ sym (moved_first (within_depth t.at stack) (operand_move (context_at (Parens ∷ stack) nodes names) u c)
+      (accepts sig ts)) ∙ h)
 
-  maybe_back : (t : Lexeme) (ts : List Lexeme) → class_of t ≡ classes.OpenParen → accepts sig ts (at_place (AfterParen t.at) stack nodes names) ≡ true → Timing sig (map hold stack) (t ∷ ts)
+  maybe_back : (t : Lexeme) (ts : List Lexeme) → class_of t ≡ classes.OpenParen
+      → accepts sig ts (at_place (AfterParen t.at) stack nodes names) ≡ true → Timing sig (map hold stack) (t ∷ ts)
   unfolding accepts transition
   maybe_back t [] opens h = refused h _
   maybe_back t (u ∷ ts) opens h = maybe_one t u ts (class_of u) opens refl h
 
   fresh_one : (t : Lexeme) (ts : List Lexeme) (c : Class) → class_of t ≡ c
-      → if_moved (fresh_move (context_at stack nodes names) t c) (accepts sig ts) ≡ true → Timing sig (map hold stack) (t ∷ ts)
+      → if_moved (fresh_move (context_at stack nodes names) t c) (accepts sig ts) ≡ true
+      → Timing sig (map hold stack) (t ∷ ts)
   fresh_one t ts classes.OpenBracket class h = from_bracket t ts class (low sig stack nodes names t.at ts h)
   fresh_one t ts classes.OpenParen class h = maybe_back t ts class h
-  fresh_one t ts c class h = no_interval (t ∷ ts) (accepts_is sig (at_place ExpectOperand stack nodes names) t ts c class ∙ h)
+  fresh_one t ts c class h =
+      no_interval (t ∷ ts) (accepts_is sig (at_place ExpectOperand stack nodes names) t ts c class ∙ h)
 
-  pub fresh_back : (ts : List Lexeme) → accepts sig ts (at_place AfterTemporal stack nodes names) ≡ true → Timing sig (map hold stack) ts
+  pub fresh_back : (ts : List Lexeme) → accepts sig ts (at_place AfterTemporal stack nodes names) ≡ true
+      → Timing sig (map hold stack) ts
   unfolding accepts transition
   fresh_back [] h = refused h _
   fresh_back (t ∷ ts) h = fresh_one t ts (class_of t) refl h
@@ -291,8 +412,11 @@ module _ (sig : List PredOf) (q : Quantifier) where
   LaterVariables n = (stack : List Frame) (nodes : ℕ) (names : SymbolTable) (ts : List Lexeme) → length ts ≤ n
       → accepts sig ts (at_place (ExpectVariable q) stack nodes names) ≡ true → Quantifying sig (map hold stack) ts
 
-  bound_one : (n : ℕ) (x : WrittenVariable) (variable : ℕ) (name : List ℕ) (stack : List Frame) (nodes : ℕ) (names : SymbolTable) (t : Lexeme) (ts : List Lexeme) (c : Class) → LaterVariables n → length ts ≤ n → FitsVariable x → class_of t ≡ c
-      → if_moved (bound_move (context_at (Binding q variable name ∷ stack) nodes names) q c) (accepts sig ts) ≡ true → Quantifying sig (map hold stack) (variable_spelling x ++ t ∷ ts)
+  bound_one : (n : ℕ) (x : WrittenVariable) (variable : ℕ) (name : List ℕ) (stack : List Frame) (nodes : ℕ)
+      (names : SymbolTable) (t : Lexeme) (ts : List Lexeme) (c : Class) → LaterVariables n → length ts ≤ n
+      → FitsVariable x → class_of t ≡ c
+      → if_moved (bound_move (context_at (Binding q variable name ∷ stack) nodes names) q c) (accepts sig ts) ≡ true
+      → Quantifying sig (map hold stack) (variable_spelling x ++ t ∷ ts)
   bound_one n x variable name stack nodes names t ts classes.Comma later few fits class h =
       let more = later (Binding q variable name ∷ stack) nodes names ts few h in
       record {
@@ -301,7 +425,8 @@ module _ (sig : List PredOf) (q : Quantifier) where
         rest = more.rest;
         fits = (fits, class, more.fits);
         dots = more.dots;
-        parts = ap (λ (xs : List Lexeme). variable_spelling x ++ t ∷ xs) more.parts ∙ sym (append_assoc (variable_spelling x) (t ∷ variables_spelling more.variables) (more.dot ∷ more.rest));
+        parts = ap (λ (xs : List Lexeme). variable_spelling x ++ t ∷ xs) more.parts
+            ∙ sym (append_assoc (variable_spelling x) (t ∷ variables_spelling more.variables) (more.dot ∷ more.rest));
         shorter = omega (arith, more.shorter, length-append (variable_spelling x) (t ∷ ts));
         wanting = more.wanting;
       }
@@ -318,34 +443,49 @@ module _ (sig : List PredOf) (q : Quantifier) where
       }
   bound_one n x variable name stack nodes names t ts _ later few fits class h = refused h _
 
-  bound_back : (n : ℕ) (x : WrittenVariable) (variable : ℕ) (name : List ℕ) (stack : List Frame) (nodes : ℕ) (names : SymbolTable) (ts : List Lexeme) → LaterVariables n → length ts ≤ suc n → FitsVariable x
-      → accepts sig ts (at_place (AfterVariable q) (Binding q variable name ∷ stack) nodes names) ≡ true → Quantifying sig (map hold stack) (variable_spelling x ++ ts)
+  bound_back : (n : ℕ) (x : WrittenVariable) (variable : ℕ) (name : List ℕ) (stack : List Frame) (nodes : ℕ)
+      (names : SymbolTable) (ts : List Lexeme) → LaterVariables n → length ts ≤ suc n → FitsVariable x
+      → accepts sig ts (at_place (AfterVariable q) (Binding q variable name ∷ stack) nodes names) ≡ true
+      → Quantifying sig (map hold stack) (variable_spelling x ++ ts)
   unfolding accepts transition
   bound_back n x variable name stack nodes names [] later few fits h = refused h _
-  bound_back n x variable name stack nodes names (t ∷ ts) later few fits h = bound_one n x variable name stack nodes names t ts (class_of t) later (omega (arith, few)) fits refl h
+  bound_back n x variable name stack nodes names (t ∷ ts) later few fits h =
+      bound_one n x variable name stack nodes names t ts (class_of t) later (omega (arith, few)) fits refl h
 
-  binder_marked_one : (n : ℕ) (mark : Lexeme) (stack : List Frame) (nodes : ℕ) (names : SymbolTable) (t : Lexeme) (ts : List Lexeme) (c : Class) → LaterVariables n → length ts ≤ n → class_of mark ≡ classes.Question → class_of t ≡ c
-      → if_moved (binder_marked_move (context_at stack nodes names) q t c) (accepts sig ts) ≡ true → Quantifying sig (map hold stack) (mark ∷ t ∷ ts)
-  binder_marked_one n mark stack nodes names t ts classes.Name later few marks class h = bound_back n (Asked mark t) _ _ stack nodes _ ts later (omega (arith, few)) (marks, class) h
+  binder_marked_one : (n : ℕ) (mark : Lexeme) (stack : List Frame) (nodes : ℕ) (names : SymbolTable) (t : Lexeme)
+      (ts : List Lexeme) (c : Class) → LaterVariables n → length ts ≤ n → class_of mark ≡ classes.Question
+      → class_of t ≡ c
+      → if_moved (binder_marked_move (context_at stack nodes names) q t c) (accepts sig ts) ≡ true
+      → Quantifying sig (map hold stack) (mark ∷ t ∷ ts)
+  binder_marked_one n mark stack nodes names t ts classes.Name later few marks class h =
+      bound_back n (Asked mark t) _ _ stack nodes _ ts later (omega (arith, few)) (marks, class) h
   binder_marked_one n mark stack nodes names t ts _ later few marks class h = refused h _
 
-  binder_mark : (n at : ℕ) (mark : Lexeme) (stack : List Frame) (nodes : ℕ) (names : SymbolTable) (ts : List Lexeme) → LaterVariables n → length ts ≤ suc n → class_of mark ≡ classes.Question
-      → accepts sig ts (at_place (AfterVariableMark q at) stack nodes names) ≡ true → Quantifying sig (map hold stack) (mark ∷ ts)
+  binder_mark : (n at : ℕ) (mark : Lexeme) (stack : List Frame) (nodes : ℕ) (names : SymbolTable) (ts : List Lexeme)
+      → LaterVariables n → length ts ≤ suc n → class_of mark ≡ classes.Question
+      → accepts sig ts (at_place (AfterVariableMark q at) stack nodes names) ≡ true
+      → Quantifying sig (map hold stack) (mark ∷ ts)
   unfolding accepts transition
   binder_mark n at mark stack nodes names [] later few marks h = refused h _
-  binder_mark n at mark stack nodes names (t ∷ ts) later few marks h = binder_marked_one n mark stack nodes names t ts (class_of t) later (omega (arith, few)) marks refl h
+  binder_mark n at mark stack nodes names (t ∷ ts) later few marks h =
+      binder_marked_one n mark stack nodes names t ts (class_of t) later (omega (arith, few)) marks refl h
 
-  binder_one : (n : ℕ) (stack : List Frame) (nodes : ℕ) (names : SymbolTable) (t : Lexeme) (ts : List Lexeme) (c : Class) → LaterVariables n → length ts ≤ suc n → class_of t ≡ c
-      → if_moved (binder_move (context_at stack nodes names) q t c) (accepts sig ts) ≡ true → Quantifying sig (map hold stack) (t ∷ ts)
-  binder_one n stack nodes names t ts classes.Name later few class h = bound_back n (Bare t) _ _ stack (suc nodes) _ ts later few class h
-  binder_one n stack nodes names t ts classes.Question later few class h = binder_mark n t.at t stack (suc nodes) names ts later few class h
+  binder_one : (n : ℕ) (stack : List Frame) (nodes : ℕ) (names : SymbolTable) (t : Lexeme) (ts : List Lexeme)
+      (c : Class) → LaterVariables n → length ts ≤ suc n → class_of t ≡ c
+      → if_moved (binder_move (context_at stack nodes names) q t c) (accepts sig ts) ≡ true
+      → Quantifying sig (map hold stack) (t ∷ ts)
+  binder_one n stack nodes names t ts classes.Name later few class h =
+      bound_back n (Bare t) _ _ stack (suc nodes) _ ts later few class h
+  binder_one n stack nodes names t ts classes.Question later few class h =
+      binder_mark n t.at t stack (suc nodes) names ts later few class h
   binder_one n stack nodes names t ts _ later few class h = refused h _
 
   binder_fuel : (n : ℕ) → LaterVariables n
   unfolding accepts transition
   binder_fuel n stack nodes names [] few h = refused h _
   binder_fuel zero stack nodes names (t ∷ ts) few h = absurd (omega (arith, few))
-  binder_fuel (suc n) stack nodes names (t ∷ ts) few h = binder_one n stack nodes names t ts (class_of t) (binder_fuel n) (omega (arith, few)) refl h
+  binder_fuel (suc n) stack nodes names (t ∷ ts) few h =
+      binder_one n stack nodes names t ts (class_of t) (binder_fuel n) (omega (arith, few)) refl h
 
   pub binder_back : (stack : List Frame) (nodes : ℕ) (names : SymbolTable) (ts : List Lexeme)
       → accepts sig ts (at_place (ExpectVariable q) stack nodes names) ≡ true → Quantifying sig (map hold stack) ts

@@ -1,5 +1,6 @@
 -- Tokens that the reader accepts begin with what the grammar spells there: terms, atoms, comparisons.
-use Rattle.std.proofs.Common.{◌≡◌, ℕ, zero, suc, ◌<◌, ◌≤◌, true, false, List, [], ◌∷◌, ◌++◌, length, refl, ap, sym, ◌∙◌, inl, inr, arith}
+use Rattle.std.proofs.Common.{◌≡◌, ℕ, zero, suc, ◌<◌, ◌≤◌, true, false, List, [], ◌∷◌, ◌++◌, length, refl, ap, sym}
+use Rattle.std.proofs.Common.{◌∙◌, inl, inr, arith}
 use Rattle.std.proofs.lemmas.List.{append_assoc, length-append}
 use Rattle.mfotl_lex.specs.Lexemes.{Lexeme}
 use Rattle.mfotl_model.specs.declared.term.Sign.{Sign}
@@ -10,10 +11,16 @@ use Rattle.mfotl_parse.specs.declared.class.Class.TheVariants as classes
 use Rattle.mfotl_parse.specs.declared.term.Side.{Side}
 use Rattle.mfotl_parse.specs.Arguments.{argument_move, first_move, taken_move, argument_marked_move}
 use Rattle.mfotl_parse.specs.Classes.{class_of}
-use Rattle.mfotl_parse.specs.Grammar.{Bare, Asked, WrittenTerm, Named, Number, Quoted, WrittenArgument, Given, Hidden, WrittenArguments, LastArgument, MoreArguments, Tree, BareAtom, AtomOf, Comparison, term_spelling, argument_spelling, arguments_spelling, spelling, FitsTerm, FitsArgument, FitsArguments, IsAtomName, Fits, is_shut}
-use Rattle.mfotl_parse.specs.Operands.{against_move, against_marked_move, compared_move, word_move, blank_move, marked_move}
+use Rattle.mfotl_parse.specs.Grammar.{Bare, Asked, WrittenTerm, Named, Number, Quoted, WrittenArgument, Given, Hidden}
+use Rattle.mfotl_parse.specs.Grammar.{WrittenArguments, LastArgument, MoreArguments, Tree, BareAtom, AtomOf}
+use Rattle.mfotl_parse.specs.Grammar.{Comparison, term_spelling, argument_spelling, arguments_spelling, spelling}
+use Rattle.mfotl_parse.specs.Grammar.{FitsTerm, FitsArgument, FitsArguments, IsAtomName, Fits, is_shut}
+use Rattle.mfotl_parse.specs.Operands.{against_move, against_marked_move, compared_move, word_move, blank_move}
+use Rattle.mfotl_parse.specs.Operands.{marked_move}
 use Rattle.mfotl_parse.specs.Reading.{transition}
-use Rattle.mfotl_parse.specs.States.{Frame, Call, SymbolTable, AfterOperand, AfterWord, AfterBlank, AfterMark, ExpectSign, AfterSign, AfterSignMark, FirstArgument, NextArgument, AfterArgument, AfterArgumentMark}
+use Rattle.mfotl_parse.specs.States.{Frame, Call, SymbolTable, AfterOperand, AfterWord, AfterBlank, AfterMark}
+use Rattle.mfotl_parse.specs.States.{ExpectSign, AfterSign, AfterSignMark, FirstArgument, NextArgument, AfterArgument}
+use Rattle.mfotl_parse.specs.States.{AfterArgumentMark}
 use Rattle.mfotl_parse.specs.Viability.{if_moved, accepts}
 use Rattle.mfotl_parse.proofs.SpelledMoves.{at_place}
 use Rattle.mfotl_parse.proofs.SpelledParts.{context_at}
@@ -61,23 +68,47 @@ record Inside (sig : List PredOf) (stack : List Frame) (ts : List Lexeme) : Type
 module _ (sig : List PredOf) (stack : List Frame) where
   -- ---- comparisons
 
-  against_marked_back : (left : Side) (at mark_at : ℕ) (sign : Sign) (mark t : Lexeme) (ts : List Lexeme) (nodes : ℕ) (names : SymbolTable) (c : Class) → class_of mark ≡ classes.Question → class_of t ≡ c
-      → if_moved (against_marked_move (context_at stack nodes names) left at sign mark_at t c) (accepts sig ts) ≡ true → RightSide sig stack (mark ∷ t ∷ ts)
+  against_marked_back : (left : Side) (at mark_at : ℕ) (sign : Sign) (mark t : Lexeme) (ts : List Lexeme) (nodes : ℕ)
+      (names : SymbolTable) (c : Class) → class_of mark ≡ classes.Question → class_of t ≡ c
+      → if_moved (against_marked_move (context_at stack nodes names) left at sign mark_at t c) (accepts sig ts)
+      ≡ true → RightSide sig stack (mark ∷ t ∷ ts)
   against_marked_back left at mark_at sign mark t ts nodes names classes.Name marks class h =
-      record { right = Named (Asked mark t); rest = ts; fits = (marks, class); parts = refl; shorter = omega arith; behind = record { form = _; nodes = _; names = _; accepted = h } }
+      record {
+        right = Named (Asked mark t);
+        rest = ts;
+        fits =
+            (marks, class);
+        parts = refl;
+        shorter = omega arith;
+        behind = record { form = _; nodes = _; names = _; accepted = h };
+      }
   against_marked_back left at mark_at sign mark t ts nodes names _ marks class h = refused h _
 
-  against_mark : (left : Side) (at mark_at : ℕ) (sign : Sign) (mark : Lexeme) (ts : List Lexeme) (nodes : ℕ) (names : SymbolTable) → class_of mark ≡ classes.Question
-      → accepts sig ts (at_place (AfterSignMark left at sign mark_at) stack nodes names) ≡ true → RightSide sig stack (mark ∷ ts)
+  against_mark : (left : Side) (at mark_at : ℕ) (sign : Sign) (mark : Lexeme) (ts : List Lexeme) (nodes : ℕ)
+      (names : SymbolTable) → class_of mark ≡ classes.Question
+      → accepts sig ts (at_place (AfterSignMark left at sign mark_at) stack nodes names) ≡ true
+      → RightSide sig stack (mark ∷ ts)
   unfolding accepts transition
   against_mark left at mark_at sign mark [] nodes names marks h = refused h _
-  against_mark left at mark_at sign mark (t ∷ ts) nodes names marks h = against_marked_back left at mark_at sign mark t ts nodes names (class_of t) marks refl h
+  against_mark left at mark_at sign mark (t ∷ ts) nodes names marks h =
+      against_marked_back left at mark_at sign mark t ts nodes names (class_of t) marks refl h
 
-  against_one : (left : Side) (at : ℕ) (sign : Sign) (t : Lexeme) (ts : List Lexeme) (nodes : ℕ) (names : SymbolTable) (c : Class) → class_of t ≡ c
-      → if_moved (against_move (context_at stack nodes names) left at sign t c) (accepts sig ts) ≡ true → RightSide sig stack (t ∷ ts)
+  against_one : (left : Side) (at : ℕ) (sign : Sign) (t : Lexeme) (ts : List Lexeme) (nodes : ℕ)
+      (names : SymbolTable) (c : Class) → class_of t ≡ c
+      → if_moved (against_move (context_at stack nodes names) left at sign t c) (accepts sig ts) ≡ true
+      → RightSide sig stack (t ∷ ts)
   against_one left at sign t ts nodes names classes.Name class h =
-      record { right = Named (Bare t); rest = ts; fits = class; parts = refl; shorter = omega arith; behind = record { form = _; nodes = _; names = _; accepted = h } }
-  against_one left at sign t ts nodes names classes.Question class h = against_mark left at t.at sign t ts nodes names class h
+      record {
+        right = Named
+            (Bare t);
+        rest = ts;
+        fits = class;
+        parts = refl;
+        shorter = omega arith;
+        behind = record { form = _; nodes = _; names = _; accepted = h };
+      }
+  against_one left at sign t ts nodes names classes.Question class h =
+      against_mark left at t.at sign t ts nodes names class h
   against_one left at sign t ts nodes names (classes.Integer z) class h =
       record { right = Number t z; rest = ts; fits = class; parts = refl; shorter = omega arith; behind = record { form = _; nodes = _; names = _; accepted = h } }
   against_one left at sign t ts nodes names classes.Text class h =
@@ -91,12 +122,15 @@ module _ (sig : List PredOf) (stack : List Frame) where
   against_back left at sign (t ∷ ts) nodes names h = against_one left at sign t ts nodes names (class_of t) refl h
 
   -- a comparison's sign, with what stands before it
-  pub sign_back : (left : WrittenTerm) (side : Side) (at : ℕ) (t : Lexeme) (sign : Sign) (ts : List Lexeme) (nodes : ℕ) (names : SymbolTable) → FitsTerm left → class_of t ≡ classes.Sign sign
-      → accepts sig ts (at_place (AfterSign side at sign) stack nodes names) ≡ true → Primary sig stack (term_spelling left ++ t ∷ ts)
+  pub sign_back : (left : WrittenTerm) (side : Side) (at : ℕ) (t : Lexeme) (sign : Sign) (ts : List Lexeme)
+      (nodes : ℕ) (names : SymbolTable) → FitsTerm left → class_of t ≡ classes.Sign sign
+      → accepts sig ts (at_place (AfterSign side at sign) stack nodes names) ≡ true
+      → Primary sig stack (term_spelling left ++ t ∷ ts)
   sign_back left side at t sign ts nodes names fits class h =
       let r = against_back side at sign ts nodes names h in
       let parts : term_spelling left ++ t ∷ ts ≡ (term_spelling left ++ t ∷ term_spelling r.right) ++ r.rest =
-      ap (λ (xs : List Lexeme). term_spelling left ++ t ∷ xs) r.parts ∙ sym (append_assoc (term_spelling left) (t ∷ term_spelling r.right) r.rest) in
+      ap (λ (xs : List Lexeme). term_spelling left ++ t ∷ xs) r.parts
+      ∙ sym (append_assoc (term_spelling left) (t ∷ term_spelling r.right) r.rest) in
       record {
         tree = Comparison left t sign r.right;
         rest = r.rest;
@@ -107,23 +141,33 @@ module _ (sig : List PredOf) (stack : List Frame) where
         behind = r.behind;
       }
 
-  compared_one : (left : WrittenTerm) (side : Side) (t : Lexeme) (ts : List Lexeme) (nodes : ℕ) (names : SymbolTable) (c : Class) → FitsTerm left → class_of t ≡ c
-      → if_moved (compared_move (context_at stack nodes names) side t c) (accepts sig ts) ≡ true → Primary sig stack (term_spelling left ++ t ∷ ts)
-  compared_one left side t ts nodes names (classes.Sign sign) fits class h = sign_back left side t.at t sign ts (suc nodes) names fits class h
+  compared_one : (left : WrittenTerm) (side : Side) (t : Lexeme) (ts : List Lexeme) (nodes : ℕ) (names : SymbolTable)
+      (c : Class) → FitsTerm left → class_of t ≡ c
+      → if_moved (compared_move (context_at stack nodes names) side t c) (accepts sig ts) ≡ true
+      → Primary sig stack (term_spelling left ++ t ∷ ts)
+  compared_one left side t ts nodes names (classes.Sign sign) fits class h =
+      sign_back left side t.at t sign ts (suc nodes) names fits class h
   compared_one left side t ts nodes names _ fits class h = refused h _
 
-  pub compared_back : (left : WrittenTerm) (side : Side) (ts : List Lexeme) (nodes : ℕ) (names : SymbolTable) → FitsTerm left
-      → accepts sig ts (at_place (ExpectSign side) stack nodes names) ≡ true → Primary sig stack (term_spelling left ++ ts)
+  pub compared_back : (left : WrittenTerm) (side : Side) (ts : List Lexeme) (nodes : ℕ) (names : SymbolTable)
+      → FitsTerm left
+      → accepts sig ts (at_place (ExpectSign side) stack nodes names) ≡ true
+      → Primary sig stack (term_spelling left ++ ts)
   unfolding accepts transition
   compared_back left side [] nodes names fits h = refused h _
-  compared_back left side (t ∷ ts) nodes names fits h = compared_one left side t ts nodes names (class_of t) fits refl h
+  compared_back left side (t ∷ ts) nodes names fits h =
+      compared_one left side t ts nodes names (class_of t) fits refl h
 
-  marked_one : (mark t : Lexeme) (at : ℕ) (ts : List Lexeme) (nodes : ℕ) (names : SymbolTable) (c : Class) → class_of mark ≡ classes.Question → class_of t ≡ c
-      → if_moved (marked_move (context_at stack nodes names) at t c) (accepts sig ts) ≡ true → Primary sig stack (mark ∷ t ∷ ts)
-  marked_one mark t at ts nodes names classes.Name marks class h = compared_back (Named (Asked mark t)) _ ts nodes _ (marks, class) h
+  marked_one : (mark t : Lexeme) (at : ℕ) (ts : List Lexeme) (nodes : ℕ) (names : SymbolTable) (c : Class)
+      → class_of mark ≡ classes.Question → class_of t ≡ c
+      → if_moved (marked_move (context_at stack nodes names) at t c) (accepts sig ts) ≡ true
+      → Primary sig stack (mark ∷ t ∷ ts)
+  marked_one mark t at ts nodes names classes.Name marks class h =
+      compared_back (Named (Asked mark t)) _ ts nodes _ (marks, class) h
   marked_one mark t at ts nodes names _ marks class h = refused h _
 
-  pub marked_back : (mark : Lexeme) (at : ℕ) (ts : List Lexeme) (nodes : ℕ) (names : SymbolTable) → class_of mark ≡ classes.Question
+  pub marked_back : (mark : Lexeme) (at : ℕ) (ts : List Lexeme) (nodes : ℕ) (names : SymbolTable) → class_of mark
+      ≡ classes.Question
       → accepts sig ts (at_place (AfterMark at) stack nodes names) ≡ true → Primary sig stack (mark ∷ ts)
   unfolding accepts transition
   marked_back mark at [] nodes names marks h = refused h _
@@ -136,8 +180,10 @@ module _ (sig : List PredOf) (stack : List Frame) where
   Later n = (call : Call) (ts : List Lexeme) (nodes : ℕ) (names : SymbolTable) → length ts ≤ n
       → accepts sig ts (at_place (NextArgument call) stack nodes names) ≡ true → Inside sig stack ts
 
-  taken_one : (n : ℕ) (a : WrittenArgument) (call : Call) (t : Lexeme) (ts : List Lexeme) (nodes : ℕ) (names : SymbolTable) (c : Class) → Later n → length ts ≤ n → FitsArgument a → class_of t ≡ c
-      → if_moved (taken_move (context_at stack nodes names) call t c) (accepts sig ts) ≡ true → Inside sig stack (argument_spelling a ++ t ∷ ts)
+  taken_one : (n : ℕ) (a : WrittenArgument) (call : Call) (t : Lexeme) (ts : List Lexeme) (nodes : ℕ)
+      (names : SymbolTable) (c : Class) → Later n → length ts ≤ n → FitsArgument a → class_of t ≡ c
+      → if_moved (taken_move (context_at stack nodes names) call t c) (accepts sig ts) ≡ true
+      → Inside sig stack (argument_spelling a ++ t ∷ ts)
   taken_one n a call t ts nodes names classes.CloseParen later few fits class h =
       record { arguments = LastArgument a; closing = t; rest = ts; fits = fits; closes = class; parts = refl; shorter = omega (arith, length-append (argument_spelling a) (t ∷ ts)); behind = record { form = _; nodes = _; names = _; accepted = h } }
   taken_one n a call t ts nodes names classes.Comma later few fits class h =
@@ -148,48 +194,77 @@ module _ (sig : List PredOf) (stack : List Frame) where
         rest = more.rest;
         fits = (fits, class, more.fits);
         closes = more.closes;
-        parts = ap (λ (xs : List Lexeme). argument_spelling a ++ t ∷ xs) more.parts ∙ sym (append_assoc (argument_spelling a) (t ∷ arguments_spelling more.arguments) (more.closing ∷ more.rest));
+        parts = ap (λ (xs : List Lexeme). argument_spelling a ++ t ∷ xs) more.parts
+            ∙ sym (append_assoc (argument_spelling a) (t ∷ arguments_spelling more.arguments)
+            (more.closing ∷ more.rest));
         shorter = omega (arith, more.shorter, length-append (argument_spelling a) (t ∷ ts));
         behind = more.behind;
       }
   taken_one n a call t ts nodes names _ later few fits class h = refused h _
 
-  taken_back : (n : ℕ) (a : WrittenArgument) (call : Call) (ts : List Lexeme) (nodes : ℕ) (names : SymbolTable) → Later n → length ts ≤ suc n → FitsArgument a
-      → accepts sig ts (at_place (AfterArgument call) stack nodes names) ≡ true → Inside sig stack (argument_spelling a ++ ts)
+  taken_back : (n : ℕ) (a : WrittenArgument) (call : Call) (ts : List Lexeme) (nodes : ℕ) (names : SymbolTable)
+      → Later n → length ts ≤ suc n → FitsArgument a
+      → accepts sig ts (at_place (AfterArgument call) stack nodes names) ≡ true
+      → Inside sig stack (argument_spelling a ++ ts)
   unfolding accepts transition
   taken_back n a call [] nodes names later few fits h = refused h _
-  taken_back n a call (t ∷ ts) nodes names later few fits h = taken_one n a call t ts nodes names (class_of t) later (omega (arith, few)) fits refl h
+  taken_back n a call (t ∷ ts) nodes names later few fits h =
+      taken_one n a call t ts nodes names (class_of t) later (omega (arith, few)) fits refl h
 
-  argument_marked_one : (n : ℕ) (call : Call) (mark t : Lexeme) (at : ℕ) (ts : List Lexeme) (nodes : ℕ) (names : SymbolTable) (c : Class) → Later n → length ts ≤ n → class_of mark ≡ classes.Question → class_of t ≡ c
-      → if_moved (argument_marked_move (context_at stack nodes names) call at t c) (accepts sig ts) ≡ true → Inside sig stack (mark ∷ t ∷ ts)
-  argument_marked_one n call mark t at ts nodes names classes.Name later few marks class h = taken_back n (Given (Named (Asked mark t))) _ ts nodes _ later (omega (arith, few)) (marks, class) h
+  argument_marked_one : (n : ℕ) (call : Call) (mark t : Lexeme) (at : ℕ) (ts : List Lexeme) (nodes : ℕ)
+      (names : SymbolTable) (c : Class) → Later n → length ts ≤ n → class_of mark ≡ classes.Question → class_of t ≡ c
+      → if_moved (argument_marked_move (context_at stack nodes names) call at t c) (accepts sig ts) ≡ true
+      → Inside sig stack (mark ∷ t ∷ ts)
+  argument_marked_one n call mark t at ts nodes names classes.Name later few marks class h =
+      taken_back n (Given (Named (Asked mark t))) _ ts nodes _ later (omega (arith, few)) (marks, class) h
   argument_marked_one n call mark t at ts nodes names _ later few marks class h = refused h _
 
-  argument_mark : (n : ℕ) (call : Call) (mark : Lexeme) (at : ℕ) (ts : List Lexeme) (nodes : ℕ) (names : SymbolTable) → Later n → length ts ≤ suc n → class_of mark ≡ classes.Question
+  argument_mark : (n : ℕ) (call : Call) (mark : Lexeme) (at : ℕ) (ts : List Lexeme) (nodes : ℕ) (names : SymbolTable)
+      → Later n → length ts ≤ suc n → class_of mark ≡ classes.Question
       → accepts sig ts (at_place (AfterArgumentMark call at) stack nodes names) ≡ true → Inside sig stack (mark ∷ ts)
   unfolding accepts transition
   argument_mark n call mark at [] nodes names later few marks h = refused h _
-  argument_mark n call mark at (t ∷ ts) nodes names later few marks h = argument_marked_one n call mark t at ts nodes names (class_of t) later (omega (arith, few)) marks refl h
+  argument_mark n call mark at (t ∷ ts) nodes names later few marks h =
+      argument_marked_one n call mark t at ts nodes names (class_of t) later (omega (arith, few)) marks refl h
 
-  argument_one : (n : ℕ) (call : Call) (t : Lexeme) (ts : List Lexeme) (nodes : ℕ) (names : SymbolTable) (c : Class) → Later n → length ts ≤ suc n → class_of t ≡ c
-      → if_moved (argument_move (context_at stack nodes names) call t c) (accepts sig ts) ≡ true → Inside sig stack (t ∷ ts)
-  argument_one n call t ts nodes names classes.Name later few class h = taken_back n (Given (Named (Bare t))) _ ts nodes _ later few class h
-  argument_one n call t ts nodes names classes.Question later few class h = argument_mark n call t t.at ts nodes names later few class h
-  argument_one n call t ts nodes names (classes.Integer z) later few class h = taken_back n (Given (Number t z)) _ ts nodes _ later few class h
-  argument_one n call t ts nodes names classes.Text later few class h = taken_back n (Given (Quoted t)) _ ts nodes _ later few class h
-  argument_one n call t ts nodes names classes.Blank later few class h = taken_back n (Hidden t) _ ts (suc nodes) _ later few class h
+  argument_one : (n : ℕ) (call : Call) (t : Lexeme) (ts : List Lexeme) (nodes : ℕ) (names : SymbolTable) (c : Class)
+      → Later n → length ts ≤ suc n → class_of t ≡ c
+      → if_moved (argument_move (context_at stack nodes names) call t c) (accepts sig ts) ≡ true
+      → Inside sig stack (t ∷ ts)
+  argument_one n call t ts nodes names classes.Name later few class h =
+      taken_back n (Given (Named (Bare t))) _ ts nodes _ later few class h
+  argument_one n call t ts nodes names classes.Question later few class h =
+      argument_mark n call t t.at ts nodes names later few class h
+  argument_one n call t ts nodes names (classes.Integer z) later few class h =
+      taken_back n (Given (Number t z)) _ ts nodes _ later few class h
+  argument_one n call t ts nodes names classes.Text later few class h =
+      taken_back n (Given (Quoted t)) _ ts nodes _ later few class h
+  argument_one n call t ts nodes names classes.Blank later few class h =
+      taken_back n (Hidden t) _ ts (suc nodes) _ later few class h
   argument_one n call t ts nodes names _ later few class h = refused h _
 
   next_back : (n : ℕ) → Later n
   unfolding accepts transition
   next_back n call [] nodes names few h = refused h _
   next_back zero call (t ∷ ts) nodes names few h = absurd (omega (arith, few))
-  next_back (suc n) call (t ∷ ts) nodes names few h = argument_one n call t ts nodes names (class_of t) (next_back n) (omega (arith, few)) refl h
+  next_back (suc n) call (t ∷ ts) nodes names few h =
+      argument_one n call t ts nodes names (class_of t) (next_back n) (omega (arith, few)) refl h
 
-  first_one : (name opening : Lexeme) (call : Call) (t : Lexeme) (ts : List Lexeme) (nodes : ℕ) (names : SymbolTable) (c : Class) → IsAtomName name → class_of opening ≡ classes.OpenParen → class_of t ≡ c
-      → if_moved (first_move (context_at stack nodes names) call t c) (accepts sig ts) ≡ true → Primary sig stack (name ∷ opening ∷ t ∷ ts)
+  first_one : (name opening : Lexeme) (call : Call) (t : Lexeme) (ts : List Lexeme) (nodes : ℕ) (names : SymbolTable)
+      (c : Class) → IsAtomName name → class_of opening ≡ classes.OpenParen → class_of t ≡ c
+      → if_moved (first_move (context_at stack nodes names) call t c) (accepts sig ts) ≡ true
+      → Primary sig stack (name ∷ opening ∷ t ∷ ts)
   first_one name opening call t ts nodes names classes.CloseParen named opens class h =
-      record { tree = BareAtom name opening t; rest = ts; fits = λ rule. (named, opens, class); shut = refl; parts = refl; shorter = omega arith; behind = record { form = _; nodes = _; names = _; accepted = h } }
+      record {
+        tree = BareAtom name opening t;
+        rest = ts;
+        fits = λ rule.
+            (named, opens, class);
+        shut = refl;
+        parts = refl;
+        shorter = omega arith;
+        behind = record { form = _; nodes = _; names = _; accepted = h };
+      }
   first_one name opening call t ts nodes names c named opens class h =
       let r = argument_one (length ts) call t ts nodes names c (next_back (length ts)) (omega arith) class h in
       record {
@@ -197,35 +272,49 @@ module _ (sig : List PredOf) (stack : List Frame) where
         rest = r.rest;
         fits = λ rule. (named, opens, r.fits, r.closes);
         shut = refl;
-        parts = ap (λ (xs : List Lexeme). name ∷ opening ∷ xs) (r.parts ∙ sym (append_assoc (arguments_spelling r.arguments) (r.closing ∷ []) r.rest));
+        parts = ap (λ (xs : List Lexeme). name ∷ opening ∷ xs)
+            (r.parts ∙ sym (append_assoc (arguments_spelling r.arguments) (r.closing ∷ []) r.rest));
         shorter = omega (arith, r.shorter);
         behind = r.behind;
       }
 
-  first_back : (name opening : Lexeme) (call : Call) (ts : List Lexeme) (nodes : ℕ) (names : SymbolTable) → IsAtomName name → class_of opening ≡ classes.OpenParen
-      → accepts sig ts (at_place (FirstArgument call) stack nodes names) ≡ true → Primary sig stack (name ∷ opening ∷ ts)
+  first_back : (name opening : Lexeme) (call : Call) (ts : List Lexeme) (nodes : ℕ) (names : SymbolTable)
+      → IsAtomName name → class_of opening ≡ classes.OpenParen
+      → accepts sig ts (at_place (FirstArgument call) stack nodes names) ≡ true
+      → Primary sig stack (name ∷ opening ∷ ts)
   unfolding accepts transition
   first_back name opening call [] nodes names named opens h = refused h _
-  first_back name opening call (t ∷ ts) nodes names named opens h = first_one name opening call t ts nodes names (class_of t) named opens refl h
+  first_back name opening call (t ∷ ts) nodes names named opens h =
+      first_one name opening call t ts nodes names (class_of t) named opens refl h
 
-  word_one : (name : Lexeme) (at : ℕ) (text : List ℕ) (t : Lexeme) (ts : List Lexeme) (nodes : ℕ) (names : SymbolTable) (c : Class) → class_of name ≡ classes.Name → class_of t ≡ c
-      → if_moved (word_move sig (context_at stack nodes names) at text t c) (accepts sig ts) ≡ true → Primary sig stack (name ∷ t ∷ ts)
-  word_one name at text t ts nodes names classes.OpenParen named class h = first_back name t _ ts (suc nodes) names (inl named) class h
-  word_one name at text t ts nodes names (classes.Sign sign) named class h = sign_back (Named (Bare name)) _ t.at t sign ts (suc nodes) _ named class h
+  word_one : (name : Lexeme) (at : ℕ) (text : List ℕ) (t : Lexeme) (ts : List Lexeme) (nodes : ℕ)
+      (names : SymbolTable) (c : Class) → class_of name ≡ classes.Name → class_of t ≡ c
+      → if_moved (word_move sig (context_at stack nodes names) at text t c) (accepts sig ts) ≡ true
+      → Primary sig stack (name ∷ t ∷ ts)
+  word_one name at text t ts nodes names classes.OpenParen named class h =
+      first_back name t _ ts (suc nodes) names (inl named) class h
+  word_one name at text t ts nodes names (classes.Sign sign) named class h =
+      sign_back (Named (Bare name)) _ t.at t sign ts (suc nodes) _ named class h
   word_one name at text t ts nodes names _ named class h = refused h _
 
-  pub word_back : (name : Lexeme) (at : ℕ) (text : List ℕ) (ts : List Lexeme) (nodes : ℕ) (names : SymbolTable) → class_of name ≡ classes.Name
+  pub word_back : (name : Lexeme) (at : ℕ) (text : List ℕ) (ts : List Lexeme) (nodes : ℕ) (names : SymbolTable)
+      → class_of name ≡ classes.Name
       → accepts sig ts (at_place (AfterWord at text) stack nodes names) ≡ true → Primary sig stack (name ∷ ts)
   unfolding accepts transition
   word_back name at text [] nodes names named h = refused h _
-  word_back name at text (t ∷ ts) nodes names named h = word_one name at text t ts nodes names (class_of t) named refl h
+  word_back name at text (t ∷ ts) nodes names named h =
+      word_one name at text t ts nodes names (class_of t) named refl h
 
-  blank_one : (name : Lexeme) (at : ℕ) (t : Lexeme) (ts : List Lexeme) (nodes : ℕ) (names : SymbolTable) (c : Class) → class_of name ≡ classes.Blank → class_of t ≡ c
-      → if_moved (blank_move sig (context_at stack nodes names) at c) (accepts sig ts) ≡ true → Primary sig stack (name ∷ t ∷ ts)
-  blank_one name at t ts nodes names classes.OpenParen named class h = first_back name t _ ts (suc nodes) names (inr named) class h
+  blank_one : (name : Lexeme) (at : ℕ) (t : Lexeme) (ts : List Lexeme) (nodes : ℕ) (names : SymbolTable) (c : Class)
+      → class_of name ≡ classes.Blank → class_of t ≡ c
+      → if_moved (blank_move sig (context_at stack nodes names) at c) (accepts sig ts) ≡ true
+      → Primary sig stack (name ∷ t ∷ ts)
+  blank_one name at t ts nodes names classes.OpenParen named class h =
+      first_back name t _ ts (suc nodes) names (inr named) class h
   blank_one name at t ts nodes names _ named class h = refused h _
 
-  pub blank_back : (name : Lexeme) (at : ℕ) (ts : List Lexeme) (nodes : ℕ) (names : SymbolTable) → class_of name ≡ classes.Blank
+  pub blank_back : (name : Lexeme) (at : ℕ) (ts : List Lexeme) (nodes : ℕ) (names : SymbolTable) → class_of name
+      ≡ classes.Blank
       → accepts sig ts (at_place (AfterBlank at) stack nodes names) ≡ true → Primary sig stack (name ∷ ts)
   unfolding accepts transition
   blank_back name at [] nodes names named h = refused h _

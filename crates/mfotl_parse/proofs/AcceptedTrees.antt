@@ -1,5 +1,6 @@
 -- What the reader accepts is a formula: what is open is held as trees with a place for their right operand.
-use Rattle.std.proofs.Common.{◌≡◌, ℕ, ◌<◌, ◌≤◌, Bool, true, false, List, [], ◌∷◌, ◌++◌, map, refl, ap, sym, ◌∙◌, ◌⊎◌, inl, inr, arith}
+use Rattle.std.proofs.Common.{◌≡◌, ℕ, ◌<◌, ◌≤◌, Bool, true, false, List, [], ◌∷◌, ◌++◌, map, refl, ap, sym, ◌∙◌, ◌⊎◌}
+use Rattle.std.proofs.Common.{inl, inr, arith}
 use Rattle.std.proofs.lemmas.Bool.{cases_lt, le-ltb, lt-ltb}
 use Rattle.std.proofs.lemmas.List.{append_assoc}
 use Rattle.std.specs.Prelude.{cond, nat_lt}
@@ -11,7 +12,10 @@ use Rattle.mfotl_parse.specs.declared.class.Operator.TheVariants.{And, Or, Impli
 use Rattle.mfotl_parse.specs.declared.class.Quantifier.{Quantifier}
 use Rattle.mfotl_parse.specs.declared.class.Temporal.{Temporal}
 use Rattle.mfotl_parse.specs.Classes.{class_of}
-use Rattle.mfotl_parse.specs.Grammar.{WrittenVariables, LastVariable, MoreVariables, WrittenInterval, Tree, Denied, Timed, Quantified, Joined, variables_spelling, interval_spelling, spelling, FitsVariables, FitsInterval, FitsOperator, left_precedence, is_shut, Fits, precedence, right_precedence, is_timed}
+use Rattle.mfotl_parse.specs.Grammar.{WrittenVariables, LastVariable, MoreVariables, WrittenInterval, Tree, Denied}
+use Rattle.mfotl_parse.specs.Grammar.{Timed, Quantified, Joined, variables_spelling, interval_spelling, spelling}
+use Rattle.mfotl_parse.specs.Grammar.{FitsVariables, FitsInterval, FitsOperator, left_precedence, is_shut, Fits}
+use Rattle.mfotl_parse.specs.Grammar.{precedence, right_precedence, is_timed}
 use Rattle.mfotl_parse.specs.Reduction.{reduce, hold, closed}
 use Rattle.mfotl_parse.specs.States.{Frame}
 use Rattle.mfotl_parse.proofs.AcceptedIntervals.{push_ones}
@@ -51,9 +55,11 @@ abbrev pub FitsHeld : Held → Type 0
 FitsHeld (HeldParens opening) = class_of opening ≡ classes.OpenParen
 FitsHeld (HeldNot token) = class_of token ≡ classes.Not
 FitsHeld (HeldTimed token operator interval) = (class_of token ≡ classes.Temporal operator) × FitsInterval interval
-FitsHeld (HeldBound token quantifier variables dot) = (class_of token ≡ classes.Quantifier quantifier) × FitsVariables variables × (class_of dot ≡ classes.Dot)
+FitsHeld (HeldBound token quantifier variables dot) =
+    (class_of token ≡ classes.Quantifier quantifier) × FitsVariables variables × (class_of dot ≡ classes.Dot)
 FitsHeld (HeldLeft left token operator interval) =
-    Fits (left_precedence operator) left × (is_shut left ≡ true) × (class_of token ≡ classes.Operator operator) × FitsOperator (is_timed operator) interval
+    Fits (left_precedence operator) left × (is_shut left ≡ true) × (class_of token ≡ classes.Operator operator)
+    × FitsOperator (is_timed operator) interval
 
 -- the rule of the operand that is wanted
 abbrev pub wanted : List Held → ℕ
@@ -77,13 +83,15 @@ abbrev pub drop_tight : ℕ → List ℕ → List ℕ
 drop_tight rule [] = []
 drop_tight rule (n ∷ ns) = cond (nat_lt rule n) (drop_tight rule ns) (n ∷ ns)
 
-pub holds_reduced : (rule : ℕ) (f : Form) (stack : List Frame) → map hold (reduce rule f stack).stack ≡ drop_tight rule (map hold stack)
+pub holds_reduced : (rule : ℕ) (f : Form) (stack : List Frame) → map hold (reduce rule f stack).stack
+    ≡ drop_tight rule (map hold stack)
 unfolding reduce
 holds_reduced rule f [] = refl
 holds_reduced rule f (frame ∷ stack) = by_hold (nat_lt rule (hold frame)) (holds_reduced rule (closed frame f) stack)
   where
     by_hold : (b : Bool) → map hold (reduce rule (closed frame f) stack).stack ≡ drop_tight rule (map hold stack)
-        → map hold (cond b (reduce rule (closed frame f) stack) (record { form = f; stack = frame ∷ stack })).stack ≡ cond b (drop_tight rule (map hold stack)) (hold frame ∷ map hold stack)
+        → map hold (cond b (reduce rule (closed frame f) stack) (record { form = f; stack = frame ∷ stack })).stack
+        ≡ cond b (drop_tight rule (map hold stack)) (hold frame ∷ map hold stack)
     by_hold true later = later
     by_hold false later = refl
 
@@ -93,7 +101,8 @@ drops rule n ns h = ap (λ b. cond b (drop_tight rule ns) (n ∷ ns)) (lt-ltb ru
 remains : (rule n : ℕ) (ns : List ℕ) → n ≤ rule → drop_tight rule (n ∷ ns) ≡ n ∷ ns
 remains rule n ns h = ap (λ b. cond b (drop_tight rule ns) (n ∷ ns)) (le-ltb rule n h)
 
-drops_ones : (rule : ℕ) (vs : WrittenVariables) (ns : List ℕ) → rule < 1 → drop_tight rule (push_ones vs ns) ≡ drop_tight rule ns
+drops_ones : (rule : ℕ) (vs : WrittenVariables) (ns : List ℕ) → rule < 1 → drop_tight rule (push_ones vs ns)
+    ≡ drop_tight rule ns
 drops_ones rule (LastVariable v) ns h = drops rule 1 ns h
 drops_ones rule (MoreVariables v comma rest) ns h = drops_ones rule rest (1 ∷ ns) h ∙ drops rule 1 ns h
 
@@ -101,7 +110,8 @@ pub first_one : (vs : WrittenVariables) (ns : List ℕ) → (more : List ℕ) ×
 first_one (LastVariable v) ns = (ns, refl)
 first_one (MoreVariables v comma rest) ns = first_one rest (1 ∷ ns)
 
-remain_ones : (rule : ℕ) (vs : WrittenVariables) (ns : List ℕ) → 1 ≤ rule → drop_tight rule (push_ones vs ns) ≡ push_ones vs ns
+remain_ones : (rule : ℕ) (vs : WrittenVariables) (ns : List ℕ) → 1 ≤ rule → drop_tight rule (push_ones vs ns)
+    ≡ push_ones vs ns
 remain_ones rule vs ns h =
     let f = first_one vs ns in
     ap (drop_tight rule) f.1 ∙ remains rule 1 f.0 h ∙ sym f.1
@@ -156,47 +166,61 @@ pub record Closed (rule : ℕ) (hs : List Held) (tree : Tree) : Type 0 where
   pub loose : wanted around ≤ rule ⊎ (rule ≡ 0)
 
 module _ (rule : ℕ) (below_six : rule < 6) where
-  stays : (hs : List Held) (tree : Tree) → FitAll hs → Fits (wanted hs) tree → ((o : Operator) → precedence o ≡ rule → Fits (left_precedence o) tree) → (1 ≤ rule → is_shut tree ≡ true)
+  stays : (hs : List Held) (tree : Tree) → FitAll hs → Fits (wanted hs) tree
+      → ((o : Operator) → precedence o ≡ rule → Fits (left_precedence o) tree) → (1 ≤ rule → is_shut tree ≡ true)
       → drop_tight rule (holds_of hs) ≡ holds_of hs → wanted hs ≤ rule ⊎ (rule ≡ 0) → Closed rule hs tree
   stays hs tree fit fits left shut same loose =
       record { whole = tree; around = hs; fit_all = fit; fits = fits; left = left; shut = shut; tokens = refl; holds = same; loose = loose }
 
-  closes : (h : Held) (hs : List Held) (tree bigger : Tree) → (held_tokens hs ++ own_tokens h) ++ spelling tree ≡ held_tokens hs ++ spelling bigger
-      → drop_tight rule (push_hold h (holds_of hs)) ≡ drop_tight rule (holds_of hs) → Closed rule hs bigger → Closed rule (h ∷ hs) tree
+  closes : (h : Held) (hs : List Held) (tree bigger : Tree) → (held_tokens hs ++ own_tokens h) ++ spelling tree
+      ≡ held_tokens hs ++ spelling bigger
+      → drop_tight rule (push_hold h (holds_of hs)) ≡ drop_tight rule (holds_of hs) → Closed rule hs bigger
+      → Closed rule (h ∷ hs) tree
   closes h hs tree bigger tokens dropped c =
       record { whole = c.whole; around = c.around; fit_all = c.fit_all; fits = c.fits; left = c.left; shut = c.shut; tokens = tokens ∙ c.tokens; holds = dropped ∙ c.holds; loose = c.loose }
 
   one_or_zero : 1 ≤ rule ⊎ (rule ≡ 0)
   one_or_zero = elim (cases_lt rule 1) [ inl none ↦ inr (omega (arith, none)) | inr some ↦ inl some ]
 
-  pub close : (hs : List Held) (tree : Tree) → FitAll hs → Fits (wanted hs) tree → ((o : Operator) → precedence o ≡ rule → Fits (left_precedence o) tree) → (1 ≤ rule → is_shut tree ≡ true) → Closed rule hs tree
+  pub close : (hs : List Held) (tree : Tree) → FitAll hs → Fits (wanted hs) tree
+      → ((o : Operator) → precedence o ≡ rule → Fits (left_precedence o) tree) → (1 ≤ rule → is_shut tree ≡ true)
+      → Closed rule hs tree
   close [] tree fit fits left shut = stays [] tree fit fits left shut refl one_or_zero
   close (HeldParens opening ∷ hs) tree fit fits left shut =
       stays (HeldParens opening ∷ hs) tree fit fits left shut (remains rule 0 (holds_of hs) (omega arith)) one_or_zero
   close (HeldNot token ∷ hs) tree fit fits left shut =
-      closes (HeldNot token) hs tree (Denied token tree) (append_assoc (held_tokens hs) (token ∷ []) (spelling tree)) (drops rule 6 (holds_of hs) below_six)
+      closes (HeldNot token) hs tree (Denied token tree) (append_assoc (held_tokens hs) (token ∷ []) (spelling tree))
+      (drops rule 6 (holds_of hs) below_six)
       (close hs (Denied token tree) fit.2 (fit.0, fits) (λ o e. (fit.0, fits)) shut)
   close (HeldTimed token operator interval ∷ hs) tree fit fits left shut =
-      closes (HeldTimed token operator interval) hs tree (Timed token operator interval tree) (append_assoc (held_tokens hs) (token ∷ interval_spelling interval) (spelling tree)) (drops rule 6 (holds_of hs) below_six)
-      (close hs (Timed token operator interval tree) fit.2 (fit.0.0, fit.0.1, fits) (λ o e. (fit.0.0, fit.0.1, fits)) shut)
+      closes (HeldTimed token operator interval) hs tree (Timed token operator interval tree)
+      (append_assoc (held_tokens hs) (token ∷ interval_spelling interval) (spelling tree))
+      (drops rule 6 (holds_of hs) below_six)
+      (close hs (Timed token operator interval tree) fit.2 (fit.0.0, fit.0.1, fits)
+      (λ o e. (fit.0.0, fit.0.1, fits)) shut)
   close (HeldBound token quantifier variables dot ∷ hs) tree fit fits left shut =
       elim one_or_zero [
-        | inl some ↦ stays (HeldBound token quantifier variables dot ∷ hs) tree fit fits left shut (remain_ones rule variables (holds_of hs) some) (inl some)
+        | inl some ↦ stays (HeldBound token quantifier variables dot ∷ hs) tree fit fits left shut
+            (remain_ones rule variables (holds_of hs) some) (inl some)
         | inr none ↦
             closes (HeldBound token quantifier variables dot) hs tree (Quantified token quantifier variables dot tree)
             (append_assoc (held_tokens hs) (token ∷ (variables_spelling variables ++ dot ∷ [])) (spelling tree)
-            ∙ ap (λ (ts : List Lexeme). held_tokens hs ++ token ∷ ts) (append_assoc (variables_spelling variables) (dot ∷ []) (spelling tree)))
+            ∙ ap (λ (ts : List Lexeme). held_tokens hs ++ token ∷ ts)
+            (append_assoc (variables_spelling variables) (dot ∷ []) (spelling tree)))
             (drops_ones rule variables (holds_of hs) (omega (arith, none)))
-            (close hs (Quantified token quantifier variables dot tree) fit.2 (fit.0.0, fit.0.1, fit.0.2, fits) (λ o e. (fit.0.0, fit.0.1, fit.0.2, fits)) (λ some. absurd (omega (arith, some, none))))
+            (close hs (Quantified token quantifier variables dot tree) fit.2 (fit.0.0, fit.0.1, fit.0.2, fits)
+            (λ o e. (fit.0.0, fit.0.1, fit.0.2, fits)) (λ some. absurd (omega (arith, some, none))))
       ]
   close (HeldLeft l token operator interval ∷ hs) tree fit fits left shut =
       elim (cases_lt rule (right_precedence operator)) [
         | inl tight ↦
             closes (HeldLeft l token operator interval) hs tree (Joined l token operator interval tree)
             (append_assoc (held_tokens hs) (spelling l ++ token ∷ interval_spelling interval) (spelling tree)
-            ∙ ap (λ (ts : List Lexeme). held_tokens hs ++ ts) (append_assoc (spelling l) (token ∷ interval_spelling interval) (spelling tree)))
+            ∙ ap (λ (ts : List Lexeme). held_tokens hs ++ ts)
+            (append_assoc (spelling l) (token ∷ interval_spelling interval) (spelling tree)))
             (drops rule (right_precedence operator) (holds_of hs) tight)
             (close hs (Joined l token operator interval tree) fit.2 (fit.1, fit.0.0, fit.0.1, fit.0.2, fit.0.3, fits)
             (λ o e. (closes_left o operator (omega (arith, e, tight)), fit.0.0, fit.0.1, fit.0.2, fit.0.3, fits)) shut)
-        | inr loose ↦ stays (HeldLeft l token operator interval ∷ hs) tree fit fits left shut (remains rule (right_precedence operator) (holds_of hs) loose) (inl loose)
+        | inr loose ↦ stays (HeldLeft l token operator interval ∷ hs) tree fit fits left shut
+            (remains rule (right_precedence operator) (holds_of hs) loose) (inl loose)
       ]

@@ -1,27 +1,35 @@
 -- No bound variable of a policy that was read is free in its formula.
-use Rattle.std.proofs.Common.{◌≡◌, ℕ, zero, suc, ◌+◌, ◌-◌, ◌<◌, ◌≤◌, ◌⊎◌, inl, inr, Bool, true, false, cond, not, ◌&&◌, ◌||◌, nat_eq, List, [], ◌∷◌, ◌++◌, length, Option, Some, None, refl, sym, ap, ◌∙◌, arith}
+use Rattle.std.proofs.Common.{◌≡◌, ℕ, zero, suc, ◌+◌, ◌-◌, ◌<◌, ◌≤◌, ◌⊎◌, inl, inr, Bool, true, false, cond, not}
+use Rattle.std.proofs.Common.{◌||◌, nat_eq, List, [], ◌∷◌, length, Option, Some, None, refl, sym, ap, ◌∙◌, arith}
 use Rattle.std.proofs.lemmas.Bool.{cases_lt, lt-ltb, or_cases, and_parts, eqb-true, eq-eqb}
 use Rattle.std.proofs.lemmas.List.{length-append}
-use Rattle.std.specs.List.{filter}
 use Rattle.std.specs.Str.{bytes_eq}
 use Rattle.mfotl_model.specs.declared.policy.Sort.{Sort}
 use Rattle.mfotl_model.specs.declared.term.Term.{Term}
 use Rattle.mfotl_model.specs.Formulas as forms
 use Rattle.mfotl_model.specs.Formulas.{Form}
-use Rattle.mfotl_model.specs.FreeVariables.{among, without, joined, variable_in, variables_in, fv}
+use Rattle.mfotl_model.specs.FreeVariables.{among, without, variable_in, variables_in, fv}
 use Rattle.mfotl_model.proofs.LogicLemmas.{among_joined, among_without}
 use Rattle.mfotl_model.proofs.VariableLemmas.{variables_in-cons}
 use Rattle.mfotl_sig.specs.Preds.{PredOf, named}
 use Rattle.mfotl_parse.specs.declared.class.Quantifier.{Quantifier}
 use Rattle.mfotl_parse.specs.Arguments.{call_of, due, after_due, blanks}
-use Rattle.mfotl_parse.specs.Grammar.{WrittenTerm, Named, Number, Quoted, WrittenArgument, Given, Hidden, WrittenArguments, LastArgument, MoreArguments, WrittenVariables, LastVariable, MoreVariables, Tree, Truth, BareAtom, AtomOf, Comparison, Enclosed, Denied, Timed, Quantified, Joined}
-use Rattle.mfotl_parse.specs.Meanings.{Scope, no_scope, inside, name_of, place_of_variable, place_of, operand_of, term_names, argument_term, argument_names, arguments_terms, arguments_names, atom, variables_names, variables_scope, quantify, interval_of, names_behind, value}
-use Rattle.mfotl_parse.specs.SymbolTable.{number_of, free_place, free_or_new, with_free, bound_or_free, met, bound_more, inner_or, constrain_term, term_of}
-use Rattle.mfotl_parse.specs.Operands.{truth}
+use Rattle.mfotl_parse.specs.Grammar.{WrittenTerm, Named, Number, Quoted, WrittenArgument, Given, Hidden}
+use Rattle.mfotl_parse.specs.Grammar.{WrittenArguments, LastArgument, MoreArguments, WrittenVariables, LastVariable}
+use Rattle.mfotl_parse.specs.Grammar.{MoreVariables, Tree, Truth, BareAtom, AtomOf, Comparison, Enclosed, Denied}
+use Rattle.mfotl_parse.specs.Grammar.{Timed, Quantified, Joined}
+use Rattle.mfotl_parse.specs.Meanings.{Scope, no_scope, inside, name_of, place_of_variable, place_of, operand_of}
+use Rattle.mfotl_parse.specs.Meanings.{term_names, argument_term, argument_names, arguments_terms, arguments_names}
+use Rattle.mfotl_parse.specs.Meanings.{atom, variables_names, variables_scope, quantify, interval_of, names_behind}
+use Rattle.mfotl_parse.specs.Meanings.{value}
+use Rattle.mfotl_parse.specs.SymbolTable.{number_of, free_place, free_or_new, with_free, bound_or_free, met}
+use Rattle.mfotl_parse.specs.SymbolTable.{bound_more, inner_or, term_of}
 use Rattle.mfotl_parse.specs.States.{SymbolTable}
 use Rattle.mfotl_parse.specs.Limits.{max_free}
-use Rattle.mfotl_parse.proofs.NamesOrder.{Grows, placed_grows, term_grows, argument_grows, arguments_grow, tree_grows, sides_grow, found_within}
-use Rattle.mfotl_parse.proofs.VariableOrder.{is_free, free_in, fewer, last_only, truth_order, one_order, moment_order, joined_order}
+use Rattle.mfotl_parse.proofs.NamesOrder.{placed_grows, term_grows, argument_grows, arguments_grow, tree_grows}
+use Rattle.mfotl_parse.proofs.NamesOrder.{sides_grow, found_within}
+use Rattle.mfotl_parse.proofs.VariableOrder.{is_free, free_in, fewer, last_only, truth_order, one_order, moment_order}
+use Rattle.mfotl_parse.proofs.VariableOrder.{joined_order}
 
 module _ (y : ℕ) (above : max_free ≤ y) where
   -- a bound variable that a name stands for
@@ -37,19 +45,23 @@ module _ (y : ℕ) (above : max_free ≤ y) where
   only : (x : ℕ) → (nat_eq y x || false) ≡ true → y ≡ x
   only x e = elim (or_cases (nat_eq y x) false e) [ inl here ↦ eqb-true y x here | inr none ↦ absurd cc ]
 
-  name_escapes : (name : List ℕ) (at : ℕ) (n : SymbolTable) (bound : Option ℕ) → length (met bound name at n).free ≤ max_free → y ≡ number_of (bound_or_free bound name n)
+  name_escapes : (name : List ℕ) (at : ℕ) (n : SymbolTable) (bound : Option ℕ)
+      → length (met bound name at n).free ≤ max_free → y ≡ number_of (bound_or_free bound name n)
       → (k : ℕ) × (bound ≡ Some k) × (y ≡ max_free + k)
   name_escapes name at n (Some k) few e = (k, refl, e)
   name_escapes name at n None few e = absurd (by_place (free_place name n) refl few e)
     where
-      by_place : (place : Option ℕ) → free_place name n ≡ place → length (with_free place name at n).free ≤ max_free → y ≡ number_of (free_or_new place n) → ⊥
+      by_place : (place : Option ℕ) → free_place name n ≡ place → length (with_free place name at n).free ≤ max_free
+          → y ≡ number_of (free_or_new place n) → ⊥
       by_place (Some place) f below g = omega (arith, found_within name n place f, below, g, above)
       by_place None f below g = omega (arith, length-append n.free ((name, at) ∷ []), below, g, above)
 
-  term_escapes : (t : WrittenTerm) (scope : Scope) (n : SymbolTable) → length (term_names t scope n).free ≤ max_free → Occurs (variable_in (term_of (operand_of t scope n))) → InScope scope
+  term_escapes : (t : WrittenTerm) (scope : Scope) (n : SymbolTable) → length (term_names t scope n).free ≤ max_free
+      → Occurs (variable_in (term_of (operand_of t scope n))) → InScope scope
   unfolding Occurs
   term_escapes (Named v) scope n few e =
-      let k = name_escapes (name_of v) (place_of_variable v) n (scope (name_of v)) few (only (number_of (bound_or_free (scope (name_of v)) (name_of v) n)) e) in
+      let k = name_escapes (name_of v) (place_of_variable v) n (scope (name_of v)) few
+      (only (number_of (bound_or_free (scope (name_of v)) (name_of v) n)) e) in
       record { name = name_of v; number = k.0; bound = k.1; is = k.2 }
   term_escapes (Number token z) scope n few e = absurd cc
   term_escapes (Quoted token) scope n few e = absurd cc
@@ -58,29 +70,44 @@ module _ (y : ℕ) (above : max_free ≤ y) where
   Blank : ℕ → ℕ → Type 0
   Blank from to = (k : ℕ) × (from ≤ k) × (k < to) × (y ≡ max_free + k)
 
-  argument_escapes : (a : WrittenArgument) (sort : Sort) (scope : Scope) (n : SymbolTable) → length (argument_names a sort scope n).free ≤ max_free → Occurs (variable_in (argument_term a scope n))
+  argument_escapes : (a : WrittenArgument) (sort : Sort) (scope : Scope) (n : SymbolTable)
+      → length (argument_names a sort scope n).free ≤ max_free → Occurs (variable_in (argument_term a scope n))
       → InScope scope ⊎ Blank (length n.bound_sorts) (length (argument_names a sort scope n).bound_sorts)
   unfolding Occurs Blank
   argument_escapes (Given t) sort scope n few e =
-      inl (term_escapes t scope n (fewer (term_names t scope n) _ (placed_grows (operand_of t scope n) (place_of t) sort (term_names t scope n)) few) e)
+      inl (term_escapes t scope n
+      (fewer (term_names t scope n) _
+      (placed_grows (operand_of t scope n) (place_of t) sort (term_names t scope n)) few) e)
   argument_escapes (Hidden token) sort scope n few e =
-      inr (length n.bound_sorts, omega arith, omega (arith, length-append n.bound_sorts (Some sort ∷ [])), only (max_free + length n.bound_sorts) e)
+      inr (
+        length n.bound_sorts,
+        omega arith,
+        omega (arith, length-append n.bound_sorts (Some sort ∷ [])),
+        only
+            (max_free + length n.bound_sorts) e,
+      )
 
   wider : (from to from' to' : ℕ) → from' ≤ from → to ≤ to' → Blank from to → Blank from' to'
   unfolding Blank
   wider from to from' to' h k b = (b.0, omega (arith, b.1, h), omega (arith, b.2, k), b.3)
 
-  arguments_escape : (xs : WrittenArguments) (places : List Sort) (scope : Scope) (n : SymbolTable) → length (arguments_names xs places scope n).free ≤ max_free → Occurs (variables_in (arguments_terms xs places scope n))
+  arguments_escape : (xs : WrittenArguments) (places : List Sort) (scope : Scope) (n : SymbolTable)
+      → length (arguments_names xs places scope n).free ≤ max_free
+      → Occurs (variables_in (arguments_terms xs places scope n))
       → InScope scope ⊎ Blank (length n.bound_sorts) (length (arguments_names xs places scope n).bound_sorts)
   unfolding Occurs
   arguments_escape (LastArgument a) places scope n few e =
-      argument_escapes a (due places) scope n few (sym (ap (λ (vs : List ℕ). among y vs) (last_only (argument_term a scope n))) ∙ e)
+      argument_escapes a (due places) scope n few
+      (sym (ap (λ (vs : List ℕ). among y vs) (last_only (argument_term a scope n))) ∙ e)
   arguments_escape (MoreArguments a comma rest) places scope n few e =
       let between = argument_names a (due places) scope n in
       let later = arguments_grow rest (after_due places) scope between in
       let first = argument_grows a (due places) scope n in
-      let split = sym (ap (λ (vs : List ℕ). among y vs) (variables_in-cons (argument_term a scope n) (arguments_terms rest (after_due places) scope between))
-      ∙ among_joined y (variable_in (argument_term a scope n)) (variables_in (arguments_terms rest (after_due places) scope between))) ∙ e in
+      let split = sym
+      (ap (λ (vs : List ℕ). among y vs)
+      (variables_in-cons (argument_term a scope n) (arguments_terms rest (after_due places) scope between))
+      ∙ among_joined y (variable_in (argument_term a scope n))
+      (variables_in (arguments_terms rest (after_due places) scope between))) ∙ e in
       elim (or_cases _ _ split) [
         | inl here ↦
             elim (argument_escapes a (due places) scope n (fewer between _ later few) here) [
@@ -104,53 +131,78 @@ module _ (y : ℕ) (above : max_free ≤ y) where
       let parts = and_parts (not (nat_eq y x)) (among y xs) (sym (among_without y x xs) ∙ e) in
       (λ same. not_same x (nat_eq y x) refl parts.0 same, parts.1)
 
-  blanks_escape : (count first : ℕ) (f : Form) → Occurs (fv (blanks count first f)) → Occurs (fv f) × ((k : ℕ) → first ≤ k → k < first + count → y ≡ max_free + k → ⊥)
+  blanks_escape : (count first : ℕ) (f : Form) → Occurs (fv (blanks count first f)) → Occurs (fv f)
+      × ((k : ℕ) → first ≤ k → k < first + count → y ≡ max_free + k → ⊥)
   unfolding fv
   blanks_escape zero first f e = (e, λ k h l same. omega (arith, h, l))
   blanks_escape (suc count) first f e =
       let outer = without_escapes (max_free + first) (fv (blanks count (suc first) f)) e in
-      let inner = blanks_escape count (suc first) f outer.1 in
-      (inner.0, λ k h l same. elim (later_or_here first k h) [ inl past ↦ inner.1 k past (omega (arith, l)) same | inr is ↦ outer.0 (omega (arith, is, same)) ])
+      let inner = blanks_escape count (suc first) f outer.1 in (
+        inner.0,
+        λ k h l same. elim
+            (later_or_here first k h) [
+              | inl past ↦ inner.1 k past (omega (arith, l)) same
+              | inr is ↦ outer.0
+                  (omega (arith, is, same))
+            ],
+      )
     where
       later_or_here : (a k : ℕ) → a ≤ k → (suc a ≤ k) ⊎ (k ≡ a)
       later_or_here zero zero h = inr refl
       later_or_here zero (suc k) h = inl (omega arith)
       later_or_here (suc a) zero h = absurd (omega (arith, h))
-      later_or_here (suc a) (suc k) h = elim (later_or_here a k (omega (arith, h))) [ inl past ↦ inl (omega (arith, past)) | inr is ↦ inr (ap suc is) ]
+      later_or_here (suc a) (suc k) h =
+          elim (later_or_here a k (omega (arith, h))) [
+            | inl past ↦ inl (omega (arith, past))
+            | inr is ↦ inr
+                (ap suc is)
+          ]
 
-  atom_escapes : (found : Option PredOf) (args : List Term) (outer inner : ℕ) (scope : Scope) → (Occurs (variables_in args) → InScope scope ⊎ Blank outer inner) → Occurs (fv (atom found args outer inner)) → InScope scope
+  atom_escapes : (found : Option PredOf) (args : List Term) (outer inner : ℕ) (scope : Scope)
+      → (Occurs (variables_in args) → InScope scope ⊎ Blank outer inner) → Occurs (fv (atom found args outer inner))
+      → InScope scope
   unfolding fv Blank
   atom_escapes found args outer inner scope inside e =
-      let parts = blanks_escape (inner - outer) outer (forms.Atom (record { pred = (call_of found outer).pred; args = args })) e in
+      let parts = blanks_escape (inner - outer) outer
+      (forms.Atom (record { pred = (call_of found outer).pred; args = args })) e in
       elim (inside parts.0) [ inl s ↦ s | inr b ↦ absurd (parts.1 b.0 b.1 (omega (arith, b.1, b.2)) b.3) ]
 
   -- inside a quantifier only its variable is more
-  scope_one : (name : List ℕ) (k : ℕ) (scope : Scope) → (y ≡ max_free + k → ⊥) → InScope (inside name k scope) → InScope scope
+  scope_one : (name : List ℕ) (k : ℕ) (scope : Scope) → (y ≡ max_free + k → ⊥) → InScope (inside name k scope)
+      → InScope scope
   scope_one bound k scope other s = by_test (bytes_eq s.name bound) s.bound
     where
       by_test : (b : Bool) → inner_or (cond b (Some k) None) (scope s.name) ≡ Some s.number → InScope scope
       by_test true e = let same : k ≡ s.number = cc in absurd (other (omega (arith, s.is, same)))
       by_test false e = record { name = s.name; number = s.number; bound = e; is = s.is }
 
-  quantify_escapes : (q : Quantifier) (vs : WrittenVariables) (n : SymbolTable) (scope : Scope) (f : Form) → (Occurs (fv f) → InScope (variables_scope vs n scope)) → Occurs (fv (quantify q vs n f)) → InScope scope
+  quantify_escapes : (q : Quantifier) (vs : WrittenVariables) (n : SymbolTable) (scope : Scope) (f : Form)
+      → (Occurs (fv f) → InScope (variables_scope vs n scope)) → Occurs (fv (quantify q vs n f)) → InScope scope
   unfolding Occurs
   quantify_escapes q (LastVariable v) n scope f inside e =
       let k = length n.bound_sorts in
-      let parts = without_escapes (max_free + k) (fv f) (sym (ap (λ (xs : List ℕ). among y xs) (one_order q k (name_of v) f)) ∙ e) in
+      let parts = without_escapes (max_free + k) (fv f)
+      (sym (ap (λ (xs : List ℕ). among y xs) (one_order q k (name_of v) f)) ∙ e) in
       scope_one (name_of v) k scope parts.0 (inside parts.1)
   quantify_escapes q (MoreVariables v comma rest) n scope f inner e =
       let k = length n.bound_sorts in
       let body = quantify q rest (bound_more None n) f in
-      let parts = without_escapes (max_free + k) (fv body) (sym (ap (λ (xs : List ℕ). among y xs) (one_order q k (name_of v) body)) ∙ e) in
-      scope_one (name_of v) k scope parts.0 (quantify_escapes q rest (bound_more None n) (inside (name_of v) k scope) f inner parts.1)
+      let parts = without_escapes (max_free + k) (fv body)
+      (sym (ap (λ (xs : List ℕ). among y xs) (one_order q k (name_of v) body)) ∙ e) in
+      scope_one (name_of v) k scope parts.0
+      (quantify_escapes q rest (bound_more None n) (inside (name_of v) k scope) f inner parts.1)
 
-  tree_escapes : (sig : List PredOf) (tree : Tree) (scope : Scope) (n : SymbolTable) → length (names_behind sig tree scope n).free ≤ max_free → Occurs (fv (value sig tree scope n)) → InScope scope
+  tree_escapes : (sig : List PredOf) (tree : Tree) (scope : Scope) (n : SymbolTable)
+      → length (names_behind sig tree scope n).free ≤ max_free → Occurs (fv (value sig tree scope n)) → InScope scope
   unfolding Occurs fv
-  tree_escapes sig (Truth token which) scope n few e = let none = sym (ap (λ (xs : List ℕ). among y xs) (truth_order which)) ∙ e in absurd cc
-  tree_escapes sig (BareAtom name opening closing) scope n few e = atom_escapes (named name.text sig) [] (length n.bound_sorts) (length n.bound_sorts) scope (λ none. absurd cc) e
+  tree_escapes sig (Truth token which) scope n few e =
+      let none = sym (ap (λ (xs : List ℕ). among y xs) (truth_order which)) ∙ e in absurd cc
+  tree_escapes sig (BareAtom name opening closing) scope n few e =
+      atom_escapes (named name.text sig) [] (length n.bound_sorts) (length n.bound_sorts) scope (λ none. absurd cc) e
   tree_escapes sig (AtomOf name opening arguments closing) scope n few e =
       let places = (call_of (named name.text sig) 0).rest in
-      atom_escapes (named name.text sig) (arguments_terms arguments places scope n) (length n.bound_sorts) (length (arguments_names arguments places scope n).bound_sorts) scope
+      atom_escapes (named name.text sig) (arguments_terms arguments places scope n) (length n.bound_sorts)
+      (length (arguments_names arguments places scope n).bound_sorts) scope
       (λ there. arguments_escape arguments places scope n few there) e
   tree_escapes sig (Comparison left token sign right) scope n few e =
       let first = term_names left scope n in
@@ -158,15 +210,20 @@ module _ (y : ℕ) (above : max_free ≤ y) where
       let l = term_of (operand_of left scope n) in
       let r = term_of (operand_of right scope first) in
       let few_second = fewer second _ (sides_grow left right token.at scope n) few in
-      let split = sym (ap (λ (vs : List ℕ). among y vs) (variables_in-cons l (r ∷ [])) ∙ among_joined y (variable_in l) (variables_in (r ∷ []))) ∙ e in
+      let split = sym
+      (ap (λ (vs : List ℕ). among y vs) (variables_in-cons l (r ∷ []))
+      ∙ among_joined y (variable_in l) (variables_in (r ∷ []))) ∙ e in
       elim (or_cases _ _ split) [
         | inl here ↦ term_escapes left scope n (fewer first second (term_grows right scope first) few_second) here
-        | inr there ↦ term_escapes right scope first few_second (sym (ap (λ (vs : List ℕ). among y vs) (last_only r)) ∙ there)
+        | inr there ↦ term_escapes right scope first few_second
+            (sym (ap (λ (vs : List ℕ). among y vs) (last_only r)) ∙ there)
       ]
   tree_escapes sig (Enclosed opening body closing) scope n few e = tree_escapes sig body scope n few e
   tree_escapes sig (Denied token body) scope n few e = tree_escapes sig body scope n few e
   tree_escapes sig (Timed token operator interval body) scope n few e =
-      tree_escapes sig body scope n few (sym (ap (λ (xs : List ℕ). among y xs) (moment_order operator (interval_of interval) (value sig body scope n))) ∙ e)
+      tree_escapes sig body scope n few
+      (sym (ap (λ (xs : List ℕ). among y xs)
+      (moment_order operator (interval_of interval) (value sig body scope n))) ∙ e)
   tree_escapes sig (Quantified token quantifier variables dot body) scope n few e =
       let between = variables_names variables n in
       quantify_escapes quantifier variables n scope (value sig body (variables_scope variables n scope) between)
@@ -175,13 +232,16 @@ module _ (y : ℕ) (above : max_free ≤ y) where
       let between = names_behind sig left scope n in
       let f = value sig left scope n in
       let g = value sig right scope between in
-      let split = sym (ap (λ (xs : List ℕ). among y xs) (joined_order operator (interval_of interval) f g) ∙ among_joined y (fv f) (fv g)) ∙ e in
+      let split = sym
+      (ap (λ (xs : List ℕ). among y xs) (joined_order operator (interval_of interval) f g)
+      ∙ among_joined y (fv f) (fv g)) ∙ e in
       elim (or_cases _ _ split) [
         | inl here ↦ tree_escapes sig left scope n (fewer between _ (tree_grows sig right scope between) few) here
         | inr there ↦ tree_escapes sig right scope between few there
       ]
 
-  pub none_escapes : (sig : List PredOf) (tree : Tree) (n : SymbolTable) → length (names_behind sig tree no_scope n).free ≤ max_free → among y (fv (value sig tree no_scope n)) ≡ true → ⊥
+  pub none_escapes : (sig : List PredOf) (tree : Tree) (n : SymbolTable)
+      → length (names_behind sig tree no_scope n).free ≤ max_free → among y (fv (value sig tree no_scope n)) ≡ true → ⊥
   unfolding Occurs
   none_escapes sig tree n few e = let s = tree_escapes sig tree no_scope n few e in by_none s.bound
     where
@@ -204,8 +264,15 @@ all_free (x ∷ xs) each =
     there false c e = e
 
 -- all free variables of a whole policy are numbered as free ones
-pub only_free : (sig : List PredOf) (tree : Tree) (n : SymbolTable) → length (names_behind sig tree no_scope n).free ≤ max_free → free_in (fv (value sig tree no_scope n)) ≡ fv (value sig tree no_scope n)
+pub only_free : (sig : List PredOf) (tree : Tree) (n : SymbolTable)
+    → length (names_behind sig tree no_scope n).free ≤ max_free → free_in (fv (value sig tree no_scope n))
+    ≡ fv (value sig tree no_scope n)
 only_free sig tree n few = all_free (fv (value sig tree no_scope n)) (λ y e. by_number y e)
   where
     by_number : (y : ℕ) → among y (fv (value sig tree no_scope n)) ≡ true → is_free y ≡ true
-    by_number y e = elim (cases_lt y max_free) [ inl below ↦ lt-ltb y max_free below | inr above ↦ absurd (none_escapes y above sig tree n few e) ]
+    by_number y e =
+        elim (cases_lt y max_free) [
+          | inl below ↦ lt-ltb y max_free below
+          | inr above ↦ absurd
+              (none_escapes y above sig tree n few e)
+        ]

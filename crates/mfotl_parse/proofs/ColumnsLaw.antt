@@ -1,18 +1,18 @@
 -- The columns of a policy that was read are the free variables of its formula, and its occurrences have their sorts.
-use Rattle.std.proofs.Common.{◌≡◌, ℕ, zero, suc, ◌+◌, ◌-◌, ◌<◌, ◌≤◌, Bool, true, List, [], ◌∷◌, length, map, Option, Some, None, Result, Ok, Err, refl, sym, ap, subst, ◌∙◌, arith, cond}
+use Rattle.std.proofs.Common.{◌≡◌, ℕ, suc, ◌+◌, ◌-◌, ◌<◌, Bool, List, [], ◌∷◌, length, map, Option}
+use Rattle.std.proofs.Common.{Some, None, Result, Ok, Err, refl, sym, ap, subst, ◌∙◌, arith, cond}
 use Rattle.std.proofs.lemmas.Bool.{lt-ltb}
 use Rattle.std.specs.Prelude.{slice_get, IfOk}
 use Rattle.std.specs.List.{range_with_len}
 use Rattle.mfotl_model.specs.declared.policy.Policy.{Policy}
 use Rattle.mfotl_model.specs.declared.policy.Sort.{Sort}
-use Rattle.mfotl_model.specs.declared.policy.Var.{Var}
 use Rattle.mfotl_model.specs.Formulas.{form}
-use Rattle.mfotl_model.specs.FreeVariables.{joined, fv}
+use Rattle.mfotl_model.specs.FreeVariables.{fv}
 use Rattle.mfotl_model.proofs.VariableLemmas.{joined_none}
 use Rattle.mfotl_sig.specs.Preds.{PredOf}
 use Rattle.mfotl_parse.specs.declared.fault.PolicyFault.{PolicyFault}
 use Rattle.mfotl_parse.specs.Grammar.{Tree}
-use Rattle.mfotl_parse.specs.Meanings.{no_scope, all_names, value, KeepsRules, IsValue, policy_of}
+use Rattle.mfotl_parse.specs.Meanings.{no_scope, all_names, value, KeepsRules, IsValue}
 use Rattle.mfotl_parse.specs.SymbolTable.{given_at, sort_or_int, vars_of}
 use Rattle.mfotl_parse.specs.Reading.{PolicyOf, reading}
 use Rattle.mfotl_parse.specs.States.{SymbolTable, no_names}
@@ -31,7 +31,8 @@ same_default None = refl
 same_default (Some sort) = refl
 
 -- the sorts of the columns from a number on
-columns_from : (given : ℕ → Option Sort) (from : ℕ) (free : List (List ℕ × ℕ)) (sorts : List (Option Sort)) → length sorts ≡ length free
+columns_from : (given : ℕ → Option Sort) (from : ℕ) (free : List (List ℕ × ℕ)) (sorts : List (Option Sort))
+    → length sorts ≡ length free
     → ((k : ℕ) → k < length free → given (from + k) ≡ given_at (slice_get sorts k))
     → map (λ v. v.sort) (vars_of free sorts) ≡ map (λ x. sort_or_integer (given x)) (range_with_len from (length free))
 unfolding vars_of
@@ -39,9 +40,12 @@ columns_from given from [] sorts sized each = refl
 columns_from given from (known ∷ free) [] sized each = absurd (omega (arith, sized))
 columns_from given from (known ∷ free) (sort ∷ sorts) sized each =
     let here : from + 0 ≡ from = omega arith in
-    let first : sort_or_int sort ≡ sort_or_integer (given from) = same_default sort ∙ sym (ap sort_or_integer (ap given (sym here) ∙ each 0 (omega arith))) in
-    let later = columns_from given (from + 1) free sorts (omega (arith, sized)) (λ k below. ap given (next k) ∙ each (suc k) (omega (arith, below))) in
-    ap (λ (s : Sort). s ∷ map (λ v. v.sort) (vars_of free sorts)) first ∙ ap (λ (ss : List Sort). sort_or_integer (given from) ∷ ss) later
+    let first : sort_or_int sort ≡ sort_or_integer (given from) = same_default sort
+    ∙ sym (ap sort_or_integer (ap given (sym here) ∙ each 0 (omega arith))) in
+    let later = columns_from given (from + 1) free sorts (omega (arith, sized))
+    (λ k below. ap given (next k) ∙ each (suc k) (omega (arith, below))) in
+    ap (λ (s : Sort). s ∷ map (λ v. v.sort) (vars_of free sorts)) first
+    ∙ ap (λ (ss : List Sort). sort_or_integer (given from) ∷ ss) later
   where
     next : (k : ℕ) → from + 1 + k ≡ from + suc k
     next k = omega arith
@@ -57,10 +61,13 @@ module _ (sig : List PredOf) (tree : Tree) (rules : KeepsRules sig tree) where
       ∙ tree_order sig tree no_scope no_names rules.few_free
       ∙ ap (range_with_len 0) (sym (length_vars_of last.free last.free_sorts))
 
-  columns_are : map (λ v. v.sort) (vars_of last.free last.free_sorts) ≡ map (λ x. sort_or_integer (given_by last x)) (range_with_len 0 (length (vars_of last.free last.free_sorts)))
+  columns_are : map (λ v. v.sort) (vars_of last.free last.free_sorts)
+      ≡ map (λ x. sort_or_integer (given_by last x)) (range_with_len 0 (length (vars_of last.free last.free_sorts)))
   columns_are =
-      columns_from (given_by last) 0 last.free last.free_sorts ((tree_grows sig tree no_scope no_names).sized refl) (λ k below. low k (omega (arith, below, rules.few_free)))
-      ∙ ap (λ (n : ℕ). map (λ x. sort_or_integer (given_by last x)) (range_with_len 0 n)) (sym (length_vars_of last.free last.free_sorts))
+      columns_from (given_by last) 0 last.free last.free_sorts ((tree_grows sig tree no_scope no_names).sized refl)
+      (λ k below. low k (omega (arith, below, rules.few_free)))
+      ∙ ap (λ (n : ℕ). map (λ x. sort_or_integer (given_by last x)) (range_with_len 0 n))
+      (sym (length_vars_of last.free last.free_sorts))
     where
       zero_more : (k : ℕ) → 0 + k ≡ k
       zero_more k = omega arith
@@ -68,7 +75,8 @@ module _ (sig : List PredOf) (tree : Tree) (rules : KeepsRules sig tree) where
       low : (k : ℕ) → k < max_free → given_by last (0 + k) ≡ given_at (slice_get last.free_sorts k)
       low k below =
           ap (given_by last) (zero_more k)
-          ∙ ap (λ (b : Bool). cond b (given_at (slice_get last.free_sorts k)) (given_at (slice_get last.bound_sorts (k - max_free)))) (lt-ltb k max_free below)
+          ∙ ap (λ (b : Bool). cond b (given_at (slice_get last.free_sorts k))
+          (given_at (slice_get last.bound_sorts (k - max_free)))) (lt-ltb k max_free below)
 
   none_open : (name : List ℕ) (k : ℕ) → no_scope name ≡ Some k → k < length (no_names).bound_sorts
   none_open name k e = absurd cc
@@ -81,11 +89,15 @@ module _ (sig : List PredOf) (tree : Tree) (rules : KeepsRules sig tree) where
     columns = columns_are;
   }
 
-value_sorted : (bytes : List ℕ) (sig : List PredOf) (policy : PolicyOf) → IsValue bytes sig policy → IsWellSorted sig policy.vars policy.formula
-value_sorted bytes sig policy v = subst (λ (p : PolicyOf). IsWellSorted sig p.vars p.formula) (sym v.value) (well_sorted sig v.tree v.rules)
+value_sorted : (bytes : List ℕ) (sig : List PredOf) (policy : PolicyOf) → IsValue bytes sig policy
+    → IsWellSorted sig policy.vars policy.formula
+value_sorted bytes sig policy v =
+    subst (λ (p : PolicyOf). IsWellSorted sig p.vars p.formula) (sym v.value) (well_sorted sig v.tree v.rules)
 
 -- a policy that was read
-pub sorted_given : (bytes : List ℕ) (sig : List PredOf) (result : Result Policy PolicyFault) → Gives policy_seen result (reading bytes sig)
+pub sorted_given : (bytes : List ℕ) (sig : List PredOf) (result : Result Policy PolicyFault)
+    → Gives policy_seen result (reading bytes sig)
     → IfOk result (λ policy. IsWellSorted sig policy.vars (form policy.formula))
-sorted_given bytes sig (Ok policy) given = value_sorted bytes sig (policy_seen policy) (read_is_spelled bytes sig (policy_seen policy) given)
+sorted_given bytes sig (Ok policy) given =
+    value_sorted bytes sig (policy_seen policy) (read_is_spelled bytes sig (policy_seen policy) given)
 sorted_given bytes sig (Err fault) given = tt

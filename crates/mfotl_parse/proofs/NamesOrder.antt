@@ -1,9 +1,9 @@
 -- How the names that were met grow: what was given stays.
-use Rattle.std.proofs.Common.{◌≡◌, ℕ, zero, suc, ◌+◌, ◌<◌, ◌≤◌, Bool, true, false, cond, List, [], ◌∷◌, ◌++◌, length, Option, Some, None, refl, sym, ap, subst, ◌∙◌, arith}
+use Rattle.std.proofs.Common.{◌≡◌, ℕ, zero, suc, ◌<◌, ◌≤◌, Bool, true, false, cond, List, [], ◌∷◌, ◌++◌, length}
+use Rattle.std.proofs.Common.{Option, Some, None, refl, sym, ap, ◌∙◌, arith}
 use Rattle.std.proofs.lemmas.List.{append-nil, append_assoc, length-append, length-set}
 use Rattle.std.proofs.lemmas.List.Quantifiers.{position-Some}
 use Rattle.std.specs.Prelude.{slice_get, slice_set}
-use Rattle.std.specs.List.{position}
 use Rattle.std.specs.Str.{bytes_eq}
 use Rattle.mfotl_model.specs.declared.policy.Sort.{Sort}
 use Rattle.mfotl_model.specs.declared.policy.Sort.TheVariants as sorts
@@ -14,9 +14,15 @@ use Rattle.mfotl_parse.specs.declared.term.Pair.{Pair}
 use Rattle.mfotl_parse.specs.declared.term.Variable.{Variable}
 use Rattle.mfotl_parse.specs.declared.term.Variable.TheVariants as variables
 use Rattle.mfotl_parse.specs.Arguments.{call_of, due, after_due}
-use Rattle.mfotl_parse.specs.Grammar.{WrittenTerm, Named, Number, Quoted, WrittenArgument, Given, Hidden, WrittenArguments, LastArgument, MoreArguments, WrittenVariables, LastVariable, MoreVariables, Tree, Truth, BareAtom, AtomOf, Comparison, Enclosed, Denied, Timed, Quantified, Joined}
-use Rattle.mfotl_parse.specs.Meanings.{Scope, name_of, place_of_variable, place_of, operand_of, term_names, argument_names, arguments_names, variables_names, variables_scope, names_behind}
-use Rattle.mfotl_parse.specs.SymbolTable.{free_place, bound_or_free, free_or_new, with_free, met, bound_more, given_at, sort_of, with_sort, same_sort, first_of, clashed, agreed, occurred, require_sort, sort_of_value, constrain_term, compared}
+use Rattle.mfotl_parse.specs.Grammar.{WrittenTerm, Named, Number, Quoted, WrittenArgument, Given, Hidden}
+use Rattle.mfotl_parse.specs.Grammar.{WrittenArguments, LastArgument, MoreArguments, WrittenVariables, LastVariable}
+use Rattle.mfotl_parse.specs.Grammar.{MoreVariables, Tree, Truth, BareAtom, AtomOf, Comparison, Enclosed, Denied}
+use Rattle.mfotl_parse.specs.Grammar.{Timed, Quantified, Joined}
+use Rattle.mfotl_parse.specs.Meanings.{Scope, name_of, place_of_variable, place_of, operand_of, term_names}
+use Rattle.mfotl_parse.specs.Meanings.{argument_names, arguments_names, variables_names, variables_scope, names_behind}
+use Rattle.mfotl_parse.specs.SymbolTable.{free_place, bound_or_free, free_or_new, with_free, met, bound_more, given_at}
+use Rattle.mfotl_parse.specs.SymbolTable.{sort_of, with_sort, same_sort, first_of, clashed, agreed, occurred}
+use Rattle.mfotl_parse.specs.SymbolTable.{require_sort, sort_of_value, constrain_term, compared}
 use Rattle.mfotl_parse.specs.States.{SymbolTable}
 
 -- these names came to be those: what was given stays, and what was met
@@ -54,19 +60,22 @@ grows_then n m k g h = record {
 
 -- ---- lists of sorts
 
-given_more : (xs : List (Option Sort)) (x : Option Sort) (k : ℕ) (s : Sort) → given_at (slice_get xs k) ≡ Some s → given_at (slice_get (xs ++ x ∷ []) k) ≡ Some s
+given_more : (xs : List (Option Sort)) (x : Option Sort) (k : ℕ) (s : Sort) → given_at (slice_get xs k) ≡ Some s
+    → given_at (slice_get (xs ++ x ∷ []) k) ≡ Some s
 given_more [] x k s e = absurd cc
 given_more (y ∷ xs) x zero s e = e
 given_more (y ∷ xs) x (suc k) s e = given_more xs x k s e
 
-given_set : (xs : List (Option Sort)) (k j : ℕ) (x : Option Sort) (s : Sort) → given_at (slice_get xs k) ≡ None → given_at (slice_get xs j) ≡ Some s → given_at (slice_get (slice_set xs k x) j) ≡ Some s
+given_set : (xs : List (Option Sort)) (k j : ℕ) (x : Option Sort) (s : Sort) → given_at (slice_get xs k) ≡ None
+    → given_at (slice_get xs j) ≡ Some s → given_at (slice_get (slice_set xs k x) j) ≡ Some s
 given_set [] k j x s none e = absurd cc
 given_set (y ∷ xs) zero zero x s none e = absurd (cc (none, e))
 given_set (y ∷ xs) zero (suc j) x s none e = e
 given_set (y ∷ xs) (suc k) zero x s none e = e
 given_set (y ∷ xs) (suc k) (suc j) x s none e = given_set xs k j x s none e
 
-given_there : (xs : List (Option Sort)) (k : ℕ) (s : Sort) → k < length xs → given_at (slice_get (slice_set xs k (Some s)) k) ≡ Some s
+given_there : (xs : List (Option Sort)) (k : ℕ) (s : Sort) → k < length xs
+    → given_at (slice_get (slice_set xs k (Some s)) k) ≡ Some s
 given_there [] k s within = absurd (omega (arith, within))
 given_there (y ∷ xs) zero s within = refl
 given_there (y ∷ xs) (suc k) s within = given_there xs k s (omega (arith, within))
@@ -123,7 +132,8 @@ sort_grows (variables.Free k) sort n none = record {
   sized = λ e. length-set n.free_sorts k (Some sort) ∙ e;
 }
   where
-    by_variable : (v : Variable) (s : Sort) → sort_of v n ≡ Some s → sort_of v (with_sort (variables.Free k) sort n) ≡ Some s
+    by_variable : (v : Variable) (s : Sort) → sort_of v n ≡ Some s → sort_of v (with_sort (variables.Free k) sort n)
+        ≡ Some s
     by_variable (variables.Free j) s e = given_set n.free_sorts k j (Some sort) s none e
     by_variable (variables.Bound j) s e = e
 sort_grows (variables.Bound k) sort n none = record {
@@ -136,7 +146,8 @@ sort_grows (variables.Bound k) sort n none = record {
   sized = λ e. e;
 }
   where
-    by_variable : (v : Variable) (s : Sort) → sort_of v n ≡ Some s → sort_of v (with_sort (variables.Bound k) sort n) ≡ Some s
+    by_variable : (v : Variable) (s : Sort) → sort_of v n ≡ Some s → sort_of v (with_sort (variables.Bound k) sort n)
+        ≡ Some s
     by_variable (variables.Free j) s e = e
     by_variable (variables.Bound j) s e = given_set n.bound_sorts k j (Some sort) s none e
 
@@ -188,15 +199,21 @@ pair_grows pair n = record {
   sized = λ e. e;
 }
   where
-    by_variable : (v : Variable) (s : Sort) → sort_of v n ≡ Some s → sort_of v (record n { pairs = n.pairs ++ pair ∷ [] }) ≡ Some s
+    by_variable : (v : Variable) (s : Sort) → sort_of v n ≡ Some s
+        → sort_of v (record n { pairs = n.pairs ++ pair ∷ [] }) ≡ Some s
     by_variable (variables.Free j) s e = e
     by_variable (variables.Bound j) s e = e
 
-pub compared_grows : (l : Operand) (left_at at : ℕ) (r : Operand) (right_at : ℕ) (n : SymbolTable) → Grows n (compared l left_at at r right_at n)
-compared_grows (operands.Variable v) left_at at (operands.Variable w) right_at n = pair_grows (record { at = at; left = v; right = w }) n
-compared_grows (operands.Variable v) left_at at (operands.Constant d) right_at n = occurs_grows v left_at (sort_of_value d) n
-compared_grows (operands.Constant c) left_at at (operands.Variable w) right_at n = occurs_grows w right_at (sort_of_value c) n
-compared_grows (operands.Constant c) left_at at (operands.Constant d) right_at n = agreed_grows (sort_of_value c) at (sort_of_value d) n
+pub compared_grows : (l : Operand) (left_at at : ℕ) (r : Operand) (right_at : ℕ) (n : SymbolTable)
+    → Grows n (compared l left_at at r right_at n)
+compared_grows (operands.Variable v) left_at at (operands.Variable w) right_at n =
+    pair_grows (record { at = at; left = v; right = w }) n
+compared_grows (operands.Variable v) left_at at (operands.Constant d) right_at n =
+    occurs_grows v left_at (sort_of_value d) n
+compared_grows (operands.Constant c) left_at at (operands.Variable w) right_at n =
+    occurs_grows w right_at (sort_of_value c) n
+compared_grows (operands.Constant c) left_at at (operands.Constant d) right_at n =
+    agreed_grows (sort_of_value c) at (sort_of_value d) n
 
 -- ---- terms, arguments and formulas
 
@@ -205,38 +222,51 @@ term_grows (Named v) scope n = met_grows (scope (name_of v)) (name_of v) (place_
 term_grows (Number token z) scope n = grows_not n
 term_grows (Quoted token) scope n = grows_not n
 
-pub argument_grows : (a : WrittenArgument) (sort : Sort) (scope : Scope) (n : SymbolTable) → Grows n (argument_names a sort scope n)
+pub argument_grows : (a : WrittenArgument) (sort : Sort) (scope : Scope) (n : SymbolTable)
+    → Grows n (argument_names a sort scope n)
 argument_grows (Given t) sort scope n =
-    grows_then n (term_names t scope n) _ (term_grows t scope n) (placed_grows (operand_of t scope n) (place_of t) sort (term_names t scope n))
+    grows_then n (term_names t scope n) _ (term_grows t scope n)
+    (placed_grows (operand_of t scope n) (place_of t) sort (term_names t scope n))
 argument_grows (Hidden token) sort scope n = bound_grows (Some sort) n
 
-pub arguments_grow : (xs : WrittenArguments) (places : List Sort) (scope : Scope) (n : SymbolTable) → Grows n (arguments_names xs places scope n)
+pub arguments_grow : (xs : WrittenArguments) (places : List Sort) (scope : Scope) (n : SymbolTable)
+    → Grows n (arguments_names xs places scope n)
 arguments_grow (LastArgument a) places scope n = argument_grows a (due places) scope n
 arguments_grow (MoreArguments a comma rest) places scope n =
     let between = argument_names a (due places) scope n in
-    grows_then n between _ (argument_grows a (due places) scope n) (arguments_grow rest (after_due places) scope between)
+    grows_then n between _ (argument_grows a (due places) scope n)
+    (arguments_grow rest (after_due places) scope between)
 
 pub variables_grow : (vs : WrittenVariables) (n : SymbolTable) → Grows n (variables_names vs n)
 variables_grow (LastVariable v) n = bound_grows None n
-variables_grow (MoreVariables v comma rest) n = grows_then n (bound_more None n) _ (bound_grows None n) (variables_grow rest (bound_more None n))
+variables_grow (MoreVariables v comma rest) n =
+    grows_then n (bound_more None n) _ (bound_grows None n) (variables_grow rest (bound_more None n))
 
 pub sides_grow : (left right : WrittenTerm) (at : ℕ) (scope : Scope) (n : SymbolTable)
-    → Grows (term_names right scope (term_names left scope n)) (compared (operand_of left scope n) (place_of left) at (operand_of right scope (term_names left scope n)) (place_of right) (term_names right scope (term_names left scope n)))
-sides_grow left right at scope n = compared_grows (operand_of left scope n) (place_of left) at (operand_of right scope (term_names left scope n)) (place_of right) (term_names right scope (term_names left scope n))
+    → Grows (term_names right scope (term_names left scope n))
+    (compared (operand_of left scope n) (place_of left) at (operand_of right scope (term_names left scope n))
+    (place_of right) (term_names right scope (term_names left scope n)))
+sides_grow left right at scope n =
+    compared_grows (operand_of left scope n) (place_of left) at (operand_of right scope (term_names left scope n))
+    (place_of right) (term_names right scope (term_names left scope n))
 
-pub tree_grows : (sig : List PredOf) (tree : Tree) (scope : Scope) (n : SymbolTable) → Grows n (names_behind sig tree scope n)
+pub tree_grows : (sig : List PredOf) (tree : Tree) (scope : Scope) (n : SymbolTable)
+    → Grows n (names_behind sig tree scope n)
 tree_grows sig (Truth token which) scope n = grows_not n
 tree_grows sig (BareAtom name opening closing) scope n = grows_not n
-tree_grows sig (AtomOf name opening arguments closing) scope n = arguments_grow arguments (call_of (named name.text sig) 0).rest scope n
+tree_grows sig (AtomOf name opening arguments closing) scope n =
+    arguments_grow arguments (call_of (named name.text sig) 0).rest scope n
 tree_grows sig (Comparison left token sign right) scope n =
     let first = term_names left scope n in
     let second = term_names right scope first in
-    grows_then n first _ (term_grows left scope n) (grows_then first second _ (term_grows right scope first) (sides_grow left right token.at scope n))
+    grows_then n first _ (term_grows left scope n)
+    (grows_then first second _ (term_grows right scope first) (sides_grow left right token.at scope n))
 tree_grows sig (Enclosed opening body closing) scope n = tree_grows sig body scope n
 tree_grows sig (Denied token body) scope n = tree_grows sig body scope n
 tree_grows sig (Timed token operator interval body) scope n = tree_grows sig body scope n
 tree_grows sig (Quantified token quantifier variables dot body) scope n =
-    grows_then n (variables_names variables n) _ (variables_grow variables n) (tree_grows sig body (variables_scope variables n scope) (variables_names variables n))
+    grows_then n (variables_names variables n) _ (variables_grow variables n)
+    (tree_grows sig body (variables_scope variables n scope) (variables_names variables n))
 tree_grows sig (Joined left token operator interval right) scope n =
     let between = names_behind sig left scope n in
     grows_then n between _ (tree_grows sig left scope n) (tree_grows sig right scope between)
@@ -252,15 +282,18 @@ HasPlace (variables.Bound k) n = k < length n.bound_sorts
 abbrev pub Inside : Scope → SymbolTable → Type 0
 Inside scope n = (name : List ℕ) (k : ℕ) → scope name ≡ Some k → k < length n.bound_sorts
 
-pub found_within : (name : List ℕ) (n : SymbolTable) (place : ℕ) → free_place name n ≡ Some place → place < length n.free
+pub found_within : (name : List ℕ) (n : SymbolTable) (place : ℕ) → free_place name n ≡ Some place
+    → place < length n.free
 found_within name n place e = (position-Some (λ (known : List ℕ × ℕ). bytes_eq name known.0) n.free place ([], 0) e).0
 
-pub resolved_place : (name : List ℕ) (at : ℕ) (n : SymbolTable) (bound : Option ℕ) → ((k : ℕ) → bound ≡ Some k → k < length n.bound_sorts) → length n.free_sorts ≡ length n.free
+pub resolved_place : (name : List ℕ) (at : ℕ) (n : SymbolTable) (bound : Option ℕ)
+    → ((k : ℕ) → bound ≡ Some k → k < length n.bound_sorts) → length n.free_sorts ≡ length n.free
     → HasPlace (bound_or_free bound name n) (met bound name at n)
 resolved_place name at n (Some k) inside sized = inside k refl
 resolved_place name at n None inside sized = by_place (free_place name n) refl
   where
-    by_place : (place : Option ℕ) → free_place name n ≡ place → HasPlace (free_or_new place n) (with_free place name at n)
+    by_place : (place : Option ℕ) → free_place name n ≡ place
+        → HasPlace (free_or_new place n) (with_free place name at n)
     by_place (Some place) e = omega (arith, sized, found_within name n place e)
     by_place None e = omega (arith, sized, length-append n.free_sorts (None ∷ []))
 
@@ -271,7 +304,8 @@ same_sorts sorts.Int sorts.Text e = absurd cc
 same_sorts sorts.Text sorts.Int e = absurd cc
 same_sorts sorts.Text sorts.Text e = refl
 
-pub agreed_sort : (before : Sort) (at : ℕ) (sort : Sort) (n : SymbolTable) → (agreed before at sort n).clash ≡ None → before ≡ sort
+pub agreed_sort : (before : Sort) (at : ℕ) (sort : Sort) (n : SymbolTable) → (agreed before at sort n).clash ≡ None
+    → before ≡ sort
 agreed_sort before at sort n e = by_same (same_sort before sort) refl e
   where
     by_same : (b : Bool) → same_sort before sort ≡ b → (cond b n (clashed at n)).clash ≡ None → before ≡ sort
@@ -282,9 +316,12 @@ sort_there : (v : Variable) (sort : Sort) (n : SymbolTable) → HasPlace v n →
 sort_there (variables.Free k) sort n within = given_there n.free_sorts k sort within
 sort_there (variables.Bound k) sort n within = given_there n.bound_sorts k sort within
 
-pub occurs_sort : (v : Variable) (at : ℕ) (sort : Sort) (n : SymbolTable) → HasPlace v n → (require_sort v at sort n).clash ≡ None → sort_of v (require_sort v at sort n) ≡ Some sort
+pub occurs_sort : (v : Variable) (at : ℕ) (sort : Sort) (n : SymbolTable) → HasPlace v n
+    → (require_sort v at sort n).clash ≡ None → sort_of v (require_sort v at sort n) ≡ Some sort
 occurs_sort v at sort n within e = by_given (sort_of v n) refl e
   where
-    by_given : (given : Option Sort) → sort_of v n ≡ given → (occurred given v at sort n).clash ≡ None → sort_of v (occurred given v at sort n) ≡ Some sort
+    by_given : (given : Option Sort) → sort_of v n ≡ given → (occurred given v at sort n).clash ≡ None
+        → sort_of v (occurred given v at sort n) ≡ Some sort
     by_given None is f = sort_there v sort n within
-    by_given (Some before) is f = (agreed_grows before at sort n).sorts v sort (is ∙ ap (λ (s : Sort). Some s) (agreed_sort before at sort n f))
+    by_given (Some before) is f =
+        (agreed_grows before at sort n).sorts v sort (is ∙ ap (λ (s : Sort). Some s) (agreed_sort before at sort n f))

@@ -1,16 +1,14 @@
 -- Each occurrence in a policy that was read has the sort of its variable.
-use Rattle.std.proofs.Common.{◌≡◌, ℕ, zero, suc, ◌+◌, ◌-◌, ◌<◌, ◌≤◌, Bool, true, false, cond, not, List, [], ◌∷◌, ◌++◌, length, Option, Some, None, refl, sym, ap, subst, ◌∙◌, arith}
+use Rattle.std.proofs.Common.{◌≡◌, ℕ, zero, suc, ◌+◌, ◌-◌, ◌<◌, ◌≤◌, Bool, true, false, cond, not, List, [], ◌∷◌, ◌++◌}
+use Rattle.std.proofs.Common.{length, Option, Some, None, refl, sym, ap, ◌∙◌, arith}
 use Rattle.std.proofs.lemmas.Bool.{lt-ltb, le-ltb}
 use Rattle.std.proofs.lemmas.List.{append_assoc}
 use Rattle.std.specs.Prelude.{slice_get, find, nat_lt, Contains}
-use Rattle.mfotl_lex.specs.Lexemes.{Lexeme}
 use Rattle.mfotl_model.specs.declared.interval.Interval.{Interval}
 use Rattle.mfotl_model.specs.declared.policy.Sort.{Sort}
 use Rattle.mfotl_model.specs.declared.policy.Sort.TheVariants as sorts
-use Rattle.mfotl_model.specs.declared.term.Term.{Term}
 use Rattle.mfotl_model.specs.declared.value.Value.{Value}
 use Rattle.mfotl_model.specs.declared.value.Value.TheVariants as values
-use Rattle.mfotl_model.specs.Formulas as forms
 use Rattle.mfotl_model.specs.Formulas.{Form}
 use Rattle.mfotl_sig.specs.Preds.{PredOf, named}
 use Rattle.mfotl_parse.specs.declared.class.Operator.{Operator}
@@ -24,20 +22,33 @@ use Rattle.mfotl_parse.specs.declared.term.Operand.TheVariants as operands
 use Rattle.mfotl_parse.specs.declared.term.Pair.{Pair}
 use Rattle.mfotl_parse.specs.declared.term.Variable.{Variable}
 use Rattle.mfotl_parse.specs.declared.term.Variable.TheVariants as variables
-use Rattle.mfotl_parse.specs.Arguments.{call_of, due, after_due, blanks}
-use Rattle.mfotl_parse.specs.Grammar.{WrittenTerm, Named, Number, Quoted, WrittenArgument, Given, Hidden, WrittenArguments, LastArgument, MoreArguments, WrittenVariables, LastVariable, MoreVariables, Tree, Truth, BareAtom, AtomOf, Comparison, Enclosed, Denied, Timed, Quantified, Joined}
-use Rattle.mfotl_parse.specs.Meanings.{Scope, inside, name_of, place_of_variable, place_of, operand_of, term_names, argument_term, argument_names, arguments_terms, arguments_names, argument_count, atom, variables_names, variables_scope, quantify, interval_of, names_behind, value, HasArity, PartsKeep}
-use Rattle.mfotl_parse.specs.SymbolTable.{number_of, bound_or_free, met, bound_more, inner_or, given_at, sort_of, same_sort, agreed, require_sort, sort_of_value, constrain_term, compared, term_of, differ, uneven_pair}
+use Rattle.mfotl_parse.specs.Arguments.{call_of, blanks}
+use Rattle.mfotl_parse.specs.Grammar.{WrittenTerm, Named, Number, Quoted, WrittenArgument, Given, Hidden}
+use Rattle.mfotl_parse.specs.Grammar.{WrittenArguments, LastArgument, MoreArguments, WrittenVariables, LastVariable}
+use Rattle.mfotl_parse.specs.Grammar.{MoreVariables, Tree, Truth, BareAtom, AtomOf, Comparison, Enclosed, Denied}
+use Rattle.mfotl_parse.specs.Grammar.{Timed, Quantified, Joined}
+use Rattle.mfotl_parse.specs.Meanings.{Scope, inside, name_of, place_of_variable, place_of, operand_of, term_names}
+use Rattle.mfotl_parse.specs.Meanings.{argument_term, argument_names, arguments_terms, arguments_names, argument_count}
+use Rattle.mfotl_parse.specs.Meanings.{atom, variables_names, variables_scope, quantify, interval_of, names_behind}
+use Rattle.mfotl_parse.specs.Meanings.{value, HasArity, PartsKeep}
+use Rattle.mfotl_parse.specs.SymbolTable.{number_of, bound_or_free, bound_more, inner_or, given_at, sort_of}
+use Rattle.mfotl_parse.specs.SymbolTable.{same_sort, require_sort, sort_of_value, constrain_term, compared}
+use Rattle.mfotl_parse.specs.SymbolTable.{term_of, differ, uneven_pair}
 use Rattle.mfotl_parse.specs.Operands.{truth}
 use Rattle.mfotl_parse.specs.Reduction.{momentary, joined, quantified}
 use Rattle.mfotl_parse.specs.States.{SymbolTable}
-use Rattle.mfotl_parse.specs.WellSorted.{Sorting, sort_of_constant, HasSort, HaveSorts, FitsPredicate, SidesAgree, FitsSorts}
+use Rattle.mfotl_parse.specs.WellSorted.{Sorting, sort_of_constant, HasSort, HaveSorts, SidesAgree}
+use Rattle.mfotl_parse.specs.WellSorted.{FitsSorts}
 use Rattle.mfotl_parse.specs.Limits.{max_free}
-use Rattle.mfotl_parse.proofs.NamesOrder.{Grows, grows_not, grows_then, given_last, bound_grows, placed_grows, compared_grows, term_grows, argument_grows, arguments_grow, variables_grow, sides_grow, tree_grows, HasPlace, Inside, resolved_place, agreed_sort, occurs_sort}
+use Rattle.mfotl_parse.proofs.NamesOrder.{Grows, grows_then, given_last, bound_grows, placed_grows}
+use Rattle.mfotl_parse.proofs.NamesOrder.{compared_grows, term_grows, argument_grows, arguments_grow, variables_grow}
+use Rattle.mfotl_parse.proofs.NamesOrder.{tree_grows, HasPlace, Inside, resolved_place, agreed_sort}
+use Rattle.mfotl_parse.proofs.NamesOrder.{occurs_sort}
 
 -- the sorts that these names give, by the variables' numbers
 abbrev pub given_by : SymbolTable → Sorting
-given_by n x = cond (nat_lt x max_free) (given_at (slice_get n.free_sorts x)) (given_at (slice_get n.bound_sorts (x - max_free)))
+given_by n x =
+    cond (nat_lt x max_free) (given_at (slice_get n.free_sorts x)) (given_at (slice_get n.bound_sorts (x - max_free)))
 
 -- a variable whose number is below those of bound variables, where it is free
 abbrev IsLow : Variable → Type 0
@@ -46,10 +57,12 @@ IsLow (variables.Bound k) = Unit {0}
 
 pub given_is : (n : SymbolTable) (v : Variable) → IsLow v → given_by n (number_of v) ≡ sort_of v n
 given_is n (variables.Free k) low =
-    ap (λ (b : Bool). cond b (given_at (slice_get n.free_sorts k)) (given_at (slice_get n.bound_sorts (k - max_free)))) (lt-ltb k max_free low)
+    ap (λ (b : Bool). cond b (given_at (slice_get n.free_sorts k))
+    (given_at (slice_get n.bound_sorts (k - max_free)))) (lt-ltb k max_free low)
 given_is n (variables.Bound k) low =
     let same : max_free + k - max_free ≡ k = omega arith in
-    ap (λ (b : Bool). cond b (given_at (slice_get n.free_sorts (max_free + k))) (given_at (slice_get n.bound_sorts (max_free + k - max_free)))) (le-ltb (max_free + k) max_free (omega arith))
+    ap (λ (b : Bool). cond b (given_at (slice_get n.free_sorts (max_free + k)))
+    (given_at (slice_get n.bound_sorts (max_free + k - max_free)))) (le-ltb (max_free + k) max_free (omega arith))
     ∙ ap (λ (j : ℕ). given_at (slice_get n.bound_sorts j)) same
 
 same_constant : (c : Value) → sort_of_value c ≡ sort_of_constant c
@@ -65,11 +78,13 @@ pub found_known : {X : Type 0} (p : X → Bool) (xs : List X) (x : X) → find p
 found_known p [] x e = absurd cc
 found_known {X = X} p (y ∷ ys) x e = by_test (p y) (λ f. found_known p ys x f) e
   where
-    by_test : (b : Bool) → (find p ys ≡ Some x → Contains ys x) → cond b (Some y) (find p ys) ≡ Some x → Contains (y ∷ ys) x
+    by_test : (b : Bool) → (find p ys ≡ Some x → Contains ys x) → cond b (Some y) (find p ys) ≡ Some x
+        → Contains (y ∷ ys) x
     by_test true later f = let same : y ≡ x = cc in (0, omega arith, same)
     by_test false later f = let there = later f in (suc there.0, omega (arith, there.1), there.2)
 
-none_passes : {X : Type 0} (p : X → Bool) (xs : List X) (y : X) (ys : List X) → find p (xs ++ y ∷ ys) ≡ None → p y ≡ false
+none_passes : {X : Type 0} (p : X → Bool) (xs : List X) (y : X) (ys : List X) → find p (xs ++ y ∷ ys) ≡ None → p y
+    ≡ false
 none_passes p [] y ys e = by_test (p y) e
   where
     by_test : (b : Bool) → cond b (Some y) (find p ys) ≡ None → b ≡ false
@@ -77,7 +92,8 @@ none_passes p [] y ys e = by_test (p y) e
     by_test false f = refl
 none_passes p (x ∷ xs) y ys e = by_test (p x) (λ f. none_passes p xs y ys f) e
   where
-    by_test : (b : Bool) → (find p (xs ++ y ∷ ys) ≡ None → p y ≡ false) → cond b (Some x) (find p (xs ++ y ∷ ys)) ≡ None → p y ≡ false
+    by_test : (b : Bool) → (find p (xs ++ y ∷ ys) ≡ None → p y ≡ false) → cond b (Some x) (find p (xs ++ y ∷ ys))
+        ≡ None → p y ≡ false
     by_test true later f = absurd cc
     by_test false later f = later f
 
@@ -87,7 +103,8 @@ even_sorts sorts.Int sorts.Text e = absurd cc
 even_sorts sorts.Text sorts.Int e = absurd cc
 even_sorts sorts.Text sorts.Text e = refl
 
-module _ (sig : List PredOf) (last : SymbolTable) (clash : last.clash ≡ None) (even : uneven_pair last ≡ None) (few : length last.free ≤ max_free) where
+module _ (sig : List PredOf) (last : SymbolTable) (clash : last.clash ≡ None) (even : uneven_pair last ≡ None)
+    (few : length last.free ≤ max_free) where
   abbrev Sized : SymbolTable → Type 0
   Sized n = length n.free_sorts ≡ length n.free
 
@@ -96,17 +113,20 @@ module _ (sig : List PredOf) (last : SymbolTable) (clash : last.clash ≡ None) 
   low (variables.Bound k) m within sized g = tt
 
   -- an occurrence with a sort
-  given_so : (v : Variable) (at : ℕ) (sort : Sort) (m : SymbolTable) → HasPlace v m → Sized m → Grows (require_sort v at sort m) last → given_by last (number_of v) ≡ Some sort
+  given_so : (v : Variable) (at : ℕ) (sort : Sort) (m : SymbolTable) → HasPlace v m → Sized m
+      → Grows (require_sort v at sort m) last → given_by last (number_of v) ≡ Some sort
   given_so v at sort m within sized g =
       let all = grows_then m (require_sort v at sort m) last (placed_grows (operands.Variable v) at sort m) g in
       given_is last v (low v m within sized all) ∙ g.sorts v sort (occurs_sort v at sort m within (g.clash clash))
 
   term_sorted : (t : WrittenTerm) (sort : Sort) (scope : Scope) (n : SymbolTable) → Inside scope n → Sized n
-      → Grows (constrain_term (operand_of t scope n) (place_of t) sort (term_names t scope n)) last → HasSort (given_by last) (term_of (operand_of t scope n)) sort
+      → Grows (constrain_term (operand_of t scope n) (place_of t) sort (term_names t scope n)) last
+      → HasSort (given_by last) (term_of (operand_of t scope n)) sort
   term_sorted (Named v) sort scope n inside sized g =
       let name = name_of v in
       given_so (bound_or_free (scope name) name n) (place_of_variable v) sort (term_names (Named v) scope n)
-      (resolved_place name (place_of_variable v) n (scope name) (inside name) sized) ((term_grows (Named v) scope n).sized sized) g
+      (resolved_place name (place_of_variable v) n (scope name) (inside name) sized)
+      ((term_grows (Named v) scope n).sized sized) g
   term_sorted (Number token z) sort scope n inside sized g = agreed_sort sorts.Int token.at sort n (g.clash clash)
   term_sorted (Quoted token) sort scope n inside sized g = agreed_sort sorts.Text token.at sort n (g.clash clash)
 
@@ -114,19 +134,26 @@ module _ (sig : List PredOf) (last : SymbolTable) (clash : last.clash ≡ None) 
       → Grows (argument_names a sort scope n) last → HasSort (given_by last) (argument_term a scope n) sort
   argument_sorted (Given t) sort scope n inside sized g = term_sorted t sort scope n inside sized g
   argument_sorted (Hidden token) sort scope n inside sized g =
-      given_is last (variables.Bound (length n.bound_sorts)) tt ∙ g.sorts (variables.Bound (length n.bound_sorts)) sort (given_last n.bound_sorts sort)
+      given_is last (variables.Bound (length n.bound_sorts)) tt
+      ∙ g.sorts (variables.Bound (length n.bound_sorts)) sort (given_last n.bound_sorts sort)
 
-  arguments_sorted : (xs : WrittenArguments) (places : List Sort) (scope : Scope) (n : SymbolTable) → Inside scope n → Sized n
-      → Grows (arguments_names xs places scope n) last → length places ≡ argument_count xs → HaveSorts (given_by last) (arguments_terms xs places scope n) places
+  arguments_sorted : (xs : WrittenArguments) (places : List Sort) (scope : Scope) (n : SymbolTable) → Inside scope n
+      → Sized n
+      → Grows (arguments_names xs places scope n) last → length places ≡ argument_count xs
+      → HaveSorts (given_by last) (arguments_terms xs places scope n) places
   arguments_sorted (LastArgument a) [] scope n inside sized g count = absurd (omega (arith, count))
-  arguments_sorted (LastArgument a) (sort ∷ []) scope n inside sized g count = (argument_sorted a sort scope n inside sized g, tt)
-  arguments_sorted (LastArgument a) (sort ∷ other ∷ places) scope n inside sized g count = absurd (omega (arith, count))
+  arguments_sorted (LastArgument a) (sort ∷ []) scope n inside sized g count =
+      (argument_sorted a sort scope n inside sized g, tt)
+  arguments_sorted (LastArgument a) (sort ∷ other ∷ places) scope n inside sized g count =
+      absurd (omega (arith, count))
   arguments_sorted (MoreArguments a comma rest) [] scope n inside sized g count = absurd (omega (arith, count))
   arguments_sorted (MoreArguments a comma rest) (sort ∷ places) scope n inside sized g count =
       let between = argument_names a sort scope n in
       let first = argument_grows a sort scope n in (
-        argument_sorted a sort scope n inside sized (grows_then between _ last (arguments_grow rest places scope between) g),
-        arguments_sorted rest places scope between (inside_grows scope n between inside first) (first.sized sized) g (omega (arith, count)),
+        argument_sorted a sort scope n inside sized
+            (grows_then between _ last (arguments_grow rest places scope between) g),
+        arguments_sorted rest places scope between (inside_grows scope n between inside first) (first.sized sized) g
+            (omega (arith, count)),
       )
 
   -- ---- comparisons
@@ -144,27 +171,39 @@ module _ (sig : List PredOf) (last : SymbolTable) (clash : last.clash ≡ None) 
   operand_stays (operands.Variable v) n m within sized g = place_stays v n m within sized g
   operand_stays (operands.Constant c) n m within sized g = tt
 
-  operand_place : (t : WrittenTerm) (scope : Scope) (n : SymbolTable) → Inside scope n → Sized n → OperandPlace (operand_of t scope n) (term_names t scope n)
+  operand_place : (t : WrittenTerm) (scope : Scope) (n : SymbolTable) → Inside scope n → Sized n
+      → OperandPlace (operand_of t scope n) (term_names t scope n)
   unfolding OperandPlace
-  operand_place (Named v) scope n inside sized = resolved_place (name_of v) (place_of_variable v) n (scope (name_of v)) (inside (name_of v)) sized
+  operand_place (Named v) scope n inside sized =
+      resolved_place (name_of v) (place_of_variable v) n (scope (name_of v)) (inside (name_of v)) sized
   operand_place (Number token z) scope n inside sized = tt
   operand_place (Quoted token) scope n inside sized = tt
 
-  pair_even : (v w : Variable) (at : ℕ) (m : SymbolTable) (left right : Sort) → Grows (compared (operands.Variable v) at at (operands.Variable w) at m) last
+  pair_even : (v w : Variable) (at : ℕ) (m : SymbolTable) (left right : Sort)
+      → Grows (compared (operands.Variable v) at at (operands.Variable w) at m) last
       → sort_of v last ≡ Some left → sort_of w last ≡ Some right → left ≡ right
   pair_even v w at m left right g e f =
       let pair : Pair = record { at = at; left = v; right = w } in
-      let none : find (λ (p : Pair). differ (sort_of p.left last) (sort_of p.right last)) (m.pairs ++ pair ∷ g.more) ≡ None =
-      ap (find (λ (p : Pair). differ (sort_of p.left last) (sort_of p.right last))) (sym (append_assoc m.pairs (pair ∷ []) g.more) ∙ sym g.pairs) ∙ even in
-      let here : differ (sort_of v last) (sort_of w last) ≡ false = none_passes (λ (p : Pair). differ (sort_of p.left last) (sort_of p.right last)) m.pairs pair g.more none in
-      even_sorts left right (sym (ap (λ (o : Option Sort). differ o (sort_of w last)) e ∙ ap (λ (o : Option Sort). differ (Some left) o) f) ∙ here)
+      let none : find (λ (p : Pair). differ (sort_of p.left last) (sort_of p.right last)) (m.pairs ++ pair ∷ g.more)
+      ≡ None =
+      ap (find (λ (p : Pair). differ (sort_of p.left last) (sort_of p.right last)))
+      (sym (append_assoc m.pairs (pair ∷ []) g.more) ∙ sym g.pairs) ∙ even in
+      let here : differ (sort_of v last) (sort_of w last)
+      ≡ false = none_passes
+      (λ (p : Pair). differ (sort_of p.left last) (sort_of p.right last)) m.pairs pair g.more none in
+      even_sorts left right
+      (sym (ap (λ (o : Option Sort). differ o (sort_of w last)) e
+      ∙ ap (λ (o : Option Sort). differ (Some left) o) f) ∙ here)
 
-  sides_sorted : (l r : Operand) (left_at at right_at : ℕ) (m : SymbolTable) → OperandPlace l m → OperandPlace r m → Sized m
+  sides_sorted : (l r : Operand) (left_at at right_at : ℕ) (m : SymbolTable) → OperandPlace l m → OperandPlace r m
+      → Sized m
       → Grows (compared l left_at at r right_at m) last → SidesAgree (given_by last) (term_of l) (term_of r)
   unfolding OperandPlace
   sides_sorted (operands.Variable v) (operands.Variable w) left_at at right_at m p q sized g =
-      let all = grows_then m _ last (compared_grows (operands.Variable v) left_at at (operands.Variable w) right_at m) g in
-      λ left right e f. pair_even v w at m left right g (sym (given_is last v (low v m p sized all)) ∙ e) (sym (given_is last w (low w m q sized all)) ∙ f)
+      let all = grows_then m _ last
+      (compared_grows (operands.Variable v) left_at at (operands.Variable w) right_at m) g in
+      λ left right e f. pair_even v w at m left right g (sym (given_is last v (low v m p sized all)) ∙ e)
+      (sym (given_is last w (low w m q sized all)) ∙ f)
   sides_sorted (operands.Variable v) (operands.Constant d) left_at at right_at m p q sized g =
       given_so v left_at (sort_of_value d) m p sized g ∙ ap (λ (s : Sort). Some s) (same_constant d)
   sides_sorted (operands.Constant c) (operands.Variable w) left_at at right_at m p q sized g =
@@ -174,20 +213,24 @@ module _ (sig : List PredOf) (last : SymbolTable) (clash : last.clash ≡ None) 
 
   -- ---- formulas
 
-  blanks_sorted : (count first : ℕ) (f : Form) → FitsSorts sig (given_by last) f → FitsSorts sig (given_by last) (blanks count first f)
+  blanks_sorted : (count first : ℕ) (f : Form) → FitsSorts sig (given_by last) f
+      → FitsSorts sig (given_by last) (blanks count first f)
   blanks_sorted zero first f h = h
   blanks_sorted (suc count) first f h = blanks_sorted count (suc first) f h
 
-  bare_sorted : (found : Option PredOf) (name : List ℕ) (bound : ℕ) → named name sig ≡ found → HasArity found 0 → FitsSorts sig (given_by last) (atom found [] bound bound)
+  bare_sorted : (found : Option PredOf) (name : List ℕ) (bound : ℕ) → named name sig ≡ found → HasArity found 0
+      → FitsSorts sig (given_by last) (atom found [] bound bound)
   bare_sorted None name bound is count = absurd count
   bare_sorted (Some pred) name bound is count =
-      blanks_sorted (bound - bound) bound _ (record { pred = pred; known = found_known _ sig pred is; number = refl; sorted = none_due pred.sorts count })
+      blanks_sorted (bound - bound) bound _
+      (record { pred = pred; known = found_known _ sig pred is; number = refl; sorted = none_due pred.sorts count })
     where
       none_due : (places : List Sort) → length places ≡ 0 → HaveSorts (given_by last) [] places
       none_due [] e = tt
       none_due (sort ∷ places) e = absurd (omega (arith, e))
 
-  atom_sorted : (found : Option PredOf) (name : List ℕ) (xs : WrittenArguments) (outer inner : ℕ) (scope : Scope) (n : SymbolTable) → named name sig ≡ found → HasArity found (argument_count xs)
+  atom_sorted : (found : Option PredOf) (name : List ℕ) (xs : WrittenArguments) (outer inner : ℕ) (scope : Scope)
+      (n : SymbolTable) → named name sig ≡ found → HasArity found (argument_count xs)
       → Inside scope n → Sized n → Grows (arguments_names xs (call_of found 0).rest scope n) last
       → FitsSorts sig (given_by last) (atom found (arguments_terms xs (call_of found 0).rest scope n) outer inner)
   atom_sorted None name xs outer inner scope n is count inside sized g = absurd count
@@ -195,15 +238,19 @@ module _ (sig : List PredOf) (last : SymbolTable) (clash : last.clash ≡ None) 
       blanks_sorted (inner - outer) outer _
       (record { pred = pred; known = found_known _ sig pred is; number = refl; sorted = arguments_sorted xs pred.sorts scope n inside sized g count })
 
-  one_sorted : (q : Quantifier) (k : ℕ) (name : List ℕ) (f : Form) → FitsSorts sig (given_by last) f → FitsSorts sig (given_by last) (quantified q k name f)
+  one_sorted : (q : Quantifier) (k : ℕ) (name : List ℕ) (f : Form) → FitsSorts sig (given_by last) f
+      → FitsSorts sig (given_by last) (quantified q k name f)
   one_sorted quantifiers.Exists k name f h = h
   one_sorted quantifiers.Forall k name f h = h
 
-  quantify_sorted : (q : Quantifier) (vs : WrittenVariables) (n : SymbolTable) (f : Form) → FitsSorts sig (given_by last) f → FitsSorts sig (given_by last) (quantify q vs n f)
+  quantify_sorted : (q : Quantifier) (vs : WrittenVariables) (n : SymbolTable) (f : Form)
+      → FitsSorts sig (given_by last) f → FitsSorts sig (given_by last) (quantify q vs n f)
   quantify_sorted q (LastVariable v) n f h = one_sorted q _ _ f h
-  quantify_sorted q (MoreVariables v comma rest) n f h = one_sorted q _ _ _ (quantify_sorted q rest (bound_more None n) f h)
+  quantify_sorted q (MoreVariables v comma rest) n f h =
+      one_sorted q _ _ _ (quantify_sorted q rest (bound_more None n) f h)
 
-  moment_sorted : (o : Temporal) (i : Interval) (f : Form) → FitsSorts sig (given_by last) f → FitsSorts sig (given_by last) (momentary o i f)
+  moment_sorted : (o : Temporal) (i : Interval) (f : Form) → FitsSorts sig (given_by last) f
+      → FitsSorts sig (given_by last) (momentary o i f)
   moment_sorted temporals.Previous i f h = h
   moment_sorted temporals.Next i f h = h
   moment_sorted temporals.Once i f h = h
@@ -211,7 +258,8 @@ module _ (sig : List PredOf) (last : SymbolTable) (clash : last.clash ≡ None) 
   moment_sorted temporals.Eventually i f h = h
   moment_sorted temporals.Always i f h = h
 
-  joined_sorted : (o : Operator) (i : Interval) (f g : Form) → FitsSorts sig (given_by last) f → FitsSorts sig (given_by last) g → FitsSorts sig (given_by last) (joined o i f g)
+  joined_sorted : (o : Operator) (i : Interval) (f g : Form) → FitsSorts sig (given_by last) f
+      → FitsSorts sig (given_by last) g → FitsSorts sig (given_by last) (joined o i f g)
   joined_sorted operators.And i f g h k = (h, k)
   joined_sorted operators.Or i f g h k = (h, k)
   joined_sorted operators.Implies i f g h k = (h, k)
@@ -223,15 +271,18 @@ module _ (sig : List PredOf) (last : SymbolTable) (clash : last.clash ≡ None) 
   truth_sorted true = tt
   truth_sorted false = tt
 
-  inner_one : (b : Bool) (variable : ℕ) (outer : Option ℕ) (n : SymbolTable) (k : ℕ) → ((j : ℕ) → outer ≡ Some j → j < length n.bound_sorts) → variable ≡ length n.bound_sorts
+  inner_one : (b : Bool) (variable : ℕ) (outer : Option ℕ) (n : SymbolTable) (k : ℕ)
+      → ((j : ℕ) → outer ≡ Some j → j < length n.bound_sorts) → variable ≡ length n.bound_sorts
       → inner_or (cond b (Some variable) None) outer ≡ Some k → k < suc (length n.bound_sorts)
   inner_one true variable outer n k within is e = let same : variable ≡ k = cc in omega (arith, same, is)
   inner_one false variable outer n k within is e = omega (arith, within k e)
 
   -- a quantifier's variable is bound inside it
-  inside_one : (name : List ℕ) (scope : Scope) (n : SymbolTable) → Inside scope n → Inside (inside name (length n.bound_sorts) scope) (bound_more None n)
+  inside_one : (name : List ℕ) (scope : Scope) (n : SymbolTable) → Inside scope n
+      → Inside (inside name (length n.bound_sorts) scope) (bound_more None n)
   inside_one bound scope n within name k e =
-      let below = inner_one _ (length n.bound_sorts) (scope name) n k (within name) refl e in omega (arith, below, (bound_grows None n).bound, longer)
+      let below = inner_one _ (length n.bound_sorts) (scope name) n k (within name) refl e in omega
+      (arith, below, (bound_grows None n).bound, longer)
     where
       one_more : (xs : List (Option Sort)) → suc (length xs) ≡ length (xs ++ None ∷ [])
       one_more [] = refl
@@ -240,14 +291,19 @@ module _ (sig : List PredOf) (last : SymbolTable) (clash : last.clash ≡ None) 
       longer : suc (length n.bound_sorts) ≡ length (bound_more None n).bound_sorts
       longer = one_more n.bound_sorts
 
-  inside_all : (vs : WrittenVariables) (scope : Scope) (n : SymbolTable) → Inside scope n → Inside (variables_scope vs n scope) (variables_names vs n)
+  inside_all : (vs : WrittenVariables) (scope : Scope) (n : SymbolTable) → Inside scope n
+      → Inside (variables_scope vs n scope) (variables_names vs n)
   inside_all (LastVariable v) scope n within = inside_one (name_of v) scope n within
-  inside_all (MoreVariables v comma rest) scope n within = inside_all rest (inside (name_of v) (length n.bound_sorts) scope) (bound_more None n) (inside_one (name_of v) scope n within)
+  inside_all (MoreVariables v comma rest) scope n within =
+      inside_all rest (inside (name_of v) (length n.bound_sorts) scope) (bound_more None n)
+      (inside_one (name_of v) scope n within)
 
-  pub tree_sorted : (tree : Tree) (scope : Scope) (n : SymbolTable) → Inside scope n → Sized n → PartsKeep sig tree → Grows (names_behind sig tree scope n) last
+  pub tree_sorted : (tree : Tree) (scope : Scope) (n : SymbolTable) → Inside scope n → Sized n → PartsKeep sig tree
+      → Grows (names_behind sig tree scope n) last
       → FitsSorts sig (given_by last) (value sig tree scope n)
   tree_sorted (Truth token which) scope n inside sized keeps g = truth_sorted which
-  tree_sorted (BareAtom name opening closing) scope n inside sized keeps g = bare_sorted (named name.text sig) name.text (length n.bound_sorts) refl keeps
+  tree_sorted (BareAtom name opening closing) scope n inside sized keeps g =
+      bare_sorted (named name.text sig) name.text (length n.bound_sorts) refl keeps
   tree_sorted (AtomOf name opening arguments closing) scope n inside sized keeps g =
       atom_sorted (named name.text sig) name.text arguments (length n.bound_sorts) _ scope n refl keeps inside sized g
   tree_sorted (Comparison left token sign right) scope n inside sized keeps g =
@@ -256,17 +312,21 @@ module _ (sig : List PredOf) (last : SymbolTable) (clash : last.clash ≡ None) 
       let grown = term_grows left scope n in
       let more = term_grows right scope first in
       let sized_first = grown.sized sized in
-      sides_sorted (operand_of left scope n) (operand_of right scope first) (place_of left) token.at (place_of right) second
+      sides_sorted (operand_of left scope n) (operand_of right scope first) (place_of left) token.at
+      (place_of right) second
       (operand_stays (operand_of left scope n) first second (operand_place left scope n inside sized) sized_first more)
-      (operand_place right scope first (inside_grows scope n first inside grown) sized_first) (more.sized sized_first) g
-  tree_sorted (Enclosed opening body closing) scope n inside sized keeps g = tree_sorted body scope n inside sized keeps g
+      (operand_place right scope first (inside_grows scope n first inside grown) sized_first)
+      (more.sized sized_first) g
+  tree_sorted (Enclosed opening body closing) scope n inside sized keeps g =
+      tree_sorted body scope n inside sized keeps g
   tree_sorted (Denied token body) scope n inside sized keeps g = tree_sorted body scope n inside sized keeps g
   tree_sorted (Timed token operator interval body) scope n inside sized keeps g =
       moment_sorted operator (interval_of interval) _ (tree_sorted body scope n inside sized keeps.1 g)
   tree_sorted (Quantified token quantifier variables dot body) scope n inside sized keeps g =
       let between = variables_names variables n in
       quantify_sorted quantifier variables n _
-      (tree_sorted body (variables_scope variables n scope) between (inside_all variables scope n inside) ((variables_grow variables n).sized sized) keeps g)
+      (tree_sorted body (variables_scope variables n scope) between (inside_all variables scope n inside)
+      ((variables_grow variables n).sized sized) keeps g)
   tree_sorted (Joined left token operator interval right) scope n inside sized keeps g =
       let between = names_behind sig left scope n in
       let first = tree_grows sig left scope n in

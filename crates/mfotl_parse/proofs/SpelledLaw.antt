@@ -1,5 +1,6 @@
 -- The laws of `specs/GrammarLaws.antt`.
-use Rattle.std.proofs.Common.{◌≡◌, ℕ, ◌+◌, Bool, true, false, List, [], ◌∷◌, ◌++◌, length, Option, Some, None, Result, Ok, Err, refl, ap, sym, ◌∙◌, arith}
+use Rattle.std.proofs.Common.{◌≡◌, ℕ, ◌+◌, Bool, true, false, List, [], ◌∷◌, ◌++◌, length, Option, Some, None, Result}
+use Rattle.std.proofs.Common.{Ok, Err, refl, ap, sym, ◌∙◌, arith}
 use Rattle.std.proofs.lemmas.Option.{slice_get_past}
 use Rattle.std.specs.Prelude.{slice_get}
 use Rattle.mfotl_lex.specs.Lexemes.{Lexeme}
@@ -13,7 +14,8 @@ use Rattle.mfotl_parse.specs.GrammarLaws.{AcceptedExactly, SpelledIsRead, Syntax
 use Rattle.mfotl_parse.specs.Meanings.{no_scope, all_names, value, node_count, KeepsRules, tokens_of, policy_of}
 use Rattle.mfotl_parse.specs.Transitions.{Rule, Transition, goes, kept, given}
 use Rattle.mfotl_parse.specs.SymbolTable.{binder_of, uneven_pair, vars_of}
-use Rattle.mfotl_parse.specs.Reading.{PolicyOf, transition, step, run, sorted, finished, ended, ended_at, is_closed, reading}
+use Rattle.mfotl_parse.specs.Reading.{PolicyOf, transition, step, run, sorted, finished, ended, ended_at, is_closed}
+use Rattle.mfotl_parse.specs.Reading.{reading}
 use Rattle.mfotl_parse.specs.Reduction.{Reduced, reduce}
 use Rattle.mfotl_parse.specs.States.{SymbolTable, no_names, depth, Stage, Context, Partial, AfterOperand, start}
 use Rattle.mfotl_parse.specs.Viability.{if_moved, is_whole, accepts, goes_on, IsViable, and_steps, steps}
@@ -26,33 +28,40 @@ use Rattle.mfotl_parse.proofs.SpelledTrees.{Keeps, reads, one_reaches}
 
 -- where the grammar's moves lead, the reader accepts as it does there
 accepts_by : (sig : List PredOf) (ts : List Lexeme) (q : Partial) (rules : List Rule) (m : Option Transition)
-    → ((p : Partial) (rest : List Rule) → moves sig ts p ≡ goes rest q → accepts sig ts p ≡ is_whole q.now q.context.stack)
+    → ((p : Partial) (rest : List Rule) → moves sig ts p ≡ goes rest q → accepts sig ts p
+    ≡ is_whole q.now q.context.stack)
     → then_moves m (moves sig ts) ≡ goes rules q → if_moved m (accepts sig ts) ≡ is_whole q.now q.context.stack
 accepts_by sig ts q rules None later e = absurd (no_move e)
 accepts_by sig ts q rules (Some m) later e = by_rest (moves sig ts m.next) refl e
   where
-    by_rest : (o : Option Transition) → moves sig ts m.next ≡ o → behind_move m o ≡ goes rules q → accepts sig ts m.next ≡ is_whole q.now q.context.stack
+    by_rest : (o : Option Transition) → moves sig ts m.next ≡ o → behind_move m o ≡ goes rules q
+        → accepts sig ts m.next ≡ is_whole q.now q.context.stack
     by_rest None f g = absurd (no_move g)
     by_rest (Some n) f g = later m.next n.rules (f ∙ ap (goes n.rules) (same_next g))
 
-pub accepts_moves : (sig : List PredOf) (ts : List Lexeme) (p q : Partial) (rules : List Rule) → moves sig ts p ≡ goes rules q → accepts sig ts p ≡ is_whole q.now q.context.stack
+pub accepts_moves : (sig : List PredOf) (ts : List Lexeme) (p q : Partial) (rules : List Rule) → moves sig ts p
+    ≡ goes rules q → accepts sig ts p ≡ is_whole q.now q.context.stack
 unfolding moves accepts
 accepts_moves sig [] p q rules e = ap (λ (x : Partial). is_whole x.now x.context.stack) (same_next e)
 accepts_moves sig (t ∷ ts) p q rules e = accepts_by sig ts q rules _ (λ x rest f. accepts_moves sig ts x q rest f) e
 
 -- a formula is read from the start on
 pub whole : (sig : List PredOf) (tree : Tree) → Fits 1 tree
-    → Takes sig start (spelling tree) [] 1 (value sig tree no_scope no_names) (0 + node_count tree) (all_names sig tree) (Keeps sig tree 0 0)
+    → Takes sig start (spelling tree) [] 1 (value sig tree no_scope no_names) (0 + node_count tree)
+    (all_names sig tree) (Keeps sig tree 0 0)
 unfolding binder_of depth
 whole sig tree fits = reads sig tree 1 1 fits (one_reaches 1 (omega arith)) (λ e. omega arith) [] 0 no_names tt
 
 pub all_closed : (sig : List PredOf) (tree : Tree) (fits : Fits 1 tree)
-    → reduce 0 (whole sig tree fits).form (whole sig tree fits).stack ≡ record { form = value sig tree no_scope no_names; stack = [] }
-all_closed sig tree fits = (whole sig tree fits).reduces 0 (omega arith) ∙ reduce_here 0 (value sig tree no_scope no_names) [] tt
+    → reduce 0 (whole sig tree fits).form (whole sig tree fits).stack
+    ≡ record { form = value sig tree no_scope no_names; stack = [] }
+all_closed sig tree fits =
+    (whole sig tree fits).reduces 0 (omega arith) ∙ reduce_here 0 (value sig tree no_scope no_names) [] tt
 
 accepted : (sig : List PredOf) (tree : Tree) → Fits 1 tree → accepts sig (spelling tree) start ≡ true
 accepted sig tree fits =
-    accepts_moves sig (spelling tree) start _ _ (whole sig tree fits).reached ∙ ap (λ (r : Reduced). is_closed r.stack) (all_closed sig tree fits)
+    accepts_moves sig (spelling tree) start _ _ (whole sig tree fits).reached
+    ∙ ap (λ (r : Reduced). is_closed r.stack) (all_closed sig tree fits)
 
 formula_accepted : (sig : List PredOf) (ts : List Lexeme) → IsFormula ts → accepts sig ts start ≡ true
 formula_accepted sig ts formula =
@@ -69,15 +78,18 @@ module _ (sig : List PredOf) (tree : Tree) (rules : KeepsRules sig tree) where
 
   finishes : finished (all_names sig tree) (value sig tree no_scope no_names) ≡ Ok (policy_of sig tree)
   finishes =
-      ap (λ (c : Option ℕ). sorted c (uneven_pair (all_names sig tree)) (slice_get (all_names sig tree).free max_free) (policy_of sig tree)) rules.unclashed
-      ∙ ap (λ (c : Option Pair). sorted None c (slice_get (all_names sig tree).free max_free) (policy_of sig tree)) rules.even
+      ap (λ (c : Option ℕ). sorted c (uneven_pair (all_names sig tree))
+      (slice_get (all_names sig tree).free max_free) (policy_of sig tree)) rules.unclashed
+      ∙ ap (λ (c : Option Pair). sorted None c (slice_get (all_names sig tree).free max_free)
+      (policy_of sig tree)) rules.even
       ∙ ap (λ (c : Option (List ℕ × ℕ)). sorted None None c (policy_of sig tree)) none_ninth
 
   read : (end : ℕ) → Fits 1 tree → run sig end None (spelling tree) start ≡ Ok (policy_of sig tree)
   unfolding run
   read end fits =
       let t = whole sig tree fits in
-      run_moves sig end None (spelling tree) start _ t.rules t.reached (t.kept.0 (omega (arith, rules.few_nodes), omega (arith, rules.few_levels), rules.parts))
+      run_moves sig end None (spelling tree) start _ t.rules t.reached
+      (t.kept.0 (omega (arith, rules.few_nodes), omega (arith, rules.few_levels), rules.parts))
       ∙ ap (λ (r : Reduced). ended (all_names sig tree) r.form (is_closed r.stack) end) (all_closed sig tree fits)
       ∙ finishes
 
@@ -92,16 +104,19 @@ spelled_is_read bytes sig policy v =
 -- ---- Syntax
 
 -- tokens that show no fault
-goes_on_by : (sig : List PredOf) (at : ℕ) (ts : List Lexeme) (q : Partial) (m : Option Transition) → ((p : Partial) → steps sig ts p ≡ Ok q → goes_on sig ts p ≡ true)
+goes_on_by : (sig : List PredOf) (at : ℕ) (ts : List Lexeme) (q : Partial) (m : Option Transition)
+    → ((p : Partial) → steps sig ts p ≡ Ok q → goes_on sig ts p ≡ true)
     → and_steps (given at m) (steps sig ts) ≡ Ok q → if_moved m (goes_on sig ts) ≡ true
 goes_on_by sig at ts q None later e = absurd cc
 goes_on_by sig at ts q (Some m) later e = by_rules (kept m.rules m.next) refl e
   where
-    by_rules : (r : Result Partial PolicyFault) → kept m.rules m.next ≡ r → and_steps r (steps sig ts) ≡ Ok q → goes_on sig ts m.next ≡ true
+    by_rules : (r : Result Partial PolicyFault) → kept m.rules m.next ≡ r → and_steps r (steps sig ts) ≡ Ok q
+        → goes_on sig ts m.next ≡ true
     by_rules (Ok p) f g = ap (goes_on sig ts) (kept_next m.rules m.next p f) ∙ later p g
     by_rules (Err fault) f g = absurd cc
 
-pub goes_on_read : (sig : List PredOf) (ts : List Lexeme) (p q : Partial) → steps sig ts p ≡ Ok q → goes_on sig ts p ≡ true
+pub goes_on_read : (sig : List PredOf) (ts : List Lexeme) (p q : Partial) → steps sig ts p ≡ Ok q → goes_on sig ts p
+    ≡ true
 unfolding steps step goes_on
 goes_on_read sig [] p q e = refl
 goes_on_read sig (t ∷ ts) p q e = goes_on_by sig t.at ts q (transition sig p t) (λ x f. goes_on_read sig ts x q f) e
@@ -109,7 +124,8 @@ goes_on_read sig (t ∷ ts) p q e = goes_on_by sig t.at ts q (transition sig p t
 -- behind tokens that show no fault, the reader accepts where it has an operand and nothing is open
 accepts_read : (sig : List PredOf) (ts : List Lexeme) (q : Partial) (m : Transition) (r : Result Partial PolicyFault)
     → ((p : Partial) → steps sig ts p ≡ Ok q → accepts sig ts p ≡ is_whole q.now q.context.stack)
-    → kept m.rules m.next ≡ r → and_steps r (steps sig ts) ≡ Ok q → accepts sig ts m.next ≡ is_whole q.now q.context.stack
+    → kept m.rules m.next ≡ r → and_steps r (steps sig ts) ≡ Ok q → accepts sig ts m.next
+    ≡ is_whole q.now q.context.stack
 accepts_read sig ts q m (Ok p) later e f = ap (accepts sig ts) (kept_next m.rules m.next p e) ∙ later p f
 accepts_read sig ts q m (Err fault) later e f = absurd cc
 
@@ -119,23 +135,31 @@ accepts_step : (sig : List PredOf) (at : ℕ) (ts : List Lexeme) (q : Partial) (
 accepts_step sig at ts q None later e = absurd cc
 accepts_step sig at ts q (Some m) later e = accepts_read sig ts q m (kept m.rules m.next) later refl e
 
-pub accepts_behind : (sig : List PredOf) (ts : List Lexeme) (p q : Partial) → steps sig ts p ≡ Ok q → accepts sig ts p ≡ is_whole q.now q.context.stack
+pub accepts_behind : (sig : List PredOf) (ts : List Lexeme) (p q : Partial) → steps sig ts p ≡ Ok q
+    → accepts sig ts p ≡ is_whole q.now q.context.stack
 unfolding steps step accepts
 accepts_behind sig [] p q e = let same : p ≡ q = cc in ap (λ (x : Partial). is_whole x.now x.context.stack) same
-accepts_behind sig (t ∷ ts) p q e = accepts_step sig t.at ts q (transition sig p t) (λ x f. accepts_behind sig ts x q f) e
+accepts_behind sig (t ∷ ts) p q e =
+    accepts_step sig t.at ts q (transition sig p t) (λ x f. accepts_behind sig ts x q f) e
 
-pub never_sorted : (clash : Option ℕ) (uneven : Option Pair) (ninth : Option (List ℕ × ℕ)) (policy : PolicyOf) (at : ℕ) → sorted clash uneven ninth policy ≡ Err (Syntax at) → ⊥
+pub never_sorted : (clash : Option ℕ) (uneven : Option Pair) (ninth : Option (List ℕ × ℕ)) (policy : PolicyOf)
+    (at : ℕ) → sorted clash uneven ninth policy ≡ Err (Syntax at) → ⊥
 never_sorted (Some place) uneven ninth policy at e = absurd cc
 never_sorted None (Some pair) ninth policy at e = absurd cc
 never_sorted None None (Some known) policy at e = absurd cc
 never_sorted None None None policy at e = absurd cc
 
-never_ended : (n : SymbolTable) (f : Form) (shut : Bool) (at : ℕ) → ended n f shut at ≡ Err (Syntax at) → shut ≡ true → ⊥
-never_ended n f true at e h = never_sorted n.clash (uneven_pair n) (slice_get n.free max_free) (record { formula = f; vars = vars_of n.free n.free_sorts }) at e
+never_ended : (n : SymbolTable) (f : Form) (shut : Bool) (at : ℕ) → ended n f shut at ≡ Err (Syntax at) → shut ≡ true
+    → ⊥
+never_ended n f true at e h =
+    never_sorted n.clash (uneven_pair n) (slice_get n.free max_free)
+    (record { formula = f; vars = vars_of n.free n.free_sorts }) at e
 never_ended n f false at e h = cc
 
-not_whole : (now : Stage) (c : Context) (at : ℕ) → ended_at now c at ≡ Err (Syntax at) → is_whole now c.stack ≡ true → ⊥
-not_whole (AfterOperand f) c at e h = never_ended c.names (reduce 0 f c.stack).form (is_closed (reduce 0 f c.stack).stack) at e h
+not_whole : (now : Stage) (c : Context) (at : ℕ) → ended_at now c at ≡ Err (Syntax at) → is_whole now c.stack ≡ true
+    → ⊥
+not_whole (AfterOperand f) c at e h =
+    never_ended c.names (reduce 0 f c.stack).form (is_closed (reduce 0 f c.stack).stack) at e h
 not_whole _ c at e h = absurd cc
 
 viable : (sig : List PredOf) (ts : List Lexeme) → IsViable sig ts → BeginsFormula ts
@@ -144,12 +168,15 @@ viable sig ts v = (v.0, accepted_formula sig (ts ++ v.0) v.1)
 begins : (sig : List PredOf) (ts : List Lexeme) → BeginsFormula ts → IsViable sig ts
 begins sig ts b = (b.0, formula_accepted sig (ts ++ b.0) b.1)
 
-shown_ended : (n : SymbolTable) (f : Form) (at : ℕ) (closed : Bool) → (closed ≡ true → ⊥) → ended n f closed at ≡ Err (Syntax at)
+shown_ended : (n : SymbolTable) (f : Form) (at : ℕ) (closed : Bool) → (closed ≡ true → ⊥) → ended n f closed at
+    ≡ Err (Syntax at)
 shown_ended n f at true never = absurd (never refl)
 shown_ended n f at false never = refl
 
-shown_end : (sig : List PredOf) (now : Stage) (c : Context) (at : ℕ) → (is_whole now c.stack ≡ true → ⊥) → ended_at now c at ≡ Err (Syntax at)
-shown_end sig (AfterOperand f) c at never = shown_ended c.names (reduce 0 f c.stack).form at (is_closed (reduce 0 f c.stack).stack) never
+shown_end : (sig : List PredOf) (now : Stage) (c : Context) (at : ℕ) → (is_whole now c.stack ≡ true → ⊥)
+    → ended_at now c at ≡ Err (Syntax at)
+shown_end sig (AfterOperand f) c at never =
+    shown_ended c.names (reduce 0 f c.stack).form at (is_closed (reduce 0 f c.stack).stack) never
 shown_end sig _ c at never = refl
 
 pub syntax_exactly : SyntaxExactly
@@ -160,7 +187,9 @@ syntax_exactly = record {
     λ none. (by_tokens sig ts p t e).1 (λ v. none (viable sig (ts ++ t ∷ []) v)),
   );
   end = λ sig ts p at e. (
-    λ shown formula. not_whole p.now p.context at shown (sym (accepts_behind sig ts start p e) ∙ formula_accepted sig ts formula),
-    λ none. shown_end sig p.now p.context at (λ h. none (accepted_formula sig ts (accepts_behind sig ts start p e ∙ h))),
+    λ shown formula. not_whole p.now p.context at shown
+        (sym (accepts_behind sig ts start p e) ∙ formula_accepted sig ts formula),
+    λ none. shown_end sig p.now p.context at
+        (λ h. none (accepted_formula sig ts (accepts_behind sig ts start p e ∙ h))),
   );
 }

@@ -29,7 +29,8 @@ moves sig [] p = goes [] p
 moves sig (t ∷ ts) p = then_moves (transition sig p t) (moves sig ts)
 
 -- a token of this class
-pub move_is : (sig : List PredOf) (p : Partial) (t : Lexeme) (c : Class) → class_of t ≡ c → transition sig p t ≡ transition_at p.now sig p.context t c
+pub move_is : (sig : List PredOf) (p : Partial) (t : Lexeme) (c : Class) → class_of t ≡ c → transition sig p t
+    ≡ transition_at p.now sig p.context t c
 unfolding transition
 move_is sig p t c e = ap (transition_at p.now sig p.context t) e
 
@@ -38,7 +39,8 @@ unfolding moves
 moves_nothing sig p = refl
 
 pub moves_first : (sig : List PredOf) (t : Lexeme) (ts : List Lexeme) (p q r : Partial) (rules others : List Rule)
-    → transition sig p t ≡ goes rules q → moves sig ts q ≡ goes others r → moves sig (t ∷ ts) p ≡ goes (rules ++ others) r
+    → transition sig p t ≡ goes rules q → moves sig ts q ≡ goes others r → moves sig (t ∷ ts) p
+    ≡ goes (rules ++ others) r
 unfolding moves
 moves_first sig t ts p q r rules others e f =
     ap (λ m. then_moves m (moves sig ts)) e ∙ ap (behind_move (record { rules = rules; next = q })) f
@@ -48,33 +50,40 @@ pub moves_one : (sig : List PredOf) (t : Lexeme) (p q : Partial) (rules : List R
 moves_one sig t p q rules e =
     moves_first sig t [] p q q rules [] e (moves_nothing sig q) ∙ ap (λ x. goes x q) (append-nil rules)
 
-moves_both_at : (sig : List PredOf) (b : List Lexeme) (m : Option Transition) (f : Partial → Option Transition) (g : Partial → Option Transition)
-    → ((p : Partial) → g p ≡ then_moves (f p) (moves sig b)) → then_moves m g ≡ then_moves (then_moves m f) (moves sig b)
+moves_both_at : (sig : List PredOf) (b : List Lexeme) (m : Option Transition) (f : Partial → Option Transition)
+    (g : Partial → Option Transition)
+    → ((p : Partial) → g p ≡ then_moves (f p) (moves sig b)) → then_moves m g
+    ≡ then_moves (then_moves m f) (moves sig b)
 moves_both_at sig b None f g each = refl
 moves_both_at sig b (Some m) f g each = ap (behind_move m) (each m.next) ∙ associated m (f m.next)
   where
-    behind_all : (m n : Transition) (o : Option Transition) → behind_move m (behind_move n o) ≡ behind_move (record { rules = m.rules ++ n.rules; next = n.next }) o
+    behind_all : (m n : Transition) (o : Option Transition) → behind_move m (behind_move n o)
+        ≡ behind_move (record { rules = m.rules ++ n.rules; next = n.next }) o
     behind_all m n None = refl
     behind_all m n (Some o) = ap (λ x. goes x o.next) (sym (append_assoc m.rules n.rules o.rules))
 
-    associated : (m : Transition) (n : Option Transition) → behind_move m (then_moves n (moves sig b)) ≡ then_moves (behind_move m n) (moves sig b)
+    associated : (m : Transition) (n : Option Transition) → behind_move m (then_moves n (moves sig b))
+        ≡ then_moves (behind_move m n) (moves sig b)
     associated m None = refl
     associated m (Some n) = behind_all m n (moves sig b n.next)
 
 -- one list of tokens, and then another
-pub moves_append : (sig : List PredOf) (a b : List Lexeme) (p : Partial) → moves sig (a ++ b) p ≡ then_moves (moves sig a p) (moves sig b)
+pub moves_append : (sig : List PredOf) (a b : List Lexeme) (p : Partial) → moves sig (a ++ b) p
+    ≡ then_moves (moves sig a p) (moves sig b)
 unfolding moves
 moves_append sig [] b p = nothing_before (moves sig b p)
   where
     nothing_before : (m : Option Transition) → m ≡ behind_move (record { rules = []; next = p }) m
     nothing_before None = refl
     nothing_before (Some m) = refl
-moves_append sig (t ∷ a) b p = moves_both_at sig b (transition sig p t) (moves sig a) (moves sig (a ++ b)) (moves_append sig a b)
+moves_append sig (t ∷ a) b p =
+    moves_both_at sig b (transition sig p t) (moves sig a) (moves sig (a ++ b)) (moves_append sig a b)
 
 pub moves_both : (sig : List PredOf) (a b : List Lexeme) (p q r : Partial) (rules others : List Rule)
     → moves sig a p ≡ goes rules q → moves sig b q ≡ goes others r → moves sig (a ++ b) p ≡ goes (rules ++ others) r
 moves_both sig a b p q r rules others e f =
-    moves_append sig a b p ∙ ap (λ m. then_moves m (moves sig b)) e ∙ ap (behind_move (record { rules = rules; next = q })) f
+    moves_append sig a b p ∙ ap (λ m. then_moves m (moves sig b)) e
+    ∙ ap (behind_move (record { rules = rules; next = q })) f
 
 -- ---- the rules
 
@@ -101,7 +110,8 @@ Exactly levels keeps rules = (keeps → AreKept rules) × (levels ≤ max_levels
 
 pub kept_goes : (rules : List Rule) (p : Partial) → AreKept rules → kept rules p ≡ Ok p
 kept_goes [] p k = refl
-kept_goes (rule ∷ rules) p k = ap (λ b. cond b (Err (fault_of rule.limit rule.at)) (kept rules p)) k.0 ∙ kept_goes rules p k.1
+kept_goes (rule ∷ rules) p k =
+    ap (λ b. cond b (Err (fault_of rule.limit rule.at)) (kept rules p)) k.0 ∙ kept_goes rules p k.1
 
 pub no_move : {q : Partial} {rules : List Rule} → None ≡ goes rules q → ⊥
 no_move e = cc
@@ -123,8 +133,10 @@ unfolding rules_in
 same_rules e = ap rules_in e
 
 -- tokens whose rules are kept are read
-run_behind : (sig : List PredOf) (end : ℕ) (fault : Option LexFault) (ts : List Lexeme) (q : Partial) (rules : List Rule) (m : Transition) (o : Option Transition)
-    → ((rest : List Rule) → moves sig ts m.next ≡ goes rest q → AreKept rest → run sig end fault ts m.next ≡ run sig end fault [] q)
+run_behind : (sig : List PredOf) (end : ℕ) (fault : Option LexFault) (ts : List Lexeme) (q : Partial)
+    (rules : List Rule) (m : Transition) (o : Option Transition)
+    → ((rest : List Rule) → moves sig ts m.next ≡ goes rest q → AreKept rest → run sig end fault ts m.next
+    ≡ run sig end fault [] q)
     → moves sig ts m.next ≡ o → behind_move m o ≡ goes rules q → AreKept rules
     → and_then (kept m.rules m.next) (run sig end fault ts) ≡ run sig end fault [] q
 run_behind sig end fault ts q rules m None later f g k = absurd (no_move g)
@@ -135,13 +147,18 @@ run_behind sig end fault ts q rules m (Some n) later f g k =
     ap (λ r. and_then r (run sig end fault ts)) (kept_goes m.rules m.next (kept_front m.rules n.rules k_all))
     ∙ later n.rules (f ∙ ap (goes n.rules) there) (kept_back m.rules n.rules k_all)
 
-run_by : (sig : List PredOf) (end : ℕ) (fault : Option LexFault) (t : Lexeme) (ts : List Lexeme) (q : Partial) (rules : List Rule) (m : Option Transition)
-    → ((p : Partial) (rest : List Rule) → moves sig ts p ≡ goes rest q → AreKept rest → run sig end fault ts p ≡ run sig end fault [] q)
-    → then_moves m (moves sig ts) ≡ goes rules q → AreKept rules → and_then (given t.at m) (run sig end fault ts) ≡ run sig end fault [] q
+run_by : (sig : List PredOf) (end : ℕ) (fault : Option LexFault) (t : Lexeme) (ts : List Lexeme) (q : Partial)
+    (rules : List Rule) (m : Option Transition)
+    → ((p : Partial) (rest : List Rule) → moves sig ts p ≡ goes rest q → AreKept rest → run sig end fault ts p
+    ≡ run sig end fault [] q)
+    → then_moves m (moves sig ts) ≡ goes rules q → AreKept rules → and_then (given t.at m) (run sig end fault ts)
+    ≡ run sig end fault [] q
 run_by sig end fault t ts q rules None later f k = absurd (no_move f)
-run_by sig end fault t ts q rules (Some m) later f k = run_behind sig end fault ts q rules m (moves sig ts m.next) (later m.next) refl f k
+run_by sig end fault t ts q rules (Some m) later f k =
+    run_behind sig end fault ts q rules m (moves sig ts m.next) (later m.next) refl f k
 
-pub run_moves : (sig : List PredOf) (end : ℕ) (fault : Option LexFault) (ts : List Lexeme) (p q : Partial) (rules : List Rule)
+pub run_moves : (sig : List PredOf) (end : ℕ) (fault : Option LexFault) (ts : List Lexeme) (p q : Partial)
+    (rules : List Rule)
     → moves sig ts p ≡ goes rules q → AreKept rules → run sig end fault ts p ≡ run sig end fault [] q
 unfolding moves run step
 run_moves sig end fault [] p q rules e k = ap (run sig end fault []) (same_next e)

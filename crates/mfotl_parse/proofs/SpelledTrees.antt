@@ -1,5 +1,6 @@
 -- How a whole tree is read, by what is written in it.
-use Rattle.std.proofs.Common.{◌≡◌, ℕ, suc, ◌+◌, ◌<◌, ◌≤◌, Bool, true, false, List, [], ◌∷◌, ◌++◌, length, None, refl, sym, subst, ◌∙◌, arith}
+use Rattle.std.proofs.Common.{◌≡◌, ℕ, suc, ◌+◌, ◌<◌, ◌≤◌, Bool, true, false, List, [], ◌∷◌, ◌++◌, length, None, refl}
+use Rattle.std.proofs.Common.{sym, subst, ◌∙◌, arith}
 use Rattle.std.proofs.lemmas.Bool.{lt-leb, leb-false}
 use Rattle.std.proofs.lemmas.List.{append_assoc}
 use Rattle.std.specs.Prelude.{cond}
@@ -13,17 +14,28 @@ use Rattle.mfotl_parse.specs.declared.class.Operator.{Operator}
 use Rattle.mfotl_parse.specs.declared.class.Operator.TheVariants.{And, Or, Implies, Equiv, Since, Until}
 use Rattle.mfotl_parse.specs.declared.class.Quantifier.{Quantifier}
 use Rattle.mfotl_parse.specs.Classes.{class_of}
-use Rattle.mfotl_parse.specs.Grammar.{WrittenVariable, Bare, Asked, WrittenVariables, LastVariable, MoreVariables, WrittenInterval, Omitted, Tree, Truth, BareAtom, AtomOf, Comparison, Enclosed, Denied, Timed, Quantified, Joined, variable_spelling, variables_spelling, interval_spelling, spelling, FitsVariable, FitsVariables, FitsOperator, Fits, left_precedence, is_shut, precedence, right_precedence, is_timed, deepens}
+use Rattle.mfotl_parse.specs.Grammar.{WrittenVariable, Bare, Asked, WrittenVariables, LastVariable, MoreVariables}
+use Rattle.mfotl_parse.specs.Grammar.{WrittenInterval, Omitted, Tree, Truth, BareAtom, AtomOf, Comparison, Enclosed}
+use Rattle.mfotl_parse.specs.Grammar.{Denied, Timed, Quantified, Joined, variable_spelling, variables_spelling}
+use Rattle.mfotl_parse.specs.Grammar.{interval_spelling, spelling, FitsVariable, FitsVariables, FitsOperator, Fits}
+use Rattle.mfotl_parse.specs.Grammar.{left_precedence, is_shut, precedence, right_precedence, is_timed, deepens}
 use Rattle.mfotl_parse.specs.Intervals.{any_distance, framed}
-use Rattle.mfotl_parse.specs.Meanings.{Scope, name_of, variables_names, variables_scope, quantify, interval_of, names_behind, value, variable_count, node_count, right_levels, nesting, IntervalKeeps, PartsKeep}
+use Rattle.mfotl_parse.specs.Meanings.{Scope, name_of, variables_names, variables_scope, quantify, interval_of}
+use Rattle.mfotl_parse.specs.Meanings.{names_behind, value, variable_count, node_count, right_levels, nesting}
+use Rattle.mfotl_parse.specs.Meanings.{IntervalKeeps, PartsKeep}
 use Rattle.mfotl_parse.specs.Transitions.{Rule, goes, within_nodes, within_depth}
 use Rattle.mfotl_parse.specs.SymbolTable.{binder_of, bound_more}
 use Rattle.mfotl_parse.specs.Operands.{bound_move, deepening, now_behind, truth}
-use Rattle.mfotl_parse.specs.States.{Frame, Parens, Negation, Moment, Binding, Left, depth, SymbolTable, Stage, Partial, ExpectOperand, AfterTemporal, ExpectVariable, AfterVariableMark, AfterVariable}
+use Rattle.mfotl_parse.specs.States.{Frame, Parens, Negation, Moment, Binding, Left, depth, SymbolTable, Stage}
+use Rattle.mfotl_parse.specs.States.{Partial, ExpectOperand, AfterTemporal, ExpectVariable, AfterVariableMark}
+use Rattle.mfotl_parse.specs.States.{AfterVariable}
 use Rattle.mfotl_parse.specs.Limits.{max_levels, max_nodes}
 use Rattle.mfotl_parse.proofs.SpelledMoves.{at_place, moves, moves_both, AreKept, kept_both}
-use Rattle.mfotl_parse.proofs.SpelledForms.{Takes, IsLoose, takes_whole, takes_behind, takes_closed, takes_less, takes_enclosed, takes_joined}
-use Rattle.mfotl_parse.proofs.SpelledParts.{scope_of, context_at, one, first, node_fits, node_fitted, takes_bare, takes_atom, takes_comparison, takes_timed, arguments_nodes, arguments_nodes_are}
+use Rattle.mfotl_parse.proofs.SpelledForms.{Takes, IsLoose, takes_whole, takes_behind, takes_closed, takes_less}
+use Rattle.mfotl_parse.proofs.SpelledForms.{takes_enclosed, takes_joined}
+use Rattle.mfotl_parse.proofs.SpelledParts.{scope_of, context_at, one, first, node_fits, node_fitted, takes_bare}
+use Rattle.mfotl_parse.proofs.SpelledParts.{takes_atom, takes_comparison, takes_timed, arguments_nodes}
+use Rattle.mfotl_parse.proofs.SpelledParts.{arguments_nodes_are}
 
 -- frames on the edge of a tree of this rule hold more tightly than what lies below
 abbrev pub Reaches : ℕ → ℕ → Type 0
@@ -61,7 +73,8 @@ level_right : (o : Operator) → precedence o ≤ right_precedence o
 level_right Equiv = omega arith
 level_right o = omega arith
 
-pub right_reaches : (o : Operator) (rule edge : ℕ) → rule ≤ precedence o → Reaches rule edge → Reaches (right_precedence o) edge
+pub right_reaches : (o : Operator) (rule edge : ℕ) → rule ≤ precedence o → Reaches rule edge
+    → Reaches (right_precedence o) edge
 right_reaches o rule edge h r = (r.0, λ p k. omega (arith, r.1 o h, k, level_right p))
 
 pub unary_reaches : (rule edge : ℕ) → Reaches rule edge → Reaches 6 edge
@@ -86,12 +99,15 @@ depth_fits stack at h = lt-leb max_levels (depth stack) h
 
 -- what the rules want of a tree, behind so many nodes, under so many levels
 abbrev pub Keeps : List PredOf → Tree → ℕ → ℕ → Type 0
-Keeps sig tree nodes levels = (nodes + node_count tree ≤ max_nodes) × (levels + nesting tree ≤ max_levels) × PartsKeep sig tree
+Keeps sig tree nodes levels =
+    (nodes + node_count tree ≤ max_nodes) × (levels + nesting tree ≤ max_levels) × PartsKeep sig tree
 
 module _ (sig : List PredOf) where
   -- the same tokens and nodes, written otherwise, and what wants more
-  pub takes_as : (p : Partial) (ts us : List Lexeme) (base : List Frame) (edge : ℕ) (v : Form) (nodes more : ℕ) (names : SymbolTable) (keeps others : Type 0)
-      → ts ≡ us → nodes ≡ more → (others → keeps) → (depth p.context.stack ≤ max_levels → keeps → others) → Takes sig p ts base edge v nodes names keeps → Takes sig p us base edge v more names others
+  pub takes_as : (p : Partial) (ts us : List Lexeme) (base : List Frame) (edge : ℕ) (v : Form) (nodes more : ℕ)
+      (names : SymbolTable) (keeps others : Type 0)
+      → ts ≡ us → nodes ≡ more → (others → keeps) → (depth p.context.stack ≤ max_levels → keeps → others)
+      → Takes sig p ts base edge v nodes names keeps → Takes sig p us base edge v more names others
   takes_as p ts us base edge v nodes more names keeps others spelled same all back t =
       takes_less sig p us base edge edge v more names keeps others (omega arith) all back
       (subst (λ (n : ℕ). Takes sig p us base edge v n names keeps) same
@@ -103,70 +119,98 @@ module _ (sig : List PredOf) where
   variable_rules stack (Bare name) nodes = within_depth name.at stack ∷ within_nodes name.at nodes ∷ []
   variable_rules stack (Asked mark name) nodes = within_depth mark.at stack ∷ within_nodes mark.at nodes ∷ []
 
-  variable_kept : (stack : List Frame) (v : WrittenVariable) (nodes : ℕ) → depth stack < max_levels → nodes < max_nodes → AreKept (variable_rules stack v nodes)
+  variable_kept : (stack : List Frame) (v : WrittenVariable) (nodes : ℕ) → depth stack < max_levels
+      → nodes < max_nodes → AreKept (variable_rules stack v nodes)
   unfolding variable_rules
   variable_kept stack (Bare name) nodes h k = (depth_fits stack name.at h, (node_fits nodes name.at k, tt))
   variable_kept stack (Asked mark name) nodes h k = (depth_fits stack mark.at h, (node_fits nodes mark.at k, tt))
 
-  variable_fitted : (stack : List Frame) (v : WrittenVariable) (nodes : ℕ) → AreKept (variable_rules stack v nodes ++ []) → depth stack < max_levels
+  variable_fitted : (stack : List Frame) (v : WrittenVariable) (nodes : ℕ)
+      → AreKept (variable_rules stack v nodes ++ []) → depth stack < max_levels
   unfolding variable_rules
   variable_fitted stack (Bare name) nodes k = depth_fitted stack name.at k.0
   variable_fitted stack (Asked mark name) nodes k = depth_fitted stack mark.at k.0
 
-  variable_read : (q : Quantifier) (v : WrittenVariable) (stack : List Frame) (nodes : ℕ) (names : SymbolTable) → FitsVariable v
+  variable_read : (q : Quantifier) (v : WrittenVariable) (stack : List Frame) (nodes : ℕ) (names : SymbolTable)
+      → FitsVariable v
       → moves sig (variable_spelling v) (at_place (ExpectVariable q) stack nodes names)
-      ≡ goes (variable_rules stack v nodes) (at_place (AfterVariable q) (Binding q (length names.bound_sorts) (name_of v) ∷ stack) (suc nodes) (bound_more None names))
+      ≡ goes (variable_rules stack v nodes)
+      (at_place (AfterVariable q) (Binding q (length names.bound_sorts) (name_of v) ∷ stack) (suc nodes)
+      (bound_more None names))
   unfolding variable_rules
   variable_read q (Bare name) stack nodes names fits =
       one sig (at_place (ExpectVariable q) stack nodes names) _ name classes.Name _ fits refl
   variable_read q (Asked mark name) stack nodes names fits =
-      first sig (at_place (ExpectVariable q) stack nodes names) (at_place (AfterVariableMark q mark.at) stack (suc nodes) names) _ mark (name ∷ []) classes.Question _ [] fits.0 refl
+      first sig (at_place (ExpectVariable q) stack nodes names)
+      (at_place (AfterVariableMark q mark.at) stack (suc nodes) names) _ mark
+      (name ∷ []) classes.Question _ [] fits.0 refl
       (one sig (at_place (AfterVariableMark q mark.at) stack (suc nodes) names) _ name classes.Name [] fits.1 refl)
 
   -- a variable and the mark behind it
-  bound_read : (q : Quantifier) (v : WrittenVariable) (mark : Lexeme) (now : Stage) (c : Class) (stack : List Frame) (nodes : ℕ) (names : SymbolTable) → FitsVariable v → class_of mark ≡ c
-      → bound_move (context_at (Binding q (length names.bound_sorts) (name_of v) ∷ stack) (suc nodes) (bound_more None names)) q c
-      ≡ goes [] (at_place now (Binding q (length names.bound_sorts) (name_of v) ∷ stack) (suc nodes) (bound_more None names))
+  bound_read : (q : Quantifier) (v : WrittenVariable) (mark : Lexeme) (now : Stage) (c : Class) (stack : List Frame)
+      (nodes : ℕ) (names : SymbolTable) → FitsVariable v → class_of mark ≡ c
+      → bound_move
+      (context_at (Binding q (length names.bound_sorts) (name_of v) ∷ stack) (suc nodes) (bound_more None names)) q c
+      ≡ goes [] (at_place now (Binding q (length names.bound_sorts) (name_of v) ∷ stack) (suc nodes)
+      (bound_more None names))
       → moves sig (variable_spelling v ++ mark ∷ []) (at_place (ExpectVariable q) stack nodes names)
-      ≡ goes (variable_rules stack v nodes ++ []) (at_place now (Binding q (length names.bound_sorts) (name_of v) ∷ stack) (suc nodes) (bound_more None names))
+      ≡ goes (variable_rules stack v nodes ++ [])
+      (at_place now (Binding q (length names.bound_sorts) (name_of v) ∷ stack) (suc nodes) (bound_more None names))
   bound_read q v mark now c stack nodes names fits class e =
-      moves_both sig (variable_spelling v) (mark ∷ []) _ _ _ (variable_rules stack v nodes) [] (variable_read q v stack nodes names fits)
-      (one sig (at_place (AfterVariable q) (Binding q (length names.bound_sorts) (name_of v) ∷ stack) (suc nodes) (bound_more None names)) _ mark c [] class e)
+      moves_both sig (variable_spelling v) (mark ∷ []) _ _ _ (variable_rules stack v nodes) []
+      (variable_read q v stack nodes names fits)
+      (one sig (at_place (AfterVariable q) (Binding q (length names.bound_sorts) (name_of v) ∷ stack) (suc nodes)
+      (bound_more None names)) _ mark c [] class e)
 
   -- how a body is read, wherever it stands
-  abbrev pub Body : List Lexeme → ℕ → (Scope → SymbolTable → Form) → (Scope → SymbolTable → SymbolTable) → ℕ → ℕ → Type 0 → Type 0
+  abbrev pub Body : List Lexeme → ℕ → (Scope → SymbolTable → Form) → (Scope → SymbolTable → SymbolTable) → ℕ → ℕ
+      → Type 0 → Type 0
   Body ts edge v others count deep parts =
       (stack : List Frame) (nodes : ℕ) (names : SymbolTable) → IsLoose 1 stack
-      → Takes sig (at_place ExpectOperand stack nodes names) ts stack edge (v (scope_of stack) names) (nodes + count) (others (scope_of stack) names)
+      → Takes sig (at_place ExpectOperand stack nodes names) ts stack edge (v (scope_of stack) names) (nodes + count)
+      (others (scope_of stack) names)
       ((nodes + count ≤ max_nodes) × (depth stack + deep ≤ max_levels) × parts)
 
-  takes_variables : (q : Quantifier) (vs : WrittenVariables) (dot : Lexeme) (ts : List Lexeme) (edge : ℕ) (v : Scope → SymbolTable → Form) (others : Scope → SymbolTable → SymbolTable) (count deep : ℕ) (parts : Type 0)
-      (stack : List Frame) (nodes : ℕ) (names : SymbolTable) → edge ≤ 1 → FitsVariables vs → class_of dot ≡ classes.Dot → Body ts edge v others count deep parts
+  takes_variables : (q : Quantifier) (vs : WrittenVariables) (dot : Lexeme) (ts : List Lexeme) (edge : ℕ)
+      (v : Scope → SymbolTable → Form) (others : Scope → SymbolTable → SymbolTable) (count deep : ℕ) (parts : Type 0)
+      (stack : List Frame) (nodes : ℕ) (names : SymbolTable) → edge ≤ 1 → FitsVariables vs → class_of dot
+      ≡ classes.Dot → Body ts edge v others count deep parts
       → Takes sig (at_place (ExpectVariable q) stack nodes names) (variables_spelling vs ++ dot ∷ ts) stack edge
       (quantify q vs names (v (variables_scope vs names (scope_of stack)) (variables_names vs names)))
-      (nodes + (variable_count vs + count)) (others (variables_scope vs names (scope_of stack)) (variables_names vs names))
-      ((nodes + (variable_count vs + count) ≤ max_nodes) × (depth stack + (variable_count vs + deep) ≤ max_levels) × parts)
+      (nodes + (variable_count vs + count))
+      (others (variables_scope vs names (scope_of stack)) (variables_names vs names))
+      ((nodes + (variable_count vs + count) ≤ max_nodes) × (depth stack + (variable_count vs + deep) ≤ max_levels)
+      × parts)
   unfolding depth binder_of
   takes_variables q (LastVariable x) dot ts edge v others count deep parts stack nodes names low fits class body =
       let frame = Binding q (length names.bound_sorts) (name_of x) in
-      let inner = takes_closed sig _ ts frame stack edge _ _ _ _ low (body (frame ∷ stack) (suc nodes) (bound_more None names) (omega arith)) in
-      takes_as _ _ _ _ _ _ _ _ _ _ _ (append_assoc (variable_spelling x) (dot ∷ []) ts) (omega arith) (λ k. k) (λ d k. k)
-      (takes_behind sig (at_place (ExpectVariable q) stack nodes names) _ (variable_spelling x ++ dot ∷ []) ts stack edge _ _ _ _ _ (variable_rules stack x nodes ++ [])
+      let inner = takes_closed sig _ ts frame stack edge _ _ _ _ low
+      (body (frame ∷ stack) (suc nodes) (bound_more None names) (omega arith)) in
+      takes_as _ _ _ _ _ _ _ _ _ _ _ (append_assoc (variable_spelling x) (dot ∷ []) ts) (omega arith) (λ k. k)
+      (λ d k. k)
+      (takes_behind sig (at_place (ExpectVariable q) stack nodes names) _
+      (variable_spelling x ++ dot ∷ []) ts stack edge _ _ _ _ _ (variable_rules stack x nodes ++ [])
       (bound_read q x dot ExpectOperand classes.Dot stack nodes names fits class refl)
-      (λ k. kept_both (variable_rules stack x nodes) [] (variable_kept stack x nodes (omega (arith, k.1)) (omega (arith, k.0))) tt)
+      (λ k. kept_both (variable_rules stack x nodes) []
+      (variable_kept stack x nodes (omega (arith, k.1)) (omega (arith, k.0))) tt)
       (λ k. (omega (arith, k.0), omega (arith, k.1), k.2))
       (λ d a. omega (arith, variable_fitted stack x nodes a))
       (λ d a k. (omega (arith, k.0), omega (arith, k.1), k.2)) inner)
-  takes_variables q (MoreVariables x comma rest) dot ts edge v others count deep parts stack nodes names low fits class body =
+  takes_variables q
+      (MoreVariables x comma rest) dot ts edge v others count deep parts stack nodes names low fits class body =
       let frame = Binding q (length names.bound_sorts) (name_of x) in
       let inner = takes_closed sig _ (variables_spelling rest ++ dot ∷ ts) frame stack edge _ _ _ _ low
-      (takes_variables q rest dot ts edge v others count deep parts (frame ∷ stack) (suc nodes) (bound_more None names) low fits.2 class body) in
+      (takes_variables q rest dot ts edge v others count deep parts (frame ∷ stack) (suc nodes)
+      (bound_more None names) low fits.2 class body) in
       takes_as _ _ _ _ _ _ _ _ _ _ _
-      (append_assoc (variable_spelling x) (comma ∷ []) (variables_spelling rest ++ dot ∷ ts) ∙ sym (append_assoc (variable_spelling x) (comma ∷ variables_spelling rest) (dot ∷ ts)))
+      (append_assoc (variable_spelling x) (comma ∷ []) (variables_spelling rest ++ dot ∷ ts)
+      ∙ sym (append_assoc (variable_spelling x) (comma ∷ variables_spelling rest) (dot ∷ ts)))
       (omega arith) (λ k. k) (λ d k. k)
-      (takes_behind sig (at_place (ExpectVariable q) stack nodes names) _ (variable_spelling x ++ comma ∷ []) (variables_spelling rest ++ dot ∷ ts) stack edge _ _ _ _ _ (variable_rules stack x nodes ++ [])
+      (takes_behind sig (at_place (ExpectVariable q) stack nodes names) _ (variable_spelling x ++ comma ∷ [])
+      (variables_spelling rest ++ dot ∷ ts) stack edge _ _ _ _ _ (variable_rules stack x nodes ++ [])
       (bound_read q x comma (ExpectVariable q) classes.Comma stack nodes names fits.0 fits.1 refl)
-      (λ k. kept_both (variable_rules stack x nodes) [] (variable_kept stack x nodes (omega (arith, k.1)) (omega (arith, k.0))) tt)
+      (λ k. kept_both (variable_rules stack x nodes) []
+      (variable_kept stack x nodes (omega (arith, k.1)) (omega (arith, k.0))) tt)
       (λ k. (omega (arith, k.0), omega (arith, k.1), k.2))
       (λ d a. omega (arith, variable_fitted stack x nodes a))
       (λ d a k. (omega (arith, k.0), omega (arith, k.1), k.2)) inner)
@@ -176,70 +220,100 @@ module _ (sig : List PredOf) where
   no_interval_keeps : (interval : WrittenInterval) → interval ≡ Omitted → IntervalKeeps interval
   no_interval_keeps interval omitted = subst IntervalKeeps (sym omitted) tt
 
-  takes_interval : (timed : Bool) (interval : WrittenInterval) (frame : Interval → Frame) (base lower : List Frame) (ts : List Lexeme) (nodes edge more : ℕ) (names others : SymbolTable) (v : Form) (keeps : Type 0)
+  takes_interval : (timed : Bool) (interval : WrittenInterval) (frame : Interval → Frame) (base lower : List Frame)
+      (ts : List Lexeme) (nodes edge more : ℕ) (names others : SymbolTable) (v : Form) (keeps : Type 0)
       → FitsOperator timed interval → ((i : Interval) → framed i (frame any_distance) ≡ frame i)
-      → Takes sig (at_place ExpectOperand (frame (interval_of interval) ∷ base) nodes names) ts lower edge v more others keeps
-      → Takes sig (at_place (now_behind timed) (frame any_distance ∷ base) nodes names) (interval_spelling interval ++ ts) lower edge v more others (IntervalKeeps interval × keeps)
+      → Takes sig (at_place ExpectOperand
+      (frame (interval_of interval) ∷ base) nodes names) ts lower edge v more others keeps
+      → Takes sig (at_place (now_behind timed) (frame any_distance ∷ base) nodes names)
+      (interval_spelling interval ++ ts) lower edge v more others (IntervalKeeps interval × keeps)
   takes_interval true interval frame base lower ts nodes edge more names others v keeps fits frames t =
       takes_timed sig interval frame base lower ts nodes edge more names others v keeps fits frames t
   takes_interval false interval frame base lower ts nodes edge more names others v keeps omitted frames t =
-      takes_less sig _ (interval_spelling interval ++ ts) lower edge edge v more others keeps (IntervalKeeps interval × keeps) (omega arith) (λ k. k.1) (λ d k. (no_interval_keeps interval omitted, k))
-      (subst (λ (i : WrittenInterval). Takes sig (at_place ExpectOperand (frame any_distance ∷ base) nodes names) (interval_spelling i ++ ts) lower edge v more others keeps) (sym omitted)
-      (subst (λ (i : WrittenInterval). Takes sig (at_place ExpectOperand (frame (interval_of i) ∷ base) nodes names) ts lower edge v more others keeps) omitted t))
+      takes_less sig _ (interval_spelling interval ++ ts) lower edge edge v more others keeps
+      (IntervalKeeps interval × keeps) (omega arith) (λ k. k.1) (λ d k. (no_interval_keeps interval omitted, k))
+      (subst (λ (i : WrittenInterval). Takes sig (at_place ExpectOperand (frame any_distance ∷ base) nodes names)
+      (interval_spelling i ++ ts) lower edge v more others keeps) (sym omitted)
+      (subst (λ (i : WrittenInterval). Takes sig
+      (at_place ExpectOperand
+      (frame (interval_of i) ∷ base) nodes names) ts lower edge v more others keeps) omitted t))
 
-  joins_kept : (deep : Bool) (at nodes inner : ℕ) (stack : List Frame) → depth stack + right_levels deep inner ≤ max_levels → nodes < max_nodes → AreKept (deepening deep at stack (within_nodes at nodes ∷ []))
+  joins_kept : (deep : Bool) (at nodes inner : ℕ) (stack : List Frame)
+      → depth stack + right_levels deep inner ≤ max_levels → nodes < max_nodes
+      → AreKept (deepening deep at stack (within_nodes at nodes ∷ []))
   joins_kept true at nodes inner stack h k = (depth_fits stack at (omega (arith, h)), (node_fits nodes at k, tt))
   joins_kept false at nodes inner stack h k = (node_fits nodes at k, tt)
 
-  joins_open : (deep : Bool) (at nodes : ℕ) (stack : List Frame) → depth stack ≤ max_levels → AreKept (deepening deep at stack (within_nodes at nodes ∷ [])) → cond deep (suc (depth stack)) (depth stack) ≤ max_levels
+  joins_open : (deep : Bool) (at nodes : ℕ) (stack : List Frame) → depth stack ≤ max_levels
+      → AreKept (deepening deep at stack (within_nodes at nodes ∷ []))
+      → cond deep (suc (depth stack)) (depth stack) ≤ max_levels
   joins_open true at nodes stack h k = omega (arith, depth_fitted stack at k.0)
   joins_open false at nodes stack h k = h
 
-  right_fitted : (deep : Bool) (inner levels : ℕ) → cond deep (suc levels) levels + inner ≤ max_levels → levels + right_levels deep inner ≤ max_levels
+  right_fitted : (deep : Bool) (inner levels : ℕ) → cond deep (suc levels) levels + inner ≤ max_levels
+      → levels + right_levels deep inner ≤ max_levels
   right_fitted true inner levels h = omega (arith, h)
   right_fitted false inner levels h = omega (arith, h)
 
-  right_fits : (deep : Bool) (inner levels : ℕ) → levels + right_levels deep inner ≤ max_levels → cond deep (suc levels) levels + inner ≤ max_levels
+  right_fits : (deep : Bool) (inner levels : ℕ) → levels + right_levels deep inner ≤ max_levels
+      → cond deep (suc levels) levels + inner ≤ max_levels
   right_fits true inner levels h = omega (arith, h)
   right_fits false inner levels h = omega (arith, h)
 
-  prefix_kept : (stack : List Frame) (at nodes : ℕ) → depth stack < max_levels → nodes < max_nodes → AreKept (within_depth at stack ∷ within_nodes at nodes ∷ [])
+  prefix_kept : (stack : List Frame) (at nodes : ℕ) → depth stack < max_levels → nodes < max_nodes
+      → AreKept (within_depth at stack ∷ within_nodes at nodes ∷ [])
   prefix_kept stack at nodes h k = (depth_fits stack at h, (node_fits nodes at k, tt))
 
   -- a tree that fits is read, with any frames below that are loose enough
   pub reads : (tree : Tree) (rule edge : ℕ) → Fits rule tree → Reaches rule edge → (is_shut tree ≡ false → edge ≤ 1)
       → (stack : List Frame) (nodes : ℕ) (names : SymbolTable) → IsLoose rule stack
-      → Takes sig (at_place ExpectOperand stack nodes names) (spelling tree) stack edge (value sig tree (scope_of stack) names) (nodes + node_count tree) (names_behind sig tree (scope_of stack) names)
+      → Takes sig (at_place ExpectOperand stack nodes names) (spelling tree) stack edge
+      (value sig tree (scope_of stack) names) (nodes + node_count tree) (names_behind sig tree (scope_of stack) names)
       (Keeps sig tree nodes (depth stack))
   unfolding depth binder_of
   reads (Truth token which) rule edge fits reach ends stack nodes names loose =
       takes_as _ (token ∷ []) (token ∷ []) _ _ _ (suc nodes) _ _ _ _ refl (omega arith) (λ k. k) (λ d k. k)
-      (takes_whole sig (at_place ExpectOperand stack nodes names) (token ∷ []) stack edge (truth which) (suc nodes) names (Keeps sig (Truth token which) nodes (depth stack)) (within_nodes token.at nodes ∷ [])
-      (one sig (at_place ExpectOperand stack nodes names) _ token (classes.Truth which) _ fits refl)
-      (λ k. (node_fits nodes token.at (omega (arith, k.0)), tt), λ d a. (omega (arith, node_fitted nodes token.at a.0), omega (arith, d), tt)))
+      (takes_whole sig (at_place ExpectOperand stack nodes names) (token ∷ []) stack edge (truth which)
+      (suc nodes) names (Keeps sig (Truth token which) nodes (depth stack)) (within_nodes token.at nodes ∷ [])
+      (one sig (at_place ExpectOperand stack nodes names) _ token (classes.Truth which) _ fits refl) (
+        λ k. (node_fits nodes token.at (omega (arith, k.0)), tt),
+        λ d a.
+            (omega (arith, node_fitted nodes token.at a.0), omega (arith, d), tt),
+      ))
   reads (BareAtom name opening closing) rule edge fits reach ends stack nodes names loose =
-      takes_as _ _ _ _ _ _ (suc nodes) _ _ _ _ refl (omega arith) (λ k. (omega (arith, k.0), k.2)) (λ d k. (omega (arith, k.0), omega (arith, d), k.1))
+      takes_as _ _ _ _ _ _ (suc nodes) _ _ _ _ refl (omega arith) (λ k. (omega (arith, k.0), k.2))
+      (λ d k. (omega (arith, k.0), omega (arith, d), k.1))
       (takes_bare sig name opening closing stack nodes edge names fits.0 fits.1 fits.2)
   reads (AtomOf name opening arguments closing) rule edge fits reach ends stack nodes names loose =
-      takes_as _ _ _ _ _ _ (arguments_nodes sig arguments (suc nodes)) _ _ _ _ refl (omega (arith, arguments_nodes_are sig arguments (suc nodes))) (λ k. (omega (arith, k.0), k.2)) (λ d k. (omega (arith, k.0), omega (arith, d), k.1))
+      takes_as _ _ _ _ _ _ (arguments_nodes sig arguments (suc nodes)) _ _ _ _ refl
+      (omega (arith, arguments_nodes_are sig arguments (suc nodes))) (λ k. (omega (arith, k.0), k.2))
+      (λ d k. (omega (arith, k.0), omega (arith, d), k.1))
       (takes_atom sig name opening arguments closing stack nodes edge names fits.0 fits.1 fits.2 fits.3)
   reads (Comparison left token sign right) rule edge fits reach ends stack nodes names loose =
-      takes_as _ _ _ _ _ _ (suc nodes) _ _ _ _ refl (omega arith) (λ k. omega (arith, k.0)) (λ d k. (omega (arith, k), omega (arith, d), tt))
+      takes_as _ _ _ _ _ _ (suc nodes) _ _ _ _ refl (omega arith) (λ k. omega (arith, k.0))
+      (λ d k. (omega (arith, k), omega (arith, d), tt))
       (takes_comparison sig left token sign right stack nodes edge names fits.0 fits.1 fits.2)
   reads (Enclosed opening body closing) rule edge fits reach ends stack nodes names loose =
-      let inner = reads body 1 1 fits.1 (one_reaches 1 (omega arith)) (λ e. omega arith) (Parens ∷ stack) nodes names (omega arith) in
+      let inner = reads body 1 1 fits.1 (one_reaches 1 (omega arith)) (λ e. omega arith) (Parens ∷ stack) nodes names
+      (omega arith) in
       let whole = takes_enclosed sig _ (spelling body) closing stack edge _ _ _ _ fits.2 inner in
-      takes_behind sig (at_place ExpectOperand stack nodes names) (at_place ExpectOperand (Parens ∷ stack) nodes names) (opening ∷ []) (spelling body ++ closing ∷ []) stack edge _ _ _ _ _ (within_depth opening.at stack ∷ [])
+      takes_behind sig (at_place ExpectOperand stack nodes names)
+      (at_place ExpectOperand (Parens ∷ stack) nodes names) (opening ∷ [])
+      (spelling body ++ closing ∷ []) stack edge _ _ _ _ _ (within_depth opening.at stack ∷ [])
       (one sig (at_place ExpectOperand stack nodes names) _ opening classes.OpenParen _ fits.0 refl)
       (λ k. (depth_fits stack opening.at (omega (arith, k.1)), tt))
       (λ k. (k.0, omega (arith, k.1), k.2))
       (λ d a. omega (arith, depth_fitted stack opening.at a.0))
       (λ d a k. (k.0, omega (arith, k.1), k.2)) whole
   reads (Denied token body) rule edge fits reach ends stack nodes names loose =
-      let inner = reads body 6 edge fits.1 (unary_reaches rule edge reach) ends (Negation ∷ stack) (suc nodes) names (omega arith) in
+      let inner = reads body 6 edge fits.1 (unary_reaches rule edge reach) ends (Negation ∷ stack) (suc nodes) names
+      (omega arith) in
       let whole = takes_closed sig _ (spelling body) Negation stack edge _ _ _ _ reach.0 inner in
       takes_as _ _ _ _ _ _ (suc nodes + node_count body) _ _ _ _ refl (omega arith) (λ k. k) (λ d k. k)
-      (takes_behind sig (at_place ExpectOperand stack nodes names) (at_place ExpectOperand (Negation ∷ stack) (suc nodes) names) (token ∷ []) (spelling body) stack edge _ _ _ _ (Keeps sig (Denied token body) nodes (depth stack)) (within_depth token.at stack ∷ within_nodes token.at nodes ∷ [])
+      (takes_behind sig (at_place ExpectOperand stack nodes names)
+      (at_place ExpectOperand (Negation ∷ stack) (suc nodes) names) (token ∷ []) (spelling body) stack edge _ _ _ _
+      (Keeps sig (Denied token body) nodes (depth stack))
+      (within_depth token.at stack ∷ within_nodes token.at nodes ∷ [])
       (one sig (at_place ExpectOperand stack nodes names) _ token classes.Not _ fits.0 refl)
       (λ k. prefix_kept stack token.at nodes (omega (arith, k.1)) (omega (arith, k.0)))
       (λ k. (omega (arith, k.0), omega (arith, k.1), k.2))
@@ -248,11 +322,17 @@ module _ (sig : List PredOf) where
   reads (Timed token operator interval body) rule edge fits reach ends stack nodes names loose =
       let frame : Interval → Frame = λ i. Moment operator i in
       let i = interval_of interval in
-      let inner = reads body 6 edge fits.2 (unary_reaches rule edge reach) ends (Moment operator i ∷ stack) (suc nodes) names (omega arith) in
+      let inner = reads body 6 edge fits.2 (unary_reaches rule edge reach) ends (Moment operator i ∷ stack)
+      (suc nodes) names (omega arith) in
       let whole = takes_closed sig _ (spelling body) (Moment operator i) stack edge _ _ _ _ reach.0 inner in
-      let behind = takes_timed sig interval frame stack stack (spelling body) (suc nodes) edge _ names _ _ _ fits.1 (λ j. refl) whole in
+      let behind = takes_timed sig interval frame stack stack (spelling body) (suc nodes) edge _ names _ _ _ fits.1
+      (λ j. refl) whole in
       takes_as _ _ _ _ _ _ (suc nodes + node_count body) _ _ _ _ refl (omega arith) (λ k. k) (λ d k. k)
-      (takes_behind sig (at_place ExpectOperand stack nodes names) (at_place AfterTemporal (Moment operator any_distance ∷ stack) (suc nodes) names) (token ∷ []) (interval_spelling interval ++ spelling body) stack edge _ _ _ _ (Keeps sig (Timed token operator interval body) nodes (depth stack)) (within_depth token.at stack ∷ within_nodes token.at nodes ∷ [])
+      (takes_behind sig (at_place ExpectOperand stack nodes names)
+      (at_place AfterTemporal (Moment operator any_distance ∷ stack) (suc nodes) names) (token ∷ [])
+      (interval_spelling interval ++ spelling body) stack edge _ _ _ _
+      (Keeps sig (Timed token operator interval body) nodes (depth stack))
+      (within_depth token.at stack ∷ within_nodes token.at nodes ∷ [])
       (one sig (at_place ExpectOperand stack nodes names) _ token (classes.Temporal operator) _ fits.0 refl)
       (λ k. prefix_kept stack token.at nodes (omega (arith, k.1)) (omega (arith, k.0)))
       (λ k. (k.2.0, (omega (arith, k.0), omega (arith, k.1), k.2.1)))
@@ -260,12 +340,16 @@ module _ (sig : List PredOf) where
       (λ d a k. (omega (arith, k.1.0), omega (arith, k.1.1), (k.0, k.1.2))) behind)
   reads (Quantified token quantifier variables dot body) rule edge fits reach ends stack nodes names loose =
       let low : edge ≤ 1 = ends refl in
-      let inner : Body (spelling body) edge (value sig body) (names_behind sig body) (node_count body) (nesting body) (PartsKeep sig body) =
+      let inner : Body (spelling body) edge (value sig body) (names_behind sig body) (node_count body) (nesting body)
+      (PartsKeep sig body) =
       λ s n m l. reads body 1 edge fits.3 (one_reaches edge low) (λ e. low) s n m l in
-      takes_behind sig (at_place ExpectOperand stack nodes names) (at_place (ExpectVariable quantifier) stack nodes names) (token ∷ []) (variables_spelling variables ++ dot ∷ spelling body) stack edge _ _ _ _ _ []
+      takes_behind sig (at_place ExpectOperand stack nodes names)
+      (at_place (ExpectVariable quantifier) stack nodes names) (token ∷ [])
+      (variables_spelling variables ++ dot ∷ spelling body) stack edge _ _ _ _ _ []
       (one sig (at_place ExpectOperand stack nodes names) _ token (classes.Quantifier quantifier) _ fits.0 refl)
       (λ k. tt) (λ k. k) (λ d a. d) (λ d a k. k)
-      (takes_variables quantifier variables dot (spelling body) edge (value sig body) (names_behind sig body) (node_count body) (nesting body) (PartsKeep sig body) stack nodes names low fits.1 fits.2 inner)
+      (takes_variables quantifier variables dot (spelling body) edge (value sig body) (names_behind sig body)
+      (node_count body) (nesting body) (PartsKeep sig body) stack nodes names low fits.1 fits.2 inner)
   reads (Joined left token operator interval right) rule edge fits reach ends stack nodes names loose =
       let scope = scope_of stack in
       let v = value sig left scope names in
@@ -277,16 +361,34 @@ module _ (sig : List PredOf) where
       let later = Keeps sig right (suc middle) (cond (deepens operator) (suc (depth stack)) (depth stack)) in
       let w = value sig right scope between in
       let after = names_behind sig right scope between in
-      let before = reads left (left_precedence operator) (suc (precedence operator)) fits.1 (left_reaches operator) (λ e. absurd (cc (e, fits.2))) stack nodes names (looser rule (left_precedence operator) stack (omega (arith, fits.0, level_left operator)) loose) in
-      let inner : Takes sig (at_place ExpectOperand (Left operator i v ∷ stack) (suc middle) between) (spelling right) (Left operator i v ∷ stack) edge w (suc middle + node_count right) after later =
-      reads right (right_precedence operator) edge fits.5 (right_reaches operator rule edge fits.0 reach) ends (Left operator i v ∷ stack) (suc middle) between (omega arith) in
-      let behind = takes_interval (is_timed operator) interval frame stack (Left operator i v ∷ stack) (spelling right) (suc middle) edge (suc middle + node_count right) between after w later fits.4 (λ j. refl) inner in
-      let both = takes_joined sig (at_place ExpectOperand stack nodes names) (spelling left) (interval_spelling interval ++ spelling right) token operator i stack (suc (precedence operator)) edge v w middle (suc middle + node_count right) between after (Keeps sig left nodes (depth stack)) (IntervalKeeps interval × later) whole
+      let before = reads left (left_precedence operator) (suc (precedence operator)) fits.1 (left_reaches operator)
+      (λ e. absurd (cc (e, fits.2))) stack nodes names
+      (looser rule (left_precedence operator) stack (omega (arith, fits.0, level_left operator)) loose) in
+      let inner : Takes sig (at_place ExpectOperand (Left operator i v ∷ stack) (suc middle) between)
+      (spelling right) (Left operator i v ∷ stack) edge w (suc middle + node_count right) after later =
+      reads right (right_precedence operator) edge fits.5 (right_reaches operator rule edge fits.0 reach) ends
+      (Left operator i v ∷ stack) (suc middle) between (omega arith) in
+      let behind = takes_interval (is_timed operator) interval frame stack (Left operator i v ∷ stack)
+      (spelling right) (suc middle) edge (suc middle + node_count right) between after w later fits.4
+      (λ j. refl) inner in
+      let both = takes_joined sig (at_place ExpectOperand stack nodes names) (spelling left)
+      (interval_spelling interval ++ spelling right) token operator i stack
+      (suc (precedence operator)) edge v w middle (suc middle + node_count right) between after
+      (Keeps sig left nodes (depth stack)) (IntervalKeeps interval × later) whole
       fits.3 (omega arith) (reach.1 operator fits.0) (looser rule (precedence operator) stack fits.0 loose)
       (λ k. (omega (arith, k.0), omega (arith, k.1), k.2.0))
-      (λ k. joins_kept (deepens operator) token.at middle (nesting right) stack (omega (arith, k.1)) (omega (arith, k.0)))
-      (λ k. (k.2.1, (omega (arith, k.0), right_fits (deepens operator) (nesting right) (depth stack) (omega (arith, k.1)), k.2.2)))
+      (λ k. joins_kept (deepens operator) token.at middle (nesting right) stack (omega (arith, k.1))
+      (omega (arith, k.0)))
+      (λ k. (
+        k.2.1,
+        (omega (arith, k.0), right_fits (deepens operator) (nesting right) (depth stack) (omega (arith, k.1)), k.2.2),
+      ))
       (λ d a. joins_open (deepens operator) token.at middle stack d a)
-      (λ a b e. (omega (arith, e.1.0), omega (arith, b.1, right_fitted (deepens operator) (nesting right) (depth stack) e.1.1), (b.2, e.0, e.1.2)))
+      (λ a b e. (
+        omega (arith, e.1.0),
+        omega
+            (arith, b.1, right_fitted (deepens operator) (nesting right) (depth stack) e.1.1),
+        (b.2, e.0, e.1.2),
+      ))
       before behind in
       takes_as _ _ _ _ _ _ (suc middle + node_count right) _ _ _ _ refl (omega arith) (λ k. k) (λ d k. k) both

@@ -38,7 +38,8 @@ no_operator word e =
     (below (bytes_eq word (codes "OR")) _ _ (λ x. cc)
     (below (bytes_eq word (codes "AND")) _ _ (λ x. cc) e))))))
 
-is_blank : (word : List ℕ) (b : Bool) → bytes_eq word (codes "_") ≡ b → cond b classes.Blank (operator_class word) ≡ classes.Blank → word ≡ codes "_"
+is_blank : (word : List ℕ) (b : Bool) → bytes_eq word (codes "_") ≡ b → cond b classes.Blank (operator_class word)
+    ≡ classes.Blank → word ≡ codes "_"
 is_blank word true same e = (bytes_eq-Decides word (codes "_")).0 same
 is_blank word false same e = absurd (no_operator word e)
 
@@ -60,8 +61,10 @@ blank_kind _ text e = absurd cc
 pub blank_text : (t : Lexeme) → class_of t ≡ classes.Blank → codes "_" ≡ t.text
 blank_text t e = sym (blank_kind t.kind t.text e)
 
-by_unit : (b : Bool) (unit : ℕ) (others : Option ℕ) (seconds n : ℕ) → n ≤ n * unit → (others ≡ Some seconds → n ≤ n * seconds) → cond b (Some unit) others ≡ Some seconds → n ≤ n * seconds
-by_unit true unit others seconds n lasts later e = let same : unit ≡ seconds = cc in subst (λ (k : ℕ). n ≤ n * k) same lasts
+by_unit : (b : Bool) (unit : ℕ) (others : Option ℕ) (seconds n : ℕ) → n ≤ n * unit
+    → (others ≡ Some seconds → n ≤ n * seconds) → cond b (Some unit) others ≡ Some seconds → n ≤ n * seconds
+by_unit true unit others seconds n lasts later e =
+    let same : unit ≡ seconds = cc in subst (λ (k : ℕ). n ≤ n * k) same lasts
 by_unit false unit others seconds n lasts later e = later e
 
 -- a unit is at least a second

@@ -1,6 +1,8 @@
 -- The frames in memory and the stack that clauses see.
-use Rattle.std.proofs.Common.{◌≡◌, ℕ, zero, suc, ◌+◌, ◌<◌, ◌≤◌, Bool, true, false, cond, ltb, List, [], ◌∷◌, ◌++◌, length, map, reverse, Option, Some, None, option_to_list, IsSome, MatchOption, subst, refl, sym, ap, ◌∙◌, arith, add-one}
-use Rattle.std.proofs.lemmas.Bool.{ltb-false, le-ltb, lt-ltb}
+use Rattle.std.proofs.Common.{◌≡◌, ℕ, suc, ◌+◌, ◌<◌, ◌≤◌, true, false, cond, List, [], ◌∷◌, ◌++◌}
+use Rattle.std.proofs.Common.{length, map, reverse, Option, Some, None, option_to_list, IsSome, MatchOption, subst}
+use Rattle.std.proofs.Common.{refl, sym, ap, ◌∙◌, arith, add-one}
+use Rattle.std.proofs.lemmas.Bool.{le-ltb, lt-ltb}
 use Rattle.std.proofs.lemmas.List.{map-append, reverse-append, length-append}
 use Rattle.mfotl_model.specs.Formulas.{Form}
 use Rattle.mfotl_parse.specs.declared.frame.Frame.{Frame as FrameValue}
@@ -9,7 +11,7 @@ use Rattle.mfotl_parse.specs.Intervals.{with_interval}
 use Rattle.mfotl_parse.specs.SymbolTable.{bound_as, inner_or, binder_of}
 use Rattle.mfotl_parse.specs.Operands.{around}
 use Rattle.mfotl_parse.specs.Reading.{is_closed}
-use Rattle.mfotl_parse.specs.Reduction.{Reduced, reduce, hold, closed}
+use Rattle.mfotl_parse.specs.Reduction.{reduce, hold, closed}
 use Rattle.mfotl_parse.specs.States.{Frame, opens_level, depth}
 use Rattle.mfotl_parse.specs.Views.{frame_of, stack_of}
 
@@ -19,7 +21,8 @@ unfolding stack_of
 stack_of_push xs x = ap reverse (map-append frame_of xs (x ∷ [])) ∙ reverse-append (map frame_of xs) (frame_of x ∷ [])
 
 -- the levels of a stack with one frame more
-pub depth_of_frame : (frame : Frame) (stack : List Frame) → depth (frame ∷ stack) ≡ cond (opens_level frame) (suc (depth stack)) (depth stack)
+pub depth_of_frame : (frame : Frame) (stack : List Frame) → depth (frame ∷ stack)
+    ≡ cond (opens_level frame) (suc (depth stack)) (depth stack)
 unfolding depth
 depth_of_frame frame stack = refl
 
@@ -29,39 +32,49 @@ depth_of_empty [] none = refl
 depth_of_empty (x ∷ xs) none = absurd (omega arith)
 
 -- nothing is open
-pub reduce_nothing : (rule : ℕ) (xs : List FrameValue) → length xs ≡ 0 → (f : Form) → reduce rule f (stack_of xs) ≡ record { form = f; stack = stack_of xs }
+pub reduce_nothing : (rule : ℕ) (xs : List FrameValue) → length xs ≡ 0 → (f : Form) → reduce rule f (stack_of xs)
+    ≡ record { form = f; stack = stack_of xs }
 unfolding reduce stack_of
 reduce_nothing rule [] none f = refl
 reduce_nothing rule (x ∷ xs) none f = absurd (omega arith)
 
 -- the innermost frame doesn't hold more tightly than the rule
-pub reduce_loose : (rule : ℕ) (frame : Frame) (stack : List Frame) → hold frame ≤ rule → (f : Form) → reduce rule f (frame ∷ stack) ≡ record { form = f; stack = frame ∷ stack }
+pub reduce_loose : (rule : ℕ) (frame : Frame) (stack : List Frame) → hold frame ≤ rule → (f : Form)
+    → reduce rule f (frame ∷ stack) ≡ record { form = f; stack = frame ∷ stack }
 unfolding reduce
 reduce_loose rule frame stack loose f =
-    ap (λ b. cond b (reduce rule (closed frame f) stack) (record { form = f; stack = frame ∷ stack })) (le-ltb _ _ loose)
+    ap (λ b. cond b (reduce rule (closed frame f) stack) (record { form = f; stack = frame ∷ stack }))
+    (le-ltb _ _ loose)
 
 -- the innermost frame does
-pub reduce_tight : (rule : ℕ) (frame : Frame) (stack : List Frame) → rule < hold frame → (f : Form) → reduce rule f (frame ∷ stack) ≡ reduce rule (closed frame f) stack
+pub reduce_tight : (rule : ℕ) (frame : Frame) (stack : List Frame) → rule < hold frame → (f : Form)
+    → reduce rule f (frame ∷ stack) ≡ reduce rule (closed frame f) stack
 unfolding reduce
 reduce_tight rule frame stack tight f =
-    ap (λ b. cond b (reduce rule (closed frame f) stack) (record { form = f; stack = frame ∷ stack })) (lt-ltb _ _ tight)
+    ap (λ b. cond b (reduce rule (closed frame f) stack) (record { form = f; stack = frame ∷ stack }))
+    (lt-ltb _ _ tight)
 
 -- the newest frame, and those below
-pub stack_of_last : (xs front : List FrameValue) (x : FrameValue) → xs ≡ front ++ x ∷ [] → stack_of xs ≡ frame_of x ∷ stack_of front
+pub stack_of_last : (xs front : List FrameValue) (x : FrameValue) → xs ≡ front ++ x ∷ [] → stack_of xs
+    ≡ frame_of x ∷ stack_of front
 stack_of_last xs front x cut = ap stack_of cut ∙ stack_of_push front x
 
-pub depth_more : (xs front : List FrameValue) (x : FrameValue) → xs ≡ front ++ x ∷ [] → opens_level (frame_of x) ≡ true → depth (stack_of xs) ≡ depth (stack_of front) + 1
+pub depth_more : (xs front : List FrameValue) (x : FrameValue) → xs ≡ front ++ x ∷ [] → opens_level (frame_of x)
+    ≡ true → depth (stack_of xs) ≡ depth (stack_of front) + 1
 depth_more xs front x cut opens =
     ap depth (stack_of_last xs front x cut) ∙ depth_of_frame (frame_of x) (stack_of front)
-    ∙ ap (λ b. cond b (suc (depth (stack_of front))) (depth (stack_of front))) opens ∙ sym (add-one (depth (stack_of front)))
+    ∙ ap (λ b. cond b (suc (depth (stack_of front))) (depth (stack_of front))) opens
+    ∙ sym (add-one (depth (stack_of front)))
 
-pub depth_same : (xs front : List FrameValue) (x : FrameValue) → xs ≡ front ++ x ∷ [] → opens_level (frame_of x) ≡ false → depth (stack_of xs) ≡ depth (stack_of front)
+pub depth_same : (xs front : List FrameValue) (x : FrameValue) → xs ≡ front ++ x ∷ [] → opens_level (frame_of x)
+    ≡ false → depth (stack_of xs) ≡ depth (stack_of front)
 depth_same xs front x cut opens =
     ap depth (stack_of_last xs front x cut) ∙ depth_of_frame (frame_of x) (stack_of front)
     ∙ ap (λ b. cond b (suc (depth (stack_of front))) (depth (stack_of front))) opens
 
 -- the variable of the newest frame, or of those below
-pub binder_of_last : (name : List ℕ) (xs front : List FrameValue) (x : FrameValue) → xs ≡ front ++ x ∷ [] → binder_of name (stack_of xs) ≡ inner_or (bound_as name (frame_of x)) (binder_of name (stack_of front))
+pub binder_of_last : (name : List ℕ) (xs front : List FrameValue) (x : FrameValue) → xs ≡ front ++ x ∷ []
+    → binder_of name (stack_of xs) ≡ inner_or (bound_as name (frame_of x)) (binder_of name (stack_of front))
 unfolding binder_of
 binder_of_last name xs front x cut = ap (binder_of name) (stack_of_last xs front x cut)
 
@@ -71,7 +84,8 @@ binder_of_nothing name [] none = refl
 binder_of_nothing name (x ∷ xs) none = absurd (omega arith)
 
 -- nothing was popped: nothing is open
-pub with_interval_nothing : (interval : Interval) (old new : List FrameValue) → old ≡ new ++ [] → length new ≡ 0 → stack_of new ≡ with_interval interval (stack_of old)
+pub with_interval_nothing : (interval : Interval) (old new : List FrameValue) → old ≡ new ++ [] → length new ≡ 0
+    → stack_of new ≡ with_interval interval (stack_of old)
 unfolding stack_of
 with_interval_nothing interval old [] same none = ap (λ ys. with_interval interval (stack_of ys)) (sym same)
 with_interval_nothing interval old (x ∷ new) same none = absurd (omega arith)
@@ -81,23 +95,28 @@ none_is_some h = absurd cc
 
 -- a newest frame that holds tightly was popped
 pub closes_popped : (rule : ℕ) (old front new : List FrameValue) (last : FrameValue) (popped : Option FrameValue)
-    → old ≡ front ++ last ∷ [] → rule < hold (frame_of last) → old ≡ new ++ option_to_list popped → (0 < length old → IsSome popped)
+    → old ≡ front ++ last ∷ [] → rule < hold (frame_of last) → old ≡ new ++ option_to_list popped
+    → (0 < length old → IsSome popped)
     → MatchOption popped ((f : Form) → reduce rule f (stack_of old) ≡ record { form = f; stack = stack_of new })
     (λ frame. (f : Form) → reduce rule f (stack_of old) ≡ reduce rule (closed (frame_of frame) f) (stack_of new))
 closes_popped rule old front new last None cut tight taken there =
     absurd (none_is_some (there (omega (arith, ap length cut, length-append front (last ∷ [])))))
 closes_popped rule old front new last (Some frame) cut tight taken there =
-    let one : frame_of last ∷ stack_of front ≡ frame_of frame ∷ stack_of new = sym (stack_of_last old front last cut) ∙ stack_of_last old new frame taken in
+    let one : frame_of last ∷ stack_of front ≡ frame_of frame ∷ stack_of new = sym (stack_of_last old front last cut)
+    ∙ stack_of_last old new frame taken in
     let same : frame_of last ≡ frame_of frame = cc in
     let tight_too : rule < hold (frame_of frame) = subst (λ (x : Frame). rule < hold x) same tight in
-    λ f. ap (reduce rule f) (stack_of_last old new frame taken) ∙ reduce_tight rule (frame_of frame) (stack_of new) tight_too f
+    λ f. ap (reduce rule f) (stack_of_last old new frame taken)
+    ∙ reduce_tight rule (frame_of frame) (stack_of new) tight_too f
 
 -- a newest frame that doesn't
-pub keeps_loose : (rule : ℕ) (xs front : List FrameValue) (last : FrameValue) → xs ≡ front ++ last ∷ [] → hold (frame_of last) ≤ rule
+pub keeps_loose : (rule : ℕ) (xs front : List FrameValue) (last : FrameValue) → xs ≡ front ++ last ∷ []
+    → hold (frame_of last) ≤ rule
     → (f : Form) → reduce rule f (stack_of xs) ≡ record { form = f; stack = stack_of xs }
 keeps_loose rule xs front last cut loose f =
     let same = stack_of_last xs front last cut in
-    ap (reduce rule f) same ∙ reduce_loose rule (frame_of last) (stack_of front) loose f ∙ ap (λ (s : List Frame). record { form = f; stack = s }) (sym same)
+    ap (reduce rule f) same ∙ reduce_loose rule (frame_of last) (stack_of front) loose f
+    ∙ ap (λ (s : List Frame). record { form = f; stack = s }) (sym same)
 
 pub around_nothing : (xs : List FrameValue) → length xs ≡ 0 → around (stack_of xs) ≡ None
 unfolding stack_of

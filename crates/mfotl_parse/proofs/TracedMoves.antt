@@ -1,6 +1,6 @@
 -- What each of some tokens shows, by the reader's moves.
-use Rattle.std.proofs.Common.{◌≡◌, ℕ, Bool, true, false, List, [], ◌∷◌, ◌++◌, Option, Some, None, refl, ap, sym, subst, ◌∙◌}
-use Rattle.std.specs.Prelude.{cond}
+use Rattle.std.proofs.Common.{◌≡◌, ℕ, Bool, true, false, List, [], ◌∷◌, ◌++◌, Option, Some, None, refl, ap, sym, subst}
+use Rattle.std.proofs.Common.{◌∙◌}
 use Rattle.mfotl_lex.specs.Lexemes.{Lexeme}
 use Rattle.mfotl_sig.specs.Preds.{PredOf}
 use Rattle.mfotl_parse.specs.declared.class.Class.{Class}
@@ -13,7 +13,8 @@ use Rattle.mfotl_parse.specs.Operands.{operand_move, fresh_move, now_behind}
 use Rattle.mfotl_parse.specs.Reading.{transition_at, transition}
 use Rattle.mfotl_parse.specs.Shows.{Showing, if_broken}
 use Rattle.mfotl_parse.specs.States.{Frame, SymbolTable, Context, Partial, ExpectOperand, AfterTemporal}
-use Rattle.mfotl_parse.proofs.SpelledMoves.{at_place, behind_move, then_moves, moves, move_is, moves_one, moves_both, no_move, same_next}
+use Rattle.mfotl_parse.proofs.SpelledMoves.{at_place, behind_move, then_moves, moves, move_is, moves_one, moves_both}
+use Rattle.mfotl_parse.proofs.SpelledMoves.{no_move, same_next}
 
 -- the faults of the rules that are broken
 abbrev pub broken : List Rule → List PolicyFault
@@ -43,7 +44,8 @@ module _ (sig : List PredOf) where
   trace_move t ts p q rules e = ap (λ (m : Option Transition). traced t.at m (trace sig ts)) e
 
   pub trace_first : (t : Lexeme) (ts : List Lexeme) (c : Class) (p q : Partial) (rules : List Rule)
-      → class_of t ≡ c → transition_at p.now sig p.context t c ≡ goes rules q → trace sig (t ∷ ts) p ≡ broken rules ∷ trace sig ts q
+      → class_of t ≡ c → transition_at p.now sig p.context t c ≡ goes rules q → trace sig (t ∷ ts) p
+      ≡ broken rules ∷ trace sig ts q
   trace_first t ts c p q rules class e = trace_move t ts p q rules (move_is sig p t c class ∙ e)
 
   pub trace_both : (a b : List Lexeme) (p q : Partial) (rules : List Rule)
@@ -52,29 +54,40 @@ module _ (sig : List PredOf) where
   trace_both [] b p q rules e = ap (trace sig b) (same_next e)
   trace_both (t ∷ a) b p q rules e = by_move (transition sig p t) (λ n rest f. trace_both a b n q rest f) e
     where
-      by_rest : (m : Transition) (o : Option Transition) → ((n : Partial) (rest : List Rule) → moves sig a n ≡ goes rest q → trace sig (a ++ b) n ≡ trace sig a n ++ trace sig b q)
-          → moves sig a m.next ≡ o → behind_move m o ≡ goes rules q → trace sig (a ++ b) m.next ≡ trace sig a m.next ++ trace sig b q
+      by_rest : (m : Transition) (o : Option Transition)
+          → ((n : Partial) (rest : List Rule) → moves sig a n ≡ goes rest q → trace sig (a ++ b) n ≡ trace sig a n
+          ++ trace sig b q)
+          → moves sig a m.next ≡ o → behind_move m o ≡ goes rules q → trace sig (a ++ b) m.next ≡ trace sig a m.next
+          ++ trace sig b q
       by_rest m None later f g = absurd (no_move g)
       by_rest m (Some n) later f g = later m.next n.rules (f ∙ ap (goes n.rules) (same_next g))
 
-      by_move : (m : Option Transition) → ((n : Partial) (rest : List Rule) → moves sig a n ≡ goes rest q → trace sig (a ++ b) n ≡ trace sig a n ++ trace sig b q)
-          → then_moves m (moves sig a) ≡ goes rules q → traced t.at m (trace sig (a ++ b)) ≡ traced t.at m (trace sig a) ++ trace sig b q
+      by_move : (m : Option Transition)
+          → ((n : Partial) (rest : List Rule) → moves sig a n ≡ goes rest q → trace sig (a ++ b) n ≡ trace sig a n
+          ++ trace sig b q)
+          → then_moves m (moves sig a) ≡ goes rules q → traced t.at m (trace sig (a ++ b))
+          ≡ traced t.at m (trace sig a) ++ trace sig b q
       by_move None later f = absurd (no_move f)
       by_move (Some m) later f = ap (λ (x : Showing). broken m.rules ∷ x) (by_rest m (moves sig a m.next) later refl f)
 
-  pub leads_move : (t : Lexeme) (p q : Partial) (rules : List Rule) → transition sig p t ≡ goes rules q → Leads sig (t ∷ []) p q (broken rules ∷ [])
+  pub leads_move : (t : Lexeme) (p q : Partial) (rules : List Rule) → transition sig p t ≡ goes rules q
+      → Leads sig (t ∷ []) p q (broken rules ∷ [])
   unfolding trace
-  leads_move t p q rules e = record { rules = rules; moved = moves_one sig t p q rules e; shows = trace_move t [] p q rules e }
+  leads_move t p q rules e =
+      record { rules = rules; moved = moves_one sig t p q rules e; shows = trace_move t [] p q rules e }
 
   pub leads_one : (t : Lexeme) (c : Class) (p q : Partial) (rules : List Rule)
-      → class_of t ≡ c → transition_at p.now sig p.context t c ≡ goes rules q → Leads sig (t ∷ []) p q (broken rules ∷ [])
+      → class_of t ≡ c → transition_at p.now sig p.context t c ≡ goes rules q
+      → Leads sig (t ∷ []) p q (broken rules ∷ [])
   leads_one t c p q rules class e = leads_move t p q rules (move_is sig p t c class ∙ e)
 
   -- some tokens, and then others
-  pub leads_then : (a b : List Lexeme) (p q : Partial) (x : Showing) → Leads sig a p q x → trace sig (a ++ b) p ≡ x ++ trace sig b q
+  pub leads_then : (a b : List Lexeme) (p q : Partial) (x : Showing) → Leads sig a p q x → trace sig (a ++ b) p ≡ x
+      ++ trace sig b q
   leads_then a b p q x l = trace_both a b p q l.rules l.moved ∙ ap (λ (s : Showing). s ++ trace sig b q) l.shows
 
-  pub leads_both : (a b : List Lexeme) (p q r : Partial) (x y : Showing) → Leads sig a p q x → Leads sig b q r y → Leads sig (a ++ b) p r (x ++ y)
+  pub leads_both : (a b : List Lexeme) (p q r : Partial) (x y : Showing) → Leads sig a p q x → Leads sig b q r y
+      → Leads sig (a ++ b) p r (x ++ y)
   leads_both a b p q r x y l k =
       record {
         rules = l.rules ++ k.rules;
@@ -83,29 +96,37 @@ module _ (sig : List PredOf) where
       }
 
   pub leads_first : (t : Lexeme) (ts : List Lexeme) (c : Class) (p q r : Partial) (rules : List Rule) (y : Showing)
-      → class_of t ≡ c → transition_at p.now sig p.context t c ≡ goes rules q → Leads sig ts q r y → Leads sig (t ∷ ts) p r (broken rules ∷ y)
-  leads_first t ts c p q r rules y class e k = leads_both (t ∷ []) ts p q r (broken rules ∷ []) y (leads_one t c p q rules class e) k
+      → class_of t ≡ c → transition_at p.now sig p.context t c ≡ goes rules q → Leads sig ts q r y
+      → Leads sig (t ∷ ts) p r (broken rules ∷ y)
+  leads_first t ts c p q r rules y class e k =
+      leads_both (t ∷ []) ts p q r (broken rules ∷ []) y (leads_one t c p q rules class e) k
 
   pub leads_none : (p : Partial) → Leads sig [] p p []
   unfolding trace moves
   leads_none p = record { rules = []; moved = refl; shows = refl }
 
   -- the same tokens, and the same faults
-  pub leads_as : (a b : List Lexeme) (p q : Partial) (x y : Showing) → a ≡ b → x ≡ y → Leads sig a p q x → Leads sig b p q y
-  leads_as a b p q x y spelled shown l = subst (λ (ts : List Lexeme). Leads sig ts p q y) spelled (subst (λ (s : Showing). Leads sig a p q s) shown l)
+  pub leads_as : (a b : List Lexeme) (p q : Partial) (x y : Showing) → a ≡ b → x ≡ y → Leads sig a p q x
+      → Leads sig b p q y
+  leads_as a b p q x y spelled shown l =
+      subst (λ (ts : List Lexeme). Leads sig ts p q y) spelled (subst (λ (s : Showing). Leads sig a p q s) shown l)
 
   -- an operand that begins with no bracket is read alike where an interval may stand
-  fresh_same : (p : Context) (t : Lexeme) (c : Class) → (c ≡ classes.OpenBracket → ⊥) → (c ≡ classes.OpenParen → ⊥) → fresh_move p t c ≡ operand_move p t c
+  fresh_same : (p : Context) (t : Lexeme) (c : Class) → (c ≡ classes.OpenBracket → ⊥) → (c ≡ classes.OpenParen → ⊥)
+      → fresh_move p t c ≡ operand_move p t c
   fresh_same p t classes.OpenBracket square round = absurd (square refl)
   fresh_same p t classes.OpenParen square round = absurd (round refl)
   fresh_same p t _ square round = refl
 
-  pub trace_any : (timed : Bool) (t : Lexeme) (ts : List Lexeme) (c : Class) (stack : List Frame) (nodes : ℕ) (names : SymbolTable) → class_of t ≡ c → (c ≡ classes.OpenBracket → ⊥) → (c ≡ classes.OpenParen → ⊥)
-      → trace sig (t ∷ ts) (at_place (now_behind timed) stack nodes names) ≡ trace sig (t ∷ ts) (at_place ExpectOperand stack nodes names)
+  pub trace_any : (timed : Bool) (t : Lexeme) (ts : List Lexeme) (c : Class) (stack : List Frame) (nodes : ℕ)
+      (names : SymbolTable) → class_of t ≡ c → (c ≡ classes.OpenBracket → ⊥) → (c ≡ classes.OpenParen → ⊥)
+      → trace sig (t ∷ ts) (at_place (now_behind timed) stack nodes names)
+      ≡ trace sig (t ∷ ts) (at_place ExpectOperand stack nodes names)
   unfolding trace
   trace_any false t ts c stack nodes names class square round = refl
   trace_any true t ts c stack nodes names class square round =
       let here : Context = record { stack = stack; nodes = nodes; names = names } in
       let fresh = move_is sig (at_place AfterTemporal stack nodes names) t c class in
       let want = move_is sig (at_place ExpectOperand stack nodes names) t c class in
-      ap (λ (m : Option Transition). traced t.at m (trace sig ts)) (fresh ∙ fresh_same here t c square round ∙ sym want)
+      ap (λ (m : Option Transition). traced t.at m (trace sig ts))
+      (fresh ∙ fresh_same here t c square round ∙ sym want)

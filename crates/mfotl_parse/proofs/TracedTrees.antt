@@ -1,40 +1,51 @@
 -- What each token of a whole tree shows.
-use Rattle.std.proofs.Common.{◌≡◌, ℕ, ℤ, suc, ◌+◌, ◌≤◌, Bool, true, false, List, [], ◌∷◌, ◌++◌, length, Option, Some, None, refl, ap, sym, subst, ◌∙◌, inl, inr, arith}
+use Rattle.std.proofs.Common.{◌≡◌, ℕ, ℤ, suc, ◌+◌, ◌≤◌, Bool, true, false, List, [], ◌∷◌, ◌++◌, length, Option, Some}
+use Rattle.std.proofs.Common.{None, refl, ap, sym, subst, ◌∙◌, inl, inr, arith}
 use Rattle.std.proofs.lemmas.List.{append_assoc}
 use Rattle.std.specs.Prelude.{cond, ◌&&◌}
 use Rattle.mfotl_lex.specs.Lexemes.{Lexeme}
 use Rattle.mfotl_model.specs.declared.interval.Interval.{Interval}
-use Rattle.mfotl_model.specs.declared.term.Sign.{Sign}
 use Rattle.mfotl_model.specs.declared.value.Value.TheVariants as values
-use Rattle.mfotl_model.specs.Formulas.{Form}
 use Rattle.mfotl_sig.specs.Preds.{PredOf}
 use Rattle.mfotl_parse.specs.declared.class.Class.{Class}
 use Rattle.mfotl_parse.specs.declared.class.Class.TheVariants as classes
-use Rattle.mfotl_parse.specs.declared.class.Operator.{Operator}
 use Rattle.mfotl_parse.specs.declared.class.Quantifier.{Quantifier}
 use Rattle.mfotl_parse.specs.declared.fault.PolicyFault.{PolicyFault}
 use Rattle.mfotl_parse.specs.declared.term.Operand.TheVariants as operands
-use Rattle.mfotl_parse.specs.declared.term.Side.{Side}
 use Rattle.mfotl_parse.specs.Classes.{class_of}
-use Rattle.mfotl_parse.specs.Grammar.{WrittenVariable, Bare, Asked, WrittenTerm, Named, Number, Quoted, WrittenVariables, LastVariable, MoreVariables, WrittenInterval, Tree, Truth, BareAtom, AtomOf, Comparison, Enclosed, Denied, Timed, Quantified, Joined, term_spelling, variable_spelling, variables_spelling, interval_spelling, spelling, FitsTerm, FitsVariable, FitsVariables, Fits, IsAtomName, left_precedence, is_shut, precedence, right_precedence, is_timed, deepens}
+use Rattle.mfotl_parse.specs.Grammar.{WrittenVariable, Bare, Asked, WrittenTerm, Named, Number, Quoted}
+use Rattle.mfotl_parse.specs.Grammar.{WrittenVariables, LastVariable, MoreVariables, Tree, Truth}
+use Rattle.mfotl_parse.specs.Grammar.{BareAtom, AtomOf, Comparison, Enclosed, Denied, Timed, Quantified, Joined}
+use Rattle.mfotl_parse.specs.Grammar.{term_spelling, variable_spelling, variables_spelling, interval_spelling}
+use Rattle.mfotl_parse.specs.Grammar.{spelling, FitsTerm, FitsVariable, FitsVariables, Fits, IsAtomName}
+use Rattle.mfotl_parse.specs.Grammar.{left_precedence, is_shut, precedence, right_precedence, is_timed, deepens}
 use Rattle.mfotl_parse.specs.Intervals.{any_distance}
 use Rattle.mfotl_parse.specs.Meanings.{name_of, interval_of, names_behind, value, variable_count, node_count}
 use Rattle.mfotl_parse.specs.Transitions.{Rule, Transition, goes, first_keeps, within_depth, within_nodes}
 use Rattle.mfotl_parse.specs.SymbolTable.{binder_of, bound_more}
-use Rattle.mfotl_parse.specs.Operands.{operand_move, maybe_move, maybe_number_move, compared_move, signed, deepening, now_behind}
+use Rattle.mfotl_parse.specs.Operands.{operand_move, maybe_move, maybe_number_move, compared_move, deepening}
+use Rattle.mfotl_parse.specs.Operands.{now_behind}
 use Rattle.mfotl_parse.specs.Reading.{transition}
 use Rattle.mfotl_parse.specs.Reduction.{reduce}
-use Rattle.mfotl_parse.specs.Shows.{Showing, level_first, postponed, is_number, begins_with_number, enclosed_shown, prefix_shown, variable_shown, variables_shown, joint_shown, levels_right, interval_shown, is_omitted, tree_shown, shown_by}
-use Rattle.mfotl_parse.specs.States.{Frame, Parens, Negation, Moment, Binding, Left, depth, SymbolTable, Context, Partial, ExpectOperand, AfterTemporal, AfterOperand, ExpectSign, ExpectVariable, AfterVariableMark, AfterVariable, AfterParen, AfterParenNumber, no_names, start}
-use Rattle.mfotl_parse.proofs.SpelledMoves.{at_place, behind_move, then_moves, moves, moves_one, moves_both, no_move, same_next}
-use Rattle.mfotl_parse.proofs.SpelledForms.{Takes, IsLoose, IsHave, reduce_here, enclosed, joins, fresh_too}
-use Rattle.mfotl_parse.proofs.SpelledParts.{scope_of, context_at}
-use Rattle.mfotl_parse.proofs.SpelledTrees.{Reaches, left_reaches, right_reaches, unary_reaches, one_reaches, looser, level_left, reads}
-use Rattle.mfotl_parse.proofs.TracedMoves.{broken, traced, trace, trace_move, trace_first, trace_both, trace_any, Leads, leads_move, leads_one, leads_first, leads_then}
+use Rattle.mfotl_parse.specs.Shows.{Showing, level_first, postponed, is_number, begins_with_number, enclosed_shown}
+use Rattle.mfotl_parse.specs.Shows.{prefix_shown, variable_shown, variables_shown, joint_shown, levels_right}
+use Rattle.mfotl_parse.specs.Shows.{interval_shown, is_omitted, tree_shown, shown_by}
+use Rattle.mfotl_parse.specs.States.{Frame, Parens, Negation, Moment, Binding, Left, depth, SymbolTable, Context}
+use Rattle.mfotl_parse.specs.States.{Partial, ExpectOperand, AfterTemporal, AfterOperand, ExpectSign, ExpectVariable}
+use Rattle.mfotl_parse.specs.States.{AfterVariableMark, AfterVariable, AfterParen, AfterParenNumber, no_names, start}
+use Rattle.mfotl_parse.proofs.SpelledMoves.{at_place, behind_move, then_moves, moves, moves_one, moves_both, no_move}
+use Rattle.mfotl_parse.proofs.SpelledMoves.{same_next}
+use Rattle.mfotl_parse.proofs.SpelledForms.{IsLoose, IsHave, reduce_here, enclosed, joins, fresh_too}
+use Rattle.mfotl_parse.proofs.SpelledParts.{scope_of}
+use Rattle.mfotl_parse.proofs.SpelledTrees.{Reaches, left_reaches, right_reaches, unary_reaches, one_reaches, looser}
+use Rattle.mfotl_parse.proofs.SpelledTrees.{level_left, reads}
+use Rattle.mfotl_parse.proofs.TracedMoves.{broken, traced, trace, trace_move, trace_first, trace_both, trace_any}
+use Rattle.mfotl_parse.proofs.TracedMoves.{Leads, leads_move, leads_one, leads_first, leads_then}
 use Rattle.mfotl_parse.proofs.TracedParts.{trace_bare, trace_atom, trace_comparison, interval_leads}
 
 -- no operand was read yet
-none_read : {first rules : List Rule} {p q : Partial} → (IsHave p.now → ⊥) → goes first p ≡ goes rules q → IsHave q.now → (P : Type 0) → P
+none_read : {first rules : List Rule} {p q : Partial} → (IsHave p.now → ⊥) → goes first p ≡ goes rules q
+    → IsHave q.now → (P : Type 0) → P
 none_read never e h P = absurd (never (subst (λ (x : Partial). IsHave x.now) (sym (same_next e)) h))
 
 module _ (sig : List PredOf) (stack : List Frame) (nodes : ℕ) (names : SymbolTable) where
@@ -47,101 +58,148 @@ module _ (sig : List PredOf) (stack : List Frame) (nodes : ℕ) (names : SymbolT
   -- ---- behind a `(` where an interval may stand
 
   by_sign : (at number_at : ℕ) (z : ℤ) (t : Lexeme) (ts : List Lexeme) (rules : List Rule) (q : Partial) (c : Class)
-      → then_moves (compared_move inside (record { at = number_at; operand = operands.Constant (values.Int z) }) t c) (moves sig ts) ≡ goes rules q
+      → then_moves (compared_move inside (record { at = number_at; operand = operands.Constant (values.Int z) }) t c)
+      (moves sig ts) ≡ goes rules q
       → traced t.at (maybe_number_move here at number_at z t c) (trace sig ts)
-      ≡ level_first at (depth stack) (traced t.at (compared_move inside (record { at = number_at; operand = operands.Constant (values.Int z) }) t c) (trace sig ts))
+      ≡ level_first at (depth stack)
+      (traced t.at (compared_move inside (record { at = number_at; operand = operands.Constant (values.Int z) }) t c)
+      (trace sig ts))
   by_sign at number_at z t ts rules q (classes.Sign sign) e = refl
   by_sign at number_at z t ts rules q _ e = absurd (no_move e)
 
   behind_number : (at number_at : ℕ) (z : ℤ) (ts : List Lexeme) (rules : List Rule) (q : Partial) → IsHave q.now
-      → moves sig ts (record { context = inside; now = ExpectSign (record { at = number_at; operand = operands.Constant (values.Int z) }) }) ≡ goes rules q
+      → moves sig ts
+      (record {
+        context = inside;
+        now = ExpectSign
+            (record { at = number_at; operand = operands.Constant (values.Int z) });
+      }) ≡ goes rules q
       → trace sig ts (record { context = here; now = AfterParenNumber at number_at z })
-      ≡ level_first at (depth stack) (trace sig ts (record { context = inside; now = ExpectSign (record { at = number_at; operand = operands.Constant (values.Int z) }) }))
+      ≡ level_first at (depth stack)
+      (trace sig ts
+      (record {
+        context = inside;
+        now = ExpectSign
+            (record { at = number_at; operand = operands.Constant (values.Int z) });
+      }))
   unfolding moves trace transition
   behind_number at number_at z [] rules q have e = none_read (λ n. n) e have _
   behind_number at number_at z (t ∷ ts) rules q have e = by_sign at number_at z t ts rules q (class_of t) e
 
   first_kept : (at number_at : ℕ) (m : Option Transition) (ts : List Lexeme) (rules : List Rule) (q : Partial)
       → then_moves m (moves sig ts) ≡ goes rules q
-      → traced number_at (first_keeps (within_depth at stack) m) (trace sig ts) ≡ level_first at (depth stack) (traced number_at m (trace sig ts))
+      → traced number_at (first_keeps (within_depth at stack) m) (trace sig ts)
+      ≡ level_first at (depth stack) (traced number_at m (trace sig ts))
   first_kept at number_at None ts rules q e = absurd (no_move e)
   first_kept at number_at (Some m) ts rules q e = refl
 
-  rest_of : (m : Transition) (o : Option Transition) (rules : List Rule) (q : Partial) → behind_move m o ≡ goes rules q → (others : List Rule) × (o ≡ goes others q)
+  rest_of : (m : Transition) (o : Option Transition) (rules : List Rule) (q : Partial) → behind_move m o
+      ≡ goes rules q → (others : List Rule) × (o ≡ goes others q)
   rest_of m None rules q e = absurd (no_move e)
   rest_of m (Some n) rules q e = (n.rules, ap (goes n.rules) (same_next e))
 
   by_class : (at : ℕ) (t : Lexeme) (ts : List Lexeme) (rules : List Rule) (q : Partial) (c : Class) → IsHave q.now
       → then_moves (operand_move inside t c) (moves sig ts) ≡ goes rules q
-      → traced t.at (maybe_move here at t c) (trace sig ts) ≡ postponed at (depth stack) (is_number c) (traced t.at (operand_move inside t c) (trace sig ts))
+      → traced t.at (maybe_move here at t c) (trace sig ts)
+      ≡ postponed at (depth stack) (is_number c) (traced t.at (operand_move inside t c) (trace sig ts))
   by_class at t ts rules q (classes.Integer z) have e =
-      let there : Partial = record { context = inside; now = ExpectSign (record { at = t.at; operand = operands.Constant (values.Int z) }) } in
+      let there : Partial = record {
+        context = inside;
+        now = ExpectSign
+            (record { at = t.at; operand = operands.Constant (values.Int z) });
+      } in
       let rest = rest_of (record { rules = []; next = there }) (moves sig ts there) rules q e in
       ap (λ (s : Showing). [] ∷ s) (behind_number at t.at z ts rest.0 q have rest.1)
   by_class at t ts rules q c have e = first_kept at t.at (operand_move inside t c) ts rules q e
 
   maybe_trace : (at : ℕ) (ts : List Lexeme) (rules : List Rule) (q : Partial) → IsHave q.now
       → moves sig ts (record { context = inside; now = ExpectOperand }) ≡ goes rules q
-      → trace sig ts (record { context = here; now = AfterParen at }) ≡ postponed at (depth stack) (begins_with_number ts) (trace sig ts (record { context = inside; now = ExpectOperand }))
+      → trace sig ts (record { context = here; now = AfterParen at })
+      ≡ postponed at (depth stack) (begins_with_number ts)
+      (trace sig ts (record { context = inside; now = ExpectOperand }))
   unfolding moves trace transition
   maybe_trace at [] rules q have e = none_read (λ n. n) e have _
   maybe_trace at (t ∷ ts) rules q have e = by_class at t ts rules q (class_of t) have e
 
-  pub enclosed_trace : (timed : Bool) (opening : Lexeme) (ts : List Lexeme) (rules : List Rule) (q : Partial) → class_of opening ≡ classes.OpenParen → IsHave q.now
+  pub enclosed_trace : (timed : Bool) (opening : Lexeme) (ts : List Lexeme) (rules : List Rule) (q : Partial)
+      → class_of opening ≡ classes.OpenParen → IsHave q.now
       → moves sig ts (record { context = inside; now = ExpectOperand }) ≡ goes rules q
-      → trace sig (opening ∷ ts) (at_place (now_behind timed) stack nodes names) ≡ enclosed_shown timed opening.at (depth stack) ts (trace sig ts (record { context = inside; now = ExpectOperand }))
+      → trace sig (opening ∷ ts) (at_place (now_behind timed) stack nodes names)
+      ≡ enclosed_shown timed opening.at (depth stack) ts
+      (trace sig ts (record { context = inside; now = ExpectOperand }))
   enclosed_trace false opening ts rules q class have e =
-      trace_first sig opening ts classes.OpenParen (at_place ExpectOperand stack nodes names) (at_place ExpectOperand (Parens ∷ stack) nodes names) _ class refl
+      trace_first sig opening ts classes.OpenParen (at_place ExpectOperand stack nodes names)
+      (at_place ExpectOperand (Parens ∷ stack) nodes names) _ class refl
   enclosed_trace true opening ts rules q class have e =
-      trace_first sig opening ts classes.OpenParen (at_place AfterTemporal stack nodes names) (at_place (AfterParen opening.at) stack nodes names) _ class refl
+      trace_first sig opening ts classes.OpenParen (at_place AfterTemporal stack nodes names)
+      (at_place (AfterParen opening.at) stack nodes names) _ class refl
       ∙ ap (λ (s : Showing). [] ∷ s) (maybe_trace opening.at ts rules q have e)
 
 module _ (sig : List PredOf) where
   -- ---- quantified variables
 
-  variable_leads : (q : Quantifier) (v : WrittenVariable) (stack : List Frame) (nodes : ℕ) (names : SymbolTable) → FitsVariable v
-      → Leads sig (variable_spelling v) (at_place (ExpectVariable q) stack nodes names) (at_place (AfterVariable q) (Binding q (length names.bound_sorts) (name_of v) ∷ stack) (suc nodes) (bound_more None names))
+  variable_leads : (q : Quantifier) (v : WrittenVariable) (stack : List Frame) (nodes : ℕ) (names : SymbolTable)
+      → FitsVariable v
+      → Leads sig (variable_spelling v) (at_place (ExpectVariable q) stack nodes names)
+      (at_place (AfterVariable q) (Binding q (length names.bound_sorts) (name_of v) ∷ stack) (suc nodes)
+      (bound_more None names))
       (variable_shown v (depth stack) nodes)
   variable_leads q (Bare name) stack nodes names fits =
       leads_one sig name classes.Name (at_place (ExpectVariable q) stack nodes names) _ _ fits refl
   variable_leads q (Asked mark name) stack nodes names fits =
-      leads_first sig mark (name ∷ []) classes.Question (at_place (ExpectVariable q) stack nodes names) (at_place (AfterVariableMark q mark.at) stack (suc nodes) names) _ _ _ fits.0 refl
-      (leads_one sig name classes.Name (at_place (AfterVariableMark q mark.at) stack (suc nodes) names) _ [] fits.1 refl)
+      leads_first sig mark (name ∷ []) classes.Question (at_place (ExpectVariable q) stack nodes names)
+      (at_place (AfterVariableMark q mark.at) stack (suc nodes) names) _ _ _ fits.0 refl
+      (leads_one sig name classes.Name
+      (at_place (AfterVariableMark q mark.at) stack (suc nodes) names) _ [] fits.1 refl)
 
   -- a body's tokens show these, wherever it stands
   abbrev BodyShows : List Lexeme → (ℕ → ℕ → Showing) → Type 0
-  BodyShows ts shown = (stack : List Frame) (nodes : ℕ) (names : SymbolTable) → IsLoose 1 stack → trace sig ts (at_place ExpectOperand stack nodes names) ≡ shown (depth stack) nodes
+  BodyShows ts shown =
+      (stack : List Frame) (nodes : ℕ) (names : SymbolTable) → IsLoose 1 stack
+      → trace sig ts (at_place ExpectOperand stack nodes names) ≡ shown (depth stack) nodes
 
   shown_at : (shown : ℕ → ℕ → Showing) (l k n m : ℕ) → l ≡ k → n ≡ m → shown l n ≡ shown k m
   shown_at shown l k n m e f = cc
 
-  variables_trace : (q : Quantifier) (vs : WrittenVariables) (dot : Lexeme) (ts : List Lexeme) (shown : ℕ → ℕ → Showing) (stack : List Frame) (nodes : ℕ) (names : SymbolTable)
+  variables_trace : (q : Quantifier) (vs : WrittenVariables) (dot : Lexeme) (ts : List Lexeme)
+      (shown : ℕ → ℕ → Showing) (stack : List Frame) (nodes : ℕ) (names : SymbolTable)
       → FitsVariables vs → class_of dot ≡ classes.Dot → BodyShows ts shown
       → trace sig (variables_spelling vs ++ dot ∷ ts) (at_place (ExpectVariable q) stack nodes names)
-      ≡ variables_shown vs (depth stack) nodes ++ [] ∷ shown (depth stack + variable_count vs) (nodes + variable_count vs)
+      ≡ variables_shown vs (depth stack) nodes
+      ++ [] ∷ shown (depth stack + variable_count vs) (nodes + variable_count vs)
   unfolding depth
   variables_trace q (LastVariable v) dot ts shown stack nodes names fits class body =
       let frame = Binding q (length names.bound_sorts) (name_of v) in
       leads_then sig (variable_spelling v) (dot ∷ ts) _ _ _ (variable_leads q v stack nodes names fits)
       ∙ ap (λ (s : Showing). variable_shown v (depth stack) nodes ++ s)
-      (trace_first sig dot ts classes.Dot (at_place (AfterVariable q) (frame ∷ stack) (suc nodes) (bound_more None names)) (at_place ExpectOperand (frame ∷ stack) (suc nodes) (bound_more None names)) [] class refl
+      (trace_first sig dot ts classes.Dot
+      (at_place (AfterVariable q) (frame ∷ stack) (suc nodes) (bound_more None names))
+      (at_place ExpectOperand (frame ∷ stack) (suc nodes) (bound_more None names)) [] class refl
       ∙ ap (λ (s : Showing). [] ∷ s) (body (frame ∷ stack) (suc nodes) (bound_more None names) (omega arith)
       ∙ shown_at shown (suc (depth stack)) (depth stack + 1) (suc nodes) (nodes + 1) (omega arith) (omega arith)))
   variables_trace q (MoreVariables v comma rest) dot ts shown stack nodes names fits class body =
       let frame = Binding q (length names.bound_sorts) (name_of v) in
       let n = variable_count rest in
-      ap (λ (xs : List Lexeme). trace sig xs (at_place (ExpectVariable q) stack nodes names)) (append_assoc (variable_spelling v) (comma ∷ variables_spelling rest) (dot ∷ ts))
-      ∙ leads_then sig (variable_spelling v) (comma ∷ variables_spelling rest ++ dot ∷ ts) _ _ _ (variable_leads q v stack nodes names fits.0)
+      ap (λ (xs : List Lexeme). trace sig xs (at_place (ExpectVariable q) stack nodes names))
+      (append_assoc (variable_spelling v) (comma ∷ variables_spelling rest) (dot ∷ ts))
+      ∙ leads_then sig (variable_spelling v) (comma ∷ variables_spelling rest ++ dot ∷ ts) _ _ _
+      (variable_leads q v stack nodes names fits.0)
       ∙ ap (λ (s : Showing). variable_shown v (depth stack) nodes ++ s)
-      (trace_first sig comma (variables_spelling rest ++ dot ∷ ts) classes.Comma (at_place (AfterVariable q) (frame ∷ stack) (suc nodes) (bound_more None names)) (at_place (ExpectVariable q) (frame ∷ stack) (suc nodes) (bound_more None names)) [] fits.1 refl
-      ∙ ap (λ (s : Showing). [] ∷ s) (variables_trace q rest dot ts shown (frame ∷ stack) (suc nodes) (bound_more None names) fits.2 class body
+      (trace_first sig comma (variables_spelling rest ++ dot ∷ ts) classes.Comma
+      (at_place (AfterVariable q) (frame ∷ stack) (suc nodes) (bound_more None names))
+      (at_place (ExpectVariable q) (frame ∷ stack) (suc nodes) (bound_more None names)) [] fits.1 refl
+      ∙ ap (λ (s : Showing). [] ∷ s)
+      (variables_trace q rest dot ts shown (frame ∷ stack) (suc nodes) (bound_more None names) fits.2 class body
       ∙ ap (λ (s : Showing). variables_shown rest (suc (depth stack)) (suc nodes) ++ [] ∷ s)
-      (shown_at shown (suc (depth stack) + n) (depth stack + suc n) (suc nodes + n) (nodes + suc n) (omega arith) (omega arith))))
-      ∙ sym (append_assoc (variable_shown v (depth stack) nodes) ([] ∷ variables_shown rest (suc (depth stack)) (suc nodes)) ([] ∷ shown (depth stack + suc n) (nodes + suc n)))
+      (shown_at shown (suc (depth stack) + n) (depth stack + suc n) (suc nodes + n) (nodes + suc n) (omega arith)
+      (omega arith))))
+      ∙ sym (append_assoc (variable_shown v (depth stack) nodes)
+      ([] ∷ variables_shown rest (suc (depth stack)) (suc nodes)) ([] ∷ shown (depth stack + suc n) (nodes + suc n)))
 
   -- ---- operators
 
-  joint_broken : (deep : Bool) (at nodes : ℕ) (stack : List Frame) → broken (deepening deep at stack (within_nodes at nodes ∷ [])) ≡ joint_shown deep at (depth stack) nodes
+  joint_broken : (deep : Bool) (at nodes : ℕ) (stack : List Frame)
+      → broken (deepening deep at stack (within_nodes at nodes ∷ [])) ≡ joint_shown deep at (depth stack) nodes
   joint_broken true at nodes stack = refl
   joint_broken false at nodes stack = refl
 
@@ -150,66 +208,97 @@ module _ (sig : List PredOf) where
   levels_are false levels = refl
 
   -- an operand is read alike where an interval may stand
-  reached_any : (timed : Bool) (ts : List Lexeme) (stack : List Frame) (nodes : ℕ) (names : SymbolTable) (rules : List Rule) (q : Partial) → IsHave q.now
-      → moves sig ts (at_place ExpectOperand stack nodes names) ≡ goes rules q → moves sig ts (at_place (now_behind timed) stack nodes names) ≡ goes rules q
+  reached_any : (timed : Bool) (ts : List Lexeme) (stack : List Frame) (nodes : ℕ) (names : SymbolTable)
+      (rules : List Rule) (q : Partial) → IsHave q.now
+      → moves sig ts (at_place ExpectOperand stack nodes names) ≡ goes rules q
+      → moves sig ts (at_place (now_behind timed) stack nodes names) ≡ goes rules q
   reached_any false ts stack nodes names rules q have e = e
   reached_any true ts stack nodes names rules q have e = fresh_too sig stack nodes names ts rules q have e
 
-  comparison_any : (timed : Bool) (left : WrittenTerm) (ts : List Lexeme) (stack : List Frame) (nodes : ℕ) (names : SymbolTable) → FitsTerm left
-      → trace sig (term_spelling left ++ ts) (at_place (now_behind timed) stack nodes names) ≡ trace sig (term_spelling left ++ ts) (at_place ExpectOperand stack nodes names)
-  comparison_any timed (Named (Bare name)) ts stack nodes names fits = trace_any sig timed name _ classes.Name stack nodes names fits (λ e. cc) (λ e. cc)
-  comparison_any timed (Named (Asked mark name)) ts stack nodes names fits = trace_any sig timed mark _ classes.Question stack nodes names fits.0 (λ e. cc) (λ e. cc)
-  comparison_any timed (Number token z) ts stack nodes names fits = trace_any sig timed token _ (classes.Integer z) stack nodes names fits (λ e. cc) (λ e. cc)
-  comparison_any timed (Quoted token) ts stack nodes names fits = trace_any sig timed token _ classes.Text stack nodes names fits (λ e. cc) (λ e. cc)
+  comparison_any : (timed : Bool) (left : WrittenTerm) (ts : List Lexeme) (stack : List Frame) (nodes : ℕ)
+      (names : SymbolTable) → FitsTerm left
+      → trace sig (term_spelling left ++ ts) (at_place (now_behind timed) stack nodes names)
+      ≡ trace sig (term_spelling left ++ ts) (at_place ExpectOperand stack nodes names)
+  comparison_any timed (Named (Bare name)) ts stack nodes names fits =
+      trace_any sig timed name _ classes.Name stack nodes names fits (λ e. cc) (λ e. cc)
+  comparison_any timed (Named (Asked mark name)) ts stack nodes names fits =
+      trace_any sig timed mark _ classes.Question stack nodes names fits.0 (λ e. cc) (λ e. cc)
+  comparison_any timed (Number token z) ts stack nodes names fits =
+      trace_any sig timed token _ (classes.Integer z) stack nodes names fits (λ e. cc) (λ e. cc)
+  comparison_any timed (Quoted token) ts stack nodes names fits =
+      trace_any sig timed token _ classes.Text stack nodes names fits (λ e. cc) (λ e. cc)
 
-  atom_any : (timed : Bool) (name : Lexeme) (ts : List Lexeme) (stack : List Frame) (nodes : ℕ) (names : SymbolTable) → IsAtomName name
-      → trace sig (name ∷ ts) (at_place (now_behind timed) stack nodes names) ≡ trace sig (name ∷ ts) (at_place ExpectOperand stack nodes names)
-  atom_any timed name ts stack nodes names (inl class) = trace_any sig timed name ts classes.Name stack nodes names class (λ e. cc) (λ e. cc)
-  atom_any timed name ts stack nodes names (inr class) = trace_any sig timed name ts classes.Blank stack nodes names class (λ e. cc) (λ e. cc)
+  atom_any : (timed : Bool) (name : Lexeme) (ts : List Lexeme) (stack : List Frame) (nodes : ℕ) (names : SymbolTable)
+      → IsAtomName name
+      → trace sig (name ∷ ts) (at_place (now_behind timed) stack nodes names)
+      ≡ trace sig (name ∷ ts) (at_place ExpectOperand stack nodes names)
+  atom_any timed name ts stack nodes names (inl class) =
+      trace_any sig timed name ts classes.Name stack nodes names class (λ e. cc) (λ e. cc)
+  atom_any timed name ts stack nodes names (inr class) =
+      trace_any sig timed name ts classes.Blank stack nodes names class (λ e. cc) (λ e. cc)
 
   -- a tree that fits shows what its tokens show, whatever is open around it
   pub shows : (tree : Tree) (rule edge : ℕ) → Fits rule tree → Reaches rule edge → (is_shut tree ≡ false → edge ≤ 1)
       → (timed : Bool) (stack : List Frame) (nodes : ℕ) (names : SymbolTable) → IsLoose rule stack
-      → trace sig (spelling tree) (at_place (now_behind timed) stack nodes names) ≡ tree_shown sig tree timed (depth stack) nodes
+      → trace sig (spelling tree) (at_place (now_behind timed) stack nodes names)
+      ≡ tree_shown sig tree timed (depth stack) nodes
   unfolding depth binder_of
   shows (Truth token which) rule edge fits reach ends timed stack nodes names loose =
       trace_any sig timed token [] (classes.Truth which) stack nodes names fits (λ e. cc) (λ e. cc)
       ∙ (leads_one sig token (classes.Truth which) (at_place ExpectOperand stack nodes names) _ _ fits refl).shows
   shows (BareAtom name opening closing) rule edge fits reach ends timed stack nodes names loose =
-      atom_any timed name _ stack nodes names fits.0 ∙ trace_bare sig name opening closing stack nodes names fits.0 fits.1 fits.2
+      atom_any timed name _ stack nodes names fits.0
+      ∙ trace_bare sig name opening closing stack nodes names fits.0 fits.1 fits.2
   shows (AtomOf name opening arguments closing) rule edge fits reach ends timed stack nodes names loose =
-      atom_any timed name _ stack nodes names fits.0 ∙ trace_atom sig name opening arguments closing stack nodes names fits.0 fits.1 fits.2 fits.3
+      atom_any timed name _ stack nodes names fits.0
+      ∙ trace_atom sig name opening arguments closing stack nodes names fits.0 fits.1 fits.2 fits.3
   shows (Comparison left token sign right) rule edge fits reach ends timed stack nodes names loose =
-      comparison_any timed left _ stack nodes names fits.0 ∙ trace_comparison sig left token sign right stack nodes names fits.0 fits.1 fits.2
+      comparison_any timed left _ stack nodes names fits.0
+      ∙ trace_comparison sig left token sign right stack nodes names fits.0 fits.1 fits.2
   shows (Enclosed opening body closing) rule edge fits reach ends timed stack nodes names loose =
-      let t = reads sig body 1 1 fits.1 (one_reaches 1 (omega arith)) (λ e. omega arith) (Parens ∷ stack) nodes names (omega arith) in
+      let t = reads sig body 1 1 fits.1 (one_reaches 1 (omega arith)) (λ e. omega arith) (Parens ∷ stack) nodes names
+      (omega arith) in
       let all = t.reduces 0 (omega arith) ∙ reduce_here 0 _ (Parens ∷ stack) (omega arith) in
       let last = enclosed sig t.form t.stack stack _ _ _ closing fits.2 all in
-      let moved = moves_both sig (spelling body) (closing ∷ []) _ _ _ t.rules [] t.reached (moves_one sig closing _ _ [] last) in
+      let moved = moves_both sig (spelling body) (closing ∷ []) _ _ _ t.rules [] t.reached
+      (moves_one sig closing _ _ [] last) in
       enclosed_trace sig stack nodes names timed opening (spelling body ++ closing ∷ []) _ _ fits.0 tt moved
       ∙ ap (enclosed_shown timed opening.at (depth stack) (spelling body ++ closing ∷ []))
       (trace_both sig (spelling body) (closing ∷ []) _ _ t.rules t.reached
-      ∙ ap (λ (s : Showing). trace sig (spelling body) (at_place ExpectOperand (Parens ∷ stack) nodes names) ++ s) (leads_move sig closing _ _ [] last).shows
-      ∙ ap (λ (s : Showing). s ++ [] ∷ []) (shows body 1 1 fits.1 (one_reaches 1 (omega arith)) (λ e. omega arith) false (Parens ∷ stack) nodes names (omega arith)))
+      ∙ ap (λ (s : Showing). trace sig (spelling body) (at_place ExpectOperand (Parens ∷ stack) nodes names) ++ s)
+      (leads_move sig closing _ _ [] last).shows
+      ∙ ap (λ (s : Showing). s ++ [] ∷ [])
+      (shows body 1 1 fits.1 (one_reaches 1 (omega arith)) (λ e. omega arith) false (Parens ∷ stack) nodes names
+      (omega arith)))
   shows (Denied token body) rule edge fits reach ends timed stack nodes names loose =
       trace_any sig timed token _ classes.Not stack nodes names fits.0 (λ e. cc) (λ e. cc)
-      ∙ trace_first sig token (spelling body) classes.Not (at_place ExpectOperand stack nodes names) (at_place ExpectOperand (Negation ∷ stack) (suc nodes) names) _ fits.0 refl
-      ∙ ap (λ (s : Showing). prefix_shown token.at (depth stack) nodes ∷ s) (shows body 6 edge fits.1 (unary_reaches rule edge reach) ends false (Negation ∷ stack) (suc nodes) names (omega arith))
+      ∙ trace_first sig token (spelling body) classes.Not (at_place ExpectOperand stack nodes names)
+      (at_place ExpectOperand (Negation ∷ stack) (suc nodes) names) _ fits.0 refl
+      ∙ ap (λ (s : Showing). prefix_shown token.at (depth stack) nodes ∷ s)
+      (shows body 6 edge fits.1 (unary_reaches rule edge reach) ends false (Negation ∷ stack) (suc nodes) names
+      (omega arith))
   shows (Timed token operator interval body) rule edge fits reach ends timed stack nodes names loose =
       let frame : Interval → Frame = λ i. Moment operator i in
       let i = interval_of interval in
       trace_any sig timed token _ (classes.Temporal operator) stack nodes names fits.0 (λ e. cc) (λ e. cc)
-      ∙ trace_first sig token (interval_spelling interval ++ spelling body) (classes.Temporal operator) (at_place ExpectOperand stack nodes names) (at_place AfterTemporal (Moment operator any_distance ∷ stack) (suc nodes) names) _ fits.0 refl
+      ∙ trace_first sig token (interval_spelling interval ++ spelling body) (classes.Temporal operator)
+      (at_place ExpectOperand stack nodes names)
+      (at_place AfterTemporal (Moment operator any_distance ∷ stack) (suc nodes) names) _ fits.0 refl
       ∙ ap (λ (s : Showing). prefix_shown token.at (depth stack) nodes ∷ s)
-      (leads_then sig (interval_spelling interval) (spelling body) _ _ _ (interval_leads sig true interval frame stack (suc nodes) names fits.1 (λ j. refl))
+      (leads_then sig (interval_spelling interval) (spelling body) _ _ _
+      (interval_leads sig true interval frame stack (suc nodes) names fits.1 (λ j. refl))
       ∙ ap (λ (s : Showing). interval_shown interval ++ s)
-      (shows body 6 edge fits.2 (unary_reaches rule edge reach) ends (is_omitted interval) (Moment operator i ∷ stack) (suc nodes) names (omega arith)))
+      (shows body 6 edge fits.2 (unary_reaches rule edge reach) ends (is_omitted interval)
+      (Moment operator i ∷ stack) (suc nodes) names (omega arith)))
   shows (Quantified token quantifier variables dot body) rule edge fits reach ends timed stack nodes names loose =
       let low : edge ≤ 1 = ends refl in
       trace_any sig timed token _ (classes.Quantifier quantifier) stack nodes names fits.0 (λ e. cc) (λ e. cc)
-      ∙ trace_first sig token (variables_spelling variables ++ dot ∷ spelling body) (classes.Quantifier quantifier) (at_place ExpectOperand stack nodes names) (at_place (ExpectVariable quantifier) stack nodes names) [] fits.0 refl
+      ∙ trace_first sig token (variables_spelling variables ++ dot ∷ spelling body) (classes.Quantifier quantifier)
+      (at_place ExpectOperand stack nodes names)
+      (at_place (ExpectVariable quantifier) stack nodes names) [] fits.0 refl
       ∙ ap (λ (s : Showing). [] ∷ s)
-      (variables_trace quantifier variables dot (spelling body) (tree_shown sig body false) stack nodes names fits.1 fits.2
+      (variables_trace quantifier variables dot (spelling body)
+      (tree_shown sig body false) stack nodes names fits.1 fits.2
       (λ s n m l. shows body 1 edge fits.3 (one_reaches edge low) (λ e. low) false s n m l))
   shows (Joined left token operator interval right) rule edge fits reach ends timed stack nodes names loose =
       let scope = scope_of stack in
@@ -219,26 +308,41 @@ module _ (sig : List PredOf) where
       let middle = nodes + node_count left in
       let between = names_behind sig left scope names in
       let fresh = is_timed operator && is_omitted interval in
-      let looser_left = looser rule (left_precedence operator) stack (omega (arith, fits.0, level_left operator)) loose in
-      let t = reads sig left (left_precedence operator) (suc (precedence operator)) fits.1 (left_reaches operator) (λ e. absurd (cc (e, fits.2))) stack nodes names looser_left in
+      let looser_left = looser rule (left_precedence operator) stack
+      (omega (arith, fits.0, level_left operator)) loose in
+      let t = reads sig left (left_precedence operator) (suc (precedence operator)) fits.1 (left_reaches operator)
+      (λ e. absurd (cc (e, fits.2))) stack nodes names looser_left in
       let all : reduce (precedence operator) t.form t.stack ≡ record { form = v; stack = stack } =
-      t.reduces (precedence operator) (omega arith) ∙ reduce_here (precedence operator) v stack (looser rule (precedence operator) stack fits.0 loose) in
+      t.reduces (precedence operator) (omega arith)
+      ∙ reduce_here (precedence operator) v stack (looser rule (precedence operator) stack fits.0 loose) in
       let sign = joins sig t.form t.stack stack v middle between operator token fits.3 all in
-      let before : trace sig (spelling left) (at_place (now_behind timed) stack nodes names) ≡ tree_shown sig left timed (depth stack) nodes =
-      shows left (left_precedence operator) (suc (precedence operator)) fits.1 (left_reaches operator) (λ e. absurd (cc (e, fits.2))) timed stack nodes names looser_left in
-      let behind : trace sig (spelling right) (at_place (now_behind fresh) (Left operator i v ∷ stack) (suc middle) between) ≡ tree_shown sig right fresh (levels_right (deepens operator) (depth stack)) (suc middle) =
-      shows right (right_precedence operator) edge fits.5 (right_reaches operator rule edge fits.0 reach) ends fresh (Left operator i v ∷ stack) (suc middle) between (omega arith)
+      let before : trace sig (spelling left) (at_place (now_behind timed) stack nodes names)
+      ≡ tree_shown sig left timed (depth stack) nodes =
+      shows left (left_precedence operator) (suc (precedence operator)) fits.1 (left_reaches operator)
+      (λ e. absurd (cc (e, fits.2))) timed stack nodes names looser_left in
+      let behind : trace sig (spelling right)
+      (at_place (now_behind fresh) (Left operator i v ∷ stack) (suc middle) between)
+      ≡ tree_shown sig right fresh (levels_right (deepens operator) (depth stack)) (suc middle) =
+      shows right (right_precedence operator) edge fits.5 (right_reaches operator rule edge fits.0 reach) ends fresh
+      (Left operator i v ∷ stack) (suc middle) between (omega arith)
       ∙ ap (λ (n : ℕ). tree_shown sig right fresh n (suc middle)) (levels_are (deepens operator) (depth stack)) in
-      trace_both sig (spelling left) (token ∷ (interval_spelling interval ++ spelling right)) _ _ t.rules (reached_any timed (spelling left) stack nodes names t.rules _ tt t.reached)
-      ∙ ap (λ (s : Showing). s ++ trace sig (token ∷ (interval_spelling interval ++ spelling right)) (at_place (AfterOperand t.form) t.stack middle between)) before
+      trace_both sig (spelling left) (token ∷ (interval_spelling interval ++ spelling right)) _ _ t.rules
+      (reached_any timed (spelling left) stack nodes names t.rules _ tt t.reached)
+      ∙ ap (λ (s : Showing). s
+      ++ trace sig (token ∷ (interval_spelling interval ++ spelling right))
+      (at_place (AfterOperand t.form) t.stack middle between)) before
       ∙ ap (λ (s : Showing). tree_shown sig left timed (depth stack) nodes ++ s)
       (trace_move sig token (interval_spelling interval ++ spelling right) _ _ _ sign
-      ∙ ap (λ (s : List PolicyFault). s ∷ trace sig (interval_spelling interval ++ spelling right) (at_place (now_behind (is_timed operator)) (Left operator any_distance v ∷ stack) (suc middle) between)) (joint_broken (deepens operator) token.at middle stack)
+      ∙ ap (λ (s : List PolicyFault). s ∷ trace sig (interval_spelling interval ++ spelling right)
+      (at_place (now_behind (is_timed operator)) (Left operator any_distance v ∷ stack) (suc middle) between))
+      (joint_broken (deepens operator) token.at middle stack)
       ∙ ap (λ (s : Showing). joint_shown (deepens operator) token.at (depth stack) middle ∷ s)
-      (leads_then sig (interval_spelling interval) (spelling right) _ _ _ (interval_leads sig (is_timed operator) interval frame stack (suc middle) between fits.4 (λ j. refl))
+      (leads_then sig (interval_spelling interval) (spelling right) _ _ _
+      (interval_leads sig (is_timed operator) interval frame stack (suc middle) between fits.4 (λ j. refl))
       ∙ ap (λ (s : Showing). interval_shown interval ++ s) behind))
 
 -- what each token of a whole formula shows
 pub shows_whole : (sig : List PredOf) (tree : Tree) → Fits 1 tree → trace sig (spelling tree) start ≡ shown_by sig tree
 unfolding depth
-shows_whole sig tree fits = shows sig tree 1 1 fits (one_reaches 1 (omega arith)) (λ e. omega arith) false [] 0 no_names tt
+shows_whole sig tree fits =
+    shows sig tree 1 1 fits (one_reaches 1 (omega arith)) (λ e. omega arith) false [] 0 no_names tt

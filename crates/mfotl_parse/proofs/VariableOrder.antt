@@ -1,9 +1,10 @@
 -- The free variables of a policy that was read are numbered in the order in which they first occur.
-use Rattle.std.proofs.Common.{◌≡◌, ℕ, zero, suc, ◌+◌, ◌-◌, ◌<◌, ◌≤◌, ◌⊎◌, inl, inr, Bool, true, false, cond, not, ◌&&◌, ◌||◌, nat_eq, List, [], ◌∷◌, ◌++◌, length, map, Option, Some, None, refl, sym, ap, subst, ◌∙◌, arith}
-use Rattle.std.proofs.lemmas.Bool.{lt-ltb, le-ltb, ltb-true, or_cases, and_parts, eqb-true, eq-eqb}
-use Rattle.std.proofs.lemmas.List.{append-nil, length-append, map-id}
+use Rattle.std.proofs.Common.{◌≡◌, ℕ, zero, suc, ◌+◌, ◌-◌, ◌<◌, ◌≤◌, Bool, true, false, cond, not, ◌&&◌}
+use Rattle.std.proofs.Common.{◌||◌, nat_eq, List, [], ◌∷◌, ◌++◌, length, Option, Some, None, refl, sym, ap}
+use Rattle.std.proofs.Common.{◌∙◌, arith}
+use Rattle.std.proofs.lemmas.Bool.{lt-ltb, le-ltb, eqb-true, eq-eqb}
+use Rattle.std.proofs.lemmas.List.{append-nil, length-append}
 use Rattle.std.proofs.lemmas.List.Elements.{filter-append}
-use Rattle.std.proofs.lemmas.List.FromFn.{map-range_with_len_more}
 use Rattle.std.proofs.lemmas.Map.Views.{any-filter_same}
 use Rattle.std.specs.Prelude.{nat_lt}
 use Rattle.std.specs.List.{filter, range_with_len}
@@ -13,9 +14,8 @@ use Rattle.mfotl_model.specs.declared.term.Term.{Term}
 use Rattle.mfotl_model.specs.declared.term.Term.TheVariants.{Var, Const}
 use Rattle.mfotl_model.specs.Formulas as forms
 use Rattle.mfotl_model.specs.Formulas.{Form}
-use Rattle.mfotl_model.specs.FreeVariables.{among, without, joined, distinct, variable_in, variables_in, fv}
-use Rattle.mfotl_model.proofs.LogicLemmas.{among_joined, among_without}
-use Rattle.mfotl_model.proofs.VariableLemmas.{filter-filter, joined_assoc, joined_none, variables_in-cons}
+use Rattle.mfotl_model.specs.FreeVariables.{among, without, joined, variable_in, variables_in, fv}
+use Rattle.mfotl_model.proofs.VariableLemmas.{filter-filter, joined_assoc, variables_in-cons}
 use Rattle.mfotl_sig.specs.Preds.{PredOf, named}
 use Rattle.mfotl_parse.specs.declared.class.Operator.{Operator}
 use Rattle.mfotl_parse.specs.declared.class.Operator.TheVariants as operators
@@ -28,14 +28,22 @@ use Rattle.mfotl_parse.specs.declared.term.Operand.TheVariants as operands
 use Rattle.mfotl_parse.specs.declared.term.Variable.{Variable}
 use Rattle.mfotl_parse.specs.declared.term.Variable.TheVariants as variables
 use Rattle.mfotl_parse.specs.Arguments.{call_of, due, after_due, blanks}
-use Rattle.mfotl_parse.specs.Grammar.{WrittenVariable, WrittenTerm, Named, Number, Quoted, WrittenArgument, Given, Hidden, WrittenArguments, LastArgument, MoreArguments, WrittenVariables, LastVariable, MoreVariables, Tree, Truth, BareAtom, AtomOf, Comparison, Enclosed, Denied, Timed, Quantified, Joined}
-use Rattle.mfotl_parse.specs.Meanings.{Scope, name_of, place_of_variable, place_of, operand_of, term_names, argument_term, argument_names, arguments_terms, arguments_names, atom, variables_names, variables_scope, quantify, interval_of, names_behind, value}
-use Rattle.mfotl_parse.specs.SymbolTable.{number_of, free_place, free_or_new, with_free, bound_or_free, met, bound_more, sort_of, same_sort, agreed, clashed, occurred, require_sort, sort_of_value, constrain_term, compared, term_of}
+use Rattle.mfotl_parse.specs.Grammar.{WrittenTerm, Named, Number, Quoted, WrittenArgument, Given}
+use Rattle.mfotl_parse.specs.Grammar.{Hidden, WrittenArguments, LastArgument, MoreArguments, WrittenVariables}
+use Rattle.mfotl_parse.specs.Grammar.{LastVariable, MoreVariables, Tree, Truth, BareAtom, AtomOf, Comparison, Enclosed}
+use Rattle.mfotl_parse.specs.Grammar.{Denied, Timed, Quantified, Joined}
+use Rattle.mfotl_parse.specs.Meanings.{Scope, name_of, place_of_variable, place_of, operand_of, term_names}
+use Rattle.mfotl_parse.specs.Meanings.{argument_term, argument_names, arguments_terms, arguments_names, atom}
+use Rattle.mfotl_parse.specs.Meanings.{variables_names, variables_scope, quantify, interval_of, names_behind, value}
+use Rattle.mfotl_parse.specs.SymbolTable.{number_of, free_place, free_or_new, with_free, bound_or_free, met}
+use Rattle.mfotl_parse.specs.SymbolTable.{bound_more, sort_of, same_sort, agreed, clashed, occurred, require_sort}
+use Rattle.mfotl_parse.specs.SymbolTable.{sort_of_value, constrain_term, compared, term_of}
 use Rattle.mfotl_parse.specs.Operands.{truth}
 use Rattle.mfotl_parse.specs.Reduction.{momentary, joined as joined_form, quantified}
 use Rattle.mfotl_parse.specs.States.{SymbolTable}
 use Rattle.mfotl_parse.specs.Limits.{max_free}
-use Rattle.mfotl_parse.proofs.NamesOrder.{Grows, placed_grows, compared_grows, term_grows, argument_grows, arguments_grow, tree_grows, sides_grow, found_within}
+use Rattle.mfotl_parse.proofs.NamesOrder.{Grows, term_grows}
+use Rattle.mfotl_parse.proofs.NamesOrder.{arguments_grow, tree_grows, found_within}
 
 -- ---- lists of variables
 
@@ -63,7 +71,8 @@ free_joined xs ys =
     filter-append is_free xs (filter others ys)
     ∙ ap (λ (r : List ℕ). free_in xs ++ r)
     (filter-filter is_free others both (λ y. refl) ys
-    ∙ sym (filter-filter free_others is_free both (λ y. both_tests (is_free y) (among y xs) ∙ ap (λ (b : Bool). is_free y && not b) (sym (among_free y xs))) ys))
+    ∙ sym (filter-filter free_others is_free both
+    (λ y. both_tests (is_free y) (among y xs) ∙ ap (λ (b : Bool). is_free y && not b) (sym (among_free y xs))) ys))
 
 bound_differs : (x y : ℕ) → max_free ≤ x → is_free y ≡ (not (nat_eq y x) && is_free y)
 bound_differs x y above = by_test (nat_eq y x) refl
@@ -82,13 +91,17 @@ seen n = range_with_len 0 (length n.free)
 
 among_range : (a k n : ℕ) → k < n → among (a + k) (range_with_len a n) ≡ true
 among_range a k zero below = absurd (omega (arith, below))
-among_range a zero (suc n) below = ap (λ (b : Bool). b || among (a + 0) (range_with_len (a + 1) n)) (eq-eqb (a + 0) a (omega arith))
-among_range a (suc k) (suc n) below = by_head (nat_eq (a + suc k) a) (ap (λ (m : ℕ). among m (range_with_len (a + 1) n)) next ∙ among_range (a + 1) k n (omega (arith, below)))
+among_range a zero (suc n) below =
+    ap (λ (b : Bool). b || among (a + 0) (range_with_len (a + 1) n)) (eq-eqb (a + 0) a (omega arith))
+among_range a (suc k) (suc n) below =
+    by_head (nat_eq (a + suc k) a)
+    (ap (λ (m : ℕ). among m (range_with_len (a + 1) n)) next ∙ among_range (a + 1) k n (omega (arith, below)))
   where
     next : a + suc k ≡ a + 1 + k
     next = omega arith
 
-    by_head : (b : Bool) → among (a + suc k) (range_with_len (a + 1) n) ≡ true → (b || among (a + suc k) (range_with_len (a + 1) n)) ≡ true
+    by_head : (b : Bool) → among (a + suc k) (range_with_len (a + 1) n) ≡ true
+        → (b || among (a + suc k) (range_with_len (a + 1) n)) ≡ true
     by_head true e = refl
     by_head false e = e
 
@@ -96,7 +109,8 @@ past_range : (a k n : ℕ) → a + n ≤ k → among k (range_with_len a n) ≡ 
 past_range a k zero above = refl
 past_range a k (suc n) above = by_head (nat_eq k a) refl (past_range (a + 1) k n (omega (arith, above)))
   where
-    by_head : (b : Bool) → nat_eq k a ≡ b → among k (range_with_len (a + 1) n) ≡ false → (b || among k (range_with_len (a + 1) n)) ≡ false
+    by_head : (b : Bool) → nat_eq k a ≡ b → among k (range_with_len (a + 1) n) ≡ false
+        → (b || among k (range_with_len (a + 1) n)) ≡ false
     by_head true e later = absurd (omega (arith, eqb-true k a e, above))
     by_head false e later = later
 
@@ -125,7 +139,8 @@ free_none : (k : ℕ) → free_in ((max_free + k) ∷ []) ≡ []
 free_none k = ap (λ (b : Bool). cond b ((max_free + k) ∷ []) []) (le-ltb (max_free + k) max_free (omega arith))
 
 -- a name that was met
-name_order : (name : List ℕ) (at : ℕ) (n : SymbolTable) (bound : Option ℕ) → length (met bound name at n).free ≤ max_free
+name_order : (name : List ℕ) (at : ℕ) (n : SymbolTable) (bound : Option ℕ)
+    → length (met bound name at n).free ≤ max_free
     → joined (seen n) (free_in (number_of (bound_or_free bound name n) ∷ [])) ≡ seen (met bound name at n)
 name_order name at n (Some k) few = ap (joined (seen n)) (free_none k) ∙ joined_nothing (seen n)
 name_order name at n None few = by_place (free_place name n) refl few
@@ -135,7 +150,9 @@ name_order name at n None few = by_place (free_place name n) refl few
     by_place (Some place) e below =
         let within = found_within name n place e in
         let same : place ≡ 0 + place = omega arith in
-        ap (joined (seen n)) (free_one place (omega (arith, within, below))) ∙ joined_known (seen n) place (ap (λ (k : ℕ). among k (seen n)) same ∙ among_range 0 place (length n.free) within)
+        ap (joined (seen n)) (free_one place (omega (arith, within, below)))
+        ∙ joined_known (seen n) place
+        (ap (λ (k : ℕ). among k (seen n)) same ∙ among_range 0 place (length n.free) within)
     by_place None e below =
         let longer = length-append n.free ((name, at) ∷ []) in
         let one_more : suc (length n.free) ≡ length (n.free ++ (name, at) ∷ []) = omega (arith, longer) in
@@ -169,11 +186,15 @@ placed_free : (o : Operand) (at : ℕ) (sort : Sort) (n : SymbolTable) → (cons
 placed_free (operands.Variable v) at sort n = occurs_free v at sort n
 placed_free (operands.Constant c) at sort n = agreed_free (sort_of_value c) at sort n
 
-compared_free : (l : Operand) (left_at at : ℕ) (r : Operand) (right_at : ℕ) (n : SymbolTable) → (compared l left_at at r right_at n).free ≡ n.free
+compared_free : (l : Operand) (left_at at : ℕ) (r : Operand) (right_at : ℕ) (n : SymbolTable)
+    → (compared l left_at at r right_at n).free ≡ n.free
 compared_free (operands.Variable v) left_at at (operands.Variable w) right_at n = refl
-compared_free (operands.Variable v) left_at at (operands.Constant d) right_at n = occurs_free v left_at (sort_of_value d) n
-compared_free (operands.Constant c) left_at at (operands.Variable w) right_at n = occurs_free w right_at (sort_of_value c) n
-compared_free (operands.Constant c) left_at at (operands.Constant d) right_at n = agreed_free (sort_of_value c) at (sort_of_value d) n
+compared_free (operands.Variable v) left_at at (operands.Constant d) right_at n =
+    occurs_free v left_at (sort_of_value d) n
+compared_free (operands.Constant c) left_at at (operands.Variable w) right_at n =
+    occurs_free w right_at (sort_of_value c) n
+compared_free (operands.Constant c) left_at at (operands.Constant d) right_at n =
+    agreed_free (sort_of_value c) at (sort_of_value d) n
 
 seen_same : (n m : SymbolTable) → n.free ≡ m.free → seen n ≡ seen m
 seen_same n m e = ap (λ (xs : List (List ℕ × ℕ)). range_with_len 0 (length xs)) e
@@ -183,49 +204,67 @@ fewer n m g few = omega (arith, g.free, few)
 
 -- ---- arguments and formulas
 
-argument_order : (a : WrittenArgument) (sort : Sort) (scope : Scope) (n : SymbolTable) → length (argument_names a sort scope n).free ≤ max_free
+argument_order : (a : WrittenArgument) (sort : Sort) (scope : Scope) (n : SymbolTable)
+    → length (argument_names a sort scope n).free ≤ max_free
     → joined (seen n) (free_in (variable_in (argument_term a scope n))) ≡ seen (argument_names a sort scope n)
 argument_order (Given t) sort scope n few =
     let there = term_names t scope n in
     let same = placed_free (operand_of t scope n) (place_of t) sort there in
-    term_order t scope n (omega (arith, ap length same, few)) ∙ seen_same there (argument_names (Given t) sort scope n) (sym same)
-argument_order (Hidden token) sort scope n few = ap (joined (seen n)) (free_none (length n.bound_sorts)) ∙ joined_nothing (seen n)
+    term_order t scope n (omega (arith, ap length same, few))
+    ∙ seen_same there (argument_names (Given t) sort scope n) (sym same)
+argument_order (Hidden token) sort scope n few =
+    ap (joined (seen n)) (free_none (length n.bound_sorts)) ∙ joined_nothing (seen n)
 
-one_then : (n m k : SymbolTable) (xs ys : List ℕ) → joined (seen n) (free_in xs) ≡ seen m → joined (seen m) (free_in ys) ≡ seen k → joined (seen n) (free_in (joined xs ys)) ≡ seen k
+one_then : (n m k : SymbolTable) (xs ys : List ℕ) → joined (seen n) (free_in xs) ≡ seen m
+    → joined (seen m) (free_in ys) ≡ seen k → joined (seen n) (free_in (joined xs ys)) ≡ seen k
 one_then n m k xs ys e f =
-    ap (joined (seen n)) (free_joined xs ys) ∙ sym (joined_assoc (seen n) (free_in xs) (free_in ys)) ∙ ap (λ (s : List ℕ). joined s (free_in ys)) e ∙ f
+    ap (joined (seen n)) (free_joined xs ys) ∙ sym (joined_assoc (seen n) (free_in xs) (free_in ys))
+    ∙ ap (λ (s : List ℕ). joined s (free_in ys)) e ∙ f
 
 pub last_only : (t : Term) → variables_in (t ∷ []) ≡ variable_in t
 last_only (Var x) = refl
 last_only (Const c) = refl
 
-arguments_order : (xs : WrittenArguments) (places : List Sort) (scope : Scope) (n : SymbolTable) → length (arguments_names xs places scope n).free ≤ max_free
-    → joined (seen n) (free_in (variables_in (arguments_terms xs places scope n))) ≡ seen (arguments_names xs places scope n)
+arguments_order : (xs : WrittenArguments) (places : List Sort) (scope : Scope) (n : SymbolTable)
+    → length (arguments_names xs places scope n).free ≤ max_free
+    → joined (seen n) (free_in (variables_in (arguments_terms xs places scope n)))
+    ≡ seen (arguments_names xs places scope n)
 arguments_order (LastArgument a) places scope n few =
-    ap (λ (vs : List ℕ). joined (seen n) (free_in vs)) (last_only (argument_term a scope n)) ∙ argument_order a (due places) scope n few
+    ap (λ (vs : List ℕ). joined (seen n) (free_in vs)) (last_only (argument_term a scope n))
+    ∙ argument_order a (due places) scope n few
 arguments_order (MoreArguments a comma rest) places scope n few =
     let between = argument_names a (due places) scope n in
-    ap (λ (vs : List ℕ). joined (seen n) (free_in vs)) (variables_in-cons (argument_term a scope n) (arguments_terms rest (after_due places) scope between))
-    ∙ one_then n between (arguments_names rest (after_due places) scope between) (variable_in (argument_term a scope n)) _ (argument_order a (due places) scope n (fewer between (arguments_names rest (after_due places) scope between) (arguments_grow rest (after_due places) scope between) few))
+    ap (λ (vs : List ℕ). joined (seen n) (free_in vs))
+    (variables_in-cons (argument_term a scope n) (arguments_terms rest (after_due places) scope between))
+    ∙ one_then n between (arguments_names rest (after_due places) scope between)
+    (variable_in (argument_term a scope n)) _
+    (argument_order a (due places) scope n
+    (fewer between (arguments_names rest (after_due places) scope between)
+    (arguments_grow rest (after_due places) scope between) few))
     (arguments_order rest (after_due places) scope between few)
 
 blanks_order : (count first : ℕ) (f : Form) → free_in (fv (blanks count first f)) ≡ free_in (fv f)
 unfolding fv
 blanks_order zero first f = refl
-blanks_order (suc count) first f = free_without (max_free + first) (fv (blanks count (suc first) f)) (omega arith) ∙ blanks_order count (suc first) f
+blanks_order (suc count) first f =
+    free_without (max_free + first) (fv (blanks count (suc first) f)) (omega arith) ∙ blanks_order count (suc first) f
 
-pub one_order : (q : Quantifier) (k : ℕ) (name : List ℕ) (f : Form) → fv (quantified q k name f) ≡ without (max_free + k) (fv f)
+pub one_order : (q : Quantifier) (k : ℕ) (name : List ℕ) (f : Form) → fv (quantified q k name f)
+    ≡ without (max_free + k) (fv f)
 unfolding fv
 one_order quantifiers.Exists k name f = refl
 one_order quantifiers.Forall k name f = refl
 
-quantify_order : (q : Quantifier) (vs : WrittenVariables) (n : SymbolTable) (f : Form) → free_in (fv (quantify q vs n f)) ≡ free_in (fv f)
+quantify_order : (q : Quantifier) (vs : WrittenVariables) (n : SymbolTable) (f : Form)
+    → free_in (fv (quantify q vs n f)) ≡ free_in (fv f)
 quantify_order q (LastVariable v) n f =
-    ap free_in (one_order q (length n.bound_sorts) (name_of v) f) ∙ free_without (max_free + length n.bound_sorts) (fv f) (omega arith)
+    ap free_in (one_order q (length n.bound_sorts) (name_of v) f)
+    ∙ free_without (max_free + length n.bound_sorts) (fv f) (omega arith)
 quantify_order q (MoreVariables v comma rest) n f =
     let body = quantify q rest (bound_more None n) f in
     ap free_in (one_order q (length n.bound_sorts) (name_of v) body)
-    ∙ free_without (max_free + length n.bound_sorts) (fv body) (omega arith) ∙ quantify_order q rest (bound_more None n) f
+    ∙ free_without (max_free + length n.bound_sorts) (fv body) (omega arith)
+    ∙ quantify_order q rest (bound_more None n) f
 
 pub moment_order : (o : Temporal) (i : Interval) (f : Form) → fv (momentary o i f) ≡ fv f
 unfolding fv
@@ -255,48 +294,70 @@ truth_order true = refl
 truth_order false = refl
 
 -- an atom's variables, and a comparison's
-atom_fv : (found : Option PredOf) (args : List Term) (outer inner : ℕ) → free_in (fv (atom found args outer inner)) ≡ free_in (variables_in args)
+atom_fv : (found : Option PredOf) (args : List Term) (outer inner : ℕ) → free_in (fv (atom found args outer inner))
+    ≡ free_in (variables_in args)
 unfolding fv
-atom_fv found args outer inner = blanks_order (inner - outer) outer (forms.Atom (record { pred = (call_of found outer).pred; args = args }))
+atom_fv found args outer inner =
+    blanks_order (inner - outer) outer (forms.Atom (record { pred = (call_of found outer).pred; args = args }))
 
-sides_order : (left right : WrittenTerm) (scope : Scope) (n : SymbolTable) → length (term_names right scope (term_names left scope n)).free ≤ max_free
-    → joined (seen n) (free_in (variables_in (term_of (operand_of left scope n) ∷ term_of (operand_of right scope (term_names left scope n)) ∷ []))) ≡ seen (term_names right scope (term_names left scope n))
+sides_order : (left right : WrittenTerm) (scope : Scope) (n : SymbolTable)
+    → length (term_names right scope (term_names left scope n)).free ≤ max_free
+    → joined (seen n)
+    (free_in (variables_in
+    (term_of (operand_of left scope n) ∷ term_of (operand_of right scope (term_names left scope n)) ∷ [])))
+    ≡ seen (term_names right scope (term_names left scope n))
 sides_order left right scope n few =
     let first = term_names left scope n in
     let l = term_of (operand_of left scope n) in
     let r = term_of (operand_of right scope first) in
-    ap (λ (vs : List ℕ). joined (seen n) (free_in vs)) (variables_in-cons l (r ∷ []) ∙ ap (joined (variable_in l)) (last_only r))
-    ∙ one_then n first (term_names right scope first) (variable_in l) (variable_in r) (term_order left scope n (fewer first (term_names right scope first) (term_grows right scope first) few)) (term_order right scope first few)
+    ap (λ (vs : List ℕ). joined (seen n) (free_in vs))
+    (variables_in-cons l (r ∷ []) ∙ ap (joined (variable_in l)) (last_only r))
+    ∙ one_then n first (term_names right scope first) (variable_in l) (variable_in r)
+    (term_order left scope n (fewer first (term_names right scope first) (term_grows right scope first) few))
+    (term_order right scope first few)
 
 -- the free variables of a formula come behind those that were met before it
-pub tree_order : (sig : List PredOf) (tree : Tree) (scope : Scope) (n : SymbolTable) → length (names_behind sig tree scope n).free ≤ max_free
+pub tree_order : (sig : List PredOf) (tree : Tree) (scope : Scope) (n : SymbolTable)
+    → length (names_behind sig tree scope n).free ≤ max_free
     → joined (seen n) (free_in (fv (value sig tree scope n))) ≡ seen (names_behind sig tree scope n)
 unfolding fv
-tree_order sig (Truth token which) scope n few = ap (λ (vs : List ℕ). joined (seen n) (free_in vs)) (truth_order which) ∙ joined_nothing (seen n)
+tree_order sig (Truth token which) scope n few =
+    ap (λ (vs : List ℕ). joined (seen n) (free_in vs)) (truth_order which) ∙ joined_nothing (seen n)
 tree_order sig (BareAtom name opening closing) scope n few =
-    ap (joined (seen n)) (atom_fv (named name.text sig) [] (length n.bound_sorts) (length n.bound_sorts)) ∙ joined_nothing (seen n)
+    ap (joined (seen n)) (atom_fv (named name.text sig) [] (length n.bound_sorts) (length n.bound_sorts))
+    ∙ joined_nothing (seen n)
 tree_order sig (AtomOf name opening arguments closing) scope n few =
     let places = (call_of (named name.text sig) 0).rest in
-    ap (joined (seen n)) (atom_fv (named name.text sig) (arguments_terms arguments places scope n) (length n.bound_sorts) (length (arguments_names arguments places scope n).bound_sorts))
+    ap (joined (seen n))
+    (atom_fv (named name.text sig) (arguments_terms arguments places scope n) (length n.bound_sorts)
+    (length (arguments_names arguments places scope n).bound_sorts))
     ∙ arguments_order arguments places scope n few
 tree_order sig (Comparison left token sign right) scope n few =
     let first = term_names left scope n in
     let second = term_names right scope first in
-    let same = compared_free (operand_of left scope n) (place_of left) token.at (operand_of right scope first) (place_of right) second in
-    sides_order left right scope n (omega (arith, ap length same, few)) ∙ seen_same second (names_behind sig (Comparison left token sign right) scope n) (sym same)
+    let same = compared_free (operand_of left scope n) (place_of left) token.at (operand_of right scope first)
+    (place_of right) second in
+    sides_order left right scope n (omega (arith, ap length same, few))
+    ∙ seen_same second (names_behind sig (Comparison left token sign right) scope n) (sym same)
 tree_order sig (Enclosed opening body closing) scope n few = tree_order sig body scope n few
 tree_order sig (Denied token body) scope n few = tree_order sig body scope n few
 tree_order sig (Timed token operator interval body) scope n few =
-    ap (λ (vs : List ℕ). joined (seen n) (free_in vs)) (moment_order operator (interval_of interval) (value sig body scope n)) ∙ tree_order sig body scope n few
+    ap (λ (vs : List ℕ). joined (seen n) (free_in vs))
+    (moment_order operator (interval_of interval) (value sig body scope n)) ∙ tree_order sig body scope n few
 tree_order sig (Quantified token quantifier variables dot body) scope n few =
     let between = variables_names variables n in
     let same = variables_free variables n in
-    ap (λ (vs : List ℕ). joined (seen n) vs) (quantify_order quantifier variables n (value sig body (variables_scope variables n scope) between))
-    ∙ ap (λ (s : List ℕ). joined s (free_in (fv (value sig body (variables_scope variables n scope) between)))) (seen_same n between (sym same))
+    ap (λ (vs : List ℕ). joined (seen n) vs)
+    (quantify_order quantifier variables n (value sig body (variables_scope variables n scope) between))
+    ∙ ap (λ (s : List ℕ). joined s (free_in (fv (value sig body (variables_scope variables n scope) between))))
+    (seen_same n between (sym same))
     ∙ tree_order sig body (variables_scope variables n scope) between few
 tree_order sig (Joined left token operator interval right) scope n few =
     let between = names_behind sig left scope n in
     let f = value sig left scope n in
     let g = value sig right scope between in
     ap (λ (vs : List ℕ). joined (seen n) (free_in vs)) (joined_order operator (interval_of interval) f g)
-    ∙ one_then n between (names_behind sig right scope between) (fv f) (fv g) (tree_order sig left scope n (fewer between (names_behind sig right scope between) (tree_grows sig right scope between) few)) (tree_order sig right scope between few)
+    ∙ one_then n between (names_behind sig right scope between) (fv f) (fv g)
+    (tree_order sig left scope n
+    (fewer between (names_behind sig right scope between) (tree_grows sig right scope between) few))
+    (tree_order sig right scope between few)

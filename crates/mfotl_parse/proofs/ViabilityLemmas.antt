@@ -1,7 +1,7 @@
 -- From every state some tokens lead on to a whole text.
-use Rattle.std.proofs.Common.{◌≡◌, ℕ, zero, suc, Bool, true, false, List, [], ◌∷◌, ◌++◌, Option, Some, None, Result, Ok, Err, refl, sym, ap, ◌∙◌, append_assoc}
+use Rattle.std.proofs.Common.{◌≡◌, ℕ, zero, suc, Bool, true, false, List, [], ◌∷◌, ◌++◌, Option, Some, None}
+use Rattle.std.proofs.Common.{refl, ap, ◌∙◌}
 use Rattle.std.specs.Prelude.{codes}
-use Rattle.mfotl_lex.specs.declared.fault.LexFault.{LexFault}
 use Rattle.mfotl_lex.specs.declared.kind.Kind.{Kind}
 use Rattle.mfotl_lex.specs.declared.kind.Kind.TheVariants as kinds
 use Rattle.mfotl_lex.specs.Lexemes.{Lexeme}
@@ -9,15 +9,18 @@ use Rattle.mfotl_lex.specs.Numbers.{digits_value, integer_value}
 use Rattle.mfotl_model.specs.Formulas.{Form}
 use Rattle.mfotl_sig.specs.Preds.{PredOf}
 use Rattle.mfotl_parse.specs.declared.class.Operator.TheVariants.{And, Or, Implies, Equiv, Since, Until}
-use Rattle.mfotl_parse.specs.declared.fault.PolicyFault.{PolicyFault}
-use Rattle.mfotl_parse.specs.declared.fault.PolicyFault.TheVariants.{Syntax}
 use Rattle.mfotl_parse.specs.Classes.{word_class, operator_class, temporal_class}
-use Rattle.mfotl_parse.specs.Transitions.{Limit, Empty, Range, Unknown, Arity, Deep, Nodes, Rule, Transition, fault_of, kept, given}
+use Rattle.mfotl_parse.specs.Transitions.{Transition}
 use Rattle.mfotl_parse.specs.Operands.{around, enclosed_move}
-use Rattle.mfotl_parse.specs.Reading.{PolicyOf, and_then, transition, step, run, is_closed}
+use Rattle.mfotl_parse.specs.Reading.{transition, is_closed}
 use Rattle.mfotl_parse.specs.Reduction.{Reduced, reduce, closed}
-use Rattle.mfotl_parse.specs.States.{Frame, Parens, Negation, Moment, Binding, Left, Context, Partial, Stage, with_stack, start, ExpectOperand, AfterTemporal, AfterOperand, AfterWord, AfterBlank, AfterMark, ExpectSign, AfterSign, AfterSignMark, FirstArgument, NextArgument, AfterArgument, AfterArgumentMark, ExpectVariable, AfterVariableMark, AfterVariable, AfterParen, AfterParenNumber, ExpectLow, AfterLowNumber, AfterLow, ExpectHigh, AfterHighNumber, AfterHigh, AfterStar}
-use Rattle.mfotl_parse.specs.Viability.{if_moved, is_whole, accepts, goes_on, and_steps, steps}
+use Rattle.mfotl_parse.specs.States.{Frame, Parens, Negation, Moment, Binding, Left, Context, Partial, Stage}
+use Rattle.mfotl_parse.specs.States.{with_stack, ExpectOperand, AfterTemporal, AfterOperand, AfterWord}
+use Rattle.mfotl_parse.specs.States.{AfterBlank, AfterMark, ExpectSign, AfterSign, AfterSignMark, FirstArgument}
+use Rattle.mfotl_parse.specs.States.{NextArgument, AfterArgument, AfterArgumentMark, ExpectVariable, AfterVariableMark}
+use Rattle.mfotl_parse.specs.States.{AfterVariable, AfterParen, AfterParenNumber, ExpectLow, AfterLowNumber, AfterLow}
+use Rattle.mfotl_parse.specs.States.{ExpectHigh, AfterHighNumber, AfterHigh, AfterStar}
+use Rattle.mfotl_parse.specs.Viability.{if_moved, accepts}
 
 -- ---- the tokens that are due
 
@@ -87,7 +90,8 @@ has_operand None = false
 has_operand (Some p) = is_operand p.now
 
 -- the tokens that are due end in an operand
-due_operand : (sig : List PredOf) (c : Context) (now : Stage) → has_operand (shifts sig (due now) (record { context = c; now = now })) ≡ true
+due_operand : (sig : List PredOf) (c : Context) (now : Stage)
+    → has_operand (shifts sig (due now) (record { context = c; now = now })) ≡ true
 unfolding shifts transition word_class operator_class temporal_class integer_value digits_value
 due_operand sig c ExpectOperand = refl
 due_operand sig c AfterTemporal = refl
@@ -139,12 +143,14 @@ enclosed_alike test c above below f None = refl
 enclosed_alike test c above below f (Some stack) = refl
 
 -- neither does the end
-closed_alike : (sig : List PredOf) (n : ℕ) (c : Context) (above below : List Frame) (f g : Form) → reduce 0 f above ≡ reduce 0 g below
+closed_alike : (sig : List PredOf) (n : ℕ) (c : Context) (above below : List Frame) (f g : Form) → reduce 0 f above
+    ≡ reduce 0 g below
     → accepts sig (parens n) (having c above f) ≡ accepts sig (parens n) (having c below g)
 unfolding accepts transition
 closed_alike sig zero c above below f g same = ap (λ (r : Reduced). is_closed r.stack) same
 closed_alike sig (suc n) c above below f g same =
-    ap (λ (r : Reduced). if_moved (enclosed_move (with_stack c above) r.form (around r.stack)) (accepts sig (parens n))) same
+    ap (λ (r : Reduced). if_moved (enclosed_move (with_stack c above) r.form (around r.stack))
+    (accepts sig (parens n))) same
     ∙ enclosed_alike (accepts sig (parens n)) c above below (reduce 0 g below).form (around (reduce 0 g below).stack)
 
 closes_left : (f : Form) (operator : _) (interval : _) (left : Form) (stack : List Frame)
@@ -157,20 +163,25 @@ closes_left f Equiv interval left stack = refl
 closes_left f Since interval left stack = refl
 closes_left f Until interval left stack = refl
 
-closing : (sig : List PredOf) (stack : List Frame) (c : Context) (f : Form) → accepts sig (parens (parens_in stack)) (having c stack f) ≡ true
+closing : (sig : List PredOf) (stack : List Frame) (c : Context) (f : Form)
+    → accepts sig (parens (parens_in stack)) (having c stack f) ≡ true
 unfolding accepts transition reduce
 closing sig [] c f = refl
 closing sig (Parens ∷ stack) c f = closing sig stack c f
 closing sig (Negation ∷ stack) c f =
-    closed_alike sig (parens_in stack) c (Negation ∷ stack) stack f (closed Negation f) refl ∙ closing sig stack c (closed Negation f)
+    closed_alike sig (parens_in stack) c (Negation ∷ stack) stack f (closed Negation f) refl
+    ∙ closing sig stack c (closed Negation f)
 closing sig (Moment operator interval ∷ stack) c f =
-    closed_alike sig (parens_in stack) c (Moment operator interval ∷ stack) stack f (closed (Moment operator interval) f) refl
+    closed_alike sig (parens_in stack) c (Moment operator interval ∷ stack) stack f
+    (closed (Moment operator interval) f) refl
     ∙ closing sig stack c (closed (Moment operator interval) f)
 closing sig (Binding quantifier variable bound ∷ stack) c f =
-    closed_alike sig (parens_in stack) c (Binding quantifier variable bound ∷ stack) stack f (closed (Binding quantifier variable bound) f) refl
+    closed_alike sig (parens_in stack) c (Binding quantifier variable bound ∷ stack) stack f
+    (closed (Binding quantifier variable bound) f) refl
     ∙ closing sig stack c (closed (Binding quantifier variable bound) f)
 closing sig (Left operator interval left ∷ stack) c f =
-    closed_alike sig (parens_in stack) c (Left operator interval left ∷ stack) stack f (closed (Left operator interval left) f) (closes_left f operator interval left stack)
+    closed_alike sig (parens_in stack) c (Left operator interval left ∷ stack) stack f
+    (closed (Left operator interval left) f) (closes_left f operator interval left stack)
     ∙ closing sig stack c (closed (Left operator interval left) f)
 
 -- ---- every state leads on
@@ -178,19 +189,24 @@ closing sig (Left operator interval left ∷ stack) c f =
 abbrev Completes : List PredOf → Partial → Type 0
 Completes sig p = (more : List Lexeme) × (accepts sig more p ≡ true)
 
-after_due : (sig : List PredOf) (o : Option Partial) → has_operand o ≡ true → (q : Partial) × (o ≡ Some q) × Completes sig q
+after_due : (sig : List PredOf) (o : Option Partial) → has_operand o ≡ true → (q : Partial) × (o ≡ Some q)
+    × Completes sig q
 after_due sig None there = absurd cc
 after_due sig (Some p) there = operand_closes p.context p.now there
   where
-    operand_closes : (c : Context) (now : Stage) → is_operand now ≡ true → (q : Partial) × (Some (record { context = c; now = now }) ≡ Some q) × Completes sig q
-    operand_closes c (AfterOperand f) there = (record { context = c; now = AfterOperand f }, refl, (parens (parens_in c.stack), closing sig c.stack c f))
+    operand_closes : (c : Context) (now : Stage) → is_operand now ≡ true → (q : Partial)
+        × (Some (record { context = c; now = now }) ≡ Some q) × Completes sig q
+    operand_closes c (AfterOperand f) there =
+        (record { context = c; now = AfterOperand f }, refl, (parens (parens_in c.stack), closing sig c.stack c f))
     operand_closes c _ there = absurd cc
 
 -- tokens that the grammar takes, and then those that end the text
-accepts_behind : (sig : List PredOf) (ts more : List Lexeme) (p q : Partial) → shifts sig ts p ≡ Some q → accepts sig more q ≡ true → accepts sig (ts ++ more) p ≡ true
+accepts_behind : (sig : List PredOf) (ts more : List Lexeme) (p q : Partial) → shifts sig ts p ≡ Some q
+    → accepts sig more q ≡ true → accepts sig (ts ++ more) p ≡ true
 unfolding accepts shifts
 accepts_behind sig [] more p q same ends = let one : p ≡ q = cc in ap (accepts sig more) one ∙ ends
-accepts_behind sig (t ∷ ts) more p q same ends = by_move (transition sig p t) (λ n so. accepts_behind sig ts more n q so ends) same
+accepts_behind sig (t ∷ ts) more p q same ends =
+    by_move (transition sig p t) (λ n so. accepts_behind sig ts more n q so ends) same
   where
     by_move : (m : Option Transition) → ((n : Partial) → shifts sig ts n ≡ Some q → accepts sig (ts ++ more) n ≡ true)
         → moved m (shifts sig ts) ≡ Some q → if_moved m (accepts sig (ts ++ more)) ≡ true

@@ -1,5 +1,5 @@
 -- What a token is to the grammar, whatever stands before it. Keywords are written in capitals.
-use Rattle.std.specs.Prelude.{ℕ, ℤ, Bool, true, false, List, [], ◌∷◌, Option, Some, None, codes, if◌then◌else◌}
+use Rattle.std.specs.Prelude.{ℕ, true, false, List, Option, Some, None, codes, if◌then◌else◌}
 use Rattle.std.specs.Str.{bytes_eq}
 use Rattle.mfotl_lex.specs.declared.kind.Kind.{Kind}
 use Rattle.mfotl_lex.specs.declared.kind.Kind.TheVariants as kinds
@@ -12,6 +12,7 @@ use Rattle.mfotl_parse.specs.declared.class.Operator.TheVariants as operators
 use Rattle.mfotl_parse.specs.declared.class.Quantifier.TheVariants as quantifiers
 use Rattle.mfotl_parse.specs.declared.class.Temporal.TheVariants as temporals
 
+-- a temporal operator of one operand, or a name
 unfoldable pub temporal_class : List ℕ → Class
 temporal_class word =
     if bytes_eq word (codes "PREVIOUS") then classes.Temporal temporals.Previous
@@ -22,6 +23,7 @@ temporal_class word =
     else if bytes_eq word (codes "ALWAYS") then classes.Temporal temporals.Always
     else classes.Name
 
+-- an operator between operands, or one of the above
 unfoldable pub operator_class : List ℕ → Class
 operator_class word =
     if bytes_eq word (codes "AND") then classes.Operator operators.And
@@ -32,6 +34,7 @@ operator_class word =
     else if bytes_eq word (codes "UNTIL") then classes.Operator operators.Until
     else temporal_class word
 
+-- any Word
 unfoldable pub word_class : List ℕ → Class
 word_class word =
     if bytes_eq word (codes "NOT") then classes.Not
@@ -42,6 +45,7 @@ word_class word =
     else if bytes_eq word (codes "_") then classes.Blank
     else operator_class word
 
+-- a token by its kind and its text
 abbrev pub class : Kind → List ℕ → Class
 class kinds.Word text = word_class text
 class kinds.Integer text = classes.Integer (integer_value text)
@@ -63,6 +67,7 @@ class kinds.GreaterEqual text = classes.Sign signs.GreaterEqual
 class kinds.At text = classes.Other
 class kinds.Semicolon text = classes.Other
 
+-- the class of a token
 abbrev pub class_of : Lexeme → Class
 class_of t = class t.kind t.text
 

@@ -1,5 +1,6 @@
 -- Texts with the policy or the first fault that they give.
-use Rattle.std.specs.Prelude.{◌≡◌, ℕ, zero, suc, List, [], ◌∷◌, ◌++◌, length, Option, Some, None, Result, Ok, Err, codes, pos, negsuc}
+use Rattle.std.specs.Prelude.{◌≡◌, ℕ, zero, suc, List, [], ◌∷◌, ◌++◌, length, Some, None, Ok, Err}
+use Rattle.std.specs.Prelude.{codes, pos, negsuc}
 use Rattle.mfotl_lex.specs.declared.fault.LexFaultKind.TheVariants.{BadByte}
 use Rattle.mfotl_model.specs.declared.policy.Sort.{Sort}
 use Rattle.mfotl_model.specs.declared.policy.Sort.TheVariants as sorts
@@ -16,10 +17,13 @@ use Rattle.mfotl_parse.specs.Meanings.{tokens_of}
 use Rattle.mfotl_parse.specs.Intervals.{distances, any_distance}
 use Rattle.mfotl_sig.specs.Preds.{PredOf}
 use Rattle.mfotl_parse.specs.declared.fault.PolicyFault.{PolicyFault}
-use Rattle.mfotl_parse.specs.declared.fault.PolicyFault.TheVariants.{Lex, Syntax, EmptyInterval, BoundRange, UnknownPredicate, WrongArity, SortClash, TooManyVariables, TooDeep, TooManyNodes}
+use Rattle.mfotl_parse.specs.declared.fault.PolicyFault.TheVariants.{Lex, Syntax, EmptyInterval, BoundRange}
+use Rattle.mfotl_parse.specs.declared.fault.PolicyFault.TheVariants.{UnknownPredicate, WrongArity, SortClash}
+use Rattle.mfotl_parse.specs.declared.fault.PolicyFault.TheVariants.{TooManyVariables, TooDeep, TooManyNodes}
 use Rattle.mfotl_parse.specs.Reading.{run, reading}
 use Rattle.mfotl_parse.specs.States.{no_names, ExpectOperand}
 
+-- eight places for integers
 abbrev pub eight_integers : List Sort
 eight_integers = sorts.Int ∷ sorts.Int ∷ sorts.Int ∷ sorts.Int ∷ sorts.Int ∷ sorts.Int ∷ sorts.Int ∷ sorts.Int ∷ []
 
@@ -36,6 +40,7 @@ preds =
 abbrev pub FailsWith : List ℕ → PolicyFault → Type 0
 FailsWith text fault = reading text preds ≡ Err fault
 
+-- faults that one token or the end shows
 pub record FaultExamples : Type 0 where
   pub clash : FailsWith (codes "NOT (p(x) AND s(x))") (SortClash 16)
   pub arity : FailsWith (codes "NOT p(x,y)") (WrongArity 8)
@@ -74,67 +79,115 @@ pub record ClashExamples : Type 0 where
 abbrev pub Spells : List ℕ → Form → List Var → Type 0
 Spells text f vars = reading text preds ≡ Ok (record { formula = f; vars = vars })
 
+-- p of this variable
 abbrev pub variable : ℕ → Form
 variable number = forms.Atom (record { pred = 0; args = terms.Var number ∷ [] })
 
+-- s of this variable
 abbrev pub text_variable : ℕ → Form
 text_variable number = forms.Atom (record { pred = 1; args = terms.Var number ∷ [] })
 
+-- r of these variables
 abbrev pub pair : ℕ → ℕ → Form
 pair left right = forms.Atom (record { pred = 2; args = terms.Var left ∷ terms.Var right ∷ [] })
 
+-- the constant n
 abbrev pub int_term : ℕ → Term
 int_term n = terms.Const (values.Int (pos n))
 
+-- 1 and 2, compared
 abbrev pub one_and_two : Sign → Form
 one_and_two sign = forms.Compare (record { sign = sign; left = int_term 1; right = int_term 2 })
 
+-- a column of integers
 abbrev pub integer : List ℕ → Var
 integer name = record { name = name; sort = sorts.Int }
 
+-- x, bound before all others
 abbrev pub first_bound : Bound
 first_bound = record { number = 8; name = codes "x" }
 
+-- x, bound after one other
 abbrev pub second_bound : Bound
 second_bound = record { number = 9; name = codes "x" }
 
+-- the only column is x
 abbrev pub free_x : List Var
 free_x = integer (codes "x") ∷ []
 
+-- how operators group, and what intervals mean
 pub record FormulaExamples : Type 0 where
   pub and_left : Spells (codes "TRUE AND FALSE AND TRUE") (forms.And (forms.And forms.True forms.False) forms.True) []
   pub or_left : Spells (codes "TRUE OR FALSE OR TRUE") (forms.Or (forms.Or forms.True forms.False) forms.True) []
   pub and_in_or : Spells (codes "TRUE OR FALSE AND TRUE") (forms.Or forms.True (forms.And forms.False forms.True)) []
-  pub implies_right : Spells (codes "TRUE IMPLIES FALSE IMPLIES TRUE") (forms.Implies forms.True (forms.Implies forms.False forms.True)) []
-  pub not_first : Spells (codes "NOT TRUE SINCE FALSE") (forms.Since any_distance (forms.Not forms.True) forms.False) []
-  pub body : Spells (codes "EXISTS x. p(x) AND p(x)") (forms.Exists first_bound (forms.And (variable 8) (variable 8))) []
-  pub free_behind : Spells (codes "(EXISTS x. p(x)) AND p(x)") (forms.And (forms.Exists first_bound (variable 8)) (variable 0)) free_x
+  pub implies_right : Spells (codes "TRUE IMPLIES FALSE IMPLIES TRUE")
+      (forms.Implies forms.True (forms.Implies forms.False forms.True)) []
+  pub not_first : Spells (codes "NOT TRUE SINCE FALSE")
+      (forms.Since any_distance (forms.Not forms.True) forms.False) []
+  pub body : Spells (codes "EXISTS x. p(x) AND p(x)")
+      (forms.Exists first_bound (forms.And (variable 8) (variable 8))) []
+  pub free_behind : Spells (codes "(EXISTS x. p(x)) AND p(x)")
+      (forms.And (forms.Exists first_bound (variable 8)) (variable 0)) free_x
   pub marked : Spells (codes "p(?x) OR p(x)") (forms.Or (variable 0) (variable 0)) free_x
   pub blank : Spells (codes "p(_)") (forms.Exists (record { number = 8; name = codes "_" }) (variable 8)) []
   pub between : Spells (codes "ONCE(1m,2h) TRUE") (forms.Once (distances 61 (Some 7199)) forms.True) []
-  pub no_interval : Spells (codes "ONCE (-5 < 3)") (forms.Once any_distance (forms.Compare (record { sign = signs.Less; left = terms.Const (values.Int (negsuc 4)); right = terms.Const (values.Int (pos 3)) }))) []
-  pub since_right : Spells (codes "TRUE SINCE FALSE UNTIL TRUE") (forms.Since any_distance forms.True (forms.Until any_distance forms.False forms.True)) []
-  pub since_in_and : Spells (codes "TRUE AND FALSE SINCE TRUE AND FALSE") (forms.And (forms.And forms.True (forms.Since any_distance forms.False forms.True)) forms.False) []
-  pub equiv_left : Spells (codes "TRUE EQUIV FALSE EQUIV TRUE") (forms.Equiv (forms.Equiv forms.True forms.False) forms.True) []
-  pub implies_in_equiv : Spells (codes "TRUE IMPLIES FALSE EQUIV TRUE OR FALSE") (forms.Equiv (forms.Implies forms.True forms.False) (forms.Or forms.True forms.False)) []
-  pub one_operand : Spells (codes "PREVIOUS NEXT ONCE HISTORICALLY EVENTUALLY ALWAYS NOT TRUE") (forms.Previous any_distance (forms.Next any_distance (forms.Once any_distance (forms.Historically any_distance (forms.Eventually any_distance (forms.Always any_distance (forms.Not forms.True))))))) []
-  pub each_sign : Spells (codes "1 = 2 OR 1 < 2 OR 1 <= 2 OR 1 > 2 OR 1 >= 2") (forms.Or (forms.Or (forms.Or (forms.Or (one_and_two signs.Equal) (one_and_two signs.Less)) (one_and_two signs.LessEqual)) (one_and_two signs.Greater)) (one_and_two signs.GreaterEqual)) []
-  pub each_unit : Spells (codes "ONCE[1s,1m] ONCE[1h,1d] TRUE") (forms.Once (distances 1 (Some 60)) (forms.Once (distances 3600 (Some 86400)) forms.True)) []
-  pub one_number : Spells (codes "ONCE[3,3] ONCE(3,4] TRUE") (forms.Once (distances 3 (Some 3)) (forms.Once (distances 4 (Some 4)) forms.True)) []
+  pub no_interval : Spells (codes "ONCE (-5 < 3)")
+      (forms.Once any_distance
+      (forms.Compare
+      (record {
+        sign = signs.Less;
+        left = terms.Const (values.Int (negsuc 4));
+        right = terms.Const
+            (values.Int (pos 3));
+      }))) []
+  pub since_right : Spells (codes "TRUE SINCE FALSE UNTIL TRUE")
+      (forms.Since any_distance forms.True (forms.Until any_distance forms.False forms.True)) []
+  pub since_in_and : Spells (codes "TRUE AND FALSE SINCE TRUE AND FALSE")
+      (forms.And (forms.And forms.True (forms.Since any_distance forms.False forms.True)) forms.False) []
+  pub equiv_left : Spells (codes "TRUE EQUIV FALSE EQUIV TRUE")
+      (forms.Equiv (forms.Equiv forms.True forms.False) forms.True) []
+  pub implies_in_equiv : Spells (codes "TRUE IMPLIES FALSE EQUIV TRUE OR FALSE")
+      (forms.Equiv (forms.Implies forms.True forms.False) (forms.Or forms.True forms.False)) []
+  pub one_operand : Spells (codes "PREVIOUS NEXT ONCE HISTORICALLY EVENTUALLY ALWAYS NOT TRUE")
+      (forms.Previous any_distance
+      (forms.Next any_distance
+      (forms.Once any_distance
+      (forms.Historically any_distance
+      (forms.Eventually any_distance (forms.Always any_distance (forms.Not forms.True))))))) []
+  pub each_sign : Spells (codes "1 = 2 OR 1 < 2 OR 1 <= 2 OR 1 > 2 OR 1 >= 2")
+      (forms.Or (forms.Or
+      (forms.Or (forms.Or (one_and_two signs.Equal) (one_and_two signs.Less)) (one_and_two signs.LessEqual))
+      (one_and_two signs.Greater)) (one_and_two signs.GreaterEqual)) []
+  pub each_unit : Spells (codes "ONCE[1s,1m] ONCE[1h,1d] TRUE")
+      (forms.Once (distances 1 (Some 60)) (forms.Once (distances 3600 (Some 86400)) forms.True)) []
+  pub one_number : Spells (codes "ONCE[3,3] ONCE(3,4] TRUE")
+      (forms.Once (distances 3 (Some 3)) (forms.Once (distances 4 (Some 4)) forms.True)) []
   pub minus_zero : Spells (codes "ONCE[-0,3] TRUE") (forms.Once (distances 0 (Some 3)) forms.True) []
-  pub longest : Spells (codes "ONCE[0,53375995583650d] TRUE") (forms.Once (distances 0 (Some 4611686018427360000)) forms.True) []
-  pub past_longest : Spells (codes "ONCE(4611686018427387904,*) TRUE") (forms.Once (distances 4611686018427387905 None) forms.True) []
+  pub longest : Spells (codes "ONCE[0,53375995583650d] TRUE")
+      (forms.Once (distances 0 (Some 4611686018427360000)) forms.True) []
+  pub past_longest : Spells (codes "ONCE(4611686018427387904,*) TRUE")
+      (forms.Once (distances 4611686018427387905 None) forms.True) []
 
 -- which variable a name stands for, and its sort
 pub record NameExamples : Type 0 where
-  pub first_occurrence : Spells (codes "r(y,x) AND p(y)") (forms.And (pair 0 1) (variable 0)) (integer (codes "y") ∷ integer (codes "x") ∷ [])
-  pub unsorted : Spells (codes "x = y") (forms.Compare (record { sign = signs.Equal; left = terms.Var 0; right = terms.Var 1 })) (integer (codes "x") ∷ integer (codes "y") ∷ [])
-  pub sorted : Spells (codes "x = y AND s(x)") (forms.And (forms.Compare (record { sign = signs.Equal; left = terms.Var 0; right = terms.Var 1 })) (text_variable 0)) (record { name = codes "x"; sort = sorts.Text } ∷ integer (codes "y") ∷ [])
-  pub several : Spells (codes "FORALL x, y. r(x,y)") (forms.Forall first_bound (forms.Forall (record { number = 9; name = codes "y" }) (pair 8 9))) []
+  pub first_occurrence : Spells (codes "r(y,x) AND p(y)") (forms.And (pair 0 1) (variable 0))
+      (integer (codes "y") ∷ integer (codes "x") ∷ [])
+  pub unsorted : Spells (codes "x = y")
+      (forms.Compare (record { sign = signs.Equal; left = terms.Var 0; right = terms.Var 1 }))
+      (integer (codes "x") ∷ integer (codes "y") ∷ [])
+  pub sorted : Spells (codes "x = y AND s(x)")
+      (forms.And (forms.Compare (record { sign = signs.Equal; left = terms.Var 0; right = terms.Var 1 }))
+      (text_variable 0)) (record { name = codes "x"; sort = sorts.Text } ∷ integer (codes "y") ∷ [])
+  pub several : Spells (codes "FORALL x, y. r(x,y)")
+      (forms.Forall first_bound (forms.Forall (record { number = 9; name = codes "y" }) (pair 8 9))) []
   pub twice : Spells (codes "EXISTS x, x. p(x)") (forms.Exists first_bound (forms.Exists second_bound (variable 9))) []
-  pub apart : Spells (codes "p(x) AND EXISTS x. s(x)") (forms.And (variable 0) (forms.Exists first_bound (text_variable 8))) free_x
-  pub hidden : Spells (codes "EXISTS x. (EXISTS x. p(x)) AND p(x)") (forms.Exists first_bound (forms.And (forms.Exists second_bound (variable 9)) (variable 8))) []
-  pub blanks : Spells (codes "r(_,_)") (forms.Exists (record { number = 8; name = codes "_" }) (forms.Exists (record { number = 9; name = codes "_" }) (pair 8 9))) []
+  pub apart : Spells (codes "p(x) AND EXISTS x. s(x)")
+      (forms.And (variable 0) (forms.Exists first_bound (text_variable 8))) free_x
+  pub hidden : Spells (codes "EXISTS x. (EXISTS x. p(x)) AND p(x)")
+      (forms.Exists first_bound (forms.And (forms.Exists second_bound (variable 9)) (variable 8))) []
+  pub blanks : Spells (codes "r(_,_)")
+      (forms.Exists (record { number = 8; name = codes "_" })
+      (forms.Exists (record { number = 9; name = codes "_" }) (pair 8 9))) []
   pub blank_name : Spells (codes "_(x)") (forms.Atom (record { pred = 4; args = terms.Var 0 ∷ [] })) free_x
 
 -- `NOT ` so many times, and then the text
@@ -147,6 +200,7 @@ abbrev pub nots : ℕ → Form → Form
 nots zero f = f
 nots (suc times) f = forms.Not (nots times f)
 
+-- p(1)
 abbrev pub of_one : Form
 of_one = forms.Atom (record { pred = 0; args = int_term 1 ∷ [] })
 
@@ -154,7 +208,8 @@ of_one = forms.Atom (record { pred = 0; args = int_term 1 ∷ [] })
 pub record DepthExamples : Type 0 where
   pub deepest : Spells (denied 64 (codes "p(1)")) (nots 64 of_one) []
   pub too_deep : FailsWith (denied 65 (codes "p(1)")) (TooDeep 256)
-  pub blank : Spells (denied 64 (codes "p(_)")) (nots 64 (forms.Exists (record { number = 8; name = codes "_" }) (variable 8))) []
+  pub blank : Spells (denied 64 (codes "p(_)"))
+      (nots 64 (forms.Exists (record { number = 8; name = codes "_" }) (variable 8))) []
   pub marked : FailsWith (denied 64 (codes "EXISTS ?x. p(x)")) (TooDeep 263)
   pub paren : FailsWith (denied 63 (codes "ONCE (p(1))")) (TooDeep 257)
   pub bad_in_paren : FailsWith (denied 63 (codes "ONCE ($")) (Lex (record { kind = BadByte; at = 258 }))

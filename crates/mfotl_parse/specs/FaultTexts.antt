@@ -3,8 +3,11 @@ use Rattle.std.specs.Prelude.{ℕ, List, ◌++◌, codes}
 use Rattle.std.specs.Fmt.{decimal}
 use Rattle.mfotl_lex.specs.FaultTexts as lex
 use Rattle.mfotl_parse.specs.declared.fault.PolicyFault.{PolicyFault}
-use Rattle.mfotl_parse.specs.declared.fault.PolicyFault.TheVariants.{Lex, Syntax, EmptyInterval, BoundRange, UnknownPredicate, WrongArity, SortClash, TooManyVariables, TooDeep, TooManyNodes, Memory}
+use Rattle.mfotl_parse.specs.declared.fault.PolicyFault.TheVariants.{Lex, Syntax, EmptyInterval, BoundRange}
+use Rattle.mfotl_parse.specs.declared.fault.PolicyFault.TheVariants.{UnknownPredicate, WrongArity, SortClash}
+use Rattle.mfotl_parse.specs.declared.fault.PolicyFault.TheVariants.{TooManyVariables, TooDeep, TooManyNodes, Memory}
 
+-- the text of a fault
 abbrev pub fault_text : PolicyFault → List ℕ
 fault_text (Lex fault) = codes "Lex " ++ lex.fault_text fault
 fault_text (Syntax at) = codes "Syntax at " ++ decimal at

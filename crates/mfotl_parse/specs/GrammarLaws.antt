@@ -1,5 +1,6 @@
 -- What the grammar says of every text, and the reader.
-use Rattle.std.specs.Prelude.{◌≡◌, ◌↔◌, ◌⊎◌, ℕ, IsTrue, List, [], ◌∷◌, ◌++◌, length, Option, Some, None, Ok, Err, slice_get}
+use Rattle.std.specs.Prelude.{◌≡◌, ◌↔◌, ◌⊎◌, ℕ, IsTrue, List, [], ◌∷◌, ◌++◌, length, Option, Some, None, Ok, Err}
+use Rattle.std.specs.Prelude.{slice_get}
 use Rattle.std.specs.Option.{option_map}
 use Rattle.mfotl_lex.specs.declared.fault.LexFault.{LexFault}
 use Rattle.mfotl_lex.specs.Lexemes.{Lexeme}
@@ -21,12 +22,15 @@ AcceptedExactly = (sig : List PredOf) (ts : List Lexeme) → IsTrue (accepts sig
 
 -- what is spelled and keeps the rules is read
 abbrev pub SpelledIsRead : Type 0
-SpelledIsRead = (bytes : List ℕ) (sig : List PredOf) (policy : PolicyOf) → IsValue bytes sig policy → reading bytes sig ≡ Ok policy
+SpelledIsRead =
+    (bytes : List ℕ) (sig : List PredOf) (policy : PolicyOf) → IsValue bytes sig policy → reading bytes sig ≡ Ok policy
 
 -- what is read is spelled, and keeps the rules
 abbrev pub ReadIsSpelled : Type 0
-ReadIsSpelled = (bytes : List ℕ) (sig : List PredOf) (policy : PolicyOf) → reading bytes sig ≡ Ok policy → IsValue bytes sig policy
+ReadIsSpelled =
+    (bytes : List ℕ) (sig : List PredOf) (policy : PolicyOf) → reading bytes sig ≡ Ok policy → IsValue bytes sig policy
 
+-- the reader tells this fault of the text
 abbrev pub IsFirstFault : List ℕ → List PredOf → PolicyFault → Type 0
 IsFirstFault bytes sig fault = reading bytes sig ≡ Err fault
 
@@ -101,7 +105,8 @@ ExactSyntax = (bytes : List ℕ) (sig : List PredOf) (at : ℕ)
 -- a fault of the lexer is shown behind all whole tokens, where they show none, and only there
 abbrev pub ExactLex : Type 0
 ExactLex = (bytes : List ℕ) (sig : List PredOf) (fault : LexFault)
-    → (IsFirstFault bytes sig (Lex fault)) ↔ (IsSilent sig (tokens_of bytes).list × ((tokens_of bytes).fault ≡ Some fault))
+    → (IsFirstFault bytes sig (Lex fault))
+    ↔ (IsSilent sig (tokens_of bytes).list × ((tokens_of bytes).fault ≡ Some fault))
 
 -- the first token that shows a fault: behind tokens that show none it shows this one, in front of others
 pub record ShowsFirst (sig : List PredOf) (ts : List Lexeme) (fault : PolicyFault) : Type 0 where
@@ -156,4 +161,6 @@ IsShown bytes sig fault = ShowsFirst sig (tokens_of bytes).list fault
 
 -- each fault is the first one exactly where it is shown
 abbrev pub EachFaultIsShown : Type 0
-EachFaultIsShown = (bytes : List ℕ) (sig : List PredOf) (fault : PolicyFault) → (IsFirstFault bytes sig fault) ↔ IsShown bytes sig fault
+EachFaultIsShown =
+    (bytes : List ℕ) (sig : List PredOf) (fault : PolicyFault) → (IsFirstFault bytes sig fault)
+    ↔ IsShown bytes sig fault

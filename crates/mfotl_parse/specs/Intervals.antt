@@ -1,28 +1,35 @@
 -- The interval behind a temporal operator. Without one, any distance will do.
-use Rattle.std.specs.Prelude.{◌≡◌, ℕ, zero, suc, ◌+◌, ◌-◌, ◌*◌, ◌^◌, ◌≤◌, ℤ, pos, negsuc, Bool, List, [], ◌∷◌, Option, Some, None, max, nat_lt, nat_le, if◌then◌else◌, refl}
+use Rattle.std.specs.Prelude.{◌≡◌, ℕ, ◌+◌, ◌-◌, ◌*◌, ◌≤◌, pos, List, [], ◌∷◌, Option}
+use Rattle.std.specs.Prelude.{Some, None, max, nat_lt, nat_le, if◌then◌else◌}
 use Rattle.std.specs.Option.{ForSome}
-use Rattle.std.proofs.Common.{subst, arith}
+use Rattle.std.proofs.Common.{subst}
 use Rattle.std.proofs.Math.Nat.{le-max_left}
 use Rattle.mfotl_lex.specs.Lexemes.{Lexeme}
 use Rattle.mfotl_model.specs.declared.interval.Interval.{Interval}
 use Rattle.mfotl_parse.specs.declared.class.Class.{Class}
 use Rattle.mfotl_parse.specs.declared.class.Class.TheVariants as classes
-use Rattle.mfotl_parse.specs.Classes.{class_of, unit_of}
+use Rattle.mfotl_parse.specs.Classes.{unit_of}
 use Rattle.mfotl_parse.specs.Transitions.{Range, Empty, Rule, Transition, goes}
-use Rattle.mfotl_parse.specs.States.{Frame, Parens, Negation, Moment, Binding, Left, Context, Partial, with_now, with_stack, ExpectOperand, ExpectLow, AfterLowNumber, AfterLow, ExpectHigh, AfterHighNumber, AfterHigh, AfterStar}
+use Rattle.mfotl_parse.specs.States.{Frame, Parens, Negation, Moment, Binding, Left, Context, Partial, with_now}
+use Rattle.mfotl_parse.specs.States.{with_stack, ExpectOperand, AfterLowNumber, AfterLow, ExpectHigh}
+use Rattle.mfotl_parse.specs.States.{AfterHighNumber, AfterHigh, AfterStar}
 use Rattle.mfotl_parse.specs.Limits.{max_bound}
 
+-- no end lies below the beginning
 pub endless_ordered : (low : ℕ) → ForSome None (λ h. low ≤ h)
 endless_ordered low = λ h e. absurd cc
 
+-- the greater of two is no less than the first
 pub max_ordered : (low high : ℕ) → ForSome (Some (max low high)) (λ h. low ≤ h)
-max_ordered low high = λ h e. let same : max low high ≡ h = cc in subst (λ (k : ℕ). low ≤ k) same (le-max_left low high)
+max_ordered low high =
+    λ h e. let same : max low high ≡ h = cc in subst (λ (k : ℕ). low ≤ k) same (le-max_left low high)
 
 -- the distances from low on, up to high where that isn't below low
 abbrev pub distances : ℕ → Option ℕ → Interval
 distances low None = record { lo = low; hi = None; ordered = endless_ordered low }
 distances low (Some high) = record { lo = low; hi = Some (max low high); ordered = max_ordered low high }
 
+-- no interval was written
 abbrev pub any_distance : Interval
 any_distance = distances 0 None
 
@@ -57,6 +64,7 @@ bracket p at low high classes.CloseBracket = goes (not_empty at low (high + 1) �
 bracket p at low high classes.CloseParen = goes (not_empty at low high ∷ []) (timed p low (Some (high - 1)))
 bracket p at low high _ = None
 
+-- behind the opening bracket
 abbrev pub low_move : Context → ℕ → Lexeme → Class → Option Transition
 low_move p at t (classes.Integer (pos n)) = goes (in_range t.at n ∷ []) (with_now p (AfterLowNumber at t.at n))
 low_move p at t _ = None
@@ -66,28 +74,36 @@ abbrev pub low_unit : Context → ℕ → ℕ → ℕ → Option ℕ → Option 
 low_unit p at number_at n None = None
 low_unit p at number_at n (Some unit) = goes (in_range number_at (n * unit) ∷ []) (with_now p (AfterLow at (n * unit)))
 
+-- behind a lower bound's number
 abbrev pub low_number_move : Context → ℕ → ℕ → ℕ → Lexeme → Class → Option Transition
 low_number_move p at number_at n t classes.Comma = goes [] (with_now p (ExpectHigh at n))
 low_number_move p at number_at n t classes.Name = low_unit p at number_at n (unit_of t.text)
 low_number_move p at number_at n t _ = None
 
+-- behind a lower bound's unit
 abbrev pub low_done_move : Context → ℕ → ℕ → Class → Option Transition
 low_done_move p at low classes.Comma = goes [] (with_now p (ExpectHigh at low))
 low_done_move p at low _ = None
 
+-- behind the comma
 abbrev pub high_move : Context → ℕ → ℕ → Lexeme → Class → Option Transition
-high_move p at low t (classes.Integer (pos n)) = goes (in_range t.at n ∷ []) (with_now p (AfterHighNumber at low t.at n))
+high_move p at low t (classes.Integer (pos n)) =
+    goes (in_range t.at n ∷ []) (with_now p (AfterHighNumber at low t.at n))
 high_move p at low t classes.Star = goes [] (with_now p (AfterStar at low))
 high_move p at low t _ = None
 
+-- the unit behind an upper bound's number
 abbrev pub high_unit : Context → ℕ → ℕ → ℕ → ℕ → Option ℕ → Option Transition
 high_unit p at low number_at n None = None
-high_unit p at low number_at n (Some unit) = goes (in_range number_at (n * unit) ∷ []) (with_now p (AfterHigh at low (n * unit)))
+high_unit p at low number_at n (Some unit) =
+    goes (in_range number_at (n * unit) ∷ []) (with_now p (AfterHigh at low (n * unit)))
 
+-- behind an upper bound's number
 abbrev pub high_number_move : Context → ℕ → ℕ → ℕ → ℕ → Lexeme → Class → Option Transition
 high_number_move p at low number_at n t classes.Name = high_unit p at low number_at n (unit_of t.text)
 high_number_move p at low number_at n t class = bracket p at low n class
 
+-- behind `*`
 abbrev pub endless_move : Context → ℕ → Class → Option Transition
 endless_move p low classes.CloseParen = goes [] (timed p low None)
 endless_move p low _ = None

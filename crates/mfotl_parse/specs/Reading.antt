@@ -1,5 +1,6 @@
 -- Reading a policy from left to right, with the first fault that a token or the end shows.
-use Rattle.std.specs.Prelude.{ℕ, Bool, true, false, List, [], ◌∷◌, Option, Some, None, Result, Ok, Err, length, slice_get}
+use Rattle.std.specs.Prelude.{ℕ, Bool, true, false, List, [], ◌∷◌, Option, Some, None, Result, Ok, Err, length}
+use Rattle.std.specs.Prelude.{slice_get}
 use Rattle.mfotl_lex.specs.declared.fault.LexFault.{LexFault}
 use Rattle.mfotl_lex.specs.declared.kind.Mode.TheVariants.{Plain}
 use Rattle.mfotl_lex.specs.Lexemes.{Lexeme, Tokens, tokens}
@@ -13,12 +14,20 @@ use Rattle.mfotl_parse.specs.declared.fault.PolicyFault.TheVariants.{Lex, Syntax
 use Rattle.mfotl_parse.specs.declared.term.Pair.{Pair}
 use Rattle.mfotl_parse.specs.Arguments.{first_move, argument_move, taken_move, argument_marked_move}
 use Rattle.mfotl_parse.specs.Classes.{class_of}
-use Rattle.mfotl_parse.specs.Intervals.{low_move, low_number_move, low_done_move, high_move, high_number_move, bracket, endless_move}
+use Rattle.mfotl_parse.specs.Intervals.{low_move, low_number_move, low_done_move, high_move, high_number_move, bracket}
+use Rattle.mfotl_parse.specs.Intervals.{endless_move}
 use Rattle.mfotl_parse.specs.Transitions.{Transition, given}
 use Rattle.mfotl_parse.specs.SymbolTable.{uneven_pair, vars_of}
-use Rattle.mfotl_parse.specs.Operands.{operand_move, fresh_move, maybe_move, maybe_number_move, word_move, blank_move, marked_move, compared_move, against_move, against_marked_move, binder_move, binder_marked_move, bound_move, have_move}
-use Rattle.mfotl_parse.specs.Reduction.{Reduced, reduce}
-use Rattle.mfotl_parse.specs.States.{Frame, SymbolTable, Stage, Context, Partial, start, ExpectOperand, AfterTemporal, AfterOperand, AfterWord, AfterBlank, AfterMark, ExpectSign, AfterSign, AfterSignMark, FirstArgument, NextArgument, AfterArgument, AfterArgumentMark, ExpectVariable, AfterVariableMark, AfterVariable, AfterParen, AfterParenNumber, ExpectLow, AfterLowNumber, AfterLow, ExpectHigh, AfterHighNumber, AfterHigh, AfterStar}
+use Rattle.mfotl_parse.specs.Operands.{operand_move, fresh_move, maybe_move, maybe_number_move, word_move, blank_move}
+use Rattle.mfotl_parse.specs.Operands.{marked_move, compared_move, against_move, against_marked_move, binder_move}
+use Rattle.mfotl_parse.specs.Operands.{binder_marked_move, bound_move, have_move}
+use Rattle.mfotl_parse.specs.Reduction.{reduce}
+use Rattle.mfotl_parse.specs.States.{Frame, SymbolTable, Stage, Context, Partial, start, ExpectOperand, AfterTemporal}
+use Rattle.mfotl_parse.specs.States.{AfterOperand, AfterWord, AfterBlank, AfterMark, ExpectSign, AfterSign}
+use Rattle.mfotl_parse.specs.States.{AfterSignMark, FirstArgument, NextArgument, AfterArgument, AfterArgumentMark}
+use Rattle.mfotl_parse.specs.States.{ExpectVariable, AfterVariableMark, AfterVariable, AfterParen, AfterParenNumber}
+use Rattle.mfotl_parse.specs.States.{ExpectLow, AfterLowNumber, AfterLow, ExpectHigh, AfterHighNumber, AfterHigh}
+use Rattle.mfotl_parse.specs.States.{AfterStar}
 use Rattle.mfotl_parse.specs.Limits.{max_free}
 
 -- what a token of this class does, by what may come next
@@ -49,9 +58,11 @@ transition_at (AfterHighNumber at low number_at n) sig p t class = high_number_m
 transition_at (AfterHigh at low high) sig p t class = bracket p at low high class
 transition_at (AfterStar at low) sig p t class = endless_move p low class
 
+-- what a token does to what was read
 unfoldable pub transition : List PredOf → Partial → Lexeme → Option Transition
 transition sig p t = transition_at p.now sig p.context t (class_of t)
 
+-- what was read with the token, or the fault that the token shows
 unfoldable pub step : List PredOf → Partial → Lexeme → Result Partial PolicyFault
 step sig p t = given t.at (transition sig p t)
 
@@ -60,18 +71,21 @@ pub record PolicyOf : Type 0 where
   pub formula : Form
   pub vars : List Var
 
--- the ninth free variable
-abbrev pub not_many : Option (List ℕ × ℕ) → PolicyOf → Result PolicyOf PolicyFault
-not_many None policy = Ok policy
-not_many (Some known) policy = Err (TooManyVariables known.1)
+-- what the sorts and the free variables of a whole text show, where they show a fault
+abbrev pub refusal : Option ℕ → Option Pair → Option (List ℕ × ℕ) → Option PolicyFault
+refusal (Some at) uneven ninth = Some (SortClash at)
+refusal None (Some pair) ninth = Some (SortClash pair.at)
+refusal None None (Some known) = Some (TooManyVariables known.1)
+refusal None None None = None
 
-abbrev pub sorted_pairs : Option Pair → Option (List ℕ × ℕ) → PolicyOf → Result PolicyOf PolicyFault
-sorted_pairs None ninth policy = not_many ninth policy
-sorted_pairs (Some pair) ninth policy = Err (SortClash pair.at)
+-- the policy, unless it is refused
+abbrev pub unless_refused : Option PolicyFault → PolicyOf → Result PolicyOf PolicyFault
+unless_refused None policy = Ok policy
+unless_refused (Some fault) policy = Err fault
 
+-- the policy, unless sorts or the number of variables refuse it
 abbrev pub sorted : Option ℕ → Option Pair → Option (List ℕ × ℕ) → PolicyOf → Result PolicyOf PolicyFault
-sorted None uneven ninth policy = sorted_pairs uneven ninth policy
-sorted (Some at) uneven ninth policy = Err (SortClash at)
+sorted clash uneven ninth policy = unless_refused (refusal clash uneven ninth) policy
 
 -- the rules that are looked at when the whole text was read: sorts, and then the number of free variables
 abbrev pub finished : SymbolTable → Form → Result PolicyOf PolicyFault
@@ -79,6 +93,7 @@ finished n f =
     sorted n.clash (uneven_pair n) (slice_get n.free max_free)
     (record { formula = f; vars = vars_of n.free n.free_sorts })
 
+-- nothing is open
 abbrev pub is_closed : List Frame → Bool
 is_closed [] = true
 is_closed (frame ∷ stack) = false
@@ -88,6 +103,7 @@ abbrev pub ended : SymbolTable → Form → Bool → ℕ → Result PolicyOf Pol
 ended n f true end = finished n f
 ended n f false end = Err (Syntax end)
 
+-- the end, by what may come next
 abbrev pub ended_at : Stage → Context → ℕ → Result PolicyOf PolicyFault
 ended_at (AfterOperand f) p end = ended p.names (reduce 0 f p.stack).form (is_closed (reduce 0 f p.stack).stack) end
 ended_at _ p end = Err (Syntax end)
@@ -97,10 +113,12 @@ abbrev pub at_end : Option LexFault → ℕ → Partial → Result PolicyOf Poli
 at_end (Some fault) end p = Err (Lex fault)
 at_end None end p = ended_at p.now p.context end
 
+-- a value goes on, a fault stays
 abbrev pub and_then : {A B : Type 0} → Result A PolicyFault → (A → Result B PolicyFault) → Result B PolicyFault
 and_then (Ok x) f = f x
 and_then (Err e) f = Err e
 
+-- what tokens give, and then the end or the fault behind them
 unfoldable pub run : List PredOf → ℕ → Option LexFault → List Lexeme → Partial → Result PolicyOf PolicyFault
 run sig end fault [] p = at_end fault end p
 run sig end fault (t ∷ ts) p = and_then (step sig p t) (run sig end fault ts)

@@ -1,6 +1,6 @@
 -- How operators hold their operands. An operand that was read belongs to the innermost frame; an operator
 -- or a `)` behind it closes the frames that hold more tightly than itself.
-use Rattle.std.specs.Prelude.{ℕ, ◌≤◌, Bool, List, [], ◌∷◌, Option, Some, None, nat_lt, max, if◌then◌else◌, ◌+◌}
+use Rattle.std.specs.Prelude.{ℕ, List, [], ◌∷◌, nat_lt, if◌then◌else◌, ◌+◌}
 use Rattle.mfotl_model.specs.declared.formula.Bound.{Bound}
 use Rattle.mfotl_model.specs.declared.interval.Interval.{Interval}
 use Rattle.mfotl_model.specs.Formulas as forms
@@ -10,7 +10,8 @@ use Rattle.mfotl_parse.specs.declared.class.Operator.TheVariants.{And, Or, Impli
 use Rattle.mfotl_parse.specs.declared.class.Quantifier.{Quantifier}
 use Rattle.mfotl_parse.specs.declared.class.Quantifier.TheVariants.{Exists, Forall}
 use Rattle.mfotl_parse.specs.declared.class.Temporal.{Temporal}
-use Rattle.mfotl_parse.specs.declared.class.Temporal.TheVariants.{Previous, Next, Once, Historically, Eventually, Always}
+use Rattle.mfotl_parse.specs.declared.class.Temporal.TheVariants.{Previous, Next, Once, Historically, Eventually}
+use Rattle.mfotl_parse.specs.declared.class.Temporal.TheVariants.{Always}
 use Rattle.mfotl_parse.specs.States.{Frame, Parens, Negation, Moment, Binding, Left}
 use Rattle.mfotl_parse.specs.Limits.{max_free}
 use Rattle.mfotl_parse.specs.Grammar.{right_precedence}
@@ -23,6 +24,7 @@ hold (Left operator interval left) = right_precedence operator
 hold Negation = 6
 hold (Moment operator interval) = 6
 
+-- a temporal operator with its interval and operand
 abbrev pub momentary : Temporal → Interval → Form → Form
 momentary Previous i f = forms.Previous i f
 momentary Next i f = forms.Next i f
@@ -31,6 +33,7 @@ momentary Historically i f = forms.Historically i f
 momentary Eventually i f = forms.Eventually i f
 momentary Always i f = forms.Always i f
 
+-- an operator with its interval and operands
 abbrev pub joined : Operator → Interval → Form → Form → Form
 joined And i f g = forms.And f g
 joined Or i f g = forms.Or f g
@@ -61,6 +64,7 @@ pub record Reduced : Type 0 where
   pub form : Form
   pub stack : List Frame
 
+-- the operand given to the frames that hold more tightly than the limit
 unfoldable pub reduce : ℕ → Form → List Frame → Reduced
 reduce limit f [] = record { form = f; stack = [] }
 reduce limit f (frame ∷ stack) =

@@ -1,12 +1,12 @@
 -- What was read of a policy up to a token: what is open, what was met, and what may come next.
-use Rattle.std.specs.Prelude.{ℕ, zero, suc, ◌+◌, ◌≤◌, Bool, true, false, List, [], ◌∷◌, Option, Some, None, ℤ, if◌then◌else◌}
+use Rattle.std.specs.Prelude.{ℕ, suc, Bool, true, List, [], ◌∷◌, Option, None, ℤ}
+use Rattle.std.specs.Prelude.{if◌then◌else◌}
 use Rattle.mfotl_model.specs.declared.interval.Interval.{Interval}
 use Rattle.mfotl_model.specs.declared.policy.Sort.{Sort}
 use Rattle.mfotl_model.specs.declared.term.Sign.{Sign}
 use Rattle.mfotl_model.specs.declared.term.Term.{Term}
 use Rattle.mfotl_model.specs.Formulas.{Form}
 use Rattle.mfotl_parse.specs.declared.class.Operator.{Operator}
-use Rattle.mfotl_parse.specs.declared.class.Operator.TheVariants as operators
 use Rattle.mfotl_parse.specs.declared.class.Quantifier.{Quantifier}
 use Rattle.mfotl_parse.specs.declared.class.Temporal.{Temporal}
 use Rattle.mfotl_parse.specs.declared.term.Side.{Side}
@@ -90,13 +90,16 @@ pub record Context : Type 0 where
   pub nodes : ℕ
   pub names : SymbolTable
 
+-- a policy up to a token
 pub record Partial : Type 0 where
   pub context : Context
   pub now : Stage
 
+-- no name was met
 abbrev pub no_names : SymbolTable
 no_names = record { free = []; free_sorts = []; bound_sorts = []; clash = None; pairs = [] }
 
+-- nothing was read
 abbrev pub start : Partial
 start = record { context = record { stack = []; nodes = 0; names = no_names }; now = ExpectOperand }
 
@@ -109,9 +112,11 @@ depth (frame ∷ stack) = if opens_level frame then suc (depth stack) else depth
 abbrev pub with_now : Context → Stage → Partial
 with_now c now = record { context = c; now = now }
 
+-- with these frames open
 abbrev pub with_stack : Context → List Frame → Context
 with_stack c stack = record c { stack = stack }
 
+-- with these names met
 abbrev pub with_names : Context → SymbolTable → Context
 with_names c names = record c { names = names }
 
@@ -119,5 +124,6 @@ with_names c names = record c { names = names }
 abbrev pub counted : Context → Context
 counted c = record c { nodes = suc c.nodes }
 
+-- one frame more, the innermost
 abbrev pub pushed : Frame → Context → Context
 pushed frame c = with_stack c (frame ∷ c.stack)

@@ -1,5 +1,6 @@
 -- Which variable a name stands for, and the sorts that variables were given.
-use Rattle.std.specs.Prelude.{ℕ, zero, suc, ◌+◌, Bool, true, false, not, List, [], ◌∷◌, ◌++◌, Option, Some, None, length, position, if◌then◌else◌, slice_set, slice_get, find}
+use Rattle.std.specs.Prelude.{ℕ, ◌+◌, Bool, true, false, not, List, [], ◌∷◌, ◌++◌, Option, Some, None}
+use Rattle.std.specs.Prelude.{length, position, if◌then◌else◌, slice_set, slice_get, find}
 use Rattle.std.specs.Str.{bytes_eq}
 use Rattle.mfotl_model.specs.declared.policy.Sort.{Sort}
 use Rattle.mfotl_model.specs.declared.policy.Sort.TheVariants as sorts
@@ -11,12 +12,12 @@ use Rattle.mfotl_model.specs.declared.value.Value.TheVariants as values
 use Rattle.mfotl_parse.specs.declared.term.Operand.{Operand}
 use Rattle.mfotl_parse.specs.declared.term.Operand.TheVariants as operands
 use Rattle.mfotl_parse.specs.declared.term.Pair.{Pair}
-use Rattle.mfotl_parse.specs.declared.term.Side.{Side}
 use Rattle.mfotl_parse.specs.declared.term.Variable.{Variable}
 use Rattle.mfotl_parse.specs.declared.term.Variable.TheVariants as variables
 use Rattle.mfotl_parse.specs.States.{Frame, Parens, Negation, Moment, Binding, Left, SymbolTable}
 use Rattle.mfotl_parse.specs.Limits.{max_free}
 
+-- the number of a variable in the formula
 abbrev pub number_of : Variable → ℕ
 number_of (variables.Free k) = k
 number_of (variables.Bound k) = max_free + k
@@ -29,6 +30,7 @@ bound_as name (Moment operator interval) = None
 bound_as name (Binding quantifier variable bound) = if bytes_eq name bound then Some variable else None
 bound_as name (Left operator interval left) = None
 
+-- the inner binder, where there is one
 abbrev pub inner_or : Option ℕ → Option ℕ → Option ℕ
 inner_or (Some variable) outer = Some variable
 inner_or None outer = outer
@@ -42,10 +44,12 @@ binder_of name (frame ∷ stack) = inner_or (bound_as name frame) (binder_of nam
 abbrev pub free_place : List ℕ → SymbolTable → Option ℕ
 free_place name n = position (λ known. bytes_eq name known.0) n.free
 
+-- the free variable that was met, or one more
 abbrev pub free_or_new : Option ℕ → SymbolTable → Variable
 free_or_new (Some place) n = variables.Free place
 free_or_new None n = variables.Free (length n.free)
 
+-- the bound variable, where there is one
 abbrev pub bound_or_free : Option ℕ → List ℕ → SymbolTable → Variable
 bound_or_free (Some variable) name n = variables.Bound variable
 bound_or_free None name n = free_or_new (free_place name n) n
@@ -59,6 +63,7 @@ abbrev pub with_free : Option ℕ → List ℕ → ℕ → SymbolTable → Symbo
 with_free (Some place) name at n = n
 with_free None name at n = record n { free = n.free ++ (name, at) ∷ []; free_sorts = n.free_sorts ++ None ∷ [] }
 
+-- after a name was met at the offset, whose binder is this one
 abbrev pub met : Option ℕ → List ℕ → ℕ → SymbolTable → SymbolTable
 met (Some variable) name at n = n
 met None name at n = with_free (free_place name n) name at n
@@ -71,6 +76,7 @@ noted name at stack n = met (binder_of name stack) name at n
 abbrev pub bound_more : Option Sort → SymbolTable → SymbolTable
 bound_more sort n = record n { bound_sorts = n.bound_sorts ++ sort ∷ [] }
 
+-- the sort that was given, if any was
 abbrev pub given_at : Option (Option Sort) → Option Sort
 given_at None = None
 given_at (Some given) = given
@@ -80,16 +86,19 @@ abbrev pub sort_of : Variable → SymbolTable → Option Sort
 sort_of (variables.Free k) n = given_at (slice_get n.free_sorts k)
 sort_of (variables.Bound k) n = given_at (slice_get n.bound_sorts k)
 
+-- after the variable was given the sort
 abbrev pub with_sort : Variable → Sort → SymbolTable → SymbolTable
 with_sort (variables.Free k) sort n = record n { free_sorts = slice_set n.free_sorts k (Some sort) }
 with_sort (variables.Bound k) sort n = record n { bound_sorts = slice_set n.bound_sorts k (Some sort) }
 
+-- the sorts are the same
 abbrev pub same_sort : Sort → Sort → Bool
 same_sort sorts.Int sorts.Int = true
 same_sort sorts.Int sorts.Text = false
 same_sort sorts.Text sorts.Int = false
 same_sort sorts.Text sorts.Text = true
 
+-- the first clash stays
 abbrev pub first_of : Option ℕ → ℕ → Option ℕ
 first_of (Some before) at = Some before
 first_of None at = Some at
@@ -98,9 +107,11 @@ first_of None at = Some at
 abbrev pub clashed : ℕ → SymbolTable → SymbolTable
 clashed at n = record n { clash = first_of n.clash at }
 
+-- this sort where that one is due: it clashes unless it is the same
 abbrev pub agreed : Sort → ℕ → Sort → SymbolTable → SymbolTable
 agreed before at sort n = if same_sort before sort then n else clashed at n
 
+-- an occurrence of a variable that was given this sort before, if any
 abbrev pub occurred : Option Sort → Variable → ℕ → Sort → SymbolTable → SymbolTable
 occurred None variable at sort n = with_sort variable sort n
 occurred (Some before) variable at sort n = agreed before at sort n
@@ -109,6 +120,7 @@ occurred (Some before) variable at sort n = agreed before at sort n
 abbrev pub require_sort : Variable → ℕ → Sort → SymbolTable → SymbolTable
 require_sort variable at sort n = occurred (sort_of variable n) variable at sort n
 
+-- the sort of a constant
 abbrev pub sort_of_value : Value → Sort
 sort_of_value (values.Int number) = sorts.Int
 sort_of_value (values.Text text) = sorts.Text
@@ -129,6 +141,7 @@ compared (operands.Constant value) left_at at (operands.Variable w) right_at n =
 compared (operands.Constant c) left_at at (operands.Constant d) right_at n =
     agreed (sort_of_value c) at (sort_of_value d) n
 
+-- the term of an operand
 abbrev pub term_of : Operand → Term
 term_of (operands.Variable variable) = VarTerm (number_of variable)
 term_of (operands.Constant value) = Const value

@@ -1,10 +1,13 @@
 -- What a token does: what is read with it as far as the grammar goes, and the limits and rules that it has
 -- to keep, in the order in which they are tried. No move is a token that the grammar can't go on with.
-use Rattle.std.specs.Prelude.{ℕ, Bool, true, false, not, List, [], ◌∷◌, Option, Some, None, Result, Ok, Err, nat_le, nat_lt, if◌then◌else◌, length}
+use Rattle.std.specs.Prelude.{ℕ, Bool, true, false, not, List, [], ◌∷◌, Option, Some, None, Result, Ok, Err, nat_le}
+use Rattle.std.specs.Prelude.{if◌then◌else◌}
 use Rattle.mfotl_model.specs.declared.policy.Sort.{Sort}
 use Rattle.mfotl_parse.specs.declared.fault.PolicyFault.{PolicyFault}
-use Rattle.mfotl_parse.specs.declared.fault.PolicyFault.TheVariants.{Syntax, EmptyInterval, BoundRange, UnknownPredicate, WrongArity, TooDeep, TooManyNodes}
-use Rattle.mfotl_parse.specs.States.{Context, Partial, depth, Frame}
+use Rattle.mfotl_parse.specs.declared.fault.PolicyFault.TheVariants.{Syntax, EmptyInterval, BoundRange}
+use Rattle.mfotl_parse.specs.declared.fault.PolicyFault.TheVariants.{UnknownPredicate, WrongArity, TooDeep}
+use Rattle.mfotl_parse.specs.declared.fault.PolicyFault.TheVariants.{TooManyNodes}
+use Rattle.mfotl_parse.specs.States.{Partial, depth, Frame}
 use Rattle.mfotl_parse.specs.Limits.{max_levels, max_nodes}
 
 -- the rules that a token may break where the grammar goes on
@@ -22,6 +25,7 @@ pub record Rule : Type 0 where
   pub limit : Limit
   pub at : ℕ
 
+-- the fault of a broken rule, at the offset
 abbrev pub fault_of : Limit → ℕ → PolicyFault
 fault_of Empty at = EmptyInterval at
 fault_of Range at = BoundRange at
@@ -30,10 +34,12 @@ fault_of Arity at = WrongArity at
 fault_of Deep at = TooDeep at
 fault_of Nodes at = TooManyNodes at
 
+-- what a token does
 pub record Transition : Type 0 where
   pub rules : List Rule
   pub next : Partial
 
+-- the grammar goes on
 abbrev pub goes : List Rule → Partial → Option Transition
 goes rules next = Some (record { rules = rules; next = next })
 
@@ -60,6 +66,7 @@ within_depth at stack = record { broken = nat_le max_levels (depth stack); limit
 abbrev pub within_nodes : ℕ → ℕ → Rule
 within_nodes at nodes = record { broken = nat_le max_nodes nodes; limit = Nodes; at = at }
 
+-- no argument is due
 abbrev pub is_empty : List Sort → Bool
 is_empty [] = true
 is_empty (sort ∷ rest) = false

@@ -1,6 +1,7 @@
 -- Where the grammar alone can go on, whatever rules a token breaks. Tokens are viable where some
 -- continuation of them is accepted.
-use Rattle.std.specs.Prelude.{◌≡◌, ◌↔◌, ℕ, Bool, true, false, IsTrue, List, [], ◌∷◌, ◌++◌, Option, Some, None, Result, Ok, Err}
+use Rattle.std.specs.Prelude.{◌≡◌, ◌↔◌, ℕ, Bool, true, false, IsTrue, List, [], ◌∷◌, ◌++◌, Option, Some, None, Result}
+use Rattle.std.specs.Prelude.{Ok, Err}
 use Rattle.mfotl_lex.specs.declared.fault.LexFault.{LexFault}
 use Rattle.mfotl_lex.specs.Lexemes.{Lexeme}
 use Rattle.mfotl_sig.specs.Preds.{PredOf}
@@ -11,6 +12,7 @@ use Rattle.mfotl_parse.specs.Reading.{PolicyOf, transition, step, run, is_closed
 use Rattle.mfotl_parse.specs.Reduction.{reduce}
 use Rattle.mfotl_parse.specs.States.{Frame, Stage, Partial, AfterOperand, start}
 
+-- what follows, where the grammar goes on
 abbrev pub if_moved : Option Transition → (Partial → Bool) → Bool
 if_moved None test = false
 if_moved (Some m) test = test m.next
@@ -30,9 +32,11 @@ unfoldable pub goes_on : List PredOf → List Lexeme → Partial → Bool
 goes_on sig [] p = true
 goes_on sig (t ∷ ts) p = if_moved (transition sig p t) (goes_on sig ts)
 
+-- some continuation is accepted
 abbrev pub IsViable : List PredOf → List Lexeme → Type 0
 IsViable sig ts = (more : List Lexeme) × IsTrue (accepts sig (ts ++ more) start)
 
+-- what was read goes on, a fault stays
 abbrev pub and_steps : Result Partial PolicyFault → (Partial → Result Partial PolicyFault) → Result Partial PolicyFault
 and_steps (Ok p) next = next p
 and_steps (Err fault) next = Err fault
@@ -42,6 +46,7 @@ unfoldable pub steps : List PredOf → List Lexeme → Partial → Result Partia
 steps sig [] p = Ok p
 steps sig (t ∷ ts) p = and_steps (step sig p t) (steps sig ts)
 
+-- what the reader says of viable tokens and of the first fault
 pub record FirstFaults : Type 0 where
   -- tokens are viable exactly where the grammar goes on with each of them
   pub viable : (sig : List PredOf) (ts : List Lexeme) → IsTrue (goes_on sig ts start) ↔ IsViable sig ts

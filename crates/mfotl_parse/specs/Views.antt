@@ -1,5 +1,5 @@
 -- What the reader has in hand, without where it lies in memory.
-use Rattle.std.specs.Prelude.{◌≡◌, ℕ, List, [], ◌∷◌, ◌++◌, Option, Result, Ok, Err, map, reverse}
+use Rattle.std.specs.Prelude.{◌≡◌, ℕ, List, Result, Ok, Err, map, reverse}
 use Rattle.std.specs.Global.{Vec}
 use Rattle.mfotl_model.specs.Formulas.{form}
 use Rattle.mfotl_parse.specs.declared.fault.PolicyFault.{PolicyFault}
@@ -15,8 +15,14 @@ use Rattle.mfotl_parse.specs.declared.state.Parser.{Parser as ParserValue}
 use Rattle.mfotl_model.specs.declared.policy.Policy.{Policy}
 use Rattle.mfotl_parse.specs.Reading.{PolicyOf}
 use Rattle.mfotl_parse.specs.Transitions.{Rule, kept}
-use Rattle.mfotl_parse.specs.States.{Frame, Parens, Negation, Moment, Binding, Left, SymbolTable, Call, Context, Partial, Stage, ExpectOperand, AfterTemporal, AfterOperand, AfterWord, AfterBlank, AfterMark, ExpectSign, AfterSign, AfterSignMark, FirstArgument, NextArgument, AfterArgument, AfterArgumentMark, ExpectVariable, AfterVariableMark, AfterVariable, AfterParen, AfterParenNumber, ExpectLow, AfterLowNumber, AfterLow, ExpectHigh, AfterHighNumber, AfterHigh, AfterStar}
+use Rattle.mfotl_parse.specs.States.{Frame, Parens, Negation, Moment, Binding, Left, SymbolTable, Call, Context}
+use Rattle.mfotl_parse.specs.States.{Partial, Stage, ExpectOperand, AfterTemporal, AfterOperand, AfterWord, AfterBlank}
+use Rattle.mfotl_parse.specs.States.{AfterMark, ExpectSign, AfterSign, AfterSignMark, FirstArgument, NextArgument}
+use Rattle.mfotl_parse.specs.States.{AfterArgument, AfterArgumentMark, ExpectVariable, AfterVariableMark}
+use Rattle.mfotl_parse.specs.States.{AfterVariable, AfterParen, AfterParenNumber, ExpectLow, AfterLowNumber, AfterLow}
+use Rattle.mfotl_parse.specs.States.{ExpectHigh, AfterHighNumber, AfterHigh, AfterStar}
 
+-- a frame
 abbrev pub frame_of : FrameValue → Frame
 frame_of frames.Parens = Parens
 frame_of frames.Negation = Negation
@@ -28,9 +34,11 @@ frame_of (frames.Left operator interval left) = Left operator interval (form lef
 unfoldable pub stack_of : List FrameValue → List Frame
 stack_of frames = reverse (map frame_of frames)
 
+-- a free variable with the offset of its first occurrence
 abbrev pub known_of : Vec ℕ × ℕ → List ℕ × ℕ
 known_of entry = (entry.0.items, entry.1)
 
+-- the names that were met
 abbrev pub names_of : TableValue → SymbolTable
 names_of n = record {
   free = map known_of n.free.entries;
@@ -40,12 +48,15 @@ names_of n = record {
   pairs = n.pairs.items;
 }
 
+-- what is open and what was met
 abbrev pub context_of : ContextValue → Context
 context_of c = record { stack = stack_of c.frames.items; nodes = c.nodes; names = names_of c.names }
 
+-- an atom up to its last argument
 abbrev pub call_view : CallValue → Call
 call_view call = record { pred = call.pred; rest = call.rest.now; args = call.args.items; bound = call.bound }
 
+-- what may come next
 abbrev pub stage_of : StageValue → Stage
 stage_of stages.ExpectOperand = ExpectOperand
 stage_of stages.AfterTemporal = AfterTemporal
@@ -90,9 +101,12 @@ Gives view (Err fault) read = Fails fault read
 
 -- the context after what keeps these rules, or the first that is broken
 abbrev pub Enters : Result (Unit {0}) PolicyFault → ContextValue → List Rule → Context → Type 0
-Enters (Ok u) context rules next = kept rules (record { context = next; now = ExpectOperand }) ≡ Ok (record { context = context_of context; now = ExpectOperand })
+Enters (Ok u) context rules next =
+    kept rules (record { context = next; now = ExpectOperand })
+    ≡ Ok (record { context = context_of context; now = ExpectOperand })
 Enters (Err fault) context rules next = Fails fault (kept rules (record { context = next; now = ExpectOperand }))
 
+-- a policy up to a token
 abbrev pub partial_of : ParserValue → Partial
 partial_of p = record { context = context_of p.context; now = stage_of p.now }
 
@@ -101,5 +115,6 @@ abbrev pub Steps : Result (Unit {0}) PolicyFault → ParserValue → Result Part
 Steps (Ok u) parser read = read ≡ Ok (partial_of parser)
 Steps (Err fault) parser read = Fails fault read
 
+-- a policy
 abbrev pub policy_of : Policy → PolicyOf
 policy_of p = record { formula = form p.formula; vars = p.vars }

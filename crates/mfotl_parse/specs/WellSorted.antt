@@ -1,6 +1,6 @@
 -- What ties the columns of a policy to its formula: the free variables are numbered in the order in which they first
 -- occur, and each occurrence has the sort of its variable. It is said of the formula alone.
-use Rattle.std.specs.Prelude.{◌≡◌, ℕ, List, [], ◌∷◌, Option, None, Some, length, map, slice_get, Contains}
+use Rattle.std.specs.Prelude.{◌≡◌, ℕ, List, [], ◌∷◌, Option, None, Some, length, map, Contains}
 use Rattle.std.specs.List.{range_with_len}
 use Rattle.mfotl_model.specs.declared.policy.Sort.{Sort}
 use Rattle.mfotl_model.specs.declared.policy.Sort.TheVariants as sorts
@@ -19,6 +19,7 @@ use Rattle.mfotl_sig.specs.Preds.{PredOf}
 abbrev pub Sorting : Type 0
 Sorting = ℕ → Option Sort
 
+-- the sort of a constant
 abbrev pub sort_of_constant : Value → Sort
 sort_of_constant (values.Int number) = sorts.Int
 sort_of_constant (values.Text text) = sorts.Text
@@ -44,7 +45,8 @@ pub record FitsPredicate (sig : List PredOf) (given : Sorting) (atom : Atom) : T
 
 -- a comparison's sides: no two of different sorts, and a variable beside a constant was given its sort
 abbrev pub SidesAgree : Sorting → Term → Term → Type 0
-SidesAgree given (terms.Var x) (terms.Var y) = (left right : Sort) → given x ≡ Some left → given y ≡ Some right → left ≡ right
+SidesAgree given (terms.Var x) (terms.Var y) =
+    (left right : Sort) → given x ≡ Some left → given y ≡ Some right → left ≡ right
 SidesAgree given (terms.Var x) (terms.Const d) = given x ≡ Some (sort_of_constant d)
 SidesAgree given (terms.Const c) (terms.Var y) = given y ≡ Some (sort_of_constant c)
 SidesAgree given (terms.Const c) (terms.Const d) = sort_of_constant c ≡ sort_of_constant d

@@ -1,5 +1,5 @@
 //! Reading from the first token to the end.
-ghost use Rattle.std.specs.Prelude.{◌≡◌, ◌≢◌, ◌≤◌, length, IfOk, IfErr};
+ghost use Rattle.std.specs.Prelude.{◌≡◌, ◌≢◌, ◌≤◌, length, slice_get, IfOk, IfErr};
 ghost use Rattle.mfotl_lex.specs.Lexemes.{lexeme};
 ghost use Rattle.mfotl_model.specs.Formulas.{form};
 ghost use Rattle.mfotl_parse.specs.GrammarLaws.{IsShown};
@@ -10,6 +10,7 @@ ghost use Rattle.mfotl_parse.specs.Reading.{step, ended_at, finished, is_closed,
 ghost use Rattle.mfotl_parse.specs.Reading as reading_words;
 ghost use Rattle.mfotl_parse.specs.Reduction.{reduce};
 ghost use Rattle.mfotl_parse.specs.States.{start};
+ghost use Rattle.mfotl_parse.specs.SymbolTable.{uneven_pair, vars_of};
 ghost use Rattle.mfotl_parse.specs.WellSorted.{IsWellSorted};
 ghost use Rattle.mfotl_parse.specs.Views.{context_of, names_of, stage_of, partial_of, policy_of, GoesOn, Gives, Steps};
 
@@ -131,21 +132,43 @@ fn close(alloc: Global, context: Context, formula: Formula, end: u64) -> Result<
     }
 }
 
+/// What sorts and free variables show, where they show a fault.
+fn refusal(names: &SymbolTable) -> Option<PolicyFault>
+    ensures { result ≡ reading_words.refusal (names_of names.now).clash (uneven_pair (names_of names.now))
+        (slice_get (names_of names.now).free max_free) }
+{
+    if let Some(at) = names.clash {
+        return Some(PolicyFault::SortClash(at));
+    }
+    if let Some(pair) = names.uneven_pair() {
+        return Some(PolicyFault::SortClash(pair.at));
+    }
+    match names.ninth_free() {
+        Some(at) => Some(PolicyFault::TooManyVariables(at)),
+        None => None,
+    }
+}
+
+/// The formula with its free variables.
+fn with_vars(alloc: Global, names: &SymbolTable, formula: Formula) -> Result<Policy, PolicyFault>
+    ensures policy { IfOk result (λ policy. policy_of policy ≡ record {
+      formula = form formula;
+      vars = vars_of (names_of names.now).free (names_of names.now).free_sorts;
+    }) }
+    ensures full { IfErr result (λ fault. fault ≡ Memory) }
+{
+    let vars = names.vars(alloc)?;
+    Ok(Policy { formula, vars })
+}
+
 /// The policy, unless sorts clash or there are too many free variables.
 fn checked(alloc: Global, names: SymbolTable, formula: Formula) -> Result<Policy, PolicyFault>
     ensures { Gives policy_of result (finished (names_of names) (form formula)) }
 {
-    if let Some(at) = names.clash {
-        return Err(PolicyFault::SortClash(at));
+    match refusal(&names) {
+        Some(fault) => Err(fault),
+        None => with_vars(alloc, &names, formula),
     }
-    if let Some(pair) = names.uneven_pair() {
-        return Err(PolicyFault::SortClash(pair.at));
-    }
-    if let Some(at) = names.ninth_free() {
-        return Err(PolicyFault::TooManyVariables(at));
-    }
-    let vars = names.vars(alloc)?;
-    Ok(Policy { formula, vars })
 }
 
 /// The policy of a text, token by token.

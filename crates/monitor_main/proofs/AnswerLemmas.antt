@@ -6,7 +6,9 @@ use Rattle.mon_outside.specs.Files.{Files, content}
 use Rattle.mfotl_model.specs.Formulas.{Form}
 use Rattle.mfotl_model.specs.declared.term.Atom.{Atom as OneAtom}
 use Rattle.log_reader.specs.Readings.{Ending, Reading, NoFault, Fault}
-use Rattle.monitor_main.specs.Answer.{Answer, CheckedPolicy, Task, answer, answer_to, command_answer, core_atom, ended, log_answer, policy_at, reading_of, run_answer, task_at, task_of, unless_later}
+use Rattle.monitor_main.specs.Answer.{Answer, CheckedPolicy, Task, answer, answer_to, command_answer}
+use Rattle.monitor_main.specs.Answer.{core_atom, ended, log_answer, policy_at, reading_of, run_answer}
+use Rattle.monitor_main.specs.Answer.{task_at, task_of, unless_later}
 use Rattle.monitor_main.specs.AnswerLaws.{CheckAccepts, LaterExactly}
 use Rattle.monitor_main.specs.Refusals.{line_of}
 use Rattle.monitor_main.specs.Words.{Command, Sources, Run, Check, command_of}
@@ -28,7 +30,8 @@ task_not_later : (task : Task) → (log_answer task).err ≡ codes "policy: Late
 unfolding log_answer
 task_not_later task e = log_is_not_later task.policy.formula (reading_of task) (reading_of task).ending e
 
-only_later : (atom : Option OneAtom) (task : Task) → (run_answer (unless_later atom task)).err ≡ codes "policy: Later\n" → atom ≡ None
+only_later : (atom : Option OneAtom) (task : Task) → (run_answer
+    (unless_later atom task)).err ≡ codes "policy: Later\n" → atom ≡ None
 only_later None task e = refl
 only_later (Some atom) task e = absurd (task_not_later task e)
 
@@ -54,4 +57,5 @@ later_exactly words files sources log checked given policy_is =
 
 pub check_accepts : CheckAccepts
 unfolding command_answer
-check_accepts words files sources checked given policy_is = answer_is words files (Check sources) given ∙ rw policy_is refl
+check_accepts words files sources checked given policy_is = answer_is words files (Check sources) given
+    ∙ rw policy_is refl

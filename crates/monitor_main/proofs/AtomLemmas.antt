@@ -1,5 +1,7 @@
 -- The terms of an atom beside the values of an event.
-use Rattle.std.proofs.Common.{◌≡◌, ◌∙◌, ap, ap₂, sym, refl, arith, ℕ, suc, ◌+◌, ◌≢◌, Bool, true, false, not, ◌&&◌, ◌||◌, cond, nat_eq, nat_lt, List, [], ◌∷◌, length, map, Option, Some, None, is_some, inl, inr, one-add, slice_get, pos}
+use Rattle.std.proofs.Common.{◌≡◌, ◌∙◌, ap, ap₂, sym, refl, arith, ℕ, suc, ◌+◌, ◌≢◌, Bool, true, false, not}
+use Rattle.std.proofs.Common.{◌&&◌, ◌||◌, cond, nat_eq, nat_lt, List, [], ◌∷◌, length, map, Option, Some}
+use Rattle.std.proofs.Common.{None, is_some, inl, inr, one-add, slice_get, pos}
 use Rattle.std.specs.Prelude.{option_and_then, unwrap_or}
 use Rattle.std.proofs.Math.Dec.{leb-suc-suc}
 use Rattle.std.proofs.lemmas.Bool.{cases_eq, eq-eqb, lt-ltb, ne_eqb, or_left, or_right}
@@ -78,10 +80,12 @@ compared terms values (t ∷ ts) (a ∷ vs) same has =
     ≡ (among y (variable_in t) || among y (flat_map variable_in ts)) =
     λ y. list_any-append (nat_eq y) (variable_in t) (flat_map variable_in ts) in
     ap₂ (λ b c. b && c)
-    (own terms values t a (λ y h. has y (split y ∙ or_left (among y (variable_in t)) (among y (flat_map variable_in ts)) h)))
+    (own terms values t a (λ y h. has y (split y ∙ or_left (among y (variable_in t)) (among y
+    (flat_map variable_in ts)) h)))
     (compared terms values ts vs (omega arith)
     (λ y h. has y (split y ∙ or_right (among y (variable_in t)) (among y (flat_map variable_in ts)) h)))
-    ∙ sym (eq_then (value_cmp (term_value (read_off terms values) t) a) (row_cmp (map (term_value (read_off terms values)) ts) vs))
+    ∙ sym (eq_then (value_cmp (term_value (read_off terms values) t) a) (row_cmp (map (term_value
+    (read_off terms values)) ts) vs))
 
 -- the terms stand for the values: where there are as many of both, and never else
 pub gives_back : (terms : List Term) (values : List Value) → length terms ≡ length values

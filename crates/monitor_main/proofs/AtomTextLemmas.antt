@@ -1,5 +1,7 @@
 -- The text on a policy is a line of its query for each time-point.
-use Rattle.std.proofs.Common.{◌≡◌, ◌∙◌, ap, ap₂, sym, refl, arith, ℕ, zero, suc, ◌+◌, ◌<◌, Bool, true, not, nat_lt, List, [], ◌∷◌, ◌++◌, length, map, append_assoc, cond, ◌||◌, slice_index, slice_index_or}
+use Rattle.std.proofs.Common.{◌≡◌, ◌∙◌, ap, ap₂, sym, refl, arith, ℕ, zero, suc, ◌+◌, ◌<◌, Bool, true, not}
+use Rattle.std.proofs.Common.{nat_lt, List, [], ◌∷◌, ◌++◌, length, map, append_assoc, cond, ◌||◌, slice_index}
+use Rattle.std.proofs.Common.{slice_index_or}
 use Rattle.std.specs.List.{flat_map, list_any, range_with_len, take_while}
 use Rattle.std.proofs.Math.Seq.{get_or-append_seam}
 use Rattle.std.proofs.lemmas.List.{length-map, map-append, length-append}
@@ -50,12 +52,14 @@ module _ (f : Form) (q : Query) (is : IsQueryFor f q) where
       let log = front ++ point ∷ more in
       let ts_is : time_at (times log) (length front) ≡ point.ts =
       ap (λ xs. slice_index xs (length front)) (map-append (λ (p : TimePoint). p.ts) front (point ∷ more))
-      ∙ ap (λ k. slice_index (times front ++ point.ts ∷ times more) k) (sym (length-map front (λ (p : TimePoint). p.ts)))
+      ∙ ap (λ k. slice_index (times front ++ point.ts ∷ times more) k) (sym (length-map front (λ
+      (p : TimePoint). p.ts)))
       ∙ get_or-append_seam (times front) point.ts (times more) 0 in
       let dbs = map (λ (p : TimePoint). p.db) in
       let db_is : database_at log (length front) ≡ point.db =
       ap (λ xs. slice_index_or xs (length front) []) (map-append (λ (p : TimePoint). p.db) front (point ∷ more))
-      ∙ ap (λ k. slice_index_or (map (λ (p : TimePoint). p.db) front ++ point.db ∷ map (λ (p : TimePoint). p.db) more) k []) (sym (length-map front (λ (p : TimePoint). p.db)))
+      ∙ ap (λ k. slice_index_or (map (λ (p : TimePoint). p.db) front
+      ++ point.db ∷ map (λ (p : TimePoint). p.db) more) k []) (sym (length-map front (λ (p : TimePoint). p.db)))
       ∙ get_or-append_seam (map (λ (p : TimePoint). p.db) front) point.db (map (λ (p : TimePoint). p.db) more) [] in
       let rows_are : viol log f (length front) ≡ ascending row_cmp (matching_rows q point.db) =
       rows_are_violations f q is log (length front)
@@ -104,6 +108,8 @@ text_is_lines f q is points closed =
 
 -- some verdict has a row exactly where some time-point has
 pub rows_are_some : (f : Form) (q : Query) → IsQueryFor f q → (points : List TimePoint) (closed : Bool)
-    → list_any (λ v. not (is_empty v.rows)) (verdicts (record { points = points; closed = closed }) f) ≡ some_rows q points
+    → list_any (λ v. not (is_empty v.rows)) (verdicts
+    (record { points = points; closed = closed }) f) ≡ some_rows q points
 rows_are_some f q is points closed =
-    ap (list_any (λ (v : VerdictOf). not (is_empty v.rows))) (verdicts_are f q is points closed) ∙ rows_on f q is [] points
+    ap (list_any (λ (v : VerdictOf). not (is_empty v.rows))) (verdicts_are f q is points closed)
+    ∙ rows_on f q is [] points

@@ -1,7 +1,9 @@
 -- The violations of a policy at a time-point are the rows of its query there.
-use Rattle.std.proofs.Common.{◌≡◌, ◌≢◌, ◌∙◌, ap, ap₂, sym, refl, arith, ℕ, Bool, true, false, not, ◌&&◌, ◌||◌, cond, nat_eq, List, [], ◌∷◌, ◌++◌, length, map, Some}
+use Rattle.std.proofs.Common.{◌≡◌, ◌≢◌, ◌∙◌, ap, ap₂, sym, refl, arith, ℕ, Bool, true, false, not, ◌&&◌, ◌||◌}
+use Rattle.std.proofs.Common.{cond, nat_eq, List, [], ◌∷◌, ◌++◌, length, map, Some}
 use Rattle.std.specs.Prelude.{pos, unwrap_or}
-use Rattle.std.proofs.lemmas.Bool.{and_from, and_parts, and_right, cond-false, cond-true, eq-eqb, eqb-true, ne_eqb, not-true, or_left, or_right}
+use Rattle.std.proofs.lemmas.Bool.{and_from, and_parts, and_right, cond-false, cond-true, eq-eqb, eqb-true}
+use Rattle.std.proofs.lemmas.Bool.{ne_eqb, not-true, or_left, or_right}
 use Rattle.std.proofs.lemmas.List.{length-map}
 use Rattle.std.proofs.lemmas.List.Folds.{list_any-append}
 use Rattle.std.proofs.lemmas.Map.Views.{any-filter_same, tells_apart}
@@ -29,7 +31,7 @@ use Rattle.mfotl_model.specs.declared.value.Value.TheVariants.{Int}
 use Rattle.monitorable.proofs.DomainLemmas.{event_value, same_truth, value_among}
 use Rattle.monitorable.proofs.DomainRows.{all_read, found, has_log, row_kept, same_columns}
 use Rattle.monitorable.proofs.FreeVariableLemmas.{fv_apart}
-use Rattle.monitorable.specs.Domains.{within}
+use Rattle.mfotl_model.specs.Domains.{within}
 use Rattle.mfotl_model.specs.Matching.{Query, first_value, is_match, matching_rows, reads, row_read}
 use Rattle.monitor_main.specs.Atom.{IsQueryFor}
 use Rattle.monitor_main.specs.TextLaw.{RowsAreViolations}
@@ -45,7 +47,8 @@ Agree xs v w = (y : ℕ) → among y xs ≡ true → v y ≡ w y
 -- the valuation of a row that a valuation gives is that valuation
 valued : (columns : List ℕ) (v : Valuation) → Agree columns (valuation columns (map v columns)) v
 valued [] v y h = cc
-valued (x ∷ columns) v y h = by (nat_eq y x) refl (λ e. valued columns v y (or_second (nat_eq y x) (among y columns) e h))
+valued (x ∷ columns) v y h = by (nat_eq y x) refl (λ e. valued columns v y (or_second (nat_eq y x)
+    (among y columns) e h))
   where
     by : (b : Bool) → nat_eq y x ≡ b → (nat_eq y x ≡ false → valuation columns (map v columns) y ≡ v y)
         → cond b (v x) (valuation columns (map v columns) y) ≡ v y
@@ -78,7 +81,8 @@ module _ (q : Query) (row : List Value) (apart : all_apart q.columns ≡ true)
       let again : event_of (reads q.atom wanted) q.atom ≡ wanted =
       same_event_of (reads q.atom wanted) (valuation q.columns row) q.atom read_again in
       let read : row_read q wanted ≡ row =
-      same_columns (reads q.atom wanted) (valuation q.columns row) q.columns (λ y h. read_again y (sym (columns_are y) ∙ h))
+      same_columns (reads q.atom wanted) (valuation q.columns row) q.columns (λ y h. read_again y (sym
+      (columns_are y) ∙ h))
       ∙ row_kept q.columns row apart same in
       and_from (is_match q.atom wanted) (eq_by_cmp row_cmp row (row_read q wanted))
       (ap (λ e. eq_by_cmp event_cmp e wanted) again ∙ event_itself wanted)
@@ -101,7 +105,8 @@ module _ (q : Query) (row : List Value) (apart : all_apart q.columns ≡ true)
       → eq_by_cmp event_cmp wanted event ≡ (is_match q.atom event && eq_by_cmp row_cmp row (row_read q event))
   event_alike same event =
       same_truth (eq_by_cmp event_cmp wanted event) (is_match q.atom event && eq_by_cmp row_cmp row (row_read q event))
-      (λ h. ap (λ e. is_match q.atom e && eq_by_cmp row_cmp row (row_read q e)) (sym (tells_apart event_exact wanted event h))
+      (λ h. ap (λ e. is_match q.atom e && eq_by_cmp row_cmp row (row_read q e)) (sym
+      (tells_apart event_exact wanted event h))
       ∙ wanted_matches same)
       (matches_wanted event)
 
@@ -135,7 +140,8 @@ module _ (q : Query) (row : List Value) (apart : all_apart q.columns ≡ true)
   row_alike log f i true e =
       let same : length row ≡ length q.columns = eqb-true (length row) (length q.columns) e in
       and_turned (has_event (database_at log i) wanted) (list_all (within (adom log f)) row)
-      ∙ absorbed (list_all (within (adom log f)) row) (has_event (database_at log i) wanted) (values_found log f i same)
+      ∙ absorbed (list_all (within (adom log f)) row) (has_event (database_at log i) wanted)
+      (values_found log f i same)
       ∙ any_alike (eq_by_cmp event_cmp wanted) (λ e. is_match q.atom e && eq_by_cmp row_cmp row (row_read q e))
       (database_at log i) (event_alike same)
       ∙ sym (row_found q row (database_at log i))

@@ -1,5 +1,6 @@
 -- From the policy and the log to the whole answer.
-use Rattle.std.proofs.Common.{◌≡◌, ◌∙◌, ap, arith, subst, sym, refl, ◌⊎◌, inl, inr, ℕ, ◌≤◌, Bool, true, List, [], ◌∷◌, Option, Some, None, is_some, IsTrue}
+use Rattle.std.proofs.Common.{◌≡◌, ◌∙◌, ap, arith, subst, sym, refl, ◌⊎◌, inl, inr, ℕ, ◌≤◌, Bool, true, List}
+use Rattle.std.proofs.Common.{[], ◌∷◌, Option, Some, None, is_some, IsTrue}
 use Rattle.std.proofs.lemmas.Result.{IfErr-weaker, IfOk-weaker}
 use Rattle.std.specs.Prelude.{Result, Ok, Err, IfOk, IfErr, MatchOption, ◌≢◌, option_map}
 use Rattle.clap.specs.Words.{Text}
@@ -15,8 +16,13 @@ use Rattle.monitor_main.specs.declared.refusal.InputFile.{InputFile}
 use Rattle.monitor_main.specs.declared.refusal.InputFile.TheVariants as file
 use Rattle.monitor_main.specs.declared.refusal.Refusal.{Refusal}
 use Rattle.monitor_main.specs.declared.refusal.Refusal.TheVariants.{Usage, Later, Read, Write, Memory}
-use Rattle.monitor_main.specs.Answer.{◌>>=◌, Answer, CheckedPolicy, checked_over, Task, answer, answer_to, bytes_of, check_answer, command_answer, log_answer, ok_value, policy_at, refused, run_answer, seen_of, signature_of, source_bytes, task_at, task_of, task_on, text_at_failure, text_before, text_of_seen, text_on}
-use Rattle.monitor_main.specs.Decisions.{CarriesOut, ComesTo, CommandFails, Decides, Effect, Ends, FailsAt, FailsInLog, Finishes, HandsOn, HasCauses, MonitorsLog, Obeys, Refuses}
+use Rattle.monitor_main.specs.Answer.{◌>>=◌, Answer, CheckedPolicy, checked_over, Task, answer, answer_to}
+use Rattle.monitor_main.specs.Answer.{bytes_of, check_answer, command_answer, log_answer, ok_value, policy_at}
+use Rattle.monitor_main.specs.Answer.{refused, run_answer, seen_of, signature_of, source_bytes, task_at}
+use Rattle.monitor_main.specs.Answer.{task_of, task_on, text_at_failure, text_before, text_of_seen, text_on}
+use Rattle.monitor_main.specs.Decisions.{CarriesOut, ComesTo, CommandFails, Decides, Effect, Ends, FailsAt}
+use Rattle.monitor_main.specs.Decisions.{FailsInLog, Finishes, HandsOn, HasCauses, MonitorsLog, Obeys}
+use Rattle.monitor_main.specs.Decisions.{Refuses}
 use Rattle.monitor_main.specs.FilesAsked.{AsksInOrder, names_to, source_names}
 use Rattle.monitor_main.specs.Loading.{HasNoPolicy, IsLoadFault, IsSource, LoadsSources, NoPolicy, StopsInSources}
 use Rattle.monitor_main.specs.LogRuns.{IsOutputFault}
@@ -28,7 +34,8 @@ use Rattle.monitor_main.proofs.LoadLemmas.{rose_later}
 use Rattle.monitor_main.proofs.SinkLemmas.{appends_none, no_front}
 use Rattle.monitor_main.proofs.ToldLemmas.{asked_none, asked_twice, told_all, told_at, told_both, told_map}
 
-module _ (a b : Answer) (same : a ≡ b) (fails others : InputFile → Type 0) (more : (name : InputFile) → fails name → others name)
+module _ (a b : Answer) (same : a ≡ b) (fails others : InputFile → Type 0) (more : (name : InputFile) → fails name
+    → others name)
     (old new : Option (List ℕ)) where
   ends_as : (r : Refusal) → Ends a fails old new r → Ends b others old new r
   ends_as (Read name) h = more name h
@@ -45,7 +52,8 @@ module _ (a b : Answer) (same : a ≡ b) (fails others : InputFile → Type 0) (
   }
 
 -- want of memory is any answer's
-pub comes_memory : (a : Answer) (fails : InputFile → Type 0) (old : Option (List ℕ)) → ComesTo a fails old old (Err Memory)
+pub comes_memory : (a : Answer) (fails : InputFile → Type 0) (old : Option (List ℕ))
+    → ComesTo a fails old old (Err Memory)
 comes_memory a fails old = record { ok = tt; refused = tt; front = no_front old a.out }
 
 refuses_at : (r : Refusal) (old : Option (List ℕ)) → Refuses (refused r) old old r
@@ -64,10 +72,14 @@ unwritten before after out = record { before = before; after = after; old = out;
 
 module _ (command : Command) (sources : Sources)
     (names : (last : InputFile) → IsSource last → names_to command last ≡ source_names sources last)
-    (bytes : (files : Files) (last : InputFile) → IsSource last → bytes_of command files last ≡ source_bytes sources files last)
-    (due : (files : Files) (last : InputFile) (seen : List ℕ) → IsSource last → text_at_failure command files last seen ≡ Some [])
-    (refuses : (files : Files) (r : Refusal) → policy_at sources files ≡ Err r → command_answer command files ≡ refused r)
-    (before after : InputsView) (out : SinkView) (same : after.files ≡ before.files) (later : before.faults ≤ after.faults) where
+    (bytes : (files : Files) (last : InputFile) → IsSource last
+    → bytes_of command files last ≡ source_bytes sources files last)
+    (due : (files : Files) (last : InputFile) (seen : List ℕ) → IsSource last
+    → text_at_failure command files last seen ≡ Some [])
+    (refuses : (files : Files) (r : Refusal) → policy_at sources files ≡ Err r
+    → command_answer command files ≡ refused r)
+    (before after : InputsView) (out : SinkView) (same : after.files ≡ before.files)
+    (later : before.faults ≤ after.faults) where
   module _ (r : Refusal) (s : StopsInSources sources before after r) where
     asked_there : after.asked ≡ asked_more before.asked (names_to command s.last)
     asked_there = s.asked ∙ ap (asked_more before.asked) (sym (names s.last s.is_source))
@@ -76,7 +88,8 @@ module _ (command : Command) (sources : Sources)
     asks_there = record {
       last = Some s.last;
       asked = asked_there;
-      reached = told_map before.files _ _ (λ files n. ap is_some (bytes files s.last s.is_source ∙ n.reached)) s.refuses;
+      reached = told_map before.files _ _ (λ files n. ap is_some (bytes files s.last s.is_source
+          ∙ n.reached)) s.refuses;
     }
 
     fails_there : (files : Files) (all : List ℕ) → source_bytes sources files s.last ≡ Some all
@@ -93,23 +106,27 @@ module _ (command : Command) (sources : Sources)
 
     ends_there : (files : Files) (all : List ℕ) → source_bytes sources files s.last ≡ Some all → (other : Refusal)
         → IsLoadFault s.last before after other → HasNoPolicy sources files all after other
-        → Ends (command_answer command files) (CommandFails command files (unwritten before after out)) out.written out.written other
+        → Ends (command_answer command files) (CommandFails command files
+        (unwritten before after out)) out.written out.written other
     ends_there files all reached Usage fault why = absurd fault
     ends_there files all reached (Read told) fault why =
-        subst (CommandFails command files (unwritten before after out)) (sym fault.0) (fails_there files all reached why)
+        subst (CommandFails command files (unwritten before after out)) (sym fault.0)
+        (fails_there files all reached why)
     ends_there files all reached Write fault why = absurd fault
     ends_there files all reached Memory fault why = tt
     ends_there files all reached other fault why = rw (refuses files other why) (refuses_at other out.written)
 
     comes_there : (files : Files) → NoPolicy sources files s.last after r
-        → ComesTo (command_answer command files) (CommandFails command files (unwritten before after out)) out.written out.written (Err r)
+        → ComesTo (command_answer command files) (CommandFails command files
+        (unwritten before after out)) out.written out.written (Err r)
     comes_there files n = record {
       ok = tt;
       refused = ends_there files n.all n.reached r s.fault n.why;
       front = no_front out.written (command_answer command files).out;
     }
 
-    causes_there : (other : Refusal) → IsLoadFault s.last before after other → HasCauses ⊥ (unwritten before after out) other
+    causes_there : (other : Refusal) → IsLoadFault s.last before after other
+        → HasCauses ⊥ (unwritten before after out) other
     causes_there Usage fault = absurd fault
     causes_there (Read told) fault = fault.1
     causes_there Write fault = absurd fault
@@ -153,7 +170,8 @@ module _ (sources : Sources) where
     unfolding command_answer task_at
     run_refuses files r e = rw e refl
 
-    pub run_stops : (before after : InputsView) (out : SinkView) → after.files ≡ before.files → before.faults ≤ after.faults
+    pub run_stops : (before after : InputsView) (out : SinkView) → after.files ≡ before.files
+        → before.faults ≤ after.faults
         → (r : Refusal) → StopsInSources sources before after r
         → CarriesOut (Run sources log) (unwritten before after out) (Err r)
     run_stops = stops_there (Run sources log) sources run_names run_bytes run_due run_refuses
@@ -180,7 +198,8 @@ module _ (sources : Sources) where
   unfolding command_answer
   check_refuses files r e = rw e refl
 
-  pub check_stops : (before after : InputsView) (out : SinkView) → after.files ≡ before.files → before.faults ≤ after.faults
+  pub check_stops : (before after : InputsView) (out : SinkView) → after.files ≡ before.files
+      → before.faults ≤ after.faults
       → (r : Refusal) → StopsInSources sources before after r
       → CarriesOut (Check sources) (unwritten before after out) (Err r)
   check_stops = stops_there (Check sources) sources check_names check_bytes check_due check_refuses
@@ -255,11 +274,14 @@ module _ (sources : Sources) (log : Name) (before mid : InputsView) (checked : C
       unfolding bytes_of
       log_reached = ap (λ (t : Result Task Refusal). option_map (λ (t : Task). t.log) (ok_value t)) made_at
 
-      before_clear : (f : Form) (r : Reading) (ending : Ending) → ending ≡ NoFault → text_before f r ending ≡ Some (text_on f r)
+      before_clear : (f : Form) (r : Reading) (ending : Ending) → ending ≡ NoFault
+          → text_before f r ending ≡ Some (text_on f r)
       before_clear f r ending e = rw e refl
 
-      fails_at_log : FailsInLog (task_on checked (content files log)) (record { before = mid; after = after; old = old; new = new }) file.Log
-          → CommandFails (Run sources log) files (record { before = before; after = after; old = old; new = new }) file.Log
+      fails_at_log : FailsInLog (task_on checked (content files log))
+          (record { before = mid; after = after; old = old; new = new }) file.Log
+          → CommandFails (Run sources log) files
+          (record { before = before; after = after; old = old; new = new }) file.Log
       unfolding text_at_failure
       fails_at_log f =
           let task : Task = task_on checked (content files log) in
@@ -270,12 +292,14 @@ module _ (sources : Sources) (log : Name) (before mid : InputsView) (checked : C
             stops = f.stops;
             text = text_on task.policy.formula (seen_of task f.stops.seen);
             due = ap (λ (t : Result Task Refusal). text_of_seen t f.stops.seen) made_at
-                ∙ before_clear task.policy.formula (seen_of task f.stops.seen) (seen_of task f.stops.seen).ending f.clear;
+                ∙ before_clear task.policy.formula (seen_of task f.stops.seen)
+                (seen_of task f.stops.seen).ending f.clear;
             written = f.written;
           }
 
       fails_by_name : (name : InputFile) → name ≡ file.Log
-          → FailsInLog (task_on checked (content files log)) (record { before = mid; after = after; old = old; new = new }) name
+          → FailsInLog (task_on checked (content files log))
+          (record { before = mid; after = after; old = old; new = new }) name
           → CommandFails (Run sources log) files (record { before = before; after = after; old = old; new = new }) name
       fails_by_name file.Signature e f = absurd cc
       fails_by_name file.Policy e f = absurd cc
@@ -299,15 +323,18 @@ module _ (sources : Sources) (log : Name) (before mid : InputsView) (checked : C
         asks = record {
           last = Some file.Log;
           asked = all_asked after old new made m.asked;
-          reached = told_map before.files _ _ (λ files e. ap is_some (log_reached after old new made m.asked files e)) loads.is;
+          reached = told_map before.files _ _ (λ files e. ap is_some
+              (log_reached after old new made m.asked files e)) loads.is;
         };
         decides = record {
           files = m.decides.files ∙ same;
           later = omega (arith, m.decides.later);
           later_out = m.decides.later_out;
           comes = told_both before.files _ _ _
-              (λ files e c. comes_as _ _ (answer_is files (Ok (task_on checked (content files log))) e (made (content files log))) _ _
-              (λ name f. fails_by_name after old new made m.asked files e name f.named f) old.written new.written result c)
+              (λ files e c. comes_as _ _ (answer_is files (Ok (task_on checked (content files log))) e (made
+              (content files log))) _ _
+              (λ name f. fails_by_name after old new made m.asked files e name f.named f) old.written new.written
+              result c)
               loads.is comes;
           causes = IfErr-weaker result _ _ (later_causes after old new made m.asked) m.decides.causes;
         };
@@ -329,7 +356,8 @@ output_causes e r h = absurd h
 module _ (sources : Sources) (before after : InputsView) (old new : SinkView) (checked : CheckedPolicy)
     (loads : LoadsSources sources checked before after)
     (same : after.files ≡ before.files) (later : before.faults ≤ after.faults) where
-  check_is : (files : Files) → policy_at sources files ≡ Ok checked → check_answer (Ok checked) ≡ command_answer (Check sources) files
+  check_is : (files : Files) → policy_at sources files ≡ Ok checked
+      → check_answer (Ok checked) ≡ command_answer (Check sources) files
   unfolding command_answer
   check_is files e = rw e refl
 
@@ -398,7 +426,8 @@ module _ (words : List Text) (e : Effect) (command : Command) (given : command_o
 
 module _ (words : List Text) (inputs : InputsView) (out : SinkView) where
   refused_words : (files : Files) → command_of words ≡ None
-      → ComesTo (answer words files) (FailsAt words files (unwritten inputs inputs out)) out.written out.written (Err Usage)
+      → ComesTo (answer words files) (FailsAt words files (unwritten inputs inputs out)) out.written out.written
+      (Err Usage)
   unfolding answer
   refused_words files none = rw none (comes_refused Usage _ out.written (refuses_at Usage out.written))
 
@@ -412,7 +441,8 @@ module _ (words : List Text) (inputs : InputsView) (out : SinkView) where
   }
 
   not_read : (r : Refusal)
-      → ((files : Files) → ComesTo (answer words files) (FailsAt words files (unwritten inputs inputs out)) out.written out.written (Err r))
+      → ((files : Files) → ComesTo (answer words files) (FailsAt words files
+      (unwritten inputs inputs out)) out.written out.written (Err r))
       → HasCauses (command_of words ≡ None) (unwritten inputs inputs out) r
       → Obeys words (unwritten inputs inputs out) (Err r)
   not_read r comes causes = record {
@@ -427,7 +457,8 @@ module _ (words : List Text) (inputs : InputsView) (out : SinkView) where
   }
 
   -- the words were not read
-  pub words_refused : (f : WordsFault) (r : Refusal) → r ≡ words_refusal f → (f ≡ fault.Usage → command_of words ≡ None)
+  pub words_refused : (f : WordsFault) (r : Refusal) → r ≡ words_refusal f → (f ≡ fault.Usage
+      → command_of words ≡ None)
       → Obeys words (unwritten inputs inputs out) (Err r)
   words_refused fault.Usage r is none =
       rw is (not_read Usage (λ files. refused_words files (none refl)) (none refl))
@@ -463,7 +494,8 @@ module _ (words : List Text) (before after : InputsView) (old mid new : SinkView
   causes_flushed Write h = omega arith
   causes_flushed r h = tt
 
-  flushed : (result : Result Bool Refusal) → Obeys words (record { before = before; after = after; old = old; new = mid }) result
+  flushed : (result : Result Bool Refusal) → Obeys words
+      (record { before = before; after = after; old = old; new = mid }) result
       → Obeys words (record { before = before; after = after; old = old; new = new }) result
   flushed result o = record {
     asks = o.asks;
@@ -473,7 +505,8 @@ module _ (words : List Text) (before after : InputsView) (old mid new : SinkView
       later_out = omega (arith, o.decides.later_out);
       comes = told_map before.files _ _
           (λ files c. subst (λ (written : Option (List ℕ)). ComesTo (answer words files)
-          (FailsAt words files (record { before = before; after = after; old = old; new = new })) old.written written result)
+          (FailsAt words files
+          (record { before = before; after = after; old = old; new = new })) old.written written result)
           (sym kept) (comes_as _ _ refl _ _ (fails_flushed files) old.written mid.written result c))
           o.decides.comes;
       causes = IfErr-weaker result _ _ causes_flushed o.decides.causes;
@@ -491,7 +524,8 @@ module _ (words : List Text) (before after : InputsView) (old mid new : SinkView
       files = o.decides.files;
       later = o.decides.later;
       later_out = omega (arith, o.decides.later_out);
-      comes = told_map before.files _ _ (λ files c. record { ok = tt; refused = tt; front = rw kept c.front }) o.decides.comes;
+      comes = told_map before.files _ _
+          (λ files c. record { ok = tt; refused = tt; front = rw kept c.front }) o.decides.comes;
       causes = rose_later old.faults mid.faults new.faults o.decides.later_out rose;
     };
   }

@@ -5,7 +5,6 @@ pub mod AtomViolations
 pub mod AtomTextLemmas
 pub mod ToldLemmas
 pub mod LoadLemmas
-pub mod GrowthLemmas
 pub mod SinkLemmas
 pub mod LogLemmas
 pub mod PointLemmas

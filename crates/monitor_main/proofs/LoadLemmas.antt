@@ -6,7 +6,8 @@ use Rattle.mon_outside.specs.Files.{Files, ToldFiles, content}
 use Rattle.mon_outside.specs.Inputs.{Name, asked_more}
 use Rattle.mon_outside.specs.Views.{InputsView}
 use Rattle.mfotl_sig.specs.Preds.{PredOf}
-use Rattle.monitor_main.specs.Answer.{◌>>=◌, CheckedPolicy, checked_over, ok_value, policy_at, signature_of, source_bytes}
+use Rattle.monitor_main.specs.Answer.{◌>>=◌, CheckedPolicy, checked_over, ok_value, policy_at, signature_of}
+use Rattle.monitor_main.specs.Answer.{source_bytes}
 use Rattle.monitor_main.specs.FilesAsked.{source_names}
 use Rattle.monitor_main.specs.Loading.{HasNoPolicy, IsLoadFault, IsRefused, LoadsSources, NoPolicy, StopsInSources}
 use Rattle.monitor_main.specs.Words.{Sources}
@@ -27,7 +28,8 @@ module _ (sources : Sources) (before after : InputsView) where
   unfolding source_bytes
   no_signature_in r files why = record { all = content files sources.sig; reached = refl; why = why }
 
-  unsigned : (r : Refusal) (files : Files) → signature_of (content files sources.sig) ≡ Err r → policy_at sources files ≡ Err r
+  unsigned : (r : Refusal) (files : Files) → signature_of (content files sources.sig) ≡ Err r
+      → policy_at sources files ≡ Err r
   unfolding policy_at
   unsigned r files e = rw e refl
 
@@ -41,7 +43,8 @@ module _ (sources : Sources) (before after : InputsView) where
   signature_refuses : (r : Refusal) → IsRefused file.Signature sources.sig signature_of before after r
       → ToldFiles before.files (λ files. NoPolicy sources files file.Signature after r)
   signature_refuses Usage h = absurd h
-  signature_refuses (Read told) h = told_map before.files _ _ (λ files stops. no_signature_in (Read told) files stops) h.stops
+  signature_refuses (Read told) h = told_map before.files _ _ (λ files stops. no_signature_in
+      (Read told) files stops) h.stops
   signature_refuses Write h = absurd h
   signature_refuses Memory h = told_all before.files _ (λ files. no_signature_in Memory files tt)
   signature_refuses r h = told_map before.files _ _ (λ files e. no_signature_in r files (unsigned r files e)) h
@@ -60,12 +63,14 @@ module _ (sources : Sources) (before after : InputsView) where
 -- ---- the signature is read
 
 -- the policy behind an accepted signature
-behind_sig : (sources : Sources) (files : Files) (sig : List PredOf) → signature_of (content files sources.sig) ≡ Ok sig
+behind_sig : (sources : Sources) (files : Files) (sig : List PredOf)
+    → signature_of (content files sources.sig) ≡ Ok sig
     → policy_at sources files ≡ checked_over sig (content files sources.policy)
 unfolding policy_at
 behind_sig sources files sig e = rw e refl
 
-policy_reached : (sources : Sources) (files : Files) (sig : List PredOf) → signature_of (content files sources.sig) ≡ Ok sig
+policy_reached : (sources : Sources) (files : Files) (sig : List PredOf)
+    → signature_of (content files sources.sig) ≡ Ok sig
     → source_bytes sources files file.Policy ≡ Some (content files sources.policy)
 unfolding source_bytes
 policy_reached sources files sig e = rw e refl

@@ -1,5 +1,7 @@
 -- Line after line of the time-points that a reader gives.
-use Rattle.std.proofs.Common.{◌≡◌, ◌∙◌, ap, ap₂, subst, sym, refl, arith, ℕ, zero, suc, ◌+◌, ◌<◌, ◌≤◌, Bool, true, false, not, ◌||◌, List, [], ◌∷◌, ◌++◌, length, take, drop, Option, append_assoc, append-nil, add-one, add-zero}
+use Rattle.std.proofs.Common.{◌≡◌, ◌∙◌, ap, ap₂, subst, sym, refl, arith, ℕ, zero, suc, ◌+◌, ◌<◌, ◌≤◌, Bool}
+use Rattle.std.proofs.Common.{true, false, not, ◌||◌, List, [], ◌∷◌, ◌++◌, length, take, drop, Option}
+use Rattle.std.proofs.Common.{append_assoc, append-nil, add-one, add-zero}
 use Rattle.std.specs.Prelude.{Result, Ok, Err}
 use Rattle.std.proofs.lemmas.List.{length-take-le, take-append-drop}
 use Rattle.std.proofs.lemmas.List.Folds.{list_any-append}
@@ -7,7 +9,7 @@ use Rattle.std.proofs.Math.Bool.{or-false}
 use Rattle.mon_outside.specs.Sink.{Appends, AppendsFront}
 use Rattle.mfotl_model.specs.declared.event.TimePoint.{TimePoint}
 use Rattle.log_reader.specs.Progress.{Progress, answer_by, due, read}
-use Rattle.log_reader.specs.Readers.{Reader, Reads}
+use Rattle.log_reader.specs.Readers.{ForEach, Reader, Reads, progress}
 use Rattle.log_reader.specs.Readings.{NoFault, Ending, Fault}
 use Rattle.log_reader.specs.declared.fault.LogFault.{LogFault}
 use Rattle.log_reader.specs.declared.next.Next.{Next}
@@ -56,7 +58,8 @@ gives_fault ended [] (Fault other) fault e = record { none = refl; ending_is = c
 gives_fault true [] NoFault fault e = absurd cc
 gives_fault false [] NoFault fault e = absurd cc
 
-drop_length : (n : ℕ) (ps : List TimePoint) (p : TimePoint) (rest : List TimePoint) → drop n ps ≡ p ∷ rest → n < length ps
+drop_length : (n : ℕ) (ps : List TimePoint) (p : TimePoint) (rest : List TimePoint) → drop n ps ≡ p ∷ rest
+    → n < length ps
 drop_length zero [] p rest e = absurd cc
 drop_length zero (q ∷ ps) p rest e = omega arith
 drop_length (suc n) [] p rest e = absurd cc
@@ -114,12 +117,12 @@ module _ (q : Query) where
   front_of_lines n ps = ap (lines_from q 0) (sym (take-append-drop n ps)) ∙ lines_from-append 0 (take n ps) (drop n ps)
 
   -- so many time-points were given, and their lines were written
-  pub record SoFar (start : Progress) (reader : Reader) (number : ℕ) (old new : Option (List ℕ)) (violated : Bool) (before now : ℕ) : Type 0 where
-    pub reads : Reads reader (record start { given = number })
+  pub record SoFar (start : Progress) (reader : Reader) (number : ℕ) (old new : Option (List ℕ)) (violated : Bool)
+      : Type 0 where
+    pub reads : Reads reader start.bytes
+    pub reader_is : progress reader start.bytes ≡ record start { given = number }
     pub written : Appends old new (lines_from q 0 (take number (read start).points))
     pub some : violated ≡ some_rows q (take number (read start).points)
-    pub later : before ≤ now
-    pub few : number ≤ start.limits.points
 
   module _ (start : Progress) (number : ℕ) (old mid : Option (List ℕ)) (violated : Bool)
       (written : Appends old mid (lines_from q 0 (take number (read start).points)))
@@ -164,11 +167,13 @@ module _ (q : Query) where
         → EndsClear q (read start) old mid violated
     ends_clear g = record {
       clear = g.ending_is;
-      written = subst (λ ps. Appends old mid (lines_from q 0 ps)) (take_none_left number (read start).points g.none) written;
+      written = subst (λ ps. Appends old mid (lines_from q 0 ps)) (take_none_left number
+          (read start).points g.none) written;
       some = some ∙ ap (some_rows q) (take_none_left number (read start).points g.none);
     }
 
-    pub stops_there : (fault : LogFault) → GivesEnding (drop number (read start).points) (read start).ending (Fault fault)
+    pub stops_there : (fault : LogFault) → GivesEnding (drop number (read start).points) (read start).ending
+        (Fault fault)
         → ((read start).ending ≡ Fault fault) × Appends old mid (lines_of q (read start))
     stops_there fault g = (
       g.ending_is,
@@ -176,62 +181,62 @@ module _ (q : Query) where
     )
 
   -- nothing was given
-  pub begins : (reader : Reader) (start : Progress) (old : Option (List ℕ)) (before : ℕ) → reader.given ≡ 0
-      → Reads reader start → SoFar start reader 0 old old false before before
+  pub begins : (reader : Reader) (bytes : List ℕ) (old : Option (List ℕ)) → reader.given ≡ 0
+      → Reads reader bytes → SoFar (progress reader bytes) reader 0 old old false
   unfolding lines_from some_rows
-  begins reader start old before first reads = record {
-    reads = subst (λ (p : Progress). Reads reader p)
-        (ap (λ n. record start { given = n }) (ap (λ (p : Progress). p.given) reads.same ∙ first)) reads;
+  begins reader bytes old first reads = record {
+    reads = reads;
+    reader_is = ap (λ n. record (progress reader bytes) { given = n }) first;
     written = appends_none old;
     some = refl;
-    later = omega arith;
-    few = omega arith;
   }
 
-  module _ (start : Progress) (reader : Reader) (number : ℕ) (old mid : Option (List ℕ)) (violated : Bool) (before now : ℕ)
-      (so_far : SoFar start reader number old mid violated before now) where
-    -- the reader stands for this progress
-    abbrev here : Progress
-    here = record start { given = number }
+  module _ (start : Progress) (reader : Reader) (number : ℕ) (old mid : Option (List ℕ)) (violated : Bool)
+      (so_far : SoFar start reader number old mid violated) where
+    due_is : (answer : Result Next LogFault) → due (progress reader start.bytes) ≡ answer
+        → due (record start { given = number }) ≡ answer
+    due_is answer e = subst (λ (p : Progress). due p ≡ answer) so_far.reader_is e
 
     pub front : AppendsFront old mid (lines_of q (read start))
     front = front_so_far start number old mid violated so_far.written so_far.some
 
-    pub part : (point : TimePoint) → due here ≡ Ok (Point point) → (new : Option (List ℕ))
+    pub part : (point : TimePoint) → due (progress reader start.bytes) ≡ Ok (Point point) → (new : Option (List ℕ))
         → AppendsFront mid new (line_at q number point) → AppendsFront old new (lines_of q (read start))
-    part point e = front_of_one_more start number old mid violated so_far.written so_far.some point e
+    part point e =
+        front_of_one_more start number old mid violated so_far.written so_far.some point (due_is (Ok (Point point)) e)
 
-    pub goes_on : (point : TimePoint) → due here ≡ Ok (Point point) → (next : Reader)
-        → Reads next (record here { given = here.given + 1 }) → next.given ≤ next.limits.points
-        → (new : Option (List ℕ)) (has_row : Bool)
-        → WritesPoint q number point mid new has_row → (later_now : ℕ) → now ≤ later_now
-        → SoFar start next (number + 1) old new (violated || has_row) before later_now
-    goes_on point e next reads next_few new has_row w later_now not_before = record {
-      reads = reads;
-      written = one_more start number old mid violated so_far.written so_far.some point e new has_row w;
-      some = one_more_row start number old mid violated so_far.written so_far.some point e new has_row w;
-      later = omega (arith, so_far.later, not_before);
-      few =
-          let given : number + 1 ≡ next.given = ap (λ (p : Progress). p.given) reads.same in
-          let points : start.limits.points ≡ next.limits.points = ap (λ (p : Progress). p.limits.points) reads.same in
-          omega (arith, next_few, given, points);
-    }
+    pub goes_on : (point : TimePoint) → due (progress reader start.bytes) ≡ Ok (Point point) → (next : Reader)
+        → next ≡ record reader { given = reader.given + 1; kept = next.kept } → ForEach reader (Reads next)
+        → (new : Option (List ℕ)) (has_row : Bool) → WritesPoint q number point mid new has_row
+        → SoFar start next (number + 1) old new (violated || has_row)
+    goes_on point e next next_is reads_on new has_row w =
+        let due_point = due_is (Ok (Point point)) e in
+        let next_at : progress next start.bytes ≡ record start { given = number + 1 } =
+        ap (λ (r : Reader). progress r start.bytes) next_is
+        ∙ ap (λ (p : Progress). record p { given = p.given + 1 }) so_far.reader_is in
+        record {
+          reads = reads_on start.bytes so_far.reads;
+          reader_is = next_at;
+          written = one_more start number old mid violated so_far.written so_far.some point due_point new has_row w;
+          some = one_more_row start number old mid violated so_far.written so_far.some point due_point new has_row w;
+        }
 
-    pub ends_more : due here ≡ Ok More → EndsClear q (read start) old mid violated
+    pub ends_more : due (progress reader start.bytes) ≡ Ok More → EndsClear q (read start) old mid violated
     ends_more e = ends_clear start number old mid violated so_far.written so_far.some
-        (gives_more start.is_ended (drop number (read start).points) (read start).ending e)
+        (gives_more start.is_ended (drop number (read start).points) (read start).ending (due_is (Ok More) e))
 
-    pub ends_end : due here ≡ Ok End → EndsClear q (read start) old mid violated
+    pub ends_end : due (progress reader start.bytes) ≡ Ok End → EndsClear q (read start) old mid violated
     ends_end e = ends_clear start number old mid violated so_far.written so_far.some
-        (gives_end start.is_ended (drop number (read start).points) (read start).ending e)
+        (gives_end start.is_ended (drop number (read start).points) (read start).ending (due_is (Ok End) e))
 
-    pub stops : (fault : LogFault) → due here ≡ Err fault
+    pub stops : (fault : LogFault) → due (progress reader start.bytes) ≡ Err fault
         → ((read start).ending ≡ Fault fault) × Appends old mid (lines_of q (read start))
     stops fault e = stops_there start number old mid violated so_far.written so_far.some fault
-        (gives_fault start.is_ended (drop number (read start).points) (read start).ending fault e)
+        (gives_fault start.is_ended (drop number (read start).points) (read start).ending fault (due_is (Err fault) e))
 
     -- the fault stops the lines
-    pub stops_by : (fault : LogFault) (r : Refusal) → r ≡ log_refusal fault → Fails fault (due here)
+    pub stops_by : (fault : LogFault) (r : Refusal) → r ≡ log_refusal fault
+        → Fails fault (due (progress reader start.bytes)) → (before now : ℕ)
         → StopsLines q (read start) old mid before now r
-    stops_by log.Memory r is e = rw is tt
-    stops_by fault r is e = rw is (stops fault e)
+    stops_by log.Memory r is e before now = rw is tt
+    stops_by fault r is e before now = rw is (stops fault e)

@@ -1,5 +1,6 @@
 -- From the lines that were written to the answer on the log.
-use Rattle.std.proofs.Common.{◌≡◌, ◌∙◌, ◌⊎◌, inl, inr, ap, arith, subst, sym, refl, ℕ, ◌+◌, ◌<◌, ◌≤◌, Bool, true, false, not, List, [], ◌∷◌, ◌++◌, length, Option, append-nil}
+use Rattle.std.proofs.Common.{◌≡◌, ◌∙◌, ◌⊎◌, inl, inr, ap, arith, subst, sym, refl, ℕ, ◌+◌, ◌<◌, ◌≤◌, Bool}
+use Rattle.std.proofs.Common.{true, false, not, List, [], ◌∷◌, ◌++◌, length, Option, append-nil}
 use Rattle.std.proofs.lemmas.Result.{IfErr-weaker, IfOk-weaker}
 use Rattle.std.specs.Prelude.{Result, Ok, Err, IfOk, IfErr}
 use Rattle.mon_outside.specs.Causes.{Rose}
@@ -18,14 +19,15 @@ use Rattle.monitor_main.specs.declared.refusal.Refusal.TheVariants.{Log, Read, W
 use Rattle.mfotl_model.specs.Formulas.{Form}
 use Rattle.mfotl_model.specs.Matching.{Query}
 use Rattle.monitor_main.specs.Atom.{IsQueryFor}
-use Rattle.monitor_main.specs.Answer.{CheckedPolicy, Task, task_on, ended, log_answer, reading_of, seen_of, standard, text_on, verdict_status, violated_on}
+use Rattle.monitor_main.specs.Answer.{CheckedPolicy, Task, task_on, ended, log_answer, reading_of, seen_of}
+use Rattle.monitor_main.specs.Answer.{standard, text_on, verdict_status, violated_on}
 use Rattle.monitor_main.specs.AtomText.{lines_from, some_rows}
 use Rattle.monitor_main.specs.Decisions.{ComesTo, Effect, Ends, FailsInLog, Finishes, HasCauses, MonitorsLog, Refuses}
-use Rattle.monitor_main.specs.Growth.{Keeps}
+use Rattle.log_reader.specs.Growth.{Keeps}
 use Rattle.log_reader.specs.Limits.{byte_limit}
 use Rattle.monitor_main.specs.LogRuns.{EndsClear, IsGathered, StopsBytes, lines_of}
 use Rattle.monitor_main.proofs.AtomTextLemmas.{rows_are_some, text_is_lines}
-use Rattle.monitor_main.proofs.GrowthLemmas.{long_same, shown_stays}
+use Rattle.log_reader.proofs.GrowthLemmas.{long_same, shown_stays}
 use Rattle.monitor_main.proofs.PointLemmas.{lines_from-append}
 use Rattle.monitor_main.proofs.SinkLemmas.{longer_front, no_front}
 use Rattle.monitor_main.proofs.ToldLemmas.{told_all, told_map}
@@ -39,9 +41,11 @@ unfolding violated_on
 violated_is f q asks r = rows_are_some f q asks r.points false
 
 -- bytes past the limit don't count
-whole_reading : (sig : List PredOf) (limits : Limits) (bytes left : List ℕ) → (left ≡ []) ⊎ (limits.bytes < length bytes)
+whole_reading : (sig : List PredOf) (limits : Limits) (bytes left : List ℕ)
+    → (left ≡ []) ⊎ (limits.bytes < length bytes)
     → accepted sig limits (bytes ++ left) ≡ accepted sig limits bytes
-whole_reading sig limits bytes left (inl none) = ap (accepted sig limits) (ap (λ (l : List ℕ). bytes ++ l) none ∙ append-nil bytes)
+whole_reading sig limits bytes left (inl none) = ap (accepted sig limits) (ap (λ (l : List ℕ). bytes ++ l) none
+    ∙ append-nil bytes)
 whole_reading sig limits bytes left (inr long) =
     long_same sig limits bytes left long ∙ sym (long_same sig limits bytes [] long)
     ∙ ap (accepted sig limits) (append-nil bytes)
@@ -59,7 +63,8 @@ module _ (task : Task) (q : Query) (asks : IsQueryFor task.policy.formula q) (e 
 
   out_is : (log_answer task).out ≡ lines_of q (reading_of task)
   unfolding log_answer
-  out_is = out_of_ended task.policy.formula (reading_of task) (reading_of task).ending ∙ text_is task.policy.formula q asks (reading_of task)
+  out_is = out_of_ended task.policy.formula (reading_of task) (reading_of task).ending
+      ∙ text_is task.policy.formula q asks (reading_of task)
 
   -- all was given that counts
   all_given : failed ≡ false → reading_of task ≡ reading task.sig standard bytes true
@@ -189,7 +194,8 @@ module _ (checked : CheckedPolicy) (log : Name) (before after : InputsView) (old
     (same : after.files ≡ before.files) (later : before.faults ≤ after.faults)
     (asked : after.asked ≡ asked_more before.asked (log ∷ [])) where
   -- memory was refused before anything was written
-  pub log_memory : MonitorsLog checked log (record { before = before; after = after; old = old; new = old }) (Err Memory)
+  pub log_memory : MonitorsLog checked log (record { before = before; after = after; old = old; new = old })
+      (Err Memory)
   log_memory = record {
     asked = asked;
     decides = record {
@@ -221,7 +227,8 @@ module _ (checked : CheckedPolicy) (log : Name) (before after : InputsView) (old
           later = later;
           later_out = later_out;
           comes = told_map before.files _ _
-              (λ files g. log_comes (task_on checked (content files log)) q asks e bytes failed g old.faults new.faults result ok stops front)
+              (λ files g. log_comes (task_on checked
+              (content files log)) q asks e bytes failed g old.faults new.faults result ok stops front)
               gathered;
           causes = IfErr-weaker result _ _ (λ r h. log_causes e failed q _ old.written new.written r cause h) stops;
         };

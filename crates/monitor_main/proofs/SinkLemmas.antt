@@ -6,7 +6,8 @@ pub appends_none : (old : Option (List ℕ)) → Appends old old []
 appends_none None = tt
 appends_none (Some xs) = sym (append-nil xs)
 
-pub appends_more : (old mid new : Option (List ℕ)) (xs ys : List ℕ) → Appends old mid xs → Appends mid new ys → Appends old new (xs ++ ys)
+pub appends_more : (old mid new : Option (List ℕ)) (xs ys : List ℕ) → Appends old mid xs → Appends mid new ys
+    → Appends old new (xs ++ ys)
 appends_more None mid new xs ys p q = tt
 appends_more (Some xs0) None new xs ys p q = absurd p
 appends_more (Some xs0) (Some ys0) None xs ys p q = absurd q
@@ -17,7 +18,8 @@ pub whole_front : (old new : Option (List ℕ)) (bytes : List ℕ) → Appends o
 whole_front old new bytes p = record { front = bytes; back = []; split = sym (append-nil bytes); appended = p }
 
 -- so is what stands before more
-pub longer_front : (old new : Option (List ℕ)) (xs ys : List ℕ) → AppendsFront old new xs → AppendsFront old new (xs ++ ys)
+pub longer_front : (old new : Option (List ℕ)) (xs ys : List ℕ) → AppendsFront old new xs
+    → AppendsFront old new (xs ++ ys)
 longer_front old new xs ys p = record {
   front = p.front;
   back = p.back ++ ys;
@@ -30,7 +32,8 @@ pub no_front : (old : Option (List ℕ)) (bytes : List ℕ) → AppendsFront old
 no_front old bytes = record { front = []; back = bytes; split = refl; appended = appends_none old }
 
 -- a front behind what was written
-pub front_behind : (old mid new : Option (List ℕ)) (xs ys : List ℕ) → Appends old mid xs → AppendsFront mid new ys → AppendsFront old new (xs ++ ys)
+pub front_behind : (old mid new : Option (List ℕ)) (xs ys : List ℕ) → Appends old mid xs → AppendsFront mid new ys
+    → AppendsFront old new (xs ++ ys)
 front_behind old mid new xs ys p q = record {
   front = xs ++ q.front;
   back = q.back;

@@ -22,7 +22,8 @@ module _ {Z : Type 0} where
   named_rows None name rows n r = absurd cc
   named_rows (Some b) name rows n r = cc
 
-  pub no_rows : (sub : Option (Box SubCommand Z)) → None ≡ option_map (λ b. (out-SubCommand (box_value b)).name.now) sub
+  pub no_rows : (sub : Option (Box SubCommand Z)) → None ≡ option_map (λ b. (out-SubCommand
+      (box_value b)).name.now) sub
       → subcommand_rows sub ≡ None
   no_rows None n = refl
   no_rows (Some b) n = absurd cc

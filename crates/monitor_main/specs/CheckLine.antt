@@ -4,10 +4,12 @@ use Rattle.mfotl_model.specs.declared.policy.Sort.{Sort}
 use Rattle.mfotl_model.specs.declared.policy.Sort.TheVariants.{Int, Text}
 use Rattle.mfotl_model.specs.declared.policy.Var.{Var}
 
+-- the name of a sort in a signature
 abbrev pub sort_name : Sort → List ℕ
 sort_name Int = codes "int"
 sort_name Text = codes "string"
 
+-- a variable and its sort
 abbrev pub column : Var → List ℕ
 column v = v.name ++ codes ":" ++ sort_name v.sort
 
@@ -21,5 +23,6 @@ abbrev pub columns : List Var → List ℕ
 columns [] = []
 columns (v ∷ vs) = column v ++ more_columns vs
 
+-- the line for a policy of these free variables
 unfoldable pub monitorable_line : List Var → List ℕ
 monitorable_line vars = codes "monitorable (" ++ columns vars ++ codes ")\n"

@@ -16,7 +16,6 @@ pub mod AnswerLaws
 pub mod FilesAsked
 pub mod CheckedPolicies
 pub mod Loading
-pub mod Growth
 pub mod LogRuns
 pub mod Decisions
 pub mod Outcomes

@@ -63,7 +63,9 @@ status_of Memory = status.Memory
 
 -- the line for words that are no command line
 unfoldable pub usage_line : List ℕ
-usage_line = codes "usage: run --sig F --policy F --log F [--strategy S] [--changes F] [--threads T] or check --sig F --policy F or demo SEED\n"
+usage_line =
+    codes "usage: run --sig F --policy F --log F [--strategy S] [--changes F] [--threads T]"
+    ++ codes " or check --sig F --policy F or demo SEED\n"
 
 -- the line that says why
 unfoldable pub line_of : Refusal → List ℕ

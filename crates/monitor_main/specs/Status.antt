@@ -5,6 +5,7 @@ use Rattle.monitor_main.specs.declared.status.Status.TheVariants.{Clean, Violate
 use Rattle.monitor_main.specs.declared.status.Status.TheVariants.{Signature, Policy, Strategy, Log}
 use Rattle.monitor_main.specs.declared.status.Status.TheVariants.{Read, Write, Memory}
 
+-- the exit status of the program
 abbrev pub code_of : Status → ℕ
 code_of Clean = 0
 code_of Violated = 1

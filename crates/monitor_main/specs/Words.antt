@@ -65,6 +65,7 @@ pub data Command : Type 0 where
 abbrev pub value_of : Text → List Row → List ℕ
 value_of name options = unwrap_or (first_of name options) []
 
+-- the signature's file and the policy's among the options
 abbrev pub sources_of : List Row → Sources
 sources_of options =
     record { sig = value_of (codes "sig") options; policy = value_of (codes "policy") options }
@@ -76,6 +77,7 @@ command_named name options =
     then Some (Run (sources_of options) (value_of (codes "log") options))
     else if bytes_eq name (codes "check") then Some (Check (sources_of options)) else None
 
+-- the command that was found, if there is one of this name
 abbrev pub command_found : Option (Text × List Row) → Option Command
 command_found None = None
 command_found (Some found) = command_named found.0 found.1

@@ -120,12 +120,8 @@ pub fn atom_rows(alloc: Global, db: &Db, query: &AtomQuery<'_>) -> Result<RowLis
 }
 
 // The rows of those of the events that the query's atom stands for.
-#[tactic(auto, using(crate::proofs::AtomRows::row_taken, crate::proofs::AtomRows::event_left, crate::proofs::AtomRows::no_rows))]
-fn rows_read(
-    alloc: Global,
-    events: &[Event],
-    query: &AtomQuery<'_>,
-) -> Result<Vec<Row>, AllocError>
+#[tactic(auto, unfolding(mfotl_model::specs::Matching::matching_rows))]
+fn rows_read(alloc: Global, events: &[Event], query: &AtomQuery<'_>) -> Result<Vec<Row>, AllocError>
     ensures { IfOk result (λ rows. rows.items ≡ matching_rows (query_of query.now) events.now) }
 {
     let mut rows = Vec::new(alloc);

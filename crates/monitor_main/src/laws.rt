@@ -1,6 +1,5 @@
 //! Laws of the definitions, each the contract of a function.
 ghost use Rattle.monitor_main.specs.AnswerLaws.{CheckAccepts, LaterExactly};
-ghost use Rattle.monitor_main.specs.Growth.{ShownStays};
 ghost use Rattle.monitor_main.specs.TextLaw.{RowsAreViolations, TextIsLines};
 
 /// `run` leaves a policy for later exactly where its core is no single atom.
@@ -21,9 +20,4 @@ pub fn rows_are_violations()
 /// The text on a policy is a line of its query for each time-point.
 pub fn text_is_lines()
     ensures { TextIsLines }
-{}
-
-/// What the front of a log shows stays shown by the whole of it.
-pub fn shown_stays()
-    ensures { ShownStays }
 {}

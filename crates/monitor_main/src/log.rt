@@ -6,7 +6,7 @@ ghost use Rattle.mon_outside.specs.Inputs.{asked_more};
 ghost use Rattle.mon_outside.specs.Sink.{AppendsFront};
 ghost use Rattle.mon_outside.specs.Views.{inputs_view};
 ghost use Rattle.log_reader.specs.Progress.{read};
-ghost use Rattle.log_reader.specs.Readers.{ForEach};
+ghost use Rattle.log_reader.specs.Readers.{ForEach, progress};
 ghost use Rattle.log_reader.specs.Readings.{reading};
 ghost use Rattle.monitor_main.specs.Answer.{standard};
 ghost use Rattle.monitor_main.specs.Atom.{query_of};
@@ -131,12 +131,14 @@ fn write_points<O: Sink>(
     requires works { reader.old.is_broken ≡ false }
     requires first { reader.old.given ≡ 0 }
     requires few { reader.old.limits.points < 2 ^ 64 - 1 }
-    ensures ok { IfOk result (λ violated. ForEach reader.old (λ p. EndsClear (query_of query.now)
-        (read p) (O.written out.old) (O.written out.new) violated)) }
-    ensures stops { IfErr result (λ r. ForEach reader.old (λ p. StopsLines (query_of query.now)
-        (read p) (O.written out.old) (O.written out.new) (O.faults out.old) (O.faults out.new) r)) }
-    ensures front { ForEach reader.old (λ p. AppendsFront (O.written out.old) (O.written out.new)
-        (lines_of (query_of query.now) (read p))) }
+    ensures ok { IfOk result (λ violated. ForEach reader.old (λ bytes. EndsClear
+        (query_of query.now) (read (progress reader.old bytes))
+        (O.written out.old) (O.written out.new) violated)) }
+    ensures stops { IfErr result (λ r. ForEach reader.old (λ bytes. StopsLines
+        (query_of query.now) (read (progress reader.old bytes))
+        (O.written out.old) (O.written out.new) (O.faults out.old) (O.faults out.new) r)) }
+    ensures front { ForEach reader.old (λ bytes. AppendsFront (O.written out.old) (O.written out.new)
+        (lines_of (query_of query.now) (read (progress reader.old bytes)))) }
     ensures later { O.faults out.old ≤ O.faults out.new }
 {
     let mut line = Vec::new(alloc);

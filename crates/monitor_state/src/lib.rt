@@ -2,7 +2,6 @@
 //! they settle.
 #![tactic(auto)]
 
-mod atoms;
 mod compile;
 mod conjunction;
 mod join;

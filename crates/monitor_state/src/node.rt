@@ -3,12 +3,11 @@ ghost use Rattle.std.specs.Prelude.{IfOk};
 ghost use Rattle.monitor_state.specs.Quantified.{Quantifies};
 ghost use Rattle.monitor_state.specs.Steps.{Advances};
 
-use crate::atoms::eval_atom;
 use crate::join::take_join;
 use crate::since::take_since;
 use crate::stack::{popped, popped_many};
 use crate::tables::Tables;
-use eval_bool::JoinState;
+use eval_bool::{JoinState, eval_atom};
 use eval_since::{PrevState, SinceState};
 use mfotl_model::{Atom, TimePoint};
 use relations::Table;

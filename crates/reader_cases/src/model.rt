@@ -6,6 +6,7 @@ use crate::texts::{bytes_of, halves, number, parted, shown};
 use log_reader::{Limits, LogReader, Next};
 use mfotl_model::{Formula, Interval, TimePoint};
 use mfotl_plain::log_text;
+use mfotl_sig::Signature;
 use std::alloc::Global;
 
 /// The answer to a case of this kind.
@@ -60,11 +61,20 @@ fn text_of(alloc: Global, formula: &Formula, points: &[TimePoint]) -> Result<Str
 // The time-points of a log, or its fault.
 fn points_of(alloc: Global, signature: &str, log: &str) -> Result<Vec<TimePoint>, Stop> {
     let signature = signature_of(alloc, signature)?;
-    let mut reader = LogReader::new(alloc, &signature, Limits::standard());
-    reader.feed_owned(alloc, bytes_of(alloc, log)?);
+    points_over(alloc, &signature, log)
+}
+
+fn points_over(alloc: Global, signature: &Signature, log: &str) -> Result<Vec<TimePoint>, Stop> {
+    let bytes = bytes_of(alloc, log)?;
+    let mut reader = LogReader::new(alloc, signature, Limits::standard());
+    reader.feed_owned(alloc, bytes);
     reader.finish();
+    points_read(alloc, &mut reader)
+}
+
+fn points_read(alloc: Global, reader: &mut LogReader<'_>) -> Result<Vec<TimePoint>, Stop> {
     let mut points = Vec::new(alloc);
-    put_points(alloc, &mut reader, &mut points)?;
+    put_points(alloc, reader, &mut points)?;
     Ok(points)
 }
 

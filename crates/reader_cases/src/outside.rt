@@ -109,8 +109,12 @@ fn written(alloc: Global, case: &str) -> Result<String, Stop> {
     let (fail, pieces) = parted(case);
     let fail = numbers(alloc, fail)?;
     let mut sink = MemSink::new(alloc, fail.as_slice());
+    told_written(alloc, &mut sink, pieces)
+}
+
+fn told_written(alloc: Global, sink: &mut MemSink<'_>, pieces: &str) -> Result<String, Stop> {
     let mut told = String::new(alloc);
-    put_pieces(alloc, &mut told, &mut sink, pieces)?;
+    put_pieces(alloc, &mut told, sink, pieces)?;
     put_word(&mut told, shown(alloc, sink.written())?.as_str())?;
     Ok(told)
 }
@@ -120,8 +124,12 @@ fn gathered(alloc: Global, case: &str) -> Result<String, Stop> {
     let (fail, pieces) = parted(case);
     let fail = numbers(alloc, fail)?;
     let mut sink = BufferedSink::new(alloc, MemSink::new(alloc, fail.as_slice()))?;
+    told_gathered(alloc, &mut sink, pieces)
+}
+
+fn told_gathered<K: Sink>(alloc: Global, sink: &mut K, pieces: &str) -> Result<String, Stop> {
     let mut told = String::new(alloc);
-    put_pieces(alloc, &mut told, &mut sink, pieces)?;
+    put_pieces(alloc, &mut told, sink, pieces)?;
     put_word(&mut told, "flushed")?;
     put_ended(alloc, &mut told, sink.flush())?;
     put_ended(alloc, &mut told, sink.flush())?;

@@ -5,6 +5,7 @@ use crate::stop::Stop;
 use crate::texts::{bytes_of, halves, number, parted, put_word};
 use log_reader::{Limits, LogFault, LogReader, Next};
 use mfotl_model::{Event, TimePoint};
+use mfotl_sig::Signature;
 use std::alloc::Global;
 
 /// The answer to a case of this kind.
@@ -32,12 +33,25 @@ fn limited(alloc: Global, case: &str) -> Result<String, Stop> {
 fn within(alloc: Global, limits: Limits, case: &str) -> Result<String, Stop> {
     let (signature, log) = halves(case)?;
     let signature = signature_of(alloc, signature)?;
+    told_within(alloc, &signature, limits, log)
+}
+
+fn told_within(
+    alloc: Global,
+    signature: &Signature,
+    limits: Limits,
+    log: &str,
+) -> Result<String, Stop> {
     let bytes = bytes_of(alloc, log)?;
-    let mut reader = LogReader::new(alloc, &signature, limits);
+    let mut reader = LogReader::new(alloc, signature, limits);
     reader.feed_owned(alloc, bytes);
     reader.finish();
+    told(alloc, &mut reader)
+}
+
+fn told(alloc: Global, reader: &mut LogReader<'_>) -> Result<String, Stop> {
     let mut told = String::new(alloc);
-    put_points(alloc, &mut told, &mut reader)?;
+    put_points(alloc, &mut told, reader)?;
     Ok(told)
 }
 
@@ -45,8 +59,12 @@ fn within(alloc: Global, limits: Limits, case: &str) -> Result<String, Stop> {
 fn unfinished(alloc: Global, case: &str) -> Result<String, Stop> {
     let (signature, log) = halves(case)?;
     let signature = signature_of(alloc, signature)?;
+    told_unfinished(alloc, &signature, log)
+}
+
+fn told_unfinished(alloc: Global, signature: &Signature, log: &str) -> Result<String, Stop> {
     let bytes = bytes_of(alloc, log)?;
-    let mut reader = LogReader::new(alloc, &signature, Limits::standard());
+    let mut reader = LogReader::new(alloc, signature, Limits::standard());
     reader.feed(alloc, bytes.as_slice())?;
     told_thrice(alloc, &mut reader)
 }

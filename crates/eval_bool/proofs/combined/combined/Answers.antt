@@ -26,7 +26,8 @@ reordered-requires-clause-inside c =
     let kept = c.tested-kept.result.columns in
     let same : (y : ℕ) → among y columns ≡ among y kept =
     λ y. c.requires.same y ∙ sym (c.in_ok-joined.ensures.columns y)
-    ∙ ap (among y) (sym c.in_ok-joined-2.ensures.columns ∙ sym c.in_ok-rest.ensures.columns ∙ sym c.tested-kept.ensures.columns) in
+    ∙ ap (among y) (sym c.in_ok-joined-2.ensures.columns ∙ sym c.in_ok-rest.ensures.columns
+    ∙ sym c.tested-kept.ensures.columns) in
     sym (same_among columns columns kept same) ∙ own_among columns
 
 pub reordered-requires-clause-whole : goal.reordered-requires-clause-whole
@@ -35,5 +36,6 @@ reordered-requires-clause-whole c =
     let kept = c.tested-kept.result.columns in
     let same : (y : ℕ) → among y columns ≡ among y kept =
     λ y. c.requires.same y ∙ sym (c.in_ok-joined.ensures.columns y)
-    ∙ ap (among y) (sym c.in_ok-joined-2.ensures.columns ∙ sym c.in_ok-rest.ensures.columns ∙ sym c.tested-kept.ensures.columns) in
+    ∙ ap (among y) (sym c.in_ok-joined-2.ensures.columns ∙ sym c.in_ok-rest.ensures.columns
+    ∙ sym c.tested-kept.ensures.columns) in
     same_among kept columns kept same ∙ own_among kept

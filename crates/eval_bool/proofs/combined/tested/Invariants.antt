@@ -9,7 +9,8 @@ abbrev pub invariant-loop-test : goal.invariant-loop-test
 invariant-loop-test l =
     record {
       columns : l.rest.columns ≡ l.fn.table.columns;
-      inside : list_all (λ t. all_among (compared t.comparison) l.fn.table.columns) (drop l.test-index l.tests) ≡ true;
+      inside : list_all (λ t. all_among (compared t.comparison) l.fn.table.columns) (drop l.test-index l.tests)
+          ≡ true;
       has : (v : Valuation) → (has l.rest v && list_all (test_holds v) (drop l.test-index l.tests))
           ≡ (has l.fn.table v && list_all (test_holds v) l.tests);
     }

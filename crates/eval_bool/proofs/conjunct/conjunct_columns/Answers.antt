@@ -7,7 +7,8 @@ use Rattle.eval_bool.proofs.conjunct.conjunct_columns.Goals as goal
 
 pub loop-conjunct-init : goal.loop-conjunct-init
 loop-conjunct-init c =
-    ap (λ columns. joined columns (conjunct_columns (map conjunct_of c.args.conjuncts.now))) c.new-columns.ensures.items
+    ap (λ columns. joined columns
+    (conjunct_columns (map conjunct_of c.args.conjuncts.now))) c.new-columns.ensures.items
     ∙ joined_none (conjunct_columns (map conjunct_of c.args.conjuncts.now))
 
 pub loop-conjunct-preserved : goal.loop-conjunct-preserved

@@ -1,4 +1,4 @@
-use Rattle.std.proofs.Common.{◌≡◌, ◌-◌, ◌≤◌}
+use Rattle.std.proofs.Common.{◌≡◌, ◌-◌}
 use Rattle.mfotl_model.specs.Formulas.{form}
 use Rattle.mfotl_parse.specs.Arguments.{blanks}
 use Rattle.mfotl_parse.proofs.call.blanks.Given as goal

@@ -13,7 +13,8 @@ returns-in-Some-bound_as c =
 pub loop-frame-preserved : goal.loop-frame-preserved
 loop-frame-preserved c =
     let last = binder_of_last c.args.name.now _ _ _ c.in-Some.ensures.cases.0 in
-    ap (λ found. inner_or found (binder_of c.args.name.now (stack_of c.in-Some.front.now))) c.in_default-bound_as.ensures
+    ap (λ found. inner_or found
+    (binder_of c.args.name.now (stack_of c.in-Some.front.now))) c.in_default-bound_as.ensures
     ∙ sym last ∙ c.loop-frame.invariant
 
 pub returns : goal.returns

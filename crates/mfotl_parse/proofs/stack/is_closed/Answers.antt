@@ -1,4 +1,4 @@
-use Rattle.std.proofs.Common.{◌∙◌, sym, ap}
+use Rattle.std.proofs.Common.{sym, ap}
 use Rattle.mfotl_parse.specs.Reading.{is_closed}
 use Rattle.mfotl_parse.proofs.StackLemmas.{stack_of_last, closed_nothing}
 use Rattle.mfotl_parse.proofs.stack.is_closed.Goals as goal

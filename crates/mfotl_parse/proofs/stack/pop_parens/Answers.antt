@@ -5,7 +5,8 @@ use Rattle.mfotl_parse.proofs.StackLemmas.{stack_of_last, around_nothing}
 use Rattle.mfotl_parse.proofs.stack.pop_parens.Goals as goal
 
 pub returns-in_default : goal.returns-in_default
-returns-in_default c = around_nothing c.args.frames.now.items (omega (arith, c.in_default.ensures.cases.0, c.args.frames.now.ok.0))
+returns-in_default c =
+    around_nothing c.args.frames.now.items (omega (arith, c.in_default.ensures.cases.0, c.args.frames.now.ok.0))
 
 pub returns : goal.returns
 returns c =

@@ -15,7 +15,8 @@ pub returns-clause-ok : goal.returns-clause-ok
 returns-clause-ok g c =
     IfOk-weaker c.load_policy.result _ _
     (λ checked made. policy_made (sources_in c.args.sources.now) (inputs_view g.I.Inputs c.args.inputs.now)
-    (inputs_view g.I.Inputs c.load_signature.new.inputs) (inputs_view g.I.Inputs c.load_policy.new.inputs) c.in_ok-sig.sig
+    (inputs_view g.I.Inputs c.load_signature.new.inputs)
+    (inputs_view g.I.Inputs c.load_policy.new.inputs) c.in_ok-sig.sig
     c.in_ok-sig.ensures.files c.in_ok-sig.ensures.later c.in_ok-sig.ensures.asks c.load_policy.ensures.asks
     c.in_ok-sig.ensures.ok (checked_in checked) made)
     c.load_policy.ensures.ok
@@ -24,7 +25,8 @@ pub returns-clause-refused : goal.returns-clause-refused
 returns-clause-refused g c =
     IfErr-weaker c.load_policy.result _ _
     (λ refusal refused. no_policy (sources_in c.args.sources.now) (inputs_view g.I.Inputs c.args.inputs.now)
-    (inputs_view g.I.Inputs c.load_signature.new.inputs) (inputs_view g.I.Inputs c.load_policy.new.inputs) c.in_ok-sig.sig
+    (inputs_view g.I.Inputs c.load_signature.new.inputs)
+    (inputs_view g.I.Inputs c.load_policy.new.inputs) c.in_ok-sig.sig
     c.in_ok-sig.ensures.files c.in_ok-sig.ensures.later c.in_ok-sig.ensures.asks c.load_policy.ensures.asks
     c.in_ok-sig.ensures.ok refusal refused)
     c.load_policy.ensures.refused

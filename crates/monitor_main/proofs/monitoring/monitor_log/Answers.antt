@@ -9,15 +9,19 @@ pub returns-in_err-gathered : goal.returns-in_err-gathered
 returns-in_err-gathered g c =
     let p = err_from_is_err_and c.from_residual.result c.from_residual.ensures.1 in
     rw (p.1, p.2, c.in_err-gathered.ensures.err) (log_memory (checked_in c.args.checked.now) c.args.log.now
-    (inputs_view g.I.Inputs c.args.inputs.now) (inputs_view g.I.Inputs c.gather.new.inputs) (sink_view g.O.Sink c.args.out.now)
+    (inputs_view g.I.Inputs c.args.inputs.now) (inputs_view g.I.Inputs c.gather.new.inputs)
+    (sink_view g.O.Sink c.args.out.now)
     (sink_view g.O.Sink c.args.out.now)
     c.in_err-gathered.ensures.files c.in_err-gathered.ensures.later c.in_err-gathered.ensures.asks)
 
 pub returns : goal.returns
 returns g c =
+    let gathered = rw c.standard.ensures.bytes at c.in_ok-gathered.ensures.gathered in
     log_monitored (checked_in c.args.checked.now) c.args.log.now (inputs_view g.I.Inputs c.args.inputs.now)
-    (inputs_view g.I.Inputs c.gather.new.inputs) (sink_view g.O.Sink c.args.out.now) (sink_view g.O.Sink c.monitor_bytes.new.out)
+    (inputs_view g.I.Inputs c.gather.new.inputs) (sink_view g.O.Sink c.args.out.now)
+    (sink_view g.O.Sink c.monitor_bytes.new.out)
     c.in_ok-gathered.ensures.files c.in_ok-gathered.ensures.later c.in_ok-gathered.ensures.asks
     (query_of c.args.query.now) c.requires c.in_ok-gathered.gathered.bytes.items c.in_ok-gathered.gathered.failed
-    c.in_ok-gathered.ensures.gathered c.in_ok-gathered.ensures.cause c.monitor_bytes.result
-    c.monitor_bytes.ensures.ok c.monitor_bytes.ensures.stops c.monitor_bytes.ensures.front c.monitor_bytes.ensures.later
+    gathered c.in_ok-gathered.ensures.cause c.monitor_bytes.result
+    c.monitor_bytes.ensures.ok c.monitor_bytes.ensures.stops c.monitor_bytes.ensures.front
+    c.monitor_bytes.ensures.later

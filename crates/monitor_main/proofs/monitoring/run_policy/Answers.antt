@@ -21,7 +21,8 @@ returns-in-Some g c =
     c.in_ok-checked.ensures.ok c.in_ok-checked.ensures.files c.in_ok-checked.ensures.later
     (inputs_view g.I.Inputs c.monitor_log.new.inputs) (sink_view g.O.Sink c.args.out.now)
     (sink_view g.O.Sink c.monitor_log.new.out) c.monitor_log.result
-    (λ bytes. task_by_core c.in_ok-checked.checked.core (checked_in c.in_ok-checked.checked) bytes (Some c.in-Some.atom.now)
+    (λ bytes. task_by_core c.in_ok-checked.checked.core (checked_in c.in_ok-checked.checked) bytes
+    (Some c.in-Some.atom.now)
     c.in_ok-checked.ensures.core c.in-Some.ensures)
     c.monitor_log.ensures
 
@@ -29,6 +30,7 @@ pub returns : goal.returns
 returns g c =
     run_later (sources_in c.args.sources.now) c.args.log.now (inputs_view g.I.Inputs c.args.inputs.now)
     (inputs_view g.I.Inputs c.load_sources.new.inputs) (checked_in c.in_ok-checked.checked)
-    c.in_ok-checked.ensures.ok c.in_ok-checked.ensures.files c.in_ok-checked.ensures.later (sink_view g.O.Sink c.args.out.now)
+    c.in_ok-checked.ensures.ok c.in_ok-checked.ensures.files c.in_ok-checked.ensures.later
+    (sink_view g.O.Sink c.args.out.now)
     (λ bytes. task_by_core c.in_ok-checked.checked.core (checked_in c.in_ok-checked.checked) bytes None
     c.in_ok-checked.ensures.core c.in-None.ensures)

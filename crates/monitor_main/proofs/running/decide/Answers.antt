@@ -12,7 +12,8 @@ pub returns-in_err-command : goal.returns-in_err-command
 returns-in_err-command g c =
     let p = err_from_is_err_and c.from_residual.result c.from_residual.ensures.1 in
     rw p.1 (words_refused (texts_of c.args.words.now) (inputs_view g.I.Inputs c.args.inputs.now)
-    (sink_view g.O.Sink c.args.out.now) c.in_err-command.field-0.0 p.0 p.2 (λ e. c.in_err-command.ensures.usage (ap Err e)))
+    (sink_view g.O.Sink c.args.out.now) c.in_err-command.field-0.0 p.0 p.2 (λ e. c.in_err-command.ensures.usage
+    (ap Err e)))
 
 pub returns : goal.returns
 returns g c =

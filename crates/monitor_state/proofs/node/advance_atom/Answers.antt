@@ -12,5 +12,5 @@ returns-in-Ok c =
     (Advances (node.Atom c.args.atom.now) c.args.point.now c.args._stack.now.items (node.Atom c.args.atom.now) c.args._stack.now.items)
     (λ tables is.
     atom_advances c.args.atom.now c.args.point.now c.args._stack.now.items c.in-Ok.table tables
-    c.in-Ok.ensures.columns c.in-Ok.ensures.rows is)
+    c.in-Ok.ensures.columns c.in-Ok.ensures.has is)
     c.one.ensures

@@ -35,7 +35,13 @@ invariant_of-self-2 c =
 pub returns-clause-heads : goal.returns-clause-heads
 returns-clause-heads c = rw (← c.self.view_is) (
     let s = c.self.inside in
-    heads_are (record { columns = s.columns.items; tests = s.tests.items; pulled = s.pulled; children = s.children.items })
+    heads_are (record {
+      columns = s.columns.items;
+      tests = s.tests.items;
+      pulled = s.pulled;
+      children =
+          s.children.items;
+    })
     c.in_ok-heads.heads.plain.items c.in_ok-heads.heads.negated.items c.self.invariant
     (rw (← c.self.view_is) at c.requires.due)
     (subst FirstsOver c.deref_mut.ensures.value c.in_ok-heads.ensures.over)

@@ -8,7 +8,8 @@ push-requires c =
     let s = c.self.inside in
     record {
       columns = (rw (← c.self.view_is) at c.requires.columns)
-          ∙ columns_at s.children.items c.args.child c.index_mut.result.now (rw (← c.self.view_is) at c.requires.child)
+          ∙ columns_at s.children.items c.args.child c.index_mut.result.now
+          (rw (← c.self.view_is) at c.requires.child)
           ∙ ap (λ z. z.columns) (sym c.index_mut.ensures.value);
     }
 

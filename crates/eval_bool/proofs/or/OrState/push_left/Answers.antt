@@ -11,7 +11,8 @@ invariant_of-self-2 c =
       same = before.same;
       few = rw c.in_ok-push_back.ensures.items (one_more s.pulled s.lefts.items c.args.table
           (rw (← c.self.view_is) at c.requires.few));
-      over_left = rw c.in_ok-push_back.ensures.items (over_push s.left.items s.lefts.items c.args.table before.over_left
+      over_left = rw c.in_ok-push_back.ensures.items
+          (over_push s.left.items s.lefts.items c.args.table before.over_left
           (rw (← c.self.view_is) at c.requires.columns));
       over_right = before.over_right;
     }

@@ -1,5 +1,4 @@
-use Rattle.std.proofs.Common.{arith}
-use Rattle.eval_until.proofs.NextLemmas.{next_answers, next_pulled}
+use Rattle.eval_until.proofs.NextLemmas.{next_answers}
 use Rattle.eval_until.proofs.next.NextState.pull_due.Goals as goal
 
 pub returns-clause-rows : goal.returns-clause-rows
@@ -13,5 +12,7 @@ returns-clause-rows c = rw (← c.self.view_is) (
       times = s.times.items;
       started = s.started;
       tables = s.tables.items;
-    }) c.in-Some.now c.index.result.now c.pop_front.new.self.items c.in-Some-pop_front.table c.pop_front-2.new.self.items
-    c.in-Some.ensures.items (rw (← c.self.view_is) at c.requires.due) c.in-Some-pop_front.ensures.items t a v f c.index.ensures))
+    }) c.in-Some.now c.index.result.now c.pop_front.new.self.items c.in-Some-pop_front.table
+    c.pop_front-2.new.self.items
+    c.in-Some.ensures.items (rw
+    (← c.self.view_is) at c.requires.due) c.in-Some-pop_front.ensures.items t a v f c.index.ensures))

@@ -1,6 +1,4 @@
-use Rattle.std.proofs.Common.{◌++◌, ◌∷◌, [], cond, ap, subst}
 use Rattle.relations.proofs.PushedLemmas.{over_push}
-use Rattle.eval_until.specs.NextView.{FollowsNext, NextOf}
 use Rattle.eval_until.proofs.NextLemmas.{table_kept}
 use Rattle.eval_until.proofs.next.NextState.push_right.Goals as goal
 

@@ -1,4 +1,5 @@
-use Rattle.std.proofs.Common.{◌∙◌, ◌≤◌, ◌+◌, ◌++◌, ◌∷◌, [], List, ℕ, sym, ap, drop, map, length, append_assoc, add-one, arith}
+use Rattle.std.proofs.Common.{◌∙◌, ◌≤◌, ◌+◌, ◌++◌, ◌∷◌, [], List, ℕ, sym, ap, drop, map, length, append_assoc, add-one}
+use Rattle.std.proofs.Common.{arith}
 use Rattle.std.proofs.lemmas.List.{append-nil, length-map}
 use Rattle.mfotl_model.specs.declared.policy.Var.{Var}
 use Rattle.mfotl_parse.specs.SymbolTable.{vars_of}

@@ -1,0 +1,318 @@
+-- What UNTIL keeps: one position is taken, one is pulled.
+use Rattle.std.proofs.Common.{◌≡◌, ℕ, ◌+◌, ◌<◌, ◌≤◌, Bool, true, false, cond, nat_eq, nat_le, nat_lt, ◌&&◌, ◌||◌, List, [], ◌∷◌, ◌++◌, Option, Some, None, length, refl, sym, subst, ap, ap₂, ◌∙◌, arith, inl, inr}
+use borrow.Author.Tests.{ltb-true}
+use Rattle.std.proofs.lemmas.Bool.{and_from, and_parts, or_left, or_right}
+use Rattle.std.proofs.lemmas.Bool.Decides.{nat_tests}
+use Rattle.std.proofs.lemmas.List.Folds.{list_any-append, list_all-append}
+use Rattle.std.proofs.lemmas.Map.Views.{tells_apart}
+use Rattle.std.specs.Cmp.{eq_by_cmp_equiv}
+use Rattle.std.specs.List.{list_all}
+use Rattle.std.specs.Option.{IfSome, unwrap_or}
+use Rattle.std.specs.Ordering.{eq_by_cmp}
+use Rattle.mfotl_model.proofs.RowLemmas.{row_exact}
+use Rattle.mfotl_model.specs.Tables.{all_sized, has_row, part}
+use Rattle.mfotl_model.specs.Values.{row_cmp, row_total}
+use Rattle.mfotl_model.specs.declared.interval.Interval.{Interval}
+use Rattle.mfotl_model.specs.declared.value.Value.{Value}
+use Rattle.relations.specs.Pushed.{turned}
+use Rattle.eval_until.specs.declared.ahead.Taken.{Taken}
+use Rattle.eval_until.specs.declared.entries.Entry.{Entry}
+use Rattle.eval_until.specs.Entries.{entries_of, meets, met_by}
+use Rattle.eval_until.specs.Keeping.{Below, Covered, CoveredStarts, Fresh, IsLater, IsThinned, Keeps, NotAfter, Rising, Sized, breaks_before, names}
+use Rattle.eval_until.specs.Rules.{PlacesAscend, StartsAbove, Waiting, all_before}
+use Rattle.eval_until.specs.Starts.{kept_start, later_start, start_of, start_taken}
+use Rattle.eval_until.proofs.EntriesLemmas.{all_thinned, ascend_push, ascend_thinned, none_thinned}
+use Rattle.eval_until.proofs.QueueLemmas.{after_push, breaks_last, breaks_push, broken_fresh, entries_waiting, fresh_push, names_last, names_push, rising_push}
+
+-- a table of rows of n values lacks a row of another number
+lacks_other : (n : ℕ) (rows : List (List Value)) (v : List Value) → all_sized n rows ≡ true
+    → nat_eq (length v) n ≡ false → has_row rows v ≡ false
+lacks_other n [] v sized apart = refl
+lacks_other n (row ∷ rows) v sized apart =
+    let parts = and_parts (nat_eq (length row) n) (all_sized n rows) sized in
+    by (eq_by_cmp row_cmp v row) refl parts.0 (lacks_other n rows v parts.1 apart)
+  where
+    by : (b : Bool) → eq_by_cmp row_cmp v row ≡ b → nat_eq (length row) n ≡ true → has_row rows v ≡ false
+        → (eq_by_cmp row_cmp v row || has_row rows v) ≡ false
+    by true e here rest =
+        absurd (let f : true ≡ false = sym here ∙ ap (λ r. nat_eq (length r) n)
+        (sym (tells_apart row_exact v row e)) ∙ apart in cc)
+    by false e here rest = ap (λ b. b || has_row rows v) e ∙ rest
+
+-- of two outcomes
+either : {X : Type 0} (P : X → Type 0) (b : Bool) (x y z : X) → z ≡ cond b x y → P x → P y → P z
+either P true x y z e p q = subst P (sym e) p
+either P false x y z e p q = subst P (sym e) q
+
+below_more : (p : ℕ) (es : List Entry) → list_all (λ e. nat_lt e.place p && nat_le e.start e.place) es ≡ true
+    → list_all (λ e. nat_lt e.place (p + 1) && nat_le e.start e.place) es ≡ true
+below_more p [] all = refl
+below_more p (e ∷ es) all =
+    let both = and_parts (nat_lt e.place p && nat_le e.start e.place)
+    (list_all (λ f. nat_lt f.place p && nat_le f.start f.place) es) all in
+    let parts = and_parts (nat_lt e.place p) (nat_le e.start e.place) both.0 in
+    let l : e.place < p = ltb-true e.place p parts.0 in
+    and_from (nat_lt e.place (p + 1) && nat_le e.start e.place)
+    (list_all (λ f. nat_lt f.place (p + 1) && nat_le f.start f.place) es)
+    (and_from (nat_lt e.place (p + 1)) (nat_le e.start e.place)
+    (let h : nat_lt e.place (p + 1) ≡ true = grind (arith, nat_tests) in h) parts.1)
+    (below_more p es both.1)
+
+before_is : (p : ℕ) (es : List Entry) → list_all (λ e. nat_lt e.place p && nat_le e.start e.place) es ≡ true
+    → all_before p es ≡ true
+before_is p [] all = refl
+before_is p (e ∷ es) all =
+    let both = and_parts (nat_lt e.place p && nat_le e.start e.place)
+    (list_all (λ f. nat_lt f.place p && nat_le f.start f.place) es) all in
+    and_from (nat_lt e.place p) (all_before p es) (and_parts (nat_lt e.place p) (nat_le e.start e.place) both.0).0
+    (before_is p es both.1)
+
+-- before a position is taken, no entry stands there
+pub all_before_taken : (p : ℕ) (rows : List (List Value × List Entry)) → Below p rows → (u : List Value)
+    → all_before p (entries_of rows u) ≡ true
+all_before_taken p rows below u = before_is p (entries_of rows u) (below u)
+
+-- no run begins behind the positions taken
+start_low : (negated : Bool) (p : ℕ) (o : Option ℕ) → IfSome o (λ s. s ≤ p) → unwrap_or o (cond negated 0 p) ≤ p
+start_low true p None low = omega arith
+start_low false p None low = omega arith
+start_low negated p (Some s) low = low
+
+taken_low : (negated has : Bool) (p s : ℕ) (old new : Option ℕ) → IfSome old (λ x. x ≤ p) → s ≤ p
+    → new ≡ cond negated (cond has (Some (p + 1)) old) (cond has (Some s) None) → IfSome new (λ x. x ≤ p + 1)
+taken_low negated has p s old new low l e = subst (λ (o : Option ℕ). IfSome o (λ x. x ≤ p + 1)) (sym e)
+    (by negated has old low)
+  where
+    by : (n h : Bool) (o : Option ℕ) → IfSome o (λ x. x ≤ p)
+        → IfSome (cond n (cond h (Some (p + 1)) o) (cond h (Some s) None)) (λ x. x ≤ p + 1)
+    by true true o low = omega arith
+    by true false None low = tt
+    by true false (Some x) low = omega (arith, low)
+    by false true o low = omega arith
+    by false false o low = tt
+
+-- one position was taken
+module _ (negated : Bool) (right left : List ℕ) (pulled ts : ℕ) (lefts : List (List Value)) (q : Taken)
+    (starts more : List (List Value × ℕ)) (rows new : List (List Value × List Entry)) (queue : List Taken) where
+  pub record Stepped : Type 0 where
+    pub ahead : pulled ≤ q.place
+    pub sized : all_sized (length right) q.rights.items ≡ true
+    pub kept : Keeps negated right pulled q.place starts rows queue
+    pub breaks : negated ≡ true → q.breaks.items ≡ lefts
+    pub entries : (u : List Value) → entries_of new u ≡ cond (has_row q.rights.items u)
+        (entries_of rows u ++ record {
+          place = q.place;
+          start =
+              start_of negated q.place starts (part right left u);
+          ts = ts;
+        } ∷ [])
+        (entries_of rows u)
+    pub runs : (w : List Value) → kept_start more w ≡ start_taken negated q.place lefts starts w
+
+  pub kept_taken : Stepped → Keeps negated right pulled (q.place + 1) more new (queue ++ q ∷ [])
+  kept_taken j =
+      let entry : List Value → Entry =
+      λ u. record { place = q.place; start = start_of negated q.place starts (part right left u); ts = ts } in
+      record {
+        apart = j.kept.apart;
+        sized = λ u apart. j.entries u
+            ∙ ap (λ b. cond b (entries_of rows u ++ entry u ∷ []) (entries_of rows u))
+            (lacks_other (length right) q.rights.items u j.sized apart)
+            ∙ j.kept.sized u apart;
+        ascend = λ u. either PlacesAscend (has_row q.rights.items u) (entries_of rows u ++ entry u ∷ [])
+            (entries_of rows u) (entries_of new u) (j.entries u)
+            (ascend_push (entries_of rows u) (entry u) (j.kept.ascend u)
+            (all_before_taken q.place rows j.kept.below u))
+            (j.kept.ascend u);
+        below = λ u. either (λ es. list_all (λ e. nat_lt e.place (q.place + 1) && nat_le e.start e.place) es ≡ true)
+            (has_row q.rights.items u) (entries_of rows u ++ entry u ∷ []) (entries_of rows u) (entries_of new u)
+            (j.entries u)
+            (let l : start_of negated q.place starts (part right left u) ≤ q.place = start_low negated q.place
+            (kept_start starts (part right left u)) (j.kept.low (part right left u)) in
+            list_all-append (λ e. nat_lt e.place (q.place + 1) && nat_le e.start e.place) (entries_of rows u)
+            (entry u ∷ [])
+            ∙ and_from (list_all (λ e. nat_lt e.place (q.place + 1) && nat_le e.start e.place) (entries_of rows u))
+            ((nat_lt q.place (q.place + 1) && nat_le
+            (start_of negated q.place starts (part right left u)) q.place) && true)
+            (below_more q.place (entries_of rows u) (j.kept.below u))
+            (and_from (nat_lt q.place (q.place + 1) && nat_le
+            (start_of negated q.place starts (part right left u)) q.place) true
+            (and_from (nat_lt q.place (q.place + 1))
+            (nat_le (start_of negated q.place starts (part right left u)) q.place)
+            (let h : nat_lt q.place (q.place + 1) ≡ true = grind (arith, nat_tests) in h)
+            (let h : nat_le (start_of negated q.place starts (part right left u)) q.place ≡ true =
+            grind (arith, nat_tests) in h))
+            refl))
+            (below_more q.place (entries_of rows u) (j.kept.below u));
+        low = λ w. taken_low negated (has_row lefts w) q.place (start_of false q.place starts w)
+            (kept_start starts w) (kept_start more w) (j.kept.low w)
+            (start_low false q.place (kept_start starts w) (j.kept.low w)) (j.runs w);
+        covered = λ u. by_rows j u (has_row q.rights.items u) refl (j.entries u);
+        breaks = λ is w. by_breaks j w is (has_row lefts w) refl (j.runs w);
+        rising = rising_push q.place queue q j.kept.rising j.kept.after refl;
+        after = after_push q.place queue q j.kept.after refl;
+        fresh = fresh_push pulled queue q j.kept.fresh j.ahead;
+      }
+    where
+      by_rows : Stepped → (u : List Value) (b : Bool) → has_row q.rights.items u ≡ b
+          → entries_of new u ≡ cond b
+          (entries_of rows u ++ record {
+            place = q.place;
+            start =
+                start_of negated q.place starts (part right left u);
+            ts = ts;
+          } ∷ [])
+          (entries_of rows u)
+          → list_all (λ e. names (queue ++ q ∷ []) u e.place) (entries_of new u) ≡ true
+      by_rows j u true has e =
+          ap (list_all (λ f. names (queue ++ q ∷ []) u f.place)) e
+          ∙ list_all-append (λ f. names (queue ++ q ∷ []) u f.place) (entries_of rows u)
+          (record { place = q.place; start = start_of negated q.place starts (part right left u); ts = ts } ∷ [])
+          ∙ and_from (list_all (λ f. names (queue ++ q ∷ []) u f.place) (entries_of rows u))
+          (names (queue ++ q ∷ []) u q.place && true)
+          (names_push queue q u (entries_of rows u) (j.kept.covered u))
+          (and_from (names (queue ++ q ∷ []) u q.place) true (names_last queue q u has) refl)
+      by_rows j u false has e =
+          ap (list_all (λ f. names (queue ++ q ∷ []) u f.place)) e
+          ∙ names_push queue q u (entries_of rows u) (j.kept.covered u)
+
+      by_breaks : Stepped → (w : List Value) → negated ≡ true → (b : Bool) → has_row lefts w ≡ b
+          → kept_start more w ≡ cond negated (cond b (Some (q.place + 1)) (kept_start starts w))
+          (cond b (Some (start_of false q.place starts w)) None)
+          → IfSome (kept_start more w) (λ s. breaks_before (queue ++ q ∷ []) w s ≡ true)
+      by_breaks j w is true has e =
+          subst (λ (o : Option ℕ). IfSome o (λ s. breaks_before (queue ++ q ∷ []) w s ≡ true))
+          (sym (e ∙ ap (λ n. cond n (Some (q.place + 1)) (Some (start_of false q.place starts w))) is))
+          (breaks_last queue q w (ap (λ rs. has_row rs w) (j.breaks is) ∙ has))
+      by_breaks j w is false has e =
+          subst (λ (o : Option ℕ). IfSome o (λ s. breaks_before (queue ++ q ∷ []) w s ≡ true))
+          (sym (e ∙ ap (λ n. cond n (kept_start starts w) None) is))
+          (breaks_push queue q w (kept_start starts w) (j.kept.breaks is w))
+
+-- what an entry more meets
+pub met_taken : (interval : Interval) (i x : ℕ) (b : Bool) (old new : List Entry) (e : Entry)
+    → new ≡ cond b (old ++ e ∷ []) old
+    → met_by interval i x new ≡ (met_by interval i x old || (b && meets interval i x e))
+met_taken interval i x b old new e step = ap (met_by interval i x) step ∙ by b
+  where
+    or_false : (c : Bool) → (c || false) ≡ c
+    or_false true = refl
+    or_false false = refl
+
+    by : (c : Bool) → met_by interval i x (cond c (old ++ e ∷ []) old)
+        ≡ (met_by interval i x old || (c && meets interval i x e))
+    by true = list_any-append (meets interval i x) old (e ∷ [])
+        ∙ ap (λ r. met_by interval i x old || r) (or_false (meets interval i x e))
+    by false = sym (or_false (met_by interval i x old))
+
+-- where a run begins after one position more
+pub start_stepped : (negated has : Bool) (p d : ℕ) (old new : Option ℕ) → d ≡ unwrap_or old (cond negated 0 p)
+    → new ≡ cond negated (cond has (Some (p + 1)) old) (cond has (Some (unwrap_or old p)) None)
+    → unwrap_or new (cond negated 0 (p + 1)) ≡ cond (turned negated has) d (p + 1)
+start_stepped negated has p d old new was e =
+    ap (λ o. unwrap_or o (cond negated 0 (p + 1))) e ∙ by negated has
+    ∙ ap (λ s. cond (turned negated has) s (p + 1)) (sym was)
+  where
+    by : (n h : Bool) → unwrap_or (cond n (cond h (Some (p + 1)) old) (cond h (Some (unwrap_or old p)) None))
+        (cond n 0 (p + 1)) ≡ cond (turned n h) (unwrap_or old (cond n 0 p)) (p + 1)
+    by true true = refl
+    by true false = refl
+    by false true = refl
+    by false false = refl
+
+later_low : (negated : Bool) (next p : ℕ) (old new : Option ℕ) → IsLater negated next old new
+    → IfSome old (λ s. s ≤ p) → IfSome new (λ s. s ≤ p)
+later_low negated next p old new (inl same) low = subst (λ (o : Option ℕ). IfSome o (λ s. s ≤ p)) (sym same) low
+later_low negated next p old new (inr later) low = subst (λ (o : Option ℕ). IfSome o (λ s. s ≤ p)) (sym later.1)
+    (by old low)
+  where
+    left : (s : ℕ) (b : Bool) → s ≤ p → IfSome (cond b None (Some s)) (λ x. x ≤ p)
+    left s true low = tt
+    left s false low = low
+
+    by : (o : Option ℕ) → IfSome o (λ s. s ≤ p) → IfSome (later_start next o) (λ s. s ≤ p)
+    by None low = tt
+    by (Some s) low = left s (nat_le s next) low
+
+-- a run that isn't behind next tells the same of each position from there on as one that began with the first
+pub start_later : (negated : Bool) (next taken i : ℕ) (old new : Option ℕ) → next ≤ i → IsLater negated next old new
+    → nat_le (unwrap_or new (cond negated 0 taken)) i ≡ nat_le (unwrap_or old (cond negated 0 taken)) i
+start_later negated next taken i old new l (inl same) = ap (λ o. nat_le (unwrap_or o (cond negated 0 taken)) i) same
+start_later negated next taken i old new l (inr later) =
+    ap₂ (λ o n. nat_le (unwrap_or o (cond n 0 taken)) i) later.1 later.0
+    ∙ by old
+    ∙ ap (λ n. nat_le (unwrap_or old (cond n 0 taken)) i) (sym later.0)
+  where
+    left : (s : ℕ) (b : Bool) → nat_le s next ≡ b → nat_le (unwrap_or (cond b None (Some s)) 0) i ≡ nat_le s i
+    left s true e = let f : nat_le s i ≡ true = grind (arith, nat_tests) in
+        (let g : nat_le 0 i ≡ true = grind (arith, nat_tests) in g) ∙ sym f
+    left s false e = refl
+
+    by : (o : Option ℕ) → nat_le (unwrap_or (later_start next o) 0) i ≡ nat_le (unwrap_or o 0) i
+    by None = refl
+    by (Some s) = left s (nat_le s next) refl
+
+-- one position was pulled
+pub kept_pulled : (negated : Bool) (right : List ℕ) (pulled taken next : ℕ) (starts more : List (List Value × ℕ))
+    (rows new : List (List Value × List Entry)) (queue rest : List Taken)
+    → Keeps negated right pulled taken starts rows queue
+    → ((u : List Value) → IsThinned next (entries_of rows u) (entries_of new u))
+    → ((w : List Value) → IsLater negated next (kept_start starts w) (kept_start more w))
+    → Covered rest new
+    → (negated ≡ true → CoveredStarts queue starts → CoveredStarts rest more)
+    → Rising rest → Fresh next rest → ((p : ℕ) → NotAfter p queue → NotAfter p rest)
+    → Keeps negated right next taken more new rest
+kept_pulled negated right pulled taken next starts more rows new queue rest kept thin later covered breaks rising
+    fresh after = record {
+      apart = kept.apart;
+      sized = λ u apart. none_thinned next (entries_of rows u) (entries_of new u) (thin u) (kept.sized u apart);
+      ascend = λ u. ascend_thinned next (entries_of rows u) (entries_of new u) (thin u) (kept.ascend u);
+      below = λ u. all_thinned (λ e. nat_lt e.place taken && nat_le e.start e.place) next (entries_of rows u)
+          (entries_of new u) (thin u) (kept.below u);
+      low = λ w. later_low negated next taken (kept_start starts w) (kept_start more w) (later w) (kept.low w);
+      covered = covered;
+      breaks = λ is. breaks is (kept.breaks is);
+      rising = rising;
+      after = after taken kept.after;
+      fresh = fresh;
+    }
+
+-- what is kept is of positions that were taken and not pulled
+pub waiting_is : (negated : Bool) (right : List ℕ) (pulled taken : ℕ) (starts : List (List Value × ℕ))
+    (rows : List (List Value × List Entry)) (queue : List Taken)
+    → Keeps negated right pulled taken starts rows queue → Waiting pulled taken rows
+waiting_is negated right pulled taken starts rows queue kept = λ u.
+    entries_waiting pulled taken u queue (entries_of rows u) kept.fresh (kept.covered u) (kept.below u)
+
+pub above_is : (negated : Bool) (right : List ℕ) (pulled taken : ℕ) (starts : List (List Value × ℕ))
+    (rows : List (List Value × List Entry)) (queue : List Taken)
+    → Keeps negated right pulled taken starts rows queue → negated ≡ true → StartsAbove pulled starts
+above_is negated right pulled taken starts rows queue kept is = λ w. by w (kept_start starts w) (kept.breaks is w)
+  where
+    by : (w : List Value) (o : Option ℕ) → IfSome o (λ s. breaks_before queue w s ≡ true)
+        → IfSome o (λ s. pulled < s)
+    by w None covered = tt
+    by w (Some s) covered = broken_fresh pulled w s queue kept.fresh covered
+
+-- a list of rows of which each passes
+all_rows : (p : List Value → Bool) (rows : List (List Value))
+    → ((row : List Value) → has_row rows row ≡ true → p row ≡ true) → list_all p rows ≡ true
+all_rows p [] each = refl
+all_rows p (row ∷ rows) each =
+    and_from (p row) (list_all p rows) (each row (or_left (eq_by_cmp row_cmp row row) (has_row rows row)
+    ((eq_by_cmp_equiv row_total).refl row)))
+    (all_rows p rows (λ r there. each r (or_right (eq_by_cmp row_cmp r row) (has_row rows r) there)))
+
+-- the rows of which an entry meets have as many values as columns
+pub sized_met : (interval : Interval) (i x n : ℕ) (rows : List (List Value × List Entry)) (out : List (List Value))
+    → Sized n rows → ((u : List Value) → has_row out u ≡ met_by interval i x (entries_of rows u))
+    → all_sized n out ≡ true
+sized_met interval i x n rows out sized met =
+    all_rows (λ row. nat_eq (length row) n) out
+    (λ row there. by row (nat_eq (length row) n) refl (sym (met row) ∙ there))
+  where
+    by : (row : List Value) (b : Bool) → nat_eq (length row) n ≡ b → met_by interval i x (entries_of rows row) ≡ true
+        → nat_eq (length row) n ≡ true
+    by row true e hit = e
+    by row false e hit =
+        absurd (let f : false ≡ true = sym (ap (met_by interval i x) (sized row e)) ∙ hit in cc)

@@ -1,0 +1,38 @@
+use Rattle.std.proofs.Common.{◌||◌, ◌&&◌, ℕ, List, length, ap, ◌∙◌}
+use Rattle.std.specs.List.{list_any}
+use Rattle.std.specs.Ordering.{eq_by_cmp}
+use Rattle.mfotl_model.specs.Tables.{all_apart, all_sized, has_row}
+use Rattle.mfotl_model.specs.Values.{row_cmp}
+use Rattle.relations.proofs.AscendingRows.{has_ascending}
+use Rattle.eval_until.specs.Entries.{met_by}
+use Rattle.eval_until.proofs.KeepingLemmas.{sized_met}
+use Rattle.eval_until.proofs.RowsLemmas.{hit_is}
+use Rattle.eval_until.proofs.ahead.Ahead.table.Goals as goal
+
+pub from_rows-requires-clause-apart : goal.from_rows-requires-clause-apart
+from_rows-requires-clause-apart c = ap all_apart (c.in_ok-columns.ensures.items ∙ c.as_slice.ensures.value)
+    ∙ c.self.invariant.apart
+
+pub from_rows-requires-clause-sized : goal.from_rows-requires-clause-sized
+from_rows-requires-clause-sized c =
+    let k = c.self.inside in
+    ap (λ (columns : List ℕ). all_sized (length columns) c.push_met.new.out.items)
+    (c.in_ok-columns.ensures.items ∙ c.as_slice.ensures.value)
+    ∙ sized_met k.interval c.args.i c.args.x (length k.right.items) k.contents.rows.entries c.push_met.new.out.items
+    c.self.invariant.sized
+    (λ u. c.in_ok-push_met.ensures.rows u
+    ∙ ap (λ rows. has_row rows u
+    || list_any (λ e. eq_by_cmp row_cmp u e.0 && met_by k.interval c.args.i c.args.x e.1) k.contents.rows.entries)
+    c.new-rows.ensures.items
+    ∙ hit_is k.interval c.args.i c.args.x u k.contents.rows.entries c.push_met.ensures.ascend)
+
+pub returns-clause-rows : goal.returns-clause-rows
+returns-clause-rows c = rw (← c.self.view_is) (
+    let k = c.self.inside in
+    λ u. ap (λ rows. has_row rows u) c.from_rows.ensures.rows
+    ∙ has_ascending c.push_met.new.out.items u
+    ∙ c.in_ok-push_met.ensures.rows u
+    ∙ ap (λ rows. has_row rows u
+    || list_any (λ e. eq_by_cmp row_cmp u e.0 && met_by k.interval c.args.i c.args.x e.1) k.contents.rows.entries)
+    c.new-rows.ensures.items
+    ∙ hit_is k.interval c.args.i c.args.x u k.contents.rows.entries c.push_met.ensures.ascend)

@@ -1,0 +1,44 @@
+use Rattle.std.proofs.Common.{◌≡◌, ◌∷◌, List, subst}
+use Rattle.mfotl_model.specs.Tables.{has_row}
+use Rattle.eval_until.specs.declared.ahead.Taken.{Taken}
+use Rattle.eval_until.specs.Entries.{entries_of}
+use Rattle.eval_until.specs.Keeping.{Covered, CoveredStarts, NotAfter, Rising}
+use Rattle.eval_until.specs.Starts.{kept_start}
+use Rattle.eval_until.proofs.EntriesLemmas.{thin_more}
+use Rattle.eval_until.proofs.QueueLemmas.{after_rest, breaks_more, covered_more, fresh_front, front_before, later_more}
+use Rattle.eval_until.proofs.ahead.expire.Goals as goal
+
+pub returns-then-front-next-clause-fresh : goal.returns-then-front-next-clause-fresh
+returns-then-front-next-clause-fresh c =
+    fresh_front c.args.next c.loop-front.queue.items c.in-Some.front.now c.in-Some.ensures.lookup
+    c.loop-front.invariant.rising c.if-front-next.true
+
+pub loop-front-preserved : goal.loop-front-preserved
+loop-front-preserved c =
+    let q = c.in-Some-pop_front.old in
+    let rest = c.pop_front.new.self.items in
+    let is : c.loop-front.queue.items ≡ q ∷ rest = c.in-Some-pop_front.ensures.items in
+    let covered = subst (λ (queue : List Taken). Covered queue c.loop-front.rows.entries) is
+    c.loop-front.invariant.covered in
+    let rising = subst (λ (queue : List Taken). Rising queue) is c.loop-front.invariant.rising in
+    let low = front_before c.args.next c.loop-front.queue.items rest c.in-Some.front.now q is
+    c.in-Some.ensures.lookup c.if-front-next.false in
+    let rows = rw c.as_slice.ensures.value at c.forget_rows.ensures in
+    let starts = rw c.as_slice-in-Some.ensures.value at c.forget_breaks.ensures in
+    record {
+      rows = λ u. thin_more c.args.next (entries_of c.args.rows.now.entries u)
+          (entries_of c.loop-front.rows.entries u) (entries_of c.forget_rows.new.rows.entries u)
+          (has_row q.rights.items u) (c.loop-front.invariant.rows u) (rows u);
+      starts = λ w. later_more c.args.negated c.args.next (kept_start c.args.starts.now.entries w)
+          (kept_start c.loop-front.starts.entries w) (kept_start c.forget_breaks.new.starts.entries w)
+          (has_row q.breaks.items w) (c.loop-front.invariant.starts w) (starts w);
+      covered = λ u. covered_more c.args.next q rest u (entries_of c.loop-front.rows.entries u)
+          (entries_of c.forget_rows.new.rows.entries u) low (covered u) (rows u);
+      breaks = λ negated before w. breaks_more c.args.negated c.args.next q rest w
+          (kept_start c.loop-front.starts.entries w) (kept_start c.forget_breaks.new.starts.entries w) negated low
+          (subst (λ (queue : List Taken). CoveredStarts queue c.loop-front.starts.entries) is
+          (c.loop-front.invariant.breaks negated before) w) (starts w);
+      rising = rising.1;
+      after = λ p all. after_rest p q rest (subst (λ (queue : List Taken). NotAfter p queue) is
+          (c.loop-front.invariant.after p all));
+    }

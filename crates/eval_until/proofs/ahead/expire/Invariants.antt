@@ -1,0 +1,21 @@
+use Rattle.std.proofs.Common.{◌≡◌, ℕ, List, true, length}
+use Rattle.mfotl_model.specs.declared.value.Value.{Value}
+use Rattle.eval_until.specs.Entries.{entries_of}
+use Rattle.eval_until.specs.Keeping.{Covered, CoveredStarts, IsLater, IsThinned, NotAfter, Rising}
+use Rattle.eval_until.specs.Starts.{kept_start}
+use Rattle.eval_until.proofs.ahead.expire.Given as goal
+
+abbrev pub invariant-loop-front : goal.invariant-loop-front
+invariant-loop-front l = record {
+  rows : (u : List Value) → IsThinned l.next (entries_of l.fn.rows.entries u) (entries_of l.rows.entries u);
+  starts : (w : List Value) → IsLater l.negated l.next (kept_start l.fn.starts.entries w)
+      (kept_start l.starts.entries w);
+  covered : Covered l.queue.items l.rows.entries;
+  breaks : l.negated ≡ true → CoveredStarts l.fn.queue.items l.fn.starts.entries
+      → CoveredStarts l.queue.items l.starts.entries;
+  rising : Rising l.queue.items;
+  after : (p : ℕ) → NotAfter p l.fn.queue.items → NotAfter p l.queue.items;
+}
+
+abbrev pub decreases-loop-front : goal.decreases-loop-front
+decreases-loop-front l = length l.queue.items

@@ -1,0 +1,13 @@
+use Rattle.std.proofs.Common.{◌≡◌, length}
+use Rattle.eval_until.specs.Entries.{from_place}
+use Rattle.eval_until.specs.Rules.{PlacesAscend}
+use Rattle.eval_until.proofs.entries.Entries.forget.Given as goal
+
+abbrev pub invariant-loop-first : goal.invariant-loop-first
+invariant-loop-first l = record {
+  ascend : PlacesAscend l.self-inside.list.items;
+  same : from_place l.next l.self-inside.list.items ≡ from_place l.next l.fn.self;
+}
+
+abbrev pub decreases-loop-first : goal.decreases-loop-first
+decreases-loop-first l = length l.self-inside.list.items

@@ -1,0 +1,10 @@
+use Rattle.std.proofs.Common.{arith}
+use Rattle.eval_until.proofs.RowsLemmas.{broken_more}
+use Rattle.eval_until.proofs.starts.break_starts.Goals as goal
+
+pub loop-row-preserved : goal.loop-row-preserved
+loop-row-preserved c = λ w.
+    broken_more c.args.table.now c.loop-row.row-index c.row-item.result w c.args.behind c.args.starts.now.entries
+    c.loop-row.starts.entries c.insert.new.self.entries
+    (omega arith) c.row-item.is (c.loop-row.invariant w)
+    (rw c.in_ok-copy.ensures at (c.in_ok-insert.ensures.updates.0 w))

@@ -1,0 +1,9 @@
+use Rattle.std.proofs.Common.{◌≡◌, List, Some, None, cond, false, take}
+use Rattle.mfotl_model.specs.Tables.{has_row}
+use Rattle.mfotl_model.specs.declared.value.Value.{Value}
+use Rattle.eval_until.specs.Starts.{kept_start, start_of}
+use Rattle.eval_until.proofs.starts.kept_starts.Given as goal
+
+abbrev pub invariant-loop-row : goal.invariant-loop-row
+invariant-loop-row l = (w : List Value) → kept_start l.kept.entries w
+    ≡ cond (has_row (take l.row-index l.table) w) (Some (start_of false l.place l.starts.entries w)) None

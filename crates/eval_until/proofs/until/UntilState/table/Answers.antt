@@ -1,0 +1,23 @@
+use Rattle.std.proofs.Common.{drop, map, refl, ap, ◌∙◌}
+use Rattle.relations.proofs.OperationLaws.{has_as}
+use Rattle.eval_until.specs.AheadView.{met}
+use Rattle.eval_until.proofs.FollowsLemmas.{met_next}
+use Rattle.eval_until.proofs.until.UntilState.table.Goals as goal
+
+pub returns-clause-rows : goal.returns-clause-rows
+returns-clause-rows c =
+    let due = rw (← c.self.view_is) at c.requires.due in
+    let all = rw (← c.self.view_is) at c.requires.all in
+    rw (← c.self.view_is) (
+    let s = c.self.inside in
+    λ t a b v f never.
+    has_as c.in_ok-table.table s.ahead.right c.in_ok-table.table.rows v c.in_ok-table.ensures.columns refl
+    ∙ c.in_ok-table.ensures.rows (map v s.ahead.right)
+    ∙ ap (λ i. met s.ahead i c.first-now.result.now (map v s.ahead.right)) c.pulled.ensures
+    ∙ met_next (record {
+      ahead = s.ahead;
+      times = s.times.items;
+      lefts = s.lefts.items;
+      rights = s.rights.items;
+    }) c.first-now.result.now (drop 1 s.times.items) t a b v f never due all c.first-now.ensures
+    c.self.invariant.low c.self.invariant.high)

@@ -1,0 +1,117 @@
+//! The entries of each row.
+ghost use Rattle.std.specs.Prelude.{◌≡◌, ◌||◌, ◌&&◌, ◌∷◌, ◌++◌, [], List, ℕ, IsTrue, OnOk, cond};
+ghost use Rattle.std.specs.BTreeMap.{is_at};
+ghost use Rattle.std.specs.List.{list_any};
+ghost use Rattle.std.specs.List.Sorted.{IsStrictlySortedBy};
+ghost use Rattle.std.specs.Map.{keys_of};
+ghost use Rattle.std.specs.Ordering.{eq_by_cmp};
+ghost use Rattle.mfotl_model.specs.Tables.{has_row, part};
+ghost use Rattle.mfotl_model.specs.Values.{row_cmp};
+ghost use Rattle.mfotl_model.specs.declared.value.Value.{Value};
+ghost use Rattle.eval_until.specs.Entries.{entries_of, from_place, met_by};
+ghost use Rattle.eval_until.specs.Rules.{all_before};
+ghost use Rattle.eval_until.specs.Starts.{start_of};
+
+use crate::entries::{Entries, Entry};
+use crate::starts::start_at;
+use mfotl_model::{Interval, Row};
+use relations::part_of;
+use std::alloc::{AllocError, Global};
+use std::collections::BTreeMap;
+
+// the entries of a row, with one more
+fn add_entry(
+    alloc: Global,
+    rows: &mut BTreeMap<Row, Entries>,
+    row: Row,
+    entry: Entry,
+) -> Result<(), AllocError>
+    requires { IsTrue (all_before entry.place (entries_of rows.old.entries row)) }
+    ensures { OnOk result ((u : List Value) → entries_of rows.new.entries u
+        ≡ cond (is_at (row_cmp row) u) (entries_of rows.old.entries u ++ entry ∷ [])
+        (entries_of rows.old.entries u)) }
+{
+    if let Some(entries) = rows.get_mut(&row) {
+        entries.push(entry)?;
+        return Ok(());
+    }
+    let mut entries = Entries::new(alloc);
+    entries.push(entry)?;
+    rows.insert(row, entries)?;
+    Ok(())
+}
+
+/// Adds the rows of the right operand's table at the position `place`, which none of the entries
+/// reaches yet.
+pub fn add_rows(
+    alloc: Global,
+    rows: &mut BTreeMap<Row, Entries>,
+    starts: &BTreeMap<Row, u64>,
+    right: &[u32],
+    left: &[u32],
+    negated: bool,
+    table: &[Row],
+    place: u64,
+    ts: u64,
+) -> Result<(), AllocError>
+    requires sorted { IsStrictlySortedBy row_cmp table.now }
+    requires before { (u : List Value) → IsTrue (all_before place (entries_of rows.old.entries u)) }
+    ensures { OnOk result ((u : List Value) → entries_of rows.new.entries u
+        ≡ cond (has_row table.now u) (entries_of rows.old.entries u ++ record { place = place; start = start_of negated place starts.now.entries (part right.now left.now u); ts = ts } ∷ [])
+        (entries_of rows.old.entries u)) }
+{
+    for row in table {
+        let key = part_of(alloc, right, left, row.values())?;
+        let start = start_at(starts, negated, place, &key);
+        add_entry(alloc, rows, row.copy(alloc)?, Entry { place, start, ts })?;
+    }
+    Ok(())
+}
+
+// forgets what stands before the position `next`, of one row
+fn forget_row(rows: &mut BTreeMap<Row, Entries>, row: &Row, next: u64)
+    ensures { (u : List Value) → entries_of rows.new.entries u
+        ≡ cond (is_at (row_cmp row.now) u) (from_place next (entries_of rows.old.entries u))
+        (entries_of rows.old.entries u) }
+{
+    let Some(entries) = rows.get_mut(row) else {
+        return;
+    };
+    entries.forget(next);
+    if entries.is_empty() {
+        rows.remove(row);
+    }
+}
+
+/// Forgets what stands before the position `next`, of these rows.
+pub fn forget_rows(rows: &mut BTreeMap<Row, Entries>, table: &[Row], next: u64)
+    ensures { (u : List Value) → entries_of rows.new.entries u
+        ≡ cond (has_row table.now u) (from_place next (entries_of rows.old.entries u))
+        (entries_of rows.old.entries u) }
+{
+    for row in table {
+        forget_row(rows, row, next);
+    }
+}
+
+/// Appends the rows of which some entry meets UNTIL at the position `i`, whose time is `x`.
+pub fn push_met(
+    alloc: Global,
+    rows: &BTreeMap<Row, Entries>,
+    out: &mut Vec<Row>,
+    interval: &Interval,
+    i: u64,
+    x: u64,
+) -> Result<(), AllocError>
+    ensures rows { OnOk result ((u : List Value) → has_row out.new.items u
+        ≡ (has_row out.old.items u
+        || list_any (λ e. eq_by_cmp row_cmp u e.0 && met_by interval.now i x e.1) rows.now.entries)) }
+    ensures ascend { IsStrictlySortedBy row_cmp (keys_of rows.now.entries) }
+{
+    for (row, entries) in rows {
+        if entries.met(interval, i, x) {
+            out.push(row.copy(alloc)?)?;
+        }
+    }
+    Ok(())
+}

@@ -1,0 +1,35 @@
+-- What a hub that is closed gives.
+use Rattle.std.proofs.Common.{◌≡◌, ℕ, List, ◌++◌, length, sym, ap, ◌∙◌, subst, ⊎_elim, Option, Some, None, append-nil}
+use mathlib.Core.Option.{some, some-injective}
+use lib.ListN.{get_elem?}
+use Rattle.atomic_table.specs.Table.{Final, Seen}
+use Rattle.turn_hub.specs.declared.view.Cell.{Cell}
+use Rattle.turn_hub.specs.declared.view.Line.{Line}
+use Rattle.turn_hub.specs.declared.view.View.{View}
+use Rattle.turn_hub.specs.Rule.{Ruled}
+use Rattle.turn_hub.specs.Ends.{AllMine}
+
+module _ {W S I O : Type 0} (stands : S → List I → List O → W → Type 0) (may : S → List I → Type 0) where
+  -- each slot has the cell of its line
+  pub settled : (words : List ℕ) (slots : List (Option (Cell W I O))) (id : ℕ) (v : View W S I O) → id ≡ 0
+      → v.has ≡ None → AllMine v → Final (Seen (Ruled stands may) id v) words slots
+      → (length slots ≡ length v.lines)
+      × ((k : ℕ) (l : Line S I O) → get_elem? v.lines k ≡ some l
+      → (c : Cell W I O) × (get_elem? slots k ≡ some (Some c)) × stands l.seed l.handed l.back c.work)
+  settled words slots id v is_first nothing mine f =
+      let s = f.0 in let r = f.1.0 in let is : r.main ≡ v =
+      some-injective r.main v (sym r.first ∙ ap (λ (i : ℕ). get_elem? s.views i) (sym is_first) ∙ f.1.1) in
+      let lined = ap (λ (u : View W S I O). length u.lines) (sym is) ∙ r.lined in (
+        sym f.3 ∙ sym lined,
+        λ k l e. let ok = r.each_cell k l (ap (λ (u : View W S I O). get_elem? u.lines k) is ∙ e) in let m =
+            mine k l e in
+            ⊎_elim
+            (λ t. (
+              t.0,
+              f.4 k (Some t.0) t.1,
+              subst (λ (xs : List O). stands l.seed l.handed xs t.0.work)
+                  (ap (λ (xs : List O). l.back ++ xs) (t.2.2 m) ∙ append-nil l.back) t.2.0,
+            ))
+            (λ t. absurd (t.0 (ap (λ (u : View W S I O). u.has) is ∙ nothing)))
+            (ok.ready (ok.mine m)),
+      )

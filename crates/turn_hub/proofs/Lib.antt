@@ -1,0 +1,8 @@
+pub mod Slots
+pub mod Keeps
+pub mod Hands
+pub mod Opens
+pub mod Swaps
+pub mod Closes
+pub mod Joined
+pub mod WorkLemmas

@@ -1,0 +1,60 @@
+use Rattle.std.proofs.Common.{◌≡◌, ◌++◌, ◌+◌, [], ◌∷◌, ℕ, List, length, ap, sym, ◌∙◌, subst, refl, arith, append-nil, append_assoc, length-append, Option, Some, ⊎_elim}
+use mathlib.Core.Option.{some, some-ne-none}
+use lib.ListN.{get_elem?}
+use Rattle.atomic_table.proofs.Lists.{at_longer, at_last}
+use Rattle.turn_hub.specs.declared.view.Cell.{Cell}
+use Rattle.turn_hub.specs.Ends.{IsFresh}
+use Rattle.turn_hub.proofs.Opens.{at_end}
+use Rattle.turn_hub.proofs.open.cells.Goals as goal
+
+none_left : {A : Type 0} (xs : List A) (n : ℕ) → n ≡ length xs → n ≡ 0 → xs ≡ []
+none_left [] n e z = refl
+none_left (x ∷ xs) n e z = absurd (omega arith)
+
+more_fresh : {W I O : Type 0} (works : List W) (slots : List (Option (Cell W I O))) (w : W) (c : Cell W I O)
+    → length slots ≡ length works → c.work ≡ w → c.count ≡ 0 → c.outs.items ≡ []
+    → ((k : ℕ) (x : W) → get_elem? works k ≡ some x → IsFresh slots k x) → (k : ℕ) (x : W)
+    → get_elem? (works ++ w ∷ []) k ≡ some x → IsFresh (slots ++ Some c ∷ []) k x
+more_fresh works slots w c long work count outs old k x e = ⊎_elim
+    (λ t. let f = old k x t in (f.0, at_longer slots (Some c ∷ []) k (Some f.0) f.1, f.2, f.3, f.4))
+    (λ t. (
+      c,
+      ap (get_elem? (slots ++ Some c ∷ [])) t.0 ∙ at_last slots (Some c) (length works) long,
+      work
+          ∙ t.1,
+      count,
+      outs,
+    ))
+    (at_end works w x k e)
+
+pub loop-work-init : goal.loop-work-init
+loop-work-init g c = let e = (c.in_ok-slots.ensures {u = tt}).items in
+    (sym c.into_iter-work-iterator.ensures.into_iter_gives.0, ap length e, λ k w h. absurd (some-ne-none w (sym h)))
+
+pub loop-work-preserved : goal.loop-work-preserved
+loop-work-preserved g c = let steps = (c.in-Some.ensures {u = tt}).steps in let i = c.loop-work.invariant in let p =
+    (c.in_ok-push.ensures {u = tt}).items in let left = c.next.new.self.rest.items in
+    let cell : Cell g.row.W.Denot g.row.W-Item.Denot g.row.W-Out.Denot =
+    record {
+      work = c.in-Some.work;
+      count = 0;
+      items = c.new.result;
+      taken = 0;
+      outs =
+          c.new-in-loop-work.result;
+    } in (
+      i.0 ∙ ap (λ xs. c.loop-work.yielded ++ xs) steps.0
+          ∙ sym (append_assoc c.loop-work.yielded (c.in-Some.work ∷ []) left),
+      ap length p ∙ length-append c.loop-work.slots.items (Some cell ∷ []) ∙ ap (λ (n : ℕ). n + 1) i.1
+          ∙ sym (length-append c.loop-work.yielded (c.in-Some.work ∷ [])),
+      λ k w e. subst (λ xs. IsFresh xs k w) (sym p)
+          (more_fresh c.loop-work.yielded c.loop-work.slots.items c.in-Some.work cell i.1 refl refl c.new-in-loop-work.ensures.items i.2 k w e),
+    )
+
+pub returns : goal.returns
+returns g c = let i = c.loop-work.invariant in let rest = c.loop-work.work-iterator.rest in
+    let all : c.args.works.items ≡ c.loop-work.yielded = i.0
+    ∙ ap (λ xs. c.loop-work.yielded ++ xs)
+    (none_left rest.items rest.len rest.ok.0 (c.in-None.ensures {u = tt}).steps.0)
+    ∙ append-nil c.loop-work.yielded in
+    (i.1 ∙ ap length (sym all), λ k w e. i.2 k w (ap (λ xs. get_elem? xs k) (sym all) ∙ e))

@@ -1,0 +1,18 @@
+//! Cells that main and the hands of other threads work on by turns. Each cell has a work, to which main hands
+//! items over, and which gives outs back. Whatever the threads do, what comes back is what one thread would give.
+#![tactic(auto)]
+
+mod close;
+mod hub;
+pub mod laws;
+mod open;
+mod plays;
+mod serve;
+mod swap;
+mod view;
+mod words;
+mod work;
+
+pub use hub::{Hand, Hub, Main, Served, Swap};
+pub use view::{Cell, Line, View};
+pub use work::Work;

@@ -1,0 +1,68 @@
+//! A hand's side: working what was handed over.
+
+ghost use Rattle.std.specs.Prelude.{◌≡◌, ◌++◌, List, IfOk};
+ghost use Rattle.turn_hub.specs.Work.{Takes, Leads};
+ghost use Rattle.turn_hub.specs.Ends.{IsHandOf, hand_cell, hand_view};
+ghost use Rattle.turn_hub.specs.Answers.{ServedAs};
+
+use crate::hub::{Hand, Hub, Served};
+use crate::plays::{GiveBack, HandLook};
+use crate::view::Cell;
+use crate::words::{BROKEN, HAND_TURN, MAIN_TURN};
+use crate::work::Work;
+use mon_outside::Gate;
+use std::alloc::{AllocError, Global};
+use std::mem;
+
+// Works the cell's items in order.
+fn work_all<W: Work, G: Gate>(
+    alloc: Global,
+    cell: &mut Cell<W, W::Item, W::Out>,
+    gate: &G,
+    number: u32,
+) -> Result<(), AllocError>
+    requires { Takes W.stands W.may cell.old.work cell.old.items.items }
+    ensures count { IfOk result (λ _. cell.new.count ≡ cell.old.count) }
+    ensures did { IfOk result (λ _. (gave : List W.Out) × (cell.new.outs.items ≡ cell.old.outs.items ++ gave) × Leads W.stands W.may cell.old.work cell.old.items.items cell.new.work gave) }
+{
+    let items = mem::replace(&mut cell.items, Vec::new(alloc));
+    for item in items {
+        gate.pass(number, cell.taken);
+        cell.taken = cell.taken.saturating_add(1);
+        cell.work.work(alloc, item, &mut cell.outs)?;
+    }
+    Ok(())
+}
+
+impl<W: Work> Hub<W> {
+    /// Takes all items that were handed over, in order, and gives the turn back. The gate is passed before each
+    /// item with the cell's number and the item's number in that cell, counted from 0. Waits for nobody.
+    pub fn serve<G: Gate>(&self, alloc: Global, hand: &mut Hand<W>, gate: &G) -> Served
+        requires hand { IsHandOf self.now hand.old }
+        ensures hand { IsHandOf self.now hand.new × (hand_cell hand.new ≡ hand_cell hand.old) }
+        ensures did { ServedAs (hand_view hand.old) (hand_cell hand.old) result (hand_view hand.new) }
+    {
+        let shared = &self.table.shared;
+        let place = hand.cell as usize;
+        let found = shared.load::<HandLook<W>>(&mut hand.seat, place);
+        if found != HAND_TURN {
+            return Served::NotGiven;
+        }
+        let Some(mut cell) = shared.exchange(&mut hand.seat, place, None) else {
+            unreachable!()
+        };
+        let given = cell.items.len() as u64;
+        let done = work_all(alloc, &mut cell, gate, hand.cell);
+        drop(shared.exchange(&mut hand.seat, place, Some(cell)));
+        match done {
+            Ok(()) => {
+                shared.store::<GiveBack>(&mut hand.seat, place, MAIN_TURN);
+                Served::Worked(given)
+            }
+            Err(_) => {
+                shared.store::<GiveBack>(&mut hand.seat, place, BROKEN);
+                Served::Memory
+            }
+        }
+    }
+}
