@@ -10,8 +10,10 @@ use Rattle.mfotl_model.specs.declared.formula.Bound.{Bound}
 use Rattle.mfotl_model.specs.declared.interval.Interval.{Interval}
 use Rattle.mfotl_model.specs.declared.term.Atom.{Atom as OneAtom}
 use Rattle.mfotl_model.specs.declared.value.Value.{Value}
+use Rattle.eval_bool.specs.OrView.{OrOf}
+use Rattle.eval_since.specs.PreviousView.{PrevOf}
 use Rattle.eval_since.specs.SinceView.{SinceOf}
-use Rattle.monitorable.specs.CoreForms.{CoreForm, meaning, True, False, Atom, Not, And, Exists, Since}
+use Rattle.monitorable.specs.CoreForms.{CoreForm, meaning, True, False, Atom, Not, And, Or, Exists, Previous, Since}
 use Rattle.monitorable.specs.Conjuncts.{PartForm, conjuncts_of}
 use Rattle.monitorable.specs.Conjuncts.PartForm.{Child as ChildPart, Test as TestPart}
 use Rattle.monitorable.specs.Fragment.{is_conjunction, judges_not, under_not}
@@ -20,10 +22,11 @@ use Rattle.monitorable.specs.declared.role.Role.{Role}
 use Rattle.monitorable.specs.declared.role.Role.TheVariants as role
 use Rattle.monitor_state.proofs.ExactLemmas.{reached_within}
 use Rattle.monitor_state.proofs.MonitorSteps.{nodes_append}
+use Rattle.monitor_state.proofs.RegionLemmas.{joined_within}
 use Rattle.monitor_state.proofs.SinceSteps.{free_operand}
-use Rattle.monitor_state.specs.Beginnings.{Adds, AddsIf, Begins, BeginsJoin, IsJoined, SinceBegun}
+use Rattle.monitor_state.specs.Beginnings.{Adds, AddsIf, Begins, BeginsJoin, IsJoined, OrBegun, PreviousBegun, SinceBegun}
 use Rattle.monitor_state.specs.Nodes.{children, is_negated, left_operand, nodes_in, nodes_of, operands}
-use Rattle.monitor_state.specs.Stands.{ChildrenStand, IsConstant, IsFor, IsJoin, IsSince, JoinStands, bare, conjunct_as, NodeStands, NodesStand, SinceStands, Stands, StateOf}
+use Rattle.monitor_state.specs.Stands.{ChildrenStand, IsConstant, IsFor, IsJoin, IsOr, IsPrevious, IsSince, JoinStands, OrStands, PreviousStands, bare, conjunct_as, NodeStands, NodesStand, SinceStands, Stands, StateOf}
 use Rattle.monitor_state.specs.Views.{reached}
 use Rattle.monitor_state.specs.declared.node.Node.{Node}
 use Rattle.monitor_state.specs.declared.node.Node.TheVariants as node
@@ -234,3 +237,70 @@ judged_adds own h s old new is (inr same) begins made =
     subst (λ b. AddsIf b h old new) (sym is)
     (subst (λ k. Adds (k ∷ []) old new) (sym same.1)
     (one_join (Not same.0) s old new (IsNot same.0) (subst (λ k. BeginsJoin k s) same.1 begins) made))
+
+or_begins : (f g : CoreForm) (s : OrOf) → OrBegun f g s → (view : View) → view.log ≡ [] → OrStands view f g s
+or_begins f g s begun view empty =
+    let pulled : s.pulled ≡ 0 = ap (λ (x : OrOf). x.pulled) begun.begun in
+    let lefts : length s.lefts ≡ 0 = ap (λ (x : OrOf). length x.lefts) begun.begun in
+    let rights : length s.rights ≡ 0 = ap (λ (x : OrOf). length x.rights) begun.begun in
+    let left : 0 ≡ reached view f = none_reached view empty f in
+    let right : 0 ≡ reached view g = none_reached view empty g in
+    record {
+      pulled = pulled ∙ none_reached view empty (Or f g);
+      left_pushed = omega arith;
+      right_pushed = omega arith;
+      lefts = subst (λ xs. AllExact view (meaning f) s.pulled xs) (sym (ap (λ (x : OrOf). x.lefts) begun.begun)) tt;
+      rights = subst (λ xs. AllExact view (meaning g) s.pulled xs) (sym (ap (λ (x : OrOf). x.rights) begun.begun)) tt;
+    }
+
+or_is : (f g : CoreForm) (s : OrOf) → OrBegun f g s → IsOr f g s
+unfolding fv
+or_is f g s begun =
+    record {
+      columns =
+          ap (λ (x : OrOf). x.left) begun.begun ∙ sym (joined_within (fv (meaning f)) (fv (meaning g)) begun.within);
+    }
+
+pub or_added : (f g : CoreForm) (s : OrOf) (old new : List Node) → OrBegun f g s → new ≡ old ++ node.Or s ∷ []
+    → Adds (Or f g ∷ []) old new
+or_added f g s old new begun is =
+    adds_one (Or f g) (node.Or s) old new is (or_is f g s begun) (λ view empty. or_begins f g s begun view empty)
+
+pub or_adds : (r : Role) (h f g : CoreForm) (old mid more new : List Node) → h ≡ Or f g
+    → Adds (nodes_in role.Whole f) old mid → Adds (nodes_in role.Whole g) mid more
+    → Adds (Or f g ∷ []) more new → Adds (nodes_in r h) old new
+unfolding nodes_in
+or_adds r h f g old mid more new same first second last =
+    subst (λ k. Adds (nodes_in r k) old new) (sym same)
+    (adds_then (nodes_in role.Whole f ++ nodes_in role.Whole g) (Or f g ∷ []) old more new
+    (adds_then (nodes_in role.Whole f) (nodes_in role.Whole g) old mid more first second) last)
+
+previous_begins : (i : Interval) (f : CoreForm) (s : PrevOf) → PreviousBegun i f s → (view : View) → view.log ≡ []
+    → PreviousStands view i f s
+previous_begins i f s begun view empty =
+    let pulled : s.pulled ≡ 0 = ap (λ (x : PrevOf). x.pulled) begun.begun in
+    let times : length s.times ≡ 0 = ap (λ (x : PrevOf). length x.times) begun.begun in
+    let tables : length s.tables ≡ 0 = ap (λ (x : PrevOf). length x.tables) begun.begun in
+    let size : length view.log ≡ 0 = ap length empty in
+    let none : 0 ≡ reached view f = none_reached view empty f in
+    record {
+      pulled = pulled ∙ none_reached view empty (Previous i f);
+      timed = omega arith;
+      pushed = omega arith;
+      tables = subst (λ xs. AllExact view (meaning f) (s.pulled - 1) xs) (sym (ap (λ (x : PrevOf). x.tables) begun.begun)) tt;
+      follows = λ dom v covers near t a dates tells. begun.follows t a v;
+    }
+
+pub previous_added : (i : Interval) (f : CoreForm) (s : PrevOf) (old new : List Node) → PreviousBegun i f s
+    → new ≡ old ++ node.Previous s ∷ [] → Adds (Previous i f ∷ []) old new
+previous_added i f s old new begun is =
+    adds_one (Previous i f) (node.Previous s) old new is
+    (record { interval = ap (λ (x : PrevOf). x.interval) begun.begun; columns = ap (λ (x : PrevOf). x.columns) begun.begun })
+    (λ view empty. previous_begins i f s begun view empty)
+
+pub previous_adds : (r : Role) (h : CoreForm) (i : Interval) (f : CoreForm) (old mid new : List Node) → h ≡ Previous i f
+    → Adds (nodes_in role.Whole f) old mid → Adds (Previous i f ∷ []) mid new → Adds (nodes_in r h) old new
+unfolding nodes_in
+previous_adds r h i f old mid new same first last =
+    subst (λ k. Adds (nodes_in r k) old new) (sym same)
+    (adds_then (nodes_in role.Whole f) (Previous i f ∷ []) old mid new first last)

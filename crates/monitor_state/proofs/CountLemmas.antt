@@ -1,6 +1,6 @@
 -- How many positions are settled.
 use Rattle.std.proofs.Common.{◌≡◌, ℕ, zero, suc, ◌+◌, ◌-◌, ◌<◌, ◌≤◌, Bool, true, false, ◌&&◌, ◌||◌, nat_lt, nat_eq, List, ◌++◌, length, refl, sym, ap, ◌∙◌, inl, inr, arith}
-use Rattle.std.proofs.lemmas.Bool.{and_parts, and_from, cases_lt, ltb-true, lt-ltb}
+use Rattle.std.proofs.lemmas.Bool.{and_parts, and_from, cases_lt, eqb-true, ltb-true, lt-ltb, or_cases, or_left, or_right}
 use Rattle.mfotl_model.proofs.CountLemmas.{counted_settled, next_unsettled}
 use Rattle.mfotl_model.proofs.LogicLemmas.{all_in, all_from}
 use Rattle.mfotl_model.specs.Counts.{settled_count}
@@ -74,6 +74,41 @@ count_since t rising interval f g n left right done =
     let both = and_parts (settled t f n) (settled t g n)
     (all_in (λ k. settled t f k && settled t g k) 0 (n + 1) n h (omega arith) (omega arith)) in
     done (count_below t rising f n both.0) (count_below t rising g n both.1))
+
+-- an OR is settled where both its operands are
+pub count_or : (t : List ℕ) → NeverFalls t → (f g : Form) (n : ℕ) → n ≤ settled_count t f → n ≤ settled_count t g
+    → (n < settled_count t f → n < settled_count t g → ⊥)
+    → n ≡ settled_count t (Or f g)
+unfolding settled
+count_or t rising f g n left right done =
+    count_is t rising (Or f g) n
+    (λ j low. and_from (settled t f j) (settled t g j) (counted_settled t f j (omega arith)) (counted_settled t g j (omega arith)))
+    (λ h.
+    let both = and_parts (settled t f n) (settled t g n) h in
+    done (count_below t rising f n both.0) (count_below t rising g n both.1))
+
+-- the first position, or what holds of any later one
+pub ready_or_first : (n : ℕ) (b : Bool) → (0 < n → b ≡ true) → (nat_eq n 0 || b) ≡ true
+ready_or_first zero b later = or_left (nat_eq 0 0) b refl
+ready_or_first (suc n) b later = or_right (nat_eq (suc n) 0) b (later (omega arith))
+
+-- a PREVIOUS is settled one position further than its operand, within the log
+pub count_previous : (t : List ℕ) → NeverFalls t → (interval : Interval) (f : Form) (n : ℕ) → n ≤ length t
+    → n - 1 ≤ settled_count t f → (n < length t → (0 < n → n - 1 < settled_count t f) → ⊥)
+    → n ≡ settled_count t (Previous interval f)
+unfolding settled previous_settled
+count_previous t rising interval f n inside most done =
+    count_is t rising (Previous interval f) n
+    (λ j low.
+    and_from (nat_lt j (length t)) (nat_eq j 0 || settled t f (j - 1)) (lt-ltb j (length t) (omega arith))
+    (ready_or_first j (settled t f (j - 1)) (λ some. counted_settled t f (j - 1) (omega arith))))
+    (λ h.
+    let both = and_parts (nat_lt n (length t)) (nat_eq n 0 || settled t f (n - 1)) h in
+    done (ltb-true n (length t) both.0)
+    (λ some. elim (or_cases (nat_eq n 0) (settled t f (n - 1)) both.1) [
+      | inl none ↦ let first : n ≡ 0 = eqb-true n 0 none in absurd (omega arith)
+      | inr ready ↦ count_below t rising f (n - 1) ready
+    ]))
 
 -- a settled position lies in the log
 pub count_within : (t : List ℕ) (f : Form) → settled_count t f ≤ length t

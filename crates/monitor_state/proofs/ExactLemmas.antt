@@ -72,6 +72,17 @@ stand_as P Q i (x ∷ xs) means stand = (
   stand_as P Q (i + 1) xs (λ k y low high. means k y (omega arith) (omega arith)) stand.1,
 )
 
+-- what stands for places stands for those as far behind another place, where it means as much for them
+pub shifted : {X : Type 0} (P Q : ℕ → X → Type 0) (p i : ℕ) (xs : List X)
+    → ((k : ℕ) (x : X) → i ≤ k → k < i + length xs → P k x → Q (p + k) x) → StandFrom P i xs → StandFrom Q (p + i) xs
+shifted P Q p i [] means stand = tt
+shifted P Q p i (x ∷ xs) means stand =
+    let at : p + (i + 1) ≡ p + i + 1 = omega arith in (
+      means i x (omega arith) (omega arith) stand.0,
+      subst (λ j. StandFrom Q j xs) at
+          (shifted P Q p (i + 1) xs (λ k y low high. means k y (omega arith) (omega arith)) stand.1),
+    )
+
 -- the truths of a log tell of it
 pub truths_tell : (view : View) (dom : List Value) (v : Valuation) (f : CoreForm)
     → Tells view dom v f (truths (length view.log) (λ j. sat view.log dom v j (meaning f)))

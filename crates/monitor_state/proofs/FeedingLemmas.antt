@@ -101,10 +101,10 @@ due_parts s h =
     let inner = and_parts (nat_lt 0 (length s.times)) (nat_lt 0 (length s.lefts)) outer.0 in
     (ltb-true 0 (length s.times) inner.0, ltb-true 0 (length s.lefts) inner.1, ltb-true 0 (length s.rights) outer.1)
 
-dropped_more : {X : Type 0} (n : ℕ) (xs ys zs : List X) → ys ≡ drop n xs → zs ≡ drop 1 ys → zs ≡ drop (n + 1) xs
+pub dropped_more : {X : Type 0} (n : ℕ) (xs ys zs : List X) → ys ≡ drop n xs → zs ≡ drop 1 ys → zs ≡ drop (n + 1) xs
 dropped_more n xs ys zs first second = second ∙ ap (drop 1) first ∙ drop-drop 1 n xs
 
-room_more : {X : Type 0} (n : ℕ) (xs ys : List X) → n ≤ length xs → ys ≡ drop n xs → 0 < length ys → n + 1 ≤ length xs
+pub room_more : {X : Type 0} (n : ℕ) (xs ys : List X) → n ≤ length xs → ys ≡ drop n xs → 0 < length ys → n + 1 ≤ length xs
 room_more n xs ys low is some =
     let size : length ys ≡ length xs - n = ap length is ∙ length-drop n xs in omega arith
 

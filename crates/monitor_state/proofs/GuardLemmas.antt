@@ -143,6 +143,18 @@ pub exists_under : (r : Role) (x : Bound) (f : CoreForm) → Accepted r (Exists 
 unfolding fault_in
 exists_under r x f a = (with_name a.0 x, (no_first (fault_in (with_name a.0 x) role.Whole f) (uses x f) a.1).0)
 
+pub first_of_or : (r : Role) (f g : CoreForm) → Accepted r (Or f g) → Accepted role.Whole f
+unfolding fault_in
+first_of_or r f g a = (a.0, (no_first (fault_in a.0 role.Whole f) (first (fault_in a.0 role.Whole g) (evens f g)) a.1).0)
+
+pub second_of_or : (r : Role) (f g : CoreForm) → Accepted r (Or f g) → Accepted role.Whole g
+unfolding fault_in
+second_of_or r f g a = (
+  a.0,
+  (no_first (fault_in a.0 role.Whole g) (evens f g)
+      (no_first (fault_in a.0 role.Whole f) (first (fault_in a.0 role.Whole g) (evens f g)) a.1).1).0,
+)
+
 pub since_left : (r : Role) (i : Interval) (f g : CoreForm) → Accepted r (Since i f g) → Accepted role.Left f
 unfolding fault_in
 since_left r i f g a = (a.0, (no_first (fault_in a.0 role.Left f) (first (fault_in a.0 role.Whole g) (covers a.0 f g)) a.1).0)
@@ -163,15 +175,15 @@ pub and_right_at : (r : Role) (h f g : CoreForm) → h ≡ And f g → Accepted 
 and_right_at r h f g same a = and_right r f g (subst (Accepted r) same a)
 
 pub and_own_at : (r : Role) (h f g : CoreForm) (own : Bool) → h ≡ And f g → own ≡ is_conjunction r → Accepted r h → GuardedIf own h
-and_own_at r h f g own same is a yes =
-    subst (λ k. (names : Names) × (guards names k ≡ None)) (sym same) (and_own r f g (subst (Accepted r) same a) (sym is ∙ yes))
+and_own_at r h f g own same is a holds =
+    subst (λ k. (names : Names) × (guards names k ≡ None)) (sym same) (and_own r f g (subst (Accepted r) same a) (sym is ∙ holds))
 
 pub not_under_at : (r s : Role) (h f : CoreForm) → h ≡ Not f → s ≡ under_not r → Accepted r h → Accepted s f
 not_under_at r s h f same under a = subst (λ q. Accepted q f) (sym under) (not_under r f (subst (Accepted r) same a))
 
 pub not_own_at : (r : Role) (h f : CoreForm) (own : Bool) → h ≡ Not f → own ≡ judges_not r → Accepted r h → GuardedIf own h
-not_own_at r h f own same is a yes =
-    subst (λ k. (names : Names) × (guards names k ≡ None)) (sym same) (not_own r f (subst (Accepted r) same a) (sym is ∙ yes))
+not_own_at r h f own same is a holds =
+    subst (λ k. (names : Names) × (guards names k ≡ None)) (sym same) (not_own r f (subst (Accepted r) same a) (sym is ∙ holds))
 
 pub exists_under_at : (r : Role) (h : CoreForm) (x : Bound) (f : CoreForm) → h ≡ Exists x f → Accepted r h → Accepted role.Whole f
 exists_under_at r h x f same a = exists_under r x f (subst (Accepted r) same a)
@@ -181,3 +193,13 @@ since_left_at r h i f g same a = since_left r i f g (subst (Accepted r) same a)
 
 pub since_right_at : (r : Role) (h : CoreForm) (i : Interval) (f g : CoreForm) → h ≡ Since i f g → Accepted r h → Accepted role.Whole g
 since_right_at r h i f g same a = since_right r i f g (subst (Accepted r) same a)
+
+pub or_left_at : (r : Role) (h f g : CoreForm) → h ≡ Or f g → Accepted r h → Accepted role.Whole f
+or_left_at r h f g same a = first_of_or r f g (subst (Accepted r) same a)
+
+pub or_right_at : (r : Role) (h f g : CoreForm) → h ≡ Or f g → Accepted r h → Accepted role.Whole g
+or_right_at r h f g same a = second_of_or r f g (subst (Accepted r) same a)
+
+pub previous_under_at : (r : Role) (h : CoreForm) (i : Interval) (f : CoreForm) → h ≡ Previous i f → Accepted r h → Accepted role.Whole f
+unfolding fault_in
+previous_under_at r h i f same a = subst (Accepted r) same a

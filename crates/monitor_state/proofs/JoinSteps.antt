@@ -27,7 +27,7 @@ use Rattle.monitorable.specs.Fragment.{binds}
 use Rattle.relations.specs.Operations.{chosen}
 use Rattle.relations.specs.Pushed.{StandFrom, turned}
 use Rattle.monitor_state.proofs.CountLemmas.{count_below, count_is, count_within}
-use Rattle.monitor_state.proofs.ExactLemmas.{all_stay, exact_append, exact_drop, reached_grows, stand_exact, stand_as}
+use Rattle.monitor_state.proofs.ExactLemmas.{all_stay, exact_append, exact_drop, reached_grows, shifted, stand_exact, stand_as}
 use Rattle.monitor_state.proofs.RegionLemmas.{near_left, near_right}
 use Rattle.monitor_state.specs.JoinFeeding.{JoinPulled, JoinTakes, child_dropped, children_fed, join_fed, join_pulled}
 use Rattle.monitor_state.specs.Nodes.{children, operands}
@@ -354,16 +354,6 @@ module _ (view : View) (point : TimePoint) (rising : NeverFalls (times (longer v
         (dropped_stand (longer view point) old.pulled k (children (conjuncts_of f)) (children_fed old.children lists) room.0 stand_fed)
         room.1 dom v covers (ap (λ cs. view.near cs v) (columns_are f) ∙ near)
         ∙ sym (conjuncts_mean (longer view point).log dom f v (old.pulled + k))
-
-    shifted : {X : Type 0} (P Q : ℕ → X → Type 0) (p i : ℕ) (xs : List X)
-        → ((k : ℕ) (x : X) → i ≤ k → k < i + length xs → P k x → Q (p + k) x) → StandFrom P i xs → StandFrom Q (p + i) xs
-    shifted P Q p i [] means stand = tt
-    shifted P Q p i (x ∷ xs) means stand =
-        let at : p + (i + 1) ≡ p + i + 1 = omega arith in (
-          means i x (omega arith) (omega arith) stand.0,
-          subst (λ j. StandFrom Q j xs) at
-              (shifted P Q p (i + 1) xs (λ k y low high. means k y (omega arith) (omega arith)) stand.1),
-        )
 
     join_exact : AllExact (longer view point) (meaning f) old.pulled tables
     join_exact =

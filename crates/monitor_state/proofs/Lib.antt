@@ -6,6 +6,10 @@ pub mod OrderingLemmas
 pub mod SinceSteps
 pub mod JoinLemmas
 pub mod JoinSteps
+pub mod OrLemmas
+pub mod OrSteps
+pub mod PreviousLemmas
+pub mod PreviousSteps
 pub mod NodeSteps
 pub mod MonitorSteps
 pub mod BeginLemmas

@@ -22,20 +22,26 @@ use Rattle.mfotl_model.specs.declared.event.TimePoint.{TimePoint}
 use Rattle.mfotl_model.specs.declared.formula.Bound.{Bound}
 use Rattle.mfotl_model.specs.declared.term.Atom.{Atom as OneAtom}
 use Rattle.mfotl_model.specs.declared.value.Value.{Value}
+use Rattle.eval_since.specs.PreviousView.{PrevOf}
 use Rattle.eval_since.specs.SinceView.{SinceOf}
 use Rattle.monitorable.proofs.DomainLaw.{domain}
 use Rattle.monitorable.proofs.DomainLemmas.{any_with, any_witness, same_truth}
 use Rattle.monitorable.proofs.DomainRows.{has_constants, has_log}
-use Rattle.monitorable.specs.CoreForms.{CoreForm, meaning, True, False, Atom, Not, And, Exists, Since}
+use Rattle.monitorable.specs.CoreForms.{CoreForm, meaning, True, False, Atom, Not, And, Or, Exists, Previous, Since}
 use Rattle.monitorable.specs.Conjuncts.{conjuncts_of}
 use Rattle.eval_bool.specs.JoinView.{ChildOf, JoinOf}
+use Rattle.eval_bool.specs.OrView.{OrOf}
+use Rattle.monitor_state.proofs.OrSteps.{or_is, or_news, or_stands}
+use Rattle.monitor_state.specs.OrFeeding.{OrTakes}
 use Rattle.monitor_state.proofs.JoinSteps.{join_is, join_news, join_stands}
 use Rattle.monitor_state.specs.JoinFeeding.{JoinTakes}
 use Rattle.monitorable.specs.Fragment.{Names, frag}
 use Rattle.monitor_state.proofs.CountLemmas.{count_is}
 use Rattle.monitor_state.proofs.ExactLemmas.{log_more, rising_before}
 use Rattle.monitor_state.proofs.SinceSteps.{since_is, since_news, since_stands}
+use Rattle.monitor_state.proofs.PreviousSteps.{previous_is, previous_news, previous_stands}
 use Rattle.monitor_state.specs.Feeding.{SinceTakes}
+use Rattle.monitor_state.specs.PreviousFeeding.{PreviousTakes}
 use Rattle.monitor_state.specs.Nodes.{children, left_operand, operands}
 use Rattle.monitor_state.specs.Quantified.{IsWithout, Quantifies}
 use Rattle.monitor_state.specs.Stacks.{Pops, PopsMany}
@@ -336,3 +342,27 @@ join_advances old new given stack rest lists tables pops takes view point whole 
 join_advances old new given stack rest lists tables pops takes view point whole (Not f) below premises is stands stacked =
     join_taken view point given whole (Not f) below old new stack rest lists tables refl premises is stands stacked pops takes
 join_advances old new given stack rest lists tables pops takes view point whole f below premises is stands stacked = absurd is
+
+pub or_advances : (old new : OrOf) (given : TimePoint) (stack mid rest : List (List TableOf)) (ls rs tables : List TableOf)
+    → Pops stack mid rs → Pops mid rest ls → OrTakes old ls rs new tables
+    → Advances (node.Or old) given stack (node.Or new) rest tables
+or_advances old new given stack mid rest ls rs tables last first takes view point whole (Or f g) below premises is stands stacked =
+    let news = pops_two view point below f g stack mid rest ls rs stacked last first in (
+      or_is view point f g premises.rising premises.passes old new is stands ls rs news.1 news.2 tables takes,
+      or_stands view point f g premises.rising premises.passes old new is stands ls rs news.1 news.2 tables takes,
+      news.0,
+      or_news view point f g premises.rising premises.passes old new is stands ls rs news.1 news.2 tables takes,
+    )
+or_advances old new given stack mid rest ls rs tables last first takes view point whole f below premises is stands stacked = absurd is
+
+pub previous_advances : (old new : PrevOf) (given : TimePoint) (stack rest : List (List TableOf)) (operand tables : List TableOf)
+    → Pops stack rest operand → PreviousTakes old given.ts operand new tables
+    → Advances (node.Previous old) given stack (node.Previous new) rest tables
+previous_advances old new given stack rest operand tables pops takes view point whole (Previous i f) below premises is stands stacked =
+    let news = pops_top view point below f stack rest operand stacked pops in (
+      previous_is view point i f premises.rising old new is stands given.ts premises.ts operand news.1 tables takes,
+      previous_stands view point i f premises.rising old new is stands given.ts premises.ts operand news.1 tables takes,
+      news.0,
+      previous_news view point i f premises.rising old new is stands given.ts premises.ts operand news.1 tables takes,
+    )
+previous_advances old new given stack rest operand tables pops takes view point whole f below premises is stands stacked = absurd is

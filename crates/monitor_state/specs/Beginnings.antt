@@ -3,8 +3,11 @@ use Rattle.std.specs.Prelude.{◌≡◌, ℕ, Bool, true, false, None, [], List,
 use Rattle.mfotl_model.specs.Exact.{View}
 use Rattle.mfotl_model.specs.FreeVariables.{fv}
 use Rattle.mfotl_model.specs.Satisfaction.{Valuation}
+use Rattle.mfotl_model.specs.Tables.{all_among}
 use Rattle.mfotl_model.specs.declared.interval.Interval.{Interval}
 use Rattle.eval_bool.specs.JoinView.{JoinOf, join_begun}
+use Rattle.eval_bool.specs.OrView.{OrOf, or_begun}
+use Rattle.eval_since.specs.PreviousView.{FollowsPrevious, PrevOf}
 use Rattle.eval_since.specs.SinceView.{Follows, SinceOf}
 use Rattle.monitorable.specs.CoreForms.{CoreForm, meaning, And, Not}
 use Rattle.monitorable.specs.Conjuncts.{PartForm, conjuncts_of}
@@ -59,6 +62,16 @@ pub record SinceBegun (i : Interval) (f g : CoreForm) (s : SinceOf) : Type 0 whe
 pub record BeginsJoin (f : CoreForm) (s : JoinOf) : Type 0 where
   pub begun : s ≡ join_begun (map conjunct_as (conjuncts_of f))
   pub some : 0 < length (children (conjuncts_of f))
+
+-- an OR's state before the first position, of operands with the same variables
+pub record OrBegun (f g : CoreForm) (s : OrOf) : Type 0 where
+  pub begun : s ≡ or_begun (fv (meaning f)) (fv (meaning g))
+  pub within : all_among (fv (meaning g)) (fv (meaning f)) ≡ true
+
+-- a PREVIOUS's state before the first position, which is right for every valuation
+pub record PreviousBegun (i : Interval) (f : CoreForm) (s : PrevOf) : Type 0 where
+  pub begun : s ≡ record { interval = i; columns = fv (meaning f); pulled = 0; last = 0; times = []; tables = [] }
+  pub follows : (t : List ℕ) (a : List Bool) (v : Valuation) → FollowsPrevious s t a v
 
 -- a state stands for the empty log, in each region
 abbrev pub Begins : CoreForm → StateOf → Type 0

@@ -2,6 +2,8 @@ pub mod Stacks
 pub mod Quantified
 pub mod Feeding
 pub mod JoinFeeding
+pub mod OrFeeding
+pub mod PreviousFeeding
 pub mod Nodes
 pub mod Views
 pub mod Stands

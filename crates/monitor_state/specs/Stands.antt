@@ -10,9 +10,10 @@ use Rattle.mfotl_model.specs.declared.interval.Interval.{Interval}
 use Rattle.mfotl_model.specs.declared.value.Value.{Value}
 use Rattle.eval_bool.specs.JoinView.{ChildOf, ConjunctOf, JoinOf, children_of, conjunct_columns, tests_of}
 use Rattle.eval_bool.specs.JoinView.ConjunctOf.{Child, Test}
+use Rattle.eval_bool.specs.OrView.{OrOf}
 use Rattle.eval_since.specs.PreviousView.{FollowsPrevious, PrevOf}
 use Rattle.eval_since.specs.SinceView.{Follows, SinceOf}
-use Rattle.monitorable.specs.CoreForms.{CoreForm, meaning, True, False, Atom, Not, And, Exists, Previous, Since}
+use Rattle.monitorable.specs.CoreForms.{CoreForm, meaning, True, False, Atom, Not, And, Or, Exists, Previous, Since}
 use Rattle.monitorable.specs.Conjuncts.{PartForm, conjuncts_of}
 use Rattle.monitorable.specs.Conjuncts.PartForm.{Child as ChildPart, Test as TestPart}
 use Rattle.monitor_state.specs.Nodes.{children, is_negated, left_operand, nodes_of, operands}
@@ -56,6 +57,10 @@ pub record IsJoin (f : CoreForm) (s : JoinOf) : Type 0 where
   pub parts : map bare s.children ≡ children_of (map conjunct_as (conjuncts_of f))
   pub some : 0 < length (children (conjuncts_of f))
 
+-- the state is one of an OR of the cores f and g
+pub record IsOr (f g : CoreForm) (s : OrOf) : Type 0 where
+  pub columns : s.left ≡ fv (meaning (Or f g))
+
 -- the node is one for the core
 abbrev pub IsFor : CoreForm → Node → Type 0
 IsFor True (node.Constant table) = IsConstant True table
@@ -63,6 +68,7 @@ IsFor False (node.Constant table) = IsConstant False table
 IsFor (Atom atom) (node.Atom a) = a ≡ atom
 IsFor (Not f) (node.Join s) = IsJoin (Not f) s
 IsFor (And f g) (node.Join s) = IsJoin (And f g) s
+IsFor (Or f g) (node.Or s) = IsOr f g s
 IsFor (Exists x f) (node.Exists y) = y ≡ x.number
 IsFor (Previous i f) (node.Previous s) = IsPrevious i f s
 IsFor (Since i f g) (node.Since s order) = IsSince i f g s order
@@ -84,6 +90,15 @@ ChildrenStand view pulled fs cs = ⊥
 pub record JoinStands (view : View) (f : CoreForm) (s : JoinOf) : Type 0 where
   pub pulled : s.pulled ≡ reached view f
   pub children : ChildrenStand view s.pulled (operands f) s.children
+
+-- The state of an OR stands for the log: it gave the tables of the settled positions, and keeps the
+-- operands' tables that were not used; these are exact.
+pub record OrStands (view : View) (f g : CoreForm) (s : OrOf) : Type 0 where
+  pub pulled : s.pulled ≡ reached view (Or f g)
+  pub left_pushed : s.pulled + length s.lefts ≡ reached view f
+  pub right_pushed : s.pulled + length s.rights ≡ reached view g
+  pub lefts : AllExact view (meaning f) s.pulled s.lefts
+  pub rights : AllExact view (meaning g) s.pulled s.rights
 
 -- The state of a PREVIOUS stands for the log: it gave the tables of the settled positions, and keeps the
 -- times and the operand's tables that were not used; these are exact, and it is right for each near row.
@@ -112,6 +127,7 @@ pub record SinceStands (view : View) (i : Interval) (f g : CoreForm) (s : SinceO
 abbrev pub NodeStands : View → CoreForm → Node → Type 0
 NodeStands view (Not f) (node.Join s) = JoinStands view (Not f) s
 NodeStands view (And f g) (node.Join s) = JoinStands view (And f g) s
+NodeStands view (Or f g) (node.Or s) = OrStands view f g s
 NodeStands view (Previous i f) (node.Previous s) = PreviousStands view i f s
 NodeStands view (Since i f g) (node.Since s order) = SinceStands view i f g s
 NodeStands view f other = Unit {0}

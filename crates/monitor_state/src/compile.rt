@@ -1,13 +1,14 @@
 //! The nodes of a core.
 ghost use Rattle.std.specs.Prelude.{◌≡◌, ◌++◌, ◌∷◌, [], IfOk, OnOk};
-ghost use Rattle.monitorable.specs.CoreForms.{node_form, True, False, Atom, Exists, Since};
-ghost use Rattle.monitor_state.specs.Beginnings.{Accepted, Adds, AddsIf, GuardedIf, IsJoined, SinceBegun};
+ghost use Rattle.monitorable.specs.CoreForms.{node_form, True, False, Atom, Exists, Or, Previous, Since};
+ghost use Rattle.monitor_state.specs.Beginnings.{Accepted, Adds, AddsIf, GuardedIf, IsJoined, OrBegun, PreviousBegun, SinceBegun};
 ghost use Rattle.monitor_state.specs.Nodes.{is_negated, nodes_in};
 
 use crate::conjunction::join_state;
 use crate::node::Node;
 use crate::ordering::all_among;
-use eval_since::SinceState;
+use eval_bool::OrState;
+use eval_since::{PrevState, SinceState};
 use mfotl_model::{Atom as OneAtom, Interval};
 use monitorable::{Node as Core, Role};
 use relations::Table;
@@ -20,7 +21,7 @@ pub fn add_nodes(
     role: Role,
     nodes: &mut Vec<Node>,
 ) -> Result<(), AllocError>
-    requires { Accepted role (node_form core.now) }
+    requires accepted { Accepted role (node_form core.now) }
     ensures { OnOk result (Adds (nodes_in role (node_form core.now)) nodes.old.items nodes.new.items) }
 {
     match core {
@@ -44,6 +45,15 @@ pub fn add_nodes(
             add_nodes(alloc, left, Role::Left, nodes)?;
             add_nodes(alloc, right, Role::Whole, nodes)?;
             add_since(alloc, core, interval, left, right, nodes)
+        }
+        Core::Or(left, right) => {
+            add_nodes(alloc, left, Role::Whole, nodes)?;
+            add_nodes(alloc, right, Role::Whole, nodes)?;
+            add_or(alloc, left, right, nodes)
+        }
+        Core::Previous(interval, inner) => {
+            add_nodes(alloc, inner, Role::Whole, nodes)?;
+            add_previous(alloc, interval, inner, nodes)
         }
         _ => Err(AllocError),
     }
@@ -135,4 +145,44 @@ fn since_state(
         right_columns.as_slice(),
         is_negated(left),
     )
+}
+
+fn add_or(alloc: Global, left: &Core, right: &Core, nodes: &mut Vec<Node>) -> Result<(), AllocError>
+    ensures { OnOk result (Adds (Or (node_form left.now) (node_form right.now) ∷ []) nodes.old.items nodes.new.items) }
+{
+    let state = or_state(alloc, left, right)?;
+    add(Node::Or(state), nodes)
+}
+
+fn or_state(alloc: Global, left: &Core, right: &Core) -> Result<OrState, AllocError>
+    ensures { IfOk result (OrBegun (node_form left.now) (node_form right.now)) }
+{
+    let left_columns = left.free_vars(alloc)?;
+    let right_columns = right.free_vars(alloc)?;
+    if !all_among(left_columns.as_slice(), right_columns.as_slice()) {
+        return Err(AllocError);
+    }
+    if !all_among(right_columns.as_slice(), left_columns.as_slice()) {
+        return Err(AllocError);
+    }
+    OrState::new(alloc, left_columns.as_slice(), right_columns.as_slice())
+}
+
+fn add_previous(
+    alloc: Global,
+    interval: &Interval,
+    operand: &Core,
+    nodes: &mut Vec<Node>,
+) -> Result<(), AllocError>
+    ensures { OnOk result (Adds (Previous interval.now (node_form operand.now) ∷ []) nodes.old.items nodes.new.items) }
+{
+    let state = previous_state(alloc, interval, operand)?;
+    add(Node::Previous(state), nodes)
+}
+
+fn previous_state(alloc: Global, interval: &Interval, operand: &Core) -> Result<PrevState, AllocError>
+    ensures { IfOk result (PreviousBegun interval.now (node_form operand.now)) }
+{
+    let columns = operand.free_vars(alloc)?;
+    PrevState::new(alloc, interval, columns.as_slice())
 }

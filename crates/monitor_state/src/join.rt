@@ -1,5 +1,5 @@
 //! A conjunction takes its children's tables.
-ghost use Rattle.std.specs.Prelude.{◌≡◌, ◌<◌, false, length, IfOk, OnOk};
+ghost use Rattle.std.specs.Prelude.{◌≡◌, ◌+◌, ◌<◌, false, length, IfOk, OnOk};
 ghost use Rattle.eval_bool.specs.JoinView.{join_due};
 ghost use Rattle.monitor_state.specs.JoinFeeding.{JoinPulled, JoinTakes, child_fed, join_fed};
 
@@ -26,9 +26,15 @@ fn push_children(state: &mut JoinState, lists: Vec<Tables>) -> Result<(), AllocE
     let mut child = 0u32;
     for tables in lists {
         push_child(state, child, tables)?;
-        child = child.checked_add(1).ok_or(AllocError)?;
+        child = next(child)?;
     }
     Ok(())
+}
+
+fn next(child: u32) -> Result<u32, AllocError>
+    ensures { IfOk result (λ next. next ≡ child + 1) }
+{
+    child.checked_add(1).ok_or(AllocError)
 }
 
 fn push_child(state: &mut JoinState, child: u32, mut tables: Tables) -> Result<(), AllocError>

@@ -8,6 +8,8 @@ mod join;
 pub mod laws;
 mod monitor;
 mod node;
+mod or;
+mod previous;
 mod ordering;
 mod since;
 mod stack;

@@ -4,10 +4,12 @@ ghost use Rattle.monitor_state.specs.Quantified.{Quantifies};
 ghost use Rattle.monitor_state.specs.Steps.{Advances};
 
 use crate::join::take_join;
+use crate::or::take_or;
+use crate::previous::take_previous;
 use crate::since::take_since;
 use crate::stack::{popped, popped_many};
 use crate::tables::Tables;
-use eval_bool::{JoinState, eval_atom};
+use eval_bool::{JoinState, OrState, eval_atom};
 use eval_since::{PrevState, SinceState};
 use mfotl_model::{Atom, TimePoint};
 use relations::Table;
@@ -23,6 +25,8 @@ pub enum Node {
     Exists(u32),
     /// A conjunction with a child.
     Join(JoinState),
+    /// OR of operands with the same variables.
+    Or(OrState),
     Previous(PrevState),
     /// SINCE, with a table whose columns stand in the order that its tables have.
     Since(SinceState, Table),
@@ -44,6 +48,7 @@ impl Node {
             Node::Atom(atom) => advance_atom(alloc, atom, point, stack),
             Node::Exists(var) => advance_exists(alloc, *var, point, stack),
             Node::Join(state) => advance_join(alloc, state, point, stack),
+            Node::Or(state) => advance_or(alloc, state, point, stack),
             Node::Previous(state) => advance_previous(alloc, state, point, stack),
             Node::Since(state, order) => advance_since(alloc, state, order, point, stack),
         }
@@ -120,16 +125,31 @@ fn advance_join(
     take_join(alloc, state, lists)
 }
 
-fn advance_previous(
-    _alloc: Global,
-    state: &mut PrevState,
+fn advance_or(
+    alloc: Global,
+    state: &mut OrState,
     _point: &TimePoint,
     stack: &mut Vec<Tables>,
 ) -> Result<Tables, AllocError>
-    ensures { IfOk result (λ tables. Advances (Node.Previous state.old) _point.now stack.old.items
+    ensures { IfOk result (λ tables. Advances (Node.Or state.old) _point.now stack.old.items
+        (Node.Or state.new) stack.new.items tables) }
+{
+    let right = popped(alloc, stack);
+    let left = popped(alloc, stack);
+    take_or(alloc, state, left, right)
+}
+
+fn advance_previous(
+    alloc: Global,
+    state: &mut PrevState,
+    point: &TimePoint,
+    stack: &mut Vec<Tables>,
+) -> Result<Tables, AllocError>
+    ensures { IfOk result (λ tables. Advances (Node.Previous state.old) point.now stack.old.items
         (Node.Previous state.new) stack.new.items tables) }
 {
-    Err(AllocError)
+    let operand = popped(alloc, stack);
+    take_previous(alloc, state, point.ts, operand)
 }
 
 fn advance_since(
