@@ -14,5 +14,6 @@ pub mod NodeSteps
 pub mod MonitorSteps
 pub mod BeginLemmas
 pub mod GuardLemmas
+pub mod SizeLemmas
 pub mod StepLemmas
 pub mod LawProofs

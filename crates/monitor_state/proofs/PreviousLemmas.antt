@@ -1,6 +1,6 @@
 -- Tables pushed to a PREVIOUS and pulled from it, one after the other.
 use Rattle.std.proofs.Common.{Option, Some, None, MatchOption, IfSome, is_some, subst, ◌≡◌, ℕ, ◌+◌, ◌-◌, ◌<◌, ◌≤◌, Bool, true, false, ◌&&◌, ◌||◌, cond, nat_eq, nat_lt, List, [], ◌∷◌, ◌++◌, length, drop, refl, sym, ap, ap₂, ◌∙◌, inl, inr, arith, length-append, append-nil, append_assoc}
-use Rattle.std.proofs.lemmas.Bool.{and_parts, eqb-false, eqb-true, ltb-true, ne_eqb, or_cases}
+use Rattle.std.proofs.lemmas.Bool.{and_parts, cases_lt, eqb-false, eqb-true, ltb-true, or_cases}
 use Rattle.std.proofs.lemmas.List.{drop-drop, length-drop}
 use Rattle.mfotl_model.specs.Satisfaction.{Valuation, previous, truth_at}
 use Rattle.mfotl_model.specs.Tables.{TableOf, has}
@@ -101,7 +101,10 @@ pulled_more old s new tables table before ready advances follows rows over =
           (λ e. let none : s.pulled ≡ 0 = eqb-true s.pulled 0 e in omega arith)
           (λ e. let many : s.pulled ≡ 0 → ⊥ = eqb-false s.pulled 0 e in omega arith);
       in_times = omega arith;
-      in_tables = omega arith;
+      in_tables = elim (cases_lt 0 s.pulled) [
+        | inl later ↦ let one_more : 0 < length s.tables = some later in omega arith
+        | inr none ↦ omega arith
+      ];
       over = over_push old.columns tables table before.over (over ∙ before.columns);
       follows = λ t a v h. follows t a v (before.follows t a v h);
       rows = λ t a v h.

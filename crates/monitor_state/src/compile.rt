@@ -21,7 +21,7 @@ pub fn add_nodes(
     role: Role,
     nodes: &mut Vec<Node>,
 ) -> Result<(), AllocError>
-    requires accepted { Accepted role (node_form core.now) }
+    requires { Accepted role (node_form core.now) }
     ensures { OnOk result (Adds (nodes_in role (node_form core.now)) nodes.old.items nodes.new.items) }
 {
     match core {

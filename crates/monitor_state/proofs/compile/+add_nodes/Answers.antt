@@ -1,9 +1,11 @@
-use Rattle.std.proofs.Common.{rules, ◌≡◌, OnOk, List, subst, sym, ap, ◌∷◌, ◌++◌, [], ◌∙◌}
+use Rattle.std.proofs.Common.{rules, ◌<◌, ◌≡◌, OnOk, List, subst, sym, ap, ◌∷◌, ◌++◌, [], ◌∙◌}
 use Rattle.monitorable.specs.CoreForms.{node_form, And, Exists, Not, Or, Previous, Since}
+use Rattle.monitorable.specs.NodeCount.{nodes}
 use Rattle.monitorable.specs.declared.role.Role.TheVariants as role
 use Rattle.monitor_state.proofs.BeginLemmas.{and_adds, atom_at, exists_adds, false_at, not_adds, or_adds, previous_adds, since_adds, true_at}
 use Rattle.monitor_state.proofs.GuardLemmas.{and_left_at, and_own_at, and_right_at, exists_under_at, not_own_at, not_under_at, or_left_at, or_right_at, previous_under_at, since_left_at, since_right_at}
 use Rattle.monitor_state.proofs.OrderingLemmas.{on_ok_then}
+use Rattle.monitor_state.proofs.SizeLemmas.{and_left_smaller, and_right_smaller, exists_smaller, not_smaller, or_left_smaller, or_right_smaller, previous_smaller, since_left_smaller, since_right_smaller}
 use Rattle.monitor_state.specs.Beginnings.{Adds}
 use Rattle.monitor_state.specs.Nodes.{nodes_in}
 use Rattle.monitor_state.proofs.compile.+add_nodes.Goals as goal
@@ -50,45 +52,15 @@ returns-in_ok-add_nodes-in-Since-2 t c =
     ∙ ap (λ g. Since c.in-Since.interval (node_form c.deref-in-Since-3.result.now) g) (sym right))))
     c.add_since.ensures
 
-pub add_nodes-requires-clause-accepted : goal.add_nodes-requires-clause-accepted
-add_nodes-requires-clause-accepted t c =
-  exists_under_at c.args.role (node_form c.args.core.now) c.in-Exists.bound (node_form c.deref.result.now)
-      (ap node_form c.in-Exists.is ∙ ap (λ n. Exists c.in-Exists.bound (node_form n)) (sym c.deref.ensures)) c.requires.accepted
-
-pub add_nodes-requires-in-Not-clause-accepted : goal.add_nodes-requires-in-Not-clause-accepted
-add_nodes-requires-in-Not-clause-accepted t c =
-  not_under_at c.args.role c.under_not.result (node_form c.args.core.now) (node_form c.deref-in-Not.result.now)
-      (ap node_form c.in-Not.is ∙ ap (λ n. Not (node_form n)) (sym c.deref-in-Not.ensures)) c.under_not.ensures c.requires.accepted
-
 pub add_join-requires-clause-guarded : goal.add_join-requires-clause-guarded
 add_join-requires-clause-guarded t c =
     not_own_at c.args.role (node_form c.args.core.now) (node_form c.in-Not.inner.value) c.judges_not.result
-    (ap node_form c.in-Not.is) c.judges_not.ensures c.requires.accepted
-
-pub add_nodes-requires-in-And-clause-accepted : goal.add_nodes-requires-in-And-clause-accepted
-add_nodes-requires-in-And-clause-accepted t c =
-  and_left_at c.args.role (node_form c.args.core.now) (node_form c.deref-in-And.result.now) (node_form c.in-And.right.value)
-      (ap node_form c.in-And.is ∙ ap (λ n. And (node_form n) (node_form c.in-And.right.value)) (sym c.deref-in-And.ensures)) c.requires.accepted
-
-pub add_nodes-requires-in-And-2-clause-accepted : goal.add_nodes-requires-in-And-2-clause-accepted
-add_nodes-requires-in-And-2-clause-accepted t c =
-  and_right_at c.args.role (node_form c.args.core.now) (node_form c.in-And.left.value) (node_form c.deref-in-And-2.result.now)
-      (ap node_form c.in-And.is ∙ ap (λ n. And (node_form c.in-And.left.value) (node_form n)) (sym c.deref-in-And-2.ensures)) c.requires.accepted
+    (ap node_form c.in-Not.is) c.judges_not.ensures c.requires
 
 pub add_join-requires-in-And-clause-guarded : goal.add_join-requires-in-And-clause-guarded
 add_join-requires-in-And-clause-guarded t c =
     and_own_at c.args.role (node_form c.args.core.now) (node_form c.in-And.left.value) (node_form c.in-And.right.value)
-    c.is_conjunction.result (ap node_form c.in-And.is) c.is_conjunction.ensures c.requires.accepted
-
-pub add_nodes-requires-in-Since-clause-accepted : goal.add_nodes-requires-in-Since-clause-accepted
-add_nodes-requires-in-Since-clause-accepted t c =
-  since_left_at c.args.role (node_form c.args.core.now) c.in-Since.interval (node_form c.deref-in-Since.result.now) (node_form c.in-Since.right.value)
-      (ap node_form c.in-Since.is ∙ ap (λ n. Since c.in-Since.interval (node_form n) (node_form c.in-Since.right.value)) (sym c.deref-in-Since.ensures)) c.requires.accepted
-
-pub add_nodes-requires-in-Since-2-clause-accepted : goal.add_nodes-requires-in-Since-2-clause-accepted
-add_nodes-requires-in-Since-2-clause-accepted t c =
-  since_right_at c.args.role (node_form c.args.core.now) c.in-Since.interval (node_form c.in-Since.left.value) (node_form c.deref-in-Since-2.result.now)
-      (ap node_form c.in-Since.is ∙ ap (λ n. Since c.in-Since.interval (node_form c.in-Since.left.value) (node_form n)) (sym c.deref-in-Since-2.ensures)) c.requires.accepted
+    c.is_conjunction.result (ap node_form c.in-And.is) c.is_conjunction.ensures c.requires
 
 pub returns-in_ok-add_nodes-in-Not : goal.returns-in_ok-add_nodes-in-Not
 returns-in_ok-add_nodes-in-Not t c =
@@ -109,16 +81,6 @@ returns-in_ok-add_nodes-in-And-2 t c =
     (subst (λ n. Adds (nodes_in role.Part (node_form n)) c.add_nodes-in-And.new.nodes.items c.add_nodes-in-And-2.new.nodes.items) c.deref-in-And-2.ensures c.in_ok-add_nodes-in-And-2.ensures))
     c.add_join-in-And.ensures
 
-pub add_nodes-requires-in-Or-clause-accepted : goal.add_nodes-requires-in-Or-clause-accepted
-add_nodes-requires-in-Or-clause-accepted t c =
-  or_left_at c.args.role (node_form c.args.core.now) (node_form c.deref-in-Or.result.now) (node_form c.in-Or.right.value)
-      (ap node_form c.in-Or.is ∙ ap (λ n. Or (node_form n) (node_form c.in-Or.right.value)) (sym c.deref-in-Or.ensures)) c.requires.accepted
-
-pub add_nodes-requires-in-Or-2-clause-accepted : goal.add_nodes-requires-in-Or-2-clause-accepted
-add_nodes-requires-in-Or-2-clause-accepted t c =
-  or_right_at c.args.role (node_form c.args.core.now) (node_form c.in-Or.left.value) (node_form c.deref-in-Or-2.result.now)
-      (ap node_form c.in-Or.is ∙ ap (λ n. Or (node_form c.in-Or.left.value) (node_form n)) (sym c.deref-in-Or-2.ensures)) c.requires.accepted
-
 pub returns-in_ok-add_nodes-in-Or-2 : goal.returns-in_ok-add_nodes-in-Or-2
 returns-in_ok-add_nodes-in-Or-2 t c =
     on_ok_then c.add_or.result _ _
@@ -132,11 +94,6 @@ returns-in_ok-add_nodes-in-Or-2 t c =
     (subst (λ n. Adds (Or (node_form n) (node_form c.deref-in-Or-4.result.now) ∷ []) c.add_nodes-in-Or-2.new.nodes.items c.add_or.new.nodes.items) c.deref-in-Or-3.ensures own)))
     c.add_or.ensures
 
-pub add_nodes-requires-in-Previous-clause-accepted : goal.add_nodes-requires-in-Previous-clause-accepted
-add_nodes-requires-in-Previous-clause-accepted t c =
-  previous_under_at c.args.role (node_form c.args.core.now) c.in-Previous.interval (node_form c.deref-in-Previous.result.now)
-      (ap node_form c.in-Previous.is ∙ ap (λ n. Previous c.in-Previous.interval (node_form n)) (sym c.deref-in-Previous.ensures)) c.requires.accepted
-
 pub returns-in_ok-add_nodes-in-Previous : goal.returns-in_ok-add_nodes-in-Previous
 returns-in_ok-add_nodes-in-Previous t c =
     on_ok_then c.add_previous.result _ _
@@ -147,3 +104,66 @@ returns-in_ok-add_nodes-in-Previous t c =
     (subst (λ n. Adds (nodes_in role.Whole (node_form n)) c.args.nodes.now.items c.add_nodes-in-Previous.new.nodes.items) c.deref-in-Previous.ensures c.in_ok-add_nodes-in-Previous.ensures)
     (subst (λ n. Adds (Previous c.in-Previous.interval (node_form n) ∷ []) c.add_nodes-in-Previous.new.nodes.items c.add_previous.new.nodes.items) c.deref-in-Previous-2.ensures own))
     c.add_previous.ensures
+
+pub add_nodes-requires : goal.add_nodes-requires
+add_nodes-requires t c =
+    let same : node_form c.args.core.now ≡ Exists c.in-Exists.bound (node_form c.deref.result.now) =
+    ap node_form c.in-Exists.is ∙ ap (λ n. Exists c.in-Exists.bound (node_form n)) (sym c.deref.ensures) in
+    let smaller : nodes (node_form c.deref.result.now) < nodes (node_form c.args.core.now) = exists_smaller (node_form c.args.core.now) c.in-Exists.bound (node_form c.deref.result.now) same in
+    (search rules, exists_under_at c.args.role (node_form c.args.core.now) c.in-Exists.bound (node_form c.deref.result.now) same c.requires)
+
+pub add_nodes-requires-in-Not : goal.add_nodes-requires-in-Not
+add_nodes-requires-in-Not t c =
+    let same : node_form c.args.core.now ≡ Not (node_form c.deref-in-Not.result.now) =
+    ap node_form c.in-Not.is ∙ ap (λ n. Not (node_form n)) (sym c.deref-in-Not.ensures) in
+    let smaller : nodes (node_form c.deref-in-Not.result.now) < nodes (node_form c.args.core.now) = not_smaller (node_form c.args.core.now) (node_form c.deref-in-Not.result.now) same in
+    (search rules, not_under_at c.args.role c.under_not.result (node_form c.args.core.now) (node_form c.deref-in-Not.result.now) same c.under_not.ensures c.requires)
+
+pub add_nodes-requires-in-And : goal.add_nodes-requires-in-And
+add_nodes-requires-in-And t c =
+    let same : node_form c.args.core.now ≡ And (node_form c.deref-in-And.result.now) (node_form c.in-And.right.value) =
+    ap node_form c.in-And.is ∙ ap (λ n. And (node_form n) (node_form c.in-And.right.value)) (sym c.deref-in-And.ensures) in
+    let smaller : nodes (node_form c.deref-in-And.result.now) < nodes (node_form c.args.core.now) = and_left_smaller (node_form c.args.core.now) (node_form c.deref-in-And.result.now) (node_form c.in-And.right.value) same in
+    (search rules, and_left_at c.args.role (node_form c.args.core.now) (node_form c.deref-in-And.result.now) (node_form c.in-And.right.value) same c.requires)
+
+pub add_nodes-requires-in-And-2 : goal.add_nodes-requires-in-And-2
+add_nodes-requires-in-And-2 t c =
+    let same : node_form c.args.core.now ≡ And (node_form c.in-And.left.value) (node_form c.deref-in-And-2.result.now) =
+    ap node_form c.in-And.is ∙ ap (λ n. And (node_form c.in-And.left.value) (node_form n)) (sym c.deref-in-And-2.ensures) in
+    let smaller : nodes (node_form c.deref-in-And-2.result.now) < nodes (node_form c.args.core.now) = and_right_smaller (node_form c.args.core.now) (node_form c.in-And.left.value) (node_form c.deref-in-And-2.result.now) same in
+    (search rules, and_right_at c.args.role (node_form c.args.core.now) (node_form c.in-And.left.value) (node_form c.deref-in-And-2.result.now) same c.requires)
+
+pub add_nodes-requires-in-Or : goal.add_nodes-requires-in-Or
+add_nodes-requires-in-Or t c =
+    let same : node_form c.args.core.now ≡ Or (node_form c.deref-in-Or.result.now) (node_form c.in-Or.right.value) =
+    ap node_form c.in-Or.is ∙ ap (λ n. Or (node_form n) (node_form c.in-Or.right.value)) (sym c.deref-in-Or.ensures) in
+    let smaller : nodes (node_form c.deref-in-Or.result.now) < nodes (node_form c.args.core.now) = or_left_smaller (node_form c.args.core.now) (node_form c.deref-in-Or.result.now) (node_form c.in-Or.right.value) same in
+    (search rules, or_left_at c.args.role (node_form c.args.core.now) (node_form c.deref-in-Or.result.now) (node_form c.in-Or.right.value) same c.requires)
+
+pub add_nodes-requires-in-Or-2 : goal.add_nodes-requires-in-Or-2
+add_nodes-requires-in-Or-2 t c =
+    let same : node_form c.args.core.now ≡ Or (node_form c.in-Or.left.value) (node_form c.deref-in-Or-2.result.now) =
+    ap node_form c.in-Or.is ∙ ap (λ n. Or (node_form c.in-Or.left.value) (node_form n)) (sym c.deref-in-Or-2.ensures) in
+    let smaller : nodes (node_form c.deref-in-Or-2.result.now) < nodes (node_form c.args.core.now) = or_right_smaller (node_form c.args.core.now) (node_form c.in-Or.left.value) (node_form c.deref-in-Or-2.result.now) same in
+    (search rules, or_right_at c.args.role (node_form c.args.core.now) (node_form c.in-Or.left.value) (node_form c.deref-in-Or-2.result.now) same c.requires)
+
+pub add_nodes-requires-in-Previous : goal.add_nodes-requires-in-Previous
+add_nodes-requires-in-Previous t c =
+    let same : node_form c.args.core.now ≡ Previous c.in-Previous.interval (node_form c.deref-in-Previous.result.now) =
+    ap node_form c.in-Previous.is ∙ ap (λ n. Previous c.in-Previous.interval (node_form n)) (sym c.deref-in-Previous.ensures) in
+    let smaller : nodes (node_form c.deref-in-Previous.result.now) < nodes (node_form c.args.core.now) = previous_smaller (node_form c.args.core.now) c.in-Previous.interval (node_form c.deref-in-Previous.result.now) same in
+    (search rules, previous_under_at c.args.role (node_form c.args.core.now) c.in-Previous.interval (node_form c.deref-in-Previous.result.now) same c.requires)
+
+pub add_nodes-requires-in-Since : goal.add_nodes-requires-in-Since
+add_nodes-requires-in-Since t c =
+    let same : node_form c.args.core.now ≡ Since c.in-Since.interval (node_form c.deref-in-Since.result.now) (node_form c.in-Since.right.value) =
+    ap node_form c.in-Since.is ∙ ap (λ n. Since c.in-Since.interval (node_form n) (node_form c.in-Since.right.value)) (sym c.deref-in-Since.ensures) in
+    let smaller : nodes (node_form c.deref-in-Since.result.now) < nodes (node_form c.args.core.now) = since_left_smaller (node_form c.args.core.now) c.in-Since.interval (node_form c.deref-in-Since.result.now) (node_form c.in-Since.right.value) same in
+    (search rules, since_left_at c.args.role (node_form c.args.core.now) c.in-Since.interval (node_form c.deref-in-Since.result.now) (node_form c.in-Since.right.value) same c.requires)
+
+pub add_nodes-requires-in-Since-2 : goal.add_nodes-requires-in-Since-2
+add_nodes-requires-in-Since-2 t c =
+    let same : node_form c.args.core.now ≡ Since c.in-Since.interval (node_form c.in-Since.left.value) (node_form c.deref-in-Since-2.result.now) =
+    ap node_form c.in-Since.is ∙ ap (λ n. Since c.in-Since.interval (node_form c.in-Since.left.value) (node_form n)) (sym c.deref-in-Since-2.ensures) in
+    let smaller : nodes (node_form c.deref-in-Since-2.result.now) < nodes (node_form c.args.core.now) = since_right_smaller (node_form c.args.core.now) c.in-Since.interval (node_form c.in-Since.left.value) (node_form c.deref-in-Since-2.result.now) same in
+    (search rules, since_right_at c.args.role (node_form c.args.core.now) c.in-Since.interval (node_form c.in-Since.left.value) (node_form c.deref-in-Since-2.result.now) same c.requires)
