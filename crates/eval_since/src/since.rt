@@ -72,6 +72,29 @@ impl SinceState {
         })
     }
 
+    /// Whether the table is over the left operand's columns, as `push_left` asks.
+    pub fn takes_left(&self, table: &Table) -> bool
+        ensures { IsTrue result → table.now.columns ≡ self.now.window.left }
+    {
+        table.columns() == self.window.left()
+    }
+
+    /// Whether the table is over the right operand's columns, as `push_right` asks.
+    pub fn takes_right(&self, table: &Table) -> bool
+        ensures { IsTrue result → table.now.columns ≡ self.now.window.right }
+    {
+        table.columns() == self.window.right()
+    }
+
+    /// Whether the time is no earlier than the latest one, and there are few enough, as `push_time`
+    /// asks.
+    pub fn takes_time(&self, ts: u64) -> bool
+        ensures rises { IsTrue result → self.now.newest ≤ ts }
+        ensures few { IsTrue result → self.now.pulled + length self.now.times < 2 ^ 63 }
+    {
+        self.newest <= ts && self.pulled + (self.times.len() as u64) < 1 << 63
+    }
+
     /// Takes the left operand's next table, which of a negated operand is the operand's own.
     pub fn push_left(&mut self, table: Table) -> Result<(), AllocError>
         requires columns { table.columns ≡ self.old.window.left }

@@ -300,6 +300,12 @@ impl Window {
         Ok(Table::from_rows(columns, rows))
     }
 
+    pub fn left(&self) -> &[u32]
+        ensures { result.now ≡ self.now.left }
+    {
+        self.left.as_slice()
+    }
+
     /// The rows with the times kept for them.
     pub fn kept(&self, alloc: Global) -> Result<Vec<KeptRow>, AllocError>
         ensures { IfOk result (λ rows. (x : ℕ) (u : List Value) →

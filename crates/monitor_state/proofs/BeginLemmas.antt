@@ -1,0 +1,306 @@
+-- The nodes with which a monitor begins stand for the empty log.
+use Rattle.std.proofs.Common.{Result, Ok, Err, OnOk, subst, ◌≡◌, ℕ, ◌+◌, ◌-◌, ◌<◌, ◌≤◌, Bool, true, false, cond, List, [], ◌∷◌, ◌++◌, length, map, drop, refl, sym, ap, ap₂, ◌∙◌, arith, append_assoc, append-nil, inl, inr}
+use Rattle.mfotl_model.specs.Exact.{AllExact, View}
+use Rattle.mfotl_model.specs.FreeVariables.{fv, joined}
+use Rattle.mfotl_model.specs.Log.{times}
+use Rattle.mfotl_model.specs.Satisfaction.{Valuation, sat}
+use Rattle.mfotl_model.specs.Tables.{TableOf, has}
+use Rattle.mfotl_model.specs.declared.event.TimePoint.{TimePoint}
+use Rattle.mfotl_model.specs.declared.formula.Bound.{Bound}
+use Rattle.mfotl_model.specs.declared.interval.Interval.{Interval}
+use Rattle.mfotl_model.specs.declared.term.Atom.{Atom as OneAtom}
+use Rattle.mfotl_model.specs.declared.value.Value.{Value}
+use Rattle.eval_bool.specs.OrView.{OrOf}
+use Rattle.eval_since.specs.PreviousView.{PrevOf}
+use Rattle.eval_since.specs.SinceView.{SinceOf}
+use Rattle.monitorable.specs.CoreForms.{CoreForm, meaning, True, False, Atom, Not, And, Or, Exists, Previous, Since}
+use Rattle.monitorable.specs.Conjuncts.{PartForm, conjuncts_of}
+use Rattle.monitorable.specs.Conjuncts.PartForm.{Child as ChildPart, Test as TestPart}
+use Rattle.monitorable.specs.Fragment.{is_conjunction, judges_not, under_not}
+use Rattle.eval_bool.specs.JoinView.{ChildOf, JoinOf, children_of}
+use Rattle.monitorable.specs.declared.role.Role.{Role}
+use Rattle.monitorable.specs.declared.role.Role.TheVariants as role
+use Rattle.monitor_state.proofs.ExactLemmas.{reached_within}
+use Rattle.monitor_state.proofs.MonitorSteps.{nodes_append}
+use Rattle.monitor_state.proofs.RegionLemmas.{joined_within}
+use Rattle.monitor_state.proofs.SinceSteps.{free_operand}
+use Rattle.monitor_state.specs.Beginnings.{Adds, AddsIf, Begins, BeginsJoin, IsJoined, OrBegun, PreviousBegun, SinceBegun}
+use Rattle.monitor_state.specs.Nodes.{children, is_negated, left_operand, nodes_in, nodes_of, operands}
+use Rattle.monitor_state.specs.Stands.{ChildrenStand, IsConstant, IsFor, IsJoin, IsOr, IsPrevious, IsSince, JoinStands, OrStands, PreviousStands, bare, conjunct_as, NodeStands, NodesStand, SinceStands, Stands, StateOf}
+use Rattle.monitor_state.specs.Views.{reached}
+use Rattle.monitor_state.specs.declared.node.Node.{Node}
+use Rattle.monitor_state.specs.declared.node.Node.TheVariants as node
+
+adds_then : (fs gs : List CoreForm) (old mid new : List Node) → Adds fs old mid → Adds gs mid new → Adds (fs ++ gs) old new
+adds_then fs gs old mid new first second view empty =
+    let one = first view empty in
+    let two = second view empty in (
+      one.0 ++ two.0,
+      two.1 ∙ ap (λ ns. ns ++ two.0) one.1 ∙ append_assoc old one.0 two.0,
+      nodes_append view fs gs one.0 two.0 one.2 two.2,
+    )
+
+adds_one : (f : CoreForm) (n : Node) (old new : List Node) → new ≡ old ++ n ∷ [] → IsFor f n
+    → ((view : View) → view.log ≡ [] → NodeStands view f n) → Adds (f ∷ []) old new
+adds_one f n old new is for stands view empty = (n ∷ [], is, (for, stands view empty, tt))
+
+-- nothing of an empty log is settled
+none_reached : (view : View) → view.log ≡ [] → (f : CoreForm) → 0 ≡ reached view f
+none_reached view empty f =
+    let most : reached view f ≤ length view.log = reached_within view f in
+    let size : length view.log ≡ 0 = ap length empty in
+    omega arith
+
+pub true_adds : (table : TableOf) (old new : List Node) → table.columns ≡ [] → ((v : Valuation) → has table v ≡ true)
+    → new ≡ old ++ node.Constant table ∷ [] → Adds (True ∷ []) old new
+unfolding fv sat
+true_adds table old new columns rows is =
+    adds_one True (node.Constant table) old new is
+    (record { columns = columns; rows = λ log dom v i. rows v }) (λ view empty. tt)
+
+pub false_adds : (table : TableOf) (old new : List Node) → table.columns ≡ [] → ((v : Valuation) → has table v ≡ false)
+    → new ≡ old ++ node.Constant table ∷ [] → Adds (False ∷ []) old new
+unfolding fv sat
+false_adds table old new columns rows is =
+    adds_one False (node.Constant table) old new is
+    (record { columns = columns; rows = λ log dom v i. rows v }) (λ view empty. tt)
+
+pub atom_adds : (a b : OneAtom) (old new : List Node) → b ≡ a → new ≡ old ++ node.Atom b ∷ [] → Adds (Atom a ∷ []) old new
+atom_adds a b old new same is = adds_one (Atom a) (node.Atom b) old new is same (λ view empty. tt)
+
+pub exists_adds : (r : Role) (h : CoreForm) (x : Bound) (f : CoreForm) (old mid new : List Node) → h ≡ Exists x f
+    → Adds (nodes_in role.Whole f) old mid
+    → new ≡ mid ++ node.Exists x.number ∷ [] → Adds (nodes_in r h) old new
+unfolding nodes_in
+exists_adds r h x f old mid new same first is =
+    subst (λ k. Adds (nodes_in r k) old new) (sym same)
+    (adds_then (nodes_in role.Whole f) (Exists x f ∷ []) old mid new first
+    (adds_one (Exists x f) (node.Exists x.number) mid new is refl (λ view empty. tt)))
+
+since_is : (i : Interval) (f g : CoreForm) (s : SinceOf) (order : TableOf) → SinceBegun i f g s
+    → order.columns ≡ fv (meaning (Since i f g)) → IsSince i f g s order
+unfolding fv
+since_is i f g s order begun columns =
+    record {
+      interval = ap (λ (x : SinceOf). x.window.interval) begun.begun;
+      negated = ap (λ (x : SinceOf). x.negated) begun.begun;
+      left = ap (λ (x : SinceOf). x.window.left) begun.begun ∙ sym (free_operand f);
+      right = ap (λ (x : SinceOf). x.window.right) begun.begun;
+      ordered = columns;
+    }
+
+since_begins : (i : Interval) (f g : CoreForm) (s : SinceOf) → SinceBegun i f g s → (view : View) → view.log ≡ []
+    → SinceStands view i f g s
+since_begins i f g s begun view empty =
+    let pulled : s.pulled ≡ 0 = ap (λ (x : SinceOf). x.pulled) begun.begun in
+    let times : length s.times ≡ 0 = ap (λ (x : SinceOf). length x.times) begun.begun in
+    let lefts : length s.lefts ≡ 0 = ap (λ (x : SinceOf). length x.lefts) begun.begun in
+    let rights : length s.rights ≡ 0 = ap (λ (x : SinceOf). length x.rights) begun.begun in
+    let size : length view.log ≡ 0 = ap length empty in
+    let left : 0 ≡ reached view f = none_reached view empty f in
+    let right : 0 ≡ reached view g = none_reached view empty g in
+    record {
+      pulled = pulled ∙ none_reached view empty (Since i f g);
+      timed = omega arith;
+      left_pushed = omega arith;
+      right_pushed = omega arith;
+      lefts = subst (λ xs. AllExact view (meaning (left_operand f)) s.pulled xs) (sym (ap (λ (x : SinceOf). x.lefts) begun.begun)) tt;
+      rights = subst (λ xs. AllExact view (meaning g) s.pulled xs) (sym (ap (λ (x : SinceOf). x.rights) begun.begun)) tt;
+      follows = λ dom v covers near t a b dates tells tells_right. begun.follows t a b v;
+    }
+
+pub since_adds : (r : Role) (h : CoreForm) (i : Interval) (f g : CoreForm) (old mid more new : List Node) → h ≡ Since i f g
+    → Adds (nodes_in role.Left f) old mid → Adds (nodes_in role.Whole g) mid more
+    → (h ≡ Since i f g → Adds (h ∷ []) more new)
+    → Adds (nodes_in r h) old new
+unfolding nodes_in
+since_adds r h i f g old mid more new same first second own =
+    subst (λ k. Adds (nodes_in r k) old new) (sym same)
+    (adds_then (nodes_in role.Left f ++ nodes_in role.Whole g) (Since i f g ∷ []) old more new
+    (adds_then (nodes_in role.Left f) (nodes_in role.Whole g) old mid more first second)
+    (subst (λ k. Adds (k ∷ []) more new) same (own same)))
+
+pub since_added : (h : CoreForm) (i : Interval) (f g : CoreForm) (s : SinceOf) (order : TableOf) (old new : List Node)
+    → SinceBegun i f g s → order.columns ≡ fv (meaning h) → new ≡ old ++ node.Since s order ∷ []
+    → h ≡ Since i f g → Adds (h ∷ []) old new
+since_added h i f g s order old new begun columns is same =
+    subst (λ k. Adds (k ∷ []) old new) (sym same)
+    (adds_one (Since i f g) (node.Since s order) old new is
+    (since_is i f g s order begun (columns ∙ ap (λ k. fv (meaning k)) same))
+    (λ view empty. since_begins i f g s begun view empty))
+
+-- a state of these nodes stands for the empty log
+pub begins : (core : CoreForm) (state : StateOf) → state.taken ≡ 0 → state.given ≡ 0 → state.first ≡ 0 → state.times ≡ []
+    → Adds (nodes_of core) [] state.nodes → Begins core state
+begins core state taken given first times_are adds view empty =
+    let added = adds view empty in
+    record {
+      taken = taken ∙ sym (ap length empty);
+      given = given ∙ none_reached view empty core;
+      first = omega arith;
+      times = times_are ∙ sym (ap (λ log. drop state.first (times log)) empty ∙ ap (λ n. drop n []) first);
+      nodes = subst (NodesStand view (nodes_of core)) (sym added.1) added.2;
+    }
+
+-- a core without operands has one node
+pub true_at : (r : Role) (h : CoreForm) (old new : List Node) → h ≡ True → Adds (True ∷ []) old new → Adds (nodes_in r h) old new
+unfolding nodes_in
+true_at r h old new same adds = subst (λ k. Adds (nodes_in r k) old new) (sym same) adds
+
+pub false_at : (r : Role) (h : CoreForm) (old new : List Node) → h ≡ False → Adds (False ∷ []) old new → Adds (nodes_in r h) old new
+unfolding nodes_in
+false_at r h old new same adds = subst (λ k. Adds (nodes_in r k) old new) (sym same) adds
+
+pub atom_at : (r : Role) (h : CoreForm) (a : OneAtom) (old new : List Node) → h ≡ Atom a → Adds (Atom a ∷ []) old new
+    → Adds (nodes_in r h) old new
+unfolding nodes_in
+atom_at r h a old new same adds = subst (λ k. Adds (nodes_in r k) old new) (sym same) adds
+
+begun_children : (view : View) → view.log ≡ [] → (ps : List PartForm)
+    → ChildrenStand view 0 (children ps) (children_of (map conjunct_as ps))
+begun_children view empty [] = tt
+begun_children view empty (ChildPart f n ∷ ps) =
+    (record { pushed = none_reached view empty f; exact = tt }, begun_children view empty ps)
+begun_children view empty (TestPart c w ∷ ps) = begun_children view empty ps
+
+bare_begun : (ps : List PartForm) → map bare (children_of (map conjunct_as ps)) ≡ children_of (map conjunct_as ps)
+bare_begun [] = refl
+bare_begun (ChildPart f n ∷ ps) =
+    ap (λ (ds : List ChildOf). record { columns = fv (meaning f); negated = n; tables = [] } ∷ ds) (bare_begun ps)
+bare_begun (TestPart c w ∷ ps) = bare_begun ps
+
+join_is : (f : CoreForm) (s : JoinOf) → BeginsJoin f s → IsJoin f s
+join_is f s begins =
+    record {
+      columns = ap (λ (x : JoinOf). x.columns) begins.begun;
+      tests = ap (λ (x : JoinOf). x.tests) begins.begun;
+      parts = ap (λ (x : JoinOf). map bare x.children) begins.begun ∙ bare_begun (conjuncts_of f);
+      some = begins.some;
+    }
+
+join_begins : (f : CoreForm) (s : JoinOf) → operands f ≡ children (conjuncts_of f) → BeginsJoin f s → (view : View)
+    → view.log ≡ [] → JoinStands view f s
+join_begins f s same begins view empty =
+    record {
+      pulled = ap (λ (x : JoinOf). x.pulled) begins.begun ∙ none_reached view empty f;
+      children =
+          subst (λ (x : JoinOf). ChildrenStand view x.pulled (operands f) x.children) (sym begins.begun)
+          (subst (λ fs. ChildrenStand view 0 fs (children_of (map conjunct_as (conjuncts_of f)))) (sym same)
+          (begun_children view empty (conjuncts_of f)));
+    }
+
+adds_none : (old : List Node) → Adds [] old old
+adds_none old view empty = ([], sym (append-nil old), tt)
+
+pub unjudged_adds : (own : Bool) (f : CoreForm) (old new : List Node) → own ≡ false → new ≡ old → AddsIf own f old new
+unjudged_adds own f old new not_own same =
+    subst (λ b. AddsIf b f old new) (sym not_own) (subst (λ ns. Adds [] old ns) (sym same) (adds_none old))
+
+-- whether a core is a conjunction
+pub data IsConjunction : CoreForm → Type 0 where
+  IsAnd : (f g : CoreForm) → IsConjunction (And f g)
+  IsNot : (f : CoreForm) → IsConjunction (Not f)
+
+one_join : (f : CoreForm) (s : JoinOf) (old new : List Node) → IsConjunction f → BeginsJoin f s → new ≡ old ++ node.Join s ∷ []
+    → Adds (f ∷ []) old new
+one_join f s old new (IsAnd g h) begins is =
+    adds_one (And g h) (node.Join s) old new is (join_is (And g h) s begins) (join_begins (And g h) s refl begins)
+one_join f s old new (IsNot g) begins is =
+    adds_one (Not g) (node.Join s) old new is (join_is (Not g) s begins) (join_begins (Not g) s refl begins)
+
+pub and_adds : (r : Role) (h f g : CoreForm) (own : Bool) (old mid more new : List Node) → h ≡ And f g → own ≡ is_conjunction r
+    → Adds (nodes_in role.Part f) old mid → Adds (nodes_in role.Part g) mid more
+    → AddsIf own h more new → Adds (nodes_in r h) old new
+unfolding nodes_in
+and_adds r h f g own old mid more new same is first second last =
+    subst (λ k. Adds (nodes_in r k) old new) (sym same)
+    (adds_then (nodes_in role.Part f ++ nodes_in role.Part g) (cond (is_conjunction r) (And f g ∷ []) []) old more new
+    (adds_then (nodes_in role.Part f) (nodes_in role.Part g) old mid more first second)
+    (subst (λ b. Adds (cond b (And f g ∷ []) []) more new) is (subst (λ k. AddsIf own k more new) same last)))
+
+pub not_adds : (r s : Role) (h f : CoreForm) (own : Bool) (old mid new : List Node) → h ≡ Not f → own ≡ judges_not r → s ≡ under_not r
+    → Adds (nodes_in s f) old mid → AddsIf own h mid new → Adds (nodes_in r h) old new
+unfolding nodes_in
+not_adds r s h f own old mid new same is under first last =
+    subst (λ k. Adds (nodes_in r k) old new) (sym same)
+    (adds_then (nodes_in (under_not r) f) (cond (judges_not r) (Not f ∷ []) []) old mid new
+    (subst (λ q. Adds (nodes_in q f) old mid) under first)
+    (subst (λ b. Adds (cond b (Not f ∷ []) []) mid new) is (subst (λ k. AddsIf own k mid new) same last)))
+
+pub judged_adds : (own : Bool) (h : CoreForm) (s : JoinOf) (old new : List Node) → own ≡ true → IsJoined h → BeginsJoin h s
+    → new ≡ old ++ node.Join s ∷ [] → AddsIf own h old new
+judged_adds own h s old new is (inl same) begins made =
+    subst (λ b. AddsIf b h old new) (sym is)
+    (subst (λ k. Adds (k ∷ []) old new) (sym same.2)
+    (one_join (And same.0 same.1) s old new (IsAnd same.0 same.1) (subst (λ k. BeginsJoin k s) same.2 begins) made))
+judged_adds own h s old new is (inr same) begins made =
+    subst (λ b. AddsIf b h old new) (sym is)
+    (subst (λ k. Adds (k ∷ []) old new) (sym same.1)
+    (one_join (Not same.0) s old new (IsNot same.0) (subst (λ k. BeginsJoin k s) same.1 begins) made))
+
+or_begins : (f g : CoreForm) (s : OrOf) → OrBegun f g s → (view : View) → view.log ≡ [] → OrStands view f g s
+or_begins f g s begun view empty =
+    let pulled : s.pulled ≡ 0 = ap (λ (x : OrOf). x.pulled) begun.begun in
+    let lefts : length s.lefts ≡ 0 = ap (λ (x : OrOf). length x.lefts) begun.begun in
+    let rights : length s.rights ≡ 0 = ap (λ (x : OrOf). length x.rights) begun.begun in
+    let left : 0 ≡ reached view f = none_reached view empty f in
+    let right : 0 ≡ reached view g = none_reached view empty g in
+    record {
+      pulled = pulled ∙ none_reached view empty (Or f g);
+      left_pushed = omega arith;
+      right_pushed = omega arith;
+      lefts = subst (λ xs. AllExact view (meaning f) s.pulled xs) (sym (ap (λ (x : OrOf). x.lefts) begun.begun)) tt;
+      rights = subst (λ xs. AllExact view (meaning g) s.pulled xs) (sym (ap (λ (x : OrOf). x.rights) begun.begun)) tt;
+    }
+
+or_is : (f g : CoreForm) (s : OrOf) → OrBegun f g s → IsOr f g s
+unfolding fv
+or_is f g s begun =
+    record {
+      columns =
+          ap (λ (x : OrOf). x.left) begun.begun ∙ sym (joined_within (fv (meaning f)) (fv (meaning g)) begun.within);
+    }
+
+pub or_added : (f g : CoreForm) (s : OrOf) (old new : List Node) → OrBegun f g s → new ≡ old ++ node.Or s ∷ []
+    → Adds (Or f g ∷ []) old new
+or_added f g s old new begun is =
+    adds_one (Or f g) (node.Or s) old new is (or_is f g s begun) (λ view empty. or_begins f g s begun view empty)
+
+pub or_adds : (r : Role) (h f g : CoreForm) (old mid more new : List Node) → h ≡ Or f g
+    → Adds (nodes_in role.Whole f) old mid → Adds (nodes_in role.Whole g) mid more
+    → Adds (Or f g ∷ []) more new → Adds (nodes_in r h) old new
+unfolding nodes_in
+or_adds r h f g old mid more new same first second last =
+    subst (λ k. Adds (nodes_in r k) old new) (sym same)
+    (adds_then (nodes_in role.Whole f ++ nodes_in role.Whole g) (Or f g ∷ []) old more new
+    (adds_then (nodes_in role.Whole f) (nodes_in role.Whole g) old mid more first second) last)
+
+previous_begins : (i : Interval) (f : CoreForm) (s : PrevOf) → PreviousBegun i f s → (view : View) → view.log ≡ []
+    → PreviousStands view i f s
+previous_begins i f s begun view empty =
+    let pulled : s.pulled ≡ 0 = ap (λ (x : PrevOf). x.pulled) begun.begun in
+    let times : length s.times ≡ 0 = ap (λ (x : PrevOf). length x.times) begun.begun in
+    let tables : length s.tables ≡ 0 = ap (λ (x : PrevOf). length x.tables) begun.begun in
+    let size : length view.log ≡ 0 = ap length empty in
+    let none : 0 ≡ reached view f = none_reached view empty f in
+    record {
+      pulled = pulled ∙ none_reached view empty (Previous i f);
+      timed = omega arith;
+      pushed = omega arith;
+      tables = subst (λ xs. AllExact view (meaning f) (s.pulled - 1) xs) (sym (ap (λ (x : PrevOf). x.tables) begun.begun)) tt;
+      follows = λ dom v covers near t a dates tells. begun.follows t a v;
+    }
+
+pub previous_added : (i : Interval) (f : CoreForm) (s : PrevOf) (old new : List Node) → PreviousBegun i f s
+    → new ≡ old ++ node.Previous s ∷ [] → Adds (Previous i f ∷ []) old new
+previous_added i f s old new begun is =
+    adds_one (Previous i f) (node.Previous s) old new is
+    (record { interval = ap (λ (x : PrevOf). x.interval) begun.begun; columns = ap (λ (x : PrevOf). x.columns) begun.begun })
+    (λ view empty. previous_begins i f s begun view empty)
+
+pub previous_adds : (r : Role) (h : CoreForm) (i : Interval) (f : CoreForm) (old mid new : List Node) → h ≡ Previous i f
+    → Adds (nodes_in role.Whole f) old mid → Adds (Previous i f ∷ []) mid new → Adds (nodes_in r h) old new
+unfolding nodes_in
+previous_adds r h i f old mid new same first last =
+    subst (λ k. Adds (nodes_in r k) old new) (sym same)
+    (adds_then (nodes_in role.Whole f) (Previous i f ∷ []) old mid new first last)

@@ -1,0 +1,389 @@
+-- A conjunction's state over one step.
+use Rattle.std.proofs.Common.{subst, ◌≡◌, ℕ, zero, suc, ◌+◌, ◌-◌, ◌<◌, ◌≤◌, Bool, true, false, not, cond, ◌&&◌, ◌||◌, nat_lt, nat_le, List, [], ◌∷◌, ◌++◌, length, drop, map, refl, sym, ap, ap₂, ◌∙◌, inl, inr, arith, length-append, append-nil}
+use Rattle.std.proofs.Math.Bool.{beq}
+use Rattle.std.proofs.lemmas.Bool.{lt-ltb, ltb-true, leb-true, le-leb, and_parts, and_from}
+use Rattle.std.proofs.lemmas.List.{length-drop, length-map}
+use Rattle.std.specs.List.{list_all}
+use Rattle.mfotl_model.proofs.CountLemmas.{counted_settled}
+use Rattle.mfotl_model.proofs.VariableLemmas.{joined_assoc, joined_none}
+use Rattle.mfotl_model.specs.Exact.{View, Covers, Exact, AllExact}
+use Rattle.mfotl_model.specs.FreeVariables.{among, joined, fv, variables_in}
+use Rattle.mfotl_model.specs.Log.{times}
+use Rattle.mfotl_model.specs.Regions.{Region, Passes}
+use Rattle.mfotl_model.specs.Satisfaction.{Valuation, sat, compares, term_value}
+use Rattle.mfotl_model.specs.Settled.{settled}
+use Rattle.mfotl_model.specs.Tables.{TableOf, has}
+use Rattle.mfotl_model.specs.Times.{NeverFalls}
+use Rattle.mfotl_model.specs.declared.event.TimePoint.{TimePoint}
+use Rattle.mfotl_model.specs.declared.term.Comparison.{Comparison}
+use Rattle.mfotl_model.specs.declared.value.Value.{Value}
+use Rattle.eval_bool.specs.Firsts.{first_has}
+use Rattle.eval_bool.specs.JoinView.{ChildOf, JoinOf, TestOf, child_holds, children_of, conjunct_columns, join_due, joins, test_holds, tests_of}
+use Rattle.monitorable.proofs.ConjunctsLaw.{conjuncts_mean}
+use Rattle.monitorable.specs.CoreForms.{CoreForm, meaning, True, False, Atom, Compare, Not, And, Or, Exists, Previous, Next, Since, Until}
+use Rattle.monitorable.specs.Conjuncts.{PartForm, conjuncts_of, negated_part, part_holds}
+use Rattle.monitorable.specs.Conjuncts.PartForm.{Child as ChildPart, Test as TestPart}
+use Rattle.monitorable.specs.Fragment.{binds}
+use Rattle.relations.specs.Operations.{chosen}
+use Rattle.relations.specs.Pushed.{StandFrom, turned}
+use Rattle.monitor_state.proofs.CountLemmas.{count_below, count_is, count_within}
+use Rattle.monitor_state.proofs.ExactLemmas.{all_stay, exact_append, exact_drop, reached_grows, shifted, stand_exact, stand_as}
+use Rattle.monitor_state.proofs.RegionLemmas.{near_left, near_right}
+use Rattle.monitor_state.specs.JoinFeeding.{JoinPulled, JoinTakes, child_dropped, children_fed, join_fed, join_pulled}
+use Rattle.monitor_state.specs.Nodes.{children, operands}
+use Rattle.monitor_state.specs.Stands.{ChildStands, ChildrenStand, IsJoin, JoinStands, bare, conjunct_as}
+use Rattle.monitor_state.specs.Steps.{News, StackNews, longer}
+use Rattle.monitor_state.specs.Views.{reached}
+
+-- the columns of conjuncts in a row
+columns_append : (ps qs : List PartForm)
+    → conjunct_columns (map conjunct_as (ps ++ qs)) ≡ joined (conjunct_columns (map conjunct_as ps)) (conjunct_columns (map conjunct_as qs))
+columns_append [] qs = sym (joined_none (conjunct_columns (map conjunct_as qs)))
+columns_append (ChildPart f negated ∷ ps) qs =
+    ap (joined (fv (meaning f))) (columns_append ps qs)
+    ∙ sym (joined_assoc (fv (meaning f)) (conjunct_columns (map conjunct_as ps)) (conjunct_columns (map conjunct_as qs)))
+columns_append (TestPart c wanted ∷ ps) qs =
+    ap (joined (variables_in (c.left ∷ c.right ∷ []))) (columns_append ps qs)
+    ∙ sym (joined_assoc (variables_in (c.left ∷ c.right ∷ [])) (conjunct_columns (map conjunct_as ps)) (conjunct_columns (map conjunct_as qs)))
+
+joined_nothing : (xs : List ℕ) → joined xs [] ≡ xs
+joined_nothing xs = append-nil xs
+
+negated_columns : (f : CoreForm) → conjunct_columns (map conjunct_as (negated_part f ∷ [])) ≡ fv (meaning f)
+unfolding fv
+negated_columns (Compare c) = joined_nothing (variables_in (c.left ∷ c.right ∷ []))
+negated_columns f = joined_nothing (fv (meaning f))
+
+compared_columns : (c : Comparison) (b : Bool)
+    → conjunct_columns (map conjunct_as (cond b (ChildPart (Compare c) false) (TestPart c true) ∷ [])) ≡ variables_in (c.left ∷ c.right ∷ [])
+unfolding fv
+compared_columns c true = joined_nothing (variables_in (c.left ∷ c.right ∷ []))
+compared_columns c false = joined_nothing (variables_in (c.left ∷ c.right ∷ []))
+
+-- the columns of a conjunction are its free variables
+pub columns_are : (f : CoreForm) → conjunct_columns (map conjunct_as (conjuncts_of f)) ≡ fv (meaning f)
+unfolding fv conjuncts_of
+columns_are (And f g) = columns_append (conjuncts_of f) (conjuncts_of g) ∙ ap₂ joined (columns_are f) (columns_are g)
+columns_are (Not f) = negated_columns f
+columns_are (Compare c) = compared_columns c (binds c)
+columns_are f = joined_nothing (fv (meaning f))
+
+head_same : {X : Type 0} (x y : X) (xs ys : List X) → (x ∷ xs) ≡ (y ∷ ys) → x ≡ y
+head_same x y xs ys e = cc
+
+tail_same : {X : Type 0} (x y : X) (xs ys : List X) → (x ∷ xs) ≡ (y ∷ ys) → xs ≡ ys
+tail_same x y xs ys e = cc
+
+first_exact : (view : View) (f : CoreForm) (i : ℕ) (tables : List TableOf) (dom : List Value) (v : Valuation) → Covers view dom
+    → view.near (fv (meaning f)) v ≡ true → 0 < length tables → AllExact view (meaning f) i tables
+    → first_has v tables ≡ sat view.log dom v i (meaning f)
+first_exact view f i [] dom v covers near some exact = absurd (omega arith)
+first_exact view f i (table ∷ tables) dom v covers near some exact = exact.0.rows dom v covers near
+
+chosen_is : (wanted b : Bool) → beq wanted b ≡ cond wanted b (not b)
+chosen_is true true = refl
+chosen_is true false = refl
+chosen_is false true = refl
+chosen_is false false = refl
+
+regroup_child : (a b c : Bool) → ((a && b) && c) ≡ (a && (b && c))
+regroup_child true b c = refl
+regroup_child false b c = refl
+
+regroup_test : (a b c : Bool) → (a && (b && c)) ≡ (b && (a && c))
+regroup_test true b c = refl
+regroup_test false true c = refl
+regroup_test false false c = refl
+
+module _ (view : View) (passes : Passes (fv view.whole) view.near) where
+  -- what joins of exact tables is what the conjuncts mean
+  joins_mean : (i : ℕ) (parts : List PartForm) (cs : List ChildOf)
+      → map bare cs ≡ children_of (map conjunct_as parts) → ChildrenStand view i (children parts) cs
+      → list_all (λ c. nat_lt 0 (length c.tables)) cs ≡ true
+      → (dom : List Value) (v : Valuation) → Covers view dom
+      → view.near (conjunct_columns (map conjunct_as parts)) v ≡ true
+      → (list_all (child_holds v) cs && list_all (test_holds v) (tests_of (map conjunct_as parts)))
+      ≡ list_all (part_holds view.log dom v i) parts
+  unfolding sat chosen
+  joins_mean i [] [] is stand ready dom v covers near = refl
+  joins_mean i [] (c ∷ cs) is stand ready dom v covers near = absurd stand
+  joins_mean i (ChildPart f negated ∷ parts) [] is stand ready dom v covers near = absurd stand
+  joins_mean i (ChildPart f negated ∷ parts) (c ∷ cs) is stand ready dom v covers near =
+      let readies = and_parts (nat_lt 0 (length c.tables)) (list_all (λ c. nat_lt 0 (length c.tables)) cs) ready in
+      let own : c.negated ≡ negated =
+      ap (λ (x : ChildOf). x.negated) (head_same (bare c) (record { columns = fv (meaning f); negated = negated; tables = [] }) (map bare cs) (children_of (map conjunct_as parts)) is) in
+      regroup_child (turned c.negated (first_has v c.tables)) (list_all (child_holds v) cs)
+      (list_all (test_holds v) (tests_of (map conjunct_as parts)))
+      ∙ ap₂ (λ b r. b && r)
+      (ap₂ turned own
+      (first_exact view f i c.tables dom v covers
+      (near_left (fv view.whole) view.near passes (fv (meaning f)) (conjunct_columns (map conjunct_as parts)) v near)
+      (ltb-true 0 (length c.tables) readies.0) stand.0.exact))
+      (joins_mean i parts cs
+      (tail_same (bare c) (record { columns = fv (meaning f); negated = negated; tables = [] }) (map bare cs) (children_of (map conjunct_as parts)) is)
+      stand.1 readies.1 dom v covers
+      (near_right (fv view.whole) view.near passes (fv (meaning f)) (conjunct_columns (map conjunct_as parts)) v near))
+  joins_mean i (TestPart c wanted ∷ parts) cs is stand ready dom v covers near =
+      regroup_test (list_all (child_holds v) cs)
+      (beq wanted (compares c.sign (term_value v c.left) (term_value v c.right)))
+      (list_all (test_holds v) (tests_of (map conjunct_as parts)))
+      ∙ ap₂ (λ b r. b && r) (chosen_is wanted (compares c.sign (term_value v c.left) (term_value v c.right)))
+      (joins_mean i parts cs is stand ready dom v covers
+      (near_right (fv view.whole) view.near passes (variables_in (c.left ∷ c.right ∷ [])) (conjunct_columns (map conjunct_as parts)) v near))
+
+bare_dropped : (n : ℕ) (cs : List ChildOf) → map bare (map (child_dropped n) cs) ≡ map bare cs
+bare_dropped n [] = refl
+bare_dropped n (c ∷ cs) = ap (λ ds. bare c ∷ ds) (bare_dropped n cs)
+
+bare_fed : (cs : List ChildOf) (lists : List (List TableOf)) → map bare (children_fed cs lists) ≡ map bare cs
+bare_fed [] lists = refl
+bare_fed (c ∷ cs) [] = refl
+bare_fed (c ∷ cs) (l ∷ lists) = ap (λ ds. bare c ∷ ds) (bare_fed cs lists)
+
+-- children from which tables were taken
+dropped_stand : (view : View) (i k : ℕ) (fs : List CoreForm) (cs : List ChildOf)
+    → list_all (λ c. nat_le k (length c.tables)) cs ≡ true
+    → ChildrenStand view i fs cs → ChildrenStand view (i + k) fs (map (child_dropped k) cs)
+dropped_stand view i k [] [] room stand = tt
+dropped_stand view i k (f ∷ fs) (c ∷ cs) room stand =
+    let parts = and_parts (nat_le k (length c.tables)) (list_all (λ c. nat_le k (length c.tables)) cs) room in
+    let low : k ≤ length c.tables = leb-true k (length c.tables) parts.0 in
+    let size : length (drop k c.tables) ≡ length c.tables - k = length-drop k c.tables in
+    let pushed : i + length c.tables ≡ reached view f = stand.0.pushed in (
+      record { pushed = omega arith; exact = exact_drop view (meaning f) i k c.tables stand.0.exact },
+      dropped_stand view i k fs cs parts.1 stand.1,
+    )
+dropped_stand view i k [] (c ∷ cs) room stand = absurd stand
+dropped_stand view i k (f ∷ fs) [] room stand = absurd stand
+
+-- less room is enough, and some is left then
+less_room : (k n : ℕ) (cs : List ChildOf) → k < n → list_all (λ c. nat_le n (length c.tables)) cs ≡ true
+    → (list_all (λ c. nat_le k (length c.tables)) cs ≡ true)
+    × (list_all (λ c. nat_lt 0 (length c.tables)) (map (child_dropped k) cs) ≡ true)
+less_room k n [] low room = (refl, refl)
+less_room k n (c ∷ cs) low room =
+    let parts = and_parts (nat_le n (length c.tables)) (list_all (λ c. nat_le n (length c.tables)) cs) room in
+    let high : n ≤ length c.tables = leb-true n (length c.tables) parts.0 in
+    let size : length (drop k c.tables) ≡ length c.tables - k = length-drop k c.tables in
+    let rest = less_room k n cs low parts.1 in (
+      and_from (nat_le k (length c.tables)) (list_all (λ c. nat_le k (length c.tables)) cs) (le-leb k (length c.tables) (omega arith)) rest.0,
+      and_from (nat_lt 0 (length (drop k c.tables))) (list_all (λ c. nat_lt 0 (length c.tables)) (map (child_dropped k) cs))
+          (lt-ltb 0 (length (drop k c.tables)) (omega arith)) rest.1,
+    )
+
+-- a position at which each of the cores is settled
+AllSettled : List ℕ → List CoreForm → ℕ → Type 0
+AllSettled t [] j = Unit {0}
+AllSettled t (f ∷ fs) j = (settled t (meaning f) j ≡ true) × AllSettled t fs j
+
+module _ (t : List ℕ) (j : ℕ) where
+  settled_split : (ps qs : List PartForm) → AllSettled t (children (ps ++ qs)) j
+      → AllSettled t (children ps) j × AllSettled t (children qs) j
+  unfolding AllSettled
+  settled_split [] qs all = (tt, all)
+  settled_split (ChildPart f n ∷ ps) qs all =
+      let more = settled_split ps qs all.1 in ((all.0, more.0), more.1)
+  settled_split (TestPart c w ∷ ps) qs all = settled_split ps qs all
+
+  settled_both : (ps qs : List PartForm) → AllSettled t (children ps) j → AllSettled t (children qs) j
+      → AllSettled t (children (ps ++ qs)) j
+  unfolding AllSettled
+  settled_both [] qs first second = second
+  settled_both (ChildPart f n ∷ ps) qs first second = (first.0, settled_both ps qs first.1 second)
+  settled_both (TestPart c w ∷ ps) qs first second = settled_both ps qs first second
+
+  negated_settled : (f : CoreForm) → nat_lt j (length t) ≡ true → AllSettled t (children (negated_part f ∷ [])) j → settled t (meaning f) j ≡ true
+  unfolding AllSettled settled
+  negated_settled (Compare c) inside all = inside
+  negated_settled True inside all = all.0
+  negated_settled False inside all = all.0
+  negated_settled (Atom a) inside all = all.0
+  negated_settled (Not f) inside all = all.0
+  negated_settled (And f g) inside all = all.0
+  negated_settled (Or f g) inside all = all.0
+  negated_settled (Exists x f) inside all = all.0
+  negated_settled (Previous i f) inside all = all.0
+  negated_settled (Next i f) inside all = all.0
+  negated_settled (Since i f g) inside all = all.0
+  negated_settled (Until i f g) inside all = all.0
+
+  settled_negated : (f : CoreForm) → settled t (meaning f) j ≡ true → AllSettled t (children (negated_part f ∷ [])) j
+  unfolding AllSettled
+  settled_negated (Compare c) h = tt
+  settled_negated f h = (h, tt)
+
+  compared_settled : (c : Comparison) (b : Bool) → settled t (meaning (Compare c)) j ≡ true
+      → AllSettled t (children (cond b (ChildPart (Compare c) false) (TestPart c true) ∷ [])) j
+  unfolding AllSettled
+  compared_settled c true h = (h, tt)
+  compared_settled c false h = tt
+
+  -- a conjunction is settled where its children are
+  parts_settle : (f : CoreForm) → nat_lt j (length t) ≡ true → AllSettled t (children (conjuncts_of f)) j → settled t (meaning f) j ≡ true
+  unfolding AllSettled settled conjuncts_of
+  parts_settle (And f g) inside all =
+      let both = settled_split (conjuncts_of f) (conjuncts_of g) all in
+      and_from (settled t (meaning f) j) (settled t (meaning g) j) (parts_settle f inside both.0) (parts_settle g inside both.1)
+  parts_settle (Not f) inside all = negated_settled f inside all
+  parts_settle (Compare c) inside all = inside
+  parts_settle True inside all = all.0
+  parts_settle False inside all = all.0
+  parts_settle (Atom a) inside all = all.0
+  parts_settle (Or f g) inside all = all.0
+  parts_settle (Exists x f) inside all = all.0
+  parts_settle (Previous i f) inside all = all.0
+  parts_settle (Next i f) inside all = all.0
+  parts_settle (Since i f g) inside all = all.0
+  parts_settle (Until i f g) inside all = all.0
+
+  settle_parts : (f : CoreForm) → settled t (meaning f) j ≡ true → AllSettled t (children (conjuncts_of f)) j
+  unfolding AllSettled settled conjuncts_of
+  settle_parts (And f g) h =
+      let both = and_parts (settled t (meaning f) j) (settled t (meaning g) j) h in
+      settled_both (conjuncts_of f) (conjuncts_of g) (settle_parts f both.0) (settle_parts g both.1)
+  settle_parts (Not f) h = settled_negated f h
+  settle_parts (Compare c) h = compared_settled c (binds c) h
+  settle_parts f h = (h, tt)
+
+-- how far the children's tables go
+module _ (view : View) (rising : NeverFalls (times view.log)) where
+  children_settled : (n j : ℕ) (fs : List CoreForm) (cs : List ChildOf) → j < n → ChildrenStand view n fs cs
+      → AllSettled (times view.log) fs j
+  unfolding AllSettled
+  children_settled n j [] [] low stand = tt
+  children_settled n j (f ∷ fs) (c ∷ cs) low stand =
+      let pushed : n + length c.tables ≡ reached view f = stand.0.pushed in
+      (counted_settled (times view.log) (meaning f) j (omega arith), children_settled n j fs cs low stand.1)
+  children_settled n j [] (c ∷ cs) low stand = absurd stand
+  children_settled n j (f ∷ fs) [] low stand = absurd stand
+
+  all_due : (n : ℕ) (fs : List CoreForm) (cs : List ChildOf) → ChildrenStand view n fs cs → AllSettled (times view.log) fs n
+      → list_all (λ c. nat_lt 0 (length c.tables)) cs ≡ true
+  unfolding AllSettled
+  all_due n [] [] stand all = refl
+  all_due n (f ∷ fs) (c ∷ cs) stand all =
+      let pushed : n + length c.tables ≡ reached view f = stand.0.pushed in
+      let low : n < reached view f = count_below (times view.log) rising (meaning f) n all.0 in
+      and_from (nat_lt 0 (length c.tables)) (list_all (λ c. nat_lt 0 (length c.tables)) cs) (lt-ltb 0 (length c.tables) (omega arith))
+      (all_due n fs cs stand.1 all.1)
+  all_due n [] (c ∷ cs) stand all = absurd stand
+  all_due n (f ∷ fs) [] stand all = absurd stand
+
+  in_log : (n j : ℕ) (fs : List CoreForm) (cs : List ChildOf) → 0 < length fs → j < n → ChildrenStand view n fs cs → j < length (times view.log)
+  in_log n j [] cs some low stand = absurd (omega arith)
+  in_log n j (f ∷ fs) [] some low stand = absurd stand
+  in_log n j (f ∷ fs) (c ∷ cs) some low stand =
+      let pushed : n + length c.tables ≡ reached view f = stand.0.pushed in
+      let most : reached view f ≤ length (times view.log) = count_within (times view.log) (meaning f) in
+      omega arith
+
+  join_count : (f : CoreForm) (s : JoinOf) → 0 < length (children (conjuncts_of f)) → ChildrenStand view s.pulled (children (conjuncts_of f)) s.children
+      → join_due s ≡ false → s.pulled ≡ reached view f
+  join_count f s some stand done =
+      count_is (times view.log) rising (meaning f) s.pulled
+      (λ j low.
+      parts_settle (times view.log) j f
+      (lt-ltb j (length (times view.log)) (in_log s.pulled j (children (conjuncts_of f)) s.children some low stand))
+      (children_settled s.pulled j (children (conjuncts_of f)) s.children low stand))
+      (λ h.
+      let clash : true ≡ false =
+      sym (all_due s.pulled (children (conjuncts_of f)) s.children stand (settle_parts (times view.log) s.pulled f h)) ∙ done in
+      cc)
+
+module _ (view : View) (point : TimePoint) (rising : NeverFalls (times (longer view point).log))
+    (passes : Passes (fv view.whole) view.near) where
+  -- the children's tables were pushed
+  fed_stand : (i : ℕ) (fs : List CoreForm) (cs : List ChildOf) (lists : List (List TableOf)) → ChildrenStand view i fs cs
+      → StackNews view point fs lists → ChildrenStand (longer view point) i fs (children_fed cs lists)
+  fed_stand i [] [] [] stand news = tt
+  fed_stand i (f ∷ fs) (c ∷ cs) (tables ∷ lists) stand news =
+      let pushed : i + length c.tables ≡ reached view f = stand.0.pushed in
+      let more : reached view f + length tables ≡ reached (longer view point) f = news.0.count in
+      let sum : length (c.tables ++ tables) ≡ length c.tables + length tables = length-append c.tables tables in (
+        record {
+          pushed = omega arith;
+          exact = exact_append (longer view point) (meaning f) i (reached view f) c.tables tables (omega arith)
+              (all_stay view point rising f i c.tables (omega arith) stand.0.exact) news.0.exact;
+        },
+        fed_stand i fs cs lists stand.1 news.1,
+      )
+  fed_stand i [] [] (tables ∷ lists) stand news = absurd news
+  fed_stand i [] (c ∷ cs) lists stand news = absurd stand
+  fed_stand i (f ∷ fs) [] lists stand news = absurd stand
+  fed_stand i (f ∷ fs) (c ∷ cs) [] stand news = absurd news
+
+  module _ (f : CoreForm) (old new : JoinOf) (lists : List (List TableOf)) (tables : List TableOf) (is : IsJoin f old)
+      (same : operands f ≡ children (conjuncts_of f)) (stands : JoinStands view f old)
+      (news : StackNews view point (operands f) lists) (takes : JoinTakes old lists new tables) where
+    fed : List ChildOf
+    fed = children_fed old.children lists
+
+    stand_fed : ChildrenStand (longer view point) old.pulled (children (conjuncts_of f)) (children_fed old.children lists)
+    stand_fed =
+        subst (λ fs. ChildrenStand (longer view point) old.pulled fs (children_fed old.children lists)) same
+        (fed_stand old.pulled (operands f) old.children lists stands.children news)
+
+    bare_is : map bare (children_fed old.children lists) ≡ children_of (map conjunct_as (conjuncts_of f))
+    bare_is = bare_fed old.children lists ∙ is.parts
+
+    new_children : new.children ≡ map (child_dropped (length tables)) (children_fed old.children lists)
+    new_children = ap (λ (x : JoinOf). x.children) takes.pulls.state
+
+    new_pulled : new.pulled ≡ old.pulled + length tables
+    new_pulled = ap (λ (x : JoinOf). x.pulled) takes.pulls.state
+
+    new_stand : ChildrenStand (longer view point) new.pulled (children (conjuncts_of f)) new.children
+    new_stand =
+        subst (λ cs. ChildrenStand (longer view point) new.pulled (children (conjuncts_of f)) cs) (sym new_children)
+        (subst (λ n. ChildrenStand (longer view point) n (children (conjuncts_of f)) (map (child_dropped (length tables)) (children_fed old.children lists)))
+        (sym new_pulled)
+        (dropped_stand (longer view point) old.pulled (length tables) (children (conjuncts_of f)) (children_fed old.children lists) takes.pulls.room stand_fed))
+
+    count : new.pulled ≡ reached (longer view point) f
+    count = join_count (longer view point) rising f new is.some new_stand takes.ends
+
+    -- what is pulled at each place is what the conjunction means there
+    row_means : (dom : List Value) (v : Valuation) → Covers (longer view point) dom → view.near (fv (meaning f)) v ≡ true
+        → (k : ℕ) → k < length tables
+        → joins (join_pulled k (join_fed old lists)) v ≡ sat (longer view point).log dom v (old.pulled + k) (meaning f)
+    row_means dom v covers near k low =
+        let room = less_room k (length tables) (children_fed old.children lists) low takes.pulls.room in
+        ap (λ ts. list_all (child_holds v) (map (child_dropped k) (children_fed old.children lists)) && list_all (test_holds v) ts) is.tests
+        ∙ joins_mean (longer view point) passes (old.pulled + k) (conjuncts_of f) (map (child_dropped k) (children_fed old.children lists))
+        (bare_dropped k (children_fed old.children lists) ∙ bare_is)
+        (dropped_stand (longer view point) old.pulled k (children (conjuncts_of f)) (children_fed old.children lists) room.0 stand_fed)
+        room.1 dom v covers (ap (λ cs. view.near cs v) (columns_are f) ∙ near)
+        ∙ sym (conjuncts_mean (longer view point).log dom f v (old.pulled + k))
+
+    join_exact : AllExact (longer view point) (meaning f) old.pulled tables
+    join_exact =
+        stand_exact (longer view point) (meaning f) old.columns old.pulled tables (is.columns ∙ columns_are f) takes.pulls.over
+        (λ dom v covers near.
+        let at : old.pulled + 0 ≡ old.pulled = omega arith in
+        subst (λ j. StandFrom (λ k table. has table v ≡ sat (longer view point).log dom v k (meaning f)) j tables) at
+        (shifted (λ k table. has table v ≡ joins (join_pulled k (join_fed old lists)) v)
+        (λ k table. has table v ≡ sat (longer view point).log dom v k (meaning f)) old.pulled 0 tables
+        (λ k table low high row. row ∙ row_means dom v covers near k (omega arith)) (takes.pulls.rows v)))
+
+    pub join_is : IsJoin f new
+    join_is =
+        record {
+          columns = ap (λ (x : JoinOf). x.columns) takes.pulls.state ∙ is.columns;
+          tests = ap (λ (x : JoinOf). x.tests) takes.pulls.state ∙ is.tests;
+          parts = ap (map bare) new_children ∙ bare_dropped (length tables) (children_fed old.children lists) ∙ bare_is;
+          some = is.some;
+        }
+
+    pub join_stands : JoinStands (longer view point) f new
+    join_stands =
+        record {
+          pulled = count;
+          children = subst (λ fs. ChildrenStand (longer view point) new.pulled fs new.children) (sym same) new_stand;
+        }
+
+    pub join_news : News view point f tables
+    join_news =
+        record {
+          count = ap (λ n. n + length tables) (sym stands.pulled) ∙ sym new_pulled ∙ count;
+          exact = subst (λ k. AllExact (longer view point) (meaning f) k tables) stands.pulled join_exact;
+        }

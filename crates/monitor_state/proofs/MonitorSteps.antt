@@ -1,0 +1,346 @@
+-- The nodes of a monitor take a time-point one after the other.
+use Rattle.std.proofs.Common.{subst, ◌≡◌, ℕ, Bool, true, false, cond, zero, suc, ◌+◌, ◌-◌, ◌<◌, ◌≤◌, List, [], ◌∷◌, ◌++◌, length, take, drop, get_or, set, refl, sym, ap, ap₂, ◌∙◌, arith, length-append, append_assoc, append-nil, add-one, vec_len}
+use Rattle.std.proofs.Math.Seq.{take-suc-set, drop-cons, take-length}
+use Rattle.std.proofs.lemmas.List.{drop-set-lt, drop_all, take_all}
+use Rattle.mfotl_model.specs.Exact.{View}
+use Rattle.mfotl_model.specs.Tables.{TableOf}
+use Rattle.mfotl_model.specs.declared.event.TimePoint.{TimePoint}
+use Rattle.mfotl_model.specs.declared.term.Comparison.{Comparison}
+use Rattle.monitorable.specs.CoreForms.{CoreForm, meaning, True, False, Atom, Compare, Not, And, Or, Exists, Previous, Next, Since, Until}
+use Rattle.monitorable.specs.Conjuncts.{PartForm, conjuncts_of, negated_part}
+use Rattle.monitorable.specs.Conjuncts.PartForm.{Child as ChildPart, Test as TestPart}
+use Rattle.monitorable.specs.Fragment.{binds, is_conjunction, judges_not, judges_comparison, under_not}
+use Rattle.monitorable.specs.declared.role.Role.{Role}
+use Rattle.monitorable.specs.declared.role.Role.TheVariants as role
+use Rattle.monitor_state.specs.Going.{AllPremises, Going, Works}
+use Rattle.monitor_state.specs.Nodes.{children, left_operand, nodes_in, nodes_of, operands, part_nodes}
+use Rattle.monitor_state.specs.Stacks.{Pops}
+use Rattle.monitor_state.specs.Stands.{IsFor, NodesStand, NodeStands}
+use Rattle.monitor_state.specs.Steps.{Advances, News, Premises, StackNews, longer}
+use Rattle.monitor_state.specs.declared.node.Node.{Node}
+
+-- what a core in its role puts on the stack
+abbrev roots : Role → CoreForm → List CoreForm
+roots role.Whole f = f ∷ []
+roots role.Part f = children (conjuncts_of f)
+roots role.Negated f = children (negated_part f ∷ [])
+roots role.Left f = left_operand f ∷ []
+
+children_append : (ps qs : List PartForm) → children (ps ++ qs) ≡ children ps ++ children qs
+children_append [] qs = refl
+children_append (ChildPart f n ∷ ps) qs = ap (λ fs. f ∷ fs) (children_append ps qs)
+children_append (TestPart c w ∷ ps) qs = children_append ps qs
+
+-- one core's node after its operands' ones
+works_one : (goal f : CoreForm) (pending rest : List CoreForm) → operands f ≡ [] → Works goal (pending ++ f ∷ []) rest
+    → Works goal pending (f ∷ rest)
+works_one goal f pending rest none works =
+    (pending, sym (append-nil pending) ∙ ap (λ fs. pending ++ fs) (sym none), works)
+
+module _ (goal : CoreForm) where
+  works_nothing : (pending rest : List CoreForm) → Works goal (pending ++ []) rest → Works goal pending ([] ++ rest)
+  works_nothing pending rest works = subst (λ fs. Works goal fs rest) (append-nil pending) works
+
+  -- what the roots are of a core that is evaluated whole in each role
+  roots_whole : (r : Role) (f : CoreForm) → (roots role.Part f ≡ f ∷ []) → (roots role.Negated f ≡ f ∷ []) → left_operand f ≡ f
+      → roots r f ≡ f ∷ []
+  roots_whole role.Whole f part negated left = refl
+  roots_whole role.Part f part negated left = part
+  roots_whole role.Negated f part negated left = negated
+  roots_whole role.Left f part negated left = ap (λ h. h ∷ []) left
+
+  work_alone : (r : Role) (f : CoreForm) (pending rest : List CoreForm) → operands f ≡ []
+      → (roots role.Part f ≡ f ∷ []) → (roots role.Negated f ≡ f ∷ []) → left_operand f ≡ f
+      → Works goal (pending ++ roots r f) rest → Works goal pending (f ∷ [] ++ rest)
+  work_alone r f pending rest none part negated left works =
+      works_one goal f pending rest none
+      (subst (λ fs. Works goal (pending ++ fs) rest) (roots_whole r f part negated left) works)
+
+  -- a comparison: an equation with a constant is a node, but where it is negated
+  compare_part : (c : Comparison) (b : Bool) (pending rest : List CoreForm)
+      → Works goal (pending ++ children (cond b (ChildPart (Compare c) false) (TestPart c true) ∷ [])) rest
+      → Works goal pending (part_nodes role.Part b (Compare c) ++ rest)
+  compare_part c true pending rest works = works_one goal (Compare c) pending rest refl works
+  compare_part c false pending rest works = works_nothing pending rest works
+
+  after_two : (h : CoreForm) (pending rest xs ys : List CoreForm) → operands h ≡ xs ++ ys
+      → Works goal (pending ++ h ∷ []) rest
+      → Works goal ((pending ++ xs) ++ ys) (h ∷ rest)
+  after_two h pending rest xs ys is works =
+      (pending, append_assoc pending xs ys ∙ ap (λ fs. pending ++ fs) (sym is), works)
+
+  -- a core with one operand, or with two, of which the nodes come before
+  work_under : (h : CoreForm) (ns : List CoreForm) (g : CoreForm) (pending rest : List CoreForm) → operands h ≡ g ∷ []
+      → Works goal (pending ++ h ∷ []) rest
+      → (Works goal (pending ++ g ∷ []) (h ∷ rest) → Works goal pending (ns ++ (h ∷ rest)))
+      → Works goal pending ((ns ++ h ∷ []) ++ rest)
+  work_under h ns g pending rest is works before =
+      subst (Works goal pending) (sym (append_assoc ns (h ∷ []) rest))
+      (before (pending, ap (λ fs. pending ++ fs) (sym is), works))
+
+  work_both : (h : CoreForm) (ns ms xs ys : List CoreForm) (pending rest : List CoreForm) → operands h ≡ xs ++ ys
+      → Works goal (pending ++ h ∷ []) rest
+      → (Works goal (pending ++ xs) (ms ++ (h ∷ rest)) → Works goal pending (ns ++ (ms ++ (h ∷ rest))))
+      → (Works goal ((pending ++ xs) ++ ys) (h ∷ rest) → Works goal (pending ++ xs) (ms ++ (h ∷ rest)))
+      → Works goal pending ((ns ++ ms ++ h ∷ []) ++ rest)
+  work_both h ns ms xs ys pending rest is works first second =
+      subst (Works goal pending)
+      (sym (append_assoc ns ms (h ∷ rest)) ∙ sym (append_assoc (ns ++ ms) (h ∷ []) rest))
+      (first (second (after_two h pending rest xs ys is works)))
+
+  -- the nodes of a core put its roots on the stack
+  pub nodes_work : (r : Role) (f : CoreForm) (pending rest : List CoreForm) → Works goal (pending ++ roots r f) rest
+      → Works goal pending (nodes_in r f ++ rest)
+  unfolding nodes_in conjuncts_of
+  nodes_work role.Whole (Compare c) pending rest works = works_one goal (Compare c) pending rest refl works
+  nodes_work role.Left (Compare c) pending rest works = works_one goal (Compare c) pending rest refl works
+  nodes_work role.Negated (Compare c) pending rest works = negated_compare (binds c)
+    where
+      negated_compare : (b : Bool) → Works goal pending (part_nodes role.Negated b (Compare c) ++ rest)
+      negated_compare true = works_nothing pending rest works
+      negated_compare false = works_nothing pending rest works
+  nodes_work role.Part (Compare c) pending rest works = compare_part c (binds c) pending rest works
+  nodes_work r (Exists x f) pending rest works =
+      work_under (Exists x f) (nodes_in role.Whole f) f pending rest refl
+      (subst (λ fs. Works goal (pending ++ fs) rest) (roots_whole r (Exists x f) refl refl refl) works)
+      (nodes_work role.Whole f pending (Exists x f ∷ rest))
+  nodes_work r (Previous i f) pending rest works =
+      work_under (Previous i f) (nodes_in role.Whole f) f pending rest refl
+      (subst (λ fs. Works goal (pending ++ fs) rest) (roots_whole r (Previous i f) refl refl refl) works)
+      (nodes_work role.Whole f pending (Previous i f ∷ rest))
+  nodes_work r (Next i f) pending rest works =
+      work_under (Next i f) (nodes_in role.Whole f) f pending rest refl
+      (subst (λ fs. Works goal (pending ++ fs) rest) (roots_whole r (Next i f) refl refl refl) works)
+      (nodes_work role.Whole f pending (Next i f ∷ rest))
+  nodes_work r (Or f g) pending rest works =
+      work_both (Or f g) (nodes_in role.Whole f) (nodes_in role.Whole g) (f ∷ []) (g ∷ []) pending rest refl
+      (subst (λ fs. Works goal (pending ++ fs) rest) (roots_whole r (Or f g) refl refl refl) works)
+      (nodes_work role.Whole f pending (nodes_in role.Whole g ++ (Or f g ∷ rest)))
+      (nodes_work role.Whole g (pending ++ f ∷ []) (Or f g ∷ rest))
+  nodes_work r (Since i f g) pending rest works =
+      work_both (Since i f g) (nodes_in role.Left f) (nodes_in role.Whole g) (left_operand f ∷ []) (g ∷ []) pending rest refl
+      (subst (λ fs. Works goal (pending ++ fs) rest) (roots_whole r (Since i f g) refl refl refl) works)
+      (nodes_work role.Left f pending (nodes_in role.Whole g ++ (Since i f g ∷ rest)))
+      (nodes_work role.Whole g (pending ++ left_operand f ∷ []) (Since i f g ∷ rest))
+  nodes_work r (Until i f g) pending rest works =
+      work_both (Until i f g) (nodes_in role.Left f) (nodes_in role.Whole g) (left_operand f ∷ []) (g ∷ []) pending rest refl
+      (subst (λ fs. Works goal (pending ++ fs) rest) (roots_whole r (Until i f g) refl refl refl) works)
+      (nodes_work role.Left f pending (nodes_in role.Whole g ++ (Until i f g ∷ rest)))
+      (nodes_work role.Whole g (pending ++ left_operand f ∷ []) (Until i f g ∷ rest))
+  nodes_work r (And f g) pending rest works =
+      subst (Works goal pending)
+      (sym (append_assoc (nodes_in role.Part f) (nodes_in role.Part g) (own ++ rest))
+      ∙ sym (append_assoc (nodes_in role.Part f ++ nodes_in role.Part g) own rest))
+      (nodes_work role.Part f pending (nodes_in role.Part g ++ (own ++ rest))
+      (nodes_work role.Part g (pending ++ children (conjuncts_of f)) (own ++ rest) (last r works)))
+    where
+      own : List CoreForm
+      own = cond (is_conjunction r) (And f g ∷ []) []
+
+      split : operands (And f g) ≡ children (conjuncts_of f) ++ children (conjuncts_of g)
+      split = children_append (conjuncts_of f) (conjuncts_of g)
+
+      whole : Works goal (pending ++ And f g ∷ []) rest
+          → Works goal ((pending ++ children (conjuncts_of f)) ++ children (conjuncts_of g)) (And f g ∷ rest)
+      whole w = after_two (And f g) pending rest (children (conjuncts_of f)) (children (conjuncts_of g)) split w
+
+      last : (r : Role) → Works goal (pending ++ roots r (And f g)) rest
+          → Works goal ((pending ++ children (conjuncts_of f)) ++ children (conjuncts_of g))
+          (cond (is_conjunction r) (And f g ∷ []) [] ++ rest)
+      last role.Whole w = whole w
+      last role.Negated w = whole w
+      last role.Left w = whole w
+      last role.Part w =
+          subst (λ fs. Works goal fs rest)
+          (ap (λ fs. pending ++ fs) split ∙ sym (append_assoc pending (children (conjuncts_of f)) (children (conjuncts_of g)))) w
+  nodes_work role.Whole (Not f) pending rest works =
+      subst (Works goal pending) (sym (append_assoc (nodes_in role.Negated f) (Not f ∷ []) rest))
+      (nodes_work role.Negated f pending (Not f ∷ rest) (pending, refl, works))
+  nodes_work role.Negated (Not f) pending rest works =
+      subst (Works goal pending) (sym (append_assoc (nodes_in role.Negated f) (Not f ∷ []) rest))
+      (nodes_work role.Negated f pending (Not f ∷ rest) (pending, refl, works))
+  nodes_work role.Part (Not f) pending rest works =
+      subst (λ fs. Works goal pending (fs ++ rest)) (sym (append-nil (nodes_in role.Negated f)))
+      (nodes_work role.Negated f pending rest works)
+  nodes_work role.Left (Not f) pending rest works =
+      subst (λ fs. Works goal pending (fs ++ rest)) (sym (append-nil (nodes_in role.Whole f)))
+      (nodes_work role.Whole f pending rest works)
+  nodes_work r True pending rest works = work_alone r True pending rest refl refl refl refl works
+  nodes_work r False pending rest works = work_alone r False pending rest refl refl refl refl works
+  nodes_work r (Atom a) pending rest works = work_alone r (Atom a) pending rest refl refl refl refl works
+
+module _ (view : View) (point given : TimePoint) (whole : CoreForm) where
+  premises_append : (fs gs : List CoreForm) → AllPremises view point given whole fs → AllPremises view point given whole gs
+      → AllPremises view point given whole (fs ++ gs)
+  premises_append [] gs first second = second
+  premises_append (f ∷ fs) gs first second = (first.0, premises_append fs gs first.1 second)
+
+  premises_if : (b : Bool) (f : CoreForm) → Premises view point given whole f → AllPremises view point given whole (cond b (f ∷ []) [])
+  premises_if true f p = (p, tt)
+  premises_if false f p = tt
+
+  premises_part : (r : Role) (b : Bool) (f : CoreForm) → Premises view point given whole f → AllPremises view point given whole (part_nodes r b f)
+  premises_part role.Part true f p = (p, tt)
+  premises_part role.Part false f p = tt
+  premises_part role.Whole b f p = tt
+  premises_part role.Negated b f p = tt
+  premises_part role.Left b f p = tt
+
+  premises_compare : (r : Role) (d b : Bool) (f : CoreForm) → Premises view point given whole f
+      → AllPremises view point given whole (cond d (f ∷ []) (part_nodes r b f))
+  premises_compare r true b f p = (p, tt)
+  premises_compare r false b f p = premises_part r b f p
+
+  premises_two : (ns ms : List CoreForm) (h : CoreForm) → AllPremises view point given whole ns → AllPremises view point given whole ms
+      → AllPremises view point given whole (h ∷ []) → AllPremises view point given whole (ns ++ ms ++ h ∷ [])
+  premises_two ns ms h first second own = premises_append (ns ++ ms) (h ∷ []) (premises_append ns ms first second) own
+
+  -- what the step takes for granted of a core it does of each part
+  pub premises_all : (r : Role) (f : CoreForm) → Premises view point given whole f → AllPremises view point given whole (nodes_in r f)
+  unfolding nodes_in
+  premises_all r (Exists x f) p =
+      premises_append (nodes_in role.Whole f) (Exists x f ∷ [])
+      (premises_all role.Whole f (record { rising = p.rising; passes = p.passes; whole_is = p.whole_is; sound = p.sound.4; ts = p.ts; same = p.same }))
+      (p, tt)
+  premises_all r (Previous i f) p =
+      premises_append (nodes_in role.Whole f) (Previous i f ∷ [])
+      (premises_all role.Whole f (record { rising = p.rising; passes = p.passes; whole_is = p.whole_is; sound = p.sound; ts = p.ts; same = p.same }))
+      (p, tt)
+  premises_all r (Next i f) p =
+      premises_append (nodes_in role.Whole f) (Next i f ∷ [])
+      (premises_all role.Whole f (record { rising = p.rising; passes = p.passes; whole_is = p.whole_is; sound = p.sound; ts = p.ts; same = p.same }))
+      (p, tt)
+  premises_all r (And f g) p =
+      premises_append (nodes_in role.Part f ++ nodes_in role.Part g) (cond (is_conjunction r) (And f g ∷ []) [])
+      (premises_append (nodes_in role.Part f) (nodes_in role.Part g)
+      (premises_all role.Part f (record { rising = p.rising; passes = p.passes; whole_is = p.whole_is; sound = p.sound.0; ts = p.ts; same = p.same.0 }))
+      (premises_all role.Part g (record { rising = p.rising; passes = p.passes; whole_is = p.whole_is; sound = p.sound.1; ts = p.ts; same = p.same.1 })))
+      (premises_if (is_conjunction r) (And f g) p)
+  premises_all r (Or f g) p =
+      premises_two (nodes_in role.Whole f) (nodes_in role.Whole g) (Or f g)
+      (premises_all role.Whole f (record { rising = p.rising; passes = p.passes; whole_is = p.whole_is; sound = p.sound.2; ts = p.ts; same = p.same.0 }))
+      (premises_all role.Whole g (record { rising = p.rising; passes = p.passes; whole_is = p.whole_is; sound = p.sound.3; ts = p.ts; same = p.same.1 }))
+      (p, tt)
+  premises_all r (Not f) p =
+      premises_append (nodes_in (under_not r) f) (cond (judges_not r) (Not f ∷ []) [])
+      (premises_all (under_not r) f (record { rising = p.rising; passes = p.passes; whole_is = p.whole_is; sound = p.sound; ts = p.ts; same = p.same }))
+      (premises_if (judges_not r) (Not f) p)
+  premises_all r (Since i f g) p =
+      premises_two (nodes_in role.Left f) (nodes_in role.Whole g) (Since i f g)
+      (premises_all role.Left f (record { rising = p.rising; passes = p.passes; whole_is = p.whole_is; sound = p.sound.1; ts = p.ts; same = p.same.0 }))
+      (premises_all role.Whole g (record { rising = p.rising; passes = p.passes; whole_is = p.whole_is; sound = p.sound.2; ts = p.ts; same = p.same.1 }))
+      (p, tt)
+  premises_all r (Until i f g) p =
+      premises_two (nodes_in role.Left f) (nodes_in role.Whole g) (Until i f g)
+      (premises_all role.Left f (record { rising = p.rising; passes = p.passes; whole_is = p.whole_is; sound = p.sound.1; ts = p.ts; same = p.same.0 }))
+      (premises_all role.Whole g (record { rising = p.rising; passes = p.passes; whole_is = p.whole_is; sound = p.sound.2; ts = p.ts; same = p.same.1 }))
+      (p, tt)
+  premises_all r (Compare c) p = premises_compare r (judges_comparison r) (binds c) (Compare c) p
+  premises_all r True p = (p, tt)
+  premises_all r False p = (p, tt)
+  premises_all r (Atom a) p = (p, tt)
+
+pub nodes_append : (view : View) (fs gs : List CoreForm) (ns ms : List Node) → NodesStand view fs ns → NodesStand view gs ms
+    → NodesStand view (fs ++ gs) (ns ++ ms)
+nodes_append view [] gs [] ms first second = second
+nodes_append view (f ∷ fs) gs (n ∷ ns) ms first second = (first.0, first.1, nodes_append view fs gs ns ms first.2 second)
+nodes_append view [] gs (n ∷ ns) ms first second = absurd first
+nodes_append view (f ∷ fs) gs [] ms first second = absurd first
+
+stack_append : (view : View) (point : TimePoint) (fs : List CoreForm) (f : CoreForm) (stack : List (List TableOf)) (tables : List TableOf)
+    → StackNews view point fs stack → News view point f tables → StackNews view point (fs ++ f ∷ []) (stack ++ tables ∷ [])
+stack_append view point [] f [] tables first one = (one, tt)
+stack_append view point (g ∷ fs) f (ts ∷ stack) tables first one = (first.0, stack_append view point fs f stack tables first.1 one)
+stack_append view point [] f (ts ∷ stack) tables first one = absurd first
+stack_append view point (g ∷ fs) f [] tables first one = absurd first
+
+-- the step begins
+pub going_begins : (view : View) (point given : TimePoint) (whole : CoreForm) (nodes : List Node) → Premises view point given whole whole
+    → NodesStand view (nodes_of whole) nodes → Going view point given whole [] nodes []
+going_begins view point given whole nodes premises stand =
+    record {
+      old = [];
+      next = nodes_of whole;
+      pending = [];
+      all = refl;
+      took = tt;
+      take = stand;
+      works =
+          subst (Works whole []) (append-nil (nodes_of whole)) (nodes_work whole role.Whole whole [] [] refl);
+      premises = premises_all view point given whole role.Whole whole premises;
+      news = tt;
+    }
+
+turn : (view : View) (point given : TimePoint) (whole : CoreForm) (done todo : List Node) (stack rest items : List (List TableOf))
+    (tables : List TableOf)
+    (node new : Node) (old next pending : List CoreForm) → nodes_of whole ≡ old ++ next
+    → NodesStand (longer view point) old done → NodesStand view next (node ∷ todo)
+    → Works whole pending next → AllPremises view point given whole next → StackNews view point pending stack
+    → Advances node given stack new rest tables → items ≡ rest ++ tables ∷ []
+    → Going view point given whole (done ++ new ∷ []) todo items
+turn view point given whole done todo stack rest items tables node new old [] pending all took take works premises news advances is =
+    absurd take
+turn view point given whole done todo stack rest items tables node new old (f ∷ next) pending all took take works premises news advances is =
+    let took_one = advances view point whole f works.0 premises.0 take.0 take.1
+    (subst (λ fs. StackNews view point fs stack) works.1 news) in
+    record {
+      old = old ++ f ∷ [];
+      next = next;
+      pending = works.0 ++ f ∷ [];
+      all = all ∙ sym (append_assoc old (f ∷ []) next);
+      took = nodes_append (longer view point) old (f ∷ []) done (new ∷ []) took (took_one.0, took_one.1, tt);
+      take = take.2;
+      works = works.2;
+      premises = premises.1;
+      news =
+          subst (StackNews view point (works.0 ++ f ∷ [])) (sym is)
+          (stack_append view point works.0 f rest tables took_one.2 took_one.3);
+    }
+
+-- one node more takes the time-point
+pub going_turns : (view : View) (point given : TimePoint) (whole : CoreForm) (nodes : List Node) (n : ℕ) (stack rest items : List (List TableOf))
+    (tables : List TableOf) (default new : Node) → n < length nodes
+    → Going view point given whole (take n nodes) (drop n nodes) stack
+    → Advances (get_or nodes n default) given stack new rest tables → items ≡ rest ++ tables ∷ []
+    → Going view point given whole (take (n + 1) (set nodes n new)) (drop (n + 1) (set nodes n new)) items
+going_turns view point given whole nodes n stack rest items tables default new inside going advances pushed =
+    let node : Node = get_or nodes n default in
+    let cons : drop n nodes ≡ get_or nodes n default ∷ drop (suc n) nodes = drop-cons nodes n default inside in
+    let front : take n nodes ++ new ∷ [] ≡ take (n + 1) (set nodes n new) =
+    sym (take-suc-set nodes n new inside) ∙ ap (λ k. take k (set nodes n new)) (sym (add-one n)) in
+    let back : drop (suc n) nodes ≡ drop (n + 1) (set nodes n new) =
+    ap (λ k. drop k nodes) (sym (add-one n)) ∙ sym (drop-set-lt (n + 1) nodes n new (omega arith)) in
+    subst (λ xs. Going view point given whole xs (drop (n + 1) (set nodes n new)) items) front
+    (subst (λ xs. Going view point given whole (take n nodes ++ new ∷ []) xs items) back
+    (turn view point given whole (take n nodes) (drop (suc n) nodes) stack rest items tables node new
+    going.old going.next going.pending going.all going.took
+    (subst (NodesStand view going.next) cons going.take)
+    going.works going.premises going.news advances pushed))
+
+top_only : (view : View) (point : TimePoint) (f : CoreForm) (stack rest : List (List TableOf)) (top : List TableOf)
+    → StackNews view point (f ∷ []) stack → Pops stack rest top → News view point f top
+top_only view point f [] rest top news pops = absurd news
+top_only view point f (tables ∷ []) rest top news pops =
+    subst (News view point f) (sym (pops [] tables refl).1) news.0
+top_only view point f (tables ∷ next ∷ more) rest top news pops = absurd news.1
+
+ended : (view : View) (point given : TimePoint) (whole : CoreForm) (done : List Node) (stack rest : List (List TableOf)) (top : List TableOf)
+    (old next pending : List CoreForm) → nodes_of whole ≡ old ++ next
+    → NodesStand (longer view point) old done → NodesStand view next []
+    → Works whole pending next → StackNews view point pending stack → Pops stack rest top
+    → NodesStand (longer view point) (nodes_of whole) done × News view point whole top
+ended view point given whole done stack rest top old (f ∷ next) pending all took take works news pops = absurd take
+ended view point given whole done stack rest top old [] pending all took take works news pops = (
+  subst (λ fs. NodesStand (longer view point) fs done) (sym (all ∙ append-nil old)) took,
+  top_only view point whole stack rest top (subst (λ fs. StackNews view point fs stack) works news) pops,
+)
+
+-- the step ends
+pub going_ends : (view : View) (point given : TimePoint) (whole : CoreForm) (nodes : List Node) (n : ℕ) (stack rest : List (List TableOf))
+    (top : List TableOf) → length nodes ≤ n → Going view point given whole (take n nodes) (drop n nodes) stack → Pops stack rest top
+    → NodesStand (longer view point) (nodes_of whole) nodes × News view point whole top
+going_ends view point given whole nodes n stack rest top all going pops =
+    let is_whole : take n nodes ≡ nodes = take_all n nodes all in
+    let both = ended view point given whole (take n nodes) stack rest top going.old going.next going.pending going.all going.took
+    (subst (NodesStand view going.next) (drop_all n nodes all) going.take) going.works going.news pops in
+    (subst (NodesStand (longer view point) (nodes_of whole)) is_whole both.0, both.1)

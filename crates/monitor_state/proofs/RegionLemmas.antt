@@ -1,0 +1,44 @@
+-- Near rows and their parts.
+use Rattle.std.proofs.Common.{◌≡◌, ℕ, Bool, true, false, not, ◌||◌, cond, nat_eq, List, [], ◌∷◌, ◌++◌, filter, append-nil, refl, sym, ap, ◌∙◌}
+use Rattle.std.proofs.lemmas.Bool.{or_left, or_right, or_cases, and_from, and_parts}
+use Rattle.mfotl_model.proofs.LogicLemmas.{among_joined, same_number}
+use Rattle.mfotl_model.specs.FreeVariables.{among, joined}
+use Rattle.mfotl_model.specs.Regions.{Region, Passes}
+use Rattle.mfotl_model.specs.Satisfaction.{Valuation}
+use Rattle.mfotl_model.specs.Tables.{all_among}
+
+-- near passes to the operands
+pub near_left : (free : List ℕ) (near : Region) → Passes free near → (xs ys : List ℕ) (v : Valuation)
+    → near (joined xs ys) v ≡ true → near xs v ≡ true
+near_left free near passes xs ys v h =
+    passes (joined xs ys) xs v v
+    (λ y m _. (among_joined y xs ys ∙ or_left (among y xs) (among y ys) m, refl)) h
+
+pub near_right : (free : List ℕ) (near : Region) → Passes free near → (xs ys : List ℕ) (v : Valuation)
+    → near (joined xs ys) v ≡ true → near ys v ≡ true
+near_right free near passes xs ys v h =
+    passes (joined xs ys) ys v v
+    (λ y m _. (among_joined y xs ys ∙ or_right (among y xs) (among y ys) m, refl)) h
+
+-- variables each of which is among others
+pub all_from_each : (wanted columns : List ℕ) → ((y : ℕ) → among y wanted ≡ true → among y columns ≡ true)
+    → all_among wanted columns ≡ true
+all_from_each [] columns each = refl
+all_from_each (x ∷ wanted) columns each =
+    and_from (among x columns) (all_among wanted columns)
+    (each x (or_left_true (among x wanted) (same_number x)))
+    (all_from_each wanted columns (λ y m. each y (or_right (nat_eq y x) (among y wanted) m)))
+  where
+    or_left_true : (b : Bool) → nat_eq x x ≡ true → (nat_eq x x || b) ≡ true
+    or_left_true b e = or_left (nat_eq x x) b e
+
+none_outside : (xs ys : List ℕ) → all_among ys xs ≡ true → filter (λ y. not (among y xs)) ys ≡ []
+none_outside xs [] h = refl
+none_outside xs (y ∷ ys) h =
+    let parts = and_parts (among y xs) (all_among ys xs) h in
+    ap (λ b. cond (not b) (y ∷ filter (λ z. not (among z xs)) ys) (filter (λ z. not (among z xs)) ys)) parts.0
+    ∙ none_outside xs ys parts.1
+
+-- variables that are all among others add none to them
+pub joined_within : (xs ys : List ℕ) → all_among ys xs ≡ true → joined xs ys ≡ xs
+joined_within xs ys h = ap (λ zs. xs ++ zs) (none_outside xs ys h) ∙ append-nil xs

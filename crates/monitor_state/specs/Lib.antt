@@ -1,0 +1,14 @@
+pub mod Stacks
+pub mod Quantified
+pub mod Feeding
+pub mod JoinFeeding
+pub mod OrFeeding
+pub mod PreviousFeeding
+pub mod Nodes
+pub mod Views
+pub mod Stands
+pub mod Steps
+pub mod Going
+pub mod Beginnings
+pub mod MonitorView
+pub mod Laws

@@ -1,0 +1,61 @@
+-- The nodes of a monitor: one for each part of the core that is evaluated by itself, operands first. A
+-- conjunction is one node with all its conjuncts.
+use Rattle.std.specs.Prelude.{Bool, true, false, cond, List, [], ◌∷◌, ◌++◌}
+use Rattle.monitorable.specs.Conjuncts.{PartForm, conjuncts_of}
+use Rattle.monitorable.specs.Conjuncts.PartForm.{Child, Test}
+use Rattle.monitorable.specs.CoreForms.{CoreForm, True, False, Atom, Compare, Not, And, Or, Exists, Previous}
+use Rattle.monitorable.specs.CoreForms.{Next, Since, Until}
+use Rattle.monitorable.specs.Fragment.{binds, is_conjunction, judges_comparison, judges_not, under_not}
+use Rattle.monitorable.specs.declared.role.Role.{Role}
+use Rattle.monitorable.specs.declared.role.Role.TheVariants.{Whole, Part, Left}
+
+-- the cores that are evaluated for conjuncts; a comparison that is tested is none
+abbrev pub children : List PartForm → List CoreForm
+children [] = []
+children (Child f negated ∷ parts) = f ∷ children parts
+children (Test c wanted ∷ parts) = children parts
+
+-- the left operand of SINCE or UNTIL without its NOT
+abbrev pub left_operand : CoreForm → CoreForm
+left_operand (Not f) = f
+left_operand f = f
+
+-- whether it has one
+abbrev pub is_negated : CoreForm → Bool
+is_negated (Not f) = true
+is_negated f = false
+
+-- the cores whose tables a core's node takes, from left to right
+abbrev pub operands : CoreForm → List CoreForm
+operands (Not f) = children (conjuncts_of (Not f))
+operands (And f g) = children (conjuncts_of (And f g))
+operands (Or f g) = f ∷ g ∷ []
+operands (Exists x f) = f ∷ []
+operands (Previous i f) = f ∷ []
+operands (Next i f) = f ∷ []
+operands (Since i f g) = left_operand f ∷ g ∷ []
+operands (Until i f g) = left_operand f ∷ g ∷ []
+operands f = []
+
+-- a comparison among conjuncts is a node where it is an equation with a constant
+abbrev pub part_nodes : Role → Bool → CoreForm → List CoreForm
+part_nodes Part true f = f ∷ []
+part_nodes role b f = []
+
+-- the cores of the nodes of a core in its role, each behind its operands
+unfoldable pub nodes_in : Role → CoreForm → List CoreForm
+nodes_in role (Compare c) = cond (judges_comparison role) (Compare c ∷ []) (part_nodes role (binds c) (Compare c))
+nodes_in role (Not f) = nodes_in (under_not role) f ++ cond (judges_not role) (Not f ∷ []) []
+nodes_in role (And f g) =
+    nodes_in Part f ++ nodes_in Part g ++ cond (is_conjunction role) (And f g ∷ []) []
+nodes_in role (Or f g) = nodes_in Whole f ++ nodes_in Whole g ++ Or f g ∷ []
+nodes_in role (Exists x f) = nodes_in Whole f ++ Exists x f ∷ []
+nodes_in role (Previous i f) = nodes_in Whole f ++ Previous i f ∷ []
+nodes_in role (Next i f) = nodes_in Whole f ++ Next i f ∷ []
+nodes_in role (Since i f g) = nodes_in Left f ++ nodes_in Whole g ++ Since i f g ∷ []
+nodes_in role (Until i f g) = nodes_in Left f ++ nodes_in Whole g ++ Until i f g ∷ []
+nodes_in role f = f ∷ []
+
+-- the cores of a core's nodes, the core itself last
+abbrev pub nodes_of : CoreForm → List CoreForm
+nodes_of f = nodes_in Whole f

@@ -1,0 +1,157 @@
+-- When what a monitor keeps stands for a log, in a region of rows.
+use Rattle.std.specs.Prelude.{◌≡◌, ℕ, ◌+◌, ◌-◌, ◌≤◌, ◌<◌, Bool, true, List, [], ◌∷◌, length, drop, map}
+use Rattle.mfotl_model.specs.Exact.{AllExact, Covers, View}
+use Rattle.mfotl_model.specs.FreeVariables.{fv, joined}
+use Rattle.mfotl_model.specs.Log.{times}
+use Rattle.mfotl_model.specs.Satisfaction.{Valuation, sat}
+use Rattle.mfotl_model.specs.Tables.{TableOf, has}
+use Rattle.mfotl_model.specs.declared.event.TimePoint.{TimePoint}
+use Rattle.mfotl_model.specs.declared.interval.Interval.{Interval}
+use Rattle.mfotl_model.specs.declared.value.Value.{Value}
+use Rattle.eval_bool.specs.JoinView.{ChildOf, ConjunctOf, JoinOf, children_of, conjunct_columns, tests_of}
+use Rattle.eval_bool.specs.JoinView.ConjunctOf.{Child, Test}
+use Rattle.eval_bool.specs.OrView.{OrOf}
+use Rattle.eval_since.specs.PreviousView.{FollowsPrevious, PrevOf}
+use Rattle.eval_since.specs.SinceView.{Follows, SinceOf}
+use Rattle.monitorable.specs.CoreForms.{CoreForm, meaning, True, False, Atom, Not, And, Or, Exists, Previous, Since}
+use Rattle.monitorable.specs.Conjuncts.{PartForm, conjuncts_of}
+use Rattle.monitorable.specs.Conjuncts.PartForm.{Child as ChildPart, Test as TestPart}
+use Rattle.monitor_state.specs.Nodes.{children, is_negated, left_operand, nodes_of, operands}
+use Rattle.monitor_state.specs.Views.{Dates, Tells, reached}
+use Rattle.monitor_state.specs.declared.node.Node.{Node}
+use Rattle.monitor_state.specs.declared.node.Node.TheVariants as node
+
+-- the table is the core's at each position of each log
+pub record IsConstant (f : CoreForm) (table : TableOf) : Type 0 where
+  pub columns : table.columns ≡ fv (meaning f)
+  pub rows : (log : List TimePoint) (dom : List Value) (v : Valuation) (i : ℕ)
+      → has table v ≡ sat log dom v i (meaning f)
+
+-- the state is one of a PREVIOUS over the core f, with this interval
+pub record IsPrevious (i : Interval) (f : CoreForm) (s : PrevOf) : Type 0 where
+  pub interval : s.interval ≡ i
+  pub columns : s.columns ≡ fv (meaning f)
+
+-- the state is one of a SINCE of the cores f and g, with this interval, and its tables are put into
+-- the order of the columns of both
+pub record IsSince (i : Interval) (f g : CoreForm) (s : SinceOf) (order : TableOf) : Type 0 where
+  pub interval : s.window.interval ≡ i
+  pub negated : s.negated ≡ is_negated f
+  pub left : s.window.left ≡ fv (meaning (left_operand f))
+  pub right : s.window.right ≡ fv (meaning g)
+  pub ordered : order.columns ≡ joined (fv (meaning f)) (fv (meaning g))
+
+-- a conjunct as the state of a conjunction has it
+abbrev pub conjunct_as : PartForm → ConjunctOf
+conjunct_as (ChildPart f negated) = Child (fv (meaning f)) negated
+conjunct_as (TestPart c wanted) = Test c wanted
+
+-- a child without its tables
+abbrev pub bare : ChildOf → ChildOf
+bare c = record c { tables = [] }
+
+-- the state is one of the core's conjunction, which has a child
+pub record IsJoin (f : CoreForm) (s : JoinOf) : Type 0 where
+  pub columns : s.columns ≡ conjunct_columns (map conjunct_as (conjuncts_of f))
+  pub tests : s.tests ≡ tests_of (map conjunct_as (conjuncts_of f))
+  pub parts : map bare s.children ≡ children_of (map conjunct_as (conjuncts_of f))
+  pub some : 0 < length (children (conjuncts_of f))
+
+-- the state is one of an OR of the cores f and g
+pub record IsOr (f g : CoreForm) (s : OrOf) : Type 0 where
+  pub columns : s.left ≡ fv (meaning (Or f g))
+
+-- the node is one for the core
+abbrev pub IsFor : CoreForm → Node → Type 0
+IsFor True (node.Constant table) = IsConstant True table
+IsFor False (node.Constant table) = IsConstant False table
+IsFor (Atom atom) (node.Atom a) = a ≡ atom
+IsFor (Not f) (node.Join s) = IsJoin (Not f) s
+IsFor (And f g) (node.Join s) = IsJoin (And f g) s
+IsFor (Or f g) (node.Or s) = IsOr f g s
+IsFor (Exists x f) (node.Exists y) = y ≡ x.number
+IsFor (Previous i f) (node.Previous s) = IsPrevious i f s
+IsFor (Since i f g) (node.Since s order) = IsSince i f g s order
+IsFor f other = ⊥
+
+-- A child's tables: those not yet used are kept, up to the last one of a settled position, and are exact.
+pub record ChildStands (view : View) (pulled : ℕ) (f : CoreForm) (c : ChildOf) : Type 0 where
+  pub pushed : pulled + length c.tables ≡ reached view f
+  pub exact : AllExact view (meaning f) pulled c.tables
+
+-- child by child
+abbrev pub ChildrenStand : View → ℕ → List CoreForm → List ChildOf → Type 0
+ChildrenStand view pulled [] [] = Unit {0}
+ChildrenStand view pulled (f ∷ fs) (c ∷ cs) = ChildStands view pulled f c × ChildrenStand view pulled fs cs
+ChildrenStand view pulled fs cs = ⊥
+
+-- The state of a conjunction stands for the log: it gave the tables of the settled positions, and its
+-- children's tables stand.
+pub record JoinStands (view : View) (f : CoreForm) (s : JoinOf) : Type 0 where
+  pub pulled : s.pulled ≡ reached view f
+  pub children : ChildrenStand view s.pulled (operands f) s.children
+
+-- The state of an OR stands for the log: it gave the tables of the settled positions, and keeps the
+-- operands' tables that were not used; these are exact.
+pub record OrStands (view : View) (f g : CoreForm) (s : OrOf) : Type 0 where
+  pub pulled : s.pulled ≡ reached view (Or f g)
+  pub left_pushed : s.pulled + length s.lefts ≡ reached view f
+  pub right_pushed : s.pulled + length s.rights ≡ reached view g
+  pub lefts : AllExact view (meaning f) s.pulled s.lefts
+  pub rights : AllExact view (meaning g) s.pulled s.rights
+
+-- The state of a PREVIOUS stands for the log: it gave the tables of the settled positions, and keeps the
+-- times and the operand's tables that were not used; these are exact, and it is right for each near row.
+pub record PreviousStands (view : View) (i : Interval) (f : CoreForm) (s : PrevOf) : Type 0 where
+  pub pulled : s.pulled ≡ reached view (Previous i f)
+  pub timed : s.pulled + length s.times ≡ length view.log
+  pub pushed : s.pulled - 1 + length s.tables ≡ reached view f
+  pub tables : AllExact view (meaning f) (s.pulled - 1) s.tables
+  pub follows : (dom : List Value) (v : Valuation) → Covers view dom → view.near (fv (meaning f)) v ≡ true
+      → (t : List ℕ) (a : List Bool) → Dates view t → Tells view dom v f a → FollowsPrevious s t a v
+
+-- The state of a SINCE stands for the log: it gave the tables of the settled positions, and keeps the
+-- times and the operands' tables that were not used; these are exact, and it is right for each near row.
+pub record SinceStands (view : View) (i : Interval) (f g : CoreForm) (s : SinceOf) : Type 0 where
+  pub pulled : s.pulled ≡ reached view (Since i f g)
+  pub timed : s.pulled + length s.times ≡ length view.log
+  pub left_pushed : s.pulled + length s.lefts ≡ reached view f
+  pub right_pushed : s.pulled + length s.rights ≡ reached view g
+  pub lefts : AllExact view (meaning (left_operand f)) s.pulled s.lefts
+  pub rights : AllExact view (meaning g) s.pulled s.rights
+  pub follows : (dom : List Value) (v : Valuation) → Covers view dom → view.near (fv (meaning g)) v ≡ true
+      → (t : List ℕ) (a b : List Bool) → Dates view t → Tells view dom v f a → Tells view dom v g b
+      → Follows s t a b v
+
+-- a node stands for the log
+abbrev pub NodeStands : View → CoreForm → Node → Type 0
+NodeStands view (Not f) (node.Join s) = JoinStands view (Not f) s
+NodeStands view (And f g) (node.Join s) = JoinStands view (And f g) s
+NodeStands view (Or f g) (node.Or s) = OrStands view f g s
+NodeStands view (Previous i f) (node.Previous s) = PreviousStands view i f s
+NodeStands view (Since i f g) (node.Since s order) = SinceStands view i f g s
+NodeStands view f other = Unit {0}
+
+-- each node is one for its core, and stands for the log
+abbrev pub NodesStand : View → List CoreForm → List Node → Type 0
+NodesStand view [] [] = Unit {0}
+NodesStand view (f ∷ fs) (n ∷ ns) = IsFor f n × NodeStands view f n × NodesStand view fs ns
+NodesStand view fs ns = ⊥
+
+-- What a monitor keeps: how many time-points it took and how many tables it gave, the timestamps from
+-- the place `first` on, and the nodes of the core, operands first.
+pub record StateOf : Type 0 where
+  pub taken : ℕ
+  pub given : ℕ
+  pub first : ℕ
+  pub times : List ℕ
+  pub nodes : List Node
+
+-- The state stands for the log: it took the log's time-points, gave the tables of the core's settled
+-- positions, keeps the timestamps from one of these on at the latest, and its nodes stand for the log.
+pub record Stands (view : View) (core : CoreForm) (state : StateOf) : Type 0 where
+  pub taken : state.taken ≡ length view.log
+  pub given : state.given ≡ reached view core
+  pub first : state.first ≤ state.given
+  pub times : state.times ≡ drop state.first (times view.log)
+  pub nodes : NodesStand view (nodes_of core) state.nodes

@@ -1,0 +1,17 @@
+//! Laws of a monitor's steps, each stated by the contract of a function that does nothing.
+ghost use Rattle.monitor_state.specs.Laws.{LoneWorkerSteps, SliceIsEnough, TablesAreViolations};
+
+/// A worker needs no more of a time-point than its region's slice.
+pub fn slice_is_enough()
+    ensures { SliceIsEnough }
+{}
+
+/// What a step takes for granted holds for one worker alone.
+pub fn lone_worker_steps()
+    ensures { LoneWorkerSteps }
+{}
+
+/// The tables that one worker alone gives are the violations of the policy.
+pub fn tables_are_violations()
+    ensures { TablesAreViolations }
+{}

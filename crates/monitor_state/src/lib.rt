@@ -1,0 +1,19 @@
+//! The state of a monitor: it takes time-points one by one, and gives the tables of the positions that
+//! they settle.
+#![tactic(auto)]
+
+mod compile;
+mod conjunction;
+mod join;
+pub mod laws;
+mod monitor;
+mod node;
+mod or;
+mod previous;
+mod ordering;
+mod since;
+mod stack;
+mod tables;
+
+pub use monitor::Monitor;
+pub use tables::Tables;

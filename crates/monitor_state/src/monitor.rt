@@ -1,0 +1,111 @@
+//! The monitor.
+ghost use Rattle.std.specs.Prelude.{◌≡◌, ◌^◌, ◌<◌, ◌≤◌, ◌+◌, ◌-◌, ◌++◌, ◌∷◌, [], IfOk, OnOk, drop, length, slice_index};
+ghost use Rattle.monitorable.specs.Cores.{core_form};
+ghost use Rattle.monitor_state.specs.Beginnings.{Begins};
+ghost use Rattle.monitor_state.specs.Going.{AllAdvance};
+ghost use Rattle.monitor_state.specs.MonitorView.{monitor_of};
+ghost use Rattle.monitor_state.specs.Steps.{Steps};
+
+use crate::compile::add_nodes;
+use crate::node::Node;
+use crate::stack::popped;
+use crate::tables::Tables;
+use mfotl_model::TimePoint;
+use monitorable::{Core, Role};
+use std::alloc::{AllocError, Global};
+use std::collections::VecDeque;
+
+/// A monitor of a core. Contracts see it through `monitor_of`.
+#[derive(Drop)]
+pub struct Monitor {
+    core: Core,
+    taken: u64,
+    given: u64,
+    first: u64,
+    times: VecDeque<u64>,
+    nodes: Vec<Node>,
+}
+
+impl Monitor {
+    /// The monitor that took nothing yet.
+    pub fn new(alloc: Global, core: &Core) -> Result<Self, AllocError>
+        ensures core { IfOk result (λ monitor. (monitor_of monitor).core ≡ core_form core.now) }
+        ensures begins { IfOk result (λ monitor. Begins (core_form core.now) (monitor_of monitor).state) }
+    {
+        let mut nodes = Vec::new(alloc);
+        add_nodes(alloc, core.root(), Role::Whole, &mut nodes)?;
+        let core = core.copy(alloc)?;
+        Ok(Monitor {
+            core,
+            taken: 0,
+            given: 0,
+            first: 0,
+            times: VecDeque::new(alloc),
+            nodes,
+        })
+    }
+
+    /// How many time-points were taken.
+    pub fn taken(&self) -> u64
+        ensures { result ≡ (monitor_of self.now).state.taken }
+    {
+        self.taken
+    }
+
+    /// How many tables were given, so that the next one is that of this position.
+    pub fn given(&self) -> u64
+        ensures { result ≡ (monitor_of self.now).state.given }
+    {
+        self.given
+    }
+
+    /// The timestamp of a position, from the first one on whose table the last step gave, or was to.
+    pub fn time_at(&self, place: u64) -> u64
+        requires kept { (monitor_of self.now).state.first ≤ place }
+        requires taken { place - (monitor_of self.now).state.first < length (monitor_of self.now).state.times }
+        ensures { result ≡ slice_index (monitor_of self.now).state.times (place - (monitor_of self.now).state.first) }
+    {
+        self.times[(place - self.first) as usize]
+    }
+
+    /// Takes a time-point, and gives the tables of the positions that are settled now and weren't
+    /// before, in order. After an error the monitor is of no further use.
+    pub fn step(&mut self, alloc: Global, point: &TimePoint) -> Result<Tables, AllocError>
+        requires { (monitor_of self.old).state.taken < 2 ^ 63 }
+        ensures core { OnOk result ((monitor_of self.new).core ≡ (monitor_of self.old).core) }
+        ensures taken { OnOk result ((monitor_of self.new).state.taken ≡ (monitor_of self.old).state.taken + 1) }
+        ensures first { OnOk result ((monitor_of self.new).state.first ≡ (monitor_of self.old).state.given) }
+        ensures steps { IfOk result (Steps (monitor_of self.old).core (monitor_of self.old).state point.now (monitor_of self.new).state) }
+    {
+        let past = self.given.saturating_sub(self.first);
+        keep_time(&mut self.times, past, point.ts)?;
+        let tables = advanced(alloc, &mut self.nodes, point)?;
+        self.first = self.given;
+        self.given = self.given.saturating_add(tables.len() as u64);
+        self.taken += 1;
+        Ok(tables)
+    }
+}
+
+// The times without the first ones, and with one more.
+fn keep_time(times: &mut VecDeque<u64>, past: u64, ts: u64) -> Result<(), AllocError>
+    ensures { OnOk result (times.new.items ≡ drop past times.old.items ++ ts ∷ []) }
+{
+    for _place in 0..past {
+        let _ = times.pop_front();
+    }
+    times.push_back(ts)?;
+    Ok(())
+}
+
+// All nodes take the time-point, one after the other. The last one's tables are the core's.
+fn advanced(alloc: Global, nodes: &mut Vec<Node>, point: &TimePoint) -> Result<Tables, AllocError>
+    ensures { IfOk result (AllAdvance nodes.old.items point.now nodes.new.items) }
+{
+    let mut stack = Vec::new(alloc);
+    for node in nodes.iter_mut() {
+        let tables = node.advance(alloc, point, &mut stack)?;
+        stack.push(tables)?;
+    }
+    Ok(popped(alloc, &mut stack))
+}

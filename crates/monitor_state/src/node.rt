@@ -1,0 +1,168 @@
+//! The nodes of a monitor.
+ghost use Rattle.std.specs.Prelude.{IfOk};
+ghost use Rattle.monitor_state.specs.Quantified.{Quantifies};
+ghost use Rattle.monitor_state.specs.Steps.{Advances};
+
+use crate::join::take_join;
+use crate::or::take_or;
+use crate::previous::take_previous;
+use crate::since::take_since;
+use crate::stack::{popped, popped_many};
+use crate::tables::Tables;
+use eval_bool::{JoinState, OrState, eval_atom};
+use eval_since::{PrevState, SinceState};
+use mfotl_model::{Atom, TimePoint};
+use relations::Table;
+use std::alloc::{AllocError, Global};
+
+/// A part of the core that is evaluated by itself.
+#[derive(Drop)]
+pub enum Node {
+    /// What is the same at each position, with its table.
+    Constant(Table),
+    Atom(Atom),
+    /// EXISTS with its variable.
+    Exists(u32),
+    /// A conjunction with a child.
+    Join(JoinState),
+    /// OR of operands with the same variables.
+    Or(OrState),
+    Previous(PrevState),
+    /// SINCE, with a table whose columns stand in the order that its tables have.
+    Since(SinceState, Table),
+}
+
+impl Node {
+    /// Takes a time-point, and from the stack the operands' new tables. Gives its own.
+    pub fn advance(
+        &mut self,
+        alloc: Global,
+        point: &TimePoint,
+        stack: &mut Vec<Tables>,
+    ) -> Result<Tables, AllocError>
+        ensures { IfOk result (λ tables.
+            Advances self.old point.now stack.old.items self.new stack.new.items tables) }
+    {
+        match self {
+            Node::Constant(table) => advance_constant(alloc, table, point, stack),
+            Node::Atom(atom) => advance_atom(alloc, atom, point, stack),
+            Node::Exists(var) => advance_exists(alloc, *var, point, stack),
+            Node::Join(state) => advance_join(alloc, state, point, stack),
+            Node::Or(state) => advance_or(alloc, state, point, stack),
+            Node::Previous(state) => advance_previous(alloc, state, point, stack),
+            Node::Since(state, order) => advance_since(alloc, state, order, point, stack),
+        }
+    }
+}
+
+fn advance_constant(
+    alloc: Global,
+    table: &Table,
+    _point: &TimePoint,
+    _stack: &Vec<Tables>,
+) -> Result<Tables, AllocError>
+    ensures { IfOk result (λ tables. Advances (Node.Constant table.now) _point.now _stack.now.items
+        (Node.Constant table.now) _stack.now.items tables) }
+{
+    match table.copy(alloc) {
+        Ok(copy) => Tables::one(alloc, copy),
+        Err(error) => Err(error),
+    }
+}
+
+fn advance_atom(
+    alloc: Global,
+    atom: &Atom,
+    point: &TimePoint,
+    _stack: &Vec<Tables>,
+) -> Result<Tables, AllocError>
+    ensures { IfOk result (λ tables. Advances (Node.Atom atom.now) point.now _stack.now.items
+        (Node.Atom atom.now) _stack.now.items tables) }
+{
+    match eval_atom(alloc, point, atom) {
+        Ok(table) => Tables::one(alloc, table),
+        Err(error) => Err(error),
+    }
+}
+
+fn advance_exists(
+    alloc: Global,
+    var: u32,
+    _point: &TimePoint,
+    stack: &mut Vec<Tables>,
+) -> Result<Tables, AllocError>
+    ensures { IfOk result (λ tables. Advances (Node.Exists var) _point.now stack.old.items
+        (Node.Exists var) stack.new.items tables) }
+{
+    let tables = popped(alloc, stack);
+    quantified(alloc, tables, var)
+}
+
+fn quantified(alloc: Global, mut tables: Tables, var: u32) -> Result<Tables, AllocError>
+    ensures { IfOk result (λ without. Quantifies var tables without) }
+{
+    let mut without = Tables::new(alloc);
+    while let Some(table) = tables.take() {
+        without.push(table.exists(alloc, var)?)?;
+    }
+    Ok(without)
+}
+
+fn advance_join(
+    alloc: Global,
+    state: &mut JoinState,
+    _point: &TimePoint,
+    stack: &mut Vec<Tables>,
+) -> Result<Tables, AllocError>
+    ensures { IfOk result (λ tables. Advances (Node.Join state.old) _point.now stack.old.items
+        (Node.Join state.new) stack.new.items tables) }
+{
+    let children = state.children();
+    if children == 0 {
+        return Err(AllocError);
+    }
+    let lists = popped_many(stack, children)?;
+    take_join(alloc, state, lists)
+}
+
+fn advance_or(
+    alloc: Global,
+    state: &mut OrState,
+    _point: &TimePoint,
+    stack: &mut Vec<Tables>,
+) -> Result<Tables, AllocError>
+    ensures { IfOk result (λ tables. Advances (Node.Or state.old) _point.now stack.old.items
+        (Node.Or state.new) stack.new.items tables) }
+{
+    let right = popped(alloc, stack);
+    let left = popped(alloc, stack);
+    take_or(alloc, state, left, right)
+}
+
+fn advance_previous(
+    alloc: Global,
+    state: &mut PrevState,
+    point: &TimePoint,
+    stack: &mut Vec<Tables>,
+) -> Result<Tables, AllocError>
+    ensures { IfOk result (λ tables. Advances (Node.Previous state.old) point.now stack.old.items
+        (Node.Previous state.new) stack.new.items tables) }
+{
+    let operand = popped(alloc, stack);
+    take_previous(alloc, state, point.ts, operand)
+}
+
+fn advance_since(
+    alloc: Global,
+    state: &mut SinceState,
+    order: &Table,
+    point: &TimePoint,
+    stack: &mut Vec<Tables>,
+) -> Result<Tables, AllocError>
+    ensures { IfOk result (λ tables. Advances (Node.Since state.old order.now) point.now stack.old.items
+        (Node.Since state.new order.now) stack.new.items tables) }
+{
+    let right = popped(alloc, stack);
+    let left = popped(alloc, stack);
+    take_since(alloc, state, order, point.ts, left, right)
+}

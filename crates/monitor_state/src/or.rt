@@ -1,0 +1,45 @@
+//! An OR takes its operands' tables.
+ghost use Rattle.std.specs.Prelude.{◌≡◌, false, IfOk, OnOk};
+ghost use Rattle.eval_bool.specs.OrView.{or_due};
+ghost use Rattle.monitor_state.specs.OrFeeding.{OrPulled, OrTakes, operand_fed};
+
+use crate::tables::Tables;
+use eval_bool::OrState;
+use std::alloc::{AllocError, Global};
+
+/// Pushes the operands' tables, and pulls all tables that are due then.
+pub fn take_or(
+    alloc: Global,
+    state: &mut OrState,
+    left: Tables,
+    right: Tables,
+) -> Result<Tables, AllocError>
+    ensures { IfOk result (OrTakes state.old left right state.new) }
+{
+    push_operand(state, 0, left)?;
+    push_operand(state, 1, right)?;
+    pulled(alloc, state)
+}
+
+fn push_operand(state: &mut OrState, child: u32, mut tables: Tables) -> Result<(), AllocError>
+    ensures { OnOk result (state.new ≡ operand_fed state.old child tables) }
+{
+    while let Some(table) = tables.take() {
+        if !state.takes(child, &table) {
+            return Err(AllocError);
+        }
+        state.push(child, table)?;
+    }
+    Ok(())
+}
+
+fn pulled(alloc: Global, state: &mut OrState) -> Result<Tables, AllocError>
+    ensures pulled { IfOk result (OrPulled state.old state.new) }
+    ensures ends { OnOk result (or_due state.new ≡ false) }
+{
+    let mut tables = Tables::new(alloc);
+    while let Some(table) = state.pull(alloc)? {
+        tables.push(table)?;
+    }
+    Ok(tables)
+}

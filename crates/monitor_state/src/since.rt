@@ -1,0 +1,66 @@
+//! A SINCE takes a time and its operands' tables.
+ghost use Rattle.std.specs.Prelude.{◌≡◌, false, IfOk, OnOk};
+ghost use Rattle.eval_since.specs.SinceView.{due};
+ghost use Rattle.monitor_state.specs.Feeding.{LeftsPushed, RightsPushed, SincePulled, SinceTakes};
+
+use crate::ordering::in_order;
+use crate::tables::Tables;
+use eval_since::SinceState;
+use relations::Table;
+use std::alloc::{AllocError, Global};
+
+/// Pushes a time and the operands' tables, and pulls all tables that are due then, in the given order of
+/// the columns.
+pub fn take_since(
+    alloc: Global,
+    state: &mut SinceState,
+    order: &Table,
+    ts: u64,
+    left: Tables,
+    right: Tables,
+) -> Result<Tables, AllocError>
+    ensures { IfOk result (λ tables. SinceTakes order.now.columns state.old ts left right state.new tables) }
+{
+    if !state.takes_time(ts) {
+        return Err(AllocError);
+    }
+    state.push_time(ts)?;
+    push_lefts(state, left)?;
+    push_rights(state, right)?;
+    pulled(alloc, state, order)
+}
+
+fn push_lefts(state: &mut SinceState, mut tables: Tables) -> Result<(), AllocError>
+    ensures { OnOk result (LeftsPushed state.old state.new tables) }
+{
+    while let Some(table) = tables.take() {
+        if !state.takes_left(&table) {
+            return Err(AllocError);
+        }
+        state.push_left(table)?;
+    }
+    Ok(())
+}
+
+fn push_rights(state: &mut SinceState, mut tables: Tables) -> Result<(), AllocError>
+    ensures { OnOk result (RightsPushed state.old state.new tables) }
+{
+    while let Some(table) = tables.take() {
+        if !state.takes_right(&table) {
+            return Err(AllocError);
+        }
+        state.push_right(table)?;
+    }
+    Ok(())
+}
+
+fn pulled(alloc: Global, state: &mut SinceState, order: &Table) -> Result<Tables, AllocError>
+    ensures pulled { IfOk result (SincePulled order.now.columns state.old state.new) }
+    ensures ends { OnOk result (due state.new ≡ false) }
+{
+    let mut tables = Tables::new(alloc);
+    while let Some(table) = state.pull(alloc)? {
+        tables.push(in_order(alloc, table, order)?)?;
+    }
+    Ok(tables)
+}
