@@ -180,7 +180,11 @@ fn add_previous(
     add(Node::Previous(state), nodes)
 }
 
-fn previous_state(alloc: Global, interval: &Interval, operand: &Core) -> Result<PrevState, AllocError>
+fn previous_state(
+    alloc: Global,
+    interval: &Interval,
+    operand: &Core,
+) -> Result<PrevState, AllocError>
     ensures { IfOk result (PreviousBegun interval.now (node_form operand.now)) }
 {
     let columns = operand.free_vars(alloc)?;
