@@ -68,6 +68,20 @@ impl NextState {
         })
     }
 
+    /// Whether the table is over the operand's columns, as `push_right` asks.
+    pub fn takes_right(&self, table: &Table) -> bool
+        ensures { IsTrue result → table.now.columns ≡ self.now.columns }
+    {
+        table.columns() == self.columns.as_slice()
+    }
+
+    /// Whether there are few enough times, as `push_time` asks.
+    pub fn takes_time(&self) -> bool
+        ensures { IsTrue result → self.now.pulled + length self.now.times < 2 ^ 63 }
+    {
+        self.pulled + (self.times.len() as u64) < 1 << 63
+    }
+
     /// Takes the operand's next table. The first position's is dropped: no position is before it.
     pub fn push_right(&mut self, table: Table) -> Result<(), AllocError>
         requires columns { table.columns ≡ self.old.columns }

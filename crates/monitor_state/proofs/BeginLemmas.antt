@@ -13,7 +13,8 @@ use Rattle.mfotl_model.specs.declared.value.Value.{Value}
 use Rattle.eval_bool.specs.OrView.{OrOf}
 use Rattle.eval_since.specs.PreviousView.{PrevOf}
 use Rattle.eval_since.specs.SinceView.{SinceOf}
-use Rattle.monitorable.specs.CoreForms.{CoreForm, meaning, True, False, Atom, Not, And, Or, Exists, Previous, Since}
+use Rattle.eval_until.specs.NextView.{NextOf, tables_pushed}
+use Rattle.monitorable.specs.CoreForms.{CoreForm, meaning, True, False, Atom, Not, And, Or, Exists, Previous, Next, Since}
 use Rattle.monitorable.specs.Conjuncts.{PartForm, conjuncts_of}
 use Rattle.monitorable.specs.Conjuncts.PartForm.{Child as ChildPart, Test as TestPart}
 use Rattle.monitorable.specs.Fragment.{is_conjunction, judges_not, under_not}
@@ -24,9 +25,9 @@ use Rattle.monitor_state.proofs.ExactLemmas.{reached_within}
 use Rattle.monitor_state.proofs.MonitorSteps.{nodes_append}
 use Rattle.monitor_state.proofs.RegionLemmas.{joined_within}
 use Rattle.monitor_state.proofs.SinceSteps.{free_operand}
-use Rattle.monitor_state.specs.Beginnings.{Adds, AddsIf, Begins, BeginsJoin, IsJoined, OrBegun, PreviousBegun, SinceBegun}
+use Rattle.monitor_state.specs.Beginnings.{Adds, AddsIf, Begins, BeginsJoin, IsJoined, NextBegun, OrBegun, PreviousBegun, SinceBegun}
 use Rattle.monitor_state.specs.Nodes.{children, is_negated, left_operand, nodes_in, nodes_of, operands}
-use Rattle.monitor_state.specs.Stands.{ChildrenStand, IsConstant, IsFor, IsJoin, IsOr, IsPrevious, IsSince, JoinStands, OrStands, PreviousStands, bare, conjunct_as, NodeStands, NodesStand, SinceStands, Stands, StateOf}
+use Rattle.monitor_state.specs.Stands.{ChildrenStand, IsConstant, IsFor, IsJoin, IsNext, IsOr, IsPrevious, IsSince, JoinStands, NextStands, OrStands, PreviousStands, bare, conjunct_as, NodeStands, NodesStand, SinceStands, Stands, StateOf}
 use Rattle.monitor_state.specs.Views.{reached}
 use Rattle.monitor_state.specs.declared.node.Node.{Node}
 use Rattle.monitor_state.specs.declared.node.Node.TheVariants as node
@@ -304,3 +305,32 @@ unfolding nodes_in
 previous_adds r h i f old mid new same first last =
     subst (λ k. Adds (nodes_in r k) old new) (sym same)
     (adds_then (nodes_in role.Whole f) (Previous i f ∷ []) old mid new first last)
+
+next_begins : (i : Interval) (f : CoreForm) (s : NextOf) → NextBegun i f s → (view : View) → view.log ≡ []
+    → NextStands view i f s
+next_begins i f s begun view empty =
+    let pulled : s.pulled ≡ 0 = ap (λ (x : NextOf). x.pulled) begun.begun in
+    let times : length s.times ≡ 0 = ap (λ (x : NextOf). length x.times) begun.begun in
+    let size : length view.log ≡ 0 = ap length empty in
+    record {
+      pulled = pulled ∙ none_reached view empty (Next i f);
+      timed = omega arith;
+      pushed = ap tables_pushed begun.begun ∙ none_reached view empty f;
+      bare = λ h. (pulled, ap (λ (x : NextOf). length x.tables) begun.begun);
+      tables = subst (λ xs. AllExact view (meaning f) (s.pulled + 1) xs) (sym (ap (λ (x : NextOf). x.tables) begun.begun)) tt;
+      follows = λ dom v covers near t a dates long tells. begun.follows t a v;
+    }
+
+pub next_added : (i : Interval) (f : CoreForm) (s : NextOf) (old new : List Node) → NextBegun i f s
+    → new ≡ old ++ node.Next s ∷ [] → Adds (Next i f ∷ []) old new
+next_added i f s old new begun is =
+    adds_one (Next i f) (node.Next s) old new is
+    (record { interval = ap (λ (x : NextOf). x.interval) begun.begun; columns = ap (λ (x : NextOf). x.columns) begun.begun })
+    (λ view empty. next_begins i f s begun view empty)
+
+pub next_adds : (r : Role) (h : CoreForm) (i : Interval) (f : CoreForm) (old mid new : List Node) → h ≡ Next i f
+    → Adds (nodes_in role.Whole f) old mid → Adds (Next i f ∷ []) mid new → Adds (nodes_in r h) old new
+unfolding nodes_in
+next_adds r h i f old mid new same first last =
+    subst (λ k. Adds (nodes_in r k) old new) (sym same)
+    (adds_then (nodes_in role.Whole f) (Next i f ∷ []) old mid new first last)

@@ -5,8 +5,8 @@ use Rattle.mfotl_model.proofs.CountLemmas.{counted_settled, next_unsettled}
 use Rattle.mfotl_model.proofs.LogicLemmas.{all_in, all_from}
 use Rattle.mfotl_model.specs.Counts.{settled_count}
 use Rattle.mfotl_model.specs.Formulas.{Form}
-use Rattle.mfotl_model.specs.Formulas.Form.{And, Or, Previous, Since}
-use Rattle.mfotl_model.specs.Settled.{settled, previous_settled, since_settled}
+use Rattle.mfotl_model.specs.Formulas.Form.{And, Next, Or, Previous, Since}
+use Rattle.mfotl_model.specs.Settled.{settled, next_settled, previous_settled, since_settled}
 use Rattle.mfotl_model.specs.Times.{NeverFalls}
 use Rattle.mfotl_model.specs.declared.interval.Interval.{Interval}
 use Rattle.monitorable.proofs.SettledLemmas.{settled_before, settled_in_log}
@@ -109,6 +109,22 @@ count_previous t rising interval f n inside most done =
       | inl none ↦ let first : n ≡ 0 = eqb-true n 0 none in absurd (omega arith)
       | inr ready ↦ count_below t rising f (n - 1) ready
     ]))
+
+-- a NEXT is settled one position less far than its operand
+pub count_next : (t : List ℕ) → NeverFalls t → (interval : Interval) (f : Form) (n : ℕ)
+    → (0 < n → n + 1 ≤ settled_count t f) → (n + 1 < length t → n + 1 < settled_count t f → ⊥)
+    → n ≡ settled_count t (Next interval f)
+unfolding settled next_settled
+count_next t rising interval f n most done =
+    count_is t rising (Next interval f) n
+    (λ j low.
+    let high : n + 1 ≤ settled_count t f = most (omega arith) in
+    let ready : settled t f (j + 1) ≡ true = counted_settled t f (j + 1) (omega arith) in
+    let inside : j + 1 < length t = settled_in_log t f (j + 1) ready in
+    and_from (nat_lt (j + 1) (length t)) (settled t f (j + 1)) (lt-ltb (j + 1) (length t) inside) ready)
+    (λ h.
+    let both = and_parts (nat_lt (n + 1) (length t)) (settled t f (n + 1)) h in
+    done (ltb-true (n + 1) (length t) both.0) (count_below t rising f (n + 1) both.1))
 
 -- a settled position lies in the log
 pub count_within : (t : List ℕ) (f : Form) → settled_count t f ≤ length t

@@ -203,3 +203,7 @@ or_right_at r h f g same a = second_of_or r f g (subst (Accepted r) same a)
 pub previous_under_at : (r : Role) (h : CoreForm) (i : Interval) (f : CoreForm) → h ≡ Previous i f → Accepted r h → Accepted role.Whole f
 unfolding fault_in
 previous_under_at r h i f same a = subst (Accepted r) same a
+
+pub next_under_at : (r : Role) (h : CoreForm) (i : Interval) (f : CoreForm) → h ≡ Next i f → Accepted r h → Accepted role.Whole f
+unfolding fault_in
+next_under_at r h i f same a = subst (Accepted r) same a

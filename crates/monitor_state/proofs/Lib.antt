@@ -10,6 +10,8 @@ pub mod OrLemmas
 pub mod OrSteps
 pub mod PreviousLemmas
 pub mod PreviousSteps
+pub mod NextLemmas
+pub mod NextSteps
 pub mod NodeSteps
 pub mod MonitorSteps
 pub mod BeginLemmas

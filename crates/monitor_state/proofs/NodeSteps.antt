@@ -27,7 +27,7 @@ use Rattle.eval_since.specs.SinceView.{SinceOf}
 use Rattle.monitorable.proofs.DomainLaw.{domain}
 use Rattle.monitorable.proofs.DomainLemmas.{any_with, any_witness, same_truth}
 use Rattle.monitorable.proofs.DomainRows.{has_constants, has_log}
-use Rattle.monitorable.specs.CoreForms.{CoreForm, meaning, True, False, Atom, Not, And, Or, Exists, Previous, Since}
+use Rattle.monitorable.specs.CoreForms.{CoreForm, meaning, True, False, Atom, Not, And, Or, Exists, Previous, Next, Since}
 use Rattle.monitorable.specs.Conjuncts.{conjuncts_of}
 use Rattle.eval_bool.specs.JoinView.{ChildOf, JoinOf}
 use Rattle.eval_bool.specs.OrView.{OrOf}
@@ -42,6 +42,9 @@ use Rattle.monitor_state.proofs.SinceSteps.{since_is, since_news, since_stands}
 use Rattle.monitor_state.proofs.PreviousSteps.{previous_is, previous_news, previous_stands}
 use Rattle.monitor_state.specs.Feeding.{SinceTakes}
 use Rattle.monitor_state.specs.PreviousFeeding.{PreviousTakes}
+use Rattle.eval_until.specs.NextView.{NextOf}
+use Rattle.monitor_state.proofs.NextSteps.{next_is, next_news, next_stands}
+use Rattle.monitor_state.specs.NextFeeding.{NextTakes}
 use Rattle.monitor_state.specs.Nodes.{children, left_operand, operands}
 use Rattle.monitor_state.specs.Quantified.{IsWithout, Quantifies}
 use Rattle.monitor_state.specs.Stacks.{Pops, PopsMany}
@@ -366,3 +369,15 @@ previous_advances old new given stack rest operand tables pops takes view point 
       previous_news view point i f premises.rising old new is stands given.ts premises.ts operand news.1 tables takes,
     )
 previous_advances old new given stack rest operand tables pops takes view point whole f below premises is stands stacked = absurd is
+
+pub next_advances : (old new : NextOf) (given : TimePoint) (stack rest : List (List TableOf)) (operand tables : List TableOf)
+    → Pops stack rest operand → NextTakes old given.ts operand new tables
+    → Advances (node.Next old) given stack (node.Next new) rest tables
+next_advances old new given stack rest operand tables pops takes view point whole (Next i f) below premises is stands stacked =
+    let news = pops_top view point below f stack rest operand stacked pops in (
+      next_is view point i f premises.rising old new is stands given.ts premises.ts operand news.1 tables takes,
+      next_stands view point i f premises.rising old new is stands given.ts premises.ts operand news.1 tables takes,
+      news.0,
+      next_news view point i f premises.rising old new is stands given.ts premises.ts operand news.1 tables takes,
+    )
+next_advances old new given stack rest operand tables pops takes view point whole f below premises is stands stacked = absurd is

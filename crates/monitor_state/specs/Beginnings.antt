@@ -9,6 +9,7 @@ use Rattle.eval_bool.specs.JoinView.{JoinOf, join_begun}
 use Rattle.eval_bool.specs.OrView.{OrOf, or_begun}
 use Rattle.eval_since.specs.PreviousView.{FollowsPrevious, PrevOf}
 use Rattle.eval_since.specs.SinceView.{Follows, SinceOf}
+use Rattle.eval_until.specs.NextView.{FollowsNext, NextOf}
 use Rattle.monitorable.specs.CoreForms.{CoreForm, meaning, And, Not}
 use Rattle.monitorable.specs.Conjuncts.{PartForm, conjuncts_of}
 use Rattle.monitorable.specs.Conjuncts.PartForm.{Child, Test}
@@ -72,6 +73,11 @@ pub record OrBegun (f g : CoreForm) (s : OrOf) : Type 0 where
 pub record PreviousBegun (i : Interval) (f : CoreForm) (s : PrevOf) : Type 0 where
   pub begun : s ≡ record { interval = i; columns = fv (meaning f); pulled = 0; last = 0; times = []; tables = [] }
   pub follows : (t : List ℕ) (a : List Bool) (v : Valuation) → FollowsPrevious s t a v
+
+-- a NEXT's state before the first position, which is right for every valuation
+pub record NextBegun (i : Interval) (f : CoreForm) (s : NextOf) : Type 0 where
+  pub begun : s ≡ record { interval = i; columns = fv (meaning f); pulled = 0; times = []; started = false; tables = [] }
+  pub follows : (t : List ℕ) (a : List Bool) (v : Valuation) → FollowsNext s t a v
 
 -- a state stands for the empty log, in each region
 abbrev pub Begins : CoreForm → StateOf → Type 0

@@ -4,6 +4,7 @@ pub mod Feeding
 pub mod JoinFeeding
 pub mod OrFeeding
 pub mod PreviousFeeding
+pub mod NextFeeding
 pub mod Nodes
 pub mod Views
 pub mod Stands

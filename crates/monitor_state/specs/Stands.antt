@@ -1,5 +1,5 @@
 -- When what a monitor keeps stands for a log, in a region of rows.
-use Rattle.std.specs.Prelude.{◌≡◌, ℕ, ◌+◌, ◌-◌, ◌≤◌, ◌<◌, Bool, true, List, [], ◌∷◌, length, drop, map}
+use Rattle.std.specs.Prelude.{◌≡◌, ℕ, ◌+◌, ◌-◌, ◌≤◌, ◌<◌, Bool, true, false, List, [], ◌∷◌, length, drop, map}
 use Rattle.mfotl_model.specs.Exact.{AllExact, Covers, View}
 use Rattle.mfotl_model.specs.FreeVariables.{fv, joined}
 use Rattle.mfotl_model.specs.Log.{times}
@@ -13,7 +13,8 @@ use Rattle.eval_bool.specs.JoinView.ConjunctOf.{Child, Test}
 use Rattle.eval_bool.specs.OrView.{OrOf}
 use Rattle.eval_since.specs.PreviousView.{FollowsPrevious, PrevOf}
 use Rattle.eval_since.specs.SinceView.{Follows, SinceOf}
-use Rattle.monitorable.specs.CoreForms.{CoreForm, meaning, True, False, Atom, Not, And, Or, Exists, Previous, Since}
+use Rattle.eval_until.specs.NextView.{FollowsNext, NextOf, tables_pushed}
+use Rattle.monitorable.specs.CoreForms.{CoreForm, meaning, True, False, Atom, Not, And, Or, Exists, Previous, Next, Since}
 use Rattle.monitorable.specs.Conjuncts.{PartForm, conjuncts_of}
 use Rattle.monitorable.specs.Conjuncts.PartForm.{Child as ChildPart, Test as TestPart}
 use Rattle.monitor_state.specs.Nodes.{children, is_negated, left_operand, nodes_of, operands}
@@ -29,6 +30,11 @@ pub record IsConstant (f : CoreForm) (table : TableOf) : Type 0 where
 
 -- the state is one of a PREVIOUS over the core f, with this interval
 pub record IsPrevious (i : Interval) (f : CoreForm) (s : PrevOf) : Type 0 where
+  pub interval : s.interval ≡ i
+  pub columns : s.columns ≡ fv (meaning f)
+
+-- the state is one of a NEXT over the core f, with this interval
+pub record IsNext (i : Interval) (f : CoreForm) (s : NextOf) : Type 0 where
   pub interval : s.interval ≡ i
   pub columns : s.columns ≡ fv (meaning f)
 
@@ -71,6 +77,7 @@ IsFor (And f g) (node.Join s) = IsJoin (And f g) s
 IsFor (Or f g) (node.Or s) = IsOr f g s
 IsFor (Exists x f) (node.Exists y) = y ≡ x.number
 IsFor (Previous i f) (node.Previous s) = IsPrevious i f s
+IsFor (Next i f) (node.Next s) = IsNext i f s
 IsFor (Since i f g) (node.Since s order) = IsSince i f g s order
 IsFor f other = ⊥
 
@@ -110,6 +117,19 @@ pub record PreviousStands (view : View) (i : Interval) (f : CoreForm) (s : PrevO
   pub follows : (dom : List Value) (v : Valuation) → Covers view dom → view.near (fv (meaning f)) v ≡ true
       → (t : List ℕ) (a : List Bool) → Dates view t → Tells view dom v f a → FollowsPrevious s t a v
 
+-- The state of a NEXT stands for the log: it gave the tables of the settled positions, and keeps the times
+-- and the operand's tables that were not used, but for the first position's, which no NEXT asks for; these
+-- are exact, and it is right for each near row.
+pub record NextStands (view : View) (i : Interval) (f : CoreForm) (s : NextOf) : Type 0 where
+  pub pulled : s.pulled ≡ reached view (Next i f)
+  pub timed : s.pulled + length s.times ≡ length view.log
+  pub pushed : tables_pushed s ≡ reached view f
+  pub bare : s.started ≡ false → (s.pulled ≡ 0) × (length s.tables ≡ 0)
+  pub tables : AllExact view (meaning f) (s.pulled + 1) s.tables
+  pub follows : (dom : List Value) (v : Valuation) → Covers view dom → view.near (fv (meaning f)) v ≡ true
+      → (t : List ℕ) (a : List Bool) → Dates view t → length view.log ≤ length t → Tells view dom v f a
+      → FollowsNext s t a v
+
 -- The state of a SINCE stands for the log: it gave the tables of the settled positions, and keeps the
 -- times and the operands' tables that were not used; these are exact, and it is right for each near row.
 pub record SinceStands (view : View) (i : Interval) (f g : CoreForm) (s : SinceOf) : Type 0 where
@@ -129,6 +149,7 @@ NodeStands view (Not f) (node.Join s) = JoinStands view (Not f) s
 NodeStands view (And f g) (node.Join s) = JoinStands view (And f g) s
 NodeStands view (Or f g) (node.Or s) = OrStands view f g s
 NodeStands view (Previous i f) (node.Previous s) = PreviousStands view i f s
+NodeStands view (Next i f) (node.Next s) = NextStands view i f s
 NodeStands view (Since i f g) (node.Since s order) = SinceStands view i f g s
 NodeStands view f other = Unit {0}
 

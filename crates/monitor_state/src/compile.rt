@@ -1,7 +1,7 @@
 //! The nodes of a core.
 ghost use Rattle.std.specs.Prelude.{◌≡◌, ◌++◌, ◌∷◌, [], IfOk, OnOk};
-ghost use Rattle.monitorable.specs.CoreForms.{node_form, True, False, Atom, Exists, Or, Previous, Since};
-ghost use Rattle.monitor_state.specs.Beginnings.{Accepted, Adds, AddsIf, GuardedIf, IsJoined, OrBegun, PreviousBegun, SinceBegun};
+ghost use Rattle.monitorable.specs.CoreForms.{node_form, True, False, Atom, Exists, Next, Or, Previous, Since};
+ghost use Rattle.monitor_state.specs.Beginnings.{Accepted, Adds, AddsIf, GuardedIf, IsJoined, NextBegun, OrBegun, PreviousBegun, SinceBegun};
 ghost use Rattle.monitor_state.specs.Nodes.{is_negated, nodes_in};
 
 use crate::conjunction::join_state;
@@ -9,6 +9,7 @@ use crate::node::Node;
 use crate::ordering::all_among;
 use eval_bool::OrState;
 use eval_since::{PrevState, SinceState};
+use eval_until::NextState;
 use mfotl_model::{Atom as OneAtom, Interval};
 use monitorable::{Node as Core, Role};
 use relations::Table;
@@ -54,6 +55,10 @@ pub fn add_nodes(
         Core::Previous(interval, inner) => {
             add_nodes(alloc, inner, Role::Whole, nodes)?;
             add_previous(alloc, interval, inner, nodes)
+        }
+        Core::Next(interval, inner) => {
+            add_nodes(alloc, inner, Role::Whole, nodes)?;
+            add_next(alloc, interval, inner, nodes)
         }
         _ => Err(AllocError),
     }
@@ -189,4 +194,23 @@ fn previous_state(
 {
     let columns = operand.free_vars(alloc)?;
     PrevState::new(alloc, interval, columns.as_slice())
+}
+
+fn add_next(
+    alloc: Global,
+    interval: &Interval,
+    operand: &Core,
+    nodes: &mut Vec<Node>,
+) -> Result<(), AllocError>
+    ensures { OnOk result (Adds (Next interval.now (node_form operand.now) ∷ []) nodes.old.items nodes.new.items) }
+{
+    let state = next_state(alloc, interval, operand)?;
+    add(Node::Next(state), nodes)
+}
+
+fn next_state(alloc: Global, interval: &Interval, operand: &Core) -> Result<NextState, AllocError>
+    ensures { IfOk result (NextBegun interval.now (node_form operand.now)) }
+{
+    let columns = operand.free_vars(alloc)?;
+    NextState::new(alloc, interval, columns.as_slice())
 }

@@ -7,6 +7,7 @@ mod conjunction;
 mod join;
 pub mod laws;
 mod monitor;
+mod next;
 mod node;
 mod or;
 mod ordering;

@@ -4,6 +4,7 @@ ghost use Rattle.monitor_state.specs.Quantified.{Quantifies};
 ghost use Rattle.monitor_state.specs.Steps.{Advances};
 
 use crate::join::take_join;
+use crate::next::take_next;
 use crate::or::take_or;
 use crate::previous::take_previous;
 use crate::since::take_since;
@@ -11,6 +12,7 @@ use crate::stack::{popped, popped_many};
 use crate::tables::Tables;
 use eval_bool::{JoinState, OrState, eval_atom};
 use eval_since::{PrevState, SinceState};
+use eval_until::NextState;
 use mfotl_model::{Atom, TimePoint};
 use relations::Table;
 use std::alloc::{AllocError, Global};
@@ -28,6 +30,7 @@ pub enum Node {
     /// OR of operands with the same variables.
     Or(OrState),
     Previous(PrevState),
+    Next(NextState),
     /// SINCE, with a table whose columns stand in the order that its tables have.
     Since(SinceState, Table),
 }
@@ -50,6 +53,7 @@ impl Node {
             Node::Join(state) => advance_join(alloc, state, point, stack),
             Node::Or(state) => advance_or(alloc, state, point, stack),
             Node::Previous(state) => advance_previous(alloc, state, point, stack),
+            Node::Next(state) => advance_next(alloc, state, point, stack),
             Node::Since(state, order) => advance_since(alloc, state, order, point, stack),
         }
     }
@@ -150,6 +154,19 @@ fn advance_previous(
 {
     let operand = popped(alloc, stack);
     take_previous(alloc, state, point.ts, operand)
+}
+
+fn advance_next(
+    alloc: Global,
+    state: &mut NextState,
+    point: &TimePoint,
+    stack: &mut Vec<Tables>,
+) -> Result<Tables, AllocError>
+    ensures { IfOk result (λ tables. Advances (Node.Next state.old) point.now stack.old.items
+        (Node.Next state.new) stack.new.items tables) }
+{
+    let operand = popped(alloc, stack);
+    take_next(alloc, state, point.ts, operand)
 }
 
 fn advance_since(

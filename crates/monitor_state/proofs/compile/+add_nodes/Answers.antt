@@ -1,11 +1,11 @@
 use Rattle.std.proofs.Common.{rules, ◌<◌, ◌≡◌, OnOk, List, subst, sym, ap, ◌∷◌, ◌++◌, [], ◌∙◌}
-use Rattle.monitorable.specs.CoreForms.{node_form, And, Exists, Not, Or, Previous, Since}
+use Rattle.monitorable.specs.CoreForms.{node_form, And, Exists, Not, Next, Or, Previous, Since}
 use Rattle.monitorable.specs.NodeCount.{nodes}
 use Rattle.monitorable.specs.declared.role.Role.TheVariants as role
-use Rattle.monitor_state.proofs.BeginLemmas.{and_adds, atom_at, exists_adds, false_at, not_adds, or_adds, previous_adds, since_adds, true_at}
-use Rattle.monitor_state.proofs.GuardLemmas.{and_left_at, and_own_at, and_right_at, exists_under_at, not_own_at, not_under_at, or_left_at, or_right_at, previous_under_at, since_left_at, since_right_at}
+use Rattle.monitor_state.proofs.BeginLemmas.{and_adds, atom_at, exists_adds, false_at, next_adds, not_adds, or_adds, previous_adds, since_adds, true_at}
+use Rattle.monitor_state.proofs.GuardLemmas.{and_left_at, and_own_at, and_right_at, exists_under_at, next_under_at, not_own_at, not_under_at, or_left_at, or_right_at, previous_under_at, since_left_at, since_right_at}
 use Rattle.monitor_state.proofs.OrderingLemmas.{on_ok_then}
-use Rattle.monitor_state.proofs.SizeLemmas.{and_left_smaller, and_right_smaller, exists_smaller, not_smaller, or_left_smaller, or_right_smaller, previous_smaller, since_left_smaller, since_right_smaller}
+use Rattle.monitor_state.proofs.SizeLemmas.{and_left_smaller, and_right_smaller, exists_smaller, next_smaller, not_smaller, or_left_smaller, or_right_smaller, previous_smaller, since_left_smaller, since_right_smaller}
 use Rattle.monitor_state.specs.Beginnings.{Adds}
 use Rattle.monitor_state.specs.Nodes.{nodes_in}
 use Rattle.monitor_state.proofs.compile.+add_nodes.Goals as goal
@@ -167,3 +167,21 @@ add_nodes-requires-in-Since-2 t c =
     ap node_form c.in-Since.is ∙ ap (λ n. Since c.in-Since.interval (node_form c.in-Since.left.value) (node_form n)) (sym c.deref-in-Since-2.ensures) in
     let smaller : nodes (node_form c.deref-in-Since-2.result.now) < nodes (node_form c.args.core.now) = since_right_smaller (node_form c.args.core.now) c.in-Since.interval (node_form c.in-Since.left.value) (node_form c.deref-in-Since-2.result.now) same in
     (search rules, since_right_at c.args.role (node_form c.args.core.now) c.in-Since.interval (node_form c.in-Since.left.value) (node_form c.deref-in-Since-2.result.now) same c.requires)
+
+pub returns-in_ok-add_nodes-in-Next : goal.returns-in_ok-add_nodes-in-Next
+returns-in_ok-add_nodes-in-Next t c =
+    on_ok_then c.add_next.result _ _
+    (λ own.
+    next_adds c.args.role (node_form c.args.core.now) c.in-Next.interval (node_form c.in-Next.inner.value)
+    c.args.nodes.now.items c.add_nodes-in-Next.new.nodes.items c.add_next.new.nodes.items
+    (ap node_form c.in-Next.is)
+    (subst (λ n. Adds (nodes_in role.Whole (node_form n)) c.args.nodes.now.items c.add_nodes-in-Next.new.nodes.items) c.deref-in-Next.ensures c.in_ok-add_nodes-in-Next.ensures)
+    (subst (λ n. Adds (Next c.in-Next.interval (node_form n) ∷ []) c.add_nodes-in-Next.new.nodes.items c.add_next.new.nodes.items) c.deref-in-Next-2.ensures own))
+    c.add_next.ensures
+
+pub add_nodes-requires-in-Next : goal.add_nodes-requires-in-Next
+add_nodes-requires-in-Next t c =
+    let same : node_form c.args.core.now ≡ Next c.in-Next.interval (node_form c.deref-in-Next.result.now) =
+    ap node_form c.in-Next.is ∙ ap (λ n. Next c.in-Next.interval (node_form n)) (sym c.deref-in-Next.ensures) in
+    let smaller : nodes (node_form c.deref-in-Next.result.now) < nodes (node_form c.args.core.now) = next_smaller (node_form c.args.core.now) c.in-Next.interval (node_form c.deref-in-Next.result.now) same in
+    (search rules, next_under_at c.args.role (node_form c.args.core.now) c.in-Next.interval (node_form c.deref-in-Next.result.now) same c.requires)
