@@ -176,6 +176,9 @@ SettledNextToTheOperand =
     × (settles_at 2 (λ f g. Previous any f) ≡ false ∷ false ∷ false ∷ [])
     × (settles_at 0 (λ f g. Next any f) ≡ true ∷ true ∷ false ∷ [])
     × (settles_at 1 (λ f g. Next any f) ≡ false ∷ false ∷ false ∷ [])
+    × (map (settled (0 ∷ 3 ∷ 7 ∷ []) (Previous any waiting)) (0 ∷ 1 ∷ 2 ∷ []) ≡ true ∷ true ∷ false ∷ [])
+    × (map (settled (0 ∷ 3 ∷ 7 ∷ []) (Next any waiting)) (0 ∷ 1 ∷ []) ≡ false ∷ false ∷ [])
+    × (map (settled (0 ∷ 3 ∷ 9 ∷ []) (Next any waiting)) (0 ∷ 1 ∷ []) ≡ true ∷ false ∷ [])
 
 -- an operand of a future operator is waited for at each position within the bound, and at none past it
 abbrev pub BoundsAddUp : Type 0

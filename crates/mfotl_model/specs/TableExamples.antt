@@ -10,16 +10,16 @@ use Rattle.mfotl_model.specs.Tables.{TableOf, all_among, all_apart, all_sized, h
 use Rattle.mfotl_model.specs.declared.term.Term.TheVariants.{Const, Var}
 use Rattle.mfotl_model.specs.declared.value.Value.TheVariants.{Int, Text}
 
--- a table over the variables 0 and 1
+-- a table over the variables 1 and 0
 abbrev pub small : TableOf
-small = record { columns = 0 ∷ 1 ∷ []; rows = (int 1 ∷ int 2 ∷ []) ∷ (int 3 ∷ int 4 ∷ []) ∷ [] }
+small = record { columns = 1 ∷ 0 ∷ []; rows = (int 1 ∷ int 2 ∷ []) ∷ (int 3 ∷ int 4 ∷ []) ∷ [] }
 
 -- a table has the valuations that give it one of its rows, in the order of its columns
 abbrev pub TablesHaveRows : Type 0
 TablesHaveRows =
     map (λ row. has small (valuation (0 ∷ 1 ∷ []) row))
     ((int 3 ∷ int 4 ∷ []) ∷ (int 3 ∷ int 2 ∷ []) ∷ (int 4 ∷ int 3 ∷ []) ∷ [])
-    ≡ true ∷ false ∷ false ∷ []
+    ≡ false ∷ false ∷ true ∷ []
 
 -- the columns that are wanted, in their order; and what is asked of columns and rows
 abbrev pub PartsOfRows : Type 0
@@ -68,6 +68,7 @@ WorkersOfRows =
     ≡ false ∷ false ∷ false ∷ true ∷ false ∷ false ∷ false ∷ [])
     × (map (λ k. near_of three_by_two k (1 ∷ []) (valuation (1 ∷ []) (int 3 ∷ []))) seven
     ≡ false ∷ true ∷ false ∷ true ∷ false ∷ true ∷ false ∷ [])
+    × (map (λ k. near_of [] k [] (valuation [] [])) (0 ∷ 1 ∷ []) ≡ true ∷ false ∷ [])
 
 -- of the events only those that the atom p(x) matches in the worker's part are seen
 abbrev pub SlicesOfEvents : Type 0

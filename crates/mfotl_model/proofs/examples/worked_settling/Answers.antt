@@ -20,7 +20,7 @@ returns-clause-past_the_bound c = (refl, refl, refl, refl, refl)
 
 pub returns-clause-next_to_the_operand : goal.returns-clause-next_to_the_operand
 unfolding next_settled previous_settled settled since_settled until_settled
-returns-clause-next_to_the_operand c = (refl, refl, refl, refl, refl)
+returns-clause-next_to_the_operand c = (refl, refl, refl, refl, refl, refl, refl, refl)
 
 pub returns-clause-bounds_add_up : goal.returns-clause-bounds_add_up
 unfolding next_settled previous_settled settled since_settled until_settled

@@ -8,7 +8,7 @@ returns-clause-parts_of_values c = (refl, refl, refl, refl, refl)
 
 pub returns-clause-workers_of_rows : goal.returns-clause-workers_of_rows
 unfolding first_value is_match
-returns-clause-workers_of_rows c = (refl, refl, refl, refl)
+returns-clause-workers_of_rows c = (refl, refl, refl, refl, refl)
 
 pub returns-clause-slices_of_events : goal.returns-clause-slices_of_events
 unfolding first_value is_match
