@@ -1,15 +1,14 @@
 -- The terms of an atom beside the values of an event.
-use Rattle.std.proofs.Common.{◌≡◌, ◌∙◌, ap, ap₂, sym, refl, arith, ℕ, suc, ◌+◌, ◌≢◌, Bool, true, false, not}
-use Rattle.std.proofs.Common.{◌&&◌, ◌||◌, cond, nat_eq, nat_lt, List, [], ◌∷◌, length, map, Option, Some}
-use Rattle.std.proofs.Common.{None, is_some, inl, inr, one-add, slice_get, pos}
-use Rattle.std.specs.Prelude.{option_and_then, unwrap_or}
-use Rattle.std.proofs.Math.Dec.{leb-suc-suc}
-use Rattle.std.proofs.lemmas.Bool.{cases_eq, eq-eqb, lt-ltb, ne_eqb, or_left, or_right}
+use Rattle.std.proofs.Common.{◌≡◌, ◌∙◌, ap, ap₂, sym, refl, arith, ℕ, ◌≢◌, Bool, true, false}
+use Rattle.std.proofs.Common.{◌&&◌, ◌||◌, cond, nat_eq, List, [], ◌∷◌, length, map, Option, Some}
+use Rattle.std.proofs.Common.{None, is_some, inl, inr, pos}
+use Rattle.std.specs.Prelude.{unwrap_or}
+use Rattle.std.proofs.lemmas.Bool.{cases_eq, eq-eqb, ne_eqb, or_left, or_right}
 use Rattle.std.proofs.lemmas.List.{length-map}
 use Rattle.std.proofs.lemmas.List.Folds.{list_any-append}
 use Rattle.std.proofs.lemmas.Map.Views.{tells_apart}
 use Rattle.std.specs.Cmp.{unsigned_tied}
-use Rattle.std.specs.List.{flat_map, list_all, prefix_len, zip}
+use Rattle.std.specs.List.{flat_map, list_all, zip}
 use Rattle.std.specs.Ordering.{eq_by_cmp, nat_cmp}
 use Rattle.mfotl_model.proofs.LogicLemmas.{same_number}
 use Rattle.mfotl_model.proofs.MatchingLemmas.{first_more}
@@ -23,7 +22,7 @@ use Rattle.mfotl_model.specs.declared.term.Term.{Term}
 use Rattle.mfotl_model.specs.declared.term.Term.TheVariants.{Var, Const}
 use Rattle.mfotl_model.specs.declared.value.Value.TheVariants.{Int}
 use Rattle.mfotl_model.specs.declared.value.Value.{Value}
-use Rattle.mfotl_model.specs.Matching.{first_value, is_match, is_variable, read_off, reads}
+use Rattle.mfotl_model.specs.Matching.{first_value, is_match, read_off, reads}
 use Rattle.monitor_main.specs.AtomSteps.{give_back, is_first, stands_for}
 
 pub or_second : (a b : Bool) → a ≡ false → (a || b) ≡ true → b ≡ true

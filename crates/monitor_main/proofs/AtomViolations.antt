@@ -1,38 +1,32 @@
 -- The violations of a policy at a time-point are the rows of its query there.
-use Rattle.std.proofs.Common.{◌≡◌, ◌≢◌, ◌∙◌, ap, ap₂, sym, refl, arith, ℕ, Bool, true, false, not, ◌&&◌, ◌||◌}
-use Rattle.std.proofs.Common.{cond, nat_eq, List, [], ◌∷◌, ◌++◌, length, map, Some}
-use Rattle.std.specs.Prelude.{pos, unwrap_or}
-use Rattle.std.proofs.lemmas.Bool.{and_from, and_parts, and_right, cond-false, cond-true, eq-eqb, eqb-true}
-use Rattle.std.proofs.lemmas.Bool.{ne_eqb, not-true, or_left, or_right}
+use Rattle.std.proofs.Common.{◌≡◌, ◌≢◌, ◌∙◌, ap, ap₂, sym, refl, ℕ, Bool, true, false, not, ◌&&◌}
+use Rattle.std.proofs.Common.{cond, nat_eq, List, [], ◌∷◌, length, map}
+use Rattle.std.proofs.lemmas.Bool.{and_from, and_parts, and_right, eq-eqb, eqb-true}
 use Rattle.std.proofs.lemmas.List.{length-map}
-use Rattle.std.proofs.lemmas.List.Folds.{list_any-append}
-use Rattle.std.proofs.lemmas.Map.Views.{any-filter_same, tells_apart}
+use Rattle.std.proofs.lemmas.Map.Views.{tells_apart}
 use Rattle.std.specs.Cmp.{tied_itself}
 use Rattle.std.specs.List.{filter, flat_map, list_all, list_any}
 use Rattle.std.specs.Ordering.{eq_by_cmp, is_eq}
-use Rattle.mfotl_model.proofs.AscendingLemmas.{any_ascending, same_ascending}
-use Rattle.mfotl_model.proofs.LogicLemmas.{absorbed, among_distinct, any_alike, any_map, same_number}
+use Rattle.mfotl_model.proofs.AscendingLemmas.{same_ascending}
+use Rattle.mfotl_model.proofs.LogicLemmas.{absorbed, among_distinct, any_alike}
 use Rattle.mfotl_model.proofs.MatchingLemmas.{reads_own, same_event_of}
 use Rattle.mfotl_model.proofs.RowLemmas.{and_turned, any_none, event_exact, row_exact}
-use Rattle.mfotl_model.specs.ActiveDomain.{adom, constants, log_values}
+use Rattle.mfotl_model.specs.ActiveDomain.{adom}
 use Rattle.mfotl_model.specs.Events.{event_cmp, event_total}
 use Rattle.mfotl_model.specs.Formulas.{Form}
 use Rattle.mfotl_model.specs.FreeVariables.{among, fv, variable_in}
-use Rattle.mfotl_model.specs.Satisfaction.{Valuation, database_at, event_of, has_event, sat, term_value}
-use Rattle.mfotl_model.specs.Values.{row_cmp, row_total, value_cmp, value_total}
+use Rattle.mfotl_model.specs.Satisfaction.{Valuation, database_at, event_of, has_event, sat}
+use Rattle.mfotl_model.specs.Values.{row_cmp, row_total}
 use Rattle.mfotl_model.specs.Tables.{all_apart, valuation}
 use Rattle.mfotl_model.specs.Violations.{all_rows, violates}
 use Rattle.mfotl_model.specs.declared.event.Event.{Event}
 use Rattle.mfotl_model.specs.declared.event.TimePoint.{TimePoint}
-use Rattle.mfotl_model.specs.declared.term.Term.{Term}
-use Rattle.mfotl_model.specs.declared.term.Term.TheVariants.{Var, Const}
 use Rattle.mfotl_model.specs.declared.value.Value.{Value}
-use Rattle.mfotl_model.specs.declared.value.Value.TheVariants.{Int}
 use Rattle.monitorable.proofs.DomainLemmas.{event_value, same_truth, value_among}
 use Rattle.monitorable.proofs.DomainRows.{all_read, found, has_log, row_kept, same_columns}
 use Rattle.monitorable.proofs.FreeVariableLemmas.{fv_apart}
 use Rattle.mfotl_model.specs.Domains.{within}
-use Rattle.mfotl_model.specs.Matching.{Query, first_value, is_match, matching_rows, reads, row_read}
+use Rattle.mfotl_model.specs.Matching.{Query, is_match, matching_rows, reads, row_read}
 use Rattle.monitor_main.specs.Atom.{IsQueryFor}
 use Rattle.monitor_main.specs.TextLaw.{RowsAreViolations}
 use Rattle.monitor_main.proofs.AtomLemmas.{or_second}

@@ -1,11 +1,11 @@
 -- From the policy and the log to the whole answer.
-use Rattle.std.proofs.Common.{◌≡◌, ◌∙◌, ap, arith, subst, sym, refl, ◌⊎◌, inl, inr, ℕ, ◌≤◌, Bool, true, List}
-use Rattle.std.proofs.Common.{[], ◌∷◌, Option, Some, None, is_some, IsTrue}
+use Rattle.std.proofs.Common.{◌≡◌, ◌∙◌, ap, arith, subst, sym, refl, inl, inr, ℕ, ◌≤◌, Bool, true, List}
+use Rattle.std.proofs.Common.{[], ◌∷◌, Option, Some, None, is_some}
 use Rattle.std.proofs.lemmas.Result.{IfErr-weaker, IfOk-weaker}
 use Rattle.std.specs.Prelude.{Result, Ok, Err, IfOk, IfErr, MatchOption, ◌≢◌, option_map}
 use Rattle.clap.specs.Words.{Text}
 use Rattle.mon_outside.specs.Causes.{Rose}
-use Rattle.mon_outside.specs.Files.{Files, ToldFiles, content}
+use Rattle.mon_outside.specs.Files.{Files, content}
 use Rattle.mon_outside.specs.Inputs.{Name, StopsIn, asked_more}
 use Rattle.mon_outside.specs.Sink.{AppendsFront}
 use Rattle.mon_outside.specs.Views.{InputsView, SinkView}
@@ -17,11 +17,11 @@ use Rattle.monitor_main.specs.declared.refusal.InputFile.TheVariants as file
 use Rattle.monitor_main.specs.declared.refusal.Refusal.{Refusal}
 use Rattle.monitor_main.specs.declared.refusal.Refusal.TheVariants.{Usage, Later, Read, Write, Memory}
 use Rattle.monitor_main.specs.Answer.{◌>>=◌, Answer, CheckedPolicy, checked_over, Task, answer, answer_to}
-use Rattle.monitor_main.specs.Answer.{bytes_of, check_answer, command_answer, log_answer, ok_value, policy_at}
+use Rattle.monitor_main.specs.Answer.{core_atom, unless_later, bytes_of, check_answer, command_answer, ok_value, policy_at}
 use Rattle.monitor_main.specs.Answer.{refused, run_answer, seen_of, signature_of, source_bytes, task_at}
 use Rattle.monitor_main.specs.Answer.{task_of, task_on, text_at_failure, text_before, text_of_seen, text_on}
-use Rattle.monitor_main.specs.Decisions.{CarriesOut, ComesTo, CommandFails, Decides, Effect, Ends, FailsAt}
-use Rattle.monitor_main.specs.Decisions.{FailsInLog, Finishes, HandsOn, HasCauses, MonitorsLog, Obeys}
+use Rattle.monitor_main.specs.Decisions.{CarriesOut, ComesTo, CommandFails, Effect, Ends, FailsAt}
+use Rattle.monitor_main.specs.Decisions.{LeavesForLater, MonitorsPolicy, FailsInLog, Finishes, HandsOn, HasCauses, MonitorsLog, Obeys}
 use Rattle.monitor_main.specs.Decisions.{Refuses}
 use Rattle.monitor_main.specs.FilesAsked.{AsksInOrder, names_to, source_names}
 use Rattle.monitor_main.specs.Loading.{HasNoPolicy, IsLoadFault, IsSource, LoadsSources, NoPolicy, StopsInSources}
@@ -29,7 +29,8 @@ use Rattle.monitor_main.specs.LogRuns.{IsOutputFault}
 use Rattle.monitor_main.specs.Refusals.{words_refusal}
 use Rattle.monitor_main.specs.declared.words.WordsFault.{WordsFault}
 use Rattle.monitor_main.specs.declared.words.WordsFault.TheVariants as fault
-use Rattle.monitor_main.specs.Words.{Command, Sources, Run, Check, command_of}
+use Rattle.monitor_main.specs.Words.{Command, Sources, Run, Check, command_of, command_sources}
+use Rattle.mfotl_model.specs.declared.term.Atom.{Atom as OneAtom}
 use Rattle.monitor_main.proofs.LoadLemmas.{rose_later}
 use Rattle.monitor_main.proofs.SinkLemmas.{appends_none, no_front}
 use Rattle.monitor_main.proofs.ToldLemmas.{asked_none, asked_twice, told_all, told_at, told_both, told_map}
@@ -340,6 +341,24 @@ module _ (sources : Sources) (log : Name) (before mid : InputsView) (checked : C
         };
       }
 
+  -- the policy was monitored, or left for later
+  pub run_goes_on : (after : InputsView) (old new : SinkView) (result : Result Bool Refusal)
+      → MonitorsPolicy checked log (record { before = mid; after = after; old = old; new = new }) result
+      → CarriesOut (Run sources log) (record { before = before; after = after; old = old; new = new }) result
+  unfolding task_of
+  run_goes_on after old new result = by (core_atom checked.policy) refl
+    where
+      by : (atom : Option OneAtom) → core_atom checked.policy ≡ atom
+          → MatchOption atom (LeavesForLater (record { before = mid; after = after; old = old; new = new }) result)
+          (λ atom. MonitorsLog checked log (record { before = mid; after = after; old = old; new = new }) result)
+          → CarriesOut (Run sources log) (record { before = before; after = after; old = old; new = new }) result
+      by None e l =
+          rw (l.left, l.inputs_stay, l.out_stays) (run_later old (λ bytes. ap (λ (a : Option OneAtom).
+          unless_later a (task_on checked bytes)) e))
+      by (Some atom) e m =
+          run_monitors after old new result (λ bytes. ap (λ (a : Option OneAtom).
+          unless_later a (task_on checked bytes)) e) m
+
 -- ---- `check`
 
 output_ends : (a : Answer) (fails : InputFile → Type 0) (old new : Option (List ℕ)) (before now : ℕ) (r : Refusal)
@@ -394,6 +413,16 @@ module _ (sources : Sources) (before after : InputsView) (old new : SinkView) (c
           (output_causes (record { before = before; after = after; old = old; new = new })) fault;
     };
   }
+
+-- ---- either command, without a policy
+
+pub command_stops : (command : Command) (sources : Sources) (before after : InputsView) (out : SinkView)
+    → sources ≡ command_sources command → after.files ≡ before.files → before.faults ≤ after.faults → (r : Refusal)
+    → StopsInSources sources before after r → CarriesOut command (unwritten before after out) (Err r)
+command_stops (Run own log) sources before after out is same later r stops =
+    run_stops own log before after out same later r (subst (λ (s : Sources). StopsInSources s before after r) is stops)
+command_stops (Check own) sources before after out is same later r stops =
+    check_stops own before after out same later r (subst (λ (s : Sources). StopsInSources s before after r) is stops)
 
 -- ---- the words
 

@@ -1,12 +1,12 @@
 -- From the ends of the single files to those of both.
-use Rattle.std.proofs.Common.{◌≡◌, ◌∙◌, ap, arith, refl, ℕ, ◌≤◌, List, [], ◌∷◌, Option, Some, None}
-use Rattle.std.specs.Prelude.{Result, Ok, Err, option_map}
+use Rattle.std.proofs.Common.{◌≡◌, ◌∙◌, ap, arith, refl, ℕ, ◌≤◌, List, [], ◌∷◌, Option, Some}
+use Rattle.std.specs.Prelude.{Ok, Err}
 use Rattle.mon_outside.specs.Causes.{Rose}
 use Rattle.mon_outside.specs.Files.{Files, ToldFiles, content}
 use Rattle.mon_outside.specs.Inputs.{Name, asked_more}
 use Rattle.mon_outside.specs.Views.{InputsView}
 use Rattle.mfotl_sig.specs.Preds.{PredOf}
-use Rattle.monitor_main.specs.Answer.{◌>>=◌, CheckedPolicy, checked_over, ok_value, policy_at, signature_of}
+use Rattle.monitor_main.specs.Answer.{CheckedPolicy, checked_over, policy_at, signature_of}
 use Rattle.monitor_main.specs.Answer.{source_bytes}
 use Rattle.monitor_main.specs.FilesAsked.{source_names}
 use Rattle.monitor_main.specs.Loading.{HasNoPolicy, IsLoadFault, IsRefused, LoadsSources, NoPolicy, StopsInSources}

@@ -1,5 +1,5 @@
 -- The query of a policy whose core is a single atom.
-use Rattle.std.proofs.Common.{◌≡◌, ◌∙◌, ap, subst, sym, ℕ, List, Option, Some}
+use Rattle.std.proofs.Common.{◌≡◌, ◌∙◌, ap, subst, sym, Option, Some}
 use Rattle.mfotl_model.specs.Formulas.{Form}
 use Rattle.mfotl_model.specs.FreeVariables.{fv}
 use Rattle.mfotl_model.specs.declared.term.Atom.{Atom as OneAtom}
@@ -8,7 +8,7 @@ use Rattle.monitorable.specs.CoreForms.{CoreForm, Atom, meaning}
 use Rattle.monitorable.specs.Cores.{core_form}
 use Rattle.monitorable.specs.Negation.{Negates, SettlesWith}
 use Rattle.monitorable.specs.declared.policy_core.Core.{Core}
-use Rattle.monitor_main.specs.Answer.{CheckedPolicy, task_of, task_on, unless_later}
+use Rattle.monitor_main.specs.Answer.{CheckedPolicy, core_atom}
 use Rattle.mfotl_model.specs.Matching.{Query}
 use Rattle.monitor_main.specs.Atom.{IsQueryFor}
 use Rattle.monitor_main.specs.CheckedPolicies.{IsCoreOf}
@@ -29,10 +29,7 @@ query_for core f q c e columns =
       columns_are = columns ∙ c.variables;
     }
 
--- the task of a policy whose core this is, on a log
-pub task_by_core : (core : Core) (checked : CheckedPolicy) (log : List ℕ) (atom : Option OneAtom)
-    → IsCoreOf core checked.policy.formula → atom ≡ only_atom (core_form core)
-    → task_of checked log ≡ unless_later atom (task_on checked log)
-unfolding task_of
-task_by_core core checked log atom c e =
-    ap (λ (a : Option OneAtom). unless_later a (task_on checked log)) (sym (e ∙ ap only_atom c.core_is))
+-- the atom that the core of a policy is
+pub core_atom_is : (core : Core) (checked : CheckedPolicy) (atom : Option OneAtom) → IsCoreOf core checked.policy.formula
+    → atom ≡ only_atom (core_form core) → core_atom checked.policy ≡ atom
+core_atom_is core checked atom c e = sym (e ∙ ap only_atom c.core_is)

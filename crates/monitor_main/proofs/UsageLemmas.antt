@@ -1,11 +1,10 @@
 -- How a run ends after its decision.
-use Rattle.std.proofs.Common.{◌≡◌, ◌≢◌, ◌⊎◌, ◌∙◌, inl, inr, sym, ap, ℕ, Bool, List, [], Option, None}
+use Rattle.std.proofs.Common.{◌≡◌, ◌≢◌, ◌⊎◌, ◌∙◌, inl, inr, sym, ap, ℕ, Bool, List, [], None}
 use Rattle.std.specs.Prelude.{Result, Err}
 use Rattle.clap.specs.Words.{Text}
 use Rattle.monitor_main.specs.declared.refusal.Refusal.{Refusal}
-use Rattle.monitor_main.specs.declared.refusal.Refusal.TheVariants.{Usage, LongSignature, Signature}
-use Rattle.monitor_main.specs.declared.refusal.Refusal.TheVariants.{LongPolicy, Policy, Fragment, Later, Log}
-use Rattle.monitor_main.specs.declared.refusal.Refusal.TheVariants.{Read, Write, Memory}
+use Rattle.monitor_main.specs.declared.refusal.Refusal.TheVariants.{Usage}
+use Rattle.monitor_main.specs.declared.refusal.Refusal.TheVariants.{Write}
 use Rattle.monitor_main.specs.declared.status.Status.{Status}
 use Rattle.monitor_main.specs.declared.status.Status.TheVariants as status
 use Rattle.monitor_main.specs.Decisions.{Effect, HasCauses}

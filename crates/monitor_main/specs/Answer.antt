@@ -1,6 +1,6 @@
 -- What a run answers, told by its words and the bytes of its files: the status, and the bytes that it
 -- writes to the output and to the errors.
-use Rattle.std.specs.Prelude.{ℕ, ◌-◌, ◌^◌, Bool, true, false, not, List, [], length, nat_lt}
+use Rattle.std.specs.Prelude.{ℕ, Bool, true, false, not, List, [], length, nat_lt}
 use Rattle.std.specs.Prelude.{Option, Some, None, Result, Ok, Err, if◌then◌else◌, option_map}
 use Rattle.std.specs.List.{list_any}
 use Rattle.clap.specs.Words.{Text}

@@ -1,5 +1,5 @@
 -- How many bytes a file may have. A log's limits are log_reader's.
-use Rattle.std.specs.Prelude.{ℕ, ◌-◌, ◌^◌}
+use Rattle.std.specs.Prelude.{ℕ, ◌^◌}
 
 -- the most bytes of a signature or a policy
 abbrev pub max_file : ℕ

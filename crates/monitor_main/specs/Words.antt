@@ -61,6 +61,11 @@ pub data Command : Type 0 where
   Run : Sources → List ℕ → Command
   Check : Sources → Command
 
+-- the signature's file and the policy's of a command
+abbrev pub command_sources : Command → Sources
+command_sources (Run sources log) = sources
+command_sources (Check sources) = sources
+
 -- the value of one option
 abbrev pub value_of : Text → List Row → List ℕ
 value_of name options = unwrap_or (first_of name options) []

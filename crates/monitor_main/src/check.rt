@@ -5,16 +5,13 @@ ghost use Rattle.monitor_main.specs.Answer.{check_answer};
 ghost use Rattle.monitor_main.specs.CheckLine.{column, columns, monitorable_line, more_columns};
 ghost use Rattle.monitor_main.specs.CheckLine.{sort_name};
 ghost use Rattle.monitor_main.specs.CheckedPolicies.{checked_in};
-ghost use Rattle.monitor_main.specs.CommandViews.{sources_in};
-ghost use Rattle.monitor_main.specs.Decisions.{CarriesOut, Finishes, effect};
+ghost use Rattle.monitor_main.specs.Decisions.{Finishes};
 ghost use Rattle.monitor_main.specs.LogRuns.{IsOutputFault};
-ghost use Rattle.monitor_main.specs.Words.{Check};
 
-use crate::checked_policy::{CheckedPolicy, load_sources};
+use crate::checked_policy::CheckedPolicy;
 use crate::refusal::Refusal;
-use crate::words::Sources;
 use mfotl_model::{Sort, Var};
-use mon_outside::{Inputs, Sink, write_whole};
+use mon_outside::{Sink, write_whole};
 use std::alloc::{AllocError, Global};
 
 fn sort_name(sort: Sort) -> &'static [u8]
@@ -92,8 +89,8 @@ fn write_line<O: Sink>(alloc: Global, vars: &[Var], out: &mut O) -> Result<(), R
     }
 }
 
-// Writes the line for this policy. No time-point is violated by it.
-fn accept<O: Sink>(alloc: Global, checked: &CheckedPolicy, out: &mut O) -> Result<bool, Refusal>
+/// Tells the free variables of the policy. No line has a row.
+pub fn accept<O: Sink>(alloc: Global, checked: &CheckedPolicy, out: &mut O) -> Result<bool, Refusal>
     ensures ok { IfOk result (Finishes (check_answer (Ok (checked_in checked.now)))
         (O.written out.old) (O.written out.new)) }
     ensures fault { IfErr result (λ r.
@@ -106,18 +103,4 @@ fn accept<O: Sink>(alloc: Global, checked: &CheckedPolicy, out: &mut O) -> Resul
         Ok(()) => Ok(false),
         Err(refusal) => Err(refusal),
     }
-}
-
-/// Tells the free variables of the policy, where it can be monitored. No line has a row.
-pub fn check_policy<I: Inputs, O: Sink>(
-    alloc: Global,
-    sources: &Sources<'_>,
-    inputs: &mut I,
-    out: &mut O,
-) -> Result<bool, Refusal>
-    ensures { CarriesOut (Check (sources_in sources.now))
-        (effect I.Inputs O.Sink inputs.old inputs.new out.old out.new) result }
-{
-    let checked = load_sources(alloc, sources, inputs)?;
-    accept(alloc, &checked, out)
 }

@@ -1,16 +1,13 @@
 //! `run`: the log of a policy whose core is a single atom.
 ghost use Rattle.std.specs.Prelude.{◌≡◌};
 ghost use Rattle.monitor_main.specs.Atom.{IsQueryFor, query_of};
-ghost use Rattle.monitor_main.specs.CheckedPolicies.{checked_in};
-ghost use Rattle.monitor_main.specs.CommandViews.{sources_in};
-ghost use Rattle.monitor_main.specs.Decisions.{CarriesOut, MonitorsLog, effect};
-ghost use Rattle.monitor_main.specs.Words.{Run};
+ghost use Rattle.monitor_main.specs.CheckedPolicies.{IsCoreOf, checked_in};
+ghost use Rattle.monitor_main.specs.Decisions.{MonitorsLog, MonitorsPolicy, effect};
 
 use crate::atom::AtomQuery;
-use crate::checked_policy::{CheckedPolicy, load_sources};
+use crate::checked_policy::CheckedPolicy;
 use crate::log::{gather, monitor_bytes};
 use crate::refusal::Refusal;
-use crate::words::Sources;
 use log_reader::Limits;
 use mon_outside::{Inputs, Sink};
 use std::alloc::Global;
@@ -33,22 +30,22 @@ fn monitor_log<I: Inputs, O: Sink>(
 }
 
 /// Monitors the log of this name, and answers whether some line has a row.
-pub fn run_policy<I: Inputs, O: Sink>(
+pub fn monitor_policy<I: Inputs, O: Sink>(
     alloc: Global,
-    sources: &Sources<'_>,
+    checked: &CheckedPolicy,
     log: &str,
     inputs: &mut I,
     out: &mut O,
 ) -> Result<bool, Refusal>
-    ensures { CarriesOut (Run (sources_in sources.now) log.now)
+    requires { IsCoreOf checked.now.core (checked_in checked.now).policy.formula }
+    ensures { MonitorsPolicy (checked_in checked.now) log.now
         (effect I.Inputs O.Sink inputs.old inputs.new out.old out.new) result }
 {
-    let checked = load_sources(alloc, sources, inputs)?;
     match checked.core.as_atom() {
         Some(atom) => {
             let columns = checked.core.vars();
             let query = AtomQuery { atom, columns };
-            monitor_log(alloc, &checked, &query, log, inputs, out)
+            monitor_log(alloc, checked, &query, log, inputs, out)
         }
         None => Err(Refusal::Later),
     }

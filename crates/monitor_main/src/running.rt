@@ -11,8 +11,9 @@ ghost use Rattle.monitor_main.specs.Outcomes.{FailsToRead, IsDecidedBy, IsGiven,
 ghost use Rattle.monitor_main.specs.Refusals.{line_of};
 ghost use Rattle.monitor_main.specs.Words.{command_of, texts_of};
 
-use crate::check::check_policy;
-use crate::monitoring::run_policy;
+use crate::check::accept;
+use crate::checked_policy::load_sources;
+use crate::monitoring::monitor_policy;
 use crate::refusal::Refusal;
 use crate::status::Status;
 use crate::words::{Command, read_words};
@@ -31,9 +32,10 @@ fn obey<I: Inputs, O: Sink>(
     ensures { CarriesOut (command_in command.now)
         (effect I.Inputs O.Sink inputs.old inputs.new out.old out.new) result }
 {
+    let checked = load_sources(alloc, command.sources(), inputs)?;
     match command {
-        Command::Run(sources, log) => run_policy(alloc, sources, log, inputs, out),
-        Command::Check(sources) => check_policy(alloc, sources, inputs, out),
+        Command::Run(_, log) => monitor_policy(alloc, &checked, log, inputs, out),
+        Command::Check(_) => accept(alloc, &checked, out),
     }
 }
 

@@ -3,7 +3,8 @@ ghost use Rattle.std.specs.Prelude.{◌≡◌, List, Some, None, Err, IfOk, opti
 ghost use Rattle.clap.specs.Words.{Text, rows_of, found_of};
 ghost use Rattle.clap.specs.Words.{subcommand_of, subcommand_rows_of, FailsBy};
 ghost use Rattle.monitor_main.specs.CommandViews.{command_in, sources_in};
-ghost use Rattle.monitor_main.specs.Words.{command_found, command_named, command_of, sources_of};
+ghost use Rattle.monitor_main.specs.Words.{command_found, command_named, command_of};
+ghost use Rattle.monitor_main.specs.Words.{command_sources, sources_of};
 ghost use Rattle.monitor_main.specs.Words.{is_input, monitor_app, shares_input, texts_of, value_of};
 ghost use Rattle.monitor_main.specs.Words.{words_fault};
 
@@ -26,6 +27,18 @@ pub enum Command<'a> {
     Run(Sources<'a>, &'a str),
     /// To tell whether the policy can be monitored.
     Check(Sources<'a>),
+}
+
+impl<'a> Command<'a> {
+    /// The names of the signature's file and of the policy's, which each command has.
+    pub fn sources(&self) -> &Sources<'a>
+        ensures { sources_in result.now ≡ command_sources (command_in self.now) }
+    {
+        match self {
+            Command::Run(sources, _) => sources,
+            Command::Check(sources) => sources,
+        }
+    }
 }
 
 /// Why no command was read.

@@ -1,5 +1,5 @@
 use Rattle.std.proofs.Common.{◌≡◌, ◌∙◌, ◌+◌, ◌≤◌, ap, arith, refl}
-use Rattle.log_reader.specs.Readers.{Reader, progress}
+use Rattle.log_reader.specs.Readers.{Reader}
 use Rattle.monitor_main.specs.Atom.{query_of}
 use Rattle.monitor_main.proofs.PointLemmas.{begins, ends_end, ends_more, front, goes_on, part, stops_by}
 use Rattle.monitor_main.proofs.log.write_points.Goals as goal
