@@ -21,7 +21,7 @@ use Rattle.mfotl_model.specs.declared.term.Term.TheVariants.{Var, Const}
 use Rattle.mfotl_model.specs.declared.value.Value.TheVariants.{Int}
 use Rattle.mfotl_model.specs.declared.value.Value.{Value}
 use Rattle.mfotl_model.specs.Matching.{first_value, is_match, read_off, reads}
-use Rattle.eval_bool.specs.AtomSteps.{give_back, is_first, stands_for}
+use Rattle.mfotl_model.specs.AtomSteps.{give_back, is_first, stands_for}
 
 pub or_second : (a b : Bool) → a ≡ false → (a || b) ≡ true → b ≡ true
 or_second false b e h = h

@@ -1,6 +1,6 @@
 use Rattle.std.proofs.Common.{◌≡◌, drop}
 use Rattle.mfotl_model.specs.FreeVariables.{joined, variables_in}
-use Rattle.mfotl_model.proofs.free_variables.variables_in.Given as goal
+use Rattle.mfotl_model.proofs.variables.variables_in.Given as goal
 
 abbrev pub invariant-loop-term : goal.invariant-loop-term
 invariant-loop-term l =

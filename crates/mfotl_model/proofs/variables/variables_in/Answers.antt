@@ -1,6 +1,6 @@
 use Rattle.std.proofs.Common.{ap, ◌∙◌}
 use Rattle.mfotl_model.specs.FreeVariables.{joined, variables_in}
-use Rattle.mfotl_model.proofs.free_variables.variables_in.Goals as goal
+use Rattle.mfotl_model.proofs.variables.variables_in.Goals as goal
 use Rattle.mfotl_model.proofs.VariableLemmas.{variables_step, joined_none}
 
 pub loop-term-init : goal.loop-term-init
