@@ -42,12 +42,7 @@ impl Atom {
     }
 
     /// What the event has at each of the columns, in their order. A variable that reads nothing off it is 0.
-    pub fn row_read(
-        &self,
-        alloc: Global,
-        columns: &[u32],
-        event: &Event,
-    ) -> Result<Row, AllocError>
+    pub fn row_read(&self, alloc: Global, columns: &[u32], event: &Event) -> Result<Row, AllocError>
         ensures { IfOk result (λ row.
             row ≡ row_read (record { atom = self.now; columns = columns.now }) event.now) }
     {
