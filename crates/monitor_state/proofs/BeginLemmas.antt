@@ -32,7 +32,8 @@ use Rattle.monitor_state.specs.Views.{reached}
 use Rattle.monitor_state.specs.declared.node.Node.{Node}
 use Rattle.monitor_state.specs.declared.node.Node.TheVariants as node
 
-pub adds_then : (fs gs : List CoreForm) (old mid new : List Node) → Adds fs old mid → Adds gs mid new → Adds (fs ++ gs) old new
+pub adds_then : (fs gs : List CoreForm) (old mid new : List Node) → Adds fs old mid → Adds gs mid new
+    → Adds (fs ++ gs) old new
 adds_then fs gs old mid new first second view empty =
     let one = first view empty in
     let two = second view empty in (

@@ -299,14 +299,19 @@ pub until_advances : (old new : UntilOf) (order : TableOf) (given : TimePoint) (
     (ls rs tables : List TableOf)
     → Pops stack mid rs → Pops mid rest ls → UntilTakes order.columns old given.ts ls rs new tables
     → Advances (node.Until old order) given stack (node.Until new order) rest tables
-until_advances old new order given stack mid rest ls rs tables last first takes view point whole (Until i f g) below premises is stands stacked =
+until_advances old new order given stack mid rest ls rs tables last first takes view point whole (Until i f g) below
+    premises is stands stacked =
     let news = pops_two view point below (left_operand f) g stack mid rest ls rs stacked last first in (
-      until_is view point i f g premises.rising premises.passes premises.sound.0 old order is stands given.ts premises.ts ls rs news.1 news.2 new tables takes,
-      until_stands view point i f g premises.rising premises.passes premises.sound.0 old order is stands given.ts premises.ts ls rs news.1 news.2 new tables takes,
+      until_is view point i f g premises.rising premises.passes premises.sound.0 old order is stands
+          given.ts premises.ts ls rs news.1 news.2 new tables takes,
+      until_stands view point i f g premises.rising premises.passes premises.sound.0 old order is stands
+          given.ts premises.ts ls rs news.1 news.2 new tables takes,
       news.0,
-      until_news view point i f g premises.rising premises.passes premises.sound.0 old order is stands given.ts premises.ts ls rs news.1 news.2 new tables takes,
+      until_news view point i f g premises.rising premises.passes premises.sound.0 old order is stands
+          given.ts premises.ts ls rs news.1 news.2 new tables takes,
     )
-until_advances old new order given stack mid rest ls rs tables last first takes view point whole f below premises is stands stacked = absurd is
+until_advances old new order given stack mid rest ls rs tables last first takes view point whole f below premises is
+    stands stacked = absurd is
 
 module _ (view : View) (point : TimePoint) where
   -- the stack's tables over two lists of cores

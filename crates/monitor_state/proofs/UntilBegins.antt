@@ -1,5 +1,5 @@
 -- The node of an UNTIL with which a monitor begins.
-use Rattle.std.proofs.Common.{subst, ◌≡◌, ℕ, ◌+◌, ◌≤◌, min, List, [], ◌∷◌, ◌++◌, length, drop, refl, sym, ap, ap₂, ◌∙◌, arith}
+use Rattle.std.proofs.Common.{subst, ◌≡◌, List, [], ◌∷◌, ◌++◌, length, drop, sym, ap, ap₂, ◌∙◌, arith}
 use Rattle.mfotl_model.specs.Exact.{AllExact, View}
 use Rattle.mfotl_model.specs.FreeVariables.{fv}
 use Rattle.mfotl_model.specs.Log.{times}
@@ -12,8 +12,8 @@ use Rattle.monitorable.specs.declared.role.Role.TheVariants as role
 use Rattle.monitor_state.proofs.BeginLemmas.{adds_one, adds_then, none_reached}
 use Rattle.monitor_state.proofs.SinceSteps.{free_operand}
 use Rattle.monitor_state.specs.Beginnings.{Adds, UntilBegun}
-use Rattle.monitor_state.specs.Nodes.{is_negated, left_operand, nodes_in}
-use Rattle.monitor_state.specs.Stands.{IsUntil, UntilStands}
+use Rattle.monitor_state.specs.Nodes.{left_operand, nodes_in}
+use Rattle.monitor_state.specs.UntilNode.{IsUntil, UntilStands}
 use Rattle.monitor_state.specs.Views.{reached}
 use Rattle.monitor_state.specs.declared.node.Node.{Node}
 use Rattle.monitor_state.specs.declared.node.Node.TheVariants as node
@@ -46,13 +46,17 @@ until_begins i f g s begun view empty =
       left_pushed = omega arith;
       right_pushed = omega arith;
       lefts =
-          subst (λ xs. AllExact view (meaning (left_operand f)) s.ahead.taken xs) (sym (ap (λ (x : UntilOf). x.lefts) begun.begun)) tt;
-      rights = subst (λ xs. AllExact view (meaning g) s.ahead.taken xs) (sym (ap (λ (x : UntilOf). x.rights) begun.begun)) tt;
+          subst (λ xs. AllExact view (meaning (left_operand f)) s.ahead.taken xs)
+          (sym (ap (λ (x : UntilOf). x.lefts) begun.begun)) tt;
+      rights =
+          subst (λ xs. AllExact view (meaning g) s.ahead.taken xs)
+          (sym (ap (λ (x : UntilOf). x.rights) begun.begun)) tt;
       left = λ dom v covers near a tells. begun.left a v;
       follows = λ dom v covers near t a b dates long tells tells_right. begun.follows t a b v;
     }
 
-pub until_adds : (r : Role) (h : CoreForm) (i : Interval) (f g : CoreForm) (old mid more new : List Node) → h ≡ Until i f g
+pub until_adds : (r : Role) (h : CoreForm) (i : Interval) (f g : CoreForm) (old mid more new : List Node)
+    → h ≡ Until i f g
     → Adds (nodes_in role.Left f) old mid → Adds (nodes_in role.Whole g) mid more
     → (h ≡ Until i f g → Adds (h ∷ []) more new)
     → Adds (nodes_in r h) old new

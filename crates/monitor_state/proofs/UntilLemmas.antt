@@ -1,5 +1,5 @@
 -- Tables pushed to an UNTIL and pulled from it, one after the other.
-use Rattle.std.proofs.Common.{Option, Some, None, MatchOption, IfSome, is_some, subst, ◌≡◌, ℕ, ◌+◌, ◌-◌, ◌<◌, ◌≤◌, Bool, true, false, nat_eq, nat_lt, min, List, [], ◌∷◌, ◌++◌, length, drop, slice_index, refl, sym, ap, ap₂, ◌∙◌, inl, inr, arith, length-append, append-nil, append_assoc}
+use Rattle.std.proofs.Common.{Option, Some, None, MatchOption, IfSome, is_some, subst, ◌≡◌, ℕ, ◌+◌, ◌-◌, ◌<◌, ◌≤◌, Bool, true, false, nat_eq, min, List, [], ◌∷◌, ◌++◌, length, drop, slice_index, refl, sym, ap, ap₂, ◌∙◌, inl, inr, arith, length-append, append-nil, append_assoc}
 use Rattle.std.proofs.lemmas.Bool.{cases_lt, ltb-true}
 use Rattle.std.proofs.lemmas.List.{drop-drop, length-drop}
 use Rattle.mfotl_model.specs.Satisfaction.{Valuation, truth_at, until}
@@ -9,7 +9,7 @@ use Rattle.eval_until.proofs.DueLemmas.{nonempty}
 use Rattle.eval_until.proofs.TakingLemmas.{due_stays, left_over}
 use Rattle.eval_until.specs.UntilView.{Advances, Follows, FollowsLeft, Takes, UntilOf, due, past_bound, to_take, took_all}
 use Rattle.relations.proofs.PushedLemmas.{over_push, stand_push}
-use Rattle.relations.specs.Pushed.{AreOver, StandFrom, left_holds}
+use Rattle.relations.specs.Pushed.{left_holds}
 use Rattle.monitor_state.proofs.FeedingLemmas.{dropped_more, room_more, stand_split}
 use Rattle.monitor_state.specs.UntilFeeding.{UntilLeftsPushed, UntilPulled, UntilRightsPushed, until_past}
 
@@ -156,7 +156,8 @@ pub pulled_more : (columns : List ℕ) (old s new : UntilOf) (tables : List Tabl
     → (v : Valuation) → has ordered v ≡ has table v)
     → UntilPulled columns old new (tables ++ ordered ∷ [])
 pulled_more columns old s new tables table ordered before ready advances left follows rows over is same =
-    let size : length (tables ++ ordered ∷ []) ≡ length tables + length (ordered ∷ []) = length-append tables (ordered ∷ []) in
+    let size : length (tables ++ ordered ∷ []) ≡ length tables + length (ordered ∷ []) =
+    length-append tables (ordered ∷ []) in
     let one : length (ordered ∷ []) ≡ 1 = omega arith in
     let n : length (tables ++ ordered ∷ []) ≡ length tables + 1 = omega arith in
     let pulled : s.ahead.pulled ≡ old.ahead.pulled + length tables = before.pulled in
@@ -173,7 +174,9 @@ pulled_more columns old s new tables table ordered before ready advances left fo
       left_columns = advances.left ∙ before.left_columns;
       right_columns = advances.right ∙ before.right_columns;
       negated = advances.negated ∙ before.negated;
-      times = dropped_more (length tables) old.times s.times new.times before.times advances.times ∙ ap (λ k. drop k old.times) (sym n);
+      times =
+          dropped_more (length tables) old.times s.times new.times before.times advances.times
+          ∙ ap (λ k. drop k old.times) (sym n);
       lefts = dropped_on before.seen (to_take s) old.lefts s.lefts new.lefts before.lefts advances.lefts;
       rights = dropped_on before.seen (to_take s) old.rights s.rights new.rights before.rights advances.rights;
       in_times = omega arith;
@@ -191,7 +194,8 @@ pulled_more columns old s new tables table ordered before ready advances left fo
       rows = λ t a b v h never one other.
           stand_push (λ i x. has x v ≡ until old.ahead.interval t a b i) old.ahead.pulled tables ordered
           (before.rows t a b v h never one other)
-          (same (ap (all_among columns) (over ∙ before.right_columns) ∙ one) (ap (λ cs. all_among cs columns) (over ∙ before.right_columns) ∙ other) v
+          (same (ap (all_among columns) (over ∙ before.right_columns) ∙ one)
+          (ap (λ cs. all_among cs columns) (over ∙ before.right_columns) ∙ other) v
           ∙ rows t a b v (before.follows t a b v h) never
           ∙ ap₂ (λ i p. until i t a b p) before.interval pulled);
     }
@@ -242,7 +246,8 @@ pub pulled_turn : (columns : List ℕ) (old s new : UntilOf) (tables items : Lis
     → (v : Valuation) → has ordered v ≡ has table v)
     → items ≡ tables ++ ordered ∷ []
     → UntilPulled columns old new items
-pulled_turn columns old s new tables items answer table ordered before is ready state left follows over rows is_columns same made =
+pulled_turn columns old s new tables items answer table ordered before is ready state left follows over rows is_columns
+    same made =
     subst (UntilPulled columns old new) (sym made)
     (pulled_more columns old s new tables table ordered before
     (sym ready ∙ ap is_some is)

@@ -1,11 +1,10 @@
 -- An UNTIL's state over one step.
-use Rattle.std.proofs.Common.{subst, ◌≡◌, ℕ, zero, suc, ◌+◌, ◌-◌, ◌<◌, ◌≤◌, min, Bool, true, false, ◌&&◌, nat_eq, nat_lt, List, [], ◌∷◌, ◌++◌, length, drop, refl, sym, ap, ap₂, ◌∙◌, inl, inr, arith, length-append}
+use Rattle.std.proofs.Common.{subst, ◌≡◌, ℕ, zero, suc, ◌+◌, ◌-◌, ◌<◌, ◌≤◌, min, Bool, true, false, ◌&&◌, nat_lt, List, [], ◌∷◌, ◌++◌, length, drop, refl, sym, ap, ap₂, ◌∙◌, inl, inr, arith, length-append}
 use Rattle.std.proofs.lemmas.Bool.{cases_lt, eqb-true}
 use Rattle.std.proofs.lemmas.List.{drop-append-le, drop-drop, length-drop, length-map}
 use Rattle.mfotl_model.proofs.CountLemmas.{counted_settled}
-use Rattle.mfotl_model.specs.Counts.{settled_count}
 use Rattle.mfotl_model.specs.Exact.{View, Covers, AllExact}
-use Rattle.mfotl_model.specs.FreeVariables.{joined, fv}
+use Rattle.mfotl_model.specs.FreeVariables.{fv}
 use Rattle.mfotl_model.specs.Log.{times}
 use Rattle.mfotl_model.specs.Regions.{Passes}
 use Rattle.mfotl_model.specs.Satisfaction.{Valuation, sat, time_at, truth_at, truths, until}
@@ -26,7 +25,7 @@ use Rattle.monitor_state.proofs.RegionLemmas.{joined_inside, near_part, near_rig
 use Rattle.monitor_state.proofs.SinceSteps.{left_tell, reached_operand}
 use Rattle.monitor_state.proofs.UntilLemmas.{due_on}
 use Rattle.monitor_state.specs.Nodes.{is_negated, left_operand}
-use Rattle.monitor_state.specs.Stands.{IsUntil, UntilStands}
+use Rattle.monitor_state.specs.UntilNode.{IsUntil, UntilStands}
 use Rattle.monitor_state.specs.Steps.{News, longer}
 use Rattle.monitor_state.specs.UntilFeeding.{UntilTakes, until_past}
 use Rattle.monitor_state.specs.Views.{Dates, Tells, reached}
@@ -96,14 +95,16 @@ module _ (view : View) (point : TimePoint) (i : Interval) (f g : CoreForm)
         (takes.timed.ahead.taken + length takes.timed.lefts) ls) negated
         (subst (λ p. StandFrom (λ k table. left_holds (is_negated f) table v ≡ truth_at a k) p ls) (sym left_place)
         (left_tell (longer view point) f dom v a (reached view f) ls covers near tells (omega arith)
-        (subst (λ p. AllExact (longer view point) (meaning (left_operand f)) p ls) (reached_operand view f) left.exact)))
+        (subst (λ p. AllExact (longer view point) (meaning (left_operand f)) p ls) (reached_operand view f)
+        left.exact)))
 
     fed_left_follows : FollowsLeft takes.fed a v
     fed_left_follows =
         takes.rights.left a v
         (takes.lefts.left a v
         (takes.time_left a v
-        (stands.left dom v (covers_before view point rising dom covers) near a (tells_before view point rising dom v f a tells)))
+        (stands.left dom v (covers_before view point rising dom covers) near a
+        (tells_before view point rising dom v f a tells)))
         left_stand)
 
   module _ (dom : List Value) (v : Valuation) (covers : Covers (longer view point) dom)
@@ -125,20 +126,23 @@ module _ (view : View) (point : TimePoint) (i : Interval) (f g : CoreForm)
     right_stand =
         let more : reached view g + length rs ≡ reached (longer view point) g = right.count in
         subst (λ p. StandFrom (λ k table. has table v ≡ truth_at b k) p rs) (sym right_place)
-        (exact_tell (longer view point) g dom v b (reached view g) rs covers near tells_right (omega arith) right.exact)
+        (exact_tell (longer view point) g dom v b (reached view g) rs covers near tells_right (omega arith)
+        right.exact)
 
     fed_follows : Follows takes.fed t a b v
     fed_follows =
         takes.rights.follows t a b v
         (takes.lefts.follows t a b v begun
-        (left_stand dom v covers (near_part (fv view.whole) view.near passes (fv (meaning f)) (fv (meaning g)) variables v near)
+        (left_stand dom v covers
+        (near_part (fv view.whole) view.near passes (fv (meaning f)) (fv (meaning g)) variables v near)
         a tells)) right_stand
 
   fed_lefts : AllExact (longer view point) (meaning (left_operand f)) old.ahead.taken (old.lefts ++ ls)
   fed_lefts =
       let pushed : old.ahead.taken + length old.lefts ≡ reached view f = stands.left_pushed in
       let same : reached view (left_operand f) ≡ reached view f = reached_operand view f in
-      exact_append (longer view point) (meaning (left_operand f)) old.ahead.taken (reached view (left_operand f)) old.lefts ls (omega arith)
+      exact_append (longer view point) (meaning (left_operand f)) old.ahead.taken (reached view (left_operand f))
+      old.lefts ls (omega arith)
       (all_stay view point rising (left_operand f) old.ahead.taken old.lefts (omega arith) stands.lefts) left.exact
 
   fed_rights : AllExact (longer view point) (meaning g) old.ahead.taken (old.rights ++ rs)
@@ -208,7 +212,8 @@ module _ (view : View) (point : TimePoint) (i : Interval) (f g : CoreForm)
 
   -- a position is due where it is settled
   due_settled : (n : ℕ) → n ≤ length takes.fed.times
-      → due (until_past n takes.fed) ≡ settled (times (longer view point).log) (meaning (Until i f g)) (takes.fed.ahead.pulled + n)
+      → due (until_past n takes.fed)
+      ≡ settled (times (longer view point).log) (meaning (Until i f g)) (takes.fed.ahead.pulled + n)
   due_settled n room =
       let t : List ℕ = times (longer view point).log in
       let size : length takes.fed.times ≡ length (times (longer view point).log) - takes.fed.ahead.pulled =
@@ -220,10 +225,12 @@ module _ (view : View) (point : TimePoint) (i : Interval) (f g : CoreForm)
       until_due_settled (until_past n takes.fed) t (omega arith)
       (subst (StandFrom (λ k x. x ≡ time_at t k) (takes.fed.ahead.pulled + n)) (sym kept)
       (times_stand t (takes.fed.ahead.pulled + n))) rising
-      ∙ ap₂ (λ l r. until_settled takes.fed.ahead.interval.hi t (λ j. nat_lt j l && nat_lt j r) (takes.fed.ahead.pulled + n))
+      ∙ ap₂
+      (λ l r. until_settled takes.fed.ahead.interval.hi t (λ j. nat_lt j l && nat_lt j r) (takes.fed.ahead.pulled + n))
       fed_left_count fed_right_count
       ∙ ap (λ (k : Interval). until_settled k.hi t
-      (λ j. nat_lt j (reached (longer view point) f) && nat_lt j (reached (longer view point) g)) (takes.fed.ahead.pulled + n))
+      (λ j. nat_lt j (reached (longer view point) f) && nat_lt j (reached (longer view point) g))
+      (takes.fed.ahead.pulled + n))
       (ap (λ (x : UntilOf). x.ahead.interval) fed_is ∙ is.interval)
       ∙ sym (until_counted t rising i (meaning f) (meaning g) (takes.fed.ahead.pulled + n))
     where
@@ -237,7 +244,8 @@ module _ (view : View) (point : TimePoint) (i : Interval) (f g : CoreForm)
           length-map (longer view point).log (λ p. p.ts) in
           omega arith
 
-  settled_now : (j : ℕ) → j < new.ahead.pulled → settled (times (longer view point).log) (meaning (Until i f g)) j ≡ true
+  settled_now : (j : ℕ) → j < new.ahead.pulled
+      → settled (times (longer view point).log) (meaning (Until i f g)) j ≡ true
   settled_now j low =
       let pulled : new.ahead.pulled ≡ old.ahead.pulled + length tables = pulled_is in
       elim (cases_lt j old.ahead.pulled) [
@@ -276,8 +284,10 @@ module _ (view : View) (point : TimePoint) (i : Interval) (f g : CoreForm)
       ap length new_times ∙ length-drop new.ahead.pulled (times (longer view point).log) in
       let all : length (times (longer view point).log) ≡ length (longer view point).log =
       length-map (longer view point).log (λ p. p.ts) in
-      let in_left : reached (longer view point) f ≤ length (longer view point).log = reached_within (longer view point) f in
-      let in_right : reached (longer view point) g ≤ length (longer view point).log = reached_within (longer view point) g in
+      let in_left : reached (longer view point) f ≤ length (longer view point).log =
+      reached_within (longer view point) f in
+      let in_right : reached (longer view point) g ≤ length (longer view point).log =
+      reached_within (longer view point) g in
       let pulled : new.ahead.pulled ≡ reached (longer view point) (Until i f g) = all_pulled in
       let inside : reached (longer view point) (Until i f g) ≤ length (longer view point).log =
       reached_within (longer view point) (Until i f g) in
@@ -297,19 +307,23 @@ module _ (view : View) (point : TimePoint) (i : Interval) (f g : CoreForm)
   tables_exact : AllExact (longer view point) (meaning (Until i f g)) old.ahead.pulled tables
   unfolding fv sat
   tables_exact =
-      stand_exact (longer view point) (meaning (Until i f g)) order.columns old.ahead.pulled tables is.ordered takes.pulls.over
+      stand_exact (longer view point) (meaning (Until i f g)) order.columns old.ahead.pulled tables is.ordered
+      takes.pulls.over
       (λ dom v covers near.
       let beside : view.near (fv (meaning g)) v ≡ true =
       near_right (fv view.whole) view.near passes (fv (meaning f)) (fv (meaning g)) v near in
       let t : List ℕ = times (longer view point).log in
-      let a : List Bool = truths (length (longer view point).log) (λ j. sat (longer view point).log dom v j (meaning f)) in
-      let b : List Bool = truths (length (longer view point).log) (λ j. sat (longer view point).log dom v j (meaning g)) in
+      let a : List Bool =
+      truths (length (longer view point).log) (λ j. sat (longer view point).log dom v j (meaning f)) in
+      let b : List Bool =
+      truths (length (longer view point).log) (λ j. sat (longer view point).log dom v j (meaning g)) in
       let size : length (times (longer view point).log) ≡ length (longer view point).log =
       length-map (longer view point).log (λ p. p.ts) in
       let follows : Follows takes.fed t a b v =
       fed_follows dom v covers beside t a b (λ j low. refl) (omega arith)
       (truths_tell (longer view point) dom v f) (truths_tell (longer view point) dom v g) in
-      subst (λ p. StandFrom (λ k table. has table v ≡ until i t a b k) p tables) (ap (λ (x : UntilOf). x.ahead.pulled) fed_is)
+      subst (λ p. StandFrom (λ k table. has table v ≡ until i t a b k) p tables)
+      (ap (λ (x : UntilOf). x.ahead.pulled) fed_is)
       (subst (λ j. StandFrom (λ k table. has table v ≡ until j t a b k) takes.fed.ahead.pulled tables)
       (ap (λ (x : UntilOf). x.ahead.interval) fed_is ∙ is.interval)
       (takes.pulls.rows t a b v follows rising in_right in_order)))
@@ -335,13 +349,18 @@ module _ (view : View) (point : TimePoint) (i : Interval) (f g : CoreForm)
         lefts =
             subst (λ xs. AllExact (longer view point) (meaning (left_operand f)) new.ahead.taken xs)
             (sym (takes.pulls.lefts ∙ ap (λ (x : UntilOf). drop takes.pulls.seen x.lefts) fed_is))
-            (subst (λ k. AllExact (longer view point) (meaning (left_operand f)) k (drop takes.pulls.seen (old.lefts ++ ls))) (sym taken_is)
-            (exact_drop (longer view point) (meaning (left_operand f)) old.ahead.taken takes.pulls.seen (old.lefts ++ ls) fed_lefts));
+            (subst
+            (λ k. AllExact (longer view point) (meaning (left_operand f)) k (drop takes.pulls.seen (old.lefts ++ ls)))
+            (sym taken_is)
+            (exact_drop (longer view point) (meaning (left_operand f)) old.ahead.taken takes.pulls.seen
+            (old.lefts ++ ls) fed_lefts));
         rights =
             subst (λ xs. AllExact (longer view point) (meaning g) new.ahead.taken xs)
             (sym (takes.pulls.rights ∙ ap (λ (x : UntilOf). drop takes.pulls.seen x.rights) fed_is))
-            (subst (λ k. AllExact (longer view point) (meaning g) k (drop takes.pulls.seen (old.rights ++ rs))) (sym taken_is)
-            (exact_drop (longer view point) (meaning g) old.ahead.taken takes.pulls.seen (old.rights ++ rs) fed_rights));
+            (subst (λ k. AllExact (longer view point) (meaning g) k (drop takes.pulls.seen (old.rights ++ rs)))
+            (sym taken_is)
+            (exact_drop (longer view point) (meaning g) old.ahead.taken takes.pulls.seen (old.rights ++ rs)
+            fed_rights));
         left = λ dom v covers near a tells. takes.pulls.left a v (fed_left_follows dom v covers near a tells);
         follows = λ dom v covers near t a b dates long tells tells_right.
             takes.pulls.follows t a b v (fed_follows dom v covers near t a b dates long tells tells_right);

@@ -8,6 +8,7 @@ pub mod NextFeeding
 pub mod UntilFeeding
 pub mod Nodes
 pub mod Views
+pub mod UntilNode
 pub mod Stands
 pub mod Steps
 pub mod Going

@@ -17,10 +17,9 @@ use Rattle.eval_until.specs.NextView.{FollowsNext, NextOf, tables_pushed}
 use Rattle.monitorable.specs.CoreForms.{CoreForm, meaning, True, False, Atom, Not, And, Or, Exists, Previous, Next, Since}
 use Rattle.monitorable.specs.Conjuncts.{PartForm, conjuncts_of}
 use Rattle.monitorable.specs.Conjuncts.PartForm.{Child as ChildPart, Test as TestPart}
-use Rattle.std.specs.Prelude.{min}
-use Rattle.eval_until.specs.UntilView.{Follows as FollowsUntil, FollowsLeft, UntilOf}
 use Rattle.monitorable.specs.CoreForms.{Until}
 use Rattle.monitor_state.specs.Nodes.{children, is_negated, left_operand, nodes_of, operands}
+use Rattle.monitor_state.specs.UntilNode.{IsUntil, UntilStands}
 use Rattle.monitor_state.specs.Views.{Dates, Tells, reached}
 use Rattle.monitor_state.specs.declared.node.Node.{Node}
 use Rattle.monitor_state.specs.declared.node.Node.TheVariants as node
@@ -48,15 +47,6 @@ pub record IsSince (i : Interval) (f g : CoreForm) (s : SinceOf) (order : TableO
   pub negated : s.negated ≡ is_negated f
   pub left : s.window.left ≡ fv (meaning (left_operand f))
   pub right : s.window.right ≡ fv (meaning g)
-  pub ordered : order.columns ≡ joined (fv (meaning f)) (fv (meaning g))
-
--- the state is one of an UNTIL of the cores f and g, with this interval, and its tables are put into
--- the order of the columns of both
-pub record IsUntil (i : Interval) (f g : CoreForm) (s : UntilOf) (order : TableOf) : Type 0 where
-  pub interval : s.ahead.interval ≡ i
-  pub negated : s.ahead.negated ≡ is_negated f
-  pub left : s.ahead.left ≡ fv (meaning (left_operand f))
-  pub right : s.ahead.right ≡ fv (meaning g)
   pub ordered : order.columns ≡ joined (fv (meaning f)) (fv (meaning g))
 
 -- a conjunct as the state of a conjunction has it
@@ -155,24 +145,6 @@ pub record SinceStands (view : View) (i : Interval) (f g : CoreForm) (s : SinceO
   pub follows : (dom : List Value) (v : Valuation) → Covers view dom → view.near (fv (meaning g)) v ≡ true
       → (t : List ℕ) (a b : List Bool) → Dates view t → Tells view dom v f a → Tells view dom v g b
       → Follows s t a b v
-
--- The state of an UNTIL stands for the log: it gave the tables of the settled positions, and took those of both
--- operands as far as both are settled; it keeps the timestamps of the positions that it gave no table of, and the
--- operands' tables that it didn't take. These are exact; its left side is right for each row that is near over the
--- left operand's variables, and all of it for each near row of the right one's.
-pub record UntilStands (view : View) (i : Interval) (f g : CoreForm) (s : UntilOf) : Type 0 where
-  pub pulled : s.ahead.pulled ≡ reached view (Until i f g)
-  pub taken : s.ahead.taken ≡ min (reached view f) (reached view g)
-  pub kept : s.times ≡ drop s.ahead.pulled (times view.log)
-  pub left_pushed : s.ahead.taken + length s.lefts ≡ reached view f
-  pub right_pushed : s.ahead.taken + length s.rights ≡ reached view g
-  pub lefts : AllExact view (meaning (left_operand f)) s.ahead.taken s.lefts
-  pub rights : AllExact view (meaning g) s.ahead.taken s.rights
-  pub left : (dom : List Value) (v : Valuation) → Covers view dom → view.near (fv (meaning f)) v ≡ true
-      → (a : List Bool) → Tells view dom v f a → FollowsLeft s a v
-  pub follows : (dom : List Value) (v : Valuation) → Covers view dom → view.near (fv (meaning g)) v ≡ true
-      → (t : List ℕ) (a b : List Bool) → Dates view t → length view.log ≤ length t → Tells view dom v f a
-      → Tells view dom v g b → FollowsUntil s t a b v
 
 -- a node stands for the log
 abbrev pub NodeStands : View → CoreForm → Node → Type 0

@@ -8,7 +8,8 @@ use Rattle.monitor_state.proofs.node.advance_until.Goals as goal
 pub returns : goal.returns
 returns c =
     ok_then c.take_until.result
-    (UntilTakes c.args.order.now.columns c.args.state.now c.args.point.now.ts c.popped-left.result c.popped-right.result c.take_until.new.state)
+    (UntilTakes c.args.order.now.columns c.args.state.now c.args.point.now.ts c.popped-left.result
+    c.popped-right.result c.take_until.new.state)
     (Advances (node.Until c.args.state.now c.args.order.now) c.args.point.now c.args.stack.now.items
     (node.Until c.take_until.new.state c.args.order.now) c.popped-left.new.stack.items)
     (λ tables takes.

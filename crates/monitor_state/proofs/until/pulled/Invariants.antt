@@ -1,4 +1,4 @@
-use Rattle.std.proofs.Common.{ℕ, length}
+use Rattle.std.proofs.Common.{length}
 use Rattle.monitor_state.specs.UntilFeeding.{UntilPulled}
 use Rattle.monitor_state.proofs.until.pulled.Given as goal
 

@@ -7,7 +7,8 @@ use Rattle.monitor_state.proofs.until.take_until.Goals as goal
 
 pub returns : goal.returns
 returns c =
-    let Pulled : List TableOf → Type 0 = UntilPulled c.args.order.now.columns c.push_rights.new.state c.pulled.new.state in
+    let Pulled : List TableOf → Type 0 =
+    UntilPulled c.args.order.now.columns c.push_rights.new.state c.pulled.new.state in
     let Ends : List TableOf → Type 0 = λ tables. Pulled tables × (due c.pulled.new.state ≡ false) in
     ok_both c.pulled.result Ends (took_all c.pulled.new.state ≡ true)
     (UntilTakes c.args.order.now.columns c.args.state.now c.args.ts c.args.left c.args.right c.pulled.new.state)
