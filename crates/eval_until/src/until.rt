@@ -79,6 +79,27 @@ impl UntilState {
         })
     }
 
+    /// Whether the table is over the left operand's columns, as `push_left` asks.
+    pub fn takes_left(&self, table: &Table) -> bool
+        ensures { IsTrue result → table.now.columns ≡ self.now.ahead.left }
+    {
+        table.columns() == self.ahead.left()
+    }
+
+    /// Whether the table is over the right operand's columns, as `push_right` asks.
+    pub fn takes_right(&self, table: &Table) -> bool
+        ensures { IsTrue result → table.now.columns ≡ self.now.ahead.right }
+    {
+        table.columns() == self.ahead.right()
+    }
+
+    /// Whether there are few enough times, as `push_time` asks.
+    pub fn takes_time(&self) -> bool
+        ensures { IsTrue result → self.now.ahead.pulled + length self.now.times < 2 ^ 63 }
+    {
+        self.ahead.pulled() + (self.times.len() as u64) < 1 << 63
+    }
+
     /// Takes the left operand's next table, which of a negated operand is the operand's own.
     pub fn push_left(&mut self, table: Table) -> Result<(), AllocError>
         requires columns { table.columns ≡ self.old.ahead.left }

@@ -32,7 +32,8 @@ use Rattle.monitor_state.specs.Views.{reached}
 use Rattle.monitor_state.specs.declared.node.Node.{Node}
 use Rattle.monitor_state.specs.declared.node.Node.TheVariants as node
 
-adds_then : (fs gs : List CoreForm) (old mid new : List Node) → Adds fs old mid → Adds gs mid new → Adds (fs ++ gs) old new
+pub adds_then : (fs gs : List CoreForm) (old mid new : List Node) → Adds fs old mid → Adds gs mid new
+    → Adds (fs ++ gs) old new
 adds_then fs gs old mid new first second view empty =
     let one = first view empty in
     let two = second view empty in (
@@ -41,12 +42,12 @@ adds_then fs gs old mid new first second view empty =
       nodes_append view fs gs one.0 two.0 one.2 two.2,
     )
 
-adds_one : (f : CoreForm) (n : Node) (old new : List Node) → new ≡ old ++ n ∷ [] → IsFor f n
+pub adds_one : (f : CoreForm) (n : Node) (old new : List Node) → new ≡ old ++ n ∷ [] → IsFor f n
     → ((view : View) → view.log ≡ [] → NodeStands view f n) → Adds (f ∷ []) old new
 adds_one f n old new is for stands view empty = (n ∷ [], is, (for, stands view empty, tt))
 
 -- nothing of an empty log is settled
-none_reached : (view : View) → view.log ≡ [] → (f : CoreForm) → 0 ≡ reached view f
+pub none_reached : (view : View) → view.log ≡ [] → (f : CoreForm) → 0 ≡ reached view f
 none_reached view empty f =
     let most : reached view f ≤ length view.log = reached_within view f in
     let size : length view.log ≡ 0 = ap length empty in

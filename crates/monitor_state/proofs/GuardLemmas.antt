@@ -167,6 +167,23 @@ since_right r i f g a = (
       (no_first (fault_in a.0 role.Left f) (first (fault_in a.0 role.Whole g) (covers a.0 f g)) a.1).1).0,
 )
 
+pub until_left : (r : Role) (i : Interval) (f g : CoreForm) → Accepted r (Until i f g) → Accepted role.Left f
+unfolding fault_in
+until_left r i f g a = (
+  a.0,
+  (no_first (fault_in a.0 role.Left f)
+      (first (fault_in a.0 role.Whole g) (first (looks_within i.hi) (covers a.0 f g))) a.1).0,
+)
+
+pub until_right : (r : Role) (i : Interval) (f g : CoreForm) → Accepted r (Until i f g) → Accepted role.Whole g
+unfolding fault_in
+until_right r i f g a = (
+  a.0,
+  (no_first (fault_in a.0 role.Whole g) (first (looks_within i.hi) (covers a.0 f g))
+      (no_first (fault_in a.0 role.Left f)
+      (first (fault_in a.0 role.Whole g) (first (looks_within i.hi) (covers a.0 f g))) a.1).1).0,
+)
+
 -- the same of a core that is known to be so
 pub and_left_at : (r : Role) (h f g : CoreForm) → h ≡ And f g → Accepted r h → Accepted role.Part f
 and_left_at r h f g same a = and_left r f g (subst (Accepted r) same a)
@@ -193,6 +210,14 @@ since_left_at r h i f g same a = since_left r i f g (subst (Accepted r) same a)
 
 pub since_right_at : (r : Role) (h : CoreForm) (i : Interval) (f g : CoreForm) → h ≡ Since i f g → Accepted r h → Accepted role.Whole g
 since_right_at r h i f g same a = since_right r i f g (subst (Accepted r) same a)
+
+pub until_left_at : (r : Role) (h : CoreForm) (i : Interval) (f g : CoreForm) → h ≡ Until i f g → Accepted r h
+    → Accepted role.Left f
+until_left_at r h i f g same a = until_left r i f g (subst (Accepted r) same a)
+
+pub until_right_at : (r : Role) (h : CoreForm) (i : Interval) (f g : CoreForm) → h ≡ Until i f g → Accepted r h
+    → Accepted role.Whole g
+until_right_at r h i f g same a = until_right r i f g (subst (Accepted r) same a)
 
 pub or_left_at : (r : Role) (h f g : CoreForm) → h ≡ Or f g → Accepted r h → Accepted role.Whole f
 or_left_at r h f g same a = first_of_or r f g (subst (Accepted r) same a)

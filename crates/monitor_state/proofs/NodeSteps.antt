@@ -45,6 +45,10 @@ use Rattle.monitor_state.specs.PreviousFeeding.{PreviousTakes}
 use Rattle.eval_until.specs.NextView.{NextOf}
 use Rattle.monitor_state.proofs.NextSteps.{next_is, next_news, next_stands}
 use Rattle.monitor_state.specs.NextFeeding.{NextTakes}
+use Rattle.eval_until.specs.UntilView.{UntilOf}
+use Rattle.monitorable.specs.CoreForms.{Until}
+use Rattle.monitor_state.proofs.UntilSteps.{until_is, until_news, until_stands}
+use Rattle.monitor_state.specs.UntilFeeding.{UntilTakes}
 use Rattle.monitor_state.specs.Nodes.{children, left_operand, operands}
 use Rattle.monitor_state.specs.Quantified.{IsWithout, Quantifies}
 use Rattle.monitor_state.specs.Stacks.{Pops, PopsMany}
@@ -290,6 +294,24 @@ since_advances old new order given stack mid rest ls rs tables last first takes 
       since_news view point i f g premises.rising premises.passes premises.sound.0 old order is stands given.ts premises.ts ls rs news.1 news.2 new tables takes,
     )
 since_advances old new order given stack mid rest ls rs tables last first takes view point whole f below premises is stands stacked = absurd is
+
+pub until_advances : (old new : UntilOf) (order : TableOf) (given : TimePoint) (stack mid rest : List (List TableOf))
+    (ls rs tables : List TableOf)
+    → Pops stack mid rs → Pops mid rest ls → UntilTakes order.columns old given.ts ls rs new tables
+    → Advances (node.Until old order) given stack (node.Until new order) rest tables
+until_advances old new order given stack mid rest ls rs tables last first takes view point whole (Until i f g) below
+    premises is stands stacked =
+    let news = pops_two view point below (left_operand f) g stack mid rest ls rs stacked last first in (
+      until_is view point i f g premises.rising premises.passes premises.sound.0 old order is stands
+          given.ts premises.ts ls rs news.1 news.2 new tables takes,
+      until_stands view point i f g premises.rising premises.passes premises.sound.0 old order is stands
+          given.ts premises.ts ls rs news.1 news.2 new tables takes,
+      news.0,
+      until_news view point i f g premises.rising premises.passes premises.sound.0 old order is stands
+          given.ts premises.ts ls rs news.1 news.2 new tables takes,
+    )
+until_advances old new order given stack mid rest ls rs tables last first takes view point whole f below premises is
+    stands stacked = absurd is
 
 module _ (view : View) (point : TimePoint) where
   -- the stack's tables over two lists of cores

@@ -17,7 +17,9 @@ use Rattle.eval_until.specs.NextView.{FollowsNext, NextOf, tables_pushed}
 use Rattle.monitorable.specs.CoreForms.{CoreForm, meaning, True, False, Atom, Not, And, Or, Exists, Previous, Next, Since}
 use Rattle.monitorable.specs.Conjuncts.{PartForm, conjuncts_of}
 use Rattle.monitorable.specs.Conjuncts.PartForm.{Child as ChildPart, Test as TestPart}
+use Rattle.monitorable.specs.CoreForms.{Until}
 use Rattle.monitor_state.specs.Nodes.{children, is_negated, left_operand, nodes_of, operands}
+use Rattle.monitor_state.specs.UntilNode.{IsUntil, UntilStands}
 use Rattle.monitor_state.specs.Views.{Dates, Tells, reached}
 use Rattle.monitor_state.specs.declared.node.Node.{Node}
 use Rattle.monitor_state.specs.declared.node.Node.TheVariants as node
@@ -79,6 +81,7 @@ IsFor (Exists x f) (node.Exists y) = y ≡ x.number
 IsFor (Previous i f) (node.Previous s) = IsPrevious i f s
 IsFor (Next i f) (node.Next s) = IsNext i f s
 IsFor (Since i f g) (node.Since s order) = IsSince i f g s order
+IsFor (Until i f g) (node.Until s order) = IsUntil i f g s order
 IsFor f other = ⊥
 
 -- A child's tables: those not yet used are kept, up to the last one of a settled position, and are exact.
@@ -151,6 +154,7 @@ NodeStands view (Or f g) (node.Or s) = OrStands view f g s
 NodeStands view (Previous i f) (node.Previous s) = PreviousStands view i f s
 NodeStands view (Next i f) (node.Next s) = NextStands view i f s
 NodeStands view (Since i f g) (node.Since s order) = SinceStands view i f g s
+NodeStands view (Until i f g) (node.Until s order) = UntilStands view i f g s
 NodeStands view f other = Unit {0}
 
 -- each node is one for its core, and stands for the log

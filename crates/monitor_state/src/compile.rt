@@ -4,6 +4,7 @@ ghost use Rattle.monitorable.specs.CoreForms.{node_form, True, False, Atom, Exis
 ghost use Rattle.monitor_state.specs.Beginnings.{Accepted, Adds, AddsIf, GuardedIf, IsJoined, NextBegun, OrBegun, PreviousBegun, SinceBegun};
 ghost use Rattle.monitor_state.specs.Nodes.{is_negated, nodes_in};
 
+use crate::begin_until::add_until;
 use crate::conjunction::join_state;
 use crate::node::Node;
 use crate::ordering::all_among;
@@ -47,6 +48,11 @@ pub fn add_nodes(
             add_nodes(alloc, right, Role::Whole, nodes)?;
             add_since(alloc, core, interval, left, right, nodes)
         }
+        Core::Until(interval, left, right) => {
+            add_nodes(alloc, left, Role::Left, nodes)?;
+            add_nodes(alloc, right, Role::Whole, nodes)?;
+            add_until(alloc, core, interval, left, right, nodes)
+        }
         Core::Or(left, right) => {
             add_nodes(alloc, left, Role::Whole, nodes)?;
             add_nodes(alloc, right, Role::Whole, nodes)?;
@@ -64,7 +70,8 @@ pub fn add_nodes(
     }
 }
 
-fn add(node: Node, nodes: &mut Vec<Node>) -> Result<(), AllocError>
+/// Adds a node.
+pub fn add(node: Node, nodes: &mut Vec<Node>) -> Result<(), AllocError>
     ensures { OnOk result (nodes.new.items ≡ nodes.old.items ++ node ∷ []) }
 {
     Ok(nodes.push(node)?)
@@ -104,7 +111,8 @@ fn add_join(alloc: Global, own: bool, core: &Core, nodes: &mut Vec<Node>) -> Res
     add(Node::Join(state), nodes)
 }
 
-fn is_negated(core: &Core) -> bool
+/// Whether a core is a NOT.
+pub fn is_negated(core: &Core) -> bool
     ensures { result ≡ is_negated (node_form core.now) }
 {
     match core {

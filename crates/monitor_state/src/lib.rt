@@ -2,6 +2,7 @@
 //! they settle.
 #![tactic(auto)]
 
+mod begin_until;
 mod compile;
 mod conjunction;
 mod join;
@@ -15,6 +16,7 @@ mod previous;
 mod since;
 mod stack;
 mod tables;
+mod until;
 
 pub use monitor::Monitor;
 pub use tables::Tables;
