@@ -80,7 +80,8 @@ first_exact : (view : View) (f : CoreForm) (i : ℕ) (tables : List TableOf) (do
 first_exact view f i [] dom v covers near some exact = absurd (omega arith)
 first_exact view f i (table ∷ tables) dom v covers near some exact = exact.0.rows dom v covers near
 
-chosen_is : (wanted b : Bool) → beq wanted b ≡ cond wanted b (not b)
+-- a comparison that is wanted to come out so
+pub chosen_is : (wanted b : Bool) → beq wanted b ≡ cond wanted b (not b)
 chosen_is true true = refl
 chosen_is true false = refl
 chosen_is false true = refl

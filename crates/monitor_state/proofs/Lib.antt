@@ -16,6 +16,7 @@ pub mod NodeSteps
 pub mod MonitorSteps
 pub mod BeginLemmas
 pub mod GuardLemmas
+pub mod ConstantLemmas
 pub mod SizeLemmas
 pub mod StepLemmas
 pub mod LawProofs

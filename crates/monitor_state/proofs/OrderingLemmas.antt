@@ -12,6 +12,10 @@ pub ok_then : {X E : Type 0} (r : Result X E) (P Q : X → Type 0) → ((x : X) 
 ok_then (Ok x) P Q h p = h x p
 ok_then (Err e) P Q h p = p
 
+pub ok_two : {X E : Type 0} (r : Result X E) (P Q R : X → Type 0) → ((x : X) → P x → Q x → R x) → IfOk r P → IfOk r Q → IfOk r R
+ok_two (Ok x) P Q R h p q = h x p q
+ok_two (Err e) P Q R h p q = p
+
 pub on_ok_then : {X E : Type 0} (r : Result X E) (P Q : Type 0) → (P → Q) → OnOk r P → OnOk r Q
 on_ok_then (Ok x) P Q h p = h p
 on_ok_then (Err e) P Q h p = p

@@ -5,6 +5,7 @@ pub mod JoinFeeding
 pub mod OrFeeding
 pub mod PreviousFeeding
 pub mod NextFeeding
+pub mod Constants
 pub mod Nodes
 pub mod Views
 pub mod Stands

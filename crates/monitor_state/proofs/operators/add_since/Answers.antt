@@ -4,7 +4,7 @@ use Rattle.monitorable.proofs.FreeVariableLemmas.{fv_apart}
 use Rattle.monitorable.specs.CoreForms.{meaning, node_form}
 use Rattle.monitor_state.proofs.BeginLemmas.{since_added}
 use Rattle.monitor_state.proofs.OrderingLemmas.{on_ok_then}
-use Rattle.monitor_state.proofs.compile.add_since.Goals as goal
+use Rattle.monitor_state.proofs.operators.add_since.Goals as goal
 
 pub empty-requires : goal.empty-requires
 empty-requires c = record { apart = ap all_apart c.in_ok-columns.ensures ∙ fv_apart (meaning (node_form c.args.whole.now)) }

@@ -1,6 +1,6 @@
 use Rattle.monitor_state.proofs.BeginLemmas.{true_adds}
 use Rattle.monitor_state.proofs.OrderingLemmas.{on_ok_then}
-use Rattle.monitor_state.proofs.compile.add_true.Goals as goal
+use Rattle.monitor_state.proofs.constant.add_true.Goals as goal
 
 pub returns : goal.returns
 returns c =
