@@ -1,16 +1,14 @@
 -- The nodes with which a monitor begins stand for the empty log.
-use Rattle.std.proofs.Common.{Result, Ok, Err, OnOk, subst, ◌≡◌, ℕ, ◌+◌, ◌-◌, ◌<◌, ◌≤◌, Bool, true, false, cond, List, [], ◌∷◌, ◌++◌, length, map, drop, refl, sym, ap, ap₂, ◌∙◌, arith, append_assoc, append-nil, inl, inr}
+use Rattle.std.proofs.Common.{subst, ◌≡◌, ◌+◌, ◌-◌, ◌≤◌, Bool, true, false, cond, List, [], ◌∷◌, ◌++◌, length, map, drop, refl, sym, ap, ◌∙◌, arith, append_assoc, append-nil, inl, inr}
 use Rattle.mfotl_model.specs.Exact.{AllExact, View}
-use Rattle.mfotl_model.specs.FreeVariables.{fv, joined}
+use Rattle.mfotl_model.specs.FreeVariables.{fv}
 use Rattle.mfotl_model.specs.Log.{times}
 use Rattle.mfotl_model.specs.Satisfaction.{Valuation, sat}
 use Rattle.mfotl_model.specs.Tables.{TableOf, has}
-use Rattle.mfotl_model.specs.declared.event.TimePoint.{TimePoint}
 use Rattle.mfotl_model.specs.declared.formula.Bound.{Bound}
 use Rattle.mfotl_model.specs.declared.interval.Interval.{Interval}
 use Rattle.mfotl_model.specs.declared.term.Atom.{Atom as OneAtom}
 use Rattle.mfotl_model.specs.declared.term.Comparison.{Comparison}
-use Rattle.mfotl_model.specs.declared.value.Value.{Value}
 use Rattle.eval_bool.specs.OrView.{OrOf}
 use Rattle.eval_since.specs.PreviousView.{PrevOf}
 use Rattle.eval_since.specs.SinceView.{SinceOf}
@@ -28,8 +26,8 @@ use Rattle.monitor_state.proofs.RegionLemmas.{joined_within}
 use Rattle.monitor_state.proofs.SinceSteps.{free_operand}
 use Rattle.monitor_state.specs.Beginnings.{Adds, AddsIf, Begins, BeginsJoin, BeginsNode, IsJoined, NextBegun, OrBegun, PreviousBegun, SinceBegun}
 use Rattle.monitor_state.specs.Constants.{stands_alone}
-use Rattle.monitor_state.specs.Nodes.{children, is_negated, left_operand, nodes_in, nodes_of, operands}
-use Rattle.monitor_state.specs.Stands.{ChildrenStand, IsConstant, IsFor, IsJoin, IsNext, IsOr, IsPrevious, IsSince, JoinStands, NextStands, OrStands, PreviousStands, bare, conjunct_as, NodeStands, NodesStand, SinceStands, Stands, StateOf}
+use Rattle.monitor_state.specs.Nodes.{children, left_operand, nodes_in, nodes_of, operands}
+use Rattle.monitor_state.specs.Stands.{ChildrenStand, IsConstant, IsFor, IsJoin, IsOr, IsSince, JoinStands, NextStands, OrStands, PreviousStands, bare, conjunct_as, NodeStands, NodesStand, SinceStands, StateOf}
 use Rattle.monitor_state.specs.Views.{reached}
 use Rattle.monitor_state.specs.declared.node.Node.{Node}
 use Rattle.monitor_state.specs.declared.node.Node.TheVariants as node

@@ -1,21 +1,21 @@
 -- What the fragment gives the parts of a core: no variable of a conjunction that a child doesn't bind.
-use Rattle.std.proofs.Common.{◌≡◌, ℕ, ◌<◌, ◌≤◌, Bool, true, false, not, ◌&&◌, ◌||◌, cond, List, [], ◌∷◌, ◌++◌, length, map, Option, None, refl, sym, ap, ap₂, subst, ◌∙◌, inl, inr, arith, append_assoc, append-nil}
-use Rattle.std.proofs.lemmas.Bool.{and_from, or_cases, or_left, or_right}
+use Rattle.std.proofs.Common.{◌≡◌, ℕ, ◌<◌, Bool, true, false, cond, List, [], ◌∷◌, ◌++◌, length, map, None, refl, sym, ap, ap₂, subst, ◌∙◌, arith, append_assoc, append-nil}
+use Rattle.std.proofs.lemmas.Bool.{and_from, or_left, or_right}
 use Rattle.std.specs.List.{list_all, list_any}
 use Rattle.mfotl_model.proofs.LogicLemmas.{among_joined}
-use Rattle.mfotl_model.specs.FreeVariables.{among, joined, fv, variables_in}
+use Rattle.mfotl_model.specs.FreeVariables.{among, fv}
 use Rattle.mfotl_model.specs.Tables.{all_among, all_apart}
 use Rattle.mfotl_model.specs.declared.formula.Bound.{Bound}
 use Rattle.mfotl_model.specs.declared.interval.Interval.{Interval}
 use Rattle.mfotl_model.specs.declared.term.Comparison.{Comparison}
 use Rattle.eval_bool.specs.OrView.{same_columns}
-use Rattle.eval_bool.specs.JoinView.{ChildOf, TestOf, all_children, bound_columns, children_of, compared, conjunct_columns, is_guarded, tests_of}
+use Rattle.eval_bool.specs.JoinView.{all_children, bound_columns, children_of, compared, conjunct_columns, is_guarded, tests_of}
 use Rattle.monitorable.proofs.FragmentLemmas.{even_variables, guarded, no_first, right_variable}
 use Rattle.monitorable.proofs.FreeVariableLemmas.{fv_apart}
-use Rattle.monitorable.specs.CoreForms.{CoreForm, meaning, True, False, Atom, Compare, Not, And, Or, Exists, Previous, Next, Since, Until}
+use Rattle.monitorable.specs.CoreForms.{CoreForm, meaning, Compare, Not, And, Or, Exists, Previous, Next, Since}
 use Rattle.monitorable.specs.Conjuncts.{PartForm, conjuncts_of, negated_part}
 use Rattle.monitorable.specs.Conjuncts.PartForm.{Child as ChildPart, Test as TestPart}
-use Rattle.monitorable.specs.Fragment.{Names, asked, binds, bound_by, covers, evens, fault_in, first, guards, is_conjunction, judges_not, looks_within, under_not, uses, with_name}
+use Rattle.monitorable.specs.Fragment.{Names, asked, binds, bound_by, covers, evens, fault_in, first, guards, is_conjunction, judges_not, under_not, uses, with_name}
 use Rattle.monitorable.specs.declared.role.Role.{Role}
 use Rattle.monitorable.specs.declared.role.Role.TheVariants as role
 use Rattle.monitor_state.proofs.JoinSteps.{columns_are}

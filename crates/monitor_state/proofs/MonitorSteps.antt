@@ -1,12 +1,12 @@
 -- The nodes of a monitor take a time-point one after the other.
-use Rattle.std.proofs.Common.{subst, ◌≡◌, ℕ, Bool, true, false, cond, zero, suc, ◌+◌, ◌-◌, ◌<◌, ◌≤◌, List, [], ◌∷◌, ◌++◌, length, take, drop, get_or, set, refl, sym, ap, ap₂, ◌∙◌, arith, length-append, append_assoc, append-nil, add-one, vec_len}
-use Rattle.std.proofs.Math.Seq.{take-suc-set, drop-cons, take-length}
+use Rattle.std.proofs.Common.{subst, ◌≡◌, ℕ, Bool, true, false, cond, suc, ◌+◌, ◌<◌, ◌≤◌, List, [], ◌∷◌, ◌++◌, length, take, drop, get_or, set, refl, sym, ap, ◌∙◌, arith, append_assoc, append-nil, add-one}
+use Rattle.std.proofs.Math.Seq.{take-suc-set, drop-cons}
 use Rattle.std.proofs.lemmas.List.{drop-set-lt, drop_all, take_all}
 use Rattle.mfotl_model.specs.Exact.{View}
 use Rattle.mfotl_model.specs.Tables.{TableOf}
 use Rattle.mfotl_model.specs.declared.event.TimePoint.{TimePoint}
 use Rattle.mfotl_model.specs.declared.term.Comparison.{Comparison}
-use Rattle.monitorable.specs.CoreForms.{CoreForm, meaning, True, False, Atom, Compare, Not, And, Or, Exists, Previous, Next, Since, Until}
+use Rattle.monitorable.specs.CoreForms.{CoreForm, True, False, Atom, Compare, Not, And, Or, Exists, Previous, Next, Since, Until}
 use Rattle.monitorable.specs.Conjuncts.{PartForm, conjuncts_of, negated_part}
 use Rattle.monitorable.specs.Conjuncts.PartForm.{Child as ChildPart, Test as TestPart}
 use Rattle.monitorable.specs.Fragment.{binds, is_conjunction, judges_not, under_not}
@@ -16,7 +16,7 @@ use Rattle.monitor_state.specs.Constants.{stands_alone}
 use Rattle.monitor_state.specs.Going.{AllPremises, Going, Works}
 use Rattle.monitor_state.specs.Nodes.{children, left_operand, nodes_in, nodes_of, operands}
 use Rattle.monitor_state.specs.Stacks.{Pops}
-use Rattle.monitor_state.specs.Stands.{IsFor, NodesStand, NodeStands}
+use Rattle.monitor_state.specs.Stands.{NodesStand}
 use Rattle.monitor_state.specs.Steps.{Advances, News, Premises, StackNews, longer}
 use Rattle.monitor_state.specs.declared.node.Node.{Node}
 

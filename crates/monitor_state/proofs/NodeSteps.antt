@@ -1,11 +1,11 @@
 -- What one node does in a step.
-use Rattle.std.proofs.Common.{None, subst, ◌≡◌, ◌↔◌, ℕ, zero, suc, ◌+◌, ◌<◌, ◌≤◌, Bool, true, false, not, ◌&&◌, cond, nat_eq, nat_lt, List, [], ◌∷◌, ◌++◌, length, map, get_or, refl, sym, ap, ap₂, ◌∙◌, inl, inr, arith, length-append, append_assoc, append-nil}
+use Rattle.std.proofs.Common.{None, subst, ◌≡◌, ℕ, suc, ◌+◌, ◌<◌, Bool, true, false, not, ◌&&◌, nat_eq, nat_lt, List, [], ◌∷◌, ◌++◌, length, map, get_or, refl, sym, ap, ap₂, ◌∙◌, arith, append_assoc, append-nil}
 use Rattle.std.proofs.lemmas.Bool.{lt-ltb, ltb-true, cond-true, cond-false, ne_eqb}
 use Rattle.std.proofs.lemmas.List.{length-map, map-append}
 use Rattle.std.proofs.Math.Seq.{get_or-append_seam}
 use Rattle.std.specs.List.{list_any}
 use Rattle.mfotl_model.proofs.LogicLemmas.{among_without, same_number}
-use Rattle.mfotl_model.specs.ActiveDomain.{adom, constants, log_values}
+use Rattle.mfotl_model.specs.ActiveDomain.{adom, constants}
 use Rattle.mfotl_model.specs.Counts.{settled_count}
 use Rattle.mfotl_model.specs.Domains.{within, Includes}
 use Rattle.mfotl_model.specs.Exact.{View, Covers, Exact, AllExact}
@@ -17,7 +17,6 @@ use Rattle.mfotl_model.specs.Satisfaction.{Valuation, sat, with_value, event_of,
 use Rattle.mfotl_model.specs.Settled.{settled}
 use Rattle.mfotl_model.specs.Tables.{TableOf, has}
 use Rattle.mfotl_model.specs.Times.{NeverFalls}
-use Rattle.mfotl_model.specs.declared.event.Event.{Event}
 use Rattle.mfotl_model.specs.declared.event.TimePoint.{TimePoint}
 use Rattle.mfotl_model.specs.declared.formula.Bound.{Bound}
 use Rattle.mfotl_model.specs.declared.term.Atom.{Atom as OneAtom}
@@ -50,10 +49,9 @@ use Rattle.monitor_state.specs.NextFeeding.{NextTakes}
 use Rattle.monitor_state.specs.Nodes.{children, left_operand, operands}
 use Rattle.monitor_state.specs.Quantified.{IsWithout, Quantifies}
 use Rattle.monitor_state.specs.Stacks.{Pops, PopsMany}
-use Rattle.monitor_state.specs.Stands.{ChildrenStand, IsConstant, IsFor, IsJoin, JoinStands, NodeStands}
-use Rattle.monitor_state.specs.Steps.{Advances, News, Premises, SameNear, StackNews, longer}
+use Rattle.monitor_state.specs.Stands.{ChildrenStand, IsConstant, IsJoin, JoinStands}
+use Rattle.monitor_state.specs.Steps.{Advances, News, Premises, StackNews, longer}
 use Rattle.monitor_state.specs.Views.{reached}
-use Rattle.monitor_state.specs.declared.node.Node.{Node}
 use Rattle.monitor_state.specs.declared.node.Node.TheVariants as node
 
 module _ (view : View) (point : TimePoint) where

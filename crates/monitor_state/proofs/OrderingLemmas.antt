@@ -1,5 +1,5 @@
 -- Tables with their columns in another order.
-use Rattle.std.proofs.Common.{Result, Ok, Err, IfOk, OnOk, Option, Some, None, option_to_list, subst, ◌≡◌, ◌↔◌, ℕ, Bool, true, false, List, [], ◌∷◌, ◌++◌, refl, sym, ap, ◌∙◌, append_assoc, append-nil, IfNone}
+use Rattle.std.proofs.Common.{Result, Ok, Err, IfOk, OnOk, Option, Some, None, option_to_list, subst, ◌≡◌, ◌↔◌, ℕ, true, List, [], ◌∷◌, ◌++◌, refl, sym, ap, ◌∙◌, append_assoc, append-nil, IfNone}
 use Rattle.mfotl_model.specs.FreeVariables.{among}
 use Rattle.mfotl_model.specs.Satisfaction.{Valuation}
 use Rattle.mfotl_model.specs.Tables.{TableOf, all_among, has, has_row}

@@ -1,4 +1,4 @@
-use Rattle.std.proofs.Common.{rules, ◌<◌, ◌≡◌, OnOk, List, subst, sym, ap, ◌∷◌, ◌++◌, [], ◌∙◌}
+use Rattle.std.proofs.Common.{rules, ◌<◌, ◌≡◌, subst, sym, ap, ◌∷◌, [], ◌∙◌}
 use Rattle.monitorable.specs.CoreForms.{node_form, And, Exists, Not, Next, Or, Previous, Since}
 use Rattle.monitorable.specs.NodeCount.{nodes}
 use Rattle.monitorable.specs.declared.role.Role.TheVariants as role
