@@ -67,7 +67,8 @@ equal_sign sign.LessEqual h = cc
 equal_sign sign.Greater h = cc
 equal_sign sign.GreaterEqual h = cc
 
-compared_fv : (c : Comparison) (l r : Term) → c.left ≡ l → c.right ≡ r → variables_in (l ∷ r ∷ []) ≡ fv (meaning (Compare c))
+compared_fv : (c : Comparison) (l r : Term) → c.left ≡ l → c.right ≡ r
+    → variables_in (l ∷ r ∷ []) ≡ fv (meaning (Compare c))
 unfolding fv
 compared_fv c l r left right = sym (ap₂ (λ a b. variables_in (a ∷ b ∷ [])) left right)
 
@@ -80,7 +81,8 @@ compared_sat c s l r signs left right log dom v i =
     ∙ ap₂ (λ a b. compares s (term_value v a) (term_value v b)) left right)
 
 -- the table of an equation, with the variable on its left or on its right
-pub equation_left : (c : Comparison) (x : ℕ) (a : Value) (table : TableOf) → binds c ≡ true → c.left ≡ Var x → c.right ≡ Const a
+pub equation_left : (c : Comparison) (x : ℕ) (a : Value) (table : TableOf) → binds c ≡ true → c.left ≡ Var x
+    → c.right ≡ Const a
     → table.columns ≡ x ∷ [] → ((v : Valuation) → has table v ≡ eq_by_cmp value_cmp (v x) a)
     → IsConstant (Compare c) table
 equation_left c x a table is left right columns rows =
@@ -89,11 +91,13 @@ equation_left c x a table is left right columns rows =
       rows = λ log dom v i.
           rows v ∙ equal_is (v x) a
           ∙ compared_sat c sign.Equal (Var x) (Const a)
-          (equal_sign c.sign (and_parts (is_equal c.sign) (pairs_constant c.left c.right) is).0) left right log dom v i;
+          (equal_sign c.sign (and_parts (is_equal c.sign) (pairs_constant c.left c.right) is).0) left right log dom
+          v i;
       alone = refl;
     }
 
-pub equation_right : (c : Comparison) (x : ℕ) (a : Value) (table : TableOf) → binds c ≡ true → c.left ≡ Const a → c.right ≡ Var x
+pub equation_right : (c : Comparison) (x : ℕ) (a : Value) (table : TableOf) → binds c ≡ true → c.left ≡ Const a
+    → c.right ≡ Var x
     → table.columns ≡ x ∷ [] → ((v : Valuation) → has table v ≡ eq_by_cmp value_cmp (v x) a)
     → IsConstant (Compare c) table
 equation_right c x a table is left right columns rows =
@@ -102,7 +106,8 @@ equation_right c x a table is left right columns rows =
       rows = λ log dom v i.
           rows v ∙ turned_equal (v x) a ∙ equal_is a (v x)
           ∙ compared_sat c sign.Equal (Const a) (Var x)
-          (equal_sign c.sign (and_parts (is_equal c.sign) (pairs_constant c.left c.right) is).0) left right log dom v i;
+          (equal_sign c.sign (and_parts (is_equal c.sign) (pairs_constant c.left c.right) is).0) left right log dom
+          v i;
       alone = refl;
     }
 
@@ -132,7 +137,8 @@ pub closed_right : (c : Comparison) (columns : List ℕ) → is_closed c ≡ tru
 closed_right c columns h = closed_term c.right (and_parts (is_constant c.left) (is_constant c.right) h).1 columns
 
 -- the table of a comparison of constants
-pub closed_is : (c : Comparison) (all table : TableOf) → is_closed c ≡ true → all.columns ≡ [] → table.columns ≡ all.columns
+pub closed_is : (c : Comparison) (all table : TableOf) → is_closed c ≡ true → all.columns ≡ []
+    → table.columns ≡ all.columns
     → ((v : Valuation) → has all v ≡ true) → ((v : Valuation) → has table v ≡ (has all v && chosen c true v))
     → IsConstant (Compare c) table
 unfolding fv chosen
@@ -152,12 +158,14 @@ none_free [] each = refl
 none_free (x ∷ xs) each =
     absurd (let e : false ≡ true = each x (or_left _ (among x xs) (same_number x)) in cc)
 
-guarded_closed : (names : Names) (c : Comparison) → guards names (Compare c) ≡ None → binds c ≡ false → is_closed c ≡ true
+guarded_closed : (names : Names) (c : Comparison) → guards names (Compare c) ≡ None → binds c ≡ false
+    → is_closed c ≡ true
 unfolding fv bound_by
 guarded_closed names c accepted loose =
     closed_terms c.left c.right
     (none_free (variables_in (c.left ∷ c.right ∷ []))
-    (λ y m. ap (among y) (sym (cond-false (binds c) (fv (meaning (Compare c))) [] loose)) ∙ guarded names (Compare c) y accepted m))
+    (λ y m. ap (among y) (sym (cond-false (binds c) (fv (meaning (Compare c))) [] loose))
+    ∙ guarded names (Compare c) y accepted m))
 
 judged_fixed : (names : Names) (c : Comparison) → guards names (Compare c) ≡ None → is_fixed c ≡ true
 judged_fixed names c accepted =
@@ -167,7 +175,8 @@ judged_fixed names c accepted =
     ]
 
 -- a comparison that is a node by itself has a table
-pub alone_fixed : (r : Role) (c : Comparison) → Accepted r (Compare c) → stands_alone r (binds c) ≡ true → is_fixed c ≡ true
+pub alone_fixed : (r : Role) (c : Comparison) → Accepted r (Compare c) → stands_alone r (binds c) ≡ true
+    → is_fixed c ≡ true
 unfolding fault_in
 alone_fixed role.Whole c a h = judged_fixed a.0 c a.1
 alone_fixed role.Left c a h = judged_fixed a.0 c a.1
@@ -183,7 +192,8 @@ no_child [] h = refl
 no_child (ChildPart f n ∷ ps) h = absurd (let e : true ≡ false = h in cc)
 no_child (TestPart c w ∷ ps) h = no_child ps h
 
-tests_bind_none : (ps : List PartForm) → list_any is_child ps ≡ false → bound_columns (children_of (map conjunct_as ps)) ≡ []
+tests_bind_none : (ps : List PartForm) → list_any is_child ps ≡ false
+    → bound_columns (children_of (map conjunct_as ps)) ≡ []
 tests_bind_none [] h = refl
 tests_bind_none (ChildPart f n ∷ ps) h = absurd (let e : true ≡ false = h in cc)
 tests_bind_none (TestPart c w ∷ ps) h = tests_bind_none ps h
@@ -205,7 +215,8 @@ closed_tests [] none columns = refl
 closed_tests (ChildPart f n ∷ ps) none columns = absurd (let e : true ≡ false = none in cc)
 closed_tests (TestPart c w ∷ ps) none columns =
     let both = joined_nothing (compared c) (conjunct_columns (map conjunct_as ps)) columns in
-    and_from (is_closed c) (list_all is_closed_test ps) (closed_terms c.left c.right both.0) (closed_tests ps none both.1)
+    and_from (is_closed c) (list_all is_closed_test ps) (closed_terms c.left c.right both.0)
+    (closed_tests ps none both.1)
 
 -- its tests are of constants
 pub tests_closed : (names : Names) (f : CoreForm) → guards names f ≡ None → list_any is_child (conjuncts_of f) ≡ false
@@ -213,7 +224,8 @@ pub tests_closed : (names : Names) (f : CoreForm) → guards names f ≡ None �
 tests_closed names f accepted none =
     closed_tests (conjuncts_of f) none (columns_are f ∙ tests_free names f accepted none)
 
-tests_mean : (log : List TimePoint) (dom : List Value) (v : Valuation) (i : ℕ) (ps : List PartForm) → list_any is_child ps ≡ false
+tests_mean : (log : List TimePoint) (dom : List Value) (v : Valuation) (i : ℕ) (ps : List PartForm)
+    → list_any is_child ps ≡ false
     → list_all (passes_test v) ps ≡ list_all (part_holds log dom v i) ps
 unfolding sat chosen
 tests_mean log dom v i [] none = refl
@@ -223,7 +235,8 @@ tests_mean log dom v i (TestPart c w ∷ ps) none =
     (tests_mean log dom v i ps none)
 
 -- the table of tests alone is the conjunction's at each position
-pub tests_are : (names : Names) (f : CoreForm) (table : TableOf) → operands f ≡ children (conjuncts_of f) → guards names f ≡ None
+pub tests_are : (names : Names) (f : CoreForm) (table : TableOf) → operands f ≡ children (conjuncts_of f)
+    → guards names f ≡ None
     → list_any is_child (conjuncts_of f) ≡ false → table.columns ≡ []
     → ((v : Valuation) → has table v ≡ list_all (passes_test v) (conjuncts_of f)) → IsConstant f table
 tests_are names f table same accepted none columns rows =

@@ -88,12 +88,15 @@ fn one_value(alloc: Global, x: u32, value: &Value) -> Result<Table, AllocError>
     ensures columns { IfOk result (λ table. table.columns ≡ x ∷ []) }
     ensures has { IfOk result (λ table. (v : Valuation) → has table v ≡ eq_by_cmp value_cmp (v x) value.now) }
 {
-    let mut columns = Vec::with_capacity(alloc, 1)?;
-    columns.push(x)?;
-    let row = Row::empty().push(alloc, value.copy(alloc)?)?;
-    let mut rows = Vec::with_capacity(alloc, 1)?;
-    rows.push(row)?;
+    let columns = Vec::from_array(alloc, [x])?;
+    let rows = Vec::from_array(alloc, [row_of(alloc, value)?])?;
     Ok(Table::from_rows(columns, rows))
+}
+
+fn row_of(alloc: Global, value: &Value) -> Result<Row, AllocError>
+    ensures { IfOk result (λ row. row ≡ value.now ∷ []) }
+{
+    Row::empty().push(alloc, value.copy(alloc)?)
 }
 
 // The table of a comparison of constants.

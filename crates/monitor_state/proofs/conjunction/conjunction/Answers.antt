@@ -13,7 +13,8 @@ use Rattle.monitor_state.specs.Constants.{is_closed_test, passes_test}
 use Rattle.monitor_state.specs.Stands.{conjunct_as}
 use Rattle.monitor_state.proofs.conjunction.conjunction.Goals as goal
 
-any_mapped : {X Y : Type 0} (f : X → Y) (p : Y → Bool) (xs : List X) → list_any (λ x. p (f x)) xs ≡ list_any p (map f xs)
+any_mapped : {X Y : Type 0} (f : X → Y) (p : Y → Bool) (xs : List X)
+    → list_any (λ x. p (f x)) xs ≡ list_any p (map f xs)
 any_mapped f p [] = refl
 any_mapped f p (x ∷ xs) = ap (λ b. p (f x) || b) (any_mapped f p xs)
 
@@ -23,7 +24,8 @@ join_state-requires c =
     ap (map part_form) c.as_slice-parts.ensures.value ∙ c.in_ok-parts.ensures in
     let guarded = c.requires.guarded refl in
     record {
-      some = sym (any_mapped part_form is_child c.as_slice-parts.result.now) ∙ sym c.has_child.ensures ∙ c.if-has_child.true;
+      some = sym (any_mapped part_form is_child c.as_slice-parts.result.now) ∙ sym c.has_child.ensures
+          ∙ c.if-has_child.true;
       guarded = ap (λ ps. is_guarded (children_of (map conjunct_as ps)) (tests_of (map conjunct_as ps))) forms
           ∙ join_guarded guarded.0 (node_form c.args.core.now) guarded.1;
     }

@@ -14,7 +14,8 @@ new-requires-clause-some c =
 
 pub new-requires-clause-apart : goal.new-requires-clause-apart
 new-requires-clause-apart c =
-    ap (λ cs. all_children all_apart (children_of cs)) c.in_ok-own.ensures ∙ join_apart (map part_form c.args.parts.now)
+    ap (λ cs. all_children all_apart (children_of cs)) c.in_ok-own.ensures
+    ∙ join_apart (map part_form c.args.parts.now)
 
 pub new-requires-clause-guarded : goal.new-requires-clause-guarded
 new-requires-clause-guarded c =

@@ -11,6 +11,7 @@ invariant-loop-part l =
     record {
       columns : l.rest.columns ≡ [];
       closed : list_all (λ part. is_closed_test (part_form part)) (drop l.part-index l.parts) ≡ true;
-      has : (v : Valuation) → (has l.rest v && list_all (λ part. passes_test v (part_form part)) (drop l.part-index l.parts))
+      has : (v : Valuation) → (has l.rest v && list_all (λ part. passes_test v (part_form part))
+          (drop l.part-index l.parts))
           ≡ list_all (λ part. passes_test v (part_form part)) l.parts;
     }

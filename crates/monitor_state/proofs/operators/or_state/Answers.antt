@@ -7,9 +7,11 @@ use Rattle.monitor_state.proofs.operators.or_state.Goals as goal
 
 pub new-requires-clause-apart : goal.new-requires-clause-apart
 new-requires-clause-apart c =
-    ap all_apart (c.as_slice.ensures.value ∙ c.in_ok-left_columns.ensures) ∙ fv_apart (meaning (node_form c.args.left.now))
+    ap all_apart (c.as_slice.ensures.value ∙ c.in_ok-left_columns.ensures)
+    ∙ fv_apart (meaning (node_form c.args.left.now))
 
 pub new-requires-clause-same : goal.new-requires-clause-same
 new-requires-clause-same c =
-    ap₂ same_columns (c.as_slice.ensures.value ∙ c.in_ok-left_columns.ensures) (c.as_slice-2.ensures.value ∙ c.in_ok-right_columns.ensures)
+    ap₂ same_columns (c.as_slice.ensures.value ∙ c.in_ok-left_columns.ensures) (c.as_slice-2.ensures.value
+    ∙ c.in_ok-right_columns.ensures)
     ∙ c.requires

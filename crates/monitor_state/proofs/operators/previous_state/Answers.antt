@@ -7,5 +7,6 @@ use Rattle.monitor_state.proofs.operators.previous_state.Goals as goal
 pub new-requires : goal.new-requires
 new-requires c =
     record {
-      apart = ap all_apart (c.as_slice.ensures.value ∙ c.in_ok-columns.ensures) ∙ fv_apart (meaning (node_form c.args.operand.now));
+      apart = ap all_apart (c.as_slice.ensures.value ∙ c.in_ok-columns.ensures)
+          ∙ fv_apart (meaning (node_form c.args.operand.now));
     }
