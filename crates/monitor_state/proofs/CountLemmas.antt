@@ -5,7 +5,7 @@ use Rattle.mfotl_model.proofs.CountLemmas.{counted_settled, next_unsettled}
 use Rattle.mfotl_model.proofs.LogicLemmas.{all_in, all_from}
 use Rattle.mfotl_model.specs.Counts.{settled_count}
 use Rattle.mfotl_model.specs.Formulas.{Form}
-use Rattle.mfotl_model.specs.Formulas.Form.{And, Next, Or, Previous, Since}
+use Rattle.mfotl_model.specs.Formulas.Form.{Next, Or, Previous, Since}
 use Rattle.mfotl_model.specs.Settled.{settled, next_settled, previous_settled, since_settled}
 use Rattle.mfotl_model.specs.Times.{NeverFalls}
 use Rattle.std.proofs.Common.{ap₂}

@@ -19,6 +19,7 @@ pub mod MonitorSteps
 pub mod BeginLemmas
 pub mod UntilBegins
 pub mod GuardLemmas
+pub mod ConstantLemmas
 pub mod SizeLemmas
 pub mod StepLemmas
 pub mod LawProofs

@@ -1,12 +1,12 @@
 -- A SINCE's state over one step.
 use Rattle.std.proofs.Common.{subst, ◌≡◌, ℕ, zero, suc, ◌+◌, ◌-◌, ◌<◌, ◌≤◌, Bool, true, false, not, ◌&&◌, ◌||◌, cond, nat_lt, List, [], ◌∷◌, ◌++◌, length, map, drop, refl, sym, ap, ap₂, ◌∙◌, inl, inr, arith, length-append}
-use Rattle.std.proofs.lemmas.Bool.{lt-ltb}
+use Rattle.std.proofs.lemmas.Bool.{lt-ltb, or_cases, or_right}
 use Rattle.std.proofs.lemmas.List.{length-drop, length-map}
 use Rattle.mfotl_model.specs.Counts.{settled_count}
 use Rattle.mfotl_model.specs.Exact.{View, Covers, AllExact}
 use Rattle.mfotl_model.specs.FreeVariables.{among, joined, fv}
 use Rattle.mfotl_model.specs.Log.{times}
-use Rattle.mfotl_model.specs.Regions.{Region, Passes}
+use Rattle.mfotl_model.specs.Regions.{Passes}
 use Rattle.mfotl_model.specs.Satisfaction.{Valuation, sat, since, time_at, truth_at, truths}
 use Rattle.mfotl_model.specs.Settled.{settled}
 use Rattle.mfotl_model.specs.Tables.{TableOf, all_among, has}
@@ -14,13 +14,13 @@ use Rattle.mfotl_model.specs.Times.{NeverFalls}
 use Rattle.mfotl_model.specs.declared.event.TimePoint.{TimePoint}
 use Rattle.mfotl_model.specs.declared.interval.Interval.{Interval}
 use Rattle.mfotl_model.specs.declared.value.Value.{Value}
-use Rattle.eval_since.specs.SinceView.{Follows, SinceOf, due}
-use Rattle.monitorable.specs.CoreForms.{CoreForm, meaning, True, False, Atom, Compare, Not, And, Or, Exists, Previous, Next, Since, Until}
+use Rattle.eval_since.specs.SinceView.{Follows, SinceOf}
+use Rattle.monitorable.specs.CoreForms.{CoreForm, meaning, Not, Since}
 use Rattle.monitorable.specs.Soundness.{HasVariablesOf}
 use Rattle.relations.specs.Pushed.{StandFrom, left_holds}
 use Rattle.monitor_state.proofs.CountLemmas.{count_since}
 use Rattle.monitor_state.proofs.ExactLemmas.{all_stay, covers_before, dates_before, dates_new, exact_append, exact_drop, exact_tell, log_more, reached_grows, reached_within, stand_as, stand_exact, tells_before, truths_tell}
-use Rattle.monitor_state.proofs.RegionLemmas.{joined_inside, near_part, near_right, right_inside}
+use Rattle.monitor_state.proofs.RegionLemmas.{joined_inside, near_part, near_right, right_inside, all_from_each}
 use Rattle.monitor_state.specs.Feeding.{SinceTakes}
 use Rattle.monitor_state.specs.Nodes.{is_negated, left_operand}
 use Rattle.monitor_state.specs.Stands.{IsSince, SinceStands}

@@ -17,7 +17,7 @@ use Rattle.monitorable.specs.Conjuncts.PartForm.{Child, Test}
 use Rattle.monitorable.specs.Fragment.{Names, fault_in, guards}
 use Rattle.monitorable.specs.declared.role.Role.{Role}
 use Rattle.monitor_state.specs.Nodes.{children, is_negated}
-use Rattle.monitor_state.specs.Stands.{NodesStand, Stands, StateOf, conjunct_as}
+use Rattle.monitor_state.specs.Stands.{IsFor, NodeStands, NodesStand, Stands, StateOf, conjunct_as}
 use Rattle.monitor_state.specs.declared.node.Node.{Node}
 
 -- the fragment accepts the core in its role, with some names of its variables
@@ -32,6 +32,10 @@ GuardedIf own f = own ≡ true → (names : Names) × (guards names f ≡ None)
 abbrev pub is_child : PartForm → Bool
 is_child (Child f negated) = true
 is_child (Test c wanted) = false
+
+-- the node is one for the core, and stands for the empty log in each region
+abbrev pub BeginsNode : CoreForm → Node → Type 0
+BeginsNode f node = IsFor f node × ((view : View) → view.log ≡ [] → NodeStands view f node)
 
 -- nodes for these cores were added, which stand for the empty log in each region
 abbrev pub Adds : List CoreForm → List Node → List Node → Type 0

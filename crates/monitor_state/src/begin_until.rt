@@ -1,11 +1,12 @@
 //! The node of an UNTIL.
-ghost use Rattle.std.specs.Prelude.{◌≡◌, ◌∷◌, [], IfOk, OnOk};
-ghost use Rattle.monitorable.specs.CoreForms.{Until, node_form};
+ghost use Rattle.std.specs.Prelude.{◌≡◌, ◌∷◌, [], IfOk, IsTrue, OnOk};
+ghost use Rattle.mfotl_model.specs.FreeVariables.{fv};
+ghost use Rattle.mfotl_model.specs.Tables.{all_among};
+ghost use Rattle.monitorable.specs.CoreForms.{Until, meaning, node_form};
 ghost use Rattle.monitor_state.specs.Beginnings.{Adds, UntilBegun};
 
-use crate::compile::{add, is_negated};
-use crate::node::Node;
-use crate::ordering::all_among;
+use crate::node::{Node, add};
+use crate::operators::is_negated;
 use eval_until::UntilState;
 use mfotl_model::Interval;
 use monitorable::Node as Core;
@@ -21,6 +22,7 @@ pub fn add_until(
     right: &Core,
     nodes: &mut Vec<Node>,
 ) -> Result<(), AllocError>
+    requires { IsTrue (all_among (fv (meaning (node_form left.now))) (fv (meaning (node_form right.now)))) }
     ensures { OnOk result (node_form whole.now ≡ Until interval.now (node_form left.now) (node_form right.now)
         → Adds (node_form whole.now ∷ []) nodes.old.items nodes.new.items) }
 {
@@ -35,13 +37,11 @@ fn until_state(
     left: &Core,
     right: &Core,
 ) -> Result<UntilState, AllocError>
+    requires { IsTrue (all_among (fv (meaning (node_form left.now))) (fv (meaning (node_form right.now)))) }
     ensures { IfOk result (UntilBegun interval.now (node_form left.now) (node_form right.now)) }
 {
     let left_columns = left.free_vars(alloc)?;
     let right_columns = right.free_vars(alloc)?;
-    if !all_among(left_columns.as_slice(), right_columns.as_slice()) {
-        return Err(AllocError);
-    }
     UntilState::new(
         alloc,
         interval,

@@ -5,11 +5,13 @@
 mod begin_until;
 mod compile;
 mod conjunction;
+mod constant;
 mod join;
 pub mod laws;
 mod monitor;
 mod next;
 mod node;
+mod operators;
 mod or;
 mod ordering;
 mod previous;

@@ -1,5 +1,5 @@
 //! The nodes of a monitor.
-ghost use Rattle.std.specs.Prelude.{IfOk};
+ghost use Rattle.std.specs.Prelude.{◌≡◌, ◌++◌, ◌∷◌, [], IfOk, OnOk};
 ghost use Rattle.monitor_state.specs.Quantified.{Quantifies};
 ghost use Rattle.monitor_state.specs.Steps.{Advances};
 
@@ -201,4 +201,11 @@ fn advance_until(
     let right = popped(alloc, stack);
     let left = popped(alloc, stack);
     take_until(alloc, state, order, point.ts, left, right)
+}
+
+/// Adds a node behind the others.
+pub fn add(node: Node, nodes: &mut Vec<Node>) -> Result<(), AllocError>
+    ensures { OnOk result (nodes.new.items ≡ nodes.old.items ++ node ∷ []) }
+{
+    Ok(nodes.push(node)?)
 }

@@ -1,7 +1,7 @@
 use Rattle.monitorable.specs.CoreForms.{node_form}
 use Rattle.monitor_state.proofs.BeginLemmas.{previous_added}
 use Rattle.monitor_state.proofs.OrderingLemmas.{on_ok_then}
-use Rattle.monitor_state.proofs.compile.add_previous.Goals as goal
+use Rattle.monitor_state.proofs.operators.add_previous.Goals as goal
 
 pub returns : goal.returns
 returns c =

@@ -1,7 +1,7 @@
 use Rattle.std.proofs.Common.{◌∙◌}
 use Rattle.monitor_state.proofs.BeginLemmas.{false_adds}
 use Rattle.monitor_state.proofs.OrderingLemmas.{on_ok_then}
-use Rattle.monitor_state.proofs.compile.add_false.Goals as goal
+use Rattle.monitor_state.proofs.constant.add_false.Goals as goal
 
 pub returns : goal.returns
 returns c =
