@@ -211,7 +211,7 @@ until_covered r i f g a =
     (no_first (looks_within i.hi) (covers a.0 f g)
     (no_first (fault_in a.0 role.Whole g) (first (looks_within i.hi) (covers a.0 f g))
     (no_first (fault_in a.0 role.Left f)
-        (first (fault_in a.0 role.Whole g) (first (looks_within i.hi) (covers a.0 f g))) a.1).1).1).1
+    (first (fault_in a.0 role.Whole g) (first (looks_within i.hi) (covers a.0 f g))) a.1).1).1).1
 
 -- the operands of an OR have the same variables
 or_even : (r : Role) (f g : CoreForm) → Accepted r (Or f g) → same_columns (fv (meaning f)) (fv (meaning g)) ≡ true

@@ -1,10 +1,10 @@
 -- A SINCE's state over one step.
-use Rattle.std.proofs.Common.{subst, ◌≡◌, ℕ, zero, suc, ◌+◌, ◌-◌, ◌<◌, ◌≤◌, Bool, true, false, not, ◌&&◌, ◌||◌, cond, nat_lt, List, [], ◌∷◌, ◌++◌, length, map, drop, refl, sym, ap, ap₂, ◌∙◌, inl, inr, arith, length-append}
-use Rattle.std.proofs.lemmas.Bool.{lt-ltb, or_cases, or_right}
+use Rattle.std.proofs.Common.{subst, ◌≡◌, ℕ, ◌+◌, ◌-◌, ◌≤◌, Bool, true, false, not, ◌&&◌, nat_lt, List, [], ◌∷◌, ◌++◌, length, drop, refl, sym, ap, ap₂, ◌∙◌, arith, length-append}
+use Rattle.std.proofs.lemmas.Bool.{lt-ltb}
 use Rattle.std.proofs.lemmas.List.{length-drop, length-map}
 use Rattle.mfotl_model.specs.Counts.{settled_count}
 use Rattle.mfotl_model.specs.Exact.{View, Covers, AllExact}
-use Rattle.mfotl_model.specs.FreeVariables.{among, joined, fv}
+use Rattle.mfotl_model.specs.FreeVariables.{fv}
 use Rattle.mfotl_model.specs.Log.{times}
 use Rattle.mfotl_model.specs.Regions.{Passes}
 use Rattle.mfotl_model.specs.Satisfaction.{Valuation, sat, since, time_at, truth_at, truths}
@@ -19,8 +19,8 @@ use Rattle.monitorable.specs.CoreForms.{CoreForm, meaning, Not, Since}
 use Rattle.monitorable.specs.Soundness.{HasVariablesOf}
 use Rattle.relations.specs.Pushed.{StandFrom, left_holds}
 use Rattle.monitor_state.proofs.CountLemmas.{count_since}
-use Rattle.monitor_state.proofs.ExactLemmas.{all_stay, covers_before, dates_before, dates_new, exact_append, exact_drop, exact_tell, log_more, reached_grows, reached_within, stand_as, stand_exact, tells_before, truths_tell}
-use Rattle.monitor_state.proofs.RegionLemmas.{joined_inside, near_part, near_right, right_inside, all_from_each}
+use Rattle.monitor_state.proofs.ExactLemmas.{all_stay, covers_before, dates_before, dates_new, exact_append, exact_drop, exact_tell, log_more, reached_within, stand_exact, tells_before, truths_tell}
+use Rattle.monitor_state.proofs.RegionLemmas.{joined_inside, near_part, near_right, right_inside}
 use Rattle.monitor_state.specs.Feeding.{SinceTakes}
 use Rattle.monitor_state.specs.Nodes.{is_negated, left_operand}
 use Rattle.monitor_state.specs.Stands.{IsSince, SinceStands}

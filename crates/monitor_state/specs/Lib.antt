@@ -6,7 +6,6 @@ pub mod OrFeeding
 pub mod PreviousFeeding
 pub mod NextFeeding
 pub mod UntilFeeding
-
 pub mod Constants
 pub mod Nodes
 pub mod Views
