@@ -11,6 +11,7 @@ mod next;
 mod partial;
 mod reader;
 mod stage;
+mod stretch;
 mod values;
 
 pub use fault::LogFault;

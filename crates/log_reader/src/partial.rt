@@ -53,7 +53,7 @@ impl<'a> Model for Partial<'a> {
 impl<'a> Partial<'a> {
     ghost use Rattle.log_reader.specs.Partials.{blank, point_of, finished};
     ghost use Rattle.log_reader.specs.Progress.{answer_of};
-    ghost use Rattle.log_reader.specs.Readings.{nothing_left};
+    ghost use Rattle.log_reader.specs.Readings.{nothing_behind};
     ghost use Rattle.log_reader.specs.Cursors.{behind_answer};
     ghost use Rattle.log_reader.specs.Steps.{opened, stamped, naming, grouped, valued, closed, step};
     ghost use Rattle.log_reader.specs.ValuesRead.{timestamp_of};
@@ -230,18 +230,18 @@ impl<'a> Partial<'a> {
         Ok(())
     }
 
-    /// What is due where no whole token is left of the bytes.
+    /// What is due where no whole token is left of a log's bytes, `len` of them.
     pub fn end(
         &mut self,
         alloc: Global,
         limits: &Limits,
-        bytes: &[u8],
+        len: usize,
         ended: bool,
     ) -> Result<Next, LogFault>
-        ensures answer { result ≡ answer_of ended (nothing_left limits.now bytes.now ended self.old) }
+        ensures answer { result ≡ answer_of ended (nothing_behind limits.now len ended self.old) }
         ensures after { self.new ≡ behind_answer self.old result }
     {
-        if limits.is_long(bytes) {
+        if limits.is_past(len) {
             return Err(LogFault::TooLong(limits.bytes));
         }
         if !ended {
@@ -250,7 +250,7 @@ impl<'a> Partial<'a> {
         match self.stage {
             Stage::Between => Ok(Next::End),
             Stage::AfterStamp | Stage::AfterClose => Ok(Next::Point(self.finish(alloc))),
-            _ => Err(LogFault::Syntax(bytes.len() as u64)),
+            _ => Err(LogFault::Syntax(len as u64)),
         }
     }
 }
