@@ -6,6 +6,7 @@ pub mod StepStages
 pub mod TokenSteps
 pub mod StretchLemmas
 pub mod Waiting
+pub mod QuickLemmas
 pub mod ReaderSoundness
 pub mod Keeping
 pub mod Fewness

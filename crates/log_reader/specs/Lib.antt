@@ -15,6 +15,7 @@ pub mod Readings
 pub mod Growth
 pub mod Laws
 pub mod Progress
+pub mod Quick
 pub mod Stretches
 pub mod Cursors
 pub mod Soundness

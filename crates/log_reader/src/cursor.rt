@@ -1,7 +1,8 @@
-ghost use Rattle.std.specs.Prelude.{◌≡◌, ◌+◌, ◌<◌, ◌≤◌, ◌^◌, false, length, Ok};
+ghost use Rattle.std.specs.Prelude.{◌≡◌, ◌+◌, ◌<◌, ◌≤◌, ◌^◌, false, length, drop, Ok};
 ghost use Rattle.mfotl_lex.specs.Lexemes.{lexeme};
 ghost use Rattle.log_reader.specs.declared.next.Next.TheVariants.{More};
 ghost use Rattle.log_reader.specs.Partials.{blank};
+ghost use Rattle.log_reader.specs.Quick.{TakesQuick};
 ghost use Rattle.log_reader.specs.Soundness.{IsWithin, AnswersDue, StandsOn, is_wanting, CountsOn};
 ghost use Rattle.log_reader.specs.Cursors.{StepsOver, TakesToken, Advances, IsCounted, given_of};
 ghost use Rattle.log_reader.specs.Stretches.{Waits, place_in};
@@ -15,7 +16,7 @@ use crate::stretch::Stretch;
 use mfotl_lex::{Lexer, Mode, Token};
 use mfotl_model::TimePoint;
 use mfotl_sig::Signature;
-use std::alloc::Global;
+use std::alloc::{AllocError, Global};
 
 /// What a token did.
 #[derive(Drop)]
@@ -76,7 +77,40 @@ impl<'a> Cursor<'a> {
         Ok(TokenStep::Took)
     }
 
+    // Takes a value straight from the bytes: how many it has, if there is one.
+    fn take_quick(&mut self, alloc: Global, look: Look<'_>) -> Result<Option<usize>, AllocError>
+        requires within { self.old.at ≤ length look.bytes.now }
+        ensures same { self.new.at ≡ self.old.at }
+        ensures takes { TakesQuick self.old.partial (drop self.old.at look.entry.bytes.now) result
+            self.new.partial }
+    {
+        let (_, rest) = look.bytes.split_at(self.at);
+        self.partial.take_quick(alloc, rest)
+    }
+
     fn take_token(
+        &mut self,
+        alloc: Global,
+        look: Look<'_>,
+        sig: &'a Signature,
+        limits: &Limits,
+    ) -> Result<TokenStep, LogFault>
+        requires within { self.old.at ≤ length look.bytes.now }
+        requires small { look.from + length look.bytes.now < 2 ^ 63 }
+        requires counted { IsCounted self.old.partial }
+        ensures { TakesToken sig.now limits.now look.entry.from look.entry.bytes.now look.entry.ended
+            self.old.at self.old.partial result self.new.at self.new.partial }
+    {
+        match self.take_quick(alloc, look)? {
+            Some(count) => {
+                self.at += count;
+                Ok(TokenStep::Took)
+            }
+            None => self.lex_token(alloc, look, sig, limits),
+        }
+    }
+
+    fn lex_token(
         &mut self,
         alloc: Global,
         look: Look<'_>,

@@ -9,6 +9,7 @@ pub mod laws;
 mod limits;
 mod next;
 mod partial;
+mod quick;
 mod reader;
 mod stage;
 mod stretch;

@@ -1,14 +1,16 @@
 ghost use Rattle.std.specs.Prelude.{◌≡◌, ◌++◌, ◌∷◌, [], OnOk, Ok};
 ghost use Rattle.mfotl_lex.specs.Lexemes.{lexeme};
 ghost use Rattle.log_reader.specs.Given.{Moves};
+ghost use Rattle.log_reader.specs.Quick.{TakesQuick};
 ghost use Rattle.log_reader.specs.Stages.{completes};
 ghost use Rattle.log_reader.specs.Symbols.{symbol, written};
 ghost use Rattle.mfotl_sig.specs.Preds.{named};
 
 use crate::fault::LogFault;
-use crate::grammar::{ends_point, is_whole, stage_behind};
+use crate::grammar::{ends_point, is_value_due, is_whole, stage_behind};
 use crate::limits::Limits;
 use crate::next::Next;
+use crate::quick::integer_before;
 use crate::stage::Stage;
 use crate::values::{timestamp_of, value_at};
 use mfotl_lex::Token;
@@ -158,6 +160,28 @@ impl<'a> Partial<'a> {
                 self.due = due;
                 Ok(())
             }
+        }
+    }
+
+    /// Takes an integer of few digits straight from the bytes, where one may stand and does: how many
+    /// digits it has. It is what the token would give.
+    pub fn take_quick(&mut self, alloc: Global, bytes: &[u8]) -> Result<Option<usize>, AllocError>
+        ensures { TakesQuick self.old bytes.now result self.new }
+    {
+        if !is_value_due(self.stage) {
+            return Ok(None);
+        }
+        match self.due {
+            [Sort::Int, due @ ..] => match integer_before(bytes) {
+                Some((value, count)) => {
+                    self.push(alloc, Value::Int(value))?;
+                    self.stage = Stage::AfterValue;
+                    self.due = due;
+                    Ok(Some(count))
+                }
+                None => Ok(None),
+            },
+            _ => Ok(None),
         }
     }
 
