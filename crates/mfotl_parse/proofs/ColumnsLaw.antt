@@ -85,7 +85,8 @@ module _ (sig : List PredOf) (tree : Tree) (rules : KeepsRules sig tree) where
   well_sorted = record {
     free = free_is;
     given = given_by last;
-    fits = tree_sorted sig last rules.unclashed rules.even rules.few_free tree no_scope no_names none_open refl rules.parts (grows_not last);
+    fits = tree_sorted sig last rules.unclashed rules.even rules.few_free tree no_scope no_names none_open refl
+        rules.parts (grows_not last);
     columns = columns_are;
   }
 

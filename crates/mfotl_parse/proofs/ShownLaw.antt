@@ -288,7 +288,10 @@ module _ (bytes : List ℕ) (sig : List PredOf) where
       let t = whole sig tree formula.1 in
       let there = steps_moves sig (tokens_of bytes).list start s.read s.sound in
       let here : s.read
-      ≡ record { context = record { stack = t.stack; nodes = _; names = all_names sig tree }; now = AfterOperand t.form } =
+      ≡ record {
+        context = record { stack = t.stack; nodes = _; names = all_names sig tree };
+        now = AfterOperand t.form;
+      } =
       same_next (sym there.1 ∙ ap (λ (ts : List Lexeme). moves sig ts start) formula.2 ∙ t.reached) in (
         tree,
         record {
@@ -320,7 +323,10 @@ module _ (bytes : List ℕ) (sig : List PredOf) where
       let t = whole sig tree u.fits in
       let there = steps_moves sig ts start r.read r.sound in
       let here : r.read
-      ≡ record { context = record { stack = t.stack; nodes = _; names = all_names sig tree }; now = AfterOperand t.form } =
+      ≡ record {
+        context = record { stack = t.stack; nodes = _; names = all_names sig tree };
+        now = AfterOperand t.form;
+      } =
       same_next (sym there.1 ∙ ap (λ (xs : List Lexeme). moves sig xs start) u.spelled ∙ t.reached) in
       ap (λ (xs : List Lexeme). run sig (length bytes) (tokens_of bytes).fault xs start) (sym (append-nil ts))
       ∙ run_behind sig (length bytes) (tokens_of bytes).fault ts [] start r.read r.sound

@@ -236,7 +236,12 @@ module _ (sig : List PredOf) (last : SymbolTable) (clash : last.clash ≡ None) 
   atom_sorted None name xs outer inner scope n is count inside sized g = absurd count
   atom_sorted (Some pred) name xs outer inner scope n is count inside sized g =
       blanks_sorted (inner - outer) outer _
-      (record { pred = pred; known = found_known _ sig pred is; number = refl; sorted = arguments_sorted xs pred.sorts scope n inside sized g count })
+      (record {
+        pred = pred;
+        known = found_known _ sig pred is;
+        number = refl;
+        sorted = arguments_sorted xs pred.sorts scope n inside sized g count;
+      })
 
   one_sorted : (q : Quantifier) (k : ℕ) (name : List ℕ) (f : Form) → FitsSorts sig (given_by last) f
       → FitsSorts sig (given_by last) (quantified q k name f)

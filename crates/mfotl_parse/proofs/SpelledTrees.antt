@@ -25,7 +25,9 @@ use Rattle.mfotl_parse.specs.Meanings.{names_behind, value, variable_count, node
 use Rattle.mfotl_parse.specs.Meanings.{IntervalKeeps, PartsKeep}
 use Rattle.mfotl_parse.specs.Transitions.{Rule, goes, within_nodes, within_depth}
 use Rattle.mfotl_parse.specs.SymbolTable.{binder_of, bound_more}
-use Rattle.mfotl_parse.specs.Operands.{bound_move, deepening, now_behind, truth}
+use Rattle.mfotl_parse.specs.Operands.{truth}
+use Rattle.mfotl_parse.specs.Quantifiers.{bound_move}
+use Rattle.mfotl_parse.specs.Operators.{deepening, now_behind}
 use Rattle.mfotl_parse.specs.States.{Frame, Parens, Negation, Moment, Binding, Left, depth, SymbolTable, Stage}
 use Rattle.mfotl_parse.specs.States.{Partial, ExpectOperand, AfterTemporal, ExpectVariable, AfterVariableMark}
 use Rattle.mfotl_parse.specs.States.{AfterVariable}

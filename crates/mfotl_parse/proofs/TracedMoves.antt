@@ -9,7 +9,8 @@ use Rattle.mfotl_parse.specs.declared.fault.PolicyFault.{PolicyFault}
 use Rattle.mfotl_parse.specs.declared.fault.PolicyFault.TheVariants.{Syntax}
 use Rattle.mfotl_parse.specs.Classes.{class_of}
 use Rattle.mfotl_parse.specs.Transitions.{Rule, Transition, goes, fault_of}
-use Rattle.mfotl_parse.specs.Operands.{operand_move, fresh_move, now_behind}
+use Rattle.mfotl_parse.specs.Operands.{operand_move, fresh_move}
+use Rattle.mfotl_parse.specs.Operators.{now_behind}
 use Rattle.mfotl_parse.specs.Reading.{transition_at, transition}
 use Rattle.mfotl_parse.specs.Shows.{Showing, if_broken}
 use Rattle.mfotl_parse.specs.States.{Frame, SymbolTable, Context, Partial, ExpectOperand, AfterTemporal}

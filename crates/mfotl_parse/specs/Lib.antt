@@ -4,7 +4,11 @@ pub mod States
 pub mod SymbolTable
 pub mod Reduction
 pub mod Transitions
+pub mod Comparisons
 pub mod Operands
+pub mod Lookahead
+pub mod Quantifiers
+pub mod Operators
 pub mod Intervals
 pub mod Arguments
 pub mod Reading

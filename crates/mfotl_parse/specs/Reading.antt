@@ -18,9 +18,11 @@ use Rattle.mfotl_parse.specs.Intervals.{low_move, low_number_move, low_done_move
 use Rattle.mfotl_parse.specs.Intervals.{endless_move}
 use Rattle.mfotl_parse.specs.Transitions.{Transition, given}
 use Rattle.mfotl_parse.specs.SymbolTable.{uneven_pair, vars_of}
-use Rattle.mfotl_parse.specs.Operands.{operand_move, fresh_move, maybe_move, maybe_number_move, word_move, blank_move}
-use Rattle.mfotl_parse.specs.Operands.{marked_move, compared_move, against_move, against_marked_move, binder_move}
-use Rattle.mfotl_parse.specs.Operands.{binder_marked_move, bound_move, have_move}
+use Rattle.mfotl_parse.specs.Operands.{operand_move, fresh_move, word_move, blank_move}
+use Rattle.mfotl_parse.specs.Comparisons.{marked_move, compared_move, against_move, against_marked_move}
+use Rattle.mfotl_parse.specs.Lookahead.{maybe_move, maybe_number_move}
+use Rattle.mfotl_parse.specs.Quantifiers.{binder_move, binder_marked_move, bound_move}
+use Rattle.mfotl_parse.specs.Operators.{have_move}
 use Rattle.mfotl_parse.specs.Reduction.{reduce}
 use Rattle.mfotl_parse.specs.States.{Frame, SymbolTable, Stage, Context, Partial, start, ExpectOperand, AfterTemporal}
 use Rattle.mfotl_parse.specs.States.{AfterOperand, AfterWord, AfterBlank, AfterMark, ExpectSign, AfterSign}

@@ -89,11 +89,26 @@ fn blanks(alloc: Global, first: u32, end: u32, inner: Formula) -> Result<Formula
     let mut place = end;
     while first < place {
         place -= 1;
-        let Some(number) = place.checked_add(MAX_FREE) else {
-            return Err(AllocError);
-        };
-        let name = Name::from_slice(alloc, b"_")?;
-        whole = Formula::Exists(Bound { number, name }, Box::new(alloc, whole)?);
+        whole = blank(alloc, place, whole)?;
     }
     Ok(whole)
+}
+
+/// EXISTS around a formula for the variable of a `_`.
+fn blank(alloc: Global, place: u32, inner: Formula) -> Result<Formula, AllocError>
+    ensures { IfOk result (λ formula. form formula ≡ calls.blank place (form inner)) }
+{
+    let bound = blank_bound(alloc, place)?;
+    Ok(Formula::Exists(bound, Box::new(alloc, inner)?))
+}
+
+/// The variable of a `_`, by its place among all that are bound.
+fn blank_bound(alloc: Global, place: u32) -> Result<Bound, AllocError>
+    ensures { IfOk result (λ bound. bound ≡ calls.blank_bound place) }
+{
+    let Some(number) = place.checked_add(MAX_FREE) else {
+        return Err(AllocError);
+    };
+    let name = Name::from_slice(alloc, b"_")?;
+    Ok(Bound { number, name })
 }

@@ -3,7 +3,7 @@ ghost use Rattle.std.specs.Prelude.{◌≡◌, ◌∷◌, []};
 ghost use Rattle.mfotl_lex.specs.Lexemes.{lexeme};
 ghost use Rattle.mfotl_model.specs.Formulas.{form};
 ghost use Rattle.mfotl_parse.specs.Transitions.{given, goes};
-ghost use Rattle.mfotl_parse.specs.Operands as operands;
+ghost use Rattle.mfotl_parse.specs.Comparisons as comparisons;
 ghost use Rattle.mfotl_parse.specs.Views.{context_of, GoesOn};
 
 use crate::class::Class;
@@ -24,7 +24,7 @@ impl Context {
         class: Class,
     ) -> Result<Stage<'a>, PolicyFault>
         ensures { GoesOn result self.new
-            (given token.now.at (operands.marked_move (context_of self.old) mark
+            (given token.now.at (comparisons.marked_move (context_of self.old) mark
             (lexeme token.now) class)) }
     {
         match class {
@@ -47,7 +47,7 @@ impl Context {
         class: Class,
     ) -> Result<Stage<'a>, PolicyFault>
         ensures { GoesOn result self.new
-            (given token.now.at (operands.compared_move (context_of self.old) left
+            (given token.now.at (comparisons.compared_move (context_of self.old) left
             (lexeme token.now) class)) }
     {
         match class {
@@ -59,7 +59,7 @@ impl Context {
     /// A comparison's sign behind its left side.
     pub fn sign<'a>(&mut self, left: Side, at: u64, sign: Sign) -> Result<Stage<'a>, PolicyFault>
         ensures { GoesOn result self.new
-            (given 0 (operands.signed (context_of self.old) left at sign)) }
+            (given 0 (comparisons.signed (context_of self.old) left at sign)) }
     {
         if self.is_full() {
             return Err(PolicyFault::TooManyNodes(at));
@@ -79,7 +79,7 @@ impl Context {
         class: Class,
     ) -> Result<Stage<'a>, PolicyFault>
         ensures { GoesOn result self.new
-            (given token.now.at (operands.against_move (context_of self.old) left sign_at sign
+            (given token.now.at (comparisons.against_move (context_of self.old) left sign_at sign
             (lexeme token.now) class)) }
     {
         let at = token.at as u64;
@@ -110,7 +110,7 @@ impl Context {
         class: Class,
     ) -> Result<Stage<'a>, PolicyFault>
         ensures { GoesOn result self.new
-            (given token.now.at (operands.against_marked_move
+            (given token.now.at (comparisons.against_marked_move
             (context_of self.old) left sign_at sign mark (lexeme token.now) class)) }
     {
         match class {
@@ -128,7 +128,7 @@ impl Context {
         right: Side,
     ) -> Result<Stage<'a>, PolicyFault>
         ensures { GoesOn result self.new
-            (given 0 (goes [] (operands.comparison_done
+            (given 0 (goes [] (comparisons.comparison_done
             (context_of self.old) left at sign right.at right.operand))) }
     {
         self.names.compare(&left, at, &right)?;
@@ -155,7 +155,7 @@ impl Context {
         name: &[u8],
     ) -> Result<Stage<'a>, PolicyFault>
         ensures { GoesOn result self.new
-            (given 0 (goes [] (operands.named_done
+            (given 0 (goes [] (comparisons.named_done
             (context_of self.old) left at sign right_at name.now))) }
     {
         let variable = self.meet(alloc, name, right_at)?;

@@ -5,7 +5,7 @@ ghost use Rattle.mfotl_model.specs.Formulas.{form};
 ghost use Rattle.mfotl_parse.specs.States.{opens_level, depth};
 ghost use Rattle.mfotl_parse.specs.SymbolTable.{bound_as};
 ghost use Rattle.mfotl_parse.specs.Reduction.{hold, closed, reduce, momentary, joined, bound_by, quantified};
-ghost use Rattle.mfotl_parse.specs.Operands.{is_parens};
+ghost use Rattle.mfotl_parse.specs.Operators.{is_parens};
 ghost use Rattle.mfotl_parse.specs.Intervals.{framed};
 ghost use Rattle.mfotl_parse.specs.Views.{frame_of, stack_of};
 ghost use Rattle.mfotl_parse.specs.Grammar.{precedence, right_precedence, is_timed, deepens};

@@ -4,7 +4,7 @@ ghost use Rattle.mfotl_lex.specs.Lexemes.{lexeme};
 ghost use Rattle.mfotl_parse.specs.Transitions.{given, goes, within_nodes, within_depth};
 ghost use Rattle.mfotl_parse.specs.Operands as operands;
 ghost use Rattle.mfotl_parse.specs.States as states;
-ghost use Rattle.mfotl_parse.specs.Views.{context_of, frame_of, GoesOn, Enters};
+ghost use Rattle.mfotl_parse.specs.Views.{context_of, GoesOn, Enters};
 
 use crate::class::Class;
 use crate::fault::PolicyFault;
@@ -33,11 +33,13 @@ impl Context {
         match class {
             Class::Truth(value) => self.truth(at, value),
             Class::Not => {
-                self.prefix(at, Frame::Negation)?;
+                self.enter(at)?;
+                self.push(Frame::Negation)?;
                 Ok(Stage::ExpectOperand)
             }
             Class::Temporal(operator) => {
-                self.prefix(at, Frame::Moment(operator, any_distance()))?;
+                self.enter(at)?;
+                self.push(Frame::Moment(operator, any_distance()))?;
                 Ok(Stage::AfterTemporal)
             }
             Class::Quantifier(quantifier) => Ok(Stage::ExpectVariable(quantifier)),
@@ -145,9 +147,10 @@ impl Context {
         }
     }
 
-    /// An operator before its operand.
-    fn prefix(&mut self, at: u64, frame: Frame) -> Result<(), PolicyFault>
-        ensures { Enters result self.new (within_depth at (context_of self.old).stack ∷ within_nodes at (context_of self.old).nodes ∷ []) (operands.prefixed (context_of self.old) (frame_of frame)) }
+    /// One more level and one more node, where the offset says.
+    pub fn enter(&mut self, at: u64) -> Result<(), PolicyFault>
+        ensures { Enters result self.new (within_depth at (context_of self.old).stack
+            ∷ within_nodes at (context_of self.old).nodes ∷ []) (states.counted (context_of self.old)) }
     {
         if self.is_deep() {
             return Err(PolicyFault::TooDeep(at));
@@ -156,13 +159,13 @@ impl Context {
             return Err(PolicyFault::TooManyNodes(at));
         }
         self.nodes += 1;
-        self.push(frame)?;
         Ok(())
     }
 
     /// A `(` of a formula.
     pub fn open(&mut self, at: u64) -> Result<(), PolicyFault>
-        ensures { Enters result self.new (within_depth at (context_of self.old).stack ∷ []) (states.pushed states.Parens (context_of self.old)) }
+        ensures { Enters result self.new (within_depth at (context_of self.old).stack ∷ [])
+            (states.pushed states.Parens (context_of self.old)) }
     {
         if self.is_deep() {
             return Err(PolicyFault::TooDeep(at));

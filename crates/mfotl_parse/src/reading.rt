@@ -70,7 +70,8 @@ fn advance<'a>(
     now: Stage<'a>,
     token: &Token<'a>,
 ) -> Result<Stage<'a>, PolicyFault>
-    ensures { GoesOn result context.new (step signature.now (record { context = context_of context.old; now = stage_of now.entry }) (lexeme token.now)) }
+    ensures { GoesOn result context.new (step signature.now
+        (record { context = context_of context.old; now = stage_of now.entry }) (lexeme token.now)) }
 {
     let class = class_of(token);
     match now {
@@ -117,7 +118,8 @@ fn advance<'a>(
 /// The policy whose last operand was read.
 fn close(alloc: Global, context: Context, formula: Formula, end: u64) -> Result<Policy, PolicyFault>
     ensures { Gives policy_of result (reading_words.ended (context_of context).names
-        (reduce 0 (form formula) (context_of context).stack).form (is_closed (reduce 0 (form formula) (context_of context).stack).stack) end) }
+        (reduce 0 (form formula) (context_of context).stack).form
+        (is_closed (reduce 0 (form formula) (context_of context).stack).stack) end) }
 {
     let Context {
         mut frames,

@@ -12,7 +12,9 @@ use Rattle.mfotl_parse.specs.Reduction.{reduce}
 use Rattle.mfotl_parse.proofs.examples.name_examples.Goals as goal
 
 pub returns : goal.returns
-unfolding depth binder_of vars_of reading run step transition reduce word_class operator_class temporal_class tokens tokens_within next_token after plain_scan log_scan minus_scan closed_text text_end text_scan order_scan digits_value integer_value blank_len comment_len mode_behind
+unfolding depth binder_of vars_of reading run step transition reduce word_class operator_class temporal_class
+    tokens tokens_within next_token after plain_scan log_scan minus_scan closed_text text_end text_scan
+    order_scan digits_value integer_value blank_len comment_len mode_behind
 returns c = record {
   first_occurrence = refl;
   unsorted = refl;
