@@ -22,7 +22,7 @@ use Rattle.mfotl_parse.specs.Limits.{max_free}
 use Rattle.mfotl_parse.proofs.BoundVariables.{only_free}
 use Rattle.mfotl_parse.proofs.LimitLemmas.{length_vars_of}
 use Rattle.mfotl_parse.proofs.NamesOrder.{grows_not, tree_grows}
-use Rattle.mfotl_parse.proofs.ReadLaw.{read_is_spelled}
+use Rattle.mfotl_parse.proofs.PolicyLaws.{read_is_spelled}
 use Rattle.mfotl_parse.proofs.SortedTrees.{given_by, tree_sorted}
 use Rattle.mfotl_parse.proofs.VariableOrder.{tree_order}
 
@@ -100,5 +100,5 @@ pub sorted_given : (bytes : List ℕ) (sig : List PredOf) (result : Result Polic
     → Gives policy_seen result (reading bytes sig)
     → IfOk result (λ policy. IsWellSorted sig policy.vars (form policy.formula))
 sorted_given bytes sig (Ok policy) given =
-    value_sorted bytes sig (policy_seen policy) (read_is_spelled bytes sig (policy_seen policy) given)
+    value_sorted bytes sig (policy_seen policy) (read_is_spelled sig bytes (policy_seen policy) given)
 sorted_given bytes sig (Err fault) given = tt

@@ -18,6 +18,7 @@ pub mod Examples
 pub mod Grammar
 pub mod Meanings
 pub mod Shows
+pub mod Causes
 pub mod GrammarLaws
 pub mod WellSorted
 pub mod FaultTexts

@@ -3,9 +3,7 @@ use Rattle.std.specs.Prelude.{◌≡◌, ℕ, suc, ◌+◌, ◌-◌, ◌*◌, �
 use Rattle.std.specs.Prelude.{Option, Some, None, if◌then◌else◌}
 use Rattle.std.specs.Str.{bytes_eq}
 use Rattle.mfotl_lex.specs.Contents.{content_of}
-use Rattle.mfotl_lex.specs.declared.kind.Mode.TheVariants.{Plain}
-use Rattle.mfotl_lex.specs.Lexemes.{Tokens, tokens}
-use Rattle.mfotl_lex.specs.Places.{beginning}
+use Rattle.mfotl_lex.specs.FirstFault.{End}
 use Rattle.mfotl_model.specs.declared.interval.Interval.{Interval}
 use Rattle.mfotl_model.specs.declared.policy.Sort.{Sort}
 use Rattle.mfotl_model.specs.declared.term.Term.{Term}
@@ -28,7 +26,7 @@ use Rattle.mfotl_parse.specs.Intervals.{distances, any_distance}
 use Rattle.mfotl_parse.specs.SymbolTable.{bound_or_free, met, bound_more, constrain_term, compared, term_of, inner_or}
 use Rattle.mfotl_parse.specs.SymbolTable.{uneven_pair, vars_of}
 use Rattle.mfotl_parse.specs.Operands.{truth}
-use Rattle.mfotl_parse.specs.Reading.{PolicyOf}
+use Rattle.mfotl_parse.specs.Reading.{PolicyOf, text_of}
 use Rattle.mfotl_parse.specs.Reduction.{momentary, joined, quantified}
 use Rattle.mfotl_parse.specs.States.{SymbolTable, no_names}
 use Rattle.mfotl_parse.specs.Limits.{max_levels, max_nodes, max_free, max_bound}
@@ -294,10 +292,6 @@ pub record KeepsRules (sig : List PredOf) (tree : Tree) : Type 0 where
   -- at most 8 free variables
   pub few_free : length (all_names sig tree).free ≤ max_free
 
--- the tokens of a text
-abbrev pub tokens_of : List ℕ → Tokens
-tokens_of bytes = tokens (beginning Plain bytes)
-
 -- the policy that a formula means
 abbrev pub policy_of : List PredOf → Tree → PolicyOf
 policy_of sig tree = record {
@@ -308,8 +302,8 @@ policy_of sig tree = record {
 -- the text is whole tokens that spell a formula, it keeps the rules, and this policy is its value
 pub record IsValue (bytes : List ℕ) (sig : List PredOf) (policy : PolicyOf) : Type 0 where
   pub tree : Tree
-  pub whole : (tokens_of bytes).fault ≡ None
+  pub whole : (text_of bytes).tail ≡ End (length bytes)
   pub fits : Fits 1 tree
-  pub spelled : (tokens_of bytes).list ≡ spelling tree
+  pub spelled : (text_of bytes).list ≡ spelling tree
   pub rules : KeepsRules sig tree
   pub value : policy ≡ policy_of sig tree

@@ -5,7 +5,7 @@ ghost use Rattle.mfotl_parse.specs.Arguments as calls;
 ghost use Rattle.mfotl_parse.specs.Transitions.{is_empty};
 ghost use Rattle.mfotl_parse.specs.Views.{call_view};
 
-use crate::limits::MAX_FREE;
+use crate::frame::bound_number;
 use mfotl_model::{Atom, Bound, Formula, Name, Sort, Term, Terms};
 use std::alloc::{AllocError, Global};
 
@@ -106,9 +106,7 @@ fn blank(alloc: Global, place: u32, inner: Formula) -> Result<Formula, AllocErro
 fn blank_bound(alloc: Global, place: u32) -> Result<Bound, AllocError>
     ensures { IfOk result (λ bound. bound ≡ calls.blank_bound place) }
 {
-    let Some(number) = place.checked_add(MAX_FREE) else {
-        return Err(AllocError);
-    };
+    let number = bound_number(place)?;
     let name = Name::from_slice(alloc, b"_")?;
     Ok(Bound { number, name })
 }

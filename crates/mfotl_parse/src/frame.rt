@@ -1,5 +1,5 @@
 //! What is open while a policy is read: parentheses, quantifiers and operators that wait for an operand.
-ghost use Rattle.std.specs.Prelude.{◌≡◌, ◌++◌, ◌∷◌, [], IfOk, OnOk, OnErr, Option, None, Some, ℕ, List, IfSome, IfNone, nat_lt};
+ghost use Rattle.std.specs.Prelude.{◌≡◌, ◌+◌, ◌++◌, ◌∷◌, [], IfOk, OnOk, OnErr, Option, None, Some, ℕ, List, IfSome, IfNone, nat_lt};
 ghost use Rattle.mfotl_model.specs.Formulas as forms;
 ghost use Rattle.mfotl_model.specs.Formulas.{form};
 ghost use Rattle.mfotl_parse.specs.States.{opens_level, depth};
@@ -8,6 +8,7 @@ ghost use Rattle.mfotl_parse.specs.Reduction.{hold, closed, reduce, momentary, j
 ghost use Rattle.mfotl_parse.specs.Operators.{is_parens};
 ghost use Rattle.mfotl_parse.specs.Intervals.{framed};
 ghost use Rattle.mfotl_parse.specs.Views.{frame_of, stack_of};
+ghost use Rattle.mfotl_parse.specs.Limits.{max_free};
 ghost use Rattle.mfotl_parse.specs.Grammar.{precedence, right_precedence, is_timed, deepens};
 
 use crate::class::{Operator, Quantifier, Temporal};
@@ -83,8 +84,8 @@ impl Operator {
     ) -> Result<Formula, AllocError>
         ensures { IfOk result (λ whole. form whole ≡ joined self interval (form left) (form right)) }
     {
-        let left = Box::new(alloc, left)?;
-        let right = Box::new(alloc, right)?;
+        let left = boxed(alloc, left)?;
+        let right = boxed(alloc, right)?;
         Ok(self.join(interval, left, right))
     }
 
@@ -135,10 +136,8 @@ impl Quantifier {
     ) -> Result<Formula, AllocError>
         ensures { IfOk result (λ whole. form whole ≡ quantified self variable name (form inner)) }
     {
-        let Some(number) = variable.checked_add(MAX_FREE) else {
-            return Err(AllocError);
-        };
-        let inner = Box::new(alloc, inner)?;
+        let inner = boxed(alloc, inner)?;
+        let number = bound_number(variable)?;
         Ok(self.apply(Bound { number, name }, inner))
     }
 
@@ -149,6 +148,22 @@ impl Quantifier {
             Quantifier::Exists => Formula::Exists(bound, inner),
             Quantifier::Forall => Formula::Forall(bound, inner),
         }
+    }
+}
+
+fn boxed(alloc: Global, formula: Formula) -> Result<Box<Formula>, AllocError>
+    ensures { IfOk result (λ boxed. form boxed.value ≡ form formula) }
+{
+    Ok(Box::new(alloc, formula)?)
+}
+
+/// The number of a bound variable, by its place among all of them: behind the free ones.
+pub fn bound_number(place: u32) -> Result<u32, AllocError>
+    ensures { IfOk result (λ number. number ≡ max_free + place) }
+{
+    match place.checked_add(MAX_FREE) {
+        Some(number) => Ok(number),
+        None => Err(AllocError),
     }
 }
 

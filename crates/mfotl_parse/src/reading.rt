@@ -1,18 +1,19 @@
 //! Reading from the first token to the end.
-ghost use Rattle.std.specs.Prelude.{◌≡◌, ◌≢◌, ◌≤◌, length, slice_get, IfOk, IfErr};
-ghost use Rattle.mfotl_lex.specs.Lexemes.{lexeme};
-ghost use Rattle.mfotl_model.specs.Formulas.{form};
+ghost use Rattle.std.specs.Prelude.{◌≡◌, ◌≢◌, ◌≤◌, false, length, slice_get, IfOk, IfErr};
+ghost use Rattle.mfotl_lex.specs.Lexemes.{lexeme, next_token, after};
+ghost use Rattle.mfotl_model.specs.Formulas.{Form, form};
 ghost use Rattle.mfotl_parse.specs.GrammarLaws.{IsShown};
 ghost use Rattle.mfotl_parse.specs.Limits.{max_free};
 ghost use Rattle.mfotl_parse.specs.Meanings.{IsValue};
 ghost use Rattle.mfotl_parse.specs.declared.fault.PolicyFault.TheVariants.{Memory};
-ghost use Rattle.mfotl_parse.specs.Reading.{step, ended_at, finished, is_closed, reading};
+ghost use Rattle.mfotl_parse.specs.Reading.{step, with_token, ended_at, finished, is_closed, reading_on, reading};
 ghost use Rattle.mfotl_parse.specs.Reading as reading_words;
 ghost use Rattle.mfotl_parse.specs.Reduction.{reduce};
 ghost use Rattle.mfotl_parse.specs.States.{start};
-ghost use Rattle.mfotl_parse.specs.SymbolTable.{uneven_pair, vars_of};
+ghost use Rattle.mfotl_parse.specs.SymbolTable.{uneven_pair};
 ghost use Rattle.mfotl_parse.specs.WellSorted.{IsWellSorted};
-ghost use Rattle.mfotl_parse.specs.Views.{context_of, names_of, stage_of, partial_of, policy_of, GoesOn, Gives, Steps};
+ghost use Rattle.mfotl_parse.specs.Views.{context_of, names_of, stage_of, partial_of, with_next, policy_of};
+ghost use Rattle.mfotl_parse.specs.Views.{GoesOn, Gives, Steps, ReadAll};
 
 use crate::class::class_of;
 use crate::fault::PolicyFault;
@@ -20,7 +21,7 @@ use crate::stack;
 use crate::state::{Context, Parser, Stage};
 use crate::symbol_table::SymbolTable;
 use mfotl_lex::{Lexer, Mode, Token};
-use mfotl_model::{Formula, Policy};
+use mfotl_model::{Formula, Policy, Vars};
 use mfotl_sig::Signature;
 use std::alloc::Global;
 use std::mem;
@@ -49,13 +50,49 @@ impl<'a> Parser<'a> {
         Ok(())
     }
 
+    /// Takes the next token, and says whether there was one.
+    fn take_next(
+        &mut self,
+        alloc: Global,
+        signature: &'a Signature,
+        lexer: &mut Lexer<'a>,
+    ) -> Result<bool, PolicyFault>
+        ensures taken { Gives (λ more. with_next more self.new) result
+            (with_token signature.now (partial_of self.old) (next_token lexer.old)) }
+        ensures after { IfOk result (λ more. lexer.new ≡ after lexer.old) }
+        ensures ended { IfOk result (λ more. more ≡ false → partial_of self.new ≡ partial_of self.old) }
+    {
+        match lexer.next()? {
+            None => Ok(false),
+            Some(token) => {
+                self.step(alloc, signature, &token)?;
+                Ok(true)
+            }
+        }
+    }
+
+    /// Takes all tokens of a text.
+    fn take_all(
+        &mut self,
+        alloc: Global,
+        bytes: &'a [u8],
+        signature: &'a Signature,
+    ) -> Result<(), PolicyFault>
+        ensures { ReadAll result self.new (length bytes.now)
+            (reading_on signature.now bytes.now (partial_of self.old)) }
+    {
+        let mut lexer = Lexer::new(bytes, Mode::Plain);
+        while self.take_next(alloc, signature, &mut lexer)? {}
+        Ok(())
+    }
+
     /// The policy, where the text ends at the offset.
     fn finish(self, alloc: Global, end: u64) -> Result<Policy, PolicyFault>
         ensures { Gives policy_of result (ended_at (stage_of self.entry.now) (context_of self.entry.context) end) }
     {
-        let Parser { context, now } = self;
+        let Parser { mut context, now } = self;
         match now {
-            Stage::AfterOperand(formula) => close(alloc, context, formula, end),
+            Stage::AfterOperand(formula) => close(alloc, &mut context, formula, end),
             _ => Err(PolicyFault::Syntax(end)),
         }
     }
@@ -116,19 +153,28 @@ fn advance<'a>(
 }
 
 /// The policy whose last operand was read.
-fn close(alloc: Global, context: Context, formula: Formula, end: u64) -> Result<Policy, PolicyFault>
-    ensures { Gives policy_of result (reading_words.ended (context_of context).names
-        (reduce 0 (form formula) (context_of context).stack).form
-        (is_closed (reduce 0 (form formula) (context_of context).stack).stack) end) }
+fn close(
+    alloc: Global,
+    context: &mut Context,
+    formula: Formula,
+    end: u64,
+) -> Result<Policy, PolicyFault>
+    ensures { Gives policy_of result (reading_words.ended (context_of context.old).names
+        (reduce 0 (form formula) (context_of context.old).stack).form
+        (is_closed (reduce 0 (form formula) (context_of context.old).stack).stack) end) }
 {
-    let Context {
-        mut frames,
-        nodes: _,
-        names,
-    } = context;
-    let formula = stack::reduce(alloc, &mut frames, 0, formula)?;
-    if stack::is_closed(&frames) {
-        checked(alloc, names, formula)
+    let formula = stack::reduce(alloc, &mut context.frames, 0, formula)?;
+    let vars = columns_at(alloc, context, end)?;
+    Ok(Policy { formula, vars })
+}
+
+/// The columns of any formula behind which the text ends here, where nothing may be open.
+fn columns_at(alloc: Global, context: &Context, end: u64) -> Result<Vars, PolicyFault>
+    ensures { (f : Form) → Gives (λ vars. record { formula = f; vars = vars }) result
+        (reading_words.ended (context_of context.now).names f (is_closed (context_of context.now).stack) end) }
+{
+    if stack::is_closed(&context.frames) {
+        columns(alloc, &context.names)
     } else {
         Err(PolicyFault::Syntax(end))
     }
@@ -151,25 +197,14 @@ fn refusal(names: &SymbolTable) -> Option<PolicyFault>
     }
 }
 
-/// The formula with its free variables.
-fn with_vars(alloc: Global, names: &SymbolTable, formula: Formula) -> Result<Policy, PolicyFault>
-    ensures policy { IfOk result (λ policy. policy_of policy ≡ record {
-      formula = form formula;
-      vars = vars_of (names_of names.now).free (names_of names.now).free_sorts;
-    }) }
-    ensures full { IfErr result (λ fault. fault ≡ Memory) }
+/// The columns of any formula, unless sorts clash or there are too many free variables.
+fn columns(alloc: Global, names: &SymbolTable) -> Result<Vars, PolicyFault>
+    ensures { (f : Form) → Gives (λ vars. record { formula = f; vars = vars }) result
+        (finished (names_of names.now) f) }
 {
-    let vars = names.vars(alloc)?;
-    Ok(Policy { formula, vars })
-}
-
-/// The policy, unless sorts clash or there are too many free variables.
-fn checked(alloc: Global, names: SymbolTable, formula: Formula) -> Result<Policy, PolicyFault>
-    ensures { Gives policy_of result (finished (names_of names) (form formula)) }
-{
-    match refusal(&names) {
+    match refusal(names) {
         Some(fault) => Err(fault),
-        None => with_vars(alloc, &names, formula),
+        None => Ok(names.vars(alloc)?),
     }
 }
 
@@ -177,16 +212,8 @@ fn checked(alloc: Global, names: SymbolTable, formula: Formula) -> Result<Policy
 fn read<'a>(alloc: Global, bytes: &'a [u8], signature: &'a Signature) -> Result<Policy, PolicyFault>
     ensures { Gives policy_of result (reading bytes.now signature.now) }
 {
-    let mut lexer = Lexer::new(bytes, Mode::Plain);
     let mut parser = Parser::new(alloc);
-    // Each token takes a byte, so there are no more of them than bytes.
-    for _ in 0..bytes.len() + 1 {
-        match lexer.next() {
-            Ok(Some(token)) => parser.step(alloc, signature, &token)?,
-            Ok(None) => break,
-            Err(fault) => return Err(PolicyFault::Lex(fault)),
-        }
-    }
+    parser.take_all(alloc, bytes, signature)?;
     parser.finish(alloc, bytes.len() as u64)
 }
 
