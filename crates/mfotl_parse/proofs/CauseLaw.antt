@@ -161,6 +161,7 @@ shut_end n f false end e = refl
 
 pub early_end : (now : Stage) (c : Context) (end : ℕ) → is_whole now c.stack ≡ false
     → ended_at now c end ≡ Err (Syntax end)
+unfolding ended_at
 early_end (AfterOperand f) c end e =
     shut_end c.names (reduce 0 f c.stack).form (is_closed (reduce 0 f c.stack).stack) end e
 early_end _ c end e = refl

@@ -54,6 +54,7 @@ shut_reads n f false end policy e = absurd cc
 
 whole_reads : (now : Stage) (c : Context) (end : ℕ) (policy : PolicyOf) → ended_at now c end ≡ Ok policy
     → is_whole now c.stack ≡ true
+unfolding ended_at
 whole_reads (AfterOperand f) c end policy e =
     shut_reads c.names (reduce 0 f c.stack).form (is_closed (reduce 0 f c.stack).stack) end policy e
 whole_reads _ c end policy e = absurd cc

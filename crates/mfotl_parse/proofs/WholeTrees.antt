@@ -94,6 +94,7 @@ module _ (sig : List PredOf) (ts : List Lexeme) (p : Partial) (ran : run (step s
     -- behind a whole formula the end shows what its names show
     pub finished_by : (end : ℕ) → ended_at p.now p.context end
         ≡ finished (all_names sig tree) (value sig tree no_scope no_names)
+    unfolding ended_at
     finished_by end =
         let m = read_moves sig ts start p ran in
         ap (λ (q : Partial). ended_at q.now q.context end) (sym (same_next (reached m.0 m.1)))

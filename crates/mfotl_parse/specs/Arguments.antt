@@ -3,7 +3,6 @@ use Rattle.std.specs.Prelude.{ℕ, zero, suc, ◌+◌, ◌-◌, List, [], ◌∷
 use Rattle.std.specs.Prelude.{codes}
 use Rattle.mfotl_lex.specs.Lexemes.{Lexeme}
 use Rattle.mfotl_lex.specs.Contents.{content_of}
-use Rattle.mfotl_model.specs.declared.formula.Bound.{Bound}
 use Rattle.mfotl_model.specs.declared.policy.Sort.{Sort}
 use Rattle.mfotl_model.specs.declared.policy.Sort.TheVariants as sorts
 use Rattle.mfotl_model.specs.declared.term.Term.{Term}
@@ -84,13 +83,9 @@ argument_move p call t classes.Blank =
     goes (one_due t.at call.rest ∷ within_nodes t.at p.nodes ∷ []) (blank_taken p call)
 argument_move p call t _ = None
 
--- the variable of a `_`, by its place among all that are bound
-abbrev pub blank_bound : ℕ → Bound
-blank_bound place = record { number = max_free + place; name = codes "_" }
-
--- EXISTS for the variable of a `_`
+-- EXISTS for the variable of a `_`, by its place among all that are bound
 abbrev pub blank : ℕ → Form → Form
-blank place f = forms.Exists (blank_bound place) f
+blank place f = forms.Exists (record { number = max_free + place; name = codes "_" }) f
 
 -- EXISTS for `count` variables, the one numbered `first` outermost
 abbrev pub blanks : ℕ → ℕ → Form → Form

@@ -115,7 +115,7 @@ ended n f true end = finished n f
 ended n f false end = Err (Syntax end)
 
 -- the end, by what may come next
-abbrev pub ended_at : Stage → Context → ℕ → Result PolicyOf PolicyFault
+unfoldable pub ended_at : Stage → Context → ℕ → Result PolicyOf PolicyFault
 ended_at (AfterOperand f) p end = ended p.names (reduce 0 f p.stack).form (is_closed (reduce 0 f p.stack).stack) end
 ended_at _ p end = Err (Syntax end)
 

@@ -57,7 +57,7 @@ abbrev pub call_view : CallValue → Call
 call_view call = record { pred = call.pred; rest = call.rest.now; args = call.args.items; bound = call.bound }
 
 -- what may come next
-abbrev pub stage_of : StageValue → Stage
+unfoldable pub stage_of : StageValue → Stage
 stage_of stages.ExpectOperand = ExpectOperand
 stage_of stages.AfterTemporal = AfterTemporal
 stage_of (stages.AfterOperand formula) = AfterOperand (form formula)

@@ -5,8 +5,8 @@ ghost use Rattle.mfotl_parse.specs.Arguments as calls;
 ghost use Rattle.mfotl_parse.specs.Transitions.{is_empty};
 ghost use Rattle.mfotl_parse.specs.Views.{call_view};
 
-use crate::frame::bound_number;
-use mfotl_model::{Atom, Bound, Formula, Name, Sort, Term, Terms};
+use crate::class::Quantifier;
+use mfotl_model::{Atom, Formula, Name, Sort, Term, Terms};
 use std::alloc::{AllocError, Global};
 
 /// An atom up to its last argument.
@@ -98,15 +98,6 @@ fn blanks(alloc: Global, first: u32, end: u32, inner: Formula) -> Result<Formula
 fn blank(alloc: Global, place: u32, inner: Formula) -> Result<Formula, AllocError>
     ensures { IfOk result (λ formula. form formula ≡ calls.blank place (form inner)) }
 {
-    let bound = blank_bound(alloc, place)?;
-    Ok(Formula::Exists(bound, Box::new(alloc, inner)?))
-}
-
-/// The variable of a `_`, by its place among all that are bound.
-fn blank_bound(alloc: Global, place: u32) -> Result<Bound, AllocError>
-    ensures { IfOk result (λ bound. bound ≡ calls.blank_bound place) }
-{
-    let number = bound_number(place)?;
     let name = Name::from_slice(alloc, b"_")?;
-    Ok(Bound { number, name })
+    Quantifier::Exists.over(alloc, place, name, inner)
 }

@@ -84,8 +84,7 @@ impl Operator {
     ) -> Result<Formula, AllocError>
         ensures { IfOk result (λ whole. form whole ≡ joined self interval (form left) (form right)) }
     {
-        let left = boxed(alloc, left)?;
-        let right = boxed(alloc, right)?;
+        let (left, right) = both_boxed(alloc, left, right)?;
         Ok(self.join(interval, left, right))
     }
 
@@ -127,7 +126,7 @@ impl Temporal {
 
 impl Quantifier {
     /// The formula of its body, where the variable is bound by its place among all of them.
-    fn over(
+    pub fn over(
         self,
         alloc: Global,
         variable: u32,
@@ -157,8 +156,20 @@ fn boxed(alloc: Global, formula: Formula) -> Result<Box<Formula>, AllocError>
     Ok(Box::new(alloc, formula)?)
 }
 
+fn both_boxed(
+    alloc: Global,
+    left: Formula,
+    right: Formula,
+) -> Result<(Box<Formula>, Box<Formula>), AllocError>
+    ensures { IfOk result (λ both. (form both.0.value ≡ form left) × (form both.1.value ≡ form right)) }
+{
+    let left = boxed(alloc, left)?;
+    let right = boxed(alloc, right)?;
+    Ok((left, right))
+}
+
 /// The number of a bound variable, by its place among all of them: behind the free ones.
-pub fn bound_number(place: u32) -> Result<u32, AllocError>
+fn bound_number(place: u32) -> Result<u32, AllocError>
     ensures { IfOk result (λ number. number ≡ max_free + place) }
 {
     match place.checked_add(MAX_FREE) {

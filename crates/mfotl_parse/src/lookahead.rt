@@ -1,4 +1,6 @@
 //! A `(` behind a temporal operator, which may begin an interval or an operand.
+#![tactic(auto, unfolding(crate::specs::Views::stage_of))]
+
 ghost use Rattle.std.specs.Prelude.{◌≡◌};
 ghost use Rattle.mfotl_lex.specs.Lexemes.{lexeme};
 ghost use Rattle.mfotl_parse.specs.Transitions.{given, within_depth, first_keeps};

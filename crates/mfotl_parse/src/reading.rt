@@ -27,6 +27,7 @@ use std::alloc::Global;
 use std::mem;
 
 impl<'a> Parser<'a> {
+    #[tactic(auto, unfolding(crate::specs::Views::stage_of))]
     fn new(alloc: Global) -> Self
         ensures { partial_of result ≡ start }
     {
@@ -87,6 +88,7 @@ impl<'a> Parser<'a> {
     }
 
     /// The policy, where the text ends at the offset.
+    #[tactic(auto, unfolding(crate::specs::Views::stage_of, crate::specs::Reading::ended_at))]
     fn finish(self, alloc: Global, end: u64) -> Result<Policy, PolicyFault>
         ensures { Gives policy_of result (ended_at (stage_of self.entry.now) (context_of self.entry.context) end) }
     {
@@ -99,7 +101,7 @@ impl<'a> Parser<'a> {
 }
 
 /// What may come behind the next token.
-#[tactic(auto, unfolding(crate::specs::Reading::step, crate::specs::Reading::transition))]
+#[tactic(auto, unfolding(crate::specs::Reading::step, crate::specs::Reading::transition, crate::specs::Views::stage_of))]
 fn advance<'a>(
     alloc: Global,
     context: &mut Context,
