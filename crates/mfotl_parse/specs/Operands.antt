@@ -9,10 +9,11 @@ use Rattle.mfotl_sig.specs.Preds.{PredOf}
 use Rattle.mfotl_parse.specs.declared.class.Class.{Class}
 use Rattle.mfotl_parse.specs.declared.class.Class.TheVariants as classes
 use Rattle.mfotl_parse.specs.declared.term.Operand.TheVariants as operands
+use Rattle.mfotl_parse.specs.declared.term.Side.{Side}
 use Rattle.mfotl_parse.specs.Arguments.{called}
 use Rattle.mfotl_parse.specs.Intervals.{any_distance}
 use Rattle.mfotl_parse.specs.Transitions.{Transition, goes, within_depth, within_nodes}
-use Rattle.mfotl_parse.specs.States.{Frame, Parens, Negation, Moment, Context, with_now, counted, pushed}
+use Rattle.mfotl_parse.specs.States.{Stage, Frame, Parens, Negation, Moment, Context, with_now, counted, pushed}
 use Rattle.mfotl_parse.specs.States.{ExpectOperand, AfterTemporal, AfterOperand, AfterWord, AfterBlank, AfterMark}
 use Rattle.mfotl_parse.specs.States.{ExpectSign, ExpectVariable, AfterParen, ExpectLow}
 use Rattle.mfotl_parse.specs.Comparisons.{signed, named_side, with_noted}
@@ -22,9 +23,14 @@ abbrev pub truth : Bool → Form
 truth true = forms.True
 truth false = forms.False
 
--- an operator before its operand
-abbrev pub prefixed : Context → Frame → Context
-prefixed p frame = pushed frame (counted p)
+-- an operator before its operand, behind which this may come
+abbrev pub before : ℕ → Context → Frame → Stage → Option Transition
+before at p frame now =
+    goes (within_depth at p.stack ∷ within_nodes at p.nodes ∷ []) (with_now (pushed frame (counted p)) now)
+
+-- a Text as the left side of a comparison
+abbrev pub quoted : Lexeme → Side
+quoted t = record { at = t.at; operand = operands.Constant (values.Text (content_of t.kind t.text)) }
 
 -- a formula's `(`
 abbrev pub opened : Context → ℕ → Option Transition
@@ -34,19 +40,14 @@ opened p at = goes (within_depth at p.stack ∷ []) (with_now (pushed Parens p) 
 abbrev pub operand_move : Context → Lexeme → Class → Option Transition
 operand_move p t (classes.Truth value) =
     goes (within_nodes t.at p.nodes ∷ []) (with_now (counted p) (AfterOperand (truth value)))
-operand_move p t classes.Not =
-    goes (within_depth t.at p.stack ∷ within_nodes t.at p.nodes ∷ []) (with_now (prefixed p Negation) ExpectOperand)
-operand_move p t (classes.Temporal operator) =
-    goes (within_depth t.at p.stack ∷ within_nodes t.at p.nodes ∷ [])
-    (with_now (prefixed p (Moment operator any_distance)) AfterTemporal)
+operand_move p t classes.Not = before t.at p Negation ExpectOperand
+operand_move p t (classes.Temporal operator) = before t.at p (Moment operator any_distance) AfterTemporal
 operand_move p t (classes.Quantifier quantifier) = goes [] (with_now p (ExpectVariable quantifier))
 operand_move p t classes.Name = goes [] (with_now p (AfterWord t.at t.text))
 operand_move p t classes.Blank = goes [] (with_now p (AfterBlank t.at))
 operand_move p t (classes.Integer z) =
     goes [] (with_now p (ExpectSign (record { at = t.at; operand = operands.Constant (values.Int z) })))
-operand_move p t classes.Text =
-    goes [] (with_now p
-    (ExpectSign (record { at = t.at; operand = operands.Constant (values.Text (content_of t.kind t.text)) })))
+operand_move p t classes.Text = goes [] (with_now p (ExpectSign (quoted t)))
 operand_move p t classes.OpenParen = opened p t.at
 operand_move p t classes.Question = goes [] (with_now p (AfterMark t.at))
 operand_move p t _ = None

@@ -1,5 +1,5 @@
 //! An atom while its arguments are read.
-ghost use Rattle.std.specs.Prelude.{◌≡◌, ◌-◌, IfOk};
+ghost use Rattle.std.specs.Prelude.{◌≡◌, ◌-◌, IfOk, codes};
 ghost use Rattle.mfotl_model.specs.Formulas.{form};
 ghost use Rattle.mfotl_parse.specs.Arguments as calls;
 ghost use Rattle.mfotl_parse.specs.Transitions.{is_empty};
@@ -98,6 +98,12 @@ fn blanks(alloc: Global, first: u32, end: u32, inner: Formula) -> Result<Formula
 fn blank(alloc: Global, place: u32, inner: Formula) -> Result<Formula, AllocError>
     ensures { IfOk result (λ formula. form formula ≡ calls.blank place (form inner)) }
 {
-    let name = Name::from_slice(alloc, b"_")?;
+    let name = blank_name(alloc)?;
     Quantifier::Exists.over(alloc, place, name, inner)
+}
+
+fn blank_name(alloc: Global) -> Result<Name, AllocError>
+    ensures { IfOk result (λ name. name ≡ codes "_") }
+{
+    Ok(Name::from_slice(alloc, b"_")?)
 }

@@ -1,14 +1,15 @@
 //! Where an operand begins.
 #![tactic(auto, unfolding(crate::specs::Views::stage_of))]
 
-ghost use Rattle.std.specs.Prelude.{◌≡◌, ◌∷◌, []};
+ghost use Rattle.std.specs.Prelude.{◌≡◌, ◌∷◌, [], IfOk};
 ghost use Rattle.mfotl_lex.specs.Lexemes.{lexeme};
 ghost use Rattle.mfotl_parse.specs.Transitions.{given, goes, within_nodes, within_depth};
 ghost use Rattle.mfotl_parse.specs.Operands as operands;
 ghost use Rattle.mfotl_parse.specs.States as states;
-ghost use Rattle.mfotl_parse.specs.Views.{context_of, GoesOn, Enters};
+ghost use Rattle.mfotl_parse.specs.Intervals.{any_distance};
+ghost use Rattle.mfotl_parse.specs.Views.{context_of, stage_of, GoesOn, Enters};
 
-use crate::class::Class;
+use crate::class::{Class, Temporal};
 use crate::fault::PolicyFault;
 use crate::frame::Frame;
 use crate::intervals::any_distance;
@@ -17,7 +18,7 @@ use crate::term::{Operand, Side};
 use mfotl_lex::Token;
 use mfotl_model::{Formula, Value};
 use mfotl_sig::Signature;
-use std::alloc::Global;
+use std::alloc::{AllocError, Global};
 
 impl Context {
     /// Where an operand is due.
@@ -34,16 +35,8 @@ impl Context {
         let at = token.at as u64;
         match class {
             Class::Truth(value) => self.truth(at, value),
-            Class::Not => {
-                self.enter(at)?;
-                self.push(Frame::Negation)?;
-                Ok(Stage::ExpectOperand)
-            }
-            Class::Temporal(operator) => {
-                self.enter(at)?;
-                self.push(Frame::Moment(operator, any_distance()))?;
-                Ok(Stage::AfterTemporal)
-            }
+            Class::Not => self.negation(at),
+            Class::Temporal(operator) => self.moment(at, operator),
             Class::Quantifier(quantifier) => Ok(Stage::ExpectVariable(quantifier)),
             Class::Name => Ok(Stage::AfterWord(at, token.text)),
             Class::Blank => Ok(Stage::AfterBlank(at)),
@@ -51,14 +44,8 @@ impl Context {
                 let operand = Operand::Constant(Value::Int(number));
                 Ok(Stage::ExpectSign(Side { at, operand }))
             }
-            Class::Text => {
-                let operand = Operand::Constant(text_value(alloc, token)?);
-                Ok(Stage::ExpectSign(Side { at, operand }))
-            }
-            Class::OpenParen => {
-                self.open(at)?;
-                Ok(Stage::ExpectOperand)
-            }
+            Class::Text => Ok(quoted(alloc, token)?),
+            Class::OpenParen => self.parens(at),
             Class::Question => Ok(Stage::AfterMark(at)),
             _ => Err(PolicyFault::Syntax(at)),
         }
@@ -149,6 +136,26 @@ impl Context {
         }
     }
 
+    /// NOT before its operand.
+    fn negation<'a>(&mut self, at: u64) -> Result<Stage<'a>, PolicyFault>
+        ensures { GoesOn result self.new (given 0 (operands.before at (context_of self.old) states.Negation
+            states.ExpectOperand)) }
+    {
+        self.enter(at)?;
+        self.push(Frame::Negation)?;
+        Ok(Stage::ExpectOperand)
+    }
+
+    /// A temporal operator before its operand.
+    fn moment<'a>(&mut self, at: u64, operator: Temporal) -> Result<Stage<'a>, PolicyFault>
+        ensures { GoesOn result self.new (given 0 (operands.before at (context_of self.old)
+            (states.Moment operator any_distance) states.AfterTemporal)) }
+    {
+        self.enter(at)?;
+        self.push(Frame::Moment(operator, any_distance()))?;
+        Ok(Stage::AfterTemporal)
+    }
+
     /// One more level and one more node, where the offset says.
     pub fn enter(&mut self, at: u64) -> Result<(), PolicyFault>
         ensures { Enters result self.new (within_depth at (context_of self.old).stack
@@ -175,4 +182,22 @@ impl Context {
         self.push(Frame::Parens)?;
         Ok(())
     }
+
+    fn parens<'a>(&mut self, at: u64) -> Result<Stage<'a>, PolicyFault>
+        ensures { GoesOn result self.new (given 0 (operands.opened (context_of self.old) at)) }
+    {
+        self.open(at)?;
+        Ok(Stage::ExpectOperand)
+    }
+}
+
+/// A Text as the left side of a comparison.
+fn quoted<'a>(alloc: Global, token: &Token<'a>) -> Result<Stage<'a>, AllocError>
+    ensures { IfOk result (λ now. stage_of now ≡ states.ExpectSign (operands.quoted (lexeme token.now))) }
+{
+    let value = text_value(alloc, token)?;
+    Ok(Stage::ExpectSign(Side {
+        at: token.at as u64,
+        operand: Operand::Constant(value),
+    }))
 }

@@ -47,8 +47,13 @@ impl<'a> Parser<'a> {
         ensures { Steps result self.new (step signature.now (partial_of self.old) (lexeme token.now)) }
     {
         let now = mem::replace(&mut self.now, Stage::ExpectOperand);
-        self.now = advance(alloc, &mut self.context, signature, now, token)?;
-        Ok(())
+        match advance(alloc, &mut self.context, signature, now, token) {
+            Ok(next) => {
+                self.now = next;
+                Ok(())
+            }
+            Err(fault) => Err(fault),
+        }
     }
 
     /// Takes the next token, and says whether there was one.
@@ -87,14 +92,26 @@ impl<'a> Parser<'a> {
         Ok(())
     }
 
+    /// Takes a whole text.
+    fn take_text(
+        &mut self,
+        alloc: Global,
+        bytes: &'a [u8],
+        signature: &'a Signature,
+    ) -> Result<Policy, PolicyFault>
+        ensures { Gives policy_of result (reading_on signature.now bytes.now (partial_of self.old)) }
+    {
+        self.take_all(alloc, bytes, signature)?;
+        self.finish(alloc, bytes.len() as u64)
+    }
+
     /// The policy, where the text ends at the offset.
     #[tactic(auto, unfolding(crate::specs::Views::stage_of, crate::specs::Reading::ended_at))]
-    fn finish(self, alloc: Global, end: u64) -> Result<Policy, PolicyFault>
-        ensures { Gives policy_of result (ended_at (stage_of self.entry.now) (context_of self.entry.context) end) }
+    fn finish(&mut self, alloc: Global, end: u64) -> Result<Policy, PolicyFault>
+        ensures { Gives policy_of result (ended_at (stage_of self.old.now) (context_of self.old.context) end) }
     {
-        let Parser { mut context, now } = self;
-        match now {
-            Stage::AfterOperand(formula) => close(alloc, &mut context, formula, end),
+        match mem::replace(&mut self.now, Stage::ExpectOperand) {
+            Stage::AfterOperand(formula) => close(alloc, &mut self.context, formula, end),
             _ => Err(PolicyFault::Syntax(end)),
         }
     }
@@ -165,7 +182,20 @@ fn close(
         (reduce 0 (form formula) (context_of context.old).stack).form
         (is_closed (reduce 0 (form formula) (context_of context.old).stack).stack) end) }
 {
-    let formula = stack::reduce(alloc, &mut context.frames, 0, formula)?;
+    let whole = stack::reduce(alloc, &mut context.frames, 0, formula)?;
+    with_columns(alloc, context, whole, end)
+}
+
+/// The formula with its columns, where the text ends behind it.
+fn with_columns(
+    alloc: Global,
+    context: &Context,
+    formula: Formula,
+    end: u64,
+) -> Result<Policy, PolicyFault>
+    ensures { Gives policy_of result (reading_words.ended (context_of context.now).names (form formula)
+        (is_closed (context_of context.now).stack) end) }
+{
     let vars = columns_at(alloc, context, end)?;
     Ok(Policy { formula, vars })
 }
@@ -215,8 +245,7 @@ fn read<'a>(alloc: Global, bytes: &'a [u8], signature: &'a Signature) -> Result<
     ensures { Gives policy_of result (reading bytes.now signature.now) }
 {
     let mut parser = Parser::new(alloc);
-    parser.take_all(alloc, bytes, signature)?;
-    parser.finish(alloc, bytes.len() as u64)
+    parser.take_text(alloc, bytes, signature)
 }
 
 /// The policy of a text over the predicates of a signature.
