@@ -26,6 +26,7 @@ use Rattle.mfotl_parse.specs.SymbolTable.{uneven_pair, clash_or_pair}
 use Rattle.mfotl_parse.specs.Transitions.{Limit, Empty, Range, Unknown, Arity, Deep, Nodes, Transition, fault_of, given}
 use Rattle.mfotl_parse.specs.Viability.{if_moved, is_whole, accepts}
 use Rattle.mfotl_parse.proofs.AcceptedLaw.{accepted_formula}
+use Rattle.mfotl_parse.proofs.FreeNames.{all_free}
 use Rattle.mfotl_parse.proofs.ReadMoves.{kept_broken, first_broken, accepts_read, read_silent}
 use Rattle.mfotl_parse.proofs.TracedMoves.{broken, traced, trace}
 use Rattle.mfotl_parse.proofs.TracedTrees.{shows_whole}
@@ -222,7 +223,7 @@ module _ (sig : List PredOf) (ts : List Lexeme) (s : Partial) (ran : run (step s
           tree = tree;
           whole = record { end = end; ended = refl; fits = fits; spelled = spelled };
           even = ap (λ x. clash_or_pair x (uneven_pair names)) c ∙ ap (clash_or_pair None) u;
-          ninth = ap ninth_place n;
+          ninth = ap (λ free. ninth_place (slice_get free max_free)) (sym (all_free sig tree)) ∙ ap ninth_place n;
         })
     by_names None None None policy fault c u n e = absurd cc
 
@@ -261,7 +262,8 @@ module _ (sig : List PredOf) (ts : List Lexeme) (s : Partial) (ran : run (step s
       ap (λ x. at_tail x s) c.whole.ended
       ∙ finished_by sig ts s ran c.tree c.whole.fits c.whole.spelled c.whole.end
       ∙ sorted_many _ (all_names sig c.tree).clash (uneven_pair (all_names sig c.tree))
-      (slice_get (all_names sig c.tree).free max_free) at c.even c.ninth
+      (slice_get (all_names sig c.tree).free max_free) at c.even
+      (ap (λ free. ninth_place (slice_get free max_free)) (all_free sig c.tree) ∙ c.ninth)
 
   last_shows : (tail : Tail LexFault) (fault : PolicyFault) → IsLast sig ts tail fault → at_tail tail s ≡ Err fault
   last_shows tail (Lex fault) c = ap (λ x. at_tail x s) c

@@ -1,5 +1,5 @@
 -- The columns of a policy that was read are the free variables of its formula, and its occurrences have their sorts.
-use Rattle.std.proofs.Common.{◌≡◌, ℕ, suc, ◌+◌, ◌-◌, ◌<◌, Bool, List, [], ◌∷◌, length, map, Option}
+use Rattle.std.proofs.Common.{◌≡◌, ℕ, suc, ◌+◌, ◌-◌, ◌<◌, ◌≤◌, Bool, List, [], ◌∷◌, length, map, Option}
 use Rattle.std.proofs.Common.{Some, None, Result, Ok, Err, refl, sym, ap, subst, ◌∙◌, arith, cond}
 use Rattle.std.proofs.lemmas.Bool.{lt-ltb}
 use Rattle.std.specs.Prelude.{slice_get, IfOk}
@@ -20,6 +20,7 @@ use Rattle.mfotl_parse.specs.Views.{policy_of as policy_seen, Gives}
 use Rattle.mfotl_parse.specs.WellSorted.{sort_or_integer, IsWellSorted}
 use Rattle.mfotl_parse.specs.Limits.{max_free}
 use Rattle.mfotl_parse.proofs.BoundVariables.{only_free}
+use Rattle.mfotl_parse.proofs.FreeNames.{few_met}
 use Rattle.mfotl_parse.proofs.LimitLemmas.{length_vars_of}
 use Rattle.mfotl_parse.proofs.NamesOrder.{grows_not, tree_grows}
 use Rattle.mfotl_parse.proofs.PolicyLaws.{read_is_spelled}
@@ -54,18 +55,21 @@ module _ (sig : List PredOf) (tree : Tree) (rules : KeepsRules sig tree) where
   abbrev last : SymbolTable
   last = all_names sig tree
 
+  few : length last.free ≤ max_free
+  few = few_met sig tree rules.few_free
+
   free_is : fv (value sig tree no_scope no_names) ≡ range_with_len 0 (length (vars_of last.free last.free_sorts))
   free_is =
-      sym (only_free sig tree no_names rules.few_free)
+      sym (only_free sig tree no_names few)
       ∙ sym (joined_none _)
-      ∙ tree_order sig tree no_scope no_names rules.few_free
+      ∙ tree_order sig tree no_scope no_names few
       ∙ ap (range_with_len 0) (sym (length_vars_of last.free last.free_sorts))
 
   columns_are : map (λ v. v.sort) (vars_of last.free last.free_sorts)
       ≡ map (λ x. sort_or_integer (given_by last x)) (range_with_len 0 (length (vars_of last.free last.free_sorts)))
   columns_are =
       columns_from (given_by last) 0 last.free last.free_sorts ((tree_grows sig tree no_scope no_names).sized refl)
-      (λ k below. low k (omega (arith, below, rules.few_free)))
+      (λ k below. low k (omega (arith, below, few)))
       ∙ ap (λ (n : ℕ). map (λ x. sort_or_integer (given_by last x)) (range_with_len 0 n))
       (sym (length_vars_of last.free last.free_sorts))
     where
@@ -85,7 +89,7 @@ module _ (sig : List PredOf) (tree : Tree) (rules : KeepsRules sig tree) where
   well_sorted = record {
     free = free_is;
     given = given_by last;
-    fits = tree_sorted sig last rules.unclashed rules.even rules.few_free tree no_scope no_names none_open refl
+    fits = tree_sorted sig last rules.unclashed rules.even few tree no_scope no_names none_open refl
         rules.parts (grows_not last);
     columns = columns_are;
   }

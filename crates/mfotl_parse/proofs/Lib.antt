@@ -17,6 +17,7 @@ pub mod TracedMoves
 pub mod TracedParts
 pub mod TracedTrees
 pub mod ReadMoves
+pub mod FreeNames
 pub mod WholeTrees
 pub mod CauseLaw
 pub mod PolicyLaws

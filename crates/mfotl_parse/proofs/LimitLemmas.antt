@@ -6,6 +6,7 @@ use Rattle.mfotl_parse.specs.Limits.{max_free}
 use Rattle.mfotl_parse.specs.Meanings.{all_names, IsValue}
 use Rattle.mfotl_parse.specs.Reading.{PolicyOf}
 use Rattle.mfotl_parse.specs.SymbolTable.{vars_of}
+use Rattle.mfotl_parse.proofs.FreeNames.{few_met}
 
 pub length_vars_of : (free : List (List ℕ × ℕ)) (given : List (Option Sort)) → length (vars_of free given)
     ≡ length free
@@ -19,4 +20,4 @@ pub few_value : (sig : List PredOf) (bytes : List ℕ) (policy : PolicyOf) → I
 few_value sig bytes policy v =
     let names = all_names sig v.tree in
     let same = ap (λ (p : PolicyOf). length p.vars) v.value in
-    omega (arith, same, length_vars_of names.free names.free_sorts, v.rules.few_free)
+    omega (arith, same, length_vars_of names.free names.free_sorts, few_met sig v.tree v.rules.few_free)

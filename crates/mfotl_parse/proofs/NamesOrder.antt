@@ -18,8 +18,9 @@ use Rattle.mfotl_parse.specs.Grammar.{WrittenTerm, Named, Number, Quoted, Writte
 use Rattle.mfotl_parse.specs.Grammar.{WrittenArguments, LastArgument, MoreArguments, WrittenVariables, LastVariable}
 use Rattle.mfotl_parse.specs.Grammar.{MoreVariables, Tree, Truth, BareAtom, AtomOf, Comparison, Enclosed, Denied}
 use Rattle.mfotl_parse.specs.Grammar.{Timed, Quantified, Joined}
-use Rattle.mfotl_parse.specs.Meanings.{Scope, name_of, place_of_variable, place_of, operand_of, term_names}
-use Rattle.mfotl_parse.specs.Meanings.{argument_names, arguments_names, variables_names, variables_scope, names_behind}
+use Rattle.mfotl_parse.specs.Meanings.{Scope, operand_of, term_names, argument_names, arguments_names}
+use Rattle.mfotl_parse.specs.Meanings.{variables_names, variables_scope, names_behind}
+use Rattle.mfotl_parse.specs.Occurrences.{name_of, place_of_variable, place_of}
 use Rattle.mfotl_parse.specs.SymbolTable.{free_place, bound_or_free, free_or_new, with_free, met, bound_more, given_at}
 use Rattle.mfotl_parse.specs.SymbolTable.{sort_of, with_sort, same_sort, first_of, clashed, agreed, occurred}
 use Rattle.mfotl_parse.specs.SymbolTable.{require_sort, sort_of_value, constrain_term, compared}

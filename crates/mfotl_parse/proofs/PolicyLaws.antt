@@ -28,6 +28,7 @@ use Rattle.mfotl_parse.specs.Limits.{max_free}
 use Rattle.mfotl_parse.specs.Meanings.{no_scope, all_names, value, node_count, KeepsRules, IsValue, policy_of}
 use Rattle.mfotl_parse.specs.Reading.{PolicyOf, step, sorted, finished, ended, ended_at, is_closed, at_tail, text_of}
 use Rattle.mfotl_parse.specs.Reading.{reading_on, reading}
+use Rattle.mfotl_parse.specs.Occurrences.{free_variables}
 use Rattle.mfotl_parse.specs.Reduction.{reduce}
 use Rattle.mfotl_parse.specs.States.{no_names, depth, Stage, Context, SymbolTable, Partial, AfterOperand, start}
 use Rattle.mfotl_parse.specs.SymbolTable.{uneven_pair}
@@ -35,6 +36,7 @@ use Rattle.mfotl_parse.specs.Viability.{FirstFaults, is_whole, IsViable}
 use Rattle.mfotl_parse.specs.Views.{policy_of as policy_seen, Fails, Gives}
 use Rattle.mfotl_parse.proofs.AcceptedLaw.{accepted_formula}
 use Rattle.mfotl_parse.proofs.CauseLaw.{follows, early_end}
+use Rattle.mfotl_parse.proofs.FreeNames.{all_free, few_met}
 use Rattle.mfotl_parse.proofs.LimitLemmas.{few_value}
 use Rattle.mfotl_parse.proofs.ReadMoves.{moves_read, accepts_moves, read_silent, silent_read, goes_on_moves, goes_on_front}
 use Rattle.mfotl_parse.proofs.SpelledMoves.{at_place}
@@ -106,7 +108,8 @@ module _ (sig : List PredOf) (bytes : List ℕ) (policy : PolicyOf) (p : Partial
           few_levels = omega (arith, keeps.1);
           unclashed = u.unclashed;
           even = u.even;
-          few_free = at_most names.free u.few;
+          few_free = at_most (free_variables tree)
+              (ap (λ free. slice_get free max_free) (sym (all_free sig tree)) ∙ u.few);
         };
         value = u.same;
       }
@@ -127,7 +130,7 @@ module _ (sig : List PredOf) (tree : Tree) (rules : KeepsRules sig tree) where
       let policy = policy_of sig tree in
       ap (λ c. sorted c (uneven_pair names) (slice_get names.free max_free) policy) rules.unclashed
       ∙ ap (λ c. sorted None c (slice_get names.free max_free) policy) rules.even
-      ∙ ap (λ c. sorted None None c policy) (slice_get_past names.free max_free rules.few_free)
+      ∙ ap (λ c. sorted None None c policy) (slice_get_past names.free max_free (few_met sig tree rules.few_free))
 
 pub spelled_is_read : SpelledIsRead
 unfolding reading reading_on layer.reading

@@ -27,10 +27,11 @@ use Rattle.mfotl_parse.specs.Grammar.{WrittenTerm, Named, Number, Quoted, Writte
 use Rattle.mfotl_parse.specs.Grammar.{WrittenArguments, LastArgument, MoreArguments, WrittenVariables, LastVariable}
 use Rattle.mfotl_parse.specs.Grammar.{MoreVariables, Tree, Truth, BareAtom, AtomOf, Comparison, Enclosed, Denied}
 use Rattle.mfotl_parse.specs.Grammar.{Timed, Quantified, Joined}
-use Rattle.mfotl_parse.specs.Meanings.{Scope, inside, name_of, place_of_variable, place_of, operand_of, term_names}
-use Rattle.mfotl_parse.specs.Meanings.{argument_term, argument_names, arguments_terms, arguments_names, argument_count}
-use Rattle.mfotl_parse.specs.Meanings.{atom, variables_names, variables_scope, quantify, interval_of, names_behind}
-use Rattle.mfotl_parse.specs.Meanings.{value, HasArity, PartsKeep}
+use Rattle.mfotl_parse.specs.Meanings.{Scope, inside, operand_of, term_names, argument_term, argument_names}
+use Rattle.mfotl_parse.specs.Meanings.{arguments_terms, arguments_names, argument_count, atom, variables_names}
+use Rattle.mfotl_parse.specs.Meanings.{variables_scope, quantify, interval_of, names_behind, value, HasArity}
+use Rattle.mfotl_parse.specs.Meanings.{PartsKeep}
+use Rattle.mfotl_parse.specs.Occurrences.{name_of, place_of_variable, place_of}
 use Rattle.mfotl_parse.specs.SymbolTable.{number_of, bound_or_free, bound_more, inner_or, given_at, sort_of}
 use Rattle.mfotl_parse.specs.SymbolTable.{same_sort, require_sort, sort_of_value, constrain_term, compared}
 use Rattle.mfotl_parse.specs.SymbolTable.{term_of, differ, uneven_pair}

@@ -32,9 +32,10 @@ use Rattle.mfotl_parse.specs.Grammar.{WrittenTerm, Named, Number, Quoted, Writte
 use Rattle.mfotl_parse.specs.Grammar.{Hidden, WrittenArguments, LastArgument, MoreArguments, WrittenVariables}
 use Rattle.mfotl_parse.specs.Grammar.{LastVariable, MoreVariables, Tree, Truth, BareAtom, AtomOf, Comparison, Enclosed}
 use Rattle.mfotl_parse.specs.Grammar.{Denied, Timed, Quantified, Joined}
-use Rattle.mfotl_parse.specs.Meanings.{Scope, name_of, place_of_variable, place_of, operand_of, term_names}
-use Rattle.mfotl_parse.specs.Meanings.{argument_term, argument_names, arguments_terms, arguments_names, atom}
-use Rattle.mfotl_parse.specs.Meanings.{variables_names, variables_scope, quantify, interval_of, names_behind, value}
+use Rattle.mfotl_parse.specs.Meanings.{Scope, operand_of, term_names, argument_term, argument_names, arguments_terms}
+use Rattle.mfotl_parse.specs.Meanings.{arguments_names, atom, variables_names, variables_scope, quantify, interval_of}
+use Rattle.mfotl_parse.specs.Meanings.{names_behind, value}
+use Rattle.mfotl_parse.specs.Occurrences.{name_of, place_of_variable, place_of}
 use Rattle.mfotl_parse.specs.SymbolTable.{number_of, free_place, free_or_new, with_free, bound_or_free, met}
 use Rattle.mfotl_parse.specs.SymbolTable.{bound_more, sort_of, same_sort, agreed, clashed, occurred, require_sort}
 use Rattle.mfotl_parse.specs.SymbolTable.{sort_of_value, constrain_term, compared, term_of}

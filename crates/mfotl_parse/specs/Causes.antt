@@ -12,6 +12,7 @@ use Rattle.mfotl_parse.specs.declared.fault.PolicyFault.TheVariants.{TooManyVari
 use Rattle.mfotl_parse.specs.Grammar.{Tree, Fits, spelling, IsFormula, BeginsFormula}
 use Rattle.mfotl_parse.specs.Limits.{max_free}
 use Rattle.mfotl_parse.specs.Meanings.{all_names}
+use Rattle.mfotl_parse.specs.Occurrences.{free_variables}
 use Rattle.mfotl_parse.specs.Shows.{shown_by}
 use Rattle.mfotl_parse.specs.SymbolTable.{uneven_pair, clash_or_pair}
 
@@ -47,8 +48,8 @@ abbrev pub sort_clash : List PredOf → Tree → Option ℕ
 sort_clash sig tree = clash_or_pair (all_names sig tree).clash (uneven_pair (all_names sig tree))
 
 -- where its ninth free variable stands first
-abbrev pub ninth_variable : List PredOf → Tree → Option ℕ
-ninth_variable sig tree = option_map (λ known. known.1) (slice_get (all_names sig tree).free max_free)
+abbrev pub ninth_variable : Tree → Option ℕ
+ninth_variable tree = option_map (λ one. one.1) (slice_get (free_variables tree) max_free)
 
 -- sorts clash in a whole formula
 pub record SortsClash (sig : List PredOf) (ts : List Lexeme) (tail : Tail LexFault) (at : ℕ) : Type 0 where
@@ -61,7 +62,7 @@ pub record HasNinthVariable (sig : List PredOf) (ts : List Lexeme) (tail : Tail 
   pub tree : Tree
   pub whole : IsWhole ts tail tree
   pub even : sort_clash sig tree ≡ None
-  pub ninth : ninth_variable sig tree ≡ Some at
+  pub ninth : ninth_variable tree ≡ Some at
 
 -- what stands behind all tokens shows the fault
 abbrev pub IsLast : List PredOf → List Lexeme → Tail LexFault → PolicyFault → Type 0

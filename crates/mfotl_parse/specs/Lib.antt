@@ -16,6 +16,7 @@ pub mod Viability
 pub mod Views
 pub mod Examples
 pub mod Grammar
+pub mod Occurrences
 pub mod Meanings
 pub mod Shows
 pub mod Causes

@@ -25,6 +25,7 @@ use Rattle.mfotl_parse.specs.Grammar.{Joined, Fits, spelling, deepens}
 use Rattle.mfotl_parse.specs.Intervals.{distances, any_distance}
 use Rattle.mfotl_parse.specs.SymbolTable.{bound_or_free, met, bound_more, constrain_term, compared, term_of, inner_or}
 use Rattle.mfotl_parse.specs.SymbolTable.{uneven_pair, vars_of}
+use Rattle.mfotl_parse.specs.Occurrences.{name_of, place_of_variable, place_of, free_variables}
 use Rattle.mfotl_parse.specs.Operands.{truth}
 use Rattle.mfotl_parse.specs.Reading.{PolicyOf, text_of}
 use Rattle.mfotl_parse.specs.Reduction.{momentary, joined, quantified}
@@ -40,22 +41,6 @@ abbrev pub inside : List ℕ → ℕ → Scope → Scope
 inside bound variable scope name = inner_or (if bytes_eq name bound then Some variable else None) (scope name)
 
 -- ---- terms
-
--- the name of a variable, without `?`
-abbrev pub name_of : WrittenVariable → List ℕ
-name_of (Bare name) = name.text
-name_of (Asked mark name) = name.text
-
--- where a variable stands: at its `?`, if it has one
-abbrev pub place_of_variable : WrittenVariable → ℕ
-place_of_variable (Bare name) = name.at
-place_of_variable (Asked mark name) = mark.at
-
--- where a term stands
-abbrev pub place_of : WrittenTerm → ℕ
-place_of (Named variable) = place_of_variable variable
-place_of (Number token value) = token.at
-place_of (Quoted token) = token.at
 
 -- what a term stands for
 abbrev pub operand_of : WrittenTerm → Scope → SymbolTable → Operand
@@ -290,7 +275,7 @@ pub record KeepsRules (sig : List PredOf) (tree : Tree) : Type 0 where
   pub unclashed : (all_names sig tree).clash ≡ None
   pub even : uneven_pair (all_names sig tree) ≡ None
   -- at most 8 free variables
-  pub few_free : length (all_names sig tree).free ≤ max_free
+  pub few_free : length (free_variables tree) ≤ max_free
 
 -- the policy that a formula means
 abbrev pub policy_of : List PredOf → Tree → PolicyOf

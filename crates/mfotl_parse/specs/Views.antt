@@ -28,7 +28,7 @@ frame_of frames.Parens = Parens
 frame_of frames.Negation = Negation
 frame_of (frames.Moment operator interval) = Moment operator interval
 frame_of (frames.Binding quantifier variable name) = Binding quantifier variable name
-frame_of (frames.Left operator interval left) = Left operator interval (form left)
+frame_of (frames.Left operator interval left) = Left operator interval (form left.value)
 
 -- the newest frame stands last in memory
 unfoldable pub stack_of : List FrameValue → List Frame
@@ -60,7 +60,7 @@ call_view call = record { pred = call.pred; rest = call.rest.now; args = call.ar
 unfoldable pub stage_of : StageValue → Stage
 stage_of stages.ExpectOperand = ExpectOperand
 stage_of stages.AfterTemporal = AfterTemporal
-stage_of (stages.AfterOperand formula) = AfterOperand (form formula)
+stage_of (stages.AfterOperand formula) = AfterOperand (form formula.value)
 stage_of (stages.AfterWord at name) = AfterWord at name.now
 stage_of (stages.AfterBlank at) = AfterBlank at
 stage_of (stages.AfterMark mark) = AfterMark mark

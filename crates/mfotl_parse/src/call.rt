@@ -6,6 +6,7 @@ ghost use Rattle.mfotl_parse.specs.Transitions.{is_empty};
 ghost use Rattle.mfotl_parse.specs.Views.{call_view};
 
 use crate::class::Quantifier;
+use crate::frame::boxed;
 use mfotl_model::{Atom, Formula, Name, Sort, Term, Terms};
 use std::alloc::{AllocError, Global};
 
@@ -62,8 +63,8 @@ impl<'a> Call<'a> {
     }
 
     /// The atom, with EXISTS for each `_`.
-    pub fn close(self, alloc: Global, bound: u32) -> Result<Formula, AllocError>
-        ensures { IfOk result (λ formula. form formula
+    pub fn close(self, alloc: Global, bound: u32) -> Result<Box<Formula>, AllocError>
+        ensures { IfOk result (λ formula. form formula.value
             ≡ calls.atom_of (call_view self.entry) bound) }
     {
         let Call {
@@ -72,18 +73,21 @@ impl<'a> Call<'a> {
             args,
             bound: first,
         } = self;
-        let atom = Formula::Atom(Atom {
-            pred,
-            args: Terms::new(args),
-        });
+        let args = Terms::new(args);
+        let atom = boxed(alloc, Formula::Atom(Atom { pred, args }))?;
         blanks(alloc, first, bound, atom)
     }
 }
 
 /// EXISTS around a formula for the variables from `first` up to `end`, the first outermost.
-fn blanks(alloc: Global, first: u32, end: u32, inner: Formula) -> Result<Formula, AllocError>
-    ensures { IfOk result (λ formula. form formula
-        ≡ calls.blanks (end - first) first (form inner)) }
+fn blanks(
+    alloc: Global,
+    first: u32,
+    end: u32,
+    inner: Box<Formula>,
+) -> Result<Box<Formula>, AllocError>
+    ensures { IfOk result (λ formula. form formula.value
+        ≡ calls.blanks (end - first) first (form inner.value)) }
 {
     let mut whole = inner;
     let mut place = end;
@@ -95,8 +99,8 @@ fn blanks(alloc: Global, first: u32, end: u32, inner: Formula) -> Result<Formula
 }
 
 /// EXISTS around a formula for the variable of a `_`.
-fn blank(alloc: Global, place: u32, inner: Formula) -> Result<Formula, AllocError>
-    ensures { IfOk result (λ formula. form formula ≡ calls.blank place (form inner)) }
+fn blank(alloc: Global, place: u32, inner: Box<Formula>) -> Result<Box<Formula>, AllocError>
+    ensures { IfOk result (λ formula. form formula.value ≡ calls.blank place (form inner.value)) }
 {
     let name = blank_name(alloc)?;
     Quantifier::Exists.over(alloc, place, name, inner)

@@ -10,6 +10,7 @@ ghost use Rattle.mfotl_parse.specs.Views.{context_of, GoesOn};
 
 use crate::class::Class;
 use crate::fault::PolicyFault;
+use crate::frame::boxed;
 use crate::state::{Context, Stage, text_value};
 use crate::term::{Operand, Side, term_of};
 use mfotl_lex::Token;
@@ -90,11 +91,11 @@ impl Context {
             Class::Question => Ok(Stage::AfterSignMark(left, sign_at, sign, at)),
             Class::Integer(number) => {
                 let operand = Operand::Constant(Value::Int(number));
-                self.compare(left, sign_at, sign, Side { at, operand })
+                self.compare(alloc, left, sign_at, sign, Side { at, operand })
             }
             Class::Text => {
                 let operand = Operand::Constant(text_value(alloc, token)?);
-                self.compare(left, sign_at, sign, Side { at, operand })
+                self.compare(alloc, left, sign_at, sign, Side { at, operand })
             }
             _ => Err(PolicyFault::Syntax(at)),
         }
@@ -124,6 +125,7 @@ impl Context {
     /// A comparison with its right side.
     fn compare<'a>(
         &mut self,
+        alloc: Global,
         left: Side,
         at: u64,
         sign: Sign,
@@ -144,7 +146,8 @@ impl Context {
         } = right;
         let left = term_of(left)?;
         let right = term_of(right)?;
-        Ok(Stage::AfterOperand(Formula::Compare(Comparison { sign, left, right })))
+        let comparison = Formula::Compare(Comparison { sign, left, right });
+        Ok(Stage::AfterOperand(boxed(alloc, comparison)?))
     }
 
     fn compare_variable<'a>(
@@ -162,6 +165,7 @@ impl Context {
     {
         let variable = self.meet(alloc, name, right_at)?;
         self.compare(
+            alloc,
             left,
             at,
             sign,

@@ -1,6 +1,5 @@
 //! What is open while a policy is read: parentheses, quantifiers and operators that wait for an operand.
 ghost use Rattle.std.specs.Prelude.{◌≡◌, ◌+◌, ◌++◌, ◌∷◌, [], IfOk, OnOk, OnErr, Option, None, Some, ℕ, List, IfSome, IfNone, nat_lt};
-ghost use Rattle.mfotl_model.specs.Formulas as forms;
 ghost use Rattle.mfotl_model.specs.Formulas.{form};
 ghost use Rattle.mfotl_parse.specs.States.{opens_level, depth};
 ghost use Rattle.mfotl_parse.specs.SymbolTable.{bound_as};
@@ -26,7 +25,7 @@ pub enum Frame {
     /// A quantified variable, by its place among all of them.
     Binding(Quantifier, u32, Name),
     /// An operator behind its left operand.
-    Left(Operator, Interval, Formula),
+    Left(Operator, Interval, Box<Formula>),
 }
 
 impl Operator {
@@ -75,19 +74,6 @@ impl Operator {
     }
 
     /// The formula of its two operands.
-    fn between(
-        self,
-        alloc: Global,
-        interval: Interval,
-        left: Formula,
-        right: Formula,
-    ) -> Result<Formula, AllocError>
-        ensures { IfOk result (λ whole. form whole ≡ joined self interval (form left) (form right)) }
-    {
-        let (left, right) = both_boxed(alloc, left, right)?;
-        Ok(self.join(interval, left, right))
-    }
-
     fn join(self, interval: Interval, left: Box<Formula>, right: Box<Formula>) -> Formula
         ensures { form result ≡ joined self interval (form left.value) (form right.value) }
     {
@@ -104,12 +90,6 @@ impl Operator {
 
 impl Temporal {
     /// The formula of its operand.
-    fn over(self, alloc: Global, interval: Interval, inner: Formula) -> Result<Formula, AllocError>
-        ensures { IfOk result (λ whole. form whole ≡ momentary self interval (form inner)) }
-    {
-        Ok(self.apply(interval, Box::new(alloc, inner)?))
-    }
-
     fn apply(self, interval: Interval, inner: Box<Formula>) -> Formula
         ensures { form result ≡ momentary self interval (form inner.value) }
     {
@@ -131,13 +111,12 @@ impl Quantifier {
         alloc: Global,
         variable: u32,
         name: Name,
-        inner: Formula,
-    ) -> Result<Formula, AllocError>
-        ensures { IfOk result (λ whole. form whole ≡ quantified self variable name (form inner)) }
+        inner: Box<Formula>,
+    ) -> Result<Box<Formula>, AllocError>
+        ensures { IfOk result (λ whole. form whole.value ≡ quantified self variable name (form inner.value)) }
     {
-        let inner = boxed(alloc, inner)?;
         let number = bound_number(variable)?;
-        Ok(self.apply(Bound { number, name }, inner))
+        boxed(alloc, self.apply(Bound { number, name }, inner))
     }
 
     fn apply(self, bound: Bound, inner: Box<Formula>) -> Formula
@@ -150,22 +129,11 @@ impl Quantifier {
     }
 }
 
-fn boxed(alloc: Global, formula: Formula) -> Result<Box<Formula>, AllocError>
+/// Formulas are held in boxes, each of which becomes a part of the next one.
+pub fn boxed(alloc: Global, formula: Formula) -> Result<Box<Formula>, AllocError>
     ensures { IfOk result (λ boxed. form boxed.value ≡ form formula) }
 {
     Ok(Box::new(alloc, formula)?)
-}
-
-fn both_boxed(
-    alloc: Global,
-    left: Formula,
-    right: Formula,
-) -> Result<(Box<Formula>, Box<Formula>), AllocError>
-    ensures { IfOk result (λ both. (form both.0.value ≡ form left) × (form both.1.value ≡ form right)) }
-{
-    let left = boxed(alloc, left)?;
-    let right = boxed(alloc, right)?;
-    Ok((left, right))
 }
 
 /// The number of a bound variable, by its place among all of them: behind the free ones.
@@ -176,12 +144,6 @@ fn bound_number(place: u32) -> Result<u32, AllocError>
         Some(number) => Ok(number),
         None => Err(AllocError),
     }
-}
-
-fn negated(alloc: Global, inner: Formula) -> Result<Formula, AllocError>
-    ensures { IfOk result (λ whole. form whole ≡ forms.Not (form inner)) }
-{
-    Ok(Formula::Not(Box::new(alloc, inner)?))
 }
 
 impl Frame {
@@ -251,17 +213,19 @@ impl Frame {
     }
 
     /// The frame with its operand.
-    pub fn close(self, alloc: Global, inner: Formula) -> Result<Formula, AllocError>
-        ensures { IfOk result (λ whole. form whole ≡ closed (frame_of self) (form inner)) }
+    pub fn close(self, alloc: Global, inner: Box<Formula>) -> Result<Box<Formula>, AllocError>
+        ensures { IfOk result (λ whole. form whole.value ≡ closed (frame_of self) (form inner.value)) }
     {
         match self {
             Frame::Parens => Ok(inner),
-            Frame::Negation => negated(alloc, inner),
-            Frame::Moment(operator, interval) => operator.over(alloc, interval, inner),
+            Frame::Negation => boxed(alloc, Formula::Not(inner)),
+            Frame::Moment(operator, interval) => boxed(alloc, operator.apply(interval, inner)),
             Frame::Binding(quantifier, variable, name) => {
                 quantifier.over(alloc, variable, name, inner)
             }
-            Frame::Left(operator, interval, left) => operator.between(alloc, interval, left, inner),
+            Frame::Left(operator, interval, left) => {
+                boxed(alloc, operator.join(interval, left, inner))
+            }
         }
     }
 }

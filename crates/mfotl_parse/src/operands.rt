@@ -3,6 +3,7 @@
 
 ghost use Rattle.std.specs.Prelude.{◌≡◌, ◌∷◌, [], IfOk};
 ghost use Rattle.mfotl_lex.specs.Lexemes.{lexeme};
+ghost use Rattle.mfotl_model.specs.Formulas.{form};
 ghost use Rattle.mfotl_parse.specs.Transitions.{given, goes, within_nodes, within_depth};
 ghost use Rattle.mfotl_parse.specs.Operands as operands;
 ghost use Rattle.mfotl_parse.specs.States as states;
@@ -11,7 +12,7 @@ ghost use Rattle.mfotl_parse.specs.Views.{context_of, stage_of, GoesOn, Enters};
 
 use crate::class::{Class, Temporal};
 use crate::fault::PolicyFault;
-use crate::frame::Frame;
+use crate::frame::{Frame, boxed};
 use crate::intervals::any_distance;
 use crate::state::{Context, Stage, text_value};
 use crate::term::{Operand, Side};
@@ -34,7 +35,7 @@ impl Context {
     {
         let at = token.at as u64;
         match class {
-            Class::Truth(value) => self.truth(at, value),
+            Class::Truth(value) => self.truth(alloc, at, value),
             Class::Not => self.negation(at),
             Class::Temporal(operator) => self.moment(at, operator),
             Class::Quantifier(quantifier) => Ok(Stage::ExpectVariable(quantifier)),
@@ -120,7 +121,7 @@ impl Context {
         }
     }
 
-    fn truth<'a>(&mut self, at: u64, value: bool) -> Result<Stage<'a>, PolicyFault>
+    fn truth<'a>(&mut self, alloc: Global, at: u64, value: bool) -> Result<Stage<'a>, PolicyFault>
         ensures { GoesOn result self.new
             (given 0 (goes (within_nodes at (context_of self.old).nodes ∷ []) (states.with_now
             (states.counted (context_of self.old)) (states.AfterOperand (operands.truth value))))) }
@@ -129,11 +130,7 @@ impl Context {
             return Err(PolicyFault::TooManyNodes(at));
         }
         self.nodes += 1;
-        if value {
-            Ok(Stage::AfterOperand(Formula::True))
-        } else {
-            Ok(Stage::AfterOperand(Formula::False))
-        }
+        Ok(Stage::AfterOperand(boxed(alloc, truth(value))?))
     }
 
     /// NOT before its operand.
@@ -189,6 +186,13 @@ impl Context {
         self.open(at)?;
         Ok(Stage::ExpectOperand)
     }
+}
+
+/// TRUE or FALSE.
+fn truth(value: bool) -> Formula
+    ensures { form result ≡ operands.truth value }
+{
+    if value { Formula::True } else { Formula::False }
 }
 
 /// A Text as the left side of a comparison.

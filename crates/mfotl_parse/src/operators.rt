@@ -26,12 +26,12 @@ impl Context {
     pub fn have<'a>(
         &mut self,
         alloc: Global,
-        formula: Formula,
+        formula: Box<Formula>,
         token: &Token<'a>,
         class: Class,
     ) -> Result<Stage<'a>, PolicyFault>
         ensures { GoesOn result self.new
-            (given token.now.at (operators.have_move (context_of self.old) (form formula)
+            (given token.now.at (operators.have_move (context_of self.old) (form formula.value)
             (lexeme token.now) class)) }
     {
         match class {
@@ -45,13 +45,13 @@ impl Context {
     fn join<'a>(
         &mut self,
         alloc: Global,
-        formula: Formula,
+        formula: Box<Formula>,
         operator: Operator,
         at: u64,
     ) -> Result<Stage<'a>, PolicyFault>
         ensures { GoesOn result self.new
             (given 0 (operators.joined_move (context_of self.old) operator
-            (reduce (precedence operator) (form formula) (context_of self.old).stack) at)) }
+            (reduce (precedence operator) (form formula.value) (context_of self.old).stack) at)) }
     {
         let left = stack::reduce(alloc, &mut self.frames, operator.precedence(), formula)?;
         self.enter_right(operator, at)?;
@@ -79,12 +79,12 @@ impl Context {
     fn enclose<'a>(
         &mut self,
         alloc: Global,
-        formula: Formula,
+        formula: Box<Formula>,
         at: u64,
     ) -> Result<Stage<'a>, PolicyFault>
         ensures { GoesOn result self.new (given at (operators.enclosed_move (context_of self.old)
-            (reduce 0 (form formula) (context_of self.old).stack).form
-            (operators.around (reduce 0 (form formula) (context_of self.old).stack).stack))) }
+            (reduce 0 (form formula.value) (context_of self.old).stack).form
+            (operators.around (reduce 0 (form formula.value) (context_of self.old).stack).stack))) }
     {
         let whole = stack::reduce(alloc, &mut self.frames, 0, formula)?;
         if stack::pop_parens(&mut self.frames) {

@@ -175,12 +175,12 @@ fn advance<'a>(
 fn close(
     alloc: Global,
     context: &mut Context,
-    formula: Formula,
+    formula: Box<Formula>,
     end: u64,
 ) -> Result<Policy, PolicyFault>
     ensures { Gives policy_of result (reading_words.ended (context_of context.old).names
-        (reduce 0 (form formula) (context_of context.old).stack).form
-        (is_closed (reduce 0 (form formula) (context_of context.old).stack).stack) end) }
+        (reduce 0 (form formula.value) (context_of context.old).stack).form
+        (is_closed (reduce 0 (form formula.value) (context_of context.old).stack).stack) end) }
 {
     let whole = stack::reduce(alloc, &mut context.frames, 0, formula)?;
     with_columns(alloc, context, whole, end)
@@ -190,14 +190,17 @@ fn close(
 fn with_columns(
     alloc: Global,
     context: &Context,
-    formula: Formula,
+    formula: Box<Formula>,
     end: u64,
 ) -> Result<Policy, PolicyFault>
-    ensures { Gives policy_of result (reading_words.ended (context_of context.now).names (form formula)
+    ensures { Gives policy_of result (reading_words.ended (context_of context.now).names (form formula.value)
         (is_closed (context_of context.now).stack) end) }
 {
     let vars = columns_at(alloc, context, end)?;
-    Ok(Policy { formula, vars })
+    Ok(Policy {
+        formula: Box::into_inner(formula),
+        vars,
+    })
 }
 
 /// The columns of any formula behind which the text ends here, where nothing may be open.

@@ -72,10 +72,10 @@ pub fn reduce(
     alloc: Global,
     frames: &mut Vec<Frame>,
     rule: u8,
-    operand: Formula,
-) -> Result<Formula, AllocError>
-    ensures { IfOk result (λ whole. reduce rule (form operand) (stack_of frames.old.items)
-        ≡ record { form = form whole; stack = stack_of frames.new.items }) }
+    operand: Box<Formula>,
+) -> Result<Box<Formula>, AllocError>
+    ensures { IfOk result (λ whole. reduce rule (form operand.value) (stack_of frames.old.items)
+        ≡ record { form = form whole.value; stack = stack_of frames.new.items }) }
 {
     let mut whole = operand;
     while let Some(frame) = pop_tighter(frames, rule) {

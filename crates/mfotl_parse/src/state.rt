@@ -27,7 +27,7 @@ pub enum Stage<'a> {
     /// Behind a temporal operator: an interval or an operand.
     AfterTemporal,
     /// An operand was read.
-    AfterOperand(Formula),
+    AfterOperand(Box<Formula>),
     /// A Word where an operand begins: an atom's name or a variable.
     AfterWord(u64, &'a [u8]),
     /// `_` there.

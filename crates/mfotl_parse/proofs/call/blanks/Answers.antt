@@ -9,6 +9,6 @@ loop-place-preserved c =
     let first = c.args.first in
     let place = c.loop-place.place in
     ap (blanks (place - 1 - first) first) c.in_ok-whole.ensures
-    ∙ blanks_step (place - 1 - first) (place - first) first (place - 1) (form c.loop-place.whole)
+    ∙ blanks_step (place - 1 - first) (place - first) first (place - 1) (form c.loop-place.whole.value)
     (omega arith) (omega arith)
     ∙ c.loop-place.invariant
