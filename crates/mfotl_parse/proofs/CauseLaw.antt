@@ -23,7 +23,8 @@ use Rattle.mfotl_parse.specs.Reduction.{reduce}
 use Rattle.mfotl_parse.specs.Shows.{Showing, silent, shown_by}
 use Rattle.mfotl_parse.specs.States.{Stage, Context, SymbolTable, Partial, AfterOperand, start}
 use Rattle.mfotl_parse.specs.SymbolTable.{uneven_pair, clash_or_pair}
-use Rattle.mfotl_parse.specs.Transitions.{Limit, Empty, Range, Unknown, Arity, Deep, Nodes, Transition, fault_of, given}
+use Rattle.mfotl_parse.specs.Transitions.{Limit, Empty, Range, Unknown, Arity, Deep, Nodes, Transition, fault_of}
+use Rattle.mfotl_parse.specs.Transitions.{given}
 use Rattle.mfotl_parse.specs.Viability.{if_moved, is_whole, accepts}
 use Rattle.mfotl_parse.proofs.AcceptedLaw.{accepted_formula}
 use Rattle.mfotl_parse.proofs.FreeNames.{all_free}

@@ -21,8 +21,9 @@ use Rattle.mfotl_parse.specs.Occurrences.{Occurrence, is_among, free_of, free_of
 use Rattle.mfotl_parse.specs.Occurrences.{free_of_arguments, names_bound, free_in, with_first, first_ones}
 use Rattle.mfotl_parse.specs.Occurrences.{free_variables, name_of, place_of_variable, place_of}
 use Rattle.mfotl_parse.specs.States.{SymbolTable, no_names}
-use Rattle.mfotl_parse.specs.SymbolTable.{free_place, with_free, met, bound_more, sort_of, with_sort, same_sort, clashed}
-use Rattle.mfotl_parse.specs.SymbolTable.{agreed, occurred, require_sort, sort_of_value, constrain_term, compared, inner_or}
+use Rattle.mfotl_parse.specs.SymbolTable.{free_place, with_free, met, bound_more, sort_of, with_sort, same_sort}
+use Rattle.mfotl_parse.specs.SymbolTable.{clashed, agreed, occurred, require_sort, sort_of_value, constrain_term}
+use Rattle.mfotl_parse.specs.SymbolTable.{compared, inner_or}
 
 -- ---- what only sorts change
 

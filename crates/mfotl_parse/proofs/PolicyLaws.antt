@@ -1,6 +1,6 @@
 -- The laws of `specs/GrammarLaws.antt`.
-use Rattle.std.proofs.Common.{◌≡◌, ◌≢◌, ℕ, ◌+◌, ◌≤◌, true, false, Bool, List, [], ◌∷◌, ◌++◌, length, Option, Some, None}
-use Rattle.std.proofs.Common.{Result, Ok, Err, IfOk, IfErr, refl, ap, sym, ◌∙◌, ◌⊎◌, inl, inr, arith}
+use Rattle.std.proofs.Common.{◌≡◌, ◌≢◌, ℕ, ◌+◌, ◌≤◌, true, false, Bool, List, [], ◌∷◌, ◌++◌, length, Option, Some}
+use Rattle.std.proofs.Common.{None, Result, Ok, Err, IfOk, IfErr, refl, ap, sym, ◌∙◌, inl, inr, arith}
 use Rattle.std.proofs.lemmas.Option.{slice_get_cases, slice_get_past}
 use Rattle.std.specs.Prelude.{slice_get}
 use Rattle.mfotl_lex.specs.declared.fault.LexFault.{LexFault}
@@ -20,10 +20,10 @@ use Rattle.mfotl_parse.specs.declared.fault.PolicyFault.{PolicyFault}
 use Rattle.mfotl_parse.specs.declared.fault.PolicyFault.TheVariants.{Lex, Syntax, Memory}
 use Rattle.mfotl_parse.specs.declared.term.Pair.{Pair}
 use Rattle.mfotl_parse.specs.Causes.{IsCause, IsLast}
-use Rattle.mfotl_parse.specs.Grammar.{Tree, Fits, spelling, IsFormula, BeginsFormula}
+use Rattle.mfotl_parse.specs.Grammar.{Tree, Fits, spelling, BeginsFormula}
 use Rattle.mfotl_parse.specs.GrammarLaws.{SpelledIsRead, ReadIsSpelled, OneAnswer, SyntaxExactly, AreRead, IsSilent}
-use Rattle.mfotl_parse.specs.GrammarLaws.{SilentAreRead, ExactSoundness, IsShown, EachFaultIsShown, ExactSyntax, ExactLex}
-use Rattle.mfotl_parse.specs.GrammarLaws.{StaysShown}
+use Rattle.mfotl_parse.specs.GrammarLaws.{SilentAreRead, ExactSoundness, IsShown, EachFaultIsShown, ExactSyntax}
+use Rattle.mfotl_parse.specs.GrammarLaws.{ExactLex, StaysShown}
 use Rattle.mfotl_parse.specs.Limits.{max_free}
 use Rattle.mfotl_parse.specs.Meanings.{no_scope, all_names, value, node_count, KeepsRules, IsValue, policy_of}
 use Rattle.mfotl_parse.specs.Reading.{PolicyOf, step, sorted, finished, ended, ended_at, is_closed, at_tail, text_of}
@@ -32,18 +32,18 @@ use Rattle.mfotl_parse.specs.Occurrences.{free_variables}
 use Rattle.mfotl_parse.specs.Reduction.{reduce}
 use Rattle.mfotl_parse.specs.States.{no_names, depth, Stage, Context, SymbolTable, Partial, AfterOperand, start}
 use Rattle.mfotl_parse.specs.SymbolTable.{uneven_pair}
-use Rattle.mfotl_parse.specs.Viability.{FirstFaults, is_whole, IsViable}
-use Rattle.mfotl_parse.specs.Views.{policy_of as policy_seen, Fails, Gives}
-use Rattle.mfotl_parse.proofs.AcceptedLaw.{accepted_formula}
-use Rattle.mfotl_parse.proofs.CauseLaw.{follows, early_end}
+use Rattle.mfotl_parse.specs.Viability.{FirstFaults, is_whole}
+use Rattle.mfotl_parse.specs.Views.{policy_of as policy_seen, Gives}
+use Rattle.mfotl_parse.proofs.CauseLaw.{follows}
 use Rattle.mfotl_parse.proofs.FreeNames.{all_free, few_met}
 use Rattle.mfotl_parse.proofs.LimitLemmas.{few_value}
-use Rattle.mfotl_parse.proofs.ReadMoves.{moves_read, accepts_moves, read_silent, silent_read, goes_on_moves, goes_on_front}
+use Rattle.mfotl_parse.proofs.ReadMoves.{moves_read, accepts_moves, read_silent, silent_read, goes_on_moves}
+use Rattle.mfotl_parse.proofs.ReadMoves.{goes_on_front}
 use Rattle.mfotl_parse.proofs.SpelledMoves.{at_place}
 use Rattle.mfotl_parse.proofs.TracedMoves.{trace}
 use Rattle.mfotl_parse.proofs.TracedTrees.{shows_whole}
 use Rattle.mfotl_parse.proofs.ViabilityLemmas.{completes}
-use Rattle.mfotl_parse.proofs.WholeTrees.{whole, viable, begins, read_viable, whole_formula, formula_whole, rules_kept}
+use Rattle.mfotl_parse.proofs.WholeTrees.{whole, viable, begins, read_viable, whole_formula, rules_kept}
 use Rattle.mfotl_parse.proofs.WholeTrees.{finished_by}
 
 -- ---- what is read, and what is spelled

@@ -55,7 +55,8 @@ module _ (sig : List PredOf) (bytes : List ℕ) (first : Partial) where
     taken_by q (Ok None) is e = absurd cc
     taken_by q (Err fault) is e = absurd cc
 
-    pub goes_on : (q : Partial) → with_token sig p (next_token place) ≡ Ok (Some q) → Leads sig bytes first (after place) q
+    pub goes_on : (q : Partial) → with_token sig p (next_token place) ≡ Ok (Some q)
+        → Leads sig bytes first (after place) q
     goes_on q e =
         let t = taken_by q (next_token place) refl e in
         sym (on_step (step sig) at_tail (tail_of true (length bytes)) place p q t.token t.is t.stepped) ∙ leads
@@ -80,7 +81,8 @@ module _ (sig : List PredOf) (bytes : List ℕ) (first : Partial) where
         → with_token sig p next ≡ Err fault → reading_on sig bytes first ≡ Err fault
     stops_by fault (Ok (Some t)) is e = sym leads ∙ stopped (step sig p t) refl e
       where
-        stopped : (r : Result Partial PolicyFault) → step sig p t ≡ r → (r >>= λ (q : Partial). Ok (Some q)) ≡ Err fault
+        stopped : (r : Result Partial PolicyFault) → step sig p t ≡ r
+            → (r >>= λ (q : Partial). Ok (Some q)) ≡ Err fault
             → texts.reading_on (step sig) at_tail (tail_of true (length bytes)) place p ≡ Err fault
         stopped (Ok q) f g = absurd cc
         stopped (Err other) f g =

@@ -5,6 +5,7 @@ use Rattle.mfotl_lex.specs.Contents.{content_of}
 use Rattle.mfotl_model.specs.declared.term.Sign.{Sign}
 use Rattle.mfotl_model.specs.declared.value.Value.TheVariants as values
 use Rattle.mfotl_model.specs.Formulas as forms
+use Rattle.mfotl_model.specs.Formulas.{Form}
 use Rattle.mfotl_parse.specs.declared.class.Class.{Class}
 use Rattle.mfotl_parse.specs.declared.class.Class.TheVariants as classes
 use Rattle.mfotl_parse.specs.declared.term.Operand.{Operand}
@@ -38,11 +39,15 @@ abbrev pub compared_move : Context → Side → Lexeme → Class → Option Tran
 compared_move p left t (classes.Sign sign) = signed p left t.at sign
 compared_move p left t _ = None
 
+-- two sides and the sign between them
+abbrev pub comparison : Operand → Sign → Operand → Form
+comparison left sign right = forms.Compare (record { sign = sign; left = term_of left; right = term_of right })
+
 -- behind a comparison's right side, which stands at the offset
 abbrev pub comparison_done : Context → Side → ℕ → Sign → ℕ → Operand → Partial
 comparison_done p left at sign right_at right =
     with_now (with_names p (compared left.operand left.at at right right_at p.names))
-    (AfterOperand (forms.Compare (record { sign = sign; left = term_of left.operand; right = term_of right })))
+    (AfterOperand (comparison left.operand sign right))
 
 -- behind a variable as the right side
 abbrev pub named_done : Context → Side → ℕ → Sign → ℕ → List ℕ → Partial

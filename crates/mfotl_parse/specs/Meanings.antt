@@ -16,7 +16,7 @@ use Rattle.mfotl_parse.specs.declared.class.Quantifier.{Quantifier}
 use Rattle.mfotl_parse.specs.declared.term.Operand.{Operand}
 use Rattle.mfotl_parse.specs.declared.term.Operand.TheVariants as operands
 use Rattle.mfotl_parse.specs.Arguments.{call_of, due, after_due, blanks}
-use Rattle.mfotl_parse.specs.Grammar.{WrittenVariable, Bare, Asked, WrittenTerm, Named, Number, Quoted}
+use Rattle.mfotl_parse.specs.Grammar.{WrittenTerm, Named, Number, Quoted}
 use Rattle.mfotl_parse.specs.Grammar.{WrittenArgument, Given, Hidden, WrittenArguments, LastArgument, MoreArguments}
 use Rattle.mfotl_parse.specs.Grammar.{WrittenVariables, LastVariable, MoreVariables, WrittenBound, Count, Counted}
 use Rattle.mfotl_parse.specs.Grammar.{WrittenEnd, Included, Excluded, Unbounded, WrittenInterval, Omitted, From, Above}

@@ -1,7 +1,7 @@
 //! Comparisons, from their left side on.
 #![tactic(auto, unfolding(crate::specs::Views::stage_of))]
 
-ghost use Rattle.std.specs.Prelude.{◌≡◌, ◌∷◌, []};
+ghost use Rattle.std.specs.Prelude.{◌≡◌, ◌∷◌, [], IfOk};
 ghost use Rattle.mfotl_lex.specs.Lexemes.{lexeme};
 ghost use Rattle.mfotl_model.specs.Formulas.{form};
 ghost use Rattle.mfotl_parse.specs.Transitions.{given, goes};
@@ -15,7 +15,7 @@ use crate::state::{Context, Stage, text_value};
 use crate::term::{Operand, Side, term_of};
 use mfotl_lex::Token;
 use mfotl_model::{Comparison, Formula, Sign, Value};
-use std::alloc::Global;
+use std::alloc::{AllocError, Global};
 
 impl Context {
     /// Behind `?` where an operand begins.
@@ -136,17 +136,7 @@ impl Context {
             (context_of self.old) left at sign right.at right.operand))) }
     {
         self.names.compare(&left, at, &right)?;
-        let Side {
-            at: _,
-            operand: left,
-        } = left;
-        let Side {
-            at: _,
-            operand: right,
-        } = right;
-        let left = term_of(left)?;
-        let right = term_of(right)?;
-        let comparison = Formula::Compare(Comparison { sign, left, right });
+        let comparison = comparison(left.operand, sign, right.operand)?;
         Ok(Stage::AfterOperand(boxed(alloc, comparison)?))
     }
 
@@ -175,4 +165,12 @@ impl Context {
             },
         )
     }
+}
+
+fn comparison(left: Operand, sign: Sign, right: Operand) -> Result<Formula, AllocError>
+    ensures { IfOk result (λ formula. form formula ≡ comparisons.comparison left sign right) }
+{
+    let left = term_of(left)?;
+    let right = term_of(right)?;
+    Ok(Formula::Compare(Comparison { sign, left, right }))
 }
