@@ -1,6 +1,6 @@
 -- The columns of a policy that was read are the free variables of its formula, and its occurrences have their sorts.
 use Rattle.std.proofs.Common.{◌≡◌, ℕ, suc, ◌+◌, ◌-◌, ◌<◌, ◌≤◌, Bool, List, [], ◌∷◌, length, map, Option}
-use Rattle.std.proofs.Common.{Some, None, Result, Ok, Err, refl, sym, ap, subst, ◌∙◌, arith, cond}
+use Rattle.std.proofs.Common.{Some, Result, Ok, Err, refl, sym, ap, subst, ◌∙◌, arith, cond}
 use Rattle.std.proofs.lemmas.Bool.{lt-ltb}
 use Rattle.std.specs.Prelude.{slice_get, IfOk}
 use Rattle.std.specs.List.{range_with_len}
@@ -13,7 +13,7 @@ use Rattle.mfotl_sig.specs.Preds.{PredOf}
 use Rattle.mfotl_parse.specs.declared.fault.PolicyFault.{PolicyFault}
 use Rattle.mfotl_parse.specs.Grammar.{Tree}
 use Rattle.mfotl_parse.specs.Meanings.{no_scope, all_names, value, KeepsRules, IsValue}
-use Rattle.mfotl_parse.specs.SymbolTable.{given_at, sort_or_int, vars_of}
+use Rattle.mfotl_parse.specs.SymbolTable.{given_at, vars_of}
 use Rattle.mfotl_parse.specs.Reading.{PolicyOf, reading}
 use Rattle.mfotl_parse.specs.States.{SymbolTable, no_names}
 use Rattle.mfotl_parse.specs.Views.{policy_of as policy_seen, Gives}
@@ -27,10 +27,6 @@ use Rattle.mfotl_parse.proofs.PolicyLaws.{read_is_spelled}
 use Rattle.mfotl_parse.proofs.SortedTrees.{given_by, tree_sorted}
 use Rattle.mfotl_parse.proofs.VariableOrder.{tree_order}
 
-same_default : (given : Option Sort) → sort_or_int given ≡ sort_or_integer given
-same_default None = refl
-same_default (Some sort) = refl
-
 -- the sorts of the columns from a number on
 columns_from : (given : ℕ → Option Sort) (from : ℕ) (free : List (List ℕ × ℕ)) (sorts : List (Option Sort))
     → length sorts ≡ length free
@@ -41,8 +37,7 @@ columns_from given from [] sorts sized each = refl
 columns_from given from (known ∷ free) [] sized each = absurd (omega (arith, sized))
 columns_from given from (known ∷ free) (sort ∷ sorts) sized each =
     let here : from + 0 ≡ from = omega arith in
-    let first : sort_or_int sort ≡ sort_or_integer (given from) = same_default sort
-    ∙ sym (ap sort_or_integer (ap given (sym here) ∙ each 0 (omega arith))) in
+    let first : sort_or_integer sort ≡ sort_or_integer (given from) = sym (ap sort_or_integer (ap given (sym here) ∙ each 0 (omega arith))) in
     let later = columns_from given (from + 1) free sorts (omega (arith, sized))
     (λ k below. ap given (next k) ∙ each (suc k) (omega (arith, below))) in
     ap (λ (s : Sort). s ∷ map (λ v. v.sort) (vars_of free sorts)) first

@@ -21,43 +21,40 @@ use Rattle.mfotl_parse.specs.Occurrences.{Occurrence, is_among, free_of, free_of
 use Rattle.mfotl_parse.specs.Occurrences.{free_of_arguments, names_bound, free_in, with_first, first_ones}
 use Rattle.mfotl_parse.specs.Occurrences.{free_variables, name_of, place_of_variable, place_of}
 use Rattle.mfotl_parse.specs.States.{SymbolTable, no_names}
-use Rattle.mfotl_parse.specs.SymbolTable.{free_place, with_free, met, bound_more, sort_of, with_sort, same_sort}
-use Rattle.mfotl_parse.specs.SymbolTable.{clashed, agreed, occurred, require_sort, sort_of_value, constrain_term}
+use Rattle.mfotl_parse.specs.SymbolTable.{free_place, with_free, met, bound_more, sort_of, same_sort}
+use Rattle.mfotl_parse.specs.SymbolTable.{clashed, agreed, occurred, require_sort, constrain_term}
 use Rattle.mfotl_parse.specs.SymbolTable.{compared, inner_or}
+use Rattle.mfotl_parse.specs.WellSorted.{sort_of_constant}
 
--- ---- what only sorts change
-
-with_sort_free : (v : Variable) (sort : Sort) (n : SymbolTable) → (with_sort v sort n).free ≡ n.free
-with_sort_free (variables.Free k) sort n = refl
-with_sort_free (variables.Bound k) sort n = refl
-
+-- sorts change no names
 agreed_free : (before : Sort) (at : ℕ) (sort : Sort) (n : SymbolTable) → (agreed before at sort n).free ≡ n.free
-agreed_free before at sort n = by (same_sort before sort)
+agreed_free before at sort n = by_same (same_sort before sort)
   where
-    by : (b : Bool) → (cond b n (clashed at n)).free ≡ n.free
-    by true = refl
-    by false = refl
+    by_same : (b : Bool) → (cond b n (clashed at n)).free ≡ n.free
+    by_same true = refl
+    by_same false = refl
 
-required_free : (v : Variable) (at : ℕ) (sort : Sort) (n : SymbolTable) → (require_sort v at sort n).free ≡ n.free
-required_free v at sort n = by (sort_of v n)
+occurs_free : (v : Variable) (at : ℕ) (sort : Sort) (n : SymbolTable) → (require_sort v at sort n).free ≡ n.free
+occurs_free v at sort n = by_given v (sort_of v n)
   where
-    by : (given : Option Sort) → (occurred given v at sort n).free ≡ n.free
-    by None = with_sort_free v sort n
-    by (Some before) = agreed_free before at sort n
+    by_given : (w : Variable) (given : Option Sort) → (occurred given w at sort n).free ≡ n.free
+    by_given (variables.Free k) None = refl
+    by_given (variables.Bound k) None = refl
+    by_given w (Some before) = agreed_free before at sort n
 
-constrained_free : (o : Operand) (at : ℕ) (sort : Sort) (n : SymbolTable) → (constrain_term o at sort n).free ≡ n.free
-constrained_free (operands.Variable v) at sort n = required_free v at sort n
-constrained_free (operands.Constant value) at sort n = agreed_free (sort_of_value value) at sort n
+pub placed_free : (o : Operand) (at : ℕ) (sort : Sort) (n : SymbolTable) → (constrain_term o at sort n).free ≡ n.free
+placed_free (operands.Variable v) at sort n = occurs_free v at sort n
+placed_free (operands.Constant c) at sort n = agreed_free (sort_of_constant c) at sort n
 
-compared_free : (o p : Operand) (left_at at right_at : ℕ) (n : SymbolTable)
-    → (compared o left_at at p right_at n).free ≡ n.free
-compared_free (operands.Variable v) (operands.Variable w) left_at at right_at n = refl
-compared_free (operands.Variable v) (operands.Constant d) left_at at right_at n =
-    required_free v left_at (sort_of_value d) n
-compared_free (operands.Constant c) (operands.Variable w) left_at at right_at n =
-    required_free w right_at (sort_of_value c) n
-compared_free (operands.Constant c) (operands.Constant d) left_at at right_at n =
-    agreed_free (sort_of_value c) at (sort_of_value d) n
+pub compared_free : (l : Operand) (left_at at : ℕ) (r : Operand) (right_at : ℕ) (n : SymbolTable)
+    → (compared l left_at at r right_at n).free ≡ n.free
+compared_free (operands.Variable v) left_at at (operands.Variable w) right_at n = refl
+compared_free (operands.Variable v) left_at at (operands.Constant d) right_at n =
+    occurs_free v left_at (sort_of_constant d) n
+compared_free (operands.Constant c) left_at at (operands.Variable w) right_at n =
+    occurs_free w right_at (sort_of_constant c) n
+compared_free (operands.Constant c) left_at at (operands.Constant d) right_at n =
+    agreed_free (sort_of_constant c) at (sort_of_constant d) n
 
 -- ---- names
 
@@ -116,7 +113,7 @@ term_free (Quoted token) scope bound n binds = refl
 argument_free : (a : WrittenArgument) (sort : Sort) (scope : Scope) (bound : List (List ℕ)) (n : SymbolTable)
     → Binds scope bound → (argument_names a sort scope n).free ≡ first_ones n.free (free_of_argument a bound)
 argument_free (Given t) sort scope bound n binds =
-    constrained_free (operand_of t scope n) (place_of t) sort (term_names t scope n) ∙ term_free t scope bound n binds
+    placed_free (operand_of t scope n) (place_of t) sort (term_names t scope n) ∙ term_free t scope bound n binds
 argument_free (Hidden token) sort scope bound n binds = refl
 
 arguments_free : (xs : WrittenArguments) (sorts : List Sort) (scope : Scope) (bound : List (List ℕ)) (n : SymbolTable)
@@ -134,7 +131,7 @@ tree_free sig (BareAtom name opening closing) scope bound n binds = refl
 tree_free sig (AtomOf name opening arguments closing) scope bound n binds =
     arguments_free arguments (call_of (named name.text sig) 0).rest scope bound n binds
 tree_free sig (Comparison left token sign right) scope bound n binds =
-    compared_free (operand_of left scope n) (operand_of right scope (term_names left scope n)) (place_of left) token.at
+    compared_free (operand_of left scope n) (place_of left) token.at (operand_of right scope (term_names left scope n))
     (place_of right) (term_names right scope (term_names left scope n))
     ∙ term_free right scope bound (term_names left scope n) binds
     ∙ ap (λ free. first_ones free (free_of_term right bound)) (term_free left scope bound n binds)

@@ -27,13 +27,6 @@ fails_on : {A B : Type 0} (fault : PolicyFault) (x : Result A PolicyFault) (y : 
 fails_on Memory x y stays given = tt
 fails_on _ x y stays given = stays given
 
--- what a step that fails makes of the next token
-pub then_fails : (sig : List PredOf) (p : Partial) (t : Lexeme) (fault : PolicyFault) → Fails fault (step sig p t)
-    → Fails fault (with_token sig p (Ok (Some t)))
-then_fails sig p t fault failed =
-    fails_on fault (step sig p t) (with_token sig p (Ok (Some t)))
-    (λ e. ap (λ r. r >>= λ (q : Partial). Ok (Some q)) e) failed
-
 module _ (sig : List PredOf) (bytes : List ℕ) (first : Partial) where
   pub begins_so : Leads sig bytes first (beginning Plain bytes) first
   unfolding reading_on
