@@ -37,7 +37,8 @@ columns_from given from [] sorts sized each = refl
 columns_from given from (known ∷ free) [] sized each = absurd (omega (arith, sized))
 columns_from given from (known ∷ free) (sort ∷ sorts) sized each =
     let here : from + 0 ≡ from = omega arith in
-    let first : sort_or_integer sort ≡ sort_or_integer (given from) = sym (ap sort_or_integer (ap given (sym here) ∙ each 0 (omega arith))) in
+    let first : sort_or_integer sort ≡ sort_or_integer (given from) =
+    sym (ap sort_or_integer (ap given (sym here) ∙ each 0 (omega arith))) in
     let later = columns_from given (from + 1) free sorts (omega (arith, sized))
     (λ k below. ap given (next k) ∙ each (suc k) (omega (arith, below))) in
     ap (λ (s : Sort). s ∷ map (λ v. v.sort) (vars_of free sorts)) first

@@ -48,7 +48,8 @@ vars_of_more [] given i var e = absurd cc
 vars_of_more (k ∷ free) [] zero var e =
     let same : record { name = k.0; sort = sorts.Int } ≡ var = cc in ap (λ (v : Var). v ∷ vars_of free []) same
 vars_of_more (k ∷ free) (s ∷ given) zero var e =
-    let same : record { name = k.0; sort = sort_or_integer s } ≡ var = cc in ap (λ (v : Var). v ∷ vars_of free given) same
+    let same : record { name = k.0; sort = sort_or_integer s } ≡ var = cc in
+    ap (λ (v : Var). v ∷ vars_of free given) same
 vars_of_more (k ∷ free) [] (suc i) var e =
     ap (vars_of (drop i free)) (sym (drop_all i [] (omega arith))) ∙ vars_of_more free [] i var e
 vars_of_more (k ∷ free) (s ∷ given) (suc i) var e = vars_of_more free given i var e

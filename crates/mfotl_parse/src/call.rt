@@ -6,7 +6,7 @@ ghost use Rattle.mfotl_parse.specs.Transitions.{is_empty};
 ghost use Rattle.mfotl_parse.specs.Views.{call_view};
 
 use crate::class::Quantifier;
-use crate::frame::boxed;
+use crate::formulas::boxed;
 use mfotl_model::{Atom, Formula, Name, Sort, Term, Terms};
 use std::alloc::{AllocError, Global};
 

@@ -10,7 +10,7 @@ ghost use Rattle.mfotl_parse.specs.Views.{context_of, GoesOn};
 
 use crate::class::Class;
 use crate::fault::PolicyFault;
-use crate::frame::boxed;
+use crate::formulas::boxed;
 use crate::state::{Context, Stage, text_value};
 use crate::term::{Operand, Side, term_of};
 use mfotl_lex::Token;

@@ -12,7 +12,8 @@ ghost use Rattle.mfotl_parse.specs.Views.{context_of, stage_of, GoesOn, Enters};
 
 use crate::class::{Class, Temporal};
 use crate::fault::PolicyFault;
-use crate::frame::{Frame, boxed};
+use crate::formulas::boxed;
+use crate::frame::Frame;
 use crate::intervals::any_distance;
 use crate::state::{Context, Stage, text_value};
 use crate::term::{Operand, Side};
