@@ -98,7 +98,6 @@ module _ (state : StateOf) where
           → SoManyLines i all rest (place + 1) old new (has_row || more)
       one_more_line ts rows ts_is rows_are new more w =
           let count = so_far.place_is in
-          let v_is = ap₂ (λ t rs. record { point = place; ts = t; rows = rs }) ts_is rows_are in
           record {
             done = so_far.done ++ table ∷ [];
             split = split_more;
@@ -106,7 +105,8 @@ module _ (state : StateOf) where
             are = are_more so_far.done table so_far.are is;
             lines_are = subst (λ vs. WritesLines vs old new (has_row || more)) (sym verdicts_longer)
                 (lines_behind _ _ old mid new has_row more so_far.lines_are
-                (one_line _ mid new more (subst (λ u. WritesLine u mid new more) v_is w)));
+                (one_line _ mid new more (subst (λ u. WritesLine u mid new more)
+                (ap₂ (λ t rs. record { point = place; ts = t; rows = rs }) ts_is rows_are) w)));
           }
 
       -- a part of one more line

@@ -24,7 +24,7 @@ use Rattle.monitor_main.specs.CheckedPolicies.{IsCoreOf}
 use Rattle.monitor_main.specs.Decisions.{ComesTo, Effect, Ends, FailsInLog, Finishes, HasCauses, MonitorsLog, Refuses}
 use Rattle.log_reader.specs.Growth.{Keeps}
 use Rattle.log_reader.specs.Limits.{byte_limit}
-use Rattle.monitor_main.specs.LogRuns.{EndsClear, IsGathered, StopsBytes}
+use Rattle.monitor_main.specs.LogRuns.{EndsClear, IsGathered, StopsBytes, StopsLines}
 use Rattle.log_reader.proofs.GrowthLemmas.{long_same, shown_stays}
 use Rattle.monitor_main.proofs.LogTimes.{read_never_falls}
 use Rattle.monitor_main.proofs.PointLemmas.{first_text}
@@ -167,14 +167,20 @@ module _ (task : Task) (core : CoreForm) (is : IsCoreOf core task.policy.formula
   }
 
 -- a failed call behind the monitoring of a log shows in the counts
-pub log_causes : (e : Effect) (failed : Bool) (policy : Form) (due : Reading) (old new : Option (List ℕ)) (r : Refusal)
+pub log_causes : (e : Effect) (failed : Bool) (f : Form) (due : Reading) (old new : Option (List ℕ)) (r : Refusal)
     → (failed ≡ true → Rose e.before.faults e.after.faults)
-    → StopsBytes failed policy due old new e.old.faults e.new.faults r → HasCauses ⊥ e r
-log_causes e failed policy due old new (Log fault) cut h = tt
-log_causes e failed policy due old new (Read name) cut h = cut h.1
-log_causes e failed policy due old new Write cut h = h
-log_causes e failed policy due old new Memory cut h = tt
-log_causes e failed policy due old new r cut h = absurd h
+    → StopsBytes failed f due old new e.old.faults e.new.faults r → HasCauses ⊥ e r
+log_causes e failed f due old new (Log fault) cut h = tt
+log_causes e failed f due old new (Read name) cut h = cut h.1
+log_causes e failed f due old new Write cut h = h
+log_causes e failed f due old new Memory cut h = tt
+log_causes e failed f due old new r cut h = absurd h
+
+-- the lines stopped, though the bytes were all
+pub stops_bytes : (failed : Bool) (f : Form) (r : Reading) (old new : Option (List ℕ)) (before now : ℕ)
+    (refusal : Refusal) → StopsLines f r old new before now refusal → StopsBytes failed f r old new before now refusal
+stops_bytes failed f r old new before now (Read name) h = absurd h
+stops_bytes failed f r old new before now refusal h = h
 
 module _ (checked : CheckedPolicy) (log : Name) (before after : InputsView) (old new : SinkView)
     (same : after.files ≡ before.files) (later : before.faults ≤ after.faults)

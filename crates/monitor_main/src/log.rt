@@ -6,7 +6,7 @@ ghost use Rattle.mon_outside.specs.Inputs.{asked_more};
 ghost use Rattle.mon_outside.specs.Sink.{AppendsFront};
 ghost use Rattle.mon_outside.specs.Views.{inputs_view};
 ghost use Rattle.log_reader.specs.Progress.{read};
-ghost use Rattle.log_reader.specs.Readers.{ForEach, progress};
+ghost use Rattle.log_reader.specs.Readers.{ForEach, Reads, progress};
 ghost use Rattle.log_reader.specs.Readings.{reading};
 ghost use Rattle.monitor_state.specs.Beginnings.{Begins};
 ghost use Rattle.monitor_state.specs.MonitorView.{monitor_of};
@@ -23,6 +23,7 @@ use crate::refusal::{InputFile, Refusal};
 use crate::verdict_lines::write_tables;
 use log_reader::{Limits, LogReader, Next};
 use mfotl_model::TimePoint;
+use mfotl_sig::Signature;
 use mon_outside::{Inputs, LoadFault, Sink, read_to_end};
 use monitor_state::Monitor;
 use std::alloc::Global;
@@ -145,6 +146,49 @@ fn take_complete<O: Sink>(
     unreachable!()
 }
 
+// A reader of these bytes, which are all where no call failed.
+fn reader_of<'a>(alloc: Global, sig: &'a Signature, log: Gathered) -> LogReader<'a>
+    ensures works { result.is_broken ≡ false }
+    ensures first { result.given ≡ 0 }
+    ensures few { result.limits.points < 2 ^ 63 }
+    ensures reads { Reads result log.bytes.items }
+    ensures reading { read (progress result log.bytes.items)
+        ≡ reading sig.now standard log.bytes.items (not log.failed) }
+{
+    let mut reader = LogReader::new(alloc, sig, Limits::standard());
+    reader.feed_owned(alloc, log.bytes);
+    if !log.failed {
+        reader.finish();
+    }
+    reader
+}
+
+// Monitors these bytes of a log, up to what they complete.
+fn take_bytes<O: Sink>(
+    alloc: Global,
+    checked: &CheckedPolicy,
+    log: Gathered,
+    out: &mut O,
+) -> Result<bool, Refusal>
+    requires { IsCoreOf (core_form checked.now.core) (checked_in checked.now).policy.formula }
+    ensures ok { IfOk result (EndsClear (checked_in checked.now).policy.formula
+        (reading (checked_in checked.now).sig standard log.bytes.items (not log.failed))
+        (O.written out.old) (O.written out.new)) }
+    ensures stops { IfErr result (StopsLines (checked_in checked.now).policy.formula
+        (reading (checked_in checked.now).sig standard log.bytes.items (not log.failed))
+        (O.written out.old) (O.written out.new) (O.faults out.old) (O.faults out.new)) }
+    ensures front { AppendsFront (O.written out.old) (O.written out.new)
+        (text_on (checked_in checked.now).policy.formula
+        (reading (checked_in checked.now).sig standard log.bytes.items (not log.failed))) }
+    ensures later { O.faults out.old ≤ O.faults out.new }
+{
+    let Ok(mut monitor) = Monitor::new(alloc, &checked.core) else {
+        return Err(Refusal::Memory);
+    };
+    let mut reader = reader_of(alloc, &checked.sig, log);
+    take_complete(alloc, &mut reader, &mut monitor, out)
+}
+
 /// Monitors a log of which these bytes were given.
 pub fn monitor_bytes<O: Sink>(
     alloc: Global,
@@ -165,16 +209,9 @@ pub fn monitor_bytes<O: Sink>(
         (reading (checked_in checked.now).sig standard log.bytes.items (not log.failed))) }
     ensures later { O.faults out.old ≤ O.faults out.new }
 {
-    let Ok(mut monitor) = Monitor::new(alloc, &checked.core) else {
-        return Err(Refusal::Memory);
-    };
-    let mut reader = LogReader::new(alloc, &checked.sig, Limits::standard());
-    reader.feed_owned(alloc, log.bytes);
-    if !log.failed {
-        reader.finish();
-    }
-    match take_complete(alloc, &mut reader, &mut monitor, out) {
-        Ok(violated) if !log.failed => Ok(violated),
+    let failed = log.failed;
+    match take_bytes(alloc, checked, log, out) {
+        Ok(violated) if !failed => Ok(violated),
         Ok(_) => Err(Refusal::Read(InputFile::Log)),
         Err(refusal) => Err(refusal),
     }
