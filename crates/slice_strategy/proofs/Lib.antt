@@ -5,3 +5,6 @@ pub mod CountLemmas
 pub mod SoundLemmas
 pub mod ReadingLemmas
 pub mod SizeLemmas
+pub mod EntryLaws
+pub mod Moves
+pub mod PartReads

@@ -2,6 +2,9 @@ pub mod Limits
 pub mod Entries
 pub mod Slicers
 pub mod SlicerLemmas
+pub mod Grammar
+pub mod Rules
+pub mod Causes
 pub mod Reading
 pub mod Laws
 pub mod WorkedTexts

@@ -25,6 +25,7 @@ use Rattle.slice_strategy.specs.declared.stage.Method.{Method}
 use Rattle.slice_strategy.specs.declared.stage.Method.TheVariants as method
 use Rattle.slice_strategy.specs.Entries.{HasWorkers}
 use Rattle.slice_strategy.specs.Limits.{max_workers}
+use Rattle.slice_strategy.specs.Rules.{variable_of, holds_text, text_of}
 
 -- the place of the last token in an entry, and what was read of that entry
 pub data StageOf : Type 0 where
@@ -49,10 +50,6 @@ pub record Partial : Type 0 where
 abbrev pub syntax_at : {A : Type 0} → Lexeme → Result A StrategyFault
 syntax_at t = Err (Syntax t.at)
 
--- the variable of this name, by number
-abbrev pub variable_of : List Var → List ℕ → Option ℕ
-variable_of vars name = position (λ var. bytes_eq name var.name) vars
-
 -- a Word of the policy's variable, where it has no entry yet
 abbrev pub fresh : Option Entry → ℕ → Lexeme → Result StageOf StrategyFault
 fresh (Some Uncut) variable t = Ok (Named (record { variable = variable; at = t.at }))
@@ -72,15 +69,6 @@ begins vars entries t _ = syntax_at t
 abbrev pub after_name : Head → Lexeme → Kind → Result StageOf StrategyFault
 after_name head t Equal = Ok (Chosen head)
 after_name head t _ = syntax_at t
-
--- whether a variable is a string
-abbrev pub is_text : Sort → Bool
-is_text Text = true
-is_text Int = false
-
-abbrev pub holds_text : Option Var → Bool
-holds_text None = false
-holds_text (Some var) = is_text var.sort
 
 -- a method, which for a string is no cut
 abbrev pub chosen : List Var → Head → Lexeme → Result StageOf StrategyFault
@@ -186,10 +174,6 @@ at_tail More p = Ok p.entries
 -- no token was read
 abbrev pub nothing_read : List Var → Partial
 nothing_read vars = record { entries = replicate (length vars) Uncut; stage = Between }
-
--- the tokens of a strategy's bytes, which are all there are
-abbrev pub text_of : List ℕ → layer.Text Lexeme LexFault
-text_of bytes = texts.text_of Plain bytes
 
 -- the strategy of a text, or its first fault
 unfoldable pub reading : List Var → List ℕ → Result Strategy StrategyFault
