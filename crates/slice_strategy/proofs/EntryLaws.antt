@@ -1,13 +1,13 @@
 -- Which variables have an entry, as the strategy shows it; and the last of the integers.
-use Rattle.std.proofs.Common.{◌≡◌, ◌∙◌, ◌⊎◌, inl, inr, ℕ, zero, suc, ◌+◌, ◌-◌, ◌<◌, ◌≤◌, List, [], ◌∷◌, ◌++◌, length}
-use Rattle.std.proofs.Common.{replicate, Option, Some, None, Err, slice_get, slice_set, ap, refl, sym, subst, arith}
+use Rattle.std.proofs.Common.{◌≡◌, ◌∙◌, ◌⊎◌, inl, inr, ℕ, zero, suc, ◌-◌, ◌<◌, ◌≤◌, List, [], ◌∷◌, ◌++◌, length}
+use Rattle.std.proofs.Common.{replicate, Option, Some, Err, slice_get, slice_set, ap, refl, sym, arith}
 use Rattle.std.proofs.lemmas.List.{length-set, length-replicate, length-append}
 use Rattle.std.proofs.lemmas.List.Quantifiers.{position-Some}
 use Rattle.std.specs.Prelude.{ℤ}
 use Rattle.std.specs.Str.{bytes_eq}
 use Rattle.mfotl_lex.specs.Lexemes.{Lexeme}
 use Rattle.mfotl_model.specs.Strategies.{Entry, workers_of}
-use Rattle.mfotl_model.specs.Strategies.Entry.{Uncut, Hash, Cut}
+use Rattle.mfotl_model.specs.Strategies.Entry.{Uncut}
 use Rattle.mfotl_model.specs.declared.policy.Sort.TheVariants.{Int}
 use Rattle.mfotl_model.specs.declared.policy.Var.{Var}
 use Rattle.slice_strategy.specs.declared.fault.StrategyFault.TheVariants.{RepeatedVariable}

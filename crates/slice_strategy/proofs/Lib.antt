@@ -8,3 +8,6 @@ pub mod SizeLemmas
 pub mod EntryLaws
 pub mod Moves
 pub mod PartReads
+pub mod PartMoves
+pub mod CauseLaw
+pub mod StrategyLaws

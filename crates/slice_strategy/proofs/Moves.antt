@@ -1,9 +1,9 @@
 -- Where the reader stands behind each part of a strategy, and what each token makes of it there.
-use Rattle.std.proofs.Common.{◌≡◌, ◌≢◌, ◌∙◌, ◌⊎◌, inl, inr, ℕ, ◌<◌, ◌≤◌, Bool, true, false, if◌then◌else◌, nat_le}
-use Rattle.std.proofs.Common.{List, [], ◌∷◌, ◌++◌, length, Option, Some, None, Result, Ok, Err, slice_get, ap, refl, sym}
+use Rattle.std.proofs.Common.{◌≡◌, ◌≢◌, ◌∙◌, inl, inr, ℕ, ◌≤◌, Bool, true, false, if◌then◌else◌, nat_le}
+use Rattle.std.proofs.Common.{List, Option, Some, None, Result, Ok, Err, slice_get, ap, refl, sym}
 use Rattle.std.proofs.Common.{subst, arith}
 use Rattle.std.proofs.lemmas.Bool.{leb-true, leb-false}
-use Rattle.std.specs.Prelude.{codes, pos, int_le, int_lt, unsigned_abs}
+use Rattle.std.specs.Prelude.{codes, pos, int_le, int_lt}
 use Rattle.std.specs.Str.{bytes_eq}
 use Rattle.mfotl_lex.specs.declared.kind.Kind.{Kind}
 use Rattle.mfotl_lex.specs.declared.kind.Kind.TheVariants.{Word, Integer, Comma, Colon, Equal}
@@ -11,7 +11,7 @@ use Rattle.mfotl_lex.specs.FirstFault.{◌>>=◌}
 use Rattle.mfotl_lex.specs.Lexemes.{Lexeme}
 use Rattle.mfotl_lex.proofs.Verdicts as layer
 use Rattle.mfotl_lex.proofs.Verdicts.{breaks, then_judged}
-use Rattle.mfotl_model.specs.Strategies.{Entry, Strategy, workers_of}
+use Rattle.mfotl_model.specs.Strategies.{workers_of}
 use Rattle.mfotl_model.specs.declared.policy.Var.{Var}
 use Rattle.slice_strategy.specs.declared.fault.StrategyFault.{StrategyFault}
 use Rattle.slice_strategy.specs.declared.fault.StrategyFault.TheVariants.{Syntax, UnknownVariable, RepeatedVariable}
@@ -19,12 +19,12 @@ use Rattle.slice_strategy.specs.declared.fault.StrategyFault.TheVariants.{BadCou
 use Rattle.slice_strategy.specs.declared.stage.Head.{Head}
 use Rattle.slice_strategy.specs.declared.stage.Method.{Method}
 use Rattle.slice_strategy.specs.declared.stage.Method.TheVariants as method
-use Rattle.slice_strategy.specs.Causes.{IsCause, IsOver}
+use Rattle.slice_strategy.specs.Causes.{IsCause}
 use Rattle.slice_strategy.specs.Grammar.{Integers, First, Next, Opening, Entries, NoEntry, Then, Part, Whole, ToName}
 use Rattle.slice_strategy.specs.Grammar.{ToEqual, ToMethod, ToColon, ToComma, FitsPart, Fits, spell_part, method_of}
 use Rattle.slice_strategy.specs.Limits.{max_workers}
 use Rattle.slice_strategy.specs.Reading.{StageOf, Between, Named, Chosen, Divided, Cutting, Behind, Partial, fresh, named}
-use Rattle.slice_strategy.specs.Reading.{opened, counted, is_above, divided, stage_step, ended, settled, moved, step}
+use Rattle.slice_strategy.specs.Reading.{opened, is_above, stage_step, ended, settled, moved, step}
 use Rattle.slice_strategy.specs.Reading.{nothing_read, syntax_at}
 use Rattle.slice_strategy.specs.Rules.{variable_of, holds_text, number_of, number, numbers, last_of, entry_by}
 use Rattle.slice_strategy.specs.Rules.{strategy_of, HasEntry, IsNew, SuitsSort, AreInOrder}
@@ -89,18 +89,20 @@ module _ (vars : List Var) where
       by true e = inl (leb-true _ max_workers e, refl)
       by false e =
           let many = leb-false (workers_of (strategy_of vars (Then es o is))) max_workers e in
-          inr (breaks _ (AreFew (Then es o is)) (TooManyWorkers o.name.at)
-          (tt, record {
-            over = record {
-              before = es;
-              opening = o;
-              integers = is;
-              spelled = record { fits = fits; spelled = refl };
-              many = many;
-              place = refl;
-            };
-            behind = other;
-          })
+          inr (breaks _ (AreFew (Then es o is)) (TooManyWorkers o.name.at) (
+            tt,
+            record {
+              over = record {
+                before = es;
+                opening = o;
+                integers = is;
+                spelled = record { fits = fits; spelled = refl };
+                many = many;
+                place = refl;
+              };
+              behind = other;
+            },
+          )
           (λ few. omega (arith, many, few)))
 
   -- a name where an entry may begin
@@ -113,37 +115,42 @@ module _ (vars : List Var) where
           → Judged (spell_part (Whole es)) t (IsNew vars es t)
           (moved (strategy_of vars es) (named (strategy_of vars es) found t)) (behind (ToName es t))
       by None e =
-          inr (breaks _ (IsNew vars es t) (UnknownVariable t.at)
-          (tt, record {
-            entries = es;
-            spelled = record { fits = fits; spelled = refl };
-            few = few;
-            kind = kind;
-            unknown = e;
-            place = refl;
-          })
+          inr (breaks _ (IsNew vars es t) (UnknownVariable t.at) (
+            tt,
+            record {
+              entries = es;
+              spelled = record { fits = fits; spelled = refl };
+              few = few;
+              kind = kind;
+              unknown = e;
+              place = refl;
+            },
+          )
           (λ new. cc (e, new.free)))
       by (Some x) e =
           elim (had_or_free vars es x known (named_low vars t.text x e)) [
             | inl h ↦ subst (λ r. Judged (spell_part (Whole es)) t (IsNew vars es t)
                 (moved (strategy_of vars es) r) (behind (ToName es t))) (sym (h.repeats t))
-                (inr (breaks _ (IsNew vars es t) (RepeatedVariable t.at)
-                (tt, record {
-                  entries = es;
-                  spelled = record { fits = fits; spelled = refl };
-                  few = few;
-                  kind = kind;
-                  variable = x;
-                  free = e;
-                  had = h.had;
-                  place = refl;
-                })
+                (inr (breaks _ (IsNew vars es t) (RepeatedVariable t.at) (
+                  tt,
+                  record {
+                    entries = es;
+                    spelled = record { fits = fits; spelled = refl };
+                    few = few;
+                    kind = kind;
+                    variable = x;
+                    free = e;
+                    had = h.had;
+                    place = refl;
+                  },
+                )
                 (λ new. new.first (subst (HasEntry vars es) (same_variable x new.variable (sym e ∙ new.free)) h.had))))
             | inr f ↦ inl (
-                record { variable = x; free = e; first = f.first },
-                ap (λ o. moved (strategy_of vars es) (fresh o x t)) f.uncut
-                    ∙ ap (λ n. Ok (so_far es (Named (record { variable = n; at = t.at }))))
-                    (sym (number_named vars t x e)))
+              record { variable = x; free = e; first = f.first },
+              ap (λ o. moved (strategy_of vars es) (fresh o x t)) f.uncut
+                  ∙ ap (λ n. Ok (so_far es (Named (record { variable = n; at = t.at }))))
+                  (sym (number_named vars t x e)),
+            )
           ]
         where
           same_variable : (x y : ℕ) → Some x ≡ Some y → x ≡ y
@@ -184,18 +191,20 @@ module _ (vars : List Var) where
       by method.Hash false false string a b c is = absurd cc
       by method.Cut true cut string a b c is = absurd cc
       by method.Cut false true true a b c is =
-          inr (breaks _ (SuitsSort vars n method.Cut) (CutSort t.at)
-          (tt, record {
-            entries = es;
-            name = n;
-            equal = e;
-            spelled = record { fits = fits; spelled = refl };
-            kind = kind;
-            cut = ap (λ x. if x then Some method.Hash else if bytes_eq t.text (codes "cut") then Some method.Cut else None) a
-                ∙ ap (λ x. if x then Some method.Cut else None) b;
-            string = c;
-            place = refl;
-          })
+          inr (breaks _ (SuitsSort vars n method.Cut) (CutSort t.at) (
+            tt,
+            record {
+              entries = es;
+              name = n;
+              equal = e;
+              spelled = record { fits = fits; spelled = refl };
+              kind = kind;
+              cut = ap (λ x. if x then Some method.Hash else if bytes_eq t.text (codes "cut") then Some method.Cut else None) a
+                  ∙ ap (λ x. if x then Some method.Cut else None) b;
+              string = c;
+              place = refl;
+            },
+          )
           (λ suits. cc (c, suits)))
       by method.Cut false true false a b c is = inl (c, refl)
       by method.Cut false false string a b c is = absurd cc
@@ -213,16 +222,18 @@ module _ (vars : List Var) where
           (so_far es (Behind (head_of o.name) (entry_by method.Hash (First t))))
       count_by true is e = inl (e, refl)
       count_by false is e =
-          inr (breaks _ (int_le (pos 1) (number t) ≡ true) (BadCount t.at)
-          (tt, record {
-            entries = es;
-            opening = o;
-            spelled = record { fits = fits; spelled = refl };
-            hash = is;
-            kind = kind;
-            low = e;
-            place = refl;
-          })
+          inr (breaks _ (int_le (pos 1) (number t) ≡ true) (BadCount t.at) (
+            tt,
+            record {
+              entries = es;
+              opening = o;
+              spelled = record { fits = fits; spelled = refl };
+              hash = is;
+              kind = kind;
+              low = e;
+              place = refl;
+            },
+          )
           (λ enough. cc (e, enough)))
 
       by : (m : Method) → o.method ≡ m
@@ -252,17 +263,19 @@ module _ (vars : List Var) where
       by true e =
           inl (e, ap (λ m. Ok (so_far es (Behind (head_of o.name) (entry_by m (Next is c t))))) (sym fits.2))
       by false e =
-          inr (breaks _ (int_lt (last_of is) (number t) ≡ true) (CutOrder t.at)
-          (tt, record {
-            entries = es;
-            opening = o;
-            integers = is;
-            comma = c;
-            spelled = record { fits = fits; spelled = refl };
-            kind = kind;
-            low = e;
-            place = refl;
-          })
+          inr (breaks _ (int_lt (last_of is) (number t) ≡ true) (CutOrder t.at) (
+            tt,
+            record {
+              entries = es;
+              opening = o;
+              integers = is;
+              comma = c;
+              spelled = record { fits = fits; spelled = refl };
+              kind = kind;
+              low = e;
+              place = refl;
+            },
+          )
           (λ above. cc (e, above)))
 
   -- tokens beside which there is no rule

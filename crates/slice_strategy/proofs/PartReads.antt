@@ -1,5 +1,5 @@
 -- What the reader makes of the tokens of each part of a strategy: it stands behind the part, or shows a fault of a rule.
-use Rattle.std.proofs.Common.{◌≡◌, ◌∙◌, inl, inr, true, List, [], ◌∷◌, ◌++◌, Result, Ok, Err, ap, refl, sym, subst}
+use Rattle.std.proofs.Common.{◌≡◌, ◌∙◌, inl, inr, true, List, [], ◌∷◌, ◌++◌, Result, Ok, Err, refl, sym, subst}
 use Rattle.std.specs.Prelude.{int_lt}
 use Rattle.mfotl_lex.specs.declared.kind.Kind.TheVariants.{Word, Integer, Comma, Colon, Equal}
 use Rattle.mfotl_lex.specs.FirstFault.{◌>>=◌, run}
@@ -45,6 +45,10 @@ module _ (vars : List Var) where
   pub kept_whole : (es : Entries) → KeepsRules vars es → KeepsPart (Whole es)
   kept_whole NoEntry k = tt
   kept_whole (Then es o is) k = (k.0, k.1, k.2, k.3)
+
+  pub few_of : (es : Entries) → KeepsRules vars es → AreFew vars es
+  few_of NoEntry k = one_worker vars
+  few_of (Then es o is) k = k.4
 
   abbrev Ran : List Lexeme → Result Partial StrategyFault
   Ran ts = run (step vars) ts (nothing_read vars)
@@ -107,10 +111,6 @@ module _ (vars : List Var) where
       (λ k. subst (λ r. Told (AreFew vars es × IsNew vars es n) r (behind vars (ToName es n)))
       (sym (stepped vars (behind vars p) n Word fits.1))
       (told (spell_part p) n _ _ _ (name_judged vars es fits.0 (known_whole es k) n fits.1)))
-    where
-      few_of : (es : Entries) → KeepsRules vars es → AreFew vars es
-      few_of NoEntry k = one_worker vars
-      few_of (Then es o is) k = k.4
 
   equal_read : (es : Entries) (n e : Lexeme) → FitsPart (ToEqual es n e) → Reads (ToName es n)
       → Reads (ToEqual es n e)

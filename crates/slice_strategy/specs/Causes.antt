@@ -1,8 +1,7 @@
 -- What shows each fault, in the grammar's own words.
-use Rattle.std.specs.Prelude.{◌≡◌, ◌≢◌, ◌<◌, ◌≤◌, ℕ, Bool, true, false, List, Option, Some, None, pos, int_le, int_lt}
+use Rattle.std.specs.Prelude.{◌≡◌, ◌≢◌, ◌<◌, ◌≤◌, ℕ, true, false, List, Some, None, pos, int_le, int_lt}
 use Rattle.std.specs.Prelude.{slice_get}
 use Rattle.mfotl_lex.specs.declared.fault.LexFault.{LexFault}
-use Rattle.mfotl_lex.specs.declared.kind.Kind.{Kind}
 use Rattle.mfotl_lex.specs.declared.kind.Kind.TheVariants.{Word, Integer, Comma}
 use Rattle.mfotl_lex.specs.FirstFault.{Tail, Broken, End, More, EndsViability, EndsTooEarly}
 use Rattle.mfotl_lex.specs.Lexemes.{Lexeme}

@@ -1,21 +1,17 @@
 -- Reading a strategy token by token, up to the first fault.
 use Rattle.std.specs.Prelude.{◌<◌, ℕ, pos, ℤ, Bool, List, [], ◌∷◌, ◌++◌, length, Option, Some, None, Result, Ok}
-use Rattle.std.specs.Prelude.{Err, if◌then◌else◌, nat_le, int_le, position, replicate, slice_get, slice_set, codes}
-use Rattle.std.specs.Prelude.{unsigned_abs, int_lt, true, false, ◌-◌}
+use Rattle.std.specs.Prelude.{Err, if◌then◌else◌, nat_le, int_le, replicate, slice_get, slice_set, codes}
+use Rattle.std.specs.Prelude.{unsigned_abs, int_lt, true, ◌-◌}
 use Rattle.std.specs.Str.{bytes_eq}
 use Rattle.mfotl_lex.specs.declared.fault.LexFault.{LexFault}
 use Rattle.mfotl_lex.specs.declared.kind.Kind.{Kind}
 use Rattle.mfotl_lex.specs.declared.kind.Kind.TheVariants.{Word, Integer, Comma, Colon, Equal}
-use Rattle.mfotl_lex.specs.declared.kind.Mode.TheVariants.{Plain}
 use Rattle.mfotl_lex.specs.FirstFault as layer
 use Rattle.mfotl_lex.specs.FirstFault.{◌>>=◌, Tail, Broken, End, More}
 use Rattle.mfotl_lex.specs.Lexemes.{Lexeme}
 use Rattle.mfotl_lex.specs.Numbers.{integer_value}
-use Rattle.mfotl_lex.specs.Texts as texts
 use Rattle.mfotl_model.specs.Strategies.{Entry, Strategy, parts_of, workers_of}
 use Rattle.mfotl_model.specs.Strategies.Entry.{Uncut, Hash, Cut}
-use Rattle.mfotl_model.specs.declared.policy.Sort.{Sort}
-use Rattle.mfotl_model.specs.declared.policy.Sort.TheVariants.{Int, Text}
 use Rattle.mfotl_model.specs.declared.policy.Var.{Var}
 use Rattle.slice_strategy.specs.declared.fault.StrategyFault.{StrategyFault}
 use Rattle.slice_strategy.specs.declared.fault.StrategyFault.TheVariants.{Syntax, UnknownVariable, RepeatedVariable}

@@ -16,7 +16,7 @@ use Rattle.mfotl_model.specs.declared.policy.Sort.TheVariants.{Int, Text}
 use Rattle.mfotl_model.specs.declared.policy.Var.{Var}
 use Rattle.slice_strategy.specs.declared.stage.Method.{Method}
 use Rattle.slice_strategy.specs.declared.stage.Method.TheVariants.{Hash, Cut}
-use Rattle.slice_strategy.specs.Grammar.{Integers, First, Next, Opening, Entries, NoEntry, Then, Spells}
+use Rattle.slice_strategy.specs.Grammar.{Integers, First, Next, Entries, NoEntry, Then, Spells}
 use Rattle.slice_strategy.specs.Limits.{max_workers}
 
 -- ---- variables

@@ -1,7 +1,34 @@
 //! What holds of every text. Each law is a function that does nothing: its clause is the law.
 
-ghost use Rattle.slice_strategy.specs.Laws.{StaysShown};
+ghost use Rattle.slice_strategy.specs.Laws.{ReadIsSpelled, SpelledIsRead, OneAnswer, ExactFaults, ExactSoundness, StaysShown};
 ghost use Rattle.slice_strategy.specs.WorkedTexts.{WorkedValues, WorkedFaults};
+
+/// A text that is read spells its strategy, and keeps the rules.
+pub fn read_is_spelled()
+    ensures { ReadIsSpelled }
+{}
+
+/// A text that spells entries and keeps the rules is read.
+pub fn spelled_is_read()
+    ensures { SpelledIsRead }
+{}
+
+/// A text has exactly one of a strategy and a first fault.
+pub fn one_answer()
+    ensures { OneAnswer }
+{}
+
+/// Each fault is told exactly where it is the first that is shown: `Syntax` by the first token that ends
+/// viability, by the input's end or by bytes that form no token, a rule's by the token that breaks it, and
+/// `TooManyWorkers` by what follows the entry's last integer and is no comma.
+pub fn exact_faults()
+    ensures { ExactFaults }
+{}
+
+/// The reader goes over tokens exactly where none of them shows a fault.
+pub fn exact_soundness()
+    ensures { ExactSoundness }
+{}
 
 /// What the front of a text shows is shown by the text.
 pub fn stays_shown()

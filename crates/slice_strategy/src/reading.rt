@@ -1,9 +1,12 @@
 //! A strategy, token by token.
-ghost use Rattle.std.specs.Prelude.{◌≡◌, IfOk, length, replicate};
+ghost use Rattle.std.specs.Prelude.{◌≡◌, ◌≢◌, IfErr, IfOk, length, replicate};
 ghost use Rattle.mfotl_model.specs.Strategies.Entry.{Uncut};
 ghost use Rattle.slice_strategy.specs.Entries.{entries_of};
 ghost use Rattle.mfotl_lex.specs.Lexemes.{lexeme};
 ghost use Rattle.slice_strategy.specs.Answers.{Fails, Gives};
+ghost use Rattle.slice_strategy.specs.declared.fault.StrategyFault.TheVariants.{Memory};
+ghost use Rattle.slice_strategy.specs.Laws.{IsShown};
+ghost use Rattle.slice_strategy.specs.Rules.{IsValue};
 ghost use Rattle.slice_strategy.specs.Reading.{step, settled, ended, at_end, broken, nothing_read, reading};
 
 use crate::entry::{Entry, count_workers};
@@ -139,6 +142,8 @@ impl Strategy {
     /// lexer has a fault it is `Syntax`.
     pub fn read(alloc: Global, bytes: &[u8], policy: &Policy) -> Result<Self, StrategyFault>
         ensures reads { Gives (λ s. s) result (reading policy.now.vars bytes.now) }
+        ensures value { IfOk result (λ s. IsValue policy.now.vars bytes.now s) }
+        ensures shown { IfErr result (λ fault. fault ≢ Memory → IsShown policy.now.vars bytes.now fault) }
         ensures sized { IfOk result (λ s. length s ≡ length policy.now.vars) }
     {
         read_strategy(alloc, bytes, policy.vars.as_slice())
