@@ -11,3 +11,4 @@ pub mod PartReads
 pub mod PartMoves
 pub mod CauseLaw
 pub mod StrategyLaws
+pub mod ChangeReadingLemmas

@@ -10,3 +10,5 @@ pub mod Laws
 pub mod WorkedTexts
 pub mod Answers
 pub mod FaultTexts
+pub mod ChangeReading
+pub mod ChangeAnswers

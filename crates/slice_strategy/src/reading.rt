@@ -5,6 +5,7 @@ ghost use Rattle.slice_strategy.specs.Entries.{entries_of};
 ghost use Rattle.mfotl_lex.specs.Lexemes.{lexeme};
 ghost use Rattle.slice_strategy.specs.Answers.{Fails, Gives};
 ghost use Rattle.slice_strategy.specs.declared.fault.StrategyFault.TheVariants.{Memory};
+ghost use Rattle.slice_strategy.specs.ChangeReading.{may_begin};
 ghost use Rattle.slice_strategy.specs.Laws.{IsShown};
 ghost use Rattle.slice_strategy.specs.Rules.{IsValue};
 ghost use Rattle.slice_strategy.specs.Reading.{step, settled, ended, at_end, broken, nothing_read, reading};
@@ -49,7 +50,7 @@ fn uncut(alloc: Global, count: usize) -> Result<Vec<Entry>, AllocError>
 }
 
 impl Reader {
-    fn new(alloc: Global, vars: &[Var]) -> Result<Self, AllocError>
+    pub(crate) fn new(alloc: Global, vars: &[Var]) -> Result<Self, AllocError>
         ensures { IfOk result (λ reader. reader ≡ nothing_read vars.now) }
     {
         Ok(Reader {
@@ -60,7 +61,7 @@ impl Reader {
 
     /// Takes the next token.
     #[tactic(auto, unfolding(crate::specs::Reading::step))]
-    fn step(self, alloc: Global, vars: &[Var], token: &Token) -> Result<Self, StrategyFault>
+    pub(crate) fn step(self, alloc: Global, vars: &[Var], token: &Token) -> Result<Self, StrategyFault>
         ensures { Gives (λ reader. reader) result (step vars.now self (lexeme token.now)) }
     {
         let Reader { entries, stage } = self.settled(token.kind)?;
@@ -79,7 +80,7 @@ impl Reader {
     }
 
     /// No more of the open entry comes.
-    fn ended(self) -> Result<Self, StrategyFault>
+    pub(crate) fn ended(self) -> Result<Self, StrategyFault>
         ensures { Gives (λ reader. reader) result (ended self.entries self.stage) }
     {
         let Reader { mut entries, stage } = self;
@@ -98,7 +99,7 @@ impl Reader {
         }
     }
 
-    fn finish(self, end: u64) -> Result<Strategy, StrategyFault>
+    pub(crate) fn finish(self, end: u64) -> Result<Strategy, StrategyFault>
         ensures { Gives (λ s. s) result (at_end end self) }
     {
         let Reader { entries, stage } = self.ended()?;
@@ -108,8 +109,22 @@ impl Reader {
         }
     }
 
+    /// Whether an entry may begin with the next token.
+    pub(crate) fn may_begin(&self) -> bool
+        ensures { result ≡ may_begin self.now.stage }
+    {
+        matches!(self.stage, Stage::Between | Stage::Behind(..))
+    }
+
+    /// The strategy of the entries that are settled.
+    pub(crate) fn into_strategy(self) -> Strategy
+        ensures { result ≡ self.entries }
+    {
+        Strategy::new(self.entries)
+    }
+
     /// Where the lexer has a fault at this offset.
-    fn broken(self, at: u64) -> StrategyFault
+    pub(crate) fn broken(self, at: u64) -> StrategyFault
         ensures { Fails result (broken self at) }
     {
         match self.ended() {
