@@ -12,3 +12,4 @@ pub mod PartMoves
 pub mod CauseLaw
 pub mod StrategyLaws
 pub mod ChangeReadingLemmas
+pub mod ChangeRuns

@@ -90,12 +90,18 @@ part_viable (ToComma es o is c) fits =
 -- ---- one token more
 
 module _ (vars : List Var) where
+  -- an entry's name stands behind whole entries
+  abbrev pub IsNamedBy : Part → Lexeme → Part → Type 0
+  IsNamedBy p t (ToName es n) = (p ≡ Whole es) × (n ≡ t)
+  IsNamedBy p t _ = Unit {0}
+
   -- the token leads to a part, behind which the reader stands
   pub record Leads (p : Part) (t : Lexeme) (s : Partial) : Type 0 where
     pub part : Part
     pub fits : FitsPart part
     pub spelled : spell_part part ≡ spell_part p ++ t ∷ []
     pub stands : s ≡ behind vars part
+    pub name : IsNamedBy p t part
 
   abbrev pub Shows : Part → Lexeme → StrategyFault → Type 0
   Shows p t (Syntax at) = at ≡ t.at
@@ -109,15 +115,18 @@ module _ (vars : List Var) where
   shows p t (Syntax at) c = absurd c.0
   shows p t _ c = c.1
 
-  leads : (p q : Part) (t : Lexeme) → FitsPart q → spell_part q ≡ spell_part p ++ t ∷ []
+  leads : (p q : Part) (t : Lexeme) → FitsPart q → spell_part q ≡ spell_part p ++ t ∷ [] → IsNamedBy p t q
       → Moves p t (Ok (behind vars q))
-  leads p q t fits spelled = record { part = q; fits = fits; spelled = spelled; stands = refl }
+  leads p q t fits spelled name =
+      record { part = q; fits = fits; spelled = spelled; stands = refl; name = name }
 
   judged_moves : (p q : Part) (t : Lexeme) (rules : Type 0) (r : Result Partial StrategyFault) → FitsPart q
-      → spell_part q ≡ spell_part p ++ t ∷ []
+      → spell_part q ≡ spell_part p ++ t ∷ [] → IsNamedBy p t q
       → layer.Judged (IsCaused vars (spell_part p) t) rules r (behind vars q) → Moves p t r
-  judged_moves p q t rules r fits spelled (inl kept) = subst (Moves p t) (sym kept.1) (leads p q t fits spelled)
-  judged_moves p q t rules r fits spelled (inr b) = subst (Moves p t) (sym b.shown) (shows p t b.fault b.is_rule)
+  judged_moves p q t rules r fits spelled name (inl kept) =
+      subst (Moves p t) (sym kept.1) (leads p q t fits spelled name)
+  judged_moves p q t rules r fits spelled name (inr b) =
+      subst (Moves p t) (sym b.shown) (shows p t b.fault b.is_rule)
 
   -- no entry may begin with the token
   ends_moves : (es : Entries) (t : Lexeme) → Fits es → t.kind ≢ Comma
@@ -147,12 +156,12 @@ module _ (vars : List Var) where
           (step_by vars (so_far vars es (Behind (head_of vars o.name) (entry_by m is))) t Comma)) (sym hash) refl
       by method.Cut cut =
           subst (Moves (Whole (Then es o is)) t) (sym (comma_step vars es o is t cut))
-          (leads (Whole (Then es o is)) (ToComma es o is t) t (fits.0, fits.1, cut, fits.2, kind) refl)
+          (leads (Whole (Then es o is)) (ToComma es o is t) t (fits.0, fits.1, cut, fits.2, kind) refl tt)
 
   whole_moves : (es : Entries) (t : Lexeme) (k : Kind) → t.kind ≡ k → Fits es → KeepsPart vars (Whole es)
       → Moves (Whole es) t (step_by vars (behind vars (Whole es)) t k)
   whole_moves es t Word kind fits kept =
-      judged_moves (Whole es) (ToName es t) t _ _ (fits, kind) refl
+      judged_moves (Whole es) (ToName es t) t _ _ (fits, kind) refl (refl, refl)
       (name_judged vars es fits (known_whole vars es kept) t kind)
   whole_moves es t Comma kind fits kept = comma_moves es t fits kind
   whole_moves es t k kind fits kept =
@@ -161,7 +170,7 @@ module _ (vars : List Var) where
 
   name_moves : (es : Entries) (n t : Lexeme) (k : Kind) → t.kind ≡ k → FitsPart (ToName es n)
       → Moves (ToName es n) t (step_by vars (behind vars (ToName es n)) t k)
-  name_moves es n t Equal kind fits = leads (ToName es n) (ToEqual es n t) t (fits.0, fits.1, kind) refl
+  name_moves es n t Equal kind fits = leads (ToName es n) (ToEqual es n t) t (fits.0, fits.1, kind) refl tt
   name_moves es n t _ kind fits = refl
 
   equal_moves : (es : Entries) (n e t : Lexeme) (k : Kind) → t.kind ≡ k → FitsPart (ToEqual es n e)
@@ -184,7 +193,7 @@ module _ (vars : List Var) where
           none (bytes_eq t.text (codes "hash")) (bytes_eq t.text (codes "cut"))
           (holds_text (slice_get vars (number_of vars n))) is
       by (Some m) is =
-          judged_moves (ToEqual es n e) (ToMethod es n e t m) t _ _ (fits.0, fits.1, fits.2, kind, is) refl
+          judged_moves (ToEqual es n e) (ToMethod es n e t m) t _ _ (fits.0, fits.1, fits.2, kind, is) refl tt
           (method_judged vars es n e fits t m kind is)
   equal_moves es n e t _ kind fits = refl
 
@@ -193,13 +202,13 @@ module _ (vars : List Var) where
       → Moves (ToMethod es n e w m) t (step_by vars (behind vars (ToMethod es n e w m)) t k)
   method_moves es n e w m t Colon kind fits =
       leads (ToMethod es n e w m) (ToColon es (record { name = n; equal = e; word = w; method = m; colon = t })) t
-      (fits.0, (fits.1, fits.2, fits.3, fits.4, kind)) refl
+      (fits.0, (fits.1, fits.2, fits.3, fits.4, kind)) refl tt
   method_moves es n e w m t _ kind fits = refl
 
   colon_moves : (es : Entries) (o : Opening) (t : Lexeme) (k : Kind) → t.kind ≡ k → FitsPart (ToColon es o)
       → Moves (ToColon es o) t (step_by vars (behind vars (ToColon es o)) t k)
   colon_moves es o t Integer kind fits =
-      judged_moves (ToColon es o) (Whole (Then es o (First t))) t _ _ (fits.0, fits.1, first o.method) refl
+      judged_moves (ToColon es o) (Whole (Then es o (First t))) t _ _ (fits.0, fits.1, first o.method) refl tt
       (first_judged vars es o fits t kind)
     where
       first : (m : Method) → FitsIntegers m (First t)
@@ -215,7 +224,7 @@ module _ (vars : List Var) where
       → FitsPart (ToComma es o is c)
       → Moves (ToComma es o is c) t (step_by vars (behind vars (ToComma es o is c)) t k)
   more_moves es o is c t Integer kind fits =
-      judged_moves (ToComma es o is c) (Whole (Then es o (Next is c t))) t _ _ (next_fits es o is c t fits kind) refl
+      judged_moves (ToComma es o is c) (Whole (Then es o (Next is c t))) t _ _ (next_fits es o is c t fits kind) refl tt
       (next_judged vars es o is c fits t kind)
   more_moves es o is c t _ kind fits = refl
 

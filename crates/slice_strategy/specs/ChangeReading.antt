@@ -1,10 +1,9 @@
 -- Reading a change script token by token, up to the first fault: behind `before` and a number the reader of strategies.
 use Rattle.std.specs.Prelude.{ℕ, pos, ℤ, Bool, true, false, ◌&&◌, List, [], ◌∷◌, ◌++◌, length, Option, Some, None}
-use Rattle.std.specs.Prelude.{Result, Ok, Err, if◌then◌else◌, nat_le, nat_lt, int_lt, unsigned_abs, codes}
-use Rattle.std.specs.Str.{bytes_eq}
+use Rattle.std.specs.Prelude.{Result, Ok, Err, if◌then◌else◌, nat_le, nat_lt, int_lt, unsigned_abs}
 use Rattle.mfotl_lex.specs.declared.fault.LexFault.{LexFault}
 use Rattle.mfotl_lex.specs.declared.kind.Kind.{Kind}
-use Rattle.mfotl_lex.specs.declared.kind.Kind.TheVariants.{Word, Integer, Equal}
+use Rattle.mfotl_lex.specs.declared.kind.Kind.TheVariants.{Integer, Equal}
 use Rattle.mfotl_lex.specs.FirstFault as layer
 use Rattle.mfotl_lex.specs.FirstFault.{◌>>=◌, Tail, Broken, End, More}
 use Rattle.mfotl_lex.specs.Lexemes.{Lexeme}
@@ -18,6 +17,7 @@ use Rattle.slice_strategy.specs.declared.change.ChangeFault.TheVariants.{TooMany
 use Rattle.slice_strategy.specs.declared.fault.StrategyFault.{StrategyFault}
 use Rattle.slice_strategy.specs.declared.fault.StrategyFault.TheVariants.{Syntax}
 use Rattle.slice_strategy.specs.declared.script.Current.{Current}
+use Rattle.slice_strategy.specs.ChangeGrammar.{is_before}
 use Rattle.slice_strategy.specs.Limits.{max_changes}
 use Rattle.slice_strategy.specs.Reading as strategy
 use Rattle.slice_strategy.specs.Reading.{Partial, StageOf, Between, Behind, ended, at_end, broken}
@@ -37,11 +37,6 @@ lifted (Err fault) = Err (Within fault)
 -- the grammar can't go on with the token
 abbrev pub syntax_at : {A : Type 0} → Lexeme → Result A ChangeFault
 syntax_at t = Err (Within (Syntax t.at))
-
--- whether a token is the Word `before`
-abbrev pub is_before : Kind → List ℕ → Bool
-is_before Word text = bytes_eq text (codes "before")
-is_before _ text = false
 
 -- whether an entry may begin behind what was read
 abbrev pub may_begin : StageOf → Bool

@@ -10,5 +10,9 @@ pub mod Laws
 pub mod WorkedTexts
 pub mod Answers
 pub mod FaultTexts
+pub mod ChangeGrammar
+pub mod ChangeRules
+pub mod ChangeCauses
 pub mod ChangeReading
+pub mod ChangeLaws
 pub mod ChangeAnswers

@@ -2,7 +2,8 @@
 ghost use Rattle.std.specs.Prelude.{◌≡◌, option_map};
 ghost use Rattle.mfotl_lex.specs.Lexemes.{lexeme};
 ghost use Rattle.slice_strategy.specs.ChangeAnswers.{Fails, Gives};
-ghost use Rattle.slice_strategy.specs.ChangeReading.{breaks, decided, ends, falls, inside, is_before, opened, nothing_read, reading, renamed, starts, step, with_current};
+ghost use Rattle.slice_strategy.specs.ChangeGrammar.{is_before};
+ghost use Rattle.slice_strategy.specs.ChangeReading.{breaks, decided, ends, falls, inside, opened, nothing_read, reading, renamed, starts, step, with_current};
 
 use crate::change::{Change, ChangeFault};
 use crate::fault::StrategyFault;
