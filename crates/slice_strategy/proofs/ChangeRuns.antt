@@ -35,6 +35,11 @@ pub and_false : (b : Bool) → (b && false) ≡ false
 and_false true = refl
 and_false false = refl
 
+-- an entry's name is no `before`
+abbrev pub IsNoBefore : Part → Type 0
+IsNoBefore (ToName es n) = is_before n.kind n.text ≡ false
+IsNoBefore _ = Unit {0}
+
 module _ (vars : List Var) (done : List Change) (number : ℕ) where
   -- the same of a script
   abbrev pub within_of : Result Partial StrategyFault → Result ScriptOf ChangeFault
@@ -126,7 +131,7 @@ module _ (vars : List Var) (done : List Change) (number : ℕ) where
       let at = (stands_behind vars p s fits ran).1 in
       else_step s t (ap (λ (x : Partial). is_before t.kind t.text && may_begin x.stage) at ∙ other))
 
-  whole_begins : (es : Entries) → may_begin (behind vars (Whole es)).stage ≡ true
+  pub whole_begins : (es : Entries) → may_begin (behind vars (Whole es)).stage ≡ true
   whole_begins NoEntry = refl
   whole_begins (Then es o is) = refl
 
@@ -246,11 +251,6 @@ module _ (vars : List Var) (done : List Change) (number : ℕ) where
   whole_alike NoEntry fits =
       run_none (script.step vars) fresh ∙ sym (ap within_of (run_none (step vars) (nothing_read vars)))
   whole_alike (Then es o is) fits = integers_alike es o is fits.0 fits.1 fits.2 (whole_alike es fits.0)
-
-  -- an entry's name is no `before`
-  abbrev pub IsNoBefore : Part → Type 0
-  IsNoBefore (ToName es n) = is_before n.kind n.text ≡ false
-  IsNoBefore _ = Unit {0}
 
   -- so every part
   pub alike : (p : Part) → FitsPart p → IsNoBefore p → Alike (spell_part p)

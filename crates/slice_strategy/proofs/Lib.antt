@@ -13,3 +13,4 @@ pub mod CauseLaw
 pub mod StrategyLaws
 pub mod ChangeReadingLemmas
 pub mod ChangeRuns
+pub mod ChangeParts
