@@ -20,7 +20,7 @@ use Rattle.slice_strategy.specs.declared.fault.StrategyFault.TheVariants.{Memory
 use Rattle.slice_strategy.specs.declared.stage.Method.{Method}
 use Rattle.slice_strategy.specs.declared.stage.Method.TheVariants as method
 use Rattle.slice_strategy.specs.Causes.{IsOver, IsClear, IsUnknown, IsRepeated, IsLow, CutsText, IsNotAbove, IsSyntax}
-use Rattle.slice_strategy.specs.Causes.{IsCause, IsTold, IsLast}
+use Rattle.slice_strategy.specs.Causes.{IsEndOfOver, IsCause, IsTold, IsLast}
 use Rattle.slice_strategy.specs.Grammar.{Integers, Next, Opening, Entries, NoEntry, Then, Part, Whole, ToName, ToEqual, ToMethod}
 use Rattle.slice_strategy.specs.Grammar.{First, ToColon, ToComma, FitsPart, Fits, spell_part, IsPart}
 use Rattle.slice_strategy.specs.Grammar.{IsAccepted, IsViable, FitsIntegers}
@@ -88,10 +88,10 @@ module _ (vars : List Var) where
 
   -- ---- the end of the last entry
 
-  abbrev Closed : Partial → Result Partial StrategyFault
+  abbrev pub Closed : Partial → Result Partial StrategyFault
   Closed s = ended s.entries s.stage
 
-  over_here : (es : Entries) (o : Opening) (is : Integers) → max_workers < workers_of (strategy_of vars (Then es o is))
+  pub over_here : (es : Entries) (o : Opening) (is : Integers) → max_workers < workers_of (strategy_of vars (Then es o is))
       → Closed (behind vars (Whole (Then es o is))) ≡ Err (TooManyWorkers o.name.at)
   over_here es o is many =
       ap (λ few. if few then Ok (so_far vars (Then es o is) Between) else Err (TooManyWorkers o.name.at))
@@ -136,6 +136,39 @@ module _ (vars : List Var) where
   over_step front s t at ran o other =
       ap (λ r. r >>= λ q. moved q.entries (stage_step vars q.entries q.stage t t.kind))
       (settled_other vars s t.kind other ∙ over_closed front s at ran o)
+
+  -- ---- the grammar goes on
+
+  module _ (front : List Lexeme) (t : Lexeme) where
+    one_more : (p q : Part) → IsPart front p → FitsPart q → spell_part q ≡ spell_part p ++ t ∷ []
+        → IsViable (front ++ t ∷ [])
+    one_more p q is fits spelled =
+        is_viable (front ++ t ∷ []) q
+        (record { fits = fits; spelled = ap (λ ts. ts ++ t ∷ []) is.spelled ∙ sym spelled })
+
+    first_fits : (m : Method) → t.kind ≡ Integer → FitsIntegers m (First t)
+    first_fits m kind = kind
+
+    -- of the rules' faults only too many workers are shown by a token with which the grammar may not go on
+    pub goes_on_or_over : (fault : StrategyFault) → IsRule fault → IsCause vars front t fault
+        → IsViable (front ++ t ∷ []) ⊎ ((at : ℕ) × IsEndOfOver vars front t at)
+    goes_on_or_over (Syntax n) rule x = absurd rule
+    goes_on_or_over (UnknownVariable n) rule x =
+        inl (one_more (Whole x.entries) (ToName x.entries t) x.spelled (x.spelled.fits, x.kind) refl)
+    goes_on_or_over (RepeatedVariable n) rule x =
+        inl (one_more (Whole x.entries) (ToName x.entries t) x.spelled (x.spelled.fits, x.kind) refl)
+    goes_on_or_over (BadCount n) rule x =
+        inl (one_more (ToColon x.entries x.opening) (Whole (Then x.entries x.opening (First t))) x.spelled
+        (x.spelled.fits.0, x.spelled.fits.1, first_fits x.opening.method x.kind) refl)
+    goes_on_or_over (CutSort n) rule x =
+        inl (one_more (ToEqual x.entries x.name x.equal) (ToMethod x.entries x.name x.equal t method.Cut) x.spelled
+        (x.spelled.fits.0, x.spelled.fits.1, x.spelled.fits.2, x.kind, x.cut) refl)
+    goes_on_or_over (CutOrder n) rule x =
+        inl (one_more (ToComma x.entries x.opening x.integers x.comma)
+        (Whole (Then x.entries x.opening (Next x.integers x.comma t))) x.spelled
+        (next_fits x.entries x.opening x.integers x.comma t x.spelled.fits x.kind) refl)
+    goes_on_or_over (TooManyWorkers n) rule x = inr (n, x)
+    goes_on_or_over Memory rule x = absurd x
 
   -- ---- a token that shows a fault is its cause
 
@@ -236,46 +269,16 @@ module _ (vars : List Var) where
         ∙ ap due c.low
         ∙ ap (λ n. Err (CutOrder n)) (sym c.place))
 
-    -- of the rules' faults only too many workers are shown by a token with which the grammar may not go on
-    goes_on : (p : Part) → IsPart (front ++ t ∷ []) p → IsViable (front ++ t ∷ [])
-    goes_on p is = is_viable (front ++ t ∷ []) p is
-
-    one_more : (p q : Part) → IsPart front p → FitsPart q → spell_part q ≡ spell_part p ++ t ∷ []
-        → IsViable (front ++ t ∷ [])
-    one_more p q is fits spelled =
-        goes_on q (record { fits = fits; spelled = ap (λ ts. ts ++ t ∷ []) is.spelled ∙ sym spelled })
-
-    first_fits : (m : Method) → t.kind ≡ Integer → FitsIntegers m (First t)
-    first_fits m kind = kind
-
     ends_by : (at : ℕ) → IsSyntax vars front t at → (p : Part) → IsPart front p → (r : Result Partial StrategyFault)
         → step vars s t ≡ r → Moves vars p t r → r ≡ Err (Syntax at)
     ends_by at c p is (Ok q) e leads =
-        absurd (c.ends.ends (one_more p leads.part is leads.fits leads.spelled))
+        absurd (c.ends.ends (one_more front t p leads.part is leads.fits leads.spelled))
     ends_by at c p is (Err (Syntax n)) e place = ap (λ n. Err (Syntax n)) (place ∙ sym c.ends.stands)
-    ends_by at c p is (Err fault) e shown = absurd (never fault tt (caused fault e))
-      where
-        never : (fault : StrategyFault) → IsRule fault → IsCause vars front t fault → ⊥
-        never (Syntax n) rule x = absurd rule
-        never (UnknownVariable n) rule x =
-            c.ends.ends (one_more (Whole x.entries) (ToName x.entries t) x.spelled (x.spelled.fits, x.kind) refl)
-        never (RepeatedVariable n) rule x =
-            c.ends.ends (one_more (Whole x.entries) (ToName x.entries t) x.spelled (x.spelled.fits, x.kind) refl)
-        never (BadCount n) rule x =
-            c.ends.ends
-            (one_more (ToColon x.entries x.opening) (Whole (Then x.entries x.opening (First t))) x.spelled
-            (x.spelled.fits.0, x.spelled.fits.1, first_fits x.opening.method x.kind) refl)
-        never (CutSort n) rule x =
-            c.ends.ends
-            (one_more (ToEqual x.entries x.name x.equal) (ToMethod x.entries x.name x.equal t method.Cut) x.spelled
-            (x.spelled.fits.0, x.spelled.fits.1, x.spelled.fits.2, x.kind, x.cut) refl)
-        never (CutOrder n) rule x =
-            c.ends.ends
-            (one_more (ToComma x.entries x.opening x.integers x.comma)
-            (Whole (Then x.entries x.opening (Next x.integers x.comma t))) x.spelled
-            (next_fits x.entries x.opening x.integers x.comma t x.spelled.fits x.kind) refl)
-        never (TooManyWorkers n) rule x = c.clear x.behind n x.over
-        never Memory rule x = x
+    ends_by at c p is (Err fault) e shown =
+        elim (goes_on_or_over front t fault tt (caused fault e)) [
+          | inl goes ↦ absurd (c.ends.ends goes)
+          | inr over ↦ absurd (c.clear over.1.behind over.0 over.1.over)
+        ]
 
     ends : (at : ℕ) → IsSyntax vars front t at → step vars s t ≡ Err (Syntax at)
     ends at c =
@@ -284,7 +287,7 @@ module _ (vars : List Var) where
         (subst (Moves vars here.part t) (ap (λ p. step vars p t) (sym here.here))
         (moves vars here.part t here.is_part.fits here.kept))
 
-    shows : (fault : StrategyFault) → IsCause vars front t fault → step vars s t ≡ Err fault
+    pub shows : (fault : StrategyFault) → IsCause vars front t fault → step vars s t ≡ Err fault
     shows (Syntax at) c = ends at c
     shows (UnknownVariable at) c = unknown at c
     shows (RepeatedVariable at) c = repeated at c
@@ -297,7 +300,7 @@ module _ (vars : List Var) where
   -- ---- behind all tokens
 
   -- an entry is begun, and can't be at its end
-  abbrev IsInside : StageOf → Type 0
+  abbrev pub IsInside : StageOf → Type 0
   IsInside Between = ⊥
   IsInside (Behind head e) = ⊥
   IsInside _ = Unit {0}
@@ -322,10 +325,10 @@ module _ (vars : List Var) where
   whole_outside (Then es o is) inside = inside
 
   -- whole entries, or an entry that is begun
-  abbrev IsWhole : Part → Type 0
+  abbrev pub IsWhole : Part → Type 0
   IsWhole p = (es : Entries) × (p ≡ Whole es)
 
-  whole_or_inside : (p : Part) → IsWhole p ⊎ IsInside (behind vars p).stage
+  pub whole_or_inside : (p : Part) → IsWhole p ⊎ IsInside (behind vars p).stage
   whole_or_inside (Whole es) = inl (es, refl)
   whole_or_inside (ToColon es o) = inr (opened_inside es o o.method)
   whole_or_inside _ = inr tt

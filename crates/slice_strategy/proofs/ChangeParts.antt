@@ -190,13 +190,13 @@ module _ (vars : List Var) where
           inr (record { broken = b.broken; fault = b.fault; is_rule = b.is_rule.0; shown = b.shown })
 
   -- a number behind a `before`
-  abbrev due_by : Script → Lexeme → Lexeme → Bool → Bool → Result ScriptOf ChangeFault
+  abbrev pub due_by : Script → Lexeme → Lexeme → Bool → Bool → Result ScriptOf ChangeFault
   due_by s w t low full =
       if low then Err (FallingChange t.at)
       else if full then Err (TooManyChanges w.at)
       else Ok (inside_of s t (Whole NoEntry))
 
-  number_due : (s : Script) (w t : Lexeme) → IsNumber t
+  pub number_due : (s : Script) (w t : Lexeme) → IsNumber t
       → step vars (stopped s w) t
       ≡ due_by s w t (falls (current_of s) (point t)) (nat_le max_changes (length (changes_of vars s)))
   unfolding step

@@ -14,3 +14,5 @@ pub mod StrategyLaws
 pub mod ChangeReadingLemmas
 pub mod ChangeRuns
 pub mod ChangeParts
+pub mod ChangeMoves
+pub mod ChangeCauseLaw
