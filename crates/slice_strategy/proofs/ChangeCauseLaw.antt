@@ -1,11 +1,11 @@
 -- Behind tokens that show no fault, the reader of scripts shows a fault exactly where the token or the tail is its cause.
-use Rattle.std.proofs.Common.{◌≡◌, ◌≢◌, ◌∙◌, ◌⊎◌, inl, inr, ℕ, ◌≤◌, nat_le, nat_lt, Bool, true, false, ◌&&◌, if◌then◌else◌}
-use Rattle.std.proofs.Common.{List, [], ◌∷◌, ◌++◌, length, Option, Some, None, Result, Ok, Err, ap, refl, sym, subst, arith}
+use Rattle.std.proofs.Common.{◌≡◌, ◌≢◌, ◌∙◌, ◌⊎◌, inl, inr, ℕ, nat_le, Bool, true, false, ◌&&◌}
+use Rattle.std.proofs.Common.{List, [], ◌∷◌, ◌++◌, length, Option, Some, None, Result, Ok, Err, ap, refl, sym, subst}
 use Rattle.std.proofs.lemmas.Bool.{le-leb, lt-ltb, le-ltb, and_parts}
-use Rattle.std.proofs.lemmas.List.{append-nil, append_assoc}
+use Rattle.std.proofs.lemmas.List.{append_assoc}
 use Rattle.mfotl_lex.specs.declared.fault.LexFault.{LexFault}
 use Rattle.mfotl_lex.specs.declared.kind.Kind.{Kind}
-use Rattle.mfotl_lex.specs.declared.kind.Kind.TheVariants.{Word, Integer, Comma, Equal}
+use Rattle.mfotl_lex.specs.declared.kind.Kind.TheVariants.{Word, Integer, Comma}
 use Rattle.mfotl_lex.specs.FirstFault.{◌>>=◌, Tail, Broken, End, More, run, FollowsGrammar}
 use Rattle.mfotl_lex.specs.Lexemes.{Lexeme}
 use Rattle.mfotl_lex.proofs.FirstFaultLaws.{holds_behind, run_none, run_behind, run_fault, run_token}
@@ -25,14 +25,14 @@ use Rattle.slice_strategy.specs.Causes as strategy_causes
 use Rattle.slice_strategy.specs.Causes.{IsTold}
 use Rattle.slice_strategy.specs.ChangeCauses.{InChange, IsInterrupted, IsOverIn, IsClear, IsWithin, IsByEqual, IsFalling}
 use Rattle.slice_strategy.specs.ChangeCauses.{IsOneTooMany, IsSyntax, IsCause, IsLast, StopsAt}
-use Rattle.slice_strategy.specs.ChangeGrammar.{Script, NoChange, Change, is_before, IsBefore, IsNumber, spell_script, IsScript}
+use Rattle.slice_strategy.specs.ChangeGrammar.{Script, NoChange, Change, is_before, IsNumber, spell_script, IsScript}
 use Rattle.slice_strategy.specs.ChangeGrammar.{SpellsScript}
 use Rattle.slice_strategy.specs.ChangeGrammar.{IsViableScript}
-use Rattle.slice_strategy.specs.ChangeReading.{ScriptOf, lifted, may_begin, within, interrupted, falls, last_change, step}
+use Rattle.slice_strategy.specs.ChangeReading.{ScriptOf, lifted, may_begin, interrupted, falls, last_change, step}
 use Rattle.slice_strategy.specs.ChangeReading.{nothing_read, at_tail}
 use Rattle.slice_strategy.specs.ChangeRules.{point, changes_of, IsNotBelow}
-use Rattle.slice_strategy.specs.Grammar.{Entries, NoEntry, Then, Part, Whole, ToName, ToEqual, ToMethod, ToColon, ToComma}
-use Rattle.slice_strategy.specs.Grammar.{FitsPart, spell, spell_part, IsPart, IsAccepted, IsViable, Opening}
+use Rattle.slice_strategy.specs.Grammar.{Entries, Then, Part, Whole, ToEqual, ToColon, ToComma}
+use Rattle.slice_strategy.specs.Grammar.{FitsPart, spell, spell_part, IsPart, IsAccepted, Opening}
 use Rattle.slice_strategy.specs.Limits.{max_changes}
 use Rattle.slice_strategy.specs.Reading as strategy
 use Rattle.slice_strategy.specs.Reading.{Partial, Between, ended}
@@ -40,10 +40,10 @@ use Rattle.slice_strategy.proofs.CauseLaw as law
 use Rattle.slice_strategy.proofs.CauseLaw.{few_closed, over_here, goes_on_or_over}
 use Rattle.slice_strategy.proofs.Moves as strategies
 use Rattle.slice_strategy.proofs.Moves.{so_far, behind}
-use Rattle.slice_strategy.proofs.PartReads.{KeepsPart, few_of, kept_whole, kept_reads}
+use Rattle.slice_strategy.proofs.PartReads.{few_of, kept_whole, kept_reads}
 use Rattle.slice_strategy.proofs.ChangeMoves.{LeadsTo, Shows, Moves, moves, place_viable, inner_viable, number_viable}
 use Rattle.slice_strategy.proofs.ChangeParts.{IsRule, Place, Outside, ToBefore, Inside, FitsPlace, spell_place}
-use Rattle.slice_strategy.proofs.ChangeParts.{spell_number, stopped, inside_of, at_place, KeepsPlace, current_of, due_by}
+use Rattle.slice_strategy.proofs.ChangeParts.{spell_number, inside_of, at_place, KeepsPlace, current_of, due_by}
 use Rattle.slice_strategy.proofs.ChangeParts.{number_due, stands_at, shows_rule}
 use Rattle.slice_strategy.proofs.ChangeRuns.{IsNoBefore, before_word, word_only, and_false, within_of, else_step}
 use Rattle.slice_strategy.proofs.ChangeRuns.{before_step, equal_step, name_again, whole_begins}
@@ -415,7 +415,7 @@ module _ (vars : List Var) where
     colon_outside o method.Hash = refl
     colon_outside o method.Cut = refl
 
-    begins_whole : (p : Part) → may_begin (behind vars p).stage ≡ true → (es : Entries) × (p ≡ Whole es)
+    pub begins_whole : (p : Part) → may_begin (behind vars p).stage ≡ true → (es : Entries) × (p ≡ Whole es)
     begins_whole (Whole es) e = (es, refl)
     begins_whole (ToColon es o) e = absurd (cc (e, colon_outside o o.method))
     begins_whole _ e = absurd cc
@@ -434,7 +434,7 @@ module _ (vars : List Var) where
         begins NoChange is =
             let none = ap (λ (x : ScriptOf). may_known x.current) (here_of Outside (record { fits = tt; spelled = is.spelled })) in
             let some = ap (λ (x : ScriptOf). may_known x.current) here in
-            absurd (cc (none, some))
+            absurd (cc (sym some ∙ none))
           where
             may_known : Option Current → Bool
             may_known None = false
@@ -455,7 +455,7 @@ module _ (vars : List Var) where
       parts = is.spelled;
     }
 
-    inner_ran : (r : Script) (w n : Lexeme) (p : Part) → IsPlace ts (Inside r w n p)
+    pub inner_ran : (r : Script) (w n : Lexeme) (p : Part) → IsPlace ts (Inside r w n p)
         → run (strategy.step vars) (spell_part p) (strategy.nothing_read vars) ≡ Ok (behind vars p)
     inner_ran r w n p is = kept_reads vars p is.fits.3 (place_stands ts s (Inside r w n p) ran is).0.2
 
@@ -526,10 +526,13 @@ module _ (vars : List Var) where
         → StopsAt ts tail at → strategy_causes.StopsAt (spell_part p) tail at
     inner_stops r w n p is (Broken x) at place = place
     inner_stops r w n p is (End end) at early = record {
-      unaccepted = λ a. early.unaccepted (Change r w n a.0, record {
-        fits = (is.fits.0, is.fits.1, is.fits.2, a.1.fits);
-        spelled = is.spelled ∙ ap (λ us. spell_number r w n ++ us) a.1.spelled;
-      });
+      unaccepted = λ a. early.unaccepted (
+        Change r w n a.0,
+        record {
+          fits = (is.fits.0, is.fits.1, is.fits.2, a.1.fits);
+          spelled = is.spelled ∙ ap (λ us. spell_number r w n ++ us) a.1.spelled;
+        },
+      );
       stands = early.stands;
     }
     inner_stops r w n p is More at never = absurd never
@@ -544,14 +547,16 @@ module _ (vars : List Var) where
         ap (λ n. given (Strategy (Syntax n))) (same_end end at (End end) stops.stands refl)
     stops_by (Inside r w n p) is (Broken x) at stops clear =
         ap (with_change r n)
-        (law.last_shows vars (spell_part p) (behind vars p) (inner_ran r w n p is) (Broken x) (Syntax at)
-        (inner_stops r w n p is (Broken x) at stops,
-        λ m over. clear m (record { inner = spell_part p; place = place_in r w n p is; over = over })))
+        (law.last_shows vars (spell_part p) (behind vars p) (inner_ran r w n p is) (Broken x) (Syntax at) (
+          inner_stops r w n p is (Broken x) at stops,
+          λ m over. clear m (record { inner = spell_part p; place = place_in r w n p is; over = over }),
+        ))
     stops_by (Inside r w n p) is (End end) at stops clear =
         ap (with_change r n)
-        (law.last_shows vars (spell_part p) (behind vars p) (inner_ran r w n p is) (End end) (Syntax at)
-        (inner_stops r w n p is (End end) at stops,
-        λ m over. clear m (record { inner = spell_part p; place = place_in r w n p is; over = over })))
+        (law.last_shows vars (spell_part p) (behind vars p) (inner_ran r w n p is) (End end) (Syntax at) (
+          inner_stops r w n p is (End end) at stops,
+          λ m over. clear m (record { inner = spell_part p; place = place_in r w n p is; over = over }),
+        ))
     stops_by p is More at stops clear = absurd stops
 
     pub last_shows : (tail : Tail LexFault) (fault : ChangeFault) → IsLast vars ts tail fault → at_tail tail s ≡ Err fault

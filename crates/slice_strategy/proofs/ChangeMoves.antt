@@ -1,12 +1,12 @@
 -- Behind each part of a change script: where a token leads, or of which fault it is the cause.
-use Rattle.std.proofs.Common.{◌≡◌, ◌≢◌, ◌∙◌, ◌⊎◌, inl, inr, ℕ, ◌≤◌, nat_le, Bool, true, false, ◌&&◌, if◌then◌else◌}
-use Rattle.std.proofs.Common.{List, [], ◌∷◌, ◌++◌, Some, None, Result, Ok, Err, ap, refl, sym, subst}
-use Rattle.std.proofs.lemmas.Bool.{leb-true, leb-false, and_parts}
+use Rattle.std.proofs.Common.{◌≡◌, ◌∙◌, ◌⊎◌, inl, inr, ℕ, nat_le, Bool, true, false, ◌&&◌, if◌then◌else◌}
+use Rattle.std.proofs.Common.{List, [], ◌∷◌, ◌++◌, Result, Ok, Err, ap, refl, sym, subst}
+use Rattle.std.proofs.lemmas.Bool.{leb-false, and_parts}
 use Rattle.std.proofs.lemmas.List.{append-nil, append_assoc}
 use Rattle.std.specs.Prelude.{pos, int_lt}
 use Rattle.mfotl_lex.specs.declared.kind.Kind.{Kind}
-use Rattle.mfotl_lex.specs.declared.kind.Kind.TheVariants.{Word, Integer, Comma, Equal}
-use Rattle.mfotl_lex.specs.FirstFault.{◌>>=◌, run}
+use Rattle.mfotl_lex.specs.declared.kind.Kind.TheVariants.{Word, Integer, Equal}
+use Rattle.mfotl_lex.specs.FirstFault.{◌>>=◌}
 use Rattle.mfotl_lex.specs.Lexemes.{Lexeme}
 use Rattle.mfotl_lex.specs.Numbers.{integer_value, digits_value}
 use Rattle.mfotl_lex.proofs.Verdicts as layer
@@ -28,7 +28,7 @@ use Rattle.slice_strategy.specs.ChangeReading.{ScriptOf, lifted, may_begin, with
 use Rattle.slice_strategy.specs.ChangeReading.{nothing_read}
 use Rattle.slice_strategy.specs.ChangeRules.{point, changes_of}
 use Rattle.slice_strategy.specs.Grammar.{Opening, Entries, NoEntry, Then, Part, Whole, ToName, ToEqual, ToMethod, ToColon}
-use Rattle.slice_strategy.specs.Grammar.{Integers, ToComma, FitsPart, spell, spell_part, IsPart, IsAccepted, IsViable}
+use Rattle.slice_strategy.specs.Grammar.{ToComma, FitsPart, spell, spell_part, IsPart, IsViable}
 use Rattle.slice_strategy.specs.Limits.{max_workers}
 use Rattle.slice_strategy.specs.Reading as strategy
 use Rattle.slice_strategy.specs.Reading.{Partial, Between, ended}
@@ -39,10 +39,10 @@ use Rattle.slice_strategy.proofs.Moves.{AreFew, so_far, behind, name_judged, ste
 use Rattle.slice_strategy.proofs.PartMoves as parts
 use Rattle.slice_strategy.proofs.PartMoves.{part_viable, IsNamedBy, Leads}
 use Rattle.slice_strategy.proofs.PartReads.{KeepsPart, few_of, kept_whole, known_whole, kept_reads}
-use Rattle.slice_strategy.proofs.ChangeParts.{IsRule, Place, Outside, ToBefore, Inside, FitsPlace, spell_place}
+use Rattle.slice_strategy.proofs.ChangeParts.{Place, Outside, ToBefore, Inside, FitsPlace, spell_place}
 use Rattle.slice_strategy.proofs.ChangeParts.{spell_number, stopped, inside_of, at_place, KeepsPlace, IsCaused}
 use Rattle.slice_strategy.proofs.ChangeParts.{number_judged, MayCome}
-use Rattle.slice_strategy.proofs.ChangeRuns.{IsNoBefore, before_word, word_only, within_of, else_step, before_step}
+use Rattle.slice_strategy.proofs.ChangeRuns.{IsNoBefore, before_word, within_of, else_step, before_step}
 use Rattle.slice_strategy.proofs.ChangeRuns.{equal_step, name_again, whole_begins}
 
 -- ---- the grammar goes on
@@ -59,11 +59,16 @@ script_viable s fits =
 pub inner_viable : (s : Script) (w n : Lexeme) (inner : List Lexeme) → FitsScript s → IsBefore w → IsNumber n
     → IsViable inner → IsViableScript (spell_number s w n ++ inner)
 inner_viable s w n inner fits is count v =
-    let base = spell_number s w n in
-    (v.0, (Change s w n v.1.0, record {
-      fits = (fits, is, count, v.1.1.fits);
-      spelled = append_assoc base inner v.0 ∙ ap (λ ts. base ++ ts) v.1.1.spelled;
-    }))
+    let base = spell_number s w n in (
+      v.0,
+      (
+        Change s w n v.1.0,
+        record {
+          fits = (fits, is, count, v.1.1.fits);
+          spelled = append_assoc base inner v.0 ∙ ap (λ ts. base ++ ts) v.1.1.spelled;
+        },
+      ),
+    )
 
 viable_front : (front : List Lexeme) (t : Lexeme) → IsViableScript (front ++ t ∷ []) → IsViableScript front
 viable_front front t v = (t ∷ v.0, subst IsScript (append_assoc front (t ∷ []) v.0) v.1)

@@ -1,9 +1,8 @@
 -- Where the reader stands behind each part of a change script, and what its tokens show.
-use Rattle.std.proofs.Common.{◌≡◌, ◌≢◌, ◌∙◌, inl, inr, ℕ, ◌<◌, ◌≤◌, nat_le, nat_lt, Bool, true, false, if◌then◌else◌}
+use Rattle.std.proofs.Common.{◌≡◌, ◌∙◌, inl, inr, ◌<◌, nat_le, nat_lt, Bool, true, false, if◌then◌else◌}
 use Rattle.std.proofs.Common.{List, [], ◌∷◌, ◌++◌, length, Some, None, Option, Result, Ok, Err, ap, refl, sym, subst, arith}
 use Rattle.std.proofs.lemmas.Bool.{leb-true, leb-false, ltb-true, ltb-false}
-use Rattle.std.specs.Prelude.{pos, int_lt}
-use Rattle.mfotl_lex.specs.declared.kind.Kind.TheVariants.{Word, Integer, Comma}
+use Rattle.mfotl_lex.specs.declared.kind.Kind.TheVariants.{Word}
 use Rattle.mfotl_lex.specs.FirstFault.{◌>>=◌, run}
 use Rattle.mfotl_lex.specs.Lexemes.{Lexeme}
 use Rattle.mfotl_lex.proofs.FirstFaultLaws.{run-append, run_none}
@@ -16,21 +15,20 @@ use Rattle.slice_strategy.specs.declared.change.ChangeFault.TheVariants.{Strateg
 use Rattle.slice_strategy.specs.declared.fault.StrategyFault.{StrategyFault}
 use Rattle.slice_strategy.specs.declared.fault.StrategyFault.TheVariants.{Syntax}
 use Rattle.slice_strategy.specs.declared.script.Current.{Current}
-use Rattle.slice_strategy.specs.ChangeCauses.{IsFalling, IsOneTooMany, IsCause}
-use Rattle.slice_strategy.specs.ChangeGrammar.{Script, NoChange, Change, is_before, IsBefore, IsNumber, FitsScript}
+use Rattle.slice_strategy.specs.ChangeCauses.{IsCause}
+use Rattle.slice_strategy.specs.ChangeGrammar.{Script, NoChange, Change, IsBefore, IsNumber, FitsScript}
 use Rattle.slice_strategy.specs.ChangeGrammar.{spell_script}
-use Rattle.slice_strategy.specs.ChangeReading.{ScriptOf, lifted, within, interrupted, with_current, falls, opened, numbered}
-use Rattle.slice_strategy.specs.ChangeReading.{decided, starts, step, nothing_read}
+use Rattle.slice_strategy.specs.ChangeReading.{ScriptOf, lifted, within, interrupted, with_current, falls, opened}
+use Rattle.slice_strategy.specs.ChangeReading.{decided, step, nothing_read}
 use Rattle.slice_strategy.specs.ChangeRules.{point, changes_of, IsNotBelow, KeepsScript}
-use Rattle.slice_strategy.specs.Grammar.{Entries, NoEntry, Then, Part, Whole, FitsPart, spell_part}
+use Rattle.slice_strategy.specs.Grammar.{Entries, NoEntry, Part, Whole, FitsPart, spell_part}
 use Rattle.slice_strategy.specs.Limits.{max_changes}
 use Rattle.slice_strategy.specs.Reading as strategy
 use Rattle.slice_strategy.specs.Reading.{Partial, Between, ended}
-use Rattle.slice_strategy.specs.Rules.{number}
 use Rattle.slice_strategy.proofs.Moves as strategies
 use Rattle.slice_strategy.proofs.Moves.{AreFew, so_far, behind, ended_judged}
 use Rattle.slice_strategy.proofs.PartReads.{KeepsPart, few_kept, kept_whole, few_of, part_read}
-use Rattle.slice_strategy.proofs.ChangeRuns.{IsNoBefore, alike, before_step, before_word, within_of, fresh, whole_begins}
+use Rattle.slice_strategy.proofs.ChangeRuns.{IsNoBefore, alike, before_step, whole_begins}
 
 -- a fault of a rule beside the grammar
 abbrev pub IsRule : ChangeFault → Type 0
@@ -222,16 +220,18 @@ module _ (vars : List Var) where
           (inside_of s t (Whole NoEntry))
       full_by s fits above true e =
           let many = leb-true max_changes (length (changes_of vars s)) e in
-          inr (breaks _ (MayCome s t) (TooManyChanges w.at)
-          (tt, record {
-            script = s;
-            word = w;
-            spelled = record { fits = fits; before = before; parts = refl };
-            numbered = is;
-            kept = above;
-            many = many;
-            place = refl;
-          })
+          inr (breaks _ (MayCome s t) (TooManyChanges w.at) (
+            tt,
+            record {
+              script = s;
+              word = w;
+              spelled = record { fits = fits; before = before; parts = refl };
+              numbered = is;
+              kept = above;
+              many = many;
+              place = refl;
+            },
+          )
           (λ may. omega (arith, many, may.1)))
       full_by s fits above false e =
           inl ((above, leb-false max_changes (length (changes_of vars s)) e), refl)
@@ -243,18 +243,20 @@ module _ (vars : List Var) where
           (inside_of (Change s v n es) t (Whole NoEntry))
       fall_by s v n es fits true e =
           let low = ltb-true (point t) (point n) e in
-          inr (breaks _ (MayCome (Change s v n es) t) (FallingChange t.at)
-          (tt, record {
-            script = s;
-            first = v;
-            count = n;
-            entries = es;
-            word = w;
-            spelled = record { fits = fits; before = before; parts = refl };
-            numbered = is;
-            low = low;
-            place = refl;
-          })
+          inr (breaks _ (MayCome (Change s v n es) t) (FallingChange t.at) (
+            tt,
+            record {
+              script = s;
+              first = v;
+              count = n;
+              entries = es;
+              word = w;
+              spelled = record { fits = fits; before = before; parts = refl };
+              numbered = is;
+              low = low;
+              place = refl;
+            },
+          )
           (λ may. omega (arith, low, may.0)))
       fall_by s v n es fits false e =
           full_by (Change s v n es) fits (ltb-false (point t) (point n) e)

@@ -5,7 +5,6 @@ use Rattle.mfotl_lex.specs.declared.kind.Mode.TheVariants.{Plain}
 use Rattle.mfotl_lex.specs.Lexemes.{Lexeme, next_token, after}
 use Rattle.mfotl_lex.specs.Places.{Place, beginning}
 use Rattle.mfotl_lex.specs.Texts.{tail_of, reading_on}
-use Rattle.mfotl_lex.proofs.TextLaws as texts
 use Rattle.mfotl_lex.proofs.TextLaws.{on_step, on_stop, on_none, on_fault, begins}
 use Rattle.mfotl_model.specs.declared.policy.Var.{Var}
 use Rattle.slice_strategy.specs.declared.change.ChangeFault.{ChangeFault}

@@ -1,8 +1,8 @@
 -- In a change the reader of scripts does what the reader of strategies does, but that a `before` waits for a `=`.
-use Rattle.std.proofs.Common.{◌≡◌, ◌≢◌, ◌∙◌, ℕ, Bool, true, false, ◌&&◌, List, [], ◌∷◌, ◌++◌, Option, Some, None}
-use Rattle.std.proofs.Common.{Result, Ok, Err, ap, refl, sym, subst, if◌then◌else◌}
+use Rattle.std.proofs.Common.{◌≡◌, ◌≢◌, ◌∙◌, ℕ, Bool, true, false, ◌&&◌, List, [], ◌∷◌, ◌++◌, Some}
+use Rattle.std.proofs.Common.{Result, Ok, Err, ap, refl, sym, if◌then◌else◌}
 use Rattle.mfotl_lex.specs.declared.kind.Kind.{Kind}
-use Rattle.mfotl_lex.specs.declared.kind.Kind.TheVariants.{Word, Integer, Comma, Colon, Equal}
+use Rattle.mfotl_lex.specs.declared.kind.Kind.TheVariants.{Word, Integer, Comma, Equal}
 use Rattle.mfotl_lex.specs.FirstFault.{◌>>=◌, run}
 use Rattle.mfotl_lex.specs.Lexemes.{Lexeme}
 use Rattle.mfotl_lex.proofs.FirstFaultLaws.{run-append, run_none}
@@ -18,9 +18,9 @@ use Rattle.slice_strategy.specs.ChangeReading.{ScriptOf, lifted, may_begin, with
 use Rattle.slice_strategy.specs.Grammar.{Integers, First, Next, Opening, Entries, NoEntry, Then, Part, Whole, ToName}
 use Rattle.slice_strategy.specs.Grammar.{ToEqual, ToMethod, ToColon, ToComma, FitsPart, Fits, FitsOpening, FitsIntegers}
 use Rattle.slice_strategy.specs.Grammar.{spell_part}
-use Rattle.slice_strategy.specs.Reading.{Partial, StageOf, Between, ended, moved, stage_step, opened, step, nothing_read}
+use Rattle.slice_strategy.specs.Reading.{Partial, Between, ended, moved, stage_step, step, nothing_read}
 use Rattle.slice_strategy.proofs.CauseLaw.{closed_few}
-use Rattle.slice_strategy.proofs.Moves.{AreFew, head_of, so_far, behind, settled_other}
+use Rattle.slice_strategy.proofs.Moves.{behind, settled_other}
 use Rattle.slice_strategy.proofs.PartReads.{stands_behind}
 
 pub before_word : (k : Kind) (text : List ℕ) → is_before k text ≡ true → k ≡ Word

@@ -16,3 +16,4 @@ pub mod ChangeRuns
 pub mod ChangeParts
 pub mod ChangeMoves
 pub mod ChangeCauseLaw
+pub mod ChangeTextLaws

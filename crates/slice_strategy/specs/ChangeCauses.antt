@@ -13,7 +13,7 @@ use Rattle.slice_strategy.specs.declared.fault.StrategyFault.TheVariants.{TooMan
 use Rattle.slice_strategy.specs.Causes as strategy
 use Rattle.slice_strategy.specs.Causes.{IsOver, IsTold}
 use Rattle.slice_strategy.specs.ChangeGrammar.{Script, Change, is_before, IsBefore, IsNumber, FitsScript, spell_script}
-use Rattle.slice_strategy.specs.ChangeGrammar.{SpellsScript, IsScript, IsViableScript}
+use Rattle.slice_strategy.specs.ChangeGrammar.{IsScript, IsViableScript}
 use Rattle.slice_strategy.specs.ChangeRules.{point, changes_of, IsNotBelow}
 use Rattle.slice_strategy.specs.Grammar.{Entries, spell}
 use Rattle.slice_strategy.specs.Limits.{max_changes}

@@ -16,3 +16,4 @@ pub mod ChangeCauses
 pub mod ChangeReading
 pub mod ChangeLaws
 pub mod ChangeAnswers
+pub mod ChangeTexts

@@ -61,7 +61,12 @@ impl Reader {
 
     /// Takes the next token.
     #[tactic(auto, unfolding(crate::specs::Reading::step))]
-    pub(crate) fn step(self, alloc: Global, vars: &[Var], token: &Token) -> Result<Self, StrategyFault>
+    pub(crate) fn step(
+        self,
+        alloc: Global,
+        vars: &[Var],
+        token: &Token,
+    ) -> Result<Self, StrategyFault>
         ensures { Gives (λ reader. reader) result (step vars.now self (lexeme token.now)) }
     {
         let Reader { entries, stage } = self.settled(token.kind)?;

@@ -1,6 +1,10 @@
 //! A change script, token by token.
-ghost use Rattle.std.specs.Prelude.{◌≡◌, option_map};
+ghost use Rattle.std.specs.Prelude.{◌≡◌, ◌≢◌, IfErr, IfOk};
 ghost use Rattle.mfotl_lex.specs.Lexemes.{lexeme};
+ghost use Rattle.slice_strategy.specs.declared.change.ChangeFault.TheVariants.{Strategy as Within};
+ghost use Rattle.slice_strategy.specs.declared.fault.StrategyFault.TheVariants.{Memory};
+ghost use Rattle.slice_strategy.specs.ChangeLaws.{IsShown};
+ghost use Rattle.slice_strategy.specs.ChangeRules.{IsValue};
 ghost use Rattle.slice_strategy.specs.ChangeAnswers.{Fails, Gives};
 ghost use Rattle.slice_strategy.specs.ChangeGrammar.{is_before};
 ghost use Rattle.slice_strategy.specs.ChangeReading.{breaks, decided, ends, falls, inside, opened, nothing_read, reading, renamed, starts, step, with_current};
@@ -182,7 +186,15 @@ fn decide<'a>(
             if number < 0 {
                 return Err(ChangeFault::Strategy(StrategyFault::Syntax(token.at as u64)));
             }
-            open_change(alloc, vars, done, current, word.at as u64, token.at as u64, number as u64)
+            open_change(
+                alloc,
+                vars,
+                done,
+                current,
+                word.at as u64,
+                token.at as u64,
+                number as u64,
+            )
         }
         Kind::Equal => rename(alloc, vars, done, current, word, token),
         _ => Err(ChangeFault::Strategy(StrategyFault::Syntax(token.at as u64))),
@@ -271,8 +283,14 @@ fn read_script(alloc: Global, bytes: &[u8], vars: &[Var]) -> Result<Vec<Change>,
 /// `ChangeFault` is the first fault from left to right. A strategy's stand where `Strategy::read` tells them.
 /// Behind a Word `before` only the next token tells whether it begins a change or is an entry's name: with an
 /// integer come `FallingChange`, and `TooManyChanges` at the Word; with a `=` come the faults of the name.
-pub fn read_changes(alloc: Global, bytes: &[u8], policy: &Policy) -> Result<Vec<Change>, ChangeFault>
+pub fn read_changes(
+    alloc: Global,
+    bytes: &[u8],
+    policy: &Policy,
+) -> Result<Vec<Change>, ChangeFault>
     ensures reads { Gives (λ changes. changes.items) result (reading policy.now.vars bytes.now) }
+    ensures value { IfOk result (λ changes. IsValue policy.now.vars bytes.now changes.items) }
+    ensures shown { IfErr result (λ fault. fault ≢ Within Memory → IsShown policy.now.vars bytes.now fault) }
 {
     read_script(alloc, bytes, policy.vars.as_slice())
 }
