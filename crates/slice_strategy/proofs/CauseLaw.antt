@@ -1,5 +1,6 @@
 -- Behind tokens that show no fault, the reader shows a fault exactly where the token or the tail is its cause.
-use Rattle.std.proofs.Common.{◌≡◌, ◌≢◌, ◌<◌, ◌∙◌, ◌⊎◌, inl, inr, ℕ, Bool, true, false, if◌then◌else◌, nat_le, List, []}
+use Rattle.std.proofs.Common.{◌≡◌, ◌≢◌, ◌<◌, ◌∙◌, ◌⊎◌, inl, inr, ℕ, Bool, true, false, if◌then◌else◌, nat_le}
+use Rattle.std.proofs.Common.{List, []}
 use Rattle.std.proofs.Common.{◌∷◌, ◌++◌, Some, None, Result, Ok, Err, slice_get, ap, refl, sym, subst}
 use Rattle.std.proofs.lemmas.Bool.{lt-leb, leb-false}
 use Rattle.std.proofs.lemmas.List.{append_assoc}
@@ -21,11 +22,13 @@ use Rattle.slice_strategy.specs.declared.stage.Method.{Method}
 use Rattle.slice_strategy.specs.declared.stage.Method.TheVariants as method
 use Rattle.slice_strategy.specs.Causes.{IsOver, IsClear, IsUnknown, IsRepeated, IsLow, CutsText, IsNotAbove, IsSyntax}
 use Rattle.slice_strategy.specs.Causes.{IsEndOfOver, IsCause, IsTold, IsLast}
-use Rattle.slice_strategy.specs.Grammar.{Integers, Next, Opening, Entries, NoEntry, Then, Part, Whole, ToName, ToEqual, ToMethod}
+use Rattle.slice_strategy.specs.Grammar.{Integers, Next, Opening, Entries, NoEntry, Then, Part, Whole}
+use Rattle.slice_strategy.specs.Grammar.{ToName, ToEqual, ToMethod}
 use Rattle.slice_strategy.specs.Grammar.{First, ToColon, ToComma, FitsPart, Fits, spell_part, IsPart}
 use Rattle.slice_strategy.specs.Grammar.{IsAccepted, IsViable, FitsIntegers}
 use Rattle.slice_strategy.specs.Limits.{max_workers}
-use Rattle.slice_strategy.specs.Reading.{Between, Behind, Divided, Partial, StageOf, opened, is_above, complete, ended}
+use Rattle.slice_strategy.specs.Reading.{Between, Behind, Divided, Partial, StageOf, opened, is_above}
+use Rattle.slice_strategy.specs.Reading.{complete, ended}
 use Rattle.slice_strategy.specs.Reading.{moved, named, stage_step, step, nothing_read, at_tail, syntax_at}
 use Rattle.slice_strategy.specs.Rules.{variable_of, holds_text, number_of, number, entry_by, strategy_of}
 use Rattle.slice_strategy.proofs.EntryLaws.{had_or_free, named_low, last_number}
@@ -91,7 +94,8 @@ module _ (vars : List Var) where
   abbrev pub Closed : Partial → Result Partial StrategyFault
   Closed s = ended s.entries s.stage
 
-  pub over_here : (es : Entries) (o : Opening) (is : Integers) → max_workers < workers_of (strategy_of vars (Then es o is))
+  pub over_here : (es : Entries) (o : Opening) (is : Integers) → max_workers < workers_of (strategy_of vars
+      (Then es o is))
       → Closed (behind vars (Whole (Then es o is))) ≡ Err (TooManyWorkers o.name.at)
   over_here es o is many =
       ap (λ few. if few then Ok (so_far vars (Then es o is) Between) else Err (TooManyWorkers o.name.at))
@@ -110,7 +114,8 @@ module _ (vars : List Var) where
   same_fault e f is = cc
 
   -- a token that is no comma: nothing is due but the end of the last entry
-  pub few_closed : (es : Entries) → Fits es → AreFew vars es → Closed (behind vars (Whole es)) ≡ Ok (so_far vars es Between)
+  pub few_closed : (es : Entries) → Fits es → AreFew vars es → Closed (behind vars (Whole es)) ≡ Ok
+      (so_far vars es Between)
   few_closed es fits few =
       let t : Lexeme = record { kind = Word; at = 0; text = [] } in
       kept_ok _ (AreFew vars es) (Closed (behind vars (Whole es))) (so_far vars es Between)
@@ -186,7 +191,8 @@ module _ (vars : List Var) where
         ∙ run_behind (step vars) front (t ∷ v.0) (nothing_read vars) s ran
         ∙ run_fault (step vars) t v.0 s (Syntax at) e)
 
-    caused_by : (p : Part) → IsPart front p → (fault : StrategyFault) → step vars s t ≡ Err fault → Shows vars p t fault
+    caused_by : (p : Part) → IsPart front p → (fault : StrategyFault) → step vars s t ≡ Err fault
+        → Shows vars p t fault
         → IsCause vars front t fault
     caused_by p is (Syntax at) e shown =
         record {
@@ -218,7 +224,8 @@ module _ (vars : List Var) where
         at_part (Whole es) _ c.spelled
         (name_step es t c.spelled.fits c.few c.kind
         ∙ ap (λ o. moved (strategy_of vars es) (named (strategy_of vars es) o t)) c.free
-        ∙ (elim (had_or_free vars es c.variable (known_whole vars es here.0) (named_low vars t.text c.variable c.free)) [
+        ∙ (elim (had_or_free vars es c.variable (known_whole vars es here.0)
+            (named_low vars t.text c.variable c.free)) [
           | inl h ↦ ap (λ r. moved (strategy_of vars es) r) (h.repeats t)
               ∙ ap (λ n. Err (RepeatedVariable n)) (sym c.place)
           | inr f ↦ absurd (f.first c.had)
@@ -231,7 +238,8 @@ module _ (vars : List Var) where
         (stepped vars (behind vars p) t Integer c.kind
         ∙ ap (λ m. step_by vars (so_far vars c.entries (opened (head_of vars c.opening.name) m)) t Integer) c.hash
         ∙ ap (λ enough. moved (strategy_of vars c.entries)
-        (if enough then Ok (Behind (head_of vars c.opening.name) (entry_by method.Hash (First t))) else Err (BadCount t.at)))
+        (if enough then Ok (Behind (head_of vars c.opening.name) (entry_by method.Hash (First t))) else Err
+            (BadCount t.at)))
         c.low
         ∙ ap (λ n. Err (BadCount n)) (sym c.place))
 

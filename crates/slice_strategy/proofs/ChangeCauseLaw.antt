@@ -1,4 +1,5 @@
--- Behind tokens that show no fault, the reader of scripts shows a fault exactly where the token or the tail is its cause.
+-- Behind tokens that show no fault, the reader of scripts shows a fault exactly where the token or the tail is
+-- its cause.
 use Rattle.std.proofs.Common.{◌≡◌, ◌≢◌, ◌∙◌, ◌⊎◌, inl, inr, ℕ, nat_le, Bool, true, false, ◌&&◌}
 use Rattle.std.proofs.Common.{List, [], ◌∷◌, ◌++◌, length, Option, Some, None, Result, Ok, Err, ap, refl, sym, subst}
 use Rattle.std.proofs.lemmas.Bool.{le-leb, lt-ltb, le-ltb, and_parts}
@@ -23,7 +24,8 @@ use Rattle.slice_strategy.specs.declared.stage.Method.{Method}
 use Rattle.slice_strategy.specs.declared.stage.Method.TheVariants as method
 use Rattle.slice_strategy.specs.Causes as strategy_causes
 use Rattle.slice_strategy.specs.Causes.{IsTold}
-use Rattle.slice_strategy.specs.ChangeCauses.{InChange, IsInterrupted, IsOverIn, IsClear, IsWithin, IsByEqual, IsFalling}
+use Rattle.slice_strategy.specs.ChangeCauses.{InChange, IsInterrupted, IsOverIn, IsClear, IsWithin}
+use Rattle.slice_strategy.specs.ChangeCauses.{IsByEqual, IsFalling}
 use Rattle.slice_strategy.specs.ChangeCauses.{IsOneTooMany, IsSyntax, IsCause, IsLast, StopsAt}
 use Rattle.slice_strategy.specs.ChangeGrammar.{Script, NoChange, Change, is_before, IsNumber, spell_script, IsScript}
 use Rattle.slice_strategy.specs.ChangeGrammar.{SpellsScript}
@@ -124,7 +126,8 @@ module _ (vars : List Var) where
         → (fault : StrategyFault) → strategy_causes.IsCause vars inner t fault
         → strategy.step vars (behind vars p) t ≡ Err fault
     inner_shows inner c p is own fault cause =
-        let kept = (place_stands front s (Inside c.whole c.word c.count p) ran (in_change front inner c p is own)).0 in
+        let kept = (place_stands front s (Inside c.whole c.word c.count p) ran
+            (in_change front inner c p is own)).0 in
         law.shows vars inner (behind vars p) t
         (ap (λ ts. run (strategy.step vars) ts (strategy.nothing_read vars)) is.spelled
         ∙ kept_reads vars p is.fits kept.2) fault cause
@@ -142,7 +145,8 @@ module _ (vars : List Var) where
     of_kind : (k : Kind) (b : Bool) → t.kind ≡ k → k ≢ Word → (is_before t.kind t.text && b) ≡ false
     of_kind k b kind other = ap (λ x. x && b) (word_only t.kind t.text (λ word. other (sym kind ∙ word)))
 
-    over_shows : (at : ℕ) → IsOverIn vars front at → t.kind ≢ Comma → step vars s t ≡ Err (Strategy (TooManyWorkers at))
+    over_shows : (at : ℕ) → IsOverIn vars front at → t.kind ≢ Comma → step vars s t ≡ Err (Strategy
+        (TooManyWorkers at))
     over_shows at c other = by (is_before t.kind t.text && may_begin (behind vars
         (Whole (Then c.over.before c.over.opening c.over.integers))).stage) refl
       where
@@ -253,7 +257,8 @@ module _ (vars : List Var) where
       clear = λ other n over. cc (e, over_shows n over other);
     }
 
-    caused_by : (p : Place) → IsPlace front p → (fault : ChangeFault) → step vars s t ≡ Err fault → Shows vars p t fault
+    caused_by : (p : Place) → IsPlace front p → (fault : ChangeFault) → step vars s t ≡ Err fault
+        → Shows vars p t fault
         → IsCause vars front t fault
     caused_by p is (Strategy (Syntax at)) e shown = syntax_caused at e shown
     caused_by p is (Strategy fault) e shown =
@@ -305,7 +310,8 @@ module _ (vars : List Var) where
         subst IsViableScript (sym (ap (λ ts. ts ++ t ∷ []) c.parts))
         (number_viable script word t c.fits c.before numbered)
 
-    never : (at : ℕ) → IsSyntax vars front t at → (fault : ChangeFault) → IsRule fault → IsCause vars front t fault → ⊥
+    never : (at : ℕ) → IsSyntax vars front t at → (fault : ChangeFault) → IsRule fault
+        → IsCause vars front t fault → ⊥
     never at c (Strategy (Syntax n)) rule x = absurd rule
     never at c (Strategy Memory) rule x = x
     never at c (Strategy fault) rule (inl x) =
@@ -327,7 +333,8 @@ module _ (vars : List Var) where
         })))
     ends_by at c p is (Err (Strategy (Syntax n))) e place =
         ap (λ n. Err (Strategy (Syntax n))) (place ∙ sym c.ends.stands)
-    ends_by at c p is (Err (Strategy fault)) e shown = absurd (never at c (Strategy fault) tt (caused (Strategy fault) e))
+    ends_by at c p is (Err (Strategy fault)) e shown = absurd (never at c (Strategy fault) tt (caused
+        (Strategy fault) e))
     ends_by at c p is (Err (FallingChange n)) e shown =
         absurd (never at c (FallingChange n) tt (caused (FallingChange n) e))
     ends_by at c p is (Err (TooManyChanges n)) e shown =
@@ -362,7 +369,8 @@ module _ (vars : List Var) where
         → at_tail tail s ≡ Err (Strategy (TooManyWorkers at))
     over_tail tail at c told =
         let q = Whole (Then c.over.before c.over.opening c.over.integers) in
-        let here = here_of (Inside c.place.whole c.place.word c.place.count q) (in_change ts c.inner c.place q c.over.spelled tt) in
+        let here = here_of (Inside c.place.whole c.place.word c.place.count q)
+            (in_change ts c.inner c.place q c.over.spelled tt) in
         ap (tail_at tail) here
         ∙ by tail told (over_here vars c.over.before c.over.opening c.over.integers c.over.many
         ∙ ap (λ n. Err (TooManyWorkers n)) (sym c.over.place))
@@ -390,7 +398,8 @@ module _ (vars : List Var) where
     same_given e f is = cc
 
     -- where Syntax is told, there are not too many workers
-    clear_by : (tail : Tail LexFault) (n : ℕ) → IsTold tail → at_tail tail s ≡ Err (Strategy (Syntax n)) → IsClear vars ts
+    clear_by : (tail : Tail LexFault) (n : ℕ) → IsTold tail → at_tail tail s ≡ Err (Strategy (Syntax n))
+        → IsClear vars ts
     clear_by tail n told e at over = cc (e, over_tail tail at over told)
 
     syntax_last : (tail : Tail LexFault) (fault : ChangeFault) (n : ℕ) → IsTold tail → at_tail tail s ≡ Err fault
@@ -432,7 +441,8 @@ module _ (vars : List Var) where
       where
         begins : (r' : Script) → SpellsScript ts r' → may_of s.current ≡ true
         begins NoChange is =
-            let none = ap (λ (x : ScriptOf). may_known x.current) (here_of Outside (record { fits = tt; spelled = is.spelled })) in
+            let none = ap (λ (x : ScriptOf). may_known x.current) (here_of Outside
+                (record { fits = tt; spelled = is.spelled })) in
             let some = ap (λ (x : ScriptOf). may_known x.current) here in
             absurd (cc (sym some ∙ none))
           where
@@ -512,7 +522,8 @@ module _ (vars : List Var) where
         (law.last_shown vars (spell_part p) (behind vars p) (inner_ran r w n p is) (End end) i.0 i.1)
     last_by p is More fault e f = absurd cc
 
-    pub last_shown : (tail : Tail LexFault) (fault : ChangeFault) → at_tail tail s ≡ Err fault → IsLast vars ts tail fault
+    pub last_shown : (tail : Tail LexFault) (fault : ChangeFault) → at_tail tail s ≡ Err fault
+        → IsLast vars ts tail fault
     last_shown tail fault e =
         let here = stands ts s ran in
         last_by here.place here.is_place tail fault e (sym (ap (tail_at tail) here.here) ∙ e)
@@ -522,7 +533,8 @@ module _ (vars : List Var) where
     same_end : (m n : ℕ) (tail : Tail LexFault) → tail ≡ End n → End m ≡ tail → m ≡ n
     same_end m n tail a b = cc
 
-    inner_stops : (r : Script) (w n : Lexeme) (p : Part) → IsPlace ts (Inside r w n p) → (tail : Tail LexFault) (at : ℕ)
+    inner_stops : (r : Script) (w n : Lexeme) (p : Part) → IsPlace ts (Inside r w n p) → (tail : Tail LexFault)
+        (at : ℕ)
         → StopsAt ts tail at → strategy_causes.StopsAt (spell_part p) tail at
     inner_stops r w n p is (Broken x) at place = place
     inner_stops r w n p is (End end) at early = record {
@@ -559,7 +571,8 @@ module _ (vars : List Var) where
         ))
     stops_by p is More at stops clear = absurd stops
 
-    pub last_shows : (tail : Tail LexFault) (fault : ChangeFault) → IsLast vars ts tail fault → at_tail tail s ≡ Err fault
+    pub last_shows : (tail : Tail LexFault) (fault : ChangeFault) → IsLast vars ts tail fault → at_tail tail s
+        ≡ Err fault
     last_shows tail (Strategy (Syntax at)) c =
         let here = stands ts s ran in
         ap (tail_at tail) here.here ∙ stops_by here.place here.is_place tail at c.0 c.1

@@ -24,10 +24,12 @@ use Rattle.slice_strategy.specs.Causes as strategy_causes
 use Rattle.slice_strategy.specs.ChangeCauses.{InChange, IsOwn, IsWithin, IsByEqual, IsCause}
 use Rattle.slice_strategy.specs.ChangeGrammar.{Script, NoChange, Change, is_before, IsBefore, IsNumber, FitsScript}
 use Rattle.slice_strategy.specs.ChangeGrammar.{spell_script, IsScript, IsViableScript}
-use Rattle.slice_strategy.specs.ChangeReading.{ScriptOf, lifted, may_begin, within, interrupted, opened, decided, step}
+use Rattle.slice_strategy.specs.ChangeReading.{ScriptOf, lifted, may_begin, within, interrupted, opened}
+use Rattle.slice_strategy.specs.ChangeReading.{decided, step}
 use Rattle.slice_strategy.specs.ChangeReading.{nothing_read}
 use Rattle.slice_strategy.specs.ChangeRules.{point, changes_of}
-use Rattle.slice_strategy.specs.Grammar.{Opening, Entries, NoEntry, Then, Part, Whole, ToName, ToEqual, ToMethod, ToColon}
+use Rattle.slice_strategy.specs.Grammar.{Opening, Entries, NoEntry, Then, Part, Whole, ToName, ToEqual}
+use Rattle.slice_strategy.specs.Grammar.{ToMethod, ToColon}
 use Rattle.slice_strategy.specs.Grammar.{ToComma, FitsPart, spell, spell_part, IsPart, IsViable}
 use Rattle.slice_strategy.specs.Limits.{max_workers}
 use Rattle.slice_strategy.specs.Reading as strategy
@@ -341,7 +343,8 @@ module _ (vars : List Var) where
 
     other_moves : (p : Part) (t : Lexeme) → FitsPlace (Here p) → KeepsPlace vars (Here p)
         → (is_before t.kind t.text && may_begin (behind vars p).stage) ≡ false
-        → (r : Result Partial StrategyFault) → parts.Moves vars p t r → Moves (Here p) t (within_of vars done (point n) r)
+        → (r : Result Partial StrategyFault) → parts.Moves vars p t r → Moves (Here p) t (within_of vars done
+            (point n) r)
     other_moves p t fits kept other (Ok q) leads = record {
       place = Here leads.part;
       fits = (fits.0, fits.1, fits.2, leads.fits, named_own p leads.part t leads.name other);

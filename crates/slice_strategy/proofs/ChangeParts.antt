@@ -1,6 +1,7 @@
 -- Where the reader stands behind each part of a change script, and what its tokens show.
 use Rattle.std.proofs.Common.{◌≡◌, ◌∙◌, inl, inr, ◌<◌, nat_le, nat_lt, Bool, true, false, if◌then◌else◌}
-use Rattle.std.proofs.Common.{List, [], ◌∷◌, ◌++◌, length, Some, None, Option, Result, Ok, Err, ap, refl, sym, subst, arith}
+use Rattle.std.proofs.Common.{List, [], ◌∷◌, ◌++◌, length, Some, None, Option, Result, Ok, Err, ap, refl}
+use Rattle.std.proofs.Common.{sym, subst, arith}
 use Rattle.std.proofs.lemmas.Bool.{leb-true, leb-false, ltb-true, ltb-false}
 use Rattle.mfotl_lex.specs.declared.kind.Kind.TheVariants.{Word}
 use Rattle.mfotl_lex.specs.FirstFault.{◌>>=◌, run}
@@ -200,7 +201,8 @@ module _ (vars : List Var) where
   unfolding step
   number_due s w t is =
       ap (decided vars (done_of s) (current_of s) w t) is.0
-      ∙ ap (λ b. if b then Err (Strategy (Syntax t.at)) else opened vars (done_of s) (current_of s) w.at t.at (point t))
+      ∙ ap (λ b. if b then Err (Strategy (Syntax t.at)) else opened vars (done_of s) (current_of s) w.at t.at
+          (point t))
       is.1
       ∙ ap (λ all. if falls (current_of s) (point t) then Err (FallingChange t.at)
       else if nat_le max_changes (length all) then Err (TooManyChanges w.at)
@@ -210,7 +212,8 @@ module _ (vars : List Var) where
       → layer.Judged (IsCaused (spell_script s ++ w ∷ []) t) (MayCome s t) (step vars (stopped s w) t)
       (inside_of s t (Whole NoEntry))
   number_judged s w t fits before is =
-      subst (λ r. layer.Judged (IsCaused (spell_script s ++ w ∷ []) t) (MayCome s t) r (inside_of s t (Whole NoEntry)))
+      subst (λ r. layer.Judged (IsCaused (spell_script s ++ w ∷ []) t) (MayCome s t) r (inside_of s t
+          (Whole NoEntry)))
       (sym (number_due s w t is))
       (by_script s fits)
     where
@@ -276,7 +279,8 @@ module _ (vars : List Var) where
       subst (λ r. Judged all r q) (sym (one_more front t))
       (then_judged IsRule rules (Told front) p more all (λ s. step vars s t) q to from before next)
 
-  stop_read : (s : Script) (w : Lexeme) → FitsScript s → IsBefore w → Judged (KeepsWhole s) (Told (spell_script s)) (at_whole s)
+  stop_read : (s : Script) (w : Lexeme) → FitsScript s → IsBefore w → Judged (KeepsWhole s) (Told
+      (spell_script s)) (at_whole s)
       → Judged (KeepsScript vars s) (Told (spell_script s ++ w ∷ [])) (stopped s w)
   stop_read s w fits is before =
       then_token (spell_script s) w (KeepsWhole s) (FewIn s) (KeepsScript vars s) (at_whole s) (stopped s w)
@@ -288,7 +292,8 @@ module _ (vars : List Var) where
   number_read s w n fits is count before =
       then_token (spell_script s ++ w ∷ []) n (KeepsScript vars s) (MayCome s n) (KeepsScript vars s × MayCome s n)
       (stopped s w) (inside_of s n (Whole NoEntry)) (λ a b. (a, b)) (λ k. (k.0, k.1)) before
-      (λ k. told (spell_script s ++ w ∷ []) n (MayCome s n) (step vars (stopped s w) n) (inside_of s n (Whole NoEntry))
+      (λ k. told (spell_script s ++ w ∷ []) n (MayCome s n) (step vars (stopped s w) n) (inside_of s n
+          (Whole NoEntry))
       (number_judged s w n fits is count))
 
   inside_read : (s : Script) (w n : Lexeme) (p : Part) → FitsPlace (Inside s w n p)
@@ -303,7 +308,8 @@ module _ (vars : List Var) where
       (then_judged IsRule (KeepsScript vars s × MayCome s n) (Told (spell_number s w n)) start (KeepsPart vars p)
       (KeepsPlace (Inside s w n p)) (λ q. run (step vars) (spell_part p) q) (inside_of s n p)
       (λ a b. (a.0, a.1, b)) (λ k. ((k.0, k.1), k.2)) number
-      (λ a. subst (λ r. Judged (KeepsPart vars p) r (inside_of s n p)) (sym (alike vars done (point n) p fits.3 fits.4))
+      (λ a. subst (λ r. Judged (KeepsPart vars p) r (inside_of s n p)) (sym (alike vars done
+          (point n) p fits.3 fits.4))
       (lifted_judged (KeepsPart vars p) (run (strategy.step vars) (spell_part p) (strategy.nothing_read vars))
       (behind vars p) (within done (point n)) (part_read vars p fits.3))))
 
@@ -328,6 +334,7 @@ module _ (vars : List Var) where
       judged_ok IsRule (KeepsPlace p) (Told (spell_place p)) (at_place p) s (place_read p fits) ran
 
   -- the tokens of whole changes show no Syntax
-  pub shows_rule : (s : Script) (fault : ChangeFault) → FitsScript s → Told (spell_script s) ≡ Err fault → IsRule fault
+  pub shows_rule : (s : Script) (fault : ChangeFault) → FitsScript s → Told (spell_script s) ≡ Err fault
+      → IsRule fault
   shows_rule s fault fits ran =
       judged_rule IsRule (KeepsWhole s) (Told (spell_script s)) (at_whole s) fault (script_read s fits) ran

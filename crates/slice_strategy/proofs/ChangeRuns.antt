@@ -16,7 +16,8 @@ use Rattle.slice_strategy.specs.ChangeGrammar.{is_before, IsBefore}
 use Rattle.slice_strategy.specs.ChangeReading as script
 use Rattle.slice_strategy.specs.ChangeReading.{ScriptOf, lifted, may_begin, within, interrupted, inside, step_from}
 use Rattle.slice_strategy.specs.Grammar.{Integers, First, Next, Opening, Entries, NoEntry, Then, Part, Whole, ToName}
-use Rattle.slice_strategy.specs.Grammar.{ToEqual, ToMethod, ToColon, ToComma, FitsPart, Fits, FitsOpening, FitsIntegers}
+use Rattle.slice_strategy.specs.Grammar.{ToEqual, ToMethod, ToColon, ToComma, FitsPart, Fits, FitsOpening}
+use Rattle.slice_strategy.specs.Grammar.{FitsIntegers}
 use Rattle.slice_strategy.specs.Grammar.{spell_part}
 use Rattle.slice_strategy.specs.Reading.{Partial, Between, ended, moved, stage_step, step, nothing_read}
 use Rattle.slice_strategy.proofs.CauseLaw.{closed_few}
@@ -62,7 +63,8 @@ module _ (vars : List Var) (done : List Change) (number : ℕ) where
       ≡ (lifted (ended p.entries p.stage) >>= λ q. Ok (interrupted done number t q))
   unfolding script.step
   before_step p t is begins =
-      ap (λ b. if b && may_begin p.stage then (lifted (ended p.entries p.stage) >>= λ q. Ok (interrupted done number t q))
+      ap (λ b. if b && may_begin p.stage then (lifted (ended p.entries p.stage) >>= λ q. Ok
+          (interrupted done number t q))
       else (within_of (step vars p t))) is
       ∙ ap (λ b. if b then (lifted (ended p.entries p.stage) >>= λ q. Ok (interrupted done number t q))
       else (within_of (step vars p t))) begins
@@ -145,10 +147,12 @@ module _ (vars : List Var) (done : List Change) (number : ℕ) where
       ∙ ap (ended q.entries) between ∙ ap (λ stage. Ok (record { entries = q.entries; stage = stage })) (sym between))
 
   ended_step : (p : Partial) (n : Lexeme) → n.kind ≢ Comma
-      → step vars p n ≡ (ended p.entries p.stage >>= λ q. moved q.entries (stage_step vars q.entries q.stage n n.kind))
+      → step vars p n ≡ (ended p.entries p.stage >>= λ q. moved q.entries
+          (stage_step vars q.entries q.stage n n.kind))
   unfolding step
   ended_step p n other =
-      ap (λ r. r >>= λ x. moved x.entries (stage_step vars x.entries x.stage n n.kind)) (settled_other vars p n.kind other)
+      ap (λ r. r >>= λ x. moved x.entries (stage_step vars x.entries x.stage n n.kind))
+          (settled_other vars p n.kind other)
 
   -- a name is read behind the end of the last entry as behind the entry
   pub name_again : (es : Entries) (n : Lexeme) (q : Partial) → Fits es → n.kind ≢ Comma

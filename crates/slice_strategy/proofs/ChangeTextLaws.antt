@@ -1,5 +1,7 @@
--- The laws of the reader of change scripts: what it reads is what a text spells, and each fault is the first that is shown.
-use Rattle.std.proofs.Common.{◌≡◌, ◌≢◌, ◌∙◌, ℕ, true, List, [], ◌∷◌, ◌++◌, length, Some, None, Option, Result, Ok, Err}
+-- The laws of the reader of change scripts: what it reads is what a text spells, and each fault is the first
+-- that is shown.
+use Rattle.std.proofs.Common.{◌≡◌, ◌≢◌, ◌∙◌, ℕ, true, List, [], ◌∷◌, ◌++◌, length, Some, None, Option}
+use Rattle.std.proofs.Common.{Result, Ok, Err}
 use Rattle.std.proofs.Common.{IfOk, IfErr, refl, ap, sym}
 use Rattle.mfotl_lex.specs.declared.fault.LexFault.{LexFault}
 use Rattle.mfotl_lex.specs.declared.kind.Mode.TheVariants.{Plain}
@@ -33,7 +35,8 @@ use Rattle.slice_strategy.proofs.CauseLaw.{closed_few, ends_accepted, few_closed
 use Rattle.slice_strategy.proofs.Moves.{behind}
 use Rattle.slice_strategy.proofs.PartReads.{few_kept, few_of}
 use Rattle.slice_strategy.proofs.ChangeCauseLaw.{follows, stands, place_stands, inner_ran, IsPlace}
-use Rattle.slice_strategy.proofs.ChangeParts.{IsRule, Place, Outside, ToBefore, Inside, spell_number, at_place, at_whole}
+use Rattle.slice_strategy.proofs.ChangeParts.{IsRule, Place, Outside, ToBefore, Inside, spell_number}
+use Rattle.slice_strategy.proofs.ChangeParts.{at_place, at_whole}
 use Rattle.slice_strategy.proofs.ChangeParts.{KeepsWhole, whole_of, script_read}
 
 module _ (vars : List Var) (bytes : List ℕ) where
@@ -75,7 +78,8 @@ module _ (vars : List Var) (bytes : List ℕ) where
   place_value s ran whole (Inside r w n p) is changes e =
       let last = last_is (changes_of vars r) (point n) (strategy.at_end end (behind vars p)) changes e in
       let q =
-      bind_ok (ended (behind vars p).entries (behind vars p).stage) (λ q. complete end q.entries q.stage) last.0 last.1 in
+      bind_ok (ended (behind vars p).entries (behind vars p).stage)
+          (λ q. complete end q.entries q.stage) last.0 last.1 in
       let ts = spell_part p in
       let ran_in = inner_ran vars (text_of bytes).list s ran r w n p is in
       let accepted = ends_accepted vars ts (behind vars p) ran_in end q.0 last.0 q.1 q.2 in
@@ -171,12 +175,14 @@ stays_shown vars = texts.stays_shown (step vars) nothing_read at_tail (λ s faul
 
 -- ---- what the reader answers
 
-pub value_given : {X : Type 0} (view : X → List ChangeOf) (vars : List Var) (bytes : List ℕ) (result : Result X ChangeFault)
+pub value_given : {X : Type 0} (view : X → List ChangeOf) (vars : List Var) (bytes : List ℕ)
+    (result : Result X ChangeFault)
     → Gives view result (reading vars bytes) → IfOk result (λ x. IsValue vars bytes (view x))
 value_given view vars bytes (Ok x) given = read_is_spelled vars bytes (view x) given
 value_given view vars bytes (Err fault) given = tt
 
-pub fault_shown : {X : Type 0} (view : X → List ChangeOf) (vars : List Var) (bytes : List ℕ) (result : Result X ChangeFault)
+pub fault_shown : {X : Type 0} (view : X → List ChangeOf) (vars : List Var) (bytes : List ℕ)
+    (result : Result X ChangeFault)
     → Gives view result (reading vars bytes)
     → IfErr result (λ fault. fault ≢ Within Memory → IsShown vars bytes fault)
 fault_shown view vars bytes (Ok x) given = tt

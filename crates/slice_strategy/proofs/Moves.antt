@@ -23,7 +23,8 @@ use Rattle.slice_strategy.specs.Causes.{IsCause}
 use Rattle.slice_strategy.specs.Grammar.{Integers, First, Next, Opening, Entries, NoEntry, Then, Part, Whole, ToName}
 use Rattle.slice_strategy.specs.Grammar.{ToEqual, ToMethod, ToColon, ToComma, FitsPart, Fits, spell_part, method_of}
 use Rattle.slice_strategy.specs.Limits.{max_workers}
-use Rattle.slice_strategy.specs.Reading.{StageOf, Between, Named, Chosen, Divided, Cutting, Behind, Partial, fresh, named}
+use Rattle.slice_strategy.specs.Reading.{StageOf, Between, Named, Chosen, Divided, Cutting, Behind, Partial}
+use Rattle.slice_strategy.specs.Reading.{fresh, named}
 use Rattle.slice_strategy.specs.Reading.{opened, is_above, stage_step, ended, settled, moved, step}
 use Rattle.slice_strategy.specs.Reading.{nothing_read, syntax_at}
 use Rattle.slice_strategy.specs.Rules.{variable_of, holds_text, number_of, number, numbers, last_of, entry_by}
@@ -80,7 +81,8 @@ module _ (vars : List Var) where
       → Judged (spell_part (Whole es)) t (AreFew es) (ended (behind (Whole es)).entries (behind (Whole es)).stage)
       (so_far es Between)
   ended_judged NoEntry fits t other = inl (one_worker vars, refl)
-  ended_judged (Then es o is) fits t other = by (nat_le (workers_of (strategy_of vars (Then es o is))) max_workers) refl
+  ended_judged (Then es o is) fits t other = by (nat_le (workers_of (strategy_of vars
+      (Then es o is))) max_workers) refl
     where
       by : (few : Bool) → nat_le (workers_of (strategy_of vars (Then es o is))) max_workers ≡ few
           → Judged (spell_part (Whole (Then es o is))) t (AreFew (Then es o is))
@@ -144,7 +146,8 @@ module _ (vars : List Var) where
                     place = refl;
                   },
                 )
-                (λ new. new.first (subst (HasEntry vars es) (same_variable x new.variable (sym e ∙ new.free)) h.had))))
+                (λ new. new.first (subst (HasEntry vars es) (same_variable x new.variable (sym e
+                    ∙ new.free)) h.had))))
             | inr f ↦ inl (
               record { variable = x; free = e; first = f.first },
               ap (λ o. moved (strategy_of vars es) (fresh o x t)) f.uncut
@@ -199,7 +202,8 @@ module _ (vars : List Var) where
               equal = e;
               spelled = record { fits = fits; spelled = refl };
               kind = kind;
-              cut = ap (λ x. if x then Some method.Hash else if bytes_eq t.text (codes "cut") then Some method.Cut else None) a
+              cut = ap (λ x. if x then Some method.Hash else if bytes_eq t.text
+                  (codes "cut") then Some method.Cut else None) a
                   ∙ ap (λ x. if x then Some method.Cut else None) b;
               string = c;
               place = refl;
@@ -211,7 +215,8 @@ module _ (vars : List Var) where
 
   -- the first integer
   pub first_judged : (es : Entries) (o : Opening) → FitsPart (ToColon es o) → (t : Lexeme) → t.kind ≡ Integer
-      → Judged (spell_part (ToColon es o)) t (AreInOrder o.method (First t)) (step_by (behind (ToColon es o)) t Integer)
+      → Judged (spell_part (ToColon es o)) t (AreInOrder o.method (First t)) (step_by (behind
+          (ToColon es o)) t Integer)
       (behind (Whole (Then es o (First t))))
   first_judged es o fits t kind = by o.method refl
     where
@@ -279,7 +284,8 @@ module _ (vars : List Var) where
           (λ above. cc (e, above)))
 
   -- tokens beside which there is no rule
-  pub equal_step : (es : Entries) (n t : Lexeme) → step_by (behind (ToName es n)) t Equal ≡ Ok (behind (ToEqual es n t))
+  pub equal_step : (es : Entries) (n t : Lexeme) → step_by (behind (ToName es n)) t Equal ≡ Ok (behind
+      (ToEqual es n t))
   equal_step es n t = refl
 
   pub colon_step : (es : Entries) (n e w : Lexeme) (m : Method) (t : Lexeme)

@@ -18,10 +18,12 @@ use Rattle.slice_strategy.specs.Causes.{IsCause}
 use Rattle.slice_strategy.specs.Grammar.{Integers, First, Next, Opening, Entries, NoEntry, Then, Part, Whole, ToName}
 use Rattle.slice_strategy.specs.Grammar.{ToEqual, ToMethod, ToColon, ToComma, FitsPart, Fits, FitsIntegers}
 use Rattle.slice_strategy.specs.Grammar.{spell_part, method_of, IsAccepted, IsViable}
-use Rattle.slice_strategy.specs.Reading.{Between, Behind, Divided, Partial, opened, ended, moved, stage_step, step, syntax_at}
+use Rattle.slice_strategy.specs.Reading.{Between, Behind, Divided, Partial, opened, ended, moved, stage_step}
+use Rattle.slice_strategy.specs.Reading.{step, syntax_at}
 use Rattle.slice_strategy.specs.Rules.{holds_text, number_of, entry_by, strategy_of}
 use Rattle.slice_strategy.proofs.Moves.{IsCaused, head_of, so_far, behind, step_by, stepped}
-use Rattle.slice_strategy.proofs.Moves.{ended_judged, name_judged, method_judged, first_judged, next_judged, comma_step}
+use Rattle.slice_strategy.proofs.Moves.{ended_judged, name_judged, method_judged, first_judged, next_judged}
+use Rattle.slice_strategy.proofs.Moves.{comma_step}
 use Rattle.slice_strategy.proofs.PartReads.{KeepsPart, known_whole}
 
 -- ---- the grammar goes on
@@ -224,7 +226,8 @@ module _ (vars : List Var) where
       → FitsPart (ToComma es o is c)
       → Moves (ToComma es o is c) t (step_by vars (behind vars (ToComma es o is c)) t k)
   more_moves es o is c t Integer kind fits =
-      judged_moves (ToComma es o is c) (Whole (Then es o (Next is c t))) t _ _ (next_fits es o is c t fits kind) refl tt
+      judged_moves (ToComma es o is c) (Whole (Then es o (Next is c t))) t _ _
+          (next_fits es o is c t fits kind) refl tt
       (next_judged vars es o is c fits t kind)
   more_moves es o is c t _ kind fits = refl
 

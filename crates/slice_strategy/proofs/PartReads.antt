@@ -1,4 +1,5 @@
--- What the reader makes of the tokens of each part of a strategy: it stands behind the part, or shows a fault of a rule.
+-- What the reader makes of the tokens of each part of a strategy: it stands behind the part, or shows a fault
+-- of a rule.
 use Rattle.std.proofs.Common.{◌≡◌, ◌∙◌, inl, inr, true, List, [], ◌∷◌, ◌++◌, Result, Ok, Err, refl, sym, subst}
 use Rattle.std.specs.Prelude.{int_lt}
 use Rattle.mfotl_lex.specs.declared.kind.Kind.TheVariants.{Word, Integer, Comma, Colon, Equal}
@@ -12,7 +13,8 @@ use Rattle.slice_strategy.specs.declared.fault.StrategyFault.{StrategyFault}
 use Rattle.slice_strategy.specs.declared.stage.Method.{Method}
 use Rattle.slice_strategy.specs.declared.stage.Method.TheVariants as method
 use Rattle.slice_strategy.specs.Grammar.{Integers, First, Next, Opening, Entries, NoEntry, Then, Part, Whole, ToName}
-use Rattle.slice_strategy.specs.Grammar.{ToEqual, ToMethod, ToColon, ToComma, FitsPart, Fits, FitsOpening, FitsIntegers}
+use Rattle.slice_strategy.specs.Grammar.{ToEqual, ToMethod, ToColon, ToComma, FitsPart, Fits, FitsOpening}
+use Rattle.slice_strategy.specs.Grammar.{FitsIntegers}
 use Rattle.slice_strategy.specs.Grammar.{spell_part}
 use Rattle.slice_strategy.specs.Reading.{Partial, step, nothing_read}
 use Rattle.slice_strategy.specs.Rules.{last_of, number, KeepsRules, IsNew, SuitsSort, AreInOrder}

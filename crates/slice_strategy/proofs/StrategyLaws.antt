@@ -41,7 +41,8 @@ module _ (vars : List Var) (bytes : List ℕ) where
   accepted_value s q strategy ran closed accepted done whole =
       let es = accepted.0 in
       let at = part_stands vars (text_of bytes).list s (Whole es) ran accepted.1 in
-      let few = closed_few vars es accepted.1.fits q (ap (λ (p : Partial). ended p.entries p.stage) (sym at.1) ∙ closed) in
+      let few = closed_few vars es accepted.1.fits q (ap (λ (p : Partial). ended p.entries p.stage) (sym at.1)
+          ∙ closed) in
       record {
         written = es;
         whole = whole;
@@ -101,7 +102,8 @@ exact_faults vars bytes fault =
 
 pub exact_soundness : ExactSoundness
 exact_soundness vars =
-    firsts.exact_soundness (step vars) (nothing_read vars) at_tail IsViable (IsCause vars) (IsLast vars) (follows vars)
+    firsts.exact_soundness (step vars) (nothing_read vars) at_tail IsViable (IsCause vars) (IsLast vars)
+        (follows vars)
 
 -- ---- what the reader answers
 
