@@ -225,7 +225,7 @@ module _ (vars : List Var) where
         (name_step es t c.spelled.fits c.few c.kind
         ∙ ap (λ o. moved (strategy_of vars es) (named (strategy_of vars es) o t)) c.free
         ∙ (elim (had_or_free vars es c.variable (known_whole vars es here.0)
-            (named_low vars t.text c.variable c.free)) [
+        (named_low vars t.text c.variable c.free)) [
           | inl h ↦ ap (λ r. moved (strategy_of vars es) r) (h.repeats t)
               ∙ ap (λ n. Err (RepeatedVariable n)) (sym c.place)
           | inr f ↦ absurd (f.first c.had)
@@ -239,7 +239,7 @@ module _ (vars : List Var) where
         ∙ ap (λ m. step_by vars (so_far vars c.entries (opened (head_of vars c.opening.name) m)) t Integer) c.hash
         ∙ ap (λ enough. moved (strategy_of vars c.entries)
         (if enough then Ok (Behind (head_of vars c.opening.name) (entry_by method.Hash (First t))) else Err
-            (BadCount t.at)))
+        (BadCount t.at)))
         c.low
         ∙ ap (λ n. Err (BadCount n)) (sym c.place))
 

@@ -127,7 +127,7 @@ module _ (vars : List Var) where
         → strategy.step vars (behind vars p) t ≡ Err fault
     inner_shows inner c p is own fault cause =
         let kept = (place_stands front s (Inside c.whole c.word c.count p) ran
-            (in_change front inner c p is own)).0 in
+        (in_change front inner c p is own)).0 in
         law.shows vars inner (behind vars p) t
         (ap (λ ts. run (strategy.step vars) ts (strategy.nothing_read vars)) is.spelled
         ∙ kept_reads vars p is.fits kept.2) fault cause
@@ -370,7 +370,7 @@ module _ (vars : List Var) where
     over_tail tail at c told =
         let q = Whole (Then c.over.before c.over.opening c.over.integers) in
         let here = here_of (Inside c.place.whole c.place.word c.place.count q)
-            (in_change ts c.inner c.place q c.over.spelled tt) in
+        (in_change ts c.inner c.place q c.over.spelled tt) in
         ap (tail_at tail) here
         ∙ by tail told (over_here vars c.over.before c.over.opening c.over.integers c.over.many
         ∙ ap (λ n. Err (TooManyWorkers n)) (sym c.over.place))
@@ -442,7 +442,7 @@ module _ (vars : List Var) where
         begins : (r' : Script) → SpellsScript ts r' → may_of s.current ≡ true
         begins NoChange is =
             let none = ap (λ (x : ScriptOf). may_known x.current) (here_of Outside
-                (record { fits = tt; spelled = is.spelled })) in
+            (record { fits = tt; spelled = is.spelled })) in
             let some = ap (λ (x : ScriptOf). may_known x.current) here in
             absurd (cc (sym some ∙ none))
           where

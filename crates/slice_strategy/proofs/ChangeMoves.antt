@@ -344,7 +344,7 @@ module _ (vars : List Var) where
     other_moves : (p : Part) (t : Lexeme) → FitsPlace (Here p) → KeepsPlace vars (Here p)
         → (is_before t.kind t.text && may_begin (behind vars p).stage) ≡ false
         → (r : Result Partial StrategyFault) → parts.Moves vars p t r → Moves (Here p) t (within_of vars done
-            (point n) r)
+        (point n) r)
     other_moves p t fits kept other (Ok q) leads = record {
       place = Here leads.part;
       fits = (fits.0, fits.1, fits.2, leads.fits, named_own p leads.part t leads.name other);

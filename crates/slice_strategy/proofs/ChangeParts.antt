@@ -202,7 +202,7 @@ module _ (vars : List Var) where
   number_due s w t is =
       ap (decided vars (done_of s) (current_of s) w t) is.0
       ∙ ap (λ b. if b then Err (Strategy (Syntax t.at)) else opened vars (done_of s) (current_of s) w.at t.at
-          (point t))
+      (point t))
       is.1
       ∙ ap (λ all. if falls (current_of s) (point t) then Err (FallingChange t.at)
       else if nat_le max_changes (length all) then Err (TooManyChanges w.at)
@@ -213,7 +213,7 @@ module _ (vars : List Var) where
       (inside_of s t (Whole NoEntry))
   number_judged s w t fits before is =
       subst (λ r. layer.Judged (IsCaused (spell_script s ++ w ∷ []) t) (MayCome s t) r (inside_of s t
-          (Whole NoEntry)))
+      (Whole NoEntry)))
       (sym (number_due s w t is))
       (by_script s fits)
     where
@@ -293,7 +293,7 @@ module _ (vars : List Var) where
       then_token (spell_script s ++ w ∷ []) n (KeepsScript vars s) (MayCome s n) (KeepsScript vars s × MayCome s n)
       (stopped s w) (inside_of s n (Whole NoEntry)) (λ a b. (a, b)) (λ k. (k.0, k.1)) before
       (λ k. told (spell_script s ++ w ∷ []) n (MayCome s n) (step vars (stopped s w) n) (inside_of s n
-          (Whole NoEntry))
+      (Whole NoEntry))
       (number_judged s w n fits is count))
 
   inside_read : (s : Script) (w n : Lexeme) (p : Part) → FitsPlace (Inside s w n p)
@@ -309,7 +309,7 @@ module _ (vars : List Var) where
       (KeepsPlace (Inside s w n p)) (λ q. run (step vars) (spell_part p) q) (inside_of s n p)
       (λ a b. (a.0, a.1, b)) (λ k. ((k.0, k.1), k.2)) number
       (λ a. subst (λ r. Judged (KeepsPart vars p) r (inside_of s n p)) (sym (alike vars done
-          (point n) p fits.3 fits.4))
+      (point n) p fits.3 fits.4))
       (lifted_judged (KeepsPart vars p) (run (strategy.step vars) (spell_part p) (strategy.nothing_read vars))
       (behind vars p) (within done (point n)) (part_read vars p fits.3))))
 

@@ -64,7 +64,7 @@ module _ (vars : List Var) (done : List Change) (number : ℕ) where
   unfolding script.step
   before_step p t is begins =
       ap (λ b. if b && may_begin p.stage then (lifted (ended p.entries p.stage) >>= λ q. Ok
-          (interrupted done number t q))
+      (interrupted done number t q))
       else (within_of (step vars p t))) is
       ∙ ap (λ b. if b then (lifted (ended p.entries p.stage) >>= λ q. Ok (interrupted done number t q))
       else (within_of (step vars p t))) begins
@@ -148,11 +148,11 @@ module _ (vars : List Var) (done : List Change) (number : ℕ) where
 
   ended_step : (p : Partial) (n : Lexeme) → n.kind ≢ Comma
       → step vars p n ≡ (ended p.entries p.stage >>= λ q. moved q.entries
-          (stage_step vars q.entries q.stage n n.kind))
+      (stage_step vars q.entries q.stage n n.kind))
   unfolding step
   ended_step p n other =
       ap (λ r. r >>= λ x. moved x.entries (stage_step vars x.entries x.stage n n.kind))
-          (settled_other vars p n.kind other)
+      (settled_other vars p n.kind other)
 
   -- a name is read behind the end of the last entry as behind the entry
   pub name_again : (es : Entries) (n : Lexeme) (q : Partial) → Fits es → n.kind ≢ Comma

@@ -79,7 +79,7 @@ module _ (vars : List Var) (bytes : List ℕ) where
       let last = last_is (changes_of vars r) (point n) (strategy.at_end end (behind vars p)) changes e in
       let q =
       bind_ok (ended (behind vars p).entries (behind vars p).stage)
-          (λ q. complete end q.entries q.stage) last.0 last.1 in
+      (λ q. complete end q.entries q.stage) last.0 last.1 in
       let ts = spell_part p in
       let ran_in = inner_ran vars (text_of bytes).list s ran r w n p is in
       let accepted = ends_accepted vars ts (behind vars p) ran_in end q.0 last.0 q.1 q.2 in

@@ -147,7 +147,7 @@ module _ (vars : List Var) where
                   },
                 )
                 (λ new. new.first (subst (HasEntry vars es) (same_variable x new.variable (sym e
-                    ∙ new.free)) h.had))))
+                ∙ new.free)) h.had))))
             | inr f ↦ inl (
               record { variable = x; free = e; first = f.first },
               ap (λ o. moved (strategy_of vars es) (fresh o x t)) f.uncut
@@ -216,7 +216,7 @@ module _ (vars : List Var) where
   -- the first integer
   pub first_judged : (es : Entries) (o : Opening) → FitsPart (ToColon es o) → (t : Lexeme) → t.kind ≡ Integer
       → Judged (spell_part (ToColon es o)) t (AreInOrder o.method (First t)) (step_by (behind
-          (ToColon es o)) t Integer)
+      (ToColon es o)) t Integer)
       (behind (Whole (Then es o (First t))))
   first_judged es o fits t kind = by o.method refl
     where

@@ -227,7 +227,7 @@ module _ (vars : List Var) where
       → Moves (ToComma es o is c) t (step_by vars (behind vars (ToComma es o is c)) t k)
   more_moves es o is c t Integer kind fits =
       judged_moves (ToComma es o is c) (Whole (Then es o (Next is c t))) t _ _
-          (next_fits es o is c t fits kind) refl tt
+      (next_fits es o is c t fits kind) refl tt
       (next_judged vars es o is c fits t kind)
   more_moves es o is c t _ kind fits = refl
 

@@ -42,7 +42,7 @@ module _ (vars : List Var) (bytes : List ℕ) where
       let es = accepted.0 in
       let at = part_stands vars (text_of bytes).list s (Whole es) ran accepted.1 in
       let few = closed_few vars es accepted.1.fits q (ap (λ (p : Partial). ended p.entries p.stage) (sym at.1)
-          ∙ closed) in
+      ∙ closed) in
       record {
         written = es;
         whole = whole;
@@ -103,7 +103,7 @@ exact_faults vars bytes fault =
 pub exact_soundness : ExactSoundness
 exact_soundness vars =
     firsts.exact_soundness (step vars) (nothing_read vars) at_tail IsViable (IsCause vars) (IsLast vars)
-        (follows vars)
+    (follows vars)
 
 -- ---- what the reader answers
 

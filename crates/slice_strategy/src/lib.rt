@@ -8,6 +8,7 @@ pub mod laws;
 mod limits;
 mod reading;
 mod script;
+mod script_step;
 mod slicer;
 mod stage;
 mod strategy;
