@@ -1,17 +1,17 @@
 -- Line after line of a step's tables.
-use Rattle.std.proofs.Common.{◌≡◌, ◌∙◌, ap, ap₂, sym, refl, subst, arith, ℕ, zero, suc, ◌+◌, ◌-◌, ◌≤◌, Bool, false, not, ◌||◌}
+use Rattle.std.proofs.Common.{◌≡◌, ◌∙◌, ap, ap₂, sym, refl, subst, arith, ℕ, suc, ◌+◌, ◌-◌, Bool, false, not, ◌||◌}
 use Rattle.std.proofs.Common.{List, [], ◌∷◌, ◌++◌, length, Option, append-nil, length-append, append_assoc, slice_index}
 use Rattle.std.proofs.lemmas.Grind.{flat_map-append}
 use Rattle.std.proofs.lemmas.List.Folds.{list_any-append}
 use Rattle.std.proofs.Math.Bool.{or-false}
-use Rattle.mon_outside.specs.Sink.{Appends, AppendsFront}
+use Rattle.mon_outside.specs.Sink.{AppendsFront}
 use Rattle.mfotl_model.specs.Tables.{TableOf}
 use Rattle.mfotl_model.specs.VerdictText.{VerdictOf, line_of}
 use Rattle.mfotl_model.specs.declared.value.Value.{Value}
 use Rattle.monitor_state.specs.Stands.{StateOf}
 use Rattle.relations.specs.Tables.{IsTable}
 use Rattle.monitor_main.specs.LogRuns.{AreTables, WritesFront, WritesLine, WritesLines, WritesTables}
-use Rattle.monitor_main.specs.VerdictRows.{is_empty, lines, some_rows}
+use Rattle.monitor_main.specs.VerdictRows.{is_empty, lines}
 use Rattle.monitor_main.specs.Verdicts.{verdicts_of}
 use Rattle.monitor_main.proofs.SinkLemmas.{appends_more, appends_none, front_behind, whole_front}
 

@@ -1,12 +1,12 @@
 -- The tables that a step gives are the verdicts on the positions that the time-point settles.
-use Rattle.std.proofs.Common.{◌≡◌, ◌∙◌, ap, ap₂, sym, refl, subst, arith, ℕ, zero, suc, ◌+◌, ◌-◌, ◌<◌, ◌≤◌, Bool, cond}
+use Rattle.std.proofs.Common.{◌≡◌, ◌∙◌, ap, ap₂, sym, refl, subst, arith, ℕ, zero, suc, ◌+◌, ◌-◌, ◌≤◌, Bool, cond}
 use Rattle.std.proofs.Common.{List, [], ◌∷◌, ◌++◌, map, length, drop, slice_index, Option, length-append, append-nil}
 use Rattle.std.specs.List.{range_with_len}
 use Rattle.std.proofs.lemmas.Grind.{flat_map-append}
 use Rattle.std.proofs.lemmas.List.{get_or-drop, length-drop, length-map, map-append}
-use Rattle.mon_outside.specs.Sink.{Appends, AppendsFront}
+use Rattle.mon_outside.specs.Sink.{AppendsFront}
 use Rattle.mfotl_model.specs.Counts.{passing, settled_count}
-use Rattle.mfotl_model.specs.Exact.{AllExact, Exact, View}
+use Rattle.mfotl_model.specs.Exact.{AllExact, View}
 use Rattle.mfotl_model.specs.Formulas.{Form}
 use Rattle.mfotl_model.specs.Log.{times}
 use Rattle.mfotl_model.specs.Satisfaction.{time_at}
@@ -19,15 +19,13 @@ use Rattle.monitorable.specs.CoreForms.{CoreForm, meaning}
 use Rattle.monitorable.specs.Laws.{whole_view}
 use Rattle.monitor_state.proofs.CountLemmas.{count_within}
 use Rattle.monitor_state.proofs.LawProofs.{lone_worker_steps, tables_are_violations}
-use Rattle.monitor_state.specs.MonitorView.{MonitorOf}
 use Rattle.monitor_state.specs.Stands.{StateOf, Stands}
 use Rattle.monitor_state.specs.Steps.{News, Steps}
-use Rattle.relations.specs.Tables.{IsTable}
 use Rattle.monitor_main.specs.CheckedPolicies.{IsCoreOf, IsEvaluable}
-use Rattle.monitor_main.specs.LogRuns.{AreTables, ForEachLog, ForEachPolicy, IsReady, TakesPoint, WritesFront, WritesLines, WritesTables}
+use Rattle.monitor_main.specs.LogRuns.{AreTables, TakesPoint, WritesFront, WritesLines, WritesTables}
 use Rattle.monitor_main.specs.VerdictRows.{lines}
 use Rattle.monitor_main.specs.Verdicts.{news, reached, verdicts_of}
-use Rattle.monitor_main.proofs.SinkLemmas.{longer_front, no_front}
+use Rattle.monitor_main.proofs.SinkLemmas.{longer_front}
 use Rattle.monitor_main.proofs.VerdictLemmas.{none_lost, range_more}
 
 -- tests that agree let as many pass
@@ -86,8 +84,7 @@ module _ (core : CoreForm) (old : StateOf) (point : TimePoint) (new : StateOf) (
       let size : length (times (log ++ point ∷ [])) ≡ length (log ++ point ∷ []) =
       length-map (log ++ point ∷ []) (λ p. p.ts) in
       let kept : length new.times ≡ length (times (log ++ point ∷ [])) - new.first =
-      ap length stepped.0.times ∙ length-drop new.first (times (log ++ point ∷ [])) in
-      (
+      ap length stepped.0.times ∙ length-drop new.first (times (log ++ point ∷ [])) in (
         omega (arith, first_is, length-append log (point ∷ [])),
         omega (arith, length-append log (point ∷ [])),
       )

@@ -16,7 +16,7 @@ use Rattle.monitor_state.proofs.CountLemmas.{count_grows}
 use Rattle.monitorable.proofs.CoreLaws.{accepted}
 use Rattle.monitorable.proofs.FinalityLaw.{time_same, within_log}
 use Rattle.monitorable.proofs.ViolationsFinal.{violations_final}
-use Rattle.monitorable.specs.Fragment.{Names, frag, frag_fault}
+use Rattle.monitorable.specs.Fragment.{Names, frag}
 use Rattle.monitorable.specs.Laws.{open_log}
 use Rattle.monitorable.specs.NormalForm.{negative}
 use Rattle.monitor_main.specs.TextLaw.{VerdictsGrow}

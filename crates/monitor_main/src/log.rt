@@ -26,6 +26,7 @@ use mfotl_model::TimePoint;
 use mfotl_sig::Signature;
 use mon_outside::{Inputs, LoadFault, Sink, read_to_end};
 use monitor_state::Monitor;
+use monitorable::Core;
 use std::alloc::Global;
 
 /// The bytes that were given of a log, and whether a call failed behind them.
@@ -163,6 +164,36 @@ fn reader_of<'a>(alloc: Global, sig: &'a Signature, log: Gathered) -> LogReader<
     reader
 }
 
+// Takes all time-points that are complete, by a monitor of this core.
+fn take_by_core<O: Sink>(
+    alloc: Global,
+    core: &Core,
+    reader: &mut LogReader<'_>,
+    out: &mut O,
+) -> Result<bool, Refusal>
+    requires works { reader.old.is_broken ≡ false }
+    requires first { reader.old.given ≡ 0 }
+    requires few { reader.old.limits.points < 2 ^ 63 }
+    requires fed { IsFed reader.old }
+    requires evaluable { IsEvaluable (core_form core.now) }
+    ensures ok { IfOk result (λ violated. ForEach reader.old (λ bytes.
+        ForEachPolicy (core_form core.now) (λ policy. EndsClear policy
+        (read (progress reader.old bytes)) (O.written out.old) (O.written out.new) violated))) }
+    ensures stops { IfErr result (λ r. ForEach reader.old (λ bytes.
+        ForEachPolicy (core_form core.now) (λ policy. StopsLines policy
+        (read (progress reader.old bytes)) (O.written out.old) (O.written out.new)
+        (O.faults out.old) (O.faults out.new) r))) }
+    ensures front { ForEach reader.old (λ bytes. ForEachPolicy (core_form core.now) (λ policy.
+        AppendsFront (O.written out.old) (O.written out.new)
+        (text_on policy (read (progress reader.old bytes))))) }
+    ensures later { O.faults out.old ≤ O.faults out.new }
+{
+    let Ok(mut monitor) = Monitor::new(alloc, core) else {
+        return Err(Refusal::Memory);
+    };
+    take_complete(alloc, reader, &mut monitor, out)
+}
+
 // Monitors these bytes of a log, up to what they complete.
 fn take_bytes<O: Sink>(
     alloc: Global,
@@ -182,11 +213,8 @@ fn take_bytes<O: Sink>(
         (reading (checked_in checked.now).sig standard log.bytes.items (not log.failed))) }
     ensures later { O.faults out.old ≤ O.faults out.new }
 {
-    let Ok(mut monitor) = Monitor::new(alloc, &checked.core) else {
-        return Err(Refusal::Memory);
-    };
     let mut reader = reader_of(alloc, &checked.sig, log);
-    take_complete(alloc, &mut reader, &mut monitor, out)
+    take_by_core(alloc, &checked.core, &mut reader, out)
 }
 
 /// Monitors a log of which these bytes were given.

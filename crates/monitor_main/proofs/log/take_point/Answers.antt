@@ -1,4 +1,4 @@
-use Rattle.std.proofs.Common.{arith, subst, sym}
+use Rattle.std.proofs.Common.{arith, subst}
 use Rattle.std.proofs.lemmas.Result.{IfOk-weaker}
 use Rattle.monitor_state.specs.MonitorView.{monitor_of}
 use Rattle.monitor_main.specs.LogRuns.{WritesFront, WritesTables}
