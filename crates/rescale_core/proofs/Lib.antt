@@ -1,2 +1,10 @@
 pub mod LogLemmas
 pub mod OwnedLemmas
+pub mod Chains
+pub mod WorldLemmas
+pub mod Fitting
+pub mod Settling
+pub mod Rowing
+pub mod Leading
+pub mod Soundness
+pub mod Verdicts

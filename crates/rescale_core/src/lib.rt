@@ -2,6 +2,7 @@
 #![tactic(auto)]
 
 mod item;
+pub mod laws;
 mod phase;
 mod piece;
 mod queue;
