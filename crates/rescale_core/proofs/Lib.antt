@@ -8,3 +8,4 @@ pub mod Rowing
 pub mod Leading
 pub mod Soundness
 pub mod Verdicts
+pub mod WorkerSteps

@@ -79,7 +79,7 @@ sized_row n (first ∷ rows) row sized h =
     at false e h next = next h
 
 -- the variables below n are among the numbers from 0 to n
-among_range : (x j n : ℕ) → j ≤ x → x < j + n → among x (range_with_len j n) ≡ true
+pub among_range : (x j n : ℕ) → j ≤ x → x < j + n → among x (range_with_len j n) ≡ true
 among_range x j zero low high = absurd (omega arith)
 among_range x j (suc n) low high = at (ℕ_discrete x j) (λ more. among_range x (j + 1) n more (omega arith))
   where

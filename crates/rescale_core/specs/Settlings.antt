@@ -3,6 +3,7 @@ use Rattle.std.specs.Prelude.{◌≡◌, ℕ, ◌+◌, ◌-◌, ◌≤◌, ◌^�
 use Rattle.mfotl_model.specs.Strategies.{Strategy}
 use Rattle.mfotl_model.specs.Tables.{TableOf}
 use Rattle.monitor_state.specs.Stands.{StateOf}
+use Rattle.relations.specs.Tables.{IsTable}
 use Rattle.rescale_core.specs.Workers.{owned_by}
 use Rattle.rescale_core.specs.declared.item.Out.{Out}
 use Rattle.rescale_core.specs.declared.item.Out.TheVariants.{Rows as OfRows}
@@ -24,6 +25,10 @@ all_settled state i (table ∷ tables) =
 -- the table has so many columns
 abbrev pub HasWidth : ℕ → Settled → Type 0
 HasWidth n one = length one.table.columns ≡ n
+
+-- the table is one: its rows ascend, over columns that differ
+abbrev pub IsTabled : Settled → Type 0
+IsTabled one = IsTable one.table.columns one.table.rows
 
 -- what a worker says of a position, from its table
 abbrev pub row_out : Strategy → ℕ → ℕ → Settled → Out

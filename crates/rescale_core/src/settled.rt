@@ -1,10 +1,11 @@
 //! The tables of newly settled positions, and what a worker says of them.
-ghost use Rattle.std.specs.Prelude.{◌≡◌, ◌++◌, ◌≤◌, ◌+◌, ◌^◌, true, map, IfOk, length};
+ghost use Rattle.std.specs.Prelude.{◌≡◌, ◌++◌, true, map, nat_eq, IfOk, length};
 ghost use Rattle.std.specs.List.{AllByRecursion};
 ghost use Rattle.mfotl_model.specs.Tables.{all_sized};
 ghost use Rattle.monitor_state.specs.MonitorView.{monitor_of};
-ghost use Rattle.rescale_core.specs.Settlings.{IsKept, HasWidth, all_settled, row_out};
-ghost use Rattle.rescale_core.specs.Workers.{owned_by};
+ghost use Rattle.relations.specs.Tables.{IsTable};
+ghost use Rattle.rescale_core.specs.Settlings.{HasWidth, IsKept, IsTabled, all_settled, row_out};
+ghost use Rattle.rescale_core.specs.Workers.{owned_by, owner};
 
 use crate::item::Out;
 use mfotl_model::{Row, RowList};
@@ -52,7 +53,8 @@ pub(crate) fn give_rows(
     outs: &mut Vec<Out>,
 ) -> Result<(), AllocError>
     requires { AllByRecursion (HasWidth (length strategy.now)) settled.items }
-    ensures { IfOk result (λ _.
+    ensures tables { IfOk result (λ _. AllByRecursion IsTabled settled.items) }
+    ensures given { IfOk result (λ _.
         outs.new.items ≡ outs.old.items ++ map (row_out strategy.now worker generation) settled.items) }
 {
     for one in settled {
@@ -76,7 +78,8 @@ fn owned(
     table: Table,
 ) -> Result<RowList, AllocError>
     requires { length table.columns ≡ length strategy.now }
-    ensures { IfOk result (λ rows. rows ≡ owned_by strategy.now worker table.rows) }
+    ensures is_table { IfOk result (λ _. IsTable table.columns table.rows) }
+    ensures owned { IfOk result (λ rows. rows ≡ owned_by strategy.now worker table.rows) }
 {
     kept(alloc, strategy, worker, table.into_rows())
 }
@@ -104,7 +107,7 @@ fn kept(
 #[tactic(auto, unfolding(crate::specs::Workers::owner))]
 fn is_owner(strategy: &Strategy, worker: u32, row: &Row) -> bool
     requires { length row.now ≡ length strategy.now }
-    ensures { result ≡ Rattle.std.specs.Prelude.nat_eq (Rattle.rescale_core.specs.Workers.owner strategy.now row.now) worker }
+    ensures { result ≡ nat_eq (owner strategy.now row.now) worker }
 {
     strategy.owner(row) == worker
 }

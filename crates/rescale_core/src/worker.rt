@@ -3,7 +3,7 @@ ghost use Rattle.std.specs.Prelude.{◌≡◌, ◌++◌, ◌∷◌, [], List, If
 ghost use Rattle.monitorable.specs.Cores.{core_form};
 ghost use Rattle.turn_hub.specs.Work.{Takes, Leads};
 ghost use Rattle.rescale_core.specs.Workers.{IsFor};
-ghost use Rattle.rescale_core.specs.Working.{CanTake, Gave, IsSlice, May, StandsFor, seed_of};
+ghost use Rattle.rescale_core.specs.Working.{CanTake, Gave, IsAt, IsSlice, May, StandsFor, first_stage, seed_of};
 
 use crate::item::{Item, Out};
 use crate::phase::{Phase, Worker};
@@ -27,14 +27,7 @@ impl Worker {
         ensures seed { IfOk result (λ w. seed_of w ≡ record { core = core_form core.now; first = strategy.now; k = k }) }
         ensures stands { IfOk result (λ w. StandsFor (seed_of w) [] [] w) }
     {
-        let phase = if k < strategy.workers() {
-            Phase::Active {
-                monitor: Monitor::new(alloc, core)?,
-                strategy: strategy.copy(alloc)?,
-            }
-        } else {
-            Phase::Vacant
-        };
+        let phase = first_phase(alloc, core, strategy, k)?;
         Ok(Worker {
             core: core.copy(alloc)?,
             number: k,
@@ -95,4 +88,22 @@ impl Worker {
         give_rows(alloc, strategy, self.number, generation, settled, outs)?;
         Ok(())
     }
+}
+
+// What worker `k` keeps before it took anything.
+fn first_phase(
+    alloc: Global,
+    core: &Core,
+    strategy: &Strategy,
+    k: u32,
+) -> Result<Phase, AllocError>
+    ensures { IfOk result (λ phase. IsAt (core_form core.now) k
+        (first_stage (record { core = core_form core.now; first = strategy.now; k = k })) phase) }
+{
+    if k >= strategy.workers() {
+        return Ok(Phase::Vacant);
+    }
+    let monitor = Monitor::new(alloc, core)?;
+    let strategy = strategy.copy(alloc)?;
+    Ok(Phase::Active { monitor, strategy })
 }
