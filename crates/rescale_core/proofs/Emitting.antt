@@ -1,6 +1,6 @@
 -- What a Gather emits is the verdict due.
 use Rattle.std.proofs.Common.{◌≡◌, ℕ, ◌<◌, ◌≤◌, Bool, true, false, cond, nat_eq, Option, Some, None, List, [], ◌∷◌, ◌++◌}
-use Rattle.std.proofs.Common.{length, map, slice_index, sym, refl, ap, ◌∙◌, subst, arith, eqb-true, eq-eqb}
+use Rattle.std.proofs.Common.{length, map, filter, slice_index, sym, refl, ap, ◌∙◌, subst, arith, eqb-true, eq-eqb}
 use Rattle.std.proofs.lemmas.List.{length-map}
 use Rattle.std.specs.List.{AllByRecursion, find}
 use Rattle.std.specs.List.Sorted.{IsStrictlySortedBy}
@@ -12,7 +12,10 @@ use Rattle.mfotl_model.specs.Strategies.{Strategy, workers_of}
 use Rattle.mfotl_model.specs.Values.{row_cmp, row_total}
 use Rattle.mfotl_model.specs.declared.event.TimePoint.{TimePoint}
 use Rattle.mfotl_model.specs.declared.value.Value.{Value}
-use Rattle.monitorable.specs.CoreForms.{CoreForm}
+use Rattle.mfotl_model.specs.FreeVariables.{fv}
+use Rattle.mfotl_model.specs.Violations.{all_rows as all_of}
+use Rattle.monitorable.specs.CoreForms.{CoreForm, meaning}
+use Rattle.monitorable.specs.SatisfyingRows.{core_domain, satisfies}
 use Rattle.slice_strategy.specs.Slicers.{full_row}
 use Rattle.slice_strategy.specs.SlicerLemmas.{owner_below}
 use Rattle.verdict_merge.proofs.OwnerLemmas.{owners_merge}
@@ -92,7 +95,9 @@ complete_with g first rest is all =
 
 violations_ascend : (c : CoreForm) (log : List TimePoint) (i : ℕ) → IsStrictlySortedBy row_cmp (violations_at c log i)
 unfolding violations_at
-violations_ascend c log i = sorted_ascending row_total row_exact _
+violations_ascend c log i =
+    sorted_ascending row_total row_exact
+    (filter (satisfies log c i) (all_of (length (fv (meaning c))) (core_domain log c)))
 
 all_owned : (s : Strategy) (rows : List (List Value)) → 0 < workers_of s
     → AllByRecursion (λ row. owner s row < workers_of s) rows

@@ -9,3 +9,7 @@ pub mod Leading
 pub mod Soundness
 pub mod Verdicts
 pub mod WorkerSteps
+pub mod Emitting
+pub mod Gathered
+pub mod GatherLemmas
+pub mod RouterLemmas

@@ -11,3 +11,4 @@ pub mod Soundly
 pub mod Queues
 pub mod Routing
 pub mod Laws
+pub mod Cells

@@ -37,7 +37,7 @@ all_slices core s p = map (λ k. slice_for core s k p) (range_with_len 0 (worker
 -- the first items were taken out, as many as wanted or all that are there
 abbrev pub TakesFront : List Chance → ℕ → List Item → List Chance → Type 0
 TakesFront old most items new =
-    (old ≡ map (λ i. Sure i) items ++ new) × ((length items ≡ most) ⊎ (sure_items new ≡ []))
+    (old ≡ map (λ i. Sure i) items ++ new) × ((length items ≡ most) ⊎ (sure_items new ≡ [])) × (length items ≤ most)
 
 -- the Rows may be added one after the other: of a worker of their generation, not added before, and of a
 -- time-point without a verdict

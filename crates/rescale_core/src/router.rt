@@ -55,16 +55,17 @@ impl Router {
     pub fn ready(&self, k: u32) -> u64
         ensures { (w : World) → IsRouterOf self.now w → result ≡ length (sure_items (queue_in w k)) }
     {
-        match self.queues.get(k as usize) {
-            Some(queue) => queue.ready(),
-            None => 0,
+        if k as usize >= self.queues.len() {
+            return 0;
         }
+        self.queues[k as usize].ready()
     }
 
     /// Hands the first items to worker `k`: as many as wanted, or all that are ready.
     pub fn take_ready(&mut self, alloc: Global, k: u32, most: u64) -> Result<Vec<Item>, AllocError>
         ensures moves { IfOk result (λ items. (w : World) → IsRouterOf self.old w
             → AreAllowed w (feeds k items.items) × IsRouterOf self.new (run w (feeds k items.items))) }
+        ensures few { IfOk result (λ items. length items.items ≤ most) }
         ensures all { IfOk result (λ items. (w : World) → IsRouterOf self.old w
             → (length items.items ≡ most) ⊎ (sure_items (queue_in (run w (feeds k items.items)) k) ≡ [])) }
     {
