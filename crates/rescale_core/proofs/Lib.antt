@@ -13,3 +13,4 @@ pub mod Emitting
 pub mod Gathered
 pub mod GatherLemmas
 pub mod RouterLemmas
+pub mod MachineLemmas

@@ -4,9 +4,10 @@ use Rattle.mfotl_model.specs.Strategies.{workers_of}
 use Rattle.rescale_core.specs.Laws.{EmitsVerdicts}
 use Rattle.rescale_core.specs.Lines.{AreSound}
 use Rattle.rescale_core.specs.Routing.{ArePoints, IsRouterOf}
+use Rattle.rescale_core.specs.Seeds.{SeedOf}
 use Rattle.rescale_core.specs.Soundly.{IsSound}
 use Rattle.rescale_core.specs.Working.{StandsFor}
-use Rattle.rescale_core.specs.Worlds.{World, Allowed, IsGathered, after, nth, spot_in}
+use Rattle.rescale_core.specs.Worlds.{World, Allowed, IsGathered, Seat, after, nth, spot_in}
 use Rattle.rescale_core.specs.Worlds.Move.{Read, Feed, Take, Collect, Emit}
 use Rattle.rescale_core.specs.declared.cells.Applied.{Applied}
 use Rattle.rescale_core.specs.declared.cells.Applied.TheVariants.{Did, NotEnabled}
@@ -19,15 +20,19 @@ use Rattle.rescale_core.specs.declared.item.Out.{Out}
 use Rattle.verdict_merge.specs.declared.rows.Verdict.{Verdict}
 use Rattle.rescale_core.specs.declared.stage.Machine.{Machine}
 
--- The cell is worker k's: the worker stands for what it took and gave, and what lies in the cell was handed over and
--- not taken, and given and not collected.
-pub record IsCellOf (w : World) (k : ℕ) (cell : Cell) : Type 0 where
+-- The cell is of a worker with this seed and seat: the worker stands for what it took and gave, and what lies in the
+-- cell was handed over and not taken, and given and not collected.
+pub record IsCellAt (seed : SeedOf) (seat : Seat) (cell : Cell) : Type 0 where
   pub before : List Item
-  pub fed : (w.seats k).fed ≡ before ++ cell.items.items
-  pub count : length before ≡ (w.seats k).taken
-  pub stands : StandsFor (record { core = w.core; first = w.first; k = k }) before (w.seats k).outs cell.worker
-  pub outs : (w.seats k).outs ≡ (w.seats k).back ++ cell.outs.items
-  pub taken : (w.seats k).taken ≡ (w.seats k).collected + cell.taken
+  pub fed : seat.fed ≡ before ++ cell.items.items
+  pub count : length before ≡ seat.taken
+  pub stands : StandsFor seed before seat.outs cell.worker
+  pub outs : seat.outs ≡ seat.back ++ cell.outs.items
+  pub taken : seat.taken ≡ seat.collected + cell.taken
+
+-- the cell is worker k's
+abbrev pub IsCellOf : World → ℕ → Cell → Type 0
+IsCellOf w k cell = IsCellAt (record { core = w.core; first = w.first; k = k }) (w.seats k) cell
 
 -- the cell is that of a worker in a world in which no strategy changes
 abbrev pub MayTake : Cell → Type 0
@@ -38,7 +43,8 @@ abbrev pub Takes : Cell → Applied → Cell → Type 0
 Takes old Did new =
     (w : World) (k : ℕ) → IsSound w → ArePoints w.read → IsCellOf w k old
     → (gave : List Out) × Allowed w (Take k gave) × IsCellOf (after w (Take k gave)) k new
-Takes old NotEnabled new = (new ≡ old) × (old.items.items ≡ [])
+Takes old NotEnabled new =
+    (old.items.items ≡ []) × ((w : World) (k : ℕ) → IsCellOf w k old → IsCellOf w k new)
 
 -- The machine stands for a world: what it read and what is left are the entries, which may be read, and its router,
 -- cells and verdicts are the world's.

@@ -105,7 +105,8 @@ fits_front core k [] b st ds f = tt
 fits_front core k (i ∷ a) b st [] f = f
 fits_front core k (i ∷ a) b st (d ∷ ds) f = (f.0, fits_front core k a b (stage_after st d i) ds f.1)
 
-slices_front : (a b : List Item) → AllByRecursion IsSlice (a ++ b) → AllByRecursion IsSlice a
+-- a front of slices is slices
+pub slices_front : (a b : List Item) → AllByRecursion IsSlice (a ++ b) → AllByRecursion IsSlice a
 slices_front [] b h = tt
 slices_front (i ∷ a) b h = (h.0, slices_front a b h.1)
 
