@@ -14,7 +14,7 @@ use Rattle.rescale_core.proofs.Chains.{left_out}
 use Rattle.rescale_core.proofs.Soundness.{has_of, step_sound}
 use Rattle.rescale_core.proofs.Verdicts.{step_verdicts}
 use Rattle.rescale_core.proofs.WorldLemmas.{if_either, spot_more, supplies_length}
-use Rattle.rescale_core.specs.Cells.{IsCellAt, IsCellOf, IsMachineOf}
+use Rattle.rescale_core.specs.Cells.{Applies, IsCellAt, IsCellOf, IsMachineOf, Takes}
 use Rattle.rescale_core.specs.Chances.{Chance}
 use Rattle.rescale_core.specs.Chances.Chance.{Sure}
 use Rattle.rescale_core.specs.Lines.{AreSound, Due, Spot, first_spot, line, moved}
@@ -27,7 +27,10 @@ use Rattle.rescale_core.specs.Working.{Has, IsSlice, May, StandsFor, slices_fron
 use Rattle.rescale_core.specs.Worlds.{World, Allowed, Seat, after, all_collected, chance, fed_more, line_in, nth}
 use Rattle.rescale_core.specs.Worlds.{queue_in, set_seat, spot_in, took_one}
 use Rattle.rescale_core.specs.Worlds.Move.{Read, Feed, Take, Collect, Emit}
+use Rattle.rescale_core.specs.declared.cells.Applied.{Applied}
+use Rattle.rescale_core.specs.declared.cells.Applied.TheVariants.{Did, NotEnabled}
 use Rattle.rescale_core.specs.declared.cells.Cell.{Cell}
+use Rattle.rescale_core.specs.declared.cells.Step.TheVariants as step
 use Rattle.rescale_core.specs.declared.item.Entry.{Entry}
 use Rattle.rescale_core.specs.declared.item.Entry.TheVariants.{Point, Change}
 use Rattle.rescale_core.specs.declared.item.Item.{Item}
@@ -314,6 +317,72 @@ router_took r w k gave is may =
     same q true e = ap (λ y. (w.seats y).fed) (sym (eqb-true q k e))
     same q false e = refl
 
+-- a worker's cell that has nothing to take, or takes one
+pub machine_takes : (m n : Machine) (k : ℕ) (old new : Cell) (applied : Applied) → nth m.cells.items k ≡ Some old
+    → n.cells.items ≡ set m.cells.items k new → n.left.items ≡ m.left.items → n.verdicts.items ≡ m.verdicts.items
+    → n.router ≡ m.router → Takes old applied new → Applies m (step.Take k) applied n
+machine_takes m n k old new Did at cells left verdicts router t = λ entries w is.
+    let r = t w k is.router.sound is.router.unchanged (is.cells k old at) in (
+      after w (Take k r.0),
+      (r.0, r.1, refl),
+      machine_took m n entries w is k new cells left verdicts r.0 r.1 r.2
+          (subst (λ (x : Router). IsRouterOf x (after w (Take k r.0))) (sym router)
+          (router_took m.router w k r.0 is.router r.1)),
+    )
+machine_takes m n k old new NotEnabled at cells left verdicts router t = λ entries w is.
+    let c = is.cells k old at in (
+      (λ h.
+          let e : length (w.seats k).fed ≡ length c.before =
+          ap length (c.fed ∙ ap (λ x. c.before ++ x) t.0 ∙ append-nil c.before) in
+          let n = c.count in
+          omega arith),
+      machine_kept m n entries w is k new cells left verdicts (t.1 w k c)
+          (subst (λ (x : Router). IsRouterOf x w) (sym router) is.router),
+    )
+
+-- a worker's cell that has nothing to collect
+pub machine_uncollected : (m n : Machine) (k : ℕ) (old new : Cell) → nth m.cells.items k ≡ Some old
+    → n.cells.items ≡ set m.cells.items k new → n.left.items ≡ m.left.items → n.verdicts.items ≡ m.verdicts.items
+    → n.router ≡ m.router → old.taken ≡ 0 → new.items.items ≡ old.items.items → new.worker ≡ old.worker
+    → new.taken ≡ old.taken → new.outs.items ≡ old.outs.items → Applies m (step.Collect k) NotEnabled n
+machine_uncollected m n k old new at cells left verdicts router none items worker taken outs = λ entries w is.
+    let c = is.cells k old at in (
+      (λ h. (let t = c.taken in omega arith)),
+      machine_kept m n entries w is k new cells left verdicts (same_cell w k old new c items worker taken outs)
+          (subst (λ (x : Router). IsRouterOf x w) (sym router) is.router),
+    )
+
+-- what a cell holds of what was given may be collected
+pub cell_has_taken : (w : World) (k : ℕ) (old : Cell) (n : ℕ) (outs : List Out) → IsCellOf w k old → n ≡ old.taken
+    → outs ≡ old.outs.items → HasTaken w k n outs
+cell_has_taken w k old n outs is taken given =
+    record {
+      taken = is.taken ∙ ap (λ x. (w.seats k).collected + x) (sym taken);
+      gave = is.outs ∙ ap (λ x. (w.seats k).back ++ x) (sym given);
+    }
+
+-- a worker's cell of which all is collected
+pub machine_collects : (m n : Machine) (k : ℕ) (old new : Cell) (taken : ℕ) (outs : List Out)
+    → nth m.cells.items k ≡ Some old → n.cells.items ≡ set m.cells.items k new → n.left.items ≡ m.left.items
+    → n.verdicts.items ≡ m.verdicts.items → (taken ≡ 0 → ⊥) → taken ≡ old.taken → outs ≡ old.outs.items
+    → new.items.items ≡ old.items.items → new.worker ≡ old.worker → new.taken ≡ 0 → new.outs.items ≡ []
+    → ((w : World) → IsRouterOf m.router w → HasTaken w k taken outs → IsRouterOf n.router (after w (Collect k)))
+    → Applies m (step.Collect k) Did n
+machine_collects m n k old new taken outs at cells left verdicts some has given items worker none empty router =
+    λ entries w is.
+    let c = is.cells k old at in
+    let h = cell_has_taken w k old taken outs c has given in
+    let may : Allowed w (Collect k) = (let t = h.taken in more_than (w.seats k).collected taken (w.seats k).taken t some) in (
+      after w (Collect k),
+      (may, refl),
+      machine_collected m n entries w is k new cells left verdicts may
+          (back_cell w k old new c items worker none empty) (router w is.router h),
+    )
+  where
+    more_than : (a b c : ℕ) → c ≡ a + b → (b ≡ 0 → ⊥) → a < c
+    more_than a zero c e n = absurd (n refl)
+    more_than a (suc b) c e n = omega arith
+
 -- ---- reading and emitting
 
 pub machine_read : (m n : Machine) (entries : List Entry) (w : World) (p : TimePoint) → IsMachineOf m entries w
@@ -380,6 +449,10 @@ module _ (m : Machine) (entries : List Entry) (w : World) (is : IsMachineOf m en
 
   pub no_collect : Allowed w (Collect k) → ⊥
   no_collect h = let n = none_fed in let t = (is.router.sound.seated k).taken in omega arith
+
+pub none_left : {A : Type 0} (xs : List A) → length xs ≡ 0 → xs ≡ []
+none_left [] e = refl
+none_left (x ∷ xs) e = absurd (omega arith)
 
 -- the only one of at most one item
 pub one_item : (items before : List Item) (item : Item) → items ≡ before ++ item ∷ [] → length items ≤ 1

@@ -1,5 +1,5 @@
 //! A worker, and what lies between it and the router.
-ghost use Rattle.std.specs.Prelude.{IfOk};
+ghost use Rattle.std.specs.Prelude.{◌≡◌, ◌+◌, IfOk};
 ghost use Rattle.rescale_core.specs.Cells.{MayTake, Takes};
 
 use crate::cells::{Applied, Cell};
@@ -15,7 +15,13 @@ impl Cell {
             return Ok(Applied::NotEnabled);
         };
         self.worker.work(alloc, item, &mut self.outs)?;
-        self.taken = self.taken.checked_add(1).ok_or(AllocError)?;
+        self.taken = one_more(self.taken)?;
         Ok(Applied::Did)
     }
+}
+
+fn one_more(count: u64) -> Result<u64, AllocError>
+    ensures { IfOk result (λ more. more ≡ count + 1) }
+{
+    count.checked_add(1).ok_or(AllocError)
 }

@@ -138,7 +138,8 @@ impl Machine {
     fn emit(&mut self, alloc: Global) -> Result<Applied, AllocError>
         ensures { IfOk result (λ applied. Applies self.old Step.Emit applied self.new) }
     {
-        let Some(verdict) = self.router.emit(alloc)? else {
+        let emitted = self.router.emit(alloc)?;
+        let Some(verdict) = emitted else {
             return Ok(Applied::NotEnabled);
         };
         self.verdicts.push(verdict)?;

@@ -1,6 +1,6 @@
 use Rattle.std.proofs.Common.{◌≡◌, ◌<◌, ℕ, refl, sym, ap, subst, length, arith, ◌∙◌}
 use Rattle.rescale_core.specs.Cells.{Applies, IsMachineOf}
-use Rattle.rescale_core.proofs.MachineLemmas.{machine_kept, machine_took, no_take, nth_here, router_took}
+use Rattle.rescale_core.proofs.MachineLemmas.{machine_takes, no_take, nth_here}
 use Rattle.rescale_core.proofs.stage.Machine.take.Goals as goal
 
 pub returns-then-k-len : goal.returns-then-k-len
@@ -20,4 +20,9 @@ take-requires c =
     )
 
 pub returns : goal.returns
-returns c = ?
+returns c =
+    let m = c.args.self.now in
+    let near : c.args.k < length m.cells.items = omega (arith, c.len.ensures) in
+    machine_takes m _ c.args.k c.index_mut-cell.result.now c.take.new.self c.in_ok-applied.applied
+    (nth_here m.cells.items c.args.k c.index_mut-cell.result.now near c.index_mut-cell.ensures.value)
+    refl refl refl refl c.in_ok-applied.ensures
