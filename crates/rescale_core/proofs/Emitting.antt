@@ -21,14 +21,17 @@ use Rattle.slice_strategy.specs.SlicerLemmas.{owner_below}
 use Rattle.verdict_merge.proofs.OwnerLemmas.{owners_merge}
 use Rattle.verdict_merge.specs.Emitted.{merged}
 use Rattle.verdict_merge.specs.Gathers.{GatherOf, all_rows, at_point, complete_ts, rows_at, ts_among, workers_in}
+use Rattle.verdict_merge.specs.Laws.{IsPartition}
 use Rattle.verdict_merge.specs.declared.rows.Rows.{Rows}
 use Rattle.verdict_merge.specs.declared.rows.Verdict.{Verdict}
 use Rattle.rescale_core.proofs.Fitting.{every_filter, every_map}
 use Rattle.rescale_core.proofs.Settling.{one_slice_settles, slice_final}
-use Rattle.rescale_core.specs.Lines.{Due, first_spot}
+use Rattle.rescale_core.specs.Lines.{AreSound, Due, Spot, first_spot, moved}
 use Rattle.rescale_core.specs.Lines.Due.{Slicing}
 use Rattle.rescale_core.specs.Soundly.{IsSound, KnownRow}
-use Rattle.rescale_core.specs.Workers.{owned_by, owner, settled_in, violations_at}
+use Rattle.rescale_core.specs.Workers.{IsFor, owned_by, owner, settled_in, violations_at}
+use Rattle.rescale_core.specs.declared.item.Entry.{Entry}
+use Rattle.rescale_core.specs.declared.item.Entry.TheVariants.{Point, Change}
 use Rattle.rescale_core.specs.Worlds.{World, IsGathered, slice_at, spot_in, verdict_on}
 
 -- ---- when a Gather is complete
@@ -110,6 +113,22 @@ pub below_of : (n : ℕ) (rs : List Rows) → AllByRecursion (λ (r : Rows). r.w
 below_of n [] e = tt
 below_of n (r ∷ rs) e = (e.0, below_of n rs e.1)
 
+-- the strategy of a slice is for the core
+pub slice_strategy : (c : CoreForm) (es : List Entry) (a : Spot) (n g : ℕ) (s : Strategy) (log : List TimePoint)
+    (p : TimePoint) → IsFor c a.strategy → AreSound c a es → slice_at a es n ≡ Some (Slicing g s log p) → IsFor c s
+slice_strategy c [] a n g s log p f sound h = cc
+slice_strategy c (Change x ∷ es) a n g s log p f sound h =
+    slice_strategy c es (moved a (Change x)) n g s log p sound.0 sound.1 h
+slice_strategy c (Point q ∷ es) a n g s log p f sound h =
+    by_test (nat_eq n (length a.points)) h (slice_strategy c es (moved a (Point q)) n g s log p f sound.1)
+  where
+    by_test : (b : Bool)
+        → cond b (Some (Slicing a.generation a.strategy a.points q)) (slice_at (moved a (Point q)) es n)
+        ≡ Some (Slicing g s log p)
+        → (slice_at (moved a (Point q)) es n ≡ Some (Slicing g s log p) → IsFor c s) → IsFor c s
+    by_test true h next = let same : a.strategy ≡ s = cc in subst (IsFor c) same f
+    by_test false h next = next h
+
 module _ (w : World) (sound : IsSound w) (i : ℕ) where
   abbrev f : ℕ → Option Due
   f = slice_at (first_spot w.first) w.read
@@ -157,6 +176,24 @@ module _ (w : World) (sound : IsSound w) (i : ℕ) where
       (due_row g s log p is low high)
       (every_filter (KnownRow f w.core) (λ r. nat_eq r.point i) w.rows sound.rows_known)
 
+  -- all Rows for a position are by owner a partition of its violations
+  pub gathered_partition : (all : IsGathered w i)
+      → IsPartition (owner all.1) (workers_of all.1) (rows_at i w.rows) (violations_at w.core points i)
+  gathered_partition all =
+      let s : Strategy = all.1 in
+      let D = DueRow all.0 s all.2 all.3 in
+      let due : AllByRecursion D (rows_at i w.rows) = due_all all.0 s all.2 all.3 all.4 all.5 all.6 in
+      let rows : List (List Value) = violations_at w.core points i in
+      record {
+        owned = all_owned s rows (slice_strategy w.core w.read (first_spot w.first) (length all.2) all.0 s all.2 all.3
+            sound.first sound.read all.4).workers.some;
+        parts = every_map D (λ (r : Rows). r.rows ≡ owned_by s r.worker rows) (rows_at i w.rows) (λ r d. d.rows) due;
+        near = below_of (workers_of s) (rows_at i w.rows)
+            (every_map D (λ (r : Rows). r.worker < workers_of s) (rows_at i w.rows) (λ r d. d.near) due);
+        apart = sound.rows_apart i;
+        whole = length-map (rows_at i w.rows) (λ (r : Rows). r.worker) ∙ all.7;
+      }
+
   known_first : (first : Rows) (rest : List Rows) → rows_at i w.rows ≡ first ∷ rest
       → KnownRow f w.core first × (nat_eq first.point i ≡ true)
   known_first first rest e =
@@ -183,20 +220,14 @@ module _ (w : World) (sound : IsSound w) (i : ℕ) where
       due_all first.generation s k.log k.point k.is low high in
       let n : length (rows_at i w.rows) ≡ workers_of s =
       whole ∙ counts (length k.log) first.generation s k.log k.point k.is in
-      let some : 0 < workers_of s = (let l = k.near in omega arith) in
       let rows : List (List Value) = violations_at w.core points i in
+      let gathered : IsGathered w i = (first.generation, s, k.log, k.point, k.is, low, high, n) in
       let one : ascending row_cmp (all_rows (rows_at i w.rows)) ≡ rows =
-      owners_merge (owner s) (workers_of s) (rows_at i w.rows) rows (violations_ascend w.core points i) (record {
-        owned = all_owned s rows some;
-        parts = every_map D (λ (r : Rows). r.rows ≡ owned_by s r.worker rows) (rows_at i w.rows) (λ r d. d.rows) all;
-        near = below_of (workers_of s) (rows_at i w.rows)
-            (every_map D (λ (r : Rows). r.worker < workers_of s) (rows_at i w.rows) (λ r d. d.near) all);
-        apart = sound.rows_apart i;
-        whole = length-map (rows_at i w.rows) (λ (r : Rows). r.worker) ∙ n;
-      }) in
+      owners_merge (owner s) (workers_of s) (rows_at i w.rows) rows (violations_ascend w.core points i)
+      (gathered_partition gathered) in
       let time : first.ts ≡ slice_index (times points) i = (subst (AllByRecursion D) is all).0.ts in (
         made
             ∙ ap (λ t. record { point = i; ts = t; rows = ascending row_cmp (all_rows (rows_at i w.rows)) }) time
             ∙ ap (λ y. record { point = i; ts = slice_index (times points) i; rows = y }) one,
-        (first.generation, s, k.log, k.point, k.is, low, high, n),
+        gathered,
       )

@@ -9,6 +9,7 @@ use Rattle.rescale_core.proofs.Chains.{below, some_workers}
 use Rattle.rescale_core.proofs.Fitting.{every_map}
 use Rattle.rescale_core.proofs.Soundness.{collect_sound}
 use Rattle.rescale_core.proofs.Emitting.{DueRow, complete_some, complete_with, due_all, merged_due}
+use Rattle.rescale_core.proofs.Emitting.{slice_strategy}
 use Rattle.rescale_core.proofs.Gathered.{none_more, step_gathered}
 use Rattle.rescale_core.proofs.WorldLemmas.{spot_more}
 use Rattle.rescale_core.specs.Lines.{AreSound, Spot, Due, moved, spot_after, first_spot}
@@ -63,22 +64,6 @@ slice_within (Point q ∷ es) a n g s log p h = by_test (nat_eq n (length a.poin
   where
     by_test : (b : Bool) → cond b (Some (Slicing a.generation a.strategy a.points q)) (slice_at (moved a (Point q)) es n) ≡ Some (Slicing g s log p) → (slice_at (moved a (Point q)) es n ≡ Some (Slicing g s log p) → g ≤ (spot_after (moved a (Point q)) es).generation) → g ≤ (spot_after (moved a (Point q)) es).generation
     by_test true h next = let e : a.generation ≡ g = cc in let u = spot_up es (moved a (Point q)) in omega arith
-    by_test false h next = next h
-
--- the strategy of a slice is for the core
-pub slice_strategy : (c : CoreForm) (es : List Entry) (a : Spot) (n g : ℕ) (s : Strategy) (log : List TimePoint)
-    (p : TimePoint) → IsFor c a.strategy → AreSound c a es → slice_at a es n ≡ Some (Slicing g s log p) → IsFor c s
-slice_strategy c [] a n g s log p f sound h = cc
-slice_strategy c (Change x ∷ es) a n g s log p f sound h =
-    slice_strategy c es (moved a (Change x)) n g s log p sound.0 sound.1 h
-slice_strategy c (Point q ∷ es) a n g s log p f sound h =
-    by_test (nat_eq n (length a.points)) h (slice_strategy c es (moved a (Point q)) n g s log p f sound.1)
-  where
-    by_test : (b : Bool)
-        → cond b (Some (Slicing a.generation a.strategy a.points q)) (slice_at (moved a (Point q)) es n)
-        ≡ Some (Slicing g s log p)
-        → (slice_at (moved a (Point q)) es n ≡ Some (Slicing g s log p) → IsFor c s) → IsFor c s
-    by_test true h next = let same : a.strategy ≡ s = cc in subst (IsFor c) same f
     by_test false h next = next h
 
 -- nothing that the Gather sees has moved

@@ -14,3 +14,6 @@ pub mod Gathered
 pub mod GatherLemmas
 pub mod RouterLemmas
 pub mod MachineLemmas
+pub mod Counting
+pub mod Given
+pub mod Ending

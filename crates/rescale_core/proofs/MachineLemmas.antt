@@ -74,13 +74,13 @@ nth_last (y ∷ xs) v (suc k) x e = at (nth_last xs v k x e)
 
 -- ---- no strategy changes
 
-abbrev OnlySlices : List Due → Type 0
+abbrev pub OnlySlices : List Due → Type 0
 OnlySlices [] = Unit {0}
 OnlySlices (Slicing g s log p ∷ ds) = OnlySlices ds
 OnlySlices (Parting t ∷ ds) = ⊥
 OnlySlices (Hole t j ∷ ds) = ⊥
 
-line_only : (k : ℕ) (es : List Entry) (a : Spot) → ArePoints es → OnlySlices (line k a es)
+pub line_only : (k : ℕ) (es : List Entry) (a : Spot) → ArePoints es → OnlySlices (line k a es)
 line_only k [] a h = tt
 line_only k (Change s ∷ es) a h = absurd h
 line_only k (Point p ∷ es) a h =

@@ -122,7 +122,7 @@ parts_no_rows c k t k2 [] p = refl
 parts_no_rows c k t k2 (OfRows r ∷ os) p = let x = p.0.1 in cc
 parts_no_rows c k t k2 (OfPiece q ∷ os) p = parts_no_rows c k t (k2 + 1) os p.1
 
-rows_of_slice : (c : CoreForm) (k g : ℕ) (s : Strategy) (log : List TimePoint) (p : TimePoint) (is : List ℕ) → rows_in (map (rows_for c k g s log p) is) ≡ map (row_for c k g s log p) is
+pub rows_of_slice : (c : CoreForm) (k g : ℕ) (s : Strategy) (log : List TimePoint) (p : TimePoint) (is : List ℕ) → rows_in (map (rows_for c k g s log p) is) ≡ map (row_for c k g s log p) is
 rows_of_slice c k g s log p [] = refl
 rows_of_slice c k g s log p (i ∷ is) = ap (λ x. row_for c k g s log p i ∷ x) (rows_of_slice c k g s log p is)
 

@@ -12,3 +12,4 @@ pub mod Queues
 pub mod Routing
 pub mod Laws
 pub mod Cells
+pub mod Ends
