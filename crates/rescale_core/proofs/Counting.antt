@@ -1,5 +1,6 @@
 -- As many numbers are there as there are below a bound, where all of these are.
-use Rattle.std.proofs.Common.{◌≡◌, ◌≢◌, ◌⊎◌, ℕ, zero, suc, ◌+◌, ◌<◌, ◌≤◌, Bool, true, false, ◌||◌, cond, nat_eq, List, [], ◌∷◌}
+use Rattle.std.proofs.Common.{◌≡◌, ◌≢◌, ◌⊎◌, ℕ, zero, suc, ◌+◌, ◌<◌, ◌≤◌, Bool, true, false, ◌||◌, cond, nat_eq}
+use Rattle.std.proofs.Common.{List, [], ◌∷◌}
 use Rattle.std.proofs.Common.{length, refl, sym, ap, ◌∙◌, subst, inl, inr, arith, eq-eqb, ne_eqb, eqb-true}
 use Rattle.std.proofs.lemmas.Bool.{or_cases, or_left, or_right}
 use Rattle.std.specs.List.{list_any}
@@ -30,7 +31,8 @@ shorter n (x ∷ xs) h = at (nat_eq n x) h (shorter n xs) (no_longer n xs)
     at true h next most = omega arith
     at false h next most = let l = next h in omega arith
 
-still_there : (n k : ℕ) (xs : List ℕ) → k ≢ n → list_any (nat_eq k) xs ≡ true → list_any (nat_eq k) (without n xs) ≡ true
+still_there : (n k : ℕ) (xs : List ℕ) → k ≢ n → list_any (nat_eq k) xs ≡ true
+    → list_any (nat_eq k) (without n xs) ≡ true
 unfolding without
 still_there n k [] other h = h
 still_there n k (x ∷ xs) other h =
@@ -41,7 +43,8 @@ still_there n k (x ∷ xs) other h =
         → list_any (nat_eq k) (cond (nat_eq n x) (without n xs) (x ∷ without n xs)) ≡ true
     at (yes e) (inl here) next = absurd (other (eqb-true k x here ∙ sym e))
     at (yes e) (inr there) next =
-        subst (λ b. list_any (nat_eq k) (cond b (without n xs) (x ∷ without n xs)) ≡ true) (sym (eq-eqb n x e)) (next there)
+        subst (λ b. list_any (nat_eq k) (cond b (without n xs) (x ∷ without n xs)) ≡ true) (sym (eq-eqb n x e))
+        (next there)
     at (no ne) (inl here) next =
         subst (λ b. list_any (nat_eq k) (cond b (without n xs) (x ∷ without n xs)) ≡ true) (sym (ne_eqb n x ne))
         (or_left (nat_eq k x) (list_any (nat_eq k) (without n xs)) here)

@@ -1,5 +1,6 @@
 -- Where no step can be done, all verdicts were emitted.
-use Rattle.std.proofs.Common.{◌≡◌, ◌⊎◌, ℕ, zero, suc, ◌<◌, ◌≤◌, true, nat_eq, List, [], ◌∷◌, ◌++◌, length, map, drop, take}
+use Rattle.std.proofs.Common.{◌≡◌, ◌⊎◌, ℕ, zero, suc, ◌<◌, ◌≤◌, true, nat_eq, List, [], ◌∷◌, ◌++◌, length, map, drop}
+use Rattle.std.proofs.Common.{take}
 use Rattle.std.proofs.Common.{refl, sym, ap, ◌∙◌, subst, inl, inr, append-nil, arith}
 use Rattle.std.proofs.lemmas.List.{length-map}
 use Rattle.std.specs.List.{list_any}
@@ -109,11 +110,13 @@ module _ (m : Machine) (entries : List Entry) (w : World) (is : IsMachineOf m en
       let size : length workers ≡ length (rows_at i w.rows) = length-map (rows_at i w.rows) (λ (x : Rows). x.worker) in
       let most : length workers ≤ n =
       at_most n workers (sound.rows_apart i)
-      (below_of n (rows_at i w.rows) (every_map D (λ (x : Rows). x.worker < n) (rows_at i w.rows) (λ x d. d.near) all)) in
+      (below_of n (rows_at i w.rows)
+      (every_map D (λ (x : Rows). x.worker < n) (rows_at i w.rows) (λ x d. d.near) all)) in
       let least : n ≤ length workers =
       at_least n workers (λ k near.
       let on = on_line k w.read (first_spot w.first) (length r.log) r.generation r.strategy r.log r.point near r.is in
-      let given = given_there w.core k i on.before r.generation r.strategy r.log r.point on.behind (w.seats k).back r.low
+      let given = given_there w.core k i on.before r.generation r.strategy r.log r.point on.behind
+      (w.seats k).back r.low
       r.high (subst (λ (ds : List Due). Answers w.core k ds (w.seats k).back) on.is (all_back k)) in
       worker_there k i w.rows
       (kept (λ (x : Rows). nat_eq x.worker k) (is_of k i) w.rows

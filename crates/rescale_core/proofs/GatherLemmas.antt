@@ -1,6 +1,7 @@
 -- The router's Gather is the world's.
 use Rattle.std.proofs.Common.{◌≡◌, ◌≢◌, ◌⊎◌, ℕ, zero, suc, ◌+◌, ◌<◌, ◌≤◌, Bool, true, false, cond, not, nat_eq}
-use Rattle.std.proofs.Common.{nat_le, Some, None, List, [], ◌∷◌, ◌++◌, length, filter, map, append_assoc, ◌&&◌, ◌||◌, sym, refl, ap}
+use Rattle.std.proofs.Common.{nat_le, Some, None, List, [], ◌∷◌, ◌++◌, length, filter, map, append_assoc, ◌&&◌, ◌||◌}
+use Rattle.std.proofs.Common.{sym, refl, ap}
 use Rattle.std.proofs.Common.{◌∙◌, subst, inl, inr, ⊎_elim, arith, eq-eqb, ne_eqb, length-append, le-leb, leb-false}
 use Rattle.std.proofs.lemmas.List.Elements.{filter-append}
 use Rattle.std.proofs.lemmas.Bool.Decides.{leb_tells}
@@ -34,21 +35,28 @@ use Rattle.rescale_core.specs.Lines.Due.{Slicing}
 use Rattle.rescale_core.specs.Worlds.Move.{Read, Collect, Emit}
 
 -- a slice of one entry more is an old one or the new one
-slice_snoc : (es : List Entry) (e : Entry) (a : Spot) (n : ℕ) (d : Due) → slice_at a (es ++ e ∷ []) n ≡ Some d → (slice_at a es n ≡ Some d) ⊎ (slice_at (spot_after a es) (e ∷ []) n ≡ Some d)
+slice_snoc : (es : List Entry) (e : Entry) (a : Spot) (n : ℕ) (d : Due) → slice_at a (es ++ e ∷ []) n ≡ Some d
+    → (slice_at a es n ≡ Some d) ⊎ (slice_at (spot_after a es) (e ∷ []) n ≡ Some d)
 slice_snoc [] e a n d h = inr h
 slice_snoc (Change x ∷ es) e a n d h = slice_snoc es e (moved a (Change x)) n d h
 slice_snoc (Point q ∷ es) e a n d h = by_test (nat_eq n (length a.points)) h (slice_snoc es e (moved a (Point q)) n d)
   where
-    by_test : (b : Bool) → cond b (Some (Slicing a.generation a.strategy a.points q)) (slice_at (moved a (Point q)) (es ++ e ∷ []) n) ≡ Some d
-        → (slice_at (moved a (Point q)) (es ++ e ∷ []) n ≡ Some d → (slice_at (moved a (Point q)) es n ≡ Some d) ⊎ (slice_at (spot_after (moved a (Point q)) es) (e ∷ []) n ≡ Some d))
-        → (cond b (Some (Slicing a.generation a.strategy a.points q)) (slice_at (moved a (Point q)) es n) ≡ Some d) ⊎ (slice_at (spot_after (moved a (Point q)) es) (e ∷ []) n ≡ Some d)
+    by_test : (b : Bool)
+        → cond b (Some (Slicing a.generation a.strategy a.points q))
+        (slice_at (moved a (Point q)) (es ++ e ∷ []) n) ≡ Some d
+        → (slice_at (moved a (Point q)) (es ++ e ∷ []) n ≡ Some d → (slice_at (moved a (Point q)) es n ≡ Some d)
+        ⊎ (slice_at (spot_after (moved a (Point q)) es) (e ∷ []) n ≡ Some d))
+        → (cond b (Some (Slicing a.generation a.strategy a.points q)) (slice_at (moved a (Point q)) es n) ≡ Some d)
+        ⊎ (slice_at (spot_after (moved a (Point q)) es) (e ∷ []) n ≡ Some d)
     by_test true h next = inl h
     by_test false h next = next h
 
-one_point : (a : Spot) (q : TimePoint) (n : ℕ) (d : Due) → slice_at a (Point q ∷ []) n ≡ Some d → d ≡ Slicing a.generation a.strategy a.points q
+one_point : (a : Spot) (q : TimePoint) (n : ℕ) (d : Due) → slice_at a (Point q ∷ []) n ≡ Some d
+    → d ≡ Slicing a.generation a.strategy a.points q
 one_point a q n d h = by_test (nat_eq n (length a.points)) h
   where
-    by_test : (b : Bool) → cond b (Some (Slicing a.generation a.strategy a.points q)) None ≡ Some d → d ≡ Slicing a.generation a.strategy a.points q
+    by_test : (b : Bool) → cond b (Some (Slicing a.generation a.strategy a.points q)) None ≡ Some d
+        → d ≡ Slicing a.generation a.strategy a.points q
     by_test true h = cc
     by_test false h = cc
 
@@ -57,44 +65,64 @@ spot_up [] a = omega arith
 spot_up (Point p ∷ es) a = spot_up es (moved a (Point p))
 spot_up (Change x ∷ es) a = let h = spot_up es (moved a (Change x)) in omega arith
 
-slice_within : (es : List Entry) (a : Spot) (n g : ℕ) (s : Strategy) (log : List TimePoint) (p : TimePoint) → slice_at a es n ≡ Some (Slicing g s log p) → g ≤ (spot_after a es).generation
+slice_within : (es : List Entry) (a : Spot) (n g : ℕ) (s : Strategy) (log : List TimePoint) (p : TimePoint)
+    → slice_at a es n ≡ Some (Slicing g s log p) → g ≤ (spot_after a es).generation
 slice_within [] a n g s log p h = cc
 slice_within (Change x ∷ es) a n g s log p h = slice_within es (moved a (Change x)) n g s log p h
-slice_within (Point q ∷ es) a n g s log p h = by_test (nat_eq n (length a.points)) h (slice_within es (moved a (Point q)) n g s log p)
+slice_within (Point q ∷ es) a n g s log p h =
+    by_test (nat_eq n (length a.points)) h (slice_within es (moved a (Point q)) n g s log p)
   where
-    by_test : (b : Bool) → cond b (Some (Slicing a.generation a.strategy a.points q)) (slice_at (moved a (Point q)) es n) ≡ Some (Slicing g s log p) → (slice_at (moved a (Point q)) es n ≡ Some (Slicing g s log p) → g ≤ (spot_after (moved a (Point q)) es).generation) → g ≤ (spot_after (moved a (Point q)) es).generation
+    by_test : (b : Bool)
+        → cond b (Some (Slicing a.generation a.strategy a.points q)) (slice_at (moved a (Point q)) es n) ≡ Some
+        (Slicing g s log p)
+        → (slice_at (moved a (Point q)) es n ≡ Some (Slicing g s log p)
+        → g ≤ (spot_after (moved a (Point q)) es).generation) → g ≤ (spot_after (moved a (Point q)) es).generation
     by_test true h next = let e : a.generation ≡ g = cc in let u = spot_up es (moved a (Point q)) in omega arith
     by_test false h next = next h
 
 -- nothing that the Gather sees has moved
-pub gather_kept : (g : GatherOf) (w x : World) → x.core ≡ w.core → x.first ≡ w.first → x.read ≡ w.read → x.rows ≡ w.rows → x.emitted ≡ w.emitted → IsGatherOf g w → IsGatherOf g x
-gather_kept g w x c f r rows e is = subst (λ z. IsGatherIn g z x.first x.read x.rows x.emitted) (sym c) (subst (λ z. IsGatherIn g w.core z x.read x.rows x.emitted) (sym f)
-    (subst (λ z. IsGatherIn g w.core w.first z x.rows x.emitted) (sym r) (subst (λ z. IsGatherIn g w.core w.first w.read z x.emitted) (sym rows) (subst (λ z. IsGatherIn g w.core w.first w.read w.rows z) (sym e) is))))
+pub gather_kept : (g : GatherOf) (w x : World) → x.core ≡ w.core → x.first ≡ w.first → x.read ≡ w.read
+    → x.rows ≡ w.rows → x.emitted ≡ w.emitted → IsGatherOf g w → IsGatherOf g x
+gather_kept g w x c f r rows e is =
+    subst (λ z. IsGatherIn g z x.first x.read x.rows x.emitted) (sym c)
+    (subst (λ z. IsGatherIn g w.core z x.read x.rows x.emitted) (sym f)
+    (subst (λ z. IsGatherIn g w.core w.first z x.rows x.emitted) (sym r)
+    (subst (λ z. IsGatherIn g w.core w.first w.read z x.emitted) (sym rows)
+    (subst (λ z. IsGatherIn g w.core w.first w.read w.rows z) (sym e) is))))
 
-pub gather_point : (g : GatherOf) (w : World) (p : TimePoint) → IsSound w → Allowed w (Read (Point p)) → IsGatherOf g w → IsGatherOf g (after w (Read (Point p)))
-gather_point g w p r a is = let spot : spot_in (after w (Read (Point p))) ≡ moved (spot_in w) (Point p) = spot_more (first_spot w.first) w.read (Point p ∷ []) in record {
-  next = is.next;
-  added = is.added;
-  workers = λ n h s log q at. ⊎_elim (λ e. is.workers n h s log q e)
-      (λ e. let same : Slicing h s log q ≡ Slicing (spot_in w).generation (spot_in w).strategy (spot_in w).points p = one_point (spot_in w) p n (Slicing h s log q) e in
-      let hg : h ≡ (spot_in w).generation = cc in let hs : s ≡ (spot_in w).strategy = cc in ap (workers_in g.begun) hg ∙ is.present ∙ ap workers_of (sym hs))
-      (slice_snoc w.read (Point p) (first_spot w.first) n (Slicing h s log q) at);
-  present = subst (λ (b : Spot). workers_in g.begun b.generation ≡ workers_of b.strategy) (sym spot) is.present;
-  later = subst (λ (b : Spot). (h : ℕ) → b.generation < h → workers_in g.begun h ≡ 0) (sym spot) is.later;
-  gathered = step_gathered w (Read (Point p)) r a is.gathered;
-}
+pub gather_point : (g : GatherOf) (w : World) (p : TimePoint) → IsSound w → Allowed w (Read (Point p))
+    → IsGatherOf g w → IsGatherOf g (after w (Read (Point p)))
+gather_point g w p r a is = let spot : spot_in (after w (Read (Point p))) ≡ moved (spot_in w) (Point p) =
+    spot_more (first_spot w.first) w.read (Point p ∷ []) in record {
+      next = is.next;
+      added = is.added;
+      workers = λ n h s log q at. ⊎_elim (λ e. is.workers n h s log q e)
+          (λ e. let same : Slicing h s log q ≡ Slicing (spot_in w).generation (spot_in w).strategy
+          (spot_in w).points p = one_point (spot_in w) p n (Slicing h s log q) e in
+          let hg : h ≡ (spot_in w).generation = cc in let hs : s ≡ (spot_in w).strategy = cc in
+          ap (workers_in g.begun) hg ∙ is.present ∙ ap workers_of (sym hs))
+          (slice_snoc w.read (Point p) (first_spot w.first) n (Slicing h s log q) at);
+      present = subst (λ (b : Spot). workers_in g.begun b.generation ≡ workers_of b.strategy) (sym spot) is.present;
+      later = subst (λ (b : Spot). (h : ℕ) → b.generation < h → workers_in g.begun h ≡ 0) (sym spot) is.later;
+      gathered = step_gathered w (Read (Point p)) r a is.gathered;
+    }
 
 -- ---- collecting
 
-keeps_all : (n : ℕ) (rs : List Rows) → AllByRecursion (λ (r : Rows). n ≤ r.point) rs → filter (λ r. nat_le n r.point) rs ≡ rs
+keeps_all : (n : ℕ) (rs : List Rows) → AllByRecursion (λ (r : Rows). n ≤ r.point) rs
+    → filter (λ r. nat_le n r.point) rs ≡ rs
 keeps_all n [] e = refl
-keeps_all n (r ∷ rs) e = ap (λ b. cond b (r ∷ filter (λ r. nat_le n r.point) rs) (filter (λ r. nat_le n r.point) rs)) (le-leb n r.point e.0) ∙ ap (λ x. r ∷ x) (keeps_all n rs e.1)
+keeps_all n (r ∷ rs) e =
+    ap (λ b. cond b (r ∷ filter (λ r. nat_le n r.point) rs) (filter (λ r. nat_le n r.point) rs))
+    (le-leb n r.point e.0) ∙ ap (λ x. r ∷ x) (keeps_all n rs e.1)
 
-none_below : (n : ℕ) (rs : List Rows) → ((i : ℕ) → i < n → rows_at i rs ≡ []) → AllByRecursion (λ (r : Rows). n ≤ r.point) rs
+none_below : (n : ℕ) (rs : List Rows) → ((i : ℕ) → i < n → rows_at i rs ≡ [])
+    → AllByRecursion (λ (r : Rows). n ≤ r.point) rs
 none_below n [] h = tt
 none_below n (r ∷ rs) h = (high, none_below n rs (λ i l. rest i l))
   where
-    here_then : (i : ℕ) (b : Bool) → nat_eq r.point i ≡ b → cond b (r ∷ rows_at i rs) (rows_at i rs) ≡ [] → (r.point ≢ i) × (rows_at i rs ≡ [])
+    here_then : (i : ℕ) (b : Bool) → nat_eq r.point i ≡ b → cond b (r ∷ rows_at i rs) (rows_at i rs) ≡ []
+        → (r.point ≢ i) × (rows_at i rs ≡ [])
     here_then i true e f = cc
     here_then i false e f = ((λ same. (let t = eq-eqb r.point i same in cc)), f)
 
@@ -112,8 +140,11 @@ none_below n (r ∷ rs) h = (high, none_below n rs (λ i l. rest i l))
         le_or (inr l) = l
 
 -- no row that comes is for a position that was emitted
-pub rows_fresh : (g : GatherOf) (w : World) (k : ℕ) → IsSound w → IsGatherOf g w → AllByRecursion (λ (r : Rows). g.next ≤ r.point) (rows_in (not_back (w.seats k)))
-rows_fresh g w k r is = none_below g.next (rows_in (not_back (w.seats k))) (λ i l. none_more w k r i (is.gathered i (let e = is.next in omega arith)))
+pub rows_fresh : (g : GatherOf) (w : World) (k : ℕ) → IsSound w → IsGatherOf g w
+    → AllByRecursion (λ (r : Rows). g.next ≤ r.point) (rows_in (not_back (w.seats k)))
+rows_fresh g w k r is =
+    none_below g.next (rows_in (not_back (w.seats k)))
+    (λ i l. none_more w k r i (is.gathered i (let e = is.next in omega arith)))
 
 -- ---- what may be added
 
@@ -226,7 +257,8 @@ gather_collected g h w k r a e is =
       next = is.next;
       added = ap (λ x. x ++ rs) is.added
           ∙ ap (λ x. filter (λ r. nat_le n r.point) w.rows ++ x)
-          (sym (keeps_all n rs (subst (λ m. AllByRecursion (λ (r : Rows). m ≤ r.point) rs) is.next (rows_fresh g w k r is))))
+          (sym (keeps_all n rs
+          (subst (λ m. AllByRecursion (λ (r : Rows). m ≤ r.point) rs) is.next (rows_fresh g w k r is))))
           ∙ sym (filter-append (λ r. nat_le n r.point) w.rows rs);
       workers = is.workers;
       present = is.present;
@@ -239,23 +271,48 @@ gather_collected g h w k r a e is =
 leb_no : (a b : ℕ) → b < a → nat_le a b ≡ false
 leb_no a b h = ⊎_elim (λ t. absurd (let x = t.1 in omega arith)) (λ t. t.0) (leb_tells a b)
 
-drops_emitted : (n : ℕ) (rs : List Rows) → filter (λ (r : Rows). not (nat_eq r.point n)) (filter (λ (r : Rows). nat_le n r.point) rs) ≡ filter (λ (r : Rows). nat_le (n + 1) r.point) rs
+drops_emitted : (n : ℕ) (rs : List Rows)
+    → filter (λ (r : Rows). not (nat_eq r.point n)) (filter (λ (r : Rows). nat_le n r.point) rs) ≡ filter
+    (λ (r : Rows). nat_le (n + 1) r.point) rs
 drops_emitted n [] = refl
 drops_emitted n (r ∷ rs) = by_order (below_or n r.point) (drops_emitted n rs)
   where
     below_or : (a b : ℕ) → (b < a) ⊎ ((b ≡ a) ⊎ (a < b))
-    below_or a b = ⊎_elim (λ h. inl h) (λ h. ⊎_elim (λ x. inr (inr x)) (λ x. inr (inl (omega arith))) (below a b)) (below b a)
+    below_or a b =
+        ⊎_elim (λ h. inl h) (λ h. ⊎_elim (λ x. inr (inr x)) (λ x. inr (inl (omega arith))) (below a b)) (below b a)
 
-    by_order : (r.point < n) ⊎ ((r.point ≡ n) ⊎ (n < r.point)) → filter (λ (r : Rows). not (nat_eq r.point n)) (filter (λ (r : Rows). nat_le n r.point) rs) ≡ filter (λ (r : Rows). nat_le (n + 1) r.point) rs
-        → filter (λ (r : Rows). not (nat_eq r.point n)) (filter (λ (r : Rows). nat_le n r.point) (r ∷ rs)) ≡ filter (λ (r : Rows). nat_le (n + 1) r.point) (r ∷ rs)
-    by_order (inl h) rest = ap (λ b. filter (λ (r : Rows). not (nat_eq r.point n)) (cond b (r ∷ filter (λ (r : Rows). nat_le n r.point) rs) (filter (λ (r : Rows). nat_le n r.point) rs))) (leb_no n r.point h)
-        ∙ rest ∙ sym (ap (λ b. cond b (r ∷ filter (λ (r : Rows). nat_le (n + 1) r.point) rs) (filter (λ (r : Rows). nat_le (n + 1) r.point) rs)) (leb_no (n + 1) r.point (omega arith)))
-    by_order (inr (inl h)) rest = ap (λ b. filter (λ (r : Rows). not (nat_eq r.point n)) (cond b (r ∷ filter (λ (r : Rows). nat_le n r.point) rs) (filter (λ (r : Rows). nat_le n r.point) rs))) (le-leb n r.point (omega arith))
-        ∙ ap (λ b. cond (not b) (r ∷ filter (λ (r : Rows). not (nat_eq r.point n)) (filter (λ (r : Rows). nat_le n r.point) rs)) (filter (λ (r : Rows). not (nat_eq r.point n)) (filter (λ (r : Rows). nat_le n r.point) rs))) (eq-eqb r.point n h)
-        ∙ rest ∙ sym (ap (λ b. cond b (r ∷ filter (λ (r : Rows). nat_le (n + 1) r.point) rs) (filter (λ (r : Rows). nat_le (n + 1) r.point) rs)) (leb_no (n + 1) r.point (omega arith)))
-    by_order (inr (inr h)) rest = ap (λ b. filter (λ (r : Rows). not (nat_eq r.point n)) (cond b (r ∷ filter (λ (r : Rows). nat_le n r.point) rs) (filter (λ (r : Rows). nat_le n r.point) rs))) (le-leb n r.point (omega arith))
-        ∙ ap (λ b. cond (not b) (r ∷ filter (λ (r : Rows). not (nat_eq r.point n)) (filter (λ (r : Rows). nat_le n r.point) rs)) (filter (λ (r : Rows). not (nat_eq r.point n)) (filter (λ (r : Rows). nat_le n r.point) rs))) (ne_eqb r.point n (λ e. (omega arith)))
-        ∙ ap (λ x. r ∷ x) rest ∙ sym (ap (λ b. cond b (r ∷ filter (λ (r : Rows). nat_le (n + 1) r.point) rs) (filter (λ (r : Rows). nat_le (n + 1) r.point) rs)) (le-leb (n + 1) r.point (omega arith)))
+    by_order : (r.point < n) ⊎ ((r.point ≡ n) ⊎ (n < r.point))
+        → filter (λ (r : Rows). not (nat_eq r.point n)) (filter (λ (r : Rows). nat_le n r.point) rs) ≡ filter
+        (λ (r : Rows). nat_le (n + 1) r.point) rs
+        → filter (λ (r : Rows). not (nat_eq r.point n)) (filter (λ (r : Rows). nat_le n r.point) (r ∷ rs)) ≡ filter
+        (λ (r : Rows). nat_le (n + 1) r.point) (r ∷ rs)
+    by_order (inl h) rest =
+        ap (λ b. filter (λ (r : Rows). not (nat_eq r.point n))
+        (cond b (r ∷ filter (λ (r : Rows). nat_le n r.point) rs) (filter (λ (r : Rows). nat_le n r.point) rs)))
+        (leb_no n r.point h)
+        ∙ rest ∙ sym (ap (λ b. cond b (r ∷ filter (λ (r : Rows). nat_le (n + 1) r.point) rs)
+        (filter (λ (r : Rows). nat_le (n + 1) r.point) rs)) (leb_no (n + 1) r.point (omega arith)))
+    by_order (inr (inl h)) rest =
+        ap (λ b. filter (λ (r : Rows). not (nat_eq r.point n))
+        (cond b (r ∷ filter (λ (r : Rows). nat_le n r.point) rs) (filter (λ (r : Rows). nat_le n r.point) rs)))
+        (le-leb n r.point (omega arith))
+        ∙ ap (λ b. cond (not b)
+        (r ∷ filter (λ (r : Rows). not (nat_eq r.point n)) (filter (λ (r : Rows). nat_le n r.point) rs))
+        (filter (λ (r : Rows). not (nat_eq r.point n)) (filter (λ (r : Rows). nat_le n r.point) rs)))
+        (eq-eqb r.point n h)
+        ∙ rest ∙ sym (ap (λ b. cond b (r ∷ filter (λ (r : Rows). nat_le (n + 1) r.point) rs)
+        (filter (λ (r : Rows). nat_le (n + 1) r.point) rs)) (leb_no (n + 1) r.point (omega arith)))
+    by_order (inr (inr h)) rest =
+        ap (λ b. filter (λ (r : Rows). not (nat_eq r.point n))
+        (cond b (r ∷ filter (λ (r : Rows). nat_le n r.point) rs) (filter (λ (r : Rows). nat_le n r.point) rs)))
+        (le-leb n r.point (omega arith))
+        ∙ ap (λ b. cond (not b)
+        (r ∷ filter (λ (r : Rows). not (nat_eq r.point n)) (filter (λ (r : Rows). nat_le n r.point) rs))
+        (filter (λ (r : Rows). not (nat_eq r.point n)) (filter (λ (r : Rows). nat_le n r.point) rs)))
+        (ne_eqb r.point n (λ e. (omega arith)))
+        ∙ ap (λ x. r ∷ x) rest
+        ∙ sym (ap (λ b. cond b (r ∷ filter (λ (r : Rows). nat_le (n + 1) r.point) rs)
+        (filter (λ (r : Rows). nat_le (n + 1) r.point) rs)) (le-leb (n + 1) r.point (omega arith)))
 
 rows_are : (g : GatherOf) (w : World) → IsGatherOf g w → rows_at g.next g.added ≡ rows_at (length w.emitted) w.rows
 rows_are g w is =
@@ -269,7 +326,8 @@ gather_emitted g h w v r e is =
     let same = rows_are g w is in
     let c = complete_some g e.0 e.1 in
     let made : v ≡ record { point = n; ts = c.first.ts; rows = ascending row_cmp (all_rows (rows_at n w.rows)) } =
-    e.2 ∙ ap (λ m. record { point = m; ts = e.0; rows = ascending row_cmp (all_rows (rows_at g.next g.added)) }) is.next
+    e.2 ∙ ap (λ m. record { point = m; ts = e.0; rows = ascending row_cmp (all_rows (rows_at g.next g.added)) })
+    is.next
     ∙ ap (λ t. record { point = n; ts = t; rows = ascending row_cmp (all_rows (rows_at g.next g.added)) }) (sym c.time)
     ∙ ap (λ (x : List Rows). record { point = n; ts = c.first.ts; rows = ascending row_cmp (all_rows x) }) same in
     let due = merged_due w r n v (workers_in g.begun) is.workers c.first c.rest (sym same ∙ c.rows)

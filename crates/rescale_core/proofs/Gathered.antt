@@ -34,9 +34,16 @@ module _ (w : World) (k : ℕ) (r : IsSound w) where
   pub none_more : (i : ℕ) → IsGathered w i → rows_at i rs ≡ []
   none_more i g = let sound : IsSound (after w (Collect k)) = collect_sound w k r in
       let all = due_all (after w (Collect k)) sound i g.0 g.1 g.2 g.3 g.4 g.5 g.6 in
-      let few : length (map (λ (r : Rows). r.worker) (rows_at i (w.rows ++ rs))) ≤ workers_of g.1 = at_most (workers_of g.1) (map (λ (r : Rows). r.worker) (rows_at i (w.rows ++ rs))) (sound.rows_apart i) (below_of (workers_of g.1) (rows_at i (w.rows ++ rs)) (every_map (DueRow (after w (Collect k)) sound i g.0 g.1 g.2 g.3) (λ (r : Rows). r.worker < workers_of g.1) (rows_at i (w.rows ++ rs)) (λ x d. d.near) all)) in
-      let same : length (map (λ (r : Rows). r.worker) (rows_at i (w.rows ++ rs))) ≡ length (rows_at i (w.rows ++ rs)) = length-map (rows_at i (w.rows ++ rs)) (λ (r : Rows). r.worker) in
-      let sum : length (rows_at i (w.rows ++ rs)) ≡ length (rows_at i w.rows) + length (rows_at i rs) = ap length (filter-append (λ r. nat_eq r.point i) w.rows rs) ∙ length-append (rows_at i w.rows) (rows_at i rs) in
+      let few : length (map (λ (r : Rows). r.worker) (rows_at i (w.rows ++ rs))) ≤ workers_of g.1 =
+      at_most (workers_of g.1) (map (λ (r : Rows). r.worker) (rows_at i (w.rows ++ rs))) (sound.rows_apart i)
+      (below_of (workers_of g.1) (rows_at i (w.rows ++ rs))
+      (every_map (DueRow (after w (Collect k)) sound i g.0 g.1 g.2 g.3) (λ (r : Rows). r.worker < workers_of g.1)
+      (rows_at i (w.rows ++ rs)) (λ x d. d.near) all)) in
+      let same : length (map (λ (r : Rows). r.worker) (rows_at i (w.rows ++ rs))) ≡ length
+      (rows_at i (w.rows ++ rs)) = length-map (rows_at i (w.rows ++ rs)) (λ (r : Rows). r.worker) in
+      let sum : length (rows_at i (w.rows ++ rs)) ≡ length (rows_at i w.rows) + length (rows_at i rs) =
+      ap length (filter-append (λ r. nat_eq r.point i) w.rows rs)
+      ∙ length-append (rows_at i w.rows) (rows_at i rs) in
       let full : length (rows_at i w.rows) ≡ workers_of g.1 = g.7 in
       no_length (rows_at i rs) (omega arith)
     where
@@ -45,7 +52,17 @@ module _ (w : World) (k : ℕ) (r : IsSound w) where
       no_length (x ∷ xs) e = absurd (omega arith)
 
 pub step_gathered : (w : World) (s : Move) → IsSound w → Allowed w s → AllGathered w → AllGathered (after w s)
-step_gathered w (Read e) r a g i h = let x = g i h in (x.0, x.1, x.2, x.3, slice_more w.read (e ∷ []) (first_spot w.first) (length x.2) (Slicing x.0 x.1 x.2 x.3) x.4, x.5, x.6, x.7)
+step_gathered w (Read e) r a g i h = let x = g i h in (
+  x.0,
+  x.1,
+  x.2,
+  x.3,
+  slice_more w.read (e ∷ []) (first_spot w.first) (length x.2)
+      (Slicing x.0 x.1 x.2 x.3) x.4,
+  x.5,
+  x.6,
+  x.7,
+)
 step_gathered w (Feed k i2) r a g i h = g i h
 step_gathered w (Take k gave) r a g i h = g i h
 step_gathered w (Collect k) r a g i h = let x = g i h in (
@@ -56,7 +73,9 @@ step_gathered w (Collect k) r a g i h = let x = g i h in (
   x.4,
   x.5,
   x.6,
-  ap length (filter-append (λ r. nat_eq r.point i) w.rows (rs w k r) ∙ ap (λ y. rows_at i w.rows ++ y) (none_more w k r i x)) ∙ length-append (rows_at i w.rows) [] ∙ (let e : length (rows_at i w.rows) + 0 ≡ length (rows_at i w.rows) = omega arith in e) ∙ x.7,
+  ap length (filter-append (λ r. nat_eq r.point i) w.rows (rs w k r)
+      ∙ ap (λ y. rows_at i w.rows ++ y) (none_more w k r i x)) ∙ length-append (rows_at i w.rows) []
+      ∙ (let e : length (rows_at i w.rows) + 0 ≡ length (rows_at i w.rows) = omega arith in e) ∙ x.7,
 )
 step_gathered w (Emit v) r a g i h = at (ℕ_discrete i (length w.emitted))
   where

@@ -159,10 +159,12 @@ row_there c k g s log p i j (suc n) low high =
         → ((nat_eq k k && nat_eq j i) || list_any (is_of k i) (map (row_for c k g s log p) (range_with_len (j + 1) n)))
         ≡ true
     at (yes e) next =
-        or_left (nat_eq k k && nat_eq j i) (list_any (is_of k i) (map (row_for c k g s log p) (range_with_len (j + 1) n)))
+        or_left (nat_eq k k && nat_eq j i)
+        (list_any (is_of k i) (map (row_for c k g s log p) (range_with_len (j + 1) n)))
         (and_from (nat_eq k k) (nat_eq j i) (eq-eqb k k refl) (eq-eqb j i e))
     at (no ne) next =
-        or_right (nat_eq k k && nat_eq j i) (list_any (is_of k i) (map (row_for c k g s log p) (range_with_len (j + 1) n)))
+        or_right (nat_eq k k && nat_eq j i)
+        (list_any (is_of k i) (map (row_for c k g s log p) (range_with_len (j + 1) n)))
         (next (omega arith))
 
 pub given_there : (c : CoreForm) (k i : ℕ) (before : List Due) (g : ℕ) (s : Strategy) (log : List TimePoint)

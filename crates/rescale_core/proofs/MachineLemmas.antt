@@ -1,7 +1,10 @@
 -- A machine's calls are steps of worlds.
-use Rattle.std.proofs.Common.{◌≡◌, ◌≢◌, ◌⊎◌, ℕ, zero, suc, ◌+◌, ◌<◌, ◌≤◌, Bool, true, false, cond, nat_eq, nat_lt, Option, Some}
-use Rattle.std.proofs.Common.{None, List, [], ◌∷◌, ◌++◌, length, map, drop, take, get_or, set, sym, refl, ap, ◌∙◌, subst}
-use Rattle.std.proofs.Common.{inl, inr, append-nil, append_assoc, arith, eq-eqb, ne_eqb, eqb-true, length-append, length-set}
+use Rattle.std.proofs.Common.{◌≡◌, ◌≢◌, ◌⊎◌, ℕ, zero, suc, ◌+◌, ◌<◌, ◌≤◌, Bool, true, false, cond, nat_eq, nat_lt}
+use Rattle.std.proofs.Common.{Option, Some}
+use Rattle.std.proofs.Common.{None, List, [], ◌∷◌, ◌++◌, length, map, drop, take, get_or, set, sym, refl, ap, ◌∙◌}
+use Rattle.std.proofs.Common.{subst}
+use Rattle.std.proofs.Common.{inl, inr, append-nil, append_assoc, arith, eq-eqb, ne_eqb, eqb-true, length-append}
+use Rattle.std.proofs.Common.{length-set}
 use Rattle.std.specs.List.{AllByRecursion}
 use native.Mathlib.Decide.{ℕ_discrete}
 use Rattle.mfotl_model.specs.Strategies.{workers_of}
@@ -126,7 +129,8 @@ may_take w k before item rest r points e =
     let cut : (w.seats k).fed ≡ (before ++ item ∷ []) ++ rest = e ∙ sym (append_assoc before (item ∷ []) rest) in
     let has = has_front (seed_in w k) (before ++ item ∷ []) rest w.read
     (subst (Has (seed_in w k) w.read) cut (has_of w k r)) in
-    let all = only_slices w.core k w.pieces (line_in w k) (w.seats k).fed (line_only k w.read (first_spot w.first) points)
+    let all = only_slices w.core k w.pieces (line_in w k) (w.seats k).fed
+    (line_only k w.read (first_spot w.first) points)
     (r.seated k).supplied in
     (has, ((w.read, has), slices_front (before ++ item ∷ []) rest (subst (AllByRecursion IsSlice) cut all)))
 
@@ -372,7 +376,8 @@ machine_collects m n k old new taken outs at cells left verdicts some has given 
     λ entries w is.
     let c = is.cells k old at in
     let h = cell_has_taken w k old taken outs c has given in
-    let may : Allowed w (Collect k) = (let t = h.taken in more_than (w.seats k).collected taken (w.seats k).taken t some) in (
+    let may : Allowed w (Collect k) =
+    (let t = h.taken in more_than (w.seats k).collected taken (w.seats k).taken t some) in (
       after w (Collect k),
       (may, refl),
       machine_collected m n entries w is k new cells left verdicts may
@@ -387,16 +392,19 @@ machine_collects m n k old new taken outs at cells left verdicts some has given 
 
 pub machine_read : (m n : Machine) (entries : List Entry) (w : World) (p : TimePoint) → IsMachineOf m entries w
     → m.left.items ≡ Point p ∷ n.left.items → n.cells.items ≡ m.cells.items → n.verdicts.items ≡ m.verdicts.items
-    → (Rattle.rescale_core.specs.Workers.MayFollow (spot_in w).points p → IsRouterOf n.router (after w (Read (Point p))))
+    → (Rattle.rescale_core.specs.Workers.MayFollow (spot_in w).points p
+    → IsRouterOf n.router (after w (Read (Point p))))
     → Allowed w (Read (Point p)) × IsMachineOf n entries (after w (Read (Point p)))
 machine_read m n entries w p is left cells verdicts router =
-    let sound : AreSound w.core (spot_in w) (Point p ∷ n.left.items) = subst (AreSound w.core (spot_in w)) left is.left in
+    let sound : AreSound w.core (spot_in w) (Point p ∷ n.left.items) =
+    subst (AreSound w.core (spot_in w)) left is.left in
     let points : ArePoints (Point p ∷ n.left.items) = subst ArePoints left is.unchanged in
     let spot : spot_in (after w (Read (Point p))) ≡ moved (spot_in w) (Point p) =
     spot_more (first_spot w.first) w.read (Point p ∷ []) in (
       sound.0,
       record {
-        entries_are = append_assoc w.read (Point p ∷ []) n.left.items ∙ ap (λ x. w.read ++ x) (sym left) ∙ is.entries_are;
+        entries_are = append_assoc w.read (Point p ∷ []) n.left.items ∙ ap (λ x. w.read ++ x) (sym left)
+            ∙ is.entries_are;
         left = subst (λ (a : Spot). AreSound w.core a n.left.items) (sym spot) sound.1;
         unchanged = points;
         router = router sound.0;

@@ -1,5 +1,6 @@
 -- The rows that a worker owns are the same of an exact table and of the violations.
-use Rattle.std.proofs.Common.{◌≡◌, ℕ, zero, suc, ◌+◌, ◌<◌, ◌≤◌, Bool, true, false, ◌&&◌, ◌||◌, cond, nat_eq, List, [], ◌∷◌, ◌++◌, length, map}
+use Rattle.std.proofs.Common.{◌≡◌, ℕ, zero, suc, ◌+◌, ◌<◌, ◌≤◌, Bool, true, false, ◌&&◌, ◌||◌, cond, nat_eq, List}
+use Rattle.std.proofs.Common.{[], ◌∷◌, ◌++◌, length, map}
 use Rattle.std.proofs.Common.{filter, refl, sym, ap, ap₂, subst, ◌∙◌, arith, eq-eqb}
 use Rattle.std.proofs.lemmas.Bool.{and_parts, and_from, eqb-true, or_left, or_right}
 use Rattle.std.proofs.lemmas.List.FromFn.{length-range_with_len}
@@ -104,7 +105,8 @@ near_full s k c row is size own =
     ∙ ap (λ m. nat_eq (owner_of s (valuation (range_with_len 0 m) row)) k) (sym len) ∙ own
 
 module _ (c : CoreForm) (s : Strategy) (k : ℕ) (log : List TimePoint) (i : ℕ) (table : TableOf) (is : IsFor c s)
-    (exact : Exact (view_of c (near_of s k) log) (meaning c) i table) (table_is : IsTable table.columns table.rows) where
+    (exact : Exact (view_of c (near_of s k) log) (meaning c) i table)
+    (table_is : IsTable table.columns table.rows) where
   abbrev vars : List ℕ
   vars = fv (meaning c)
 

@@ -1,7 +1,8 @@
 -- The router's queues are the world's.
 use Rattle.std.proofs.Common.{◌≡◌, ◌≢◌, ◌⊎◌, ℕ, zero, suc, ◌+◌, ◌<◌, ◌≤◌, Bool, true, false, cond, nat_eq, nat_lt}
 use Rattle.std.proofs.Common.{IfNone, IfSome, Option, Some, None, List, [], ◌∷◌, ◌++◌, length, map, drop, get_or, set}
-use Rattle.std.proofs.Common.{sym, refl, ap, ◌∙◌, subst, inl, inr, ⊎_elim, append-nil, append_assoc, arith, eq-eqb, ne_eqb, eqb-true}
+use Rattle.std.proofs.Common.{sym, refl, ap, ◌∙◌, subst, inl, inr, ⊎_elim, append-nil, append_assoc, arith, eq-eqb}
+use Rattle.std.proofs.Common.{ne_eqb, eqb-true}
 use Rattle.std.proofs.Common.{length-append, suc-add}
 use Rattle.std.proofs.lemmas.List.{drop-append-le, map-append}
 use Rattle.std.specs.List.{AllByRecursion, range_with_len}
@@ -74,28 +75,43 @@ no_pieces w k r points = none (pieces_in (not_back (w.seats k))) (behind w.piece
 
 -- ---- reading
 
-no_slice : (g n j : ℕ) (f : ℕ → TimePoint) (m q : ℕ) → (q < j) ⊎ (j + m ≤ q) → slices_for g n j (map f (range_with_len j m)) q ≡ []
+no_slice : (g n j : ℕ) (f : ℕ → TimePoint) (m q : ℕ) → (q < j) ⊎ (j + m ≤ q)
+    → slices_for g n j (map f (range_with_len j m)) q ≡ []
 no_slice g n j f zero q h = refl
 no_slice g n j f (suc m) q h = let other : q ≢ j = ⊎_elim (λ a e. (omega arith)) (λ a e. (omega arith)) h in
-    ap (λ b. cond b (Sure (Slice g n (f j)) ∷ []) [] ++ slices_for g n (j + 1) (map f (range_with_len (j + 1) m)) q) (ne_eqb q j other)
+    ap (λ b. cond b (Sure (Slice g n (f j)) ∷ []) [] ++ slices_for g n (j + 1) (map f (range_with_len (j + 1) m)) q)
+    (ne_eqb q j other)
     ∙ no_slice g n (j + 1) f m q (⊎_elim (λ a. inl (omega arith)) (λ a. inr (omega arith)) h)
 
-one_slice : (g n j : ℕ) (f : ℕ → TimePoint) (m q : ℕ) → j ≤ q → q < j + m → slices_for g n j (map f (range_with_len j m)) q ≡ Sure (Slice g n (f q)) ∷ []
+one_slice : (g n j : ℕ) (f : ℕ → TimePoint) (m q : ℕ) → j ≤ q → q < j + m
+    → slices_for g n j (map f (range_with_len j m)) q ≡ Sure (Slice g n (f q)) ∷ []
 one_slice g n j f zero q a b = absurd (omega arith)
 one_slice g n j f (suc m) q a b = at (ℕ_discrete q j) (λ h. one_slice g n (j + 1) f m q h (omega arith))
   where
-    at : Dec (q ≡ j) → (j + 1 ≤ q → slices_for g n (j + 1) (map f (range_with_len (j + 1) m)) q ≡ Sure (Slice g n (f q)) ∷ [])
-        → cond (nat_eq q j) (Sure (Slice g n (f j)) ∷ []) [] ++ slices_for g n (j + 1) (map f (range_with_len (j + 1) m)) q ≡ Sure (Slice g n (f q)) ∷ []
-    at (yes is) rest = ap (λ b. cond b (Sure (Slice g n (f j)) ∷ []) [] ++ slices_for g n (j + 1) (map f (range_with_len (j + 1) m)) q) (eq-eqb q j is)
-        ∙ ap (λ x. Sure (Slice g n (f j)) ∷ x) (no_slice g n (j + 1) f m q (inl (omega arith))) ∙ ap (λ x. Sure (Slice g n (f x)) ∷ []) (sym is)
-    at (no other) rest = ap (λ b. cond b (Sure (Slice g n (f j)) ∷ []) [] ++ slices_for g n (j + 1) (map f (range_with_len (j + 1) m)) q) (ne_eqb q j other) ∙ rest (omega arith)
+    at : Dec (q ≡ j)
+        → (j + 1 ≤ q → slices_for g n (j + 1) (map f (range_with_len (j + 1) m)) q ≡ Sure (Slice g n (f q)) ∷ [])
+        → cond (nat_eq q j) (Sure (Slice g n (f j)) ∷ []) [] ++ slices_for g n (j + 1)
+        (map f (range_with_len (j + 1) m)) q ≡ Sure (Slice g n (f q)) ∷ []
+    at (yes is) rest =
+        ap (λ b. cond b (Sure (Slice g n (f j)) ∷ []) [] ++ slices_for g n (j + 1)
+        (map f (range_with_len (j + 1) m)) q) (eq-eqb q j is)
+        ∙ ap (λ x. Sure (Slice g n (f j)) ∷ x) (no_slice g n (j + 1) f m q (inl (omega arith)))
+        ∙ ap (λ x. Sure (Slice g n (f x)) ∷ []) (sym is)
+    at (no other) rest =
+        ap (λ b. cond b (Sure (Slice g n (f j)) ∷ []) [] ++ slices_for g n (j + 1)
+        (map f (range_with_len (j + 1) m)) q) (ne_eqb q j other) ∙ rest (omega arith)
 
 -- what a time-point adds to each queue
-slices_are : (c : CoreForm) (g n : ℕ) (s : Strategy) (log : List TimePoint) (p : TimePoint) (pieces : List _) (q : ℕ) → n ≡ length log
-    → slices_for g n 0 (all_slices c s p) q ≡ map (chance c q pieces) (if_below q (workers_of s) (Slicing g s log p ∷ []) ++ [])
+slices_are : (c : CoreForm) (g n : ℕ) (s : Strategy) (log : List TimePoint) (p : TimePoint) (pieces : List _)
+    (q : ℕ) → n ≡ length log
+    → slices_for g n 0 (all_slices c s p) q ≡ map (chance c q pieces)
+    (if_below q (workers_of s) (Slicing g s log p ∷ []) ++ [])
 slices_are c g n s log p pieces q e = ⊎_elim
-    (λ h. one_slice g n 0 (λ k. slice_for c s k p) (workers_of s) q (omega arith) (omega arith) ∙ ap (λ x. Sure (Slice g x (slice_for c s q p)) ∷ []) e ∙ ap (λ x. map (chance c q pieces) (x ++ [])) (sym (taken_if q (workers_of s) (Slicing g s log p ∷ []) h)))
-    (λ h. no_slice g n 0 (λ k. slice_for c s k p) (workers_of s) q (inr (omega arith)) ∙ ap (λ x. map (chance c q pieces) (x ++ [])) (sym (left_out q (workers_of s) (Slicing g s log p ∷ []) h)))
+    (λ h. one_slice g n 0 (λ k. slice_for c s k p) (workers_of s) q (omega arith) (omega arith)
+    ∙ ap (λ x. Sure (Slice g x (slice_for c s q p)) ∷ []) e
+    ∙ ap (λ x. map (chance c q pieces) (x ++ [])) (sym (taken_if q (workers_of s) (Slicing g s log p ∷ []) h)))
+    (λ h. no_slice g n 0 (λ k. slice_for c s k p) (workers_of s) q (inr (omega arith))
+    ∙ ap (λ x. map (chance c q pieces) (x ++ [])) (sym (left_out q (workers_of s) (Slicing g s log p ∷ []) h)))
     (below q (workers_of s))
 
 -- the parts of a time-point are its slices
@@ -106,16 +122,25 @@ parts_are c s p = refl
 
 module _ (w : World) (r : IsSound w) (e : Entry) where
   -- each queue gets what the entry makes due
-  queue_longer : (k : ℕ) → queue_in (after w (Read e)) k ≡ queue_in w k ++ map (chance w.core k w.pieces) (dues k (spot_in w) e ++ [])
-  queue_longer k = let l : length (w.seats k).fed ≤ length (line_in w k) = supplies_length w.core k w.pieces (line_in w k) (w.seats k).fed (r.seated k).supplied in
-      ap (λ ds. map (chance w.core k w.pieces) (drop (length (w.seats k).fed) ds)) (line_more k (first_spot w.first) w.read (e ∷ []))
-      ∙ ap (map (chance w.core k w.pieces)) (drop-append-le (length (w.seats k).fed) (line_in w k) (line k (spot_in w) (e ∷ [])) l)
-      ∙ map-append (chance w.core k w.pieces) (drop (length (w.seats k).fed) (line_in w k)) (line k (spot_in w) (e ∷ []))
+  queue_longer : (k : ℕ)
+      → queue_in (after w (Read e)) k ≡ queue_in w k ++ map (chance w.core k w.pieces) (dues k (spot_in w) e ++ [])
+  queue_longer k = let l : length (w.seats k).fed ≤ length (line_in w k) =
+      supplies_length w.core k w.pieces (line_in w k) (w.seats k).fed (r.seated k).supplied in
+      ap (λ ds. map (chance w.core k w.pieces) (drop (length (w.seats k).fed) ds))
+      (line_more k (first_spot w.first) w.read (e ∷ []))
+      ∙ ap (map (chance w.core k w.pieces))
+      (drop-append-le (length (w.seats k).fed) (line_in w k) (line k (spot_in w) (e ∷ [])) l)
+      ∙ map-append (chance w.core k w.pieces) (drop (length (w.seats k).fed) (line_in w k))
+      (line k (spot_in w) (e ∷ []))
 
 module _ (r x : Router) (w : World) (is : IsRouterOf r w) (p : TimePoint) (may : MayFollow (spot_in w).points p)
-    (core : core_form x.core ≡ core_form r.core) (strategy : x.strategy ≡ r.strategy) (generation : x.generation ≡ r.generation) (points : x.points ≡ r.points + 1)
-    (len : length x.queues.items ≡ length r.queues.items) (slices : List TimePoint) (cuts : slices ≡ all_slices (core_form r.core) r.strategy p)
-    (queued : (q : ℕ) → queue_at x.queues.items q ≡ queue_at r.queues.items q ++ slices_for r.generation r.points 0 slices q) (gather : x.gather ≡ r.gather) where
+    (core : core_form x.core ≡ core_form r.core) (strategy : x.strategy ≡ r.strategy)
+    (generation : x.generation ≡ r.generation) (points : x.points ≡ r.points + 1)
+    (len : length x.queues.items ≡ length r.queues.items) (slices : List TimePoint)
+    (cuts : slices ≡ all_slices (core_form r.core) r.strategy p)
+    (queued : (q : ℕ)
+    → queue_at x.queues.items q ≡ queue_at r.queues.items q ++ slices_for r.generation r.points 0 slices q)
+    (gather : x.gather ≡ r.gather) where
   spot_is : spot_in (after w (Read (Point p))) ≡ moved (spot_in w) (Point p)
   spot_is = spot_more (first_spot w.first) w.read (Point p ∷ [])
 
@@ -126,7 +151,8 @@ module _ (r x : Router) (w : World) (is : IsRouterOf r w) (p : TimePoint) (may :
       ∙ ap (λ y. slices_for y r.points 0 (all_slices (core_form r.core) r.strategy p) q) is.generation
       ∙ ap (λ y. slices_for (spot_in w).generation r.points 0 (all_slices y r.strategy p) q) is.core
       ∙ ap (λ y. slices_for (spot_in w).generation r.points 0 (all_slices w.core y p) q) is.strategy
-      ∙ slices_are w.core (spot_in w).generation r.points (spot_in w).strategy (spot_in w).points p w.pieces q is.points)
+      ∙ slices_are w.core (spot_in w).generation r.points (spot_in w).strategy
+      (spot_in w).points p w.pieces q is.points)
       ∙ sym (queue_longer w is.sound (Point p) q)
 
   pub point_read : IsRouterOf x (after w (Read (Point p)))
@@ -135,16 +161,19 @@ module _ (r x : Router) (w : World) (is : IsRouterOf r w) (p : TimePoint) (may :
     core = core ∙ is.core;
     generation = generation ∙ is.generation ∙ sym (ap (λ (a : Spot). a.generation) spot_is);
     strategy = strategy ∙ is.strategy ∙ sym (ap (λ (a : Spot). a.strategy) spot_is);
-    points = points ∙ ap (λ n. n + 1) is.points ∙ sym (ap (λ (a : Spot). length a.points) spot_is ∙ length-append (spot_in w).points (p ∷ []));
+    points = points ∙ ap (λ n. n + 1) is.points
+        ∙ sym (ap (λ (a : Spot). length a.points) spot_is ∙ length-append (spot_in w).points (p ∷ []));
     wide = subst (λ s. workers_of s ≤ length x.queues.items) (sym strategy) (let h = is.wide in omega arith);
     queues = queue_is;
     sound = step_sound w (Read (Point p)) is.sound may;
-    gather = subst (λ g. IsGatherOf g (after w (Read (Point p)))) (sym gather) (gather_point r.gather w p is.sound may is.gather);
+    gather = subst (λ g. IsGatherOf g (after w (Read (Point p)))) (sym gather)
+        (gather_point r.gather w p is.sound may is.gather);
   }
 
 -- ---- handing over
 
-tail_of : (c : CoreForm) (k n : ℕ) (pieces : List _) (ds : List Due) (i : Item) (rest : List Chance) → map (chance c k pieces) (drop n ds) ≡ Sure i ∷ rest → map (chance c k pieces) (drop (n + 1) ds) ≡ rest
+tail_of : (c : CoreForm) (k n : ℕ) (pieces : List _) (ds : List Due) (i : Item) (rest : List Chance)
+    → map (chance c k pieces) (drop n ds) ≡ Sure i ∷ rest → map (chance c k pieces) (drop (n + 1) ds) ≡ rest
 tail_of c k zero pieces [] i rest e = cc
 tail_of c k zero pieces (d ∷ ds) i rest e = cc
 tail_of c k (suc n) pieces [] i rest e = cc
@@ -160,7 +189,9 @@ module _ (w : World) (k : ℕ) (i : Item) (rest : List Chance) (e : queue_in w k
       ∙ tail_of w.core k (length (w.seats k).fed) w.pieces (line_in w k) i rest e
 
   queue_other : (q : ℕ) → q ≢ k → queue_in (after w (Feed k i)) q ≡ queue_in w q
-  queue_other q n = ap (λ b. map (chance w.core q w.pieces) (drop (length (cond b (fed_more (w.seats k) i) (w.seats q)).fed) (line_in w q))) (ne_eqb q k n)
+  queue_other q n =
+      ap (λ b. map (chance w.core q w.pieces)
+      (drop (length (cond b (fed_more (w.seats k) i) (w.seats q)).fed) (line_in w q))) (ne_eqb q k n)
 
 -- all that a run of feeds does
 pub record Fed (w x : World) (k : ℕ) (rest : List Chance) : Type 0 where
@@ -174,20 +205,55 @@ pub record Fed (w x : World) (k : ℕ) (rest : List Chance) : Type 0 where
   pub rows : x.rows ≡ w.rows
   pub emitted : x.emitted ≡ w.emitted
 
-pub fed_all : (items : List Item) (w : World) (k : ℕ) (rest : List Chance) → IsSound w → queue_in w k ≡ map (λ i. Sure i) items ++ rest → AreAllowed w (feeds k items) × Fed w (run w (feeds k items)) k rest
-fed_all [] w k rest r e = (tt, record { core = refl; spot = refl; here = e; others = λ q n. refl; sound = r; first = refl; read = refl; rows = refl; emitted = refl })
+pub fed_all : (items : List Item) (w : World) (k : ℕ) (rest : List Chance) → IsSound w
+    → queue_in w k ≡ map (λ i. Sure i) items ++ rest → AreAllowed w (feeds k items)
+    × Fed w (run w (feeds k items)) k rest
+fed_all [] w k rest r e = (
+  tt,
+  record {
+    core = refl;
+    spot = refl;
+    here = e;
+    others = λ q n. refl;
+    sound = r;
+    first = refl;
+    read = refl;
+    rows = refl;
+    emitted = refl;
+  },
+)
 fed_all (i ∷ items) w k rest r e = let more : List Chance = map (λ i. Sure i) items ++ rest in
     let a : Allowed w (Feed k i) = (more, e) in
-    let h = fed_all items (after w (Feed k i)) k rest (step_sound w (Feed k i) r a) (queue_fed w k i more e) in
-    ((a, h.0), record { core = h.1.core; spot = h.1.spot; here = h.1.here; others = λ q n. h.1.others q n ∙ queue_other w k i more e q n; sound = h.1.sound; first = h.1.first; read = h.1.read; rows = h.1.rows; emitted = h.1.emitted })
+    let h = fed_all items (after w (Feed k i)) k rest (step_sound w (Feed k i) r a) (queue_fed w k i more e) in (
+      (a, h.0),
+      record {
+        core = h.1.core;
+        spot = h.1.spot;
+        here = h.1.here;
+        others = λ q n. h.1.others q n
+            ∙ queue_other w k i more e q n;
+        sound = h.1.sound;
+        first = h.1.first;
+        read = h.1.read;
+        rows = h.1.rows;
+        emitted = h.1.emitted;
+      },
+    )
 
-module _ (r x : Router) (w : World) (is : IsRouterOf r w) (k : ℕ) (items : List Item) (rest : List Chance) (core : core_form x.core ≡ core_form r.core) (strategy : x.strategy ≡ r.strategy) (generation : x.generation ≡ r.generation) (points : x.points ≡ r.points)
-    (len : length x.queues.items ≡ length r.queues.items) (here : queue_at r.queues.items k ≡ map (λ i. Sure i) items ++ rest) (now : queue_at x.queues.items k ≡ rest) (others : (q : ℕ) → q ≢ k → queue_at x.queues.items q ≡ queue_at r.queues.items q) (gather : x.gather ≡ r.gather) where
+module _ (r x : Router) (w : World) (is : IsRouterOf r w) (k : ℕ) (items : List Item) (rest : List Chance)
+    (core : core_form x.core ≡ core_form r.core) (strategy : x.strategy ≡ r.strategy)
+    (generation : x.generation ≡ r.generation) (points : x.points ≡ r.points)
+    (len : length x.queues.items ≡ length r.queues.items)
+    (here : queue_at r.queues.items k ≡ map (λ i. Sure i) items ++ rest) (now : queue_at x.queues.items k ≡ rest)
+    (others : (q : ℕ) → q ≢ k → queue_at x.queues.items q ≡ queue_at r.queues.items q)
+    (gather : x.gather ≡ r.gather) where
   pub all_fed : AreAllowed w (feeds k items) × Fed w (run w (feeds k items)) k rest
   all_fed = fed_all items w k rest is.sound (sym (is.queues k) ∙ here)
 
   queue_now : (q : ℕ) → Dec (q ≡ k) → queue_at x.queues.items q ≡ queue_in (run w (feeds k items)) q
-  queue_now q (yes e) = subst (λ (y : ℕ). queue_at x.queues.items y ≡ queue_in (run w (feeds k items)) y) (sym e) (now ∙ sym all_fed.1.here)
+  queue_now q (yes e) =
+      subst (λ (y : ℕ). queue_at x.queues.items y ≡ queue_in (run w (feeds k items)) y) (sym e)
+      (now ∙ sym all_fed.1.here)
   queue_now q (no n) = others q n ∙ is.queues q ∙ sym (all_fed.1.others q n)
 
   pub items_taken : AreAllowed w (feeds k items) × IsRouterOf x (run w (feeds k items))
@@ -202,7 +268,10 @@ module _ (r x : Router) (w : World) (is : IsRouterOf r w) (k : ℕ) (items : Lis
       wide = subst (λ s. workers_of s ≤ length x.queues.items) (sym strategy) (let h = is.wide in omega arith);
       queues = λ q. queue_now q (ℕ_discrete q k);
       sound = all_fed.1.sound;
-      gather = subst (λ g. IsGatherOf g (run w (feeds k items))) (sym gather) (gather_kept r.gather w (run w (feeds k items)) all_fed.1.core all_fed.1.first all_fed.1.read all_fed.1.rows all_fed.1.emitted is.gather);
+      gather = subst (λ g. IsGatherOf g (run w (feeds k items))) (sym gather)
+          (gather_kept r.gather w
+          (run w (feeds k items)) all_fed.1.core all_fed.1.first all_fed.1.read all_fed.1.rows all_fed.1.emitted
+          is.gather);
     },
   )
 
@@ -276,42 +345,53 @@ module _ (r x : Router) (w : World) (is : IsRouterOf r w) (k n : ℕ) (outs : Li
     (core : core_form x.core ≡ core_form r.core) (strategy : x.strategy ≡ r.strategy)
     (generation : x.generation ≡ r.generation) (points : x.points ≡ r.points) (queues : x.queues ≡ r.queues)
     (some : 0 < n)
-    (gather : x.gather ≡ record { begun = r.gather.begun; next = r.gather.next; added = r.gather.added ++ rows_in outs })
-    where
-  allowed : Allowed w (Collect k)
-  allowed = let t = taken.taken in omega arith
+    (gather : x.gather ≡ record {
+      begun = r.gather.begun;
+      next = r.gather.next;
+      added = r.gather.added ++ rows_in outs;
+    })
+  where
+    allowed : Allowed w (Collect k)
+    allowed = let t = taken.taken in omega arith
 
-  abbrev ps : List Piece
-  ps = pieces_in (not_back (w.seats k))
+    abbrev ps : List Piece
+    ps = pieces_in (not_back (w.seats k))
 
-  none : ps ≡ []
-  none = no_pieces w k is.sound is.unchanged
+    none : ps ≡ []
+    none = no_pieces w k is.sound is.unchanged
 
-  fed_same : (q : ℕ) (b : Bool) → nat_eq q k ≡ b → (cond b (all_collected (w.seats k)) (w.seats q)).fed ≡ (w.seats q).fed
-  fed_same q true e = ap (λ y. (w.seats y).fed) (sym (eqb-true q k e))
-  fed_same q false e = refl
+    fed_same : (q : ℕ) (b : Bool) → nat_eq q k ≡ b
+        → (cond b (all_collected (w.seats k)) (w.seats q)).fed ≡ (w.seats q).fed
+    fed_same q true e = ap (λ y. (w.seats y).fed) (sym (eqb-true q k e))
+    fed_same q false e = refl
 
-  queue_collected : (q : ℕ) → queue_in (after w (Collect k)) q ≡ queue_in w q
-  queue_collected q =
-      ap (λ is. map (chance w.core q (w.pieces ++ ps)) (drop (length is) (line_in w q))) (fed_same q (nat_eq q k) refl)
-      ∙ ap (λ (y : List Piece). map (chance w.core q y) (drop (length (w.seats q).fed) (line_in w q)))
-      (ap (λ (y : List Piece). w.pieces ++ y) none ∙ append-nil w.pieces)
+    queue_collected : (q : ℕ) → queue_in (after w (Collect k)) q ≡ queue_in w q
+    queue_collected q =
+        ap (λ is. map (chance w.core q (w.pieces ++ ps)) (drop (length is) (line_in w q)))
+        (fed_same q (nat_eq q k) refl)
+        ∙ ap (λ (y : List Piece). map (chance w.core q y) (drop (length (w.seats q).fed) (line_in w q)))
+        (ap (λ (y : List Piece). w.pieces ++ y) none ∙ append-nil w.pieces)
 
-  pub outs_collected : IsRouterOf x (after w (Collect k))
-  outs_collected = record {
-    unchanged = is.unchanged;
-    core = core ∙ is.core;
-    generation = generation ∙ is.generation;
-    strategy = strategy ∙ is.strategy;
-    points = points ∙ is.points;
-    wide = subst (λ s. workers_of s ≤ length x.queues.items) (sym strategy)
-        (subst (λ qs. workers_of r.strategy ≤ length qs.items) (sym queues) is.wide);
-    queues = λ q. ap (λ qs. queue_at qs.items q) queues ∙ is.queues q ∙ sym (queue_collected q);
-    sound = collect_sound w k is.sound;
-    gather = gather_collected r.gather x.gather w k is.sound allowed
-        (gather ∙ ap (λ (y : List Out). record { begun = r.gather.begun; next = r.gather.next; added = r.gather.added ++ rows_in y })
-        (sym (outs_back w k n outs taken))) is.gather;
-  }
+    pub outs_collected : IsRouterOf x (after w (Collect k))
+    outs_collected = record {
+      unchanged = is.unchanged;
+      core = core ∙ is.core;
+      generation = generation ∙ is.generation;
+      strategy = strategy ∙ is.strategy;
+      points = points ∙ is.points;
+      wide = subst (λ s. workers_of s ≤ length x.queues.items) (sym strategy)
+          (subst (λ qs. workers_of r.strategy ≤ length qs.items) (sym queues) is.wide);
+      queues = λ q. ap (λ qs. queue_at qs.items q) queues ∙ is.queues q ∙ sym (queue_collected q);
+      sound = collect_sound w k is.sound;
+      gather = gather_collected r.gather x.gather w k is.sound allowed
+          (gather ∙ ap (λ
+          (y : List Out). record {
+            begun = r.gather.begun;
+            next = r.gather.next;
+            added = r.gather.added ++ rows_in y;
+          })
+          (sym (outs_back w k n outs taken))) is.gather;
+    }
 
 pub outs_rows : (r : Router) (w : World) (k n : ℕ) (outs : List Out) → IsRouterOf r w → HasTaken w k n outs
     → pieces_in outs ≡ []
@@ -326,22 +406,26 @@ outs_may_add r w k n outs is taken =
 
 -- ---- emitting
 
-pub verdict_emitted : (r x : Router) (w : World) (v : Verdict) → IsRouterOf r w → core_form x.core ≡ core_form r.core → x.strategy ≡ r.strategy → x.generation ≡ r.generation → x.points ≡ r.points → x.queues ≡ r.queues → Emits r.gather (Some v) x.gather
+pub verdict_emitted : (r x : Router) (w : World) (v : Verdict) → IsRouterOf r w
+    → core_form x.core ≡ core_form r.core → x.strategy ≡ r.strategy → x.generation ≡ r.generation
+    → x.points ≡ r.points → x.queues ≡ r.queues → Emits r.gather (Some v) x.gather
     → Allowed w (Emit v) × IsRouterOf x (after w (Emit v))
-verdict_emitted r x w v is core strategy generation points queues e = let g = gather_emitted r.gather x.gather w v is.sound e is.gather in (
-  g.0,
-  record {
-    unchanged = is.unchanged;
-    core = core ∙ is.core;
-    generation = generation ∙ is.generation;
-    strategy = strategy ∙ is.strategy;
-    points = points ∙ is.points;
-    wide = subst (λ s. workers_of s ≤ length x.queues.items) (sym strategy) (subst (λ qs. workers_of r.strategy ≤ length qs.items) (sym queues) is.wide);
-    queues = λ q. ap (λ qs. queue_at qs.items q) queues ∙ is.queues q;
-    sound = step_sound w (Emit v) is.sound g.0;
-    gather = g.1;
-  },
-)
+verdict_emitted r x w v is core strategy generation points queues e = let g =
+    gather_emitted r.gather x.gather w v is.sound e is.gather in (
+      g.0,
+      record {
+        unchanged = is.unchanged;
+        core = core ∙ is.core;
+        generation = generation ∙ is.generation;
+        strategy = strategy ∙ is.strategy;
+        points = points ∙ is.points;
+        wide = subst (λ s. workers_of s ≤ length x.queues.items) (sym strategy)
+            (subst (λ qs. workers_of r.strategy ≤ length qs.items) (sym queues) is.wide);
+        queues = λ q. ap (λ qs. queue_at qs.items q) queues ∙ is.queues q;
+        sound = step_sound w (Emit v) is.sound g.0;
+        gather = g.1;
+      },
+    )
 
 pub emitted_if : (r x : Router) (o : Option Verdict) → core_form x.core ≡ core_form r.core
     → x.strategy ≡ r.strategy → x.generation ≡ r.generation → x.points ≡ r.points → x.queues ≡ r.queues

@@ -1,6 +1,8 @@
 -- What a worker does with a slice.
-use Rattle.std.proofs.Common.{◌≡◌, ℕ, zero, suc, ◌+◌, ◌-◌, ◌<◌, ◌≤◌, ◌^◌, Bool, true, false, cond, ◌||◌, List, [], ◌∷◌, ◌++◌}
-use Rattle.std.proofs.Common.{length, map, drop, get_or, slice_index, filter, sym, refl, ap, ◌∙◌, subst, arith, length-append, lt-ltb}
+use Rattle.std.proofs.Common.{◌≡◌, ℕ, zero, suc, ◌+◌, ◌-◌, ◌<◌, ◌≤◌, ◌^◌, Bool, true, false, cond, ◌||◌, List, []}
+use Rattle.std.proofs.Common.{◌∷◌, ◌++◌}
+use Rattle.std.proofs.Common.{length, map, drop, get_or, slice_index, filter, sym, refl, ap, ◌∙◌, subst, arith}
+use Rattle.std.proofs.Common.{length-append, lt-ltb}
 use Rattle.std.proofs.lemmas.List.{get_or-drop, length-drop, length-map}
 use Rattle.std.specs.List.{AllByRecursion, list_any, range_with_len}
 use Rattle.mfotl_model.proofs.RegionLemmas.{strategy_passes}
@@ -132,7 +134,8 @@ live_at c k st s s' log m phase e at is =
     )
 
 -- what is known of a slice that is due
-pub record DueSlice (c : CoreForm) (k : ℕ) (m : Monitor) (s : Strategy) (g n : ℕ) (p : TimePoint) (st : Stage) (d : Due)
+pub record DueSlice (c : CoreForm) (k : ℕ) (m : Monitor) (s : Strategy) (g n : ℕ) (p : TimePoint) (st : Stage)
+    (d : Due)
     : Type 0 where
   pub log : List TimePoint
   pub point : TimePoint
@@ -272,5 +275,12 @@ pub first_live : (c : CoreForm) (s t : Strategy) (k : ℕ) (m : Monitor) → (mo
     → Begins c (monitor_of m).state → t ≡ s → k < workers_of s
     → IsAt c k (first_stage (record { core = c; first = s; k = k })) (Active m t)
 first_live c s t k m core begins same low =
-    subst (λ (st : Stage). IsAt c k st (Active m t)) (sym (ap (λ b. cond b (Live s []) Gone) (lt-ltb k (workers_of s) low)))
-    (m, ap (λ (x : Strategy). Active m x) same, record { of = core; stands = begins (view_of c (near_of s k) []) refl })
+    subst (λ (st : Stage). IsAt c k st (Active m t))
+    (sym (ap (λ b. cond b (Live s []) Gone) (lt-ltb k (workers_of s) low))) (
+      m,
+      ap (λ (x : Strategy). Active m x) same,
+      record {
+        of = core;
+        stands = begins (view_of c (near_of s k) []) refl;
+      },
+    )

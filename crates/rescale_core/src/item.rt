@@ -20,7 +20,10 @@ pub enum Item {
         new: Strategy,
     },
     /// It takes on what a worker of the old strategy kept.
-    Adopt { piece: Piece, now: Strategy },
+    Adopt {
+        piece: Piece,
+        now: Strategy,
+    },
 }
 
 /// What a worker gives.

@@ -37,12 +37,7 @@ impl Worker {
     }
 
     /// Takes an item, and appends what it gives. After an error the worker is of no further use.
-    pub fn work(
-        &mut self,
-        alloc: Global,
-        item: Item,
-        outs: &mut Vec<Out>,
-    ) -> Result<(), AllocError>
+    pub fn work(&mut self, alloc: Global, item: Item, outs: &mut Vec<Out>) -> Result<(), AllocError>
         requires { Takes StandsFor May self.old (item ∷ []) }
         ensures { IfOk result (λ _. (gave : List Out) × (outs.new.items ≡ outs.old.items ++ gave)
             × Leads StandsFor May self.old (item ∷ []) self.new gave) }
@@ -91,12 +86,7 @@ impl Worker {
 }
 
 // What worker `k` keeps before it took anything.
-fn first_phase(
-    alloc: Global,
-    core: &Core,
-    strategy: &Strategy,
-    k: u32,
-) -> Result<Phase, AllocError>
+fn first_phase(alloc: Global, core: &Core, strategy: &Strategy, k: u32) -> Result<Phase, AllocError>
     ensures { IfOk result (λ phase. IsAt (core_form core.now) k
         (first_stage (record { core = core_form core.now; first = strategy.now; k = k })) phase) }
 {

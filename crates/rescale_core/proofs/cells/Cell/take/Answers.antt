@@ -6,8 +6,11 @@ pub returns-in_default : goal.returns-in_default
 returns-in_default c =
     let q = c.args.self.now.items in
     let none : q.len ≡ 0 = c.in_default.ensures.cases.0 in
-    let len : q.len ≡ length q.items = q.ok.0 in
-    (none_left q.items (omega arith), λ w k is. same_cell w k c.args.self.now _ is (sym c.in_default.ensures.items) refl refl refl)
+    let len : q.len ≡ length q.items = q.ok.0 in (
+      none_left q.items (omega arith),
+      λ w k is. same_cell w k c.args.self.now _ is
+          (sym c.in_default.ensures.items) refl refl refl,
+    )
 
 pub work-requires : goal.work-requires
 work-requires c =
@@ -21,5 +24,6 @@ work-requires c =
 pub returns : goal.returns
 returns c = λ w k sound points is.
     let g = c.in_ok-work.ensures in
-    let r = took w k c.args.self.now _ c.in-Some.item g.0 sound points is c.in-Some.ensures.items c.in_ok-self.ensures g.1 g.2 in
+    let r = took w k c.args.self.now _ c.in-Some.item g.0 sound points is c.in-Some.ensures.items
+    c.in_ok-self.ensures g.1 g.2 in
     (g.0, r.0, r.1)

@@ -1,4 +1,5 @@
-use Rattle.std.proofs.Common.{◌≡◌, ◌⊎◌, ◌<◌, ℕ, List, [], subst, ◌++◌, map, refl, length, ap, ◌∙◌, sym, arith, length-set, ⊎_elim, inl, inr}
+use Rattle.std.proofs.Common.{◌≡◌, ◌⊎◌, ◌<◌, ℕ, List, [], subst, ◌++◌, map, refl, length, ap, ◌∙◌, sym, arith}
+use Rattle.std.proofs.Common.{length-set, ⊎_elim, inl, inr}
 use Rattle.rescale_core.specs.Chances.{sure_items}
 use Rattle.rescale_core.specs.Chances.Chance.{Sure}
 use Rattle.rescale_core.specs.Queues.{queue_at, waiting}
@@ -21,7 +22,8 @@ here c =
 pub returns-then-k-len-clause-all : goal.returns-then-k-len-clause-all
 returns-then-k-len-clause-all c = λ w is.
     let k : ℕ = c.args.k in
-    subst (λ (items : List Item). (length items ≡ c.args.most) ⊎ (sure_items (queue_in (run w (feeds k items)) k) ≡ []))
+    subst (λ (items : List Item). (length items ≡ c.args.most)
+    ⊎ (sure_items (queue_in (run w (feeds k items)) k) ≡ []))
     (sym c.new.ensures.items)
     (inr (ap sure_items (sym (is.queues k)
     ∙ queue_beyond c.args.self.now.queues.items k (omega (arith, c.len.ensures)))))

@@ -11,6 +11,7 @@ returns c = λ entries w is.
     let v = c.in-Some.verdict in
     let all =
     subst (λ o. IfSome o (λ v. (w : World) → IsRouterOf m.router w
-    → Allowed w (Emit v) × IsRouterOf c.emit.new.self (after w (Emit v)))) c.in-Some.is c.in_ok-emitted.ensures.emitted in
+    → Allowed w (Emit v) × IsRouterOf c.emit.new.self (after w (Emit v)))) c.in-Some.is
+    c.in_ok-emitted.ensures.emitted in
     let r = all w is.router in
     (after w (Emit v), (v, r.0, refl), machine_emitted m _ entries w v is refl refl c.in_ok-push.ensures.items r.0 r.1)

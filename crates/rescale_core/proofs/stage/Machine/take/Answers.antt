@@ -16,7 +16,8 @@ take-requires c =
       is.router.sound,
       is.router.unchanged,
       is.cells c.args.k c.index_mut-cell.result.now
-          (nth_here c.args.self.now.cells.items c.args.k c.index_mut-cell.result.now near c.index_mut-cell.ensures.value),
+          (nth_here c.args.self.now.cells.items c.args.k c.index_mut-cell.result.now near
+          c.index_mut-cell.ensures.value),
     )
 
 pub returns : goal.returns
