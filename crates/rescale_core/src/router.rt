@@ -26,9 +26,7 @@ impl Router {
         requires { IsFor (core_form core) strategy }
         ensures { IfOk result (λ router. IsRouterOf router (first_world (core_form core) strategy)) }
     {
-        let mut gather = Gather::new(alloc);
-        gather.begin(0, strategy.workers())?;
-        let queues = new_queues(alloc, strategy.workers())?;
+        let (gather, queues) = first_parts(alloc, strategy.workers())?;
         Ok(Router {
             core,
             strategy,
@@ -98,6 +96,23 @@ impl Router {
         let verdict = self.gather.emit(alloc)?;
         Ok(verdict)
     }
+}
+
+// What is gathered and queued before anything was read.
+fn first_parts(alloc: Global, workers: u32) -> Result<(Gather, Vec<Queue>), AllocError>
+    requires { 0 < workers }
+    ensures gather { IfOk result (λ parts. parts.0 ≡ record {
+      begun = record { generation = 0; workers = workers } ∷ [];
+      next = 0;
+      added = [];
+    }) }
+    ensures len { IfOk result (λ parts. length parts.1.items ≡ workers) }
+    ensures empty { IfOk result (λ parts. (q : ℕ) → queue_at parts.1.items q ≡ []) }
+{
+    let mut gather = Gather::new(alloc);
+    gather.begin(0, workers)?;
+    let queues = new_queues(alloc, workers)?;
+    Ok((gather, queues))
 }
 
 // An empty queue for each worker.

@@ -27,11 +27,13 @@ impl Worker {
         ensures seed { IfOk result (λ w. seed_of w ≡ record { core = core_form core.now; first = strategy.now; k = k }) }
         ensures stands { IfOk result (λ w. StandsFor (seed_of w) [] [] w) }
     {
+        let first = Snapshot::of(strategy);
         let phase = first_phase(alloc, core, strategy, k)?;
+        let core = core.copy(alloc)?;
         Ok(Worker {
-            core: core.copy(alloc)?,
+            core,
             number: k,
-            first: Snapshot::of(strategy),
+            first,
             phase,
         })
     }
@@ -93,7 +95,7 @@ fn first_phase(alloc: Global, core: &Core, strategy: &Strategy, k: u32) -> Resul
     if k >= strategy.workers() {
         return Ok(Phase::Vacant);
     }
-    let monitor = Monitor::new(alloc, core)?;
     let strategy = strategy.copy(alloc)?;
+    let monitor = Monitor::new(alloc, core)?;
     Ok(Phase::Active { monitor, strategy })
 }
