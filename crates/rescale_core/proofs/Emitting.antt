@@ -20,7 +20,6 @@ use Rattle.monitorable.specs.SatisfyingRows.{core_domain, satisfies}
 use Rattle.slice_strategy.specs.Slicers.{full_row}
 use Rattle.slice_strategy.specs.SlicerLemmas.{owner_below}
 use Rattle.verdict_merge.proofs.OwnerLemmas.{owners_merge}
-use Rattle.verdict_merge.specs.Emitted.{merged}
 use Rattle.verdict_merge.specs.Gathers.{GatherOf, all_rows, at_point, complete_ts, rows_at, ts_among, workers_in}
 use Rattle.verdict_merge.specs.Laws.{IsPartition}
 use Rattle.verdict_merge.specs.declared.rows.Rows.{Rows}

@@ -1,5 +1,5 @@
 -- The router's Gather is the world's.
-use Rattle.std.proofs.Common.{◌≡◌, ◌≢◌, ◌⊎◌, ℕ, zero, suc, ◌+◌, ◌<◌, ◌≤◌, Bool, true, false, cond, not, nat_eq}
+use Rattle.std.proofs.Common.{◌≡◌, ◌≢◌, ◌⊎◌, ℕ, ◌+◌, ◌<◌, ◌≤◌, Bool, true, false, cond, not, nat_eq}
 use Rattle.std.proofs.Common.{nat_le, Some, None, List, [], ◌∷◌, ◌++◌, length, filter, map, append_assoc, ◌&&◌, ◌||◌}
 use Rattle.std.proofs.Common.{sym, refl, ap}
 use Rattle.std.proofs.Common.{◌∙◌, subst, inl, inr, ⊎_elim, arith, eq-eqb, ne_eqb, length-append, le-leb, leb-false}
@@ -13,11 +13,10 @@ use Rattle.rescale_core.proofs.Emitting.{DueRow, complete_some, complete_with, d
 use Rattle.rescale_core.proofs.Emitting.{slice_strategy}
 use Rattle.rescale_core.proofs.Gathered.{none_more, step_gathered}
 use Rattle.rescale_core.proofs.WorldLemmas.{spot_more}
-use Rattle.rescale_core.specs.Lines.{AreSound, Spot, Due, moved, spot_after, first_spot}
+use Rattle.rescale_core.specs.Lines.{Spot, Due, moved, spot_after, first_spot}
 use Rattle.rescale_core.specs.Routing.{IsGatherIn, IsGatherOf, MayAdd}
 use Rattle.rescale_core.specs.Soundly.{IsSound, KnownRow}
 use Rattle.rescale_core.specs.Stages.{NotIn}
-use Rattle.rescale_core.specs.Workers.{IsFor}
 use Rattle.rescale_core.specs.Worlds.{World, IsGathered, not_back, slice_at, spot_in, rows_in, Allowed, after}
 use Rattle.std.specs.List.{AllByRecursion, list_any}
 use Rattle.verdict_merge.specs.Emitted.{Emits}
@@ -25,7 +24,6 @@ use Rattle.verdict_merge.specs.Gathers.{GatherOf, all_rows, complete_ts, is_from
 use Rattle.verdict_merge.specs.Laws.{Apart}
 use Rattle.mfotl_model.specs.Ascending.{ascending}
 use Rattle.mfotl_model.specs.Values.{row_cmp}
-use Rattle.monitorable.specs.CoreForms.{CoreForm}
 use Rattle.mfotl_model.specs.declared.event.TimePoint.{TimePoint}
 use Rattle.rescale_core.specs.declared.item.Entry.{Entry}
 use Rattle.rescale_core.specs.declared.item.Entry.TheVariants.{Point, Change}

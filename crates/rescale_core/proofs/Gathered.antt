@@ -1,6 +1,6 @@
 -- No row comes for a position that was emitted.
-use Rattle.std.proofs.Common.{◌≡◌, ℕ, zero, suc, ◌+◌, ◌<◌, ◌≤◌, Bool, true, false, cond, nat_eq, List, [], ◌∷◌, ◌++◌}
-use Rattle.std.proofs.Common.{length, map, drop, sym, refl, ap, ◌∙◌, subst, arith, eq-eqb, ne_eqb, length-append}
+use Rattle.std.proofs.Common.{◌≡◌, ℕ, ◌+◌, ◌<◌, ◌≤◌, nat_eq, List, [], ◌∷◌, ◌++◌}
+use Rattle.std.proofs.Common.{length, map, sym, refl, ap, ◌∙◌, subst, arith, length-append}
 use Rattle.std.proofs.lemmas.List.Elements.{filter-append}
 use Rattle.std.proofs.lemmas.List.{length-map}
 use native.Mathlib.Decide.{ℕ_discrete}
@@ -11,12 +11,9 @@ use Rattle.rescale_core.proofs.Settling.{slice_more}
 use Rattle.rescale_core.proofs.Soundness.{collect_sound}
 use Rattle.rescale_core.specs.Lines.{first_spot}
 use Rattle.rescale_core.specs.Soundly.{IsSound}
-use Rattle.rescale_core.specs.Stages.{NotIn}
 use Rattle.rescale_core.specs.Worlds.{World, Move, not_back, rows_in, Allowed, IsGathered, after}
-use Rattle.std.specs.List.{AllByRecursion}
 use Rattle.verdict_merge.proofs.CountLemmas.{at_most}
 use Rattle.verdict_merge.specs.Gathers.{rows_at}
-use Rattle.verdict_merge.specs.Laws.{Apart}
 use Rattle.verdict_merge.specs.declared.rows.Rows.{Rows}
 use Rattle.rescale_core.specs.Lines.Due.{Slicing}
 use Rattle.rescale_core.specs.Worlds.Move.{Read, Feed, Take, Collect, Emit}

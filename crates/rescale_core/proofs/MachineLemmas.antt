@@ -1,7 +1,7 @@
 -- A machine's calls are steps of worlds.
 use Rattle.std.proofs.Common.{◌≡◌, ◌≢◌, ◌⊎◌, ℕ, zero, suc, ◌+◌, ◌<◌, ◌≤◌, Bool, true, false, cond, nat_eq, nat_lt}
-use Rattle.std.proofs.Common.{Option, Some}
-use Rattle.std.proofs.Common.{None, List, [], ◌∷◌, ◌++◌, length, map, drop, take, get_or, set, sym, refl, ap, ◌∙◌}
+use Rattle.std.proofs.Common.{Some}
+use Rattle.std.proofs.Common.{List, [], ◌∷◌, ◌++◌, length, map, drop, take, get_or, set, sym, refl, ap, ◌∙◌}
 use Rattle.std.proofs.Common.{subst}
 use Rattle.std.proofs.Common.{inl, inr, append-nil, append_assoc, arith, eq-eqb, ne_eqb, eqb-true, length-append}
 use Rattle.std.proofs.Common.{length-set}
@@ -18,7 +18,6 @@ use Rattle.rescale_core.proofs.Soundness.{has_of, step_sound}
 use Rattle.rescale_core.proofs.Verdicts.{step_verdicts}
 use Rattle.rescale_core.proofs.WorldLemmas.{if_either, spot_more, supplies_length}
 use Rattle.rescale_core.specs.Cells.{Applies, IsCellAt, IsCellOf, IsMachineOf, Takes}
-use Rattle.rescale_core.specs.Chances.{Chance}
 use Rattle.rescale_core.specs.Chances.Chance.{Sure}
 use Rattle.rescale_core.specs.Lines.{AreSound, Due, Spot, first_spot, line, moved}
 use Rattle.rescale_core.specs.Lines.Due.{Slicing, Parting, Hole}

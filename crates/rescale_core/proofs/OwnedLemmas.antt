@@ -1,7 +1,7 @@
 -- The rows that a worker owns are the same of an exact table and of the violations.
 use Rattle.std.proofs.Common.{◌≡◌, ℕ, zero, suc, ◌+◌, ◌<◌, ◌≤◌, Bool, true, false, ◌&&◌, ◌||◌, cond, nat_eq, List}
-use Rattle.std.proofs.Common.{[], ◌∷◌, ◌++◌, length, map}
-use Rattle.std.proofs.Common.{filter, refl, sym, ap, ap₂, subst, ◌∙◌, arith, eq-eqb}
+use Rattle.std.proofs.Common.{[], ◌∷◌, length, map}
+use Rattle.std.proofs.Common.{filter, refl, sym, ap, ◌∙◌, arith, eq-eqb}
 use Rattle.std.proofs.lemmas.Bool.{and_parts, and_from, eqb-true, or_left, or_right}
 use Rattle.std.proofs.lemmas.List.FromFn.{length-range_with_len}
 use native.Mathlib.Decide.{ℕ_discrete}
@@ -9,16 +9,14 @@ use Rattle.std.proofs.lemmas.List.Kept.{IsStrictlySortedBy-filter}
 use Rattle.std.proofs.lemmas.Map.Lookups.{btree_set_from_contains}
 use Rattle.std.proofs.lemmas.Map.Views.{tells_apart}
 use Rattle.std.specs.BTreeSet.{BTreeSet}
-use Rattle.std.specs.List.{list_all, list_any, range_with_len}
-use Rattle.std.specs.List.Sorted.{IsStrictlySortedBy}
+use Rattle.std.specs.List.{list_all, range_with_len}
 use Rattle.std.specs.Ordering.{eq_by_cmp}
 use Rattle.mfotl_model.proofs.AscendingLemmas.{any_ascending, sorted_ascending}
 use Rattle.mfotl_model.proofs.RowLemmas.{row_exact}
 use Rattle.mfotl_model.specs.Exact.{Exact}
 use Rattle.mfotl_model.specs.FreeVariables.{fv, among}
-use Rattle.mfotl_model.specs.Log.{times}
 use Rattle.mfotl_model.specs.Regions.{near_of}
-use Rattle.mfotl_model.specs.Strategies.{Strategy, owner_of, workers_of}
+use Rattle.mfotl_model.specs.Strategies.{Strategy, owner_of}
 use Rattle.mfotl_model.specs.Tables.{TableOf, all_sized, has, has_row, valuation}
 use Rattle.mfotl_model.specs.Values.{row_cmp, row_total}
 use Rattle.mfotl_model.specs.Violations.{all_rows}
@@ -33,7 +31,6 @@ use Rattle.monitorable.specs.CoreForms.{CoreForm, meaning}
 use Rattle.monitorable.specs.SatisfyingRows.{core_domain, satisfies, satisfying_rows}
 use Rattle.relations.specs.Tables.{IsTable}
 use Rattle.slice_strategy.specs.SlicerLemmas.{near_is_owner}
-use Rattle.slice_strategy.specs.Slicers.{full_row}
 use Rattle.rescale_core.specs.Monitors.{view_of}
 use Rattle.rescale_core.specs.Workers.{IsFor, owned_by, owner, violations_at}
 

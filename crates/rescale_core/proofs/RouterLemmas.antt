@@ -1,5 +1,5 @@
 -- The router's queues are the world's.
-use Rattle.std.proofs.Common.{◌≡◌, ◌≢◌, ◌⊎◌, ℕ, zero, suc, ◌+◌, ◌<◌, ◌≤◌, Bool, true, false, cond, nat_eq, nat_lt}
+use Rattle.std.proofs.Common.{◌≡◌, ◌≢◌, ◌⊎◌, ℕ, zero, suc, ◌+◌, ◌<◌, ◌≤◌, Bool, true, false, cond, nat_eq}
 use Rattle.std.proofs.Common.{IfNone, IfSome, Option, Some, None, List, [], ◌∷◌, ◌++◌, length, map, drop, get_or, set}
 use Rattle.std.proofs.Common.{sym, refl, ap, ◌∙◌, subst, inl, inr, ⊎_elim, append-nil, append_assoc, arith, eq-eqb}
 use Rattle.std.proofs.Common.{ne_eqb, eqb-true}
@@ -16,7 +16,6 @@ use Rattle.monitorable.specs.Cores.{core_form}
 use Rattle.event_splitter.specs.Parts.{parts_for}
 use Rattle.verdict_merge.specs.Emitted.{Emits}
 use Rattle.verdict_merge.specs.Gathers.{workers_found, workers_in}
-use Rattle.verdict_merge.specs.declared.rows.Rows.{Rows}
 use Rattle.verdict_merge.specs.declared.rows.Verdict.{Verdict}
 use Rattle.rescale_core.proofs.Chains.{below, taken_if, left_out}
 use Rattle.rescale_core.proofs.GatherLemmas.{gather_kept, gather_point, gather_collected, gather_emitted}

@@ -1,11 +1,10 @@
 -- Rows that workers gave: each once, by the time-point that settles their position.
 use Rattle.std.proofs.Common.{◌≡◌, ◌≢◌, ◌⊎◌, ℕ, zero, suc, ◌+◌, ◌-◌, ◌<◌, ◌≤◌, cond, nat_eq, nat_lt, Option, Some}
-use Rattle.std.proofs.Common.{List, [], ◌∷◌, ◌++◌, length, map, slice_index, sym, refl, ap, ◌∙◌, subst, inl, inr}
+use Rattle.std.proofs.Common.{List, [], ◌∷◌, ◌++◌, length, map, sym, refl, ap, ◌∙◌, subst, inl, inr}
 use Rattle.std.proofs.Common.{⊎_elim, append-nil, arith, eq-eqb, ne_eqb, length-append}
 use Rattle.std.specs.List.{range_with_len}
 use Rattle.std.proofs.lemmas.List.Elements.{filter-append}
 use native.Mathlib.Decide.{ℕ_discrete}
-use Rattle.mfotl_model.specs.Log.{times}
 use Rattle.mfotl_model.specs.Strategies.{Strategy, workers_of}
 use Rattle.rescale_core.proofs.Chains.{below, taken_if, left_out}
 use Rattle.rescale_core.proofs.Fitting.{every_more, every_map}
@@ -14,7 +13,7 @@ use Rattle.rescale_core.proofs.WorldLemmas.{if_either, behind_change}
 use Rattle.rescale_core.specs.Lines.{Turn, Spot, Due, turn_at, moved, line, place, AreSound}
 use Rattle.rescale_core.specs.Soundly.{KnownRow, last_level}
 use Rattle.rescale_core.specs.Stages.{Parts, Answers, row_for, rows_for}
-use Rattle.rescale_core.specs.Workers.{owned_by, violations_at, newly, settled_in}
+use Rattle.rescale_core.specs.Workers.{newly, settled_in}
 use Rattle.rescale_core.specs.Worlds.{slice_at, rows_in}
 use Rattle.std.specs.List.{AllByRecursion}
 use Rattle.verdict_merge.specs.Gathers.{rows_at}

@@ -8,7 +8,6 @@ use Rattle.std.proofs.lemmas.List.Elements.{filter-append}
 use Rattle.std.proofs.lemmas.List.{map-append}
 use Rattle.std.proofs.lemmas.List.{take-append-le, length-map}
 use native.Mathlib.Decide.{ℕ_discrete}
-use Rattle.mfotl_model.specs.Log.{times}
 use Rattle.mfotl_model.specs.Strategies.{Strategy, workers_of}
 use Rattle.rescale_core.proofs.Chains.{chained}
 use Rattle.rescale_core.proofs.Fitting.{and_left, and_right, every_more, every_map, every_filter, froms_before}

@@ -1,5 +1,5 @@
 -- What a worker does with a slice.
-use Rattle.std.proofs.Common.{◌≡◌, ℕ, zero, suc, ◌+◌, ◌-◌, ◌<◌, ◌≤◌, ◌^◌, Bool, true, false, cond, ◌||◌, List, []}
+use Rattle.std.proofs.Common.{◌≡◌, ℕ, ◌+◌, ◌-◌, ◌<◌, ◌≤◌, ◌^◌, Bool, true, false, cond, ◌||◌, List, []}
 use Rattle.std.proofs.Common.{◌∷◌, ◌++◌}
 use Rattle.std.proofs.Common.{length, map, drop, get_or, slice_index, filter, sym, refl, ap, ◌∙◌, subst, arith}
 use Rattle.std.proofs.Common.{length-append, lt-ltb}
@@ -10,8 +10,7 @@ use Rattle.mfotl_model.specs.Exact.{AllExact, View}
 use Rattle.mfotl_model.specs.FreeVariables.{fv, among}
 use Rattle.mfotl_model.specs.Log.{times}
 use Rattle.mfotl_model.specs.Regions.{Passes, near_of}
-use Rattle.mfotl_model.specs.Satisfaction.{has_event}
-use Rattle.mfotl_model.specs.Slices.{HasEach, slice}
+use Rattle.mfotl_model.specs.Slices.{slice}
 use Rattle.mfotl_model.specs.Strategies.{Strategy, workers_of}
 use Rattle.mfotl_model.specs.Tables.{TableOf}
 use Rattle.mfotl_model.specs.declared.event.Event.{Event}
@@ -28,19 +27,19 @@ use Rattle.monitor_state.specs.Steps.{Premises, Steps as StepsOn, longer}
 use Rattle.monitor_state.specs.declared.monitor.Monitor.{Monitor}
 use Rattle.rescale_core.proofs.LogLemmas.{settled_within}
 use Rattle.rescale_core.proofs.OwnedLemmas.{among_range, owned_same}
-use Rattle.rescale_core.specs.Lines.{Turn, Due}
+use Rattle.rescale_core.specs.Lines.{Due}
 use Rattle.rescale_core.specs.Lines.Due.{Slicing, Parting, Hole}
 use Rattle.rescale_core.specs.Monitors.{IsMonitor, view_of}
 use Rattle.rescale_core.specs.Settlings.{HasWidth, IsKept, IsTabled, all_settled, row_out}
 use Rattle.rescale_core.specs.Stages.{Stage, Follows, Gives, Meets, rows_for, stage_after}
-use Rattle.rescale_core.specs.Stages.Stage.{Live, Gone, Filling}
-use Rattle.rescale_core.specs.Workers.{IsFor, MayFollow, newly, settled_in, slice_for}
+use Rattle.rescale_core.specs.Stages.Stage.{Live, Gone}
+use Rattle.rescale_core.specs.Workers.{IsFor, MayFollow, settled_in, slice_for}
 use Rattle.rescale_core.specs.Working.{CanTake, IsAt, IsSlice, Steps, first_stage}
 use Rattle.rescale_core.specs.declared.phase.Phase.{Phase}
-use Rattle.rescale_core.specs.declared.phase.Phase.TheVariants.{Active, Vacant}
+use Rattle.rescale_core.specs.declared.phase.Phase.TheVariants.{Active}
 use Rattle.rescale_core.specs.declared.phase.Worker.{Worker}
 use Rattle.rescale_core.specs.declared.item.Item.{Item}
-use Rattle.rescale_core.specs.declared.item.Item.TheVariants.{Slice, Part, Adopt}
+use Rattle.rescale_core.specs.declared.item.Item.TheVariants.{Slice}
 use Rattle.rescale_core.specs.declared.item.Out.{Out}
 use Rattle.rescale_core.specs.declared.settled.Settled.{Settled}
 

@@ -4,7 +4,7 @@ ghost use Rattle.monitorable.specs.Cores.{core_form};
 ghost use Rattle.rescale_core.specs.Cells.{Applies, IsCellOf, IsMachineOf};
 ghost use Rattle.rescale_core.specs.Chances.{sure_items};
 ghost use Rattle.rescale_core.specs.Lines.{AreSound, first_spot};
-ghost use Rattle.rescale_core.specs.Routing.{ArePoints};
+ghost use Rattle.rescale_core.specs.Routing.{ArePoints, IsRouterOf};
 ghost use Rattle.rescale_core.specs.Workers.{IsFor};
 ghost use Rattle.rescale_core.specs.Worlds.{World, first_world, nth, queue_in};
 ghost use Rattle.mfotl_model.specs.Strategies.{workers_of};
@@ -37,9 +37,8 @@ impl Machine {
         ensures { IfOk result (λ machine.
             IsMachineOf machine entries.items (first_world (core_form core) strategy)) }
     {
-        let cells = new_cells(alloc, &core, &strategy)?;
         let left = all_left(alloc, entries)?;
-        let router = Router::start(alloc, core, strategy)?;
+        let (router, cells) = first_parts(alloc, core, strategy)?;
         Ok(Machine {
             router,
             cells,
@@ -145,6 +144,23 @@ impl Machine {
         self.verdicts.push(verdict)?;
         Ok(Applied::Did)
     }
+}
+
+// The router, and a cell for each worker.
+fn first_parts(
+    alloc: Global,
+    core: Core,
+    strategy: Strategy,
+) -> Result<(Router, Vec<Cell>), AllocError>
+    requires { IsFor (core_form core) strategy }
+    ensures router { IfOk result (λ parts. IsRouterOf parts.0 (first_world (core_form core) strategy)) }
+    ensures len { IfOk result (λ parts. length parts.1.items ≡ workers_of strategy) }
+    ensures cells { IfOk result (λ parts. (k : ℕ) (cell : OneCell) → nth parts.1.items k ≡ Some cell
+        → IsCellOf (first_world (core_form core) strategy) k cell) }
+{
+    let cells = new_cells(alloc, &core, &strategy)?;
+    let router = Router::start(alloc, core, strategy)?;
+    Ok((router, cells))
 }
 
 // A cell for each worker.

@@ -1,4 +1,4 @@
-use Rattle.std.proofs.Common.{◌≡◌, ◌+◌, ◌∷◌, ◌++◌, [], ap, ◌∙◌, sym, subst, length, length-append, ℕ, List, Some}
+use Rattle.std.proofs.Common.{◌≡◌, ◌+◌, ◌∷◌, ◌++◌, [], ap, ◌∙◌, sym, subst, length, length-append, ℕ, List}
 use Rattle.std.proofs.Common.{⊎_elim}
 use Rattle.monitorable.specs.Cores.{core_form}
 use Rattle.rescale_core.specs.Cells.{IsCellOf}

@@ -1,4 +1,4 @@
-use Rattle.std.proofs.Common.{◌≡◌, ap, length, ◌∷◌, ◌++◌, [], ◌+◌, subst, sym, List, ◌∙◌, length-append}
+use Rattle.std.proofs.Common.{◌≡◌, ap, length, ◌∷◌, ◌++◌, [], ◌+◌, List, ◌∙◌, length-append}
 use Rattle.rescale_core.specs.Queues.{queue_at}
 use Rattle.rescale_core.specs.declared.queue.Queue.{Queue}
 use Rattle.rescale_core.proofs.RouterLemmas.{queue_empty}

@@ -1,4 +1,4 @@
-use Rattle.std.proofs.Common.{◌≡◌, ◌∷◌, ◌++◌, ℕ, length, arith, refl, sym, ap, ◌∙◌}
+use Rattle.std.proofs.Common.{◌≡◌, ◌++◌, length, arith, refl, sym, ap, ◌∙◌}
 use Rattle.rescale_core.proofs.MachineLemmas.{may_take, none_left, same_cell, took}
 use Rattle.rescale_core.proofs.cells.Cell.take.Goals as goal
 

@@ -1,4 +1,4 @@
-use Rattle.std.proofs.Common.{◌≡◌, ◌<◌, ℕ, [], refl, sym, ap, length, arith, ◌∙◌}
+use Rattle.std.proofs.Common.{◌<◌, refl, sym, ap, length, arith, ◌∙◌}
 use Rattle.rescale_core.proofs.MachineLemmas.{cell_has_taken, machine_collects, machine_uncollected, no_collect}
 use Rattle.rescale_core.proofs.MachineLemmas.{nth_here}
 use Rattle.rescale_core.proofs.stage.Machine.collect.Goals as goal

@@ -1,4 +1,4 @@
-use Rattle.std.proofs.Common.{◌≡◌, IfSome, refl, subst}
+use Rattle.std.proofs.Common.{IfSome, refl, subst}
 use Rattle.rescale_core.specs.Routing.{IsRouterOf}
 use Rattle.rescale_core.specs.Worlds.{Allowed, World, after}
 use Rattle.rescale_core.specs.Worlds.Move.{Emit}

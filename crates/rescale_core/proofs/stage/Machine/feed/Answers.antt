@@ -1,6 +1,6 @@
-use Rattle.std.proofs.Common.{◌≡◌, ◌<◌, ℕ, List, [], ◌∷◌, refl, sym, ap, subst, length, arith, ◌∙◌}
+use Rattle.std.proofs.Common.{◌≡◌, ◌<◌, ℕ, List, [], ◌∷◌, refl, subst, length, arith}
 use Rattle.rescale_core.specs.Routing.{IsRouterOf, feeds}
-use Rattle.rescale_core.specs.Worlds.{AreAllowed, World, after, run}
+use Rattle.rescale_core.specs.Worlds.{AreAllowed, after, run}
 use Rattle.rescale_core.specs.Worlds.Move.{Feed}
 use Rattle.rescale_core.specs.declared.item.Item.{Item}
 use Rattle.rescale_core.proofs.MachineLemmas.{fed_cell, machine_fed, no_feed, nth_here, one_item}

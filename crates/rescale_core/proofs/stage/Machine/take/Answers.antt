@@ -1,5 +1,4 @@
-use Rattle.std.proofs.Common.{◌≡◌, ◌<◌, ℕ, refl, sym, ap, subst, length, arith, ◌∙◌}
-use Rattle.rescale_core.specs.Cells.{Applies, IsMachineOf}
+use Rattle.std.proofs.Common.{◌<◌, refl, length, arith}
 use Rattle.rescale_core.proofs.MachineLemmas.{machine_takes, no_take, nth_here}
 use Rattle.rescale_core.proofs.stage.Machine.take.Goals as goal
 
