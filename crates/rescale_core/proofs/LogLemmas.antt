@@ -26,6 +26,7 @@ use Rattle.monitorable.proofs.FreeVariableLemmas.{fv_apart}
 use Rattle.monitorable.specs.CoreForms.{CoreForm, meaning}
 use Rattle.monitorable.specs.Fragment.{Fits}
 use Rattle.monitorable.specs.SatisfyingRows.{core_domain, satisfies, satisfying_rows}
+use Rattle.rescale_core.specs.Laws.{PolicyViolations}
 use Rattle.rescale_core.specs.Workers.{MayFollow, settled_in, violations_at}
 
 -- the timestamps of a longer log
@@ -101,3 +102,7 @@ pub viol_final : (c : CoreForm) (log : List TimePoint) (p : TimePoint) (i : ℕ)
 unfolding violations_at
 viol_final c log p i fits m h =
     same_rows c log (p ∷ []) i fits m.rising (counted_settled (times log) (meaning c) i h)
+
+pub policy_violations : PolicyViolations
+unfolding violations_at
+policy_violations core policy log i h = sym (h log i)

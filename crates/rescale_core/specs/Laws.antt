@@ -1,9 +1,13 @@
 -- Laws of worlds.
 use Rattle.std.specs.Prelude.{◌≡◌, ◌≤◌, ℕ, List, length, map, take}
 use Rattle.std.specs.List.{range_with_len}
+use Rattle.mfotl_model.specs.Formulas.{Form}
 use Rattle.mfotl_model.specs.Strategies.{Strategy}
+use Rattle.mfotl_model.specs.Violations.{viol}
+use Rattle.mfotl_model.specs.declared.event.TimePoint.{TimePoint}
 use Rattle.monitorable.specs.CoreForms.{CoreForm}
-use Rattle.rescale_core.specs.Workers.{IsFor, settled_in}
+use Rattle.monitorable.specs.SatisfyingRows.{HasViolationsOf}
+use Rattle.rescale_core.specs.Workers.{IsFor, settled_in, violations_at}
 use Rattle.rescale_core.specs.Stages.{Answers}
 use Rattle.rescale_core.specs.Working.{Has}
 use Rattle.rescale_core.specs.Worlds.{World, Move, first_world, run, AreAllowed, line_in, spot_in, verdict_on}
@@ -24,3 +28,9 @@ abbrev pub ReachedWorlds : Type 0
 ReachedWorlds =
     (core : CoreForm) (s : Strategy) (steps : List Move) → IsFor core s → AreAllowed (first_world core s) steps
     → ((k : ℕ) → FitsAndAnswers (run (first_world core s) steps) k) × EmitsVerdicts (run (first_world core s) steps)
+
+-- the violations that are spoken of are those of each policy that the core negates
+abbrev pub PolicyViolations : Type 0
+PolicyViolations =
+    (core : CoreForm) (policy : Form) (log : List TimePoint) (i : ℕ) → HasViolationsOf core policy
+    → violations_at core log i ≡ viol log policy i

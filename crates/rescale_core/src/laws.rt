@@ -1,6 +1,6 @@
 //! Laws of worlds, as theorems on the definitions. Each call does nothing: its clause is the law.
 ghost use Rattle.rescale_core.specs.Ends.{MachineEnds, MachineWorlds, RowsPartition};
-ghost use Rattle.rescale_core.specs.Laws.{ReachedWorlds};
+ghost use Rattle.rescale_core.specs.Laws.{PolicyViolations, ReachedWorlds};
 
 /// In each world that steps reach from the first one, what each worker was handed fits, what it gave answers that,
 /// and what was emitted are the first verdicts on all that was read.
@@ -21,4 +21,9 @@ pub fn machine_ends()
 /// What the workers say of a position is by owner a partition of its violations.
 pub fn rows_partition()
     ensures { RowsPartition }
+{}
+
+/// The violations of which worlds speak are the policy's.
+pub fn policy_violations()
+    ensures { PolicyViolations }
 {}
