@@ -5,6 +5,7 @@ mod group;
 mod groups;
 pub mod laws;
 mod previous;
+mod rebuild;
 mod recalled;
 mod since;
 mod times;
