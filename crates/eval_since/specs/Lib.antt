@@ -9,3 +9,4 @@ pub mod WindowView
 pub mod SinceView
 pub mod Recalled
 pub mod SinceData
+pub mod PreviousData

@@ -3,6 +3,7 @@
 
 mod group;
 mod groups;
+mod kept;
 pub mod laws;
 mod previous;
 mod rebuild;
@@ -12,5 +13,5 @@ mod times;
 mod window;
 
 pub use previous::PrevState;
-pub use recalled::{KeptRow, SinceData};
+pub use recalled::{KeptRow, PrevData, SinceData};
 pub use since::SinceState;

@@ -12,6 +12,7 @@ ghost use Rattle.eval_since.specs.SinceData.{FollowsData, KeepsRule, newest_of, 
 ghost use Rattle.eval_since.specs.Windows.{Alone, Ascending, Bounded, Past, Placed};
 ghost use Rattle.eval_since.specs.SinceView.{Advances, Climbs, Follows, SinceOf, due};
 
+use crate::kept::{copied, latest};
 use crate::recalled::SinceData;
 use crate::window::Window;
 use mfotl_model::{Interval, Row};
@@ -308,25 +309,6 @@ impl SinceState {
         let reached = self.window.interval().contains(0);
         Ok(in_either(kept, held, reached, right.contains(&own)))
     }
-}
-
-fn latest(times: &[u64], last: u64) -> u64
-    ensures { result ≡ newest_of last times.now }
-{
-    match times.last() {
-        Some(time) => *time,
-        None => last,
-    }
-}
-
-fn copied(alloc: Global, tables: &VecDeque<Table>) -> Result<Vec<Table>, AllocError>
-    ensures { IfOk result (λ copies. copies.items ≡ tables.now.items) }
-{
-    let mut copies = Vec::with_capacity(alloc, tables.len())?;
-    for i in 0..tables.len() {
-        copies.push(tables[i].copy(alloc)?)?;
-    }
-    Ok(copies)
 }
 
 fn holds_on(negated: bool, table: &Table, key: &Row) -> bool
