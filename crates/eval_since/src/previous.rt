@@ -5,10 +5,9 @@ ghost use Rattle.mfotl_model.specs.Tables.{all_apart, has};
 ghost use Rattle.eval_since.specs.PreviousData.{PreviousRule, previous_of};
 ghost use Rattle.eval_since.specs.PreviousView.{AdvancesPrevious, FollowsPrevious, previous_due};
 
-use crate::kept::copied;
 use crate::recalled::PrevData;
 use mfotl_model::Interval;
-use relations::Table;
+use relations::{Table, copied_tables};
 use std::alloc::{AllocError, Global};
 use std::collections::VecDeque;
 use std::marker::Model;
@@ -96,7 +95,7 @@ impl PrevState {
     {
         Ok(PrevData {
             pulled: self.pulled,
-            tables: copied(alloc, &self.tables)?,
+            tables: copied_tables(alloc, &self.tables)?,
         })
     }
 

@@ -12,11 +12,11 @@ ghost use Rattle.eval_since.specs.SinceData.{FollowsData, KeepsRule, newest_of, 
 ghost use Rattle.eval_since.specs.Windows.{Alone, Ascending, Bounded, Past, Placed};
 ghost use Rattle.eval_since.specs.SinceView.{Advances, Climbs, Follows, SinceOf, due};
 
-use crate::kept::{copied, latest};
+use crate::kept::latest;
 use crate::recalled::SinceData;
 use crate::window::Window;
 use mfotl_model::{Interval, Row};
-use relations::{Table, first_pushed, part_of};
+use relations::{Table, copied_tables, first_pushed, part_of};
 use std::alloc::{AllocError, Global};
 use std::collections::VecDeque;
 use std::marker::Model;
@@ -285,8 +285,8 @@ impl SinceState {
     {
         Ok(SinceData {
             pulled: self.pulled,
-            lefts: copied(alloc, &self.lefts)?,
-            rights: copied(alloc, &self.rights)?,
+            lefts: copied_tables(alloc, &self.lefts)?,
+            rights: copied_tables(alloc, &self.rights)?,
             rows: self.window.kept(alloc)?,
         })
     }

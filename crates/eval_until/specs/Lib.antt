@@ -7,3 +7,4 @@ pub mod AheadView
 pub mod Rules
 pub mod Keeping
 pub mod UntilView
+pub mod NextData

@@ -6,10 +6,12 @@ mod entries;
 pub mod laws;
 mod meeting;
 mod next;
+mod recalled;
 mod rows;
 mod starts;
 mod until;
 
 pub use entries::Entry;
 pub use next::NextState;
+pub use recalled::NextData;
 pub use until::UntilState;

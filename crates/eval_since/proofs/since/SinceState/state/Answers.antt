@@ -22,8 +22,8 @@ returns-clause-rule c = rw (← c.self.view_is) (
     record {
       few = c.self.invariant.few;
       climbs = climbs_newest s.window.last s.times.items s.newest c.self.invariant.climbs;
-      lefts = subst (AreOver s.window.left) (sym c.in_ok-copied.ensures) c.self.invariant.over_left;
-      rights = subst (AreOver s.window.right) (sym c.in_ok-copied-2.ensures) c.self.invariant.over;
+      lefts = subst (AreOver s.window.left) (sym c.in_ok-copied_tables.ensures) c.self.invariant.over_left;
+      rights = subst (AreOver s.window.right) (sym c.in_ok-copied_tables-2.ensures) c.self.invariant.over;
       rows = c.in_ok-kept.ensures.rows;
       sized = c.in_ok-kept.ensures.sized;
       each = c.in_ok-kept.ensures.each;
@@ -44,9 +44,9 @@ returns-clause-follows c = rw (← c.self.view_is) (
       rights = s.rights.items;
     }) (record {
       pulled = s.pulled;
-      lefts = c.in_ok-copied.field-0;
-      rights = c.in_ok-copied-2.field-0;
+      lefts = c.in_ok-copied_tables.field-0;
+      rights = c.in_ok-copied_tables-2.field-0;
       rows = c.in_ok-kept.field-0;
     }) t a b v c.self.invariant.inside c.self.invariant.over_left c.self.invariant.over refl
-    c.in_ok-copied.ensures c.in_ok-copied-2.ensures
+    c.in_ok-copied_tables.ensures c.in_ok-copied_tables-2.ensures
     (rw (← c.self.view_is) at (returns-clause-rows c)) f)
