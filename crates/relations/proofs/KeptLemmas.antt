@@ -12,7 +12,7 @@ use Rattle.std.specs.Option.{IfSome, is_some, option_or, unwrap_or}
 use Rattle.mfotl_model.specs.Values.{row_cmp, row_total}
 use Rattle.mfotl_model.specs.declared.value.Value.{Value}
 use Rattle.relations.proofs.MapLemmas.{same_row}
-use Rattle.relations.specs.KeptRows.{RowsAscend, filled, first_filled, kept_for}
+use Rattle.relations.specs.KeptRows.{RowsAscend, filled, first_filled, kept_for, last_for}
 
 -- behind a row nothing is kept for it
 pub none_behind : {X : Type 0} (u : List Value) (e : List Value × X) (es : List (List Value × X)) → RowsAscend (e ∷ es)
@@ -121,3 +121,17 @@ filled_back (x ∷ xs) = refl
 pub filled_is : {X : Type 0} (xs ys : List X) → filled xs ≡ Some ys → (xs ≡ ys) × (0 < length xs)
 filled_is [] ys e = absurd (let w : None ≡ Some ys = e in cc)
 filled_is (x ∷ xs) ys e = (let same : x ∷ xs ≡ ys = cc in same, omega arith)
+
+-- of rows that ascend the last one is the only one
+pub last_is : {X : Type 0} (es : List (List Value × X)) → RowsAscend es → (u : List Value) (o : Option X)
+    → last_for es u o ≡ option_or (kept_for es u) o
+last_is [] up u o = refl
+last_is {X} (e ∷ es) up u o =
+    last_is es (sorted_tail row_cmp e.0 (keys_of es) up) u (cond (is_at (row_cmp e.0) u) (Some e.1) o)
+    ∙ ap (λ b. option_or (kept_for es u) (cond b (Some e.1) o)) ((eq_by_cmp_equiv row_total).symm e.0 u)
+    ∙ by (is_at (row_cmp u) e.0) refl
+  where
+    by : (b : Bool) → is_at (row_cmp u) e.0 ≡ b
+        → option_or (kept_for es u) (cond b (Some e.1) o) ≡ option_or (cond b (Some e.1) (kept_for es u)) o
+    by true at = ap (λ p. option_or p (Some e.1)) (none_behind u e es up at)
+    by false at = refl

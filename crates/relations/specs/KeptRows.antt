@@ -24,3 +24,8 @@ filled (x ∷ xs) = Some (x ∷ xs)
 abbrev pub first_filled : {X : Type 0} → List (List Value × List X) → List Value → Option (List X)
 first_filled [] u = None
 first_filled (e ∷ es) u = option_or (cond (is_at (row_cmp u) e.0) (filled e.1) None) (first_filled es u)
+
+-- what is kept for a row in the last of the pairs that are its, or what was kept before
+abbrev pub last_for : {X : Type 0} → List (List Value × X) → List Value → Option X → Option X
+last_for [] u o = o
+last_for (e ∷ es) u o = last_for es u (cond (is_at (row_cmp e.0) u) (Some e.1) o)
