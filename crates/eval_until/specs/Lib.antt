@@ -8,3 +8,5 @@ pub mod Rules
 pub mod Keeping
 pub mod UntilView
 pub mod NextData
+pub mod Recalled
+pub mod UntilData

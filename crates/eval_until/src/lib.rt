@@ -6,6 +6,7 @@ mod entries;
 pub mod laws;
 mod meeting;
 mod next;
+mod rebuild;
 mod recalled;
 mod rows;
 mod starts;
@@ -13,5 +14,5 @@ mod until;
 
 pub use entries::Entry;
 pub use next::NextState;
-pub use recalled::NextData;
+pub use recalled::{KeptMarks, KeptStart, Mark, NextData, UntilData};
 pub use until::UntilState;

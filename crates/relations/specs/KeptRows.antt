@@ -1,5 +1,5 @@
 -- Rows with what is kept for each of them, as lists of pairs.
-use Rattle.std.specs.Prelude.{Bool, cond, Option, Some, None, List, [], ◌∷◌}
+use Rattle.std.specs.Prelude.{cond, Option, Some, None, List, [], ◌∷◌}
 use Rattle.std.specs.BTreeMap.{is_at}
 use Rattle.std.specs.List.Sorted.{IsStrictlySortedBy}
 use Rattle.std.specs.Map.{lookup, keys_of}

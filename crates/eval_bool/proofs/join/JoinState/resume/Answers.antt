@@ -1,4 +1,4 @@
-use Rattle.std.proofs.Common.{ap, map, ◌∙◌, sym, subst}
+use Rattle.std.proofs.Common.{ap, map, ◌∙◌}
 use Rattle.eval_bool.proofs.ChildLemmas.{join_alike}
 use Rattle.eval_bool.proofs.ConjunctLemmas.{begun_as}
 use Rattle.eval_bool.proofs.RefillLemmas.{alike_with}

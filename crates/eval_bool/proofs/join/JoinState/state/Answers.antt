@@ -1,6 +1,5 @@
-use Rattle.std.proofs.Common.{◌≡◌, List, map, ap, ◌∙◌}
-use Rattle.mfotl_model.specs.Tables.{TableOf}
-use Rattle.eval_bool.specs.JoinView.{ChildOf, JoinOf}
+use Rattle.std.proofs.Common.{List, map, ap}
+use Rattle.eval_bool.specs.JoinView.{ChildOf}
 use Rattle.eval_bool.proofs.RefillLemmas.{few_own, over_own, with_own}
 use Rattle.eval_bool.proofs.join.JoinState.state.Goals as goal
 
