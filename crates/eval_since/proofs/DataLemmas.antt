@@ -105,8 +105,17 @@ pub follows_resumed : (w : WindowOf) (interval : Interval) (left right : List �
     → RowsAscend (times_kept kept.rows.items)
     → ((u : List Value) → kept_times w u ≡ times_for kept.rows.items u)
     → FollowsData (record { interval = interval; left = left; right = right; negated = negated }) past next kept t a b v
-    → Follows (record { window = w; negated = negated; pulled = kept.pulled; newest = newest; times = next; lefts = kept.lefts.items; rights = kept.rights.items }) t a b v
-follows_resumed w interval left right negated past newest next kept t a b v ei el er ep inside over_left over up found f =
+    → Follows (record {
+      window = w;
+      negated = negated;
+      pulled = kept.pulled;
+      newest = newest;
+      times = next;
+      lefts = kept.lefts.items;
+      rights = kept.rights.items;
+    }) t a b v
+follows_resumed w interval left right negated past newest next kept t a b v ei el er ep inside over_left over up
+    found f =
     record {
       last = λ some. ep ∙ f.last some;
       times = f.times;

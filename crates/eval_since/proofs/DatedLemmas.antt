@@ -1,43 +1,22 @@
 -- The queue made of the rows of plain data: it finds each of their times, the earliest first.
-use Rattle.std.proofs.Common.{◌≡◌, ℕ, suc, ◌<◌, ◌≤◌, Bool, true, false, not, cond, nat_eq, nat_le, ◌&&◌, ◌||◌, List, [], ◌∷◌, length, get_or, Some, refl, sym, ap, ◌∙◌, arith}
-use Rattle.std.proofs.lemmas.Bool.{and_from, and_parts, or_left, or_right}
+use Rattle.std.proofs.Common.{◌≡◌, ℕ, suc, ◌<◌, ◌≤◌, Bool, true, false, cond, nat_eq, nat_le, ◌&&◌, ◌||◌, List, [], ◌∷◌, length, get_or, Some, refl, arith}
+use Rattle.std.proofs.lemmas.Bool.{and_from, or_left, or_right}
 use Rattle.std.proofs.lemmas.Bool.Decides.{nat_tests}
-use Rattle.std.proofs.lemmas.List.Sorted.{list_any-IsPermutation}
 use Rattle.std.specs.BTreeMap.{is_at}
 use Rattle.std.specs.List.{AllByRecursion, list_all, list_any}
-use Rattle.std.specs.List.Sorted.{IsNonDecreasingBy, IsPermutation}
+use Rattle.std.specs.List.Sorted.{IsNonDecreasingBy}
 use Rattle.std.specs.Option.{unwrap_or}
 use Rattle.mfotl_model.proofs.LogicLemmas.{same_number}
 use Rattle.mfotl_model.specs.Tables.{has_row}
 use Rattle.mfotl_model.specs.Values.{row_cmp}
 use Rattle.mfotl_model.specs.declared.value.Value.{Value}
 use Rattle.relations.specs.KeptRows.{kept_for}
+use Rattle.relations.proofs.TestLemmas.{all_weaker}
 use Rattle.eval_since.specs.Recalled.{named, times_for, times_kept}
 use Rattle.eval_since.specs.Times.{ArePast}
 use Rattle.eval_since.specs.Windows.{Rising}
 use Rattle.eval_since.specs.declared.recalled.KeptRow.{KeptRow}
 use Rattle.eval_since.specs.declared.window.Dated.{Dated}
-
-all_any : {X : Type 0} (p : X → Bool) (xs : List X) → list_all p xs ≡ not (list_any (λ x. not (p x)) xs)
-all_any p [] = refl
-all_any {X} p (x ∷ xs) = by (p x) (all_any p xs)
-  where
-    by : (b : Bool) → list_all p xs ≡ not (list_any (λ x. not (p x)) xs)
-        → (b && list_all p xs) ≡ not (not b || list_any (λ x. not (p x)) xs)
-    by true rest = rest
-    by false rest = refl
-
--- what all pass, all pass in any order
-pub all_moved : {X : Type 0} (p : X → Bool) (xs ys : List X) → IsPermutation xs ys → list_all p ys ≡ list_all p xs
-all_moved p xs ys moved =
-    all_any p ys ∙ ap not (sym (list_any-IsPermutation (λ x. not (p x)) xs ys moved)) ∙ sym (all_any p xs)
-
-pub all_weaker : {X : Type 0} (p q : X → Bool) (xs : List X) → ((x : X) → p x ≡ true → q x ≡ true)
-    → list_all p xs ≡ true → list_all q xs ≡ true
-all_weaker p q [] gives all = refl
-all_weaker p q (x ∷ xs) gives all =
-    let parts = and_parts (p x) (list_all p xs) all in
-    and_from (q x) (list_all q xs) (gives x parts.0) (all_weaker p q xs gives parts.1)
 
 -- each of the numbers is among them
 all_own : (p : ℕ → Bool) (ts : List ℕ) → ((y : ℕ) → list_any (λ t. nat_eq t y) ts ≡ true → p y ≡ true)

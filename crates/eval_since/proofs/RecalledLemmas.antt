@@ -173,5 +173,6 @@ rows_sized n rows times up found none =
 pub no_rows : (rows : List KeptRow) → ((u : List Value) → kept_for (times_kept rows) u ≡ None) → rows ≡ []
 no_rows [] none = refl
 no_rows (k ∷ ks) none = absurd (let w : Some k.times.items ≡ None =
-    sym (ap (λ b. cond b (Some k.times.items) (kept_for (times_kept ks) k.row)) ((eq_by_cmp_equiv row_total).refl k.row))
+    sym (ap (λ b. cond b (Some k.times.items) (kept_for (times_kept ks) k.row))
+    ((eq_by_cmp_equiv row_total).refl k.row))
     ∙ none k.row in cc)

@@ -15,7 +15,8 @@ use Rattle.eval_since.specs.Times.{ArePast}
 use Rattle.eval_since.specs.Windows.{Finds, Keeps, Rising, names}
 use Rattle.eval_since.specs.declared.recalled.KeptRow.{KeptRow}
 use Rattle.eval_since.specs.declared.window.Dated.{Dated}
-use Rattle.eval_since.proofs.DatedLemmas.{all_each, all_weaker, names_own, past_all}
+use Rattle.relations.proofs.TestLemmas.{all_weaker}
+use Rattle.eval_since.proofs.DatedLemmas.{all_each, names_own, past_all}
 use Rattle.eval_since.proofs.ExpireLemmas.{bounded_is}
 use Rattle.eval_since.proofs.RecalledLemmas.{each_row, put_is, times_each, times_sized}
 use Rattle.eval_since.proofs.RuleLemmas.{increasing_none}

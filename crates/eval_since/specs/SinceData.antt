@@ -23,7 +23,8 @@ pub record SinceSetting : Type 0 where
 
 -- that of a state
 abbrev pub setting_of : SinceOf → SinceSetting
-setting_of s = record { interval = s.window.interval; left = s.window.left; right = s.window.right; negated = s.negated }
+setting_of s =
+    record { interval = s.window.interval; left = s.window.left; right = s.window.right; negated = s.negated }
 
 -- the latest of these times, or the one before them
 abbrev pub newest_of : ℕ → List ℕ → ℕ

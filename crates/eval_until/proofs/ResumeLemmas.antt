@@ -1,11 +1,10 @@
 -- What UNTIL keeps with given starts and entries, and that look-ups alone tell whether a state is right.
-use Rattle.std.proofs.Common.{◌≡◌, ℕ, ◌+◌, ◌-◌, ◌<◌, ◌≤◌, Bool, true, false, not, cond, nat_eq, nat_le, nat_lt, ◌&&◌, ◌||◌, List, [], ◌∷◌, length, map, get_or, Option, Some, None, refl, sym, subst, ap, ◌∙◌, arith, suc}
+use Rattle.std.proofs.Common.{◌≡◌, ℕ, ◌+◌, ◌-◌, ◌<◌, ◌≤◌, Bool, true, false, cond, nat_eq, nat_le, nat_lt, ◌&&◌, ◌||◌, List, [], ◌∷◌, length, map, get_or, Option, Some, None, refl, sym, subst, ap, ◌∙◌, arith, suc}
 use Rattle.std.proofs.lemmas.Bool.{and_from, and_parts, or_left, or_right}
 use Rattle.std.proofs.lemmas.Bool.Decides.{nat_tests}
-use Rattle.std.proofs.lemmas.List.Sorted.{list_any-IsPermutation}
 use Rattle.std.specs.BTreeMap.{is_at}
 use Rattle.std.specs.List.{AllByRecursion, list_all, list_any}
-use Rattle.std.specs.List.Sorted.{IsNonDecreasingBy, IsPermutation}
+use Rattle.std.specs.List.Sorted.{IsNonDecreasingBy}
 use Rattle.std.specs.Option.{IfSome, unwrap_or}
 use Rattle.mfotl_model.proofs.LogicLemmas.{same_number}
 use Rattle.mfotl_model.specs.Satisfaction.{Valuation, time_at}
@@ -15,6 +14,7 @@ use Rattle.mfotl_model.specs.declared.interval.Interval.{Interval}
 use Rattle.mfotl_model.specs.declared.value.Value.{Value}
 use Rattle.relations.specs.KeptRows.{RowsAscend, kept_for, last_for}
 use Rattle.relations.proofs.KeptLemmas.{each_kept, last_is, or_none}
+use Rattle.relations.proofs.TestLemmas.{all_weaker}
 use Rattle.eval_until.specs.AheadView.{AheadOf}
 use Rattle.eval_until.specs.Entries.{entries_of, met_by}
 use Rattle.eval_until.specs.Keeping.{Keeps, Rising, Sized, breaks_before, names}
@@ -24,20 +24,6 @@ use Rattle.eval_until.specs.Starts.{kept_start}
 use Rattle.eval_until.specs.UntilView.{Follows, FollowsLeft}
 use Rattle.eval_until.specs.declared.ahead.Taken.{Taken}
 use Rattle.eval_until.specs.declared.entries.Entry.{Entry}
-
-all_any : {X : Type 0} (p : X → Bool) (xs : List X) → list_all p xs ≡ not (list_any (λ x. not (p x)) xs)
-all_any p [] = refl
-all_any {X} p (x ∷ xs) = by (p x) (all_any p xs)
-  where
-    by : (b : Bool) → list_all p xs ≡ not (list_any (λ x. not (p x)) xs)
-        → (b && list_all p xs) ≡ not (not b || list_any (λ x. not (p x)) xs)
-    by true rest = rest
-    by false rest = refl
-
--- what all pass, all pass in any order
-pub all_moved : {X : Type 0} (p : X → Bool) (xs ys : List X) → IsPermutation xs ys → list_all p ys ≡ list_all p xs
-all_moved p xs ys moved =
-    all_any p ys ∙ ap not (sym (list_any-IsPermutation (λ x. not (p x)) xs ys moved)) ∙ sym (all_any p xs)
 
 low_all : (m : ℕ) (qs : List Taken) → ((j : ℕ) (d : Taken) → j < length qs → m ≤ (get_or qs j d).place)
     → list_all (λ r. nat_le m r.place) qs ≡ true
@@ -54,13 +40,6 @@ rising_from (q ∷ qs) up = (
   low_all q.place qs (λ j e l. up 0 (suc j) e (omega arith) (omega arith)),
   rising_from qs (λ i j e l m. up (suc i) (suc j) e (omega arith) (omega arith)),
 )
-
-all_weaker : {X : Type 0} (p q : X → Bool) (xs : List X) → ((x : X) → p x ≡ true → q x ≡ true)
-    → list_all p xs ≡ true → list_all q xs ≡ true
-all_weaker p q [] gives all = refl
-all_weaker p q (x ∷ xs) gives all =
-    let parts = and_parts (p x) (list_all p xs) all in
-    and_from (q x) (list_all q xs) (gives x parts.0) (all_weaker p q xs gives parts.1)
 
 all_own : (p : ℕ → Bool) (es : List Entry) → ((j : ℕ) → list_any (λ e. nat_eq e.place j) es ≡ true → p j ≡ true)
     → list_all (λ e. p e.place) es ≡ true
@@ -128,7 +107,8 @@ rows_all : (p : Entry → Bool) (rows : List (List Value × List Entry)) → Row
 rows_all p rows up all = each rows (each_kept (λ u es. list_all p es ≡ true) rows up (λ u es is.
     sym (ap (λ o. list_all p (unwrap_or o [])) is) ∙ all u))
   where
-    each : (rs : List (List Value × List Entry)) → AllByRecursion (λ (r : List Value × List Entry). list_all p r.1 ≡ true) rs
+    each : (rs : List (List Value × List Entry))
+        → AllByRecursion (λ (r : List Value × List Entry). list_all p r.1 ≡ true) rs
         → list_all (λ r. list_all p r.1) rs ≡ true
     each [] h = refl
     each (r ∷ rs) h = and_from (list_all p r.1) (list_all (λ r. list_all p r.1) rs) h.0 (each rs h.1)
@@ -154,12 +134,14 @@ pub keeps_resumed : (negated : Bool) (right : List ℕ) (pulled taken : ℕ) (st
     → StartsBelow taken starts → (negated ≡ true → StartsAbove pulled starts)
     → RowsAscend rows → (negated ≡ true → RowsAscend starts)
     → ((u : List Value) (j : ℕ) → names queue u j ≡ named rows u j)
-    → (negated ≡ true → (w : List Value) (s : ℕ) → breaks_before queue w s ≡ (breaks_before [] w s || broken starts w s))
+    → (negated ≡ true → (w : List Value) (s : ℕ)
+    → breaks_before queue w s ≡ (breaks_before [] w s || broken starts w s))
     → ((test : ℕ → Bool) → list_all (λ q. test q.place) queue
     ≡ (list_all (λ r. list_all (λ e. test e.place) r.1) rows
     && cond negated (list_all (λ r. test (r.1 - 1)) starts) true))
     → Rising queue → Keeps negated right pulled taken starts rows queue
-keeps_resumed negated right pulled taken starts rows queue apart sized waiting ascend below above up ups same breaks tests rising =
+keeps_resumed negated right pulled taken starts rows queue apart sized waiting ascend below above up ups same
+    breaks tests rising =
     record {
       apart = apart;
       sized = sized;
@@ -173,7 +155,8 @@ keeps_resumed negated right pulled taken starts rows queue apart sized waiting a
       covered = λ u. all_weaker (λ e. named rows u e.place) (λ e. names queue u e.place) (entries_of rows u)
           (λ e there. same u e.place ∙ there) (named_own rows u);
       breaks = λ is w. both_some (λ s. pulled < s) (λ s. broken starts w s ≡ true)
-          (λ s. breaks_before queue w s ≡ true) (λ s low there. breaks is w s ∙ there) (kept_start starts w) (above is w)
+          (λ s. breaks_before queue w s ≡ true) (λ s low there. breaks is w s ∙ there) (kept_start starts w)
+          (above is w)
           (broken_own starts w (both_some (λ s. pulled < s) (λ s. pulled < s) (λ s. 0 < s) (λ s low low2. omega arith)
           (kept_start starts w) (above is w) (above is w)));
       rising = rising;
@@ -198,7 +181,8 @@ keeps_resumed negated right pulled taken starts rows queue apart sized waiting a
     only : (n : Bool) → negated ≡ n → (p : ℕ → Bool) → ((s : ℕ) → pulled < s → s ≤ taken → p s ≡ true)
         → cond n (list_all (λ (r : List Value × ℕ). p r.1) starts) true ≡ true
     only true is p gives = starts_all p starts (ups is) (λ w.
-        both_some (λ s. pulled < s) (λ s. s ≤ taken) (λ s. p s ≡ true) gives (kept_start starts w) (above is w) (below w))
+        both_some (λ s. pulled < s) (λ s. s ≤ taken) (λ s. p s ≡ true) gives (kept_start starts w) (above is w)
+        (below w))
     only false is p gives = refl
 
 -- the look-ups of a map that was filled with rows that ascend
@@ -235,10 +219,11 @@ pub follows_alike : (k m : AheadOf) (times : List ℕ) (lefts rights : List Tabl
     → Follows (record { ahead = k; times = times; lefts = lefts; rights = rights }) t a b v
     → Follows (record { ahead = m; times = times; lefts = lefts; rights = rights }) t a b v
 follows_alike k m times lefts rights t a b v shape starts rows f =
-    subst (λ (n : AheadOf). Follows (record { ahead = n; times = times; lefts = lefts; rights = rights }) t a b v) (sym shape)
+    subst (λ (n : AheadOf). Follows (record { ahead = n; times = times; lefts = lefts; rights = rights }) t a b v)
+    (sym shape)
     (record {
-      left = left_alike k (record k { starts = m.starts; rows = m.rows }) times times lefts rights rights a v refl starts
-          f.left;
+      left = left_alike k (record k { starts = m.starts; rows = m.rows }) times times lefts rights rights a v refl
+          starts f.left;
       long = f.long;
       times = f.times;
       rights = f.rights;
@@ -247,7 +232,8 @@ follows_alike k m times lefts rights t a b v shape starts rows f =
     })
 
 -- maps with the same look-ups keep the same rules
-pub sized_as : (n : ℕ) (rows new : List (List Value × List Entry)) → ((u : List Value) → kept_for new u ≡ kept_for rows u)
+pub sized_as : (n : ℕ) (rows new : List (List Value × List Entry))
+    → ((u : List Value) → kept_for new u ≡ kept_for rows u)
     → Sized n rows → Sized n new
 sized_as n rows new same sized u other = ap (λ o. unwrap_or o []) (same u) ∙ sized u other
 
@@ -269,9 +255,27 @@ starts_as P starts new same all w = subst (λ (o : Option ℕ). IfSome o P) (sym
 -- what is kept over the same columns
 pub shape_of : (m : AheadOf) (interval : Interval) (left own_left right own_right : List ℕ) (negated : Bool)
     (pulled taken : ℕ) (starts : List (List Value × ℕ)) (rows : List (List Value × List Entry))
-    → m ≡ record { interval = interval; left = own_left; right = own_right; negated = negated; pulled = pulled; taken = taken; starts = starts; rows = rows }
+    → m ≡ record {
+      interval = interval;
+      left = own_left;
+      right = own_right;
+      negated = negated;
+      pulled = pulled;
+      taken = taken;
+      starts = starts;
+      rows = rows;
+    }
     → own_left ≡ left → own_right ≡ right
-    → m ≡ record { interval = interval; left = left; right = right; negated = negated; pulled = pulled; taken = taken; starts = m.starts; rows = m.rows }
+    → m ≡ record {
+      interval = interval;
+      left = left;
+      right = right;
+      negated = negated;
+      pulled = pulled;
+      taken = taken;
+      starts = m.starts;
+      rows = m.rows;
+    }
 shape_of m interval left own_left right own_right negated pulled taken starts rows is el er =
     is ∙ (λ i. record {
       interval = interval;
@@ -283,7 +287,3 @@ shape_of m interval left own_left right own_right negated pulled taken starts ro
       starts = (sym (ap (λ (k : AheadOf). k.starts) is)) i;
       rows = (sym (ap (λ (k : AheadOf). k.rows) is)) i;
     })
-
-pub and_true : (b : Bool) → b ≡ (b && true)
-and_true true = refl
-and_true false = refl

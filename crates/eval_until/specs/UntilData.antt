@@ -19,7 +19,8 @@ pub record UntilSetting : Type 0 where
 
 -- that of a state
 abbrev pub setting_of : UntilOf → UntilSetting
-setting_of s = record { interval = s.ahead.interval; left = s.ahead.left; right = s.ahead.right; negated = s.ahead.negated }
+setting_of s =
+    record { interval = s.ahead.interval; left = s.ahead.left; right = s.ahead.right; negated = s.ahead.negated }
 
 -- the state that the data describes, where `next` are the times of the positions from the next one on; the data
 -- is right for a valuation where this state is

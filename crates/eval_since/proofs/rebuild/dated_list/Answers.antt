@@ -1,13 +1,10 @@
-use Rattle.std.proofs.Common.{◌≡◌, ◌&&◌, Bool, true, false, [], drop, refl, sym, ap, ◌∙◌, arith}
+use Rattle.std.proofs.Common.{◌≡◌, ◌&&◌, [], drop, sym, ap, ◌∙◌, arith}
 use Rattle.std.proofs.lemmas.List.{drop_all}
 use Rattle.std.specs.List.{list_all}
 use Rattle.eval_since.specs.declared.recalled.KeptRow.{KeptRow}
 use Rattle.eval_since.specs.declared.window.Dated.{Dated}
+use Rattle.relations.proofs.TestLemmas.{and_true}
 use Rattle.eval_since.proofs.rebuild.dated_list.Goals as goal
-
-and_true : (b : Bool) → b ≡ (b && true)
-and_true true = refl
-and_true false = refl
 
 pub returns-clause-all : goal.returns-clause-all
 returns-clause-all c = λ test.

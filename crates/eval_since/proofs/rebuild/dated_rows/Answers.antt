@@ -4,7 +4,8 @@ use Rattle.std.specs.List.{list_all}
 use Rattle.mfotl_model.specs.Tables.{has_row}
 use Rattle.eval_since.specs.Windows.{Rising, names}
 use Rattle.eval_since.specs.declared.window.Dated.{Dated}
-use Rattle.eval_since.proofs.DatedLemmas.{all_moved, rising_from}
+use Rattle.relations.proofs.TestLemmas.{all_moved}
+use Rattle.eval_since.proofs.DatedLemmas.{rising_from}
 use Rattle.eval_since.proofs.rebuild.dated_rows.Goals as goal
 
 pub returns-clause-names : goal.returns-clause-names

@@ -11,6 +11,7 @@ use Rattle.eval_since.proofs.rebuild.grouped.Given as goal
 abbrev pub invariant-loop-kept : goal.invariant-loop-kept
 invariant-loop-kept l = record {
   ascend : AllByRecursion (λ (k : KeptRow). IsStrictlyIncreasing k.times.items) l.kept-iterator.rest.items;
-  put : (q v : List Value) → put_times l.right l.left (times_kept l.kept-iterator.rest.items) q v (times_at l.groups q v)
+  put : (q v : List Value) → put_times l.right l.left (times_kept l.kept-iterator.rest.items) q v
+      (times_at l.groups q v)
       ≡ put_times l.right l.left (times_kept l.fn.rows.items) q v [];
 }

@@ -6,7 +6,7 @@ use Rattle.eval_until.specs.Keeping.{names}
 use Rattle.eval_until.specs.Recalled.{named}
 use Rattle.eval_until.specs.declared.ahead.Taken.{Taken}
 use Rattle.eval_until.specs.declared.entries.Entry.{Entry}
-use Rattle.eval_until.proofs.ResumeLemmas.{and_true}
+use Rattle.relations.proofs.TestLemmas.{and_true}
 use Rattle.eval_until.proofs.rebuild.push_rows.Goals as goal
 
 or_grouped : (a b c : Bool) → ((a || b) || c) ≡ (a || (b || c))
