@@ -3,9 +3,10 @@ use Rattle.std.proofs.Common.{◌≡◌, ℕ, List, [], ◌∷◌, map, refl, sy
 use Rattle.std.specs.List.{AllByRecursion}
 use Rattle.mfotl_model.specs.Tables.{TableOf}
 use Rattle.relations.specs.Pushed.{AreOver}
-use Rattle.eval_bool.specs.BoolData.{TablesOver, with_tables}
+use Rattle.eval_bool.specs.BoolData.{JoinRule, TablesOver, kept_tables, with_tables}
 use Rattle.eval_bool.specs.IsJoin.{FewFrom}
 use Rattle.eval_bool.specs.JoinView.{ChildOf}
+use Rattle.eval_bool.specs.declared.recalled.JoinData.{JoinData}
 use Rattle.eval_bool.proofs.ChildLemmas.{Alike}
 
 -- only the tables change
@@ -39,3 +40,31 @@ over_own children tables own all = subst (TablesOver children) (sym own) (over_i
 pub few_own : (pulled : ℕ) (children : List ChildOf) (tables : List (List TableOf))
     → tables ≡ map (λ c. c.tables) children → FewFrom pulled children → FewFrom pulled (with_tables children tables)
 few_own pulled children tables own few = subst (FewFrom pulled) (sym (with_own children tables own)) few
+
+-- children over the same columns take the same tables
+pub over_alike : (xs ys : List ChildOf) (tables : List (List TableOf)) → Alike xs ys → TablesOver xs tables
+    → TablesOver ys tables
+over_alike [] [] tables same over = over
+over_alike [] (y ∷ ys) tables same over = absurd same
+over_alike (x ∷ xs) [] tables same over = absurd same
+over_alike (x ∷ xs) (y ∷ ys) [] same over = absurd over
+over_alike (x ∷ xs) (y ∷ ys) (ts ∷ tables) same over =
+    (subst (λ columns. AreOver columns ts) same.0 over.0, over_alike xs ys tables same.2 over.1)
+
+-- and are the same with them
+pub with_alike : (xs ys : List ChildOf) (tables : List (List TableOf)) → Alike xs ys → TablesOver xs tables
+    → with_tables xs tables ≡ with_tables ys tables
+with_alike [] [] tables same over = refl
+with_alike [] (y ∷ ys) tables same over = absurd same
+with_alike (x ∷ xs) [] tables same over = absurd same
+with_alike (x ∷ xs) (y ∷ ys) [] same over = absurd over
+with_alike (x ∷ xs) (y ∷ ys) (ts ∷ tables) same over = λ i.
+    record { columns = same.0 i; negated = same.1 i; tables = ts } ∷ with_alike xs ys tables same.2 over.1 i
+
+-- so the rule is the same for both
+pub rule_alike : (xs ys : List ChildOf) (kept : JoinData) → Alike xs ys → JoinRule xs kept → JoinRule ys kept
+rule_alike xs ys kept same rule =
+    record {
+      over = over_alike xs ys (kept_tables kept) same rule.over;
+      few = subst (FewFrom kept.pulled) (with_alike xs ys (kept_tables kept) same rule.over) rule.few;
+    }
