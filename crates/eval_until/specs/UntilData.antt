@@ -43,8 +43,8 @@ until_of setting next kept =
     }
 
 -- the rule of the data, said of the state that it describes: the tables are over the operands' columns, the rows
--- ascend, those with entries have some, each at a position that was taken and not pulled, and no start is behind
--- the positions taken, nor one of a negated operand at or before the next one
+-- ascend and have a value for each column, those with entries have some, each at a position that was taken and not
+-- pulled, and no start is behind the positions taken, nor one of a negated operand at or before the next one
 pub record UntilRule (s : UntilOf) : Type 0 where
   pub low : s.ahead.pulled ≤ s.ahead.taken
   pub high : s.ahead.taken ≤ s.ahead.pulled + length s.times
@@ -52,6 +52,7 @@ pub record UntilRule (s : UntilOf) : Type 0 where
   pub lefts : AreOver s.ahead.left s.lefts
   pub rights : AreOver s.ahead.right s.rights
   pub starts : RowsAscend s.ahead.starts
+  pub wide : AllByRecursion (λ r. length r.0 ≡ length s.ahead.left) s.ahead.starts
   pub rows : RowsAscend s.ahead.rows
   pub sized : Sized (length s.ahead.right) s.ahead.rows
   pub some : AllByRecursion (λ r. 0 < length r.1) s.ahead.rows

@@ -235,9 +235,11 @@ impl Ahead {
     /// The rows with their starts, in order.
     pub fn kept_starts(&self, alloc: Global) -> Result<Vec<KeptStart>, AllocError>
         ensures starts { IfOk result (λ kept. starts_kept kept.items ≡ self.now.starts) }
+        ensures wide { IfOk result (λ _.
+            AllByRecursion (λ r. length r.0 ≡ length self.now.left) self.now.starts) }
         ensures ascend { IfOk result (λ _. RowsAscend self.now.starts) }
     {
-        let kept = kept_starts(alloc, &self.contents.starts)?;
+        let kept = kept_starts(alloc, &self.contents.starts, self.left.len())?;
         Ok(kept)
     }
 

@@ -208,13 +208,21 @@ pub fn rows_map(
     Ok(map)
 }
 
-/// The rows with their starts, in order.
-pub fn kept_starts(alloc: Global, starts: &BTreeMap<Row, u64>) -> Result<Vec<KeptStart>, AllocError>
+/// The rows with their starts, in order. Each row has as many values as the left operand has columns.
+pub fn kept_starts(
+    alloc: Global,
+    starts: &BTreeMap<Row, u64>,
+    width: usize,
+) -> Result<Vec<KeptStart>, AllocError>
     ensures starts { IfOk result (λ kept. starts_kept kept.items ≡ starts.now.entries) }
+    ensures wide { IfOk result (λ _. AllByRecursion (λ r. length r.0 ≡ width) starts.now.entries) }
     ensures ascend { IfOk result (λ _. RowsAscend starts.now.entries) }
 {
     let mut kept = Vec::with_capacity(alloc, starts.len())?;
     for (row, start) in starts {
+        if row.values().len() != width {
+            return Err(AllocError);
+        }
         kept.push(KeptStart {
             row: row.copy(alloc)?,
             start: *start,
