@@ -19,6 +19,6 @@ mod union;
 
 pub use columns::{part_of, value_at};
 pub use index::Index;
-pub use pushed::first_pushed;
+pub use pushed::{copied_tables, first_pushed};
 pub use steps::Steps;
 pub use table::Table;
