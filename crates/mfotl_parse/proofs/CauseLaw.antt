@@ -30,7 +30,7 @@ use Rattle.mfotl_parse.specs.Transitions.{given}
 use Rattle.mfotl_parse.specs.Viability.{if_moved, is_whole, accepts}
 use Rattle.mfotl_parse.proofs.AcceptedLaw.{accepted_formula}
 use Rattle.mfotl_parse.proofs.FreeNames.{all_free}
-use Rattle.mfotl_parse.proofs.MentionTrees.{clashes_agree}
+use Rattle.mfotl_parse.proofs.MentionClashes.{clashes_agree}
 use Rattle.mfotl_parse.proofs.ReadMoves.{kept_broken, first_broken, accepts_read, read_silent}
 use Rattle.mfotl_parse.proofs.TracedMoves.{broken, traced, trace}
 use Rattle.mfotl_parse.proofs.TracedTrees.{shows_whole}

@@ -22,7 +22,7 @@ use Rattle.mfotl_parse.specs.Limits.{max_free}
 use Rattle.mfotl_parse.proofs.BoundVariables.{only_free}
 use Rattle.mfotl_parse.proofs.FreeNames.{few_met}
 use Rattle.mfotl_parse.proofs.LimitLemmas.{length_vars_of}
-use Rattle.mfotl_parse.proofs.MentionTrees.{table_even}
+use Rattle.mfotl_parse.proofs.MentionClashes.{table_even}
 use Rattle.mfotl_parse.proofs.NamesOrder.{grows_not, tree_grows}
 use Rattle.mfotl_parse.proofs.PolicyLaws.{read_is_spelled}
 use Rattle.mfotl_parse.proofs.SortedTrees.{given_by, tree_sorted}

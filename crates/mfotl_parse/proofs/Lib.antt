@@ -21,6 +21,7 @@ pub mod FreeNames
 pub mod PlaceLemmas
 pub mod MentionSteps
 pub mod MentionTrees
+pub mod MentionClashes
 pub mod WholeTrees
 pub mod CauseLaw
 pub mod PolicyLaws

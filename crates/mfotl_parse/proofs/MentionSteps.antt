@@ -261,7 +261,8 @@ module _ (before : List Mention) (count : ℕ) (n : SymbolTable) (f : Follows be
       by_same : (x : Bool) → same_sort given sort ≡ x
           → Follows (before ++ Stands given at sort ∷ []) count (cond x n (clashed at n))
       by_same true e =
-          kept (Stands given at sort) refl (λ none. ap not e) (λ none c t. nothing_more (differ (given_to c n) (Some t)))
+          kept (Stands given at sort) refl (λ none. ap not e)
+          (λ none c t. nothing_more (differ (given_to c n) (Some t)))
       by_same false e = clashed_by (Stands given at sort) refl (λ none. ap not e)
 
   -- a variable that had no sort

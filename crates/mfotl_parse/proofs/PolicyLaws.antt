@@ -36,7 +36,7 @@ use Rattle.mfotl_parse.specs.Viability.{FirstFaults, is_whole}
 use Rattle.mfotl_parse.specs.Views.{policy_of as policy_seen, Gives}
 use Rattle.mfotl_parse.proofs.CauseLaw.{follows}
 use Rattle.mfotl_parse.proofs.FreeNames.{all_free, few_met}
-use Rattle.mfotl_parse.proofs.MentionTrees.{table_even, text_even}
+use Rattle.mfotl_parse.proofs.MentionClashes.{table_even, text_even}
 use Rattle.mfotl_parse.proofs.LimitLemmas.{few_value}
 use Rattle.mfotl_parse.proofs.ReadMoves.{moves_read, accepts_moves, read_silent, silent_read, goes_on_moves}
 use Rattle.mfotl_parse.proofs.ReadMoves.{goes_on_front}

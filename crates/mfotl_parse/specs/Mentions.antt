@@ -1,6 +1,6 @@
 -- Where the sorts of a written policy clash, by the places of its variables and constants in the text.
-use Rattle.std.specs.Prelude.{ℕ, suc, ◌+◌, Bool, false, not, ◌&&◌, List, [], ◌∷◌, ◌++◌, Option, Some, None, find, nat_eq}
-use Rattle.std.specs.Prelude.{if◌then◌else◌}
+use Rattle.std.specs.Prelude.{ℕ, suc, ◌+◌, Bool, false, not, ◌&&◌, List, [], ◌∷◌, ◌++◌, Option, Some, None}
+use Rattle.std.specs.Prelude.{find, nat_eq, if◌then◌else◌}
 use Rattle.std.specs.List.{list_any}
 use Rattle.std.specs.Option.{option_map}
 use Rattle.std.specs.Str.{bytes_eq}
@@ -163,13 +163,13 @@ first_clash before [] = None
 first_clash before (one ∷ rest) =
     if clashes before one then Some (place_of_mention one) else first_clash (before ++ one ∷ []) rest
 
--- an occurrence of the left variable has a sort that differs from that of one of the right
+-- the sort of this occurrence differs from that of an occurrence of the right variable
 abbrev pub sorts_apart : List Mention → Binding → Mention → Bool
 sorts_apart all right (Occurs left at sort) = ask_other right sort all
 sorts_apart all right (Stands given at sort) = false
 sorts_apart all right (Compares left other at) = false
 
--- an occurrence of this variable
+-- it is an occurrence of this variable
 abbrev pub is_of : Binding → Mention → Bool
 is_of binding (Occurs other at sort) = same_binding binding other
 is_of binding (Stands given at sort) = false
