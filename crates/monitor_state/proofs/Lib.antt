@@ -23,3 +23,5 @@ pub mod ConstantLemmas
 pub mod SizeLemmas
 pub mod StepLemmas
 pub mod LawProofs
+mod WindowSteps
+mod FilterSteps
