@@ -28,7 +28,7 @@ use Rattle.monitor_state.specs.Beginnings.{Adds, AddsIf, Begins, BeginsJoin, Beg
 use Rattle.monitor_state.specs.Constants.{stands_alone}
 use Rattle.monitor_state.specs.Nodes.{children, filters, left_operand, nodes_in, nodes_of, operands, without_last}
 use Rattle.monitor_state.specs.Stands.{ChildrenStand, IsConstant, IsFor, IsJoin, IsOr, JoinStands, NextStands, OrStands, PreviousStands, bare, conjunct_as, NodeStands, NodesStand, StateOf}
-use Rattle.monitor_state.specs.SinceNode.{IsSince, IsSinceState, SinceStands}
+use Rattle.monitor_state.specs.SinceNode.{IsSince, IsSinceState, SinceStands, SinceStandsAt}
 use Rattle.monitor_state.specs.Views.{reached}
 use Rattle.monitor_state.specs.declared.node.Node.{Node}
 use Rattle.monitor_state.specs.declared.node.Node.TheVariants as node
@@ -95,9 +95,9 @@ unfolding fv
 since_is i f g s order begun columns =
     record { state = since_state_is i f g s begun; ordered = columns }
 
-pub since_begins : (i : Interval) (f g : CoreForm) (s : SinceOf) → SinceBegun i f g s → (view : View) → view.log ≡ []
-    → SinceStands view i f g s
-since_begins i f g s begun view empty =
+pub since_begins_at : (i : Interval) (f g : CoreForm) (s : SinceOf) → SinceBegun i f g s → (view : View) → view.log ≡ []
+    → SinceStandsAt view 0 i f g s
+since_begins_at i f g s begun view empty =
     let pulled : s.pulled ≡ 0 = ap (λ (x : SinceOf). x.pulled) begun.begun in
     let times : length s.times ≡ 0 = ap (λ (x : SinceOf). length x.times) begun.begun in
     let lefts : length s.lefts ≡ 0 = ap (λ (x : SinceOf). length x.lefts) begun.begun in
@@ -106,7 +106,7 @@ since_begins i f g s begun view empty =
     let left : 0 ≡ reached view f = none_reached view empty f in
     let right : 0 ≡ reached view g = none_reached view empty g in
     record {
-      pulled = pulled ∙ none_reached view empty (Since i f g);
+      pulled = pulled;
       timed = omega arith;
       left_pushed = omega arith;
       right_pushed = omega arith;
@@ -114,6 +114,11 @@ since_begins i f g s begun view empty =
       rights = subst (λ xs. AllExact view (meaning g) s.pulled xs) (sym (ap (λ (x : SinceOf). x.rights) begun.begun)) tt;
       follows = λ dom v covers near t a b dates tells tells_right. begun.follows t a b v;
     }
+
+since_begins : (i : Interval) (f g : CoreForm) (s : SinceOf) → SinceBegun i f g s → (view : View) → view.log ≡ []
+    → SinceStands view i f g s
+since_begins i f g s begun view empty =
+    subst (λ p. SinceStandsAt view p i f g s) (none_reached view empty (Since i f g)) (since_begins_at i f g s begun view empty)
 
 pub since_adds : (r : Role) (h : CoreForm) (i : Interval) (f g : CoreForm) (old more new : List Node) → h ≡ Since i f g
     → Adds (nodes_in role.Left f ++ nodes_in role.Whole g) old more

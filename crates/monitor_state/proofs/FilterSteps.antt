@@ -1,10 +1,10 @@
 -- The state of a conjunction whose right side only filters, over one step.
-use Rattle.std.proofs.Common.{subst, ◌≡◌, ℕ, zero, suc, ◌+◌, ◌-◌, ◌<◌, ◌≤◌, Bool, true, false, not, ◌&&◌, ◌||◌, cond, nat_eq, List, [], ◌∷◌, ◌++◌, length, map, refl, sym, ap, ap₂, ◌∙◌, inl, inr, arith, length-append}
-use Rattle.std.proofs.lemmas.Bool.{and_parts, cases_Bool, cases_lt, cond-false, cond-true, or_cases, or_left, or_right}
+use Rattle.std.proofs.Common.{subst, ◌≡◌, ℕ, ◌+◌, ◌<◌, ◌≤◌, Bool, true, false, ◌&&◌, nat_eq, List, [], ◌∷◌, ◌++◌, length, map, refl, sym, ap, ap₂, ◌∙◌, inl, inr, arith, length-append}
+use Rattle.std.proofs.lemmas.Bool.{and_parts, cases_Bool, cond-false, cond-true, or_cases, or_left, or_right}
 use Rattle.std.proofs.lemmas.List.Folds.{list_any-append}
 use Rattle.mfotl_model.proofs.CountLemmas.{counted_settled}
 use Rattle.mfotl_model.proofs.LogicLemmas.{among_joined}
-use Rattle.mfotl_model.specs.Exact.{View, AllExact, Covers, Exact}
+use Rattle.mfotl_model.specs.Exact.{View, AllExact, Exact}
 use Rattle.mfotl_model.specs.FreeVariables.{among, fv, joined}
 use Rattle.mfotl_model.specs.Log.{times}
 use Rattle.mfotl_model.specs.Regions.{Passes}
@@ -15,7 +15,7 @@ use Rattle.mfotl_model.specs.Times.{NeverFalls}
 use Rattle.mfotl_model.specs.declared.event.TimePoint.{TimePoint}
 use Rattle.mfotl_model.specs.declared.value.Value.{Value}
 use Rattle.monitorable.proofs.Coincidence.{coincidence}
-use Rattle.monitorable.specs.CoreForms.{CoreForm, meaning, True, False, Atom, Compare, Not, And, Or, Exists, Previous, Next, Since, Until}
+use Rattle.monitorable.specs.CoreForms.{CoreForm, meaning, Compare, Not, And}
 use Rattle.monitorable.specs.Fragment.{binds, bound_by}
 use Rattle.monitorable.specs.Soundness.{IsSound}
 use Rattle.relations.proofs.JoinLemmas.{member_of_all, read_own}
@@ -30,7 +30,7 @@ use Rattle.monitor_state.specs.FilterNode.{FilterStands, IsFilter}
 use Rattle.monitor_state.specs.Nodes.{filters, is_negated, is_window, left_operand, window_operands}
 use Rattle.monitor_state.specs.Steps.{News, StackNews, longer}
 use Rattle.monitor_state.specs.Views.{reached}
-use Rattle.monitor_state.specs.WindowNode.{Answers, IsWindow, WindowStands, window_due, window_took_all}
+use Rattle.monitor_state.specs.WindowNode.{IsWindow, WindowStands, window_due}
 use Rattle.monitor_state.specs.declared.filter.FilterState.{FilterState}
 use Rattle.monitor_state.specs.declared.window.Window.{Window}
 

@@ -23,5 +23,8 @@ pub mod ConstantLemmas
 pub mod SizeLemmas
 pub mod StepLemmas
 pub mod LawProofs
-mod WindowSteps
-mod FilterSteps
+pub mod WindowSteps
+pub mod FilterSteps
+pub mod WholeLemmas
+pub mod FilterBegins
+pub mod SiftLemmas

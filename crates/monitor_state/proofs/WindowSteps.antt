@@ -1,7 +1,6 @@
 -- A window's state over one step.
-use Rattle.std.proofs.Common.{subst, ◌≡◌, ℕ, ◌+◌, ◌-◌, ◌<◌, ◌≤◌, Bool, true, ◌&&◌, nat_lt, List, [], ◌∷◌, length, drop, refl, sym, ap, ap₂, ◌∙◌, arith}
+use Rattle.std.proofs.Common.{subst, ◌≡◌, ℕ, ◌+◌, ◌<◌, ◌≤◌, Bool, true, ◌&&◌, nat_lt, List, [], ◌∷◌, length, sym, ap₂, ◌∙◌, arith}
 use Rattle.std.proofs.lemmas.Bool.{and_from, lt-ltb}
-use Rattle.std.proofs.lemmas.List.{length-map}
 use Rattle.mfotl_model.specs.Exact.{View, Covers}
 use Rattle.mfotl_model.specs.FreeVariables.{fv}
 use Rattle.mfotl_model.specs.Log.{times}
@@ -27,7 +26,7 @@ use Rattle.monitor_state.specs.FilterFeeding.{UntilSettles, WindowFeeds, WindowG
 use Rattle.monitor_state.specs.Nodes.{window_operands}
 use Rattle.monitor_state.specs.SinceNode.{IsSinceState, SinceStandsAt}
 use Rattle.monitor_state.specs.Steps.{StackNews, longer}
-use Rattle.monitor_state.specs.UntilNode.{IsUntilState, UntilStandsAt}
+use Rattle.monitor_state.specs.UntilNode.{UntilStandsAt}
 use Rattle.monitor_state.specs.Views.{reached}
 use Rattle.monitor_state.specs.WindowNode.{Answers, IsWindow, WindowStands, window_due}
 use Rattle.monitor_state.specs.declared.window.Window.{Window}
@@ -41,14 +40,14 @@ pub window_fed : (view : View) (point : TimePoint) (whole w : CoreForm) (old fed
     → WindowFeeds old ts ls rs fed → IsWindow w fed × WindowStands (longer view point) p w fed
 window_fed view point whole (Since i f g) (window.Since old) (window.Since fed) p ts ls rs rising passes sound inside same is
     stands news feeds = (
-  since_fed_is view point i f g rising passes sound.0 old is p stands ts same ls rs news.0 news.1.0 fed feeds,
-  since_fed view point i f g rising passes sound.0 old is p stands ts same ls rs news.0 news.1.0 fed feeds,
-)
+      since_fed_is view point i f g rising passes sound.0 old is p stands ts same ls rs news.0 news.1.0 fed feeds,
+      since_fed view point i f g rising passes sound.0 old is p stands ts same ls rs news.0 news.1.0 fed feeds,
+    )
 window_fed view point whole (Until i f g) (window.Until old) (window.Until fed) p ts ls rs rising passes sound inside same is
     stands news feeds = (
-  until_fed_is view point i f g rising passes sound.0 old is p stands inside ts same ls rs news.0 news.1.0 fed feeds,
-  until_fed view point i f g rising passes sound.0 old is p stands inside ts same ls rs news.0 news.1.0 fed feeds,
-)
+      until_fed_is view point i f g rising passes sound.0 old is p stands inside ts same ls rs news.0 news.1.0 fed feeds,
+      until_fed view point i f g rising passes sound.0 old is p stands inside ts same ls rs news.0 news.1.0 fed feeds,
+    )
 window_fed view point whole (Since i f g) (window.Since old) (window.Until fed) p ts ls rs rising passes sound inside same is
     stands news feeds = absurd feeds
 window_fed view point whole (Until i f g) (window.Until old) (window.Since fed) p ts ls rs rising passes sound inside same is

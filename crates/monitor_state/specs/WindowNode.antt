@@ -1,5 +1,5 @@
 -- When the state of a window, a SINCE or an UNTIL, stands for a log, in a region of rows, and what it answers.
-use Rattle.std.specs.Prelude.{◌≡◌, ℕ, Bool, true, List, [], ◌∷◌}
+use Rattle.std.specs.Prelude.{◌≡◌, ℕ, Bool, true, List}
 use Rattle.mfotl_model.specs.Exact.{View}
 use Rattle.mfotl_model.specs.Satisfaction.{Valuation, since, until}
 use Rattle.mfotl_model.specs.Times.{NeverFalls}

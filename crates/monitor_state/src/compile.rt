@@ -112,10 +112,10 @@ fn add_operands(alloc: Global, window: &Core, nodes: &mut Vec<Node>) -> Result<(
     ensures { OnOk result (Adds (without_last (nodes_in Role.Part (node_form window.now))) nodes.old.items nodes.new.items) }
 {
     match window {
-        Core::Since(_, left, right) => {
+        Core::Since(_interval, left, right) => {
             add_both(alloc, left, Role::Left, right, Role::Whole, nodes)
         }
-        Core::Until(_, left, right) => {
+        Core::Until(_interval, left, right) => {
             add_both(alloc, left, Role::Left, right, Role::Whole, nodes)
         }
         _ => Err(AllocError),

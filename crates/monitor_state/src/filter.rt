@@ -1,6 +1,7 @@
 //! A conjunction whose right side only filters takes a time and its operands' tables.
-ghost use Rattle.std.specs.Prelude.{◌≡◌, ◌++◌, IfOk, IsTrue, MatchOption, OnOk};
+ghost use Rattle.std.specs.Prelude.{◌≡◌, ◌++◌, ◌∷◌, [], cond, IfOk, IsTrue, MatchOption, OnOk};
 ghost use Rattle.mfotl_model.specs.Tables.{TableOf};
+ghost use Rattle.relations.specs.Pushed.{turned};
 ghost use Rattle.relations.specs.Tables.{IsTable};
 ghost use Rattle.monitor_state.specs.FilterFeeding.{FilterPulled, FilterStep, FilterStops, FilterTakes, Sifts};
 ghost use Rattle.monitor_state.specs.WindowNode.{window_due, window_took_all};
@@ -73,19 +74,20 @@ fn pull(alloc: Global, state: &mut FilterState) -> Result<Option<Table>, AllocEr
 }
 
 // The rows of which the window holds, or doesn't where it is negated. No row is copied.
-fn sifted(
-    alloc: Global,
-    window: &Window,
-    negated: bool,
-    table: Table,
-) -> Result<Table, AllocError>
+fn sifted(alloc: Global, window: &Window, negated: bool, table: Table) -> Result<Table, AllocError>
     requires due { IsTrue (window_due window.now) }
     requires all { IsTrue (window_took_all window.now) }
     ensures over { IfOk result (λ kept. kept.columns ≡ table.columns) }
     ensures sifts { IfOk result (λ kept. Sifts window.now negated table.columns table.rows kept.rows) }
 {
     let columns = Vec::from_slice(alloc, table.columns())?;
-    let kept = kept_rows(alloc, window, negated, columns.as_slice(), table.into_rows())?;
+    let kept = kept_rows(
+        alloc,
+        window,
+        negated,
+        columns.as_slice(),
+        table.into_rows(),
+    )?;
     Ok(Table::from_ascending(columns, kept))
 }
 
@@ -104,9 +106,23 @@ fn kept_rows(
 {
     let mut kept = Vec::new(alloc);
     for row in rows {
-        if holds(alloc, window, columns, &row)? != negated {
-            kept.push(row)?;
-        }
+        let stays = stays(negated, holds(alloc, window, columns, &row)?);
+        keep(&mut kept, stays, row)?;
     }
     Ok(kept)
+}
+
+fn keep(kept: &mut Vec<Row>, stays: bool, row: Row) -> Result<(), AllocError>
+    ensures { OnOk result (kept.new.items ≡ kept.old.items ++ cond stays (row ∷ []) []) }
+{
+    if stays {
+        kept.push(row)?;
+    }
+    Ok(())
+}
+
+fn stays(negated: bool, holds: bool) -> bool
+    ensures { result ≡ turned negated holds }
+{
+    if negated { !holds } else { holds }
 }

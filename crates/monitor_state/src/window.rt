@@ -56,12 +56,7 @@ pub fn is_due(window: &Window) -> bool
 }
 
 /// Whether the window holds at the next position, of the valuation that a row gives to these columns.
-pub fn holds(
-    alloc: Global,
-    window: &Window,
-    columns: &[u32],
-    row: &Row,
-) -> Result<bool, AllocError>
+pub fn holds(alloc: Global, window: &Window, columns: &[u32], row: &Row) -> Result<bool, AllocError>
     requires due { IsTrue (window_due window.now) }
     requires all { IsTrue (window_took_all window.now) }
     ensures { IfOk result (Answers window.now (valuation columns.now row.now)) }
