@@ -1,5 +1,5 @@
 -- What happens to the state of a conjunction whose right side only filters as tables are pushed and pulled.
-use Rattle.std.specs.Prelude.{◌≡◌, ℕ, Bool, ◌&&◌, true, List, [], ◌∷◌, ◌++◌}
+use Rattle.std.specs.Prelude.{◌≡◌, ℕ, Bool, ◌&&◌, true, cond, List, [], ◌∷◌, ◌++◌}
 use Rattle.mfotl_model.specs.Satisfaction.{Valuation}
 use Rattle.mfotl_model.specs.Tables.{TableOf, has_row, valuation}
 use Rattle.mfotl_model.specs.declared.value.Value.{Value}
@@ -48,6 +48,12 @@ abbrev pub Sifts : Window → Bool → List ℕ → List (List Value) → List (
 Sifts w negated columns rows kept =
     (row : List Value) (holds : Bool) → ((answer : Bool) → Answers w (valuation columns row) answer → answer ≡ holds)
     → has_row kept row ≡ (has_row rows row && turned negated holds)
+
+-- one row more was asked of: it is kept or left out
+abbrev pub RowSifted : Window → Bool → List ℕ → List Value → List (List Value) → List (List Value) → Type 0
+RowSifted w negated columns row old new =
+    (answer : Bool) × Answers w (valuation columns row) answer
+    × (new ≡ old ++ cond (turned negated answer) (row ∷ []) [])
 
 -- one table was pulled: the left side's first one, without the rows that the window filters out
 pub record FilterStep (old new : FilterState) (kept : TableOf) : Type 0 where

@@ -3,7 +3,7 @@ ghost use Rattle.std.specs.Prelude.{◌≡◌, ◌++◌, ◌∷◌, [], cond, If
 ghost use Rattle.mfotl_model.specs.Tables.{TableOf};
 ghost use Rattle.relations.specs.Pushed.{turned};
 ghost use Rattle.relations.specs.Tables.{IsTable};
-ghost use Rattle.monitor_state.specs.FilterFeeding.{FilterPulled, FilterStep, FilterStops, FilterTakes, Sifts};
+ghost use Rattle.monitor_state.specs.FilterFeeding.{FilterPulled, FilterStep, FilterStops, FilterTakes, RowSifted, Sifts};
 ghost use Rattle.monitor_state.specs.WindowNode.{window_due, window_took_all};
 
 use crate::tables::Tables;
@@ -106,10 +106,25 @@ fn kept_rows(
 {
     let mut kept = Vec::new(alloc);
     for row in rows {
-        let stays = stays(negated, holds(alloc, window, columns, &row)?);
-        keep(&mut kept, stays, row)?;
+        keep_held(alloc, window, negated, columns, row, &mut kept)?;
     }
     Ok(kept)
+}
+
+fn keep_held(
+    alloc: Global,
+    window: &Window,
+    negated: bool,
+    columns: &[u32],
+    row: Row,
+    kept: &mut Vec<Row>,
+) -> Result<(), AllocError>
+    requires due { IsTrue (window_due window.now) }
+    requires all { IsTrue (window_took_all window.now) }
+    ensures { OnOk result (RowSifted window.now negated columns.now row kept.old.items kept.new.items) }
+{
+    let answer = holds(alloc, window, columns, &row)?;
+    keep(kept, stays(negated, answer), row)
 }
 
 fn keep(kept: &mut Vec<Row>, stays: bool, row: Row) -> Result<(), AllocError>
