@@ -2,6 +2,7 @@
 #![tactic(auto)]
 
 mod antijoin;
+mod ascending;
 mod choosing;
 mod columns;
 mod entry;
