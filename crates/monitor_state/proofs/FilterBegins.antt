@@ -43,7 +43,8 @@ filtered_whole r f g own is only accepted =
     (and_left r f g accepted)
 
 -- so is the window without its NOT, as a conjunct
-pub operand_accepted : (g : CoreForm) → is_window (left_operand g) ≡ true → Accepted role.Part g → Accepted role.Part (left_operand g)
+pub operand_accepted : (g : CoreForm) → is_window (left_operand g) ≡ true → Accepted role.Part g
+    → Accepted role.Part (left_operand g)
 unfolding fault_in
 operand_accepted (Not (Since i a b)) is accepted = not_under role.Part (Since i a b) accepted
 operand_accepted (Not (Until i a b)) is accepted = not_under role.Part (Until i a b) accepted

@@ -151,7 +151,8 @@ module _ (view : View) (rising : NeverFalls (times view.log)) (passes : Passes (
         sifted_exact p step.ready old.negated step.table kept stands.turns ready.0 ready.1 exact.0 step.over step.sifts,
       )
 
-  steps_stand : (p : ℕ) (old new : FilterState) (tables : List TableOf) → StandsAt view f g p old → FilterPulled old new tables
+  steps_stand : (p : ℕ) (old new : FilterState) (tables : List TableOf) → StandsAt view f g p old
+      → FilterPulled old new tables
       → StandsAt view f g (p + length tables) new × AllExact view (meaning (And f g)) p tables
   steps_stand p old new [] stands same =
       let none : p ≡ p + 0 = omega arith in
@@ -162,7 +163,8 @@ module _ (view : View) (rising : NeverFalls (times view.log)) (passes : Passes (
       let at : p + 1 + length tables ≡ p + length (kept ∷ tables) = omega arith in
       (subst (λ q. StandsAt view f g q new) at rest.0, (one.1, rest.1))
 
-  stops_stand : (p : ℕ) (old new : FilterState) → StandsAt view f g p old → FilterStops old new → StandsAt view f g p new
+  stops_stand : (p : ℕ) (old new : FilterState) → StandsAt view f g p old → FilterStops old new
+      → StandsAt view f g p new
   stops_stand p old new stands stops =
       let ready = window_settled view (left_operand g) old.window new.window p stands.asks stands.behind stops.settles in
       record {

@@ -25,12 +25,14 @@ pulled_more old mid new (table ∷ tables) kept pulled step =
     (pulled.0, pulled.1, pulled_more pulled.0 mid new tables kept pulled.2 step)
 
 -- the next table shortens what is kept
-pub pulled_fewer : (old new : FilterState) (kept : TableOf) → FilterStep old new kept → length new.tables < length old.tables
+pub pulled_fewer : (old new : FilterState) (kept : TableOf) → FilterStep old new kept
+    → length new.tables < length old.tables
 pulled_fewer old new kept step =
     let size : length old.tables ≡ length (step.table ∷ new.tables) = ap length step.front in omega arith
 
 module _ {K : Type 0} (c : K → K → Ordering) where
-  all_without : (P : K → Type 0) (xs ys : List K) (y : K) → AllByRecursion P (xs ++ y ∷ ys) → AllByRecursion P (xs ++ ys)
+  all_without : (P : K → Type 0) (xs ys : List K) (y : K) → AllByRecursion P (xs ++ y ∷ ys)
+      → AllByRecursion P (xs ++ ys)
   all_without P [] ys y all = all.1
   all_without P (x ∷ xs) ys y all = (all.0, all_without P xs ys y all.1)
 
@@ -39,7 +41,8 @@ module _ {K : Type 0} (c : K → K → Ordering) where
   sorted_without [] ys y sorted = sorted.1
   sorted_without (x ∷ xs) ys y sorted = (all_without (λ z. c x z ≡ Less) xs ys y sorted.0, sorted_without xs ys y sorted.1)
 
-holds_without : {X : Type 0} (p : X → Bool) (xs ys : List X) (y : X) → list_all p (xs ++ y ∷ ys) ≡ true → list_all p (xs ++ ys) ≡ true
+holds_without : {X : Type 0} (p : X → Bool) (xs ys : List X) (y : X) → list_all p (xs ++ y ∷ ys) ≡ true
+    → list_all p (xs ++ ys) ≡ true
 holds_without p [] ys y h = (and_parts (p y) (list_all p ys) h).1
 holds_without p (x ∷ xs) ys y h =
     let parts = and_parts (p x) (list_all p (xs ++ y ∷ ys)) h in
@@ -99,7 +102,8 @@ has_chosen : (stays : Bool) (row u : List Value)
 has_chosen true row u = refl
 has_chosen false row u = refl
 
-pub sift_none : (w : Window) (negated : Bool) (columns : List ℕ) (kept : List (List Value)) → kept ≡ [] → Sifts w negated columns [] kept
+pub sift_none : (w : Window) (negated : Bool) (columns : List ℕ) (kept : List (List Value)) → kept ≡ []
+    → Sifts w negated columns [] kept
 sift_none w negated columns kept none row holds answers = ap (λ rows. has_row rows row) none
 
 pub sift_more : (w : Window) (negated answer stays : Bool) (columns : List ℕ) (done kept new : List (List Value)) (row : List Value)

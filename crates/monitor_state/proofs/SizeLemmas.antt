@@ -23,15 +23,15 @@ pub and_both_smaller : (h : CoreForm) (f g : CoreForm) → h ≡ And f g → 2 *
 unfolding nodes
 and_both_smaller h f g same = let count : nodes h ≡ 1 + nodes f + nodes g = ap nodes same in omega arith
 
-pub or_both_smaller : (h : CoreForm) (f g : CoreForm) → h ≡ Or f g → 2 * (nodes f + nodes g) + 1 < 2 * nodes h
+pub or_both_smaller : (h : CoreForm) (f g : CoreForm) → h ≡ Or f g → 2 * (nodes f + nodes g) < 2 * nodes h
 unfolding nodes
 or_both_smaller h f g same = let count : nodes h ≡ 1 + nodes f + nodes g = ap nodes same in omega arith
 
-pub since_both_smaller : (h : CoreForm) (i : Interval) (f g : CoreForm) → h ≡ Since i f g → 2 * (nodes f + nodes g) + 1 < 2 * nodes h
+pub since_both_smaller : (h : CoreForm) (i : Interval) (f g : CoreForm) → h ≡ Since i f g → 2 * (nodes f + nodes g) < 2 * nodes h
 unfolding nodes
 since_both_smaller h i f g same = let count : nodes h ≡ 1 + nodes f + nodes g = ap nodes same in omega arith
 
-pub until_both_smaller : (h : CoreForm) (i : Interval) (f g : CoreForm) → h ≡ Until i f g → 2 * (nodes f + nodes g) + 1 < 2 * nodes h
+pub until_both_smaller : (h : CoreForm) (i : Interval) (f g : CoreForm) → h ≡ Until i f g → 2 * (nodes f + nodes g) < 2 * nodes h
 unfolding nodes
 until_both_smaller h i f g same = let count : nodes h ≡ 1 + nodes f + nodes g = ap nodes same in omega arith
 

@@ -74,7 +74,8 @@ settled_moves old new settles =
     }
 
 -- what could be taken was
-pub window_settled : (view : View) (w : CoreForm) (old new : Window) (p : ℕ) → IsWindow w old → WindowStands view p w old
+pub window_settled : (view : View) (w : CoreForm) (old new : Window) (p : ℕ) → IsWindow w old
+    → WindowStands view p w old
     → WindowSettles old new → IsWindow w new × WindowStands view p w new
 window_settled view (Since i f g) (window.Since old) (window.Since new) p is stands same =
     (subst (IsSinceState i f g) (sym same) is, subst (SinceStandsAt view p i f g) (sym same) stands)
@@ -146,7 +147,8 @@ since_due_at view rising i f g s p stands =
     (lt-ltb 0 (length s.rights) (omega arith)))
 
 -- the next position is due where it is settled
-pub window_due_at : (view : View) → NeverFalls (times view.log) → (w : CoreForm) (s : Window) (p : ℕ) → p ≤ length view.log
+pub window_due_at : (view : View) → NeverFalls (times view.log) → (w : CoreForm) (s : Window) (p : ℕ)
+    → p ≤ length view.log
     → IsWindow w s → WindowStands view p w s → window_due s ≡ settled (times view.log) (meaning w) p
 window_due_at view rising (Since i f g) (window.Since s) p inside is stands = since_due_at view rising i f g s p stands
 window_due_at view rising (Until i f g) (window.Until s) p inside is stands = until_due_at view rising i f g p s is stands inside

@@ -1,6 +1,6 @@
 //! The nodes of a core.
 ghost use Rattle.std.specs.Prelude.{◌≡◌, ◌++◌, ◌∷◌, [], OnOk};
-ghost use Rattle.monitorable.specs.CoreForms.{node_form, And, Atom, Or, Since, Until};
+ghost use Rattle.monitorable.specs.CoreForms.{node_form, And, Atom};
 ghost use Rattle.monitor_state.specs.Beginnings.{Accepted, Adds};
 ghost use Rattle.monitor_state.specs.Nodes.{nodes_in, without_last};
 
@@ -10,7 +10,7 @@ use crate::conjunction::add_join;
 use crate::constant::{add_comparison, add_false, add_true};
 use crate::node::{Node, add};
 use crate::operators::{add_next, add_or, add_previous, add_since};
-use mfotl_model::{Atom as OneAtom, Interval};
+use mfotl_model::Atom as OneAtom;
 use monitorable::{Node as Core, Role};
 use std::alloc::{AllocError, Global};
 
@@ -40,12 +40,17 @@ pub fn add_nodes(
         }
         Core::And(left, right) => add_and(alloc, core, left, right, role, nodes),
         Core::Since(interval, left, right) => {
-            add_since_nodes(alloc, core, interval, left, right, role, nodes)
+            add_both(alloc, left, Role::Left, right, Role::Whole, nodes)?;
+            add_since(alloc, core, interval, left, right, nodes)
         }
         Core::Until(interval, left, right) => {
-            add_until_nodes(alloc, core, interval, left, right, role, nodes)
+            add_both(alloc, left, Role::Left, right, Role::Whole, nodes)?;
+            add_until(alloc, core, interval, left, right, nodes)
         }
-        Core::Or(left, right) => add_or_nodes(alloc, core, left, right, role, nodes),
+        Core::Or(left, right) => {
+            add_both(alloc, left, Role::Whole, right, Role::Whole, nodes)?;
+            add_or(alloc, left, right, nodes)
+        }
         Core::Previous(interval, inner) => {
             add_nodes(alloc, inner, Role::Whole, nodes)?;
             add_previous(alloc, interval, inner, nodes)
@@ -55,59 +60,6 @@ pub fn add_nodes(
             add_next(alloc, interval, inner, nodes)
         }
     }
-}
-
-#[cycle(add_nodes)]
-fn add_since_nodes(
-    alloc: Global,
-    core: &Core,
-    interval: &Interval,
-    left: &Core,
-    right: &Core,
-    _role: Role,
-    nodes: &mut Vec<Node>,
-) -> Result<(), AllocError>
-    requires sides { node_form core.now ≡ Since interval.now (node_form left.now) (node_form right.now) }
-    requires accepted { Accepted _role (node_form core.now) }
-    ensures { OnOk result (Adds (nodes_in _role (node_form core.now)) nodes.old.items nodes.new.items) }
-{
-    add_both(alloc, left, Role::Left, right, Role::Whole, nodes)?;
-    add_since(alloc, core, interval, left, right, nodes)
-}
-
-#[cycle(add_nodes)]
-fn add_until_nodes(
-    alloc: Global,
-    core: &Core,
-    interval: &Interval,
-    left: &Core,
-    right: &Core,
-    _role: Role,
-    nodes: &mut Vec<Node>,
-) -> Result<(), AllocError>
-    requires sides { node_form core.now ≡ Until interval.now (node_form left.now) (node_form right.now) }
-    requires accepted { Accepted _role (node_form core.now) }
-    ensures { OnOk result (Adds (nodes_in _role (node_form core.now)) nodes.old.items nodes.new.items) }
-{
-    add_both(alloc, left, Role::Left, right, Role::Whole, nodes)?;
-    add_until(alloc, core, interval, left, right, nodes)
-}
-
-#[cycle(add_nodes)]
-fn add_or_nodes(
-    alloc: Global,
-    core: &Core,
-    left: &Core,
-    right: &Core,
-    _role: Role,
-    nodes: &mut Vec<Node>,
-) -> Result<(), AllocError>
-    requires sides { node_form core.now ≡ Or (node_form left.now) (node_form right.now) }
-    requires accepted { Accepted _role (node_form core.now) }
-    ensures { OnOk result (Adds (nodes_in _role (node_form core.now)) nodes.old.items nodes.new.items) }
-{
-    add_both(alloc, left, Role::Whole, right, Role::Whole, nodes)?;
-    add_or(alloc, left, right, nodes)
 }
 
 // The nodes of both operands.

@@ -14,12 +14,3 @@ decreases-add_and l = 2 * (nodes (node_form l.left.now) + nodes (node_form l.rig
 
 abbrev pub decreases-add_operands : goal.decreases-add_operands
 decreases-add_operands l = 2 * nodes (node_form l.window.now)
-
-abbrev pub decreases-add_since_nodes : goal.decreases-add_since_nodes
-decreases-add_since_nodes l = 2 * (nodes (node_form l.left.now) + nodes (node_form l.right.now)) + 1
-
-abbrev pub decreases-add_until_nodes : goal.decreases-add_until_nodes
-decreases-add_until_nodes l = 2 * (nodes (node_form l.left.now) + nodes (node_form l.right.now)) + 1
-
-abbrev pub decreases-add_or_nodes : goal.decreases-add_or_nodes
-decreases-add_or_nodes l = 2 * (nodes (node_form l.left.now) + nodes (node_form l.right.now)) + 1
