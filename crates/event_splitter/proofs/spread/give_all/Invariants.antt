@@ -1,4 +1,4 @@
-use Rattle.std.proofs.Common.{◌≡◌, ℕ, [], length, map, take}
+use Rattle.std.proofs.Common.{◌≡◌, ℕ, [], map, take}
 use Rattle.std.specs.List.{range_with_len}
 use Rattle.event_splitter.proofs.PartLemmas.{part_of}
 use Rattle.event_splitter.proofs.spread.give_all.Given as goal

@@ -1,8 +1,6 @@
 use Rattle.std.proofs.Common.{◌≡◌, ◌∙◌, ap, sym, replicate, [], length}
 use Rattle.mfotl_model.specs.Ascending.{ascending}
 use Rattle.mfotl_model.specs.Events.{event_cmp}
-use Rattle.monitorable.specs.Atoms.{atoms_of}
-use Rattle.monitorable.specs.Cores.{core_form}
 use Rattle.event_splitter.proofs.PartLemmas.{part_of, parts_none, parts_size, written_back}
 use Rattle.event_splitter.proofs.time_point.split.Goals as goal
 use Rattle.event_splitter.specs.Parts.{parts_for}
