@@ -5,4 +5,5 @@ use Rattle.slice_strategy.proofs.nearest.digit_held.Goals as goal
 
 pub returns-in-Some-clause-low : goal.returns-in-Some-clause-low
 returns-in-Some-clause-low c =
-    let low = part_below (entry_of c.args.entry.now) c.in-Some.value.now c.requires.some in omega (arith, low, c.part.ensures)
+    let low = part_below (entry_of c.args.entry.now) c.in-Some.value.now c.requires.some in
+    omega (arith, low, c.part.ensures)
