@@ -1,16 +1,16 @@
 -- The events of parts.
-use Rattle.std.proofs.Common.{◌≡◌, ◌∙◌, ap, sym, refl, arith, ℕ, zero, suc, ◌+◌, Bool, true, false, nat_eq, cond}
-use Rattle.std.proofs.Common.{◌&&◌, ◌||◌, List, [], ◌∷◌, ◌++◌, map, zero-add}
+use Rattle.std.proofs.Common.{◌≡◌, ◌∙◌, ap, ap₂, sym, refl, arith, ℕ, zero, suc, ◌+◌, Bool, true, false, nat_eq, cond}
+use Rattle.std.proofs.Common.{◌&&◌, ◌||◌, List, [], ◌∷◌, ◌++◌, map, length, replicate, take, drop}
 use Rattle.std.proofs.lemmas.Bool.{cond-true, cond-false, eqb-true}
-use Rattle.std.proofs.lemmas.List.{map-append}
+use Rattle.std.proofs.lemmas.List.{drop_all, take_all}
 use Rattle.std.proofs.lemmas.List.Elements.{filter-append}
 use Rattle.std.proofs.lemmas.List.Kept.{IsStrictlySortedBy-filter}
 use Rattle.std.proofs.lemmas.Map.Lookups.{btree_set_from_contains}
 use Rattle.std.proofs.lemmas.Map.Views.{any-filter_same, tells_apart}
-use Rattle.std.specs.BTreeSet.{BTreeSet}
+use Rattle.std.specs.BTreeSet.{BTreeSet, insert_key}
 use Rattle.std.specs.List.{filter, flat_map, list_any, range_with_len}
 use Rattle.std.specs.Ordering.{eq_by_cmp}
-use Rattle.mfotl_model.proofs.AscendingLemmas.{any_ascending, sorted_ascending}
+use Rattle.mfotl_model.proofs.AscendingLemmas.{any_ascending, insert_behind, sorted_ascending}
 use Rattle.mfotl_model.proofs.LogicLemmas.{among_distinct, any_alike, any_map, funext}
 use Rattle.mfotl_model.proofs.RowLemmas.{event_exact}
 use Rattle.mfotl_model.specs.Ascending.{ascending}
@@ -24,9 +24,8 @@ use Rattle.mfotl_model.specs.Tables.{valuation}
 use Rattle.mfotl_model.specs.declared.event.Event.{Event}
 use Rattle.mfotl_model.specs.declared.event.TimePoint.{TimePoint}
 use Rattle.mfotl_model.specs.declared.term.Atom.{Atom as OneAtom}
-use Rattle.event_splitter.specs.Parts.{part_for, parts_for}
-use Rattle.event_splitter.specs.SightingView.{near_events}
-use Rattle.event_splitter.specs.Sightings.{SightingOf, is_near, reading_of, readings_of, sighting_of}
+use Rattle.event_splitter.specs.Parts.{given_to, with_event}
+use Rattle.event_splitter.specs.Readings.{is_near, reading_of, readings_of, some_near}
 
 -- events of a kind come out in order as those of the kind do
 ascending_filter : (p : Event → Bool) (xs : List Event)
@@ -73,6 +72,10 @@ any_kept test p (x ∷ xs) = step (p x) ∙ ap (λ t. (p x && test x) || t) (any
     step true = refl
     step false = refl
 
+append-nil : {X : Type 0} (xs : List X) → xs ++ [] ≡ xs
+append-nil [] = refl
+append-nil (x ∷ xs) = ap (λ ys. x ∷ ys) (append-nil xs)
+
 module _ (free : List ℕ) (near : Region) (passes : Passes free near) where
   -- a region doesn't ask how often the variables stand there
   near_alike : (event : Event) (atom : OneAtom)
@@ -96,77 +99,90 @@ module _ (free : List ℕ) (near : Region) (passes : Passes free near) where
       ∙ any_alike (λ atom. is_match atom event && is_near near (reading_of event atom)) (sees near event) atoms
       (λ atom. ap (λ b. is_match atom event && b) (near_alike event atom))
 
-  back : (atoms : List OneAtom) (p : SightingOf → Bool) (events : List Event)
-      → map (λ s. s.event) (filter p (map (sighting_of atoms) events)) ≡ filter (λ e. p (sighting_of atoms e)) events
-  back atoms p [] = refl
-  back atoms p (e ∷ es) =
-      by (p (sighting_of atoms e)) ∙ ap (λ r. cond (p (sighting_of atoms e)) (e ∷ r) r) (back atoms p es)
-    where
-      rest : List SightingOf
-      rest = filter p (map (sighting_of atoms) es)
-
-      by : (b : Bool) → map (λ s. s.event) (cond b (sighting_of atoms e ∷ rest) rest)
-          ≡ cond b (e ∷ map (λ s. s.event) rest) (map (λ s. s.event) rest)
-      by true = refl
-      by false = refl
-
-  -- the events with something near are the slice
-  pub near_slice : (atoms : List OneAtom) (sightings : List SightingOf) (events db : List Event)
-      → sightings ≡ map (sighting_of atoms) events → ascending event_cmp events ≡ db
-      → ascending event_cmp (near_events near sightings) ≡ slice near atoms db
-  unfolding near_events
-  near_slice atoms sightings events db are in_order =
-      let p : SightingOf → Bool = λ s. list_any (is_near near) s.readings in
+  -- the slice with one event more
+  pub slice_more : (atoms : List OneAtom) (events : List Event) (event : Event)
+      → slice near atoms (ascending event_cmp (events ++ event ∷ []))
+      ≡ cond (some_near (readings_of atoms event) near)
+      (insert_key event_cmp (slice near atoms (ascending event_cmp events)) event)
+      (slice near atoms (ascending event_cmp events))
+  slice_more atoms events event =
       let some : Event → Bool = λ e. list_any (sees near e) atoms in
-      ap (λ ss. ascending event_cmp (map (λ s. s.event) (filter p ss))) are
-      ∙ ap (ascending event_cmp) (back atoms p events)
-      ∙ ap (λ q. ascending event_cmp (filter q events))
-      (funext (λ e. p (sighting_of atoms e)) some (near_sees atoms))
-      ∙ ascending_filter some events
-      ∙ ap (filter some) in_order
+      sym (ascending_filter some (events ++ event ∷ []))
+      ∙ ap (ascending event_cmp) (filter-append some events (event ∷ []))
+      ∙ by (some event)
+      ∙ ap₂ (λ b db. cond b (insert_key event_cmp db event) db) (sym (near_sees atoms event))
+      (ascending_filter some events)
+    where
+      kept : List Event
+      kept = filter (λ e. list_any (sees near e) atoms) events
 
-append-nil : {X : Type 0} (xs : List X) → xs ++ [] ≡ xs
-append-nil [] = refl
-append-nil (x ∷ xs) = ap (λ ys. x ∷ ys) (append-nil xs)
+      by : (b : Bool) → ascending event_cmp (kept ++ cond b (event ∷ []) [])
+          ≡ cond b (insert_key event_cmp (ascending event_cmp kept) event) (ascending event_cmp kept)
+      by true = sym (insert_behind event_total event_exact kept event)
+      by false = ap (ascending event_cmp) (append-nil kept)
 
--- ---- one sighting after another
+-- ---- one event after another
 
-pub no_events : (near : Region) → near_events near [] ≡ []
-unfolding near_events
-no_events near = refl
+-- the worker's part where these are the events
+abbrev pub part_of : (ℕ → Region) → List OneAtom → ℕ → List Event → ℕ → TimePoint
+part_of near atoms ts events k = record { ts = ts; db = slice (near k) atoms (ascending event_cmp events) }
 
-pub event_taken : (near : Region) (ss : List SightingOf) (s : SightingOf) → list_any (is_near near) s.readings ≡ true
-    → near_events near (ss ++ s ∷ []) ≡ near_events near ss ++ s.event ∷ []
-unfolding near_events
-event_taken near ss s holds =
-    let p : SightingOf → Bool = λ s. list_any (is_near near) s.readings in
-    ap (map (λ s. s.event)) (filter-append p ss (s ∷ []) ∙ ap (λ b. filter p ss ++ cond b (s ∷ []) []) holds)
-    ∙ map-append (λ s. s.event) (filter p ss) (s ∷ [])
+given_range : (test : ℕ → Bool) (event : Event) (f : ℕ → TimePoint) (y n : ℕ)
+    → given_to test event y (map f (range_with_len y n))
+    ≡ map (λ k. cond (test k) (with_event event (f k)) (f k)) (range_with_len y n)
+given_range test event f y zero = refl
+given_range test event f y (suc n) =
+    ap (λ ps. cond (test y) (with_event event (f y)) (f y) ∷ ps) (given_range test event f (y + 1) n)
 
-pub event_left : (near : Region) (ss : List SightingOf) (s : SightingOf) → list_any (is_near near) s.readings ≡ false
-    → near_events near (ss ++ s ∷ []) ≡ near_events near ss
-unfolding near_events
-event_left near ss s fails =
-    let p : SightingOf → Bool = λ s. list_any (is_near near) s.readings in
-    ap (map (λ s. s.event))
-    (filter-append p ss (s ∷ []) ∙ ap (λ b. filter p ss ++ cond b (s ∷ []) []) fails ∙ append-nil (filter p ss))
+-- the parts with one event more
+pub parts_more : (free : List ℕ) (near : ℕ → Region) → ((k : ℕ) → Passes free (near k))
+    → (n ts : ℕ) (atoms : List OneAtom) (events : List Event) (event : Event)
+    → given_to (λ k. some_near (readings_of atoms event) (near k)) event 0
+    (map (part_of near atoms ts events) (range_with_len 0 n))
+    ≡ map (part_of near atoms ts (events ++ event ∷ [])) (range_with_len 0 n)
+parts_more free near passes n ts atoms events event =
+    given_range test event (part_of near atoms ts events) 0 n
+    ∙ ap (λ f. map f (range_with_len 0 n))
+    (funext (λ k. cond (test k) (with_event event (part_of near atoms ts events k)) (part_of near atoms ts events k))
+    (part_of near atoms ts (events ++ event ∷ []))
+    (λ k. by k (test k) (test_is k)))
+  where
+    test : ℕ → Bool
+    test k = some_near (readings_of atoms event) (near k)
 
--- ---- one worker after another
+    test_is : (k : ℕ) → slice (near k) atoms (ascending event_cmp (events ++ event ∷ []))
+        ≡ cond (test k) (insert_key event_cmp (slice (near k) atoms (ascending event_cmp events)) event)
+        (slice (near k) atoms (ascending event_cmp events))
+    test_is k = slice_more free (near k) (passes k) atoms events event
 
-range_more : (a n : ℕ) → range_with_len a (suc n) ≡ range_with_len a n ++ (a + n) ∷ []
-range_more a zero = ap (λ x. x ∷ []) (omega arith)
-range_more a (suc n) =
-    let last : a + 1 + n ≡ a + suc n = omega arith in
-    ap (λ xs. a ∷ xs) (range_more (a + 1) n ∙ ap (λ x. range_with_len (a + 1) n ++ x ∷ []) last)
+    by : (k : ℕ) (b : Bool) → slice (near k) atoms (ascending event_cmp (events ++ event ∷ []))
+        ≡ cond b (insert_key event_cmp (slice (near k) atoms (ascending event_cmp events)) event)
+        (slice (near k) atoms (ascending event_cmp events))
+        → cond b (with_event event (part_of near atoms ts events k)) (part_of near atoms ts events k)
+        ≡ part_of near atoms ts (events ++ event ∷ []) k
+    by k true e = ap (λ db. record { ts = ts; db = db }) (sym e)
+    by k false e = ap (λ db. record { ts = ts; db = db }) (sym e)
 
-pub part_more : (n : ℕ) (near : ℕ → Region) (atoms : List OneAtom) (point : TimePoint)
-    → parts_for (n + 1) near atoms point ≡ parts_for n near atoms point ++ part_for (near n) atoms point ∷ []
-part_more n near atoms point =
-    let one : n + 1 ≡ suc n = omega arith in
-    ap (λ m. parts_for m near atoms point) one
-    ∙ ap (map (λ k. part_for (near k) atoms point))
-    (range_more 0 n ∙ ap (λ m. range_with_len 0 n ++ m ∷ []) (zero-add n))
-    ∙ map-append (λ k. part_for (near k) atoms point) (range_with_len 0 n) (n ∷ [])
+-- the parts with no event
+pub parts_none : (near : ℕ → Region) (n ts : ℕ) (atoms : List OneAtom)
+    → replicate n (record { ts = ts; db = [] }) ≡ map (part_of near atoms ts []) (range_with_len 0 n)
+parts_none near n ts atoms = by 0 n
+  where
+    by : (a n : ℕ) → replicate n (record { ts = ts; db = [] }) ≡ map (part_of near atoms ts []) (range_with_len a n)
+    by a zero = refl
+    by a (suc n) = ap (λ ps. record { ts = ts; db = [] } ∷ ps) (by (a + 1) n)
+
+pub parts_size : (f : ℕ → TimePoint) (a n : ℕ) → length (map f (range_with_len a n)) ≡ n
+parts_size f a zero = refl
+parts_size f a (suc n) = ap suc (parts_size f (a + 1) n)
+
+-- the parts stay as many, so what is written back is all of them
+pub written_back : (new old : List TimePoint) (count : ℕ) → length new ≡ length old → length old ≡ count
+    → take count (new ++ drop (length new) old) ≡ new
+written_back new old count same size =
+    ap (λ ps. take count (new ++ ps)) (drop_all (length new) old (omega (arith, same)))
+    ∙ ap (take count) (append-nil new)
+    ∙ take_all count new (omega (arith, same, size))
 
 -- ---- one atom after another
 

@@ -1,4 +1,3 @@
-pub mod Sightings
-pub mod SightingView
+pub mod Readings
 pub mod Parts
 pub mod Examples

@@ -3,7 +3,7 @@
 
 pub mod examples;
 mod reading;
-mod sighting;
+mod spread;
 mod time_point;
 
 pub use time_point::split;

@@ -1,8 +1,8 @@
 //! What events give to the variables of atoms.
-ghost use Rattle.std.specs.Prelude.{◌≡◌, ◌<◌, IfOk};
+ghost use Rattle.std.specs.Prelude.{◌≡◌, IfOk};
 ghost use Rattle.std.specs.List.{flat_map};
 ghost use Rattle.mfotl_model.specs.FreeVariables.{variable_in};
-ghost use Rattle.event_splitter.specs.Sightings.{is_near, reading_of, readings_of};
+ghost use Rattle.event_splitter.specs.Readings.{IsFirst, is_near, reading_of, readings_of};
 
 use mfotl_model::{Atom, Event, Partial, Row, Term};
 use slice_strategy::Slicer;
@@ -18,7 +18,7 @@ pub(crate) struct Reading {
 
 impl Model for Reading {
     ghost use Rattle.std.specs.Prelude.{◌≡◌, length};
-    ghost use Rattle.event_splitter.specs.Sightings.{ReadingOf};
+    ghost use Rattle.event_splitter.specs.Readings.{ReadingOf};
 
     ghost Value = { ReadingOf };
 
@@ -36,16 +36,15 @@ impl Reading {
         Ok(Reading { columns, row })
     }
 
-    /// Whether it may be of concern to worker `k`.
-    pub(crate) fn is_near<S: Slicer>(&self, slicer: &S, k: u32) -> bool
-        requires { k < S.count slicer.now }
-        ensures { result ≡ is_near (S.region slicer.now k) self.now }
+    /// The first worker from `from` on that it may be of concern to.
+    pub(crate) fn next_near<S: Slicer>(&self, slicer: &S, from: u32) -> Option<u32>
+        ensures { IsFirst (λ k. is_near (S.region slicer.now k) self.now) from (S.count slicer.now) result }
     {
         let part = Partial {
             cols: &self.columns,
             row: &self.row,
         };
-        slicer.near(k, &part)
+        slicer.next_near(from, &part)
     }
 }
 

@@ -36,7 +36,7 @@ entry_next items i e low is =
 pub none_behind : (items : List Entry) (i : ℕ) → length items ≤ i → behind items i ≡ []
 none_behind items i past = ap entries_of (drop_past items i past)
 
-quotient : (p w : ℕ) → 0 < p → p * w / p ≡ w
+pub quotient : (p w : ℕ) → 0 < p → p * w / p ≡ w
 quotient p w some = ap (λ n. n / p) (mul_comm p w) ∙ by
   where
     by : w * p / p ≡ w

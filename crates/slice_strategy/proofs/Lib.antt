@@ -2,6 +2,7 @@ pub mod RemainderLemmas
 pub mod PartialLemmas
 pub mod EntryLemmas
 pub mod CountLemmas
+pub mod NearestLemmas
 pub mod SoundLemmas
 pub mod ReadingLemmas
 pub mod SizeLemmas

@@ -1,6 +1,7 @@
 pub mod Limits
 pub mod Entries
 pub mod Slicers
+pub mod Nearest
 pub mod SlicerLemmas
 pub mod Grammar
 pub mod Rules

@@ -64,7 +64,7 @@ one_owner s v some = owner_below 0 s v some
 
 -- ---- some worker is near
 
-same_number : (n : ℕ) → nat_eq n n ≡ true
+pub same_number : (n : ℕ) → nat_eq n n ≡ true
 same_number n = search arith
 
 at_bound : (bound : Bool) (a : ℕ) → (not bound || nat_eq a (cond bound a 0)) ≡ true

@@ -1,6 +1,6 @@
 -- What holds of everything that divides rows among workers. Of a slicer s there are `count s` workers; the row that
 -- a valuation gives to all free variables belongs to `owner s v`; and `near s k` is the region of the worker k.
-use Rattle.std.specs.Prelude.{◌≡◌, ℕ, ◌<◌, true, List, length, nat_eq}
+use Rattle.std.specs.Prelude.{◌≡◌, ℕ, ◌<◌, ◌≤◌, Bool, true, false, List, length, nat_eq, Option, Some, None}
 use Rattle.std.specs.List.{range_with_len}
 use Rattle.mfotl_model.specs.FreeVariables.{among}
 use Rattle.mfotl_model.specs.Regions.{Region, Passes}
@@ -35,3 +35,12 @@ module _ {S : Type 0} (count : S → ℕ) where
 -- near passes to each row that binds no more of the free variables, and those alike
 abbrev pub PassesOn : {S : Type 0} → (S → ℕ) → (S → ℕ → Region) → Type 0
 PassesOn {S} width near = (s : S) (free : List ℕ) (k : ℕ) → BindsAll (width s) free → Passes free (near s k)
+
+-- no number from the first up to below the second passes the test
+abbrev pub NoneFrom : ℕ → ℕ → (ℕ → Bool) → Type 0
+NoneFrom from end test = (k : ℕ) → from ≤ k → k < end → test k ≡ false
+
+-- how far a search among so many workers went: to what it found, or past the last
+abbrev pub end_of : ℕ → Option ℕ → ℕ
+end_of count None = count
+end_of count (Some k) = k

@@ -6,6 +6,7 @@ mod entry;
 mod fault;
 pub mod laws;
 mod limits;
+mod nearest;
 mod reading;
 mod script;
 mod script_step;

@@ -1,8 +1,8 @@
 //! What divides rows among workers.
-ghost use Rattle.std.specs.Prelude.{◌≡◌, ◌<◌, ◌≤◌, length};
+ghost use Rattle.std.specs.Prelude.{◌≡◌, ◌<◌, ◌≤◌, IfSome, length, true};
 ghost use Rattle.mfotl_model.specs.Tables.{valuation};
 ghost use Rattle.slice_strategy.specs.Limits.{max_workers};
-ghost use Rattle.slice_strategy.specs.Slicers.{full_row, OneOwner, Covers, NearIsOwner, PassesOn};
+ghost use Rattle.slice_strategy.specs.Slicers.{full_row, end_of, OneOwner, Covers, NearIsOwner, NoneFrom, PassesOn};
 
 use crate::strategy::Strategy;
 use mfotl_model::{Partial, Row};
@@ -41,6 +41,23 @@ pub trait Slicer {
         requires below { k < count self.now }
         requires sized { length part.now.cols.now ≡ length part.now.row.now }
         ensures { result ≡ region self.now k part.now.cols.now (valuation part.now.cols.now part.now.row.now) };
+
+    /// The first worker from `from` on that a row which binds some variables may be of concern to, if there is any.
+    fn next_near(&self, from: u32, part: &Partial) -> Option<u32>
+        requires { length part.now.cols.now ≡ length part.now.row.now }
+        ensures reached { IfSome result (λ k. (from ≤ k) × (k < count self.now)) }
+        ensures near { IfSome result (λ k.
+            region self.now k part.now.cols.now (valuation part.now.cols.now part.now.row.now) ≡ true) }
+        ensures first { NoneFrom from (end_of (count self.now) result)
+            (λ k. region self.now k part.now.cols.now (valuation part.now.cols.now part.now.row.now)) }
+    {
+        for k in from..self.workers() {
+            if self.near(k, part) {
+                return Some(k);
+            }
+        }
+        None
+    }
 
     ghost one_owner: { OneOwner count owned_by };
 
@@ -83,5 +100,9 @@ impl Slicer for Strategy {
 
     fn near(&self, k: u32, part: &Partial) -> bool {
         self.is_near(k, part)
+    }
+
+    fn next_near(&self, from: u32, part: &Partial) -> Option<u32> {
+        self.find_near(from, part)
     }
 }

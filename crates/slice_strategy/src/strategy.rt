@@ -1,13 +1,14 @@
 //! Strategies.
-ghost use Rattle.std.specs.Prelude.{◌≡◌, ◌<◌, ◌≤◌, ◌||◌, IfOk, length, MatchOption, nat_eq, not, slice_get, true, false};
+ghost use Rattle.std.specs.Prelude.{◌≡◌, ◌<◌, ◌≤◌, ◌||◌, IfOk, IfSome, length, MatchOption, nat_eq, not, slice_get, true, false};
 ghost use Rattle.mfotl_model.specs.FreeVariables.{among};
 ghost use Rattle.mfotl_model.specs.Regions.{near_of};
 ghost use Rattle.mfotl_model.specs.Strategies.{owner_of, parts_of, strategy_part, workers_of};
 ghost use Rattle.mfotl_model.specs.Tables.{valuation};
 ghost use Rattle.slice_strategy.specs.Entries.{HasWorkers, entries_of, entry_of, part_by};
-ghost use Rattle.slice_strategy.specs.Slicers.{full_row};
+ghost use Rattle.slice_strategy.specs.Slicers.{NoneFrom, end_of, full_row};
 
 use crate::entry::{Entry, count_workers};
+use crate::nearest::nearest;
 use mfotl_model::{Partial, Row, Value};
 use std::alloc::{AllocError, Global};
 use std::marker::Model;
@@ -32,7 +33,7 @@ impl Model for Strategy {
 }
 
 /// The value that a row gives to a variable, if it gives any.
-fn value_at<'a>(part: &Partial<'a>, variable: usize) -> Option<&'a Value>
+pub(crate) fn value_at<'a>(part: &Partial<'a>, variable: usize) -> Option<&'a Value>
     requires { length part.now.cols.now ≡ length part.now.row.now }
     ensures { MatchOption result
         (among variable part.now.cols.now ≡ false)
@@ -129,5 +130,25 @@ impl Strategy {
             digits %= place;
         }
         true
+    }
+
+    /// The first worker from `from` on that has the parts of all values that the row gives to free variables.
+    pub(crate) fn find_near(&self, from: u32, part: &Partial) -> Option<u32>
+        requires { length part.now.cols.now ≡ length part.now.row.now }
+        ensures reached { IfSome result (λ k. (from ≤ k) × (k < workers_of self.now)) }
+        ensures near { IfSome result (λ k.
+            near_of self.now k part.now.cols.now (valuation part.now.cols.now part.now.row.now) ≡ true) }
+        ensures first { NoneFrom from (end_of (workers_of self.now) result)
+            (λ k. near_of self.now k part.now.cols.now (valuation part.now.cols.now part.now.row.now)) }
+    {
+        let from = u64::from(from);
+        if from >= self.workers {
+            return None;
+        }
+        let found = nearest(self.entries.as_slice(), 0, part, self.workers, from);
+        match found.next {
+            Some(k) => Some(k as u32),
+            None => None,
+        }
     }
 }

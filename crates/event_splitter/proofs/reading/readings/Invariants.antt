@@ -1,5 +1,5 @@
 use Rattle.std.proofs.Common.{◌≡◌, ◌++◌, drop}
-use Rattle.event_splitter.specs.Sightings.{readings_of}
+use Rattle.event_splitter.specs.Readings.{readings_of}
 use Rattle.event_splitter.proofs.reading.readings.Given as goal
 
 abbrev pub invariant-loop-atom : goal.invariant-loop-atom

@@ -1,30 +1,27 @@
-use Rattle.std.proofs.Common.{◌≡◌, ◌∙◌, ap, ap₂, sym, map, [], ◌∷◌, ◌++◌}
-use Rattle.std.specs.List.{range_with_len}
-use Rattle.mfotl_model.specs.Slices.{slice}
-use Rattle.monitorable.specs.Atoms.{atoms_of}
-use Rattle.monitorable.specs.Cores.{core_form}
-use Rattle.event_splitter.specs.Sightings.{sighting_of}
-use Rattle.event_splitter.specs.SightingView.{seen}
-use Rattle.event_splitter.proofs.PartLemmas.{near_slice, part_more}
-use Rattle.event_splitter.proofs.SightingLemmas.{range_binds}
+use Rattle.std.proofs.Common.{◌≡◌, ◌∙◌, ap, sym, replicate, [], length}
+use Rattle.mfotl_model.specs.Ascending.{ascending}
+use Rattle.mfotl_model.specs.Events.{event_cmp}
+use Rattle.event_splitter.proofs.PartLemmas.{part_of, parts_none, parts_size, written_back}
 use Rattle.event_splitter.proofs.time_point.split.Goals as goal
+use Rattle.event_splitter.specs.Parts.{parts_for}
 
-pub loop-k-preserved : goal.loop-k-preserved
-loop-k-preserved g c =
-    let s = c.args.slicer.now in
-    let k = c.loop-k.k in
-    let near = g.S.Slicer.region s in
-    let atoms = atoms_of (core_form c.args.core.now) in
-    let point = c.args.point.now in
-    let free = range_with_len 0 (g.S.Slicer.width s) in
-    let are : map seen c.as_slice.result.now ≡ map (sighting_of atoms) c.inserted.result.now =
-    ap (map seen) c.as_slice.ensures.value
-    ∙ c.in_ok-sightings.ensures
-    ∙ ap (λ asked. map (sighting_of asked) c.inserted.result.now) c.atoms.ensures in
-    let db : c.in_ok-db.db ≡ slice (near k) atoms point.db =
-    c.in_ok-db.ensures
-    ∙ near_slice free (near k) (g.met.S.Slicer.passes s free k (range_binds (g.S.Slicer.width s))) atoms
-    (map seen c.as_slice.result.now) c.inserted.result.now point.db are c.inserted.ensures in
-    c.in_ok-push.ensures.items
-    ∙ ap₂ (λ ps d. ps ++ record { ts = point.ts; db = d } ∷ []) c.loop-k.invariant db
-    ∙ sym (part_more k near atoms point)
+pub returns : goal.returns
+returns g c =
+    let near = g.S.Slicer.region c.args.slicer.now in
+    let count = g.S.Slicer.count c.args.slicer.now in
+    let atoms = c.atoms.result.now in
+    let ts = c.args.point.now.ts in
+    let events = c.inserted.result.now in
+    let none : c.in_ok-points.points.items ≡ parts_for count near atoms (record { ts = ts; db = [] }) =
+    c.in_ok-points.ensures
+    ∙ ap (λ n. replicate n (record { ts = ts; db = [] })) c.workers.ensures.count
+    ∙ parts_none near count ts atoms in
+    let all : c.give_all.new.parts ≡ parts_for count near atoms (record { ts = ts; db = ascending event_cmp events }) =
+    c.in_ok-give_all.ensures ts (c.as_mut_slice-parts.ensures.value ∙ none) in
+    written_back c.give_all.new.parts c.in_ok-points.points.items c.in_ok-points.points.len
+    (ap length all
+    ∙ parts_size (part_of near atoms ts events) 0 count
+    ∙ sym (ap length none ∙ parts_size (part_of near atoms ts []) 0 count)) (sym c.in_ok-points.points.ok.0)
+    ∙ all
+    ∙ ap (λ db. parts_for count near atoms (record { ts = ts; db = db })) c.inserted.ensures
+    ∙ ap (λ asked. parts_for count near asked c.args.point.now) c.atoms.ensures
