@@ -3,7 +3,7 @@ use Rattle.std.proofs.lemmas.List.FromFn.{length-map-range_with_len}
 use Rattle.mfotl_model.specs.Strategies.{workers_of}
 use Rattle.monitorable.specs.Cores.{core_form}
 use Rattle.rescale_core.specs.Workers.{slice_for}
-use Rattle.rescale_core.proofs.RouterLemmas.{parts_are, point_read}
+use Rattle.rescale_core.proofs.ReadingLemmas.{parts_are, point_read}
 use Rattle.rescale_core.proofs.routes.Router.read_point.Goals as goal
 
 pub push_slices-requires : goal.push_slices-requires

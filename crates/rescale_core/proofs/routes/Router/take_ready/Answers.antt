@@ -6,7 +6,8 @@ use Rattle.rescale_core.specs.Queues.{queue_at, waiting}
 use Rattle.rescale_core.specs.Routing.{feeds}
 use Rattle.rescale_core.specs.Worlds.{queue_in, run}
 use Rattle.rescale_core.specs.declared.item.Item.{Item}
-use Rattle.rescale_core.proofs.RouterLemmas.{fed_all, items_taken, queue_beyond, queue_else, queue_here, queue_set}
+use Rattle.rescale_core.proofs.RouterLemmas.{fed_all, items_taken}
+use Rattle.rescale_core.proofs.QueueLemmas.{queue_beyond, queue_else, queue_here, queue_set}
 use Rattle.rescale_core.proofs.routes.Router.take_ready.Goals as goal
 
 near : (c : goal.In_ok-items) → c.args.k < length c.args.self.now.queues.items
