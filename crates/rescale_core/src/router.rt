@@ -27,14 +27,23 @@ impl Router {
         ensures { IfOk result (λ router. IsRouterOf router (first_world (core_form core) strategy)) }
     {
         let (gather, queues) = first_parts(alloc, strategy.workers())?;
-        Ok(Router {
+        Ok(Router::first(core, strategy, gather, queues))
+    }
+
+    // The router of the first generation.
+    fn first(core: Core, strategy: Strategy, gather: Gather, queues: Vec<Queue>) -> Self
+        ensures fits { (core_form result.core ≡ core_form core) × (result.strategy ≡ strategy) }
+        ensures counts { (result.generation ≡ 0) × (result.points ≡ 0) }
+        ensures waits { (result.gather ≡ gather) × (result.queues ≡ queues) }
+    {
+        Router {
             core,
             strategy,
             generation: 0,
             points: 0,
             queues,
             gather,
-        })
+        }
     }
 
     /// Queues a slice of the time-point for each worker, also an empty one.
