@@ -18,6 +18,7 @@ pub mod GatherLemmas
 pub mod ReadingLemmas
 pub mod QueueLemmas
 pub mod RouterLemmas
+pub mod RouterEnds
 pub mod CellLemmas
 pub mod MachineLemmas
 pub mod Counting

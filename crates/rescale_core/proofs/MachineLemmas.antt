@@ -1,7 +1,7 @@
 -- A machine's calls are steps of worlds.
 use Rattle.std.proofs.Common.{◌≡◌, ℕ, zero, suc, ◌+◌, ◌<◌, ◌≤◌, Bool, true, false, cond, nat_eq}
 use Rattle.std.proofs.Common.{Some}
-use Rattle.std.proofs.Common.{List, [], ◌∷◌, ◌++◌, length, map, drop, set, sym, refl, ap, ◌∙◌}
+use Rattle.std.proofs.Common.{List, [], ◌∷◌, ◌++◌, length, map, drop, get_or, set, sym, refl, ap, ◌∙◌}
 use Rattle.std.proofs.Common.{subst}
 use Rattle.std.proofs.Common.{append-nil, append_assoc, arith, eqb-true, length-append}
 use Rattle.std.proofs.Common.{length-set}
@@ -136,6 +136,9 @@ router_took r w k gave is may =
       queues = λ q. is.queues q
           ∙ sym (ap (λ (items : List Item). map (chance w.core q w.pieces) (drop (length items) (line_in w q)))
           (same q (nat_eq q k) refl));
+      counted = is.counted;
+      outstanding = λ q. ap (λ n. n + get_or r.outstanding.items q 0) (back q (nat_eq q k) refl) ∙ is.outstanding q
+          ∙ sym (ap (λ (items : List Item). length items) (same q (nat_eq q k) refl));
       sound = step_sound w (Take k gave) is.sound may;
       gather = is.gather;
     }
@@ -143,6 +146,11 @@ router_took r w k gave is may =
     same : (q : ℕ) (b : Bool) → nat_eq q k ≡ b → (cond b (took_one (w.seats k) gave) (w.seats q)).fed ≡ (w.seats q).fed
     same q true e = ap (λ y. (w.seats y).fed) (sym (eqb-true q k e))
     same q false e = refl
+
+    back : (q : ℕ) (b : Bool) → nat_eq q k ≡ b
+        → (cond b (took_one (w.seats k) gave) (w.seats q)).collected ≡ (w.seats q).collected
+    back q true e = ap (λ y. (w.seats y).collected) (sym (eqb-true q k e))
+    back q false e = refl
 
 -- a worker's cell that has nothing to take, or takes one
 pub machine_takes : (m n : Machine) (k : ℕ) (old new : Cell) (applied : Applied) → nth m.cells.items k ≡ Some old

@@ -5,6 +5,7 @@ use Rattle.std.proofs.Common.{sym, refl, ap, ◌∙◌, subst, inl, inr, ⊎_eli
 use Rattle.std.proofs.Common.{ne_eqb}
 use Rattle.std.proofs.Common.{length-append}
 use Rattle.std.proofs.lemmas.List.{drop-append-le, map-append}
+use Rattle.std.proofs.Common.{get_or}
 use Rattle.std.specs.List.{AllByRecursion, range_with_len}
 use native.Mathlib.Decide.{ℕ_discrete}
 use Rattle.mfotl_model.specs.Regions.{near_of}
@@ -132,7 +133,7 @@ module _ (r x : Router) (w : World) (is : IsRouterOf r w) (p : TimePoint) (may :
     (cuts : slices ≡ all_slices (core_form r.core) r.strategy p)
     (queued : (q : ℕ)
     → queue_at x.queues.items q ≡ queue_at r.queues.items q ++ slices_for r.generation r.points 0 slices q)
-    (gather : x.gather ≡ r.gather) where
+    (outstanding : x.outstanding ≡ r.outstanding) (gather : x.gather ≡ r.gather) where
   spot_is : spot_in (after w (Read (Point p))) ≡ moved (spot_in w) (Point p)
   spot_is = spot_more (first_spot w.first) w.read (Point p ∷ [])
 
@@ -157,6 +158,8 @@ module _ (r x : Router) (w : World) (is : IsRouterOf r w) (p : TimePoint) (may :
         ∙ sym (ap (λ (a : Spot). length a.points) spot_is ∙ length-append (spot_in w).points (p ∷ []));
     wide = subst (λ s. workers_of s ≤ length x.queues.items) (sym strategy) (let h = is.wide in omega arith);
     queues = queue_is;
+    counted = ap (λ v. length v.items) outstanding ∙ is.counted ∙ sym len;
+    outstanding = λ k. ap (λ v. (w.seats k).collected + get_or v.items k 0) outstanding ∙ is.outstanding k;
     sound = step_sound w (Read (Point p)) is.sound may;
     gather = subst (λ g. IsGatherOf g (after w (Read (Point p)))) (sym gather)
         (gather_point r.gather w p is.sound may is.gather);

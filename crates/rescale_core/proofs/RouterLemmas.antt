@@ -1,6 +1,6 @@
 -- The router's queues are the world's.
 use Rattle.std.proofs.Common.{◌≡◌, ◌≢◌, ℕ, zero, suc, ◌+◌, ◌<◌, ◌≤◌, Bool, true, false, cond, nat_eq}
-use Rattle.std.proofs.Common.{IfNone, IfSome, Option, Some, None, List, [], ◌∷◌, ◌++◌, length, map, drop}
+use Rattle.std.proofs.Common.{IfNone, IfSome, Option, Some, None, List, [], ◌∷◌, ◌++◌, length, map, drop, get_or}
 use Rattle.std.proofs.Common.{sym, refl, ap, ◌∙◌, subst, append-nil, arith, eq-eqb}
 use Rattle.std.proofs.Common.{ne_eqb, eqb-true}
 use Rattle.std.proofs.Common.{length-append, suc-add}
@@ -59,7 +59,7 @@ module _ (w : World) (k : ℕ) (i : Item) (rest : List Chance) (e : queue_in w k
       (drop (length (cond b (fed_more (w.seats k) i) (w.seats q)).fed) (line_in w q))) (ne_eqb q k n)
 
 -- all that a run of feeds does
-pub record Fed (w x : World) (k : ℕ) (rest : List Chance) : Type 0 where
+pub record Fed (w x : World) (k n : ℕ) (rest : List Chance) : Type 0 where
   pub core : x.core ≡ w.core
   pub spot : spot_in x ≡ spot_in w
   pub here : queue_in x k ≡ rest
@@ -69,10 +69,31 @@ pub record Fed (w x : World) (k : ℕ) (rest : List Chance) : Type 0 where
   pub read : x.read ≡ w.read
   pub rows : x.rows ≡ w.rows
   pub emitted : x.emitted ≡ w.emitted
+  pub collected : (q : ℕ) → (x.seats q).collected ≡ (w.seats q).collected
+  pub longer : (q : ℕ) → length (x.seats q).fed ≡ length (w.seats q).fed + cond (nat_eq q k) n 0
+
+-- a seat behind an item that is handed over
+collected_same : (w : World) (k : ℕ) (i : Item) (q : ℕ) (b : Bool) → nat_eq q k ≡ b
+    → (cond b (fed_more (w.seats k) i) (w.seats q)).collected ≡ (w.seats q).collected
+collected_same w k i q true e = ap (λ y. (w.seats y).collected) (sym (eqb-true q k e))
+collected_same w k i q false e = refl
+
+one_longer : (w : World) (k : ℕ) (i : Item) (q n : ℕ) (b : Bool) → nat_eq q k ≡ b
+    → length (cond b (fed_more (w.seats k) i) (w.seats q)).fed + cond b n 0
+    ≡ length (w.seats q).fed + cond b (suc n) 0
+one_longer w k i q n true e =
+    let at : length (w.seats k).fed ≡ length (w.seats q).fed = ap (λ y. length (w.seats y).fed) (sym (eqb-true q k e)) in
+    let l : length ((w.seats k).fed ++ i ∷ []) ≡ length (w.seats k).fed + 1 = length-append (w.seats k).fed (i ∷ []) in
+    omega arith
+one_longer w k i q n false e = refl
+
+no_longer : (a : ℕ) (b : Bool) → a ≡ a + cond b 0 0
+no_longer a true = omega arith
+no_longer a false = omega arith
 
 pub fed_all : (items : List Item) (w : World) (k : ℕ) (rest : List Chance) → IsSound w
     → queue_in w k ≡ map (λ i. Sure i) items ++ rest → AreAllowed w (feeds k items)
-    × Fed w (run w (feeds k items)) k rest
+    × Fed w (run w (feeds k items)) k (length items) rest
 fed_all [] w k rest r e = (
   tt,
   record {
@@ -85,6 +106,8 @@ fed_all [] w k rest r e = (
     read = refl;
     rows = refl;
     emitted = refl;
+    collected = λ q. refl;
+    longer = λ q. no_longer (length (w.seats q).fed) (nat_eq q k);
   },
 )
 fed_all (i ∷ items) w k rest r e = let more : List Chance = map (λ i. Sure i) items ++ rest in
@@ -102,6 +125,8 @@ fed_all (i ∷ items) w k rest r e = let more : List Chance = map (λ i. Sure i)
         read = h.1.read;
         rows = h.1.rows;
         emitted = h.1.emitted;
+        collected = λ q. h.1.collected q ∙ collected_same w k i q (nat_eq q k) refl;
+        longer = λ q. h.1.longer q ∙ one_longer w k i q (length items) (nat_eq q k) refl;
       },
     )
 
@@ -111,8 +136,11 @@ module _ (r x : Router) (w : World) (is : IsRouterOf r w) (k : ℕ) (items : Lis
     (len : length x.queues.items ≡ length r.queues.items)
     (here : queue_at r.queues.items k ≡ map (λ i. Sure i) items ++ rest) (now : queue_at x.queues.items k ≡ rest)
     (others : (q : ℕ) → q ≢ k → queue_at x.queues.items q ≡ queue_at r.queues.items q)
+    (counted : length x.outstanding.items ≡ length r.outstanding.items)
+    (more : (q : ℕ) → get_or x.outstanding.items q 0
+    ≡ get_or r.outstanding.items q 0 + cond (nat_eq q k) (length items) 0)
     (gather : x.gather ≡ r.gather) where
-  pub all_fed : AreAllowed w (feeds k items) × Fed w (run w (feeds k items)) k rest
+  pub all_fed : AreAllowed w (feeds k items) × Fed w (run w (feeds k items)) k (length items) rest
   all_fed = fed_all items w k rest is.sound (sym (is.queues k) ∙ here)
 
   queue_now : (q : ℕ) → Dec (q ≡ k) → queue_at x.queues.items q ≡ queue_in (run w (feeds k items)) q
@@ -132,6 +160,13 @@ module _ (r x : Router) (w : World) (is : IsRouterOf r w) (k : ℕ) (items : Lis
       points = points ∙ is.points ∙ sym (ap (λ (a : Spot). length a.points) all_fed.1.spot);
       wide = subst (λ s. workers_of s ≤ length x.queues.items) (sym strategy) (let h = is.wide in omega arith);
       queues = λ q. queue_now q (ℕ_discrete q k);
+      counted = counted ∙ is.counted ∙ sym len;
+      outstanding = λ q.
+          let a = all_fed.1.collected q in
+          let b = all_fed.1.longer q in
+          let m = more q in
+          let o = is.outstanding q in
+          omega arith;
       sound = all_fed.1.sound;
       gather = subst (λ g. IsGatherOf g (run w (feeds k items))) (sym gather)
           (gather_kept r.gather w
@@ -149,7 +184,8 @@ outs_back w k n outs taken =
 module _ (r x : Router) (w : World) (is : IsRouterOf r w) (k n : ℕ) (outs : List Out) (taken : HasTaken w k n outs)
     (core : core_form x.core ≡ core_form r.core) (strategy : x.strategy ≡ r.strategy)
     (generation : x.generation ≡ r.generation) (points : x.points ≡ r.points) (queues : x.queues ≡ r.queues)
-    (some : 0 < n)
+    (some : 0 < n) (counted : length x.outstanding.items ≡ length r.outstanding.items)
+    (less : (q : ℕ) → get_or x.outstanding.items q 0 + cond (nat_eq q k) n 0 ≡ get_or r.outstanding.items q 0)
     (gather : x.gather ≡ record {
       begun = r.gather.begun;
       next = r.gather.next;
@@ -177,6 +213,21 @@ module _ (r x : Router) (w : World) (is : IsRouterOf r w) (k n : ℕ) (outs : Li
         ∙ ap (λ (y : List Piece). map (chance w.core q y) (drop (length (w.seats q).fed) (line_in w q)))
         (ap (λ (y : List Piece). w.pieces ++ y) none ∙ append-nil w.pieces)
 
+    -- fewer items are outstanding of worker k
+    now_outstanding : (q y : ℕ) (b : Bool) → nat_eq q k ≡ b → y + cond b n 0 ≡ get_or r.outstanding.items q 0
+        → (cond b (all_collected (w.seats k)) (w.seats q)).collected + y
+        ≡ length (cond b (all_collected (w.seats k)) (w.seats q)).fed
+    now_outstanding q y true e h =
+        let at : q ≡ k = eqb-true q k e in
+        let o : (w.seats k).collected + get_or r.outstanding.items k 0 ≡ length (w.seats k).fed = is.outstanding k in
+        let g : get_or r.outstanding.items q 0 ≡ get_or r.outstanding.items k 0 =
+        ap (λ j. get_or r.outstanding.items j 0) at in
+        let t = taken.taken in
+        omega arith
+    now_outstanding q y false e h =
+        let o = is.outstanding q in
+        omega arith
+
     pub outs_collected : IsRouterOf x (after w (Collect k))
     outs_collected = record {
       unchanged = is.unchanged;
@@ -187,6 +238,8 @@ module _ (r x : Router) (w : World) (is : IsRouterOf r w) (k n : ℕ) (outs : Li
       wide = subst (λ s. workers_of s ≤ length x.queues.items) (sym strategy)
           (subst (λ qs. workers_of r.strategy ≤ length qs.items) (sym queues) is.wide);
       queues = λ q. ap (λ qs. queue_at qs.items q) queues ∙ is.queues q ∙ sym (queue_collected q);
+      counted = counted ∙ is.counted ∙ sym (ap (λ qs. length qs.items) queues);
+      outstanding = λ q. now_outstanding q (get_or x.outstanding.items q 0) (nat_eq q k) refl (less q);
       sound = collect_sound w k is.sound;
       gather = gather_collected r.gather x.gather w k is.sound allowed
           (gather ∙ ap (λ
@@ -209,13 +262,32 @@ outs_may_add r w k n outs is taken =
     subst (λ (o : List Out). MayAdd r.gather (rows_in o)) (outs_back w k n outs taken)
     (rows_may_add r.gather w k is.sound is.gather)
 
+-- what was taken is outstanding
+pub taken_less : (r : Router) (w : World) (k n : ℕ) (outs : List Out) → IsRouterOf r w → HasTaken w k n outs
+    → n ≤ get_or r.outstanding.items k 0
+taken_less r w k n outs is taken =
+    let o = is.outstanding k in
+    let t = taken.taken in
+    let low = (is.sound.seated k).taken in
+    omega arith
+
+pub taken_low : (r : Router) (w : World) (k n : ℕ) (outs : List Out) → IsRouterOf r w → HasTaken w k n outs → 0 < n
+    → k < length r.outstanding.items
+taken_low r w k n outs is taken some =
+    at r.outstanding.items k (let h = taken_less r w k n outs is taken in omega arith)
+  where
+    at : (xs : List ℕ) (k : ℕ) → 0 < get_or xs k 0 → k < length xs
+    at [] k h = absurd (omega arith)
+    at (x ∷ xs) zero h = omega arith
+    at (x ∷ xs) (suc k) h = let l = at xs k h in omega arith
+
 -- ---- emitting
 
 pub verdict_emitted : (r x : Router) (w : World) (v : Verdict) → IsRouterOf r w
     → core_form x.core ≡ core_form r.core → x.strategy ≡ r.strategy → x.generation ≡ r.generation
-    → x.points ≡ r.points → x.queues ≡ r.queues → Emits r.gather (Some v) x.gather
+    → x.points ≡ r.points → x.queues ≡ r.queues → x.outstanding ≡ r.outstanding → Emits r.gather (Some v) x.gather
     → Allowed w (Emit v) × IsRouterOf x (after w (Emit v))
-verdict_emitted r x w v is core strategy generation points queues e = let g =
+verdict_emitted r x w v is core strategy generation points queues outstanding e = let g =
     gather_emitted r.gather x.gather w v is.sound e is.gather in (
       g.0,
       record {
@@ -227,6 +299,8 @@ verdict_emitted r x w v is core strategy generation points queues e = let g =
         wide = subst (λ s. workers_of s ≤ length x.queues.items) (sym strategy)
             (subst (λ qs. workers_of r.strategy ≤ length qs.items) (sym queues) is.wide);
         queues = λ q. ap (λ qs. queue_at qs.items q) queues ∙ is.queues q;
+        counted = ap (λ v. length v.items) outstanding ∙ is.counted ∙ sym (ap (λ qs. length qs.items) queues);
+        outstanding = λ k. ap (λ v. (w.seats k).collected + get_or v.items k 0) outstanding ∙ is.outstanding k;
         sound = step_sound w (Emit v) is.sound g.0;
         gather = g.1;
       },
@@ -234,17 +308,17 @@ verdict_emitted r x w v is core strategy generation points queues e = let g =
 
 pub emitted_if : (r x : Router) (o : Option Verdict) → core_form x.core ≡ core_form r.core
     → x.strategy ≡ r.strategy → x.generation ≡ r.generation → x.points ≡ r.points → x.queues ≡ r.queues
-    → Emits r.gather o x.gather
+    → x.outstanding ≡ r.outstanding → Emits r.gather o x.gather
     → IfSome o (λ v. (w : World) → IsRouterOf r w → Allowed w (Emit v) × IsRouterOf x (after w (Emit v)))
-emitted_if r x (Some v) a b c d e h = λ w is. verdict_emitted r x w v is a b c d e h
-emitted_if r x None a b c d e h = tt
+emitted_if r x (Some v) a b c d e o h = λ w is. verdict_emitted r x w v is a b c d e o h
+emitted_if r x None a b c d e o h = tt
 
 pub unemitted_if : (r x : Router) (o : Option Verdict) → core_form x.core ≡ core_form r.core
     → x.strategy ≡ r.strategy → x.generation ≡ r.generation → x.points ≡ r.points → x.queues ≡ r.queues
-    → Emits r.gather o x.gather
+    → x.outstanding ≡ r.outstanding → Emits r.gather o x.gather
     → IfNone o ((w : World) → IsRouterOf r w → (IsGathered w (length w.emitted) → ⊥) × IsRouterOf x w)
-unemitted_if r x (Some v) a b c d e h = tt
-unemitted_if r x None core strategy generation points queues h = λ w is. (
+unemitted_if r x (Some v) a b c d e o h = tt
+unemitted_if r x None core strategy generation points queues outstanding h = λ w is. (
   none_emitted r.gather x.gather w is.sound h is.gather,
   record {
     unchanged = is.unchanged;
@@ -255,6 +329,8 @@ unemitted_if r x None core strategy generation points queues h = λ w is. (
     wide = subst (λ s. workers_of s ≤ length x.queues.items) (sym strategy)
         (subst (λ qs. workers_of r.strategy ≤ length qs.items) (sym queues) is.wide);
     queues = λ q. ap (λ qs. queue_at qs.items q) queues ∙ is.queues q;
+    counted = ap (λ v. length v.items) outstanding ∙ is.counted ∙ sym (ap (λ qs. length qs.items) queues);
+    outstanding = λ k. ap (λ v. (w.seats k).collected + get_or v.items k 0) outstanding ∙ is.outstanding k;
     sound = is.sound;
     gather = subst (λ g. IsGatherOf g w) (sym h.1) is.gather;
   },
@@ -265,9 +341,10 @@ unemitted_if r x None core strategy generation points queues h = λ w is. (
 pub router_begins : (r : Router) (c : CoreForm) (s : Strategy) → IsFor c s → core_form r.core ≡ c → r.strategy ≡ s
     → r.generation ≡ 0 → r.points ≡ 0 → workers_of s ≤ length r.queues.items
     → ((q : ℕ) → queue_at r.queues.items q ≡ [])
+    → length r.outstanding.items ≡ length r.queues.items → ((q : ℕ) → get_or r.outstanding.items q 0 ≡ 0)
     → r.gather ≡ record { begun = record { generation = 0; workers = workers_of s } ∷ []; next = 0; added = [] }
     → IsRouterOf r (first_world c s)
-router_begins r c s is core strategy generation points wide empty gather =
+router_begins r c s is core strategy generation points wide empty counted nothing gather =
     record {
       unchanged = tt;
       core = core;
@@ -276,6 +353,8 @@ router_begins r c s is core strategy generation points wide empty gather =
       points = points;
       wide = subst (λ t. workers_of t ≤ length r.queues.items) (sym strategy) wide;
       queues = empty;
+      counted = counted;
+      outstanding = λ q. (let n = nothing q in omega arith);
       sound = first_sound c s is;
       gather = subst (λ g. IsGatherOf g (first_world c s)) (sym gather) (record {
         next = refl;

@@ -22,4 +22,4 @@ returns c = λ w is may.
     point_read r _ w is c.args.point may refl refl refl refl c.in_ok-push_slices.ensures.len
     c.in_ok-slices.slices.items
     (c.in_ok-slices.ensures ∙ parts_are (core_form r.core) r.strategy c.args.point)
-    c.in_ok-push_slices.ensures.queued refl
+    c.in_ok-push_slices.ensures.queued refl refl
