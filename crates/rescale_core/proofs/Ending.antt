@@ -14,7 +14,7 @@ use Rattle.rescale_core.proofs.Emitting.{DueRow, below_of, due_all}
 use Rattle.rescale_core.proofs.Fitting.{every_map}
 use Rattle.rescale_core.proofs.Given.{given_there, is_of, kept, on_line, settling, worker_there}
 use Rattle.rescale_core.proofs.LogLemmas.{settled_within}
-use Rattle.rescale_core.proofs.MachineLemmas.{OnlySlices, line_only}
+use Rattle.rescale_core.proofs.CellLemmas.{OnlySlices, line_only}
 use Rattle.rescale_core.specs.Cells.{Enabled, IsMachineOf}
 use Rattle.rescale_core.specs.Lines.{Due, first_spot}
 use Rattle.rescale_core.specs.Lines.Due.{Slicing, Parting, Hole}

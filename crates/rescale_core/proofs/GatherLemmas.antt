@@ -8,7 +8,7 @@ use Rattle.std.proofs.lemmas.Bool.Decides.{leb_tells}
 use Rattle.mfotl_model.specs.Strategies.{Strategy, workers_of}
 use Rattle.rescale_core.proofs.Chains.{below, some_workers}
 use Rattle.rescale_core.proofs.Fitting.{every_map}
-use Rattle.rescale_core.proofs.Soundness.{collect_sound}
+use Rattle.rescale_core.proofs.Collecting.{collect_sound}
 use Rattle.rescale_core.proofs.Emitting.{DueRow, complete_some, complete_with, due_all, merged_due}
 use Rattle.rescale_core.proofs.Emitting.{slice_strategy}
 use Rattle.rescale_core.proofs.Gathered.{none_more, step_gathered}

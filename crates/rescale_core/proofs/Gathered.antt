@@ -8,7 +8,7 @@ use Rattle.mfotl_model.specs.Strategies.{workers_of}
 use Rattle.rescale_core.proofs.Emitting.{DueRow, below_of, due_all}
 use Rattle.rescale_core.proofs.Fitting.{every_map}
 use Rattle.rescale_core.proofs.Settling.{slice_more}
-use Rattle.rescale_core.proofs.Soundness.{collect_sound}
+use Rattle.rescale_core.proofs.Collecting.{collect_sound}
 use Rattle.rescale_core.specs.Lines.{first_spot}
 use Rattle.rescale_core.specs.Soundly.{IsSound}
 use Rattle.rescale_core.specs.Worlds.{World, Move, not_back, rows_in, Allowed, IsGathered, after}

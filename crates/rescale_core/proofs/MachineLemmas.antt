@@ -1,31 +1,21 @@
 -- A machine's calls are steps of worlds.
-use Rattle.std.proofs.Common.{◌≡◌, ◌≢◌, ◌⊎◌, ℕ, zero, suc, ◌+◌, ◌<◌, ◌≤◌, Bool, true, false, cond, nat_eq, nat_lt}
+use Rattle.std.proofs.Common.{◌≡◌, ℕ, zero, suc, ◌+◌, ◌<◌, ◌≤◌, Bool, true, false, cond, nat_eq}
 use Rattle.std.proofs.Common.{Some}
-use Rattle.std.proofs.Common.{List, [], ◌∷◌, ◌++◌, length, map, drop, take, get_or, set, sym, refl, ap, ◌∙◌}
+use Rattle.std.proofs.Common.{List, [], ◌∷◌, ◌++◌, length, map, drop, get_or, set, sym, refl, ap, ◌∙◌}
 use Rattle.std.proofs.Common.{subst}
-use Rattle.std.proofs.Common.{inl, inr, append-nil, append_assoc, arith, eq-eqb, ne_eqb, eqb-true, length-append}
+use Rattle.std.proofs.Common.{append-nil, append_assoc, arith, eqb-true, length-append}
 use Rattle.std.proofs.Common.{length-set}
-use Rattle.std.specs.List.{AllByRecursion}
 use native.Mathlib.Decide.{ℕ_discrete}
 use Rattle.mfotl_model.specs.Strategies.{workers_of}
 use Rattle.mfotl_model.specs.declared.event.TimePoint.{TimePoint}
-use Rattle.monitorable.specs.CoreForms.{CoreForm}
-use Rattle.turn_hub.specs.Work.{Leads}
 use Rattle.verdict_merge.specs.declared.rows.Verdict.{Verdict}
-use Rattle.rescale_core.proofs.Leading.{has_front}
-use Rattle.rescale_core.proofs.Chains.{left_out}
-use Rattle.rescale_core.proofs.Soundness.{has_of, step_sound}
+use Rattle.rescale_core.proofs.Soundness.{step_sound}
 use Rattle.rescale_core.proofs.Verdicts.{step_verdicts}
-use Rattle.rescale_core.proofs.WorldLemmas.{if_either, spot_more, supplies_length}
+use Rattle.rescale_core.proofs.WorldLemmas.{spot_more, supplies_length}
 use Rattle.rescale_core.specs.Cells.{Applies, IsCellAt, IsCellOf, IsMachineOf, Takes}
 use Rattle.rescale_core.specs.Chances.Chance.{Sure}
-use Rattle.rescale_core.specs.Lines.{AreSound, Due, Spot, first_spot, line, moved}
-use Rattle.rescale_core.specs.Lines.Due.{Slicing, Parting, Hole}
+use Rattle.rescale_core.specs.Lines.{AreSound, Due, Spot, first_spot, moved}
 use Rattle.rescale_core.specs.Routing.{ArePoints, HasTaken, IsRouterOf}
-use Rattle.rescale_core.specs.Seeds.{SeedOf}
-use Rattle.rescale_core.specs.Soundly.{IsSound, Supplies}
-use Rattle.rescale_core.specs.Stages.{Answers}
-use Rattle.rescale_core.specs.Working.{Has, IsSlice, May, StandsFor, slices_front}
 use Rattle.rescale_core.specs.Worlds.{World, Allowed, Seat, after, all_collected, chance, fed_more, line_in, nth}
 use Rattle.rescale_core.specs.Worlds.{queue_in, set_seat, spot_in, took_one}
 use Rattle.rescale_core.specs.Worlds.Move.{Read, Feed, Take, Collect, Emit}
@@ -34,178 +24,12 @@ use Rattle.rescale_core.specs.declared.cells.Applied.TheVariants.{Did, NotEnable
 use Rattle.rescale_core.specs.declared.cells.Cell.{Cell}
 use Rattle.rescale_core.specs.declared.cells.Step.TheVariants as step
 use Rattle.rescale_core.specs.declared.item.Entry.{Entry}
-use Rattle.rescale_core.specs.declared.item.Entry.TheVariants.{Point, Change}
+use Rattle.rescale_core.specs.declared.item.Entry.TheVariants.{Point}
 use Rattle.rescale_core.specs.declared.item.Item.{Item}
-use Rattle.rescale_core.specs.declared.item.Item.TheVariants.{Slice}
 use Rattle.rescale_core.specs.declared.item.Out.{Out}
-use Rattle.rescale_core.specs.declared.phase.Worker.{Worker}
-use Rattle.rescale_core.specs.declared.piece.Piece.{Piece}
 use Rattle.rescale_core.specs.declared.routes.Router.{Router}
 use Rattle.rescale_core.specs.declared.stage.Machine.{Machine}
-
--- ---- places among cells
-
-pub nth_here : {A : Type 0} (xs : List A) (k : ℕ) (v : A) → k < length xs → v ≡ get_or xs k v → nth xs k ≡ Some v
-nth_here [] k v h e = absurd (omega arith)
-nth_here (x ∷ xs) zero v h e = ap Some (sym e)
-nth_here (x ∷ xs) (suc k) v h e = nth_here xs k v (omega arith) e
-
-nth_set : {A : Type 0} (xs : List A) (k : ℕ) (v x : A) → nth (set xs k v) k ≡ Some x → v ≡ x
-nth_set [] k v x e = cc
-nth_set (y ∷ xs) zero v x e = cc
-nth_set (y ∷ xs) (suc k) v x e = nth_set xs k v x e
-
-nth_else : {A : Type 0} (xs : List A) (k j : ℕ) (v : A) → j ≢ k → nth (set xs k v) j ≡ nth xs j
-nth_else [] k j v n = refl
-nth_else (x ∷ xs) zero zero v n = absurd (n refl)
-nth_else (x ∷ xs) zero (suc j) v n = refl
-nth_else (x ∷ xs) (suc k) zero v n = refl
-nth_else (x ∷ xs) (suc k) (suc j) v n = nth_else xs k j v (λ e. n (ap suc e))
-
-pub nth_last : {A : Type 0} (xs : List A) (v : A) (k : ℕ) (x : A) → nth (xs ++ v ∷ []) k ≡ Some x
-    → (nth xs k ≡ Some x) ⊎ ((k ≡ length xs) × (v ≡ x))
-nth_last [] v zero x e = inr (refl, cc)
-nth_last [] v (suc k) x e = cc
-nth_last (y ∷ xs) v zero x e = inl e
-nth_last (y ∷ xs) v (suc k) x e = at (nth_last xs v k x e)
-  where
-    at : (nth xs k ≡ Some x) ⊎ ((k ≡ length xs) × (v ≡ x))
-        → (nth xs k ≡ Some x) ⊎ ((suc k ≡ suc (length xs)) × (v ≡ x))
-    at (inl h) = inl h
-    at (inr h) = inr (ap suc h.0, h.1)
-
--- ---- no strategy changes
-
-abbrev pub OnlySlices : List Due → Type 0
-OnlySlices [] = Unit {0}
-OnlySlices (Slicing g s log p ∷ ds) = OnlySlices ds
-OnlySlices (Parting t ∷ ds) = ⊥
-OnlySlices (Hole t j ∷ ds) = ⊥
-
-pub line_only : (k : ℕ) (es : List Entry) (a : Spot) → ArePoints es → OnlySlices (line k a es)
-line_only k [] a h = tt
-line_only k (Change s ∷ es) a h = absurd h
-line_only k (Point p ∷ es) a h =
-    let rest = line_only k es (moved a (Point p)) h in
-    if_either (λ x. OnlySlices (x ++ line k (moved a (Point p)) es)) (nat_lt k (workers_of a.strategy))
-    (Slicing a.generation a.strategy a.points p ∷ []) rest rest
-
-only_slices : (c : CoreForm) (k : ℕ) (pieces : List Piece) (ds : List Due) (items : List Item) → OnlySlices ds
-    → Supplies c k pieces ds items → AllByRecursion IsSlice items
-only_slices c k pieces ds [] o s = tt
-only_slices c k pieces [] (i ∷ is) o s = absurd s
-only_slices c k pieces (Slicing g t log p ∷ ds) (i ∷ is) o s =
-    let e : Slice g (length log) (Rattle.rescale_core.specs.Workers.slice_for c t k p) ≡ i = cc in
-    (subst IsSlice e tt, only_slices c k pieces ds is o s.1)
-only_slices c k pieces (Parting t ∷ ds) (i ∷ is) o s = absurd o
-only_slices c k pieces (Hole t j ∷ ds) (i ∷ is) o s = absurd o
-
--- a worker that isn't one is due nothing
-pub line_none : (k : ℕ) (es : List Entry) (a : Spot) → ArePoints es → workers_of a.strategy ≤ k → line k a es ≡ []
-line_none k [] a h high = refl
-line_none k (Change s ∷ es) a h high = absurd h
-line_none k (Point p ∷ es) a h high =
-    ap (λ x. x ++ line k (moved a (Point p)) es)
-    (left_out k (workers_of a.strategy) (Slicing a.generation a.strategy a.points p ∷ []) high)
-    ∙ line_none k es (moved a (Point p)) h high
-
--- ---- one cell
-
-abbrev seed_in : World → ℕ → SeedOf
-seed_in w k = record { core = w.core; first = w.first; k = k }
-
-seat_here : (w : World) (k : ℕ) (s : Seat) → set_seat w.seats k s k ≡ s
-seat_here w k s = ap (λ b. cond b s (w.seats k)) (eq-eqb k k refl)
-
-seat_else : (w : World) (k j : ℕ) (s : Seat) → j ≢ k → set_seat w.seats k s j ≡ w.seats j
-seat_else w k j s n = ap (λ b. cond b s (w.seats j)) (ne_eqb j k n)
-
--- the items in a cell may be taken
-pub may_take : (w : World) (k : ℕ) (before : List Item) (item : Item) (rest : List Item) → IsSound w
-    → ArePoints w.read → (w.seats k).fed ≡ before ++ item ∷ rest
-    → Has (seed_in w k) w.read (before ++ item ∷ []) × May (seed_in w k) (before ++ item ∷ [])
-may_take w k before item rest r points e =
-    let cut : (w.seats k).fed ≡ (before ++ item ∷ []) ++ rest = e ∙ sym (append_assoc before (item ∷ []) rest) in
-    let has = has_front (seed_in w k) (before ++ item ∷ []) rest w.read
-    (subst (Has (seed_in w k) w.read) cut (has_of w k r)) in
-    let all = only_slices w.core k w.pieces (line_in w k) (w.seats k).fed
-    (line_only k w.read (first_spot w.first) points)
-    (r.seated k).supplied in
-    (has, ((w.read, has), slices_front (before ++ item ∷ []) rest (subst (AllByRecursion IsSlice) cut all)))
-
--- a cell whose worker takes its first item
-pub took : (w : World) (k : ℕ) (old new : Cell) (item : Item) (gave : List Out) → IsSound w → ArePoints w.read
-    → IsCellOf w k old → old.items.items ≡ item ∷ new.items.items → new.taken ≡ old.taken + 1
-    → new.outs.items ≡ old.outs.items ++ gave → Leads StandsFor May old.worker (item ∷ []) new.worker gave
-    → Allowed w (Take k gave) × IsCellOf (after w (Take k gave)) k new
-took w k old new item gave r points is first taken outs leads =
-    let seat : Seat = w.seats k in
-    let rest : List Item = new.items.items in
-    let fed : seat.fed ≡ is.before ++ item ∷ rest = is.fed ∙ ap (λ x. is.before ++ x) first in
-    let may = may_take w k is.before item rest r points fed in
-    let stands = leads (seed_in w k) is.before seat.outs is.stands may.1 in
-    let more : length (is.before ++ item ∷ []) ≡ length is.before + 1 = length-append is.before (item ∷ []) in
-    let long : length seat.fed ≡ length is.before + length (item ∷ rest) =
-    ap length fed ∙ length-append is.before (item ∷ rest) in
-    let count = is.count in
-    let up : length (is.before ++ item ∷ []) ≡ seat.taken + 1 = omega arith in
-    let t = is.taken in (
-      (
-        omega arith,
-        subst (λ n. Answers w.core k (take n (line_in w k)) (seat.outs ++ gave)) up (stands.told w.read may.0),
-      ),
-      subst (λ (s : Seat). IsCellAt (seed_in w k) s new) (sym (seat_here w k (took_one seat gave))) (record {
-        before = is.before ++ item ∷ [];
-        fed = fed ∙ sym (append_assoc is.before (item ∷ []) rest);
-        count = up;
-        stands = stands;
-        outs = ap (λ x. x ++ gave) is.outs ∙ append_assoc seat.back old.outs.items gave
-            ∙ ap (λ x. seat.back ++ x) (sym outs);
-        taken = omega arith;
-      }),
-    )
-
--- a cell that is handed an item
-pub fed_cell : (w : World) (k : ℕ) (old new : Cell) (item : Item) → IsCellOf w k old
-    → new.items.items ≡ old.items.items ++ item ∷ [] → new.worker ≡ old.worker → new.taken ≡ old.taken
-    → new.outs.items ≡ old.outs.items → IsCellOf (after w (Feed k item)) k new
-fed_cell w k old new item is items worker taken outs =
-    subst (λ (s : Seat). IsCellAt (seed_in w k) s new) (sym (seat_here w k (fed_more (w.seats k) item))) (record {
-      before = is.before;
-      fed = ap (λ x. x ++ item ∷ []) is.fed ∙ append_assoc is.before old.items.items (item ∷ [])
-          ∙ ap (λ x. is.before ++ x) (sym items);
-      count = is.count;
-      stands = subst (λ (x : Worker). StandsFor (seed_in w k) is.before (w.seats k).outs x) (sym worker) is.stands;
-      outs = is.outs ∙ ap (λ x. (w.seats k).back ++ x) (sym outs);
-      taken = is.taken ∙ ap (λ n. (w.seats k).collected + n) (sym taken);
-    })
-
--- a cell of which all is collected
-pub back_cell : (w : World) (k : ℕ) (old new : Cell) → IsCellOf w k old → new.items.items ≡ old.items.items
-    → new.worker ≡ old.worker → new.taken ≡ 0 → new.outs.items ≡ [] → IsCellOf (after w (Collect k)) k new
-back_cell w k old new is items worker taken outs =
-    let seat : Seat = w.seats k in
-    subst (λ (s : Seat). IsCellAt (seed_in w k) s new) (sym (seat_here w k (all_collected seat))) (record {
-      before = is.before;
-      fed = is.fed ∙ ap (λ x. is.before ++ x) (sym items);
-      count = is.count;
-      stands = subst (λ (x : Worker). StandsFor (seed_in w k) is.before seat.outs x) (sym worker) is.stands;
-      outs = sym (append-nil seat.outs) ∙ ap (λ x. seat.outs ++ x) (sym outs);
-      taken = omega arith;
-    })
-
--- a cell that changed in nothing
-pub same_cell : (w : World) (k : ℕ) (old new : Cell) → IsCellOf w k old → new.items.items ≡ old.items.items
-    → new.worker ≡ old.worker → new.taken ≡ old.taken → new.outs.items ≡ old.outs.items → IsCellOf w k new
-same_cell w k old new is items worker taken outs =
-    record {
-      before = is.before;
-      fed = is.fed ∙ ap (λ x. is.before ++ x) (sym items);
-      count = is.count;
-      stands = subst (λ (x : Worker). StandsFor (seed_in w k) is.before (w.seats k).outs x) (sym worker) is.stands;
-      outs = is.outs ∙ ap (λ x. (w.seats k).back ++ x) (sym outs);
-      taken = is.taken ∙ ap (λ n. (w.seats k).collected + n) (sym taken);
-    }
+use Rattle.rescale_core.proofs.CellLemmas.{nth_set, nth_else, line_none, seed_in, seat_here, seat_else, back_cell, same_cell}
 
 -- ---- one seat's steps
 
@@ -312,6 +136,9 @@ router_took r w k gave is may =
       queues = λ q. is.queues q
           ∙ sym (ap (λ (items : List Item). map (chance w.core q w.pieces) (drop (length items) (line_in w q)))
           (same q (nat_eq q k) refl));
+      counted = is.counted;
+      outstanding = λ q. ap (λ n. n + get_or r.outstanding.items q 0) (back q (nat_eq q k) refl) ∙ is.outstanding q
+          ∙ sym (ap (λ (items : List Item). length items) (same q (nat_eq q k) refl));
       sound = step_sound w (Take k gave) is.sound may;
       gather = is.gather;
     }
@@ -319,6 +146,11 @@ router_took r w k gave is may =
     same : (q : ℕ) (b : Bool) → nat_eq q k ≡ b → (cond b (took_one (w.seats k) gave) (w.seats q)).fed ≡ (w.seats q).fed
     same q true e = ap (λ y. (w.seats y).fed) (sym (eqb-true q k e))
     same q false e = refl
+
+    back : (q : ℕ) (b : Bool) → nat_eq q k ≡ b
+        → (cond b (took_one (w.seats k) gave) (w.seats q)).collected ≡ (w.seats q).collected
+    back q true e = ap (λ y. (w.seats y).collected) (sym (eqb-true q k e))
+    back q false e = refl
 
 -- a worker's cell that has nothing to take, or takes one
 pub machine_takes : (m n : Machine) (k : ℕ) (old new : Cell) (applied : Applied) → nth m.cells.items k ≡ Some old

@@ -1,6 +1,6 @@
 -- What a router's queues stand for.
 use Rattle.std.specs.Prelude.{◌≡◌, ◌⊎◌, ℕ, ◌+◌, ◌<◌, ◌≤◌, cond, nat_eq, nat_le, Some, filter}
-use Rattle.std.specs.Prelude.{List, [], ◌∷◌, ◌++◌, false, length, map}
+use Rattle.std.specs.Prelude.{List, [], ◌∷◌, ◌++◌, false, get_or, length, map}
 use Rattle.std.specs.List.{list_any, range_with_len}
 use Rattle.mfotl_model.specs.Strategies.{Strategy, workers_of}
 use Rattle.mfotl_model.specs.declared.event.TimePoint.{TimePoint}
@@ -15,7 +15,7 @@ use Rattle.rescale_core.specs.Lines.Due.{Slicing}
 use Rattle.rescale_core.specs.Chances.{Chance, sure_items}
 use Rattle.rescale_core.specs.Chances.Chance.{Sure}
 use Rattle.rescale_core.specs.Queues.{queue_at}
-use Rattle.rescale_core.specs.Worlds.{World, Move, spot_in, queue_in, slice_at, GatheredIn}
+use Rattle.rescale_core.specs.Worlds.{World, Move, spot_in, queue_in, slice_at, GatheredIn, IsGathered}
 use Rattle.rescale_core.specs.Worlds.Move.{Feed}
 use Rattle.rescale_core.specs.Soundly.{IsSound}
 use Rattle.rescale_core.specs.declared.item.Item.{Item}
@@ -69,6 +69,12 @@ ArePoints [] = Unit {0}
 ArePoints (Point p ∷ es) = ArePoints es
 ArePoints (Change s ∷ es) = ⊥
 
+-- no item waits, all that was handed over was collected, and there is no verdict to emit
+pub record HasEnded (w : World) : Type 0 where
+  pub none_wait : (k : ℕ) → queue_in w k ≡ []
+  pub all_back : (k : ℕ) → (w.seats k).collected ≡ length (w.seats k).fed
+  pub none_to_emit : IsGathered w (length w.emitted) → ⊥
+
 -- the router's queues, counts and gathered Rows are the world's, in which as yet no strategy changes
 pub record IsRouterOf (r : Router) (w : World) : Type 0 where
   pub unchanged : ArePoints w.read
@@ -78,6 +84,8 @@ pub record IsRouterOf (r : Router) (w : World) : Type 0 where
   pub points : r.points ≡ length (spot_in w).points
   pub wide : workers_of r.strategy ≤ length r.queues.items
   pub queues : (k : ℕ) → queue_at r.queues.items k ≡ queue_in w k
+  pub counted : length r.outstanding.items ≡ length r.queues.items
+  pub outstanding : (k : ℕ) → (w.seats k).collected + get_or r.outstanding.items k 0 ≡ length (w.seats k).fed
   pub sound : IsSound w
   pub gather : IsGatherOf r.gather w
 

@@ -38,6 +38,22 @@ impl Machine {
             IsMachineOf machine entries.items (first_world (core_form core) strategy)) }
     {
         let left = all_left(alloc, entries)?;
+        Machine::over(alloc, core, strategy, left)
+    }
+
+    // The machine that did nothing yet, for what is left.
+    fn over(
+        alloc: Global,
+        core: Core,
+        strategy: Strategy,
+        left: VecDeque<Entry>,
+    ) -> Result<Self, AllocError>
+        requires fits { IsFor (core_form core) strategy }
+        requires sound { AreSound (core_form core) (first_spot strategy) left.items }
+        requires unchanged { ArePoints left.items }
+        ensures { IfOk result (λ machine.
+            IsMachineOf machine left.items (first_world (core_form core) strategy)) }
+    {
         let (router, cells) = first_parts(alloc, core, strategy)?;
         Ok(Machine {
             router,
@@ -159,6 +175,20 @@ fn first_parts(
         → IsCellOf (first_world (core_form core) strategy) k cell) }
 {
     let cells = new_cells(alloc, &core, &strategy)?;
+    with_router(alloc, core, strategy, cells)
+}
+
+// The cells beside a router.
+fn with_router(
+    alloc: Global,
+    core: Core,
+    strategy: Strategy,
+    cells: Vec<Cell>,
+) -> Result<(Router, Vec<Cell>), AllocError>
+    requires { IsFor (core_form core) strategy }
+    ensures router { IfOk result (λ parts. IsRouterOf parts.0 (first_world (core_form core) strategy)) }
+    ensures cells { IfOk result (λ parts. parts.1 ≡ cells) }
+{
     let router = Router::start(alloc, core, strategy)?;
     Ok((router, cells))
 }

@@ -2,7 +2,7 @@
 ghost use Rattle.std.specs.Prelude.{◌≡◌, ◌++◌, ◌∷◌, [], IfOk, length};
 ghost use Rattle.rescale_core.specs.Chances.{Pops, sure_items};
 ghost use Rattle.rescale_core.specs.Chances.Chance.{Sure};
-ghost use Rattle.rescale_core.specs.Queues.{waiting};
+ghost use Rattle.rescale_core.specs.Queues.{is_clear, waiting};
 
 use crate::item::Item;
 use std::alloc::{AllocError, Global};
@@ -42,5 +42,12 @@ impl Queue {
         ensures { result ≡ length (sure_items (waiting self.now)) }
     {
         self.items.len() as u64
+    }
+
+    /// Whether no item is there.
+    pub(crate) fn is_empty(&self) -> bool
+        ensures { result ≡ is_clear self.now }
+    {
+        self.items.is_empty()
     }
 }

@@ -12,5 +12,7 @@ pub struct Router {
     pub(crate) generation: u64,
     pub(crate) points: u64,
     pub(crate) queues: Vec<Queue>,
+    // how many items each worker was handed that were not collected
+    pub(crate) outstanding: Vec<u64>,
     pub(crate) gather: Gather,
 }

@@ -28,8 +28,7 @@ impl Worker {
         ensures stands { IfOk result (λ w. StandsFor (seed_of w) [] [] w) }
     {
         let first = Snapshot::of(strategy);
-        let phase = first_phase(alloc, core, strategy, k)?;
-        let core = core.copy(alloc)?;
+        let (core, phase) = first_parts(alloc, core, strategy, k)?;
         Ok(Worker {
             core,
             number: k,
@@ -85,6 +84,22 @@ impl Worker {
         give_rows(alloc, strategy, self.number, generation, settled, outs)?;
         Ok(())
     }
+}
+
+// The core of worker `k`, and what it keeps before it took anything.
+fn first_parts(
+    alloc: Global,
+    core: &Core,
+    strategy: &Strategy,
+    k: u32,
+) -> Result<(Core, Phase), AllocError>
+    ensures core { IfOk result (λ parts. core_form parts.0 ≡ core_form core.now) }
+    ensures phase { IfOk result (λ parts. IsAt (core_form core.now) k
+        (first_stage (record { core = core_form core.now; first = strategy.now; k = k })) parts.1) }
+{
+    let own = core.copy(alloc)?;
+    let phase = first_phase(alloc, core, strategy, k)?;
+    Ok((own, phase))
 }
 
 // What worker `k` keeps before it took anything.

@@ -1,6 +1,7 @@
 //! Puts the Rows of all workers of a time-point together.
 ghost use Rattle.std.specs.Prelude.{◌≡◌, ◌++◌, ◌∷◌, [], ◌<◌, ◌≤◌, IfOk, IsFalse, length, option_copied};
 ghost use Rattle.std.specs.List.{find, flat_map, list_any};
+ghost use Rattle.std.specs.Option.{is_some};
 ghost use Rattle.verdict_merge.specs.Gathers.{all_rows, at_point, complete_ts, is_from, is_generation, rows_after, rows_at, workers_in};
 ghost use Rattle.verdict_merge.specs.Emitted.{Emits};
 
@@ -86,6 +87,13 @@ impl Gather {
         let rows = merged(alloc, lists)?;
         self.next = after;
         Ok(Some(Verdict { point, ts, rows }))
+    }
+
+    /// Whether there is a verdict on the next time-point. It takes no memory.
+    pub fn is_ready(&self) -> bool
+        ensures { result ≡ is_some (complete_ts self.now) }
+    {
+        self.complete_ts().is_some()
     }
 
     // The first Rows of the next time-point.

@@ -4,7 +4,7 @@ use Rattle.monitorable.specs.Cores.{core_form}
 use Rattle.rescale_core.specs.Cells.{IsCellOf}
 use Rattle.rescale_core.specs.Worlds.{World, first_world, nth}
 use Rattle.rescale_core.specs.declared.cells.Cell.{Cell}
-use Rattle.rescale_core.proofs.MachineLemmas.{nth_last}
+use Rattle.rescale_core.proofs.CellLemmas.{nth_last}
 use Rattle.rescale_core.proofs.machine.new_cells.Goals as goal
 
 pub loop-k-preserved : goal.loop-k-preserved

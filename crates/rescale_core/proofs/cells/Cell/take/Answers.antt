@@ -1,5 +1,6 @@
 use Rattle.std.proofs.Common.{◌≡◌, ◌++◌, length, arith, refl, sym, ap, ◌∙◌}
-use Rattle.rescale_core.proofs.MachineLemmas.{may_take, none_left, same_cell, took}
+use Rattle.rescale_core.proofs.CellLemmas.{may_take, same_cell, took}
+use Rattle.rescale_core.proofs.MachineLemmas.{none_left}
 use Rattle.rescale_core.proofs.cells.Cell.take.Goals as goal
 
 pub returns-in_default : goal.returns-in_default

@@ -1,5 +1,5 @@
 use Rattle.std.proofs.Common.{◌≡◌, ap, sym, length, ◌∙◌}
-use Rattle.rescale_core.proofs.RouterLemmas.{sure_all}
+use Rattle.rescale_core.proofs.QueueLemmas.{sure_all}
 use Rattle.rescale_core.proofs.queue.Queue.ready.Goals as goal
 
 pub returns : goal.returns

@@ -1,5 +1,5 @@
 use Rattle.std.proofs.Common.{refl}
-use Rattle.rescale_core.proofs.RouterLemmas.{outs_collected, outs_may_add, outs_rows}
+use Rattle.rescale_core.proofs.RouterLemmas.{outs_collected, outs_may_add, outs_rows, taken_less, taken_low}
 use Rattle.rescale_core.proofs.routes.Router.collect.Goals as goal
 
 pub add_all-requires-clause-rows : goal.add_all-requires-clause-rows
@@ -15,4 +15,14 @@ add_all-requires-clause-may c =
 pub returns : goal.returns
 returns c = λ w is taken.
     outs_collected c.args.self.now _ w is c.args.k c.args.taken c.args.outs.items taken refl refl refl refl refl
-    c.requires.some c.in_ok-add_all.ensures
+    c.requires.some c.lower.ensures.len c.lower.ensures.less c.in_ok-add_all.ensures
+
+pub lower-requires-clause-low : goal.lower-requires-clause-low
+lower-requires-clause-low c =
+    let t = c.requires.taken in
+    taken_low c.args.self.now t.0 c.args.k c.args.taken c.args.outs.items t.1 t.2 c.requires.some
+
+pub lower-requires-clause-less : goal.lower-requires-clause-less
+lower-requires-clause-less c =
+    let t = c.requires.taken in
+    taken_less c.args.self.now t.0 c.args.k c.args.taken c.args.outs.items t.1 t.2

@@ -3,7 +3,7 @@ use Rattle.std.proofs.lemmas.List.FromFn.{length-map-range_with_len}
 use Rattle.mfotl_model.specs.Strategies.{workers_of}
 use Rattle.monitorable.specs.Cores.{core_form}
 use Rattle.rescale_core.specs.Workers.{slice_for}
-use Rattle.rescale_core.proofs.RouterLemmas.{parts_are, point_read}
+use Rattle.rescale_core.proofs.ReadingLemmas.{parts_are, point_read}
 use Rattle.rescale_core.proofs.routes.Router.read_point.Goals as goal
 
 pub push_slices-requires : goal.push_slices-requires
@@ -22,4 +22,4 @@ returns c = λ w is may.
     point_read r _ w is c.args.point may refl refl refl refl c.in_ok-push_slices.ensures.len
     c.in_ok-slices.slices.items
     (c.in_ok-slices.ensures ∙ parts_are (core_form r.core) r.strategy c.args.point)
-    c.in_ok-push_slices.ensures.queued refl
+    c.in_ok-push_slices.ensures.queued refl refl

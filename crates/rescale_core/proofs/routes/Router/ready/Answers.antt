@@ -1,6 +1,6 @@
 use Rattle.std.proofs.Common.{ap, sym, length, arith, ◌∙◌}
 use Rattle.rescale_core.specs.Chances.{sure_items}
-use Rattle.rescale_core.proofs.RouterLemmas.{queue_beyond, queue_here}
+use Rattle.rescale_core.proofs.QueueLemmas.{queue_beyond, queue_here}
 use Rattle.rescale_core.proofs.routes.Router.ready.Goals as goal
 
 pub returns-then-k-len : goal.returns-then-k-len

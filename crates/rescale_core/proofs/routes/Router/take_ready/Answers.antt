@@ -1,23 +1,33 @@
 use Rattle.std.proofs.Common.{◌≡◌, ◌⊎◌, ◌<◌, ℕ, List, [], subst, ◌++◌, map, refl, length, ap, ◌∙◌, sym, arith}
-use Rattle.std.proofs.Common.{length-set, ⊎_elim, inl, inr}
+use Rattle.std.proofs.Common.{length-set, ⊎_elim, inl, inr, ◌+◌, cond, get_or, nat_eq}
 use Rattle.rescale_core.specs.Chances.{sure_items}
 use Rattle.rescale_core.specs.Chances.Chance.{Sure}
 use Rattle.rescale_core.specs.Queues.{queue_at, waiting}
 use Rattle.rescale_core.specs.Routing.{feeds}
 use Rattle.rescale_core.specs.Worlds.{queue_in, run}
 use Rattle.rescale_core.specs.declared.item.Item.{Item}
-use Rattle.rescale_core.proofs.RouterLemmas.{fed_all, items_taken, queue_beyond, queue_else, queue_here, queue_set}
+use Rattle.rescale_core.proofs.RouterLemmas.{fed_all, items_taken}
+use Rattle.rescale_core.proofs.QueueLemmas.{queue_beyond, queue_else, queue_here, queue_set}
 use Rattle.rescale_core.proofs.routes.Router.take_ready.Goals as goal
 
-near : (c : goal.In_ok-items) → c.args.k < length c.args.self.now.queues.items
+near : (c : goal.In_ok-raise) → c.args.k < length c.args.self.now.queues.items
 near c = omega (arith, c.len.ensures)
 
-here : (c : goal.In_ok-items) → queue_at c.args.self.now.queues.items c.args.k
+here : (c : goal.In_ok-raise) → queue_at c.args.self.now.queues.items c.args.k
     ≡ map (λ i. Sure i) c.in_ok-items.items.items ++ waiting c.take_front.new.queue
 here c =
     queue_here c.args.self.now.queues.items c.args.k c.index_mut-queue.result.now (near c)
     c.index_mut-queue.ensures.value
     ∙ c.in_ok-items.ensures.0
+
+-- so many items more are outstanding
+items_more : (c : goal.In_ok-raise) (q : ℕ) → get_or c.raise.new.counts.items q 0
+    ≡ get_or c.args.self.now.outstanding.items q 0
+    + cond (nat_eq q c.args.k) (length c.in_ok-items.items.items) 0
+items_more c q =
+    c.in_ok-raise.ensures.more q
+    ∙ ap (λ n. get_or c.args.self.now.outstanding.items q 0 + cond (nat_eq q c.args.k) n 0)
+    (c.len-2.ensures ∙ c.in_ok-items.items.ok.0)
 
 pub returns-then-k-len-clause-all : goal.returns-then-k-len-clause-all
 returns-then-k-len-clause-all c = λ w is.
@@ -35,7 +45,8 @@ returns-clause-moves c = λ w is.
     items_taken r _ w is k c.in_ok-items.items.items (waiting c.take_front.new.queue) refl refl refl refl
     (length-set r.queues.items k c.take_front.new.queue) (here c)
     (queue_set r.queues.items k c.take_front.new.queue (near c))
-    (λ q n. queue_else r.queues.items k q c.take_front.new.queue n) refl
+    (λ q n. queue_else r.queues.items k q c.take_front.new.queue n) c.in_ok-raise.ensures.len
+    (items_more c) refl
 
 pub returns-clause-all : goal.returns-clause-all
 returns-clause-all c = λ w is.

@@ -1,6 +1,6 @@
 use Rattle.std.proofs.Common.{◌<◌, refl, sym, ap, length, arith, ◌∙◌}
 use Rattle.rescale_core.proofs.MachineLemmas.{cell_has_taken, machine_collects, machine_uncollected, no_collect}
-use Rattle.rescale_core.proofs.MachineLemmas.{nth_here}
+use Rattle.rescale_core.proofs.CellLemmas.{nth_here}
 use Rattle.rescale_core.proofs.stage.Machine.collect.Goals as goal
 
 pub returns-then-k-len : goal.returns-then-k-len

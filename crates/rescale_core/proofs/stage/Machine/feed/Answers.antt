@@ -3,7 +3,8 @@ use Rattle.rescale_core.specs.Routing.{IsRouterOf, feeds}
 use Rattle.rescale_core.specs.Worlds.{AreAllowed, after, run}
 use Rattle.rescale_core.specs.Worlds.Move.{Feed}
 use Rattle.rescale_core.specs.declared.item.Item.{Item}
-use Rattle.rescale_core.proofs.MachineLemmas.{fed_cell, machine_fed, no_feed, nth_here, one_item}
+use Rattle.rescale_core.proofs.CellLemmas.{fed_cell, nth_here}
+use Rattle.rescale_core.proofs.MachineLemmas.{machine_fed, no_feed, one_item}
 use Rattle.rescale_core.proofs.stage.Machine.feed.Goals as goal
 
 pub returns-then-k-len : goal.returns-then-k-len

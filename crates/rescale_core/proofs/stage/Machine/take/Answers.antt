@@ -1,5 +1,6 @@
 use Rattle.std.proofs.Common.{◌<◌, refl, length, arith}
-use Rattle.rescale_core.proofs.MachineLemmas.{machine_takes, no_take, nth_here}
+use Rattle.rescale_core.proofs.MachineLemmas.{machine_takes, no_take}
+use Rattle.rescale_core.proofs.CellLemmas.{nth_here}
 use Rattle.rescale_core.proofs.stage.Machine.take.Goals as goal
 
 pub returns-then-k-len : goal.returns-then-k-len
