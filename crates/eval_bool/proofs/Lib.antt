@@ -1,4 +1,3 @@
-pub mod AtomLemmas
 pub mod AtomRows
 pub mod ReorderLemmas
 pub mod OrLemmas

@@ -4,7 +4,6 @@ ghost use Rattle.mfotl_model.specs.FreeVariables.{variables_in};
 ghost use Rattle.mfotl_model.specs.Satisfaction.{Valuation, event_of, has_event};
 ghost use Rattle.mfotl_model.specs.Tables.{has};
 
-use crate::columns::variables_in;
 use crate::matching::atom_rows;
 use mfotl_model::{Atom, TimePoint};
 use relations::Table;
@@ -16,7 +15,7 @@ pub fn eval_atom(alloc: Global, point: &TimePoint, atom: &Atom) -> Result<Table,
     ensures has { IfOk result (λ table. (v : Valuation) →
         has table v ≡ has_event point.now.db (event_of v atom.now)) }
 {
-    let columns = variables_in(alloc, atom.args.as_slice())?;
+    let columns = atom.variables(alloc)?;
     let rows = atom_rows(alloc, atom, columns.as_slice(), point.db.inserted())?;
     Ok(Table::from_rows(columns, rows))
 }

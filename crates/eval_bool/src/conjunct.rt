@@ -4,8 +4,7 @@ ghost use Rattle.mfotl_model.specs.FreeVariables.{joined};
 ghost use Rattle.eval_bool.specs.JoinView.{children_of, conjunct_columns, conjunct_of, own_columns, tests_of};
 
 use crate::child::Child;
-use crate::columns::{compared, joined};
-use mfotl_model::Comparison;
+use mfotl_model::{Comparison, joined};
 use std::alloc::{AllocError, Global};
 use std::marker::Model;
 
@@ -49,7 +48,7 @@ fn with_own_columns(
     match conjunct {
         Conjunct::Child { columns: own, .. } => joined(alloc, columns, own.as_slice()),
         Conjunct::Test { comparison, .. } => {
-            let own = compared(alloc, comparison)?;
+            let own = comparison.variables(alloc)?;
             joined(alloc, columns, own.as_slice())
         }
     }

@@ -3,7 +3,6 @@
 
 mod atom;
 mod child;
-mod columns;
 mod combined;
 mod conjunct;
 mod exists;

@@ -4,14 +4,12 @@ use Rattle.std.specs.BTreeMap.{is_at}
 use Rattle.std.specs.List.{list_any}
 use Rattle.std.specs.Map.{lookup, keys_of}
 use Rattle.std.specs.Option.{unwrap_or}
-use Rattle.std.specs.Ordering.{eq_by_cmp}
 use Rattle.std.specs.declared.cmp.Ordering.TheVariants.{Equal}
 use Rattle.mfotl_model.specs.Values.{row_cmp, row_total}
 use Rattle.mfotl_model.specs.declared.value.Value.{Value}
 use Rattle.mfotl_model.proofs.RowLemmas.{row_exact}
 use Rattle.std.proofs.lemmas.Bool.{eqb-true}
 use Rattle.std.proofs.lemmas.List.{take_all}
-use Rattle.std.proofs.lemmas.List.Folds.{list_any_more}
 use Rattle.std.specs.Cmp.{eq_by_cmp_equiv}
 use Rattle.std.proofs.lemmas.Map.{lookup-none}
 use Rattle.std.proofs.lemmas.Map.Entries.{none_past_head}
@@ -20,6 +18,7 @@ use Rattle.std.specs.List.Sorted.{IsStrictlySortedBy}
 use Rattle.mfotl_model.specs.declared.interval.Interval.{Interval}
 use Rattle.mfotl_model.specs.Tables.{has_row}
 use Rattle.relations.proofs.MapLemmas.{same_row}
+use Rattle.relations.proofs.TableRows.{has_more}
 use Rattle.eval_since.specs.Groups.{hit, times_in, group_of, times_at}
 use Rattle.eval_since.specs.Times.{reaches, recent}
 
@@ -46,14 +45,6 @@ grouped h key row q v old new g outer inner = ap (λ e. times_in e v) outer ∙ 
     by true e = inner ∙ ap (λ k. cond (is_at (row_cmp row) v) (h (times_in (group_of old k) v))
         (times_in (group_of old k) v)) (same_row key q e)
     by false e = refl
-
--- one part more
-pub has_more : (parts : List (List Value)) (i : ℕ) (x q : List Value) → i < length parts → x ≡ get_or parts i x
-    → has_row (take (i + 1) parts) q ≡ (has_row (take i parts) q || is_at (row_cmp x) q)
-has_more parts i x q low e =
-    list_any_more (eq_by_cmp row_cmp q) parts i x low
-    ∙ ap (λ y. has_row (take i parts) q || eq_by_cmp row_cmp q y) (sym e)
-    ∙ ap (λ b. has_row (take i parts) q || b) ((eq_by_cmp_equiv row_total).symm q x)
 
 has_all : (parts : List (List Value)) (i : ℕ) (q : List Value) → length parts ≤ i
     → has_row (take i parts) q ≡ has_row parts q

@@ -1,15 +1,9 @@
 -- One position more: the left operand's table, the right operand's, and the old times forgotten.
 use Rattle.std.proofs.Common.{◌≡◌, ℕ, ◌-◌, ◌≤◌, Bool, true, false, cond, nat_eq, ◌&&◌, ◌||◌, List, [], ◌∷◌, ◌++◌, Option, Some, None, length, refl, sym, subst, ap, ◌∙◌, arith}
 use Rattle.std.specs.BTreeMap.{is_at}
-use Rattle.std.specs.Cmp.{eq_by_cmp_equiv}
-use Rattle.std.specs.List.{list_all}
-use Rattle.std.proofs.lemmas.Bool.{and_from, and_parts, or_left, or_right}
 use Rattle.std.specs.Option.{is_some}
-use Rattle.std.specs.Ordering.{eq_by_cmp}
-use Rattle.mfotl_model.proofs.RowLemmas.{row_exact}
-use Rattle.std.proofs.lemmas.Map.Views.{tells_apart}
 use Rattle.mfotl_model.specs.Intervals.{in_interval}
-use Rattle.mfotl_model.specs.Values.{row_cmp, row_total}
+use Rattle.mfotl_model.specs.Values.{row_cmp}
 use Rattle.mfotl_model.specs.declared.interval.Interval.{Interval}
 use Rattle.mfotl_model.specs.declared.value.Value.{Value}
 use Rattle.eval_since.specs.declared.window.Dated.{Dated}
@@ -21,24 +15,9 @@ use Rattle.eval_since.specs.Windows.{Alone, Ascending, Sized, Placed, Past, IsTh
 use Rattle.eval_since.proofs.ExpireLemmas.{past_held, past_joined, placed_joined, past_thinned, placed_thinned, covered_push, rising_push, not_after_later, not_after_push}
 use Rattle.std.specs.List.Sorted.{IsStrictlyIncreasing}
 use Rattle.eval_since.proofs.RuleLemmas.{increasing_more, increasing_none, increasing_thinned, one_more}
+use Rattle.relations.proofs.TableRows.{all_rows, lacks_other}
 use Rattle.eval_since.proofs.WindowLemmas.{either_list}
 use Rattle.eval_since.proofs.WithinLemmas.{reaches_step, reaches_thinned}
-
--- a table of rows of n values lacks a row of another number
-lacks_other : (n : ℕ) (rows : List (List Value)) (v : List Value) → all_sized n rows ≡ true
-    → nat_eq (length v) n ≡ false
-    → has_row rows v ≡ false
-lacks_other n [] v sized apart = refl
-lacks_other n (row ∷ rows) v sized apart =
-    let parts = and_parts (nat_eq (length row) n) (all_sized n rows) sized in
-    by (eq_by_cmp row_cmp v row) refl parts.0 (lacks_other n rows v parts.1 apart)
-  where
-    by : (b : Bool) → eq_by_cmp row_cmp v row ≡ b → nat_eq (length row) n ≡ true → has_row rows v ≡ false
-        → (eq_by_cmp row_cmp v row || has_row rows v) ≡ false
-    by true e here rest =
-        absurd (let f : true ≡ false = sym here ∙ ap (λ r. nat_eq (length r) n)
-        (sym (tells_apart row_exact v row e)) ∙ apart in cc)
-    by false e here rest = ap (λ b. b || has_row rows v) e ∙ rest
 
 -- where nothing was kept and the row isn't added, nothing is kept
 nothing_joined : (at holds : Bool) (old more held list : List ℕ) → old ≡ [] → held ≡ cond holds old []
@@ -184,16 +163,6 @@ module _ (interval : Interval) (right left : List ℕ) (negated : Bool) (lefts :
       reaches_thinned interval hi d.ts x (times_at new (part right left u) u)
       (times_at thin (part right left u) u) e l (thins (part right left u) u)
       ∙ within_after j x u
-
--- a list of rows of which each passes
-all_rows : (p : List Value → Bool) (rows : List (List Value))
-    → ((row : List Value) → has_row rows row ≡ true → p row ≡ true)
-    → list_all p rows ≡ true
-all_rows p [] each = refl
-all_rows p (row ∷ rows) each =
-    and_from (p row) (list_all p rows) (each row (or_left (eq_by_cmp row_cmp row row) (has_row rows row)
-    ((eq_by_cmp_equiv row_total).refl row)))
-    (all_rows p rows (λ r there. each r (or_right (eq_by_cmp row_cmp r row) (has_row rows r) there)))
 
 -- the rows that times are kept for have as many values as columns
 pub sized_reached : (interval : Interval) (x : ℕ) (right left : List ℕ)

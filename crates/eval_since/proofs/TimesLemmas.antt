@@ -97,10 +97,6 @@ pub recent_pop : (hi x : ℕ) (ys : List ℕ) → hi < x - slice_index ys 0 → 
 recent_pop hi x [] far = refl
 recent_pop hi x (y ∷ ys) far = sym (recent_front hi x y ys far)
 
-pub front_is : (ys : List ℕ) (y : ℕ) → 0 < length ys → y ≡ get_or ys 0 y → ys ≡ y ∷ drop 1 ys
-front_is [] y n e = absurd (omega arith)
-front_is (x ∷ ys) y n e = ap (λ z. z ∷ ys) (sym e)
-
 -- where the time at a place is too near, none from there on reaches
 pub reaches_none_at : (interval : Interval) (x : ℕ) (ys : List ℕ) (i y : ℕ) → IsStrictlyIncreasing ys
     → i < length ys → y ≡ get_or ys i y → x - y < interval.lo → reaches interval (drop i ys) x ≡ false

@@ -11,7 +11,7 @@ use Rattle.eval_since.specs.Groups.{times_at}
 use Rattle.mfotl_model.specs.Tables.{has_row, part}
 use Rattle.eval_since.specs.Times.{ArePast, is_new, added, recent}
 use Rattle.relations.proofs.MapLemmas.{same_row}
-use Rattle.eval_since.proofs.GroupLemmas.{has_more}
+use Rattle.relations.proofs.TableRows.{has_more}
 
 and_false : (b : Bool) → (b && false) ≡ false
 and_false true = refl

@@ -35,20 +35,6 @@ impl Model for PrevState {
     ghost invariant = { λ s. record { few : s.pulled + length s.times.items ≤ 2 ^ 63; apart : all_apart s.columns.items ≡ true; over : AreOver s.columns.items s.tables.items } };
 }
 
-// the operand's table where the distance lies in the interval, else no row
-fn where_inside(alloc: Global, inside: bool, table: Table, columns: Vec<u32>) -> Table
-    requires apart { IsTrue (all_apart columns.items) }
-    requires over { table.columns ≡ columns.items }
-    ensures columns { result.columns ≡ columns.items }
-    ensures has { (v : Valuation) → has result v ≡ (inside && has table v) }
-{
-    if inside {
-        table
-    } else {
-        Table::empty(alloc, columns)
-    }
-}
-
 impl PrevState {
     /// The state before the first position, for an operand over these columns.
     pub fn new(alloc: Global, interval: &Interval, columns: &[u32]) -> Result<Self, AllocError>
@@ -138,10 +124,9 @@ impl PrevState {
         Table::empty(alloc, columns)
     }
 
-    fn pull_later(&mut self, alloc: Global, columns: Vec<u32>) -> Table
+    fn pull_later(&mut self, alloc: Global) -> Table
         requires later { 0 < self.old.pulled }
         requires due { IsTrue (previous_due self.old) }
-        requires over { columns.items ≡ self.old.columns }
         ensures advances { AdvancesPrevious self.old self.new }
         ensures follows { (t : List ℕ) (a : List Bool) (v : Valuation) →
             FollowsPrevious self.old t a v → FollowsPrevious self.new t a v }
@@ -159,7 +144,7 @@ impl PrevState {
         let inside = self.interval.contains(now.saturating_sub(self.last));
         self.last = now;
         self.pulled += 1;
-        where_inside(alloc, inside, table, columns)
+        table.only_where(alloc, inside)
     }
 
     /// The table of the next position, `None` while it is not due. Without memory the state stays.
@@ -179,10 +164,10 @@ impl PrevState {
         if !self.is_due() {
             return Ok(None);
         }
-        let columns = Vec::from_slice(alloc, self.columns.as_slice())?;
-        if self.pulled == 0 {
-            return Ok(Some(self.pull_first(alloc, columns)));
+        if self.pulled > 0 {
+            return Ok(Some(self.pull_later(alloc)));
         }
-        Ok(Some(self.pull_later(alloc, columns)))
+        let columns = Vec::from_slice(alloc, self.columns.as_slice())?;
+        Ok(Some(self.pull_first(alloc, columns)))
     }
 }

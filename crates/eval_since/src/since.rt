@@ -13,7 +13,7 @@ ghost use Rattle.eval_since.specs.SinceView.{Advances, Climbs, Follows, SinceOf,
 use crate::recalled::SinceData;
 use crate::window::Window;
 use mfotl_model::{Interval, Row};
-use relations::{Table, part_of};
+use relations::{Table, first_pushed, part_of};
 use std::alloc::{AllocError, Global};
 use std::collections::VecDeque;
 use std::marker::Model;
@@ -238,26 +238,15 @@ impl SinceState {
             Follows self.now t a b (valuation columns.now row.now) →
             yes ≡ since self.now.window.interval t a b self.now.pulled) }
     {
-        let now = first(&self.times);
-        let left = first(&self.lefts);
-        let right = first(&self.rights);
+        let now = first_pushed(&self.times);
+        let left = first_pushed(&self.lefts);
+        let right = first_pushed(&self.rights);
         let own = part_of(alloc, columns, self.window.right(), row.values())?;
         let key = self.window.key(alloc, &own)?;
         let kept = self.window.within(&key, &own, *now);
         let held = holds_on(self.negated, left, &key);
         let reached = self.window.interval().contains(0);
         Ok(in_either(kept, held, reached, right.contains(&own)))
-    }
-}
-
-#[tactic(auto, using(relations::proofs::PushedLemmas::first_is))]
-fn first<T>(queue: &VecDeque<T>) -> &T
-    requires { 0 < length queue.now.items }
-    ensures { queue.now.items ≡ result.now ∷ drop 1 queue.now.items }
-{
-    match queue.front() {
-        Some(item) => item,
-        None => unreachable!(),
     }
 }
 

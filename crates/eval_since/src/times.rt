@@ -24,7 +24,7 @@ impl Model for Times {
 }
 
 /// The first time, if there is one.
-#[tactic(auto, using(crate::proofs::TimesLemmas::front_is))]
+#[tactic(auto, using(relations::proofs::PushedLemmas::first_is))]
 fn oldest(list: &VecDeque<u64>) -> Option<u64>
     ensures { MatchOption result (list.now.items ≡ []) (λ y. list.now.items ≡ y ∷ drop 1 list.now.items) }
 {

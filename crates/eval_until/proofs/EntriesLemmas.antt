@@ -1,5 +1,5 @@
 -- The entries of a row: one more behind the others, and those without what was pulled.
-use Rattle.std.proofs.Common.{◌≡◌, ℕ, ◌-◌, ◌<◌, ◌≤◌, Bool, true, false, cond, ◌&&◌, ◌||◌, nat_le, nat_lt, List, [], ◌∷◌, ◌++◌, length, get_or, drop, refl, sym, subst, ap, ◌∙◌, arith, inl, inr}
+use Rattle.std.proofs.Common.{◌≡◌, ℕ, ◌-◌, ◌<◌, ◌≤◌, Bool, true, false, cond, ◌&&◌, ◌||◌, nat_le, nat_lt, List, [], ◌∷◌, ◌++◌, drop, refl, sym, subst, ap, ◌∙◌, arith, inl, inr}
 use borrow.Author.Tests.{ltb-true}
 use Rattle.std.proofs.lemmas.Bool.{and_parts, and_from}
 use Rattle.std.proofs.lemmas.Bool.Decides.{nat_tests}
@@ -11,10 +11,6 @@ use Rattle.eval_until.specs.declared.entries.Entry.{Entry}
 use Rattle.eval_until.specs.Entries.{meets, met_by, from_place}
 use Rattle.eval_until.specs.Keeping.{IsThinned}
 use Rattle.eval_until.specs.Rules.{PlacesAscend, all_before}
-
-pub front_is : (ys : List Entry) (y : Entry) → 0 < length ys → y ≡ get_or ys 0 y → ys ≡ y ∷ drop 1 ys
-front_is [] y n e = absurd (omega arith)
-front_is (x ∷ ys) y n e = ap (λ z. z ∷ ys) (sym e)
 
 pub from_none : (next : ℕ) → from_place next [] ≡ []
 unfolding from_place

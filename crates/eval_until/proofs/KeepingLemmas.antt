@@ -1,19 +1,15 @@
 -- What UNTIL keeps: one position is taken, one is pulled.
 use Rattle.std.proofs.Common.{◌≡◌, ℕ, ◌+◌, ◌<◌, ◌≤◌, Bool, true, false, cond, nat_eq, nat_le, nat_lt, ◌&&◌, ◌||◌, List, [], ◌∷◌, ◌++◌, Option, Some, None, length, refl, sym, subst, ap, ap₂, ◌∙◌, arith, inl, inr}
 use borrow.Author.Tests.{ltb-true}
-use Rattle.std.proofs.lemmas.Bool.{and_from, and_parts, or_left, or_right}
+use Rattle.std.proofs.lemmas.Bool.{and_from, and_parts}
 use Rattle.std.proofs.lemmas.Bool.Decides.{nat_tests}
 use Rattle.std.proofs.lemmas.List.Folds.{list_any-append, list_all-append}
-use Rattle.std.proofs.lemmas.Map.Views.{tells_apart}
-use Rattle.std.specs.Cmp.{eq_by_cmp_equiv}
 use Rattle.std.specs.List.{list_all}
 use Rattle.std.specs.Option.{IfSome, unwrap_or}
-use Rattle.std.specs.Ordering.{eq_by_cmp}
-use Rattle.mfotl_model.proofs.RowLemmas.{row_exact}
 use Rattle.mfotl_model.specs.Tables.{all_sized, has_row, part}
-use Rattle.mfotl_model.specs.Values.{row_cmp, row_total}
 use Rattle.mfotl_model.specs.declared.interval.Interval.{Interval}
 use Rattle.mfotl_model.specs.declared.value.Value.{Value}
+use Rattle.relations.proofs.TableRows.{all_rows, lacks_other}
 use Rattle.relations.specs.Pushed.{turned}
 use Rattle.eval_until.specs.declared.ahead.Taken.{Taken}
 use Rattle.eval_until.specs.declared.entries.Entry.{Entry}
@@ -23,21 +19,6 @@ use Rattle.eval_until.specs.Rules.{PlacesAscend, StartsAbove, Waiting, all_befor
 use Rattle.eval_until.specs.Starts.{kept_start, later_start, start_of, start_taken}
 use Rattle.eval_until.proofs.EntriesLemmas.{all_thinned, ascend_push, ascend_thinned, none_thinned}
 use Rattle.eval_until.proofs.QueueLemmas.{after_push, breaks_last, breaks_push, broken_fresh, entries_waiting, fresh_push, names_last, names_push, rising_push}
-
--- a table of rows of n values lacks a row of another number
-lacks_other : (n : ℕ) (rows : List (List Value)) (v : List Value) → all_sized n rows ≡ true
-    → nat_eq (length v) n ≡ false → has_row rows v ≡ false
-lacks_other n [] v sized apart = refl
-lacks_other n (row ∷ rows) v sized apart =
-    let parts = and_parts (nat_eq (length row) n) (all_sized n rows) sized in
-    by (eq_by_cmp row_cmp v row) refl parts.0 (lacks_other n rows v parts.1 apart)
-  where
-    by : (b : Bool) → eq_by_cmp row_cmp v row ≡ b → nat_eq (length row) n ≡ true → has_row rows v ≡ false
-        → (eq_by_cmp row_cmp v row || has_row rows v) ≡ false
-    by true e here rest =
-        absurd (let f : true ≡ false = sym here ∙ ap (λ r. nat_eq (length r) n)
-        (sym (tells_apart row_exact v row e)) ∙ apart in cc)
-    by false e here rest = ap (λ b. b || has_row rows v) e ∙ rest
 
 -- of two outcomes
 either : {X : Type 0} (P : X → Type 0) (b : Bool) (x y z : X) → z ≡ cond b x y → P x → P y → P z
@@ -293,15 +274,6 @@ above_is negated right pulled taken starts rows queue kept is = λ w. by w (kept
         → IfSome o (λ s. pulled < s)
     by w None covered = tt
     by w (Some s) covered = broken_fresh pulled w s queue kept.fresh covered
-
--- a list of rows of which each passes
-all_rows : (p : List Value → Bool) (rows : List (List Value))
-    → ((row : List Value) → has_row rows row ≡ true → p row ≡ true) → list_all p rows ≡ true
-all_rows p [] each = refl
-all_rows p (row ∷ rows) each =
-    and_from (p row) (list_all p rows) (each row (or_left (eq_by_cmp row_cmp row row) (has_row rows row)
-    ((eq_by_cmp_equiv row_total).refl row)))
-    (all_rows p rows (λ r there. each r (or_right (eq_by_cmp row_cmp r row) (has_row rows r) there)))
 
 -- the rows of which an entry meets have as many values as columns
 pub sized_met : (interval : Interval) (i x n : ℕ) (rows : List (List Value × List Entry)) (out : List (List Value))

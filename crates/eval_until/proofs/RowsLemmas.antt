@@ -2,7 +2,6 @@
 use Rattle.std.proofs.Common.{◌≡◌, ℕ, zero, suc, ◌+◌, ◌<◌, ◌≤◌, Bool, true, false, cond, nat_eq, ◌&&◌, ◌||◌, nat_le, List, [], ◌∷◌, ◌++◌, Option, Some, None, length, get_or, take, refl, sym, ap, ap₂, ◌∙◌, arith}
 use Rattle.std.proofs.lemmas.Bool.{eqb-true}
 use Rattle.std.proofs.lemmas.Bool.Decides.{nat_tests}
-use Rattle.std.proofs.lemmas.List.Folds.{list_any_more}
 use Rattle.std.proofs.lemmas.Map.{lookup-none}
 use Rattle.std.proofs.lemmas.Map.Entries.{none_past_head}
 use Rattle.std.proofs.lemmas.Map.Keys.{sorted_tail, IsDistinct-from_sorted}
@@ -18,6 +17,7 @@ use Rattle.mfotl_model.specs.Values.{row_cmp, row_total}
 use Rattle.mfotl_model.specs.declared.interval.Interval.{Interval}
 use Rattle.mfotl_model.specs.declared.value.Value.{Value}
 use Rattle.relations.proofs.MapLemmas.{same_row}
+use Rattle.relations.proofs.TableRows.{has_more}
 use Rattle.eval_until.specs.declared.entries.Entry.{Entry}
 use Rattle.eval_until.specs.Entries.{entries_of, met_by}
 use Rattle.eval_until.specs.Starts.{later_start}
@@ -25,14 +25,6 @@ use Rattle.eval_until.specs.Starts.{later_start}
 or_false : (b : Bool) → (b || false) ≡ b
 or_false true = refl
 or_false false = refl
-
--- one row more
-has_more : (table : List (List Value)) (k : ℕ) (x q : List Value) → k < length table → x ≡ get_or table k x
-    → has_row (take (k + 1) table) q ≡ (has_row (take k table) q || is_at (row_cmp x) q)
-has_more table k x q low e =
-    list_any_more (eq_by_cmp row_cmp q) table k x low
-    ∙ ap (λ y. has_row (take k table) q || eq_by_cmp row_cmp q y) (sym e)
-    ∙ ap (λ b. has_row (take k table) q || b) ((eq_by_cmp_equiv row_total).symm q x)
 
 -- what holds of each item holds of that at a place
 equals_one : (eq : List Value → List Value → Bool) (k : List Value) (rows : List (List Value)) (i : ℕ)

@@ -308,6 +308,12 @@ impl Ahead {
         &self.interval
     }
 
+    pub fn left(&self) -> &[u32]
+        ensures { result.now ≡ self.now.left }
+    {
+        self.left.as_slice()
+    }
+
     pub fn right(&self) -> &[u32]
         ensures { result.now ≡ self.now.right }
     {

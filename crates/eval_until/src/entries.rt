@@ -35,7 +35,7 @@ impl Model for Entries {
 }
 
 // the first entry, if there is one
-#[tactic(auto, using(crate::proofs::EntriesLemmas::front_is))]
+#[tactic(auto, using(relations::proofs::PushedLemmas::first_is))]
 fn oldest(list: &VecDeque<Entry>) -> Option<Entry>
     ensures { MatchOption result (list.now.items ≡ []) (λ e. list.now.items ≡ e ∷ drop 1 list.now.items) }
 {

@@ -35,20 +35,6 @@ impl Model for NextState {
     ghost invariant = { λ s. record { few : s.pulled + length s.times.items ≤ 2 ^ 63; apart : all_apart s.columns.items ≡ true; over : AreOver s.columns.items s.tables.items } };
 }
 
-// the operand's table where the distance lies in the interval, else no row
-fn where_inside(alloc: Global, inside: bool, table: Table, columns: Vec<u32>) -> Table
-    requires apart { IsTrue (all_apart columns.items) }
-    requires over { table.columns ≡ columns.items }
-    ensures columns { result.columns ≡ columns.items }
-    ensures has { (v : Valuation) → has result v ≡ (inside && has table v) }
-{
-    if inside {
-        table
-    } else {
-        Table::empty(alloc, columns)
-    }
-}
-
 impl NextState {
     /// The state before the first position, for an operand over these columns.
     pub fn new(alloc: Global, interval: &Interval, columns: &[u32]) -> Result<Self, AllocError>
@@ -121,9 +107,8 @@ impl NextState {
         self.times.len() > 1 && self.started && !self.tables.is_empty()
     }
 
-    fn pull_due(&mut self, alloc: Global, columns: Vec<u32>) -> Table
+    fn pull_due(&mut self, alloc: Global) -> Table
         requires due { IsTrue (next_due self.old) }
-        requires over { columns.items ≡ self.old.columns }
         ensures advances { AdvancesNext self.old self.new }
         ensures follows { (t : List ℕ) (a : List Bool) (v : Valuation) →
             FollowsNext self.old t a v → FollowsNext self.new t a v }
@@ -140,7 +125,7 @@ impl NextState {
         };
         let inside = self.interval.contains(self.times[0].saturating_sub(now));
         self.pulled += 1;
-        where_inside(alloc, inside, table, columns)
+        table.only_where(alloc, inside)
     }
 
     /// The table of the next position, `None` while it is not due. Without memory the state stays.
@@ -160,7 +145,6 @@ impl NextState {
         if !self.is_due() {
             return Ok(None);
         }
-        let columns = Vec::from_slice(alloc, self.columns.as_slice())?;
-        Ok(Some(self.pull_due(alloc, columns)))
+        Ok(Some(self.pull_due(alloc)))
     }
 }

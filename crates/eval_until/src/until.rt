@@ -9,7 +9,7 @@ ghost use Rattle.eval_until.specs.UntilView.{Advances, Follows, FollowsLeft, Tak
 
 use crate::ahead::Ahead;
 use mfotl_model::{Interval, Row};
-use relations::{Table, part_of};
+use relations::{Table, first_pushed, part_of};
 use std::alloc::{AllocError, Global};
 use std::collections::VecDeque;
 use std::marker::Model;
@@ -36,17 +36,6 @@ impl Model for UntilState {
     ghost view = { λ s. record { ahead = s.ahead; times = s.times.items; lefts = s.lefts.items; rights = s.rights.items } };
 
     ghost invariant = { λ s. record { low : s.ahead.pulled ≤ s.ahead.taken; high : s.ahead.taken ≤ s.ahead.pulled + length s.times.items; few : s.ahead.pulled + length s.times.items ≤ 2 ^ 63; inside : all_among s.ahead.left s.ahead.right ≡ true; left : AreOver s.ahead.left s.lefts.items; right : AreOver s.ahead.right s.rights.items } };
-}
-
-#[tactic(auto, using(relations::proofs::PushedLemmas::first_is))]
-fn first<T>(queue: &VecDeque<T>) -> &T
-    requires { 0 < length queue.now.items }
-    ensures { queue.now.items ≡ result.now ∷ drop 1 queue.now.items }
-{
-    match queue.front() {
-        Some(item) => item,
-        None => unreachable!(),
-    }
 }
 
 // whether the time at the place, or the last one, lies further than `hi` from the first
@@ -88,6 +77,27 @@ impl UntilState {
             lefts: VecDeque::new(alloc),
             rights: VecDeque::new(alloc),
         })
+    }
+
+    /// Whether the table is over the left operand's columns, as `push_left` asks.
+    pub fn takes_left(&self, table: &Table) -> bool
+        ensures { IsTrue result → table.now.columns ≡ self.now.ahead.left }
+    {
+        table.columns() == self.ahead.left()
+    }
+
+    /// Whether the table is over the right operand's columns, as `push_right` asks.
+    pub fn takes_right(&self, table: &Table) -> bool
+        ensures { IsTrue result → table.now.columns ≡ self.now.ahead.right }
+    {
+        table.columns() == self.ahead.right()
+    }
+
+    /// Whether there are few enough times, as `push_time` asks.
+    pub fn takes_time(&self) -> bool
+        ensures { IsTrue result → self.now.ahead.pulled + length self.now.times < 2 ^ 63 }
+    {
+        self.ahead.pulled() + (self.times.len() as u64) < 1 << 63
     }
 
     /// Takes the left operand's next table, which of a negated operand is the operand's own.
@@ -204,7 +214,7 @@ impl UntilState {
             Follows self.now t a b (valuation columns.now row.now) → NeverFalls t →
             yes ≡ until self.now.ahead.interval t a b self.now.ahead.pulled) }
     {
-        let now = first(&self.times);
+        let now = first_pushed(&self.times);
         let own = part_of(alloc, columns, self.ahead.right(), row.values())?;
         Ok(self.ahead.met(&own, self.ahead.pulled(), *now))
     }
@@ -218,7 +228,7 @@ impl UntilState {
             Follows self.now t a b v → NeverFalls t →
             has table v ≡ until self.now.ahead.interval t a b self.now.ahead.pulled) }
     {
-        let now = first(&self.times);
+        let now = first_pushed(&self.times);
         let table = self.ahead.table(alloc, self.ahead.pulled(), *now)?;
         Ok(table)
     }

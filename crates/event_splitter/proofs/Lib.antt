@@ -1,3 +1,2 @@
-pub mod AtomLemmas
 pub mod PartLemmas
 pub mod SightingLemmas

@@ -1,4 +1,3 @@
-pub mod AtomSteps
 pub mod Sightings
 pub mod SightingView
 pub mod Parts

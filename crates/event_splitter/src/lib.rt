@@ -2,7 +2,6 @@
 #![tactic(auto)]
 
 pub mod examples;
-mod matching;
 mod reading;
 mod sighting;
 mod time_point;

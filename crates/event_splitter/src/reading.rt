@@ -4,7 +4,6 @@ ghost use Rattle.std.specs.List.{flat_map};
 ghost use Rattle.mfotl_model.specs.FreeVariables.{variable_in};
 ghost use Rattle.event_splitter.specs.Sightings.{is_near, reading_of, readings_of};
 
-use crate::matching::{is_match, row_read};
 use mfotl_model::{Atom, Event, Partial, Row, Term};
 use slice_strategy::Slicer;
 use std::alloc::{AllocError, Global};
@@ -33,7 +32,7 @@ impl Reading {
         ensures { IfOk result (λ reading. reading ≡ reading_of event.now atom.now) }
     {
         let columns = variables(alloc, atom.args.as_slice())?;
-        let row = row_read(alloc, atom, columns.as_slice(), event)?;
+        let row = atom.row_read(alloc, columns.as_slice(), event)?;
         Ok(Reading { columns, row })
     }
 
@@ -73,7 +72,7 @@ pub(crate) fn readings(
 {
     let mut readings = Vec::new(alloc);
     for atom in atoms {
-        if is_match(atom, event) {
+        if atom.is_match(event) {
             readings.push(Reading::new(alloc, atom, event)?)?;
         }
     }

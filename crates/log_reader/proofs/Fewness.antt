@@ -15,12 +15,14 @@ use Rattle.log_reader.specs.Cursors.{open_count, given_of, IsCounted}
 use Rattle.log_reader.specs.Partials.{Partial, blank}
 use Rattle.log_reader.specs.Readings.{Reading, went_on, run, behind_tokens, is_long, finish_at, nothing_left}
 use Rattle.log_reader.specs.Readings.{place_at, reading}
-use Rattle.log_reader.specs.Soundness.{IsSound}
+use Rattle.log_reader.specs.Soundness.{StandsFor, IsSound}
 use Rattle.log_reader.specs.Stages.{goes, completes}
 use Rattle.log_reader.specs.Steps.{step, stepped, completed}
+use Rattle.log_reader.specs.Stretches.{Stretch}
 use Rattle.log_reader.specs.Symbols.{symbol}
 use Rattle.log_reader.proofs.StepStages.{one_if_at, none_at, stepped_reaches, step_counts}
-use Rattle.log_reader.proofs.TokenSteps.{completes_cases, completed_none, completed_one, later_self}
+use Rattle.log_reader.proofs.TokenSteps.{completes_cases, completed_none, completed_one}
+use Rattle.log_reader.proofs.ReaderSoundness.{remains_now}
 
 -- no more were begun than the limit
 pub record IsFew (limits : Limits) (p : Partial) : Type 0 where
@@ -161,12 +163,17 @@ reading_few sig limits bytes ended =
     )
 
 -- no more were given than there are
-pub given_few : (sig : List PredOf) (limits : Limits) (bytes : List ℕ) (is_ended : Bool) (at : ℕ) (p : Partial)
-    → IsSound sig limits bytes is_ended at p → given_of p ≤ length (reading sig limits bytes is_ended).points
-given_few sig limits bytes is_ended at p s = (s.remains is_ended (later_self is_ended)).few
+pub given_few : (sig : List PredOf) (limits : Limits) (is_ended : Bool) (given : ℕ) (s : Stretch) (at : ℕ)
+    (p : Partial) (log : List ℕ) → StandsFor sig limits is_ended given s at p log
+    → given ≤ length (reading sig limits log is_ended).points
+given_few sig limits is_ended given s at p log st = (remains_now sig limits log is_ended s given at p st).few
 
 -- so no more than the limit
-pub sound_few : (sig : List PredOf) (limits : Limits) (bytes : List ℕ) (is_ended : Bool) (at : ℕ) (p : Partial)
-    → IsSound sig limits bytes is_ended at p → given_of p ≤ limits.points
-sound_few sig limits bytes is_ended at p s =
-    omega (arith, given_few sig limits bytes is_ended at p s, reading_few sig limits bytes is_ended)
+pub sound_few : (sig : List PredOf) (limits : Limits) (is_ended : Bool) (s : Stretch) (at : ℕ) (p : Partial)
+    → IsSound sig limits is_ended s at p → given_of p ≤ limits.points
+sound_few sig limits is_ended s at p sound =
+    omega (
+      arith,
+      given_few sig limits is_ended (given_of p) s at p sound.log sound.stands,
+      reading_few sig limits sound.log is_ended,
+    )

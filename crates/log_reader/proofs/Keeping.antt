@@ -1,127 +1,150 @@
 -- What the cursor answers is due, and keeps what is kept true.
-use Rattle.std.proofs.Common.{◌≡◌, ℕ, ◌+◌, Bool, false, not, ◌&&◌, List, [], ◌∷◌, take}
-use Rattle.std.proofs.Common.{Option, Some, None, Result, Ok, Err, sym, ap, subst, ◌∙◌, arith}
+use Rattle.std.proofs.Common.{◌≡◌, ℕ, Bool, false, List, [], ◌∷◌, Option, Some, None, Result, Ok, Err, sym, ap}
+use Rattle.std.proofs.Common.{subst, ◌∙◌, arith, append-nil, drop}
 use Rattle.mfotl_model.specs.declared.event.TimePoint.{TimePoint}
 use Rattle.mfotl_sig.specs.Preds.{PredOf}
 use Rattle.log_reader.specs.declared.fault.LogFault.{LogFault}
 use Rattle.log_reader.specs.declared.fault.LogFault.TheVariants.{Memory}
 use Rattle.log_reader.specs.declared.limits.Limits.{Limits}
 use Rattle.log_reader.specs.declared.next.Next.{Next}
-use Rattle.log_reader.specs.declared.next.Next.TheVariants.{Point}
+use Rattle.log_reader.specs.declared.next.Next.TheVariants.{Point, More}
 use Rattle.log_reader.specs.Cursors.{given_of, Leads, Exhausts, Breaks, BreaksBy}
 use Rattle.log_reader.specs.Cursors.{Advances, behind_answer}
-use Rattle.log_reader.specs.Given.{Fails, Gives}
+use Rattle.log_reader.specs.Given.{Gives}
 use Rattle.log_reader.specs.Partials.{Partial}
 use Rattle.log_reader.specs.Progress.{answer_of, skipped}
-use Rattle.log_reader.specs.Readings.{Reading, behind, run_from, is_long, nothing_left}
-use Rattle.log_reader.specs.Readings.{place_at, reading}
-use Rattle.log_reader.specs.Soundness.{IsSound, is_wanting, CountsOn}
+use Rattle.log_reader.specs.Readings.{Reading, behind, run_from, nothing_behind, nothing_left, reading}
+use Rattle.log_reader.specs.Soundness.{StandsFor, IsWithin, AnswersDue, StandsOn, is_wanting, CountsOn}
+use Rattle.log_reader.specs.Stretches.{Stretch, Waits, end_of, looked_at, is_end_told, place_of}
 use Rattle.log_reader.proofs.TokenSteps.{later_self}
-use Rattle.log_reader.proofs.ReaderSoundness.{sound_leads, sound_end, end_counts, due_rest, due_exhausted}
+use Rattle.log_reader.proofs.ReaderSoundness.{stands_leads, stands_end, end_counts, end_counted, due_rest, due_end}
+use Rattle.log_reader.proofs.ReaderSoundness.{waits_by}
 
 -- ---- what a call answers
 
-pub gives_due : (answer due : Result Next LogFault) → due ≡ answer → Gives (λ next. next) answer due
+gives_due : (answer due : Result Next LogFault) → due ≡ answer → Gives (λ next. next) answer due
 gives_due (Ok next) due e = e
 gives_due (Err Memory) due e = tt
 gives_due (Err fault) due e = e
 
--- behind what an advance gave, at what its arguments are
-module _ (sig : List PredOf) (limits : Limits) (bytes looked : List ℕ) (is_ended told : Bool) (at : ℕ) (p : Partial)
-    (result : Result (Option TimePoint) LogFault) (at' : ℕ) (q : Partial)
-    (look : looked ≡ take limits.bytes bytes) (end : told ≡ (is_ended && not (is_long limits bytes)))
-    (a : Advances sig limits looked told at p result at' q) (s : IsSound sig limits bytes is_ended at p) where
-  abbrev AdvancesTo : Result (Option TimePoint) LogFault → Type 0
-  AdvancesTo r = Advances sig limits (take limits.bytes bytes) (is_ended && not (is_long limits bytes)) at p r at' q
+-- what an answer of the cursor owes
+pub record Owed (sig : List PredOf) (limits : Limits) (is_ended : Bool) (s : Stretch) (at : ℕ) (p : Partial)
+    (answer : Result Next LogFault) (at' : ℕ) (q : Partial) : Type 0 where
+  pub due : AnswersDue sig limits is_ended s at p answer
+  pub stands : is_wanting answer ≡ false → StandsOn sig limits is_ended s at p at' q
+  pub within : is_wanting answer ≡ false → IsWithin limits s at' q
+  pub counts : CountsOn (given_of p) answer (given_of q)
+  pub waits : answer ≡ Ok More → Waits limits s at'
 
-  abbrev due : Result Next LogFault
-  due = answer_of is_ended (skipped (given_of p) (reading sig limits bytes is_ended))
+-- behind what an advance gave, at what its arguments are
+module _ (sig : List PredOf) (limits : Limits) (s : Stretch) (from : ℕ) (looked : List ℕ) (is_ended told : Bool)
+    (at : ℕ) (p : Partial) (result : Result (Option TimePoint) LogFault) (at' : ℕ) (q : Partial)
+    (begins : from ≡ s.from) (look : looked ≡ looked_at limits s) (end : told ≡ is_end_told limits s is_ended)
+    (a : Advances sig limits from looked told at p result at' q) (w : IsWithin limits s at p) where
+  abbrev AdvancesTo : Result (Option TimePoint) LogFault → Type 0
+  AdvancesTo r = Advances sig limits s.from (looked_at limits s) (is_end_told limits s is_ended) at p r at' q
+
+  abbrev LeadsOn : List TimePoint → Type 0
+  LeadsOn points = Leads sig limits s.from (looked_at limits s) (is_end_told limits s is_ended) at p points at' q
+
+  abbrev Answered : Result Next LogFault → Partial → Type 0
+  Answered answer r = Owed sig limits is_ended s at p answer at' r
 
   advanced : AdvancesTo result
-  advanced = subst (λ (x : Bool). Advances sig limits (take limits.bytes bytes) x at p result at' q) end
-      (subst (λ (x : List ℕ). Advances sig limits x told at p result at' q) look a)
+  advanced =
+      subst (λ (n : ℕ). Advances sig limits n (looked_at limits s) (is_end_told limits s is_ended) at p result at' q)
+      begins (subst (λ (x : Bool). Advances sig limits from (looked_at limits s) x at p result at' q) end
+      (subst (λ (x : List ℕ). Advances sig limits from x told at p result at' q) look a))
+
+  -- the reading of what there is by now
+  leads_now : (points : List TimePoint) → LeadsOn points → (last : Partial → Reading)
+      → run_from sig limits last p (place_of limits s is_ended at)
+      ≡ behind points (run_from sig limits last q (place_of limits s is_ended at'))
+  leads_now points l last =
+      let told = is_end_told limits s is_ended in
+      rw (append-nil (drop at (looked_at limits s)), append-nil (drop at' (looked_at limits s)))
+      at (l.reads [] told (later_self told) last)
+
+  stands_led : (points : List TimePoint) → LeadsOn points → StandsOn sig limits is_ended s at p at' q
+  stands_led points l log st =
+      rw l.given (stands_leads sig limits log is_ended s (given_of p) at at' p q points w.within st l)
+
+  within_led : (points : List TimePoint) → LeadsOn points → IsWithin limits s at' q
+  within_led points l = record { within = l.within; counted = l.counted }
 
   -- what the rest begins with is due
-  due_led : (points : List TimePoint)
-      → Leads sig limits (take limits.bytes bytes) (is_ended && not (is_long limits bytes)) at p points at' q
-      → due ≡ answer_of is_ended (behind points
-      (run_from sig limits (nothing_left limits bytes is_ended) q (place_at limits bytes is_ended at')))
-  due_led points l =
-      let told = is_ended && not (is_long limits bytes) in
-      due_rest sig limits bytes is_ended at p s
-      ∙ ap (answer_of is_ended) (l.reads told (later_self told) (nothing_left limits bytes is_ended))
+  due_led : (points : List TimePoint) → LeadsOn points → (log : List ℕ)
+      → StandsFor sig limits is_ended (given_of p) s at p log
+      → answer_of is_ended (skipped (given_of p) (reading sig limits log is_ended))
+      ≡ answer_of is_ended (behind points
+      (run_from sig limits (nothing_left limits log is_ended) q (place_of limits s is_ended at')))
+  due_led points l log st =
+      due_rest sig limits log is_ended s (given_of p) at p st
+      ∙ ap (answer_of is_ended) (leads_now points l (nothing_left limits log is_ended))
 
   -- a time-point
-  module _ (point : TimePoint) (is : result ≡ Ok (Some point)) where
-    led : Leads sig limits (take limits.bytes bytes) (is_ended && not (is_long limits bytes)) at p (point ∷ []) at' q
-    led = subst AdvancesTo is advanced
-
-    pub sound_point : IsSound sig limits bytes is_ended at' q
-    sound_point = sound_leads sig limits bytes is_ended at at' p q (point ∷ []) s led
-
-    pub due_point : due ≡ Ok (Point point)
-    due_point = due_led (point ∷ []) led
-
-    pub given_point : given_of q ≡ given_of p + 1
-    given_point = led.given
+  pub owed_point : (point : TimePoint) → result ≡ Ok (Some point) → Answered (Ok (Point point)) q
+  owed_point point is =
+      let l : LeadsOn (point ∷ []) = subst AdvancesTo is advanced in
+      record {
+        due = λ log st. due_led (point ∷ []) l log st;
+        stands = λ fine. stands_led (point ∷ []) l;
+        within = λ fine. within_led (point ∷ []) l;
+        counts = l.given;
+        waits = λ e. absurd cc;
+      }
 
   -- a fault
   abbrev BreaksHere : LogFault → Type 0
-  BreaksHere fault = Breaks sig limits (take limits.bytes bytes)
-      (is_ended && not (is_long limits bytes)) at p fault at' q
+  BreaksHere fault =
+      Breaks sig limits s.from (looked_at limits s) (is_end_told limits s is_ended) at p fault at' q
 
   abbrev BreaksByHere : LogFault → Type 0
-  BreaksByHere fault = BreaksBy sig limits (take limits.bytes bytes)
-      (is_ended && not (is_long limits bytes)) at p fault at' q
+  BreaksByHere fault =
+      BreaksBy sig limits s.from (looked_at limits s) (is_end_told limits s is_ended) at p fault at' q
 
-  due_broken : (fault : LogFault) → BreaksHere fault → due ≡ Err fault
-  due_broken fault b =
-      due_led [] b.leads ∙ ap (λ (r : Reading). answer_of is_ended (behind [] r))
-      (b.again (nothing_left limits bytes is_ended))
+  due_broken : (fault : LogFault) → BreaksHere fault → (log : List ℕ)
+      → StandsFor sig limits is_ended (given_of p) s at p log
+      → answer_of is_ended (skipped (given_of p) (reading sig limits log is_ended)) ≡ Err fault
+  due_broken fault b log st =
+      due_led [] b.leads log st ∙ ap (λ (r : Reading). answer_of is_ended (behind [] r))
+      (b.again (nothing_left limits log is_ended))
 
-  sound_broken : (fault : LogFault) → BreaksHere fault → IsSound sig limits bytes is_ended at' q
-  sound_broken fault b = sound_leads sig limits bytes is_ended at at' p q [] s b.leads
+  owed_by : (fault : LogFault) → BreaksByHere fault → Answered (Err fault) q
+  owed_by Memory b = record {
+    due = λ log st. tt;
+    stands = λ fine. absurd cc;
+    within = λ fine. absurd cc;
+    counts = tt;
+    waits = λ e. absurd cc;
+  }
+  owed_by fault b = record {
+    due = λ log st. due_broken fault b log st;
+    stands = λ fine. stands_led [] b.leads;
+    within = λ fine. within_led [] b.leads;
+    counts = omega (arith, b.leads.given);
+    waits = λ e. absurd cc;
+  }
 
-  counts_broken : (fault : LogFault) → BreaksHere fault → given_of q ≡ given_of p
-  counts_broken fault b = omega (arith, b.leads.given)
-
-  due_by : (fault : LogFault) → BreaksByHere fault → Fails fault due
-  due_by Memory b = tt
-  due_by fault b = due_broken fault b
-
-  sound_by : (fault : LogFault) → BreaksByHere fault → is_wanting (Err fault) ≡ false
-      → IsSound sig limits bytes is_ended at' q
-  sound_by Memory b wanting = absurd cc
-  sound_by fault b wanting = sound_broken fault b
-
-  counts_by : (fault : LogFault) → BreaksByHere fault → CountsOn (given_of p) (Err fault) (given_of q)
-  counts_by Memory b = tt
-  counts_by fault b = counts_broken fault b
-
-  module _ (fault : LogFault) (is : result ≡ Err fault) where
-    pub fault_due : Fails fault due
-    fault_due = due_by fault (subst AdvancesTo is advanced)
-
-    pub fault_sound : is_wanting (Err fault) ≡ false → IsSound sig limits bytes is_ended at' q
-    fault_sound = sound_by fault (subst AdvancesTo is advanced)
-
-    pub fault_counts : CountsOn (given_of p) (Err fault) (given_of q)
-    fault_counts = counts_by fault (subst AdvancesTo is advanced)
+  pub owed_fault : (fault : LogFault) → result ≡ Err fault → Answered (Err fault) q
+  owed_fault fault is = owed_by fault (subst AdvancesTo is advanced)
 
   -- where no whole token is left, the end gives the answer
-  module _ (is : result ≡ Ok None) (answer : Result Next LogFault) (r : Partial)
-      (e : answer ≡ answer_of is_ended (nothing_left limits bytes is_ended q)) (m : r ≡ behind_answer q answer) where
-    exhausted : Exhausts sig limits (take limits.bytes bytes) (is_ended && not (is_long limits bytes)) at p at' q
-    exhausted = subst AdvancesTo is advanced
-
-    sound_here : IsSound sig limits bytes is_ended at' q
-    sound_here = sound_leads sig limits bytes is_ended at at' p q [] s exhausted.leads
-
-    pub sound_none : IsSound sig limits bytes is_ended at' r
-    sound_none = sound_end sig limits bytes is_ended at' q r answer sound_here exhausted.empty e m
-
-    pub due_none : due ≡ answer
-    due_none = due_exhausted sig limits bytes is_ended at at' p q s exhausted ∙ sym e
-
-    pub given_none : CountsOn (given_of p) answer (given_of r)
-    given_none = end_counts sig limits bytes is_ended (given_of p) at' q r answer sound_here exhausted.leads.given e m
+  pub owed_end : result ≡ Ok None → (answer : Result Next LogFault) (r : Partial)
+      → answer ≡ answer_of is_ended (nothing_behind limits (end_of s) is_ended q) → r ≡ behind_answer q answer
+      → Answered answer r
+  owed_end is answer r e m =
+      let x : Exhausts sig limits s.from (looked_at limits s) (is_end_told limits s is_ended) at p at' q =
+      subst AdvancesTo is advanced in
+      let here : StandsOn sig limits is_ended s at p at' q = stands_led [] x.leads in
+      let same : given_of q ≡ given_of p = omega (arith, x.leads.given) in
+      record {
+        due = λ log st. gives_due answer _ (due_led [] x.leads log st
+            ∙ sym (due_rest sig limits log is_ended s (given_of q) at' q (here log st))
+            ∙ due_end sig limits log is_ended s (given_of q) at' q (here log st) x.empty ∙ sym e);
+        stands = λ fine log st.
+            stands_end sig limits log is_ended s at' q x.leads.counted (here log st) x.empty r answer e m;
+        within = λ fine. record { within = x.leads.within; counted = end_counted q r answer x.leads.counted m };
+        counts = end_counts limits (end_of s) is_ended (given_of p) q r answer x.leads.counted x.leads.given e m;
+        waits = λ more. waits_by limits s is_ended at' q x.leads.within x.empty x.bare (sym more ∙ e);
+      }

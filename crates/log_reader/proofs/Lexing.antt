@@ -1,17 +1,20 @@
--- What the lexer's laws say of one token: it leads further, and it stays when the end is told.
-use Rattle.std.proofs.Common.{◌≡◌, ℕ, ◌+◌, ◌≤◌, ◌<◌, true, false, List, [], length, drop, Some, Ok, refl, ap, ◌∙◌}
-use Rattle.std.proofs.Common.{add_assoc, arith}
+-- What the lexer's laws say of one token: it leads further, and it stays whatever comes later.
+use Rattle.std.proofs.Common.{◌≡◌, ℕ, ◌+◌, ◌≤◌, ◌<◌, Bool, true, false, List, [], length, drop, Some, None, Ok}
+use Rattle.std.proofs.Common.{refl, sym, ap, ◌∙◌, add_assoc, arith}
 use Rattle.std.proofs.lemmas.List.{append-nil, length-drop, drop-drop}
 use Rattle.mfotl_lex.specs.Blanks.{blank_len}
 use Rattle.mfotl_lex.specs.Growing.{grown}
-use Rattle.mfotl_lex.specs.Lexemes.{Lexeme, token_at, place_after, next_token, after}
+use Rattle.mfotl_lex.specs.Lexemes.{Lexeme, token_at, place_after, past_blanks, next_token, after, tokens}
 use Rattle.mfotl_lex.specs.Places.{Place, moved, mode_behind}
 use Rattle.mfotl_lex.specs.Scans.{scan, IsWithin}
 use Rattle.mfotl_lex.specs.declared.scan.Scan.{Scan}
 use Rattle.mfotl_lex.specs.declared.scan.Scan.TheVariants.{Unshown, Takes, Fails}
+use Rattle.mfotl_lex.proofs.BlankLemmas.{blank_len-drop}
 use Rattle.mfotl_lex.proofs.BlankLoop.{blanks_within}
 use Rattle.mfotl_lex.proofs.GrowingLemmas.{reads_on}
 use Rattle.mfotl_lex.proofs.ScanLemmas.{scan_within}
+use Rattle.mfotl_lex.proofs.Sequence.{next_is, nothing_after, after_ended, tokens_none}
+use Rattle.log_reader.specs.Cursors.{IsLater}
 
 -- how far a token leads: past a byte at least, and within the bytes
 pub record Moves (p q : Place) : Type 0 where
@@ -41,22 +44,65 @@ token_moves p t e =
     moves_by p blanks (scan p.mode p.ended (drop blanks p.rest)) t (blanks_within p.ended p.rest)
     (scan_within p.mode p.ended (drop blanks p.rest)) e
 
--- the same place, with the end told
-abbrev pub told : Place → Place
-told p = record p { ended = true }
-
-grown_none : (p : Place) → grown p [] true ≡ told p
-grown_none p = ap (λ (rest : List ℕ). record p { rest = rest; ended = true }) (append-nil p.rest)
+-- where nothing comes later the place stays
+grown_nothing : (p : Place) → p.ended ≡ true → grown p [] true ≡ p
+grown_nothing p e =
+    ap (λ (rest : List ℕ). record p { rest = rest; ended = true }) (append-nil p.rest)
+    ∙ ap (λ (b : Bool). record p { ended = b }) (sym e)
 
 -- the same token, and the same place behind it
-pub record TokenAgain (p : Place) (t : Lexeme) : Type 0 where
-  pub token : next_token (told p) ≡ Ok (Some t)
-  pub place : after (told p) ≡ told (after p)
+pub record TokenAgain (p : Place) (t : Lexeme) (more : List ℕ) (later : Bool) : Type 0 where
+  pub token : next_token (grown p more later) ≡ Ok (Some t)
+  pub place : after (grown p more later) ≡ grown (after p) more later
 
-pub token_again : (p : Place) (t : Lexeme) → p.ended ≡ false → next_token p ≡ Ok (Some t) → TokenAgain p t
-token_again p t untold found =
-    let on = reads_on p [] true untold in
-    record {
-      token = rw (grown_none p) at (on.token t found);
-      place = rw (grown_none p) at (on.behind t found) ∙ grown_none (after p);
-    }
+-- whatever comes later
+pub token_again : (p : Place) (t : Lexeme) (more : List ℕ) (later : Bool) → IsLater p.ended more later
+    → next_token p ≡ Ok (Some t) → TokenAgain p t more later
+token_again p t more later is found = go p.ended refl is
+  where
+    go : (ended : Bool) → p.ended ≡ ended → IsLater ended more later → TokenAgain p t more later
+    go false untold is =
+        let on = reads_on p more later untold in
+        record { token = on.token t found; place = on.behind t found }
+    go true told (none, same) = rw (none, same) (record {
+      token = ap next_token (grown_nothing p told) ∙ found;
+      place = ap after (grown_nothing p told) ∙ sym (grown_nothing (after p) (after_ended p ∙ told));
+    })
+
+-- ---- where no whole token is left
+
+past_twice : (p : Place) → past_blanks (past_blanks p) ≡ past_blanks p
+past_twice p =
+    rw (blank_len-drop p.ended p.rest) (ap (λ (at : ℕ). record (past_blanks p) { at = at }) (omega arith))
+
+none_behind : (p : Place) → next_token p ≡ Ok None → next_token (after p) ≡ Ok None
+none_behind p none =
+    rw (nothing_after p none)
+    (next_is (past_blanks p)
+    ∙ ap (λ (q : Place). token_at q (scan p.mode p.ended q.rest)) (past_twice p)
+    ∙ sym (next_is p) ∙ none)
+
+-- the blanks there are done with
+pub record BlanksDone (p : Place) : Type 0 where
+  pub again : (more : List ℕ) (later : Bool) → IsLater p.ended more later
+      → tokens (grown p more later) ≡ tokens (grown (after p) more later)
+  pub empty : next_token (after p) ≡ Ok None
+  pub bare : blank_len p.ended (after p).rest ≡ 0
+  pub moves : after p ≡ moved p (blank_len p.ended p.rest)
+  pub within : blank_len p.ended p.rest ≤ length p.rest
+
+pub blanks_done : (p : Place) → next_token p ≡ Ok None → BlanksDone p
+blanks_done p none = record {
+  again = λ more later is. go more later p.ended refl is;
+  empty = none_behind p none;
+  bare = rw (nothing_after p none) (blank_len-drop p.ended p.rest);
+  moves = nothing_after p none;
+  within = blanks_within p.ended p.rest;
+}
+  where
+    go : (more : List ℕ) (later ended : Bool) → p.ended ≡ ended → IsLater ended more later
+        → tokens (grown p more later) ≡ tokens (grown (after p) more later)
+    go more later false untold is = (reads_on p more later untold).none none
+    go more later true told (none_more, same) = rw (none_more, same)
+        (ap tokens (grown_nothing p told) ∙ tokens_none p none ∙ sym (tokens_none (after p) (none_behind p none))
+        ∙ ap tokens (sym (grown_nothing (after p) (after_ended p ∙ told))))

@@ -4,6 +4,9 @@ pub mod TokenRuns
 pub mod TokenPlaces
 pub mod StepStages
 pub mod TokenSteps
+pub mod StretchLemmas
+pub mod Waiting
+pub mod QuickLemmas
 pub mod ReaderSoundness
 pub mod Keeping
 pub mod Fewness

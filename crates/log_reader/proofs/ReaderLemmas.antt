@@ -1,39 +1,42 @@
--- A reader that keeps all bytes stands for these alone.
-use Rattle.std.proofs.Common.{◌≡◌, ◌≢◌, ℕ, Bool, false, List, Result, Ok, Err, OnOk, IfErr}
+-- What a reader that keeps bytes stands for, and what an answer makes of it.
+use Rattle.std.proofs.Common.{◌≡◌, ◌≢◌, ℕ, Bool, true, false, List, Result, Ok, Err, OnOk, IfErr}
 use Rattle.std.proofs.Common.{refl, sym, subst, ◌∙◌}
+use Rattle.mfotl_sig.specs.Preds.{PredOf}
 use Rattle.log_reader.specs.declared.fault.LogFault.{LogFault}
 use Rattle.log_reader.specs.declared.fault.LogFault.TheVariants.{Memory}
+use Rattle.log_reader.specs.declared.limits.Limits.{Limits}
 use Rattle.log_reader.specs.declared.next.Next.{Next}
 use Rattle.log_reader.specs.declared.next.Next.TheVariants.{Point, More, End}
+use Rattle.log_reader.specs.Given.{Gives}
 use Rattle.log_reader.specs.Partials.{Partial}
-use Rattle.log_reader.specs.Readers.{Reader, Reads, ReadsOn, ForEach, Proceeds}
-use Rattle.log_reader.specs.Soundness.{is_wanting, CountsOn}
+use Rattle.log_reader.specs.Progress.{due}
+use Rattle.log_reader.specs.Readers.{Reader, Reads, ReadsOn, ForEach, Proceeds, Kept, progress}
+use Rattle.log_reader.specs.Soundness.{StandsFor, is_wanting, is_more, CountsOn}
+use Rattle.log_reader.specs.Stretches.{Stretch}
 
-pub reads_kept : (r : Reader) (bytes : List ℕ) → r.kept.bytes ≡ bytes → Reads r bytes
+-- a reader's texts are those that what it keeps stands for
+abbrev pub Stands : Reader → List ℕ → Type 0
+Stands r log = StandsFor r.sig r.limits r.is_ended r.given r.kept.stretch r.kept.at r.kept.partial log
+
+pub reads_kept : (r : Reader) (log : List ℕ) → Stands r log → Reads r log
 unfolding Reads
-reads_kept r bytes e = e
+reads_kept r log st = st
 
-pub for_each : (r : Reader) (P : List ℕ → Type 0) → P r.kept.bytes → ForEach r P
+pub kept_reads : (r : Reader) (log : List ℕ) → Reads r log → Stands r log
 unfolding Reads
-for_each r P holds bytes reads = subst P reads holds
+kept_reads r log reads = reads
 
--- what a fault says of the bytes that are kept it says of each
+-- of a reader that is the same
+pub for_each : (old r : Reader) → old ≡ r → (P : List ℕ → Type 0) → ((log : List ℕ) → Stands old log → P log)
+    → ForEach r P
+for_each old r e P holds = subst (λ (x : Reader). ForEach x P) e (λ log reads. holds log (kept_reads old log reads))
+
+-- what a fault says of each text
 pub each_err : (r : Reader) (P : LogFault → List ℕ → Type 0) (result : Result Next LogFault)
-    → IfErr result (λ fault. fault ≢ Memory → P fault r.kept.bytes)
+    → ((log : List ℕ) → Reads r log → IfErr result (λ fault. fault ≢ Memory → P fault log))
     → IfErr result (λ fault. fault ≢ Memory → ForEach r (P fault))
 each_err r P (Ok next) holds = tt
-each_err r P (Err fault) holds = λ wanting. for_each r (P fault) (holds wanting)
-
--- a reader that keeps the same bytes reads the same
-pub same_reads : (old new : Reader) → new.kept.bytes ≡ old.kept.bytes → ForEach old (Reads new)
-unfolding Reads
-same_reads old new e bytes reads = e ∙ reads
-
-pub reads_on : (old new : Reader) (result : Result Next LogFault) → new.kept.bytes ≡ old.kept.bytes
-    → ReadsOn old new result
-reads_on old new (Ok next) e = same_reads old new e
-reads_on old new (Err Memory) e = tt
-reads_on old new (Err fault) e = same_reads old new e
+each_err r P (Err fault) holds = λ wanting log reads. holds log reads wanting
 
 -- ---- an answer
 
@@ -42,16 +45,49 @@ pub on_ok : (P : Type 0) (result : Result Next LogFault) → (is_wanting result 
 on_ok P (Ok next) holds = holds refl
 on_ok P (Err fault) holds = tt
 
--- the reader with these given, and memory wanting or not
-abbrev pub behind : Reader → ℕ → Bool → ℕ → Partial → Reader
-behind r given wanting at p =
-    record r { given = given; is_broken = wanting; kept = record { bytes = r.kept.bytes; at = at; partial = p } }
+on_answer : (old new : Reader) (result : Result Next LogFault)
+    → (is_wanting result ≡ false → ForEach old (Reads new)) → ReadsOn old new result
+on_answer old new (Ok next) holds = holds refl
+on_answer old new (Err Memory) holds = tt
+on_answer old new (Err fault) holds = holds refl
 
-pub proceeds : (r : Reader) (result : Result Next LogFault) (given : ℕ) (wanting : Bool) (at : ℕ) (p : Partial)
+pub reads_on : (old r new : Reader) → old ≡ r → (result : Result Next LogFault)
+    → (is_wanting result ≡ false → (log : List ℕ) → Stands old log → Stands new log) → ReadsOn r new result
+reads_on old r new e result holds =
+    on_answer r new result (λ fine. for_each old r e (Reads new) (λ log st. reads_kept new log (holds fine log st)))
+
+pub answers : (old r : Reader) → old ≡ r → (result : Result Next LogFault)
+    → ((log : List ℕ) → Stands old log → Gives (λ next. next) result (due (progress old log)))
+    → ForEach r (λ log. Gives (λ next. next) result (due (progress r log)))
+answers old r e result holds =
+    subst (λ (x : Reader). ForEach x (λ log. Gives (λ next. next) result (due (progress x log)))) e
+    (λ log reads. holds log (kept_reads old log reads))
+
+-- the reader with these given, and memory wanting or not
+abbrev pub behind : Reader → ℕ → Bool → Kept → Reader
+behind r given wanting kept = record r { given = given; is_broken = wanting; kept = kept }
+
+pub proceeds : (r : Reader) (result : Result Next LogFault) (given : ℕ) (wanting : Bool) (kept : Kept)
     → r.is_broken ≡ false → wanting ≡ is_wanting result → CountsOn r.given result given
-    → Proceeds r (behind r given wanting at p) result
-proceeds r (Ok (Point point)) given wanting at p works is counts = rw (counts, is ∙ sym works) refl
-proceeds r (Ok More) given wanting at p works is counts = rw (counts, is ∙ sym works) refl
-proceeds r (Ok End) given wanting at p works is counts = rw (counts, is ∙ sym works) refl
-proceeds r (Err Memory) given wanting at p works is counts = is
-proceeds r (Err fault) given wanting at p works is counts = rw (counts, is ∙ sym works) refl
+    → Proceeds r (behind r given wanting kept) result
+proceeds r (Ok (Point point)) given wanting kept works is counts = rw (counts, is ∙ sym works) refl
+proceeds r (Ok More) given wanting kept works is counts = rw (counts, is ∙ sym works) refl
+proceeds r (Ok End) given wanting kept works is counts = rw (counts, is ∙ sym works) refl
+proceeds r (Err Memory) given wanting kept works is counts = is
+proceeds r (Err fault) given wanting kept works is counts = rw (counts, is ∙ sym works) refl
+
+pub more_is : (result : Result Next LogFault) → is_more result ≡ true → result ≡ Ok More
+more_is (Ok More) e = refl
+more_is (Ok (Point point)) e = absurd cc
+more_is (Ok End) e = absurd cc
+more_is (Err fault) e = absurd cc
+
+-- once the end is told, the reader still stands for its texts
+pub stands_ended : (sig : List PredOf) (limits : Limits) (is_ended : Bool) (given : ℕ) (s : Stretch) (at : ℕ)
+    (p : Partial) (log : List ℕ) → StandsFor sig limits is_ended given s at p log
+    → StandsFor sig limits true given s at p log
+stands_ended sig limits true given s at p log st = st
+stands_ended sig limits false given s at p log st = record {
+  len = st.len;
+  remains = λ more later is. st.remains more later tt;
+}

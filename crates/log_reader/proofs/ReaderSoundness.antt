@@ -1,35 +1,37 @@
 -- What a reader keeps true of the bytes, the offset and what was read before it.
-use Rattle.std.proofs.Common.{◌≡◌, ℕ, ◌+◌, ◌≤◌, Bool, true, false, not, ◌&&◌, List, [], ◌∷◌, length, take, drop}
-use Rattle.std.proofs.Common.{None, Result, Ok, Err, refl, sym, ap, subst, ◌∙◌, arith}
-use Rattle.std.proofs.lemmas.Bool.{cond_both}
-use Rattle.std.proofs.lemmas.List.{length-drop, length-append, drop-drop}
+use Rattle.std.proofs.Common.{◌≡◌, ℕ, ◌+◌, ◌-◌, ◌≤◌, Bool, true, false, cond, List, [], ◌∷◌, ◌++◌, length, drop}
+use Rattle.std.proofs.Common.{nat_lt, None, Result, Ok, Err, refl, sym, ap, subst, ◌∙◌, arith, append_assoc}
+use Rattle.std.proofs.Common.{append-nil}
+use Rattle.std.proofs.lemmas.Bool.{cond_both, ltb-false}
+use Rattle.std.proofs.lemmas.List.{length-drop, length-append, length-take, drop-drop, take_all, nil_from_length}
 use Rattle.std.proofs.Math.Seq.{drop-append_seam, take-nil}
 use Rattle.mfotl_lex.specs.Blanks.{blank_len}
-use Rattle.mfotl_lex.specs.Lexemes.{next_token}
+use Rattle.mfotl_lex.specs.Lexemes.{Tokens, next_token, tokens}
+use Rattle.mfotl_lex.specs.Places.{Place}
 use Rattle.mfotl_lex.specs.Scans.{log_scan}
+use Rattle.mfotl_lex.specs.declared.kind.Mode.TheVariants.{Log}
 use Rattle.mfotl_model.specs.declared.event.TimePoint.{TimePoint}
 use Rattle.mfotl_sig.specs.Preds.{PredOf}
 use Rattle.log_reader.specs.declared.fault.LogFault.{LogFault}
-use Rattle.log_reader.specs.declared.fault.LogFault.TheVariants.{Memory}
+use Rattle.log_reader.specs.declared.fault.LogFault.TheVariants.{TooLong, Memory}
 use Rattle.log_reader.specs.declared.limits.Limits.{Limits}
 use Rattle.log_reader.specs.declared.next.Next.{Next}
 use Rattle.log_reader.specs.declared.next.Next.TheVariants.{Point, More, End}
 use Rattle.log_reader.specs.declared.stage.Stage.{Stage}
-use Rattle.log_reader.specs.declared.stage.Stage.TheVariants.{AfterStamp, AfterClose}
-use Rattle.log_reader.specs.Cursors.{place_in, IsLater, open_count, given_of, Leads, Exhausts}
+use Rattle.log_reader.specs.declared.stage.Stage.TheVariants.{Between, AfterStamp, AfterClose}
+use Rattle.log_reader.specs.Cursors.{IsCounted, open_count, given_of, Leads}
 use Rattle.log_reader.specs.Cursors.{behind_answer}
 use Rattle.log_reader.specs.Partials.{Partial, blank, point_of, finished}
 use Rattle.log_reader.specs.Progress.{answer_of, skipped}
-use Rattle.log_reader.specs.Readings.{Reading, Ending, NoFault, behind, run_from, is_long, nothing_left, finish_at}
-use Rattle.log_reader.specs.Readings.{place_at, reading}
-use Rattle.log_reader.specs.Soundness.{Remains, IsSound, CountsOn}
+use Rattle.log_reader.specs.Readings.{Reading, Ending, NoFault, stopped, behind, behind_tokens, run, run_from}
+use Rattle.log_reader.specs.Readings.{is_long, finish_at, nothing_behind, nothing_left, place_at, reading}
+use Rattle.log_reader.specs.Soundness.{Remains, StandsFor, IsWithin, IsSound, StandsOn, CountsOn}
+use Rattle.log_reader.specs.Stretches.{Stretch, Waits, end_of, with_piece, looked_at, is_end_told, place_of, forgotten}
+use Rattle.log_reader.specs.Stretches as stretches
+use Rattle.log_reader.proofs.StretchLemmas.{further, place_grown, later_told, place_now, behind_place, behind_end}
+use Rattle.log_reader.proofs.StretchLemmas.{shortened_end, shortened_place}
 use Rattle.log_reader.proofs.TokenRuns.{none_run}
 use Rattle.log_reader.proofs.TokenSteps.{later_self}
-
-later_and : (ended later long : Bool) → IsLater ended later → IsLater (ended && not long) (later && not long)
-later_and true later long is =
-    subst (λ (b : Bool). IsLater (not long) (b && not long)) (sym is) (later_self (not long))
-later_and false later long is = tt
 
 same_reading : (r : Reading) (points : List TimePoint) (ending : Ending) → points ≡ r.points → ending ≡ r.ending
     → record { points = points; ending = ending } ≡ r
@@ -47,11 +49,11 @@ skip_more n points all rest e =
 -- ---- the end of the bytes
 
 -- the end was told, and the present time-point is whole
-record Whole (limits : Limits) (bytes : List ℕ) (ended : Bool) (p : Partial) : Type 0 where
+record Whole (limits : Limits) (len : ℕ) (ended : Bool) (p : Partial) : Type 0 where
   pub told : ended ≡ true
-  pub here : nothing_left limits bytes ended p ≡ record { points = point_of p ∷ []; ending = NoFault }
+  pub here : nothing_behind limits len ended p ≡ record { points = point_of p ∷ []; ending = NoFault }
   pub begun : open_count p.stage ≡ 1
-  pub behind : nothing_left limits bytes ended (finished p) ≡ record { points = []; ending = NoFault }
+  pub behind : nothing_behind limits len ended (finished p) ≡ record { points = []; ending = NoFault }
 
 gives_point : TimePoint → Result Next LogFault → Type 0
 gives_point point r = r ≡ Ok (Point point)
@@ -64,135 +66,253 @@ no_more : (point : TimePoint) → gives_point point (Ok More) → ⊥
 unfolding gives_point
 no_more point e = cc
 
-whole_at : (limits : Limits) (bytes : List ℕ) (stage : Stage) (p : Partial) (point : TimePoint)
-    → gives_point point (answer_of true (finish_at (length bytes) p stage))
-    → (finish_at (length bytes) p stage ≡ record { points = point_of p ∷ []; ending = NoFault })
+whole_at : (len : ℕ) (stage : Stage) (p : Partial) (point : TimePoint)
+    → gives_point point (answer_of true (finish_at len p stage))
+    → (finish_at len p stage ≡ record { points = point_of p ∷ []; ending = NoFault })
     × (open_count stage ≡ 1)
 unfolding gives_point
-whole_at limits bytes AfterStamp p point e = (refl, refl)
-whole_at limits bytes AfterClose p point e = (refl, refl)
-whole_at limits bytes _ p point e = absurd cc
+whole_at len AfterStamp p point e = (refl, refl)
+whole_at len AfterClose p point e = (refl, refl)
+whole_at len _ p point e = absurd cc
 
-whole_by : (limits : Limits) (bytes : List ℕ) (long ended : Bool) (p : Partial) (point : TimePoint)
-    → is_long limits bytes ≡ long
-    → gives_point point (answer_of ended (nothing_left limits bytes ended p)) → Whole limits bytes ended p
-whole_by limits bytes true ended p point l e =
+whole_by : (limits : Limits) (len : ℕ) (long ended : Bool) (p : Partial) (point : TimePoint)
+    → nat_lt limits.bytes len ≡ long
+    → gives_point point (answer_of ended (nothing_behind limits len ended p)) → Whole limits len ended p
+whole_by limits len true ended p point l e =
     absurd (no_fault point _ (rw l at e))
-whole_by limits bytes false false p point l e = absurd (no_more point (rw l at e))
-whole_by limits bytes false true p point l e =
-    let whole = whole_at limits bytes p.stage p point (rw l at e) in
+whole_by limits len false false p point l e = absurd (no_more point (rw l at e))
+whole_by limits len false true p point l e =
+    let whole = whole_at len p.stage p point (rw l at e) in
     record { told = refl; here = rw l whole.0; begun = whole.1; behind = rw l refl }
 
-module _ (sig : List PredOf) (limits : Limits) (bytes : List ℕ) where
-  moves : (later : Bool) (given at at' : ℕ) (p q : Partial) (points : List TimePoint)
-      → Remains sig limits bytes later given at p
-      → (let last = nothing_left limits bytes later in
-      run_from sig limits last p (place_at limits bytes later at)
-      ≡ behind points (run_from sig limits last q (place_at limits bytes later at')))
-      → Remains sig limits bytes later (given + length points) at' q
-  moves later given at at' p q points r e =
-      let all = reading sig limits bytes later in
+-- more is asked for only of bytes within the limit whose end isn't told
+record Asks (limits : Limits) (len : ℕ) (ended : Bool) : Type 0 where
+  pub short : nat_lt limits.bytes len ≡ false
+  pub untold : ended ≡ false
+
+asks_by : (limits : Limits) (len : ℕ) (long ended : Bool) (p : Partial) (stage : Stage)
+    → nat_lt limits.bytes len ≡ long
+    → Ok More ≡ answer_of ended (cond long (stopped (TooLong limits.bytes))
+    (cond ended (finish_at len p stage) (record { points = []; ending = NoFault }))) → Asks limits len ended
+asks_by limits len true ended p stage l e = absurd cc
+asks_by limits len false false p stage l e = record { short = l; untold = refl }
+asks_by limits len false true p Between l e = absurd cc
+asks_by limits len false true p AfterStamp l e = absurd cc
+asks_by limits len false true p AfterClose l e = absurd cc
+asks_by limits len false true p _ l e = absurd cc
+
+module _ (sig : List PredOf) (limits : Limits) (log : List ℕ) where
+  moves : (later : Bool) (more : List ℕ) (given : ℕ) (p q : Partial) (place place' : Place) (points : List TimePoint)
+      → Remains sig limits (log ++ more) later given p place
+      → (let last = nothing_left limits (log ++ more) later in
+      run_from sig limits last p place ≡ behind points (run_from sig limits last q place'))
+      → Remains sig limits (log ++ more) later (given + length points) q place'
+  moves later more given p q place place' points r e =
+      let all = reading sig limits (log ++ more) later in
       let here = r.rest ∙ e in
       let len : length (drop given all.points)
-      ≡ length points + length
-      (run_from sig limits (nothing_left limits bytes later) q (place_at limits bytes later at')).points
+      ≡ length points + length (run_from sig limits (nothing_left limits (log ++ more) later) q place').points
       = ap (λ (x : Reading). length x.points) here ∙ length-append points _ in
       record {
         rest = skip_more given points all _ here;
         few = omega (arith, len, r.few, length-drop given all.points);
       }
 
-  module _ (is_ended : Bool) where
-    pub sound_leads : (at at' : ℕ) (p q : Partial) (points : List TimePoint) → IsSound sig limits bytes is_ended at p
-        → Leads sig limits (take limits.bytes bytes) (is_ended && not (is_long limits bytes)) at p points at' q
-        → IsSound sig limits bytes is_ended at' q
-    sound_leads at at' p q points s l = record {
-      within = l.within;
-      counted = l.counted;
-      remains = λ later is. rw l.given (moves later (given_of p) at at' p q points (s.remains later is)
-          (l.reads (later && not (is_long limits bytes)) (later_and is_ended later (is_long limits bytes) is)
-          (nothing_left limits bytes later)));
+  module _ (is_ended : Bool) (s : Stretch) (given : ℕ) where
+    -- what remains now
+    pub remains_now : (at : ℕ) (p : Partial) → StandsFor sig limits is_ended given s at p log
+        → Remains sig limits log is_ended given p (place_of limits s is_ended at)
+    remains_now at p st =
+        subst (λ (place : Place). Remains sig limits log is_ended given p place) (place_now limits s is_ended at)
+        (subst (λ (bytes : List ℕ). Remains sig limits bytes is_ended given p
+        (place_of limits (with_piece s []) is_ended at)) (append-nil log)
+        (st.remains [] is_ended (later_self is_ended)))
+
+    pub stands_leads : (at at' : ℕ) (p q : Partial) (points : List TimePoint)
+        → at ≤ length (looked_at limits s) → StandsFor sig limits is_ended given s at p log
+        → Leads sig limits s.from (looked_at limits s) (is_end_told limits s is_ended) at p points at' q
+        → StandsFor sig limits is_ended (given + length points) s at' q log
+    stands_leads at at' p q points within st l = record {
+      len = st.len;
+      remains = λ more later is.
+          let last = nothing_left limits (log ++ more) later in
+          let on : run_from sig limits last p (place_of limits (with_piece s more) later at)
+          ≡ behind points (run_from sig limits last q (place_of limits (with_piece s more) later at')) =
+          ap (run_from sig limits last p) (place_grown limits s is_ended later more at within)
+          ∙ l.reads (further limits s more) (is_end_told limits (with_piece s more) later)
+          (later_told limits s is_ended later more is) last
+          ∙ ap (λ (place : Place). behind points (run_from sig limits last q place))
+          (sym (place_grown limits s is_ended later more at' l.within)) in
+          moves later more given p q _ _ points (st.remains more later is) on;
     }
 
     -- behind the last time-point, which the end completes
-    sound_last : (at : ℕ) (p : Partial) → IsSound sig limits bytes is_ended at p
-        → next_token (place_in (take limits.bytes bytes) (is_ended && not (is_long limits bytes)) at) ≡ Ok None
-        → Whole limits bytes is_ended p → IsSound sig limits bytes is_ended at (finished p)
-    sound_last at p s empty w =
-        let more : given_of (finished p) ≡ given_of p + 1 = omega (arith, w.begun, s.counted) in
-        record {
-          within = s.within;
-          counted = omega arith;
-          remains = λ later is.
-              let same : later ≡ is_ended = rw w.told at is ∙ sym w.told in
-              let last = nothing_left limits bytes later in
-              let place = place_at limits bytes later at in
-              let found : next_token place ≡ Ok None = rw same empty in
-              let here : run_from sig limits last p place ≡ record { points = point_of p ∷ []; ending = NoFault } =
-              none_run sig limits last p place found ∙ rw same w.here in
-              let then : run_from sig limits last (finished p) place ≡ record { points = []; ending = NoFault } =
-              none_run sig limits last (finished p) place found ∙ rw same w.behind in
-              let both : run_from sig limits last p place
-              ≡ behind (point_of p ∷ []) (run_from sig limits last (finished p) place) =
-              here ∙ ap (λ (r : Reading). behind (point_of p ∷ []) r) (sym then) in
-              rw more (moves later (given_of p) at at p (finished p) (point_of p ∷ []) (s.remains later is) both);
-        }
-
-    pub sound_end : (at : ℕ) (p q : Partial) (answer : Result Next LogFault) → IsSound sig limits bytes is_ended at p
-        → next_token (place_in (take limits.bytes bytes) (is_ended && not (is_long limits bytes)) at) ≡ Ok None
-        → answer ≡ answer_of is_ended (nothing_left limits bytes is_ended p) → q ≡ behind_answer p answer
-        → IsSound sig limits bytes is_ended at q
-    unfolding gives_point
-    sound_end at p q (Ok (Point point)) s empty e is =
-        rw is (sound_last at p s empty (whole_by limits bytes (is_long limits bytes) is_ended p point refl (sym e)))
-    sound_end at p q (Ok More) s empty e is = rw is s
-    sound_end at p q (Ok End) s empty e is = rw is s
-    sound_end at p q (Err fault) s empty e is = rw is s
-
-    pub end_counts : (before at : ℕ) (p q : Partial) (answer : Result Next LogFault)
-        → IsSound sig limits bytes is_ended at p
-        → given_of p ≡ before + 0 → answer ≡ answer_of is_ended (nothing_left limits bytes is_ended p)
-        → q ≡ behind_answer p answer → CountsOn before answer (given_of q)
-    unfolding gives_point
-    end_counts before at p q (Ok (Point point)) s given e is =
-        let w = whole_by limits bytes (is_long limits bytes) is_ended p point refl (sym e) in
-        let more : given_of (finished p) ≡ before + 1 = omega (arith, w.begun, s.counted, given) in
-        rw is more
-    end_counts before at p q (Ok More) s given e is = rw is (omega (arith, given))
-    end_counts before at p q (Ok End) s given e is = rw is (omega (arith, given))
-    end_counts before at p q (Err Memory) s given e is = tt
-    end_counts before at p q (Err fault) s given e is = rw is (omega (arith, given))
+    stands_last : (at : ℕ) (p : Partial) → StandsFor sig limits is_ended given s at p log
+        → next_token (place_of limits s is_ended at) ≡ Ok None
+        → Whole limits (end_of s) is_ended p → StandsFor sig limits is_ended (given + 1) s at (finished p) log
+    stands_last at p st empty w = record {
+      len = st.len;
+      remains = λ more later is.
+          let none : (more ≡ []) × (later ≡ true) = rw w.told at is in
+          rw (none.0, none.1) (last_point tt);
+    }
+      where
+        last_point : (u : Unit {0}) → Remains sig limits (log ++ []) true (given + 1) (finished p)
+            (place_of limits (with_piece s []) true at)
+        last_point u =
+            let place = place_of limits (with_piece s []) true at in
+            let last = nothing_left limits (log ++ []) true in
+            let len : length (log ++ []) ≡ end_of s = ap length (append-nil log) ∙ st.len in
+            let found : next_token place ≡ Ok None =
+            ap next_token (place_now limits s true at) ∙ rw w.told at empty in
+            let here : run_from sig limits last p place ≡ record { points = point_of p ∷ []; ending = NoFault } =
+            none_run sig limits last p place found
+            ∙ ap (λ (n : ℕ). nothing_behind limits n true p) len ∙ rw w.told at w.here in
+            let then : run_from sig limits last (finished p) place ≡ record { points = []; ending = NoFault } =
+            none_run sig limits last (finished p) place found
+            ∙ ap (λ (n : ℕ). nothing_behind limits n true (finished p)) len ∙ rw w.told at w.behind in
+            let both : run_from sig limits last p place
+            ≡ behind (point_of p ∷ []) (run_from sig limits last (finished p) place) =
+            here ∙ ap (λ (r : Reading). behind (point_of p ∷ []) r) (sym then) in
+            moves true [] given p (finished p) place place (point_of p ∷ [])
+            (st.remains [] true (rw w.told (refl, refl))) both
 
     -- what is due is what the rest gives
-    pub due_rest : (at : ℕ) (p : Partial) → IsSound sig limits bytes is_ended at p
-        → answer_of is_ended (skipped (given_of p) (reading sig limits bytes is_ended))
-        ≡ answer_of is_ended (run_from sig limits (nothing_left limits bytes is_ended) p
-        (place_at limits bytes is_ended at))
-    due_rest at p s = ap (answer_of is_ended) (s.remains is_ended (later_self is_ended)).rest
+    pub due_rest : (at : ℕ) (p : Partial) → StandsFor sig limits is_ended given s at p log
+        → answer_of is_ended (skipped given (reading sig limits log is_ended))
+        ≡ answer_of is_ended (run_from sig limits (nothing_left limits log is_ended) p (place_of limits s is_ended at))
+    due_rest at p st = ap (answer_of is_ended) (remains_now at p st).rest
 
-    pub due_exhausted : (at at' : ℕ) (p q : Partial) → IsSound sig limits bytes is_ended at p
-        → Exhausts sig limits (take limits.bytes bytes) (is_ended && not (is_long limits bytes)) at p at' q
-        → answer_of is_ended (skipped (given_of p) (reading sig limits bytes is_ended))
-        ≡ answer_of is_ended (nothing_left limits bytes is_ended q)
-    due_exhausted at at' p q s x =
-        let last = nothing_left limits bytes is_ended in
-        due_rest at p s ∙ ap (answer_of is_ended)
-        (x.leads.reads (is_ended && not (is_long limits bytes))
-        (later_self (is_ended && not (is_long limits bytes))) last
-        ∙ ap (λ (r : Reading). behind [] r) (none_run sig limits last q (place_at limits bytes is_ended at') x.empty))
+    pub due_end : (at : ℕ) (p : Partial) → StandsFor sig limits is_ended given s at p log
+        → next_token (place_of limits s is_ended at) ≡ Ok None
+        → answer_of is_ended (skipped given (reading sig limits log is_ended))
+        ≡ answer_of is_ended (nothing_behind limits (end_of s) is_ended p)
+    due_end at p st empty =
+        due_rest at p st ∙ ap (answer_of is_ended)
+        (none_run sig limits (nothing_left limits log is_ended) p (place_of limits s is_ended at) empty
+        ∙ ap (λ (n : ℕ). nothing_behind limits n is_ended p) st.len)
 
-  -- nothing was read
-  pub sound_start : (at : ℕ) (p : Partial) → at ≡ 0 → p ≡ blank → IsSound sig limits bytes false at p
-  unfolding reading
-  sound_start at p e f = rw (e, f) (record {
-    within = omega arith;
-    counted = omega arith;
-    remains = λ later is. record { rest = refl; few = omega arith };
-  })
+  -- an answer at the end keeps what stands, and counts
+  module _ (is_ended : Bool) (s : Stretch) (at : ℕ) (p : Partial) (counted : IsCounted p)
+      (st : StandsFor sig limits is_ended (given_of p) s at p log)
+      (empty : next_token (place_of limits s is_ended at) ≡ Ok None) where
+    pub stands_end : (q : Partial) (answer : Result Next LogFault)
+        → answer ≡ answer_of is_ended (nothing_behind limits (end_of s) is_ended p) → q ≡ behind_answer p answer
+        → StandsFor sig limits is_ended (given_of q) s at q log
+    unfolding gives_point
+    stands_end q (Ok (Point point)) e is =
+        let w = whole_by limits (end_of s) (nat_lt limits.bytes (end_of s)) is_ended p point refl (sym e) in
+        let more : given_of (finished p) ≡ given_of p + 1 = omega (arith, w.begun, counted) in
+        rw (is, more) (stands_last is_ended s (given_of p) at p st empty w)
+    stands_end q (Ok More) e is = rw is st
+    stands_end q (Ok End) e is = rw is st
+    stands_end q (Err fault) e is = rw is st
 
--- ---- no bytes
+  -- ---- bytes that come, and bytes that are done with
 
-nothing_there : (ended : Bool) → next_token (place_in [] ended 0) ≡ Ok None
+  -- a piece is fed
+  pub stands_fed : (s : Stretch) (given at : ℕ) (p : Partial) (piece : List ℕ)
+      → StandsFor sig limits false given s at p log
+      → StandsFor sig limits false given (with_piece s piece) at p (log ++ piece)
+  stands_fed s given at p piece st = record {
+    len = omega (arith, st.len, length-append log piece, length-append s.bytes piece);
+    remains = λ more later is.
+        rw (append_assoc log piece more, append_assoc s.bytes piece more) (st.remains (piece ++ more) later tt);
+  }
+
+  -- the same tokens remain
+  stands_place : (is_ended : Bool) (s s' : Stretch) (given at at' : ℕ) (p : Partial) → end_of s' ≡ end_of s
+      → ((more : List ℕ) (later : Bool) → tokens (place_of limits (with_piece s' more) later at')
+      ≡ tokens (place_of limits (with_piece s more) later at))
+      → StandsFor sig limits is_ended given s at p log → StandsFor sig limits is_ended given s' at' p log
+  stands_place is_ended s s' given at at' p end same st = record {
+    len = st.len ∙ sym end;
+    remains = λ more later is.
+        let r = st.remains more later is in
+        let last = nothing_left limits (log ++ more) later in
+        record {
+          rest = r.rest ∙ ap (λ (ts : Tokens). run sig limits (behind_tokens ts.fault last) p ts.list)
+              (sym (same more later));
+          few = r.few;
+        };
+  }
+
+  -- what is done with isn't needed
+  pub stands_forgotten : (is_ended : Bool) (s : Stretch) (given at : ℕ) (p : Partial) → Waits limits s at
+      → StandsFor sig limits is_ended given s at p log
+      → StandsFor sig limits is_ended given (forgotten s at) 0 p log
+  stands_forgotten is_ended s given at p w st =
+      let front = stretches.behind s at in
+      let end : end_of front ≡ end_of s = behind_end limits s at w.within in
+      let short : end_of front ≤ limits.bytes = omega (arith, end, w.short) in
+      stands_place is_ended front (forgotten s at) given 0 0 p (shortened_end front)
+      (shortened_place limits front w.bare short)
+      (stands_place is_ended s front given at 0 p end
+      (λ more later. ap tokens (behind_place limits s at w.within more later)) st)
+
+-- the end counts as it answers
+pub end_counts : (limits : Limits) (len : ℕ) (is_ended : Bool) (before : ℕ) (p q : Partial)
+    (answer : Result Next LogFault) → IsCounted p
+    → given_of p ≡ before + 0 → answer ≡ answer_of is_ended (nothing_behind limits len is_ended p)
+    → q ≡ behind_answer p answer → CountsOn before answer (given_of q)
+unfolding gives_point
+end_counts limits len is_ended before p q (Ok (Point point)) counted given e is =
+    let w = whole_by limits len (nat_lt limits.bytes len) is_ended p point refl (sym e) in
+    let more : given_of (finished p) ≡ before + 1 = omega (arith, w.begun, counted, given) in
+    rw is more
+end_counts limits len is_ended before p q (Ok More) counted given e is = rw is (omega (arith, given))
+end_counts limits len is_ended before p q (Ok End) counted given e is = rw is (omega (arith, given))
+end_counts limits len is_ended before p q (Err Memory) counted given e is = tt
+end_counts limits len is_ended before p q (Err fault) counted given e is = rw is (omega (arith, given))
+
+-- and it leaves a time-point that is begun counted
+pub end_counted : (p q : Partial) (answer : Result Next LogFault) → IsCounted p → q ≡ behind_answer p answer
+    → IsCounted q
+end_counted p q (Ok (Point point)) counted is = rw is (omega arith)
+end_counted p q (Ok More) counted is = rw is counted
+end_counted p q (Ok End) counted is = rw is counted
+end_counted p q (Err fault) counted is = rw is counted
+
+-- where more is asked for, the reader waits
+pub waits_by : (limits : Limits) (s : Stretch) (is_ended : Bool) (at : ℕ) (p : Partial)
+    → at ≤ length (looked_at limits s) → next_token (place_of limits s is_ended at) ≡ Ok None
+    → blank_len (is_end_told limits s is_ended) (drop at (looked_at limits s)) ≡ 0
+    → Ok More ≡ answer_of is_ended (nothing_behind limits (end_of s) is_ended p) → Waits limits s at
+waits_by limits s is_ended at p within empty bare e =
+    let asks = asks_by limits (end_of s) (nat_lt limits.bytes (end_of s)) is_ended p p.stage refl e in
+    let short : end_of s ≤ limits.bytes = ltb-false limits.bytes (end_of s) asks.short in
+    let all : looked_at limits s ≡ s.bytes = take_all (limits.bytes - s.from) s.bytes (omega (arith, short)) in
+    let untold : is_end_told limits s is_ended ≡ false = rw asks.untold refl in
+    record {
+      short = short;
+      within = subst (λ (bytes : List ℕ). at ≤ length bytes) all within;
+      bare = rw (untold, all) at bare;
+      unshown = rw (untold, all) at empty;
+    }
+
+-- ---- the first bytes
+
+first_place : (limits : Limits) (bytes : List ℕ) (ended : Bool)
+    → place_of limits (record { from = 0; bytes = bytes }) ended 0 ≡ place_at limits bytes ended 0
+first_place limits bytes ended =
+    let all : limits.bytes - 0 ≡ limits.bytes = omega arith in
+    let len : 0 + length bytes ≡ length bytes = omega arith in
+    rw (all, len) refl
+
+-- nothing was read of them
+pub stands_start : (sig : List PredOf) (limits : Limits) (at : ℕ) (p : Partial) (bytes : List ℕ)
+    → at ≡ 0 → p ≡ blank → StandsFor sig limits false 0 (record { from = 0; bytes = bytes }) at p bytes
+unfolding reading
+stands_start sig limits at p bytes e f = rw (e, f) (record {
+  len = omega arith;
+  remains = λ more later is. record {
+    rest = ap (run_from sig limits (nothing_left limits (bytes ++ more) later) blank)
+        (sym (first_place limits (bytes ++ more) later));
+    few = omega arith;
+  };
+})
+
+nothing_there : (ended : Bool) → next_token (record { mode = Log; at = 0; rest = []; ended = ended }) ≡ Ok None
 unfolding next_token blank_len log_scan
 nothing_there ended = refl
 
@@ -205,9 +325,70 @@ nothing_read sig limits =
     ap (λ (r : Reading). r.points) (none_run sig limits last blank (place_at limits [] false 0) empty)
     ∙ cond_both (is_long limits []) _ _ (λ (r : Reading). r.points ≡ []) (λ _. refl) (λ _. refl)
 
-pub none_given : (sig : List PredOf) (limits : Limits) (bytes : List ℕ) (at : ℕ) (p : Partial) → bytes ≡ []
-    → IsSound sig limits bytes false at p → given_of p ≡ 0
-none_given sig limits bytes at p e s =
-    let few : given_of p ≤ length (reading sig limits [] false).points = rw e at (s.remains false tt).few in
+-- of no bytes nothing was given
+pub none_given : (sig : List PredOf) (limits : Limits) (is_ended : Bool) (given at : ℕ) (p : Partial) (log : List ℕ)
+    (s : Stretch) → is_ended ≡ false → s ≡ record { from = 0; bytes = [] }
+    → StandsFor sig limits is_ended given s at p log → (log ≡ []) × (given ≡ 0)
+none_given sig limits is_ended given at p log s untold none st =
+    let len : length log ≡ 0 = st.len ∙ ap end_of none in
+    let empty : log ≡ [] = nil_from_length log len in
+    let few : given ≤ length (reading sig limits [] false).points =
+    rw (empty, untold) at (remains_now sig limits log is_ended s given at p st).few in
     let none : length (reading sig limits [] false).points ≡ 0 = ap length (nothing_read sig limits) in
-    omega (arith, few, none)
+    (empty, omega (arith, few, none))
+
+-- ---- what is kept true
+
+-- of the first bytes
+pub sound_start : (sig : List PredOf) (limits : Limits) (at : ℕ) (p : Partial) (bytes : List ℕ)
+    → at ≡ 0 → p ≡ blank → IsSound sig limits false (record { from = 0; bytes = bytes }) at p
+sound_start sig limits at p bytes e f = record {
+  inside = rw (e, f) (record { within = omega arith; counted = omega arith });
+  log = bytes;
+  stands = rw f (stands_start sig limits at blank bytes e refl);
+}
+
+-- of a piece more
+pub sound_fed : (sig : List PredOf) (limits : Limits) (s : Stretch) (at : ℕ) (p : Partial) (piece : List ℕ)
+    → IsSound sig limits false s at p → IsSound sig limits false (with_piece s piece) at p
+sound_fed sig limits s at p piece sound = record {
+  inside = record {
+    within = omega (
+      arith,
+      sound.inside.within,
+      length-take (limits.bytes - s.from) s.bytes,
+      length-take (limits.bytes - s.from) (s.bytes ++ piece),
+      length-append s.bytes piece,
+    );
+    counted = sound.inside.counted;
+  };
+  log = sound.log ++ piece;
+  stands = stands_fed sig limits sound.log s (given_of p) at p piece sound.stands;
+}
+
+-- without what is done with
+pub sound_forgotten : (sig : List PredOf) (limits : Limits) (is_ended : Bool) (s : Stretch) (at : ℕ) (p : Partial)
+    → Waits limits s at → IsSound sig limits is_ended s at p → IsSound sig limits is_ended (forgotten s at) 0 p
+sound_forgotten sig limits is_ended s at p w sound = record {
+  inside = record { within = omega arith; counted = sound.inside.counted };
+  log = sound.log;
+  stands = stands_forgotten sig limits sound.log is_ended s (given_of p) at p w sound.stands;
+}
+
+-- behind an answer
+pub sound_on : (sig : List PredOf) (limits : Limits) (is_ended : Bool) (s : Stretch) (at : ℕ) (p : Partial) (at' : ℕ)
+    (q : Partial) → IsSound sig limits is_ended s at p → StandsOn sig limits is_ended s at p at' q
+    → IsWithin limits s at' q → IsSound sig limits is_ended s at' q
+sound_on sig limits is_ended s at p at' q sound on inside = record {
+  inside = inside;
+  log = sound.log;
+  stands = on sound.log sound.stands;
+}
+
+-- of no bytes nothing is done with
+pub none_forgotten : (limits : Limits) (s : Stretch) (at : ℕ) → Waits limits s at → s ≡ record { from = 0; bytes = [] }
+    → forgotten s at ≡ record { from = 0; bytes = [] }
+none_forgotten limits s at w e =
+    let none : at ≤ 0 = rw e at w.within in
+    let here : at ≡ 0 = omega (arith, none) in
+    rw (here, e) refl

@@ -1,7 +1,10 @@
 -- What one token does to a reading.
 use Rattle.std.proofs.Common.{◌≡◌, ◌⊎◌, inl, inr, ℕ, ◌≤◌, ◌<◌, Bool, true, false, cond, List, [], ◌∷◌, length, Some}
-use Rattle.std.proofs.Common.{Result, Ok, Err, refl, sym, ap, ◌∙◌, arith}
-use Rattle.mfotl_lex.specs.Lexemes.{Lexeme, next_token, after}
+use Rattle.std.proofs.Common.{None, Result, Ok, Err, refl, sym, ap, subst, ◌∙◌, arith, ◌+◌, ◌-◌, drop}
+use Rattle.std.proofs.lemmas.List.{length-drop}
+use Rattle.mfotl_lex.specs.Blanks.{blank_len}
+use Rattle.mfotl_lex.specs.Growing.{grown}
+use Rattle.mfotl_lex.specs.Lexemes.{Lexeme, Tokens, next_token, after, tokens}
 use Rattle.mfotl_lex.specs.Places.{Place}
 use Rattle.mfotl_lex.specs.declared.kind.Kind.{Kind}
 use Rattle.mfotl_lex.specs.declared.kind.Kind.TheVariants.{Semicolon}
@@ -14,16 +17,18 @@ use Rattle.log_reader.specs.declared.fault.LogFault.TheVariants.{Memory}
 use Rattle.log_reader.specs.declared.limits.Limits.{Limits}
 use Rattle.log_reader.specs.declared.stage.Stage.{Stage}
 use Rattle.log_reader.specs.declared.stage.Stage.TheVariants.{Between, AfterAt, AfterStamp, AfterClose}
-use Rattle.log_reader.specs.Cursors.{place_in, IsLater, open_count, IsCounted, Leads, StepsOver, Halts, HaltsBy}
+use Rattle.log_reader.specs.Cursors.{IsLater, open_count, IsCounted, Leads, Exhausts, StepsOver, Halts, HaltsBy}
 use Rattle.log_reader.specs.Cursors.{TakesToken}
 use Rattle.log_reader.specs.Partials.{Partial, point_of, finished}
-use Rattle.log_reader.specs.Readings.{Reading, behind, went_on, run_from}
+use Rattle.log_reader.specs.Readings.{Reading, behind, behind_tokens, went_on, run, run_from}
 use Rattle.log_reader.specs.Stages.{goes, completes, read_on}
 use Rattle.log_reader.specs.Steps.{step, completed, stepped}
+use Rattle.log_reader.specs.Stretches.{place_in}
 use Rattle.log_reader.specs.Symbols.{Symbol, AtSign, Terminator, symbol, symbol_of, content}
 use Rattle.log_reader.specs.Given.{Stays}
 use Rattle.log_reader.proofs.TokenRuns.{token_run}
-use Rattle.log_reader.proofs.TokenPlaces.{TokenAt}
+use Rattle.log_reader.proofs.Lexing.{blanks_done}
+use Rattle.log_reader.proofs.TokenPlaces.{TokenAt, place_behind}
 use Rattle.log_reader.proofs.StepStages.{step_counts}
 
 pub completes_cases : (s : Stage) (x : Symbol) → completes s x ≡ true
@@ -56,27 +61,28 @@ completed_between : (p : Partial) (t : Lexeme) → completed (finished p) t ≡ 
 unfolding completed
 completed_between p t = refl
 
-pub later_self : (b : Bool) → IsLater b b
-later_self true = refl
+pub later_self : (b : Bool) → IsLater b [] b
+later_self true = (refl, refl)
 later_self false = tt
 
-module _ (sig : List PredOf) (limits : Limits) (looked : List ℕ) (ended : Bool) (at : ℕ) (p : Partial)
+module _ (sig : List PredOf) (limits : Limits) (from : ℕ) (looked : List ℕ) (ended : Bool) (at : ℕ) (p : Partial)
     (t : Lexeme) where
-  abbrev steps_on : Bool → (Partial → Reading) → List TimePoint → Result Partial LogFault → Place → Reading
-  steps_on later last points r place = behind points (went_on r (λ q. run_from sig limits last q place))
+  abbrev steps_on : (Partial → Reading) → List TimePoint → Result Partial LogFault → Place → Reading
+  steps_on last points r place = behind points (went_on r (λ q. run_from sig limits last q place))
 
-  pub took_leads : (behind : ℕ) (q : Partial) → TokenAt looked ended at t behind → IsCounted p
+  pub took_leads : (behind : ℕ) (q : Partial) → TokenAt from looked ended at t behind → IsCounted p
       → completes p.stage (symbol t) ≡ false → step sig limits p t ≡ Ok q
-      → Leads sig limits looked ended at p [] behind q × (at < behind)
+      → Leads sig limits from looked ended at p [] behind q × (at < behind)
   took_leads b q found c h e =
       let counts = step_counts sig limits p q t c h e in (
         record {
-          reads = λ later is last.
-              token_run sig limits last p (place_in looked later at) t (found.token later is)
-              ∙ ap (λ (ps : List TimePoint). steps_on later last ps (step sig limits p t)
-              (after (place_in looked later at))) (completed_none p t h)
-              ∙ ap (λ (r : Result Partial LogFault). steps_on later last [] r (after (place_in looked later at))) e
-              ∙ ap (λ (place : Place). steps_on later last [] (Ok q) place) (found.place later is);
+          reads = λ more later is last.
+              let place = grown (place_in from looked ended at) more later in
+              token_run sig limits last p place t (found.token more later is)
+              ∙ ap (λ (ps : List TimePoint). steps_on last ps (step sig limits p t)
+              (after place)) (completed_none p t h)
+              ∙ ap (λ (r : Result Partial LogFault). steps_on last [] r (after place)) e
+              ∙ ap (λ (there : Place). steps_on last [] (Ok q) there) (found.place more later is);
           within = found.within;
           counted = counts.counted;
           given = omega (arith, counts.given);
@@ -95,69 +101,94 @@ module _ (sig : List PredOf) (limits : Limits) (looked : List ℕ) (ended : Bool
   unfolding step
   step-terminator e = ap (stepped sig limits p t) e
 
-  pub completed_leads : (behind : ℕ) → TokenAt looked ended at t behind → at ≤ length looked → IsCounted p
+  pub completed_leads : (behind : ℕ) → TokenAt from looked ended at t behind → at ≤ length looked → IsCounted p
       → completes p.stage (symbol t) ≡ true
-      → Leads sig limits looked ended at p (point_of p ∷ []) (read_on t.kind at behind) (finished p)
+      → Leads sig limits from looked ended at p (point_of p ∷ []) (read_on t.kind at behind) (finished p)
   completed_leads b found le c h =
       let cases = completes_cases p.stage (symbol t) h in
       elim cases.1 [
         | inl x ↦ rw (read_on-at t.kind (content t) at b x.0) (record {
-          reads = λ later is last.
-              let place = place_in looked later at in
-              token_run sig limits last p place t (found.token later is)
-              ∙ ap (λ (ps : List TimePoint). steps_on later last ps (step sig limits p t) (after place))
+          reads = λ more later is last.
+              let place = grown (place_in from looked ended at) more later in
+              token_run sig limits last p place t (found.token more later is)
+              ∙ ap (λ (ps : List TimePoint). steps_on last ps (step sig limits p t) (after place))
               (completed_one p t h)
-              ∙ ap (λ (r : Result Partial LogFault). steps_on later last (point_of p ∷ []) r (after place))
+              ∙ ap (λ (r : Result Partial LogFault). steps_on last (point_of p ∷ []) r (after place))
               (step-at x.0 x.1)
               ∙ ap (λ (r : Reading). behind (point_of p ∷ []) r)
-              (sym (token_run sig limits last (finished p) place t (found.token later is)
-              ∙ ap (λ (ps : List TimePoint). steps_on later last ps (step sig limits (finished p) t) (after place))
+              (sym (token_run sig limits last (finished p) place t (found.token more later is)
+              ∙ ap (λ (ps : List TimePoint). steps_on last ps (step sig limits (finished p) t) (after place))
               (completed_between p t)));
           within = le;
           counted = omega arith;
           given = omega (arith, cases.0, c);
         })
         | inr x ↦ rw (read_on-terminator t.kind (content t) at b x.0) (record {
-          reads = λ later is last.
-              let place = place_in looked later at in
-              token_run sig limits last p place t (found.token later is)
-              ∙ ap (λ (ps : List TimePoint). steps_on later last ps (step sig limits p t) (after place))
+          reads = λ more later is last.
+              let place = grown (place_in from looked ended at) more later in
+              token_run sig limits last p place t (found.token more later is)
+              ∙ ap (λ (ps : List TimePoint). steps_on last ps (step sig limits p t) (after place))
               (completed_one p t h)
-              ∙ ap (λ (r : Result Partial LogFault). steps_on later last (point_of p ∷ []) r (after place))
+              ∙ ap (λ (r : Result Partial LogFault). steps_on last (point_of p ∷ []) r (after place))
               (step-terminator x.1)
-              ∙ ap (λ (q : Place). steps_on later last (point_of p ∷ []) (Ok (finished p)) q) (found.place later is);
+              ∙ ap (λ (q : Place). steps_on last (point_of p ∷ []) (Ok (finished p)) q) (found.place more later is);
           within = found.within;
           counted = omega arith;
           given = omega (arith, cases.0, c);
         })
       ]
 
-  step_halts : (fault : LogFault) (q : Partial) → next_token (place_in looked ended at) ≡ Ok (Some t)
+  step_halts : (fault : LogFault) (q : Partial) → next_token (place_in from looked ended at) ≡ Ok (Some t)
       → completes p.stage (symbol t) ≡ false
-      → step sig limits p t ≡ Err fault → q ≡ p → Halts sig limits looked ended at p fault at q
+      → step sig limits p t ≡ Err fault → q ≡ p → Halts sig limits from looked ended at p fault at q
   step_halts fault q found h e same = record {
     reads = λ last.
-        token_run sig limits last p (place_in looked ended at) t found
-        ∙ ap (λ (ps : List TimePoint). steps_on ended last ps (step sig limits p t)
-        (after (place_in looked ended at))) (completed_none p t h)
-        ∙ ap (λ (r : Result Partial LogFault). steps_on ended last [] r (after (place_in looked ended at))) e;
+        token_run sig limits last p (place_in from looked ended at) t found
+        ∙ ap (λ (ps : List TimePoint). steps_on last ps (step sig limits p t)
+        (after (place_in from looked ended at))) (completed_none p t h)
+        ∙ ap (λ (r : Result Partial LogFault). steps_on last [] r (after (place_in from looked ended at))) e;
     same_at = refl;
     same = same;
   }
 
-  pub fault_halts : (fault : LogFault) (q : Partial) → next_token (place_in looked ended at) ≡ Ok (Some t)
+  pub fault_halts : (fault : LogFault) (q : Partial) → next_token (place_in from looked ended at) ≡ Ok (Some t)
       → completes p.stage (symbol t) ≡ false
-      → Stays p q fault (step sig limits p t) → HaltsBy sig limits looked ended at p fault at q
+      → Stays p q fault (step sig limits p t) → HaltsBy sig limits from looked ended at p fault at q
   fault_halts Memory q found h s = tt
   fault_halts fault q found h s = step_halts fault q found h s.0 s.1
 
   -- so the token does what is asked of one
-  pub steps_over : (behind : ℕ) → TokenAt looked ended at t behind → at ≤ length looked → IsCounted p
-      → next_token (place_in looked ended at) ≡ Ok (Some t)
+  pub steps_over : (behind : ℕ) → TokenAt from looked ended at t behind → at ≤ length looked → IsCounted p
+      → next_token (place_in from looked ended at) ≡ Ok (Some t)
       → (result : Result TokenStep LogFault) (at' : ℕ) (q : Partial) → StepsOver sig limits t behind at p result at' q
-      → TakesToken sig limits looked ended at p result at' q
+      → TakesToken sig limits from looked ended at p result at' q
   steps_over b found le c e (Ok Took) at' q (none, steps, here) = rw here (took_leads b q found c none steps)
   steps_over b found le c e (Ok (Completed point)) at' q (one, is, here, done) =
       rw (is, here, done) (completed_leads b found le c one)
   steps_over b found le c e (Ok Empty) at' q s = absurd s
   steps_over b found le c e (Err fault) at' q (none, here, stays) = rw here (fault_halts fault q e none stays)
+
+-- where no whole token is left, the blanks are behind
+pub blanks_over : (sig : List PredOf) (limits : Limits) (from : ℕ) (looked : List ℕ) (ended : Bool) (at : ℕ)
+    (p : Partial) → at ≤ length looked → IsCounted p → next_token (place_in from looked ended at) ≡ Ok None
+    → Exhausts sig limits from looked ended at p ((after (place_in from looked ended at)).at - from) p
+blanks_over sig limits from looked ended at p le c e =
+    let here = place_in from looked ended at in
+    let b = blanks_done here e in
+    let n = blank_len ended (drop at looked) in
+    let behind : after here ≡ place_in from looked ended (at + n) = b.moves ∙ place_behind from looked ended at n in
+    let far : (after here).at ≡ from + (at + n) = ap (λ (q : Place). q.at) behind in
+    let same : at + n ≡ (after here).at - from = omega (arith, far) in
+    let inner : n ≤ length (drop at looked) = b.within in
+    subst (λ (k : ℕ). Exhausts sig limits from looked ended at p k p) same (record {
+      leads = record {
+        reads = λ more later is last.
+            ap (λ (ts : Tokens). run sig limits (behind_tokens ts.fault last) p ts.list)
+            (b.again more later is ∙ ap (λ (q : Place). tokens (grown q more later)) behind);
+        within = omega (arith, inner, length-drop at looked);
+        counted = c;
+        given = omega arith;
+      };
+      empty = ap next_token (sym behind) ∙ b.empty;
+      bare = ap (λ (q : Place). blank_len ended q.rest) (sym behind) ∙ b.bare;
+    })

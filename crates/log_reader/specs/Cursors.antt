@@ -1,9 +1,9 @@
 -- How a reader moves through the bytes of a log, from an offset and what was read before it.
-use Rattle.std.specs.Prelude.{◌≡◌, ◌+◌, ◌-◌, ◌<◌, ◌≤◌, ℕ, List, [], ◌∷◌, length, drop, Bool, true, false, Option}
-use Rattle.std.specs.Prelude.{Some, None, Result, Ok, Err}
+use Rattle.std.specs.Prelude.{◌≡◌, ◌+◌, ◌-◌, ◌<◌, ◌≤◌, ℕ, List, [], ◌∷◌, length, drop, Bool, true, false}
+use Rattle.std.specs.Prelude.{Option, Some, None, Result, Ok, Err}
+use Rattle.mfotl_lex.specs.Blanks.{blank_len}
+use Rattle.mfotl_lex.specs.Growing.{grown}
 use Rattle.mfotl_lex.specs.Lexemes.{Lexeme, next_token}
-use Rattle.mfotl_lex.specs.Places.{Place}
-use Rattle.mfotl_lex.specs.declared.kind.Mode.TheVariants.{Log}
 use Rattle.mfotl_model.specs.declared.event.TimePoint.{TimePoint}
 use Rattle.mfotl_sig.specs.Preds.{PredOf}
 use Rattle.log_reader.specs.declared.cursor.TokenStep.{TokenStep}
@@ -19,17 +19,14 @@ use Rattle.log_reader.specs.Given.{Stays}
 use Rattle.log_reader.specs.Partials.{Partial, point_of, finished}
 use Rattle.log_reader.specs.Stages.{completes, read_on}
 use Rattle.log_reader.specs.Steps.{step}
+use Rattle.log_reader.specs.Stretches.{place_in}
 use Rattle.log_reader.specs.Symbols.{symbol}
 use Rattle.log_reader.specs.Readings.{Reading, behind, stopped, run_from}
 
--- an offset within the bytes that are looked at
-abbrev pub place_in : List ℕ → Bool → ℕ → Place
-place_in looked ended at = record { mode = Log; at = at; rest = drop at looked; ended = ended }
-
--- what is known of the end later: once told, it stays so
-abbrev pub IsLater : Bool → Bool → Type 0
-IsLater true later = later ≡ true
-IsLater false later = Unit {0}
+-- what may come later: no more bytes, once the end is told
+abbrev pub IsLater : Bool → List ℕ → Bool → Type 0
+IsLater true more later = (more ≡ []) × (later ≡ true)
+IsLater false more later = Unit {0}
 
 -- how many time-points are begun and not completed
 abbrev pub open_count : Stage → ℕ
@@ -44,12 +41,12 @@ given_of p = p.points - open_count p.stage
 abbrev pub IsCounted : Partial → Type 0
 IsCounted p = open_count p.stage ≤ p.points
 
--- the reading from p on is these time-points, and then the reading from q on, whatever is told later
-pub record Leads (sig : List PredOf) (limits : Limits) (looked : List ℕ) (ended : Bool)
+-- the reading from p on is these time-points, and then the reading from q on, whatever comes later
+pub record Leads (sig : List PredOf) (limits : Limits) (from : ℕ) (looked : List ℕ) (ended : Bool)
     (at : ℕ) (p : Partial) (points : List TimePoint) (at' : ℕ) (q : Partial) : Type 0 where
-  pub reads : (later : Bool) → IsLater ended later → (last : Partial → Reading) →
-      run_from sig limits last p (place_in looked later at)
-      ≡ behind points (run_from sig limits last q (place_in looked later at'))
+  pub reads : (more : List ℕ) (later : Bool) → IsLater ended more later → (last : Partial → Reading) →
+      run_from sig limits last p (grown (place_in from looked ended at) more later)
+      ≡ behind points (run_from sig limits last q (grown (place_in from looked ended at') more later))
   pub within : at' ≤ length looked
   pub counted : IsCounted q
   pub given : given_of q ≡ given_of p + length points
@@ -66,57 +63,55 @@ StepsOver sig limits t behind at p (Err fault) at' q =
     (completes p.stage (symbol t) ≡ false) × (at' ≡ at) × Stays p q fault (step sig limits p t)
 
 -- a fault stands here, and nothing is moved
-pub record Halts (sig : List PredOf) (limits : Limits) (looked : List ℕ) (ended : Bool)
+pub record Halts (sig : List PredOf) (limits : Limits) (from : ℕ) (looked : List ℕ) (ended : Bool)
     (at : ℕ) (p : Partial) (fault : LogFault) (at' : ℕ) (q : Partial) : Type 0 where
   pub reads : (last : Partial → Reading) →
-      run_from sig limits last p (place_in looked ended at) ≡ stopped fault
+      run_from sig limits last p (place_in from looked ended at) ≡ stopped fault
   pub same_at : at' ≡ at
   pub same : q ≡ p
 
--- no whole token is left, and nothing is moved
-pub record Rests (looked : List ℕ) (ended : Bool)
+-- no time-point was read, and no whole token is left; no blanks stand before what is left
+pub record Exhausts (sig : List PredOf) (limits : Limits) (from : ℕ) (looked : List ℕ) (ended : Bool)
     (at : ℕ) (p : Partial) (at' : ℕ) (q : Partial) : Type 0 where
-  pub empty : next_token (place_in looked ended at) ≡ Ok None
-  pub same_at : at' ≡ at
-  pub same : q ≡ p
+  pub leads : Leads sig limits from looked ended at p [] at' q
+  pub empty : next_token (place_in from looked ended at') ≡ Ok None
+  pub bare : blank_len ended (drop at' looked) ≡ 0
 
 -- the same of a fault that isn't want of memory, of which nothing is said
-abbrev pub HaltsBy : List PredOf → Limits → List ℕ → Bool → ℕ → Partial → LogFault → ℕ → Partial → Type 0
-HaltsBy sig limits looked ended at p Memory at' q = Unit {0}
-HaltsBy sig limits looked ended at p fault at' q = Halts sig limits looked ended at p fault at' q
+abbrev pub HaltsBy : List PredOf → Limits → ℕ → List ℕ → Bool → ℕ → Partial → LogFault → ℕ → Partial → Type 0
+HaltsBy sig limits from looked ended at p Memory at' q = Unit {0}
+HaltsBy sig limits from looked ended at p fault at' q = Halts sig limits from looked ended at p fault at' q
 
 -- what one token does
-abbrev pub TakesToken : List PredOf → Limits → List ℕ → Bool → ℕ → Partial → Result TokenStep LogFault → ℕ → Partial
-    → Type 0
-TakesToken sig limits looked ended at p (Ok Took) at' q = Leads sig limits looked ended at p [] at' q × (at < at')
-TakesToken sig limits looked ended at p (Ok (Completed point)) at' q =
-    Leads sig limits looked ended at p (point ∷ []) at' q
-TakesToken sig limits looked ended at p (Ok Empty) at' q = Rests looked ended at p at' q
-TakesToken sig limits looked ended at p (Err fault) at' q = HaltsBy sig limits looked ended at p fault at' q
-
--- these time-points were read, and no whole token is left
-pub record Exhausts (sig : List PredOf) (limits : Limits) (looked : List ℕ) (ended : Bool)
-    (at : ℕ) (p : Partial) (at' : ℕ) (q : Partial) : Type 0 where
-  pub leads : Leads sig limits looked ended at p [] at' q
-  pub empty : next_token (place_in looked ended at') ≡ Ok None
+abbrev pub TakesToken : List PredOf → Limits → ℕ → List ℕ → Bool → ℕ → Partial → Result TokenStep LogFault → ℕ
+    → Partial → Type 0
+TakesToken sig limits from looked ended at p (Ok Took) at' q =
+    Leads sig limits from looked ended at p [] at' q × (at < at')
+TakesToken sig limits from looked ended at p (Ok (Completed point)) at' q =
+    Leads sig limits from looked ended at p (point ∷ []) at' q
+TakesToken sig limits from looked ended at p (Ok Empty) at' q = Exhausts sig limits from looked ended at p at' q
+TakesToken sig limits from looked ended at p (Err fault) at' q =
+    HaltsBy sig limits from looked ended at p fault at' q
 
 -- tokens were read up to a fault, which stands there again
-pub record Breaks (sig : List PredOf) (limits : Limits) (looked : List ℕ) (ended : Bool)
+pub record Breaks (sig : List PredOf) (limits : Limits) (from : ℕ) (looked : List ℕ) (ended : Bool)
     (at : ℕ) (p : Partial) (fault : LogFault) (at' : ℕ) (q : Partial) : Type 0 where
-  pub leads : Leads sig limits looked ended at p [] at' q
-  pub again : (last : Partial → Reading) → run_from sig limits last q (place_in looked ended at') ≡ stopped fault
+  pub leads : Leads sig limits from looked ended at p [] at' q
+  pub again : (last : Partial → Reading) →
+      run_from sig limits last q (place_in from looked ended at') ≡ stopped fault
 
 -- the same of a fault that isn't want of memory, of which nothing is said
-abbrev pub BreaksBy : List PredOf → Limits → List ℕ → Bool → ℕ → Partial → LogFault → ℕ → Partial → Type 0
-BreaksBy sig limits looked ended at p Memory at' q = Unit {0}
-BreaksBy sig limits looked ended at p fault at' q = Breaks sig limits looked ended at p fault at' q
+abbrev pub BreaksBy : List PredOf → Limits → ℕ → List ℕ → Bool → ℕ → Partial → LogFault → ℕ → Partial → Type 0
+BreaksBy sig limits from looked ended at p Memory at' q = Unit {0}
+BreaksBy sig limits from looked ended at p fault at' q = Breaks sig limits from looked ended at p fault at' q
 
 -- what the tokens up to the next time-point do
-abbrev pub Advances : List PredOf → Limits → List ℕ → Bool → ℕ → Partial → Result (Option TimePoint) LogFault → ℕ
-    → Partial → Type 0
-Advances sig limits looked ended at p (Ok (Some point)) at' q = Leads sig limits looked ended at p (point ∷ []) at' q
-Advances sig limits looked ended at p (Ok None) at' q = Exhausts sig limits looked ended at p at' q
-Advances sig limits looked ended at p (Err fault) at' q = BreaksBy sig limits looked ended at p fault at' q
+abbrev pub Advances : List PredOf → Limits → ℕ → List ℕ → Bool → ℕ → Partial → Result (Option TimePoint) LogFault
+    → ℕ → Partial → Type 0
+Advances sig limits from looked ended at p (Ok (Some point)) at' q =
+    Leads sig limits from looked ended at p (point ∷ []) at' q
+Advances sig limits from looked ended at p (Ok None) at' q = Exhausts sig limits from looked ended at p at' q
+Advances sig limits from looked ended at p (Err fault) at' q = BreaksBy sig limits from looked ended at p fault at' q
 
 -- a time-point that is given is done with
 abbrev pub behind_answer : Partial → Result Next LogFault → Partial

@@ -15,9 +15,11 @@ pub mod Readings
 pub mod Growth
 pub mod Laws
 pub mod Progress
-pub mod Readers
-pub mod GivenPoints
+pub mod Quick
+pub mod Stretches
 pub mod Cursors
 pub mod Soundness
+pub mod Readers
+pub mod GivenPoints
 pub mod FaultTexts
 pub mod WorkedTexts

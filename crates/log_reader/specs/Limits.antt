@@ -16,3 +16,7 @@ event_limit = 65536
 -- the greatest timestamp
 abbrev pub last_timestamp : ℕ
 last_timestamp = 2 ^ 62
+
+-- the bytes that a reader holds at most where it asks for more: a Text's quote and content
+abbrev pub held_limit : ℕ
+held_limit = 4097

@@ -1,5 +1,5 @@
 -- A reader as its callers see it, and the progress that it may stand for.
-use Rattle.std.specs.Prelude.{◌≡◌, ℕ, ◌+◌, List, Bool, true, Result, Ok, Err}
+use Rattle.std.specs.Prelude.{◌≡◌, ℕ, ◌+◌, List, length, Bool, true, Result, Ok, Err}
 use Rattle.mfotl_sig.specs.Preds.{PredOf}
 use Rattle.log_reader.specs.declared.fault.LogFault.{LogFault}
 use Rattle.log_reader.specs.declared.fault.LogFault.TheVariants.{Memory}
@@ -8,10 +8,13 @@ use Rattle.log_reader.specs.declared.next.Next.{Next}
 use Rattle.log_reader.specs.declared.next.Next.TheVariants.{Point}
 use Rattle.log_reader.specs.Partials.{Partial}
 use Rattle.log_reader.specs.Progress.{Progress}
+use Rattle.log_reader.specs.Soundness.{StandsFor}
+use Rattle.log_reader.specs.Stretches.{Stretch}
 
 -- what a reader keeps for itself: `Reads` alone says what of
 pub record Kept : Type 0 where
-  pub bytes : List ℕ
+  -- the bytes that it isn't done with, and how far it read them
+  pub stretch : Stretch
   pub at : ℕ
   pub partial : Partial
 
@@ -30,7 +33,11 @@ pub record Reader : Type 0 where
 
 -- what the reader keeps may be of a log whose bytes so far are these
 unfoldable pub Reads : Reader → List ℕ → Type 0
-Reads r bytes = r.kept.bytes ≡ bytes
+Reads r bytes = StandsFor r.sig r.limits r.is_ended r.given r.kept.stretch r.kept.at r.kept.partial bytes
+
+-- how many bytes it holds
+abbrev pub held : Reader → ℕ
+held r = length r.kept.stretch.bytes
 
 -- whatever bytes the reader may have been fed
 abbrev pub ForEach : Reader → (List ℕ → Type 0) → Type 0

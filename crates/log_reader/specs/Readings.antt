@@ -1,6 +1,6 @@
 -- What a log's bytes say: its time-points up to the first fault, and that fault or the end.
 use Rattle.std.specs.Prelude.{ℕ, List, [], ◌∷◌, ◌++◌, length, Bool, true, false, Option, Some, None, Result, Ok, Err}
-use Rattle.std.specs.Prelude.{if◌then◌else◌}
+use Rattle.std.specs.Prelude.{nat_lt, if◌then◌else◌}
 use Rattle.mfotl_lex.specs.Lexemes.{Lexeme, tokens}
 use Rattle.mfotl_lex.specs.Places.{Place}
 use Rattle.mfotl_lex.specs.declared.fault.LexFault.{LexFault}
@@ -51,12 +51,17 @@ finish_at len p Between = record { points = []; ending = NoFault }
 finish_at len p stage =
     if is_whole stage then record { points = point_of p ∷ []; ending = NoFault } else stopped (Syntax len)
 
--- what is shown where no whole token is left: a byte at the limit, the end if it was told, or nothing
-abbrev pub nothing_left : Limits → List ℕ → Bool → Partial → Reading
-nothing_left limits bytes ended p =
-    if is_long limits bytes then stopped (TooLong limits.bytes)
-    else if ended then finish_at (length bytes) p p.stage
+-- what is shown where no whole token is left of `len` bytes: a byte at the limit, the end if it was told, or
+-- nothing
+abbrev pub nothing_behind : Limits → ℕ → Bool → Partial → Reading
+nothing_behind limits len ended p =
+    if nat_lt limits.bytes len then stopped (TooLong limits.bytes)
+    else if ended then finish_at len p p.stage
     else record { points = []; ending = NoFault }
+
+-- the same of these bytes
+abbrev pub nothing_left : Limits → List ℕ → Bool → Partial → Reading
+nothing_left limits bytes ended p = nothing_behind limits (length bytes) ended p
 
 -- a lexical fault comes behind the whole tokens before it
 abbrev pub behind_tokens : Option LexFault → (Partial → Reading) → Partial → Reading

@@ -16,8 +16,8 @@ use Rattle.log_reader.specs.ValuesRead.{timestamp_of}
 use Rattle.log_reader.specs.Symbols.{Written}
 use Rattle.log_reader.specs.ValuesRead.{value_at}
 
--- a value goes on, none stays none
 infixl 10 ◌>>=◌
+-- a value goes on, none stays none
 abbrev pub ◌>>=◌ : {A B : Type 0} → Option A → (A → Option B) → Option B
 o >>= f = option_and_then f o
 

@@ -1,21 +1,22 @@
-ghost use Rattle.std.specs.Prelude.{◌≡◌, ◌≤◌, false, length};
+ghost use Rattle.std.specs.Prelude.{◌≡◌, ◌+◌, ◌<◌, ◌≤◌, ◌^◌, false, length, drop, Ok};
 ghost use Rattle.mfotl_lex.specs.Lexemes.{lexeme};
-ghost use Rattle.log_reader.specs.Given.{Gives};
+ghost use Rattle.log_reader.specs.declared.next.Next.TheVariants.{More};
 ghost use Rattle.log_reader.specs.Partials.{blank};
-ghost use Rattle.log_reader.specs.Progress.{answer_of, skipped};
-ghost use Rattle.log_reader.specs.Readings.{reading};
-ghost use Rattle.log_reader.specs.Soundness.{IsSound, is_wanting, CountsOn};
-ghost use Rattle.log_reader.specs.Cursors.{StepsOver, TakesToken, Advances, IsCounted, place_in, given_of};
+ghost use Rattle.log_reader.specs.Quick.{TakesQuick};
+ghost use Rattle.log_reader.specs.Soundness.{IsWithin, AnswersDue, StandsOn, is_wanting, CountsOn};
+ghost use Rattle.log_reader.specs.Cursors.{StepsOver, TakesToken, Advances, IsCounted, given_of};
+ghost use Rattle.log_reader.specs.Stretches.{Waits, place_in};
 
 use crate::fault::LogFault;
 use crate::grammar::read_on;
-use crate::limits::Limits;
+use crate::limits::{Limits, Look};
 use crate::next::Next;
 use crate::partial::Partial;
+use crate::stretch::Stretch;
 use mfotl_lex::{Lexer, Mode, Token};
 use mfotl_model::TimePoint;
 use mfotl_sig::Signature;
-use std::alloc::Global;
+use std::alloc::{AllocError, Global};
 
 /// What a token did.
 #[derive(Drop)]
@@ -28,19 +29,20 @@ pub enum TokenStep {
     Empty,
 }
 
-/// An offset in the bytes of a log, and what was read before it.
+/// An offset in bytes of a log, and what was read before it.
 #[derive(Drop)]
 pub struct Cursor<'a> {
     pub at: usize,
     pub partial: Partial<'a>,
 }
 
-fn lexer_at(looked: &[u8], at: usize, ended: bool) -> Lexer<'_>
-    requires { at ≤ length looked.now }
-    ensures { result ≡ place_in looked.now ended at }
+fn lexer_at<'b>(look: Look<'b>, at: usize) -> Lexer<'b>
+    requires within { at ≤ length look.bytes.now }
+    requires small { look.from + length look.bytes.now < 2 ^ 63 }
+    ensures { result ≡ place_in look.entry.from look.entry.bytes.now look.entry.ended at }
 {
-    let (_, rest) = looked.split_at(at);
-    Lexer::resume(rest, Mode::Log, at, ended)
+    let (_, rest) = look.bytes.split_at(at);
+    Lexer::resume(rest, Mode::Log, look.from + at, look.ended)
 }
 
 impl<'a> Cursor<'a> {
@@ -75,23 +77,63 @@ impl<'a> Cursor<'a> {
         Ok(TokenStep::Took)
     }
 
+    // Takes a value straight from the bytes: how many it has, if there is one.
+    fn take_quick(&mut self, alloc: Global, look: Look<'_>) -> Result<Option<usize>, AllocError>
+        requires within { self.old.at ≤ length look.bytes.now }
+        ensures same { self.new.at ≡ self.old.at }
+        ensures takes { TakesQuick self.old.partial (drop self.old.at look.entry.bytes.now) result
+            self.new.partial }
+    {
+        let (_, rest) = look.bytes.split_at(self.at);
+        self.partial.take_quick(alloc, rest)
+    }
+
     fn take_token(
         &mut self,
         alloc: Global,
-        looked: &[u8],
-        ended: bool,
+        look: Look<'_>,
         sig: &'a Signature,
         limits: &Limits,
     ) -> Result<TokenStep, LogFault>
-        requires within { self.old.at ≤ length looked.now }
+        requires within { self.old.at ≤ length look.bytes.now }
+        requires small { look.from + length look.bytes.now < 2 ^ 63 }
         requires counted { IsCounted self.old.partial }
-        ensures { TakesToken sig.now limits.now looked.now ended self.old.at self.old.partial result
-            self.new.at self.new.partial }
+        ensures { TakesToken sig.now limits.now look.entry.from look.entry.bytes.now look.entry.ended
+            self.old.at self.old.partial result self.new.at self.new.partial }
     {
-        let mut lexer = lexer_at(looked, self.at, ended);
+        match self.take_quick(alloc, look)? {
+            Some(count) => {
+                self.at += count;
+                Ok(TokenStep::Took)
+            }
+            None => self.lex_token(alloc, look, sig, limits),
+        }
+    }
+
+    fn lex_token(
+        &mut self,
+        alloc: Global,
+        look: Look<'_>,
+        sig: &'a Signature,
+        limits: &Limits,
+    ) -> Result<TokenStep, LogFault>
+        requires within { self.old.at ≤ length look.bytes.now }
+        requires small { look.from + length look.bytes.now < 2 ^ 63 }
+        requires counted { IsCounted self.old.partial }
+        ensures { TakesToken sig.now limits.now look.entry.from look.entry.bytes.now look.entry.ended
+            self.old.at self.old.partial result self.new.at self.new.partial }
+    {
+        let mut lexer = lexer_at(look, self.at);
         match lexer.next() {
-            Ok(Some(token)) => self.take(alloc, sig, limits, &token, lexer.offset()),
-            Ok(None) => Ok(TokenStep::Empty),
+            Ok(Some(token)) => {
+                let behind = lexer.offset() - look.from;
+                self.take(alloc, sig, limits, &token, behind)
+            }
+            Ok(None) => {
+                // Blanks that nothing stands behind are done with.
+                self.at = lexer.offset() - look.from;
+                Ok(TokenStep::Empty)
+            }
             Err(fault) => Err(LogFault::Lex(fault)),
         }
     }
@@ -101,18 +143,18 @@ impl<'a> Cursor<'a> {
     pub fn advance(
         &mut self,
         alloc: Global,
-        looked: &[u8],
-        ended: bool,
+        look: Look<'_>,
         sig: &'a Signature,
         limits: &Limits,
     ) -> Result<Option<TimePoint>, LogFault>
-        requires within { self.old.at ≤ length looked.now }
+        requires within { self.old.at ≤ length look.bytes.now }
+        requires small { look.from + length look.bytes.now < 2 ^ 63 }
         requires counted { IsCounted self.old.partial }
-        ensures { Advances sig.now limits.now looked.now ended self.old.at self.old.partial result
-            self.new.at self.new.partial }
+        ensures { Advances sig.now limits.now look.entry.from look.entry.bytes.now look.entry.ended
+            self.old.at self.old.partial result self.new.at self.new.partial }
     {
         loop {
-            match self.take_token(alloc, looked, ended, sig, limits) {
+            match self.take_token(alloc, look, sig, limits) {
                 Ok(TokenStep::Took) => {}
                 Ok(TokenStep::Completed(point)) => return Ok(Some(point)),
                 Ok(TokenStep::Empty) => return Ok(None),
@@ -121,28 +163,29 @@ impl<'a> Cursor<'a> {
         }
     }
 
-    /// The next time-point of the bytes, or what stands behind the last one. Want of memory leaves the
+    /// The next time-point of what is kept, or what stands behind the last one. Want of memory leaves the
     /// cursor where it is of no more use.
     pub fn read(
         &mut self,
         alloc: Global,
-        bytes: &[u8],
+        kept: &Stretch,
         ended: bool,
         sig: &'a Signature,
         limits: &Limits,
     ) -> Result<Next, LogFault>
-        requires { IsSound sig.now limits.now bytes.now ended self.old.at self.old.partial }
-        ensures answer { Gives (λ next. next) result (answer_of ended (skipped
-            (given_of self.old.partial) (reading sig.now limits.now bytes.now ended))) }
-        ensures sound { is_wanting result ≡ false
-            → IsSound sig.now limits.now bytes.now ended self.new.at self.new.partial }
+        requires { IsWithin limits.now kept.now self.old.at self.old.partial }
+        ensures answer { AnswersDue sig.now limits.now ended kept.now self.old.at self.old.partial result }
+        ensures stands { is_wanting result ≡ false → StandsOn sig.now limits.now ended kept.now
+            self.old.at self.old.partial self.new.at self.new.partial }
+        ensures within { is_wanting result ≡ false
+            → IsWithin limits.now kept.now self.new.at self.new.partial }
         ensures counts { CountsOn (given_of self.old.partial) result (given_of self.new.partial) }
+        ensures waits { result ≡ Ok More → Waits limits.now kept.now self.new.at }
     {
-        let looked = limits.looked_at(bytes);
-        let told = limits.is_end_told(bytes, ended);
-        match self.advance(alloc, looked, told, sig, limits) {
+        let look = limits.look_at(kept, ended);
+        match self.advance(alloc, look, sig, limits) {
             Ok(Some(point)) => Ok(Next::Point(point)),
-            Ok(None) => self.partial.end(alloc, limits, bytes, ended),
+            Ok(None) => self.partial.end(alloc, limits, kept.end(), ended),
             Err(fault) => Err(fault),
         }
     }

@@ -9,8 +9,10 @@ pub mod laws;
 mod limits;
 mod next;
 mod partial;
+mod quick;
 mod reader;
 mod stage;
+mod stretch;
 mod values;
 
 pub use fault::LogFault;

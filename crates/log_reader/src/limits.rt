@@ -1,6 +1,8 @@
-ghost use Rattle.std.specs.Prelude.{◌≡◌, ◌&&◌, not, take};
+ghost use Rattle.std.specs.Prelude.{◌≡◌, ◌+◌, ◌<◌, ◌^◌, nat_lt, length};
 ghost use Rattle.log_reader.specs.Limits.{byte_limit, point_limit, event_limit};
-ghost use Rattle.log_reader.specs.Readings.{is_long};
+ghost use Rattle.log_reader.specs.Stretches.{looked_at, is_end_told};
+
+use crate::stretch::Stretch;
 
 /// The greatest timestamp.
 pub(crate) const LAST_TIMESTAMP: u128 = 1 << 62;
@@ -35,29 +37,40 @@ impl Limits {
         }
     }
 
-    /// Whether a byte stands at the limit.
-    pub(crate) fn is_long(&self, bytes: &[u8]) -> bool
-        ensures { result ≡ is_long self.now bytes.now }
+    /// Whether a byte stands at the limit of a log of so many bytes.
+    pub(crate) fn is_past(&self, len: usize) -> bool
+        ensures { result ≡ nat_lt self.now.bytes len }
     {
-        self.bytes < bytes.len() as u64
+        self.bytes < len as u64
     }
 
-    /// The bytes that are looked at.
-    pub(crate) fn looked_at<'b>(&self, bytes: &'b [u8]) -> &'b [u8]
-        ensures { result.now ≡ take self.now.bytes bytes.now }
+    /// What is looked at of a log's bytes: those below the limit. `ended` says that no more come.
+    pub(crate) fn look_at<'b>(&self, kept: &'b Stretch, ended: bool) -> Look<'b>
+        ensures from { result.from ≡ kept.now.from }
+        ensures bytes { result.bytes.now ≡ looked_at self.now kept.now }
+        ensures ended { result.ended ≡ is_end_told self.now kept.now ended }
+        ensures small { result.from + length result.bytes.now < 2 ^ 63 }
     {
-        if self.is_long(bytes) {
-            let (looked, _) = bytes.split_at(self.bytes as usize);
-            looked
+        let is_long = self.is_past(kept.end());
+        let bytes = kept.bytes();
+        let room = self.bytes.saturating_sub(kept.from() as u64) as usize;
+        let looked = if is_long {
+            bytes.split_at(room).0
         } else {
             bytes
+        };
+        Look {
+            from: kept.from(),
+            bytes: looked,
+            ended: ended && !is_long,
         }
     }
+}
 
-    /// Whether the end of the bytes that are looked at is that of the log.
-    pub(crate) fn is_end_told(&self, bytes: &[u8], ended: bool) -> bool
-        ensures { result ≡ (ended && not (is_long self.now bytes.now)) }
-    {
-        ended && !self.is_long(bytes)
-    }
+/// Bytes that are looked at, the first of which has the offset `from` in the log; `ended` says that they end with it.
+#[derive(Clone, Copy)]
+pub(crate) struct Look<'b> {
+    pub from: usize,
+    pub bytes: &'b [u8],
+    pub ended: bool,
 }

@@ -1,14 +1,16 @@
 ghost use Rattle.std.specs.Prelude.{◌≡◌, ◌++◌, ◌∷◌, [], OnOk, Ok};
 ghost use Rattle.mfotl_lex.specs.Lexemes.{lexeme};
 ghost use Rattle.log_reader.specs.Given.{Moves};
+ghost use Rattle.log_reader.specs.Quick.{TakesQuick};
 ghost use Rattle.log_reader.specs.Stages.{completes};
 ghost use Rattle.log_reader.specs.Symbols.{symbol, written};
 ghost use Rattle.mfotl_sig.specs.Preds.{named};
 
 use crate::fault::LogFault;
-use crate::grammar::{ends_point, is_whole, stage_behind};
+use crate::grammar::{ends_point, is_value_due, is_whole, stage_behind};
 use crate::limits::Limits;
 use crate::next::Next;
+use crate::quick::integer_before;
 use crate::stage::Stage;
 use crate::values::{timestamp_of, value_at};
 use mfotl_lex::Token;
@@ -53,7 +55,7 @@ impl<'a> Model for Partial<'a> {
 impl<'a> Partial<'a> {
     ghost use Rattle.log_reader.specs.Partials.{blank, point_of, finished};
     ghost use Rattle.log_reader.specs.Progress.{answer_of};
-    ghost use Rattle.log_reader.specs.Readings.{nothing_left};
+    ghost use Rattle.log_reader.specs.Readings.{nothing_behind};
     ghost use Rattle.log_reader.specs.Cursors.{behind_answer};
     ghost use Rattle.log_reader.specs.Steps.{opened, stamped, naming, grouped, valued, closed, step};
     ghost use Rattle.log_reader.specs.ValuesRead.{timestamp_of};
@@ -161,6 +163,28 @@ impl<'a> Partial<'a> {
         }
     }
 
+    /// Takes an integer of few digits straight from the bytes, where one may stand and does: how many
+    /// digits it has. It is what the token would give.
+    pub fn take_quick(&mut self, alloc: Global, bytes: &[u8]) -> Result<Option<usize>, AllocError>
+        ensures { TakesQuick self.old bytes.now result self.new }
+    {
+        if !is_value_due(self.stage) {
+            return Ok(None);
+        }
+        match self.due {
+            [Sort::Int, due @ ..] => match integer_before(bytes) {
+                Some((value, count)) => {
+                    self.push(alloc, Value::Int(value))?;
+                    self.stage = Stage::AfterValue;
+                    self.due = due;
+                    Ok(Some(count))
+                }
+                None => Ok(None),
+            },
+            _ => Ok(None),
+        }
+    }
+
     fn push(&mut self, alloc: Global, value: Value) -> Result<(), AllocError>
         ensures { OnOk result (self.new ≡ record self.old { args = self.old.args ++ value ∷ [] }) }
     {
@@ -230,18 +254,18 @@ impl<'a> Partial<'a> {
         Ok(())
     }
 
-    /// What is due where no whole token is left of the bytes.
+    /// What is due where no whole token is left of a log's bytes, `len` of them.
     pub fn end(
         &mut self,
         alloc: Global,
         limits: &Limits,
-        bytes: &[u8],
+        len: usize,
         ended: bool,
     ) -> Result<Next, LogFault>
-        ensures answer { result ≡ answer_of ended (nothing_left limits.now bytes.now ended self.old) }
+        ensures answer { result ≡ answer_of ended (nothing_behind limits.now len ended self.old) }
         ensures after { self.new ≡ behind_answer self.old result }
     {
-        if limits.is_long(bytes) {
+        if limits.is_past(len) {
             return Err(LogFault::TooLong(limits.bytes));
         }
         if !ended {
@@ -250,7 +274,7 @@ impl<'a> Partial<'a> {
         match self.stage {
             Stage::Between => Ok(Next::End),
             Stage::AfterStamp | Stage::AfterClose => Ok(Next::Point(self.finish(alloc))),
-            _ => Err(LogFault::Syntax(bytes.len() as u64)),
+            _ => Err(LogFault::Syntax(len as u64)),
         }
     }
 }

@@ -1,16 +1,17 @@
-ghost use Rattle.std.specs.Prelude.{◌≡◌, ◌≢◌, ◌≤◌, ◌++◌, [], length, false, true, Ok, OnOk, OnErr, IfErr};
+ghost use Rattle.std.specs.Prelude.{◌≡◌, ◌≢◌, ◌≤◌, ◌+◌, ◌++◌, [], length, false, true, Ok, OnOk, OnErr, IfErr};
 ghost use Rattle.log_reader.specs.declared.fault.LogFault.TheVariants.{Memory};
-ghost use Rattle.log_reader.specs.declared.next.Next.TheVariants.{End};
+ghost use Rattle.log_reader.specs.declared.next.Next.TheVariants.{More, End};
 ghost use Rattle.log_reader.specs.Given.{Gives};
 ghost use Rattle.log_reader.specs.Laws.{IsShown};
 ghost use Rattle.log_reader.specs.Readings.{accepted};
 ghost use Rattle.log_reader.specs.Rules.{IsValue};
-ghost use Rattle.log_reader.specs.Soundness.{is_wanting};
+ghost use Rattle.log_reader.specs.Soundness.{is_wanting, is_more};
 
 use crate::cursor::Cursor;
 use crate::fault::LogFault;
 use crate::limits::Limits;
 use crate::next::Next;
+use crate::stretch::Stretch;
 use mfotl_sig::Signature;
 use std::alloc::{AllocError, Global};
 use std::marker::Model;
@@ -20,7 +21,8 @@ use std::marker::Model;
 pub struct LogReader<'a> {
     sig: &'a Signature,
     limits: Limits,
-    bytes: Vec<u8>,
+    // The bytes that the reader isn't done with.
+    kept: Stretch,
     is_fed: bool,
     is_ended: bool,
     is_broken: bool,
@@ -41,18 +43,18 @@ impl<'a> Model for LogReader<'a> {
       is_ended = r.is_ended;
       given = given_of r.cursor.partial;
       is_broken = r.is_broken;
-      kept = record { bytes = r.bytes.items; at = r.cursor.at; partial = r.cursor.partial };
+      kept = record { stretch = r.kept; at = r.cursor.at; partial = r.cursor.partial };
     } };
 
-    ghost invariant = { λ r. IsKept r.sig.now r.limits r.bytes.items
-        r.is_fed r.is_ended r.is_broken r.cursor.at r.cursor.partial };
+    ghost invariant = { λ r. IsKept r.sig.now r.limits
+        r.is_fed r.is_ended r.is_broken r.kept r.cursor.at r.cursor.partial };
 }
 
 impl<'a> LogReader<'a> {
     ghost use Rattle.log_reader.specs.GivenPoints.{GivesPoints};
-    ghost use Rattle.log_reader.specs.Progress.{start, read, due};
-    ghost use Rattle.log_reader.specs.Readers.{Reads, ReadsOn, ForEach, Proceeds, progress};
-    ghost use Rattle.log_reader.specs.Soundness.{told};
+    ghost use Rattle.log_reader.specs.Limits.{held_limit};
+    ghost use Rattle.log_reader.specs.Progress.{start, due};
+    ghost use Rattle.log_reader.specs.Readers.{Reads, ReadsOn, ForEach, Proceeds, progress, held};
 
     /// A reader of a log over these predicates. It takes no memory.
     pub fn new(alloc: Global, sig: &'a Signature, limits: Limits) -> Self
@@ -62,7 +64,7 @@ impl<'a> LogReader<'a> {
         LogReader {
             sig,
             limits,
-            bytes: Vec::new(alloc),
+            kept: Stretch::new(Vec::new(alloc)),
             is_fed: false,
             is_ended: false,
             is_broken: false,
@@ -91,6 +93,13 @@ impl<'a> LogReader<'a> {
         self.is_broken
     }
 
+    /// How many bytes it holds. Where it asks for more these are the front of one token at most.
+    pub fn held(&self) -> usize
+        ensures { result ≡ held self.now }
+    {
+        self.kept.bytes().len()
+    }
+
     /// Says that the bytes fed are all.
     pub fn finish(&mut self)
         ensures ended { self.new ≡ record self.old { is_ended = true; kept = self.new.kept } }
@@ -99,21 +108,21 @@ impl<'a> LogReader<'a> {
         self.is_ended = true;
     }
 
-    /// Feeds the bytes of the log, by a copy.
-    pub fn feed(&mut self, alloc: Global, piece: &[u8]) -> Result<(), AllocError>
-        requires once { self.old.is_fed ≡ false }
+    /// Feeds the next bytes of the log, by a copy. However a log is cut into pieces, what is read is the same.
+    pub fn feed(&mut self, _alloc: Global, piece: &[u8]) -> Result<(), AllocError>
         requires open { self.old.is_ended ≡ false }
         requires whole { self.old.is_broken ≡ false }
         ensures ok { OnOk result (self.new ≡ record self.old { is_fed = true; kept = self.new.kept }) }
         ensures reads { OnOk result (ForEach self.old (λ bytes. Reads self.new (bytes ++ piece.now))) }
         ensures err { OnErr result (self.new ≡ self.old) }
+        ensures held { held self.new ≤ held self.old + length piece.now }
     {
-        let bytes = Vec::from_slice(alloc, piece)?;
-        self.feed_owned(alloc, bytes);
+        self.kept.append(piece)?;
+        self.is_fed = true;
         Ok(())
     }
 
-    /// Feeds the bytes of the log, and keeps them as they are. It takes no memory.
+    /// Feeds the first bytes of the log, and keeps them as they are. It takes no memory.
     pub fn feed_owned(&mut self, alloc: Global, bytes: Vec<u8>)
         requires once { self.old.is_fed ≡ false }
         requires open { self.old.is_ended ≡ false }
@@ -121,7 +130,7 @@ impl<'a> LogReader<'a> {
         ensures fed { self.new ≡ record self.old { is_fed = true; kept = self.new.kept } }
         ensures reads { ForEach self.old (λ before. Reads self.new (before ++ bytes.items)) }
     {
-        self.bytes = bytes;
+        self.kept = Stretch::new(bytes);
         self.is_fed = true;
         // Nothing was read before.
         self.cursor = Cursor::new(alloc);
@@ -135,6 +144,7 @@ impl<'a> LogReader<'a> {
         ensures after { Proceeds self.old self.new result }
         ensures reads { ReadsOn self.old self.new result }
         ensures few { OnOk result (self.new.given ≤ self.new.limits.points) }
+        ensures held { result ≡ Ok More → held self.new ≤ held_limit }
         ensures value { result ≡ Ok End → ForEach self.old (λ bytes. IsValue self.old.sig
             self.old.limits bytes (accepted self.old.sig self.old.limits bytes).points) }
         ensures points { ForEach self.old (λ bytes. GivesPoints (progress self.old bytes) result) }
@@ -146,18 +156,29 @@ impl<'a> LogReader<'a> {
 
     fn read_point(&mut self, alloc: Global) -> Result<Next, LogFault>
         requires { self.old.is_broken ≡ false }
-        ensures answer { Gives (λ next. next) result (due (told self.old)) }
+        ensures answer { ForEach self.old (λ bytes.
+            Gives (λ next. next) result (due (progress self.old bytes))) }
         ensures after { Proceeds self.old self.new result }
-        ensures bytes { self.new.kept.bytes ≡ self.old.kept.bytes }
+        ensures reads { ReadsOn self.old self.new result }
         ensures few { OnOk result (self.new.given ≤ self.new.limits.points) }
-        ensures given { self.old.given ≤ length (read (told self.old)).points }
+        ensures held { result ≡ Ok More → held self.new ≤ held_limit }
     {
         let answer = self
             .cursor
-            .read(alloc, &self.bytes, self.is_ended, self.sig, &self.limits);
+            .read(alloc, &self.kept, self.is_ended, self.sig, &self.limits);
         self.is_broken = is_wanting(&answer);
+        if is_more(&answer) {
+            self.kept.forget(self.cursor.at);
+            self.cursor.at = 0;
+        }
         answer
     }
+}
+
+fn is_more(answer: &Result<Next, LogFault>) -> bool
+    ensures { result ≡ is_more answer.now }
+{
+    matches!(answer, Ok(Next::More))
 }
 
 fn is_wanting(answer: &Result<Next, LogFault>) -> bool

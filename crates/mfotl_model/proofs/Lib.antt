@@ -6,6 +6,7 @@ pub mod EventLemmas
 pub mod VariableLemmas
 pub mod TimeLemmas
 pub mod MatchingLemmas
+pub mod AtomLemmas
 pub mod RegionLemmas
 pub mod ExactLemmas
 pub mod CountLemmas

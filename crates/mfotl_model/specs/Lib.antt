@@ -17,6 +17,7 @@ pub mod Counts
 pub mod Violations
 pub mod VerdictText
 pub mod Matching
+pub mod AtomSteps
 pub mod Strategies
 pub mod Regions
 pub mod Slices

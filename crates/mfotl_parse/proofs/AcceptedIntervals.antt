@@ -19,8 +19,9 @@ use Rattle.mfotl_parse.specs.Grammar.{FitsBound, FitsEnd, FitsInterval}
 use Rattle.mfotl_parse.specs.Intervals.{framed, with_interval, low_move, low_unit, low_number_move, low_done_move}
 use Rattle.mfotl_parse.specs.Intervals.{high_move, high_unit, high_number_move, bracket, endless_move}
 use Rattle.mfotl_parse.specs.Transitions.{Rule, Transition, first_keeps, within_depth}
-use Rattle.mfotl_parse.specs.Operands.{operand_move, fresh_move, maybe_move, maybe_number_move, maybe_word, maybe_unit}
-use Rattle.mfotl_parse.specs.Operands.{maybe_low, binder_move, binder_marked_move, bound_move}
+use Rattle.mfotl_parse.specs.Operands.{operand_move, fresh_move}
+use Rattle.mfotl_parse.specs.Lookahead.{maybe_move, maybe_number_move, maybe_word, maybe_unit, maybe_low}
+use Rattle.mfotl_parse.specs.Quantifiers.{binder_move, binder_marked_move, bound_move}
 use Rattle.mfotl_parse.specs.Reading.{transition, transition_at}
 use Rattle.mfotl_parse.specs.Reduction.{hold}
 use Rattle.mfotl_parse.specs.States.{Frame, Parens, Negation, Moment, Binding, Left, SymbolTable, Partial}
@@ -274,7 +275,14 @@ module _ (sig : List PredOf) (stack : List Frame) (nodes : ℕ) (names : SymbolT
   no_interval : (ts : List Lexeme) → accepts sig ts (at_place ExpectOperand stack nodes names) ≡ true
       → Timing sig (map hold stack) ts
   no_interval ts h =
-      record { interval = Omitted; rest = ts; fits = tt; parts = refl; shorter = omega arith; wanting = record { stack = stack; nodes = nodes; names = names; accepted = h; held = refl } }
+      record {
+        interval = Omitted;
+        rest = ts;
+        fits = tt;
+        parts = refl;
+        shorter = omega arith;
+        wanting = record { stack = stack; nodes = nodes; names = names; accepted = h; held = refl };
+      }
 
   from_bracket : (t : Lexeme) (ts : List Lexeme) → class_of t ≡ classes.OpenBracket → FromLow sig (map hold stack) ts
       → Timing sig (map hold stack) (t ∷ ts)
@@ -439,7 +447,13 @@ module _ (sig : List PredOf) (q : Quantifier) where
         dots = class;
         parts = refl;
         shorter = omega (arith, length-append (variable_spelling x) (t ∷ ts));
-        wanting = record { stack = Binding q variable name ∷ stack; nodes = nodes; names = names; accepted = h; held = refl };
+        wanting = record {
+          stack = Binding q variable name ∷ stack;
+          nodes = nodes;
+          names = names;
+          accepted = h;
+          held = refl;
+        };
       }
   bound_one n x variable name stack nodes names t ts _ later few fits class h = refused h _
 

@@ -14,8 +14,8 @@ use Rattle.mfotl_parse.specs.Grammar.{Number, Quoted, WrittenInterval, Omitted, 
 use Rattle.mfotl_parse.specs.Grammar.{variables_spelling, interval_spelling, spelling, FitsOperator, is_shut, Fits}
 use Rattle.mfotl_parse.specs.Grammar.{IsFormula, precedence, right_precedence, is_timed}
 use Rattle.mfotl_parse.specs.Intervals.{any_distance}
-use Rattle.mfotl_parse.specs.Operands.{operand_move, have_move, joined_move, enclosed_move, around, is_parens}
-use Rattle.mfotl_parse.specs.Operands.{now_behind}
+use Rattle.mfotl_parse.specs.Operands.{operand_move}
+use Rattle.mfotl_parse.specs.Operators.{have_move, joined_move, enclosed_move, around, is_parens, now_behind}
 use Rattle.mfotl_parse.specs.Reading.{transition, is_closed}
 use Rattle.mfotl_parse.specs.Reduction.{Reduced, reduce, hold}
 use Rattle.mfotl_parse.specs.States.{Frame, Parens, Negation, Moment, Binding, Left, SymbolTable, Context, start}
@@ -186,8 +186,20 @@ module _ (sig : List PredOf) where
       × (length rest ≤ length ts) × Wanting sig (map hold stack) rest
   timing_of true stack nodes names ts h =
       let t = fresh_back sig stack nodes names ts h in (t.interval, t.rest, t.fits, t.parts, t.shorter, t.wanting)
-  timing_of false stack nodes names ts h =
-      (Omitted, ts, refl, refl, omega arith, record { stack = stack; nodes = nodes; names = names; accepted = h; held = refl })
+  timing_of false stack nodes names ts h = (
+    Omitted,
+    ts,
+    refl,
+    refl,
+    omega arith,
+    record {
+      stack = stack;
+      nodes = nodes;
+      names = names;
+      accepted = h;
+      held = refl;
+    },
+  )
 
   no_zero : (o : Operator) (hs : List Held) → (wanted hs ≤ precedence o) ⊎ (precedence o ≡ 0)
       → wanted hs ≤ precedence o
@@ -261,7 +273,15 @@ module _ (sig : List PredOf) where
       → IsFormula (held_tokens hs ++ t ∷ ts)
   want_one n hs stack nodes names t ts (classes.Truth which) have want few fit held class h =
       primary_then n hs stack (t ∷ ts) have (omega (arith, few)) fit held
-      (record { tree = Truth t which; rest = ts; fits = λ rule. class; shut = refl; parts = refl; shorter = omega arith; behind = record { form = _; nodes = _; names = _; accepted = h } })
+      (record {
+        tree = Truth t which;
+        rest = ts;
+        fits = λ rule. class;
+        shut = refl;
+        parts = refl;
+        shorter = omega arith;
+        behind = record { form = _; nodes = _; names = _; accepted = h };
+      })
   want_one n hs stack nodes names t ts classes.Not have want few fit held class h =
       held_then n (HeldNot t) hs (t ∷ ts) ts want few (class, tt, fit) refl
       (record { stack = _; nodes = _; names = _; accepted = h; held = ap (λ (ns : List ℕ). 6 ∷ ns) held })

@@ -15,8 +15,8 @@ use Rattle.mfotl_parse.specs.Grammar.{Bare, Asked, WrittenTerm, Named, Number, Q
 use Rattle.mfotl_parse.specs.Grammar.{WrittenArguments, LastArgument, MoreArguments, Tree, BareAtom, AtomOf}
 use Rattle.mfotl_parse.specs.Grammar.{Comparison, term_spelling, argument_spelling, arguments_spelling, spelling}
 use Rattle.mfotl_parse.specs.Grammar.{FitsTerm, FitsArgument, FitsArguments, IsAtomName, Fits, is_shut}
-use Rattle.mfotl_parse.specs.Operands.{against_move, against_marked_move, compared_move, word_move, blank_move}
-use Rattle.mfotl_parse.specs.Operands.{marked_move}
+use Rattle.mfotl_parse.specs.Operands.{word_move, blank_move}
+use Rattle.mfotl_parse.specs.Comparisons.{against_move, against_marked_move, compared_move, marked_move}
 use Rattle.mfotl_parse.specs.Reading.{transition}
 use Rattle.mfotl_parse.specs.States.{Frame, Call, SymbolTable, AfterOperand, AfterWord, AfterBlank, AfterMark}
 use Rattle.mfotl_parse.specs.States.{ExpectSign, AfterSign, AfterSignMark, FirstArgument, NextArgument, AfterArgument}
@@ -110,9 +110,23 @@ module _ (sig : List PredOf) (stack : List Frame) where
   against_one left at sign t ts nodes names classes.Question class h =
       against_mark left at t.at sign t ts nodes names class h
   against_one left at sign t ts nodes names (classes.Integer z) class h =
-      record { right = Number t z; rest = ts; fits = class; parts = refl; shorter = omega arith; behind = record { form = _; nodes = _; names = _; accepted = h } }
+      record {
+        right = Number t z;
+        rest = ts;
+        fits = class;
+        parts = refl;
+        shorter = omega arith;
+        behind = record { form = _; nodes = _; names = _; accepted = h };
+      }
   against_one left at sign t ts nodes names classes.Text class h =
-      record { right = Quoted t; rest = ts; fits = class; parts = refl; shorter = omega arith; behind = record { form = _; nodes = _; names = _; accepted = h } }
+      record {
+        right = Quoted t;
+        rest = ts;
+        fits = class;
+        parts = refl;
+        shorter = omega arith;
+        behind = record { form = _; nodes = _; names = _; accepted = h };
+      }
   against_one left at sign t ts nodes names _ class h = refused h _
 
   against_back : (left : Side) (at : ℕ) (sign : Sign) (ts : List Lexeme) (nodes : ℕ) (names : SymbolTable)
@@ -185,7 +199,16 @@ module _ (sig : List PredOf) (stack : List Frame) where
       → if_moved (taken_move (context_at stack nodes names) call t c) (accepts sig ts) ≡ true
       → Inside sig stack (argument_spelling a ++ t ∷ ts)
   taken_one n a call t ts nodes names classes.CloseParen later few fits class h =
-      record { arguments = LastArgument a; closing = t; rest = ts; fits = fits; closes = class; parts = refl; shorter = omega (arith, length-append (argument_spelling a) (t ∷ ts)); behind = record { form = _; nodes = _; names = _; accepted = h } }
+      record {
+        arguments = LastArgument a;
+        closing = t;
+        rest = ts;
+        fits = fits;
+        closes = class;
+        parts = refl;
+        shorter = omega (arith, length-append (argument_spelling a) (t ∷ ts));
+        behind = record { form = _; nodes = _; names = _; accepted = h };
+      }
   taken_one n a call t ts nodes names classes.Comma later few fits class h =
       let more = later call ts nodes names few h in
       record {

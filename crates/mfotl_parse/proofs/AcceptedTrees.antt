@@ -170,14 +170,34 @@ module _ (rule : ℕ) (below_six : rule < 6) where
       → ((o : Operator) → precedence o ≡ rule → Fits (left_precedence o) tree) → (1 ≤ rule → is_shut tree ≡ true)
       → drop_tight rule (holds_of hs) ≡ holds_of hs → wanted hs ≤ rule ⊎ (rule ≡ 0) → Closed rule hs tree
   stays hs tree fit fits left shut same loose =
-      record { whole = tree; around = hs; fit_all = fit; fits = fits; left = left; shut = shut; tokens = refl; holds = same; loose = loose }
+      record {
+        whole = tree;
+        around = hs;
+        fit_all = fit;
+        fits = fits;
+        left = left;
+        shut = shut;
+        tokens = refl;
+        holds = same;
+        loose = loose;
+      }
 
   closes : (h : Held) (hs : List Held) (tree bigger : Tree) → (held_tokens hs ++ own_tokens h) ++ spelling tree
       ≡ held_tokens hs ++ spelling bigger
       → drop_tight rule (push_hold h (holds_of hs)) ≡ drop_tight rule (holds_of hs) → Closed rule hs bigger
       → Closed rule (h ∷ hs) tree
   closes h hs tree bigger tokens dropped c =
-      record { whole = c.whole; around = c.around; fit_all = c.fit_all; fits = c.fits; left = c.left; shut = c.shut; tokens = tokens ∙ c.tokens; holds = dropped ∙ c.holds; loose = c.loose }
+      record {
+        whole = c.whole;
+        around = c.around;
+        fit_all = c.fit_all;
+        fits = c.fits;
+        left = c.left;
+        shut = c.shut;
+        tokens = tokens ∙ c.tokens;
+        holds = dropped ∙ c.holds;
+        loose = c.loose;
+      }
 
   one_or_zero : 1 ≤ rule ⊎ (rule ≡ 0)
   one_or_zero = elim (cases_lt rule 1) [ inl none ↦ inr (omega (arith, none)) | inr some ↦ inl some ]

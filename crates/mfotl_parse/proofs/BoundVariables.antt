@@ -18,10 +18,10 @@ use Rattle.mfotl_parse.specs.Grammar.{WrittenTerm, Named, Number, Quoted, Writte
 use Rattle.mfotl_parse.specs.Grammar.{WrittenArguments, LastArgument, MoreArguments, WrittenVariables, LastVariable}
 use Rattle.mfotl_parse.specs.Grammar.{MoreVariables, Tree, Truth, BareAtom, AtomOf, Comparison, Enclosed, Denied}
 use Rattle.mfotl_parse.specs.Grammar.{Timed, Quantified, Joined}
-use Rattle.mfotl_parse.specs.Meanings.{Scope, no_scope, inside, name_of, place_of_variable, place_of, operand_of}
-use Rattle.mfotl_parse.specs.Meanings.{term_names, argument_term, argument_names, arguments_terms, arguments_names}
-use Rattle.mfotl_parse.specs.Meanings.{atom, variables_names, variables_scope, quantify, interval_of, names_behind}
-use Rattle.mfotl_parse.specs.Meanings.{value}
+use Rattle.mfotl_parse.specs.Meanings.{Scope, no_scope, inside, operand_of, term_names, argument_term, argument_names}
+use Rattle.mfotl_parse.specs.Meanings.{arguments_terms, arguments_names, atom, variables_names, variables_scope}
+use Rattle.mfotl_parse.specs.Meanings.{quantify, interval_of, names_behind, value}
+use Rattle.mfotl_parse.specs.Occurrences.{name_of, place_of_variable, place_of}
 use Rattle.mfotl_parse.specs.SymbolTable.{number_of, free_place, free_or_new, with_free, bound_or_free, met}
 use Rattle.mfotl_parse.specs.SymbolTable.{bound_more, inner_or, term_of}
 use Rattle.mfotl_parse.specs.States.{SymbolTable}

@@ -1,6 +1,6 @@
 -- The columns of a policy that was read are the free variables of its formula, and its occurrences have their sorts.
-use Rattle.std.proofs.Common.{◌≡◌, ℕ, suc, ◌+◌, ◌-◌, ◌<◌, Bool, List, [], ◌∷◌, length, map, Option}
-use Rattle.std.proofs.Common.{Some, None, Result, Ok, Err, refl, sym, ap, subst, ◌∙◌, arith, cond}
+use Rattle.std.proofs.Common.{◌≡◌, ℕ, suc, ◌+◌, ◌-◌, ◌<◌, ◌≤◌, Bool, List, [], ◌∷◌, length, map, Option}
+use Rattle.std.proofs.Common.{Some, Result, Ok, Err, refl, sym, ap, subst, ◌∙◌, arith, cond}
 use Rattle.std.proofs.lemmas.Bool.{lt-ltb}
 use Rattle.std.specs.Prelude.{slice_get, IfOk}
 use Rattle.std.specs.List.{range_with_len}
@@ -13,22 +13,19 @@ use Rattle.mfotl_sig.specs.Preds.{PredOf}
 use Rattle.mfotl_parse.specs.declared.fault.PolicyFault.{PolicyFault}
 use Rattle.mfotl_parse.specs.Grammar.{Tree}
 use Rattle.mfotl_parse.specs.Meanings.{no_scope, all_names, value, KeepsRules, IsValue}
-use Rattle.mfotl_parse.specs.SymbolTable.{given_at, sort_or_int, vars_of}
+use Rattle.mfotl_parse.specs.SymbolTable.{given_at, vars_of}
 use Rattle.mfotl_parse.specs.Reading.{PolicyOf, reading}
 use Rattle.mfotl_parse.specs.States.{SymbolTable, no_names}
 use Rattle.mfotl_parse.specs.Views.{policy_of as policy_seen, Gives}
 use Rattle.mfotl_parse.specs.WellSorted.{sort_or_integer, IsWellSorted}
 use Rattle.mfotl_parse.specs.Limits.{max_free}
 use Rattle.mfotl_parse.proofs.BoundVariables.{only_free}
+use Rattle.mfotl_parse.proofs.FreeNames.{few_met}
 use Rattle.mfotl_parse.proofs.LimitLemmas.{length_vars_of}
 use Rattle.mfotl_parse.proofs.NamesOrder.{grows_not, tree_grows}
-use Rattle.mfotl_parse.proofs.ReadLaw.{read_is_spelled}
+use Rattle.mfotl_parse.proofs.PolicyLaws.{read_is_spelled}
 use Rattle.mfotl_parse.proofs.SortedTrees.{given_by, tree_sorted}
 use Rattle.mfotl_parse.proofs.VariableOrder.{tree_order}
-
-same_default : (given : Option Sort) → sort_or_int given ≡ sort_or_integer given
-same_default None = refl
-same_default (Some sort) = refl
 
 -- the sorts of the columns from a number on
 columns_from : (given : ℕ → Option Sort) (from : ℕ) (free : List (List ℕ × ℕ)) (sorts : List (Option Sort))
@@ -40,8 +37,8 @@ columns_from given from [] sorts sized each = refl
 columns_from given from (known ∷ free) [] sized each = absurd (omega (arith, sized))
 columns_from given from (known ∷ free) (sort ∷ sorts) sized each =
     let here : from + 0 ≡ from = omega arith in
-    let first : sort_or_int sort ≡ sort_or_integer (given from) = same_default sort
-    ∙ sym (ap sort_or_integer (ap given (sym here) ∙ each 0 (omega arith))) in
+    let first : sort_or_integer sort ≡ sort_or_integer (given from) =
+    sym (ap sort_or_integer (ap given (sym here) ∙ each 0 (omega arith))) in
     let later = columns_from given (from + 1) free sorts (omega (arith, sized))
     (λ k below. ap given (next k) ∙ each (suc k) (omega (arith, below))) in
     ap (λ (s : Sort). s ∷ map (λ v. v.sort) (vars_of free sorts)) first
@@ -54,18 +51,21 @@ module _ (sig : List PredOf) (tree : Tree) (rules : KeepsRules sig tree) where
   abbrev last : SymbolTable
   last = all_names sig tree
 
+  few : length last.free ≤ max_free
+  few = few_met sig tree rules.few_free
+
   free_is : fv (value sig tree no_scope no_names) ≡ range_with_len 0 (length (vars_of last.free last.free_sorts))
   free_is =
-      sym (only_free sig tree no_names rules.few_free)
+      sym (only_free sig tree no_names few)
       ∙ sym (joined_none _)
-      ∙ tree_order sig tree no_scope no_names rules.few_free
+      ∙ tree_order sig tree no_scope no_names few
       ∙ ap (range_with_len 0) (sym (length_vars_of last.free last.free_sorts))
 
   columns_are : map (λ v. v.sort) (vars_of last.free last.free_sorts)
       ≡ map (λ x. sort_or_integer (given_by last x)) (range_with_len 0 (length (vars_of last.free last.free_sorts)))
   columns_are =
       columns_from (given_by last) 0 last.free last.free_sorts ((tree_grows sig tree no_scope no_names).sized refl)
-      (λ k below. low k (omega (arith, below, rules.few_free)))
+      (λ k below. low k (omega (arith, below, few)))
       ∙ ap (λ (n : ℕ). map (λ x. sort_or_integer (given_by last x)) (range_with_len 0 n))
       (sym (length_vars_of last.free last.free_sorts))
     where
@@ -85,7 +85,8 @@ module _ (sig : List PredOf) (tree : Tree) (rules : KeepsRules sig tree) where
   well_sorted = record {
     free = free_is;
     given = given_by last;
-    fits = tree_sorted sig last rules.unclashed rules.even rules.few_free tree no_scope no_names none_open refl rules.parts (grows_not last);
+    fits = tree_sorted sig last rules.unclashed rules.even few tree no_scope no_names none_open refl
+        rules.parts (grows_not last);
     columns = columns_are;
   }
 
@@ -99,5 +100,5 @@ pub sorted_given : (bytes : List ℕ) (sig : List PredOf) (result : Result Polic
     → Gives policy_seen result (reading bytes sig)
     → IfOk result (λ policy. IsWellSorted sig policy.vars (form policy.formula))
 sorted_given bytes sig (Ok policy) given =
-    value_sorted bytes sig (policy_seen policy) (read_is_spelled bytes sig (policy_seen policy) given)
+    value_sorted bytes sig (policy_seen policy) (read_is_spelled sig bytes (policy_seen policy) given)
 sorted_given bytes sig (Err fault) given = tt

@@ -1,6 +1,6 @@
 -- The map of free variables and the list that clauses see.
-use Rattle.std.proofs.Common.{◌≡◌, ℕ, zero, suc, ◌+◌, ◌≤◌, Bool, false, cond, ltb, List, [], ◌∷◌, ◌++◌}
-use Rattle.std.proofs.Common.{length, map, drop, Option, Some, None, is_some, refl, sym, ap, ◌∙◌, arith}
+use Rattle.std.proofs.Common.{◌≡◌, ℕ, zero, suc, ◌+◌, ◌≤◌, Bool, cond, ltb, List, [], ◌∷◌, ◌++◌}
+use Rattle.std.proofs.Common.{length, map, drop, Option, Some, None, refl, sym, ap, ◌∙◌, arith}
 use Rattle.std.specs.List.{position, prefix_len}
 use Rattle.std.specs.Prelude.{not, slice_get}
 use Rattle.std.specs.Str.{bytes_eq}
@@ -9,8 +9,9 @@ use Rattle.std.proofs.lemmas.List.{length-map, map-append, drop_all}
 use Rattle.mfotl_model.specs.declared.policy.Sort.{Sort}
 use Rattle.mfotl_model.specs.declared.policy.Sort.TheVariants as sorts
 use Rattle.mfotl_model.specs.declared.policy.Var.{Var}
-use Rattle.mfotl_parse.specs.SymbolTable.{sort_or_int, var_of, vars_of}
+use Rattle.mfotl_parse.specs.SymbolTable.{var_of, vars_of}
 use Rattle.mfotl_parse.specs.Views.{known_of}
+use Rattle.mfotl_parse.specs.WellSorted.{sort_or_integer}
 
 prefix_len_map : {A B : Type 0} (p : B → Bool) (f : A → B) (xs : List A) → prefix_len p (map f xs)
     ≡ prefix_len (λ x. p (f x)) xs
@@ -38,10 +39,6 @@ pub known_more : (entries : List (Vec ℕ × ℕ)) (key : Vec ℕ) (name : List 
 known_more entries key name at same =
     map-append known_of entries ((key, at) ∷ []) ∙ ap (λ (n : List ℕ). map known_of entries ++ (n, at) ∷ []) same
 
-pub none_found : {X : Type 0} (found : Option X) → is_some found ≡ false → found ≡ None
-none_found None none = refl
-none_found (Some x) none = absurd cc
-
 -- the variable at a place comes next
 pub vars_of_more : (free : List (List ℕ × ℕ)) (given : List (Option Sort)) (i : ℕ) (var : Var)
     → var_of (slice_get free i) (slice_get given i) ≡ Some var
@@ -51,7 +48,8 @@ vars_of_more [] given i var e = absurd cc
 vars_of_more (k ∷ free) [] zero var e =
     let same : record { name = k.0; sort = sorts.Int } ≡ var = cc in ap (λ (v : Var). v ∷ vars_of free []) same
 vars_of_more (k ∷ free) (s ∷ given) zero var e =
-    let same : record { name = k.0; sort = sort_or_int s } ≡ var = cc in ap (λ (v : Var). v ∷ vars_of free given) same
+    let same : record { name = k.0; sort = sort_or_integer s } ≡ var = cc in
+    ap (λ (v : Var). v ∷ vars_of free given) same
 vars_of_more (k ∷ free) [] (suc i) var e =
     ap (vars_of (drop i free)) (sym (drop_all i [] (omega arith))) ∙ vars_of_more free [] i var e
 vars_of_more (k ∷ free) (s ∷ given) (suc i) var e = vars_of_more free given i var e

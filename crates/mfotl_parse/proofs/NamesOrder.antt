@@ -18,12 +18,14 @@ use Rattle.mfotl_parse.specs.Grammar.{WrittenTerm, Named, Number, Quoted, Writte
 use Rattle.mfotl_parse.specs.Grammar.{WrittenArguments, LastArgument, MoreArguments, WrittenVariables, LastVariable}
 use Rattle.mfotl_parse.specs.Grammar.{MoreVariables, Tree, Truth, BareAtom, AtomOf, Comparison, Enclosed, Denied}
 use Rattle.mfotl_parse.specs.Grammar.{Timed, Quantified, Joined}
-use Rattle.mfotl_parse.specs.Meanings.{Scope, name_of, place_of_variable, place_of, operand_of, term_names}
-use Rattle.mfotl_parse.specs.Meanings.{argument_names, arguments_names, variables_names, variables_scope, names_behind}
+use Rattle.mfotl_parse.specs.Meanings.{Scope, operand_of, term_names, argument_names, arguments_names}
+use Rattle.mfotl_parse.specs.Meanings.{variables_names, variables_scope, names_behind}
+use Rattle.mfotl_parse.specs.Occurrences.{name_of, place_of_variable, place_of}
 use Rattle.mfotl_parse.specs.SymbolTable.{free_place, bound_or_free, free_or_new, with_free, met, bound_more, given_at}
 use Rattle.mfotl_parse.specs.SymbolTable.{sort_of, with_sort, same_sort, first_of, clashed, agreed, occurred}
-use Rattle.mfotl_parse.specs.SymbolTable.{require_sort, sort_of_value, constrain_term, compared}
+use Rattle.mfotl_parse.specs.SymbolTable.{require_sort, constrain_term, compared}
 use Rattle.mfotl_parse.specs.States.{SymbolTable}
+use Rattle.mfotl_parse.specs.WellSorted.{sort_of_constant}
 
 -- these names came to be those: what was given stays, and what was met
 pub record Grows (n m : SymbolTable) : Type 0 where
@@ -186,7 +188,7 @@ occurs_grows v at sort n = by_given (sort_of v n) refl
 
 pub placed_grows : (o : Operand) (at : ℕ) (sort : Sort) (n : SymbolTable) → Grows n (constrain_term o at sort n)
 placed_grows (operands.Variable v) at sort n = occurs_grows v at sort n
-placed_grows (operands.Constant value) at sort n = agreed_grows (sort_of_value value) at sort n
+placed_grows (operands.Constant value) at sort n = agreed_grows (sort_of_constant value) at sort n
 
 pair_grows : (pair : Pair) (n : SymbolTable) → Grows n (record n { pairs = n.pairs ++ pair ∷ [] })
 pair_grows pair n = record {
@@ -209,11 +211,11 @@ pub compared_grows : (l : Operand) (left_at at : ℕ) (r : Operand) (right_at : 
 compared_grows (operands.Variable v) left_at at (operands.Variable w) right_at n =
     pair_grows (record { at = at; left = v; right = w }) n
 compared_grows (operands.Variable v) left_at at (operands.Constant d) right_at n =
-    occurs_grows v left_at (sort_of_value d) n
+    occurs_grows v left_at (sort_of_constant d) n
 compared_grows (operands.Constant c) left_at at (operands.Variable w) right_at n =
-    occurs_grows w right_at (sort_of_value c) n
+    occurs_grows w right_at (sort_of_constant c) n
 compared_grows (operands.Constant c) left_at at (operands.Constant d) right_at n =
-    agreed_grows (sort_of_value c) at (sort_of_value d) n
+    agreed_grows (sort_of_constant c) at (sort_of_constant d) n
 
 -- ---- terms, arguments and formulas
 

@@ -7,8 +7,6 @@ use Rattle.std.specs.Prelude.{slice_get, find, nat_lt, Contains}
 use Rattle.mfotl_model.specs.declared.interval.Interval.{Interval}
 use Rattle.mfotl_model.specs.declared.policy.Sort.{Sort}
 use Rattle.mfotl_model.specs.declared.policy.Sort.TheVariants as sorts
-use Rattle.mfotl_model.specs.declared.value.Value.{Value}
-use Rattle.mfotl_model.specs.declared.value.Value.TheVariants as values
 use Rattle.mfotl_model.specs.Formulas.{Form}
 use Rattle.mfotl_sig.specs.Preds.{PredOf, named}
 use Rattle.mfotl_parse.specs.declared.class.Operator.{Operator}
@@ -27,12 +25,13 @@ use Rattle.mfotl_parse.specs.Grammar.{WrittenTerm, Named, Number, Quoted, Writte
 use Rattle.mfotl_parse.specs.Grammar.{WrittenArguments, LastArgument, MoreArguments, WrittenVariables, LastVariable}
 use Rattle.mfotl_parse.specs.Grammar.{MoreVariables, Tree, Truth, BareAtom, AtomOf, Comparison, Enclosed, Denied}
 use Rattle.mfotl_parse.specs.Grammar.{Timed, Quantified, Joined}
-use Rattle.mfotl_parse.specs.Meanings.{Scope, inside, name_of, place_of_variable, place_of, operand_of, term_names}
-use Rattle.mfotl_parse.specs.Meanings.{argument_term, argument_names, arguments_terms, arguments_names, argument_count}
-use Rattle.mfotl_parse.specs.Meanings.{atom, variables_names, variables_scope, quantify, interval_of, names_behind}
-use Rattle.mfotl_parse.specs.Meanings.{value, HasArity, PartsKeep}
+use Rattle.mfotl_parse.specs.Meanings.{Scope, inside, operand_of, term_names, argument_term, argument_names}
+use Rattle.mfotl_parse.specs.Meanings.{arguments_terms, arguments_names, argument_count, atom, variables_names}
+use Rattle.mfotl_parse.specs.Meanings.{variables_scope, quantify, interval_of, names_behind, value, HasArity}
+use Rattle.mfotl_parse.specs.Meanings.{PartsKeep}
+use Rattle.mfotl_parse.specs.Occurrences.{name_of, place_of_variable, place_of}
 use Rattle.mfotl_parse.specs.SymbolTable.{number_of, bound_or_free, bound_more, inner_or, given_at, sort_of}
-use Rattle.mfotl_parse.specs.SymbolTable.{same_sort, require_sort, sort_of_value, constrain_term, compared}
+use Rattle.mfotl_parse.specs.SymbolTable.{same_sort, require_sort, constrain_term, compared}
 use Rattle.mfotl_parse.specs.SymbolTable.{term_of, differ, uneven_pair}
 use Rattle.mfotl_parse.specs.Operands.{truth}
 use Rattle.mfotl_parse.specs.Reduction.{momentary, joined, quantified}
@@ -64,10 +63,6 @@ given_is n (variables.Bound k) low =
     ap (λ (b : Bool). cond b (given_at (slice_get n.free_sorts (max_free + k)))
     (given_at (slice_get n.bound_sorts (max_free + k - max_free)))) (le-ltb (max_free + k) max_free (omega arith))
     ∙ ap (λ (j : ℕ). given_at (slice_get n.bound_sorts j)) same
-
-same_constant : (c : Value) → sort_of_value c ≡ sort_of_constant c
-same_constant (values.Int z) = refl
-same_constant (values.Text t) = refl
 
 pub inside_grows : (scope : Scope) (n m : SymbolTable) → Inside scope n → Grows n m → Inside scope m
 inside_grows scope n m inside g name k e = omega (arith, inside name k e, g.bound)
@@ -205,11 +200,11 @@ module _ (sig : List PredOf) (last : SymbolTable) (clash : last.clash ≡ None) 
       λ left right e f. pair_even v w at m left right g (sym (given_is last v (low v m p sized all)) ∙ e)
       (sym (given_is last w (low w m q sized all)) ∙ f)
   sides_sorted (operands.Variable v) (operands.Constant d) left_at at right_at m p q sized g =
-      given_so v left_at (sort_of_value d) m p sized g ∙ ap (λ (s : Sort). Some s) (same_constant d)
+      given_so v left_at (sort_of_constant d) m p sized g
   sides_sorted (operands.Constant c) (operands.Variable w) left_at at right_at m p q sized g =
-      given_so w right_at (sort_of_value c) m q sized g ∙ ap (λ (s : Sort). Some s) (same_constant c)
+      given_so w right_at (sort_of_constant c) m q sized g
   sides_sorted (operands.Constant c) (operands.Constant d) left_at at right_at m p q sized g =
-      sym (same_constant c) ∙ agreed_sort (sort_of_value c) at (sort_of_value d) m (g.clash clash) ∙ same_constant d
+      agreed_sort (sort_of_constant c) at (sort_of_constant d) m (g.clash clash)
 
   -- ---- formulas
 
@@ -236,7 +231,12 @@ module _ (sig : List PredOf) (last : SymbolTable) (clash : last.clash ≡ None) 
   atom_sorted None name xs outer inner scope n is count inside sized g = absurd count
   atom_sorted (Some pred) name xs outer inner scope n is count inside sized g =
       blanks_sorted (inner - outer) outer _
-      (record { pred = pred; known = found_known _ sig pred is; number = refl; sorted = arguments_sorted xs pred.sorts scope n inside sized g count })
+      (record {
+        pred = pred;
+        known = found_known _ sig pred is;
+        number = refl;
+        sorted = arguments_sorted xs pred.sorts scope n inside sized g count;
+      })
 
   one_sorted : (q : Quantifier) (k : ℕ) (name : List ℕ) (f : Form) → FitsSorts sig (given_by last) f
       → FitsSorts sig (given_by last) (quantified q k name f)

@@ -14,8 +14,10 @@ use Rattle.mfotl_parse.specs.declared.term.Operand.TheVariants as operands
 use Rattle.mfotl_parse.specs.Classes.{class_of}
 use Rattle.mfotl_parse.specs.Intervals.{any_distance}
 use Rattle.mfotl_parse.specs.Transitions.{Rule, Transition, goes, first_keeps, within_depth, within_nodes}
-use Rattle.mfotl_parse.specs.Operands.{operand_move, fresh_move, maybe_move, maybe_number_move, compared_move, signed}
-use Rattle.mfotl_parse.specs.Operands.{joined_move, enclosed_move, around, deepening, now_behind}
+use Rattle.mfotl_parse.specs.Operands.{operand_move, fresh_move}
+use Rattle.mfotl_parse.specs.Comparisons.{compared_move, signed}
+use Rattle.mfotl_parse.specs.Lookahead.{maybe_move, maybe_number_move}
+use Rattle.mfotl_parse.specs.Operators.{joined_move, enclosed_move, around, deepening, now_behind}
 use Rattle.mfotl_parse.specs.Reading.{transition}
 use Rattle.mfotl_parse.specs.Reduction.{Reduced, reduce, hold, closed, joined}
 use Rattle.mfotl_parse.specs.States.{Frame, Parens, Left, depth, SymbolTable, Stage, Context, Partial, ExpectOperand}
@@ -156,7 +158,8 @@ module _ (sig : List PredOf) where
       → Takes sig (at_place (now_behind (is_timed o)) (Left o any_distance v ∷ base) (suc nodes) names) rs
       (Left o i v ∷ base) edge w more others behind
       → Takes sig p (ls ++ t ∷ rs) base edge (joined o i v w) more others all
-  takes_joined p ls rs t o i base left edge v w nodes more names others before behind all class apart tight loose b k h opens back l r =
+  takes_joined p ls rs t o i base left edge v w nodes more names others before behind all class apart tight loose b k
+      h opens back l r =
       let there : reduce (precedence o) l.form l.stack
       ≡ record { form = v; stack = base } = l.reduces (precedence o) apart
       ∙ reduce_here (precedence o) v base loose in

@@ -1,14 +1,12 @@
 -- What several tokens do, one behind the other, and the rules that they have to keep.
-use Rattle.std.proofs.Common.{◌≡◌, ℕ, ◌≤◌, false, List, [], ◌∷◌, ◌++◌, Option, Some, None, Ok, Err, refl, ap, sym, ◌∙◌}
+use Rattle.std.proofs.Common.{◌≡◌, ℕ, ◌≤◌, false, List, [], ◌∷◌, ◌++◌, Option, Some, None, refl, ap, sym, ◌∙◌}
 use Rattle.std.proofs.lemmas.List.{append-nil, append_assoc}
-use Rattle.std.specs.Prelude.{cond}
-use Rattle.mfotl_lex.specs.declared.fault.LexFault.{LexFault}
 use Rattle.mfotl_lex.specs.Lexemes.{Lexeme}
 use Rattle.mfotl_sig.specs.Preds.{PredOf}
 use Rattle.mfotl_parse.specs.declared.class.Class.{Class}
 use Rattle.mfotl_parse.specs.Classes.{class_of}
-use Rattle.mfotl_parse.specs.Transitions.{Rule, Transition, goes, fault_of, kept, given}
-use Rattle.mfotl_parse.specs.Reading.{transition_at, transition, step, run, and_then}
+use Rattle.mfotl_parse.specs.Transitions.{Rule, Transition, goes}
+use Rattle.mfotl_parse.specs.Reading.{transition_at, transition}
 use Rattle.mfotl_parse.specs.States.{Frame, SymbolTable, Stage, Partial}
 use Rattle.mfotl_parse.specs.Limits.{max_levels}
 
@@ -108,11 +106,6 @@ kept_back (rule ∷ a) b k = kept_back a b k.1
 abbrev pub Exactly : ℕ → Type 0 → List Rule → Type 0
 Exactly levels keeps rules = (keeps → AreKept rules) × (levels ≤ max_levels → AreKept rules → keeps)
 
-pub kept_goes : (rules : List Rule) (p : Partial) → AreKept rules → kept rules p ≡ Ok p
-kept_goes [] p k = refl
-kept_goes (rule ∷ rules) p k =
-    ap (λ b. cond b (Err (fault_of rule.limit rule.at)) (kept rules p)) k.0 ∙ kept_goes rules p k.1
-
 pub no_move : {q : Partial} {rules : List Rule} → None ≡ goes rules q → ⊥
 no_move e = cc
 
@@ -132,35 +125,35 @@ pub same_rules : {rules others : List Rule} {p q : Partial} → goes rules p ≡
 unfolding rules_in
 same_rules e = ap rules_in e
 
--- tokens whose rules are kept are read
-run_behind : (sig : List PredOf) (end : ℕ) (fault : Option LexFault) (ts : List Lexeme) (q : Partial)
-    (rules : List Rule) (m : Transition) (o : Option Transition)
-    → ((rest : List Rule) → moves sig ts m.next ≡ goes rest q → AreKept rest → run sig end fault ts m.next
-    ≡ run sig end fault [] q)
-    → moves sig ts m.next ≡ o → behind_move m o ≡ goes rules q → AreKept rules
-    → and_then (kept m.rules m.next) (run sig end fault ts) ≡ run sig end fault [] q
-run_behind sig end fault ts q rules m None later f g k = absurd (no_move g)
-run_behind sig end fault ts q rules m (Some n) later f g k =
-    let all : m.rules ++ n.rules ≡ rules = same_rules g in
-    let there : n.next ≡ q = same_next g in
-    let k_all : AreKept (m.rules ++ n.rules) = rw all k in
-    ap (λ r. and_then r (run sig end fault ts)) (kept_goes m.rules m.next (kept_front m.rules n.rules k_all))
-    ∙ later n.rules (f ∙ ap (goes n.rules) there) (kept_back m.rules n.rules k_all)
+-- the first token of some, and those behind it
+pub record FirstMove (sig : List PredOf) (t : Lexeme) (ts : List Lexeme) (p q : Partial)
+    (rules : List Rule) : Type 0 where
+  pub between : Partial
+  pub own : List Rule
+  pub later : List Rule
+  pub first : transition sig p t ≡ goes own between
+  pub rest : moves sig ts between ≡ goes later q
+  pub all : own ++ later ≡ rules
 
-run_by : (sig : List PredOf) (end : ℕ) (fault : Option LexFault) (t : Lexeme) (ts : List Lexeme) (q : Partial)
-    (rules : List Rule) (m : Option Transition)
-    → ((p : Partial) (rest : List Rule) → moves sig ts p ≡ goes rest q → AreKept rest → run sig end fault ts p
-    ≡ run sig end fault [] q)
-    → then_moves m (moves sig ts) ≡ goes rules q → AreKept rules → and_then (given t.at m) (run sig end fault ts)
-    ≡ run sig end fault [] q
-run_by sig end fault t ts q rules None later f k = absurd (no_move f)
-run_by sig end fault t ts q rules (Some m) later f k =
-    run_behind sig end fault ts q rules m (moves sig ts m.next) (later m.next) refl f k
+pub moves_cons : (sig : List PredOf) (t : Lexeme) (ts : List Lexeme) (p q : Partial) (rules : List Rule)
+    → moves sig (t ∷ ts) p ≡ goes rules q → FirstMove sig t ts p q rules
+unfolding moves
+moves_cons sig t ts p q rules e = by_move (transition sig p t) refl e
+  where
+    by_rest : (m : Transition) (o : Option Transition) → transition sig p t ≡ Some m → moves sig ts m.next ≡ o
+        → behind_move m o ≡ goes rules q → FirstMove sig t ts p q rules
+    by_rest m None f g h = absurd (no_move h)
+    by_rest m (Some n) f g h =
+        record {
+          between = m.next;
+          own = m.rules;
+          later = n.rules;
+          first = f;
+          rest = g ∙ ap (goes n.rules) (same_next h);
+          all = same_rules h;
+        }
 
-pub run_moves : (sig : List PredOf) (end : ℕ) (fault : Option LexFault) (ts : List Lexeme) (p q : Partial)
-    (rules : List Rule)
-    → moves sig ts p ≡ goes rules q → AreKept rules → run sig end fault ts p ≡ run sig end fault [] q
-unfolding moves run step
-run_moves sig end fault [] p q rules e k = ap (run sig end fault []) (same_next e)
-run_moves sig end fault (t ∷ ts) p q rules e k =
-    run_by sig end fault t ts q rules (transition sig p t) (λ x rest f h. run_moves sig end fault ts x q rest f h) e k
+    by_move : (o : Option Transition) → transition sig p t ≡ o → then_moves o (moves sig ts) ≡ goes rules q
+        → FirstMove sig t ts p q rules
+    by_move None f g = absurd (no_move g)
+    by_move (Some m) f g = by_rest m (moves sig ts m.next) f refl g

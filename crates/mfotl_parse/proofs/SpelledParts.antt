@@ -29,11 +29,12 @@ use Rattle.mfotl_parse.specs.Grammar.{end_spelling, interval_spelling, FitsTerm,
 use Rattle.mfotl_parse.specs.Grammar.{FitsBound, FitsEnd, FitsInterval, IsAtomName}
 use Rattle.mfotl_parse.specs.Intervals.{any_distance, framed, with_interval, in_range, not_empty, low_unit, high_unit}
 use Rattle.mfotl_parse.specs.Intervals.{bracket, high_number_move}
-use Rattle.mfotl_parse.specs.Operands.{maybe_unit}
-use Rattle.mfotl_parse.specs.Meanings.{Scope, place_of, operand_of, term_names, argument_term, argument_names}
-use Rattle.mfotl_parse.specs.Meanings.{arguments_terms, arguments_names, sorts_behind, atom, bound_value}
-use Rattle.mfotl_parse.specs.Meanings.{interval_from, interval_of, hidden_count, blank_count, argument_count, HasArity}
-use Rattle.mfotl_parse.specs.Meanings.{InRange, EndKeeps, IntervalKeeps}
+use Rattle.mfotl_parse.specs.Lookahead.{maybe_unit}
+use Rattle.mfotl_parse.specs.Meanings.{Scope, operand_of, term_names, argument_term, argument_names, arguments_terms}
+use Rattle.mfotl_parse.specs.Meanings.{arguments_names, sorts_behind, atom, bound_value, interval_from, interval_of}
+use Rattle.mfotl_parse.specs.Meanings.{hidden_count, blank_count, argument_count, HasArity, InRange, EndKeeps}
+use Rattle.mfotl_parse.specs.Meanings.{IntervalKeeps}
+use Rattle.mfotl_parse.specs.Occurrences.{place_of}
 use Rattle.mfotl_parse.specs.Transitions.{Rule, goes, within_nodes, one_due, none_due, is_empty}
 use Rattle.mfotl_parse.specs.SymbolTable.{binder_of, compared, term_of}
 use Rattle.mfotl_parse.specs.Reading.{transition, transition_at}

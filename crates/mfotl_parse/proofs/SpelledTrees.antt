@@ -20,12 +20,15 @@ use Rattle.mfotl_parse.specs.Grammar.{Denied, Timed, Quantified, Joined, variabl
 use Rattle.mfotl_parse.specs.Grammar.{interval_spelling, spelling, FitsVariable, FitsVariables, FitsOperator, Fits}
 use Rattle.mfotl_parse.specs.Grammar.{left_precedence, is_shut, precedence, right_precedence, is_timed, deepens}
 use Rattle.mfotl_parse.specs.Intervals.{any_distance, framed}
-use Rattle.mfotl_parse.specs.Meanings.{Scope, name_of, variables_names, variables_scope, quantify, interval_of}
-use Rattle.mfotl_parse.specs.Meanings.{names_behind, value, variable_count, node_count, right_levels, nesting}
-use Rattle.mfotl_parse.specs.Meanings.{IntervalKeeps, PartsKeep}
+use Rattle.mfotl_parse.specs.Meanings.{Scope, variables_names, variables_scope, quantify, interval_of, names_behind}
+use Rattle.mfotl_parse.specs.Meanings.{value, variable_count, node_count, right_levels, nesting, IntervalKeeps}
+use Rattle.mfotl_parse.specs.Meanings.{PartsKeep}
+use Rattle.mfotl_parse.specs.Occurrences.{name_of}
 use Rattle.mfotl_parse.specs.Transitions.{Rule, goes, within_nodes, within_depth}
 use Rattle.mfotl_parse.specs.SymbolTable.{binder_of, bound_more}
-use Rattle.mfotl_parse.specs.Operands.{bound_move, deepening, now_behind, truth}
+use Rattle.mfotl_parse.specs.Operands.{truth}
+use Rattle.mfotl_parse.specs.Quantifiers.{bound_move}
+use Rattle.mfotl_parse.specs.Operators.{deepening, now_behind}
 use Rattle.mfotl_parse.specs.States.{Frame, Parens, Negation, Moment, Binding, Left, depth, SymbolTable, Stage}
 use Rattle.mfotl_parse.specs.States.{Partial, ExpectOperand, AfterTemporal, ExpectVariable, AfterVariableMark}
 use Rattle.mfotl_parse.specs.States.{AfterVariable}

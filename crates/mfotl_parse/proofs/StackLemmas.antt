@@ -9,7 +9,7 @@ use Rattle.mfotl_parse.specs.declared.frame.Frame.{Frame as FrameValue}
 use Rattle.mfotl_model.specs.declared.interval.Interval.{Interval}
 use Rattle.mfotl_parse.specs.Intervals.{with_interval}
 use Rattle.mfotl_parse.specs.SymbolTable.{bound_as, inner_or, binder_of}
-use Rattle.mfotl_parse.specs.Operands.{around}
+use Rattle.mfotl_parse.specs.Operators.{around}
 use Rattle.mfotl_parse.specs.Reading.{is_closed}
 use Rattle.mfotl_parse.specs.Reduction.{reduce, hold, closed}
 use Rattle.mfotl_parse.specs.States.{Frame, opens_level, depth}

@@ -9,12 +9,12 @@ use Rattle.mfotl_parse.specs.declared.fault.PolicyFault.{PolicyFault}
 use Rattle.mfotl_parse.specs.declared.fault.PolicyFault.TheVariants.{Syntax}
 use Rattle.mfotl_parse.specs.Classes.{class_of}
 use Rattle.mfotl_parse.specs.Transitions.{Rule, Transition, goes, fault_of}
-use Rattle.mfotl_parse.specs.Operands.{operand_move, fresh_move, now_behind}
+use Rattle.mfotl_parse.specs.Operands.{operand_move, fresh_move}
+use Rattle.mfotl_parse.specs.Operators.{now_behind}
 use Rattle.mfotl_parse.specs.Reading.{transition_at, transition}
 use Rattle.mfotl_parse.specs.Shows.{Showing, if_broken}
 use Rattle.mfotl_parse.specs.States.{Frame, SymbolTable, Context, Partial, ExpectOperand, AfterTemporal}
-use Rattle.mfotl_parse.proofs.SpelledMoves.{at_place, behind_move, then_moves, moves, move_is, moves_one, moves_both}
-use Rattle.mfotl_parse.proofs.SpelledMoves.{no_move, same_next}
+use Rattle.mfotl_parse.proofs.SpelledMoves.{at_place, moves, move_is, moves_one, moves_both, moves_cons, same_next}
 
 -- the faults of the rules that are broken
 abbrev pub broken : List Rule → List PolicyFault
@@ -52,23 +52,11 @@ module _ (sig : List PredOf) where
       → moves sig a p ≡ goes rules q → trace sig (a ++ b) p ≡ trace sig a p ++ trace sig b q
   unfolding trace moves
   trace_both [] b p q rules e = ap (trace sig b) (same_next e)
-  trace_both (t ∷ a) b p q rules e = by_move (transition sig p t) (λ n rest f. trace_both a b n q rest f) e
-    where
-      by_rest : (m : Transition) (o : Option Transition)
-          → ((n : Partial) (rest : List Rule) → moves sig a n ≡ goes rest q → trace sig (a ++ b) n ≡ trace sig a n
-          ++ trace sig b q)
-          → moves sig a m.next ≡ o → behind_move m o ≡ goes rules q → trace sig (a ++ b) m.next ≡ trace sig a m.next
-          ++ trace sig b q
-      by_rest m None later f g = absurd (no_move g)
-      by_rest m (Some n) later f g = later m.next n.rules (f ∙ ap (goes n.rules) (same_next g))
-
-      by_move : (m : Option Transition)
-          → ((n : Partial) (rest : List Rule) → moves sig a n ≡ goes rest q → trace sig (a ++ b) n ≡ trace sig a n
-          ++ trace sig b q)
-          → then_moves m (moves sig a) ≡ goes rules q → traced t.at m (trace sig (a ++ b))
-          ≡ traced t.at m (trace sig a) ++ trace sig b q
-      by_move None later f = absurd (no_move f)
-      by_move (Some m) later f = ap (λ (x : Showing). broken m.rules ∷ x) (by_rest m (moves sig a m.next) later refl f)
+  trace_both (t ∷ a) b p q rules e =
+      let c = moves_cons sig t a p q rules e in
+      trace_move t (a ++ b) p c.between c.own c.first
+      ∙ ap (λ (x : Showing). broken c.own ∷ x) (trace_both a b c.between q c.later c.rest)
+      ∙ ap (λ (x : Showing). x ++ trace sig b q) (sym (trace_move t a p c.between c.own c.first))
 
   pub leads_move : (t : Lexeme) (p q : Partial) (rules : List Rule) → transition sig p t ≡ goes rules q
       → Leads sig (t ∷ []) p q (broken rules ∷ [])

@@ -25,10 +25,11 @@ use Rattle.mfotl_parse.specs.Grammar.{end_spelling, interval_spelling, FitsTerm,
 use Rattle.mfotl_parse.specs.Grammar.{FitsBound, FitsEnd, FitsOperator, IsAtomName}
 use Rattle.mfotl_parse.specs.Intervals.{any_distance, framed, with_interval, in_range, low_unit, high_unit}
 use Rattle.mfotl_parse.specs.Intervals.{bracket, high_number_move}
-use Rattle.mfotl_parse.specs.Operands.{maybe_unit, now_behind}
-use Rattle.mfotl_parse.specs.Meanings.{place_of, operand_of, term_names, argument_term, argument_names}
-use Rattle.mfotl_parse.specs.Meanings.{arguments_terms, arguments_names, sorts_behind, atom, bound_value}
-use Rattle.mfotl_parse.specs.Meanings.{interval_from, interval_of}
+use Rattle.mfotl_parse.specs.Lookahead.{maybe_unit}
+use Rattle.mfotl_parse.specs.Operators.{now_behind}
+use Rattle.mfotl_parse.specs.Meanings.{operand_of, term_names, argument_term, argument_names, arguments_terms}
+use Rattle.mfotl_parse.specs.Meanings.{arguments_names, sorts_behind, atom, bound_value, interval_from, interval_of}
+use Rattle.mfotl_parse.specs.Occurrences.{place_of}
 use Rattle.mfotl_parse.specs.Transitions.{Rule, goes}
 use Rattle.mfotl_parse.specs.Shows.{Showing, silent, places_of, name_shown, node_shown, argument_shown}
 use Rattle.mfotl_parse.specs.Shows.{arguments_shown, closing_shown, bound_shown, above_shown}

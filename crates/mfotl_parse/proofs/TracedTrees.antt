@@ -20,11 +20,14 @@ use Rattle.mfotl_parse.specs.Grammar.{term_spelling, variable_spelling, variable
 use Rattle.mfotl_parse.specs.Grammar.{spelling, FitsTerm, FitsVariable, FitsVariables, Fits, IsAtomName}
 use Rattle.mfotl_parse.specs.Grammar.{left_precedence, is_shut, precedence, right_precedence, is_timed, deepens}
 use Rattle.mfotl_parse.specs.Intervals.{any_distance}
-use Rattle.mfotl_parse.specs.Meanings.{name_of, interval_of, names_behind, value, variable_count, node_count}
+use Rattle.mfotl_parse.specs.Meanings.{interval_of, names_behind, value, variable_count, node_count}
+use Rattle.mfotl_parse.specs.Occurrences.{name_of}
 use Rattle.mfotl_parse.specs.Transitions.{Rule, Transition, goes, first_keeps, within_depth, within_nodes}
 use Rattle.mfotl_parse.specs.SymbolTable.{binder_of, bound_more}
-use Rattle.mfotl_parse.specs.Operands.{operand_move, maybe_move, maybe_number_move, compared_move, deepening}
-use Rattle.mfotl_parse.specs.Operands.{now_behind}
+use Rattle.mfotl_parse.specs.Operands.{operand_move}
+use Rattle.mfotl_parse.specs.Comparisons.{compared_move}
+use Rattle.mfotl_parse.specs.Lookahead.{maybe_move, maybe_number_move}
+use Rattle.mfotl_parse.specs.Operators.{deepening, now_behind}
 use Rattle.mfotl_parse.specs.Reading.{transition}
 use Rattle.mfotl_parse.specs.Reduction.{reduce}
 use Rattle.mfotl_parse.specs.Shows.{Showing, level_first, postponed, is_number, begins_with_number, enclosed_shown}

@@ -23,25 +23,23 @@ use Rattle.mfotl_parse.specs.declared.class.Quantifier.{Quantifier}
 use Rattle.mfotl_parse.specs.declared.class.Quantifier.TheVariants as quantifiers
 use Rattle.mfotl_parse.specs.declared.class.Temporal.{Temporal}
 use Rattle.mfotl_parse.specs.declared.class.Temporal.TheVariants as temporals
-use Rattle.mfotl_parse.specs.declared.term.Operand.{Operand}
-use Rattle.mfotl_parse.specs.declared.term.Operand.TheVariants as operands
-use Rattle.mfotl_parse.specs.declared.term.Variable.{Variable}
-use Rattle.mfotl_parse.specs.declared.term.Variable.TheVariants as variables
 use Rattle.mfotl_parse.specs.Arguments.{call_of, due, after_due, blanks}
 use Rattle.mfotl_parse.specs.Grammar.{WrittenTerm, Named, Number, Quoted, WrittenArgument, Given}
 use Rattle.mfotl_parse.specs.Grammar.{Hidden, WrittenArguments, LastArgument, MoreArguments, WrittenVariables}
 use Rattle.mfotl_parse.specs.Grammar.{LastVariable, MoreVariables, Tree, Truth, BareAtom, AtomOf, Comparison, Enclosed}
 use Rattle.mfotl_parse.specs.Grammar.{Denied, Timed, Quantified, Joined}
-use Rattle.mfotl_parse.specs.Meanings.{Scope, name_of, place_of_variable, place_of, operand_of, term_names}
-use Rattle.mfotl_parse.specs.Meanings.{argument_term, argument_names, arguments_terms, arguments_names, atom}
-use Rattle.mfotl_parse.specs.Meanings.{variables_names, variables_scope, quantify, interval_of, names_behind, value}
+use Rattle.mfotl_parse.specs.Meanings.{Scope, operand_of, term_names, argument_term, argument_names, arguments_terms}
+use Rattle.mfotl_parse.specs.Meanings.{arguments_names, atom, variables_names, variables_scope, quantify, interval_of}
+use Rattle.mfotl_parse.specs.Meanings.{names_behind, value}
+use Rattle.mfotl_parse.specs.Occurrences.{name_of, place_of_variable, place_of}
 use Rattle.mfotl_parse.specs.SymbolTable.{number_of, free_place, free_or_new, with_free, bound_or_free, met}
-use Rattle.mfotl_parse.specs.SymbolTable.{bound_more, sort_of, same_sort, agreed, clashed, occurred, require_sort}
-use Rattle.mfotl_parse.specs.SymbolTable.{sort_of_value, constrain_term, compared, term_of}
+use Rattle.mfotl_parse.specs.SymbolTable.{bound_more}
+use Rattle.mfotl_parse.specs.SymbolTable.{term_of}
 use Rattle.mfotl_parse.specs.Operands.{truth}
 use Rattle.mfotl_parse.specs.Reduction.{momentary, joined as joined_form, quantified}
 use Rattle.mfotl_parse.specs.States.{SymbolTable}
 use Rattle.mfotl_parse.specs.Limits.{max_free}
+use Rattle.mfotl_parse.proofs.FreeNames.{placed_free, compared_free}
 use Rattle.mfotl_parse.proofs.NamesOrder.{Grows, term_grows}
 use Rattle.mfotl_parse.proofs.NamesOrder.{arguments_grow, tree_grows, found_within}
 
@@ -165,36 +163,6 @@ term_order : (t : WrittenTerm) (scope : Scope) (n : SymbolTable) → length (ter
 term_order (Named v) scope n few = name_order (name_of v) (place_of_variable v) n (scope (name_of v)) few
 term_order (Number token z) scope n few = joined_nothing (seen n)
 term_order (Quoted token) scope n few = joined_nothing (seen n)
-
--- sorts change no names
-agreed_free : (before : Sort) (at : ℕ) (sort : Sort) (n : SymbolTable) → (agreed before at sort n).free ≡ n.free
-agreed_free before at sort n = by_same (same_sort before sort)
-  where
-    by_same : (b : Bool) → (cond b n (clashed at n)).free ≡ n.free
-    by_same true = refl
-    by_same false = refl
-
-occurs_free : (v : Variable) (at : ℕ) (sort : Sort) (n : SymbolTable) → (require_sort v at sort n).free ≡ n.free
-occurs_free v at sort n = by_given v (sort_of v n)
-  where
-    by_given : (w : Variable) (given : Option Sort) → (occurred given w at sort n).free ≡ n.free
-    by_given (variables.Free k) None = refl
-    by_given (variables.Bound k) None = refl
-    by_given w (Some before) = agreed_free before at sort n
-
-placed_free : (o : Operand) (at : ℕ) (sort : Sort) (n : SymbolTable) → (constrain_term o at sort n).free ≡ n.free
-placed_free (operands.Variable v) at sort n = occurs_free v at sort n
-placed_free (operands.Constant c) at sort n = agreed_free (sort_of_value c) at sort n
-
-compared_free : (l : Operand) (left_at at : ℕ) (r : Operand) (right_at : ℕ) (n : SymbolTable)
-    → (compared l left_at at r right_at n).free ≡ n.free
-compared_free (operands.Variable v) left_at at (operands.Variable w) right_at n = refl
-compared_free (operands.Variable v) left_at at (operands.Constant d) right_at n =
-    occurs_free v left_at (sort_of_value d) n
-compared_free (operands.Constant c) left_at at (operands.Variable w) right_at n =
-    occurs_free w right_at (sort_of_value c) n
-compared_free (operands.Constant c) left_at at (operands.Constant d) right_at n =
-    agreed_free (sort_of_value c) at (sort_of_value d) n
 
 seen_same : (n m : SymbolTable) → n.free ≡ m.free → seen n ≡ seen m
 seen_same n m e = ap (λ (xs : List (List ℕ × ℕ)). range_with_len 0 (length xs)) e

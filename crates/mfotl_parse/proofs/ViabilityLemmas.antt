@@ -11,7 +11,7 @@ use Rattle.mfotl_sig.specs.Preds.{PredOf}
 use Rattle.mfotl_parse.specs.declared.class.Operator.TheVariants.{And, Or, Implies, Equiv, Since, Until}
 use Rattle.mfotl_parse.specs.Classes.{word_class, operator_class, temporal_class}
 use Rattle.mfotl_parse.specs.Transitions.{Transition}
-use Rattle.mfotl_parse.specs.Operands.{around, enclosed_move}
+use Rattle.mfotl_parse.specs.Operators.{around, enclosed_move}
 use Rattle.mfotl_parse.specs.Reading.{transition, is_closed}
 use Rattle.mfotl_parse.specs.Reduction.{Reduced, reduce, closed}
 use Rattle.mfotl_parse.specs.States.{Frame, Parens, Negation, Moment, Binding, Left, Context, Partial, Stage}

@@ -83,11 +83,14 @@ argument_move p call t classes.Blank =
     goes (one_due t.at call.rest ∷ within_nodes t.at p.nodes ∷ []) (blank_taken p call)
 argument_move p call t _ = None
 
+-- EXISTS for the variable of a `_`, by its place among all that are bound
+abbrev pub blank : ℕ → Form → Form
+blank place f = forms.Exists (record { number = max_free + place; name = codes "_" }) f
+
 -- EXISTS for `count` variables, the one numbered `first` outermost
 abbrev pub blanks : ℕ → ℕ → Form → Form
 blanks zero first f = f
-blanks (suc count) first f =
-    forms.Exists (record { number = max_free + first; name = codes "_" }) (blanks count (suc first) f)
+blanks (suc count) first f = blank first (blanks count (suc first) f)
 
 -- the atom of a call, with EXISTS for each `_` in it
 abbrev pub atom_of : Call → ℕ → Form

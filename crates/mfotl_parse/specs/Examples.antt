@@ -1,5 +1,5 @@
 -- Texts with the policy or the first fault that they give.
-use Rattle.std.specs.Prelude.{◌≡◌, ℕ, zero, suc, List, [], ◌∷◌, ◌++◌, length, Some, None, Ok, Err}
+use Rattle.std.specs.Prelude.{◌≡◌, ℕ, zero, suc, List, [], ◌∷◌, ◌++◌, Some, None, Ok, Err}
 use Rattle.std.specs.Prelude.{codes, pos, negsuc}
 use Rattle.mfotl_lex.specs.declared.fault.LexFaultKind.TheVariants.{BadByte}
 use Rattle.mfotl_model.specs.declared.policy.Sort.{Sort}
@@ -13,14 +13,13 @@ use Rattle.mfotl_model.specs.declared.term.Term.TheVariants as terms
 use Rattle.mfotl_model.specs.declared.value.Value.TheVariants as values
 use Rattle.mfotl_model.specs.Formulas as forms
 use Rattle.mfotl_model.specs.Formulas.{Form}
-use Rattle.mfotl_parse.specs.Meanings.{tokens_of}
 use Rattle.mfotl_parse.specs.Intervals.{distances, any_distance}
 use Rattle.mfotl_sig.specs.Preds.{PredOf}
 use Rattle.mfotl_parse.specs.declared.fault.PolicyFault.{PolicyFault}
 use Rattle.mfotl_parse.specs.declared.fault.PolicyFault.TheVariants.{Lex, Syntax, EmptyInterval, BoundRange}
 use Rattle.mfotl_parse.specs.declared.fault.PolicyFault.TheVariants.{UnknownPredicate, WrongArity, SortClash}
 use Rattle.mfotl_parse.specs.declared.fault.PolicyFault.TheVariants.{TooManyVariables, TooDeep, TooManyNodes}
-use Rattle.mfotl_parse.specs.Reading.{run, reading}
+use Rattle.mfotl_parse.specs.Reading.{reading_on, reading}
 use Rattle.mfotl_parse.specs.States.{no_names, ExpectOperand}
 
 -- eight places for integers
@@ -234,7 +233,7 @@ pub record BoundExamples : Type 0 where
 -- the text's first fault, where so many nodes stand before it
 abbrev pub FailsBehind : ℕ → List ℕ → PolicyFault → Type 0
 FailsBehind nodes text fault =
-    run preds (length text) (tokens_of text).fault (tokens_of text).list
+    reading_on preds text
     (record { context = record { stack = []; nodes = nodes; names = no_names }; now = ExpectOperand }) ≡ Err fault
 
 -- which token makes a node too many

@@ -15,6 +15,7 @@
 --     bound      := Integer [ unit ]
 -- A quantifier's body reaches as far to the right as it can.
 use Rattle.std.specs.Prelude.{◌≡◌, ◌⊎◌, ◌≤◌, ℕ, ℤ, pos, Bool, true, false, List, [], ◌∷◌, ◌++◌, Some}
+use Rattle.mfotl_lex.specs.FirstFault as layer
 use Rattle.mfotl_lex.specs.Lexemes.{Lexeme}
 use Rattle.mfotl_model.specs.declared.term.Sign.{Sign}
 use Rattle.mfotl_parse.specs.declared.class.Class.TheVariants as classes
@@ -286,4 +287,4 @@ IsFormula ts = (tree : Tree) × Fits 1 tree × (ts ≡ spelling tree)
 
 -- some tokens behind these make them a formula
 abbrev pub BeginsFormula : List Lexeme → Type 0
-BeginsFormula ts = (more : List Lexeme) × IsFormula (ts ++ more)
+BeginsFormula ts = layer.IsViable IsFormula ts

@@ -4,7 +4,11 @@ pub mod States
 pub mod SymbolTable
 pub mod Reduction
 pub mod Transitions
+pub mod Comparisons
 pub mod Operands
+pub mod Lookahead
+pub mod Quantifiers
+pub mod Operators
 pub mod Intervals
 pub mod Arguments
 pub mod Reading
@@ -12,8 +16,10 @@ pub mod Viability
 pub mod Views
 pub mod Examples
 pub mod Grammar
+pub mod Occurrences
 pub mod Meanings
 pub mod Shows
+pub mod Causes
 pub mod GrammarLaws
 pub mod WellSorted
 pub mod FaultTexts

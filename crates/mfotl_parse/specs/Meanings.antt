@@ -3,9 +3,7 @@ use Rattle.std.specs.Prelude.{◌≡◌, ℕ, suc, ◌+◌, ◌-◌, ◌*◌, �
 use Rattle.std.specs.Prelude.{Option, Some, None, if◌then◌else◌}
 use Rattle.std.specs.Str.{bytes_eq}
 use Rattle.mfotl_lex.specs.Contents.{content_of}
-use Rattle.mfotl_lex.specs.declared.kind.Mode.TheVariants.{Plain}
-use Rattle.mfotl_lex.specs.Lexemes.{Tokens, tokens}
-use Rattle.mfotl_lex.specs.Places.{beginning}
+use Rattle.mfotl_lex.specs.FirstFault.{End}
 use Rattle.mfotl_model.specs.declared.interval.Interval.{Interval}
 use Rattle.mfotl_model.specs.declared.policy.Sort.{Sort}
 use Rattle.mfotl_model.specs.declared.term.Term.{Term}
@@ -18,7 +16,7 @@ use Rattle.mfotl_parse.specs.declared.class.Quantifier.{Quantifier}
 use Rattle.mfotl_parse.specs.declared.term.Operand.{Operand}
 use Rattle.mfotl_parse.specs.declared.term.Operand.TheVariants as operands
 use Rattle.mfotl_parse.specs.Arguments.{call_of, due, after_due, blanks}
-use Rattle.mfotl_parse.specs.Grammar.{WrittenVariable, Bare, Asked, WrittenTerm, Named, Number, Quoted}
+use Rattle.mfotl_parse.specs.Grammar.{WrittenTerm, Named, Number, Quoted}
 use Rattle.mfotl_parse.specs.Grammar.{WrittenArgument, Given, Hidden, WrittenArguments, LastArgument, MoreArguments}
 use Rattle.mfotl_parse.specs.Grammar.{WrittenVariables, LastVariable, MoreVariables, WrittenBound, Count, Counted}
 use Rattle.mfotl_parse.specs.Grammar.{WrittenEnd, Included, Excluded, Unbounded, WrittenInterval, Omitted, From, Above}
@@ -27,8 +25,9 @@ use Rattle.mfotl_parse.specs.Grammar.{Joined, Fits, spelling, deepens}
 use Rattle.mfotl_parse.specs.Intervals.{distances, any_distance}
 use Rattle.mfotl_parse.specs.SymbolTable.{bound_or_free, met, bound_more, constrain_term, compared, term_of, inner_or}
 use Rattle.mfotl_parse.specs.SymbolTable.{uneven_pair, vars_of}
+use Rattle.mfotl_parse.specs.Occurrences.{name_of, place_of_variable, place_of, free_variables}
 use Rattle.mfotl_parse.specs.Operands.{truth}
-use Rattle.mfotl_parse.specs.Reading.{PolicyOf}
+use Rattle.mfotl_parse.specs.Reading.{PolicyOf, text_of}
 use Rattle.mfotl_parse.specs.Reduction.{momentary, joined, quantified}
 use Rattle.mfotl_parse.specs.States.{SymbolTable, no_names}
 use Rattle.mfotl_parse.specs.Limits.{max_levels, max_nodes, max_free, max_bound}
@@ -42,22 +41,6 @@ abbrev pub inside : List ℕ → ℕ → Scope → Scope
 inside bound variable scope name = inner_or (if bytes_eq name bound then Some variable else None) (scope name)
 
 -- ---- terms
-
--- the name of a variable, without `?`
-abbrev pub name_of : WrittenVariable → List ℕ
-name_of (Bare name) = name.text
-name_of (Asked mark name) = name.text
-
--- where a variable stands: at its `?`, if it has one
-abbrev pub place_of_variable : WrittenVariable → ℕ
-place_of_variable (Bare name) = name.at
-place_of_variable (Asked mark name) = mark.at
-
--- where a term stands
-abbrev pub place_of : WrittenTerm → ℕ
-place_of (Named variable) = place_of_variable variable
-place_of (Number token value) = token.at
-place_of (Quoted token) = token.at
 
 -- what a term stands for
 abbrev pub operand_of : WrittenTerm → Scope → SymbolTable → Operand
@@ -292,11 +275,7 @@ pub record KeepsRules (sig : List PredOf) (tree : Tree) : Type 0 where
   pub unclashed : (all_names sig tree).clash ≡ None
   pub even : uneven_pair (all_names sig tree) ≡ None
   -- at most 8 free variables
-  pub few_free : length (all_names sig tree).free ≤ max_free
-
--- the tokens of a text
-abbrev pub tokens_of : List ℕ → Tokens
-tokens_of bytes = tokens (beginning Plain bytes)
+  pub few_free : length (free_variables tree) ≤ max_free
 
 -- the policy that a formula means
 abbrev pub policy_of : List PredOf → Tree → PolicyOf
@@ -308,8 +287,8 @@ policy_of sig tree = record {
 -- the text is whole tokens that spell a formula, it keeps the rules, and this policy is its value
 pub record IsValue (bytes : List ℕ) (sig : List PredOf) (policy : PolicyOf) : Type 0 where
   pub tree : Tree
-  pub whole : (tokens_of bytes).fault ≡ None
+  pub whole : (text_of bytes).tail ≡ End (length bytes)
   pub fits : Fits 1 tree
-  pub spelled : (tokens_of bytes).list ≡ spelling tree
+  pub spelled : (text_of bytes).list ≡ spelling tree
   pub rules : KeepsRules sig tree
   pub value : policy ≡ policy_of sig tree

@@ -1,11 +1,14 @@
 -- Reading a policy from left to right, with the first fault that a token or the end shows.
-use Rattle.std.specs.Prelude.{ℕ, Bool, true, false, List, [], ◌∷◌, Option, Some, None, Result, Ok, Err, length}
+use Rattle.std.specs.Prelude.{ℕ, Bool, true, false, List, [], ◌∷◌, Option, Some, None, Result, Ok, Err}
 use Rattle.std.specs.Prelude.{slice_get}
 use Rattle.mfotl_lex.specs.declared.fault.LexFault.{LexFault}
 use Rattle.mfotl_lex.specs.declared.kind.Mode.TheVariants.{Plain}
-use Rattle.mfotl_lex.specs.Lexemes.{Lexeme, Tokens, tokens}
-use Rattle.mfotl_lex.specs.Places.{beginning}
+use Rattle.mfotl_lex.specs.FirstFault as layer
+use Rattle.mfotl_lex.specs.FirstFault.{◌>>=◌, Tail, Broken, End, More}
+use Rattle.mfotl_lex.specs.Lexemes.{Lexeme}
+use Rattle.mfotl_lex.specs.Texts as texts
 use Rattle.mfotl_model.specs.declared.policy.Var.{Var}
+use Rattle.mfotl_model.specs.Formulas as forms
 use Rattle.mfotl_model.specs.Formulas.{Form}
 use Rattle.mfotl_sig.specs.Preds.{PredOf}
 use Rattle.mfotl_parse.specs.declared.class.Class.{Class}
@@ -18,9 +21,11 @@ use Rattle.mfotl_parse.specs.Intervals.{low_move, low_number_move, low_done_move
 use Rattle.mfotl_parse.specs.Intervals.{endless_move}
 use Rattle.mfotl_parse.specs.Transitions.{Transition, given}
 use Rattle.mfotl_parse.specs.SymbolTable.{uneven_pair, vars_of}
-use Rattle.mfotl_parse.specs.Operands.{operand_move, fresh_move, maybe_move, maybe_number_move, word_move, blank_move}
-use Rattle.mfotl_parse.specs.Operands.{marked_move, compared_move, against_move, against_marked_move, binder_move}
-use Rattle.mfotl_parse.specs.Operands.{binder_marked_move, bound_move, have_move}
+use Rattle.mfotl_parse.specs.Operands.{operand_move, fresh_move, word_move, blank_move}
+use Rattle.mfotl_parse.specs.Comparisons.{marked_move, compared_move, against_move, against_marked_move}
+use Rattle.mfotl_parse.specs.Lookahead.{maybe_move, maybe_number_move}
+use Rattle.mfotl_parse.specs.Quantifiers.{binder_move, binder_marked_move, bound_move}
+use Rattle.mfotl_parse.specs.Operators.{have_move}
 use Rattle.mfotl_parse.specs.Reduction.{reduce}
 use Rattle.mfotl_parse.specs.States.{Frame, SymbolTable, Stage, Context, Partial, start, ExpectOperand, AfterTemporal}
 use Rattle.mfotl_parse.specs.States.{AfterOperand, AfterWord, AfterBlank, AfterMark, ExpectSign, AfterSign}
@@ -66,6 +71,12 @@ transition sig p t = transition_at p.now sig p.context t (class_of t)
 unfoldable pub step : List PredOf → Partial → Lexeme → Result Partial PolicyFault
 step sig p t = given t.at (transition sig p t)
 
+-- what the next token makes of what was read; nothing where there is none
+abbrev pub with_token : List PredOf → Partial → Result (Option Lexeme) LexFault → Result (Option Partial) PolicyFault
+with_token sig p (Ok (Some t)) = step sig p t >>= λ q. Ok (Some q)
+with_token sig p (Ok None) = Ok None
+with_token sig p (Err fault) = Err (Lex fault)
+
 -- a policy without where it lies in memory
 pub record PolicyOf : Type 0 where
   pub formula : Form
@@ -104,29 +115,28 @@ ended n f true end = finished n f
 ended n f false end = Err (Syntax end)
 
 -- the end, by what may come next
-abbrev pub ended_at : Stage → Context → ℕ → Result PolicyOf PolicyFault
+unfoldable pub ended_at : Stage → Context → ℕ → Result PolicyOf PolicyFault
 ended_at (AfterOperand f) p end = ended p.names (reduce 0 f p.stack).form (is_closed (reduce 0 f p.stack).stack) end
 ended_at _ p end = Err (Syntax end)
 
--- at the end of the text, or at the fault behind its whole tokens
-abbrev pub at_end : Option LexFault → ℕ → Partial → Result PolicyOf PolicyFault
-at_end (Some fault) end p = Err (Lex fault)
-at_end None end p = ended_at p.now p.context end
+-- what stands for a policy where more bytes may come
+abbrev pub nothing_yet : PolicyOf
+nothing_yet = record { formula = forms.True; vars = [] }
 
--- a value goes on, a fault stays
-abbrev pub and_then : {A B : Type 0} → Result A PolicyFault → (A → Result B PolicyFault) → Result B PolicyFault
-and_then (Ok x) f = f x
-and_then (Err e) f = Err e
+-- behind the whole tokens: a fault of the lexer, or the end; where more bytes may come, no fault
+abbrev pub at_tail : Tail LexFault → Partial → Result PolicyOf PolicyFault
+at_tail (Broken fault) p = Err (Lex fault)
+at_tail (End end) p = ended_at p.now p.context end
+at_tail More p = Ok nothing_yet
 
--- what tokens give, and then the end or the fault behind them
-unfoldable pub run : List PredOf → ℕ → Option LexFault → List Lexeme → Partial → Result PolicyOf PolicyFault
-run sig end fault [] p = at_end fault end p
-run sig end fault (t ∷ ts) p = and_then (step sig p t) (run sig end fault ts)
+-- the tokens of a policy's bytes, which are all there are
+abbrev pub text_of : List ℕ → layer.Text Lexeme LexFault
+text_of bytes = texts.text_of Plain bytes
 
--- what tokens give behind what was read, where the text ends at the offset
-abbrev pub reading_on : List PredOf → ℕ → Tokens → Partial → Result PolicyOf PolicyFault
-reading_on sig end ts p = run sig end ts.fault ts.list p
+-- what all the bytes give behind what was read
+unfoldable pub reading_on : List PredOf → List ℕ → Partial → Result PolicyOf PolicyFault
+reading_on sig bytes p = layer.reading (step sig) p at_tail (text_of bytes)
 
 -- the policy that the bytes spell over these predicates, or the first fault
 unfoldable pub reading : List ℕ → List PredOf → Result PolicyOf PolicyFault
-reading bytes sig = reading_on sig (length bytes) (tokens (beginning Plain bytes)) start
+reading bytes sig = reading_on sig bytes start

@@ -18,8 +18,8 @@ use Rattle.mfotl_parse.specs.Grammar.{Count, Counted, WrittenEnd, Included, Excl
 use Rattle.mfotl_parse.specs.Grammar.{Omitted, From, Above, Tree, Truth, BareAtom, AtomOf, Comparison, Enclosed}
 use Rattle.mfotl_parse.specs.Grammar.{Denied, Timed, Quantified, Joined, variable_spelling, term_spelling, spelling}
 use Rattle.mfotl_parse.specs.Grammar.{is_timed, deepens}
-use Rattle.mfotl_parse.specs.Meanings.{place_of_variable, place_of, sorts_behind, bound_value, hidden_count}
-use Rattle.mfotl_parse.specs.Meanings.{variable_count, node_count}
+use Rattle.mfotl_parse.specs.Meanings.{sorts_behind, bound_value, hidden_count, variable_count, node_count}
+use Rattle.mfotl_parse.specs.Occurrences.{place_of_variable, place_of}
 use Rattle.mfotl_parse.specs.Transitions.{is_empty}
 use Rattle.mfotl_parse.specs.Limits.{max_levels, max_nodes, max_bound}
 

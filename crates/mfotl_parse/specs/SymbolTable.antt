@@ -7,8 +7,6 @@ use Rattle.mfotl_model.specs.declared.policy.Sort.TheVariants as sorts
 use Rattle.mfotl_model.specs.declared.policy.Var.{Var}
 use Rattle.mfotl_model.specs.declared.term.Term.{Term}
 use Rattle.mfotl_model.specs.declared.term.Term.TheVariants.{Var as VarTerm, Const}
-use Rattle.mfotl_model.specs.declared.value.Value.{Value}
-use Rattle.mfotl_model.specs.declared.value.Value.TheVariants as values
 use Rattle.mfotl_parse.specs.declared.term.Operand.{Operand}
 use Rattle.mfotl_parse.specs.declared.term.Operand.TheVariants as operands
 use Rattle.mfotl_parse.specs.declared.term.Pair.{Pair}
@@ -16,6 +14,7 @@ use Rattle.mfotl_parse.specs.declared.term.Variable.{Variable}
 use Rattle.mfotl_parse.specs.declared.term.Variable.TheVariants as variables
 use Rattle.mfotl_parse.specs.States.{Frame, Parens, Negation, Moment, Binding, Left, SymbolTable}
 use Rattle.mfotl_parse.specs.Limits.{max_free}
+use Rattle.mfotl_parse.specs.WellSorted.{sort_of_constant, sort_or_integer}
 
 -- the number of a variable in the formula
 abbrev pub number_of : Variable → ℕ
@@ -120,26 +119,21 @@ occurred (Some before) variable at sort n = agreed before at sort n
 abbrev pub require_sort : Variable → ℕ → Sort → SymbolTable → SymbolTable
 require_sort variable at sort n = occurred (sort_of variable n) variable at sort n
 
--- the sort of a constant
-abbrev pub sort_of_value : Value → Sort
-sort_of_value (values.Int number) = sorts.Int
-sort_of_value (values.Text text) = sorts.Text
-
 -- a term where this sort is due
 abbrev pub constrain_term : Operand → ℕ → Sort → SymbolTable → SymbolTable
 constrain_term (operands.Variable variable) at sort n = require_sort variable at sort n
-constrain_term (operands.Constant value) at sort n = agreed (sort_of_value value) at sort n
+constrain_term (operands.Constant value) at sort n = agreed (sort_of_constant value) at sort n
 
 -- the two sides of a comparison whose sign stands at the offset
 abbrev pub compared : Operand → ℕ → ℕ → Operand → ℕ → SymbolTable → SymbolTable
 compared (operands.Variable v) left_at at (operands.Variable w) right_at n =
     record n { pairs = n.pairs ++ record { at = at; left = v; right = w } ∷ [] }
 compared (operands.Variable v) left_at at (operands.Constant value) right_at n =
-    require_sort v left_at (sort_of_value value) n
+    require_sort v left_at (sort_of_constant value) n
 compared (operands.Constant value) left_at at (operands.Variable w) right_at n =
-    require_sort w right_at (sort_of_value value) n
+    require_sort w right_at (sort_of_constant value) n
 compared (operands.Constant c) left_at at (operands.Constant d) right_at n =
-    agreed (sort_of_value c) at (sort_of_value d) n
+    agreed (sort_of_constant c) at (sort_of_constant d) n
 
 -- the term of an operand
 abbrev pub term_of : Operand → Term
@@ -162,18 +156,13 @@ clash_or_pair (Some at) uneven = Some at
 clash_or_pair None (Some pair) = Some pair.at
 clash_or_pair None None = None
 
--- what nothing sorts counts as an integer
-abbrev pub sort_or_int : Option Sort → Sort
-sort_or_int None = sorts.Int
-sort_or_int (Some sort) = sort
-
 -- a free variable, by what is known of it and the sort that it was given
 abbrev pub var_of : Option (List ℕ × ℕ) → Option (Option Sort) → Option Var
 var_of None given = None
-var_of (Some known) given = Some (record { name = known.0; sort = sort_or_int (given_at given) })
+var_of (Some known) given = Some (record { name = known.0; sort = sort_or_integer (given_at given) })
 
 -- the free variables with their sorts
 unfoldable pub vars_of : List (List ℕ × ℕ) → List (Option Sort) → List Var
 vars_of [] given = []
 vars_of (known ∷ free) [] = record { name = known.0; sort = sorts.Int } ∷ vars_of free []
-vars_of (known ∷ free) (sort ∷ given) = record { name = known.0; sort = sort_or_int sort } ∷ vars_of free given
+vars_of (known ∷ free) (sort ∷ given) = record { name = known.0; sort = sort_or_integer sort } ∷ vars_of free given

@@ -1,14 +1,15 @@
 -- Where the grammar alone can go on, whatever rules a token breaks. Tokens are viable where some
 -- continuation of them is accepted.
-use Rattle.std.specs.Prelude.{◌≡◌, ◌↔◌, ℕ, Bool, true, false, IsTrue, List, [], ◌∷◌, ◌++◌, Option, Some, None, Result}
-use Rattle.std.specs.Prelude.{Ok, Err}
+use Rattle.std.specs.Prelude.{◌≡◌, ◌↔◌, ℕ, Bool, true, false, IsTrue, List, [], ◌∷◌, ◌++◌, Option, Some, None, Ok, Err}
 use Rattle.mfotl_lex.specs.declared.fault.LexFault.{LexFault}
+use Rattle.mfotl_lex.specs.FirstFault as layer
+use Rattle.mfotl_lex.specs.FirstFault.{Tail, run}
 use Rattle.mfotl_lex.specs.Lexemes.{Lexeme}
 use Rattle.mfotl_sig.specs.Preds.{PredOf}
 use Rattle.mfotl_parse.specs.declared.fault.PolicyFault.{PolicyFault}
 use Rattle.mfotl_parse.specs.declared.fault.PolicyFault.TheVariants.{Syntax}
 use Rattle.mfotl_parse.specs.Transitions.{Transition}
-use Rattle.mfotl_parse.specs.Reading.{PolicyOf, transition, step, run, is_closed, reading}
+use Rattle.mfotl_parse.specs.Reading.{PolicyOf, transition, step, is_closed, at_tail, reading}
 use Rattle.mfotl_parse.specs.Reduction.{reduce}
 use Rattle.mfotl_parse.specs.States.{Frame, Stage, Partial, AfterOperand, start}
 
@@ -34,28 +35,19 @@ goes_on sig (t ∷ ts) p = if_moved (transition sig p t) (goes_on sig ts)
 
 -- some continuation is accepted
 abbrev pub IsViable : List PredOf → List Lexeme → Type 0
-IsViable sig ts = (more : List Lexeme) × IsTrue (accepts sig (ts ++ more) start)
-
--- what was read goes on, a fault stays
-abbrev pub and_steps : Result Partial PolicyFault → (Partial → Result Partial PolicyFault) → Result Partial PolicyFault
-and_steps (Ok p) next = next p
-and_steps (Err fault) next = Err fault
-
--- what was read with these tokens, or the first fault that one of them shows
-unfoldable pub steps : List PredOf → List Lexeme → Partial → Result Partial PolicyFault
-steps sig [] p = Ok p
-steps sig (t ∷ ts) p = and_steps (step sig p t) (steps sig ts)
+IsViable sig ts = layer.IsViable (λ all. IsTrue (accepts sig all start)) ts
 
 -- what the reader says of viable tokens and of the first fault
 pub record FirstFaults : Type 0 where
   -- tokens are viable exactly where the grammar goes on with each of them
   pub viable : (sig : List PredOf) (ts : List Lexeme) → IsTrue (goes_on sig ts start) ↔ IsViable sig ts
   -- behind tokens that show no fault, a token shows Syntax exactly where it ends viability
-  pub syntax : (sig : List PredOf) (ts : List Lexeme) (p : Partial) (t : Lexeme) → steps sig ts start ≡ Ok p
+  pub syntax : (sig : List PredOf) (ts : List Lexeme) (p : Partial) (t : Lexeme) → run (step sig) ts start ≡ Ok p
       → (step sig p t ≡ Err (Syntax t.at)) ↔ (IsViable sig (ts ++ t ∷ []) → ⊥)
   -- the first fault that tokens show stays, whatever stands behind them
-  pub stays : (sig : List PredOf) (end : ℕ) (lexical : Option LexFault) (ts more : List Lexeme) (fault : PolicyFault)
-      → steps sig ts start ≡ Err fault → run sig end lexical (ts ++ more) start ≡ Err fault
+  pub stays : (sig : List PredOf) (tail : Tail LexFault) (ts more : List Lexeme) (fault : PolicyFault)
+      → run (step sig) ts start ≡ Err fault
+      → layer.reading (step sig) start at_tail (record { list = ts ++ more; tail = tail }) ≡ Err fault
   -- a text has one answer: a policy or a fault
   pub one : (sig : List PredOf) (bytes : List ℕ) (policy : PolicyOf) (fault : PolicyFault)
       → reading bytes sig ≡ Ok policy → reading bytes sig ≡ Err fault → ⊥

@@ -1,5 +1,5 @@
 -- What the reader has in hand, without where it lies in memory.
-use Rattle.std.specs.Prelude.{◌≡◌, ℕ, List, Result, Ok, Err, map, reverse}
+use Rattle.std.specs.Prelude.{◌≡◌, ℕ, Bool, true, false, List, Option, Some, None, Result, Ok, Err, map, reverse}
 use Rattle.std.specs.Global.{Vec}
 use Rattle.mfotl_model.specs.Formulas.{form}
 use Rattle.mfotl_parse.specs.declared.fault.PolicyFault.{PolicyFault}
@@ -13,7 +13,7 @@ use Rattle.mfotl_parse.specs.declared.state.Stage.{Stage as StageValue}
 use Rattle.mfotl_parse.specs.declared.state.Stage.TheVariants as stages
 use Rattle.mfotl_parse.specs.declared.state.Parser.{Parser as ParserValue}
 use Rattle.mfotl_model.specs.declared.policy.Policy.{Policy}
-use Rattle.mfotl_parse.specs.Reading.{PolicyOf}
+use Rattle.mfotl_parse.specs.Reading.{PolicyOf, ended_at}
 use Rattle.mfotl_parse.specs.Transitions.{Rule, kept}
 use Rattle.mfotl_parse.specs.States.{Frame, Parens, Negation, Moment, Binding, Left, SymbolTable, Call, Context}
 use Rattle.mfotl_parse.specs.States.{Partial, Stage, ExpectOperand, AfterTemporal, AfterOperand, AfterWord, AfterBlank}
@@ -28,7 +28,7 @@ frame_of frames.Parens = Parens
 frame_of frames.Negation = Negation
 frame_of (frames.Moment operator interval) = Moment operator interval
 frame_of (frames.Binding quantifier variable name) = Binding quantifier variable name
-frame_of (frames.Left operator interval left) = Left operator interval (form left)
+frame_of (frames.Left operator interval left) = Left operator interval (form left.value)
 
 -- the newest frame stands last in memory
 unfoldable pub stack_of : List FrameValue → List Frame
@@ -57,10 +57,10 @@ abbrev pub call_view : CallValue → Call
 call_view call = record { pred = call.pred; rest = call.rest.now; args = call.args.items; bound = call.bound }
 
 -- what may come next
-abbrev pub stage_of : StageValue → Stage
+unfoldable pub stage_of : StageValue → Stage
 stage_of stages.ExpectOperand = ExpectOperand
 stage_of stages.AfterTemporal = AfterTemporal
-stage_of (stages.AfterOperand formula) = AfterOperand (form formula)
+stage_of (stages.AfterOperand formula) = AfterOperand (form formula.value)
 stage_of (stages.AfterWord at name) = AfterWord at name.now
 stage_of (stages.AfterBlank at) = AfterBlank at
 stage_of (stages.AfterMark mark) = AfterMark mark
@@ -114,6 +114,16 @@ partial_of p = record { context = context_of p.context; now = stage_of p.now }
 abbrev pub Steps : Result (Unit {0}) PolicyFault → ParserValue → Result Partial PolicyFault → Type 0
 Steps (Ok u) parser read = read ≡ Ok (partial_of parser)
 Steps (Err fault) parser read = Fails fault read
+
+-- a call took the next token, and gives whether there was one
+abbrev pub with_next : Bool → ParserValue → Option Partial
+with_next true p = Some (partial_of p)
+with_next false p = None
+
+-- all tokens were read: the text says what its end says here
+abbrev pub ReadAll : Result (Unit {0}) PolicyFault → ParserValue → ℕ → Result PolicyOf PolicyFault → Type 0
+ReadAll (Ok u) parser end read = read ≡ ended_at (stage_of parser.now) (context_of parser.context) end
+ReadAll (Err fault) parser end read = Fails fault read
 
 -- a policy
 abbrev pub policy_of : Policy → PolicyOf

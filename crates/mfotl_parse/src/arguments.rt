@@ -1,4 +1,6 @@
 //! An atom's arguments.
+#![tactic(auto, unfolding(crate::specs::Views::stage_of))]
+
 ghost use Rattle.std.specs.Prelude.{◌≡◌, ◌∷◌, [], false};
 ghost use Rattle.mfotl_lex.specs.Lexemes.{lexeme};
 ghost use Rattle.mfotl_parse.specs.Arguments as calls;

@@ -1,12 +1,13 @@
 //! An atom while its arguments are read.
-ghost use Rattle.std.specs.Prelude.{◌≡◌, ◌-◌, IfOk};
+ghost use Rattle.std.specs.Prelude.{◌≡◌, ◌-◌, IfOk, codes};
 ghost use Rattle.mfotl_model.specs.Formulas.{form};
 ghost use Rattle.mfotl_parse.specs.Arguments as calls;
 ghost use Rattle.mfotl_parse.specs.Transitions.{is_empty};
 ghost use Rattle.mfotl_parse.specs.Views.{call_view};
 
-use crate::limits::MAX_FREE;
-use mfotl_model::{Atom, Bound, Formula, Name, Sort, Term, Terms};
+use crate::class::Quantifier;
+use crate::formulas::boxed;
+use mfotl_model::{Atom, Formula, Name, Sort, Term, Terms};
 use std::alloc::{AllocError, Global};
 
 /// An atom up to its last argument.
@@ -62,8 +63,8 @@ impl<'a> Call<'a> {
     }
 
     /// The atom, with EXISTS for each `_`.
-    pub fn close(self, alloc: Global, bound: u32) -> Result<Formula, AllocError>
-        ensures { IfOk result (λ formula. form formula
+    pub fn close(self, alloc: Global, bound: u32) -> Result<Box<Formula>, AllocError>
+        ensures { IfOk result (λ formula. form formula.value
             ≡ calls.atom_of (call_view self.entry) bound) }
     {
         let Call {
@@ -72,28 +73,41 @@ impl<'a> Call<'a> {
             args,
             bound: first,
         } = self;
-        let atom = Formula::Atom(Atom {
-            pred,
-            args: Terms::new(args),
-        });
+        let args = Terms::new(args);
+        let atom = boxed(alloc, Formula::Atom(Atom { pred, args }))?;
         blanks(alloc, first, bound, atom)
     }
 }
 
 /// EXISTS around a formula for the variables from `first` up to `end`, the first outermost.
-fn blanks(alloc: Global, first: u32, end: u32, inner: Formula) -> Result<Formula, AllocError>
-    ensures { IfOk result (λ formula. form formula
-        ≡ calls.blanks (end - first) first (form inner)) }
+fn blanks(
+    alloc: Global,
+    first: u32,
+    end: u32,
+    inner: Box<Formula>,
+) -> Result<Box<Formula>, AllocError>
+    ensures { IfOk result (λ formula. form formula.value
+        ≡ calls.blanks (end - first) first (form inner.value)) }
 {
     let mut whole = inner;
     let mut place = end;
     while first < place {
         place -= 1;
-        let Some(number) = place.checked_add(MAX_FREE) else {
-            return Err(AllocError);
-        };
-        let name = Name::from_slice(alloc, b"_")?;
-        whole = Formula::Exists(Bound { number, name }, Box::new(alloc, whole)?);
+        whole = blank(alloc, place, whole)?;
     }
     Ok(whole)
+}
+
+/// EXISTS around a formula for the variable of a `_`.
+fn blank(alloc: Global, place: u32, inner: Box<Formula>) -> Result<Box<Formula>, AllocError>
+    ensures { IfOk result (λ formula. form formula.value ≡ calls.blank place (form inner.value)) }
+{
+    let name = blank_name(alloc)?;
+    Quantifier::Exists.over(alloc, place, name, inner)
+}
+
+fn blank_name(alloc: Global) -> Result<Name, AllocError>
+    ensures { IfOk result (λ name. name ≡ codes "_") }
+{
+    Ok(Name::from_slice(alloc, b"_")?)
 }

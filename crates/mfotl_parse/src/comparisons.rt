@@ -1,18 +1,21 @@
 //! Comparisons, from their left side on.
-ghost use Rattle.std.specs.Prelude.{◌≡◌, ◌∷◌, []};
+#![tactic(auto, unfolding(crate::specs::Views::stage_of))]
+
+ghost use Rattle.std.specs.Prelude.{◌≡◌, ◌∷◌, [], IfOk};
 ghost use Rattle.mfotl_lex.specs.Lexemes.{lexeme};
 ghost use Rattle.mfotl_model.specs.Formulas.{form};
 ghost use Rattle.mfotl_parse.specs.Transitions.{given, goes};
-ghost use Rattle.mfotl_parse.specs.Operands as operands;
+ghost use Rattle.mfotl_parse.specs.Comparisons as comparisons;
 ghost use Rattle.mfotl_parse.specs.Views.{context_of, GoesOn};
 
 use crate::class::Class;
 use crate::fault::PolicyFault;
+use crate::formulas::boxed;
 use crate::state::{Context, Stage, text_value};
 use crate::term::{Operand, Side, term_of};
 use mfotl_lex::Token;
 use mfotl_model::{Comparison, Formula, Sign, Value};
-use std::alloc::Global;
+use std::alloc::{AllocError, Global};
 
 impl Context {
     /// Behind `?` where an operand begins.
@@ -24,7 +27,7 @@ impl Context {
         class: Class,
     ) -> Result<Stage<'a>, PolicyFault>
         ensures { GoesOn result self.new
-            (given token.now.at (operands.marked_move (context_of self.old) mark
+            (given token.now.at (comparisons.marked_move (context_of self.old) mark
             (lexeme token.now) class)) }
     {
         match class {
@@ -47,7 +50,7 @@ impl Context {
         class: Class,
     ) -> Result<Stage<'a>, PolicyFault>
         ensures { GoesOn result self.new
-            (given token.now.at (operands.compared_move (context_of self.old) left
+            (given token.now.at (comparisons.compared_move (context_of self.old) left
             (lexeme token.now) class)) }
     {
         match class {
@@ -59,7 +62,7 @@ impl Context {
     /// A comparison's sign behind its left side.
     pub fn sign<'a>(&mut self, left: Side, at: u64, sign: Sign) -> Result<Stage<'a>, PolicyFault>
         ensures { GoesOn result self.new
-            (given 0 (operands.signed (context_of self.old) left at sign)) }
+            (given 0 (comparisons.signed (context_of self.old) left at sign)) }
     {
         if self.is_full() {
             return Err(PolicyFault::TooManyNodes(at));
@@ -79,7 +82,7 @@ impl Context {
         class: Class,
     ) -> Result<Stage<'a>, PolicyFault>
         ensures { GoesOn result self.new
-            (given token.now.at (operands.against_move (context_of self.old) left sign_at sign
+            (given token.now.at (comparisons.against_move (context_of self.old) left sign_at sign
             (lexeme token.now) class)) }
     {
         let at = token.at as u64;
@@ -88,11 +91,11 @@ impl Context {
             Class::Question => Ok(Stage::AfterSignMark(left, sign_at, sign, at)),
             Class::Integer(number) => {
                 let operand = Operand::Constant(Value::Int(number));
-                self.compare(left, sign_at, sign, Side { at, operand })
+                self.compare(alloc, left, sign_at, sign, Side { at, operand })
             }
             Class::Text => {
                 let operand = Operand::Constant(text_value(alloc, token)?);
-                self.compare(left, sign_at, sign, Side { at, operand })
+                self.compare(alloc, left, sign_at, sign, Side { at, operand })
             }
             _ => Err(PolicyFault::Syntax(at)),
         }
@@ -110,7 +113,7 @@ impl Context {
         class: Class,
     ) -> Result<Stage<'a>, PolicyFault>
         ensures { GoesOn result self.new
-            (given token.now.at (operands.against_marked_move
+            (given token.now.at (comparisons.against_marked_move
             (context_of self.old) left sign_at sign mark (lexeme token.now) class)) }
     {
         match class {
@@ -122,27 +125,19 @@ impl Context {
     /// A comparison with its right side.
     fn compare<'a>(
         &mut self,
+        alloc: Global,
         left: Side,
         at: u64,
         sign: Sign,
         right: Side,
     ) -> Result<Stage<'a>, PolicyFault>
         ensures { GoesOn result self.new
-            (given 0 (goes [] (operands.comparison_done
+            (given 0 (goes [] (comparisons.comparison_done
             (context_of self.old) left at sign right.at right.operand))) }
     {
         self.names.compare(&left, at, &right)?;
-        let Side {
-            at: _,
-            operand: left,
-        } = left;
-        let Side {
-            at: _,
-            operand: right,
-        } = right;
-        let left = term_of(left)?;
-        let right = term_of(right)?;
-        Ok(Stage::AfterOperand(Formula::Compare(Comparison { sign, left, right })))
+        let comparison = comparison(left.operand, sign, right.operand)?;
+        Ok(Stage::AfterOperand(boxed(alloc, comparison)?))
     }
 
     fn compare_variable<'a>(
@@ -155,11 +150,12 @@ impl Context {
         name: &[u8],
     ) -> Result<Stage<'a>, PolicyFault>
         ensures { GoesOn result self.new
-            (given 0 (goes [] (operands.named_done
+            (given 0 (goes [] (comparisons.named_done
             (context_of self.old) left at sign right_at name.now))) }
     {
         let variable = self.meet(alloc, name, right_at)?;
         self.compare(
+            alloc,
             left,
             at,
             sign,
@@ -169,4 +165,12 @@ impl Context {
             },
         )
     }
+}
+
+fn comparison(left: Operand, sign: Sign, right: Operand) -> Result<Formula, AllocError>
+    ensures { IfOk result (λ formula. form formula ≡ comparisons.comparison left sign right) }
+{
+    let left = term_of(left)?;
+    let right = term_of(right)?;
+    Ok(Formula::Compare(Comparison { sign, left, right }))
 }

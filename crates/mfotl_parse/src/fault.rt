@@ -1,6 +1,6 @@
 //! Why a policy could not be read.
 ghost use Rattle.std.specs.Prelude.{◌≡◌};
-ghost use Rattle.mfotl_parse.specs.declared.fault.PolicyFault.TheVariants.{Memory};
+ghost use Rattle.mfotl_parse.specs.declared.fault.PolicyFault.TheVariants.{Lex, Memory};
 
 use mfotl_lex::LexFault;
 use std::alloc::{AllocError, AllocFailed};
@@ -55,6 +55,14 @@ impl fmt::Display for PolicyFault {
             PolicyFault::TooManyNodes(at) => write!(f, "TooManyNodes at {at}"),
             PolicyFault::Memory => f.write_str("Memory"),
         }
+    }
+}
+
+impl From<LexFault> for PolicyFault {
+    ghost from_gives = { λ fault e. e ≡ Lex fault };
+
+    fn from(fault: LexFault) -> PolicyFault {
+        PolicyFault::Lex(fault)
     }
 }
 

@@ -1,18 +1,17 @@
 //! What is open while a policy is read: parentheses, quantifiers and operators that wait for an operand.
-ghost use Rattle.std.specs.Prelude.{◌≡◌, ◌++◌, ◌∷◌, [], IfOk, OnOk, OnErr, Option, None, Some, ℕ, List, IfSome, IfNone, nat_lt};
-ghost use Rattle.mfotl_model.specs.Formulas as forms;
+ghost use Rattle.std.specs.Prelude.{◌≡◌, IfOk};
 ghost use Rattle.mfotl_model.specs.Formulas.{form};
-ghost use Rattle.mfotl_parse.specs.States.{opens_level, depth};
+ghost use Rattle.mfotl_parse.specs.States.{opens_level};
 ghost use Rattle.mfotl_parse.specs.SymbolTable.{bound_as};
-ghost use Rattle.mfotl_parse.specs.Reduction.{hold, closed, reduce, momentary, joined, bound_by, quantified};
-ghost use Rattle.mfotl_parse.specs.Operands.{is_parens};
+ghost use Rattle.mfotl_parse.specs.Reduction.{hold, closed};
+ghost use Rattle.mfotl_parse.specs.Operators.{is_parens};
 ghost use Rattle.mfotl_parse.specs.Intervals.{framed};
-ghost use Rattle.mfotl_parse.specs.Views.{frame_of, stack_of};
+ghost use Rattle.mfotl_parse.specs.Views.{frame_of};
 ghost use Rattle.mfotl_parse.specs.Grammar.{precedence, right_precedence, is_timed, deepens};
 
 use crate::class::{Operator, Quantifier, Temporal};
-use crate::limits::MAX_FREE;
-use mfotl_model::{Bound, Formula, Interval, Name};
+use crate::formulas::boxed;
+use mfotl_model::{Formula, Interval, Name};
 use std::alloc::{AllocError, Global};
 
 /// What waits for its operand, the right one where it has two.
@@ -25,7 +24,7 @@ pub enum Frame {
     /// A quantified variable, by its place among all of them.
     Binding(Quantifier, u32, Name),
     /// An operator behind its left operand.
-    Left(Operator, Interval, Formula),
+    Left(Operator, Interval, Box<Formula>),
 }
 
 impl Operator {
@@ -72,90 +71,6 @@ impl Operator {
             Operator::And | Operator::Since | Operator::Until => 5,
         }
     }
-
-    /// The formula of its two operands.
-    fn between(
-        self,
-        alloc: Global,
-        interval: Interval,
-        left: Formula,
-        right: Formula,
-    ) -> Result<Formula, AllocError>
-        ensures { IfOk result (λ whole. form whole ≡ joined self interval (form left) (form right)) }
-    {
-        let left = Box::new(alloc, left)?;
-        let right = Box::new(alloc, right)?;
-        Ok(self.join(interval, left, right))
-    }
-
-    fn join(self, interval: Interval, left: Box<Formula>, right: Box<Formula>) -> Formula
-        ensures { form result ≡ joined self interval (form left.value) (form right.value) }
-    {
-        match self {
-            Operator::And => Formula::And(left, right),
-            Operator::Or => Formula::Or(left, right),
-            Operator::Implies => Formula::Implies(left, right),
-            Operator::Equiv => Formula::Equiv(left, right),
-            Operator::Since => Formula::Since(interval, left, right),
-            Operator::Until => Formula::Until(interval, left, right),
-        }
-    }
-}
-
-impl Temporal {
-    /// The formula of its operand.
-    fn over(self, alloc: Global, interval: Interval, inner: Formula) -> Result<Formula, AllocError>
-        ensures { IfOk result (λ whole. form whole ≡ momentary self interval (form inner)) }
-    {
-        Ok(self.apply(interval, Box::new(alloc, inner)?))
-    }
-
-    fn apply(self, interval: Interval, inner: Box<Formula>) -> Formula
-        ensures { form result ≡ momentary self interval (form inner.value) }
-    {
-        match self {
-            Temporal::Previous => Formula::Previous(interval, inner),
-            Temporal::Next => Formula::Next(interval, inner),
-            Temporal::Once => Formula::Once(interval, inner),
-            Temporal::Historically => Formula::Historically(interval, inner),
-            Temporal::Eventually => Formula::Eventually(interval, inner),
-            Temporal::Always => Formula::Always(interval, inner),
-        }
-    }
-}
-
-impl Quantifier {
-    /// The formula of its body, where the variable is bound by its place among all of them.
-    fn over(
-        self,
-        alloc: Global,
-        variable: u32,
-        name: Name,
-        inner: Formula,
-    ) -> Result<Formula, AllocError>
-        ensures { IfOk result (λ whole. form whole ≡ quantified self variable name (form inner)) }
-    {
-        let Some(number) = variable.checked_add(MAX_FREE) else {
-            return Err(AllocError);
-        };
-        let inner = Box::new(alloc, inner)?;
-        Ok(self.apply(Bound { number, name }, inner))
-    }
-
-    fn apply(self, bound: Bound, inner: Box<Formula>) -> Formula
-        ensures { form result ≡ bound_by self bound (form inner.value) }
-    {
-        match self {
-            Quantifier::Exists => Formula::Exists(bound, inner),
-            Quantifier::Forall => Formula::Forall(bound, inner),
-        }
-    }
-}
-
-fn negated(alloc: Global, inner: Formula) -> Result<Formula, AllocError>
-    ensures { IfOk result (λ whole. form whole ≡ forms.Not (form inner)) }
-{
-    Ok(Formula::Not(Box::new(alloc, inner)?))
 }
 
 impl Frame {
@@ -225,17 +140,19 @@ impl Frame {
     }
 
     /// The frame with its operand.
-    pub fn close(self, alloc: Global, inner: Formula) -> Result<Formula, AllocError>
-        ensures { IfOk result (λ whole. form whole ≡ closed (frame_of self) (form inner)) }
+    pub fn close(self, alloc: Global, inner: Box<Formula>) -> Result<Box<Formula>, AllocError>
+        ensures { IfOk result (λ whole. form whole.value ≡ closed (frame_of self) (form inner.value)) }
     {
         match self {
             Frame::Parens => Ok(inner),
-            Frame::Negation => negated(alloc, inner),
-            Frame::Moment(operator, interval) => operator.over(alloc, interval, inner),
+            Frame::Negation => boxed(alloc, Formula::Not(inner)),
+            Frame::Moment(operator, interval) => boxed(alloc, operator.apply(interval, inner)),
             Frame::Binding(quantifier, variable, name) => {
                 quantifier.over(alloc, variable, name, inner)
             }
-            Frame::Left(operator, interval, left) => operator.between(alloc, interval, left, inner),
+            Frame::Left(operator, interval, left) => {
+                boxed(alloc, operator.join(interval, left, inner))
+            }
         }
     }
 }

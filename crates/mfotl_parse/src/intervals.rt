@@ -1,4 +1,6 @@
 //! The interval behind a temporal operator.
+#![tactic(auto, unfolding(crate::specs::Views::stage_of))]
+
 ghost use Rattle.std.specs.Prelude.{◌≡◌, ◌≤◌, ◌^◌, [], IfSome};
 ghost use Rattle.mfotl_lex.specs.Lexemes.{lexeme};
 ghost use Rattle.mfotl_parse.specs.Intervals.{bound_of, distances, any_distance, timed, bracket, low_move, low_unit, low_number_move, low_done_move, high_move, high_unit, high_number_move, endless_move};

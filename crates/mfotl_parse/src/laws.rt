@@ -1,6 +1,7 @@
 //! What a reader of policies may rely on, said of every text. Each law is a function that does nothing: its
 //! clause is the law.
-ghost use Rattle.mfotl_parse.specs.GrammarLaws.{AcceptedExactly, SpelledIsRead, ReadIsSpelled, OneAnswer, SyntaxExactly, SilentAreRead, ExactSyntax, ExactLex, EachFaultIsShown};
+ghost use Rattle.mfotl_parse.specs.GrammarLaws.{AcceptedExactly, SpelledIsRead, ReadIsSpelled, OneAnswer, SyntaxExactly, SilentAreRead};
+ghost use Rattle.mfotl_parse.specs.GrammarLaws.{ExactSyntax, ExactLex, ExactSoundness, EachFaultIsShown, StaysShown};
 ghost use Rattle.mfotl_parse.specs.Viability.{FirstFaults};
 
 /// Syntax is shown exactly by the token that ends viability, the first fault that is shown stays whatever
@@ -52,4 +53,14 @@ pub fn silent_are_read()
 /// Each fault is a text's first one exactly where the grammar says that it is shown.
 pub fn each_fault_is_shown()
     ensures { EachFaultIsShown }
+{}
+
+/// The reader goes on exactly behind tokens of which none is the cause of a fault.
+pub fn exact_soundness()
+    ensures { ExactSoundness }
+{}
+
+/// What the front of a text shows is shown by the text.
+pub fn stays_shown()
+    ensures { StaysShown }
 {}

@@ -1,7 +1,10 @@
 //! A `(` behind a temporal operator, which may begin an interval or an operand.
+#![tactic(auto, unfolding(crate::specs::Views::stage_of))]
+
 ghost use Rattle.std.specs.Prelude.{◌≡◌};
 ghost use Rattle.mfotl_lex.specs.Lexemes.{lexeme};
 ghost use Rattle.mfotl_parse.specs.Transitions.{given, within_depth, first_keeps};
+ghost use Rattle.mfotl_parse.specs.Lookahead as lookahead;
 ghost use Rattle.mfotl_parse.specs.Operands as operands;
 ghost use Rattle.mfotl_parse.specs.States as states;
 ghost use Rattle.mfotl_parse.specs.Views.{context_of, GoesOn};
@@ -27,7 +30,7 @@ impl Context {
         class: Class,
     ) -> Result<Stage<'a>, PolicyFault>
         ensures { GoesOn result self.new
-            (given token.now.at (operands.maybe_move (context_of self.old) start
+            (given token.now.at (lookahead.maybe_move (context_of self.old) start
             (lexeme token.now) class)) }
     {
         match class {
@@ -67,7 +70,7 @@ impl Context {
         class: Class,
     ) -> Result<Stage<'a>, PolicyFault>
         ensures { GoesOn result self.new
-            (given token.now.at (operands.maybe_number_move
+            (given token.now.at (lookahead.maybe_number_move
             (context_of self.old) start number_at number (lexeme token.now) class)) }
     {
         let at = token.at as u64;
@@ -99,7 +102,7 @@ impl Context {
         at: u64,
     ) -> Result<Stage<'a>, PolicyFault>
         ensures { GoesOn result self.new
-            (given at (operands.maybe_low (context_of self.old) start number_at number)) }
+            (given at (lookahead.maybe_low (context_of self.old) start number_at number)) }
     {
         match u64::try_from(number) {
             Ok(number) => {
@@ -122,7 +125,7 @@ impl Context {
         word: &[u8],
     ) -> Result<Stage<'a>, PolicyFault>
         ensures { GoesOn result self.new
-            (given at (operands.maybe_word (context_of self.old) start number_at number word.now)) }
+            (given at (lookahead.maybe_word (context_of self.old) start number_at number word.now)) }
     {
         match u64::try_from(number) {
             Ok(number) => match unit_of(word) {
@@ -138,7 +141,7 @@ impl Context {
 }
 
 fn begins_operand(class: Class) -> bool
-    ensures { result ≡ operands.begins_operand class }
+    ensures { result ≡ lookahead.begins_operand class }
 {
     match class {
         Class::Truth(_) => true,

@@ -1,13 +1,18 @@
 //! Where an operand begins.
-ghost use Rattle.std.specs.Prelude.{◌≡◌, ◌∷◌, []};
+#![tactic(auto, unfolding(crate::specs::Views::stage_of))]
+
+ghost use Rattle.std.specs.Prelude.{◌≡◌, ◌∷◌, [], IfOk};
 ghost use Rattle.mfotl_lex.specs.Lexemes.{lexeme};
+ghost use Rattle.mfotl_model.specs.Formulas.{form};
 ghost use Rattle.mfotl_parse.specs.Transitions.{given, goes, within_nodes, within_depth};
 ghost use Rattle.mfotl_parse.specs.Operands as operands;
 ghost use Rattle.mfotl_parse.specs.States as states;
-ghost use Rattle.mfotl_parse.specs.Views.{context_of, frame_of, GoesOn, Enters};
+ghost use Rattle.mfotl_parse.specs.Intervals.{any_distance};
+ghost use Rattle.mfotl_parse.specs.Views.{context_of, stage_of, GoesOn, Enters};
 
-use crate::class::Class;
+use crate::class::{Class, Temporal};
 use crate::fault::PolicyFault;
+use crate::formulas::boxed;
 use crate::frame::Frame;
 use crate::intervals::any_distance;
 use crate::state::{Context, Stage, text_value};
@@ -15,7 +20,7 @@ use crate::term::{Operand, Side};
 use mfotl_lex::Token;
 use mfotl_model::{Formula, Value};
 use mfotl_sig::Signature;
-use std::alloc::Global;
+use std::alloc::{AllocError, Global};
 
 impl Context {
     /// Where an operand is due.
@@ -31,15 +36,9 @@ impl Context {
     {
         let at = token.at as u64;
         match class {
-            Class::Truth(value) => self.truth(at, value),
-            Class::Not => {
-                self.prefix(at, Frame::Negation)?;
-                Ok(Stage::ExpectOperand)
-            }
-            Class::Temporal(operator) => {
-                self.prefix(at, Frame::Moment(operator, any_distance()))?;
-                Ok(Stage::AfterTemporal)
-            }
+            Class::Truth(value) => self.truth(alloc, at, value),
+            Class::Not => self.negation(at),
+            Class::Temporal(operator) => self.moment(at, operator),
             Class::Quantifier(quantifier) => Ok(Stage::ExpectVariable(quantifier)),
             Class::Name => Ok(Stage::AfterWord(at, token.text)),
             Class::Blank => Ok(Stage::AfterBlank(at)),
@@ -47,14 +46,8 @@ impl Context {
                 let operand = Operand::Constant(Value::Int(number));
                 Ok(Stage::ExpectSign(Side { at, operand }))
             }
-            Class::Text => {
-                let operand = Operand::Constant(text_value(alloc, token)?);
-                Ok(Stage::ExpectSign(Side { at, operand }))
-            }
-            Class::OpenParen => {
-                self.open(at)?;
-                Ok(Stage::ExpectOperand)
-            }
+            Class::Text => Ok(quoted(alloc, token)?),
+            Class::OpenParen => self.parens(at),
             Class::Question => Ok(Stage::AfterMark(at)),
             _ => Err(PolicyFault::Syntax(at)),
         }
@@ -129,7 +122,7 @@ impl Context {
         }
     }
 
-    fn truth<'a>(&mut self, at: u64, value: bool) -> Result<Stage<'a>, PolicyFault>
+    fn truth<'a>(&mut self, alloc: Global, at: u64, value: bool) -> Result<Stage<'a>, PolicyFault>
         ensures { GoesOn result self.new
             (given 0 (goes (within_nodes at (context_of self.old).nodes ∷ []) (states.with_now
             (states.counted (context_of self.old)) (states.AfterOperand (operands.truth value))))) }
@@ -138,16 +131,33 @@ impl Context {
             return Err(PolicyFault::TooManyNodes(at));
         }
         self.nodes += 1;
-        if value {
-            Ok(Stage::AfterOperand(Formula::True))
-        } else {
-            Ok(Stage::AfterOperand(Formula::False))
-        }
+        Ok(Stage::AfterOperand(boxed(alloc, truth(value))?))
     }
 
-    /// An operator before its operand.
-    fn prefix(&mut self, at: u64, frame: Frame) -> Result<(), PolicyFault>
-        ensures { Enters result self.new (within_depth at (context_of self.old).stack ∷ within_nodes at (context_of self.old).nodes ∷ []) (operands.prefixed (context_of self.old) (frame_of frame)) }
+    /// NOT before its operand.
+    fn negation<'a>(&mut self, at: u64) -> Result<Stage<'a>, PolicyFault>
+        ensures { GoesOn result self.new (given 0 (operands.before at (context_of self.old) states.Negation
+            states.ExpectOperand)) }
+    {
+        self.enter(at)?;
+        self.push(Frame::Negation)?;
+        Ok(Stage::ExpectOperand)
+    }
+
+    /// A temporal operator before its operand.
+    fn moment<'a>(&mut self, at: u64, operator: Temporal) -> Result<Stage<'a>, PolicyFault>
+        ensures { GoesOn result self.new (given 0 (operands.before at (context_of self.old)
+            (states.Moment operator any_distance) states.AfterTemporal)) }
+    {
+        self.enter(at)?;
+        self.push(Frame::Moment(operator, any_distance()))?;
+        Ok(Stage::AfterTemporal)
+    }
+
+    /// One more level and one more node, where the offset says.
+    pub fn enter(&mut self, at: u64) -> Result<(), PolicyFault>
+        ensures { Enters result self.new (within_depth at (context_of self.old).stack
+            ∷ within_nodes at (context_of self.old).nodes ∷ []) (states.counted (context_of self.old)) }
     {
         if self.is_deep() {
             return Err(PolicyFault::TooDeep(at));
@@ -156,13 +166,13 @@ impl Context {
             return Err(PolicyFault::TooManyNodes(at));
         }
         self.nodes += 1;
-        self.push(frame)?;
         Ok(())
     }
 
     /// A `(` of a formula.
     pub fn open(&mut self, at: u64) -> Result<(), PolicyFault>
-        ensures { Enters result self.new (within_depth at (context_of self.old).stack ∷ []) (states.pushed states.Parens (context_of self.old)) }
+        ensures { Enters result self.new (within_depth at (context_of self.old).stack ∷ [])
+            (states.pushed states.Parens (context_of self.old)) }
     {
         if self.is_deep() {
             return Err(PolicyFault::TooDeep(at));
@@ -170,4 +180,29 @@ impl Context {
         self.push(Frame::Parens)?;
         Ok(())
     }
+
+    fn parens<'a>(&mut self, at: u64) -> Result<Stage<'a>, PolicyFault>
+        ensures { GoesOn result self.new (given 0 (operands.opened (context_of self.old) at)) }
+    {
+        self.open(at)?;
+        Ok(Stage::ExpectOperand)
+    }
+}
+
+/// TRUE or FALSE.
+fn truth(value: bool) -> Formula
+    ensures { form result ≡ operands.truth value }
+{
+    if value { Formula::True } else { Formula::False }
+}
+
+/// A Text as the left side of a comparison.
+fn quoted<'a>(alloc: Global, token: &Token<'a>) -> Result<Stage<'a>, AllocError>
+    ensures { IfOk result (λ now. stage_of now ≡ states.ExpectSign (operands.quoted (lexeme token.now))) }
+{
+    let value = text_value(alloc, token)?;
+    Ok(Stage::ExpectSign(Side {
+        at: token.at as u64,
+        operand: Operand::Constant(value),
+    }))
 }

@@ -1,8 +1,10 @@
 //! A quantifier's variables.
+#![tactic(auto, unfolding(crate::specs::Views::stage_of))]
+
 ghost use Rattle.std.specs.Prelude.{◌≡◌, ◌∷◌, []};
 ghost use Rattle.mfotl_lex.specs.Lexemes.{lexeme};
 ghost use Rattle.mfotl_parse.specs.Transitions.{given, goes};
-ghost use Rattle.mfotl_parse.specs.Operands as operands;
+ghost use Rattle.mfotl_parse.specs.Quantifiers as quantifiers;
 ghost use Rattle.mfotl_parse.specs.Views.{context_of, GoesOn};
 
 use crate::class::{Class, Quantifier};
@@ -23,29 +25,17 @@ impl Context {
         class: Class,
     ) -> Result<Stage<'a>, PolicyFault>
         ensures { GoesOn result self.new
-            (given token.now.at (operands.binder_move (context_of self.old) quantifier
+            (given token.now.at (quantifiers.binder_move (context_of self.old) quantifier
             (lexeme token.now) class)) }
     {
         let at = token.at as u64;
         match class {
             Class::Name => {
-                if self.is_deep() {
-                    return Err(PolicyFault::TooDeep(at));
-                }
-                if self.is_full() {
-                    return Err(PolicyFault::TooManyNodes(at));
-                }
-                self.nodes += 1;
+                self.enter(at)?;
                 self.bind(alloc, quantifier, token.text)
             }
             Class::Question => {
-                if self.is_deep() {
-                    return Err(PolicyFault::TooDeep(at));
-                }
-                if self.is_full() {
-                    return Err(PolicyFault::TooManyNodes(at));
-                }
-                self.nodes += 1;
+                self.enter(at)?;
                 Ok(Stage::AfterVariableMark(quantifier, at))
             }
             _ => Err(PolicyFault::Syntax(at)),
@@ -61,7 +51,7 @@ impl Context {
         class: Class,
     ) -> Result<Stage<'a>, PolicyFault>
         ensures { GoesOn result self.new
-            (given token.now.at (operands.binder_marked_move (context_of self.old) quantifier
+            (given token.now.at (quantifiers.binder_marked_move (context_of self.old) quantifier
             (lexeme token.now) class)) }
     {
         match class {
@@ -78,7 +68,7 @@ impl Context {
         class: Class,
     ) -> Result<Stage<'a>, PolicyFault>
         ensures { GoesOn result self.new
-            (given token.now.at (operands.bound_move (context_of self.old) quantifier class)) }
+            (given token.now.at (quantifiers.bound_move (context_of self.old) quantifier class)) }
     {
         match class {
             Class::Comma => Ok(Stage::ExpectVariable(quantifier)),
@@ -94,7 +84,7 @@ impl Context {
         name: &[u8],
     ) -> Result<Stage<'a>, PolicyFault>
         ensures { GoesOn result self.new
-            (given 0 (goes [] (operands.bound_now (context_of self.old) quantifier name.now))) }
+            (given 0 (goes [] (quantifiers.bound_now (context_of self.old) quantifier name.now))) }
     {
         let name = Name::from_slice(alloc, name)?;
         let place = self.names.bind(None)?;

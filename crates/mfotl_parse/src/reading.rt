@@ -1,31 +1,29 @@
 //! Reading from the first token to the end.
-ghost use Rattle.std.specs.Prelude.{◌≡◌, ◌≢◌, ◌≤◌, length, slice_get, IfOk, IfErr};
-ghost use Rattle.mfotl_lex.specs.Lexemes.{lexeme};
+ghost use Rattle.std.specs.Prelude.{◌≡◌, ◌≢◌, ◌≤◌, false, length, IfOk, IfErr};
+ghost use Rattle.mfotl_lex.specs.Lexemes.{lexeme, next_token, after};
 ghost use Rattle.mfotl_model.specs.Formulas.{form};
 ghost use Rattle.mfotl_parse.specs.GrammarLaws.{IsShown};
 ghost use Rattle.mfotl_parse.specs.Limits.{max_free};
 ghost use Rattle.mfotl_parse.specs.Meanings.{IsValue};
 ghost use Rattle.mfotl_parse.specs.declared.fault.PolicyFault.TheVariants.{Memory};
-ghost use Rattle.mfotl_parse.specs.Reading.{step, ended_at, finished, is_closed, reading};
-ghost use Rattle.mfotl_parse.specs.Reading as reading_words;
-ghost use Rattle.mfotl_parse.specs.Reduction.{reduce};
+ghost use Rattle.mfotl_parse.specs.Reading.{step, with_token, ended_at, reading_on, reading};
 ghost use Rattle.mfotl_parse.specs.States.{start};
-ghost use Rattle.mfotl_parse.specs.SymbolTable.{uneven_pair, vars_of};
 ghost use Rattle.mfotl_parse.specs.WellSorted.{IsWellSorted};
-ghost use Rattle.mfotl_parse.specs.Views.{context_of, names_of, stage_of, partial_of, policy_of, GoesOn, Gives, Steps};
+ghost use Rattle.mfotl_parse.specs.Views.{context_of, stage_of, partial_of, with_next, policy_of};
+ghost use Rattle.mfotl_parse.specs.Views.{GoesOn, Gives, Steps, ReadAll};
 
 use crate::class::class_of;
+use crate::ending::close;
 use crate::fault::PolicyFault;
-use crate::stack;
 use crate::state::{Context, Parser, Stage};
-use crate::symbol_table::SymbolTable;
 use mfotl_lex::{Lexer, Mode, Token};
-use mfotl_model::{Formula, Policy};
+use mfotl_model::Policy;
 use mfotl_sig::Signature;
 use std::alloc::Global;
 use std::mem;
 
 impl<'a> Parser<'a> {
+    #[tactic(auto, unfolding(crate::specs::Views::stage_of))]
     fn new(alloc: Global) -> Self
         ensures { partial_of result ≡ start }
     {
@@ -45,24 +43,78 @@ impl<'a> Parser<'a> {
         ensures { Steps result self.new (step signature.now (partial_of self.old) (lexeme token.now)) }
     {
         let now = mem::replace(&mut self.now, Stage::ExpectOperand);
-        self.now = advance(alloc, &mut self.context, signature, now, token)?;
+        match advance(alloc, &mut self.context, signature, now, token) {
+            Ok(next) => {
+                self.now = next;
+                Ok(())
+            }
+            Err(fault) => Err(fault),
+        }
+    }
+
+    /// Takes the next token, and says whether there was one.
+    fn take_next(
+        &mut self,
+        alloc: Global,
+        signature: &'a Signature,
+        lexer: &mut Lexer<'a>,
+    ) -> Result<bool, PolicyFault>
+        ensures taken { Gives (λ more. with_next more self.new) result
+            (with_token signature.now (partial_of self.old) (next_token lexer.old)) }
+        ensures after { IfOk result (λ more. lexer.new ≡ after lexer.old) }
+        ensures ended { IfOk result (λ more. more ≡ false → partial_of self.new ≡ partial_of self.old) }
+    {
+        match lexer.next()? {
+            None => Ok(false),
+            Some(token) => {
+                self.step(alloc, signature, &token)?;
+                Ok(true)
+            }
+        }
+    }
+
+    /// Takes all tokens of a text.
+    fn take_all(
+        &mut self,
+        alloc: Global,
+        bytes: &'a [u8],
+        signature: &'a Signature,
+    ) -> Result<(), PolicyFault>
+        ensures { ReadAll result self.new (length bytes.now)
+            (reading_on signature.now bytes.now (partial_of self.old)) }
+    {
+        let mut lexer = Lexer::new(bytes, Mode::Plain);
+        while self.take_next(alloc, signature, &mut lexer)? {}
         Ok(())
     }
 
-    /// The policy, where the text ends at the offset.
-    fn finish(self, alloc: Global, end: u64) -> Result<Policy, PolicyFault>
-        ensures { Gives policy_of result (ended_at (stage_of self.entry.now) (context_of self.entry.context) end) }
+    /// Takes a whole text.
+    fn take_text(
+        &mut self,
+        alloc: Global,
+        bytes: &'a [u8],
+        signature: &'a Signature,
+    ) -> Result<Policy, PolicyFault>
+        ensures { Gives policy_of result (reading_on signature.now bytes.now (partial_of self.old)) }
     {
-        let Parser { context, now } = self;
-        match now {
-            Stage::AfterOperand(formula) => close(alloc, context, formula, end),
+        self.take_all(alloc, bytes, signature)?;
+        self.finish(alloc, bytes.len() as u64)
+    }
+
+    /// The policy, where the text ends at the offset.
+    #[tactic(auto, unfolding(crate::specs::Views::stage_of, crate::specs::Reading::ended_at))]
+    fn finish(&mut self, alloc: Global, end: u64) -> Result<Policy, PolicyFault>
+        ensures { Gives policy_of result (ended_at (stage_of self.old.now) (context_of self.old.context) end) }
+    {
+        match mem::replace(&mut self.now, Stage::ExpectOperand) {
+            Stage::AfterOperand(formula) => close(alloc, &mut self.context, formula, end),
             _ => Err(PolicyFault::Syntax(end)),
         }
     }
 }
 
 /// What may come behind the next token.
-#[tactic(auto, unfolding(crate::specs::Reading::step, crate::specs::Reading::transition))]
+#[tactic(auto, unfolding(crate::specs::Reading::step, crate::specs::Reading::transition, crate::specs::Views::stage_of))]
 fn advance<'a>(
     alloc: Global,
     context: &mut Context,
@@ -70,7 +122,8 @@ fn advance<'a>(
     now: Stage<'a>,
     token: &Token<'a>,
 ) -> Result<Stage<'a>, PolicyFault>
-    ensures { GoesOn result context.new (step signature.now (record { context = context_of context.old; now = stage_of now.entry }) (lexeme token.now)) }
+    ensures { GoesOn result context.new (step signature.now
+        (record { context = context_of context.old; now = stage_of now.entry }) (lexeme token.now)) }
 {
     let class = class_of(token);
     match now {
@@ -114,78 +167,12 @@ fn advance<'a>(
     }
 }
 
-/// The policy whose last operand was read.
-fn close(alloc: Global, context: Context, formula: Formula, end: u64) -> Result<Policy, PolicyFault>
-    ensures { Gives policy_of result (reading_words.ended (context_of context).names
-        (reduce 0 (form formula) (context_of context).stack).form (is_closed (reduce 0 (form formula) (context_of context).stack).stack) end) }
-{
-    let Context {
-        mut frames,
-        nodes: _,
-        names,
-    } = context;
-    let formula = stack::reduce(alloc, &mut frames, 0, formula)?;
-    if stack::is_closed(&frames) {
-        checked(alloc, names, formula)
-    } else {
-        Err(PolicyFault::Syntax(end))
-    }
-}
-
-/// What sorts and free variables show, where they show a fault.
-fn refusal(names: &SymbolTable) -> Option<PolicyFault>
-    ensures { result ≡ reading_words.refusal (names_of names.now).clash (uneven_pair (names_of names.now))
-        (slice_get (names_of names.now).free max_free) }
-{
-    if let Some(at) = names.clash {
-        return Some(PolicyFault::SortClash(at));
-    }
-    if let Some(pair) = names.uneven_pair() {
-        return Some(PolicyFault::SortClash(pair.at));
-    }
-    match names.ninth_free() {
-        Some(at) => Some(PolicyFault::TooManyVariables(at)),
-        None => None,
-    }
-}
-
-/// The formula with its free variables.
-fn with_vars(alloc: Global, names: &SymbolTable, formula: Formula) -> Result<Policy, PolicyFault>
-    ensures policy { IfOk result (λ policy. policy_of policy ≡ record {
-      formula = form formula;
-      vars = vars_of (names_of names.now).free (names_of names.now).free_sorts;
-    }) }
-    ensures full { IfErr result (λ fault. fault ≡ Memory) }
-{
-    let vars = names.vars(alloc)?;
-    Ok(Policy { formula, vars })
-}
-
-/// The policy, unless sorts clash or there are too many free variables.
-fn checked(alloc: Global, names: SymbolTable, formula: Formula) -> Result<Policy, PolicyFault>
-    ensures { Gives policy_of result (finished (names_of names) (form formula)) }
-{
-    match refusal(&names) {
-        Some(fault) => Err(fault),
-        None => with_vars(alloc, &names, formula),
-    }
-}
-
 /// The policy of a text, token by token.
 fn read<'a>(alloc: Global, bytes: &'a [u8], signature: &'a Signature) -> Result<Policy, PolicyFault>
     ensures { Gives policy_of result (reading bytes.now signature.now) }
 {
-    let mut lexer = Lexer::new(bytes, Mode::Plain);
     let mut parser = Parser::new(alloc);
-    // Each token takes a byte, so there are no more of them than bytes.
-    for _ in 0..bytes.len() + 1 {
-        match lexer.next() {
-            Ok(Some(token)) => parser.step(alloc, signature, &token)?,
-            Ok(None) => break,
-            Err(fault) => return Err(PolicyFault::Lex(fault)),
-        }
-    }
-    parser.finish(alloc, bytes.len() as u64)
+    parser.take_text(alloc, bytes, signature)
 }
 
 /// The policy of a text over the predicates of a signature.

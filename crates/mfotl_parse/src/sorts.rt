@@ -3,6 +3,7 @@ ghost use Rattle.std.specs.Prelude.{◌≡◌, OnOk, slice_get, slice_set, Some,
 ghost use Rattle.std.specs.Option.{option_copied};
 ghost use Rattle.mfotl_parse.specs.SymbolTable as sorting;
 ghost use Rattle.mfotl_parse.specs.Views.{names_of};
+ghost use Rattle.mfotl_parse.specs.WellSorted.{sort_of_constant};
 
 use crate::symbol_table::SymbolTable;
 use crate::term::{Operand, Pair, Side, Variable};
@@ -98,7 +99,7 @@ impl SymbolTable {
 }
 
 fn sort_of_value(value: &Value) -> Sort
-    ensures { result ≡ sorting.sort_of_value value.now }
+    ensures { result ≡ sort_of_constant value.now }
 {
     match value {
         Value::Int(_) => Sort::Int,

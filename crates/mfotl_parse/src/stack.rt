@@ -4,7 +4,7 @@ ghost use Rattle.mfotl_model.specs.Formulas.{Form, form};
 ghost use Rattle.mfotl_parse.specs.States.{depth};
 ghost use Rattle.mfotl_parse.specs.SymbolTable.{binder_of};
 ghost use Rattle.mfotl_parse.specs.Intervals.{with_interval};
-ghost use Rattle.mfotl_parse.specs.Operands.{around};
+ghost use Rattle.mfotl_parse.specs.Operators.{around};
 ghost use Rattle.mfotl_parse.specs.Reading.{is_closed};
 ghost use Rattle.mfotl_parse.specs.Reduction.{closed, reduce};
 ghost use Rattle.mfotl_parse.specs.Views.{frame_of, stack_of};
@@ -53,8 +53,10 @@ pub fn push(frames: &mut Vec<Frame>, frame: Frame) -> Result<(), AllocError>
 fn pop_tighter(frames: &mut Vec<Frame>, rule: u8) -> Option<Frame>
     ensures shorter { IfSome result (λ frame. vec_len frames.new < vec_len frames.old) }
     ensures closes { MatchOption result
-        ((f : Form) → reduce rule f (stack_of frames.old.items) ≡ record { form = f; stack = stack_of frames.new.items })
-        (λ frame. (f : Form) → reduce rule f (stack_of frames.old.items) ≡ reduce rule (closed (frame_of frame) f) (stack_of frames.new.items)) }
+        ((f : Form) → reduce rule f (stack_of frames.old.items)
+        ≡ record { form = f; stack = stack_of frames.new.items })
+        (λ frame. (f : Form) → reduce rule f (stack_of frames.old.items)
+        ≡ reduce rule (closed (frame_of frame) f) (stack_of frames.new.items)) }
 {
     let Some((last, _)) = frames.split_last() else {
         return None;
@@ -70,10 +72,10 @@ pub fn reduce(
     alloc: Global,
     frames: &mut Vec<Frame>,
     rule: u8,
-    operand: Formula,
-) -> Result<Formula, AllocError>
-    ensures { IfOk result (λ whole. reduce rule (form operand) (stack_of frames.old.items)
-        ≡ record { form = form whole; stack = stack_of frames.new.items }) }
+    operand: Box<Formula>,
+) -> Result<Box<Formula>, AllocError>
+    ensures { IfOk result (λ whole. reduce rule (form operand.value) (stack_of frames.old.items)
+        ≡ record { form = form whole.value; stack = stack_of frames.new.items }) }
 {
     let mut whole = operand;
     while let Some(frame) = pop_tighter(frames, rule) {

@@ -3,7 +3,7 @@ ghost use Rattle.std.specs.Prelude.{◌≡◌, OnOk, IfOk, nat_le};
 ghost use Rattle.mfotl_lex.specs.Contents.{content_of};
 ghost use Rattle.mfotl_model.specs.declared.value.Value.TheVariants as values;
 ghost use Rattle.mfotl_parse.specs.SymbolTable.{resolved};
-ghost use Rattle.mfotl_parse.specs.Operands.{with_noted};
+ghost use Rattle.mfotl_parse.specs.Comparisons.{with_noted};
 ghost use Rattle.mfotl_parse.specs.States.{start, depth, pushed};
 ghost use Rattle.mfotl_parse.specs.Views.{context_of, frame_of};
 ghost use Rattle.mfotl_parse.specs.Limits.{max_levels, max_nodes};
@@ -27,7 +27,7 @@ pub enum Stage<'a> {
     /// Behind a temporal operator: an interval or an operand.
     AfterTemporal,
     /// An operand was read.
-    AfterOperand(Formula),
+    AfterOperand(Box<Formula>),
     /// A Word where an operand begins: an atom's name or a variable.
     AfterWord(u64, &'a [u8]),
     /// `_` there.

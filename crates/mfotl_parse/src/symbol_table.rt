@@ -129,8 +129,8 @@ impl SymbolTable {
     }
 
     fn var(&self, alloc: Global, place: usize) -> Result<Var, AllocError>
-        ensures { IfOk result (λ var. sorting.var_of (slice_get (names_of self.now).free place) (slice_get self.now.free_sorts.items place)
-            ≡ Some var) }
+        ensures { IfOk result (λ var. sorting.var_of (slice_get (names_of self.now).free place)
+            (slice_get self.now.free_sorts.items place) ≡ Some var) }
     {
         let Some((name, _)) = self.free.get_index(place) else {
             return Err(AllocError);

@@ -15,13 +15,13 @@ use Rattle.mfotl_sig.specs.Preds.{PredOf}
 use Rattle.monitor_main.specs.declared.refusal.InputFile.{InputFile}
 use Rattle.monitor_main.specs.declared.refusal.InputFile.TheVariants as file
 use Rattle.monitor_main.specs.declared.refusal.Refusal.{Refusal}
-use Rattle.monitor_main.specs.declared.refusal.Refusal.TheVariants.{Usage, Later, Read, Write, Memory}
+use Rattle.monitor_main.specs.declared.refusal.Refusal.TheVariants.{Usage, Read, Write, Memory}
 use Rattle.monitor_main.specs.Answer.{◌>>=◌, Answer, CheckedPolicy, checked_over, Task, answer, answer_to}
-use Rattle.monitor_main.specs.Answer.{core_atom, unless_later, bytes_of, check_answer, command_answer, ok_value, policy_at}
+use Rattle.monitor_main.specs.Answer.{bytes_of, check_answer, command_answer, ok_value, policy_at}
 use Rattle.monitor_main.specs.Answer.{refused, run_answer, seen_of, signature_of, source_bytes, task_at}
-use Rattle.monitor_main.specs.Answer.{task_of, task_on, text_at_failure, text_before, text_of_seen, text_on}
+use Rattle.monitor_main.specs.Answer.{task_on, text_at_failure, text_before, text_of_seen, text_on}
 use Rattle.monitor_main.specs.Decisions.{CarriesOut, ComesTo, CommandFails, Effect, Ends, FailsAt}
-use Rattle.monitor_main.specs.Decisions.{LeavesForLater, MonitorsPolicy, FailsInLog, Finishes, HandsOn, HasCauses, MonitorsLog, Obeys}
+use Rattle.monitor_main.specs.Decisions.{FailsInLog, Finishes, HandsOn, HasCauses, MonitorsLog, Obeys}
 use Rattle.monitor_main.specs.Decisions.{Refuses}
 use Rattle.monitor_main.specs.FilesAsked.{AsksInOrder, names_to, source_names}
 use Rattle.monitor_main.specs.Loading.{HasNoPolicy, IsLoadFault, IsSource, LoadsSources, NoPolicy, StopsInSources}
@@ -30,7 +30,6 @@ use Rattle.monitor_main.specs.Refusals.{words_refusal}
 use Rattle.monitor_main.specs.declared.words.WordsFault.{WordsFault}
 use Rattle.monitor_main.specs.declared.words.WordsFault.TheVariants as fault
 use Rattle.monitor_main.specs.Words.{Command, Sources, Run, Check, command_of, command_sources}
-use Rattle.mfotl_model.specs.declared.term.Atom.{Atom as OneAtom}
 use Rattle.monitor_main.proofs.LoadLemmas.{rose_later}
 use Rattle.monitor_main.proofs.SinkLemmas.{appends_none, no_front}
 use Rattle.monitor_main.proofs.ToldLemmas.{asked_none, asked_twice, told_all, told_at, told_both, told_map}
@@ -223,44 +222,16 @@ module _ (sources : Sources) (log : Name) (before mid : InputsView) (checked : C
     (loads : LoadsSources sources checked before mid)
     (same : mid.files ≡ before.files) (later : before.faults ≤ mid.faults) where
   task_is : (files : Files) → policy_at sources files ≡ Ok checked
-      → task_at sources log files ≡ task_of checked (content files log)
+      → task_at sources log files ≡ Ok (task_on checked (content files log))
   unfolding task_at
   task_is files e = rw e refl
 
-  answer_is : (files : Files) (due : Result Task Refusal) → policy_at sources files ≡ Ok checked
-      → task_of checked (content files log) ≡ due → run_answer due ≡ command_answer (Run sources log) files
+  answer_is : (files : Files) → policy_at sources files ≡ Ok checked
+      → run_answer (Ok (task_on checked (content files log))) ≡ command_answer (Run sources log) files
   unfolding command_answer
-  answer_is files due e is = ap run_answer (sym (task_is files e ∙ is))
-
-  reached_policy : (files : Files) → policy_at sources files ≡ Ok checked
-      → is_some (bytes_of (Run sources log) files file.Policy) ≡ true
-  unfolding bytes_of
-  reached_policy files e = signed sources files checked e
-
-  -- the policy's core is none that is monitored
-  pub run_later : (out : SinkView) → ((bytes : List ℕ) → task_of checked bytes ≡ Err Later)
-      → CarriesOut (Run sources log) (unwritten before mid out) (Err Later)
-  run_later out left = record {
-    asks = record {
-      last = Some file.Policy;
-      asked = loads.asked;
-      reached = told_map before.files _ _ reached_policy loads.is;
-    };
-    decides = record {
-      files = same;
-      later = later;
-      later_out = omega arith;
-      comes = told_map before.files _ _
-          (λ files e. comes_as _ _ (answer_is files (Err Later) e (left (content files log))) (λ name. ⊥) _
-          (λ name h. absurd h) out.written out.written (Err Later)
-          (comes_refused Later _ out.written (refuses_at Later out.written)))
-          loads.is;
-      causes = tt;
-    };
-  }
+  answer_is files e = ap run_answer (sym (task_is files e))
 
   module _ (after : InputsView) (old new : SinkView)
-      (made : (bytes : List ℕ) → task_of checked bytes ≡ Ok (task_on checked bytes))
       (asked : after.asked ≡ asked_more mid.asked (log ∷ [])) where
     all_asked : after.asked ≡ asked_more before.asked (names_to (Run sources log) file.Log)
     all_asked =
@@ -268,12 +239,9 @@ module _ (sources : Sources) (log : Name) (before mid : InputsView) (checked : C
         ∙ asked_twice before.asked (source_names sources file.Policy) (log ∷ [])
 
     module _ (files : Files) (policy_is : policy_at sources files ≡ Ok checked) where
-      made_at : task_at sources log files ≡ Ok (task_on checked (content files log))
-      made_at = task_is files policy_is ∙ made (content files log)
-
       log_reached : bytes_of (Run sources log) files file.Log ≡ Some (content files log)
       unfolding bytes_of
-      log_reached = ap (λ (t : Result Task Refusal). option_map (λ (t : Task). t.log) (ok_value t)) made_at
+      log_reached = ap (λ (t : Result Task Refusal). option_map (λ (t : Task). t.log) (ok_value t)) (task_is files policy_is)
 
       before_clear : (f : Form) (r : Reading) (ending : Ending) → ending ≡ NoFault
           → text_before f r ending ≡ Some (text_on f r)
@@ -292,7 +260,7 @@ module _ (sources : Sources) (log : Name) (before mid : InputsView) (checked : C
             asked = all_asked;
             stops = f.stops;
             text = text_on task.policy.formula (seen_of task f.stops.seen);
-            due = ap (λ (t : Result Task Refusal). text_of_seen t f.stops.seen) made_at
+            due = ap (λ (t : Result Task Refusal). text_of_seen t f.stops.seen) (task_is files policy_is)
                 ∙ before_clear task.policy.formula (seen_of task f.stops.seen)
                 (seen_of task f.stops.seen).ending f.clear;
             written = f.written;
@@ -315,49 +283,29 @@ module _ (sources : Sources) (log : Name) (before mid : InputsView) (checked : C
 
   -- the log was monitored
   pub run_monitors : (after : InputsView) (old new : SinkView) (result : Result Bool Refusal)
-      → ((bytes : List ℕ) → task_of checked bytes ≡ Ok (task_on checked bytes))
       → MonitorsLog checked log (record { before = mid; after = after; old = old; new = new }) result
       → CarriesOut (Run sources log) (record { before = before; after = after; old = old; new = new }) result
-  run_monitors after old new result made m =
+  run_monitors after old new result m =
       let comes = told_at mid.files before.files _ same m.decides.comes in
       record {
         asks = record {
           last = Some file.Log;
-          asked = all_asked after old new made m.asked;
+          asked = all_asked after old new m.asked;
           reached = told_map before.files _ _ (λ files e. ap is_some
-              (log_reached after old new made m.asked files e)) loads.is;
+              (log_reached after old new m.asked files e)) loads.is;
         };
         decides = record {
           files = m.decides.files ∙ same;
           later = omega (arith, m.decides.later);
           later_out = m.decides.later_out;
           comes = told_both before.files _ _ _
-              (λ files e c. comes_as _ _ (answer_is files (Ok (task_on checked (content files log))) e (made
-              (content files log))) _ _
-              (λ name f. fails_by_name after old new made m.asked files e name f.named f) old.written new.written
+              (λ files e c. comes_as _ _ (answer_is files e) _ _
+              (λ name f. fails_by_name after old new m.asked files e name f.named f) old.written new.written
               result c)
               loads.is comes;
-          causes = IfErr-weaker result _ _ (later_causes after old new made m.asked) m.decides.causes;
+          causes = IfErr-weaker result _ _ (later_causes after old new m.asked) m.decides.causes;
         };
       }
-
-  -- the policy was monitored, or left for later
-  pub run_goes_on : (after : InputsView) (old new : SinkView) (result : Result Bool Refusal)
-      → MonitorsPolicy checked log (record { before = mid; after = after; old = old; new = new }) result
-      → CarriesOut (Run sources log) (record { before = before; after = after; old = old; new = new }) result
-  unfolding task_of
-  run_goes_on after old new result = by (core_atom checked.policy) refl
-    where
-      by : (atom : Option OneAtom) → core_atom checked.policy ≡ atom
-          → MatchOption atom (LeavesForLater (record { before = mid; after = after; old = old; new = new }) result)
-          (λ atom. MonitorsLog checked log (record { before = mid; after = after; old = old; new = new }) result)
-          → CarriesOut (Run sources log) (record { before = before; after = after; old = old; new = new }) result
-      by None e l =
-          rw (l.left, l.inputs_stay, l.out_stays) (run_later old (λ bytes. ap (λ (a : Option OneAtom).
-          unless_later a (task_on checked bytes)) e))
-      by (Some atom) e m =
-          run_monitors after old new result (λ bytes. ap (λ (a : Option OneAtom).
-          unless_later a (task_on checked bytes)) e) m
 
 -- ---- `check`
 

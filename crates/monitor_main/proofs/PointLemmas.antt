@@ -1,27 +1,44 @@
--- Line after line of the time-points that a reader gives.
-use Rattle.std.proofs.Common.{◌≡◌, ◌∙◌, ap, ap₂, subst, sym, refl, arith, ℕ, zero, suc, ◌+◌, ◌<◌, Bool}
-use Rattle.std.proofs.Common.{true, false, not, ◌||◌, List, [], ◌∷◌, ◌++◌, length, take, drop, Option}
-use Rattle.std.proofs.Common.{append_assoc, append-nil, add-one, add-zero}
+-- The lines of the time-points that a reader gives.
+use Rattle.std.proofs.Common.{◌≡◌, ◌∙◌, ap, subst, sym, refl, ℕ, zero, suc, ◌+◌, ◌≤◌, Bool}
+use Rattle.std.proofs.Common.{true, false, ◌||◌, List, [], ◌∷◌, ◌++◌, take, drop, Option}
+use Rattle.std.proofs.Common.{append_assoc, append-nil, add-one}
 use Rattle.std.specs.Prelude.{Result, Ok, Err}
-use Rattle.std.proofs.lemmas.List.{length-take-le, take-append-drop}
-use Rattle.std.proofs.lemmas.List.Folds.{list_any-append}
-use Rattle.std.proofs.Math.Bool.{or-false}
+use Rattle.std.proofs.lemmas.List.{map-append, take-append-drop}
 use Rattle.mon_outside.specs.Sink.{Appends, AppendsFront}
+use Rattle.mfotl_model.proofs.TimeLemmas.{front_never_falls}
+use Rattle.mfotl_model.specs.Formulas.{Form}
+use Rattle.mfotl_model.specs.Log.{times}
+use Rattle.mfotl_model.specs.Times.{NeverFalls}
+use Rattle.mfotl_model.specs.VerdictText.{verdicts}
 use Rattle.mfotl_model.specs.declared.event.TimePoint.{TimePoint}
+use Rattle.log_reader.specs.Given.{Fails}
 use Rattle.log_reader.specs.Progress.{Progress, answer_by, due, read}
-use Rattle.log_reader.specs.Readers.{ForEach, Reader, Reads, progress}
-use Rattle.log_reader.specs.Readings.{NoFault, Ending, Fault}
+use Rattle.log_reader.specs.Readers.{Reader, Reads, progress}
+use Rattle.log_reader.specs.Readings.{NoFault, Ending, Fault, Reading}
 use Rattle.log_reader.specs.declared.fault.LogFault.{LogFault}
+use Rattle.log_reader.specs.declared.fault.LogFault.TheVariants as log
 use Rattle.log_reader.specs.declared.next.Next.{Next}
 use Rattle.log_reader.specs.declared.next.Next.TheVariants.{Point, More, End}
-use Rattle.mfotl_model.specs.Matching.{Query}
-use Rattle.monitor_main.specs.AtomText.{is_empty, line_at, lines_from, rows_at, some_rows}
-use Rattle.monitor_main.specs.LogRuns.{EndsClear, StopsLines, WritesPoint, lines_of}
+use Rattle.monitorable.proofs.TextFinal.{text_final}
+use Rattle.monitorable.specs.CoreForms.{CoreForm}
+use Rattle.monitorable.specs.Laws.{open_log, whole_view}
+use Rattle.monitor_state.specs.Beginnings.{Begins}
+use Rattle.monitor_state.specs.MonitorView.{MonitorOf}
+use Rattle.monitor_state.specs.Stands.{StateOf, Stands}
+use Rattle.monitor_main.specs.Answer.{text_on, violated_on}
+use Rattle.monitor_main.specs.CheckedPolicies.{IsCoreOf, IsEvaluable}
+use Rattle.monitor_main.specs.LogRuns.{EndsClear, ForEachLog, ForEachPolicy, IsOutputFault, IsReady, StopsLines}
+use Rattle.monitor_main.specs.LogRuns.{TakesPoint, WritesLines}
 use Rattle.monitor_main.specs.Refusals.{log_refusal}
+use Rattle.monitor_main.specs.VerdictRows.{lines}
+use Rattle.monitor_main.specs.Verdicts.{news}
 use Rattle.monitor_main.specs.declared.refusal.Refusal.{Refusal}
-use Rattle.log_reader.specs.Given.{Fails}
-use Rattle.log_reader.specs.declared.fault.LogFault.TheVariants as log
-use Rattle.monitor_main.proofs.SinkLemmas.{appends_more, appends_none, front_behind, longer_front, whole_front}
+use Rattle.monitor_main.specs.declared.refusal.Refusal.TheVariants.{Memory, Write}
+use Rattle.monitor_main.proofs.LineLemmas.{lines_behind, lines_front, no_lines}
+use Rattle.monitor_main.proofs.LoadLemmas.{rose_later}
+use Rattle.monitor_main.proofs.LogTimes.{read_never_falls}
+use Rattle.monitor_main.proofs.SinkLemmas.{longer_front, whole_front}
+use Rattle.monitor_main.proofs.VerdictLemmas.{verdicts_grow}
 
 -- what a reader with these time-points left answers
 pub record GivesPoint (points : List TimePoint) (point : TimePoint) : Type 0 where
@@ -58,13 +75,6 @@ gives_fault ended [] (Fault other) fault e = record { none = refl; ending_is = c
 gives_fault true [] NoFault fault e = absurd cc
 gives_fault false [] NoFault fault e = absurd cc
 
-drop_length : (n : ℕ) (ps : List TimePoint) (p : TimePoint) (rest : List TimePoint) → drop n ps ≡ p ∷ rest
-    → n < length ps
-drop_length zero [] p rest e = absurd cc
-drop_length zero (q ∷ ps) p rest e = omega arith
-drop_length (suc n) [] p rest e = absurd cc
-drop_length (suc n) (q ∷ ps) p rest e = let more : n < length ps = drop_length n ps p rest e in omega arith
-
 take_one : (n : ℕ) (ps : List TimePoint) (p : TimePoint) (rest : List TimePoint) → drop n ps ≡ p ∷ rest
     → take (suc n) ps ≡ take n ps ++ p ∷ []
 take_one zero [] p rest e = absurd cc
@@ -75,168 +85,177 @@ take_one (suc n) (q ∷ ps) p rest e = ap (λ xs. q ∷ xs) (take_one n ps p res
 take_none_left : (n : ℕ) (ps : List TimePoint) → drop n ps ≡ [] → take n ps ≡ ps
 take_none_left n ps e = sym (append-nil (take n ps)) ∙ ap (λ xs. take n ps ++ xs) (sym e) ∙ take-append-drop n ps
 
-module _ (q : Query) where
-  pub lines_from-append : (k : ℕ) (xs ys : List TimePoint)
-      → lines_from q k (xs ++ ys) ≡ lines_from q k xs ++ lines_from q (k + length xs) ys
-  unfolding lines_from
-  lines_from-append k [] ys = ap (λ n. lines_from q n ys) (sym (add-zero k))
-  lines_from-append k (x ∷ xs) ys =
-      let count : k + 1 + length xs ≡ k + suc (length xs) = omega arith in
-      ap (λ text. line_at q k x ++ text)
-      (lines_from-append (k + 1) xs ys ∙ ap (λ n. lines_from q (k + 1) xs ++ lines_from q n ys) count)
-      ∙ sym (append_assoc (line_at q k x) (lines_from q (k + 1) xs) (lines_from q (k + suc (length xs)) ys))
+-- ---- a log and a front of it
 
-  one_line : (k : ℕ) (p : TimePoint) → lines_from q k (p ∷ []) ≡ line_at q k p
-  unfolding lines_from
-  one_line k p = append-nil (line_at q k p)
+front_rises : (xs ys : List TimePoint) → NeverFalls (times (xs ++ ys)) → NeverFalls (times xs)
+front_rises xs ys rising =
+    front_never_falls (times xs) (times ys) (subst NeverFalls (map-append (λ p. p.ts) xs ys) rising)
 
-  -- the lines of one time-point more
-  lines_more : (n : ℕ) (ps : List TimePoint) (p : TimePoint) (rest : List TimePoint) → drop n ps ≡ p ∷ rest
-      → lines_from q 0 (take (n + 1) ps) ≡ lines_from q 0 (take n ps) ++ line_at q n p
-  lines_more n ps p rest e =
-      let inside : n < length ps = drop_length n ps p rest e in
-      let count : 0 + length (take n ps) ≡ n = rw (length-take-le n ps (omega arith)) (omega arith) in
-      ap (λ k. lines_from q 0 (take k ps)) (add-one n)
-      ∙ ap (lines_from q 0) (take_one n ps p rest e)
-      ∙ lines_from-append 0 (take n ps) (p ∷ [])
-      ∙ ap (λ text. lines_from q 0 (take n ps) ++ text) (ap (λ k. lines_from q k (p ∷ [])) count ∙ one_line n p)
+points_rise : (start : Progress) → NeverFalls (times (read start).points)
+points_rise start = read_never_falls start.sig start.limits start.bytes start.is_ended
 
-  rows_more : (n : ℕ) (ps : List TimePoint) (p : TimePoint) (rest : List TimePoint) → drop n ps ≡ p ∷ rest
-      → some_rows q (take (n + 1) ps) ≡ (some_rows q (take n ps) || not (is_empty (rows_at q p)))
-  unfolding some_rows
-  rows_more n ps p rest e =
-      let test = λ (r : TimePoint). not (is_empty (rows_at q r)) in
-      ap (λ k. some_rows q (take k ps)) (add-one n)
-      ∙ ap (some_rows q) (take_one n ps p rest e)
-      ∙ list_any-append test (take n ps) (p ∷ [])
-      ∙ ap (λ b. some_rows q (take n ps) || b) (or-false (test p))
+-- the text on what was read begins with that on its first time-points
+pub first_text : (core : CoreForm) (policy : Form) → IsCoreOf core policy → (r : Reading) (xs ys : List TimePoint)
+    → r.points ≡ xs ++ ys → NeverFalls (times r.points)
+    → (rest : List ℕ) × (text_on policy r ≡ lines (verdicts (open_log xs) policy) ++ rest)
+unfolding text_on
+first_text core policy is r xs ys split rising =
+    let more = text_final xs ys is.names policy (subst (λ ps. NeverFalls (times ps)) split rising) is.accepted in
+    (more.0, ap (λ ps. lines (verdicts (open_log ps) policy)) split ∙ more.1)
 
-  -- the lines of the first time-points are a front of all
-  front_of_lines : (n : ℕ) (ps : List TimePoint)
-      → lines_from q 0 ps ≡ lines_from q 0 (take n ps) ++ lines_from q (0 + length (take n ps)) (drop n ps)
-  front_of_lines n ps = ap (lines_from q 0) (sym (take-append-drop n ps)) ∙ lines_from-append 0 (take n ps) (drop n ps)
+-- the first n of these time-points, and the one behind them
+split_one : (n : ℕ) (ps : List TimePoint) (p : TimePoint) (rest : List TimePoint) → drop n ps ≡ p ∷ rest
+    → ps ≡ (take n ps ++ p ∷ []) ++ rest
+split_one n ps p rest e =
+    sym (take-append-drop n ps) ∙ ap (λ xs. take n ps ++ xs) e ∙ sym (append_assoc (take n ps) (p ∷ []) rest)
 
-  -- so many time-points were given, and their lines were written
-  pub record SoFar (start : Progress) (reader : Reader) (number : ℕ) (old new : Option (List ℕ)) (violated : Bool)
-      : Type 0 where
-    pub reads : Reads reader start.bytes
-    pub reader_is : progress reader start.bytes ≡ record start { given = number }
-    pub written : Appends old new (lines_from q 0 (take number (read start).points))
-    pub some : violated ≡ some_rows q (take number (read start).points)
+-- ---- the monitor's core stays
 
-  module _ (start : Progress) (number : ℕ) (old mid : Option (List ℕ)) (violated : Bool)
-      (written : Appends old mid (lines_from q 0 (take number (read start).points)))
-      (some : violated ≡ some_rows q (take number (read start).points)) where
-    points : List TimePoint
-    points = (read start).points
+module _ (monitor : MonitorOf) (core : CoreForm) (same : monitor.core ≡ core) (point : TimePoint)
+    (log : List TimePoint) (rising : NeverFalls (times (log ++ point ∷ [])))
+    (stands : Stands (whole_view log core) core monitor.state) where
+  own_stands : Stands (whole_view log monitor.core) monitor.core monitor.state
+  own_stands = subst (λ g. Stands (whole_view log g) g monitor.state) (sym same) stands
 
-    -- what was written is a front of what is due
-    pub front_so_far : AppendsFront old mid (lines_of q (read start))
-    front_so_far =
-        rw (front_of_lines number (read start).points)
-        (longer_front old mid _ _ (whole_front old mid _ written))
-
-    module _ (point : TimePoint) (gives : due (record start { given = number }) ≡ Ok (Point point)) where
-      given : GivesPoint (drop number (read start).points) point
-      given = gives_point start.is_ended (drop number (read start).points) (read start).ending point gives
-
-      -- one more line
-      pub one_more : (new : Option (List ℕ)) (has_row : Bool) → WritesPoint q number point mid new has_row
-          → Appends old new (lines_from q 0 (take (number + 1) (read start).points))
-      one_more new has_row w =
-          rw (lines_more number (read start).points point given.rest given.points_are)
-          (appends_more old mid new _ _ written w.written)
-
-      pub one_more_row : (new : Option (List ℕ)) (has_row : Bool) → WritesPoint q number point mid new has_row
-          → (violated || has_row) ≡ some_rows q (take (number + 1) (read start).points)
-      one_more_row new has_row w =
-          ap₂ (λ a b. a || b) some w.row ∙ sym (rows_more number (read start).points point given.rest given.points_are)
-
-      -- a part of one more line
-      pub front_of_one_more : (new : Option (List ℕ)) → AppendsFront mid new (line_at q number point)
-          → AppendsFront old new (lines_of q (read start))
-      front_of_one_more new part =
-          rw (
-            front_of_lines (number + 1) (read start).points,
-            lines_more number (read start).points point given.rest given.points_are,
-          )
-          (longer_front old new _ _ (front_behind old mid new _ _ written part))
-
-    -- nothing is left
-    pub ends_clear : GivesEnding (drop number (read start).points) (read start).ending NoFault
-        → EndsClear q (read start) old mid violated
-    ends_clear g = record {
-      clear = g.ending_is;
-      written = subst (λ ps. Appends old mid (lines_from q 0 ps)) (take_none_left number
-          (read start).points g.none) written;
-      some = some ∙ ap (some_rows q) (take_none_left number (read start).points g.none);
-    }
-
-    pub stops_there : (fault : LogFault) → GivesEnding (drop number (read start).points) (read start).ending
-        (Fault fault)
-        → ((read start).ending ≡ Fault fault) × Appends old mid (lines_of q (read start))
-    stops_there fault g = (
-      g.ending_is,
-      subst (λ ps. Appends old mid (lines_from q 0 ps)) (take_none_left number (read start).points g.none) written,
-    )
-
-  -- nothing was given
-  pub begins : (reader : Reader) (bytes : List ℕ) (old : Option (List ℕ)) → reader.given ≡ 0
-      → Reads reader bytes → SoFar (progress reader bytes) reader 0 old old false
-  unfolding lines_from some_rows
-  begins reader bytes old first reads = record {
-    reads = reads;
-    reader_is = ap (λ n. record (progress reader bytes) { given = n }) first;
-    written = appends_none old;
-    some = refl;
+  pub ready : IsEvaluable core → IsReady monitor point
+  ready evaluable = record {
+    evaluable = subst IsEvaluable (sym same) evaluable;
+    log = log;
+    rising = rising;
+    stands = own_stands;
   }
 
-  module _ (start : Progress) (reader : Reader) (number : ℕ) (old mid : Option (List ℕ)) (violated : Bool)
-      (so_far : SoFar start reader number old mid violated) where
+  -- what holds for each log holds for this one
+  pub at_log : (P : CoreForm → List TimePoint → Type 0) → ForEachLog monitor point (P monitor.core) → P core log
+  at_log P each = subst (λ g. P g log) same (each log rising own_stands)
+
+-- the output failed on a line
+pub output_stops : (policy : Form) (r : Reading) (old new : Option (List ℕ)) (before mid now : ℕ) (refusal : Refusal)
+    → before ≤ mid → IsOutputFault refusal mid now → StopsLines policy r old new before now refusal
+output_stops policy r old new before mid now Memory later h = tt
+output_stops policy r old new before mid now Write later h = rose_later before mid now later h
+output_stops policy r old new before mid now other later h = absurd h
+
+module _ (core : CoreForm) where
+  -- So many time-points were given. The state stands for them, and the lines of the positions that are settled
+  -- in them were written.
+  pub record SoFar (start : Progress) (reader : Reader) (number : ℕ) (state : StateOf) (old new : Option (List ℕ))
+      (violated : Bool) : Type 0 where
+    pub reads : Reads reader start.bytes
+    pub reader_is : progress reader start.bytes ≡ record start { given = number }
+    pub stands : Stands (whole_view (take number (read start).points) core) core state
+    pub lines_are : ForEachPolicy core (λ policy.
+        WritesLines (verdicts (open_log (take number (read start).points)) policy) old new violated)
+
+  -- nothing was given
+  pub begins : (reader : Reader) (bytes : List ℕ) (state : StateOf) (old : Option (List ℕ)) → reader.given ≡ 0
+      → Reads reader bytes → Begins core state → SoFar (progress reader bytes) reader 0 state old old false
+  begins reader bytes state old first reads start = record {
+    reads = reads;
+    reader_is = ap (λ n. record (progress reader bytes) { given = n }) first;
+    stands = start (whole_view [] core) refl;
+    lines_are = λ policy is. no_lines old;
+  }
+
+  module _ (start : Progress) (reader : Reader) (number : ℕ) (state : StateOf) (old mid : Option (List ℕ))
+      (violated : Bool) (so_far : SoFar start reader number state old mid violated) where
     due_is : (answer : Result Next LogFault) → due (progress reader start.bytes) ≡ answer
         → due (record start { given = number }) ≡ answer
     due_is answer e = subst (λ (p : Progress). due p ≡ answer) so_far.reader_is e
 
-    pub front : AppendsFront old mid (lines_of q (read start))
-    front = front_so_far start number old mid violated so_far.written so_far.some
+    -- what was written is a front of what is due
+    pub front : ForEachPolicy core (λ policy. AppendsFront old mid (text_on policy (read start)))
+    front policy is =
+        let ps : List TimePoint = (read start).points in
+        let text = first_text core policy is (read start) (take number ps) (drop number ps)
+        (sym (take-append-drop number ps)) (points_rise start) in
+        rw text.1 (longer_front old mid _ _ (whole_front old mid _ (so_far.lines_are policy is).written))
 
-    pub part : (point : TimePoint) → due (progress reader start.bytes) ≡ Ok (Point point) → (new : Option (List ℕ))
-        → AppendsFront mid new (line_at q number point) → AppendsFront old new (lines_of q (read start))
-    part point e =
-        front_of_one_more start number old mid violated so_far.written so_far.some point (due_is (Ok (Point point)) e)
+    -- ---- one time-point more
+    module _ (point : TimePoint) (gives : due (progress reader start.bytes) ≡ Ok (Point point)) where
+      given : GivesPoint (drop number (read start).points) point
+      given = gives_point start.is_ended (drop number (read start).points) (read start).ending point
+          (due_is (Ok (Point point)) gives)
 
-    pub goes_on : (point : TimePoint) → due (progress reader start.bytes) ≡ Ok (Point point) → (next : Reader)
-        → next ≡ record reader { given = reader.given + 1; kept = next.kept } → ForEach reader (Reads next)
-        → (new : Option (List ℕ)) (has_row : Bool) → WritesPoint q number point mid new has_row
-        → SoFar start next (number + 1) old new (violated || has_row)
-    goes_on point e next next_is reads_on new has_row w =
-        let due_point = due_is (Ok (Point point)) e in
-        let next_at : progress next start.bytes ≡ record start { given = number + 1 } =
-        ap (λ (r : Reader). progress r start.bytes) next_is
-        ∙ ap (λ (p : Progress). record p { given = p.given + 1 }) so_far.reader_is in
-        record {
-          reads = reads_on start.bytes so_far.reads;
-          reader_is = next_at;
-          written = one_more start number old mid violated so_far.written so_far.some point due_point new has_row w;
-          some = one_more_row start number old mid violated so_far.written so_far.some point due_point new has_row w;
-        }
+      pub rises : NeverFalls (times (take number (read start).points ++ point ∷ []))
+      rises =
+          let ps : List TimePoint = (read start).points in
+          front_rises (take number ps ++ point ∷ []) given.rest
+          (subst (λ xs. NeverFalls (times xs)) (split_one number ps point given.rest given.points_are) (points_rise start))
 
-    pub ends_more : due (progress reader start.bytes) ≡ Ok More → EndsClear q (read start) old mid violated
-    ends_more e = ends_clear start number old mid violated so_far.written so_far.some
+      one_taken : take (number + 1) (read start).points ≡ take number (read start).points ++ point ∷ []
+      one_taken =
+          ap (λ n. take n (read start).points) (add-one number)
+          ∙ take_one number (read start).points point given.rest given.points_are
+
+      -- a part of its lines
+      pub part : (new : Option (List ℕ))
+          → ForEachPolicy core (λ policy.
+          AppendsFront mid new (lines (news policy (take number (read start).points) point)))
+          → ForEachPolicy core (λ policy. AppendsFront old new (text_on policy (read start)))
+      part new parts policy is =
+          let ps : List TimePoint = (read start).points in
+          let text = first_text core policy is (read start) (take number ps ++ point ∷ []) given.rest
+          (split_one number ps point given.rest given.points_are) (points_rise start) in
+          let grown = verdicts_grow (take number ps) point is.names policy rises is.accepted in
+          let written = lines_front _ _ old mid new violated (so_far.lines_are policy is) (parts policy is) in
+          rw (text.1, grown) (longer_front old new _ _ written)
+
+      pub goes_on : (next : Reader) → next ≡ record reader { given = reader.given + 1; kept = next.kept }
+          → Reads next start.bytes → (after : StateOf) (new : Option (List ℕ)) (has_row : Bool)
+          → TakesPoint core (take number (read start).points) point after mid new has_row
+          → SoFar start next (number + 1) after old new (violated || has_row)
+      goes_on next next_is reads after new has_row taken =
+          let ps : List TimePoint = (read start).points in
+          record {
+            reads = reads;
+            reader_is = ap (λ (r : Reader). progress r start.bytes) next_is
+                ∙ ap (λ (p : Progress). record p { given = p.given + 1 }) so_far.reader_is;
+            stands = subst (λ xs. Stands (whole_view xs core) core after) (sym one_taken) taken.stands;
+            lines_are = λ policy is.
+                let grown = verdicts_grow (take number ps) point is.names policy rises is.accepted in
+                rw (one_taken, grown) (lines_behind _ _ old mid new violated has_row (so_far.lines_are policy is)
+                (taken.lines_are policy is));
+          }
+
+    -- ---- no time-point more
+
+    -- all lines were written
+    all_written : (ending : Ending) → GivesEnding (drop number (read start).points) (read start).ending ending
+        → ForEachPolicy core (λ policy. WritesLines (verdicts (open_log (read start).points) policy) old mid violated)
+    all_written ending g policy is =
+        subst (λ ps. WritesLines (verdicts (open_log ps) policy) old mid violated)
+        (take_none_left number (read start).points g.none) (so_far.lines_are policy is)
+
+    ends_clear : GivesEnding (drop number (read start).points) (read start).ending NoFault
+        → ForEachPolicy core (λ policy. EndsClear policy (read start) old mid violated)
+    unfolding text_on violated_on
+    ends_clear g policy is =
+        let all = all_written NoFault g policy is in
+        record { clear = g.ending_is; written = all.written; some = all.some }
+
+    pub ends_more : due (progress reader start.bytes) ≡ Ok More
+        → ForEachPolicy core (λ policy. EndsClear policy (read start) old mid violated)
+    ends_more e = ends_clear
         (gives_more start.is_ended (drop number (read start).points) (read start).ending (due_is (Ok More) e))
 
-    pub ends_end : due (progress reader start.bytes) ≡ Ok End → EndsClear q (read start) old mid violated
-    ends_end e = ends_clear start number old mid violated so_far.written so_far.some
+    pub ends_end : due (progress reader start.bytes) ≡ Ok End
+        → ForEachPolicy core (λ policy. EndsClear policy (read start) old mid violated)
+    ends_end e = ends_clear
         (gives_end start.is_ended (drop number (read start).points) (read start).ending (due_is (Ok End) e))
 
-    pub stops : (fault : LogFault) → due (progress reader start.bytes) ≡ Err fault
-        → ((read start).ending ≡ Fault fault) × Appends old mid (lines_of q (read start))
-    stops fault e = stops_there start number old mid violated so_far.written so_far.some fault
-        (gives_fault start.is_ended (drop number (read start).points) (read start).ending fault (due_is (Err fault) e))
+    stops : (fault : LogFault) → due (progress reader start.bytes) ≡ Err fault
+        → ForEachPolicy core (λ policy.
+        ((read start).ending ≡ Fault fault) × Appends old mid (text_on policy (read start)))
+    unfolding text_on
+    stops fault e policy is =
+        let g = gives_fault start.is_ended (drop number (read start).points) (read start).ending fault
+        (due_is (Err fault) e) in
+        (g.ending_is, (all_written (Fault fault) g policy is).written)
 
     -- the fault stops the lines
     pub stops_by : (fault : LogFault) (r : Refusal) → r ≡ log_refusal fault
         → Fails fault (due (progress reader start.bytes)) → (before now : ℕ)
-        → StopsLines q (read start) old mid before now r
-    stops_by log.Memory r is e before now = rw is tt
-    stops_by fault r is e before now = rw is (stops fault e)
+        → ForEachPolicy core (λ policy. StopsLines policy (read start) old mid before now r)
+    stops_by log.Memory r is e before now policy core_is = rw is tt
+    stops_by fault r is e before now policy core_is = rw is (stops fault e policy core_is)

@@ -2,7 +2,7 @@
 use Rattle.std.proofs.Common.{◌≡◌, inl, inr, refl, ℕ, List, Option}
 use Rattle.monitor_main.specs.declared.refusal.Refusal.{Refusal}
 use Rattle.monitor_main.specs.declared.refusal.Refusal.TheVariants.{Usage, LongSignature, Signature}
-use Rattle.monitor_main.specs.declared.refusal.Refusal.TheVariants.{LongPolicy, Policy, Fragment, Later, Log}
+use Rattle.monitor_main.specs.declared.refusal.Refusal.TheVariants.{LongPolicy, Policy, Fragment, Log}
 use Rattle.monitor_main.specs.declared.refusal.Refusal.TheVariants.{Read, Write, Memory}
 use Rattle.monitor_main.specs.declared.status.Status.{Status}
 use Rattle.monitor_main.specs.declared.status.Status.TheVariants as status
@@ -16,7 +16,6 @@ told_under (Signature fault) = refl
 told_under LongPolicy = refl
 told_under (Policy fault) = refl
 told_under (Fragment fault) = refl
-told_under Later = refl
 told_under (Log fault) = refl
 told_under (Read name) = refl
 told_under Write = refl

@@ -1,5 +1,5 @@
 -- From the lines that were written to the answer on the log.
-use Rattle.std.proofs.Common.{◌≡◌, ◌∙◌, ◌⊎◌, inl, inr, ap, arith, subst, sym, refl, ℕ, ◌+◌, ◌<◌, ◌≤◌, Bool}
+use Rattle.std.proofs.Common.{◌≡◌, ◌∙◌, ◌⊎◌, inl, inr, ap, arith, subst, sym, refl, ℕ, ◌<◌, ◌≤◌, Bool}
 use Rattle.std.proofs.Common.{true, false, not, List, [], ◌∷◌, ◌++◌, length, Option, append-nil}
 use Rattle.std.proofs.lemmas.Result.{IfErr-weaker, IfOk-weaker}
 use Rattle.std.specs.Prelude.{Result, Err, IfOk, IfErr}
@@ -17,28 +17,19 @@ use Rattle.monitor_main.specs.declared.refusal.InputFile.TheVariants as file
 use Rattle.monitor_main.specs.declared.refusal.Refusal.{Refusal}
 use Rattle.monitor_main.specs.declared.refusal.Refusal.TheVariants.{Log, Read, Write, Memory}
 use Rattle.mfotl_model.specs.Formulas.{Form}
-use Rattle.mfotl_model.specs.Matching.{Query}
-use Rattle.monitor_main.specs.Atom.{IsQueryFor}
+use Rattle.monitorable.specs.CoreForms.{CoreForm}
 use Rattle.monitor_main.specs.Answer.{CheckedPolicy, Task, task_on, ended, log_answer, reading_of, seen_of}
 use Rattle.monitor_main.specs.Answer.{standard, text_on, verdict_status, violated_on}
-use Rattle.monitor_main.specs.AtomText.{lines_from, some_rows}
+use Rattle.monitor_main.specs.CheckedPolicies.{IsCoreOf}
 use Rattle.monitor_main.specs.Decisions.{ComesTo, Effect, Ends, FailsInLog, Finishes, HasCauses, MonitorsLog, Refuses}
 use Rattle.log_reader.specs.Growth.{Keeps}
 use Rattle.log_reader.specs.Limits.{byte_limit}
-use Rattle.monitor_main.specs.LogRuns.{EndsClear, IsGathered, StopsBytes, lines_of}
-use Rattle.monitor_main.proofs.AtomTextLemmas.{rows_are_some, text_is_lines}
+use Rattle.monitor_main.specs.LogRuns.{EndsClear, IsGathered, StopsBytes, StopsLines}
 use Rattle.log_reader.proofs.GrowthLemmas.{long_same, shown_stays}
-use Rattle.monitor_main.proofs.PointLemmas.{lines_from-append}
+use Rattle.monitor_main.proofs.LogTimes.{read_never_falls}
+use Rattle.monitor_main.proofs.PointLemmas.{first_text}
 use Rattle.monitor_main.proofs.SinkLemmas.{longer_front, no_front}
 use Rattle.monitor_main.proofs.ToldLemmas.{told_all, told_map}
-
-text_is : (f : Form) (q : Query) → IsQueryFor f q → (r : Reading) → text_on f r ≡ lines_of q r
-unfolding text_on
-text_is f q asks r = text_is_lines f q asks r.points false
-
-violated_is : (f : Form) (q : Query) → IsQueryFor f q → (r : Reading) → violated_on f r ≡ some_rows q r.points
-unfolding violated_on
-violated_is f q asks r = rows_are_some f q asks r.points false
 
 -- bytes past the limit don't count
 whole_reading : (sig : List PredOf) (limits : Limits) (bytes left : List ℕ)
@@ -55,16 +46,18 @@ out_of_ended : (f : Form) (r : Reading) (ending : Ending) → (ended f r ending)
 out_of_ended f r NoFault = refl
 out_of_ended f r (Fault fault) = refl
 
-module _ (task : Task) (q : Query) (asks : IsQueryFor task.policy.formula q) (e : Effect)
+module _ (task : Task) (core : CoreForm) (is : IsCoreOf core task.policy.formula) (e : Effect)
     (bytes : List ℕ) (failed : Bool) (gathered : IsGathered byte_limit task.log e.after bytes failed) where
   -- the log as it was given
-  given : Reading
+  abbrev given : Reading
   given = reading task.sig standard bytes (not failed)
 
-  out_is : (log_answer task).out ≡ lines_of q (reading_of task)
+  abbrev policy : Form
+  policy = task.policy.formula
+
+  out_is : (log_answer task).out ≡ text_on policy (reading_of task)
   unfolding log_answer
-  out_is = out_of_ended task.policy.formula (reading_of task) (reading_of task).ending
-      ∙ text_is task.policy.formula q asks (reading_of task)
+  out_is = out_of_ended policy (reading_of task) (reading_of task).ending
 
   -- all was given that counts
   all_given : failed ≡ false → reading_of task ≡ reading task.sig standard bytes true
@@ -87,45 +80,38 @@ module _ (task : Task) (q : Query) (asks : IsQueryFor task.policy.formula q) (e 
   keeps = kept failed refl
 
   finishes_by : (r : Reading) (ending : Ending) (old new : Option (List ℕ)) (violated : Bool) → ending ≡ NoFault
-      → Appends old new (lines_of q r) → violated ≡ some_rows q r.points
-      → Finishes (ended task.policy.formula r ending) old new violated
-  finishes_by r ending old new violated clear written some = rw clear (record {
-    status = ap verdict_status (violated_is task.policy.formula q asks r ∙ sym some);
-    err = refl;
-    out = rw (text_is task.policy.formula q asks r) written;
-  })
+      → Appends old new (text_on policy r) → violated ≡ violated_on policy r
+      → Finishes (ended policy r ending) old new violated
+  finishes_by r ending old new violated clear written some =
+      rw clear (record { status = ap verdict_status (sym some); err = refl; out = written })
 
   -- the log was read to its end
   finishes : (old new : Option (List ℕ)) (violated : Bool) → failed ≡ false
-      → EndsClear q (reading task.sig standard bytes (not failed)) old new violated
+      → EndsClear policy (reading task.sig standard bytes (not failed)) old new violated
       → Finishes (log_answer task) old new violated
   unfolding log_answer
   finishes old new violated whole h =
       let same : reading task.sig standard bytes (not failed) ≡ reading_of task =
       ap (λ b. reading task.sig standard bytes (not b)) whole ∙ sym (all_given whole) in
-      let here : EndsClear q (reading_of task) old new violated =
-      subst (λ r. EndsClear q r old new violated) same h in
+      let here : EndsClear policy (reading_of task) old new violated =
+      subst (λ r. EndsClear policy r old new violated) same h in
       finishes_by (reading_of task) (reading_of task).ending old new violated here.clear here.written here.some
 
   refuses_by : (r : Reading) (ending : Ending) (fault : LogFault) (old new : Option (List ℕ)) → ending ≡ Fault fault
-      → Appends old new (lines_of q r) → Refuses (ended task.policy.formula r ending) old new (Log fault)
-  refuses_by r ending fault old new stops written = rw stops (record {
-    status = refl;
-    err = refl;
-    out = rw (text_is task.policy.formula q asks r) written;
-  })
+      → Appends old new (text_on policy r) → Refuses (ended policy r ending) old new (Log fault)
+  refuses_by r ending fault old new stops written = rw stops (record { status = refl; err = refl; out = written })
 
   log_refused : (fault : LogFault) (old new : Option (List ℕ)) (r : Reading) → Keeps r (reading_of task)
-      → (r.ending ≡ Fault fault) × Appends old new (lines_of q r) → Refuses (log_answer task) old new (Log fault)
+      → (r.ending ≡ Fault fault) × Appends old new (text_on policy r) → Refuses (log_answer task) old new (Log fault)
   unfolding log_answer
   log_refused fault old new r k h =
       let same : r ≡ reading_of task = sym (k.stays fault h.0) in
       refuses_by (reading_of task) (reading_of task).ending fault old new
-      (ap (λ (r : Reading). r.ending) (sym same) ∙ h.0) (subst (λ r. Appends old new (lines_of q r)) same h.1)
+      (ap (λ (r : Reading). r.ending) (sym same) ∙ h.0) (subst (λ r. Appends old new (text_on policy r)) same h.1)
 
   log_failed : (name : InputFile) → name ≡ file.Log → failed ≡ true
       → (reading task.sig standard bytes (not failed)).ending ≡ NoFault
-      → Appends e.old.written e.new.written (lines_of q (reading task.sig standard bytes (not failed)))
+      → Appends e.old.written e.new.written (text_on policy (reading task.sig standard bytes (not failed)))
       → FailsInLog task e name
   unfolding seen_of
   log_failed name named cut clear written =
@@ -141,13 +127,12 @@ module _ (task : Task) (q : Query) (asks : IsQueryFor task.policy.formula q) (e 
           unopened = gathered.unopened;
         };
         clear = ap (λ (r : Reading). r.ending) (sym same) ∙ clear;
-        written = rw (text_is task.policy.formula q asks (shown task.sig standard bytes))
-            (subst (λ r. Appends e.old.written e.new.written (lines_of q r)) same written);
+        written = subst (λ r. Appends e.old.written e.new.written (text_on policy r)) same written;
       }
 
   -- the log was not read to its end, or has a fault
   ends : (r : Refusal) (before now : ℕ)
-      → StopsBytes failed q (reading task.sig standard bytes (not failed)) e.old.written e.new.written before now r
+      → StopsBytes failed policy (reading task.sig standard bytes (not failed)) e.old.written e.new.written before now r
       → Ends (log_answer task) (FailsInLog task e) e.old.written e.new.written r
   ends (Log fault) before now h = log_refused fault e.old.written e.new.written _ keeps h
   ends (Read name) before now h = log_failed name h.0 h.1 h.2 h.3
@@ -157,22 +142,23 @@ module _ (task : Task) (q : Query) (asks : IsQueryFor task.policy.formula q) (e 
 
   -- what was written is a front of what is due
   due_front : (old new : Option (List ℕ))
-      → AppendsFront old new (lines_of q (reading task.sig standard bytes (not failed)))
+      → AppendsFront old new (text_on policy (reading task.sig standard bytes (not failed)))
       → AppendsFront old new (log_answer task).out
+  unfolding reading_of text_on
   due_front old new part =
       let k = keeps in
       let r = reading task.sig standard bytes (not failed) in
-      let more : lines_of q (reading_of task) ≡ lines_of q r ++ lines_from q (0 + length r.points) k.more =
-      ap (lines_from q 0) k.points ∙ lines_from-append q 0 r.points k.more in
-      rw (out_is ∙ more) (longer_front old new _ _ part)
+      let more = first_text core policy is (reading_of task) r.points k.more k.points
+      (read_never_falls task.sig standard task.log true) in
+      rw (out_is ∙ more.1) (longer_front old new _ _ part)
 
   -- the log that was given comes to the task's answer
   pub log_comes : (before now : ℕ) (result : Result Bool Refusal)
       → IfOk result (λ violated. (failed ≡ false)
-      × EndsClear q (reading task.sig standard bytes (not failed)) e.old.written e.new.written violated)
-      → IfErr result (λ r. StopsBytes failed q (reading task.sig standard bytes (not failed))
+      × EndsClear policy (reading task.sig standard bytes (not failed)) e.old.written e.new.written violated)
+      → IfErr result (λ r. StopsBytes failed policy (reading task.sig standard bytes (not failed))
       e.old.written e.new.written before now r)
-      → AppendsFront e.old.written e.new.written (lines_of q (reading task.sig standard bytes (not failed)))
+      → AppendsFront e.old.written e.new.written (text_on policy (reading task.sig standard bytes (not failed)))
       → ComesTo (log_answer task) (FailsInLog task e) e.old.written e.new.written result
   log_comes before now result ok stops front = record {
     ok = IfOk-weaker result _ _ (λ violated h. finishes e.old.written e.new.written violated h.0 h.1) ok;
@@ -181,14 +167,20 @@ module _ (task : Task) (q : Query) (asks : IsQueryFor task.policy.formula q) (e 
   }
 
 -- a failed call behind the monitoring of a log shows in the counts
-pub log_causes : (e : Effect) (failed : Bool) (q : Query) (due : Reading) (old new : Option (List ℕ)) (r : Refusal)
+pub log_causes : (e : Effect) (failed : Bool) (f : Form) (due : Reading) (old new : Option (List ℕ)) (r : Refusal)
     → (failed ≡ true → Rose e.before.faults e.after.faults)
-    → StopsBytes failed q due old new e.old.faults e.new.faults r → HasCauses ⊥ e r
-log_causes e failed q due old new (Log fault) cut h = tt
-log_causes e failed q due old new (Read name) cut h = cut h.1
-log_causes e failed q due old new Write cut h = h
-log_causes e failed q due old new Memory cut h = tt
-log_causes e failed q due old new r cut h = absurd h
+    → StopsBytes failed f due old new e.old.faults e.new.faults r → HasCauses ⊥ e r
+log_causes e failed f due old new (Log fault) cut h = tt
+log_causes e failed f due old new (Read name) cut h = cut h.1
+log_causes e failed f due old new Write cut h = h
+log_causes e failed f due old new Memory cut h = tt
+log_causes e failed f due old new r cut h = absurd h
+
+-- the lines stopped, though the bytes were all
+pub stops_bytes : (failed : Bool) (f : Form) (r : Reading) (old new : Option (List ℕ)) (before now : ℕ)
+    (refusal : Refusal) → StopsLines f r old new before now refusal → StopsBytes failed f r old new before now refusal
+stops_bytes failed f r old new before now (Read name) h = absurd h
+stops_bytes failed f r old new before now refusal h = h
 
 module _ (checked : CheckedPolicy) (log : Name) (before after : InputsView) (old new : SinkView)
     (same : after.files ≡ before.files) (later : before.faults ≤ after.faults)
@@ -208,17 +200,17 @@ module _ (checked : CheckedPolicy) (log : Name) (before after : InputsView) (old
   }
 
   -- the log was gathered, and the bytes given of it monitored
-  pub log_monitored : (q : Query) → IsQueryFor checked.policy.formula q → (bytes : List ℕ) (failed : Bool)
+  pub log_monitored : (core : CoreForm) → IsCoreOf core checked.policy.formula → (bytes : List ℕ) (failed : Bool)
       → ToldFiles before.files (λ files. IsGathered byte_limit (content files log) after bytes failed)
       → (failed ≡ true → Rose before.faults after.faults) → (result : Result Bool Refusal)
       → IfOk result (λ violated. (failed ≡ false)
-      × EndsClear q (reading checked.sig standard bytes (not failed)) old.written new.written violated)
-      → IfErr result (λ r. StopsBytes failed q (reading checked.sig standard bytes (not failed))
+      × EndsClear checked.policy.formula (reading checked.sig standard bytes (not failed)) old.written new.written violated)
+      → IfErr result (λ r. StopsBytes failed checked.policy.formula (reading checked.sig standard bytes (not failed))
       old.written new.written old.faults new.faults r)
-      → AppendsFront old.written new.written (lines_of q (reading checked.sig standard bytes (not failed)))
+      → AppendsFront old.written new.written (text_on checked.policy.formula (reading checked.sig standard bytes (not failed)))
       → old.faults ≤ new.faults
       → MonitorsLog checked log (record { before = before; after = after; old = old; new = new }) result
-  log_monitored q asks bytes failed gathered cause result ok stops front later_out =
+  log_monitored core is bytes failed gathered cause result ok stops front later_out =
       let e : Effect = record { before = before; after = after; old = old; new = new } in
       record {
         asked = asked;
@@ -228,8 +220,8 @@ module _ (checked : CheckedPolicy) (log : Name) (before after : InputsView) (old
           later_out = later_out;
           comes = told_map before.files _ _
               (λ files g. log_comes (task_on checked
-              (content files log)) q asks e bytes failed g old.faults new.faults result ok stops front)
+              (content files log)) core is e bytes failed g old.faults new.faults result ok stops front)
               gathered;
-          causes = IfErr-weaker result _ _ (λ r h. log_causes e failed q _ old.written new.written r cause h) stops;
+          causes = IfErr-weaker result _ _ (λ r h. log_causes e failed checked.policy.formula _ old.written new.written r cause h) stops;
         };
       }

@@ -8,14 +8,10 @@ use Rattle.mon_outside.specs.Files.{Files, content}
 use Rattle.mfotl_model.specs.Formulas.{Form}
 use Rattle.mfotl_model.specs.Log.{Log}
 use Rattle.mfotl_model.specs.VerdictText.{text, verdicts}
-use Rattle.mfotl_model.specs.declared.term.Atom.{Atom as OneAtom}
 use Rattle.mfotl_sig.specs.Preds.{PredOf}
 use Rattle.mfotl_sig.specs.Reading.{reading as signature_read}
 use Rattle.mfotl_parse.specs.Reading.{PolicyOf, reading as policy_read}
-use Rattle.monitorable.specs.Atoms.{only_atom}
 use Rattle.monitorable.specs.Fragment.{frag_fault, free_names}
-use Rattle.monitorable.specs.NormalForm.{negative}
-use Rattle.monitorable.specs.Renaming.{apart_form}
 use Rattle.monitorable.specs.declared.fault.FragmentFault.{FragmentFault}
 use Rattle.log_reader.specs.Limits.{byte_limit, event_limit, point_limit}
 use Rattle.log_reader.specs.Readings.{Ending, NoFault, Reading, Fault, accepted, shown}
@@ -26,10 +22,10 @@ use Rattle.monitor_main.specs.declared.refusal.Refusal.{Refusal}
 use Rattle.monitor_main.specs.declared.refusal.Refusal.TheVariants as refusal
 use Rattle.monitor_main.specs.declared.status.Status.{Status}
 use Rattle.monitor_main.specs.declared.status.Status.TheVariants as status
-use Rattle.monitor_main.specs.AtomText.{is_empty}
 use Rattle.monitor_main.specs.CheckLine.{monitorable_line}
 use Rattle.monitor_main.specs.Limits.{max_file}
 use Rattle.monitor_main.specs.Refusals.{line_of, status_of}
+use Rattle.monitor_main.specs.VerdictRows.{is_empty}
 use Rattle.monitor_main.specs.Words.{Sources, Command, Run, Check, command_of}
 
 -- a status, and the bytes written to the output and to the errors
@@ -98,26 +94,13 @@ pub record Task : Type 0 where
   pub policy : PolicyOf
   pub log : List ℕ
 
--- the atom that a policy's core is, if it is nothing else
-abbrev pub core_atom : PolicyOf → Option OneAtom
-core_atom policy = only_atom (apart_form (negative policy.formula))
-
--- other cores are not monitored yet
-abbrev pub unless_later : Option OneAtom → Task → Result Task Refusal
-unless_later None task = Err refusal.Later
-unless_later (Some atom) task = Ok task
-
 -- the task of a policy on a log of these bytes
 abbrev pub task_on : CheckedPolicy → List ℕ → Task
 task_on checked log = record { sig = checked.sig; policy = checked.policy; log = log }
 
--- the same, unless the policy is left for later
-unfoldable pub task_of : CheckedPolicy → List ℕ → Result Task Refusal
-task_of checked log = unless_later (core_atom checked.policy) (task_on checked log)
-
 -- the signature, then the policy, and the log in the file of this name
 unfoldable pub task_at : Sources → List ℕ → Files → Result Task Refusal
-task_at sources log files = policy_at sources files >>= λ checked. task_of checked (content files log)
+task_at sources log files = policy_at sources files >>= λ checked. Ok (task_on checked (content files log))
 
 -- how much a log may have
 abbrev pub standard : Limits

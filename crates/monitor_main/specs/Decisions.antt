@@ -13,8 +13,8 @@ use Rattle.log_reader.specs.Readings.{NoFault}
 use Rattle.monitor_main.specs.declared.refusal.InputFile.{InputFile}
 use Rattle.monitor_main.specs.declared.refusal.InputFile.TheVariants as file
 use Rattle.monitor_main.specs.declared.refusal.Refusal.{Refusal}
-use Rattle.monitor_main.specs.declared.refusal.Refusal.TheVariants.{Usage, Later, Read, Write, Memory}
-use Rattle.monitor_main.specs.Answer.{Answer, CheckedPolicy, Task, answer, bytes_of, command_answer, core_atom, log_answer}
+use Rattle.monitor_main.specs.declared.refusal.Refusal.TheVariants.{Usage, Read, Write, Memory}
+use Rattle.monitor_main.specs.Answer.{Answer, CheckedPolicy, Task, answer, bytes_of, command_answer, log_answer}
 use Rattle.monitor_main.specs.Answer.{seen_of, task_on, text_at_failure, text_on, verdict_status}
 use Rattle.monitor_main.specs.FilesAsked.{AsksInOrder, names_to}
 use Rattle.monitor_main.specs.Refusals.{line_of, status_of}
@@ -96,17 +96,6 @@ pub record MonitorsLog (checked : CheckedPolicy) (log : Name) (e : Effect) (resu
   pub asked : e.after.asked ≡ asked_more e.before.asked (log ∷ [])
   pub decides : Decides ⊥ (λ files. log_answer (task_on checked (content files log)))
       (λ files. FailsInLog (task_on checked (content files log)) e) e result
-
--- nothing was done, since the policy is left for later
-pub record LeavesForLater (e : Effect) (result : Result Bool Refusal) : Type 0 where
-  pub left : result ≡ Err Later
-  pub inputs_stay : e.after ≡ e.before
-  pub out_stays : e.new ≡ e.old
-
--- the log of this name was monitored, where the policy's core is a single atom
-abbrev pub MonitorsPolicy : CheckedPolicy → Name → Effect → Result Bool Refusal → Type 0
-MonitorsPolicy checked log e result =
-    MatchOption (core_atom checked.policy) (LeavesForLater e result) (λ atom. MonitorsLog checked log e result)
 
 -- ---- a command
 

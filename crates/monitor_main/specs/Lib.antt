@@ -3,10 +3,9 @@ pub mod Limits
 pub mod Words
 pub mod CommandViews
 pub mod Status
-pub mod Atom
-pub mod AtomSteps
 pub mod Real
-pub mod AtomText
+pub mod VerdictRows
+pub mod Verdicts
 pub mod TextLaw
 pub mod FaultLines
 pub mod Refusals

@@ -4,7 +4,7 @@ use Rattle.monitor_main.specs.declared.status.Status.{Status}
 use Rattle.monitor_main.specs.declared.status.Status.TheVariants as status
 use Rattle.monitor_main.specs.declared.refusal.Refusal.{Refusal}
 use Rattle.monitor_main.specs.declared.refusal.Refusal.TheVariants.{Usage, LongSignature, Signature}
-use Rattle.monitor_main.specs.declared.refusal.Refusal.TheVariants.{LongPolicy, Policy, Fragment, Later}
+use Rattle.monitor_main.specs.declared.refusal.Refusal.TheVariants.{LongPolicy, Policy, Fragment}
 use Rattle.monitor_main.specs.declared.refusal.Refusal.TheVariants.{Log, Read, Write, Memory}
 use Rattle.monitor_main.specs.FaultLines.{fault_line, file_text, too_long}
 use Rattle.mfotl_sig.specs.FaultTexts.{fault_text as sig_text}
@@ -55,7 +55,6 @@ status_of (Signature fault) = status.Signature
 status_of LongPolicy = status.Policy
 status_of (Policy fault) = status.Policy
 status_of (Fragment fault) = status.Policy
-status_of Later = status.Policy
 status_of (Log fault) = status.Log
 status_of (Read file) = status.Read
 status_of Write = status.Write
@@ -75,7 +74,6 @@ line_of (Signature fault) = fault_line (codes "signature") (sig_text fault)
 line_of LongPolicy = fault_line (codes "policy") too_long
 line_of (Policy fault) = fault_line (codes "policy") (policy_text fault)
 line_of (Fragment fault) = fault_line (codes "policy") (fragment_text fault)
-line_of Later = codes "policy: Later\n"
 line_of (Log fault) = fault_line (codes "log") (log_text fault)
 line_of (Read file) = codes "read: " ++ file_text file ++ codes "\n"
 line_of Write = codes "write\n"

@@ -1,24 +1,18 @@
--- What a query's rows have to do with a policy.
-use Rattle.std.specs.Prelude.{◌≡◌, ℕ, List, Bool}
-use Rattle.mfotl_model.specs.Ascending.{ascending}
+-- How the text on a log grows with it.
+use Rattle.std.specs.Prelude.{◌≡◌, None, List, [], ◌∷◌, ◌++◌}
 use Rattle.mfotl_model.specs.Formulas.{Form}
-use Rattle.mfotl_model.specs.Satisfaction.{database_at}
-use Rattle.mfotl_model.specs.Values.{row_cmp}
-use Rattle.mfotl_model.specs.VerdictText.{text}
-use Rattle.mfotl_model.specs.Violations.{viol}
+use Rattle.mfotl_model.specs.Log.{times}
+use Rattle.mfotl_model.specs.Times.{NeverFalls}
+use Rattle.mfotl_model.specs.VerdictText.{verdicts}
 use Rattle.mfotl_model.specs.declared.event.TimePoint.{TimePoint}
-use Rattle.mfotl_model.specs.Matching.{Query, matching_rows}
-use Rattle.monitor_main.specs.Atom.{IsQueryFor}
-use Rattle.monitor_main.specs.AtomText.{lines_from}
+use Rattle.monitorable.specs.Fragment.{Names, frag_fault}
+use Rattle.monitorable.specs.Laws.{open_log}
+use Rattle.monitor_main.specs.Verdicts.{news}
 
--- the violations of a policy are the rows of its query
-abbrev pub RowsAreViolations : Type 0
-RowsAreViolations =
-    (f : Form) (q : Query) → IsQueryFor f q → (log : List TimePoint) (i : ℕ)
-    → viol log f i ≡ ascending row_cmp (matching_rows q (database_at log i))
-
--- the text on a policy is a line of its query for each time-point
-abbrev pub TextIsLines : Type 0
-TextIsLines =
-    (f : Form) (q : Query) → IsQueryFor f q → (points : List TimePoint) (closed : Bool)
-    → text (record { points = points; closed = closed }) f ≡ lines_from q 0 points
+-- with one time-point more, the verdicts stay, and those on the positions that it settles come behind them,
+-- none skipped
+abbrev pub VerdictsGrow : Type 0
+VerdictsGrow =
+    (log : List TimePoint) (point : TimePoint) (names : Names) (policy : Form)
+    → NeverFalls (times (log ++ point ∷ [])) → frag_fault names policy ≡ None
+    → verdicts (open_log (log ++ point ∷ [])) policy ≡ verdicts (open_log log) policy ++ news policy log point

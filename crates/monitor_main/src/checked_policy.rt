@@ -3,6 +3,7 @@ ghost use Rattle.std.specs.Prelude.{◌≡◌, ◌≤◌, ◌∷◌, [], length,
 ghost use Rattle.mon_outside.specs.Files.{ToldFiles, content};
 ghost use Rattle.mon_outside.specs.Inputs.{asked_more};
 ghost use Rattle.mon_outside.specs.Views.{inputs_view};
+ghost use Rattle.monitorable.specs.Cores.{core_form};
 ghost use Rattle.monitor_main.specs.Answer.{checked_over, signature_of};
 ghost use Rattle.monitor_main.specs.CheckedPolicies.{Gives, IsCoreOf, IsInside, checked_in};
 ghost use Rattle.monitor_main.specs.CommandViews.{sources_in};
@@ -50,7 +51,8 @@ fn signature_in(alloc: Global, bytes: &[u8]) -> Result<Signature, Refusal>
 fn check(alloc: Global, sig: Signature, bytes: &[u8]) -> Result<CheckedPolicy, Refusal>
     requires { length bytes.now ≤ max_file }
     ensures gives { Gives checked_in result (checked_over sig bytes.now) }
-    ensures core { IfOk result (λ checked. IsCoreOf checked.core (checked_in checked).policy.formula) }
+    ensures core { IfOk result (λ checked. IsCoreOf (core_form checked.core)
+        (checked_in checked).policy.formula) }
     ensures inside { IfErr result IsInside }
 {
     let policy = read_policy(alloc, bytes, &sig)?;
@@ -94,7 +96,8 @@ fn load_policy<I: Inputs>(
     ensures asks { I.asked inputs.new ≡ asked_more (I.asked inputs.old) (name.now ∷ []) }
     ensures ok { IfOk result (λ checked. ToldFiles (I.files inputs.old) (λ files.
         checked_over sig (content files name.now) ≡ Ok (checked_in checked))) }
-    ensures core { IfOk result (λ checked. IsCoreOf checked.core (checked_in checked).policy.formula) }
+    ensures core { IfOk result (λ checked. IsCoreOf (core_form checked.core)
+        (checked_in checked).policy.formula) }
     ensures refused { IfErr result (IsRefused InputFile.Policy name.now (checked_over sig)
         (inputs_view I.Inputs inputs.old) (inputs_view I.Inputs inputs.new)) }
 {
@@ -116,7 +119,8 @@ pub fn load_sources<I: Inputs>(
     ensures later { I.faults inputs.old ≤ I.faults inputs.new }
     ensures ok { IfOk result (λ checked. LoadsSources (sources_in sources.now) (checked_in checked)
         (inputs_view I.Inputs inputs.old) (inputs_view I.Inputs inputs.new)) }
-    ensures core { IfOk result (λ checked. IsCoreOf checked.core (checked_in checked).policy.formula) }
+    ensures core { IfOk result (λ checked. IsCoreOf (core_form checked.core)
+        (checked_in checked).policy.formula) }
     ensures refused { IfErr result (StopsInSources (sources_in sources.now)
         (inputs_view I.Inputs inputs.old) (inputs_view I.Inputs inputs.new)) }
 {

@@ -94,7 +94,6 @@ impl Refusal {
             Refusal::LongPolicy => long_line(alloc, "policy"),
             Refusal::Policy(fault) => policy_line(alloc, fault),
             Refusal::Fragment(fault) => fragment_line(alloc, fault),
-            Refusal::Later => Vec::from_slice(alloc, b"policy: Later\n"),
             Refusal::Log(fault) => log_line(alloc, fault),
             Refusal::Read(file) => read_line(alloc, *file),
             Refusal::Write => Vec::from_slice(alloc, b"write\n"),

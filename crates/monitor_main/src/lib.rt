@@ -2,7 +2,6 @@
 //! status out. The programs above make its inputs and its sinks.
 #![tactic(auto)]
 
-mod atom;
 mod check;
 mod checked_policy;
 mod fault_lines;
@@ -17,6 +16,7 @@ mod refusal;
 mod retrying;
 mod running;
 mod status;
+mod verdict_lines;
 mod words;
 
 pub use real_inputs::RealInputs;

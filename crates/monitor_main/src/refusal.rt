@@ -32,8 +32,6 @@ pub enum Refusal {
     Policy(PolicyFault),
     /// The first reason why the policy can't be monitored.
     Fragment(FragmentFault),
-    /// The policy's core is none that is monitored so far.
-    Later,
     /// The first fault of the log.
     Log(LogFault),
     /// The file could not be opened or read.
@@ -126,7 +124,6 @@ impl Refusal {
             Refusal::LongPolicy => Status::Policy,
             Refusal::Policy(_) => Status::Policy,
             Refusal::Fragment(_) => Status::Policy,
-            Refusal::Later => Status::Policy,
             Refusal::Log(_) => Status::Log,
             Refusal::Read(_) => Status::Read,
             Refusal::Write => Status::Write,

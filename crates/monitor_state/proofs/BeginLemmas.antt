@@ -1,23 +1,22 @@
 -- The nodes with which a monitor begins stand for the empty log.
-use Rattle.std.proofs.Common.{Result, Ok, Err, OnOk, subst, ◌≡◌, ℕ, ◌+◌, ◌-◌, ◌<◌, ◌≤◌, Bool, true, false, cond, List, [], ◌∷◌, ◌++◌, length, map, drop, refl, sym, ap, ap₂, ◌∙◌, arith, append_assoc, append-nil, inl, inr}
+use Rattle.std.proofs.Common.{subst, ◌≡◌, ◌+◌, ◌-◌, ◌≤◌, Bool, true, false, cond, List, [], ◌∷◌, ◌++◌, length, map, drop, refl, sym, ap, ◌∙◌, arith, append_assoc, append-nil, inl, inr}
 use Rattle.mfotl_model.specs.Exact.{AllExact, View}
-use Rattle.mfotl_model.specs.FreeVariables.{fv, joined}
+use Rattle.mfotl_model.specs.FreeVariables.{fv}
 use Rattle.mfotl_model.specs.Log.{times}
 use Rattle.mfotl_model.specs.Satisfaction.{Valuation, sat}
 use Rattle.mfotl_model.specs.Tables.{TableOf, has}
-use Rattle.mfotl_model.specs.declared.event.TimePoint.{TimePoint}
 use Rattle.mfotl_model.specs.declared.formula.Bound.{Bound}
 use Rattle.mfotl_model.specs.declared.interval.Interval.{Interval}
 use Rattle.mfotl_model.specs.declared.term.Atom.{Atom as OneAtom}
-use Rattle.mfotl_model.specs.declared.value.Value.{Value}
+use Rattle.mfotl_model.specs.declared.term.Comparison.{Comparison}
 use Rattle.eval_bool.specs.OrView.{OrOf}
 use Rattle.eval_since.specs.PreviousView.{PrevOf}
 use Rattle.eval_since.specs.SinceView.{SinceOf}
 use Rattle.eval_until.specs.NextView.{NextOf, tables_pushed}
-use Rattle.monitorable.specs.CoreForms.{CoreForm, meaning, True, False, Atom, Not, And, Or, Exists, Previous, Next, Since}
+use Rattle.monitorable.specs.CoreForms.{CoreForm, meaning, True, False, Atom, Compare, Not, And, Or, Exists, Previous, Next, Since}
 use Rattle.monitorable.specs.Conjuncts.{PartForm, conjuncts_of}
 use Rattle.monitorable.specs.Conjuncts.PartForm.{Child as ChildPart, Test as TestPart}
-use Rattle.monitorable.specs.Fragment.{is_conjunction, judges_not, under_not}
+use Rattle.monitorable.specs.Fragment.{binds, is_conjunction, judges_not, under_not}
 use Rattle.eval_bool.specs.JoinView.{ChildOf, JoinOf, children_of}
 use Rattle.monitorable.specs.declared.role.Role.{Role}
 use Rattle.monitorable.specs.declared.role.Role.TheVariants as role
@@ -25,14 +24,16 @@ use Rattle.monitor_state.proofs.ExactLemmas.{reached_within}
 use Rattle.monitor_state.proofs.MonitorSteps.{nodes_append}
 use Rattle.monitor_state.proofs.RegionLemmas.{joined_within}
 use Rattle.monitor_state.proofs.SinceSteps.{free_operand}
-use Rattle.monitor_state.specs.Beginnings.{Adds, AddsIf, Begins, BeginsJoin, IsJoined, NextBegun, OrBegun, PreviousBegun, SinceBegun}
-use Rattle.monitor_state.specs.Nodes.{children, is_negated, left_operand, nodes_in, nodes_of, operands}
-use Rattle.monitor_state.specs.Stands.{ChildrenStand, IsConstant, IsFor, IsJoin, IsNext, IsOr, IsPrevious, IsSince, JoinStands, NextStands, OrStands, PreviousStands, bare, conjunct_as, NodeStands, NodesStand, SinceStands, Stands, StateOf}
+use Rattle.monitor_state.specs.Beginnings.{Adds, AddsIf, Begins, BeginsJoin, BeginsNode, IsJoined, NextBegun, OrBegun, PreviousBegun, SinceBegun}
+use Rattle.monitor_state.specs.Constants.{stands_alone}
+use Rattle.monitor_state.specs.Nodes.{children, left_operand, nodes_in, nodes_of, operands}
+use Rattle.monitor_state.specs.Stands.{ChildrenStand, IsConstant, IsFor, IsJoin, IsOr, IsSince, JoinStands, NextStands, OrStands, PreviousStands, bare, conjunct_as, NodeStands, NodesStand, SinceStands, StateOf}
 use Rattle.monitor_state.specs.Views.{reached}
 use Rattle.monitor_state.specs.declared.node.Node.{Node}
 use Rattle.monitor_state.specs.declared.node.Node.TheVariants as node
 
-adds_then : (fs gs : List CoreForm) (old mid new : List Node) → Adds fs old mid → Adds gs mid new → Adds (fs ++ gs) old new
+pub adds_then : (fs gs : List CoreForm) (old mid new : List Node) → Adds fs old mid → Adds gs mid new
+    → Adds (fs ++ gs) old new
 adds_then fs gs old mid new first second view empty =
     let one = first view empty in
     let two = second view empty in (
@@ -41,12 +42,12 @@ adds_then fs gs old mid new first second view empty =
       nodes_append view fs gs one.0 two.0 one.2 two.2,
     )
 
-adds_one : (f : CoreForm) (n : Node) (old new : List Node) → new ≡ old ++ n ∷ [] → IsFor f n
+pub adds_one : (f : CoreForm) (n : Node) (old new : List Node) → new ≡ old ++ n ∷ [] → IsFor f n
     → ((view : View) → view.log ≡ [] → NodeStands view f n) → Adds (f ∷ []) old new
 adds_one f n old new is for stands view empty = (n ∷ [], is, (for, stands view empty, tt))
 
 -- nothing of an empty log is settled
-none_reached : (view : View) → view.log ≡ [] → (f : CoreForm) → 0 ≡ reached view f
+pub none_reached : (view : View) → view.log ≡ [] → (f : CoreForm) → 0 ≡ reached view f
 none_reached view empty f =
     let most : reached view f ≤ length view.log = reached_within view f in
     let size : length view.log ≡ 0 = ap length empty in
@@ -57,14 +58,14 @@ pub true_adds : (table : TableOf) (old new : List Node) → table.columns ≡ []
 unfolding fv sat
 true_adds table old new columns rows is =
     adds_one True (node.Constant table) old new is
-    (record { columns = columns; rows = λ log dom v i. rows v }) (λ view empty. tt)
+    (record { columns = columns; rows = λ log dom v i. rows v; alone = refl }) (λ view empty. tt)
 
 pub false_adds : (table : TableOf) (old new : List Node) → table.columns ≡ [] → ((v : Valuation) → has table v ≡ false)
     → new ≡ old ++ node.Constant table ∷ [] → Adds (False ∷ []) old new
 unfolding fv sat
 false_adds table old new columns rows is =
     adds_one False (node.Constant table) old new is
-    (record { columns = columns; rows = λ log dom v i. rows v }) (λ view empty. tt)
+    (record { columns = columns; rows = λ log dom v i. rows v; alone = refl }) (λ view empty. tt)
 
 pub atom_adds : (a b : OneAtom) (old new : List Node) → b ≡ a → new ≡ old ++ node.Atom b ∷ [] → Adds (Atom a ∷ []) old new
 atom_adds a b old new same is = adds_one (Atom a) (node.Atom b) old new is same (λ view empty. tt)
@@ -197,17 +198,28 @@ pub unjudged_adds : (own : Bool) (f : CoreForm) (old new : List Node) → own �
 unjudged_adds own f old new not_own same =
     subst (λ b. AddsIf b f old new) (sym not_own) (subst (λ ns. Adds [] old ns) (sym same) (adds_none old))
 
--- whether a core is a conjunction
-pub data IsConjunction : CoreForm → Type 0 where
-  IsAnd : (f g : CoreForm) → IsConjunction (And f g)
-  IsNot : (f : CoreForm) → IsConjunction (Not f)
+-- the node of a conjunction that has a child
+pub join_node : (h : CoreForm) (s : JoinOf) → IsJoined h → BeginsJoin h s → BeginsNode h (node.Join s)
+join_node h s (inl same) begins =
+    let own = subst (λ k. BeginsJoin k s) same.2 begins in
+    subst (λ k. BeginsNode k (node.Join s)) (sym same.2)
+    (join_is (And same.0 same.1) s own, join_begins (And same.0 same.1) s refl own)
+join_node h s (inr same) begins =
+    let own = subst (λ k. BeginsJoin k s) same.1 begins in
+    subst (λ k. BeginsNode k (node.Join s)) (sym same.1)
+    (join_is (Not same.0) s own, join_begins (Not same.0) s refl own)
 
-one_join : (f : CoreForm) (s : JoinOf) (old new : List Node) → IsConjunction f → BeginsJoin f s → new ≡ old ++ node.Join s ∷ []
-    → Adds (f ∷ []) old new
-one_join f s old new (IsAnd g h) begins is =
-    adds_one (And g h) (node.Join s) old new is (join_is (And g h) s begins) (join_begins (And g h) s refl begins)
-one_join f s old new (IsNot g) begins is =
-    adds_one (Not g) (node.Join s) old new is (join_is (Not g) s begins) (join_begins (Not g) s refl begins)
+-- the node of one that has none
+pub tests_node : (h : CoreForm) (table : TableOf) → IsJoined h → IsConstant h table → BeginsNode h (node.Constant table)
+tests_node h table (inl same) is =
+    subst (λ k. BeginsNode k (node.Constant table)) (sym same.2) (subst (λ k. IsConstant k table) same.2 is, λ view empty. tt)
+tests_node h table (inr same) is =
+    subst (λ k. BeginsNode k (node.Constant table)) (sym same.1) (subst (λ k. IsConstant k table) same.1 is, λ view empty. tt)
+
+-- its operands are its children
+pub joined_operands : (h : CoreForm) → IsJoined h → operands h ≡ children (conjuncts_of h)
+joined_operands h (inl same) = subst (λ k. operands k ≡ children (conjuncts_of k)) (sym same.2) refl
+joined_operands h (inr same) = subst (λ k. operands k ≡ children (conjuncts_of k)) (sym same.1) refl
 
 pub and_adds : (r : Role) (h f g : CoreForm) (own : Bool) (old mid more new : List Node) → h ≡ And f g → own ≡ is_conjunction r
     → Adds (nodes_in role.Part f) old mid → Adds (nodes_in role.Part g) mid more
@@ -228,16 +240,15 @@ not_adds r s h f own old mid new same is under first last =
     (subst (λ q. Adds (nodes_in q f) old mid) under first)
     (subst (λ b. Adds (cond b (Not f ∷ []) []) mid new) is (subst (λ k. AddsIf own k mid new) same last)))
 
-pub judged_adds : (own : Bool) (h : CoreForm) (s : JoinOf) (old new : List Node) → own ≡ true → IsJoined h → BeginsJoin h s
-    → new ≡ old ++ node.Join s ∷ [] → AddsIf own h old new
-judged_adds own h s old new is (inl same) begins made =
-    subst (λ b. AddsIf b h old new) (sym is)
-    (subst (λ k. Adds (k ∷ []) old new) (sym same.2)
-    (one_join (And same.0 same.1) s old new (IsAnd same.0 same.1) (subst (λ k. BeginsJoin k s) same.2 begins) made))
-judged_adds own h s old new is (inr same) begins made =
-    subst (λ b. AddsIf b h old new) (sym is)
-    (subst (λ k. Adds (k ∷ []) old new) (sym same.1)
-    (one_join (Not same.0) s old new (IsNot same.0) (subst (λ k. BeginsJoin k s) same.1 begins) made))
+pub judged_adds : (own : Bool) (h : CoreForm) (n : Node) (old new : List Node) → own ≡ true → BeginsNode h n
+    → new ≡ old ++ n ∷ [] → AddsIf own h old new
+judged_adds own h n old new is begins made =
+    subst (λ b. AddsIf b h old new) (sym is) (adds_one h n old new made begins.0 begins.1)
+
+pub compare_adds : (r : Role) (h : CoreForm) (c : Comparison) (old new : List Node) → h ≡ Compare c
+    → AddsIf (stands_alone r (binds c)) (Compare c) old new → Adds (nodes_in r h) old new
+unfolding nodes_in
+compare_adds r h c old new same adds = subst (λ k. Adds (nodes_in r k) old new) (sym same) adds
 
 or_begins : (f g : CoreForm) (s : OrOf) → OrBegun f g s → (view : View) → view.log ≡ [] → OrStands view f g s
 or_begins f g s begun view empty =

@@ -5,9 +5,14 @@ use Rattle.mfotl_model.proofs.CountLemmas.{counted_settled, next_unsettled}
 use Rattle.mfotl_model.proofs.LogicLemmas.{all_in, all_from}
 use Rattle.mfotl_model.specs.Counts.{settled_count}
 use Rattle.mfotl_model.specs.Formulas.{Form}
-use Rattle.mfotl_model.specs.Formulas.Form.{And, Next, Or, Previous, Since}
+use Rattle.mfotl_model.specs.Formulas.Form.{Next, Or, Previous, Since}
 use Rattle.mfotl_model.specs.Settled.{settled, next_settled, previous_settled, since_settled}
 use Rattle.mfotl_model.specs.Times.{NeverFalls}
+use Rattle.std.proofs.Common.{ap₂}
+use Rattle.mfotl_model.proofs.LogicLemmas.{funext}
+use Rattle.mfotl_model.specs.Formulas.Form.{Until}
+use Rattle.mfotl_model.specs.Settled.{until_settled}
+use Rattle.monitorable.proofs.DomainLemmas.{same_truth}
 use Rattle.mfotl_model.specs.declared.interval.Interval.{Interval}
 use Rattle.monitorable.proofs.SettledLemmas.{settled_before, settled_in_log}
 use Rattle.monitorable.proofs.SettledStays.{settled_stays}
@@ -125,6 +130,23 @@ count_next t rising interval f n most done =
     (λ h.
     let both = and_parts (nat_lt (n + 1) (length t)) (settled t f (n + 1)) h in
     done (ltb-true (n + 1) (length t) both.0) (count_below t rising f (n + 1) both.1))
+
+-- what is settled is what is counted
+settled_below : (t : List ℕ) → NeverFalls t → (f : Form) (j : ℕ) → settled t f j ≡ nat_lt j (settled_count t f)
+settled_below t rising f j =
+    same_truth (settled t f j) (nat_lt j (settled_count t f))
+    (λ h. lt-ltb j (settled_count t f) (count_below t rising f j h))
+    (λ h. counted_settled t f j (ltb-true j (settled_count t f) h))
+
+-- an UNTIL is settled by the counts of its operands
+pub until_counted : (t : List ℕ) → NeverFalls t → (interval : Interval) (f g : Form) (k : ℕ)
+    → settled t (Until interval f g) k
+    ≡ until_settled interval.hi t (λ j. nat_lt j (settled_count t f) && nat_lt j (settled_count t g)) k
+unfolding settled
+until_counted t rising interval f g k =
+    ap (λ ready. until_settled interval.hi t ready k)
+    (funext (λ j. settled t f j && settled t g j) (λ j. nat_lt j (settled_count t f) && nat_lt j (settled_count t g))
+    (λ j. ap₂ (λ a b. a && b) (settled_below t rising f j) (settled_below t rising g j)))
 
 -- a settled position lies in the log
 pub count_within : (t : List ℕ) (f : Form) → settled_count t f ≤ length t

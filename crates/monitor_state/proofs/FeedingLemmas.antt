@@ -1,12 +1,12 @@
 -- Tables pushed to a SINCE and pulled from it, one after the other.
-use Rattle.std.proofs.Common.{Option, Some, None, MatchOption, IfSome, is_some, subst, ◌≡◌, ℕ, ◌+◌, ◌-◌, ◌<◌, ◌≤◌, Bool, true, false, ◌&&◌, nat_lt, List, [], ◌∷◌, ◌++◌, length, drop, refl, sym, ap, ap₂, ◌∙◌, arith, length-append, append-nil, append_assoc}
+use Rattle.std.proofs.Common.{Option, Some, MatchOption, IfSome, is_some, subst, ◌≡◌, ℕ, ◌+◌, ◌-◌, ◌<◌, ◌≤◌, Bool, true, ◌&&◌, nat_lt, List, [], ◌∷◌, ◌++◌, length, drop, refl, sym, ap, ap₂, ◌∙◌, arith, length-append, append-nil, append_assoc}
 use Rattle.std.proofs.lemmas.List.{drop-drop, length-drop}
 use Rattle.std.proofs.lemmas.Bool.{and_parts, ltb-true}
-use Rattle.mfotl_model.specs.Satisfaction.{Valuation, since, time_at, truth_at}
+use Rattle.mfotl_model.specs.Satisfaction.{Valuation, since, truth_at}
 use Rattle.mfotl_model.specs.Tables.{TableOf, all_among, has}
 use Rattle.eval_since.specs.SinceView.{Advances, Follows, SinceOf, due}
 use Rattle.relations.proofs.PushedLemmas.{over_push, stand_push}
-use Rattle.relations.specs.Pushed.{AreOver, StandFrom, left_holds}
+use Rattle.relations.specs.Pushed.{StandFrom, left_holds}
 use Rattle.monitor_state.specs.Feeding.{LeftsPushed, RightsPushed, SincePulled}
 
 -- what stands in front, and the one behind

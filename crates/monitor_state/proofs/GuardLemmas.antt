@@ -1,17 +1,18 @@
 -- What the fragment gives the parts of a core: no variable of a conjunction that a child doesn't bind.
-use Rattle.std.proofs.Common.{◌≡◌, ℕ, ◌<◌, ◌≤◌, Bool, true, false, not, ◌&&◌, ◌||◌, cond, List, [], ◌∷◌, ◌++◌, length, map, Option, None, refl, sym, ap, ap₂, subst, ◌∙◌, inl, inr, arith, append_assoc, append-nil}
-use Rattle.std.proofs.lemmas.Bool.{and_from, or_cases, or_left, or_right}
+use Rattle.std.proofs.Common.{◌≡◌, ℕ, ◌<◌, Bool, true, false, cond, List, [], ◌∷◌, ◌++◌, length, map, None, refl, sym, ap, ap₂, subst, ◌∙◌, arith, append_assoc, append-nil}
+use Rattle.std.proofs.lemmas.Bool.{and_from, or_left, or_right}
 use Rattle.std.specs.List.{list_all, list_any}
 use Rattle.mfotl_model.proofs.LogicLemmas.{among_joined}
-use Rattle.mfotl_model.specs.FreeVariables.{among, joined, fv, variables_in}
+use Rattle.mfotl_model.specs.FreeVariables.{among, fv}
 use Rattle.mfotl_model.specs.Tables.{all_among, all_apart}
 use Rattle.mfotl_model.specs.declared.formula.Bound.{Bound}
 use Rattle.mfotl_model.specs.declared.interval.Interval.{Interval}
 use Rattle.mfotl_model.specs.declared.term.Comparison.{Comparison}
-use Rattle.eval_bool.specs.JoinView.{ChildOf, TestOf, all_children, bound_columns, children_of, compared, conjunct_columns, is_guarded, tests_of}
-use Rattle.monitorable.proofs.FragmentLemmas.{guarded, no_first}
+use Rattle.eval_bool.specs.OrView.{same_columns}
+use Rattle.eval_bool.specs.JoinView.{all_children, bound_columns, children_of, compared, conjunct_columns, is_guarded, tests_of}
+use Rattle.monitorable.proofs.FragmentLemmas.{even_variables, guarded, no_first, right_variable}
 use Rattle.monitorable.proofs.FreeVariableLemmas.{fv_apart}
-use Rattle.monitorable.specs.CoreForms.{CoreForm, meaning, True, False, Atom, Compare, Not, And, Or, Exists, Previous, Next, Since, Until}
+use Rattle.monitorable.specs.CoreForms.{CoreForm, meaning, Compare, Not, And, Or, Exists, Previous, Next, Since, Until}
 use Rattle.monitorable.specs.Conjuncts.{PartForm, conjuncts_of, negated_part}
 use Rattle.monitorable.specs.Conjuncts.PartForm.{Child as ChildPart, Test as TestPart}
 use Rattle.monitorable.specs.Fragment.{Names, asked, binds, bound_by, covers, evens, fault_in, first, guards, is_conjunction, judges_not, looks_within, under_not, uses, with_name}
@@ -45,7 +46,7 @@ compared_bound c true = append-nil (fv (meaning (Compare c)))
 compared_bound c false = refl
 
 -- the columns that the conjuncts bind are the variables that the core binds
-bound_is : (f : CoreForm) → bound_columns (children_of (map conjunct_as (conjuncts_of f))) ≡ bound_by f
+pub bound_is : (f : CoreForm) → bound_columns (children_of (map conjunct_as (conjuncts_of f))) ≡ bound_by f
 unfolding conjuncts_of bound_by
 bound_is (And f g) = bound_append (conjuncts_of f) (conjuncts_of g) ∙ ap₂ (λ xs ys. xs ++ ys) (bound_is f) (bound_is g)
 bound_is (Not f) = negated_bound f
@@ -167,6 +168,66 @@ since_right r i f g a = (
       (no_first (fault_in a.0 role.Left f) (first (fault_in a.0 role.Whole g) (covers a.0 f g)) a.1).1).0,
 )
 
+pub until_left : (r : Role) (i : Interval) (f g : CoreForm) → Accepted r (Until i f g) → Accepted role.Left f
+unfolding fault_in
+until_left r i f g a = (
+  a.0,
+  (no_first (fault_in a.0 role.Left f)
+      (first (fault_in a.0 role.Whole g) (first (looks_within i.hi) (covers a.0 f g))) a.1).0,
+)
+
+pub until_right : (r : Role) (i : Interval) (f g : CoreForm) → Accepted r (Until i f g) → Accepted role.Whole g
+unfolding fault_in
+until_right r i f g a = (
+  a.0,
+  (no_first (fault_in a.0 role.Whole g) (first (looks_within i.hi) (covers a.0 f g))
+      (no_first (fault_in a.0 role.Left f)
+      (first (fault_in a.0 role.Whole g) (first (looks_within i.hi) (covers a.0 f g))) a.1).1).0,
+)
+
+-- where the right operand covers the left one, the left one's variables are among its own
+covered_among : (names : Names) (f g : CoreForm) → covers names f g ≡ None
+    → all_among (fv (meaning f)) (fv (meaning g)) ≡ true
+covered_among names f g covered =
+    all_from_each (fv (meaning f)) (fv (meaning g))
+    (λ y m. right_variable names f g y covered
+    (among_joined y (fv (meaning f)) (fv (meaning g)) ∙ or_left (among y (fv (meaning f))) (among y (fv (meaning g))) m))
+
+-- the variables of a SINCE's left operand are among its right one's
+since_covered : (r : Role) (i : Interval) (f g : CoreForm) → Accepted r (Since i f g)
+    → all_among (fv (meaning f)) (fv (meaning g)) ≡ true
+unfolding fault_in
+since_covered r i f g a =
+    covered_among a.0 f g
+    (no_first (fault_in a.0 role.Whole g) (covers a.0 f g)
+    (no_first (fault_in a.0 role.Left f) (first (fault_in a.0 role.Whole g) (covers a.0 f g)) a.1).1).1
+
+-- the same of an UNTIL
+until_covered : (r : Role) (i : Interval) (f g : CoreForm) → Accepted r (Until i f g)
+    → all_among (fv (meaning f)) (fv (meaning g)) ≡ true
+unfolding fault_in
+until_covered r i f g a =
+    covered_among a.0 f g
+    (no_first (looks_within i.hi) (covers a.0 f g)
+    (no_first (fault_in a.0 role.Whole g) (first (looks_within i.hi) (covers a.0 f g))
+    (no_first (fault_in a.0 role.Left f)
+    (first (fault_in a.0 role.Whole g) (first (looks_within i.hi) (covers a.0 f g))) a.1).1).1).1
+
+-- the operands of an OR have the same variables
+or_even : (r : Role) (f g : CoreForm) → Accepted r (Or f g) → same_columns (fv (meaning f)) (fv (meaning g)) ≡ true
+unfolding fault_in
+or_even r f g a =
+    let even : evens f g ≡ None =
+    (no_first (fault_in a.0 role.Whole g) (evens f g)
+    (no_first (fault_in a.0 role.Whole f) (first (fault_in a.0 role.Whole g) (evens f g)) a.1).1).1 in
+    and_from (all_among (fv (meaning f)) (fv (meaning g))) (all_among (fv (meaning g)) (fv (meaning f)))
+    (all_from_each (fv (meaning f)) (fv (meaning g))
+    (λ y m. (even_variables f g y even
+    (among_joined y (fv (meaning f)) (fv (meaning g)) ∙ or_left (among y (fv (meaning f))) (among y (fv (meaning g))) m)).1))
+    (all_from_each (fv (meaning g)) (fv (meaning f))
+    (λ y m. (even_variables f g y even
+    (among_joined y (fv (meaning f)) (fv (meaning g)) ∙ or_right (among y (fv (meaning f))) (among y (fv (meaning g))) m)).0))
+
 -- the same of a core that is known to be so
 pub and_left_at : (r : Role) (h f g : CoreForm) → h ≡ And f g → Accepted r h → Accepted role.Part f
 and_left_at r h f g same a = and_left r f g (subst (Accepted r) same a)
@@ -194,6 +255,14 @@ since_left_at r h i f g same a = since_left r i f g (subst (Accepted r) same a)
 pub since_right_at : (r : Role) (h : CoreForm) (i : Interval) (f g : CoreForm) → h ≡ Since i f g → Accepted r h → Accepted role.Whole g
 since_right_at r h i f g same a = since_right r i f g (subst (Accepted r) same a)
 
+pub until_left_at : (r : Role) (h : CoreForm) (i : Interval) (f g : CoreForm) → h ≡ Until i f g → Accepted r h
+    → Accepted role.Left f
+until_left_at r h i f g same a = until_left r i f g (subst (Accepted r) same a)
+
+pub until_right_at : (r : Role) (h : CoreForm) (i : Interval) (f g : CoreForm) → h ≡ Until i f g → Accepted r h
+    → Accepted role.Whole g
+until_right_at r h i f g same a = until_right r i f g (subst (Accepted r) same a)
+
 pub or_left_at : (r : Role) (h f g : CoreForm) → h ≡ Or f g → Accepted r h → Accepted role.Whole f
 or_left_at r h f g same a = first_of_or r f g (subst (Accepted r) same a)
 
@@ -207,3 +276,15 @@ previous_under_at r h i f same a = subst (Accepted r) same a
 pub next_under_at : (r : Role) (h : CoreForm) (i : Interval) (f : CoreForm) → h ≡ Next i f → Accepted r h → Accepted role.Whole f
 unfolding fault_in
 next_under_at r h i f same a = subst (Accepted r) same a
+
+pub since_covered_at : (r : Role) (h : CoreForm) (i : Interval) (f g : CoreForm) → h ≡ Since i f g → Accepted r h
+    → all_among (fv (meaning f)) (fv (meaning g)) ≡ true
+since_covered_at r h i f g same a = since_covered r i f g (subst (Accepted r) same a)
+
+pub until_covered_at : (r : Role) (h : CoreForm) (i : Interval) (f g : CoreForm) → h ≡ Until i f g → Accepted r h
+    → all_among (fv (meaning f)) (fv (meaning g)) ≡ true
+until_covered_at r h i f g same a = until_covered r i f g (subst (Accepted r) same a)
+
+pub or_even_at : (r : Role) (h f g : CoreForm) → h ≡ Or f g → Accepted r h
+    → same_columns (fv (meaning f)) (fv (meaning g)) ≡ true
+or_even_at r h f g same a = or_even r f g (subst (Accepted r) same a)

@@ -1,5 +1,5 @@
 -- Tables pushed to a conjunction and pulled from it, one after the other.
-use Rattle.std.proofs.Common.{Option, Some, None, MatchOption, IfSome, is_some, subst, ◌≡◌, ℕ, zero, suc, ◌+◌, ◌-◌, ◌<◌, ◌≤◌, Bool, true, false, ◌&&◌, nat_lt, nat_le, List, [], ◌∷◌, ◌++◌, length, drop, map, refl, sym, ap, ap₂, ◌∙◌, arith, length-append, append-nil, append_assoc}
+use Rattle.std.proofs.Common.{Option, Some, MatchOption, IfSome, is_some, subst, ◌≡◌, ℕ, zero, suc, ◌+◌, ◌-◌, ◌<◌, ◌≤◌, true, nat_lt, nat_le, List, [], ◌∷◌, ◌++◌, length, drop, map, refl, sym, ap, ap₂, ◌∙◌, arith, length-append, append-nil, append_assoc}
 use Rattle.std.proofs.lemmas.Bool.{and_parts, and_from, ltb-true, leb-true, le-leb}
 use Rattle.std.proofs.lemmas.List.{drop-drop, length-drop}
 use Rattle.std.specs.List.{list_all}
@@ -7,8 +7,7 @@ use Rattle.mfotl_model.specs.Satisfaction.{Valuation}
 use Rattle.mfotl_model.specs.Tables.{TableOf, has}
 use Rattle.eval_bool.specs.JoinView.{ChildOf, JoinOf, child_advanced, child_pushed, join_advanced, join_due, joins}
 use Rattle.relations.proofs.PushedLemmas.{over_push, stand_push}
-use Rattle.relations.specs.Pushed.{AreOver, StandFrom}
-use Rattle.monitor_state.specs.JoinFeeding.{JoinPulled, child_dropped, child_fed, children_fed, join_fed, join_pulled}
+use Rattle.monitor_state.specs.JoinFeeding.{JoinPulled, child_dropped, child_fed, children_fed, join_pulled}
 
 -- one table more of a child
 pub fed_one : (cs : List ChildOf) (n : ℕ) (tables : List TableOf) (table : TableOf)

@@ -1,15 +1,15 @@
 -- A conjunction's state over one step.
-use Rattle.std.proofs.Common.{subst, ◌≡◌, ℕ, zero, suc, ◌+◌, ◌-◌, ◌<◌, ◌≤◌, Bool, true, false, not, cond, ◌&&◌, ◌||◌, nat_lt, nat_le, List, [], ◌∷◌, ◌++◌, length, drop, map, refl, sym, ap, ap₂, ◌∙◌, inl, inr, arith, length-append, append-nil}
+use Rattle.std.proofs.Common.{subst, ◌≡◌, ℕ, ◌+◌, ◌-◌, ◌<◌, ◌≤◌, Bool, true, false, not, cond, ◌&&◌, nat_lt, nat_le, List, [], ◌∷◌, ◌++◌, length, drop, map, refl, sym, ap, ap₂, ◌∙◌, arith, length-append, append-nil}
 use Rattle.std.proofs.Math.Bool.{beq}
 use Rattle.std.proofs.lemmas.Bool.{lt-ltb, ltb-true, leb-true, le-leb, and_parts, and_from}
-use Rattle.std.proofs.lemmas.List.{length-drop, length-map}
+use Rattle.std.proofs.lemmas.List.{length-drop}
 use Rattle.std.specs.List.{list_all}
 use Rattle.mfotl_model.proofs.CountLemmas.{counted_settled}
 use Rattle.mfotl_model.proofs.VariableLemmas.{joined_assoc, joined_none}
-use Rattle.mfotl_model.specs.Exact.{View, Covers, Exact, AllExact}
-use Rattle.mfotl_model.specs.FreeVariables.{among, joined, fv, variables_in}
+use Rattle.mfotl_model.specs.Exact.{View, Covers, AllExact}
+use Rattle.mfotl_model.specs.FreeVariables.{joined, fv, variables_in}
 use Rattle.mfotl_model.specs.Log.{times}
-use Rattle.mfotl_model.specs.Regions.{Region, Passes}
+use Rattle.mfotl_model.specs.Regions.{Passes}
 use Rattle.mfotl_model.specs.Satisfaction.{Valuation, sat, compares, term_value}
 use Rattle.mfotl_model.specs.Settled.{settled}
 use Rattle.mfotl_model.specs.Tables.{TableOf, has}
@@ -18,7 +18,7 @@ use Rattle.mfotl_model.specs.declared.event.TimePoint.{TimePoint}
 use Rattle.mfotl_model.specs.declared.term.Comparison.{Comparison}
 use Rattle.mfotl_model.specs.declared.value.Value.{Value}
 use Rattle.eval_bool.specs.Firsts.{first_has}
-use Rattle.eval_bool.specs.JoinView.{ChildOf, JoinOf, TestOf, child_holds, children_of, conjunct_columns, join_due, joins, test_holds, tests_of}
+use Rattle.eval_bool.specs.JoinView.{ChildOf, JoinOf, child_holds, children_of, conjunct_columns, join_due, joins, test_holds, tests_of}
 use Rattle.monitorable.proofs.ConjunctsLaw.{conjuncts_mean}
 use Rattle.monitorable.specs.CoreForms.{CoreForm, meaning, True, False, Atom, Compare, Not, And, Or, Exists, Previous, Next, Since, Until}
 use Rattle.monitorable.specs.Conjuncts.{PartForm, conjuncts_of, negated_part, part_holds}
@@ -27,11 +27,11 @@ use Rattle.monitorable.specs.Fragment.{binds}
 use Rattle.relations.specs.Operations.{chosen}
 use Rattle.relations.specs.Pushed.{StandFrom, turned}
 use Rattle.monitor_state.proofs.CountLemmas.{count_below, count_is, count_within}
-use Rattle.monitor_state.proofs.ExactLemmas.{all_stay, exact_append, exact_drop, reached_grows, shifted, stand_exact, stand_as}
+use Rattle.monitor_state.proofs.ExactLemmas.{all_stay, exact_append, exact_drop, shifted, stand_exact}
 use Rattle.monitor_state.proofs.RegionLemmas.{near_left, near_right}
-use Rattle.monitor_state.specs.JoinFeeding.{JoinPulled, JoinTakes, child_dropped, children_fed, join_fed, join_pulled}
+use Rattle.monitor_state.specs.JoinFeeding.{JoinTakes, child_dropped, children_fed, join_fed, join_pulled}
 use Rattle.monitor_state.specs.Nodes.{children, operands}
-use Rattle.monitor_state.specs.Stands.{ChildStands, ChildrenStand, IsJoin, JoinStands, bare, conjunct_as}
+use Rattle.monitor_state.specs.Stands.{ChildrenStand, IsJoin, JoinStands, bare, conjunct_as}
 use Rattle.monitor_state.specs.Steps.{News, StackNews, longer}
 use Rattle.monitor_state.specs.Views.{reached}
 
@@ -80,7 +80,8 @@ first_exact : (view : View) (f : CoreForm) (i : ℕ) (tables : List TableOf) (do
 first_exact view f i [] dom v covers near some exact = absurd (omega arith)
 first_exact view f i (table ∷ tables) dom v covers near some exact = exact.0.rows dom v covers near
 
-chosen_is : (wanted b : Bool) → beq wanted b ≡ cond wanted b (not b)
+-- a comparison that is wanted to come out so
+pub chosen_is : (wanted b : Bool) → beq wanted b ≡ cond wanted b (not b)
 chosen_is true true = refl
 chosen_is true false = refl
 chosen_is false true = refl

@@ -1,10 +1,10 @@
 -- What is always true of a monitor's steps.
-use Rattle.std.proofs.Common.{◌≡◌, ℕ, Bool, true, List, [], ◌∷◌, ◌++◌, refl, sym, ap, subst, ◌∙◌, append_assoc, append-nil}
+use Rattle.std.proofs.Common.{List, [], ◌++◌, refl, sym, ap, subst, ◌∙◌, append_assoc, append-nil}
 use Rattle.mfotl_model.proofs.RegionLemmas.{everywhere_passes, slice_has}
 use Rattle.mfotl_model.specs.Exact.{View}
-use Rattle.mfotl_model.specs.FreeVariables.{fv, variables_in}
+use Rattle.mfotl_model.specs.FreeVariables.{fv}
 use Rattle.mfotl_model.specs.Regions.{Passes}
-use Rattle.mfotl_model.specs.Satisfaction.{Valuation, event_of, has_event}
+use Rattle.mfotl_model.specs.Satisfaction.{event_of, has_event}
 use Rattle.mfotl_model.specs.Slices.{HasEach, slice}
 use Rattle.mfotl_model.specs.declared.event.Event.{Event}
 use Rattle.mfotl_model.specs.declared.term.Atom.{Atom as OneAtom}

@@ -12,10 +12,14 @@ pub mod PreviousLemmas
 pub mod PreviousSteps
 pub mod NextLemmas
 pub mod NextSteps
+pub mod UntilLemmas
+pub mod UntilSteps
 pub mod NodeSteps
 pub mod MonitorSteps
 pub mod BeginLemmas
+pub mod UntilBegins
 pub mod GuardLemmas
+pub mod ConstantLemmas
 pub mod SizeLemmas
 pub mod StepLemmas
 pub mod LawProofs

@@ -1,21 +1,22 @@
 -- The nodes of a monitor take a time-point one after the other.
-use Rattle.std.proofs.Common.{subst, ◌≡◌, ℕ, Bool, true, false, cond, zero, suc, ◌+◌, ◌-◌, ◌<◌, ◌≤◌, List, [], ◌∷◌, ◌++◌, length, take, drop, get_or, set, refl, sym, ap, ap₂, ◌∙◌, arith, length-append, append_assoc, append-nil, add-one, vec_len}
-use Rattle.std.proofs.Math.Seq.{take-suc-set, drop-cons, take-length}
+use Rattle.std.proofs.Common.{subst, ◌≡◌, ℕ, Bool, true, false, cond, suc, ◌+◌, ◌<◌, ◌≤◌, List, [], ◌∷◌, ◌++◌, length, take, drop, get_or, set, refl, sym, ap, ◌∙◌, arith, append_assoc, append-nil, add-one}
+use Rattle.std.proofs.Math.Seq.{take-suc-set, drop-cons}
 use Rattle.std.proofs.lemmas.List.{drop-set-lt, drop_all, take_all}
 use Rattle.mfotl_model.specs.Exact.{View}
 use Rattle.mfotl_model.specs.Tables.{TableOf}
 use Rattle.mfotl_model.specs.declared.event.TimePoint.{TimePoint}
 use Rattle.mfotl_model.specs.declared.term.Comparison.{Comparison}
-use Rattle.monitorable.specs.CoreForms.{CoreForm, meaning, True, False, Atom, Compare, Not, And, Or, Exists, Previous, Next, Since, Until}
+use Rattle.monitorable.specs.CoreForms.{CoreForm, True, False, Atom, Compare, Not, And, Or, Exists, Previous, Next, Since, Until}
 use Rattle.monitorable.specs.Conjuncts.{PartForm, conjuncts_of, negated_part}
 use Rattle.monitorable.specs.Conjuncts.PartForm.{Child as ChildPart, Test as TestPart}
-use Rattle.monitorable.specs.Fragment.{binds, is_conjunction, judges_not, judges_comparison, under_not}
+use Rattle.monitorable.specs.Fragment.{binds, is_conjunction, judges_not, under_not}
 use Rattle.monitorable.specs.declared.role.Role.{Role}
 use Rattle.monitorable.specs.declared.role.Role.TheVariants as role
+use Rattle.monitor_state.specs.Constants.{stands_alone}
 use Rattle.monitor_state.specs.Going.{AllPremises, Going, Works}
-use Rattle.monitor_state.specs.Nodes.{children, left_operand, nodes_in, nodes_of, operands, part_nodes}
+use Rattle.monitor_state.specs.Nodes.{children, left_operand, nodes_in, nodes_of, operands}
 use Rattle.monitor_state.specs.Stacks.{Pops}
-use Rattle.monitor_state.specs.Stands.{IsFor, NodesStand, NodeStands}
+use Rattle.monitor_state.specs.Stands.{NodesStand}
 use Rattle.monitor_state.specs.Steps.{Advances, News, Premises, StackNews, longer}
 use Rattle.monitor_state.specs.declared.node.Node.{Node}
 
@@ -59,7 +60,7 @@ module _ (goal : CoreForm) where
   -- a comparison: an equation with a constant is a node, but where it is negated
   compare_part : (c : Comparison) (b : Bool) (pending rest : List CoreForm)
       → Works goal (pending ++ children (cond b (ChildPart (Compare c) false) (TestPart c true) ∷ [])) rest
-      → Works goal pending (part_nodes role.Part b (Compare c) ++ rest)
+      → Works goal pending (cond b (Compare c ∷ []) [] ++ rest)
   compare_part c true pending rest works = works_one goal (Compare c) pending rest refl works
   compare_part c false pending rest works = works_nothing pending rest works
 
@@ -94,11 +95,7 @@ module _ (goal : CoreForm) where
   unfolding nodes_in conjuncts_of
   nodes_work role.Whole (Compare c) pending rest works = works_one goal (Compare c) pending rest refl works
   nodes_work role.Left (Compare c) pending rest works = works_one goal (Compare c) pending rest refl works
-  nodes_work role.Negated (Compare c) pending rest works = negated_compare (binds c)
-    where
-      negated_compare : (b : Bool) → Works goal pending (part_nodes role.Negated b (Compare c) ++ rest)
-      negated_compare true = works_nothing pending rest works
-      negated_compare false = works_nothing pending rest works
+  nodes_work role.Negated (Compare c) pending rest works = works_nothing pending rest works
   nodes_work role.Part (Compare c) pending rest works = compare_part c (binds c) pending rest works
   nodes_work r (Exists x f) pending rest works =
       work_under (Exists x f) (nodes_in role.Whole f) f pending rest refl
@@ -179,18 +176,6 @@ module _ (view : View) (point given : TimePoint) (whole : CoreForm) where
   premises_if true f p = (p, tt)
   premises_if false f p = tt
 
-  premises_part : (r : Role) (b : Bool) (f : CoreForm) → Premises view point given whole f → AllPremises view point given whole (part_nodes r b f)
-  premises_part role.Part true f p = (p, tt)
-  premises_part role.Part false f p = tt
-  premises_part role.Whole b f p = tt
-  premises_part role.Negated b f p = tt
-  premises_part role.Left b f p = tt
-
-  premises_compare : (r : Role) (d b : Bool) (f : CoreForm) → Premises view point given whole f
-      → AllPremises view point given whole (cond d (f ∷ []) (part_nodes r b f))
-  premises_compare r true b f p = (p, tt)
-  premises_compare r false b f p = premises_part r b f p
-
   premises_two : (ns ms : List CoreForm) (h : CoreForm) → AllPremises view point given whole ns → AllPremises view point given whole ms
       → AllPremises view point given whole (h ∷ []) → AllPremises view point given whole (ns ++ ms ++ h ∷ [])
   premises_two ns ms h first second own = premises_append (ns ++ ms) (h ∷ []) (premises_append ns ms first second) own
@@ -235,7 +220,7 @@ module _ (view : View) (point given : TimePoint) (whole : CoreForm) where
       (premises_all role.Left f (record { rising = p.rising; passes = p.passes; whole_is = p.whole_is; sound = p.sound.1; ts = p.ts; same = p.same.0 }))
       (premises_all role.Whole g (record { rising = p.rising; passes = p.passes; whole_is = p.whole_is; sound = p.sound.2; ts = p.ts; same = p.same.1 }))
       (p, tt)
-  premises_all r (Compare c) p = premises_compare r (judges_comparison r) (binds c) (Compare c) p
+  premises_all r (Compare c) p = premises_if (stands_alone r (binds c)) (Compare c) p
   premises_all r True p = (p, tt)
   premises_all r False p = (p, tt)
   premises_all r (Atom a) p = (p, tt)

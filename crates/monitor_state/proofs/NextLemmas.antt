@@ -1,12 +1,11 @@
 -- Tables pushed to a NEXT and pulled from it, one after the other.
-use Rattle.std.proofs.Common.{Option, Some, None, MatchOption, IfSome, is_some, subst, ◌≡◌, ℕ, ◌+◌, ◌-◌, ◌<◌, ◌≤◌, Bool, true, false, ◌&&◌, cond, nat_lt, List, [], ◌∷◌, ◌++◌, length, drop, refl, sym, ap, ap₂, ◌∙◌, arith, length-append, append-nil, append_assoc}
+use Rattle.std.proofs.Common.{Option, Some, MatchOption, IfSome, is_some, subst, ◌≡◌, ℕ, ◌+◌, ◌-◌, ◌<◌, ◌≤◌, Bool, true, false, ◌&&◌, cond, nat_lt, List, [], ◌∷◌, ◌++◌, length, drop, refl, sym, ap, ap₂, ◌∙◌, arith, length-append, append-nil, append_assoc}
 use Rattle.std.proofs.lemmas.Bool.{and_parts, ltb-true}
-use Rattle.std.proofs.lemmas.List.{drop-drop, length-drop}
+use Rattle.std.proofs.lemmas.List.{length-drop}
 use Rattle.mfotl_model.specs.Satisfaction.{Valuation, next, truth_at}
 use Rattle.mfotl_model.specs.Tables.{TableOf, has}
 use Rattle.eval_until.specs.NextView.{AdvancesNext, FollowsNext, NextOf, next_due, tables_pushed, with_table}
 use Rattle.relations.proofs.PushedLemmas.{over_push, stand_push}
-use Rattle.relations.specs.Pushed.{AreOver, StandFrom}
 use Rattle.monitor_state.proofs.FeedingLemmas.{dropped_more, room_more, stand_split}
 use Rattle.monitor_state.specs.NextFeeding.{BeginsBare, NextPulled, NextPushed, next_fed, next_kept, next_started}
 

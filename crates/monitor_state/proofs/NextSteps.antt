@@ -16,7 +16,7 @@ use Rattle.eval_until.specs.NextView.{FollowsNext, NextOf, tables_pushed}
 use Rattle.monitorable.specs.CoreForms.{CoreForm, meaning, Next}
 use Rattle.relations.specs.Pushed.{StandFrom}
 use Rattle.monitor_state.proofs.CountLemmas.{count_next}
-use Rattle.monitor_state.proofs.ExactLemmas.{all_stay, covers_before, dates_before, dates_new, exact_append, exact_drop, exact_tell, log_more, reached_within, stand_exact, tells_before, truths_tell}
+use Rattle.monitor_state.proofs.ExactLemmas.{all_stay, covers_before, dates_before, dates_new, exact_append, exact_drop, exact_tell, log_more, stand_exact, tells_before, truths_tell}
 use Rattle.monitor_state.proofs.NextLemmas.{fed_count}
 use Rattle.monitor_state.specs.NextFeeding.{BeginsBare, NextTakes, next_fed, next_kept, next_started}
 use Rattle.monitor_state.specs.Stands.{IsNext, NextStands}

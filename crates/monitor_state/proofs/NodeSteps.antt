@@ -1,11 +1,11 @@
 -- What one node does in a step.
-use Rattle.std.proofs.Common.{None, subst, ◌≡◌, ◌↔◌, ℕ, zero, suc, ◌+◌, ◌<◌, ◌≤◌, Bool, true, false, not, ◌&&◌, cond, nat_eq, nat_lt, List, [], ◌∷◌, ◌++◌, length, map, get_or, refl, sym, ap, ap₂, ◌∙◌, inl, inr, arith, length-append, append_assoc, append-nil}
+use Rattle.std.proofs.Common.{None, subst, ◌≡◌, ℕ, suc, ◌+◌, ◌<◌, Bool, true, false, not, ◌&&◌, nat_eq, nat_lt, List, [], ◌∷◌, ◌++◌, length, map, get_or, refl, sym, ap, ap₂, ◌∙◌, arith, append_assoc, append-nil}
 use Rattle.std.proofs.lemmas.Bool.{lt-ltb, ltb-true, cond-true, cond-false, ne_eqb}
 use Rattle.std.proofs.lemmas.List.{length-map, map-append}
 use Rattle.std.proofs.Math.Seq.{get_or-append_seam}
 use Rattle.std.specs.List.{list_any}
 use Rattle.mfotl_model.proofs.LogicLemmas.{among_without, same_number}
-use Rattle.mfotl_model.specs.ActiveDomain.{adom, constants, log_values}
+use Rattle.mfotl_model.specs.ActiveDomain.{adom, constants}
 use Rattle.mfotl_model.specs.Counts.{settled_count}
 use Rattle.mfotl_model.specs.Domains.{within, Includes}
 use Rattle.mfotl_model.specs.Exact.{View, Covers, Exact, AllExact}
@@ -17,18 +17,19 @@ use Rattle.mfotl_model.specs.Satisfaction.{Valuation, sat, with_value, event_of,
 use Rattle.mfotl_model.specs.Settled.{settled}
 use Rattle.mfotl_model.specs.Tables.{TableOf, has}
 use Rattle.mfotl_model.specs.Times.{NeverFalls}
-use Rattle.mfotl_model.specs.declared.event.Event.{Event}
 use Rattle.mfotl_model.specs.declared.event.TimePoint.{TimePoint}
 use Rattle.mfotl_model.specs.declared.formula.Bound.{Bound}
 use Rattle.mfotl_model.specs.declared.term.Atom.{Atom as OneAtom}
+use Rattle.mfotl_model.specs.declared.term.Comparison.{Comparison}
 use Rattle.mfotl_model.specs.declared.value.Value.{Value}
 use Rattle.eval_since.specs.PreviousView.{PrevOf}
 use Rattle.eval_since.specs.SinceView.{SinceOf}
 use Rattle.monitorable.proofs.DomainLaw.{domain}
 use Rattle.monitorable.proofs.DomainLemmas.{any_with, any_witness, same_truth}
 use Rattle.monitorable.proofs.DomainRows.{has_constants, has_log}
-use Rattle.monitorable.specs.CoreForms.{CoreForm, meaning, True, False, Atom, Not, And, Or, Exists, Previous, Next, Since}
-use Rattle.monitorable.specs.Conjuncts.{conjuncts_of}
+use Rattle.monitorable.specs.CoreForms.{CoreForm, meaning, True, False, Atom, Compare, Not, And, Or, Exists, Previous, Next, Since}
+use Rattle.monitorable.specs.Conjuncts.{PartForm, conjuncts_of, negated_part}
+use Rattle.monitorable.specs.Conjuncts.PartForm.{Child as ChildPart, Test as TestPart}
 use Rattle.eval_bool.specs.JoinView.{ChildOf, JoinOf}
 use Rattle.eval_bool.specs.OrView.{OrOf}
 use Rattle.monitor_state.proofs.OrSteps.{or_is, or_news, or_stands}
@@ -45,13 +46,16 @@ use Rattle.monitor_state.specs.PreviousFeeding.{PreviousTakes}
 use Rattle.eval_until.specs.NextView.{NextOf}
 use Rattle.monitor_state.proofs.NextSteps.{next_is, next_news, next_stands}
 use Rattle.monitor_state.specs.NextFeeding.{NextTakes}
+use Rattle.eval_until.specs.UntilView.{UntilOf}
+use Rattle.monitorable.specs.CoreForms.{Until}
+use Rattle.monitor_state.proofs.UntilSteps.{until_is, until_news, until_stands}
+use Rattle.monitor_state.specs.UntilFeeding.{UntilTakes}
 use Rattle.monitor_state.specs.Nodes.{children, left_operand, operands}
 use Rattle.monitor_state.specs.Quantified.{IsWithout, Quantifies}
 use Rattle.monitor_state.specs.Stacks.{Pops, PopsMany}
-use Rattle.monitor_state.specs.Stands.{ChildrenStand, IsConstant, IsFor, IsJoin, JoinStands, NodeStands}
-use Rattle.monitor_state.specs.Steps.{Advances, News, Premises, SameNear, StackNews, longer}
+use Rattle.monitor_state.specs.Stands.{ChildrenStand, IsConstant, IsJoin, JoinStands}
+use Rattle.monitor_state.specs.Steps.{Advances, News, Premises, StackNews, longer}
 use Rattle.monitor_state.specs.Views.{reached}
-use Rattle.monitor_state.specs.declared.node.Node.{Node}
 use Rattle.monitor_state.specs.declared.node.Node.TheVariants as node
 
 module _ (view : View) (point : TimePoint) where
@@ -122,6 +126,35 @@ false_all : (t : List ℕ) (i : ℕ) → settled t (meaning False) i ≡ nat_lt 
 unfolding settled
 false_all t i = refl
 
+compare_all : (c : Comparison) (t : List ℕ) (i : ℕ) → settled t (meaning (Compare c)) i ≡ nat_lt i (length t)
+unfolding settled
+compare_all c t i = refl
+
+both_childless : (ps qs : List PartForm) → children (ps ++ qs) ≡ [] → (children ps ≡ []) × (children qs ≡ [])
+both_childless [] qs h = (refl, h)
+both_childless (ChildPart f n ∷ ps) qs h = absurd (let e : (f ∷ children (ps ++ qs)) ≡ [] = h in cc)
+both_childless (TestPart c w ∷ ps) qs h = both_childless ps qs h
+
+same_both : (b : Bool) → (b && b) ≡ b
+same_both true = refl
+same_both false = refl
+
+-- a conjunction of tests alone is settled wherever the log is
+module _ (t : List ℕ) (i : ℕ) where
+  negated_all : (f : CoreForm) → children (negated_part f ∷ []) ≡ [] → settled t (meaning f) i ≡ nat_lt i (length t)
+  unfolding settled
+  negated_all (Compare c) none = refl
+  negated_all f none = absurd (let e : (f ∷ []) ≡ [] = none in cc)
+
+  tests_all : (f : CoreForm) → children (conjuncts_of f) ≡ [] → settled t (meaning f) i ≡ nat_lt i (length t)
+  unfolding settled conjuncts_of
+  tests_all (And f g) none =
+      let both = both_childless (conjuncts_of f) (conjuncts_of g) none in
+      ap₂ (λ a b. a && b) (tests_all f both.0) (tests_all g both.1) ∙ same_both (nat_lt i (length t))
+  tests_all (Not f) none = negated_all f none
+  tests_all (Compare c) none = refl
+  tests_all f none = absurd (let e : (f ∷ []) ≡ [] = none in cc)
+
 atom_all : (atom : OneAtom) (t : List ℕ) (i : ℕ) → settled t (meaning (Atom atom)) i ≡ nat_lt i (length t)
 unfolding settled
 atom_all atom t i = refl
@@ -130,24 +163,34 @@ constant_new : (view : View) (f : CoreForm) (i : ℕ) (table : TableOf) → IsCo
 constant_new view f i table is =
     record { columns = is.columns; rows = λ dom v covers near. is.rows view.log dom v i }
 
+constant_one : (view : View) (point given : TimePoint) (whole f : CoreForm) (below : List CoreForm) (table : TableOf)
+    (stack : List (List TableOf)) (tables : List TableOf) → tables ≡ table ∷ [] → Premises view point given whole f → IsConstant f table
+    → ((t : List ℕ) (i : ℕ) → settled t (meaning f) i ≡ nat_lt i (length t))
+    → StackNews view point (below ++ operands f) stack
+    → StackNews view point below stack × News view point f tables
+constant_one view point given whole f below table stack tables made premises is all stacked = (
+  subst (λ fs. StackNews view point fs stack) (ap (λ fs. below ++ fs) is.alone ∙ append-nil below) stacked,
+  subst (News view point f) (sym made)
+      (one_new view point premises.rising f all table (constant_new (longer view point) f (length view.log) table is)),
+)
+
 pub constant_advances : (table : TableOf) (given : TimePoint) (stack : List (List TableOf)) (tables : List TableOf)
     → tables ≡ table ∷ [] → Advances (node.Constant table) given stack (node.Constant table) stack tables
-constant_advances table given stack tables made view point whole True below premises is stands stacked = (
-  is,
-  tt,
-  subst (λ fs. StackNews view point fs stack) (append-nil below) stacked,
-  subst (News view point True) (sym made)
-      (one_new view point premises.rising True true_all table
-      (constant_new (longer view point) True (length view.log) table is)),
-)
-constant_advances table given stack tables made view point whole False below premises is stands stacked = (
-  is,
-  tt,
-  subst (λ fs. StackNews view point fs stack) (append-nil below) stacked,
-  subst (News view point False) (sym made)
-      (one_new view point premises.rising False false_all table
-      (constant_new (longer view point) False (length view.log) table is)),
-)
+constant_advances table given stack tables made view point whole True below premises is stands stacked =
+    let one = constant_one view point given whole True below table stack tables made premises is true_all stacked in
+    (is, tt, one.0, one.1)
+constant_advances table given stack tables made view point whole False below premises is stands stacked =
+    let one = constant_one view point given whole False below table stack tables made premises is false_all stacked in
+    (is, tt, one.0, one.1)
+constant_advances table given stack tables made view point whole (Compare c) below premises is stands stacked =
+    let one = constant_one view point given whole (Compare c) below table stack tables made premises is (compare_all c) stacked in
+    (is, tt, one.0, one.1)
+constant_advances table given stack tables made view point whole (Not f) below premises is stands stacked =
+    let one = constant_one view point given whole (Not f) below table stack tables made premises is (λ t i. tests_all t i (Not f) is.alone) stacked in
+    (is, tt, one.0, one.1)
+constant_advances table given stack tables made view point whole (And f g) below premises is stands stacked =
+    let one = constant_one view point given whole (And f g) below table stack tables made premises is (λ t i. tests_all t i (And f g) is.alone) stacked in
+    (is, tt, one.0, one.1)
 constant_advances table given stack tables made view point whole f below premises is stands stacked = absurd is
 
 -- the database of the new time-point
@@ -290,6 +333,24 @@ since_advances old new order given stack mid rest ls rs tables last first takes 
       since_news view point i f g premises.rising premises.passes premises.sound.0 old order is stands given.ts premises.ts ls rs news.1 news.2 new tables takes,
     )
 since_advances old new order given stack mid rest ls rs tables last first takes view point whole f below premises is stands stacked = absurd is
+
+pub until_advances : (old new : UntilOf) (order : TableOf) (given : TimePoint) (stack mid rest : List (List TableOf))
+    (ls rs tables : List TableOf)
+    → Pops stack mid rs → Pops mid rest ls → UntilTakes order.columns old given.ts ls rs new tables
+    → Advances (node.Until old order) given stack (node.Until new order) rest tables
+until_advances old new order given stack mid rest ls rs tables last first takes view point whole (Until i f g) below
+    premises is stands stacked =
+    let news = pops_two view point below (left_operand f) g stack mid rest ls rs stacked last first in (
+      until_is view point i f g premises.rising premises.passes premises.sound.0 old order is stands
+          given.ts premises.ts ls rs news.1 news.2 new tables takes,
+      until_stands view point i f g premises.rising premises.passes premises.sound.0 old order is stands
+          given.ts premises.ts ls rs news.1 news.2 new tables takes,
+      news.0,
+      until_news view point i f g premises.rising premises.passes premises.sound.0 old order is stands
+          given.ts premises.ts ls rs news.1 news.2 new tables takes,
+    )
+until_advances old new order given stack mid rest ls rs tables last first takes view point whole f below premises is
+    stands stacked = absurd is
 
 module _ (view : View) (point : TimePoint) where
   -- the stack's tables over two lists of cores

@@ -1,5 +1,5 @@
 -- Tables pushed to an OR and pulled from it, one after the other.
-use Rattle.std.proofs.Common.{Option, Some, None, MatchOption, IfSome, is_some, subst, ◌≡◌, ℕ, ◌+◌, ◌-◌, ◌<◌, ◌≤◌, Bool, true, false, ◌&&◌, ◌||◌, cond, nat_eq, nat_lt, List, [], ◌∷◌, ◌++◌, length, drop, refl, sym, ap, ap₂, ◌∙◌, arith, length-append, append-nil, append_assoc}
+use Rattle.std.proofs.Common.{Option, Some, MatchOption, IfSome, is_some, subst, ◌≡◌, ℕ, ◌+◌, ◌-◌, ◌<◌, ◌≤◌, Bool, true, false, ◌||◌, cond, nat_eq, nat_lt, List, [], ◌∷◌, ◌++◌, length, drop, sym, ap, ap₂, ◌∙◌, arith, length-append, append-nil, append_assoc}
 use Rattle.std.proofs.lemmas.Bool.{and_parts, ltb-true}
 use Rattle.std.proofs.lemmas.List.{drop-drop, length-drop}
 use Rattle.mfotl_model.specs.Satisfaction.{Valuation}
@@ -7,7 +7,7 @@ use Rattle.mfotl_model.specs.Tables.{TableOf, has}
 use Rattle.eval_bool.specs.Firsts.{first_has}
 use Rattle.eval_bool.specs.OrView.{OrOf, or_advanced, or_due, or_pushed}
 use Rattle.relations.proofs.PushedLemmas.{over_push, stand_push}
-use Rattle.monitor_state.specs.OrFeeding.{OrPulled, operand_fed, or_pulled}
+use Rattle.monitor_state.specs.OrFeeding.{OrPulled, operand_fed}
 
 fed_none_by : (s : OrOf) (first : Bool)
     → s ≡ cond first (record s { lefts = s.lefts ++ [] }) (record s { rights = s.rights ++ [] })

@@ -1,5 +1,5 @@
 -- Tables with their columns in another order.
-use Rattle.std.proofs.Common.{Result, Ok, Err, IfOk, OnOk, Option, Some, None, option_to_list, subst, ◌≡◌, ◌↔◌, ℕ, Bool, true, false, List, [], ◌∷◌, ◌++◌, refl, sym, ap, ◌∙◌, append_assoc, append-nil, IfNone}
+use Rattle.std.proofs.Common.{Result, Ok, Err, IfOk, OnOk, Option, Some, None, option_to_list, subst, ◌≡◌, ◌↔◌, ℕ, true, List, [], ◌∷◌, ◌++◌, refl, sym, ap, ◌∙◌, append_assoc, append-nil, IfNone}
 use Rattle.mfotl_model.specs.FreeVariables.{among}
 use Rattle.mfotl_model.specs.Satisfaction.{Valuation}
 use Rattle.mfotl_model.specs.Tables.{TableOf, all_among, has, has_row}
@@ -11,6 +11,10 @@ use Rattle.relations.proofs.JoinLemmas.{member_of_all}
 pub ok_then : {X E : Type 0} (r : Result X E) (P Q : X → Type 0) → ((x : X) → P x → Q x) → IfOk r P → IfOk r Q
 ok_then (Ok x) P Q h p = h x p
 ok_then (Err e) P Q h p = p
+
+pub ok_two : {X E : Type 0} (r : Result X E) (P Q R : X → Type 0) → ((x : X) → P x → Q x → R x) → IfOk r P → IfOk r Q → IfOk r R
+ok_two (Ok x) P Q R h p q = h x p q
+ok_two (Err e) P Q R h p q = p
 
 pub on_ok_then : {X E : Type 0} (r : Result X E) (P Q : Type 0) → (P → Q) → OnOk r P → OnOk r Q
 on_ok_then (Ok x) P Q h p = h p

@@ -1,12 +1,11 @@
 -- Tables pushed to a PREVIOUS and pulled from it, one after the other.
-use Rattle.std.proofs.Common.{Option, Some, None, MatchOption, IfSome, is_some, subst, ◌≡◌, ℕ, ◌+◌, ◌-◌, ◌<◌, ◌≤◌, Bool, true, false, ◌&&◌, ◌||◌, cond, nat_eq, nat_lt, List, [], ◌∷◌, ◌++◌, length, drop, refl, sym, ap, ap₂, ◌∙◌, inl, inr, arith, length-append, append-nil, append_assoc}
+use Rattle.std.proofs.Common.{Option, Some, MatchOption, IfSome, is_some, subst, ◌≡◌, ℕ, ◌+◌, ◌-◌, ◌<◌, ◌≤◌, Bool, true, false, ◌||◌, cond, nat_eq, nat_lt, List, [], ◌∷◌, ◌++◌, length, drop, refl, sym, ap, ap₂, ◌∙◌, inl, inr, arith, length-append, append-nil, append_assoc}
 use Rattle.std.proofs.lemmas.Bool.{and_parts, cases_lt, eqb-false, eqb-true, ltb-true, or_cases}
 use Rattle.std.proofs.lemmas.List.{drop-drop, length-drop}
 use Rattle.mfotl_model.specs.Satisfaction.{Valuation, previous, truth_at}
 use Rattle.mfotl_model.specs.Tables.{TableOf, has}
 use Rattle.eval_since.specs.PreviousView.{AdvancesPrevious, FollowsPrevious, PrevOf, previous_due}
 use Rattle.relations.proofs.PushedLemmas.{over_push, stand_push}
-use Rattle.relations.specs.Pushed.{AreOver, StandFrom}
 use Rattle.monitor_state.proofs.FeedingLemmas.{dropped_more, room_more, stand_split}
 use Rattle.monitor_state.specs.PreviousFeeding.{PreviousPulled, PreviousPushed, tables_used}
 

@@ -1,5 +1,5 @@
 -- A PREVIOUS's state over one step.
-use Rattle.std.proofs.Common.{subst, ◌≡◌, ℕ, ◌+◌, ◌-◌, ◌<◌, ◌≤◌, Bool, true, false, ◌&&◌, ◌||◌, nat_eq, nat_lt, List, [], ◌∷◌, ◌++◌, length, drop, refl, sym, ap, ap₂, ◌∙◌, arith, length-append}
+use Rattle.std.proofs.Common.{subst, ◌≡◌, ℕ, ◌+◌, ◌-◌, ◌<◌, ◌≤◌, Bool, true, false, ◌&&◌, ◌||◌, nat_eq, nat_lt, List, [], ◌∷◌, ◌++◌, length, drop, refl, sym, ap, ◌∙◌, arith, length-append}
 use Rattle.std.proofs.lemmas.Bool.{and_from, lt-ltb}
 use Rattle.std.proofs.lemmas.List.{length-drop, length-map}
 use Rattle.mfotl_model.specs.Exact.{View, Covers, AllExact}
@@ -15,7 +15,7 @@ use Rattle.eval_since.specs.PreviousView.{FollowsPrevious, PrevOf}
 use Rattle.monitorable.specs.CoreForms.{CoreForm, meaning, Previous}
 use Rattle.relations.specs.Pushed.{StandFrom}
 use Rattle.monitor_state.proofs.CountLemmas.{count_previous, ready_or_first}
-use Rattle.monitor_state.proofs.ExactLemmas.{all_stay, covers_before, dates_before, dates_new, exact_append, exact_drop, exact_tell, log_more, reached_within, stand_exact, tells_before, truths_tell}
+use Rattle.monitor_state.proofs.ExactLemmas.{all_stay, covers_before, dates_before, dates_new, exact_append, exact_drop, exact_tell, log_more, stand_exact, tells_before, truths_tell}
 use Rattle.monitor_state.specs.PreviousFeeding.{PreviousTakes, tables_used}
 use Rattle.monitor_state.specs.Stands.{IsPrevious, PreviousStands}
 use Rattle.monitor_state.specs.Steps.{News, longer}

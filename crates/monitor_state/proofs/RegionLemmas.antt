@@ -1,5 +1,5 @@
 -- Near rows and their parts.
-use Rattle.std.proofs.Common.{◌≡◌, ℕ, Bool, true, false, not, ◌||◌, cond, nat_eq, List, [], ◌∷◌, ◌++◌, filter, append-nil, refl, sym, ap, ◌∙◌}
+use Rattle.std.proofs.Common.{◌≡◌, ℕ, Bool, true, not, ◌||◌, cond, nat_eq, List, [], ◌∷◌, ◌++◌, filter, append-nil, refl, sym, ap, ◌∙◌, inl, inr}
 use Rattle.std.proofs.lemmas.Bool.{or_left, or_right, or_cases, and_from, and_parts}
 use Rattle.mfotl_model.proofs.LogicLemmas.{among_joined, same_number}
 use Rattle.mfotl_model.specs.FreeVariables.{among, joined}
@@ -42,3 +42,24 @@ none_outside xs (y ∷ ys) h =
 -- variables that are all among others add none to them
 pub joined_within : (xs ys : List ℕ) → all_among ys xs ≡ true → joined xs ys ≡ xs
 joined_within xs ys h = ap (λ zs. xs ++ zs) (none_outside xs ys h) ∙ append-nil xs
+
+-- near passes to variables that are all among others
+pub near_part : (free : List ℕ) (near : Region) → Passes free near → (xs ys : List ℕ)
+    → ((y : ℕ) → among y xs ≡ true → among y ys ≡ true) → (v : Valuation)
+    → near ys v ≡ true → near xs v ≡ true
+near_part free near passes xs ys inside v h = passes ys xs v v (λ y m _. (inside y m, refl)) h
+
+-- where the first variables are all among the second ones, both together are
+pub joined_inside : (xs ys : List ℕ) → ((y : ℕ) → among y xs ≡ true → among y ys ≡ true)
+    → all_among (joined xs ys) ys ≡ true
+joined_inside xs ys inside =
+    all_from_each (joined xs ys) ys
+    (λ y m. elim (or_cases (among y xs) (among y ys) (sym (among_joined y xs ys) ∙ m)) [
+      | inl first ↦ inside y first
+      | inr second ↦ second
+    ])
+
+pub right_inside : (xs ys : List ℕ) → all_among ys (joined xs ys) ≡ true
+right_inside xs ys =
+    all_from_each ys (joined xs ys)
+    (λ y m. among_joined y xs ys ∙ or_right (among y xs) (among y ys) m)

@@ -1,13 +1,12 @@
 -- A SINCE's state over one step.
-use Rattle.std.proofs.Common.{subst, ◌≡◌, ℕ, zero, suc, ◌+◌, ◌-◌, ◌<◌, ◌≤◌, Bool, true, false, not, ◌&&◌, ◌||◌, cond, nat_lt, List, [], ◌∷◌, ◌++◌, length, map, drop, refl, sym, ap, ap₂, ◌∙◌, inl, inr, arith, length-append}
-use Rattle.std.proofs.lemmas.Bool.{lt-ltb, or_cases, or_right}
+use Rattle.std.proofs.Common.{subst, ◌≡◌, ℕ, ◌+◌, ◌-◌, ◌≤◌, Bool, true, false, not, ◌&&◌, nat_lt, List, [], ◌∷◌, ◌++◌, length, drop, refl, sym, ap, ap₂, ◌∙◌, arith, length-append}
+use Rattle.std.proofs.lemmas.Bool.{lt-ltb}
 use Rattle.std.proofs.lemmas.List.{length-drop, length-map}
-use Rattle.mfotl_model.proofs.LogicLemmas.{among_joined}
 use Rattle.mfotl_model.specs.Counts.{settled_count}
 use Rattle.mfotl_model.specs.Exact.{View, Covers, AllExact}
-use Rattle.mfotl_model.specs.FreeVariables.{among, joined, fv}
+use Rattle.mfotl_model.specs.FreeVariables.{fv}
 use Rattle.mfotl_model.specs.Log.{times}
-use Rattle.mfotl_model.specs.Regions.{Region, Passes}
+use Rattle.mfotl_model.specs.Regions.{Passes}
 use Rattle.mfotl_model.specs.Satisfaction.{Valuation, sat, since, time_at, truth_at, truths}
 use Rattle.mfotl_model.specs.Settled.{settled}
 use Rattle.mfotl_model.specs.Tables.{TableOf, all_among, has}
@@ -15,13 +14,13 @@ use Rattle.mfotl_model.specs.Times.{NeverFalls}
 use Rattle.mfotl_model.specs.declared.event.TimePoint.{TimePoint}
 use Rattle.mfotl_model.specs.declared.interval.Interval.{Interval}
 use Rattle.mfotl_model.specs.declared.value.Value.{Value}
-use Rattle.eval_since.specs.SinceView.{Follows, SinceOf, due}
-use Rattle.monitorable.specs.CoreForms.{CoreForm, meaning, True, False, Atom, Compare, Not, And, Or, Exists, Previous, Next, Since, Until}
+use Rattle.eval_since.specs.SinceView.{Follows, SinceOf}
+use Rattle.monitorable.specs.CoreForms.{CoreForm, meaning, Not, Since}
 use Rattle.monitorable.specs.Soundness.{HasVariablesOf}
 use Rattle.relations.specs.Pushed.{StandFrom, left_holds}
 use Rattle.monitor_state.proofs.CountLemmas.{count_since}
-use Rattle.monitor_state.proofs.ExactLemmas.{all_stay, covers_before, dates_before, dates_new, exact_append, exact_drop, exact_tell, log_more, reached_grows, reached_within, stand_as, stand_exact, tells_before, truths_tell}
-use Rattle.monitor_state.proofs.RegionLemmas.{all_from_each, near_right}
+use Rattle.monitor_state.proofs.ExactLemmas.{all_stay, covers_before, dates_before, dates_new, exact_append, exact_drop, exact_tell, log_more, reached_within, stand_exact, tells_before, truths_tell}
+use Rattle.monitor_state.proofs.RegionLemmas.{joined_inside, near_part, near_right, right_inside}
 use Rattle.monitor_state.specs.Feeding.{SinceTakes}
 use Rattle.monitor_state.specs.Nodes.{is_negated, left_operand}
 use Rattle.monitor_state.specs.Stands.{IsSince, SinceStands}
@@ -63,7 +62,7 @@ module _ (view : View) (point : TimePoint) (i : Interval) (f g : CoreForm)
     (rising : NeverFalls (times (longer view point).log)) (passes : Passes (fv view.whole) view.near)
     (variables : HasVariablesOf g f) where
   near_operand : (v : Valuation) → view.near (fv (meaning g)) v ≡ true → view.near (fv (meaning f)) v ≡ true
-  near_operand v h = passes (fv (meaning g)) (fv (meaning f)) v v (λ y m _. (variables y m, refl)) h
+  near_operand v h = near_part (fv view.whole) view.near passes (fv (meaning f)) (fv (meaning g)) variables v h
 
   module _ (old : SinceOf) (order : TableOf) (is : IsSince i f g old order) (stands : SinceStands view i f g old)
       (ts : ℕ) (ts_is : ts ≡ point.ts) (ls rs : List TableOf)
@@ -201,18 +200,13 @@ module _ (view : View) (point : TimePoint) (i : Interval) (f g : CoreForm)
     in_right =
         let right_columns : takes.fed.window.right ≡ fv (meaning g) = ap (λ (x : SinceOf). x.window.right) fed_is ∙ is.right in
         ap₂ all_among is.ordered right_columns
-        ∙ all_from_each (joined (fv (meaning f)) (fv (meaning g))) (fv (meaning g))
-        (λ y m. elim (or_cases (among y (fv (meaning f))) (among y (fv (meaning g))) (sym (among_joined y (fv (meaning f)) (fv (meaning g))) ∙ m)) [
-          | inl first ↦ variables y first
-          | inr second ↦ second
-        ])
+        ∙ joined_inside (fv (meaning f)) (fv (meaning g)) variables
 
     in_order : all_among takes.fed.window.right order.columns ≡ true
     in_order =
         let right_columns : takes.fed.window.right ≡ fv (meaning g) = ap (λ (x : SinceOf). x.window.right) fed_is ∙ is.right in
         ap₂ all_among right_columns is.ordered
-        ∙ all_from_each (fv (meaning g)) (joined (fv (meaning f)) (fv (meaning g)))
-        (λ y m. among_joined y (fv (meaning f)) (fv (meaning g)) ∙ or_right (among y (fv (meaning f))) (among y (fv (meaning g))) m)
+        ∙ right_inside (fv (meaning f)) (fv (meaning g))
 
     tables_exact : AllExact (longer view point) (meaning (Since i f g)) old.pulled tables
     unfolding fv sat

@@ -1,8 +1,9 @@
 -- A core has more nodes than its parts.
-use Rattle.std.proofs.Common.{◌≡◌, ℕ, ◌+◌, ◌<◌, ap, arith}
+use Rattle.std.proofs.Common.{◌≡◌, ◌+◌, ◌<◌, ap, arith}
 use Rattle.mfotl_model.specs.declared.formula.Bound.{Bound}
 use Rattle.mfotl_model.specs.declared.interval.Interval.{Interval}
 use Rattle.monitorable.specs.CoreForms.{CoreForm, Not, And, Or, Exists, Previous, Next, Since}
+use Rattle.monitorable.specs.CoreForms.{Until}
 use Rattle.monitorable.specs.NodeCount.{nodes}
 
 pub not_smaller : (h : CoreForm) (f : CoreForm) → h ≡ Not f → nodes f < nodes h
@@ -40,6 +41,14 @@ since_left_smaller h i f g same = let count : nodes h ≡ 1 + nodes f + nodes g 
 pub since_right_smaller : (h : CoreForm) (i : Interval) (f g : CoreForm) → h ≡ Since i f g → nodes g < nodes h
 unfolding nodes
 since_right_smaller h i f g same = let count : nodes h ≡ 1 + nodes f + nodes g = ap nodes same in omega arith
+
+pub until_left_smaller : (h : CoreForm) (i : Interval) (f g : CoreForm) → h ≡ Until i f g → nodes f < nodes h
+unfolding nodes
+until_left_smaller h i f g same = let count : nodes h ≡ 1 + nodes f + nodes g = ap nodes same in omega arith
+
+pub until_right_smaller : (h : CoreForm) (i : Interval) (f g : CoreForm) → h ≡ Until i f g → nodes g < nodes h
+unfolding nodes
+until_right_smaller h i f g same = let count : nodes h ≡ 1 + nodes f + nodes g = ap nodes same in omega arith
 
 pub next_smaller : (h : CoreForm) (i : Interval) (f : CoreForm) → h ≡ Next i f → nodes f < nodes h
 unfolding nodes

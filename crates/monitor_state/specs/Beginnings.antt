@@ -10,13 +10,14 @@ use Rattle.eval_bool.specs.OrView.{OrOf, or_begun}
 use Rattle.eval_since.specs.PreviousView.{FollowsPrevious, PrevOf}
 use Rattle.eval_since.specs.SinceView.{Follows, SinceOf}
 use Rattle.eval_until.specs.NextView.{FollowsNext, NextOf}
+use Rattle.eval_until.specs.UntilView.{Follows as FollowsUntil, FollowsLeft, UntilOf}
 use Rattle.monitorable.specs.CoreForms.{CoreForm, meaning, And, Not}
 use Rattle.monitorable.specs.Conjuncts.{PartForm, conjuncts_of}
 use Rattle.monitorable.specs.Conjuncts.PartForm.{Child, Test}
 use Rattle.monitorable.specs.Fragment.{Names, fault_in, guards}
 use Rattle.monitorable.specs.declared.role.Role.{Role}
 use Rattle.monitor_state.specs.Nodes.{children, is_negated}
-use Rattle.monitor_state.specs.Stands.{NodesStand, Stands, StateOf, conjunct_as}
+use Rattle.monitor_state.specs.Stands.{IsFor, NodeStands, NodesStand, Stands, StateOf, conjunct_as}
 use Rattle.monitor_state.specs.declared.node.Node.{Node}
 
 -- the fragment accepts the core in its role, with some names of its variables
@@ -31,6 +32,10 @@ GuardedIf own f = own ≡ true → (names : Names) × (guards names f ≡ None)
 abbrev pub is_child : PartForm → Bool
 is_child (Child f negated) = true
 is_child (Test c wanted) = false
+
+-- the node is one for the core, and stands for the empty log in each region
+abbrev pub BeginsNode : CoreForm → Node → Type 0
+BeginsNode f node = IsFor f node × ((view : View) → view.log ≡ [] → NodeStands view f node)
 
 -- nodes for these cores were added, which stand for the empty log in each region
 abbrev pub Adds : List CoreForm → List Node → List Node → Type 0
@@ -78,6 +83,26 @@ pub record PreviousBegun (i : Interval) (f : CoreForm) (s : PrevOf) : Type 0 whe
 pub record NextBegun (i : Interval) (f : CoreForm) (s : NextOf) : Type 0 where
   pub begun : s ≡ record { interval = i; columns = fv (meaning f); pulled = 0; times = []; started = false; tables = [] }
   pub follows : (t : List ℕ) (a : List Bool) (v : Valuation) → FollowsNext s t a v
+
+-- an UNTIL's state before the first position, which is right for every valuation
+pub record UntilBegun (i : Interval) (f g : CoreForm) (s : UntilOf) : Type 0 where
+  pub begun : s ≡ record {
+    ahead = record {
+      interval = i;
+      left = fv (meaning f);
+      right = fv (meaning g);
+      negated = is_negated f;
+      pulled = 0;
+      taken = 0;
+      starts = [];
+      rows = [];
+    };
+    times = [];
+    lefts = [];
+    rights = [];
+  }
+  pub left : (a : List Bool) (v : Valuation) → FollowsLeft s a v
+  pub follows : (t : List ℕ) (a b : List Bool) (v : Valuation) → FollowsUntil s t a b v
 
 -- a state stands for the empty log, in each region
 abbrev pub Begins : CoreForm → StateOf → Type 0

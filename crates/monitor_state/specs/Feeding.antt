@@ -1,8 +1,7 @@
 -- What happens to the states of PREVIOUS and SINCE as tables are pushed and pulled.
-use Rattle.std.specs.Prelude.{◌≡◌, ℕ, ◌+◌, ◌-◌, ◌<◌, ◌≤◌, Bool, true, false, List, [], ◌∷◌, ◌++◌, length, drop}
-use Rattle.mfotl_model.specs.Satisfaction.{Valuation, previous, since, time_at, truth_at}
+use Rattle.std.specs.Prelude.{◌≡◌, ℕ, ◌+◌, ◌≤◌, Bool, true, false, List, [], ◌∷◌, ◌++◌, length, drop}
+use Rattle.mfotl_model.specs.Satisfaction.{Valuation, since, time_at, truth_at}
 use Rattle.mfotl_model.specs.Tables.{TableOf, all_among, has}
-use Rattle.eval_since.specs.PreviousView.{FollowsPrevious, PrevOf, previous_due}
 use Rattle.eval_since.specs.SinceView.{Follows, SinceOf, due}
 use Rattle.relations.specs.Pushed.{AreOver, StandFrom, left_holds}
 

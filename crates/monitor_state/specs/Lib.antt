@@ -5,8 +5,11 @@ pub mod JoinFeeding
 pub mod OrFeeding
 pub mod PreviousFeeding
 pub mod NextFeeding
+pub mod UntilFeeding
+pub mod Constants
 pub mod Nodes
 pub mod Views
+pub mod UntilNode
 pub mod Stands
 pub mod Steps
 pub mod Going

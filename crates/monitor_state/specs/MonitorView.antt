@@ -1,5 +1,4 @@
 -- A monitor as contracts see it.
-use Rattle.std.specs.Prelude.{ℕ}
 use Rattle.monitorable.specs.CoreForms.{CoreForm}
 use Rattle.monitorable.specs.Cores.{core_form}
 use Rattle.monitor_state.specs.Stands.{StateOf}

@@ -3,11 +3,12 @@
 use Rattle.std.specs.Prelude.{Bool, true, false, cond, List, [], ◌∷◌, ◌++◌}
 use Rattle.monitorable.specs.Conjuncts.{PartForm, conjuncts_of}
 use Rattle.monitorable.specs.Conjuncts.PartForm.{Child, Test}
-use Rattle.monitorable.specs.CoreForms.{CoreForm, True, False, Atom, Compare, Not, And, Or, Exists, Previous}
+use Rattle.monitorable.specs.CoreForms.{CoreForm, Compare, Not, And, Or, Exists, Previous}
 use Rattle.monitorable.specs.CoreForms.{Next, Since, Until}
-use Rattle.monitorable.specs.Fragment.{binds, is_conjunction, judges_comparison, judges_not, under_not}
+use Rattle.monitorable.specs.Fragment.{binds, is_conjunction, judges_not, under_not}
 use Rattle.monitorable.specs.declared.role.Role.{Role}
 use Rattle.monitorable.specs.declared.role.Role.TheVariants.{Whole, Part, Left}
+use Rattle.monitor_state.specs.Constants.{stands_alone}
 
 -- the cores that are evaluated for conjuncts; a comparison that is tested is none
 abbrev pub children : List PartForm → List CoreForm
@@ -37,14 +38,9 @@ operands (Since i f g) = left_operand f ∷ g ∷ []
 operands (Until i f g) = left_operand f ∷ g ∷ []
 operands f = []
 
--- a comparison among conjuncts is a node where it is an equation with a constant
-abbrev pub part_nodes : Role → Bool → CoreForm → List CoreForm
-part_nodes Part true f = f ∷ []
-part_nodes role b f = []
-
 -- the cores of the nodes of a core in its role, each behind its operands
 unfoldable pub nodes_in : Role → CoreForm → List CoreForm
-nodes_in role (Compare c) = cond (judges_comparison role) (Compare c ∷ []) (part_nodes role (binds c) (Compare c))
+nodes_in role (Compare c) = cond (stands_alone role (binds c)) (Compare c ∷ []) []
 nodes_in role (Not f) = nodes_in (under_not role) f ++ cond (judges_not role) (Not f ∷ []) []
 nodes_in role (And f g) =
     nodes_in Part f ++ nodes_in Part g ++ cond (is_conjunction role) (And f g ∷ []) []

@@ -14,19 +14,22 @@ use Rattle.eval_bool.specs.OrView.{OrOf}
 use Rattle.eval_since.specs.PreviousView.{FollowsPrevious, PrevOf}
 use Rattle.eval_since.specs.SinceView.{Follows, SinceOf}
 use Rattle.eval_until.specs.NextView.{FollowsNext, NextOf, tables_pushed}
-use Rattle.monitorable.specs.CoreForms.{CoreForm, meaning, True, False, Atom, Not, And, Or, Exists, Previous, Next, Since}
+use Rattle.monitorable.specs.CoreForms.{CoreForm, meaning, True, False, Atom, Compare, Not, And, Or, Exists, Previous, Next, Since}
 use Rattle.monitorable.specs.Conjuncts.{PartForm, conjuncts_of}
 use Rattle.monitorable.specs.Conjuncts.PartForm.{Child as ChildPart, Test as TestPart}
+use Rattle.monitorable.specs.CoreForms.{Until}
 use Rattle.monitor_state.specs.Nodes.{children, is_negated, left_operand, nodes_of, operands}
+use Rattle.monitor_state.specs.UntilNode.{IsUntil, UntilStands}
 use Rattle.monitor_state.specs.Views.{Dates, Tells, reached}
 use Rattle.monitor_state.specs.declared.node.Node.{Node}
 use Rattle.monitor_state.specs.declared.node.Node.TheVariants as node
 
--- the table is the core's at each position of each log
+-- the core has no operands, and the table is the core's at each position of each log
 pub record IsConstant (f : CoreForm) (table : TableOf) : Type 0 where
   pub columns : table.columns ≡ fv (meaning f)
   pub rows : (log : List TimePoint) (dom : List Value) (v : Valuation) (i : ℕ)
       → has table v ≡ sat log dom v i (meaning f)
+  pub alone : operands f ≡ []
 
 -- the state is one of a PREVIOUS over the core f, with this interval
 pub record IsPrevious (i : Interval) (f : CoreForm) (s : PrevOf) : Type 0 where
@@ -71,6 +74,9 @@ pub record IsOr (f g : CoreForm) (s : OrOf) : Type 0 where
 abbrev pub IsFor : CoreForm → Node → Type 0
 IsFor True (node.Constant table) = IsConstant True table
 IsFor False (node.Constant table) = IsConstant False table
+IsFor (Compare c) (node.Constant table) = IsConstant (Compare c) table
+IsFor (Not f) (node.Constant table) = IsConstant (Not f) table
+IsFor (And f g) (node.Constant table) = IsConstant (And f g) table
 IsFor (Atom atom) (node.Atom a) = a ≡ atom
 IsFor (Not f) (node.Join s) = IsJoin (Not f) s
 IsFor (And f g) (node.Join s) = IsJoin (And f g) s
@@ -79,6 +85,7 @@ IsFor (Exists x f) (node.Exists y) = y ≡ x.number
 IsFor (Previous i f) (node.Previous s) = IsPrevious i f s
 IsFor (Next i f) (node.Next s) = IsNext i f s
 IsFor (Since i f g) (node.Since s order) = IsSince i f g s order
+IsFor (Until i f g) (node.Until s order) = IsUntil i f g s order
 IsFor f other = ⊥
 
 -- A child's tables: those not yet used are kept, up to the last one of a settled position, and are exact.
@@ -151,6 +158,7 @@ NodeStands view (Or f g) (node.Or s) = OrStands view f g s
 NodeStands view (Previous i f) (node.Previous s) = PreviousStands view i f s
 NodeStands view (Next i f) (node.Next s) = NextStands view i f s
 NodeStands view (Since i f g) (node.Since s order) = SinceStands view i f g s
+NodeStands view (Until i f g) (node.Until s order) = UntilStands view i f g s
 NodeStands view f other = Unit {0}
 
 -- each node is one for its core, and stands for the log

@@ -1,5 +1,5 @@
 -- What a monitor does with one time-point more.
-use Rattle.std.specs.Prelude.{◌≡◌, ℕ, ◌+◌, true, List, [], ◌∷◌, ◌++◌, length}
+use Rattle.std.specs.Prelude.{◌≡◌, ◌+◌, true, List, [], ◌∷◌, ◌++◌, length}
 use Rattle.mfotl_model.specs.Exact.{AllExact, View}
 use Rattle.mfotl_model.specs.FreeVariables.{fv, variables_in}
 use Rattle.mfotl_model.specs.Log.{times}
@@ -12,8 +12,8 @@ use Rattle.mfotl_model.specs.declared.event.TimePoint.{TimePoint}
 use Rattle.monitorable.specs.CoreForms.{CoreForm, meaning, True, False, Atom, Compare, Not, And, Or, Exists, Previous}
 use Rattle.monitorable.specs.CoreForms.{Next, Since, Until}
 use Rattle.monitorable.specs.Soundness.{IsSound}
-use Rattle.monitor_state.specs.Nodes.{nodes_of, operands}
-use Rattle.monitor_state.specs.Stands.{IsFor, NodeStands, NodesStand, Stands, StateOf}
+use Rattle.monitor_state.specs.Nodes.{operands}
+use Rattle.monitor_state.specs.Stands.{IsFor, NodeStands, Stands, StateOf}
 use Rattle.monitor_state.specs.Views.{reached}
 use Rattle.monitor_state.specs.declared.node.Node.{Node}
 

@@ -1,28 +1,52 @@
 //! The node of a conjunction.
 ghost use Rattle.std.specs.Prelude.{◌≡◌, ◌++◌, ◌∷◌, [], cond, map, true, IfOk, IsTrue, OnOk};
 ghost use Rattle.std.specs.List.{list_any};
-ghost use Rattle.eval_bool.specs.JoinView.{conjunct_of, join_begun};
+ghost use Rattle.eval_bool.specs.JoinView.{children_of, conjunct_of, is_guarded, join_begun, tests_of};
 ghost use Rattle.monitorable.specs.Conjuncts.{conjuncts_of};
 ghost use Rattle.monitorable.specs.CoreForms.{node_form};
 ghost use Rattle.monitorable.specs.PartView.{part_form};
-ghost use Rattle.monitor_state.specs.Beginnings.{BeginsJoin, GuardedIf, is_child};
+ghost use Rattle.monitor_state.specs.Beginnings.{AddsIf, BeginsNode, GuardedIf, IsJoined, is_child};
 ghost use Rattle.monitor_state.specs.Stands.{conjunct_as};
 
+use crate::constant::tested;
+use crate::node::{Node, add};
 use eval_bool::{Conjunct, JoinState};
 use monitorable::{Node as Core, Part, conjuncts};
 use std::alloc::{AllocError, Global};
 
-/// The state of the conjunction that a core is, before the first position.
-pub fn join_state(alloc: Global, core: &Core) -> Result<JoinState, AllocError>
-    requires { GuardedIf true (node_form core.now) }
-    ensures { IfOk result (BeginsJoin (node_form core.now)) }
+/// Adds the node of a conjunction, where it is its own.
+pub fn add_join(
+    alloc: Global,
+    own: bool,
+    core: &Core,
+    nodes: &mut Vec<Node>,
+) -> Result<(), AllocError>
+    requires joined { IsJoined (node_form core.now) }
+    requires guarded { GuardedIf own (node_form core.now) }
+    ensures { OnOk result (AddsIf own (node_form core.now) nodes.old.items nodes.new.items) }
+{
+    if !own {
+        return Ok(());
+    }
+    let node = conjunction(alloc, core)?;
+    add(node, nodes)
+}
+
+// The node of the conjunction that a core is. With tests alone it is the same at each position.
+fn conjunction(alloc: Global, core: &Core) -> Result<Node, AllocError>
+    requires joined { IsJoined (node_form core.now) }
+    requires guarded { GuardedIf true (node_form core.now) }
+    ensures { IfOk result (BeginsNode (node_form core.now)) }
 {
     let parts = conjuncts(alloc, core)?;
-    if !has_child(parts.as_slice()) {
-        return Err(AllocError);
+    let parts = parts.as_slice();
+    if has_child(parts) {
+        let state = join_state(alloc, parts)?;
+        Ok(Node::Join(state))
+    } else {
+        let table = tested(alloc, parts)?;
+        Ok(Node::Constant(table))
     }
-    let own = own_conjuncts(alloc, parts.as_slice())?;
-    JoinState::new(alloc, own)
 }
 
 fn is_child(part: &Part) -> bool
@@ -38,6 +62,17 @@ fn has_child(parts: &[Part]) -> bool
     ensures { result ≡ list_any (λ part. is_child (part_form part)) parts.now }
 {
     parts.iter().any(|part| is_child(part))
+}
+
+// The state before the first position.
+fn join_state(alloc: Global, parts: &[Part]) -> Result<JoinState, AllocError>
+    requires some { IsTrue (list_any is_child (map part_form parts.now)) }
+    requires guarded { IsTrue (is_guarded (children_of (map conjunct_as (map part_form parts.now)))
+        (tests_of (map conjunct_as (map part_form parts.now)))) }
+    ensures { IfOk result (λ state. state ≡ join_begun (map conjunct_as (map part_form parts.now))) }
+{
+    let own = own_conjuncts(alloc, parts)?;
+    JoinState::new(alloc, own)
 }
 
 // The conjuncts with memory of their own.

@@ -2,19 +2,23 @@
 //! they settle.
 #![tactic(auto)]
 
+mod begin_until;
 mod compile;
 mod conjunction;
+mod constant;
 mod join;
 pub mod laws;
 mod monitor;
 mod next;
 mod node;
+mod operators;
 mod or;
 mod ordering;
 mod previous;
 mod since;
 mod stack;
 mod tables;
+mod until;
 
 pub use monitor::Monitor;
 pub use tables::Tables;

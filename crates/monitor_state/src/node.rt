@@ -1,5 +1,5 @@
 //! The nodes of a monitor.
-ghost use Rattle.std.specs.Prelude.{IfOk};
+ghost use Rattle.std.specs.Prelude.{◌≡◌, ◌++◌, ◌∷◌, [], IfOk, OnOk};
 ghost use Rattle.monitor_state.specs.Quantified.{Quantifies};
 ghost use Rattle.monitor_state.specs.Steps.{Advances};
 
@@ -10,9 +10,10 @@ use crate::previous::take_previous;
 use crate::since::take_since;
 use crate::stack::{popped, popped_many};
 use crate::tables::Tables;
+use crate::until::take_until;
 use eval_bool::{JoinState, OrState, eval_atom};
 use eval_since::{PrevState, SinceState};
-use eval_until::NextState;
+use eval_until::{NextState, UntilState};
 use mfotl_model::{Atom, TimePoint};
 use relations::Table;
 use std::alloc::{AllocError, Global};
@@ -33,6 +34,8 @@ pub enum Node {
     Next(NextState),
     /// SINCE, with a table whose columns stand in the order that its tables have.
     Since(SinceState, Table),
+    /// UNTIL, likewise.
+    Until(UntilState, Table),
 }
 
 impl Node {
@@ -55,6 +58,7 @@ impl Node {
             Node::Previous(state) => advance_previous(alloc, state, point, stack),
             Node::Next(state) => advance_next(alloc, state, point, stack),
             Node::Since(state, order) => advance_since(alloc, state, order, point, stack),
+            Node::Until(state, order) => advance_until(alloc, state, order, point, stack),
         }
     }
 }
@@ -182,4 +186,26 @@ fn advance_since(
     let right = popped(alloc, stack);
     let left = popped(alloc, stack);
     take_since(alloc, state, order, point.ts, left, right)
+}
+
+fn advance_until(
+    alloc: Global,
+    state: &mut UntilState,
+    order: &Table,
+    point: &TimePoint,
+    stack: &mut Vec<Tables>,
+) -> Result<Tables, AllocError>
+    ensures { IfOk result (λ tables. Advances (Node.Until state.old order.now) point.now stack.old.items
+        (Node.Until state.new order.now) stack.new.items tables) }
+{
+    let right = popped(alloc, stack);
+    let left = popped(alloc, stack);
+    take_until(alloc, state, order, point.ts, left, right)
+}
+
+/// Adds a node behind the others.
+pub fn add(node: Node, nodes: &mut Vec<Node>) -> Result<(), AllocError>
+    ensures { OnOk result (nodes.new.items ≡ nodes.old.items ++ node ∷ []) }
+{
+    Ok(nodes.push(node)?)
 }

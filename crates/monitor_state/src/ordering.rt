@@ -1,17 +1,11 @@
 //! Tables with their columns in another order.
 ghost use Rattle.std.specs.Prelude.{◌≡◌, IfOk, IsTrue};
-ghost use Rattle.mfotl_model.specs.FreeVariables.{among};
 ghost use Rattle.mfotl_model.specs.Satisfaction.{Valuation};
 ghost use Rattle.mfotl_model.specs.Tables.{all_among, has};
 
+use mfotl_model::is_among;
 use relations::Table;
 use std::alloc::{AllocError, Global};
-
-fn is_among(x: u32, columns: &[u32]) -> bool
-    ensures { result ≡ among x columns.now }
-{
-    columns.iter().any(|y| x == *y)
-}
 
 pub fn all_among(wanted: &[u32], columns: &[u32]) -> bool
     ensures { result ≡ all_among wanted.now columns.now }

@@ -1,11 +1,10 @@
 //! The free variables of a core.
-ghost use Rattle.std.specs.Prelude.{◌≡◌, [], ◌∷◌, not, IfOk};
-ghost use Rattle.std.specs.List.{filter};
-ghost use Rattle.mfotl_model.specs.FreeVariables.{among, fv, joined, variables_in, without};
+ghost use Rattle.std.specs.Prelude.{◌≡◌, IfOk};
+ghost use Rattle.mfotl_model.specs.FreeVariables.{fv, joined, without};
 ghost use Rattle.monitorable.specs.CoreForms.{meaning, node_form};
 
 use crate::node::Node;
-use mfotl_model::{Atom, Comparison, Formula};
+use mfotl_model::{joined, without};
 use std::alloc::{AllocError, Global};
 
 impl Node {
@@ -17,8 +16,8 @@ impl Node {
     {
         match self {
             Node::True | Node::False => Ok(Vec::new(alloc)),
-            Node::Atom(atom) => atom_vars(alloc, atom),
-            Node::Compare(comparison) => comparison_vars(alloc, comparison),
+            Node::Atom(atom) => atom.variables(alloc),
+            Node::Compare(comparison) => comparison.variables(alloc),
             Node::Not(inner) | Node::Previous(_, inner) | Node::Next(_, inner) => {
                 inner.free_vars(alloc)
             }
@@ -45,51 +44,4 @@ impl Node {
     {
         without(alloc, x, &self.free_vars(alloc)?)
     }
-}
-
-#[tactic(auto, unfolding(mfotl_model::specs::FreeVariables::fv))]
-fn atom_vars(alloc: Global, atom: &Atom) -> Result<Vec<u32>, AllocError>
-    ensures { IfOk result (λ vars. vars.items ≡ variables_in atom.now.args) }
-{
-    Formula::Atom(atom.copy(alloc)?).free_vars(alloc)
-}
-
-#[tactic(auto, unfolding(mfotl_model::specs::FreeVariables::fv))]
-fn comparison_vars(alloc: Global, comparison: &Comparison) -> Result<Vec<u32>, AllocError>
-    ensures { IfOk result (λ vars. vars.items
-        ≡ variables_in (comparison.now.left ∷ comparison.now.right ∷ [])) }
-{
-    Formula::Compare(comparison.copy(alloc)?).free_vars(alloc)
-}
-
-// The variables of both lists: first those of `vars`, then those of `more` that are none of them.
-fn joined(alloc: Global, mut vars: Vec<u32>, more: &[u32]) -> Result<Vec<u32>, AllocError>
-    ensures { IfOk result (λ both. both.items ≡ joined vars.items more.now) }
-{
-    let others = others(alloc, &vars, more)?;
-    vars.extend_from_slice(&others)?;
-    Ok(vars)
-}
-
-fn others(alloc: Global, vars: &[u32], more: &[u32]) -> Result<Vec<u32>, AllocError>
-    ensures { IfOk result (λ new. new.items ≡ filter (λ y. not (among y vars.now)) more.now) }
-{
-    more.iter()
-        .copied()
-        .filter(|y| !is_among(*y, vars))
-        .collect(alloc)
-}
-
-// The variables but `x`.
-fn without(alloc: Global, x: u32, vars: &[u32]) -> Result<Vec<u32>, AllocError>
-    ensures { IfOk result (λ others. others.items ≡ without x vars.now) }
-{
-    vars.iter().copied().filter(|y| *y != x).collect(alloc)
-}
-
-/// Whether the variable is one of these.
-pub fn is_among(variable: u32, variables: &[u32]) -> bool
-    ensures { result ≡ among variable variables.now }
-{
-    variables.iter().any(|other| variable == *other)
 }

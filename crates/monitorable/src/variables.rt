@@ -3,9 +3,8 @@ ghost use Rattle.std.specs.Prelude.{◌≡◌, IfOk};
 ghost use Rattle.monitorable.specs.CoreForms.{node_form};
 ghost use Rattle.monitorable.specs.Fragment.{binds, bound_by, first_outside, needed_by};
 
-use crate::free_variables::is_among;
 use crate::node::Node;
-use mfotl_model::{Comparison, Sign, Term};
+use mfotl_model::{Comparison, Sign, Term, is_among};
 use std::alloc::{AllocError, Global};
 
 /// Whether it is an equation of a variable with a constant.

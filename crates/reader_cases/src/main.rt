@@ -23,7 +23,7 @@ fn answer(alloc: Global, case: &str) -> Result<String, Stop> {
         "tokens" | "contents" | "twice" | "front" | "integer" => tokens::answer(alloc, kind, case),
         "predicate" | "policy" => readers::answer(alloc, kind, case),
         "core" => fragment::core(alloc, case),
-        "points" | "limited" | "unfinished" => points::answer(alloc, kind, case),
+        "points" | "limited" | "unfinished" | "pieces" => points::answer(alloc, kind, case),
         "load" | "read" | "write" | "gather" => outside::answer(alloc, kind, case),
         "interval" | "lines" => model::answer(alloc, kind, case),
         _ => Err(Stop::Malformed),

@@ -13,6 +13,7 @@ pub fn answer(alloc: Global, kind: &str, case: &str) -> Result<String, Stop> {
     match kind {
         "limited" => limited(alloc, case),
         "unfinished" => unfinished(alloc, case),
+        "pieces" => pieces(alloc, case),
         _ => within(alloc, Limits::standard(), case),
     }
 }
@@ -78,6 +79,60 @@ fn told_thrice(alloc: Global, reader: &mut LogReader<'_>) -> Result<String, Stop
         put_points(alloc, &mut told, reader)?;
     }
     Ok(told)
+}
+
+// The time-points of a log that is fed in pieces of so many bytes, and the most that is held between two.
+fn pieces(alloc: Global, case: &str) -> Result<String, Stop> {
+    let (size, case) = parted(case);
+    let (signature, log) = halves(case)?;
+    let signature = signature_of(alloc, signature)?;
+    told_in_pieces(alloc, &signature, number(size)?, log)
+}
+
+fn told_in_pieces(
+    alloc: Global,
+    signature: &Signature,
+    size: usize,
+    log: &str,
+) -> Result<String, Stop> {
+    if size == 0 {
+        return Err(Stop::Malformed);
+    }
+    let bytes = bytes_of(alloc, log)?;
+    let mut reader = LogReader::new(alloc, signature, Limits::standard());
+    let mut told = String::new(alloc);
+    let mut most = 0usize;
+    for piece in bytes.chunks(size) {
+        put_piece(alloc, &mut told, &mut reader, piece)?;
+        most = most.max(reader.held());
+    }
+    reader.finish();
+    put_points(alloc, &mut told, &mut reader)?;
+    put_word(&mut told, format!(in alloc; "held {most}")?.as_str())?;
+    Ok(told)
+}
+
+// Puts the time-points up to where the reader asks for more, or a fault is shown.
+fn put_piece(
+    alloc: Global,
+    told: &mut String,
+    reader: &mut LogReader<'_>,
+    piece: &[u8],
+) -> Result<(), Stop> {
+    if reader.is_broken() || reader.is_finished() {
+        return Ok(());
+    }
+    reader.feed(alloc, piece)?;
+    for _ in 0..u64::MAX {
+        if reader.is_broken() {
+            break;
+        }
+        match reader.next(alloc) {
+            Ok(Next::Point(point)) => put_point(alloc, told, &point)?,
+            _ => break,
+        }
+    }
+    Ok(())
 }
 
 // Puts what the reader answers, up to the first answer that is no time-point.

@@ -90,4 +90,16 @@ impl Table {
         retain_chosen(columns.as_slice(), comparison, wanted, &mut rows);
         Table::of(columns, rows)
     }
+
+    /// The table itself where this holds, else the one without rows. It takes no memory.
+    pub fn only_where(self, alloc: Global, holds: bool) -> Self
+        ensures columns { result.columns ≡ self.columns }
+        ensures has { (v : Valuation) → has result v ≡ (holds && has self v) }
+    {
+        if holds {
+            return self;
+        }
+        let (columns, _rows) = self.into_parts();
+        Table::empty(alloc, columns)
+    }
 }

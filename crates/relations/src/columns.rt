@@ -1,10 +1,10 @@
 //! Columns, and rows read through them.
 ghost use Rattle.std.specs.Prelude.{◌≡◌, IfOk, MatchOption, map, pos};
-ghost use Rattle.mfotl_model.specs.FreeVariables.{among, joined, without};
+ghost use Rattle.mfotl_model.specs.FreeVariables.{joined};
 ghost use Rattle.mfotl_model.specs.Tables.{part, valuation};
-ghost use Rattle.relations.specs.Operations.{common, others};
+ghost use Rattle.relations.specs.Operations.{common};
 
-use mfotl_model::{Row, Value};
+use mfotl_model::{Row, Value, is_among, joined};
 use std::alloc::{AllocError, Global};
 
 /// What a row over these columns has at a column; `None` stands for a column that it lacks.
@@ -55,23 +55,6 @@ pub fn part_of(
     Ok(narrow)
 }
 
-fn is_among(x: u32, columns: &[u32]) -> bool
-    ensures { result ≡ among x columns.now }
-{
-    columns.iter().any(|y| x == *y)
-}
-
-/// The columns of the second that the first lacks.
-pub(crate) fn others(alloc: Global, first: &[u32], second: &[u32]) -> Result<Vec<u32>, AllocError>
-    ensures { IfOk result (λ more. more.items ≡ others first.now second.now) }
-{
-    second
-        .iter()
-        .copied()
-        .filter(|y| !is_among(*y, first))
-        .collect(alloc)
-}
-
 /// The columns of the second that the first has.
 pub(crate) fn common(alloc: Global, first: &[u32], second: &[u32]) -> Result<Vec<u32>, AllocError>
     ensures { IfOk result (λ both. both.items ≡ common first.now second.now) }
@@ -83,19 +66,15 @@ pub(crate) fn common(alloc: Global, first: &[u32], second: &[u32]) -> Result<Vec
         .collect(alloc)
 }
 
-pub(crate) fn joined(alloc: Global, first: &[u32], second: &[u32]) -> Result<Vec<u32>, AllocError>
+/// The columns of both: those of the first, then those of the second that the first lacks.
+pub(crate) fn both_columns(
+    alloc: Global,
+    first: &[u32],
+    second: &[u32],
+) -> Result<Vec<u32>, AllocError>
     ensures { IfOk result (λ both. both.items ≡ joined first.now second.now) }
 {
-    let more = others(alloc, first, second)?;
-    let mut columns = copied(alloc, first)?;
-    columns.extend_from_slice(more.as_slice())?;
-    Ok(columns)
-}
-
-pub(crate) fn without(alloc: Global, x: u32, columns: &[u32]) -> Result<Vec<u32>, AllocError>
-    ensures { IfOk result (λ rest. rest.items ≡ without x columns.now) }
-{
-    columns.iter().copied().filter(|y| *y != x).collect(alloc)
+    joined(alloc, copied(alloc, first)?, second)
 }
 
 pub(crate) fn copied(alloc: Global, columns: &[u32]) -> Result<Vec<u32>, AllocError>

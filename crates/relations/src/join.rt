@@ -9,7 +9,7 @@ ghost use Rattle.mfotl_model.specs.Values.{row_cmp};
 ghost use Rattle.relations.specs.Indexes.{index_cmp, table_of};
 ghost use Rattle.relations.specs.Operations.{common, joined_rows};
 
-use crate::columns::{common, copied, joined};
+use crate::columns::{both_columns, common, copied};
 use crate::index::Index;
 use crate::matched::{matched_pairs, turned_pairs};
 use crate::steps::Steps;
@@ -84,7 +84,7 @@ fn join_within<L: Ledger>(
     ensures has { IfOk result (λ table. (v : Valuation) →
         has table v ≡ (has first.now v && has second.now v)) }
 {
-    let columns = joined(alloc, first.columns(), second.columns())?;
+    let columns = both_columns(alloc, first.columns(), second.columns())?;
     let by_first = first.rows().len() < second.rows().len();
     let mut steps = Steps::<L>::new(blank);
     let rows = pairs(alloc, first, second, by_first, &mut steps)?;
@@ -136,7 +136,7 @@ impl Table {
         ensures cost { OnOk result ((d : ℕ) → length index.now.rows < 2 ^ d →
             steps.new ≤ steps.old + length self.now.rows * (2 * d)) }
     {
-        let columns = joined(alloc, self.columns(), index.columns())?;
+        let columns = both_columns(alloc, self.columns(), index.columns())?;
         let rows = matched_pairs(alloc, self.columns(), self.rows(), index, steps)?;
         Ok(Table::from_rows(columns, rows))
     }

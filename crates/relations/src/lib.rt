@@ -10,6 +10,7 @@ mod index;
 mod join;
 mod matched;
 mod projection;
+mod pushed;
 mod rows;
 mod search;
 mod steps;
@@ -18,5 +19,6 @@ mod union;
 
 pub use columns::{part_of, value_at};
 pub use index::Index;
+pub use pushed::first_pushed;
 pub use steps::Steps;
 pub use table::Table;

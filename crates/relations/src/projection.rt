@@ -5,9 +5,9 @@ ghost use Rattle.mfotl_model.specs.Satisfaction.{Valuation, with_value};
 ghost use Rattle.mfotl_model.specs.Tables.{all_among, all_apart, has, part};
 ghost use Rattle.relations.specs.Operations.{projected_rows};
 
-use crate::columns::{part_of, without};
+use crate::columns::part_of;
 use crate::table::Table;
-use mfotl_model::{Row, Value};
+use mfotl_model::{Row, Value, without};
 use std::alloc::{AllocError, Global};
 
 fn parts(

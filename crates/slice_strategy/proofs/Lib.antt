@@ -5,3 +5,15 @@ pub mod CountLemmas
 pub mod SoundLemmas
 pub mod ReadingLemmas
 pub mod SizeLemmas
+pub mod EntryLaws
+pub mod Moves
+pub mod PartReads
+pub mod PartMoves
+pub mod CauseLaw
+pub mod StrategyLaws
+pub mod ChangeReadingLemmas
+pub mod ChangeRuns
+pub mod ChangeParts
+pub mod ChangeMoves
+pub mod ChangeCauseLaw
+pub mod ChangeTextLaws

@@ -18,7 +18,8 @@ use Rattle.slice_strategy.specs.Answers.{Gives}
 use Rattle.slice_strategy.specs.Limits.{max_workers}
 use Rattle.slice_strategy.specs.Reading.{StageOf, Between, Named, Chosen, Divided, Counting, Cutting, Behind, Partial}
 use Rattle.slice_strategy.specs.Reading.{ended, settled, moved, stage_step, step, complete, at_tail, nothing_read}
-use Rattle.slice_strategy.specs.Reading.{text_of, reading}
+use Rattle.slice_strategy.specs.Reading.{reading}
+use Rattle.slice_strategy.specs.Rules.{text_of}
 
 ok_size : (p q : Partial) (r : Result Partial StrategyFault) → r ≡ Ok p → r ≡ Ok q → length q.entries ≡ length p.entries
 ok_size p q r one two = let same : p ≡ q = cc in sym (ap (λ (x : Partial). length x.entries) same)

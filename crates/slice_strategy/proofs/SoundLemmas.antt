@@ -25,9 +25,10 @@ use Rattle.slice_strategy.specs.declared.stage.Method.TheVariants as method
 use Rattle.slice_strategy.specs.Entries.{entries_of, entry_of}
 use Rattle.slice_strategy.specs.Limits.{max_workers}
 use Rattle.slice_strategy.specs.Reading.{StageOf, Between, Named, Chosen, Divided, Counting, Cutting, Behind, Partial}
-use Rattle.slice_strategy.specs.Reading.{StageFits, IsSound, variable_of, fresh, named, begins, after_name}
+use Rattle.slice_strategy.specs.Reading.{StageFits, IsSound, fresh, named, begins, after_name}
 use Rattle.slice_strategy.specs.Reading.{after_equal, after_method, counted, count_step, is_above, cut_step}
-use Rattle.slice_strategy.specs.Reading.{goes_on, stage_step, holds_text, syntax_at, ended}
+use Rattle.slice_strategy.specs.Reading.{goes_on, stage_step, syntax_at, ended}
+use Rattle.slice_strategy.specs.Rules.{variable_of, holds_text}
 use Rattle.slice_strategy.specs.SlicerLemmas.{both_some}
 
 -- ---- the stages
@@ -119,7 +120,7 @@ stage_fits vars entries (Behind head entry) t kind s fits is = on_fits (length e
 
 -- ---- the workers
 
-uncut_one : (n : ℕ) → workers_of (replicate n Uncut) ≡ 1
+pub uncut_one : (n : ℕ) → workers_of (replicate n Uncut) ≡ 1
 uncut_one zero = refl
 uncut_one (suc n) = one-mul (workers_of (replicate n Uncut)) ∙ uncut_one n
 

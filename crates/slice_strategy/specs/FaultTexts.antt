@@ -1,6 +1,8 @@
 -- How a fault is printed: `CutSort at 2`.
 use Rattle.std.specs.Prelude.{ℕ, List, ◌++◌, codes}
 use Rattle.std.specs.Fmt.{decimal}
+use Rattle.slice_strategy.specs.declared.change.ChangeFault.{ChangeFault}
+use Rattle.slice_strategy.specs.declared.change.ChangeFault.TheVariants.{Strategy, FallingChange, TooManyChanges}
 use Rattle.slice_strategy.specs.declared.fault.StrategyFault.{StrategyFault}
 use Rattle.slice_strategy.specs.declared.fault.StrategyFault.TheVariants.{Syntax, UnknownVariable, RepeatedVariable}
 use Rattle.slice_strategy.specs.declared.fault.StrategyFault.TheVariants.{BadCount, CutSort, CutOrder, TooManyWorkers}
@@ -16,3 +18,9 @@ fault_text (CutSort at) = codes "CutSort at " ++ decimal at
 fault_text (CutOrder at) = codes "CutOrder at " ++ decimal at
 fault_text (TooManyWorkers at) = codes "TooManyWorkers at " ++ decimal at
 fault_text Memory = codes "Memory"
+
+-- the same of a change script's
+abbrev pub change_fault_text : ChangeFault → List ℕ
+change_fault_text (Strategy fault) = fault_text fault
+change_fault_text (FallingChange at) = codes "FallingChange at " ++ decimal at
+change_fault_text (TooManyChanges at) = codes "TooManyChanges at " ++ decimal at

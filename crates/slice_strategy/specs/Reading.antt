@@ -1,21 +1,17 @@
 -- Reading a strategy token by token, up to the first fault.
 use Rattle.std.specs.Prelude.{◌<◌, ℕ, pos, ℤ, Bool, List, [], ◌∷◌, ◌++◌, length, Option, Some, None, Result, Ok}
-use Rattle.std.specs.Prelude.{Err, if◌then◌else◌, nat_le, int_le, position, replicate, slice_get, slice_set, codes}
-use Rattle.std.specs.Prelude.{unsigned_abs, int_lt, true, false, ◌-◌}
+use Rattle.std.specs.Prelude.{Err, if◌then◌else◌, nat_le, int_le, replicate, slice_get, slice_set, codes}
+use Rattle.std.specs.Prelude.{unsigned_abs, int_lt, true, ◌-◌}
 use Rattle.std.specs.Str.{bytes_eq}
 use Rattle.mfotl_lex.specs.declared.fault.LexFault.{LexFault}
 use Rattle.mfotl_lex.specs.declared.kind.Kind.{Kind}
 use Rattle.mfotl_lex.specs.declared.kind.Kind.TheVariants.{Word, Integer, Comma, Colon, Equal}
-use Rattle.mfotl_lex.specs.declared.kind.Mode.TheVariants.{Plain}
 use Rattle.mfotl_lex.specs.FirstFault as layer
 use Rattle.mfotl_lex.specs.FirstFault.{◌>>=◌, Tail, Broken, End, More}
 use Rattle.mfotl_lex.specs.Lexemes.{Lexeme}
 use Rattle.mfotl_lex.specs.Numbers.{integer_value}
-use Rattle.mfotl_lex.specs.Texts as texts
 use Rattle.mfotl_model.specs.Strategies.{Entry, Strategy, parts_of, workers_of}
 use Rattle.mfotl_model.specs.Strategies.Entry.{Uncut, Hash, Cut}
-use Rattle.mfotl_model.specs.declared.policy.Sort.{Sort}
-use Rattle.mfotl_model.specs.declared.policy.Sort.TheVariants.{Int, Text}
 use Rattle.mfotl_model.specs.declared.policy.Var.{Var}
 use Rattle.slice_strategy.specs.declared.fault.StrategyFault.{StrategyFault}
 use Rattle.slice_strategy.specs.declared.fault.StrategyFault.TheVariants.{Syntax, UnknownVariable, RepeatedVariable}
@@ -25,6 +21,7 @@ use Rattle.slice_strategy.specs.declared.stage.Method.{Method}
 use Rattle.slice_strategy.specs.declared.stage.Method.TheVariants as method
 use Rattle.slice_strategy.specs.Entries.{HasWorkers}
 use Rattle.slice_strategy.specs.Limits.{max_workers}
+use Rattle.slice_strategy.specs.Rules.{variable_of, holds_text, text_of}
 
 -- the place of the last token in an entry, and what was read of that entry
 pub data StageOf : Type 0 where
@@ -49,10 +46,6 @@ pub record Partial : Type 0 where
 abbrev pub syntax_at : {A : Type 0} → Lexeme → Result A StrategyFault
 syntax_at t = Err (Syntax t.at)
 
--- the variable of this name, by number
-abbrev pub variable_of : List Var → List ℕ → Option ℕ
-variable_of vars name = position (λ var. bytes_eq name var.name) vars
-
 -- a Word of the policy's variable, where it has no entry yet
 abbrev pub fresh : Option Entry → ℕ → Lexeme → Result StageOf StrategyFault
 fresh (Some Uncut) variable t = Ok (Named (record { variable = variable; at = t.at }))
@@ -72,15 +65,6 @@ begins vars entries t _ = syntax_at t
 abbrev pub after_name : Head → Lexeme → Kind → Result StageOf StrategyFault
 after_name head t Equal = Ok (Chosen head)
 after_name head t _ = syntax_at t
-
--- whether a variable is a string
-abbrev pub is_text : Sort → Bool
-is_text Text = true
-is_text Int = false
-
-abbrev pub holds_text : Option Var → Bool
-holds_text None = false
-holds_text (Some var) = is_text var.sort
 
 -- a method, which for a string is no cut
 abbrev pub chosen : List Var → Head → Lexeme → Result StageOf StrategyFault
@@ -186,10 +170,6 @@ at_tail More p = Ok p.entries
 -- no token was read
 abbrev pub nothing_read : List Var → Partial
 nothing_read vars = record { entries = replicate (length vars) Uncut; stage = Between }
-
--- the tokens of a strategy's bytes, which are all there are
-abbrev pub text_of : List ℕ → layer.Text Lexeme LexFault
-text_of bytes = texts.text_of Plain bytes
 
 -- the strategy of a text, or its first fault
 unfoldable pub reading : List Var → List ℕ → Result Strategy StrategyFault

@@ -1,7 +1,36 @@
 //! What holds of every text. Each law is a function that does nothing: its clause is the law.
 
-ghost use Rattle.slice_strategy.specs.Laws.{StaysShown};
+ghost use Rattle.slice_strategy.specs.Laws.{ReadIsSpelled, SpelledIsRead, OneAnswer, ExactFaults, ExactSoundness, StaysShown};
+ghost use Rattle.slice_strategy.specs.ChangeLaws as changes;
+ghost use Rattle.slice_strategy.specs.ChangeTexts.{WorkedChanges, WorkedChangeFaults};
 ghost use Rattle.slice_strategy.specs.WorkedTexts.{WorkedValues, WorkedFaults};
+
+/// A text that is read spells its strategy, and keeps the rules.
+pub fn read_is_spelled()
+    ensures { ReadIsSpelled }
+{}
+
+/// A text that spells entries and keeps the rules is read.
+pub fn spelled_is_read()
+    ensures { SpelledIsRead }
+{}
+
+/// A text has exactly one of a strategy and a first fault.
+pub fn one_answer()
+    ensures { OneAnswer }
+{}
+
+/// Each fault is told exactly where it is the first that is shown: `Syntax` by the first token that ends
+/// viability, by the input's end or by bytes that form no token, a rule's by the token that breaks it, and
+/// `TooManyWorkers` by what follows the entry's last integer and is no comma.
+pub fn exact_faults()
+    ensures { ExactFaults }
+{}
+
+/// The reader goes over tokens exactly where none of them shows a fault.
+pub fn exact_soundness()
+    ensures { ExactSoundness }
+{}
 
 /// What the front of a text shows is shown by the text.
 pub fn stays_shown()
@@ -12,4 +41,30 @@ pub fn stays_shown()
 pub fn worked_texts()
     ensures values { WorkedValues }
     ensures faults { WorkedFaults }
+{}
+
+/// A change script has exactly one of a list of changes, which it spells, and a first fault.
+pub fn one_answer_of_changes()
+    ensures { changes.OneAnswer }
+{}
+
+/// Each fault of a change script is told exactly where it is the first that is shown.
+pub fn exact_faults_of_changes()
+    ensures { changes.ExactFaults }
+{}
+
+/// The reader of change scripts goes over tokens exactly where none of them shows a fault.
+pub fn exact_soundness_of_changes()
+    ensures { changes.ExactSoundness }
+{}
+
+/// What the front of a change script shows is shown by the script.
+pub fn changes_stay_shown()
+    ensures { changes.StaysShown }
+{}
+
+/// Change scripts worked out by hand, and what is read of them.
+pub fn worked_changes()
+    ensures values { WorkedChanges }
+    ensures faults { WorkedChangeFaults }
 {}

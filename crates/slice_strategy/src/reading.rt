@@ -1,9 +1,13 @@
 //! A strategy, token by token.
-ghost use Rattle.std.specs.Prelude.{◌≡◌, IfOk, length, replicate};
+ghost use Rattle.std.specs.Prelude.{◌≡◌, ◌≢◌, IfErr, IfOk, length, replicate};
 ghost use Rattle.mfotl_model.specs.Strategies.Entry.{Uncut};
 ghost use Rattle.slice_strategy.specs.Entries.{entries_of};
 ghost use Rattle.mfotl_lex.specs.Lexemes.{lexeme};
 ghost use Rattle.slice_strategy.specs.Answers.{Fails, Gives};
+ghost use Rattle.slice_strategy.specs.declared.fault.StrategyFault.TheVariants.{Memory};
+ghost use Rattle.slice_strategy.specs.ChangeReading.{may_begin};
+ghost use Rattle.slice_strategy.specs.Laws.{IsShown};
+ghost use Rattle.slice_strategy.specs.Rules.{IsValue};
 ghost use Rattle.slice_strategy.specs.Reading.{step, settled, ended, at_end, broken, nothing_read, reading};
 
 use crate::entry::{Entry, count_workers};
@@ -46,7 +50,7 @@ fn uncut(alloc: Global, count: usize) -> Result<Vec<Entry>, AllocError>
 }
 
 impl Reader {
-    fn new(alloc: Global, vars: &[Var]) -> Result<Self, AllocError>
+    pub(crate) fn new(alloc: Global, vars: &[Var]) -> Result<Self, AllocError>
         ensures { IfOk result (λ reader. reader ≡ nothing_read vars.now) }
     {
         Ok(Reader {
@@ -57,7 +61,12 @@ impl Reader {
 
     /// Takes the next token.
     #[tactic(auto, unfolding(crate::specs::Reading::step))]
-    fn step(self, alloc: Global, vars: &[Var], token: &Token) -> Result<Self, StrategyFault>
+    pub(crate) fn step(
+        self,
+        alloc: Global,
+        vars: &[Var],
+        token: &Token,
+    ) -> Result<Self, StrategyFault>
         ensures { Gives (λ reader. reader) result (step vars.now self (lexeme token.now)) }
     {
         let Reader { entries, stage } = self.settled(token.kind)?;
@@ -76,7 +85,7 @@ impl Reader {
     }
 
     /// No more of the open entry comes.
-    fn ended(self) -> Result<Self, StrategyFault>
+    pub(crate) fn ended(self) -> Result<Self, StrategyFault>
         ensures { Gives (λ reader. reader) result (ended self.entries self.stage) }
     {
         let Reader { mut entries, stage } = self;
@@ -95,7 +104,7 @@ impl Reader {
         }
     }
 
-    fn finish(self, end: u64) -> Result<Strategy, StrategyFault>
+    pub(crate) fn finish(self, end: u64) -> Result<Strategy, StrategyFault>
         ensures { Gives (λ s. s) result (at_end end self) }
     {
         let Reader { entries, stage } = self.ended()?;
@@ -105,8 +114,22 @@ impl Reader {
         }
     }
 
+    /// Whether an entry may begin with the next token.
+    pub(crate) fn may_begin(&self) -> bool
+        ensures { result ≡ may_begin self.now.stage }
+    {
+        matches!(self.stage, Stage::Between | Stage::Behind(..))
+    }
+
+    /// The strategy of the entries that are settled.
+    pub(crate) fn into_strategy(self) -> Strategy
+        ensures { result ≡ self.entries }
+    {
+        Strategy::new(self.entries)
+    }
+
     /// Where the lexer has a fault at this offset.
-    fn broken(self, at: u64) -> StrategyFault
+    pub(crate) fn broken(self, at: u64) -> StrategyFault
         ensures { Fails result (broken self at) }
     {
         match self.ended() {
@@ -139,6 +162,8 @@ impl Strategy {
     /// lexer has a fault it is `Syntax`.
     pub fn read(alloc: Global, bytes: &[u8], policy: &Policy) -> Result<Self, StrategyFault>
         ensures reads { Gives (λ s. s) result (reading policy.now.vars bytes.now) }
+        ensures value { IfOk result (λ s. IsValue policy.now.vars bytes.now s) }
+        ensures shown { IfErr result (λ fault. fault ≢ Memory → IsShown policy.now.vars bytes.now fault) }
         ensures sized { IfOk result (λ s. length s ≡ length policy.now.vars) }
     {
         read_strategy(alloc, bytes, policy.vars.as_slice())

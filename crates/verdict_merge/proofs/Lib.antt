@@ -1,3 +1,4 @@
 pub mod CountLemmas
 pub mod MergeLemmas
 pub mod OwnerLemmas
+pub mod MergedLists

@@ -40,3 +40,16 @@ partition_merges xs all sorted moved =
     btree_set_from_contains row_total left right (sorted_ascending row_total row_exact xs) sorted
     (λ q. any_ascending row_total row_exact (eq_by_cmp row_cmp q) xs ∙ any_permuted (eq_by_cmp row_cmp q) xs all moved)
     row_exact
+
+-- lists of the same members come out the same
+pub ascending_permuted : (xs ys : List (List Value)) → IsPermutation xs ys
+    → ascending row_cmp ys ≡ ascending row_cmp xs
+ascending_permuted xs ys moved =
+    let left : BTreeSet (List Value) = record { keys = ascending row_cmp ys } in
+    let right : BTreeSet (List Value) = record { keys = ascending row_cmp xs } in
+    btree_set_from_contains row_total left right (sorted_ascending row_total row_exact ys)
+    (sorted_ascending row_total row_exact xs)
+    (λ q. any_ascending row_total row_exact (eq_by_cmp row_cmp q) ys
+    ∙ sym (any_permuted (eq_by_cmp row_cmp q) xs ys moved)
+    ∙ sym (any_ascending row_total row_exact (eq_by_cmp row_cmp q) xs))
+    row_exact

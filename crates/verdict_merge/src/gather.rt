@@ -1,11 +1,12 @@
 //! Puts the Rows of all workers of a time-point together.
 ghost use Rattle.std.specs.Prelude.{◌≡◌, ◌++◌, ◌∷◌, [], ◌<◌, ◌≤◌, IfOk, IsFalse, length, option_copied};
-ghost use Rattle.std.specs.List.{find, list_any};
+ghost use Rattle.std.specs.List.{find, flat_map, list_any};
 ghost use Rattle.verdict_merge.specs.Gathers.{all_rows, at_point, complete_ts, is_from, is_generation, rows_after, rows_at, workers_in};
 ghost use Rattle.verdict_merge.specs.Emitted.{Emits};
 
+use crate::merge::merged;
 use crate::rows::{Begun, Rows, Verdict};
-use mfotl_model::{Row, RowList};
+use mfotl_model::Row;
 use std::alloc::{AllocError, Global};
 use std::marker::Model;
 use std::mem;
@@ -81,9 +82,9 @@ impl Gather {
         };
         let point = self.next;
         let after = point.checked_add(1).ok_or(AllocError)?;
-        let rows = self.take_next(alloc)?;
+        let lists = self.take_next(alloc)?;
+        let rows = merged(alloc, lists)?;
         self.next = after;
-        let rows = RowList::in_order(rows);
         Ok(Some(Verdict { point, ts, rows }))
     }
 
@@ -132,9 +133,10 @@ impl Gather {
         }
     }
 
-    // Takes the Rows of the next time-point out: all their rows.
-    fn take_next(&mut self, alloc: Global) -> Result<Vec<Row>, AllocError>
-        ensures rows { IfOk result (λ rows. rows.items ≡ all_rows (rows_at self.old.next self.old.added)) }
+    // Takes the Rows of the next time-point out: the rows of each.
+    fn take_next(&mut self, alloc: Global) -> Result<Vec<Vec<Row>>, AllocError>
+        ensures rows { IfOk result (λ lists.
+            flat_map (λ list. list.items) lists.items ≡ all_rows (rows_at self.old.next self.old.added)) }
         ensures left { IfOk result (λ _. self.new ≡ record {
           begun = self.old.begun;
           next = self.old.next;
@@ -146,8 +148,7 @@ impl Gather {
         let mut later = Vec::new(alloc);
         for rows in mem::replace(&mut self.added, Vec::new(alloc)) {
             if rows.point == next {
-                let mut values = rows.rows.into_vec();
-                here.append(&mut values)?;
+                here.push(rows.rows.into_vec())?;
             } else {
                 later.push(rows)?;
             }

@@ -3,6 +3,7 @@
 
 mod gather;
 pub mod laws;
+mod merge;
 mod rows;
 mod text;
 

@@ -8,8 +8,7 @@ pub loop-place-preserved : goal.loop-place-preserved
 loop-place-preserved c =
     let first = c.args.first in
     let place = c.loop-place.place in
-    blanks_step (place - 1 - first) (place - first) first c.in-Some.number c.in_ok-name.name
-    (form c.in_ok-new.field-0.value)
-    (omega arith) (omega (arith, c.in-Some.ensures)) c.in_ok-name.ensures
-    ∙ ap (λ f. blanks (place - first) first (form f)) c.in_ok-new.ensures.ok
+    ap (blanks (place - 1 - first) first) c.in_ok-whole.ensures
+    ∙ blanks_step (place - 1 - first) (place - first) first (place - 1) (form c.loop-place.whole.value)
+    (omega arith) (omega arith)
     ∙ c.loop-place.invariant

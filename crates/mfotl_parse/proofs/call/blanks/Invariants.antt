@@ -5,7 +5,8 @@ use Rattle.mfotl_parse.proofs.call.blanks.Given as goal
 
 abbrev pub invariant-loop-place : goal.invariant-loop-place
 invariant-loop-place l =
-    blanks (l.place - l.first) l.first (form l.whole) ≡ blanks (l.fn.end - l.first) l.first (form l.fn.inner)
+    blanks (l.place - l.first) l.first (form l.whole.value)
+    ≡ blanks (l.fn.end - l.first) l.first (form l.fn.inner.value)
 
 abbrev pub decreases-loop-place : goal.decreases-loop-place
 decreases-loop-place l = l.place

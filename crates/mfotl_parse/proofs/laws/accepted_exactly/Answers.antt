@@ -1,4 +1,4 @@
-use Rattle.mfotl_parse.proofs.SpelledLaw as proven
+use Rattle.mfotl_parse.proofs.WholeTrees as proven
 use Rattle.mfotl_parse.proofs.laws.accepted_exactly.Goals as goal
 
 pub returns : goal.returns

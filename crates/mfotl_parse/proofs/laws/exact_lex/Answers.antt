@@ -1,4 +1,4 @@
-use Rattle.mfotl_parse.proofs.LexLaw as proven
+use Rattle.mfotl_parse.proofs.PolicyLaws as proven
 use Rattle.mfotl_parse.proofs.laws.exact_lex.Goals as goal
 
 pub returns : goal.returns

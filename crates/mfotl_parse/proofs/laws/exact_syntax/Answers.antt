@@ -1,4 +1,4 @@
-use Rattle.mfotl_parse.proofs.SyntaxLaw as proven
+use Rattle.mfotl_parse.proofs.PolicyLaws as proven
 use Rattle.mfotl_parse.proofs.laws.exact_syntax.Goals as goal
 
 pub returns : goal.returns

@@ -1,4 +1,4 @@
-use Rattle.mfotl_parse.proofs.SilentLaw as proven
+use Rattle.mfotl_parse.proofs.PolicyLaws as proven
 use Rattle.mfotl_parse.proofs.laws.silent_are_read.Goals as goal
 
 pub returns : goal.returns

@@ -1,4 +1,4 @@
-use Rattle.mfotl_parse.proofs.SpelledLaw as proven
+use Rattle.mfotl_parse.proofs.PolicyLaws as proven
 use Rattle.mfotl_parse.proofs.laws.syntax_exactly.Goals as goal
 
 pub returns : goal.returns

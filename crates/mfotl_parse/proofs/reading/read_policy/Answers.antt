@@ -1,6 +1,5 @@
 use Rattle.mfotl_parse.proofs.ColumnsLaw.{sorted_given}
-use Rattle.mfotl_parse.proofs.LimitLemmas.{few_gives}
-use Rattle.mfotl_parse.proofs.ShownLaw.{value_given, shown_given}
+use Rattle.mfotl_parse.proofs.PolicyLaws.{value_given, shown_given, few_given}
 use Rattle.mfotl_parse.proofs.reading.read_policy.Goals as goal
 
 pub returns-clause-value : goal.returns-clause-value
@@ -13,4 +12,4 @@ pub returns-clause-columns : goal.returns-clause-columns
 returns-clause-columns c = sorted_given c.args.bytes.now c.args.signature.now c.read.result c.read.ensures
 
 pub returns-clause-few : goal.returns-clause-few
-returns-clause-few c = few_gives c.args.signature.now c.args.bytes.now c.read.result c.read.ensures
+returns-clause-few c = few_given c.args.bytes.now c.args.signature.now c.read.result c.read.ensures

@@ -6,7 +6,7 @@ use Rattle.monitor_main.specs.CommandViews.{command_in, sources_in}
 use Rattle.monitor_main.specs.Loading.{LoadsSources}
 use Rattle.monitor_main.specs.Words.{Sources, command_sources}
 use Rattle.monitor_main.specs.declared.words.Command.{Command as CommandValue}
-use Rattle.monitor_main.proofs.DecideLemmas.{check_comes, command_stops, run_goes_on}
+use Rattle.monitor_main.proofs.DecideLemmas.{check_comes, command_stops, run_monitors}
 use Rattle.monitor_main.proofs.running.obey.Goals as goal
 
 pub returns-in_err-checked : goal.returns-in_err-checked
@@ -24,7 +24,7 @@ returns-in-Run g c =
     let checked = checked_in c.in_ok-checked.checked in
     let same : sources_in c.sources.result.now ≡ sources_in c.in-Run.field-0 =
     c.sources.ensures ∙ ap (λ (command : CommandValue). command_sources (command_in command)) c.in-Run.is in
-    rw c.in-Run.is (run_goes_on (sources_in c.in-Run.field-0) c.in-Run.log.now before mid checked
+    rw c.in-Run.is (run_monitors (sources_in c.in-Run.field-0) c.in-Run.log.now before mid checked
     (subst (λ (s : Sources). LoadsSources s checked before mid) same c.in_ok-checked.ensures.ok)
     c.in_ok-checked.ensures.files c.in_ok-checked.ensures.later (inputs_view g.I.Inputs c.monitor_policy.new.inputs)
     (sink_view g.O.Sink c.args.out.now) (sink_view g.O.Sink c.monitor_policy.new.out) c.monitor_policy.result

@@ -1,12 +1,16 @@
-use Rattle.std.proofs.Common.{rules, ◌<◌, ◌≡◌, OnOk, List, subst, sym, ap, ◌∷◌, ◌++◌, [], ◌∙◌}
+use Rattle.std.proofs.Common.{rules, ◌<◌, ◌≡◌, subst, sym, ap, ◌∷◌, [], ◌∙◌}
 use Rattle.monitorable.specs.CoreForms.{node_form, And, Exists, Not, Next, Or, Previous, Since}
 use Rattle.monitorable.specs.NodeCount.{nodes}
 use Rattle.monitorable.specs.declared.role.Role.TheVariants as role
-use Rattle.monitor_state.proofs.BeginLemmas.{and_adds, atom_at, exists_adds, false_at, next_adds, not_adds, or_adds, previous_adds, since_adds, true_at}
-use Rattle.monitor_state.proofs.GuardLemmas.{and_left_at, and_own_at, and_right_at, exists_under_at, next_under_at, not_own_at, not_under_at, or_left_at, or_right_at, previous_under_at, since_left_at, since_right_at}
+use Rattle.monitor_state.proofs.BeginLemmas.{and_adds, atom_at, compare_adds, exists_adds, false_at, next_adds, not_adds, or_adds, previous_adds, since_adds, true_at}
+use Rattle.monitor_state.proofs.GuardLemmas.{and_left_at, and_own_at, and_right_at, exists_under_at, next_under_at, not_own_at, not_under_at, or_even_at, or_left_at, or_right_at, previous_under_at, since_covered_at, since_left_at, since_right_at}
 use Rattle.monitor_state.proofs.OrderingLemmas.{on_ok_then}
 use Rattle.monitor_state.proofs.SizeLemmas.{and_left_smaller, and_right_smaller, exists_smaller, next_smaller, not_smaller, or_left_smaller, or_right_smaller, previous_smaller, since_left_smaller, since_right_smaller}
-use Rattle.monitor_state.specs.Beginnings.{Adds}
+use Rattle.monitorable.specs.CoreForms.{Until}
+use Rattle.monitor_state.proofs.GuardLemmas.{until_covered_at, until_left_at, until_right_at}
+use Rattle.monitor_state.proofs.SizeLemmas.{until_left_smaller, until_right_smaller}
+use Rattle.monitor_state.proofs.UntilBegins.{until_adds}
+use Rattle.monitor_state.specs.Beginnings.{Adds, Accepted}
 use Rattle.monitor_state.specs.Nodes.{nodes_in}
 use Rattle.monitor_state.proofs.compile.+add_nodes.Goals as goal
 
@@ -27,6 +31,15 @@ returns-in-Atom t c =
     on_ok_then c.add_atom.result _ _
     (atom_at c.args.role (node_form c.args.core.now) c.in-Atom.atom c.args.nodes.now.items c.add_atom.new.nodes.items (ap node_form c.in-Atom.is))
     c.add_atom.ensures
+
+pub add_comparison-requires : goal.add_comparison-requires
+add_comparison-requires t c = subst (Accepted c.args.role) (ap node_form c.in-Compare.is) c.requires
+
+pub returns-in-Compare : goal.returns-in-Compare
+returns-in-Compare t c =
+    on_ok_then c.add_comparison.result _ _
+    (compare_adds c.args.role (node_form c.args.core.now) c.in-Compare.comparison c.args.nodes.now.items c.add_comparison.new.nodes.items (ap node_form c.in-Compare.is))
+    c.add_comparison.ensures
 
 pub returns-in_ok-add_nodes-in-Exists : goal.returns-in_ok-add_nodes-in-Exists
 returns-in_ok-add_nodes-in-Exists t c =
@@ -51,6 +64,22 @@ returns-in_ok-add_nodes-in-Since-2 t c =
     ∙ ap (λ f. Since c.in-Since.interval f (node_form c.in-Since.right.value)) (sym left)
     ∙ ap (λ g. Since c.in-Since.interval (node_form c.deref-in-Since-3.result.now) g) (sym right))))
     c.add_since.ensures
+
+pub returns-in_ok-add_nodes-in-Until-2 : goal.returns-in_ok-add_nodes-in-Until-2
+returns-in_ok-add_nodes-in-Until-2 t c =
+    let left = ap node_form c.deref-in-Until-3.ensures in
+    let right = ap node_form c.deref-in-Until-4.ensures in
+    on_ok_then c.add_until.result _ _
+    (λ own.
+    until_adds c.args.role (node_form c.args.core.now) c.in-Until.interval (node_form c.in-Until.left.value) (node_form c.in-Until.right.value)
+    c.args.nodes.now.items c.add_nodes-in-Until.new.nodes.items c.add_nodes-in-Until-2.new.nodes.items c.add_until.new.nodes.items
+    (ap node_form c.in-Until.is)
+    (subst (λ n. Adds (nodes_in role.Left (node_form n)) c.args.nodes.now.items c.add_nodes-in-Until.new.nodes.items) c.deref-in-Until.ensures c.in_ok-add_nodes-in-Until.ensures)
+    (subst (λ n. Adds (nodes_in role.Whole (node_form n)) c.add_nodes-in-Until.new.nodes.items c.add_nodes-in-Until-2.new.nodes.items) c.deref-in-Until-2.ensures c.in_ok-add_nodes-in-Until-2.ensures)
+    (λ same. own (same
+    ∙ ap (λ f. Until c.in-Until.interval f (node_form c.in-Until.right.value)) (sym left)
+    ∙ ap (λ g. Until c.in-Until.interval (node_form c.deref-in-Until-3.result.now) g) (sym right))))
+    c.add_until.ensures
 
 pub add_join-requires-clause-guarded : goal.add_join-requires-clause-guarded
 add_join-requires-clause-guarded t c =
@@ -161,12 +190,26 @@ add_nodes-requires-in-Since t c =
     let smaller : nodes (node_form c.deref-in-Since.result.now) < nodes (node_form c.args.core.now) = since_left_smaller (node_form c.args.core.now) c.in-Since.interval (node_form c.deref-in-Since.result.now) (node_form c.in-Since.right.value) same in
     (search rules, since_left_at c.args.role (node_form c.args.core.now) c.in-Since.interval (node_form c.deref-in-Since.result.now) (node_form c.in-Since.right.value) same c.requires)
 
+pub add_nodes-requires-in-Until : goal.add_nodes-requires-in-Until
+add_nodes-requires-in-Until t c =
+    let same : node_form c.args.core.now ≡ Until c.in-Until.interval (node_form c.deref-in-Until.result.now) (node_form c.in-Until.right.value) =
+    ap node_form c.in-Until.is ∙ ap (λ n. Until c.in-Until.interval (node_form n) (node_form c.in-Until.right.value)) (sym c.deref-in-Until.ensures) in
+    let smaller : nodes (node_form c.deref-in-Until.result.now) < nodes (node_form c.args.core.now) = until_left_smaller (node_form c.args.core.now) c.in-Until.interval (node_form c.deref-in-Until.result.now) (node_form c.in-Until.right.value) same in
+    (search rules, until_left_at c.args.role (node_form c.args.core.now) c.in-Until.interval (node_form c.deref-in-Until.result.now) (node_form c.in-Until.right.value) same c.requires)
+
 pub add_nodes-requires-in-Since-2 : goal.add_nodes-requires-in-Since-2
 add_nodes-requires-in-Since-2 t c =
     let same : node_form c.args.core.now ≡ Since c.in-Since.interval (node_form c.in-Since.left.value) (node_form c.deref-in-Since-2.result.now) =
     ap node_form c.in-Since.is ∙ ap (λ n. Since c.in-Since.interval (node_form c.in-Since.left.value) (node_form n)) (sym c.deref-in-Since-2.ensures) in
     let smaller : nodes (node_form c.deref-in-Since-2.result.now) < nodes (node_form c.args.core.now) = since_right_smaller (node_form c.args.core.now) c.in-Since.interval (node_form c.in-Since.left.value) (node_form c.deref-in-Since-2.result.now) same in
     (search rules, since_right_at c.args.role (node_form c.args.core.now) c.in-Since.interval (node_form c.in-Since.left.value) (node_form c.deref-in-Since-2.result.now) same c.requires)
+
+pub add_nodes-requires-in-Until-2 : goal.add_nodes-requires-in-Until-2
+add_nodes-requires-in-Until-2 t c =
+    let same : node_form c.args.core.now ≡ Until c.in-Until.interval (node_form c.in-Until.left.value) (node_form c.deref-in-Until-2.result.now) =
+    ap node_form c.in-Until.is ∙ ap (λ n. Until c.in-Until.interval (node_form c.in-Until.left.value) (node_form n)) (sym c.deref-in-Until-2.ensures) in
+    let smaller : nodes (node_form c.deref-in-Until-2.result.now) < nodes (node_form c.args.core.now) = until_right_smaller (node_form c.args.core.now) c.in-Until.interval (node_form c.in-Until.left.value) (node_form c.deref-in-Until-2.result.now) same in
+    (search rules, until_right_at c.args.role (node_form c.args.core.now) c.in-Until.interval (node_form c.in-Until.left.value) (node_form c.deref-in-Until-2.result.now) same c.requires)
 
 pub returns-in_ok-add_nodes-in-Next : goal.returns-in_ok-add_nodes-in-Next
 returns-in_ok-add_nodes-in-Next t c =
@@ -185,3 +228,32 @@ add_nodes-requires-in-Next t c =
     ap node_form c.in-Next.is ∙ ap (λ n. Next c.in-Next.interval (node_form n)) (sym c.deref-in-Next.ensures) in
     let smaller : nodes (node_form c.deref-in-Next.result.now) < nodes (node_form c.args.core.now) = next_smaller (node_form c.args.core.now) c.in-Next.interval (node_form c.deref-in-Next.result.now) same in
     (search rules, next_under_at c.args.role (node_form c.args.core.now) c.in-Next.interval (node_form c.deref-in-Next.result.now) same c.requires)
+
+pub add_since-requires : goal.add_since-requires
+add_since-requires t c =
+    let left = ap node_form c.deref-in-Since-3.ensures in
+    let right = ap node_form c.deref-in-Since-4.ensures in
+    since_covered_at c.args.role (node_form c.args.core.now) c.in-Since.interval (node_form c.deref-in-Since-3.result.now)
+    (node_form c.deref-in-Since-4.result.now)
+    (ap node_form c.in-Since.is
+    ∙ ap (λ f. Since c.in-Since.interval f (node_form c.in-Since.right.value)) (sym left)
+    ∙ ap (λ g. Since c.in-Since.interval (node_form c.deref-in-Since-3.result.now) g) (sym right)) c.requires
+
+pub add_until-requires : goal.add_until-requires
+add_until-requires t c =
+    let left = ap node_form c.deref-in-Until-3.ensures in
+    let right = ap node_form c.deref-in-Until-4.ensures in
+    until_covered_at c.args.role (node_form c.args.core.now) c.in-Until.interval (node_form c.deref-in-Until-3.result.now)
+    (node_form c.deref-in-Until-4.result.now)
+    (ap node_form c.in-Until.is
+    ∙ ap (λ f. Until c.in-Until.interval f (node_form c.in-Until.right.value)) (sym left)
+    ∙ ap (λ g. Until c.in-Until.interval (node_form c.deref-in-Until-3.result.now) g) (sym right)) c.requires
+
+pub add_or-requires : goal.add_or-requires
+add_or-requires t c =
+    let left = ap node_form c.deref-in-Or-3.ensures in
+    let right = ap node_form c.deref-in-Or-4.ensures in
+    or_even_at c.args.role (node_form c.args.core.now) (node_form c.deref-in-Or-3.result.now) (node_form c.deref-in-Or-4.result.now)
+    (ap node_form c.in-Or.is
+    ∙ ap (λ f. Or f (node_form c.in-Or.right.value)) (sym left)
+    ∙ ap (λ g. Or (node_form c.deref-in-Or-3.result.now) g) (sym right)) c.requires

@@ -1,4 +1,4 @@
-use Rattle.std.proofs.Common.{ℕ, ◌<◌, length}
+use Rattle.std.proofs.Common.{◌<◌, length}
 use Rattle.monitor_state.proofs.JoinLemmas.{first_tables}
 use Rattle.monitor_state.specs.JoinFeeding.{JoinPulled}
 use Rattle.monitor_state.proofs.join.pulled.Given as goal

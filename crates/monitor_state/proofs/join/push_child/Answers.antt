@@ -1,4 +1,4 @@
-use Rattle.std.proofs.Common.{◌≡◌, List, [], ◌∷◌, ◌++◌, refl, sym, subst, ap, ◌∙◌}
+use Rattle.std.proofs.Common.{List, [], ◌∷◌, ◌++◌, refl, sym, ap, ◌∙◌}
 use Rattle.mfotl_model.specs.Tables.{TableOf}
 use Rattle.eval_bool.specs.JoinView.{ChildOf, JoinOf, child_pushed}
 use Rattle.monitor_state.proofs.JoinLemmas.{fed_none, fed_one}

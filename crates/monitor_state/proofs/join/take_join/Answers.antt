@@ -1,8 +1,8 @@
-use Rattle.std.proofs.Common.{◌≡◌, ◌<◌, false, length, ap, ◌∙◌, subst, sym, arith}
+use Rattle.std.proofs.Common.{◌≡◌, false, length, ap, ◌∙◌, subst, arith}
 use Rattle.eval_bool.specs.JoinView.{JoinOf, join_due}
 use Rattle.monitor_state.proofs.JoinLemmas.{fed_length}
 use Rattle.monitor_state.proofs.OrderingLemmas.{ok_both}
-use Rattle.monitor_state.specs.JoinFeeding.{JoinPulled, JoinTakes, join_fed}
+use Rattle.monitor_state.specs.JoinFeeding.{JoinPulled, JoinTakes}
 use Rattle.monitor_state.proofs.join.take_join.Goals as goal
 
 pub pulled-requires : goal.pulled-requires

@@ -1,11 +1,11 @@
-use Rattle.std.proofs.Common.{◌≡◌, ◌<◌, ◌≤◌, ◌+◌, arith, List, [], subst, sym, ◌∙◌, length}
+use Rattle.std.proofs.Common.{◌≡◌, ◌<◌, ◌≤◌, arith, [], subst, sym, ◌∙◌, length}
 use Rattle.std.proofs.lemmas.List.{with_items_is}
 use Rattle.std.specs.Vec.{with_items}
 use Rattle.monitor_state.proofs.MonitorSteps.{going_begins, going_ends, going_turns}
 use Rattle.monitor_state.specs.Going.{Going}
 use Rattle.monitor_state.specs.Nodes.{nodes_of}
 use Rattle.monitor_state.specs.Stands.{NodesStand}
-use Rattle.monitor_state.specs.Steps.{News, longer}
+use Rattle.monitor_state.specs.Steps.{longer}
 use Rattle.monitor_state.proofs.monitor.advanced.Goals as goal
 
 pub loop-node-init : goal.loop-node-init

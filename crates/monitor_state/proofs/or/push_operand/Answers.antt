@@ -1,4 +1,4 @@
-use Rattle.std.proofs.Common.{◌≡◌, List, [], ◌∷◌, ◌++◌, refl, sym, ap, ◌∙◌}
+use Rattle.std.proofs.Common.{List, [], ◌∷◌, ◌++◌, refl, sym, ap, ◌∙◌}
 use Rattle.mfotl_model.specs.Tables.{TableOf}
 use Rattle.eval_bool.specs.OrView.{OrOf, or_pushed}
 use Rattle.monitor_state.proofs.OrLemmas.{operand_none, operand_one}

@@ -1,4 +1,4 @@
-use Rattle.std.proofs.Common.{◌≡◌, ◌↔◌, ℕ, true, subst, sym, ap, ◌∙◌}
+use Rattle.std.proofs.Common.{◌≡◌, ◌↔◌, ℕ, true, ap, ◌∙◌}
 use Rattle.mfotl_model.specs.FreeVariables.{among}
 use Rattle.mfotl_model.specs.Satisfaction.{Valuation}
 use Rattle.mfotl_model.specs.Tables.{TableOf, all_among, has}

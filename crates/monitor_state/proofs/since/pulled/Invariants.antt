@@ -1,4 +1,4 @@
-use Rattle.std.proofs.Common.{ℕ, length}
+use Rattle.std.proofs.Common.{length}
 use Rattle.monitor_state.specs.Feeding.{SincePulled}
 use Rattle.monitor_state.proofs.since.pulled.Given as goal
 

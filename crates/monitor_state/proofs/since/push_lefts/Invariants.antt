@@ -1,4 +1,4 @@
-use Rattle.std.proofs.Common.{◌≡◌, ℕ, List, ◌++◌, length}
+use Rattle.std.proofs.Common.{◌≡◌, List, ◌++◌, length}
 use Rattle.mfotl_model.specs.Tables.{TableOf}
 use Rattle.monitor_state.specs.Feeding.{LeftsPushed}
 use Rattle.monitor_state.proofs.since.push_lefts.Given as goal

@@ -1,4 +1,4 @@
-use Rattle.std.proofs.Common.{◌≡◌, List, [], ◌∷◌, ◌++◌, sym, subst, ◌∙◌, append-nil}
+use Rattle.std.proofs.Common.{List, [], ◌∷◌, ◌++◌, sym, subst}
 use Rattle.mfotl_model.specs.Tables.{TableOf}
 use Rattle.monitor_state.proofs.FeedingLemmas.{rights_more}
 use Rattle.monitor_state.proofs.OrderingLemmas.{ended_at, moved_one, taken_one}

@@ -16,10 +16,10 @@ returns c = rw (← c.self.view_is) (
       c.interval.ensures,
       c.contains.ensures,
     )
-    (next_at s.window s.negated s.pulled s.newest c.first-now.result.now s.times.items (drop 1 s.times.items)
-    c.first-left.result.now s.lefts.items (drop 1 s.lefts.items) c.first-right.result.now s.rights.items
+    (next_at s.window s.negated s.pulled s.newest c.first_pushed-now.result.now s.times.items (drop 1 s.times.items)
+    c.first_pushed-left.result.now s.lefts.items (drop 1 s.lefts.items) c.first_pushed-right.result.now s.rights.items
     (drop 1 s.rights.items)
     t a b (valuation c.args.columns.now c.args.row.now) c.in_ok-own.own
-    c.first-now.ensures c.first-left.ensures c.first-right.ensures c.self.invariant.climbs
+    c.first_pushed-now.ensures c.first_pushed-left.ensures c.first_pushed-right.ensures c.self.invariant.climbs
     (sym (c.in_ok-own.ensures ∙ (λ i. map (valuation c.args.columns.now (c.values.ensures i))
     (c.right.ensures i)))) f))

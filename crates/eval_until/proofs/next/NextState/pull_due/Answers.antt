@@ -4,7 +4,7 @@ use Rattle.eval_until.proofs.next.NextState.pull_due.Goals as goal
 pub returns-clause-rows : goal.returns-clause-rows
 returns-clause-rows c = rw (← c.self.view_is) (
     let s = c.self.inside in
-    λ t a v f. rw (c.where_inside.ensures.has v, c.contains-inside.ensures, c.saturating_sub.ensures)
+    λ t a v f. rw (c.only_where.ensures.has v, c.contains-inside.ensures, c.saturating_sub.ensures)
     (next_answers (record {
       interval = s.interval;
       columns = s.columns.items;

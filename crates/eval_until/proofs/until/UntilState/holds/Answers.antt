@@ -14,13 +14,13 @@ returns c =
     let v = valuation c.args.columns.now c.args.row.now in
     λ t a b f never.
     c.met.ensures
-    ∙ ap (λ i. met s.ahead i c.first-now.result.now c.in_ok-own.own) c.pulled.ensures
-    ∙ ap (met s.ahead s.ahead.pulled c.first-now.result.now) (c.in_ok-own.ensures
+    ∙ ap (λ i. met s.ahead i c.first_pushed-now.result.now c.in_ok-own.own) c.pulled.ensures
+    ∙ ap (met s.ahead s.ahead.pulled c.first_pushed-now.result.now) (c.in_ok-own.ensures
     ∙ (λ i. map (valuation c.args.columns.now (c.values.ensures i)) (c.right.ensures i)))
     ∙ met_next (record {
       ahead = s.ahead;
       times = s.times.items;
       lefts = s.lefts.items;
       rights = s.rights.items;
-    }) c.first-now.result.now (drop 1 s.times.items) t a b v f never due all c.first-now.ensures
+    }) c.first_pushed-now.result.now (drop 1 s.times.items) t a b v f never due all c.first_pushed-now.ensures
     c.self.invariant.low c.self.invariant.high)

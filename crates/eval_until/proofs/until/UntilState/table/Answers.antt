@@ -13,11 +13,11 @@ returns-clause-rows c =
     λ t a b v f never.
     has_as c.in_ok-table.table s.ahead.right c.in_ok-table.table.rows v c.in_ok-table.ensures.columns refl
     ∙ c.in_ok-table.ensures.rows (map v s.ahead.right)
-    ∙ ap (λ i. met s.ahead i c.first-now.result.now (map v s.ahead.right)) c.pulled.ensures
+    ∙ ap (λ i. met s.ahead i c.first_pushed-now.result.now (map v s.ahead.right)) c.pulled.ensures
     ∙ met_next (record {
       ahead = s.ahead;
       times = s.times.items;
       lefts = s.lefts.items;
       rights = s.rights.items;
-    }) c.first-now.result.now (drop 1 s.times.items) t a b v f never due all c.first-now.ensures
+    }) c.first_pushed-now.result.now (drop 1 s.times.items) t a b v f never due all c.first_pushed-now.ensures
     c.self.invariant.low c.self.invariant.high)

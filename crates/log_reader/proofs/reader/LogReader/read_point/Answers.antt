@@ -1,55 +1,59 @@
-use Rattle.std.proofs.Common.{◌≡◌, ℕ, List, false, sym, ap, subst, ◌∙◌}
-use Rattle.log_reader.specs.Cursors.{given_of}
-use Rattle.log_reader.specs.Given.{Gives}
-use Rattle.log_reader.specs.Progress.{answer_of, skipped}
+use Rattle.std.proofs.Common.{◌≡◌, false, refl, sym, ap, ◌∙◌}
 use Rattle.log_reader.specs.Readers.{Reader}
-use Rattle.log_reader.specs.Readings.{reading}
-use Rattle.log_reader.specs.Soundness.{IsSound, is_wanting}
-use Rattle.log_reader.proofs.Fewness.{given_few, sound_few}
-use Rattle.log_reader.proofs.ReaderLemmas.{on_ok, proceeds}
+use Rattle.log_reader.specs.Soundness.{is_wanting}
+use Rattle.log_reader.proofs.Fewness.{sound_few}
+use Rattle.log_reader.proofs.ReaderLemmas.{answers, more_is, on_ok, reads_on}
+use Rattle.log_reader.proofs.ReaderSoundness.{none_forgotten, sound_forgotten, sound_on, stands_forgotten}
+use Rattle.log_reader.proofs.Waiting.{waits_little}
 use Rattle.log_reader.proofs.reader.LogReader.read_point.Goals as goal
 
-pub read-answer-requires : goal.read-answer-requires
-read-answer-requires c =
-    let works : c.self.inside.is_broken ≡ false = ap (λ (r : Reader). r.is_broken) c.self.view_is ∙ c.requires in
-    rw c.deref.ensures.value (c.self.invariant.sound works)
-
--- what is kept true of the bytes as the vector holds them
-sound_behind : (c : goal.After-self-1) → is_wanting c.read-answer.result ≡ false
-    → IsSound c.self.inside.sig.now c.self.inside.limits c.self.inside.bytes.items c.self.inside.is_ended
-    c.read-answer.new.self.at c.read-answer.new.self.partial
-sound_behind c fine =
-    subst (λ (bytes : List ℕ). IsSound c.self.inside.sig.now c.self.inside.limits bytes c.self.inside.is_ended
-    c.read-answer.new.self.at c.read-answer.new.self.partial) c.deref.ensures.value (c.read-answer.ensures.sound fine)
-
 pub invariant_of-self : goal.invariant_of-self
-invariant_of-self c = record {
-  unfed = c.self.invariant.unfed;
-  sound = λ works. sound_behind c (sym c.is_wanting-self-inside.ensures ∙ works);
-}
-
-pub returns : goal.returns
-returns c =
+invariant_of-self c =
     let inside = c.self.inside in
     let works : inside.is_broken ≡ false = ap (λ (r : Reader). r.is_broken) c.self.view_is ∙ c.requires in
-    let given = given_of inside.cursor.partial in
-    let old : Reader = record {
-      sig = inside.sig.now;
-      limits = inside.limits;
-      is_fed = inside.is_fed;
-      is_ended = inside.is_ended;
-      given = given;
-      is_broken = inside.is_broken;
-      kept = record { bytes = inside.bytes.items; at = inside.cursor.at; partial = inside.cursor.partial };
-    } in
+    let more = more_is c.read-answer.result (sym c.is_more.ensures ∙ c.if-is_more.true) in
+    let fine : is_wanting c.read-answer.result ≡ false = rw more refl in
+    let waits = c.read-answer.ensures.waits more in
     record {
-      answer = rw (← c.self.view_is) (subst (λ (bytes : List ℕ). Gives (λ next. next) c.read-answer.result
-          (answer_of inside.is_ended (skipped given (reading inside.sig.now inside.limits bytes inside.is_ended))))
-          c.deref.ensures.value c.read-answer.ensures.answer);
-      after = rw (← c.self.view_is) (proceeds old c.read-answer.result _ _ c.read-answer.new.self.at
-          c.read-answer.new.self.partial works c.is_wanting-self-inside.ensures
-          c.read-answer.ensures.counts);
-      bytes = ap (λ (r : Reader). r.kept.bytes) c.self.view_is;
-      few = on_ok _ c.read-answer.result (λ fine. sound_few _ _ _ _ _ _ (sound_behind c fine));
-      given = rw (← c.self.view_is) (given_few _ _ _ _ _ _ (c.self.invariant.sound works));
+      unfed = λ e. c.forget.ensures ∙ none_forgotten inside.limits inside.kept _ waits (c.self.invariant.unfed e);
+      sound = λ _. rw c.forget.ensures (sound_forgotten inside.sig.now inside.limits inside.is_ended inside.kept _ _
+          waits (sound_on inside.sig.now inside.limits inside.is_ended inside.kept _ _ _ _
+          (c.self.invariant.sound works) (c.read-answer.ensures.stands fine) (c.read-answer.ensures.within fine)));
     }
+
+pub returns-then-is_more-clause-answer : goal.returns-then-is_more-clause-answer
+returns-then-is_more-clause-answer c = answers _ _ c.self.view_is c.read-answer.result c.read-answer.ensures.answer
+
+pub returns-then-is_more-clause-reads : goal.returns-then-is_more-clause-reads
+returns-then-is_more-clause-reads c =
+    let inside = c.self.inside in
+    let more = more_is c.read-answer.result (sym c.is_more.ensures ∙ c.if-is_more.true) in
+    reads_on _ _ _ c.self.view_is c.read-answer.result (λ fine log st.
+    rw c.forget.ensures (stands_forgotten inside.sig.now inside.limits log inside.is_ended inside.kept _ _ _
+    (c.read-answer.ensures.waits more) (c.read-answer.ensures.stands fine log st)))
+
+pub returns-then-is_more-clause-few : goal.returns-then-is_more-clause-few
+returns-then-is_more-clause-few c =
+    let inside = c.self.inside in
+    let works : inside.is_broken ≡ false = ap (λ (r : Reader). r.is_broken) c.self.view_is ∙ c.requires in
+    on_ok _ c.read-answer.result (λ fine. sound_few inside.sig.now inside.limits inside.is_ended inside.kept _ _
+    (sound_on inside.sig.now inside.limits inside.is_ended inside.kept _ _ _ _ (c.self.invariant.sound works)
+    (c.read-answer.ensures.stands fine) (c.read-answer.ensures.within fine)))
+
+pub returns-then-is_more-clause-held : goal.returns-then-is_more-clause-held
+returns-then-is_more-clause-held c = λ more.
+    rw c.forget.ensures (waits_little c.self.inside.limits c.self.inside.kept _ (c.read-answer.ensures.waits more))
+
+pub returns-else-is_more-clause-answer : goal.returns-else-is_more-clause-answer
+returns-else-is_more-clause-answer c = answers _ _ c.self.view_is c.read-answer.result c.read-answer.ensures.answer
+
+pub returns-else-is_more-clause-reads : goal.returns-else-is_more-clause-reads
+returns-else-is_more-clause-reads c = reads_on _ _ _ c.self.view_is c.read-answer.result c.read-answer.ensures.stands
+
+pub returns-else-is_more-clause-few : goal.returns-else-is_more-clause-few
+returns-else-is_more-clause-few c =
+    let inside = c.self.inside in
+    let works : inside.is_broken ≡ false = ap (λ (r : Reader). r.is_broken) c.self.view_is ∙ c.requires in
+    on_ok _ c.read-answer.result (λ fine. sound_few inside.sig.now inside.limits inside.is_ended inside.kept _ _
+    (sound_on inside.sig.now inside.limits inside.is_ended inside.kept _ _ _ _ (c.self.invariant.sound works)
+    (c.read-answer.ensures.stands fine) (c.read-answer.ensures.within fine)))

@@ -1,7 +1,0 @@
-use Rattle.std.proofs.Common.{◌≡◌, ◌++◌, drop, map}
-use Rattle.mfotl_model.specs.Matching.{reads}
-use Rattle.eval_bool.proofs.matching.row_read.Given as goal
-
-abbrev pub invariant-loop-column : goal.invariant-loop-column
-invariant-loop-column l =
-    l.row ++ map (reads l.atom l.event) (drop l.column-index l.columns) ≡ map (reads l.atom l.event) l.columns

@@ -1,0 +1,52 @@
+ghost use Rattle.std.specs.Prelude.{◌≡◌, IfSome};
+ghost use Rattle.log_reader.specs.Quick.{ends_value, digits_before, IsQuick};
+
+// A number below this has room for one more digit.
+const ROOM: u64 = 100_000_000_000_000_000;
+
+// As many digits as a word of a log may have bytes.
+const MOST_DIGITS: usize = 4_096;
+
+fn ends_value(b: u8) -> bool
+    ensures { result ≡ ends_value b }
+{
+    matches!(b, b',' | b')')
+}
+
+// The number that the digits in front of a `,` or a `)` write, and how many they are.
+#[tactic(auto, unfolding(crate::specs::Quick::digits_before))]
+fn digits_before(bytes: &[u8]) -> Option<(u64, usize)>
+    ensures { result ≡ digits_before 0 0 bytes.now }
+{
+    let mut number: u64 = 0;
+    for (count, b) in bytes.iter().enumerate() {
+        if b.is_ascii_digit() {
+            if number < ROOM {
+                number = 10 * number + u64::from(b.saturating_sub(b'0'));
+            } else {
+                return None;
+            }
+        } else if ends_value(*b) {
+            return Some((number, count));
+        } else {
+            return None;
+        }
+    }
+    None
+}
+
+/// The integer of few digits at the front of bytes, and how many digits it has. None also where only a
+/// token says what stands there.
+pub fn integer_before(bytes: &[u8]) -> Option<(i64, usize)>
+    ensures { IfSome result (λ x. IsQuick bytes.now x.0 x.1) }
+{
+    match digits_before(bytes) {
+        Some((number, count)) if count > 0 && count <= MOST_DIGITS => {
+            match i64::try_from(number) {
+                Ok(value) => Some((value, count)),
+                Err(_) => None,
+            }
+        }
+        _ => None,
+    }
+}

@@ -1,0 +1,14 @@
+use Rattle.std.proofs.Common.{ap, ◌∙◌}
+use Rattle.mfotl_model.specs.FreeVariables.{joined, variables_in}
+use Rattle.mfotl_model.proofs.variables.variables_in.Goals as goal
+use Rattle.mfotl_model.proofs.VariableLemmas.{variables_step, joined_none}
+
+pub loop-term-init : goal.loop-term-init
+loop-term-init c =
+    ap (λ v. joined v (variables_in c.args.terms.now)) c.new-vars.ensures.items
+    ∙ joined_none (variables_in c.args.terms.now)
+
+pub loop-term-preserved : goal.loop-term-preserved
+loop-term-preserved c =
+    variables_step _ _ _ c.term-item.result _ _ c.loop-term-test.true c.term-item.is
+    c.in_ok-add_variable.ensures c.loop-term.invariant

@@ -1,0 +1,288 @@
+-- Behind tokens that show no fault, the reader shows a fault exactly where the token or the tail is its cause.
+use Rattle.std.proofs.Common.{◌≡◌, ℕ, Bool, true, false, List, [], ◌∷◌, ◌++◌, length, Option, Some, None}
+use Rattle.std.proofs.Common.{Ok, Err, refl, ap, sym, subst, ◌∙◌}
+use Rattle.std.proofs.lemmas.List.{append_assoc}
+use Rattle.std.specs.Prelude.{slice_get}
+use Rattle.std.specs.Option.{option_map}
+use Rattle.mfotl_lex.specs.declared.fault.LexFault.{LexFault}
+use Rattle.mfotl_lex.specs.FirstFault.{Tail, Broken, End, More, run, EndsViability, EndsTooEarly, FollowsGrammar}
+use Rattle.mfotl_lex.specs.Lexemes.{Lexeme}
+use Rattle.mfotl_model.specs.Formulas.{Form}
+use Rattle.mfotl_sig.specs.Preds.{PredOf}
+use Rattle.mfotl_parse.specs.declared.fault.PolicyFault.{PolicyFault}
+use Rattle.mfotl_parse.specs.declared.fault.PolicyFault.TheVariants.{Lex, Syntax, EmptyInterval, BoundRange}
+use Rattle.mfotl_parse.specs.declared.fault.PolicyFault.TheVariants.{UnknownPredicate, WrongArity, SortClash}
+use Rattle.mfotl_parse.specs.declared.fault.PolicyFault.TheVariants.{TooManyVariables, TooDeep, TooManyNodes, Memory}
+use Rattle.mfotl_parse.specs.declared.term.Pair.{Pair}
+use Rattle.mfotl_parse.specs.Causes.{ShowsFault, IsCause, SortsClash, HasNinthVariable, IsLast}
+use Rattle.mfotl_parse.specs.Grammar.{Tree, Fits, spelling, IsFormula, BeginsFormula}
+use Rattle.mfotl_parse.specs.Limits.{max_free}
+use Rattle.mfotl_parse.specs.Meanings.{all_names}
+use Rattle.mfotl_parse.specs.Reading.{PolicyOf, transition, step, sorted, ended, ended_at, is_closed, at_tail}
+use Rattle.mfotl_parse.specs.Reduction.{reduce}
+use Rattle.mfotl_parse.specs.Shows.{Showing, silent, shown_by}
+use Rattle.mfotl_parse.specs.States.{Stage, Context, SymbolTable, Partial, AfterOperand, start}
+use Rattle.mfotl_parse.specs.SymbolTable.{uneven_pair, clash_or_pair}
+use Rattle.mfotl_parse.specs.Transitions.{Limit, Empty, Range, Unknown, Arity, Deep, Nodes, Transition, fault_of}
+use Rattle.mfotl_parse.specs.Transitions.{given}
+use Rattle.mfotl_parse.specs.Viability.{if_moved, is_whole, accepts}
+use Rattle.mfotl_parse.proofs.AcceptedLaw.{accepted_formula}
+use Rattle.mfotl_parse.proofs.FreeNames.{all_free}
+use Rattle.mfotl_parse.proofs.ReadMoves.{kept_broken, first_broken, accepts_read, read_silent}
+use Rattle.mfotl_parse.proofs.TracedMoves.{broken, traced, trace}
+use Rattle.mfotl_parse.proofs.TracedTrees.{shows_whole}
+use Rattle.mfotl_parse.proofs.ViabilityLemmas.{completes}
+use Rattle.mfotl_parse.proofs.WholeTrees.{formula_accepted, read_viable, whole_formula, formula_whole, finished_by}
+
+-- ---- a token
+
+-- what stands behind tokens that show nothing
+place_behind : (front : List Lexeme) (later : Showing) → slice_get (silent front ++ later) (length front)
+    ≡ slice_get later 0
+place_behind [] later = refl
+place_behind (t ∷ front) later = place_behind front later
+
+-- a rule's fault is caused as the formula shows
+rule_cause : (sig : List PredOf) (front : List Lexeme) (t : Lexeme) (limit : Limit) (at : ℕ)
+    → ShowsFault sig front t (fault_of limit at) → IsCause sig front t (fault_of limit at)
+rule_cause sig front t Empty at s = s
+rule_cause sig front t Range at s = s
+rule_cause sig front t Unknown at s = s
+rule_cause sig front t Arity at s = s
+rule_cause sig front t Deep at s = s
+rule_cause sig front t Nodes at s = s
+
+-- what a token shows by its move
+abbrev shown_at : ℕ → Option Transition → List PolicyFault
+shown_at at None = Syntax at ∷ []
+shown_at at (Some m) = broken m.rules
+
+given_shown : (at : ℕ) (o : Option Transition) (fault : PolicyFault) (others : List PolicyFault)
+    → shown_at at o ≡ fault ∷ others → given at o ≡ Err fault
+given_shown at None fault others e = cc
+given_shown at (Some m) fault others e = kept_broken m.rules m.next fault others e
+
+module _ (sig : List PredOf) (front : List Lexeme) (s : Partial) (t : Lexeme)
+    (ran : run (step sig) front start ≡ Ok s) where
+  shown_first : (more : List Lexeme) → slice_get (trace sig (t ∷ more) s) 0 ≡ Some (shown_at t.at (transition sig s t))
+  unfolding trace
+  shown_first more = by_move (transition sig s t)
+    where
+      by_move : (o : Option Transition) → slice_get (traced t.at o (trace sig more)) 0 ≡ Some (shown_at t.at o)
+      by_move None = refl
+      by_move (Some m) = refl
+
+  -- the token's place in a formula that begins so
+  shown_there : (tree : Tree) (more : List Lexeme) → Fits 1 tree → spelling tree ≡ front ++ t ∷ more
+      → slice_get (shown_by sig tree) (length front) ≡ Some (shown_at t.at (transition sig s t))
+  shown_there tree more fits spelled =
+      ap (λ xs. slice_get xs (length front)) (sym (shows_whole sig tree fits)
+      ∙ ap (λ ts. trace sig ts start) spelled ∙ read_silent sig front (t ∷ more) start s ran)
+      ∙ place_behind front (trace sig (t ∷ more) s) ∙ shown_first more
+
+  -- where the grammar goes on with the token, some formula begins so
+  begins_so : (m : Transition) → transition sig s t ≡ Some m → (more : List Lexeme) × IsFormula (front ++ t ∷ more)
+  unfolding accepts
+  begins_so m e =
+      let due = completes sig m.next in (
+        due.0,
+        accepted_formula sig (front ++ t ∷ due.0)
+            (accepts_read sig front (t ∷ due.0) start s ran ∙ ap (λ o. if_moved o (accepts sig due.0)) e ∙ due.1),
+      )
+
+  -- where it doesn't, none does
+  ends_so : transition sig s t ≡ None → BeginsFormula (front ++ t ∷ []) → ⊥
+  unfolding accepts
+  ends_so e b =
+      let all : accepts sig (front ++ t ∷ b.0) start ≡ true =
+      ap (λ ts. accepts sig ts start) (sym (append_assoc front (t ∷ []) b.0))
+      ∙ formula_accepted sig ((front ++ t ∷ []) ++ b.0) b.1 in
+      let none : false ≡ true =
+      ap (λ o. if_moved o (accepts sig b.0)) (sym e) ∙ sym (accepts_read sig front (t ∷ b.0) start s ran) ∙ all in
+      absurd cc
+
+  caused : (o : Option Transition) (fault : PolicyFault) → transition sig s t ≡ o → given t.at o ≡ Err fault
+      → IsCause sig front t fault
+  caused None fault is e =
+      let same : Syntax t.at ≡ fault = cc in
+      subst (IsCause sig front t) same (record { ends = ends_so is; stands = refl })
+  caused (Some m) fault is e =
+      let b = first_broken m.rules m.next fault e in
+      let f = begins_so m is in
+      let shows : ShowsFault sig front t fault = record {
+        tree = f.1.0;
+        fits = f.1.1;
+        more = f.0;
+        spelled = sym f.1.2;
+        others = b.others;
+        shown = shown_there f.1.0 f.0 f.1.1 (sym f.1.2) ∙ ap (λ o. Some (shown_at t.at o)) is
+            ∙ ap (λ x. Some x) b.shown;
+      } in
+      subst (IsCause sig front t) b.is
+      (rule_cause sig front t b.limit b.at (subst (ShowsFault sig front t) (sym b.is) shows))
+
+  shows : (fault : PolicyFault) → ShowsFault sig front t fault → step sig s t ≡ Err fault
+  unfolding step
+  shows fault c =
+      let here : Some (shown_at t.at (transition sig s t)) ≡ Some (fault ∷ c.others) =
+      sym (shown_there c.tree c.more c.fits c.spelled) ∙ c.shown in
+      given_shown t.at (transition sig s t) fault c.others cc
+
+  unviable : (o : Option Transition) (at : ℕ) → transition sig s t ≡ o
+      → EndsViability BeginsFormula (λ token. token.at) front t at → given t.at o ≡ Err (Syntax at)
+  unviable None at is c = ap (λ n. Err (Syntax n)) (sym c.stands)
+  unviable (Some m) at is c =
+      let f = begins_so m is in
+      absurd (c.ends (f.0, subst IsFormula (sym (append_assoc front (t ∷ []) f.0)) f.1))
+
+  cause_shows : (fault : PolicyFault) → IsCause sig front t fault → step sig s t ≡ Err fault
+  unfolding step
+  cause_shows (Lex fault) c = absurd c
+  cause_shows (Syntax at) c = unviable (transition sig s t) at refl c
+  cause_shows (EmptyInterval at) c = shows (EmptyInterval at) c
+  cause_shows (BoundRange at) c = shows (BoundRange at) c
+  cause_shows (UnknownPredicate at) c = shows (UnknownPredicate at) c
+  cause_shows (WrongArity at) c = shows (WrongArity at) c
+  cause_shows (SortClash at) c = absurd c
+  cause_shows (TooManyVariables at) c = absurd c
+  cause_shows (TooDeep at) c = shows (TooDeep at) c
+  cause_shows (TooManyNodes at) c = shows (TooManyNodes at) c
+  cause_shows Memory c = absurd c
+
+  step_caused : (fault : PolicyFault) → step sig s t ≡ Err fault → IsCause sig front t fault
+  unfolding step
+  step_caused fault e = caused (transition sig s t) fault refl e
+
+-- ---- the end
+
+-- not at the end of a formula
+shut_end : (n : SymbolTable) (f : Form) (closed : Bool) (end : ℕ) → closed ≡ false
+    → ended n f closed end ≡ Err (Syntax end)
+shut_end n f true end e = absurd cc
+shut_end n f false end e = refl
+
+pub early_end : (now : Stage) (c : Context) (end : ℕ) → is_whole now c.stack ≡ false
+    → ended_at now c end ≡ Err (Syntax end)
+unfolding ended_at
+early_end (AfterOperand f) c end e =
+    shut_end c.names (reduce 0 f c.stack).form (is_closed (reduce 0 f c.stack).stack) end e
+early_end _ c end e = refl
+
+-- a Bool that isn't true
+not_true : (b : Bool) → (b ≡ true → ⊥) → b ≡ false
+not_true true never = absurd (never refl)
+not_true false never = refl
+
+abbrev ninth_place : Option (List ℕ × ℕ) → Option ℕ
+ninth_place known = option_map (λ k. k.1) known
+
+module _ (policy : PolicyOf) where
+  sorted_clash : (clash : Option ℕ) (uneven : Option Pair) (ninth : Option (List ℕ × ℕ)) (at : ℕ)
+      → clash_or_pair clash uneven ≡ Some at → sorted clash uneven ninth policy ≡ Err (SortClash at)
+  sorted_clash (Some place) uneven ninth at e = cc
+  sorted_clash None (Some pair) ninth at e = cc
+  sorted_clash None None ninth at e = absurd cc
+
+  sorted_many : (clash : Option ℕ) (uneven : Option Pair) (ninth : Option (List ℕ × ℕ)) (at : ℕ)
+      → clash_or_pair clash uneven ≡ None → ninth_place ninth ≡ Some at
+      → sorted clash uneven ninth policy ≡ Err (TooManyVariables at)
+  sorted_many (Some place) uneven ninth at e f = absurd cc
+  sorted_many None (Some pair) ninth at e f = absurd cc
+  sorted_many None None (Some known) at e f = cc
+  sorted_many None None None at e f = absurd cc
+
+module _ (sig : List PredOf) (ts : List Lexeme) (s : Partial) (ran : run (step sig) ts start ≡ Ok s) where
+  module _ (tree : Tree) (fits : Fits 1 tree) (spelled : ts ≡ spelling tree) (end : ℕ) where
+    abbrev names : SymbolTable
+    names = all_names sig tree
+
+    -- what the sorts and the number of variables show behind a whole formula
+    by_names : (clash : Option ℕ) (uneven : Option Pair) (ninth : Option (List ℕ × ℕ)) (policy : PolicyOf)
+        (fault : PolicyFault) → names.clash ≡ clash → uneven_pair names ≡ uneven
+        → slice_get names.free max_free ≡ ninth → sorted clash uneven ninth policy ≡ Err fault
+        → IsLast sig ts (End end) fault
+    by_names (Some at) uneven ninth policy fault c u n e =
+        let same : SortClash at ≡ fault = cc in
+        subst (IsLast sig ts (End end)) same
+        (record {
+          tree = tree;
+          whole = record { end = end; ended = refl; fits = fits; spelled = spelled };
+          clash = ap (λ x. clash_or_pair x (uneven_pair names)) c;
+        })
+    by_names None (Some pair) ninth policy fault c u n e =
+        let same : SortClash pair.at ≡ fault = cc in
+        subst (IsLast sig ts (End end)) same
+        (record {
+          tree = tree;
+          whole = record { end = end; ended = refl; fits = fits; spelled = spelled };
+          clash = ap (λ x. clash_or_pair x (uneven_pair names)) c ∙ ap (clash_or_pair None) u;
+        })
+    by_names None None (Some known) policy fault c u n e =
+        let same : TooManyVariables known.1 ≡ fault = cc in
+        subst (IsLast sig ts (End end)) same
+        (record {
+          tree = tree;
+          whole = record { end = end; ended = refl; fits = fits; spelled = spelled };
+          even = ap (λ x. clash_or_pair x (uneven_pair names)) c ∙ ap (clash_or_pair None) u;
+          ninth = ap (λ free. ninth_place (slice_get free max_free)) (sym (all_free sig tree)) ∙ ap ninth_place n;
+        })
+    by_names None None None policy fault c u n e = absurd cc
+
+  by_end : (end : ℕ) (fault : PolicyFault) (b : Bool) → is_whole s.now s.context.stack ≡ b
+      → ended_at s.now s.context end ≡ Err fault → IsLast sig ts (End end) fault
+  by_end end fault true is e =
+      let f = whole_formula sig ts s ran is in
+      by_names f.0 f.1 f.2 end _ _ _ _ fault refl refl refl (sym (finished_by sig ts s ran f.0 f.1 f.2 end) ∙ e)
+  by_end end fault false is e =
+      let early = early_end s.now s.context end is in
+      let same : Syntax end ≡ fault = cc in
+      let never : IsFormula ts → ⊥ = λ f. absurd (cc (formula_whole sig ts s ran f, is)) in
+      subst (IsLast sig ts (End end)) same (record { unaccepted = never; stands = refl })
+
+  tail_caused : (tail : Tail LexFault) (fault : PolicyFault) → at_tail tail s ≡ Err fault → IsLast sig ts tail fault
+  tail_caused (Broken lexical) fault e =
+      let same : Lex lexical ≡ fault = cc in subst (IsLast sig ts (Broken lexical)) same refl
+  tail_caused (End end) fault e = by_end end fault (is_whole s.now s.context.stack) refl e
+  tail_caused More fault e = absurd cc
+
+  too_early : (tail : Tail LexFault) (at : ℕ) → EndsTooEarly IsFormula ts tail at → at_tail tail s ≡ Err (Syntax at)
+  too_early tail at c =
+      ap (λ x. at_tail x s) c.stands
+      ∙ early_end s.now s.context at
+      (not_true (is_whole s.now s.context.stack) (λ e. c.unaccepted (whole_formula sig ts s ran e)))
+
+  clashes : (tail : Tail LexFault) (at : ℕ) → SortsClash sig ts tail at → at_tail tail s ≡ Err (SortClash at)
+  clashes tail at c =
+      ap (λ x. at_tail x s) c.whole.ended
+      ∙ finished_by sig ts s ran c.tree c.whole.fits c.whole.spelled c.whole.end
+      ∙ sorted_clash _ (all_names sig c.tree).clash (uneven_pair (all_names sig c.tree)) _ at c.clash
+
+  ninth : (tail : Tail LexFault) (at : ℕ) → HasNinthVariable sig ts tail at
+      → at_tail tail s ≡ Err (TooManyVariables at)
+  ninth tail at c =
+      ap (λ x. at_tail x s) c.whole.ended
+      ∙ finished_by sig ts s ran c.tree c.whole.fits c.whole.spelled c.whole.end
+      ∙ sorted_many _ (all_names sig c.tree).clash (uneven_pair (all_names sig c.tree))
+      (slice_get (all_names sig c.tree).free max_free) at c.even
+      (ap (λ free. ninth_place (slice_get free max_free)) (all_free sig c.tree) ∙ c.ninth)
+
+  last_shows : (tail : Tail LexFault) (fault : PolicyFault) → IsLast sig ts tail fault → at_tail tail s ≡ Err fault
+  last_shows tail (Lex fault) c = ap (λ x. at_tail x s) c
+  last_shows tail (Syntax at) c = too_early tail at c
+  last_shows tail (EmptyInterval at) c = absurd c
+  last_shows tail (BoundRange at) c = absurd c
+  last_shows tail (UnknownPredicate at) c = absurd c
+  last_shows tail (WrongArity at) c = absurd c
+  last_shows tail (SortClash at) c = clashes tail at c
+  last_shows tail (TooManyVariables at) c = ninth tail at c
+  last_shows tail (TooDeep at) c = absurd c
+  last_shows tail (TooManyNodes at) c = absurd c
+  last_shows tail Memory c = absurd c
+
+pub follows : (sig : List PredOf)
+    → FollowsGrammar (step sig) start at_tail BeginsFormula (IsCause sig) (IsLast sig)
+follows sig = record {
+  viable = λ ts s ran. read_viable sig ts s ran;
+  token = λ front s t fault ran. (step_caused sig front s t ran fault, cause_shows sig front s t ran fault);
+  tail = λ ts s tail fault ran. (tail_caused sig ts s ran tail fault, last_shows sig ts s ran tail fault);
+}

@@ -1,0 +1,263 @@
+-- The laws of `specs/GrammarLaws.antt`.
+use Rattle.std.proofs.Common.{◌≡◌, ◌≢◌, ℕ, ◌+◌, ◌≤◌, true, false, Bool, List, [], ◌∷◌, ◌++◌, length, Option, Some}
+use Rattle.std.proofs.Common.{None, Result, Ok, Err, IfOk, IfErr, refl, ap, sym, ◌∙◌, inl, inr, arith}
+use Rattle.std.proofs.lemmas.Option.{slice_get_cases, slice_get_past}
+use Rattle.std.specs.Prelude.{slice_get}
+use Rattle.mfotl_lex.specs.declared.fault.LexFault.{LexFault}
+use Rattle.mfotl_lex.specs.declared.kind.Mode.TheVariants.{Plain}
+use Rattle.mfotl_lex.specs.FirstFault as layer
+use Rattle.mfotl_lex.specs.FirstFault.{◌>>=◌, End, More, run}
+use Rattle.mfotl_lex.specs.Lexemes.{Lexeme, tokens}
+use Rattle.mfotl_lex.specs.Places.{beginning}
+use Rattle.mfotl_lex.specs.Texts.{tail_of}
+use Rattle.mfotl_lex.proofs.FirstFaultLaws as firsts
+use Rattle.mfotl_lex.proofs.FirstFaultLaws.{bind_ok}
+use Rattle.mfotl_lex.proofs.TextLaws as texts
+use Rattle.mfotl_model.specs.declared.policy.Policy.{Policy}
+use Rattle.mfotl_model.specs.Formulas.{Form}
+use Rattle.mfotl_sig.specs.Preds.{PredOf}
+use Rattle.mfotl_parse.specs.declared.fault.PolicyFault.{PolicyFault}
+use Rattle.mfotl_parse.specs.declared.fault.PolicyFault.TheVariants.{Lex, Syntax, Memory}
+use Rattle.mfotl_parse.specs.declared.term.Pair.{Pair}
+use Rattle.mfotl_parse.specs.Causes.{IsCause, IsLast}
+use Rattle.mfotl_parse.specs.Grammar.{Tree, Fits, spelling, BeginsFormula}
+use Rattle.mfotl_parse.specs.GrammarLaws.{SpelledIsRead, ReadIsSpelled, OneAnswer, SyntaxExactly, AreRead, IsSilent}
+use Rattle.mfotl_parse.specs.GrammarLaws.{SilentAreRead, ExactSoundness, IsShown, EachFaultIsShown, ExactSyntax}
+use Rattle.mfotl_parse.specs.GrammarLaws.{ExactLex, StaysShown}
+use Rattle.mfotl_parse.specs.Limits.{max_free}
+use Rattle.mfotl_parse.specs.Meanings.{no_scope, all_names, value, node_count, KeepsRules, IsValue, policy_of}
+use Rattle.mfotl_parse.specs.Reading.{PolicyOf, step, sorted, finished, ended, ended_at, is_closed, at_tail, text_of}
+use Rattle.mfotl_parse.specs.Reading.{reading_on, reading}
+use Rattle.mfotl_parse.specs.Occurrences.{free_variables}
+use Rattle.mfotl_parse.specs.Reduction.{reduce}
+use Rattle.mfotl_parse.specs.States.{no_names, depth, Stage, Context, SymbolTable, Partial, AfterOperand, start}
+use Rattle.mfotl_parse.specs.SymbolTable.{uneven_pair}
+use Rattle.mfotl_parse.specs.Viability.{FirstFaults, is_whole}
+use Rattle.mfotl_parse.specs.Views.{policy_of as policy_seen, Gives}
+use Rattle.mfotl_parse.proofs.CauseLaw.{follows}
+use Rattle.mfotl_parse.proofs.FreeNames.{all_free, few_met}
+use Rattle.mfotl_parse.proofs.LimitLemmas.{few_value}
+use Rattle.mfotl_parse.proofs.ReadMoves.{moves_read, accepts_moves, read_silent, silent_read, goes_on_moves}
+use Rattle.mfotl_parse.proofs.ReadMoves.{goes_on_front}
+use Rattle.mfotl_parse.proofs.SpelledMoves.{at_place}
+use Rattle.mfotl_parse.proofs.TracedMoves.{trace}
+use Rattle.mfotl_parse.proofs.TracedTrees.{shows_whole}
+use Rattle.mfotl_parse.proofs.ViabilityLemmas.{completes}
+use Rattle.mfotl_parse.proofs.WholeTrees.{whole, viable, begins, read_viable, whole_formula, rules_kept}
+use Rattle.mfotl_parse.proofs.WholeTrees.{finished_by}
+
+-- ---- what is read, and what is spelled
+
+-- a policy is read only behind a whole formula, and where the text ends
+shut_reads : (n : SymbolTable) (f : Form) (closed : Bool) (end : ℕ) (policy : PolicyOf)
+    → ended n f closed end ≡ Ok policy → closed ≡ true
+shut_reads n f true end policy e = refl
+shut_reads n f false end policy e = absurd cc
+
+whole_reads : (now : Stage) (c : Context) (end : ℕ) (policy : PolicyOf) → ended_at now c end ≡ Ok policy
+    → is_whole now c.stack ≡ true
+unfolding ended_at
+whole_reads (AfterOperand f) c end policy e =
+    shut_reads c.names (reduce 0 f c.stack).form (is_closed (reduce 0 f c.stack).stack) end policy e
+whole_reads _ c end policy e = absurd cc
+
+ends : (end : ℕ) (lexical : Option LexFault) (p : Partial) (policy : PolicyOf)
+    → at_tail (tail_of true end lexical) p ≡ Ok policy
+    → (tail_of true end lexical ≡ End end) × (ended_at p.now p.context end ≡ Ok policy)
+ends end None p policy e = (refl, e)
+ends end (Some fault) p policy e = absurd cc
+
+record Unrefused (clash : Option ℕ) (uneven : Option Pair) (ninth : Option (List ℕ × ℕ))
+    (policy other : PolicyOf) : Type 0 where
+  unclashed : clash ≡ None
+  even : uneven ≡ None
+  few : ninth ≡ None
+  same : other ≡ policy
+
+unrefused : (clash : Option ℕ) (uneven : Option Pair) (ninth : Option (List ℕ × ℕ)) (policy other : PolicyOf)
+    → sorted clash uneven ninth policy ≡ Ok other → Unrefused clash uneven ninth policy other
+unrefused (Some place) uneven ninth policy other e = absurd cc
+unrefused None (Some pair) ninth policy other e = absurd cc
+unrefused None None (Some known) policy other e = absurd cc
+unrefused None None None policy other e = record { unclashed = refl; even = refl; few = refl; same = cc }
+
+at_most : (free : List (List ℕ × ℕ)) → slice_get free max_free ≡ None → length free ≤ max_free
+at_most free e = elim ((slice_get_cases free max_free).1) [ inl some ↦ absurd (cc (some.2, e)) | inr past ↦ past.0 ]
+
+module _ (sig : List PredOf) (bytes : List ℕ) (policy : PolicyOf) (p : Partial)
+    (ran : run (step sig) (text_of bytes).list start ≡ Ok p) (ended : (text_of bytes).tail ≡ End (length bytes))
+    (tree : Tree) (fits : Fits 1 tree) (spelled : (text_of bytes).list ≡ spelling tree)
+    (read : ended_at p.now p.context (length bytes) ≡ Ok policy) where
+  value_by : IsValue bytes sig policy
+  unfolding depth
+  value_by =
+      let names = all_names sig tree in
+      let done = sym (finished_by sig (text_of bytes).list p ran tree fits spelled (length bytes)) ∙ read in
+      let u = unrefused names.clash (uneven_pair names) (slice_get names.free max_free) (policy_of sig tree) policy
+      done in
+      let keeps = (whole sig tree fits).kept.1 (omega arith)
+      (rules_kept sig (text_of bytes).list p ran tree fits spelled) in
+      record {
+        tree = tree;
+        whole = ended;
+        fits = fits;
+        spelled = spelled;
+        rules = record {
+          parts = keeps.2;
+          few_nodes = omega (arith, keeps.0);
+          few_levels = omega (arith, keeps.1);
+          unclashed = u.unclashed;
+          even = u.even;
+          few_free = at_most (free_variables tree)
+              (ap (λ free. slice_get free max_free) (sym (all_free sig tree)) ∙ u.few);
+        };
+        value = u.same;
+      }
+
+pub read_is_spelled : ReadIsSpelled
+unfolding reading reading_on layer.reading
+read_is_spelled sig bytes policy e =
+    let x = text_of bytes in
+    let r = bind_ok (run (step sig) x.list start) (λ p. at_tail x.tail p) policy e in
+    let end = ends (length bytes) (tokens (beginning Plain bytes)).fault r.0 policy r.2 in
+    let f = whole_formula sig x.list r.0 r.1 (whole_reads r.0.now r.0.context (length bytes) policy end.1) in
+    value_by sig bytes policy r.0 r.1 end.0 f.0 f.1 f.2 end.1
+
+module _ (sig : List PredOf) (tree : Tree) (rules : KeepsRules sig tree) where
+  finishes : finished (all_names sig tree) (value sig tree no_scope no_names) ≡ Ok (policy_of sig tree)
+  finishes =
+      let names = all_names sig tree in
+      let policy = policy_of sig tree in
+      ap (λ c. sorted c (uneven_pair names) (slice_get names.free max_free) policy) rules.unclashed
+      ∙ ap (λ c. sorted None c (slice_get names.free max_free) policy) rules.even
+      ∙ ap (λ c. sorted None None c policy) (slice_get_past names.free max_free (few_met sig tree rules.few_free))
+
+pub spelled_is_read : SpelledIsRead
+unfolding reading reading_on layer.reading
+spelled_is_read sig bytes policy v =
+    let x = text_of bytes in
+    let t = whole sig v.tree v.fits in
+    let kept = t.kept.0 (omega (arith, v.rules.few_nodes), omega (arith, v.rules.few_levels), v.rules.parts) in
+    let there = at_place (AfterOperand t.form) t.stack (0 + node_count v.tree) (all_names sig v.tree) in
+    let ran = ap (λ ts. run (step sig) ts start) v.spelled
+    ∙ moves_read sig (spelling v.tree) start there t.rules t.reached kept in
+    ap (λ r. r >>= λ p. at_tail x.tail p) ran
+    ∙ ap (λ tail. at_tail tail there) v.whole
+    ∙ finished_by sig x.list there ran v.tree v.fits v.spelled (length bytes)
+    ∙ finishes sig v.tree v.rules
+    ∙ ap (λ r. Ok r) (sym v.value)
+
+pub one_answer : OneAnswer
+one_answer sig =
+    firsts.one_answer (λ bytes. reading bytes sig) (λ bytes. IsValue bytes sig) (read_is_spelled sig)
+    (spelled_is_read sig)
+
+-- ---- faults
+
+pub each_fault_is_shown : EachFaultIsShown
+unfolding reading reading_on
+each_fault_is_shown bytes sig fault =
+    firsts.exact_faults (step sig) start at_tail BeginsFormula (IsCause sig) (IsLast sig) (follows sig)
+    (text_of bytes) fault
+
+pub exact_soundness : ExactSoundness
+exact_soundness sig =
+    firsts.exact_soundness (step sig) start at_tail BeginsFormula (IsCause sig) (IsLast sig) (follows sig)
+
+pub exact_syntax : ExactSyntax
+exact_syntax bytes sig at = each_fault_is_shown bytes sig (Syntax at)
+
+pub exact_lex : ExactLex
+exact_lex bytes sig fault =
+    let each = each_fault_is_shown bytes sig (Lex fault) in (
+      λ e. elim (each.0 e) [ inl token ↦ absurd token.cause | inr tail ↦ tail ],
+      λ tail. each.1 (inr tail),
+    )
+
+none_shown : (p : Partial) (fault : PolicyFault) → at_tail More p ≡ Err fault → ⊥
+none_shown p fault e = cc
+
+pub stays_shown : StaysShown
+stays_shown sig = texts.stays_shown (step sig) start at_tail none_shown
+
+pub syntax_exactly : SyntaxExactly
+syntax_exactly = record {
+  sound = read_viable;
+  token = λ sig ts p t ran. (
+    λ e. (((follows sig).token ts p t (Syntax t.at) ran).0 e).ends,
+    λ none. ((follows sig).token ts p t (Syntax t.at) ran).1 (record { ends = none; stands = refl }),
+  );
+  end = λ sig ts p at ran. (
+    λ e. (((follows sig).tail ts p (End at) (Syntax at) ran).0 e).unaccepted,
+    λ none. ((follows sig).tail ts p (End at) (Syntax at) ran).1 (record { unaccepted = none; stands = refl }),
+  );
+}
+
+-- ---- tokens that show none
+
+module _ (sig : List PredOf) (ts : List Lexeme) where
+  are_read : IsSilent sig ts → AreRead sig ts
+  are_read s =
+      silent_read sig ts s.more s.later start
+      (sym (ap (λ us. trace sig us start) s.spelled) ∙ shows_whole sig s.tree s.fits ∙ s.shown)
+
+  are_silent : AreRead sig ts → IsSilent sig ts
+  are_silent (p, ran) =
+      let f = read_viable sig ts p ran in
+      record {
+        tree = f.1.0;
+        fits = f.1.1;
+        more = f.0;
+        spelled = sym f.1.2;
+        later = trace sig f.0 p;
+        shown = sym (shows_whole sig f.1.0 f.1.1) ∙ ap (λ us. trace sig us start) (sym f.1.2)
+            ∙ read_silent sig ts f.0 start p ran;
+      }
+
+pub silent_are_read : SilentAreRead
+silent_are_read sig ts = (are_silent sig ts, are_read sig ts)
+
+-- ---- where the grammar goes on
+
+stays_behind : (sig : List PredOf) (tail : layer.Tail LexFault) (ts more : List Lexeme) (fault : PolicyFault)
+    → run (step sig) ts start ≡ Err fault
+    → layer.reading (step sig) start at_tail (record { list = ts ++ more; tail = tail }) ≡ Err fault
+unfolding layer.reading
+stays_behind sig tail ts more fault e =
+    ap (λ r. r >>= λ p. at_tail tail p) (firsts.fault_stays (step sig) ts more start fault e)
+
+pub first_faults : FirstFaults
+first_faults = record {
+  viable = λ sig ts. (
+    λ on.
+        let m = goes_on_moves sig ts start on in
+        let due = completes sig m.1 in
+        (due.0, accepts_moves sig ts due.0 start m.1 m.0 m.2 ∙ due.1),
+    λ v. goes_on_front sig ts v.0 start v.1,
+  );
+  syntax = λ sig ts p t ran. (
+    λ e v. (syntax_exactly.token sig ts p t ran).0 e (viable sig (ts ++ t ∷ []) v),
+    λ none. (syntax_exactly.token sig ts p t ran).1 (λ b. none (begins sig (ts ++ t ∷ []) b)),
+  );
+  stays = stays_behind;
+  one = λ sig bytes policy fault is_policy is_fault. absurd cc;
+}
+
+-- ---- what a call that gives the reading returns
+
+module _ (bytes : List ℕ) (sig : List PredOf) where
+  pub value_given : (result : Result Policy PolicyFault) → Gives policy_seen result (reading bytes sig)
+      → IfOk result (λ policy. IsValue bytes sig (policy_seen policy))
+  value_given (Ok policy) given = read_is_spelled sig bytes (policy_seen policy) given
+  value_given (Err fault) given = tt
+
+  pub shown_given : (result : Result Policy PolicyFault) → Gives policy_seen result (reading bytes sig)
+      → IfErr result (λ fault. fault ≢ Memory → IsShown bytes sig fault)
+  shown_given (Ok policy) given = tt
+  shown_given (Err Memory) given = λ other. absurd (other refl)
+  shown_given (Err fault) given = λ _. (each_fault_is_shown bytes sig fault).0 given
+
+  pub few_given : (result : Result Policy PolicyFault) → Gives policy_seen result (reading bytes sig)
+      → IfOk result (λ policy. length policy.vars ≤ max_free)
+  few_given (Ok policy) given = few_value sig bytes (policy_seen policy) (value_given (Ok policy) given)
+  few_given (Err fault) given = tt

@@ -1,0 +1,101 @@
+-- A whole formula is accepted from the start on, and where the reader stands behind it.
+use Rattle.std.proofs.Common.{◌≡◌, ℕ, ◌+◌, true, List, [], ◌++◌, Ok, refl, ap, sym}
+use Rattle.std.proofs.Common.{subst, ◌∙◌, arith}
+use Rattle.std.proofs.lemmas.List.{append-nil}
+use Rattle.mfotl_lex.specs.FirstFault.{run}
+use Rattle.mfotl_lex.specs.Lexemes.{Lexeme}
+use Rattle.mfotl_sig.specs.Preds.{PredOf}
+use Rattle.mfotl_parse.specs.Grammar.{Tree, Fits, spelling, IsFormula, BeginsFormula}
+use Rattle.mfotl_parse.specs.GrammarLaws.{AcceptedExactly}
+use Rattle.mfotl_parse.specs.Meanings.{no_scope, all_names, value, node_count}
+use Rattle.mfotl_parse.specs.Reading.{step, finished, ended, ended_at, is_closed}
+use Rattle.mfotl_parse.specs.Reduction.{Reduced, reduce}
+use Rattle.mfotl_parse.specs.States.{no_names, depth, Partial, AfterOperand, start}
+use Rattle.mfotl_parse.specs.SymbolTable.{binder_of}
+use Rattle.mfotl_parse.specs.Transitions.{Rule, goes}
+use Rattle.mfotl_parse.specs.Viability.{is_whole, accepts, IsViable}
+use Rattle.mfotl_parse.proofs.AcceptedLaw.{accepted_formula}
+use Rattle.mfotl_parse.proofs.ReadMoves.{read_moves, accepts_moves, accepts_read}
+use Rattle.mfotl_parse.proofs.SpelledForms.{Takes, reduce_here}
+use Rattle.mfotl_parse.proofs.SpelledMoves.{at_place, moves, same_next, same_rules, AreKept}
+use Rattle.mfotl_parse.proofs.SpelledTrees.{Keeps, reads, one_reaches}
+use Rattle.mfotl_parse.proofs.ViabilityLemmas.{completes}
+
+-- a formula is read from the start on
+pub whole : (sig : List PredOf) (tree : Tree) → Fits 1 tree
+    → Takes sig start (spelling tree) [] 1 (value sig tree no_scope no_names) (0 + node_count tree)
+    (all_names sig tree) (Keeps sig tree 0 0)
+unfolding binder_of depth
+whole sig tree fits = reads sig tree 1 1 fits (one_reaches 1 (omega arith)) (λ e. omega arith) [] 0 no_names tt
+
+all_closed : (sig : List PredOf) (tree : Tree) (fits : Fits 1 tree)
+    → reduce 0 (whole sig tree fits).form (whole sig tree fits).stack
+    ≡ record { form = value sig tree no_scope no_names; stack = [] }
+all_closed sig tree fits =
+    (whole sig tree fits).reduces 0 (omega arith) ∙ reduce_here 0 (value sig tree no_scope no_names) [] tt
+
+-- nothing stands behind the tokens
+accepts_nothing : (sig : List PredOf) (p : Partial) → accepts sig [] p ≡ is_whole p.now p.context.stack
+unfolding accepts
+accepts_nothing sig p = refl
+
+accepted : (sig : List PredOf) (tree : Tree) → Fits 1 tree → accepts sig (spelling tree) start ≡ true
+accepted sig tree fits =
+    ap (λ ts. accepts sig ts start) (sym (append-nil (spelling tree)))
+    ∙ accepts_moves sig (spelling tree) [] start _ _ (whole sig tree fits).reached
+    ∙ accepts_nothing sig _
+    ∙ ap (λ (r : Reduced). is_closed r.stack) (all_closed sig tree fits)
+
+pub formula_accepted : (sig : List PredOf) (ts : List Lexeme) → IsFormula ts → accepts sig ts start ≡ true
+formula_accepted sig ts formula =
+    ap (λ (xs : List Lexeme). accepts sig xs start) formula.2 ∙ accepted sig formula.0 formula.1
+
+pub accepted_exactly : AcceptedExactly
+accepted_exactly sig ts = (accepted_formula sig ts, formula_accepted sig ts)
+
+-- ---- in the reader's words
+
+pub viable : (sig : List PredOf) (ts : List Lexeme) → IsViable sig ts → BeginsFormula ts
+viable sig ts v = (v.0, accepted_formula sig (ts ++ v.0) v.1)
+
+pub begins : (sig : List PredOf) (ts : List Lexeme) → BeginsFormula ts → IsViable sig ts
+begins sig ts b = (b.0, formula_accepted sig (ts ++ b.0) b.1)
+
+module _ (sig : List PredOf) (ts : List Lexeme) (p : Partial) (ran : run (step sig) ts start ≡ Ok p) where
+  -- tokens that show no fault begin a formula
+  pub read_viable : BeginsFormula ts
+  read_viable =
+      let due = completes sig p in
+      (due.0, accepted_formula sig (ts ++ due.0) (accepts_read sig ts due.0 start p ran ∙ due.1))
+
+  stands_whole : accepts sig ts start ≡ is_whole p.now p.context.stack
+  stands_whole =
+      ap (λ us. accepts sig us start) (sym (append-nil ts)) ∙ accepts_read sig ts [] start p ran
+      ∙ accepts_nothing sig p
+
+  -- they are one where an operand was read and nothing is open
+  pub whole_formula : is_whole p.now p.context.stack ≡ true → IsFormula ts
+  whole_formula e = accepted_formula sig ts (stands_whole ∙ e)
+
+  pub formula_whole : IsFormula ts → is_whole p.now p.context.stack ≡ true
+  formula_whole formula = sym stands_whole ∙ formula_accepted sig ts formula
+
+  module _ (tree : Tree) (fits : Fits 1 tree) (spelled : ts ≡ spelling tree) where
+    reached : (rules : List Rule) → moves sig ts start ≡ goes rules p
+        → goes (whole sig tree fits).rules (at_place (AfterOperand (whole sig tree fits).form)
+        (whole sig tree fits).stack (0 + node_count tree) (all_names sig tree)) ≡ goes rules p
+    reached rules e =
+        sym (whole sig tree fits).reached ∙ ap (λ us. moves sig us start) (sym spelled) ∙ e
+
+    -- all rules on the way were kept
+    pub rules_kept : AreKept (whole sig tree fits).rules
+    rules_kept = let m = read_moves sig ts start p ran in subst AreKept (sym (same_rules (reached m.0 m.1))) m.2
+
+    -- behind a whole formula the end shows what its names show
+    pub finished_by : (end : ℕ) → ended_at p.now p.context end
+        ≡ finished (all_names sig tree) (value sig tree no_scope no_names)
+    unfolding ended_at
+    finished_by end =
+        let m = read_moves sig ts start p ran in
+        ap (λ (q : Partial). ended_at q.now q.context end) (sym (same_next (reached m.0 m.1)))
+        ∙ ap (λ (r : Reduced). ended (all_names sig tree) r.form (is_closed r.stack) end) (all_closed sig tree fits)

@@ -1,0 +1,43 @@
+-- Conjuncts that are the same at each position.
+use Rattle.std.specs.Prelude.{Bool, true, false, ◌&&◌, ◌||◌}
+use Rattle.mfotl_model.specs.Satisfaction.{Valuation}
+use Rattle.mfotl_model.specs.declared.term.Comparison.{Comparison}
+use Rattle.mfotl_model.specs.declared.term.Term.{Term}
+use Rattle.mfotl_model.specs.declared.term.Term.TheVariants.{Var, Const}
+use Rattle.monitorable.specs.Conjuncts.{PartForm}
+use Rattle.monitorable.specs.Conjuncts.PartForm.{Child, Test}
+use Rattle.monitorable.specs.Fragment.{binds}
+use Rattle.monitorable.specs.declared.role.Role.{Role}
+use Rattle.monitorable.specs.declared.role.Role.TheVariants.{Whole, Part, Negated, Left}
+use Rattle.relations.specs.Operations.{chosen}
+
+-- whether a term is a constant
+abbrev pub is_constant : Term → Bool
+is_constant (Var x) = false
+is_constant (Const a) = true
+
+-- whether a comparison is one of constants
+abbrev pub is_closed : Comparison → Bool
+is_closed c = is_constant c.left && is_constant c.right
+
+-- whether a comparison has a table by itself: an equation of a variable with a constant, or one of constants
+abbrev pub is_fixed : Comparison → Bool
+is_fixed c = binds c || is_closed c
+
+-- whether a comparison is a node by itself: one that is judged so, and an equation with a constant among
+-- conjuncts
+abbrev pub stands_alone : Role → Bool → Bool
+stands_alone Whole binding = true
+stands_alone Part binding = binding
+stands_alone Negated binding = false
+stands_alone Left binding = true
+
+-- whether a conjunct is a test of constants
+abbrev pub is_closed_test : PartForm → Bool
+is_closed_test (Child f negated) = false
+is_closed_test (Test c wanted) = is_closed c
+
+-- whether a test comes out as wanted; a child is none
+abbrev pub passes_test : Valuation → PartForm → Bool
+passes_test v (Child f negated) = true
+passes_test v (Test c wanted) = chosen c wanted v

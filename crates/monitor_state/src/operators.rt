@@ -1,0 +1,129 @@
+//! The nodes of OR, PREVIOUS, NEXT and SINCE, with their states before the first position.
+ghost use Rattle.std.specs.Prelude.{◌≡◌, ◌∷◌, [], IfOk, IsTrue, OnOk};
+ghost use Rattle.mfotl_model.specs.FreeVariables.{fv};
+ghost use Rattle.mfotl_model.specs.Tables.{all_among};
+ghost use Rattle.eval_bool.specs.OrView.{same_columns};
+ghost use Rattle.monitorable.specs.CoreForms.{meaning, node_form, Next, Or, Previous, Since};
+ghost use Rattle.monitor_state.specs.Beginnings.{Adds, NextBegun, OrBegun, PreviousBegun, SinceBegun};
+ghost use Rattle.monitor_state.specs.Nodes.{is_negated};
+
+use crate::node::{Node, add};
+use eval_bool::OrState;
+use eval_since::{PrevState, SinceState};
+use eval_until::NextState;
+use mfotl_model::Interval;
+use monitorable::Node as Core;
+use relations::Table;
+use std::alloc::{AllocError, Global};
+
+/// Whether a core is a NOT.
+pub fn is_negated(core: &Core) -> bool
+    ensures { result ≡ is_negated (node_form core.now) }
+{
+    match core {
+        Core::Not(_) => true,
+        _ => false,
+    }
+}
+
+// The node of `whole`, a SINCE of these operands.
+pub fn add_since(
+    alloc: Global,
+    whole: &Core,
+    interval: &Interval,
+    left: &Core,
+    right: &Core,
+    nodes: &mut Vec<Node>,
+) -> Result<(), AllocError>
+    requires { IsTrue (all_among (fv (meaning (node_form left.now))) (fv (meaning (node_form right.now)))) }
+    ensures { OnOk result (node_form whole.now ≡ Since interval.now (node_form left.now) (node_form right.now)
+        → Adds (node_form whole.now ∷ []) nodes.old.items nodes.new.items) }
+{
+    let state = since_state(alloc, interval, left, right)?;
+    let columns = whole.free_vars(alloc)?;
+    add(Node::Since(state, Table::empty(alloc, columns)), nodes)
+}
+
+fn since_state(
+    alloc: Global,
+    interval: &Interval,
+    left: &Core,
+    right: &Core,
+) -> Result<SinceState, AllocError>
+    requires { IsTrue (all_among (fv (meaning (node_form left.now))) (fv (meaning (node_form right.now)))) }
+    ensures { IfOk result (SinceBegun interval.now (node_form left.now) (node_form right.now)) }
+{
+    let left_columns = left.free_vars(alloc)?;
+    let right_columns = right.free_vars(alloc)?;
+    SinceState::new(
+        alloc,
+        interval,
+        left_columns.as_slice(),
+        right_columns.as_slice(),
+        is_negated(left),
+    )
+}
+
+pub fn add_or(
+    alloc: Global,
+    left: &Core,
+    right: &Core,
+    nodes: &mut Vec<Node>,
+) -> Result<(), AllocError>
+    requires { IsTrue (same_columns (fv (meaning (node_form left.now))) (fv (meaning (node_form right.now)))) }
+    ensures { OnOk result (Adds (Or (node_form left.now) (node_form right.now) ∷ []) nodes.old.items nodes.new.items) }
+{
+    let state = or_state(alloc, left, right)?;
+    add(Node::Or(state), nodes)
+}
+
+fn or_state(alloc: Global, left: &Core, right: &Core) -> Result<OrState, AllocError>
+    requires { IsTrue (same_columns (fv (meaning (node_form left.now))) (fv (meaning (node_form right.now)))) }
+    ensures { IfOk result (OrBegun (node_form left.now) (node_form right.now)) }
+{
+    let left_columns = left.free_vars(alloc)?;
+    let right_columns = right.free_vars(alloc)?;
+    OrState::new(alloc, left_columns.as_slice(), right_columns.as_slice())
+}
+
+pub fn add_previous(
+    alloc: Global,
+    interval: &Interval,
+    operand: &Core,
+    nodes: &mut Vec<Node>,
+) -> Result<(), AllocError>
+    ensures { OnOk result (Adds (Previous interval.now (node_form operand.now) ∷ []) nodes.old.items nodes.new.items) }
+{
+    let state = previous_state(alloc, interval, operand)?;
+    add(Node::Previous(state), nodes)
+}
+
+fn previous_state(
+    alloc: Global,
+    interval: &Interval,
+    operand: &Core,
+) -> Result<PrevState, AllocError>
+    ensures { IfOk result (PreviousBegun interval.now (node_form operand.now)) }
+{
+    let columns = operand.free_vars(alloc)?;
+    PrevState::new(alloc, interval, columns.as_slice())
+}
+
+pub fn add_next(
+    alloc: Global,
+    interval: &Interval,
+    operand: &Core,
+    nodes: &mut Vec<Node>,
+) -> Result<(), AllocError>
+    ensures { OnOk result (Adds (Next interval.now (node_form operand.now) ∷ []) nodes.old.items nodes.new.items) }
+{
+    let state = next_state(alloc, interval, operand)?;
+    add(Node::Next(state), nodes)
+}
+
+fn next_state(alloc: Global, interval: &Interval, operand: &Core) -> Result<NextState, AllocError>
+    ensures { IfOk result (NextBegun interval.now (node_form operand.now)) }
+{
+    let columns = operand.free_vars(alloc)?;
+    NextState::new(alloc, interval, columns.as_slice())
+}

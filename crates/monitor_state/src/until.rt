@@ -1,0 +1,67 @@
+//! An UNTIL takes a time and its operands' tables.
+ghost use Rattle.std.specs.Prelude.{◌≡◌, false, true, IfOk, OnOk};
+ghost use Rattle.eval_until.specs.UntilView.{due, took_all};
+ghost use Rattle.monitor_state.specs.UntilFeeding.{UntilLeftsPushed, UntilPulled, UntilRightsPushed, UntilTakes};
+
+use crate::ordering::in_order;
+use crate::tables::Tables;
+use eval_until::UntilState;
+use relations::Table;
+use std::alloc::{AllocError, Global};
+
+/// Pushes a time and the operands' tables, and pulls all tables that are due then, in the given order of
+/// the columns.
+pub fn take_until(
+    alloc: Global,
+    state: &mut UntilState,
+    order: &Table,
+    ts: u64,
+    left: Tables,
+    right: Tables,
+) -> Result<Tables, AllocError>
+    ensures { IfOk result (λ tables. UntilTakes order.now.columns state.old ts left right state.new tables) }
+{
+    if !state.takes_time() {
+        return Err(AllocError);
+    }
+    state.push_time(ts)?;
+    push_lefts(state, left)?;
+    push_rights(state, right)?;
+    pulled(alloc, state, order)
+}
+
+fn push_lefts(state: &mut UntilState, mut tables: Tables) -> Result<(), AllocError>
+    ensures { OnOk result (UntilLeftsPushed state.old state.new tables) }
+{
+    while let Some(table) = tables.take() {
+        if !state.takes_left(&table) {
+            return Err(AllocError);
+        }
+        state.push_left(table)?;
+    }
+    Ok(())
+}
+
+fn push_rights(state: &mut UntilState, mut tables: Tables) -> Result<(), AllocError>
+    ensures { OnOk result (UntilRightsPushed state.old state.new tables) }
+{
+    while let Some(table) = tables.take() {
+        if !state.takes_right(&table) {
+            return Err(AllocError);
+        }
+        state.push_right(table)?;
+    }
+    Ok(())
+}
+
+fn pulled(alloc: Global, state: &mut UntilState, order: &Table) -> Result<Tables, AllocError>
+    ensures pulled { IfOk result (UntilPulled order.now.columns state.old state.new) }
+    ensures ends { OnOk result (due state.new ≡ false) }
+    ensures all { OnOk result (took_all state.new ≡ true) }
+{
+    let mut tables = Tables::new(alloc);
+    while let Some(table) = state.pull(alloc)? {
+        tables.push(in_order(alloc, table, order)?)?;
+    }
+    Ok(tables)
+}

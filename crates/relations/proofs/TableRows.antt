@@ -1,0 +1,45 @@
+-- The rows of a table, one after another: what each of them passes, and which rows it lacks.
+use Rattle.std.proofs.Common.{◌≡◌, ℕ, ◌+◌, ◌<◌, Bool, true, false, nat_eq, ◌||◌, List, [], ◌∷◌, length, get_or, take, refl, sym, ap, ◌∙◌}
+use Rattle.std.proofs.lemmas.Bool.{and_from, and_parts, or_left, or_right}
+use Rattle.std.proofs.lemmas.List.Folds.{list_any_more}
+use Rattle.std.proofs.lemmas.Map.Views.{tells_apart}
+use Rattle.std.specs.BTreeMap.{is_at}
+use Rattle.std.specs.Cmp.{eq_by_cmp_equiv}
+use Rattle.std.specs.List.{list_all}
+use Rattle.std.specs.Ordering.{eq_by_cmp}
+use Rattle.mfotl_model.proofs.RowLemmas.{row_exact}
+use Rattle.mfotl_model.specs.Tables.{all_sized, has_row}
+use Rattle.mfotl_model.specs.Values.{row_cmp, row_total}
+use Rattle.mfotl_model.specs.declared.value.Value.{Value}
+
+-- a table of rows of n values lacks a row of another number
+pub lacks_other : (n : ℕ) (rows : List (List Value)) (v : List Value) → all_sized n rows ≡ true
+    → nat_eq (length v) n ≡ false → has_row rows v ≡ false
+lacks_other n [] v sized apart = refl
+lacks_other n (row ∷ rows) v sized apart =
+    let parts = and_parts (nat_eq (length row) n) (all_sized n rows) sized in
+    by (eq_by_cmp row_cmp v row) refl parts.0 (lacks_other n rows v parts.1 apart)
+  where
+    by : (b : Bool) → eq_by_cmp row_cmp v row ≡ b → nat_eq (length row) n ≡ true → has_row rows v ≡ false
+        → (eq_by_cmp row_cmp v row || has_row rows v) ≡ false
+    by true e here rest =
+        absurd (let f : true ≡ false = sym here ∙ ap (λ r. nat_eq (length r) n)
+        (sym (tells_apart row_exact v row e)) ∙ apart in cc)
+    by false e here rest = ap (λ b. b || has_row rows v) e ∙ rest
+
+-- a list of rows of which each passes
+pub all_rows : (p : List Value → Bool) (rows : List (List Value))
+    → ((row : List Value) → has_row rows row ≡ true → p row ≡ true) → list_all p rows ≡ true
+all_rows p [] each = refl
+all_rows p (row ∷ rows) each =
+    and_from (p row) (list_all p rows) (each row (or_left (eq_by_cmp row_cmp row row) (has_row rows row)
+    ((eq_by_cmp_equiv row_total).refl row)))
+    (all_rows p rows (λ r there. each r (or_right (eq_by_cmp row_cmp r row) (has_row rows r) there)))
+
+-- one row more
+pub has_more : (rows : List (List Value)) (i : ℕ) (x q : List Value) → i < length rows → x ≡ get_or rows i x
+    → has_row (take (i + 1) rows) q ≡ (has_row (take i rows) q || is_at (row_cmp x) q)
+has_more rows i x q low e =
+    list_any_more (eq_by_cmp row_cmp q) rows i x low
+    ∙ ap (λ y. has_row (take i rows) q || eq_by_cmp row_cmp q y) (sym e)
+    ∙ ap (λ b. has_row (take i rows) q || b) ((eq_by_cmp_equiv row_total).symm q x)

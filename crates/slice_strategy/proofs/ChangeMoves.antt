@@ -1,0 +1,385 @@
+-- Behind each part of a change script: where a token leads, or of which fault it is the cause.
+use Rattle.std.proofs.Common.{◌≡◌, ◌∙◌, ◌⊎◌, inl, inr, ℕ, nat_le, Bool, true, false, ◌&&◌, if◌then◌else◌}
+use Rattle.std.proofs.Common.{List, [], ◌∷◌, ◌++◌, Result, Ok, Err, ap, refl, sym, subst}
+use Rattle.std.proofs.lemmas.Bool.{leb-false, and_parts}
+use Rattle.std.proofs.lemmas.List.{append-nil, append_assoc}
+use Rattle.std.specs.Prelude.{pos, int_lt}
+use Rattle.mfotl_lex.specs.declared.kind.Kind.{Kind}
+use Rattle.mfotl_lex.specs.declared.kind.Kind.TheVariants.{Word, Integer, Equal}
+use Rattle.mfotl_lex.specs.FirstFault.{◌>>=◌}
+use Rattle.mfotl_lex.specs.Lexemes.{Lexeme}
+use Rattle.mfotl_lex.specs.Numbers.{integer_value, digits_value}
+use Rattle.mfotl_lex.proofs.Verdicts as layer
+use Rattle.mfotl_model.specs.Strategies.{workers_of}
+use Rattle.mfotl_model.specs.declared.policy.Var.{Var}
+use Rattle.slice_strategy.specs.declared.change.Change.{Change as ChangeOf}
+use Rattle.slice_strategy.specs.declared.change.ChangeFault.{ChangeFault}
+use Rattle.slice_strategy.specs.declared.change.ChangeFault.TheVariants.{Strategy, FallingChange, TooManyChanges}
+use Rattle.slice_strategy.specs.declared.fault.StrategyFault.{StrategyFault}
+use Rattle.slice_strategy.specs.declared.fault.StrategyFault.TheVariants.{Syntax, UnknownVariable, RepeatedVariable}
+use Rattle.slice_strategy.specs.declared.fault.StrategyFault.TheVariants.{TooManyWorkers, Memory}
+use Rattle.slice_strategy.specs.declared.stage.Method.{Method}
+use Rattle.slice_strategy.specs.declared.stage.Method.TheVariants as method
+use Rattle.slice_strategy.specs.Causes as strategy_causes
+use Rattle.slice_strategy.specs.ChangeCauses.{InChange, IsOwn, IsWithin, IsByEqual, IsCause}
+use Rattle.slice_strategy.specs.ChangeGrammar.{Script, NoChange, Change, is_before, IsBefore, IsNumber, FitsScript}
+use Rattle.slice_strategy.specs.ChangeGrammar.{spell_script, IsScript, IsViableScript}
+use Rattle.slice_strategy.specs.ChangeReading.{ScriptOf, lifted, may_begin, within, interrupted, opened}
+use Rattle.slice_strategy.specs.ChangeReading.{decided, step}
+use Rattle.slice_strategy.specs.ChangeReading.{nothing_read}
+use Rattle.slice_strategy.specs.ChangeRules.{point, changes_of}
+use Rattle.slice_strategy.specs.Grammar.{Opening, Entries, NoEntry, Then, Part, Whole, ToName, ToEqual}
+use Rattle.slice_strategy.specs.Grammar.{ToMethod, ToColon}
+use Rattle.slice_strategy.specs.Grammar.{ToComma, FitsPart, spell, spell_part, IsPart, IsViable}
+use Rattle.slice_strategy.specs.Limits.{max_workers}
+use Rattle.slice_strategy.specs.Reading as strategy
+use Rattle.slice_strategy.specs.Reading.{Partial, Between, ended}
+use Rattle.slice_strategy.specs.Rules.{number, strategy_of, IsNew}
+use Rattle.slice_strategy.proofs.CauseLaw.{part_stands, few_closed}
+use Rattle.slice_strategy.proofs.Moves as strategies
+use Rattle.slice_strategy.proofs.Moves.{AreFew, so_far, behind, name_judged, stepped}
+use Rattle.slice_strategy.proofs.PartMoves as parts
+use Rattle.slice_strategy.proofs.PartMoves.{part_viable, IsNamedBy, Leads}
+use Rattle.slice_strategy.proofs.PartReads.{KeepsPart, few_of, kept_whole, known_whole, kept_reads}
+use Rattle.slice_strategy.proofs.ChangeParts.{Place, Outside, ToBefore, Inside, FitsPlace, spell_place}
+use Rattle.slice_strategy.proofs.ChangeParts.{spell_number, stopped, inside_of, at_place, KeepsPlace, IsCaused}
+use Rattle.slice_strategy.proofs.ChangeParts.{number_judged, MayCome}
+use Rattle.slice_strategy.proofs.ChangeRuns.{IsNoBefore, before_word, within_of, else_step, before_step}
+use Rattle.slice_strategy.proofs.ChangeRuns.{equal_step, name_again, whole_begins}
+
+-- ---- the grammar goes on
+
+number_token : Lexeme
+number_token = record { kind = Integer; at = 0; text = [] }
+
+script_viable : (s : Script) → FitsScript s → IsViableScript (spell_script s)
+script_viable s fits =
+    let ts = spell_script s in
+    ([], subst IsScript (sym (append-nil ts)) (s, record { fits = fits; spelled = refl }))
+
+-- what goes on in a strategy goes on in a change
+pub inner_viable : (s : Script) (w n : Lexeme) (inner : List Lexeme) → FitsScript s → IsBefore w → IsNumber n
+    → IsViable inner → IsViableScript (spell_number s w n ++ inner)
+inner_viable s w n inner fits is count v =
+    let base = spell_number s w n in (
+      v.0,
+      (
+        Change s w n v.1.0,
+        record {
+          fits = (fits, is, count, v.1.1.fits);
+          spelled = append_assoc base inner v.0 ∙ ap (λ ts. base ++ ts) v.1.1.spelled;
+        },
+      ),
+    )
+
+viable_front : (front : List Lexeme) (t : Lexeme) → IsViableScript (front ++ t ∷ []) → IsViableScript front
+viable_front front t v = (t ∷ v.0, subst IsScript (append_assoc front (t ∷ []) v.0) v.1)
+
+-- a `before` and a number
+pub number_viable : (s : Script) (w n : Lexeme) → FitsScript s → IsBefore w → IsNumber n
+    → IsViableScript (spell_number s w n)
+number_viable s w n fits is count =
+    subst IsViableScript (append-nil (spell_number s w n))
+    (inner_viable s w n [] fits is count (part_viable (Whole NoEntry) tt))
+
+pub place_viable : (p : Place) → FitsPlace p → IsViableScript (spell_place p)
+unfolding number_token integer_value digits_value
+place_viable Outside fits = script_viable NoChange tt
+place_viable (ToBefore s w) fits =
+    viable_front (spell_script s ++ w ∷ []) number_token
+    (number_viable s w number_token fits.0 fits.1 (refl, refl))
+place_viable (Inside s w n p) fits =
+    inner_viable s w n (spell_part p) fits.0 fits.1 fits.2 (part_viable p fits.3)
+
+-- ---- one token more
+
+module _ (vars : List Var) where
+  -- the token leads to a place, where the reader stands
+  pub record LeadsTo (p : Place) (t : Lexeme) (s : ScriptOf) : Type 0 where
+    pub place : Place
+    pub fits : FitsPlace place
+    pub spelled : spell_place place ≡ spell_place p ++ t ∷ []
+    pub stands : s ≡ at_place vars place
+
+  abbrev pub Shows : Place → Lexeme → ChangeFault → Type 0
+  Shows p t (Strategy (Syntax at)) = at ≡ t.at
+  Shows p t fault = IsCause vars (spell_place p) t fault
+
+  abbrev pub Moves : Place → Lexeme → Result ScriptOf ChangeFault → Type 0
+  Moves p t (Ok s) = LeadsTo p t s
+  Moves p t (Err fault) = Shows p t fault
+
+  leads_to : (p q : Place) (t : Lexeme) → FitsPlace q → spell_place q ≡ spell_place p ++ t ∷ []
+      → Moves p t (Ok (at_place vars q))
+  leads_to p q t fits spelled = record { place = q; fits = fits; spelled = spelled; stands = refl }
+
+  shows : (p : Place) (t : Lexeme) (fault : ChangeFault) → IsCaused vars (spell_place p) t fault → Shows p t fault
+  shows p t (Strategy (Syntax at)) c = absurd c.0
+  shows p t (Strategy fault) c = c.1
+  shows p t (FallingChange at) c = c.1
+  shows p t (TooManyChanges at) c = c.1
+
+  judged_moves : (p q : Place) (t : Lexeme) (rules : Type 0) (r : Result ScriptOf ChangeFault) → FitsPlace q
+      → spell_place q ≡ spell_place p ++ t ∷ []
+      → layer.Judged (IsCaused vars (spell_place p) t) rules r (at_place vars q) → Moves p t r
+  judged_moves p q t rules r fits spelled (inl kept) =
+      subst (Moves p t) (sym kept.1) (leads_to p q t fits spelled)
+  judged_moves p q t rules r fits spelled (inr b) = subst (Moves p t) (sym b.shown) (shows p t b.fault b.is_rule)
+
+  -- a fault of a strategy's rules, in the script
+  strategy_shows : (p : Place) (t : Lexeme) (fault : StrategyFault) → strategies.IsRule fault
+      → IsWithin vars (spell_place p) t fault ⊎ IsByEqual vars (spell_place p) t fault → Shows p t (Strategy fault)
+  strategy_shows p t (Syntax at) rule c = absurd rule
+  strategy_shows p t Memory rule (inl c) = absurd c.cause
+  strategy_shows p t Memory rule (inr c) = absurd c.cause
+  strategy_shows p t fault rule c = c
+
+  same_at : (n : ℕ) → n ≡ n
+  same_at n = refl
+
+  -- in front of all changes
+  outside_moves : (t : Lexeme) → Moves Outside t (step vars nothing_read t)
+  unfolding step
+  outside_moves t = by (is_before t.kind t.text) refl
+    where
+      by : (b : Bool) → is_before t.kind t.text ≡ b
+          → Moves Outside t (if b then Ok (stopped vars NoChange t) else Err (Strategy (Syntax t.at)))
+      by true is = leads_to Outside (ToBefore NoChange t) t (tt, is) refl
+      by false is = same_at t.at
+
+  -- ---- behind a `before`
+
+  negative : (s : Script) (w t : Lexeme) → t.kind ≡ Integer → int_lt (number t) (pos 0) ≡ true
+      → step vars (stopped vars s w) t ≡ Err (Strategy (Syntax t.at))
+  unfolding step
+  negative s w t kind low =
+      let c = stopped vars s w in
+      ap (decided vars c.done c.current w t) kind
+      ∙ ap (λ b. if b then Err (Strategy (Syntax t.at)) else opened vars c.done c.current w.at t.at (point t)) low
+
+  -- a token of this kind
+  stopped_step : (s : Script) (w t : Lexeme) (k : Kind) → t.kind ≡ k
+      → step vars (stopped vars s w) t ≡ decided vars (stopped vars s w).done (stopped vars s w).current w t k
+  unfolding step
+  stopped_step s w t k kind = ap (decided vars (stopped vars s w).done (stopped vars s w).current w t) kind
+
+  number_moves : (s : Script) (w t : Lexeme) → FitsPlace (ToBefore s w) → t.kind ≡ Integer
+      → Moves (ToBefore s w) t (step vars (stopped vars s w) t)
+  number_moves s w t fits kind = by (int_lt (number t) (pos 0)) refl
+    where
+      by : (low : Bool) → int_lt (number t) (pos 0) ≡ low → Moves (ToBefore s w) t (step vars (stopped vars s w) t)
+      by true low = subst (Moves (ToBefore s w) t) (sym (negative s w t kind low)) (same_at t.at)
+      by false high =
+          let q = Inside s w t (Whole NoEntry) in
+          judged_moves (ToBefore s w) q t (MayCome vars s t) _ (fits.0, fits.1, (kind, high), tt, tt)
+          (append-nil (spell_number s w t))
+          (number_judged vars s w t fits.0 fits.1 (kind, high))
+
+  -- a `before` that is a name
+  renamed_moves : (s : Script) (v n : Lexeme) (es : Entries) (w t : Lexeme) → FitsPlace (ToBefore (Change s v n es) w)
+      → KeepsPlace vars (ToBefore (Change s v n es) w) → t.kind ≡ Equal
+      → Moves (ToBefore (Change s v n es) w) t (step vars (stopped vars (Change s v n es) w) t)
+  renamed_moves s v n es w t fits kept kind =
+      subst (Moves (ToBefore (Change s v n es) w) t) (sym stepped_so)
+      (by (strategy.step vars (behind vars (Whole es)) w) refl
+      (name_judged vars es fits.0.3 (known_whole vars es (kept_whole vars es kept.3)) w word))
+    where
+      word : w.kind ≡ Word
+      word = before_word w.kind w.text fits.1
+
+      stepped_so : step vars (stopped vars (Change s v n es) w) t
+          ≡ within_of vars (changes_of vars s) (point n)
+          (strategy.step vars (behind vars (Whole es)) w >>= λ q. strategy.step vars q t)
+      stepped_so =
+          equal_step vars (changes_of vars s) (point n) (so_far vars es Between) w t kind
+          ∙ ap (λ r. within_of vars (changes_of vars s) (point n) (r >>= λ q. strategy.step vars q t))
+          (sym (name_again vars (changes_of vars s) (point n) es w (so_far vars es Between) fits.0.3
+          (λ comma. cc (word, comma)) (few_closed vars es fits.0.3 (few_of vars es kept.3))))
+
+      spelled_so : spell_place (Inside s v n (ToEqual es w t)) ≡ spell_place (ToBefore (Change s v n es) w) ++ t ∷ []
+      spelled_so =
+          sym (append_assoc (spell_number s v n) (spell [] es ++ w ∷ []) (t ∷ []))
+          ∙ ap (λ ts. ts ++ t ∷ []) (sym (append_assoc (spell_number s v n) (spell [] es) (w ∷ [])))
+
+      by : (r : Result Partial StrategyFault) → strategy.step vars (behind vars (Whole es)) w ≡ r
+          → layer.Judged (strategies.IsCaused vars (spell_part (Whole es)) w) (AreFew vars es × IsNew vars es w)
+          (strategies.step_by vars (behind vars (Whole es)) w Word) (behind vars (ToName es w))
+          → Moves (ToBefore (Change s v n es) w) t
+          (within_of vars (changes_of vars s) (point n) (r >>= λ q. strategy.step vars q t))
+      by r is (inl kept) =
+          let same = sym is ∙ stepped vars (behind vars (Whole es)) w Word word ∙ kept.1 in
+          subst (λ r. Moves (ToBefore (Change s v n es) w) t
+          (within_of vars (changes_of vars s) (point n) (r >>= λ q. strategy.step vars q t))) (sym same)
+          (subst (λ r. Moves (ToBefore (Change s v n es) w) t (within_of vars (changes_of vars s) (point n) r))
+          (sym (stepped vars (behind vars (ToName es w)) t Equal kind))
+          (leads_to (ToBefore (Change s v n es) w) (Inside s v n (ToEqual es w t)) t
+          (fits.0.0, fits.0.1, fits.0.2, (fits.0.3, word, kind), tt) spelled_so))
+      by r is (inr b) =
+          let same = sym is ∙ stepped vars (behind vars (Whole es)) w Word word ∙ b.shown in
+          subst (λ r. Moves (ToBefore (Change s v n es) w) t
+          (within_of vars (changes_of vars s) (point n) (r >>= λ q. strategy.step vars q t))) (sym same)
+          (strategy_shows (ToBefore (Change s v n es) w) t b.fault b.is_rule.0
+          (inr (record {
+            script = s;
+            first = v;
+            count = n;
+            entries = es;
+            word = w;
+            spelled = record { fits = fits.0; before = fits.1; parts = refl };
+            equal = kind;
+            cause = b.is_rule.1;
+          })))
+
+  stopped_moves : (s : Script) (w t : Lexeme) (k : Kind) → t.kind ≡ k → FitsPlace (ToBefore s w)
+      → KeepsPlace vars (ToBefore s w) → Moves (ToBefore s w) t (step vars (stopped vars s w) t)
+  stopped_moves s w t Integer kind fits kept = number_moves s w t fits kind
+  stopped_moves NoChange w t Equal kind fits kept =
+      subst (Moves (ToBefore NoChange w) t) (sym (stopped_step NoChange w t Equal kind)) (same_at t.at)
+  stopped_moves (Change s v n es) w t Equal kind fits kept = renamed_moves s v n es w t fits kept kind
+  stopped_moves s w t k kind fits kept =
+      subst (Moves (ToBefore s w) t) (sym (stopped_step s w t k kind)) (same_at t.at)
+
+  -- ---- in a change
+
+  module _ (s : Script) (w n : Lexeme) where
+    abbrev Here : Part → Place
+    Here p = Inside s w n p
+
+    abbrev done : List ChangeOf
+    done = changes_of vars s
+
+    place_of : (p : Part) → FitsPlace (Here p) → InChange (spell_place (Here p)) (spell_part p)
+    place_of p fits = record {
+      whole = s;
+      word = w;
+      count = n;
+      fits = fits.0;
+      before = fits.1;
+      numbered = fits.2;
+      parts = refl;
+    }
+
+    -- a `before` behind whole entries
+    stop_moves : (es : Entries) (t : Lexeme) → FitsPlace (Here (Whole es)) → IsBefore t
+        → Moves (Here (Whole es)) t
+        (lifted (ended (behind vars (Whole es)).entries (behind vars (Whole es)).stage)
+        >>= λ q. Ok (interrupted done (point n) t q))
+    stop_moves NoEntry t fits is =
+        leads_to (Here (Whole NoEntry)) (ToBefore (Change s w n NoEntry) t) t
+        ((fits.0, fits.1, fits.2, tt), is) refl
+    stop_moves (Then es o is) t fits before =
+        by (nat_le (workers_of (strategy_of vars (Then es o is))) max_workers) refl
+      where
+        by : (few : Bool) → nat_le (workers_of (strategy_of vars (Then es o is))) max_workers ≡ few
+            → Moves (Here (Whole (Then es o is))) t
+            (lifted (if few then Ok (so_far vars (Then es o is) Between) else Err (TooManyWorkers o.name.at))
+            >>= λ q. Ok (interrupted done (point n) t q))
+        by true e =
+            leads_to (Here (Whole (Then es o is))) (ToBefore (Change s w n (Then es o is)) t) t
+            ((fits.0, fits.1, fits.2, fits.3), before) refl
+        by false e =
+            inl (record {
+              inner = spell_part (Whole (Then es o is));
+              place = place_of (Whole (Then es o is)) fits;
+              cause = record {
+                over = record {
+                  before = es;
+                  opening = o;
+                  integers = is;
+                  spelled = record { fits = fits.3; spelled = refl };
+                  many = leb-false (workers_of (strategy_of vars (Then es o is))) max_workers e;
+                  place = refl;
+                };
+                behind = λ comma. cc (before_word t.kind t.text before, comma);
+              };
+              own = tt;
+            })
+
+    opened_never : (o : Opening) (es : Entries) (m : Method)
+        → may_begin (strategy.opened (strategies.head_of vars o.name) m) ≡ false
+    opened_never o es method.Hash = refl
+    opened_never o es method.Cut = refl
+
+    before_moves : (p : Part) (t : Lexeme) → FitsPlace (Here p) → IsBefore t → may_begin (behind vars p).stage ≡ true
+        → Moves (Here p) t
+        (lifted (ended (behind vars p).entries (behind vars p).stage) >>= λ q. Ok (interrupted done (point n) t q))
+    before_moves (Whole es) t fits is begins = stop_moves es t fits is
+    before_moves (ToName es m) t fits is begins = absurd cc
+    before_moves (ToEqual es m e) t fits is begins = absurd cc
+    before_moves (ToMethod es m e v h) t fits is begins = absurd cc
+    before_moves (ToColon es o) t fits is begins = absurd (cc (begins, opened_never o es o.method))
+    before_moves (ToComma es o is c) t fits before begins = absurd cc
+
+    -- the fault of a name is its own
+    own_by : (p : Part) (t : Lexeme) (es : Entries) → FitsPart p → KeepsPart vars p → IsPart (spell_part p) (Whole es)
+        → (is_before t.kind t.text && may_begin (behind vars p).stage) ≡ false → is_before t.kind t.text ≡ false
+    own_by p t es fits kept is other =
+        let same = (part_stands vars (spell_part p) (behind vars p) (Whole es) (kept_reads vars p fits kept) is).1 in
+        begins_false (is_before t.kind t.text) (may_begin (behind vars p).stage)
+        (ap (λ (x : Partial). may_begin x.stage) same ∙ whole_begins vars done (point n) es) other
+      where
+        begins_false : (a b : Bool) → b ≡ true → (a && b) ≡ false → a ≡ false
+        begins_false true b is e = absurd (cc (is, e))
+        begins_false false b is e = refl
+
+    own_of : (p : Part) (t : Lexeme) (fault : StrategyFault) → FitsPart p → KeepsPart vars p
+        → (is_before t.kind t.text && may_begin (behind vars p).stage) ≡ false
+        → strategy_causes.IsCause vars (spell_part p) t fault → IsOwn t fault
+    own_of p t (UnknownVariable at) fits kept other c = own_by p t c.entries fits kept c.spelled other
+    own_of p t (RepeatedVariable at) fits kept other c = own_by p t c.entries fits kept c.spelled other
+    own_of p t _ fits kept other c = tt
+
+    named_own : (p q : Part) (t : Lexeme) → IsNamedBy vars p t q
+        → (is_before t.kind t.text && may_begin (behind vars p).stage) ≡ false → IsNoBefore q
+    named_own p (ToName es m) t name other =
+        ap (λ (x : Lexeme). is_before x.kind x.text) name.1
+        ∙ begins_false (is_before t.kind t.text) (may_begin (behind vars p).stage)
+        (ap (λ x. may_begin (behind vars x).stage) name.0 ∙ whole_begins vars done (point n) es) other
+      where
+        begins_false : (a b : Bool) → b ≡ true → (a && b) ≡ false → a ≡ false
+        begins_false true b is e = absurd (cc (is, e))
+        begins_false false b is e = refl
+    named_own p _ t name other = tt
+
+    other_moves : (p : Part) (t : Lexeme) → FitsPlace (Here p) → KeepsPlace vars (Here p)
+        → (is_before t.kind t.text && may_begin (behind vars p).stage) ≡ false
+        → (r : Result Partial StrategyFault) → parts.Moves vars p t r → Moves (Here p) t (within_of vars done
+        (point n) r)
+    other_moves p t fits kept other (Ok q) leads = record {
+      place = Here leads.part;
+      fits = (fits.0, fits.1, fits.2, leads.fits, named_own p leads.part t leads.name other);
+      spelled =
+          ap (λ ts. spell_number s w n ++ ts) leads.spelled
+          ∙ sym (append_assoc (spell_number s w n) (spell_part p) (t ∷ []));
+      stands = ap (within done (point n)) leads.stands;
+    }
+    other_moves p t fits kept other (Err (Syntax at)) place = place
+    other_moves p t fits kept other (Err fault) cause =
+        strategy_shows (Here p) t fault tt
+        (inl (record {
+          inner = spell_part p;
+          place = place_of p fits;
+          cause = cause;
+          own = own_of p t fault fits.3 kept.2 other cause;
+        }))
+
+    inside_moves : (p : Part) (t : Lexeme) → FitsPlace (Here p) → KeepsPlace vars (Here p)
+        → Moves (Here p) t (step vars (inside_of vars s n p) t)
+    inside_moves p t fits kept = by (is_before t.kind t.text && may_begin (behind vars p).stage) refl
+      where
+        by : (b : Bool) → (is_before t.kind t.text && may_begin (behind vars p).stage) ≡ b
+            → Moves (Here p) t (step vars (inside_of vars s n p) t)
+        by true both =
+            let each = and_parts (is_before t.kind t.text) (may_begin (behind vars p).stage) both in
+            subst (Moves (Here p) t) (sym (before_step vars done (point n) (behind vars p) t each.0 each.1))
+            (before_moves p t fits each.0 each.1)
+        by false other =
+            subst (Moves (Here p) t) (sym (else_step vars done (point n) (behind vars p) t other))
+            (other_moves p t fits kept other (strategy.step vars (behind vars p) t)
+            (parts.moves vars p t fits.3 kept.2))
+
+  -- at every place
+  pub moves : (p : Place) (t : Lexeme) → FitsPlace p → KeepsPlace vars p → Moves p t (step vars (at_place vars p) t)
+  moves Outside t fits kept = outside_moves t
+  moves (ToBefore s w) t fits kept = stopped_moves s w t t.kind refl fits kept
+  moves (Inside s w n p) t fits kept = inside_moves s w n p t fits kept

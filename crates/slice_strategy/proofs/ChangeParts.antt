@@ -1,0 +1,340 @@
+-- Where the reader stands behind each part of a change script, and what its tokens show.
+use Rattle.std.proofs.Common.{◌≡◌, ◌∙◌, inl, inr, ◌<◌, nat_le, nat_lt, Bool, true, false, if◌then◌else◌}
+use Rattle.std.proofs.Common.{List, [], ◌∷◌, ◌++◌, length, Some, None, Option, Result, Ok, Err, ap, refl}
+use Rattle.std.proofs.Common.{sym, subst, arith}
+use Rattle.std.proofs.lemmas.Bool.{leb-true, leb-false, ltb-true, ltb-false}
+use Rattle.mfotl_lex.specs.declared.kind.Kind.TheVariants.{Word}
+use Rattle.mfotl_lex.specs.FirstFault.{◌>>=◌, run}
+use Rattle.mfotl_lex.specs.Lexemes.{Lexeme}
+use Rattle.mfotl_lex.proofs.FirstFaultLaws.{run-append, run_none}
+use Rattle.mfotl_lex.proofs.Verdicts as layer
+use Rattle.mfotl_lex.proofs.Verdicts.{breaks, then_judged, judged_ok, judged_rule, kept_ok, judged_as}
+use Rattle.mfotl_model.specs.declared.policy.Var.{Var}
+use Rattle.slice_strategy.specs.declared.change.Change.{Change as ChangeOf}
+use Rattle.slice_strategy.specs.declared.change.ChangeFault.{ChangeFault}
+use Rattle.slice_strategy.specs.declared.change.ChangeFault.TheVariants.{Strategy, FallingChange, TooManyChanges}
+use Rattle.slice_strategy.specs.declared.fault.StrategyFault.{StrategyFault}
+use Rattle.slice_strategy.specs.declared.fault.StrategyFault.TheVariants.{Syntax}
+use Rattle.slice_strategy.specs.declared.script.Current.{Current}
+use Rattle.slice_strategy.specs.ChangeCauses.{IsCause}
+use Rattle.slice_strategy.specs.ChangeGrammar.{Script, NoChange, Change, IsBefore, IsNumber, FitsScript}
+use Rattle.slice_strategy.specs.ChangeGrammar.{spell_script}
+use Rattle.slice_strategy.specs.ChangeReading.{ScriptOf, lifted, within, interrupted, with_current, falls, opened}
+use Rattle.slice_strategy.specs.ChangeReading.{decided, step, nothing_read}
+use Rattle.slice_strategy.specs.ChangeRules.{point, changes_of, IsNotBelow, KeepsScript}
+use Rattle.slice_strategy.specs.Grammar.{Entries, NoEntry, Part, Whole, FitsPart, spell_part}
+use Rattle.slice_strategy.specs.Limits.{max_changes}
+use Rattle.slice_strategy.specs.Reading as strategy
+use Rattle.slice_strategy.specs.Reading.{Partial, Between, ended}
+use Rattle.slice_strategy.proofs.Moves as strategies
+use Rattle.slice_strategy.proofs.Moves.{AreFew, so_far, behind, ended_judged}
+use Rattle.slice_strategy.proofs.PartReads.{KeepsPart, few_kept, kept_whole, few_of, part_read}
+use Rattle.slice_strategy.proofs.ChangeRuns.{IsNoBefore, alike, before_step, whole_begins}
+
+-- a fault of a rule beside the grammar
+abbrev pub IsRule : ChangeFault → Type 0
+IsRule (Strategy fault) = strategies.IsRule fault
+IsRule _ = Unit {0}
+
+-- no token; whole changes and a `before`; or whole changes, a `before`, a number and a part of a strategy
+pub data Place : Type 0 where
+  Outside : Place
+  ToBefore : Script → Lexeme → Place
+  Inside : Script → Lexeme → Lexeme → Part → Place
+
+abbrev pub FitsPlace : Place → Type 0
+FitsPlace Outside = Unit {0}
+FitsPlace (ToBefore s w) = FitsScript s × IsBefore w
+FitsPlace (Inside s w n p) = FitsScript s × IsBefore w × IsNumber n × FitsPart p × IsNoBefore p
+
+-- up to the number
+abbrev pub spell_number : Script → Lexeme → Lexeme → List Lexeme
+spell_number s w n = (spell_script s ++ w ∷ []) ++ n ∷ []
+
+abbrev pub spell_place : Place → List Lexeme
+spell_place Outside = []
+spell_place (ToBefore s w) = spell_script s ++ w ∷ []
+spell_place (Inside s w n p) = spell_number s w n ++ spell_part p
+
+module _ (vars : List Var) where
+  -- the changes before the last one, and the last one at its end
+  abbrev pub done_of : Script → List ChangeOf
+  done_of NoChange = []
+  done_of (Change s w n es) = changes_of vars s
+
+  abbrev pub current_of : Script → Option Current
+  current_of NoChange = None
+  current_of (Change s w n es) = Some (record { number = point n; reader = so_far vars es Between })
+
+  abbrev pub stopped : Script → Lexeme → ScriptOf
+  stopped s w = record { done = done_of s; current = current_of s; before = Some w }
+
+  abbrev pub inside_of : Script → Lexeme → Part → ScriptOf
+  inside_of s n p = within (changes_of vars s) (point n) (behind vars p)
+
+  -- where the reader stands
+  abbrev pub at_place : Place → ScriptOf
+  at_place Outside = nothing_read
+  at_place (ToBefore s w) = stopped s w
+  at_place (Inside s w n p) = inside_of s n p
+
+  -- a change of this number may come
+  abbrev pub MayCome : Script → Lexeme → Type 0
+  MayCome s n = IsNotBelow s n × (length (changes_of vars s) < max_changes)
+
+  -- the rules that are kept, where the last entry isn't at its end
+  abbrev pub KeepsPlace : Place → Type 0
+  KeepsPlace Outside = Unit {0}
+  KeepsPlace (ToBefore s w) = KeepsScript vars s
+  KeepsPlace (Inside s w n p) = KeepsScript vars s × MayCome s n × KeepsPart vars p
+
+  pub with_last : (s : Script) → with_current (done_of s) (current_of s) ≡ changes_of vars s
+  with_last NoChange = refl
+  with_last (Change s w n es) = refl
+
+  abbrev Told : List Lexeme → Result ScriptOf ChangeFault
+  Told ts = run (step vars) ts nothing_read
+
+  abbrev pub Judged : Type 0 → Result ScriptOf ChangeFault → ScriptOf → Type 0
+  Judged rules r s = layer.Judged IsRule rules r s
+
+  -- with the cause
+  abbrev pub IsCaused : List Lexeme → Lexeme → ChangeFault → Type 0
+  IsCaused front t fault = IsRule fault × IsCause vars front t fault
+
+  pub told : (front : List Lexeme) (t : Lexeme) (rules : Type 0) (r : Result ScriptOf ChangeFault) (s : ScriptOf)
+      → layer.Judged (IsCaused front t) rules r s → Judged rules r s
+  told front t rules r s (inl kept) = inl kept
+  told front t rules r s (inr b) =
+      inr (record { broken = b.broken; fault = b.fault; is_rule = b.is_rule.0; shown = b.shown })
+
+  -- what the reader of strategies shows, the reader of scripts does
+  pub lifted_judged : {A : Type 0} (rules : Type 0) (r : Result A StrategyFault) (x : A) (f : A → ScriptOf)
+      → layer.Judged strategies.IsRule rules r x
+      → Judged rules (lifted r >>= λ q. Ok (f q)) (f x)
+  lifted_judged rules r x f (inl kept) = inl (kept.0, ap (λ r. lifted r >>= λ q. Ok (f q)) kept.1)
+  lifted_judged rules r x f (inr b) =
+      inr (record {
+        broken = b.broken;
+        fault = Strategy b.fault;
+        is_rule = b.is_rule;
+        shown = ap (λ r. lifted r >>= λ q. Ok (f q)) b.shown;
+      })
+
+  all_of : (r : Result ScriptOf ChangeFault) → (r >>= λ x. Ok x) ≡ r
+  all_of (Ok x) = refl
+  all_of (Err fault) = refl
+
+  bound_as : (r : Result ScriptOf ChangeFault) (f g : ScriptOf → Result ScriptOf ChangeFault)
+      → ((s : ScriptOf) → f s ≡ g s) → (r >>= f) ≡ (r >>= g)
+  bound_as (Ok s) f g same = same s
+  bound_as (Err fault) f g same = refl
+
+  one_token : (t : Lexeme) (s : ScriptOf) → run (step vars) (t ∷ []) s ≡ step vars s t
+  unfolding run
+  one_token t s = all_of (step vars s t)
+
+  one_more : (front : List Lexeme) (t : Lexeme) → Told (front ++ t ∷ []) ≡ (Told front >>= λ s. step vars s t)
+  one_more front t =
+      run-append (step vars) front (t ∷ []) nothing_read
+      ∙ bound_as (Told front) (λ s. run (step vars) (t ∷ []) s) (λ s. step vars s t) (λ s. one_token t s)
+
+  -- the changes that are whole, up to the end of the last entry
+  abbrev pub at_whole : Script → ScriptOf
+  at_whole NoChange = nothing_read
+  at_whole (Change s w n es) = inside_of s n (Whole es)
+
+  abbrev pub KeepsWhole : Script → Type 0
+  KeepsWhole NoChange = Unit {0}
+  KeepsWhole (Change s w n es) = KeepsScript vars s × MayCome s n × KeepsPart vars (Whole es)
+
+  abbrev pub FewIn : Script → Type 0
+  FewIn NoChange = Unit {0}
+  FewIn (Change s w n es) = AreFew vars es
+
+  pub kept_of : (s : Script) → KeepsWhole s → FewIn s → KeepsScript vars s
+  kept_of NoChange k few = tt
+  kept_of (Change s w n es) k few = (k.0, k.1.0, k.1.1, few_kept vars es k.2 few)
+
+  pub whole_of : (s : Script) → KeepsScript vars s → KeepsWhole s × FewIn s
+  whole_of NoChange k = (tt, tt)
+  whole_of (Change s w n es) k = ((k.0, (k.1, k.2), kept_whole vars es k.3), few_of vars es k.3)
+
+  -- a `before` behind whole changes
+  starts_so : (w : Lexeme) → IsBefore w → step vars nothing_read w ≡ Ok (stopped NoChange w)
+  unfolding step
+  starts_so w is =
+      ap (λ b. if b then Ok (stopped NoChange w) else Err (Strategy (Syntax w.at))) is
+
+  before_read : (s : Script) (w : Lexeme) → FitsScript s → IsBefore w
+      → Judged (FewIn s) (step vars (at_whole s) w) (stopped s w)
+  before_read NoChange w fits is = inl (tt, starts_so w is)
+  before_read (Change s v n es) w fits is =
+      let done = changes_of vars s in
+      let p = behind vars (Whole es) in
+      let t : Lexeme = record { kind = Word; at = 0; text = [] } in
+      subst (λ r. Judged (AreFew vars es) r (stopped (Change s v n es) w))
+      (sym (before_step vars done (point n) p w is (whole_begins vars done (point n) es)))
+      (lifted_judged (AreFew vars es) (ended p.entries p.stage) (so_far vars es Between)
+      (interrupted done (point n) w)
+      (strategies_told t es (ended_judged vars es fits.3 t (λ comma. cc))))
+    where
+      strategies_told : (t : Lexeme) (es : Entries)
+          → layer.Judged (strategies.IsCaused vars (spell_part (Whole es)) t) (AreFew vars es)
+          (ended (behind vars (Whole es)).entries (behind vars (Whole es)).stage) (so_far vars es Between)
+          → layer.Judged strategies.IsRule (AreFew vars es)
+          (ended (behind vars (Whole es)).entries (behind vars (Whole es)).stage) (so_far vars es Between)
+      strategies_told t es (inl kept) = inl kept
+      strategies_told t es (inr b) =
+          inr (record { broken = b.broken; fault = b.fault; is_rule = b.is_rule.0; shown = b.shown })
+
+  -- a number behind a `before`
+  abbrev pub due_by : Script → Lexeme → Lexeme → Bool → Bool → Result ScriptOf ChangeFault
+  due_by s w t low full =
+      if low then Err (FallingChange t.at)
+      else if full then Err (TooManyChanges w.at)
+      else Ok (inside_of s t (Whole NoEntry))
+
+  pub number_due : (s : Script) (w t : Lexeme) → IsNumber t
+      → step vars (stopped s w) t
+      ≡ due_by s w t (falls (current_of s) (point t)) (nat_le max_changes (length (changes_of vars s)))
+  unfolding step
+  number_due s w t is =
+      ap (decided vars (done_of s) (current_of s) w t) is.0
+      ∙ ap (λ b. if b then Err (Strategy (Syntax t.at)) else opened vars (done_of s) (current_of s) w.at t.at
+      (point t))
+      is.1
+      ∙ ap (λ all. if falls (current_of s) (point t) then Err (FallingChange t.at)
+      else if nat_le max_changes (length all) then Err (TooManyChanges w.at)
+      else Ok (within all (point t) (strategy.nothing_read vars))) (with_last s)
+
+  pub number_judged : (s : Script) (w t : Lexeme) → FitsScript s → IsBefore w → IsNumber t
+      → layer.Judged (IsCaused (spell_script s ++ w ∷ []) t) (MayCome s t) (step vars (stopped s w) t)
+      (inside_of s t (Whole NoEntry))
+  number_judged s w t fits before is =
+      subst (λ r. layer.Judged (IsCaused (spell_script s ++ w ∷ []) t) (MayCome s t) r (inside_of s t
+      (Whole NoEntry)))
+      (sym (number_due s w t is))
+      (by_script s fits)
+    where
+      full_by : (s : Script) → FitsScript s → IsNotBelow s t → (full : Bool)
+          → nat_le max_changes (length (changes_of vars s)) ≡ full
+          → layer.Judged (IsCaused (spell_script s ++ w ∷ []) t) (MayCome s t) (due_by s w t false full)
+          (inside_of s t (Whole NoEntry))
+      full_by s fits above true e =
+          let many = leb-true max_changes (length (changes_of vars s)) e in
+          inr (breaks _ (MayCome s t) (TooManyChanges w.at) (
+            tt,
+            record {
+              script = s;
+              word = w;
+              spelled = record { fits = fits; before = before; parts = refl };
+              numbered = is;
+              kept = above;
+              many = many;
+              place = refl;
+            },
+          )
+          (λ may. omega (arith, many, may.1)))
+      full_by s fits above false e =
+          inl ((above, leb-false max_changes (length (changes_of vars s)) e), refl)
+
+      fall_by : (s : Script) (v n : Lexeme) (es : Entries) → FitsScript (Change s v n es) → (low : Bool)
+          → nat_lt (point t) (point n) ≡ low
+          → layer.Judged (IsCaused (spell_script (Change s v n es) ++ w ∷ []) t) (MayCome (Change s v n es) t)
+          (due_by (Change s v n es) w t low (nat_le max_changes (length (changes_of vars (Change s v n es)))))
+          (inside_of (Change s v n es) t (Whole NoEntry))
+      fall_by s v n es fits true e =
+          let low = ltb-true (point t) (point n) e in
+          inr (breaks _ (MayCome (Change s v n es) t) (FallingChange t.at) (
+            tt,
+            record {
+              script = s;
+              first = v;
+              count = n;
+              entries = es;
+              word = w;
+              spelled = record { fits = fits; before = before; parts = refl };
+              numbered = is;
+              low = low;
+              place = refl;
+            },
+          )
+          (λ may. omega (arith, low, may.0)))
+      fall_by s v n es fits false e =
+          full_by (Change s v n es) fits (ltb-false (point t) (point n) e)
+          (nat_le max_changes (length (changes_of vars (Change s v n es)))) refl
+
+      by_script : (s : Script) → FitsScript s
+          → layer.Judged (IsCaused (spell_script s ++ w ∷ []) t) (MayCome s t)
+          (due_by s w t (falls (current_of s) (point t)) (nat_le max_changes (length (changes_of vars s))))
+          (inside_of s t (Whole NoEntry))
+      by_script NoChange fits = full_by NoChange fits tt (nat_le max_changes 0) refl
+      by_script (Change s v n es) fits = fall_by s v n es fits (nat_lt (point t) (point n)) refl
+
+  then_token : (front : List Lexeme) (t : Lexeme) (rules more all : Type 0) (p q : ScriptOf)
+      → (rules → more → all) → (all → rules × more) → Judged rules (Told front) p
+      → (rules → Judged more (step vars p t) q) → Judged all (Told (front ++ t ∷ [])) q
+  then_token front t rules more all p q to from before next =
+      subst (λ r. Judged all r q) (sym (one_more front t))
+      (then_judged IsRule rules (Told front) p more all (λ s. step vars s t) q to from before next)
+
+  stop_read : (s : Script) (w : Lexeme) → FitsScript s → IsBefore w → Judged (KeepsWhole s) (Told
+      (spell_script s)) (at_whole s)
+      → Judged (KeepsScript vars s) (Told (spell_script s ++ w ∷ [])) (stopped s w)
+  stop_read s w fits is before =
+      then_token (spell_script s) w (KeepsWhole s) (FewIn s) (KeepsScript vars s) (at_whole s) (stopped s w)
+      (kept_of s) (whole_of s) before (λ k. before_read s w fits is)
+
+  number_read : (s : Script) (w n : Lexeme) → FitsScript s → IsBefore w → IsNumber n
+      → Judged (KeepsScript vars s) (Told (spell_script s ++ w ∷ [])) (stopped s w)
+      → Judged (KeepsScript vars s × MayCome s n) (Told (spell_number s w n)) (inside_of s n (Whole NoEntry))
+  number_read s w n fits is count before =
+      then_token (spell_script s ++ w ∷ []) n (KeepsScript vars s) (MayCome s n) (KeepsScript vars s × MayCome s n)
+      (stopped s w) (inside_of s n (Whole NoEntry)) (λ a b. (a, b)) (λ k. (k.0, k.1)) before
+      (λ k. told (spell_script s ++ w ∷ []) n (MayCome s n) (step vars (stopped s w) n) (inside_of s n
+      (Whole NoEntry))
+      (number_judged s w n fits is count))
+
+  inside_read : (s : Script) (w n : Lexeme) (p : Part) → FitsPlace (Inside s w n p)
+      → Judged (KeepsWhole s) (Told (spell_script s)) (at_whole s)
+      → Judged (KeepsPlace (Inside s w n p)) (Told (spell_place (Inside s w n p))) (inside_of s n p)
+  inside_read s w n p fits before =
+      let number = number_read s w n fits.0 fits.1 fits.2 (stop_read s w fits.0 fits.1 before) in
+      let done = changes_of vars s in
+      let start = inside_of s n (Whole NoEntry) in
+      subst (λ r. Judged (KeepsPlace (Inside s w n p)) r (inside_of s n p))
+      (sym (run-append (step vars) (spell_number s w n) (spell_part p) nothing_read))
+      (then_judged IsRule (KeepsScript vars s × MayCome s n) (Told (spell_number s w n)) start (KeepsPart vars p)
+      (KeepsPlace (Inside s w n p)) (λ q. run (step vars) (spell_part p) q) (inside_of s n p)
+      (λ a b. (a.0, a.1, b)) (λ k. ((k.0, k.1), k.2)) number
+      (λ a. subst (λ r. Judged (KeepsPart vars p) r (inside_of s n p)) (sym (alike vars done
+      (point n) p fits.3 fits.4))
+      (lifted_judged (KeepsPart vars p) (run (strategy.step vars) (spell_part p) (strategy.nothing_read vars))
+      (behind vars p) (within done (point n)) (part_read vars p fits.3))))
+
+  pub script_read : (s : Script) → FitsScript s → Judged (KeepsWhole s) (Told (spell_script s)) (at_whole s)
+  script_read NoChange fits = inl (tt, run_none (step vars) nothing_read)
+  script_read (Change s w n es) fits =
+      judged_as IsRule (KeepsPlace (Inside s w n (Whole es))) (Told (spell_script (Change s w n es)))
+      (inside_of s n (Whole es)) (KeepsWhole (Change s w n es)) (inside_of s n (Whole es))
+      (λ k. k) (λ k. k) refl
+      (inside_read s w n (Whole es) (fits.0, fits.1, fits.2, fits.3, tt) (script_read s fits.0))
+
+  -- every place
+  pub place_read : (p : Place) → FitsPlace p → Judged (KeepsPlace p) (Told (spell_place p)) (at_place p)
+  place_read Outside fits = inl (tt, run_none (step vars) nothing_read)
+  place_read (ToBefore s w) fits = stop_read s w fits.0 fits.1 (script_read s fits.0)
+  place_read (Inside s w n p) fits = inside_read s w n p fits (script_read s fits.0)
+
+  -- where the reader stands that shows no fault
+  pub stands_at : (p : Place) (s : ScriptOf) → FitsPlace p → Told (spell_place p) ≡ Ok s
+      → KeepsPlace p × (s ≡ at_place p)
+  stands_at p s fits ran =
+      judged_ok IsRule (KeepsPlace p) (Told (spell_place p)) (at_place p) s (place_read p fits) ran
+
+  -- the tokens of whole changes show no Syntax
+  pub shows_rule : (s : Script) (fault : ChangeFault) → FitsScript s → Told (spell_script s) ≡ Err fault
+      → IsRule fault
+  shows_rule s fault fits ran =
+      judged_rule IsRule (KeepsWhole s) (Told (spell_script s)) (at_whole s) fault (script_read s fits) ran

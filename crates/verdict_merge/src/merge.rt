@@ -1,0 +1,25 @@
+//! Rows of many workers, merged.
+ghost use Rattle.std.specs.Prelude.{◌≡◌, IfOk, IsPermutation};
+ghost use Rattle.std.specs.List.{flat_map};
+ghost use Rattle.mfotl_model.specs.Ascending.{ascending};
+ghost use Rattle.mfotl_model.specs.Values.{row_cmp};
+
+use itertools::Itertools;
+use mfotl_model::{Row, RowList};
+use std::alloc::{AllocError, Global};
+
+/// All rows of these lists in ascending order, each once.
+pub fn merged(alloc: Global, lists: Vec<Vec<Row>>) -> Result<RowList, AllocError>
+    ensures { IfOk result (λ rows. rows ≡ ascending row_cmp (flat_map (λ list. list.items) lists.items)) }
+{
+    let rows = all_rows(alloc, lists)?;
+    Ok(RowList::in_order(rows))
+}
+
+// All rows of these lists. Where each list ascends they do.
+fn all_rows(alloc: Global, lists: Vec<Vec<Row>>) -> Result<Vec<Row>, AllocError>
+    ensures { IfOk result (λ rows. IsPermutation (flat_map (λ list. list.items) lists.items) rows.items) }
+{
+    let rows = lists.into_iter().kmerge(alloc)?;
+    rows.collect_vec(alloc)
+}
