@@ -1,0 +1,233 @@
+-- What a Gather emits is the verdict due.
+use Rattle.std.proofs.Common.{◌≡◌, ℕ, ◌<◌, ◌≤◌, Bool, true, false, cond, nat_eq, Option, Some, None, List, [], ◌∷◌}
+use Rattle.std.proofs.Common.{◌++◌}
+use Rattle.std.proofs.Common.{length, map, filter, slice_index, sym, refl, ap, ◌∙◌, subst, arith, eqb-true, eq-eqb}
+use Rattle.std.proofs.lemmas.List.{length-map}
+use Rattle.std.specs.List.{AllByRecursion, find}
+use Rattle.std.specs.List.Sorted.{IsStrictlySortedBy}
+use Rattle.mfotl_model.proofs.AscendingLemmas.{sorted_ascending}
+use Rattle.mfotl_model.proofs.RowLemmas.{row_exact}
+use Rattle.mfotl_model.specs.Ascending.{ascending}
+use Rattle.mfotl_model.specs.Log.{times}
+use Rattle.mfotl_model.specs.Strategies.{Strategy, workers_of}
+use Rattle.mfotl_model.specs.Values.{row_cmp, row_total}
+use Rattle.mfotl_model.specs.declared.event.TimePoint.{TimePoint}
+use Rattle.mfotl_model.specs.declared.value.Value.{Value}
+use Rattle.mfotl_model.specs.FreeVariables.{fv}
+use Rattle.mfotl_model.specs.Violations.{all_rows as all_of}
+use Rattle.monitorable.specs.CoreForms.{CoreForm, meaning}
+use Rattle.monitorable.specs.SatisfyingRows.{core_domain, satisfies}
+use Rattle.slice_strategy.specs.Slicers.{full_row}
+use Rattle.slice_strategy.specs.SlicerLemmas.{owner_below}
+use Rattle.verdict_merge.proofs.OwnerLemmas.{owners_merge}
+use Rattle.verdict_merge.specs.Gathers.{GatherOf, all_rows, at_point, complete_ts, rows_at, ts_among, workers_in}
+use Rattle.verdict_merge.specs.Laws.{IsPartition}
+use Rattle.verdict_merge.specs.declared.rows.Rows.{Rows}
+use Rattle.verdict_merge.specs.declared.rows.Verdict.{Verdict}
+use Rattle.rescale_core.proofs.Fitting.{every_filter, every_map}
+use Rattle.rescale_core.proofs.Settling.{one_slice_settles, slice_final}
+use Rattle.rescale_core.specs.Lines.{AreSound, Due, Spot, first_spot, moved}
+use Rattle.rescale_core.specs.Lines.Due.{Slicing}
+use Rattle.rescale_core.specs.Soundly.{IsSound, KnownRow}
+use Rattle.rescale_core.specs.Workers.{IsFor, owned_by, owner, settled_in, violations_at}
+use Rattle.rescale_core.specs.declared.item.Entry.{Entry}
+use Rattle.rescale_core.specs.declared.item.Entry.TheVariants.{Point, Change}
+use Rattle.rescale_core.specs.Worlds.{World, IsGathered, slice_at, spot_in, verdict_on}
+
+-- ---- when a Gather is complete
+
+first_found : (n : ℕ) (rs : List Rows) (first : Rows) (rest : List Rows) → rows_at n rs ≡ first ∷ rest
+    → find (at_point n) rs ≡ Some first
+first_found n [] first rest e = cc
+first_found n (r ∷ rs) first rest e = at (at_point n r) e (first_found n rs first rest)
+  where
+    at : (b : Bool) → cond b (r ∷ rows_at n rs) (rows_at n rs) ≡ first ∷ rest
+        → (rows_at n rs ≡ first ∷ rest → find (at_point n) rs ≡ Some first)
+        → cond b (Some r) (find (at_point n) rs) ≡ Some first
+    at true e next = let same : r ≡ first = cc in ap Some same
+    at false e next = next e
+
+none_found : (n : ℕ) (rs : List Rows) → rows_at n rs ≡ [] → find (at_point n) rs ≡ None
+none_found n [] e = refl
+none_found n (r ∷ rs) e = at (at_point n r) e (none_found n rs)
+  where
+    at : (b : Bool) → cond b (r ∷ rows_at n rs) (rows_at n rs) ≡ [] → (rows_at n rs ≡ [] → find (at_point n) rs ≡ None)
+        → cond b (Some r) (find (at_point n) rs) ≡ None
+    at true e next = cc
+    at false e next = next e
+
+-- the Rows of the next time-point are there, as many as their generation has workers
+pub record IsComplete (g : GatherOf) (ts : ℕ) : Type 0 where
+  pub first : Rows
+  pub rest : List Rows
+  pub rows : rows_at g.next g.added ≡ first ∷ rest
+  pub all : length (rows_at g.next g.added) ≡ workers_in g.begun first.generation
+  pub time : first.ts ≡ ts
+
+pub complete_some : (g : GatherOf) (ts : ℕ) → complete_ts g ≡ Some ts → IsComplete g ts
+complete_some g ts e = by_rows (rows_at g.next g.added) refl
+  where
+    by_rows : (rs : List Rows) → rows_at g.next g.added ≡ rs → IsComplete g ts
+    by_rows [] is = let no_first = none_found g.next g.added is in
+        let clash : None ≡ Some ts = sym (ap (ts_among g) no_first) ∙ e in cc
+    by_rows (first ∷ rest) is =
+        by_count (nat_eq (length (rows_at g.next g.added)) (workers_in g.begun first.generation)) refl
+        (sym (ap (ts_among g) (first_found g.next g.added first rest is)) ∙ e)
+      where
+        by_count : (b : Bool) → nat_eq (length (rows_at g.next g.added)) (workers_in g.begun first.generation) ≡ b
+            → cond b (Some first.ts) None ≡ Some ts → IsComplete g ts
+        by_count true same s =
+            record {
+              first = first;
+              rest = rest;
+              rows = is;
+              all = eqb-true (length (rows_at g.next g.added)) (workers_in g.begun first.generation) same;
+              time = cc;
+            }
+        by_count false same s = cc
+
+-- with all Rows a Gather is complete
+pub complete_with : (g : GatherOf) (first : Rows) (rest : List Rows) → rows_at g.next g.added ≡ first ∷ rest
+    → length (rows_at g.next g.added) ≡ workers_in g.begun first.generation → complete_ts g ≡ Some first.ts
+complete_with g first rest is all =
+    ap (ts_among g) (first_found g.next g.added first rest is)
+    ∙ ap (λ b. cond b (Some first.ts) None)
+    (eq-eqb (length (rows_at g.next g.added)) (workers_in g.begun first.generation) all)
+
+-- ---- the rows of all workers
+
+violations_ascend : (c : CoreForm) (log : List TimePoint) (i : ℕ) → IsStrictlySortedBy row_cmp (violations_at c log i)
+unfolding violations_at
+violations_ascend c log i =
+    sorted_ascending row_total row_exact
+    (filter (satisfies log c i) (all_of (length (fv (meaning c))) (core_domain log c)))
+
+all_owned : (s : Strategy) (rows : List (List Value)) → 0 < workers_of s
+    → AllByRecursion (λ row. owner s row < workers_of s) rows
+unfolding owner
+all_owned s [] some = tt
+all_owned s (row ∷ rows) some = (owner_below 0 s (full_row row) some, all_owned s rows some)
+
+pub below_of : (n : ℕ) (rs : List Rows) → AllByRecursion (λ (r : Rows). r.worker < n) rs
+    → AllByRecursion (λ k. k < n) (map (λ (r : Rows). r.worker) rs)
+below_of n [] e = tt
+below_of n (r ∷ rs) e = (e.0, below_of n rs e.1)
+
+-- the strategy of a slice is for the core
+pub slice_strategy : (c : CoreForm) (es : List Entry) (a : Spot) (n g : ℕ) (s : Strategy) (log : List TimePoint)
+    (p : TimePoint) → IsFor c a.strategy → AreSound c a es → slice_at a es n ≡ Some (Slicing g s log p) → IsFor c s
+slice_strategy c [] a n g s log p f sound h = cc
+slice_strategy c (Change x ∷ es) a n g s log p f sound h =
+    slice_strategy c es (moved a (Change x)) n g s log p sound.0 sound.1 h
+slice_strategy c (Point q ∷ es) a n g s log p f sound h =
+    by_test (nat_eq n (length a.points)) h (slice_strategy c es (moved a (Point q)) n g s log p f sound.1)
+  where
+    by_test : (b : Bool)
+        → cond b (Some (Slicing a.generation a.strategy a.points q)) (slice_at (moved a (Point q)) es n)
+        ≡ Some (Slicing g s log p)
+        → (slice_at (moved a (Point q)) es n ≡ Some (Slicing g s log p) → IsFor c s) → IsFor c s
+    by_test true h next = let same : a.strategy ≡ s = cc in subst (IsFor c) same f
+    by_test false h next = next h
+
+module _ (w : World) (sound : IsSound w) (i : ℕ) where
+  abbrev f : ℕ → Option Due
+  f = slice_at (first_spot w.first) w.read
+
+  abbrev points : List TimePoint
+  points = (spot_in w).points
+
+  -- the rows are the worker's own of the violations on the whole log
+  pub record DueRow (g : ℕ) (s : Strategy) (log : List TimePoint) (p : TimePoint) (r : Rows) : Type 0 where
+    pub ts : r.ts ≡ slice_index (times points) i
+    pub rows : r.rows ≡ owned_by s r.worker (violations_at w.core points i)
+    pub near : r.worker < workers_of s
+    pub generation : r.generation ≡ g
+
+  due_row : (g : ℕ) (s : Strategy) (log : List TimePoint) (p : TimePoint)
+      → f (length log) ≡ Some (Slicing g s log p) → settled_in w.core log ≤ i → i < settled_in w.core (log ++ p ∷ [])
+      → (r : Rows) → KnownRow f w.core r × (nat_eq r.point i ≡ true) → DueRow g s log p r
+  due_row g s log p is low high r k =
+      let at : r.point ≡ i = eqb-true r.point i k.1 in
+      let x = k.0 in
+      let low2 : settled_in w.core x.log ≤ i = (let h = x.low in omega arith) in
+      let high2 : i < settled_in w.core (x.log ++ x.point ∷ []) = (let h = x.high in omega arith) in
+      let same : Slicing r.generation x.strategy x.log x.point ≡ Slicing g s log p =
+      one_slice_settles w.core w.read (first_spot w.first) i (length x.log) (length log) r.generation g x.strategy s
+      x.log log x.point p sound.read x.is is low2 high2 low high in
+      let s_is : x.strategy ≡ s = cc in
+      let g_is : r.generation ≡ g = cc in
+      let final = slice_final w.core sound.first.fits w.read (first_spot w.first) i (length x.log) r.generation
+      x.strategy x.log x.point sound.read x.is high2 in
+      record {
+        ts = ap (λ (y : Rows). y.ts) x.row ∙ ap (λ n. slice_index (times (x.log ++ x.point ∷ [])) n) at ∙ final.1;
+        rows = ap (λ (y : Rows). y.rows) x.row
+            ∙ ap (λ n. owned_by x.strategy r.worker (violations_at w.core (x.log ++ x.point ∷ []) n)) at
+            ∙ ap (λ v. owned_by x.strategy r.worker v) final.0
+            ∙ ap (λ t. owned_by t r.worker (violations_at w.core points i)) s_is;
+        near = subst (λ t. r.worker < workers_of t) s_is x.near;
+        generation = g_is;
+      }
+
+  pub due_all : (g : ℕ) (s : Strategy) (log : List TimePoint) (p : TimePoint)
+      → f (length log) ≡ Some (Slicing g s log p) → settled_in w.core log ≤ i → i < settled_in w.core (log ++ p ∷ [])
+      → AllByRecursion (DueRow g s log p) (rows_at i w.rows)
+  due_all g s log p is low high =
+      every_map (λ r. KnownRow f w.core r × (nat_eq r.point i ≡ true)) (DueRow g s log p) (rows_at i w.rows)
+      (due_row g s log p is low high)
+      (every_filter (KnownRow f w.core) (λ r. nat_eq r.point i) w.rows sound.rows_known)
+
+  -- all Rows for a position are by owner a partition of its violations
+  pub gathered_partition : (all : IsGathered w i)
+      → IsPartition (owner all.1) (workers_of all.1) (rows_at i w.rows) (violations_at w.core points i)
+  gathered_partition all =
+      let s : Strategy = all.1 in
+      let D = DueRow all.0 s all.2 all.3 in
+      let due : AllByRecursion D (rows_at i w.rows) = due_all all.0 s all.2 all.3 all.4 all.5 all.6 in
+      let rows : List (List Value) = violations_at w.core points i in
+      record {
+        owned = all_owned s rows (slice_strategy w.core w.read (first_spot w.first) (length all.2) all.0 s all.2 all.3
+            sound.first sound.read all.4).workers.some;
+        parts = every_map D (λ (r : Rows). r.rows ≡ owned_by s r.worker rows) (rows_at i w.rows) (λ r d. d.rows) due;
+        near = below_of (workers_of s) (rows_at i w.rows)
+            (every_map D (λ (r : Rows). r.worker < workers_of s) (rows_at i w.rows) (λ r d. d.near) due);
+        apart = sound.rows_apart i;
+        whole = length-map (rows_at i w.rows) (λ (r : Rows). r.worker) ∙ all.7;
+      }
+
+  known_first : (first : Rows) (rest : List Rows) → rows_at i w.rows ≡ first ∷ rest
+      → KnownRow f w.core first × (nat_eq first.point i ≡ true)
+  known_first first rest e =
+      let known = every_filter (KnownRow f w.core) (λ r. nat_eq r.point i) w.rows sound.rows_known in
+      (subst (AllByRecursion (λ r. KnownRow f w.core r × (nat_eq r.point i ≡ true))) e known).0
+
+  -- all Rows for a position, merged, are the verdict on it, which may be emitted
+  pub merged_due : (v : Verdict) (count : ℕ → ℕ)
+      → ((n g : ℕ) (s : Strategy) (log : List TimePoint) (p : TimePoint) → f n ≡ Some (Slicing g s log p)
+      → count g ≡ workers_of s)
+      → (first : Rows) (rest : List Rows) → rows_at i w.rows ≡ first ∷ rest
+      → length (rows_at i w.rows) ≡ count first.generation
+      → v ≡ record { point = i; ts = first.ts; rows = ascending row_cmp (all_rows (rows_at i w.rows)) }
+      → (v ≡ verdict_on w.core points i) × IsGathered w i
+  merged_due v count counts first rest is whole made =
+      let known = known_first first rest is in
+      let k = known.0 in
+      let at : first.point ≡ i = eqb-true first.point i known.1 in
+      let low : settled_in w.core k.log ≤ i = (let h = k.low in omega arith) in
+      let high : i < settled_in w.core (k.log ++ k.point ∷ []) = (let h = k.high in omega arith) in
+      let s : Strategy = k.strategy in
+      let D = DueRow first.generation s k.log k.point in
+      let all : AllByRecursion D (rows_at i w.rows) =
+      due_all first.generation s k.log k.point k.is low high in
+      let n : length (rows_at i w.rows) ≡ workers_of s =
+      whole ∙ counts (length k.log) first.generation s k.log k.point k.is in
+      let rows : List (List Value) = violations_at w.core points i in
+      let gathered : IsGathered w i = (first.generation, s, k.log, k.point, k.is, low, high, n) in
+      let one : ascending row_cmp (all_rows (rows_at i w.rows)) ≡ rows =
+      owners_merge (owner s) (workers_of s) (rows_at i w.rows) rows (violations_ascend w.core points i)
+      (gathered_partition gathered) in
+      let time : first.ts ≡ slice_index (times points) i = (subst (AllByRecursion D) is all).0.ts in (
+        made
+            ∙ ap (λ t. record { point = i; ts = t; rows = ascending row_cmp (all_rows (rows_at i w.rows)) }) time
+            ∙ ap (λ y. record { point = i; ts = slice_index (times points) i; rows = y }) one,
+        gathered,
+      )

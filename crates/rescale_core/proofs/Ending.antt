@@ -1,0 +1,133 @@
+-- Where no step can be done, all verdicts were emitted.
+use Rattle.std.proofs.Common.{◌≡◌, ◌⊎◌, ℕ, zero, suc, ◌<◌, ◌≤◌, nat_eq, List, [], ◌∷◌, ◌++◌, length, map, drop}
+use Rattle.std.proofs.Common.{take}
+use Rattle.std.proofs.Common.{refl, sym, ap, ◌∙◌, subst, inl, inr, append-nil, arith}
+use Rattle.std.proofs.lemmas.List.{length-map}
+use Rattle.std.specs.List.{list_any}
+use Rattle.mfotl_model.specs.Strategies.{workers_of}
+use Rattle.verdict_merge.proofs.CountLemmas.{at_most}
+use Rattle.verdict_merge.specs.Gathers.{rows_at}
+use Rattle.verdict_merge.specs.declared.rows.Rows.{Rows}
+use Rattle.rescale_core.proofs.Chains.{below}
+use Rattle.rescale_core.proofs.Counting.{at_least}
+use Rattle.rescale_core.proofs.Emitting.{DueRow, below_of, due_all}
+use Rattle.rescale_core.proofs.Fitting.{every_map}
+use Rattle.rescale_core.proofs.Given.{given_there, is_of, kept, on_line, settling, worker_there}
+use Rattle.rescale_core.proofs.LogLemmas.{settled_within}
+use Rattle.rescale_core.proofs.MachineLemmas.{OnlySlices, line_only}
+use Rattle.rescale_core.specs.Cells.{Enabled, IsMachineOf}
+use Rattle.rescale_core.specs.Lines.{Due, first_spot}
+use Rattle.rescale_core.specs.Lines.Due.{Slicing, Parting, Hole}
+use Rattle.rescale_core.specs.Soundly.{IsSound}
+use Rattle.rescale_core.specs.Stages.{Answers}
+use Rattle.rescale_core.specs.Workers.{settled_in}
+use Rattle.rescale_core.specs.Worlds.{World, IsGathered, chance, line_in, spot_in}
+use Rattle.rescale_core.specs.declared.cells.Step.{Step}
+use Rattle.rescale_core.specs.declared.cells.Step.TheVariants as step
+use Rattle.rescale_core.specs.declared.item.Entry.{Entry}
+use Rattle.rescale_core.specs.declared.stage.Machine.{Machine}
+
+drop_only : (n : ℕ) (ds : List Due) → OnlySlices ds → OnlySlices (drop n ds)
+drop_only zero ds o = o
+drop_only (suc n) [] o = tt
+drop_only (suc n) (Slicing g s log p ∷ ds) o = drop_only n ds o
+drop_only (suc n) (Parting t ∷ ds) o = absurd o
+drop_only (suc n) (Hole t j ∷ ds) o = absurd o
+
+dropped_all : {A : Type 0} (n : ℕ) (xs : List A) → drop n xs ≡ [] → length xs ≤ n
+dropped_all zero [] e = omega arith
+dropped_all zero (x ∷ xs) e = cc
+dropped_all (suc n) [] e = omega arith
+dropped_all (suc n) (x ∷ xs) e = let h = dropped_all n xs e in omega arith
+
+taken_all : {A : Type 0} (n : ℕ) (xs : List A) → length xs ≤ n → take n xs ≡ xs
+taken_all zero [] h = refl
+taken_all zero (x ∷ xs) h = absurd (omega arith)
+taken_all (suc n) [] h = refl
+taken_all (suc n) (x ∷ xs) h = ap (λ y. x ∷ y) (taken_all n xs (omega arith))
+
+at_end : (a b : ℕ) → (a < b → ⊥) → b ≤ a
+at_end a b h = by (below a b)
+  where
+    by : (a < b) ⊎ (b ≤ a) → b ≤ a
+    by (inl less) = absurd (h less)
+    by (inr more) = more
+
+module _ (m : Machine) (entries : List Entry) (w : World) (is : IsMachineOf m entries w)
+    (none : (s : Step) → Enabled w m.left.items s → ⊥) where
+  sound : IsSound w
+  sound = is.router.sound
+
+  nothing_left : m.left.items ≡ []
+  nothing_left = at m.left.items refl
+    where
+      at : (es : List Entry) → m.left.items ≡ es → m.left.items ≡ []
+      at [] e = e
+      at (x ∷ es) e = absurd (none step.Read (x, es, e))
+
+  pub all_read : w.read ≡ entries
+  all_read =
+      sym (append-nil w.read) ∙ sym (ap (λ (x : List Entry). w.read ++ x) nothing_left) ∙ is.entries_are
+
+  -- each worker was handed all that it is due
+  all_fed : (k : ℕ) → length (line_in w k) ≤ length (w.seats k).fed
+  all_fed k =
+      dropped_all (length (w.seats k).fed) (line_in w k)
+      (at (drop (length (w.seats k).fed) (line_in w k)) refl
+      (drop_only (length (w.seats k).fed) (line_in w k) (line_only k w.read (first_spot w.first) is.router.unchanged)))
+    where
+      at : (ds : List Due) → drop (length (w.seats k).fed) (line_in w k) ≡ ds
+          → OnlySlices (drop (length (w.seats k).fed) (line_in w k)) → drop (length (w.seats k).fed) (line_in w k) ≡ []
+      at [] e o = e
+      at (Slicing g s log p ∷ ds) e o =
+          absurd (none (step.Feed k) (_, (map (chance w.core k w.pieces) ds, ap (map (chance w.core k w.pieces)) e)))
+      at (Parting t ∷ ds) e o = absurd (subst OnlySlices e o)
+      at (Hole t j ∷ ds) e o = absurd (subst OnlySlices e o)
+
+  -- and all that it gave for it was collected
+  all_back : (k : ℕ) → Answers w.core k (line_in w k) (w.seats k).back
+  all_back k =
+      let fed = all_fed k in
+      let s = sound.seated k in
+      let low = s.taken in
+      let less = s.collected in
+      let taken : length (w.seats k).fed ≤ (w.seats k).taken =
+      at_end (w.seats k).taken (length (w.seats k).fed) (λ h. none (step.Take k) h) in
+      let collected : (w.seats k).taken ≤ (w.seats k).collected =
+      at_end (w.seats k).collected (w.seats k).taken (λ h. none (step.Collect k) h) in
+      subst (λ (ds : List Due). Answers w.core k ds (w.seats k).back)
+      (taken_all (w.seats k).collected (line_in w k) (omega arith)) s.back
+
+  -- so all Rows for each settled position are there
+  all_gathered : (i : ℕ) → i < settled_in w.core (spot_in w).points → IsGathered w i
+  all_gathered i low =
+      let start = settled_within w.core [] in
+      let r = settling w.core w.read (first_spot w.first) i (omega arith) low in
+      let all = due_all w sound i r.generation r.strategy r.log r.point r.is r.low r.high in
+      let D = DueRow w sound i r.generation r.strategy r.log r.point in
+      let n : ℕ = workers_of r.strategy in
+      let workers : List ℕ = map (λ (x : Rows). x.worker) (rows_at i w.rows) in
+      let size : length workers ≡ length (rows_at i w.rows) = length-map (rows_at i w.rows) (λ (x : Rows). x.worker) in
+      let most : length workers ≤ n =
+      at_most n workers (sound.rows_apart i)
+      (below_of n (rows_at i w.rows)
+      (every_map D (λ (x : Rows). x.worker < n) (rows_at i w.rows) (λ x d. d.near) all)) in
+      let least : n ≤ length workers =
+      at_least n workers (λ k near.
+      let on = on_line k w.read (first_spot w.first) (length r.log) r.generation r.strategy r.log r.point near r.is in
+      let given = given_there w.core k i on.before r.generation r.strategy r.log r.point on.behind
+      (w.seats k).back r.low
+      r.high (subst (λ (ds : List Due). Answers w.core k ds (w.seats k).back) on.is (all_back k)) in
+      worker_there k i w.rows
+      (kept (λ (x : Rows). nat_eq x.worker k) (is_of k i) w.rows
+      (ap (list_any (is_of k i)) (sound.seated k).rows ∙ given))) in
+      (r.generation, r.strategy, r.log, r.point, r.is, r.low, r.high, omega arith)
+
+  pub all_emitted : length w.emitted ≡ settled_in w.core (spot_in w).points
+  all_emitted = at (below (length w.emitted) (settled_in w.core (spot_in w).points))
+    where
+      at : (length w.emitted < settled_in w.core (spot_in w).points)
+          ⊎ (settled_in w.core (spot_in w).points ≤ length w.emitted)
+          → length w.emitted ≡ settled_in w.core (spot_in w).points
+      at (inl less) = absurd (none step.Emit (all_gathered (length w.emitted) less))
+      at (inr more) = let most = is.verdicts.settled in omega arith

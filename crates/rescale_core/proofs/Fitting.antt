@@ -1,0 +1,165 @@
+-- What is handed over from the queues fits.
+use Rattle.std.proofs.Common.{◌≡◌, ℕ, zero, suc, ◌+◌, Bool, true, false, cond, ◌&&◌, nat_eq, Option, Some, List, []}
+use Rattle.std.proofs.Common.{◌∷◌, ◌++◌, length, map, filter, sym, refl, ap, ◌∙◌, subst, ⊎_elim, eqb-true}
+use Rattle.mfotl_model.specs.Strategies.{Strategy, workers_of}
+use Rattle.rescale_core.proofs.Chains.{Chain}
+use Rattle.rescale_core.proofs.WorldLemmas.{mapped, AreTurns}
+use Rattle.rescale_core.specs.Lines.{Turn, Due}
+use Rattle.rescale_core.specs.Soundly.{Supplies, Known}
+use Rattle.rescale_core.specs.Stages.{NotIn, Stage, froms_of, IsPieceFor, Meets, stage_after, Fits, Follows}
+use Rattle.rescale_core.specs.Worlds.{nth, for_place, item_of}
+use Rattle.std.specs.List.{AllByRecursion}
+use Rattle.verdict_merge.specs.Laws.{Apart}
+use Rattle.monitorable.specs.CoreForms.{CoreForm}
+use Rattle.rescale_core.specs.declared.piece.Piece.{Piece}
+use Rattle.rescale_core.specs.declared.item.Item.{Item}
+use Rattle.rescale_core.specs.declared.item.Item.TheVariants.{Adopt}
+use Rattle.rescale_core.specs.Lines.Due.{Slicing, Parting, Hole}
+use Rattle.rescale_core.specs.Stages.Stage.{Live, Gone, Filling}
+
+pub every_more : {A : Type 0} (P : A → Type 0) (xs ys : List A) → AllByRecursion P xs → AllByRecursion P ys
+    → AllByRecursion P (xs ++ ys)
+every_more P [] ys a b = b
+every_more P (x ∷ xs) ys a b = (a.0, every_more P xs ys a.1 b)
+
+pub every_map : {A : Type 0} (P Q : A → Type 0) (xs : List A) → ((x : A) → P x → Q x) → AllByRecursion P xs
+    → AllByRecursion Q xs
+every_map P Q [] h a = tt
+every_map P Q (x ∷ xs) h a = (h x a.0, every_map P Q xs h a.1)
+
+pub every_filter : {A : Type 0} (P : A → Type 0) (test : A → Bool) (xs : List A) → AllByRecursion P xs
+    → AllByRecursion (λ x. P x × (test x ≡ true)) (filter test xs)
+every_filter {A} P test [] a = tt
+every_filter {A} P test (x ∷ xs) a = by_test (test x) refl (every_filter P test xs a.1)
+  where
+    by_test : (b : Bool) → test x ≡ b → AllByRecursion (λ y. P y × (test y ≡ true)) (filter test xs)
+        → AllByRecursion (λ y. P y × (test y ≡ true)) (cond b (x ∷ filter test xs) (filter test xs))
+    by_test true e rest = ((a.0, e), rest)
+    by_test false e rest = rest
+
+pub every_nth : {A : Type 0} (P : A → Type 0) (xs : List A) (j : ℕ) (x : A) → AllByRecursion P xs
+    → nth xs j ≡ Some x → P x
+every_nth P [] j x a e = cc
+every_nth P (y ∷ xs) zero x a e = let h : y ≡ x = cc in subst P h a.0
+every_nth P (y ∷ xs) (suc j) x a e = every_nth P xs j x a.1 e
+
+pub and_left : (a b : Bool) → a && b ≡ true → a ≡ true
+and_left true b e = refl
+and_left false b e = e
+
+pub and_right : (a b : Bool) → a && b ≡ true → b ≡ true
+and_right true b e = e
+and_right false b e = cc
+
+-- ---- which pieces came
+
+-- the workers that the first j come from, the last first, before those of acc
+abbrev pub froms_before : ℕ → List Piece → List ℕ → List ℕ
+froms_before zero ps acc = acc
+froms_before (suc j) [] acc = acc
+froms_before (suc j) (p ∷ ps) acc = froms_before j ps (p.from ∷ acc)
+
+before_suc : (j : ℕ) (ps : List Piece) (p : Piece) (acc : List ℕ) → nth ps j ≡ Some p
+    → froms_before (suc j) ps acc ≡ p.from ∷ froms_before j ps acc
+before_suc j [] p acc e = cc
+before_suc zero (q ∷ ps) p acc e = let h : q ≡ p = cc in ap (λ (x : Piece). x.from ∷ acc) h
+before_suc (suc j) (q ∷ ps) p acc e = before_suc j ps p (q.from ∷ acc) e
+
+abbrev AllApart : List ℕ → List Piece → Type 0
+AllApart acc ps = AllByRecursion (λ (p : Piece). NotIn p.from acc) ps
+
+apart_more : (x : ℕ) (acc : List ℕ) (ps : List Piece) → NotIn x (map (λ (p : Piece). p.from) ps) → AllApart acc ps
+    → AllApart (x ∷ acc) ps
+apart_more x acc [] n a = tt
+apart_more x acc (p ∷ ps) n a = (((λ e. n.0 (sym e)), a.0), apart_more x acc ps n.1 a.1)
+
+not_before : (j : ℕ) (ps : List Piece) (p : Piece) (acc : List ℕ) → Apart (map (λ (q : Piece). q.from) ps)
+    → AllApart acc ps → nth ps j ≡ Some p → NotIn p.from (froms_before j ps acc)
+not_before j [] p acc d a e = cc
+not_before zero (q ∷ ps) p acc d a e = let h : q ≡ p = cc in subst (λ (x : Piece). NotIn x.from acc) h a.0
+not_before (suc j) (q ∷ ps) p acc d a e = not_before j ps p (q.from ∷ acc) d.1 (apart_more q.from acc ps d.0 a.1) e
+
+apart_none : (ps : List Piece) → AllApart [] ps
+apart_none [] = tt
+apart_none (p ∷ ps) = (tt, apart_none ps)
+
+module _ (c : CoreForm) (k : ℕ) (pieces : List Piece) (f : ℕ → Option Turn)
+    (known : AllByRecursion (Known f c) pieces)
+    (distinct : (g : ℕ) → Apart (map (λ (p : Piece). p.from) (for_place g k pieces))) where
+  abbrev Tied : Stage → Type 0
+  Tied st = (t : Turn) (froms : List ℕ) → st ≡ Filling t froms
+      → froms ≡ froms_before (length froms) (for_place t.generation k pieces) []
+
+  tied_live : (s : Strategy) (log : List _) → Tied (Live s log)
+  tied_live s log t froms e = cc
+
+  tied_gone : Tied Gone
+  tied_gone t froms e = cc
+
+  piece_due : (t : Turn) (j : ℕ) (p : Piece) → f t.generation ≡ Some t
+      → nth (for_place t.generation k pieces) j ≡ Some p → IsPieceFor c t k p
+  piece_due t j p ft e = let r =
+      every_nth (λ x. Known f c x × (nat_eq x.generation t.generation && nat_eq x.to k ≡ true))
+      (for_place t.generation k pieces) j p
+      (every_filter (Known f c) (λ x. nat_eq x.generation t.generation && nat_eq x.to k) pieces known) e in
+      let g_is : p.generation ≡ t.generation =
+      eqb-true p.generation t.generation (and_left (nat_eq p.generation t.generation) (nat_eq p.to k) r.1) in
+      let to_is : p.to ≡ k = eqb-true p.to k (and_right (nat_eq p.generation t.generation) (nat_eq p.to k) r.1) in
+      let same : Some (r.0.turn) ≡ Some t = sym r.0.is ∙ ap f g_is ∙ ft in
+      let t_is : r.0.turn ≡ t = cc in
+      subst (λ (x : ℕ). IsPieceFor c t x p) to_is (subst (λ (x : Turn). IsPieceFor c x p.to p) t_is r.0.piece_for)
+
+  froms_here : (st : Stage) (t : Turn) (j : ℕ) → Follows c k st (Hole t j) → Tied st
+      → froms_of st ≡ froms_before j (for_place t.generation k pieces) []
+  froms_here st t j fo tied = ⊎_elim
+      (λ gone. let j_is : j ≡ 0 = fo.0 ∙ ap (λ x. length (froms_of x)) gone in
+      ap froms_of gone ∙ ap (λ x. froms_before x (for_place t.generation k pieces) []) (sym j_is))
+      (λ filling. tied t (froms_of st) filling
+      ∙ ap (λ x. froms_before x (for_place t.generation k pieces) []) (sym fo.0))
+      fo.2
+
+  tied_next : (st : Stage) (t : Turn) (j : ℕ) (p : Piece) → Follows c k st (Hole t j) → Tied st
+      → nth (for_place t.generation k pieces) j ≡ Some p → Tied (stage_after st (Hole t j) (Adopt p t.new))
+  tied_next st t j p fo tied e = by_test (nat_eq (j + 1) (workers_of t.old))
+    where
+      longer : p.from ∷ froms_of st ≡ froms_before (length (p.from ∷ froms_of st)) (for_place t.generation k pieces) []
+      longer = ap (λ x. p.from ∷ x) (froms_here st t j fo tied)
+          ∙ sym (before_suc j (for_place t.generation k pieces) p [] e)
+          ∙ ap (λ x. froms_before (suc x) (for_place t.generation k pieces) []) fo.0
+
+      by_test : (b : Bool) → Tied (cond b (Live t.new t.before) (Filling t (p.from ∷ froms_of st)))
+      by_test true u froms same = tied_live t.new t.before u froms same
+      by_test false u froms same = let a : t ≡ u = cc in let b : p.from ∷ froms_of st ≡ froms = cc in
+          sym b ∙ longer ∙ ap (λ x. froms_before (length x) (for_place t.generation k pieces) []) b
+          ∙ ap (λ (x : Turn). froms_before (length froms) (for_place x.generation k pieces) []) a
+
+  meets_due : (st : Stage) (d : Due) (i : Item) → Follows c k st d → Tied st → AreTurns f (d ∷ [])
+      → item_of c k pieces d ≡ Some i → Meets c k st d i × Tied (stage_after st d i)
+  meets_due st (Slicing g s log p) i fo tied turns e = (cc, tied_live s _)
+  meets_due st (Parting t) i fo tied turns e = (cc, tied_gone)
+  meets_due st (Hole t j) i fo tied turns e = let m =
+      mapped (λ p. Adopt p t.new) (nth (for_place t.generation k pieces) j) i e in
+      let p : Piece = m.0 in (
+        (
+          p,
+          sym m.2,
+          piece_due t j p turns.0 m.1,
+          subst (λ xs. NotIn p.from xs) (sym (froms_here st t j fo tied))
+              (not_before j (for_place t.generation k pieces) p [] (distinct t.generation)
+              (apart_none (for_place t.generation k pieces)) m.1),
+        ),
+        subst (λ x. Tied (stage_after st (Hole t j) x)) m.2 (tied_next st t j p fo tied m.1),
+      )
+
+  one_turn : (d : Due) (ds : List Due) → AreTurns f (d ∷ ds) → AreTurns f (d ∷ []) × AreTurns f ds
+  one_turn (Slicing g s log p) ds a = (tt, a)
+  one_turn (Parting t) ds a = ((a.0, tt), a.1)
+  one_turn (Hole t j) ds a = ((a.0, tt), a.1)
+
+  pub fits_of : (ds : List Due) (is : List Item) (st : Stage) → Chain c k st ds → Tied st → AreTurns f ds
+      → Supplies c k pieces ds is → Fits c k st ds is
+  fits_of ds [] st ch tied turns s = tt
+  fits_of [] (i ∷ is) st ch tied turns s = s
+  fits_of (d ∷ ds) (i ∷ is) st ch tied turns s = let u = one_turn d ds turns in
+      let m = meets_due st d i ch.0 tied u.0 s.0 in
+      (m.0, fits_of ds is (stage_after st d i) (ch.1 i m.0) m.1 u.1 s.1)

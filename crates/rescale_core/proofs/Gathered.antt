@@ -1,0 +1,81 @@
+-- No row comes for a position that was emitted.
+use Rattle.std.proofs.Common.{◌≡◌, ℕ, ◌+◌, ◌<◌, ◌≤◌, nat_eq, List, [], ◌∷◌, ◌++◌}
+use Rattle.std.proofs.Common.{length, map, sym, refl, ap, ◌∙◌, subst, arith, length-append}
+use Rattle.std.proofs.lemmas.List.Elements.{filter-append}
+use Rattle.std.proofs.lemmas.List.{length-map}
+use native.Mathlib.Decide.{ℕ_discrete}
+use Rattle.mfotl_model.specs.Strategies.{workers_of}
+use Rattle.rescale_core.proofs.Emitting.{DueRow, below_of, due_all}
+use Rattle.rescale_core.proofs.Fitting.{every_map}
+use Rattle.rescale_core.proofs.Settling.{slice_more}
+use Rattle.rescale_core.proofs.Soundness.{collect_sound}
+use Rattle.rescale_core.specs.Lines.{first_spot}
+use Rattle.rescale_core.specs.Soundly.{IsSound}
+use Rattle.rescale_core.specs.Worlds.{World, Move, not_back, rows_in, Allowed, IsGathered, after}
+use Rattle.verdict_merge.proofs.CountLemmas.{at_most}
+use Rattle.verdict_merge.specs.Gathers.{rows_at}
+use Rattle.verdict_merge.specs.declared.rows.Rows.{Rows}
+use Rattle.rescale_core.specs.Lines.Due.{Slicing}
+use Rattle.rescale_core.specs.Worlds.Move.{Read, Feed, Take, Collect, Emit}
+
+-- ---- what was emitted was gathered whole
+
+abbrev pub AllGathered : World → Type 0
+AllGathered w = (i : ℕ) → i < length w.emitted → IsGathered w i
+
+module _ (w : World) (k : ℕ) (r : IsSound w) where
+  abbrev rs : List Rows
+  rs = rows_in (not_back (w.seats k))
+
+  -- no more rows come for a position for which all are there
+  pub none_more : (i : ℕ) → IsGathered w i → rows_at i rs ≡ []
+  none_more i g = let sound : IsSound (after w (Collect k)) = collect_sound w k r in
+      let all = due_all (after w (Collect k)) sound i g.0 g.1 g.2 g.3 g.4 g.5 g.6 in
+      let few : length (map (λ (r : Rows). r.worker) (rows_at i (w.rows ++ rs))) ≤ workers_of g.1 =
+      at_most (workers_of g.1) (map (λ (r : Rows). r.worker) (rows_at i (w.rows ++ rs))) (sound.rows_apart i)
+      (below_of (workers_of g.1) (rows_at i (w.rows ++ rs))
+      (every_map (DueRow (after w (Collect k)) sound i g.0 g.1 g.2 g.3) (λ (r : Rows). r.worker < workers_of g.1)
+      (rows_at i (w.rows ++ rs)) (λ x d. d.near) all)) in
+      let same : length (map (λ (r : Rows). r.worker) (rows_at i (w.rows ++ rs))) ≡ length
+      (rows_at i (w.rows ++ rs)) = length-map (rows_at i (w.rows ++ rs)) (λ (r : Rows). r.worker) in
+      let sum : length (rows_at i (w.rows ++ rs)) ≡ length (rows_at i w.rows) + length (rows_at i rs) =
+      ap length (filter-append (λ r. nat_eq r.point i) w.rows rs)
+      ∙ length-append (rows_at i w.rows) (rows_at i rs) in
+      let full : length (rows_at i w.rows) ≡ workers_of g.1 = g.7 in
+      no_length (rows_at i rs) (omega arith)
+    where
+      no_length : (xs : List Rows) → length xs ≡ 0 → xs ≡ []
+      no_length [] e = refl
+      no_length (x ∷ xs) e = absurd (omega arith)
+
+pub step_gathered : (w : World) (s : Move) → IsSound w → Allowed w s → AllGathered w → AllGathered (after w s)
+step_gathered w (Read e) r a g i h = let x = g i h in (
+  x.0,
+  x.1,
+  x.2,
+  x.3,
+  slice_more w.read (e ∷ []) (first_spot w.first) (length x.2)
+      (Slicing x.0 x.1 x.2 x.3) x.4,
+  x.5,
+  x.6,
+  x.7,
+)
+step_gathered w (Feed k i2) r a g i h = g i h
+step_gathered w (Take k gave) r a g i h = g i h
+step_gathered w (Collect k) r a g i h = let x = g i h in (
+  x.0,
+  x.1,
+  x.2,
+  x.3,
+  x.4,
+  x.5,
+  x.6,
+  ap length (filter-append (λ r. nat_eq r.point i) w.rows (rs w k r)
+      ∙ ap (λ y. rows_at i w.rows ++ y) (none_more w k r i x)) ∙ length-append (rows_at i w.rows) []
+      ∙ (let e : length (rows_at i w.rows) + 0 ≡ length (rows_at i w.rows) = omega arith in e) ∙ x.7,
+)
+step_gathered w (Emit v) r a g i h = at (ℕ_discrete i (length w.emitted))
+  where
+    at : Dec (i ≡ length w.emitted) → IsGathered w i
+    at (yes e) = subst (IsGathered w) (sym e) a.1
+    at (no n) = g i (let l = length-append w.emitted (v ∷ []) in omega arith)

@@ -1,0 +1,108 @@
+-- What is settled in a log stays settled, and its violations stay as they are.
+use Rattle.std.proofs.Common.{◌≡◌, ℕ, ◌<◌, ◌≤◌, Bool, true, false, ◌&&◌, nat_eq, List, [], ◌∷◌, ◌++◌, length, refl}
+use Rattle.std.proofs.Common.{sym}
+use Rattle.std.proofs.Common.{ap, ap₂, subst, ◌∙◌, arith}
+use Rattle.std.proofs.lemmas.List.{length-map, map-append}
+use Rattle.std.specs.List.{list_all, filter}
+use Rattle.mfotl_model.proofs.AscendingLemmas.{same_ascending}
+use Rattle.mfotl_model.proofs.CountLemmas.{counted_settled}
+use Rattle.mfotl_model.proofs.RowLemmas.{row_exact}
+use Rattle.mfotl_model.specs.Domains.{Includes, within}
+use Rattle.mfotl_model.specs.FreeVariables.{fv, among}
+use Rattle.mfotl_model.specs.Log.{times}
+use Rattle.mfotl_model.specs.Satisfaction.{Valuation}
+use Rattle.mfotl_model.specs.Settled.{settled}
+use Rattle.mfotl_model.specs.Tables.{valuation}
+use Rattle.mfotl_model.specs.Times.{NeverFalls}
+use Rattle.mfotl_model.specs.Values.{row_total}
+use Rattle.mfotl_model.specs.Violations.{all_rows}
+use Rattle.mfotl_model.specs.declared.event.TimePoint.{TimePoint}
+use Rattle.mfotl_model.specs.declared.value.Value.{Value}
+use Rattle.monitor_state.proofs.CountLemmas.{count_grows, count_within}
+use Rattle.monitorable.proofs.DomainLaw.{domain}
+use Rattle.monitorable.proofs.DomainRows.{found, grows, has_constants, has_log, row_within}
+use Rattle.monitorable.proofs.FinalityLaw.{finality}
+use Rattle.monitorable.proofs.FreeVariableLemmas.{fv_apart}
+use Rattle.monitorable.specs.CoreForms.{CoreForm, meaning}
+use Rattle.monitorable.specs.Fragment.{Fits}
+use Rattle.monitorable.specs.SatisfyingRows.{core_domain, satisfies, satisfying_rows}
+use Rattle.rescale_core.specs.Laws.{PolicyViolations}
+use Rattle.rescale_core.specs.Workers.{MayFollow, settled_in, violations_at}
+
+-- the timestamps of a longer log
+pub times_more : (log : List TimePoint) (p : TimePoint) → times (log ++ p ∷ []) ≡ times log ++ p.ts ∷ []
+times_more log p = map-append (λ (q : TimePoint). q.ts) log (p ∷ [])
+
+pub settled_more : (c : CoreForm) (log : List TimePoint) (p : TimePoint) → MayFollow log p
+    → settled_in c log ≤ settled_in c (log ++ p ∷ [])
+settled_more c log p m =
+    let e = times_more log p in
+    let rising : NeverFalls (times log ++ p.ts ∷ []) = subst NeverFalls e m.rising in
+    let h = count_grows (times log) (p.ts ∷ []) rising (meaning c) in
+    subst (λ t. settled_in c log ≤ Rattle.mfotl_model.specs.Counts.settled_count t (meaning c)) (sym e) h
+
+pub settled_within : (c : CoreForm) (log : List TimePoint) → settled_in c log ≤ length log
+settled_within c log =
+    let h = count_within (times log) (meaning c) in
+    let e : length (times log) ≡ length log = length-map log (λ (q : TimePoint). q.ts) in
+    omega arith
+
+itself : (dom : List Value) → Includes dom dom
+itself dom a h = h
+
+agreeing : (s t len l m : Bool) → s ≡ t → (s ≡ true → len ≡ true → (l ≡ true) × (m ≡ true))
+    → (s && (len && l)) ≡ (t && (len && m))
+agreeing true t true l m e h = (h refl refl).0 ∙ ap₂ (λ x y. x && y) e (sym (h refl refl).1)
+agreeing true t false l m e h = ap (λ x. x && false) e
+agreeing false t len l m e h = ap (λ x. x && (len && m)) e
+
+module _ (g : CoreForm) (log more : List TimePoint) (i : ℕ) (fits : Fits g) (rising : NeverFalls (times (log ++ more)))
+    (set : settled (times log) (meaning g) i ≡ true) where
+  abbrev vars : List ℕ
+  vars = fv (meaning g)
+
+  abbrev dom : List Value
+  dom = core_domain log g
+
+  abbrev longer_dom : List Value
+  longer_dom = core_domain (log ++ more) g
+
+  satisfies_same : (q : List Value) → satisfies log g i q ≡ satisfies (log ++ more) g i q
+  satisfies_same q =
+      let v : Valuation = valuation vars q in
+      (domain log dom (λ y. []) g (fits (λ y. [])) (has_log log (meaning g)) (has_constants log (meaning g)) v i).1
+      dom longer_dom (itself dom) (grows log more (meaning g))
+      ∙ finality log more longer_dom (meaning g) v i rising set
+
+  values_within : (q : List Value) → satisfies log g i q ≡ true → nat_eq (length q) (length vars) ≡ true
+      → (list_all (within dom) q ≡ true) × (list_all (within longer_dom) q ≡ true)
+  values_within q h len =
+      let v : Valuation = valuation vars q in
+      let inside = λ (y : ℕ) (m : among y vars ≡ true).
+      (domain log dom (λ y. []) g (fits (λ y. [])) (has_log log (meaning g)) (has_constants log (meaning g)) v i).0
+      dom y h m in (
+        row_within vars q dom (fv_apart (meaning g)) len inside,
+        row_within vars q longer_dom (fv_apart (meaning g)) len (λ y m. grows log more (meaning g) (v y) (inside y m)),
+      )
+
+  same_rows : satisfying_rows log g i ≡ satisfying_rows (log ++ more) g i
+  same_rows =
+      same_ascending row_total row_exact
+      (filter (satisfies log g i) (all_rows (length vars) dom))
+      (filter (satisfies (log ++ more) g i) (all_rows (length vars) longer_dom))
+      (λ q.
+      found (satisfies log g i) (length vars) dom q
+      ∙ agreeing (satisfies log g i q) (satisfies (log ++ more) g i q) (nat_eq (length q) (length vars))
+      (list_all (within dom) q) (list_all (within longer_dom) q)
+      (satisfies_same q) (values_within q)
+      ∙ sym (found (satisfies (log ++ more) g i) (length vars) longer_dom q))
+
+pub viol_final : (c : CoreForm) (log : List TimePoint) (p : TimePoint) (i : ℕ) → Fits c → MayFollow log p
+    → i < settled_in c log → violations_at c log i ≡ violations_at c (log ++ p ∷ []) i
+unfolding violations_at
+viol_final c log p i fits m h =
+    same_rows c log (p ∷ []) i fits m.rising (counted_settled (times log) (meaning c) i h)
+
+pub policy_violations : PolicyViolations
+unfolding violations_at
+policy_violations core policy log i h = sym (h log i)

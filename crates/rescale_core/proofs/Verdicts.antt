@@ -1,0 +1,80 @@
+-- What was emitted are the first verdicts on all that was read.
+use Rattle.std.proofs.Common.{◌≡◌, ℕ, zero, suc, ◌+◌, ◌<◌, ◌≤◌, List, [], ◌∷◌, ◌++◌, length, map, slice_index, sym}
+use Rattle.std.proofs.Common.{refl, ap, ◌∙◌, subst, arith, length-append}
+use Rattle.std.specs.List.{range_with_len}
+use Rattle.std.proofs.lemmas.List.FromFn.{map-range_with_len_more}
+use Rattle.mfotl_model.specs.Log.{times}
+use Rattle.rescale_core.proofs.LogLemmas.{settled_within}
+use Rattle.rescale_core.proofs.Settling.{level_rises, viol_stays, time_stays, slice_below}
+use Rattle.rescale_core.proofs.Soundness.{step_sound}
+use Rattle.rescale_core.proofs.WorldLemmas.{spot_more}
+use Rattle.rescale_core.specs.Lines.{Spot, first_spot, moved}
+use Rattle.rescale_core.specs.Soundly.{IsSound}
+use Rattle.mfotl_model.specs.declared.value.Value.{Value}
+use Rattle.mfotl_model.specs.Strategies.{Strategy}
+use Rattle.monitorable.specs.CoreForms.{CoreForm}
+use Rattle.rescale_core.specs.Laws.{EmitsVerdicts}
+use Rattle.rescale_core.specs.Workers.{violations_at, settled_in}
+use Rattle.rescale_core.specs.Worlds.{World, first_world, Move, spot_in, verdict_on, Allowed, AreAllowed, after, run}
+use Rattle.rescale_core.specs.declared.item.Entry.{Entry}
+use Rattle.verdict_merge.specs.declared.rows.Verdict.{Verdict}
+use Rattle.rescale_core.specs.Worlds.Move.{Read, Feed, Take, Collect, Emit}
+
+map_same : {A : Type 0} (f g : ℕ → A) (j n : ℕ) → ((i : ℕ) → i < j + n → f i ≡ g i)
+    → map f (range_with_len j n) ≡ map g (range_with_len j n)
+map_same f g j zero h = refl
+map_same f g j (suc n) h = let x : f j ≡ g j = h j (omega arith) in
+    let r = map_same f g (j + 1) n (λ i l. h i (omega arith)) in cc
+
+-- the verdicts on what was read stay where more is read
+verdict_stays : (w : World) (e : Entry) (i : ℕ) → IsSound w → Allowed w (Read e)
+    → i < settled_in w.core (spot_in w).points
+    → verdict_on w.core (spot_in w).points i ≡ verdict_on w.core (spot_in (after w (Read e))).points i
+verdict_stays w e i r may h =
+    let more : spot_in (after w (Read e)) ≡ moved (spot_in w) e = spot_more (first_spot w.first) w.read (e ∷ []) in
+    let v : violations_at w.core (spot_in w).points i ≡ violations_at w.core (moved (spot_in w) e).points i =
+    viol_stays w.core r.first.fits (e ∷ []) (spot_in w) i (may, tt) h in
+    let n = settled_within w.core (spot_in w).points in
+    let t = time_stays (e ∷ []) (spot_in w) i (omega arith) in
+    ap (λ x. record { point = i; ts = x; rows = violations_at w.core (spot_in w).points i }) (sym t)
+    ∙ ap (λ x. verdict_of i (moved (spot_in w) e) x) v
+    ∙ ap (λ (a : Spot). verdict_on w.core a.points i) (sym more)
+  where
+    verdict_of : ℕ → Spot → List (List Value) → Verdict
+    verdict_of i a rows = record { point = i; ts = slice_index (times a.points) i; rows = rows }
+
+read_verdicts : (w : World) (e : Entry) → IsSound w → Allowed w (Read e) → EmitsVerdicts w
+    → EmitsVerdicts (after w (Read e))
+read_verdicts w e r may v = let more : spot_in (after w (Read e)) ≡ moved (spot_in w) e =
+    spot_more (first_spot w.first) w.read (e ∷ []) in record {
+      are = v.are ∙ map_same (verdict_on w.core (spot_in w).points)
+          (verdict_on w.core (spot_in (after w (Read e))).points) 0 (length w.emitted)
+          (λ i h. (let s = v.settled in verdict_stays w e i r may (omega arith)));
+      settled = let s = v.settled in
+          let up : settled_in w.core (spot_in w).points ≤ settled_in w.core (moved (spot_in w) e).points =
+          level_rises w.core (e ∷ []) (spot_in w) (may, tt) in
+          subst (λ (a : Spot). length w.emitted ≤ settled_in w.core a.points) (sym more) (omega arith);
+    }
+
+pub step_verdicts : (w : World) (s : Move) → IsSound w → Allowed w s → EmitsVerdicts w → EmitsVerdicts (after w s)
+step_verdicts w (Read e) r a v = read_verdicts w e r a v
+step_verdicts w (Feed k i) r a v = record { are = v.are; settled = v.settled }
+step_verdicts w (Take k gave) r a v = record { are = v.are; settled = v.settled }
+step_verdicts w (Collect k) r a v = record { are = v.are; settled = v.settled }
+step_verdicts w (Emit x) r a v = let n : ℕ = length w.emitted in let f = verdict_on w.core (spot_in w).points in
+    let g = a.1 in
+    let l : length (w.emitted ++ x ∷ []) ≡ n + 1 = length-append w.emitted (x ∷ []) in record {
+      are = ap (λ y. y ++ x ∷ []) v.are ∙ ap (λ y. map f (range_with_len 0 n) ++ y ∷ []) a.0
+          ∙ sym (map-range_with_len_more f 0 n n (omega arith)) ∙ ap (λ m. map f (range_with_len 0 m)) (sym l);
+      settled = let below : settled_in w.core (g.2 ++ g.3 ∷ []) ≤ settled_in w.core (spot_in w).points =
+          slice_below w.core w.read (first_spot w.first) (length g.2) g.0 g.1 g.2 g.3 r.read g.4 in
+          let high : length w.emitted < settled_in w.core (g.2 ++ g.3 ∷ []) = g.6 in omega arith;
+    }
+
+pub run_verdicts : (w : World) (ss : List Move) → IsSound w → AreAllowed w ss → EmitsVerdicts w
+    → EmitsVerdicts (run w ss)
+run_verdicts w [] r a v = v
+run_verdicts w (s ∷ ss) r a v = run_verdicts (after w s) ss (step_sound w s r a.0) a.1 (step_verdicts w s r a.0 v)
+
+pub first_verdicts : (c : CoreForm) (s : Strategy) → EmitsVerdicts (first_world c s)
+first_verdicts c s = record { are = refl; settled = omega arith }

@@ -1,0 +1,36 @@
+-- What a machine's worlds are, and how they end.
+use Rattle.std.specs.Prelude.{◌≡◌, ℕ, List, map}
+use Rattle.std.specs.List.{range_with_len}
+use Rattle.mfotl_model.specs.Strategies.{workers_of}
+use Rattle.verdict_merge.specs.Gathers.{rows_at}
+use Rattle.verdict_merge.specs.Laws.{IsPartition}
+use Rattle.rescale_core.specs.Cells.{Enabled, IsMachineOf}
+use Rattle.rescale_core.specs.Laws.{EmitsVerdicts, FitsAndAnswers}
+use Rattle.rescale_core.specs.Soundly.{IsSound}
+use Rattle.rescale_core.specs.Workers.{owner, settled_in, violations_at}
+use Rattle.rescale_core.specs.Worlds.{World, IsGathered, spot_in, verdict_on}
+use Rattle.rescale_core.specs.declared.cells.Step.{Step}
+use Rattle.rescale_core.specs.declared.item.Entry.{Entry}
+use Rattle.rescale_core.specs.declared.stage.Machine.{Machine}
+
+-- in each world that a machine stands for, what workers were handed fits, what they gave answers it, and what was
+-- emitted are the first verdicts
+abbrev pub MachineWorlds : Type 0
+MachineWorlds =
+    (m : Machine) (entries : List Entry) (w : World) → IsMachineOf m entries w
+    → ((k : ℕ) → FitsAndAnswers w k) × EmitsVerdicts w
+
+-- where no step can be done, all entries were read, and all verdicts on them were emitted
+abbrev pub MachineEnds : Type 0
+MachineEnds =
+    (m : Machine) (entries : List Entry) (w : World) → IsMachineOf m entries w
+    → ((s : Step) → Enabled w m.left.items s → ⊥)
+    → (w.read ≡ entries)
+    × (w.emitted
+    ≡ map (verdict_on w.core (spot_in w).points) (range_with_len 0 (settled_in w.core (spot_in w).points)))
+
+-- where all Rows for a position were collected, they are by owner a partition of its violations
+abbrev pub RowsPartition : Type 0
+RowsPartition =
+    (w : World) (i : ℕ) (all : IsGathered w i) → IsSound w
+    → IsPartition (owner all.1) (workers_of all.1) (rows_at i w.rows) (violations_at w.core (spot_in w).points i)

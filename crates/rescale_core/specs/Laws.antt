@@ -1,0 +1,36 @@
+-- Laws of worlds.
+use Rattle.std.specs.Prelude.{◌≡◌, ◌≤◌, ℕ, List, length, map, take}
+use Rattle.std.specs.List.{range_with_len}
+use Rattle.mfotl_model.specs.Formulas.{Form}
+use Rattle.mfotl_model.specs.Strategies.{Strategy}
+use Rattle.mfotl_model.specs.Violations.{viol}
+use Rattle.mfotl_model.specs.declared.event.TimePoint.{TimePoint}
+use Rattle.monitorable.specs.CoreForms.{CoreForm}
+use Rattle.monitorable.specs.SatisfyingRows.{HasViolationsOf}
+use Rattle.rescale_core.specs.Workers.{IsFor, settled_in, violations_at}
+use Rattle.rescale_core.specs.Stages.{Answers}
+use Rattle.rescale_core.specs.Working.{Has}
+use Rattle.rescale_core.specs.Worlds.{World, Move, first_world, run, AreAllowed, line_in, spot_in, verdict_on}
+
+-- what worker k was handed fits, and what it gave answers what it took
+abbrev pub FitsAndAnswers : World → ℕ → Type 0
+FitsAndAnswers w k =
+    Has (record { core = w.core; first = w.first; k = k }) w.read (w.seats k).fed
+    × Answers w.core k (take (w.seats k).taken (line_in w k)) (w.seats k).outs
+
+-- what was emitted are the first verdicts on what was read, of settled positions alone
+pub record EmitsVerdicts (w : World) : Type 0 where
+  pub are : w.emitted ≡ map (verdict_on w.core (spot_in w).points) (range_with_len 0 (length w.emitted))
+  pub settled : length w.emitted ≤ settled_in w.core (spot_in w).points
+
+-- so it is in each world that steps reach from the first one
+abbrev pub ReachedWorlds : Type 0
+ReachedWorlds =
+    (core : CoreForm) (s : Strategy) (steps : List Move) → IsFor core s → AreAllowed (first_world core s) steps
+    → ((k : ℕ) → FitsAndAnswers (run (first_world core s) steps) k) × EmitsVerdicts (run (first_world core s) steps)
+
+-- the violations that are spoken of are those of each policy that the core negates
+abbrev pub PolicyViolations : Type 0
+PolicyViolations =
+    (core : CoreForm) (policy : Form) (log : List TimePoint) (i : ℕ) → HasViolationsOf core policy
+    → violations_at core log i ≡ viol log policy i

@@ -1,0 +1,15 @@
+pub mod Workers
+pub mod Monitors
+pub mod Lines
+pub mod Stages
+pub mod Chances
+pub mod Worlds
+pub mod Seeds
+pub mod Settlings
+pub mod Working
+pub mod Soundly
+pub mod Queues
+pub mod Routing
+pub mod Laws
+pub mod Cells
+pub mod Ends

@@ -1,0 +1,91 @@
+-- What a router's queues stand for.
+use Rattle.std.specs.Prelude.{◌≡◌, ◌⊎◌, ℕ, ◌+◌, ◌<◌, ◌≤◌, cond, nat_eq, nat_le, Some, filter}
+use Rattle.std.specs.Prelude.{List, [], ◌∷◌, ◌++◌, false, length, map}
+use Rattle.std.specs.List.{list_any, range_with_len}
+use Rattle.mfotl_model.specs.Strategies.{Strategy, workers_of}
+use Rattle.mfotl_model.specs.declared.event.TimePoint.{TimePoint}
+use Rattle.monitorable.specs.CoreForms.{CoreForm}
+use Rattle.monitorable.specs.Cores.{core_form}
+use Rattle.verdict_merge.specs.Gathers.{GatherOf, is_from, workers_in}
+use Rattle.verdict_merge.specs.declared.rows.Rows.{Rows}
+use Rattle.verdict_merge.specs.declared.rows.Verdict.{Verdict}
+use Rattle.rescale_core.specs.Workers.{slice_for}
+use Rattle.rescale_core.specs.Lines.{spot_after, first_spot}
+use Rattle.rescale_core.specs.Lines.Due.{Slicing}
+use Rattle.rescale_core.specs.Chances.{Chance, sure_items}
+use Rattle.rescale_core.specs.Chances.Chance.{Sure}
+use Rattle.rescale_core.specs.Queues.{queue_at}
+use Rattle.rescale_core.specs.Worlds.{World, Move, spot_in, queue_in, slice_at, GatheredIn}
+use Rattle.rescale_core.specs.Worlds.Move.{Feed}
+use Rattle.rescale_core.specs.Soundly.{IsSound}
+use Rattle.rescale_core.specs.declared.item.Item.{Item}
+use Rattle.rescale_core.specs.declared.item.Entry.{Entry}
+use Rattle.rescale_core.specs.declared.item.Entry.TheVariants.{Point, Change}
+use Rattle.rescale_core.specs.declared.item.Item.TheVariants.{Slice}
+use Rattle.rescale_core.specs.declared.item.Out.{Out}
+use Rattle.rescale_core.specs.declared.routes.Router.{Router}
+
+-- the slices, one for each worker from k on, as worker q gets them
+abbrev pub slices_for : ℕ → ℕ → ℕ → List TimePoint → ℕ → List Chance
+slices_for g n k [] q = []
+slices_for g n k (p ∷ ps) q = cond (nat_eq q k) (Sure (Slice g n p) ∷ []) [] ++ slices_for g n (k + 1) ps q
+
+-- the slices of a time-point for all workers
+abbrev pub all_slices : CoreForm → Strategy → TimePoint → List TimePoint
+all_slices core s p = map (λ k. slice_for core s k p) (range_with_len 0 (workers_of s))
+
+-- the first items were taken out, as many as wanted or all that are there
+abbrev pub TakesFront : List Chance → ℕ → List Item → List Chance → Type 0
+TakesFront old most items new =
+    (old ≡ map (λ i. Sure i) items ++ new) × ((length items ≡ most) ⊎ (sure_items new ≡ [])) × (length items ≤ most)
+
+-- the Rows may be added one after the other: of a worker of their generation, not added before, and of a
+-- time-point without a verdict
+abbrev pub MayAdd : GatherOf → List Rows → Type 0
+MayAdd g [] = Unit {0}
+MayAdd g (r ∷ rs) =
+    ((r.worker < workers_in g.begun r.generation) × (list_any (is_from r) g.added ≡ false) × (g.next ≤ r.point))
+    × MayAdd (record g { added = g.added ++ r ∷ [] }) rs
+
+-- the Gather has the Rows that were collected and not emitted, and knows how many workers each generation has
+pub record IsGatherIn (g : GatherOf) (core : CoreForm) (first : Strategy) (read : List Entry) (rows : List Rows)
+    (emitted : List Verdict) : Type 0 where
+  pub next : g.next ≡ length emitted
+  pub added : g.added ≡ filter (λ r. nat_le (length emitted) r.point) rows
+  pub workers : (n h : ℕ) (s : Strategy) (log : List TimePoint) (p : TimePoint)
+      → slice_at (first_spot first) read n ≡ Some (Slicing h s log p) → workers_in g.begun h ≡ workers_of s
+  pub present : workers_in g.begun (spot_after (first_spot first) read).generation
+      ≡ workers_of (spot_after (first_spot first) read).strategy
+  pub later : (h : ℕ) → (spot_after (first_spot first) read).generation < h → workers_in g.begun h ≡ 0
+  pub gathered : (i : ℕ) → i < length emitted → GatheredIn core first read rows i
+
+-- the same in a world
+abbrev pub IsGatherOf : GatherOf → World → Type 0
+IsGatherOf g w = IsGatherIn g w.core w.first w.read w.rows w.emitted
+
+-- no strategy changes
+abbrev pub ArePoints : List Entry → Type 0
+ArePoints [] = Unit {0}
+ArePoints (Point p ∷ es) = ArePoints es
+ArePoints (Change s ∷ es) = ⊥
+
+-- the router's queues, counts and gathered Rows are the world's, in which as yet no strategy changes
+pub record IsRouterOf (r : Router) (w : World) : Type 0 where
+  pub unchanged : ArePoints w.read
+  pub core : core_form r.core ≡ w.core
+  pub generation : r.generation ≡ (spot_in w).generation
+  pub strategy : r.strategy ≡ (spot_in w).strategy
+  pub points : r.points ≡ length (spot_in w).points
+  pub wide : workers_of r.strategy ≤ length r.queues.items
+  pub queues : (k : ℕ) → queue_at r.queues.items k ≡ queue_in w k
+  pub sound : IsSound w
+  pub gather : IsGatherOf r.gather w
+
+-- the items are handed to worker k
+abbrev pub feeds : ℕ → List Item → List Move
+feeds k items = map (λ i. Feed k i) items
+
+-- the worker took so many items that were not collected, and gave these outs by them
+pub record HasTaken (w : World) (k n : ℕ) (outs : List Out) : Type 0 where
+  pub taken : (w.seats k).taken ≡ (w.seats k).collected + n
+  pub gave : (w.seats k).outs ≡ (w.seats k).back ++ outs

@@ -1,0 +1,117 @@
+-- The stages of a worker, what meets what it is due, and what answers that.
+use Rattle.std.specs.Prelude.{◌≡◌, ◌≢◌, ◌⊎◌, ℕ, ◌+◌, ◌<◌, cond, nat_eq, List, [], ◌∷◌, ◌++◌, length, map}
+use Rattle.std.specs.List.{AllByRecursion}
+use Rattle.mfotl_model.specs.Log.{times}
+use Rattle.mfotl_model.specs.Satisfaction.{time_at}
+use Rattle.mfotl_model.specs.Strategies.{Strategy, workers_of}
+use Rattle.mfotl_model.specs.declared.event.TimePoint.{TimePoint}
+use Rattle.monitorable.specs.CoreForms.{CoreForm}
+use Rattle.verdict_merge.specs.declared.rows.Rows.{Rows}
+use Rattle.rescale_core.specs.Workers.{IsFor, MayFollow, newly, owned_by, slice_for, violations_at}
+use Rattle.rescale_core.specs.Monitors.{PieceStands}
+use Rattle.rescale_core.specs.Lines.{Turn, Due}
+use Rattle.rescale_core.specs.Lines.Due.{Slicing, Parting, Hole}
+use Rattle.rescale_core.specs.declared.piece.Piece.{Piece}
+use Rattle.rescale_core.specs.declared.item.Item.{Item}
+use Rattle.rescale_core.specs.declared.item.Item.TheVariants.{Slice, Part, Adopt}
+use Rattle.rescale_core.specs.declared.item.Out.{Out}
+use Rattle.rescale_core.specs.declared.item.Out.TheVariants.{Rows as OfRows, Piece as OfPiece}
+
+-- what a worker's state stands for: a log under a strategy, nothing, or the pieces adopted so far, the last first
+pub data Stage : Type 0 where
+  Live : (s : Strategy) → (log : List TimePoint) → Stage
+  Gone : Stage
+  Filling : (t : Turn) → (froms : List ℕ) → Stage
+
+-- the workers whose pieces were adopted
+abbrev pub froms_of : Stage → List ℕ
+froms_of (Live s log) = []
+froms_of Gone = []
+froms_of (Filling t froms) = froms
+
+-- the number is none of these
+abbrev pub NotIn : ℕ → List ℕ → Type 0
+NotIn x ys = AllByRecursion (λ y. x ≢ y) ys
+
+-- the piece is one of those that the change asks of a worker for worker k
+pub record IsPieceFor (core : CoreForm) (t : Turn) (k : ℕ) (p : Piece) : Type 0 where
+  pub generation : p.generation ≡ t.generation
+  pub to : p.to ≡ k
+  pub count : p.count ≡ workers_of t.old
+  pub near : p.from < workers_of t.old
+  pub stands : PieceStands core t.old p.from t.new k t.before p
+
+-- the item is what is due
+abbrev pub Meets : CoreForm → ℕ → Stage → Due → Item → Type 0
+Meets core k st (Slicing g s log p) i = i ≡ Slice g (length log) (slice_for core s k p)
+Meets core k st (Parting t) i = i ≡ Part t.generation t.old t.new
+Meets core k st (Hole t j) i =
+    (p : Piece) × (i ≡ Adopt p t.new) × IsPieceFor core t k p × NotIn p.from (froms_of st)
+
+-- the worker that an item comes from, of a piece
+abbrev pub from_of : Item → ℕ
+from_of (Slice g n p) = 0
+from_of (Part g old new) = 0
+from_of (Adopt p now) = p.from
+
+-- the stage after an item
+abbrev pub stage_after : Stage → Due → Item → Stage
+stage_after st (Slicing g s log p) i = Live s (log ++ p ∷ [])
+stage_after st (Parting t) i = Gone
+stage_after st (Hole t j) i =
+    cond (nat_eq (j + 1) (workers_of t.old)) (Live t.new t.before) (Filling t (from_of i ∷ froms_of st))
+
+-- the items are what is due, one by one, as far as they go
+abbrev pub Fits : CoreForm → ℕ → Stage → List Due → List Item → Type 0
+Fits core k st ds [] = Unit {0}
+Fits core k st [] (i ∷ is) = ⊥
+Fits core k st (d ∷ ds) (i ∷ is) = Meets core k st d i × Fits core k (stage_after st d i) ds is
+
+-- the stage after these items
+abbrev pub stage : Stage → List Due → List Item → Stage
+stage st ds [] = st
+stage st [] (i ∷ is) = st
+stage st (d ∷ ds) (i ∷ is) = stage (stage_after st d i) ds is
+
+-- the stage and what is due next belong together
+abbrev pub Follows : CoreForm → ℕ → Stage → Due → Type 0
+Follows core k st (Slicing g s log p) =
+    (st ≡ Live s log) × MayFollow log p × IsFor core s × (k < workers_of s)
+Follows core k st (Parting t) =
+    (st ≡ Live t.old t.before) × IsFor core t.old × IsFor core t.new × (k < workers_of t.old)
+Follows core k st (Hole t j) =
+    (j ≡ length (froms_of st)) × (j < workers_of t.old)
+    × ((st ≡ Gone) ⊎ (st ≡ Filling t (froms_of st))) × (j ≢ 0 → st ≡ Filling t (froms_of st))
+
+-- what a worker says of a position that the time-point settles: the violations that it owns
+abbrev pub row_for : CoreForm → ℕ → ℕ → Strategy → List TimePoint → TimePoint → ℕ → Rows
+row_for core k g s log p i =
+    record {
+      point = i;
+      ts = time_at (times (log ++ p ∷ [])) i;
+      generation = g;
+      worker = k;
+      rows = owned_by s k (violations_at core (log ++ p ∷ []) i);
+    }
+
+-- the same as an out
+abbrev pub rows_for : CoreForm → ℕ → ℕ → Strategy → List TimePoint → TimePoint → ℕ → Out
+rows_for core k g s log p i = OfRows (row_for core k g s log p i)
+
+-- one piece for each new worker from k2 on, in order
+abbrev pub Parts : CoreForm → ℕ → Turn → ℕ → List Out → Type 0
+Parts core k t k2 [] = Unit {0}
+Parts core k t k2 (o ∷ os) =
+    ((p : Piece) × (o ≡ OfPiece p) × (p.from ≡ k) × IsPieceFor core t k2 p) × Parts core k t (k2 + 1) os
+
+-- the outs answer what was due
+abbrev pub Gives : CoreForm → ℕ → Due → List Out → Type 0
+Gives core k (Slicing g s log p) outs = outs ≡ map (rows_for core k g s log p) (newly core log p)
+Gives core k (Parting t) outs = (length outs ≡ workers_of t.new) × Parts core k t 0 outs
+Gives core k (Hole t j) outs = outs ≡ []
+
+-- the outs answer all that was due
+abbrev pub Answers : CoreForm → ℕ → List Due → List Out → Type 0
+Answers core k [] outs = outs ≡ []
+Answers core k (d ∷ ds) outs =
+    (a : List Out) × (b : List Out) × (outs ≡ a ++ b) × Gives core k d a × Answers core k ds b

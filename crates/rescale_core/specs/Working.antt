@@ -1,0 +1,118 @@
+-- What a worker's state stands for.
+use Rattle.std.specs.Prelude.{◌≡◌, ℕ, cond, nat_lt, List, [], ◌∷◌, ◌++◌, length, take}
+use Rattle.std.specs.List.{AllByRecursion}
+use Rattle.mfotl_model.specs.Strategies.{workers_of}
+use Rattle.monitorable.specs.CoreForms.{CoreForm}
+use Rattle.monitorable.specs.Cores.{core_form}
+use Rattle.monitor_state.specs.declared.monitor.Monitor.{Monitor}
+use Rattle.rescale_core.specs.Workers.{IsFor}
+use Rattle.rescale_core.specs.Monitors.{IsMonitor}
+use Rattle.rescale_core.specs.Lines.{Due, first_spot, line, AreSound}
+use Rattle.rescale_core.specs.Stages.{Stage, Answers, Fits, Follows, Gives, Meets, stage, stage_after}
+use Rattle.rescale_core.specs.Stages.Stage.{Live, Gone, Filling}
+use Rattle.rescale_core.specs.Seeds.{SeedOf}
+use Rattle.rescale_core.specs.declared.phase.Phase.{Phase}
+use Rattle.rescale_core.specs.declared.phase.Phase.TheVariants.{Active, Vacant}
+use Rattle.rescale_core.specs.declared.phase.Worker.{Worker}
+use Rattle.rescale_core.specs.declared.item.Entry.{Entry}
+use Rattle.rescale_core.specs.declared.item.Item.{Item}
+use Rattle.rescale_core.specs.declared.item.Item.TheVariants.{Slice, Part, Adopt}
+use Rattle.rescale_core.specs.declared.item.Out.{Out}
+
+-- the worker is at this stage; none waits for pieces yet
+abbrev pub IsAt : CoreForm → ℕ → Stage → Phase → Type 0
+IsAt core k (Live s log) phase = (m : Monitor) × (phase ≡ Active m s) × IsMonitor core s k log m
+IsAt core k Gone phase = phase ≡ Vacant
+IsAt core k (Filling t froms) phase = ⊥
+
+-- what the worker began with
+abbrev pub seed_of : Worker → SeedOf
+seed_of w = record { core = core_form w.core; first = w.first.value; k = w.number }
+
+-- the stage before anything was taken
+abbrev pub first_stage : SeedOf → Stage
+first_stage s = cond (nat_lt s.k (workers_of s.first)) (Live s.first []) Gone
+
+-- what the worker is due by these entries
+abbrev pub line_of : SeedOf → List Entry → List Due
+line_of s es = line s.k (first_spot s.first) es
+
+-- the entries may be read, and the items are those that they make due, as far as they go
+abbrev pub Has : SeedOf → List Entry → List Item → Type 0
+Has s es items = AreSound s.core (first_spot s.first) es × Fits s.core s.k (first_stage s) (line_of s es) items
+
+-- the item is a slice
+abbrev pub IsSlice : Item → Type 0
+IsSlice (Slice generation number point) = Unit {0}
+IsSlice (Part generation old new) = ⊥
+IsSlice (Adopt piece now) = ⊥
+
+-- the items may be handed over: some entries make them due, and as yet they are slices alone
+abbrev pub May : SeedOf → List Item → Type 0
+May s items = ((es : List Entry) × Has s es items) × AllByRecursion IsSlice items
+
+-- whatever entries make the items due, the outs answer them
+abbrev pub Told : SeedOf → List Item → List Out → Type 0
+Told s taken gave =
+    (es : List Entry) → Has s es taken → Answers s.core s.k (take (length taken) (line_of s es)) gave
+
+-- the worker began with the seed, took these items and gave these outs
+pub record StandsFor (s : SeedOf) (taken : List Item) (gave : List Out) (w : Worker) : Type 0 where
+  pub core : core_form w.core ≡ s.core
+  pub number : w.number ≡ s.k
+  pub first : IsFor s.core s.first
+  pub told : Told s taken gave
+  pub at : (es : List Entry) → Has s es taken → IsAt s.core s.k (stage (first_stage s) (line_of s es) taken) w.phase
+
+-- ---- one item
+
+-- the worker is at a stage at which this item is due
+abbrev pub CanTake : Worker → Item → Type 0
+CanTake w item =
+    (st : Stage) × (d : Due)
+    × IsAt (core_form w.core) w.number st w.phase
+    × Follows (core_form w.core) w.number st d
+    × Meets (core_form w.core) w.number st d item
+
+-- from whatever stage the worker takes the item, its outs answer what was due, and it is at the next stage
+pub record Steps (w : Worker) (item : Item) (x : Worker) (gave : List Out) : Type 0 where
+  pub core : core_form x.core ≡ core_form w.core
+  pub number : x.number ≡ w.number
+  pub step : (st : Stage) (d : Due)
+      → IsAt (core_form w.core) w.number st w.phase
+      → Follows (core_form w.core) w.number st d
+      → Meets (core_form w.core) w.number st d item
+      → Gives (core_form w.core) w.number d gave
+      × IsAt (core_form w.core) w.number (stage_after st d item) x.phase
+
+-- the worker gave these outs behind others
+abbrev pub Gave : Worker → Item → Worker → List Out → List Out → Type 0
+Gave w item x old new = (gave : List Out) × (new ≡ old ++ gave) × Steps w item x gave
+
+-- ---- laws
+
+-- what stands is told
+pub tells : (s : SeedOf) (t : List Item) (g : List Out) (w : Worker) → StandsFor s t g w → Told s t g
+tells s t g w h = h.told
+
+-- nothing may be handed over
+pub may_none : (s : SeedOf) → May s []
+may_none s = (([], (tt, tt)), tt)
+
+fits_front : (core : CoreForm) (k : ℕ) (a b : List Item) (st : Stage) (ds : List Due) → Fits core k st ds (a ++ b)
+    → Fits core k st ds a
+fits_front core k [] b st ds f = tt
+fits_front core k (i ∷ a) b st [] f = f
+fits_front core k (i ∷ a) b st (d ∷ ds) f = (f.0, fits_front core k a b (stage_after st d i) ds f.1)
+
+-- a front of slices is slices
+pub slices_front : (a b : List Item) → AllByRecursion IsSlice (a ++ b) → AllByRecursion IsSlice a
+slices_front [] b h = tt
+slices_front (i ∷ a) b h = (h.0, slices_front a b h.1)
+
+-- a front of what may be handed over may be
+pub may_less : (s : SeedOf) (a b : List Item) → May s (a ++ b) → May s a
+may_less s a b m = (
+  (m.0.0, (m.0.1.0, fits_front s.core s.k a b (first_stage s) (line_of s m.0.0) m.0.1.1)),
+  slices_front a b m.1,
+)

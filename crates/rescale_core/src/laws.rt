@@ -1,0 +1,29 @@
+//! Laws of worlds, as theorems on the definitions. Each call does nothing: its clause is the law.
+ghost use Rattle.rescale_core.specs.Ends.{MachineEnds, MachineWorlds, RowsPartition};
+ghost use Rattle.rescale_core.specs.Laws.{PolicyViolations, ReachedWorlds};
+
+/// In each world that steps reach from the first one, what each worker was handed fits, what it gave answers that,
+/// and what was emitted are the first verdicts on all that was read.
+pub fn reached_worlds()
+    ensures { ReachedWorlds }
+{}
+
+/// So it is in each world that a machine stands for.
+pub fn machine_worlds()
+    ensures { MachineWorlds }
+{}
+
+/// Where a machine can do no step, it emitted all verdicts on all entries.
+pub fn machine_ends()
+    ensures { MachineEnds }
+{}
+
+/// What the workers say of a position is by owner a partition of its violations.
+pub fn rows_partition()
+    ensures { RowsPartition }
+{}
+
+/// The violations of which worlds speak are the policy's.
+pub fn policy_violations()
+    ensures { PolicyViolations }
+{}

@@ -1,0 +1,23 @@
+//! Router, workers and machine: what is read goes to workers, and their findings become verdicts.
+#![tactic(auto)]
+
+mod cell;
+mod cells;
+mod item;
+pub mod laws;
+mod machine;
+mod phase;
+mod piece;
+mod queue;
+mod router;
+mod routes;
+mod settled;
+mod stage;
+mod worker;
+
+pub use cells::{Applied, Step};
+pub use item::{Entry, Item, Out};
+pub use phase::Worker;
+pub use piece::Piece;
+pub use routes::Router;
+pub use stage::Machine;

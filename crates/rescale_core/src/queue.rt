@@ -1,0 +1,46 @@
+//! What waits for one worker.
+ghost use Rattle.std.specs.Prelude.{◌≡◌, ◌++◌, ◌∷◌, [], IfOk, length};
+ghost use Rattle.rescale_core.specs.Chances.{Pops, sure_items};
+ghost use Rattle.rescale_core.specs.Chances.Chance.{Sure};
+ghost use Rattle.rescale_core.specs.Queues.{waiting};
+
+use crate::item::Item;
+use std::alloc::{AllocError, Global};
+use std::collections::VecDeque;
+
+/// The items that were not handed over.
+#[derive(Drop)]
+pub(crate) struct Queue {
+    items: VecDeque<Item>,
+}
+
+impl Queue {
+    pub(crate) fn new(alloc: Global) -> Self
+        ensures { waiting result ≡ [] }
+    {
+        Queue {
+            items: VecDeque::new(alloc),
+        }
+    }
+
+    pub(crate) fn push(&mut self, item: Item) -> Result<(), AllocError>
+        ensures { IfOk result (λ _. waiting self.new ≡ waiting self.old ++ Sure item ∷ []) }
+    {
+        self.items.push_back(item)?;
+        Ok(())
+    }
+
+    /// The first item.
+    pub(crate) fn pop(&mut self) -> Option<Item>
+        ensures { Pops (waiting self.old) result (waiting self.new) }
+    {
+        self.items.pop_front()
+    }
+
+    /// How many items may be handed over.
+    pub(crate) fn ready(&self) -> u64
+        ensures { result ≡ length (sure_items (waiting self.now)) }
+    {
+        self.items.len() as u64
+    }
+}

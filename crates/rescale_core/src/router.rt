@@ -1,0 +1,186 @@
+//! The router: what is read is queued for each worker, until it is handed over.
+ghost use Rattle.std.specs.Prelude.{◌≡◌, ◌++◌, ◌∷◌, [], ◌<◌, ◌≤◌, ◌+◌, ◌⊎◌, ℕ, IfOk, IfSome, IfNone, length};
+ghost use Rattle.mfotl_model.specs.Strategies.{workers_of};
+ghost use Rattle.monitorable.specs.Cores.{core_form};
+ghost use Rattle.rescale_core.specs.Chances.{sure_items};
+ghost use Rattle.rescale_core.specs.Queues.{queue_at, waiting};
+ghost use Rattle.rescale_core.specs.Routing.{HasTaken, IsRouterOf, MayAdd, TakesFront, feeds, slices_for};
+ghost use Rattle.rescale_core.specs.Workers.{IsFor, MayFollow};
+ghost use Rattle.rescale_core.specs.Worlds.{World, Allowed, AreAllowed, IsGathered, after, first_world, pieces_in, queue_in, rows_in, run, spot_in};
+ghost use Rattle.rescale_core.specs.Worlds.Move.{Read, Collect, Emit};
+ghost use Rattle.rescale_core.specs.declared.item.Entry.TheVariants.{Point};
+
+use crate::item::{Item, Out};
+use crate::queue::Queue;
+use crate::routes::Router;
+use event_splitter::split;
+use mfotl_model::TimePoint;
+use monitorable::Core;
+use slice_strategy::{Slicer, Strategy};
+use std::alloc::{AllocError, Global};
+use verdict_merge::{Gather, Verdict};
+
+impl Router {
+    /// The router that read nothing yet.
+    pub fn start(alloc: Global, core: Core, strategy: Strategy) -> Result<Self, AllocError>
+        requires { IsFor (core_form core) strategy }
+        ensures { IfOk result (λ router. IsRouterOf router (first_world (core_form core) strategy)) }
+    {
+        let (gather, queues) = first_parts(alloc, strategy.workers())?;
+        Ok(Router {
+            core,
+            strategy,
+            generation: 0,
+            points: 0,
+            queues,
+            gather,
+        })
+    }
+
+    /// Queues a slice of the time-point for each worker, also an empty one.
+    pub fn read_point(&mut self, alloc: Global, point: TimePoint) -> Result<(), AllocError>
+        requires { (w : World) × IsRouterOf self.old w × MayFollow (spot_in w).points point }
+        ensures { IfOk result (λ _. (w : World) → IsRouterOf self.old w → MayFollow (spot_in w).points point
+            → IsRouterOf self.new (after w (Read (Point point)))) }
+    {
+        let slices = split(alloc, &self.core, &self.strategy, &point)?;
+        push_slices(&mut self.queues, self.generation, self.points, slices)?;
+        self.points += 1;
+        Ok(())
+    }
+
+    /// How many items may be handed to worker `k` now.
+    pub fn ready(&self, k: u32) -> u64
+        ensures { (w : World) → IsRouterOf self.now w → result ≡ length (sure_items (queue_in w k)) }
+    {
+        if k as usize >= self.queues.len() {
+            return 0;
+        }
+        self.queues[k as usize].ready()
+    }
+
+    /// Hands the first items to worker `k`: as many as wanted, or all that are ready.
+    pub fn take_ready(&mut self, alloc: Global, k: u32, most: u64) -> Result<Vec<Item>, AllocError>
+        ensures moves { IfOk result (λ items. (w : World) → IsRouterOf self.old w
+            → AreAllowed w (feeds k items.items) × IsRouterOf self.new (run w (feeds k items.items))) }
+        ensures few { IfOk result (λ items. length items.items ≤ most) }
+        ensures all { IfOk result (λ items. (w : World) → IsRouterOf self.old w
+            → (length items.items ≡ most) ⊎ (sure_items (queue_in (run w (feeds k items.items)) k) ≡ [])) }
+    {
+        if k as usize >= self.queues.len() {
+            return Ok(Vec::new(alloc));
+        }
+        let queue = &mut self.queues[k as usize];
+        let items = take_front(alloc, queue, most)?;
+        Ok(items)
+    }
+
+    /// Takes what worker `k` gave for the next items that it was handed.
+    pub fn collect(&mut self, k: u32, taken: u64, outs: Vec<Out>) -> Result<(), AllocError>
+        requires taken { (w : World) × IsRouterOf self.old w × HasTaken w k taken outs.items }
+        requires some { 0 < taken }
+        ensures { IfOk result (λ _. (w : World) → IsRouterOf self.old w → HasTaken w k taken outs.items
+            → IsRouterOf self.new (after w (Collect k))) }
+    {
+        add_all(&mut self.gather, outs)?;
+        Ok(())
+    }
+
+    /// The next verdict, once all its Rows were collected.
+    pub fn emit(&mut self, alloc: Global) -> Result<Option<Verdict>, AllocError>
+        ensures emitted { IfOk result (λ o. IfSome o (λ v. (w : World) → IsRouterOf self.old w
+            → Allowed w (Emit v) × IsRouterOf self.new (after w (Emit v)))) }
+        ensures none { IfOk result (λ o. IfNone o ((w : World) → IsRouterOf self.old w
+            → (IsGathered w (length w.emitted) → ⊥) × IsRouterOf self.new w)) }
+    {
+        let verdict = self.gather.emit(alloc)?;
+        Ok(verdict)
+    }
+}
+
+// What is gathered and queued before anything was read.
+fn first_parts(alloc: Global, workers: u32) -> Result<(Gather, Vec<Queue>), AllocError>
+    requires { 0 < workers }
+    ensures gather { IfOk result (λ parts. parts.0 ≡ record {
+      begun = record { generation = 0; workers = workers } ∷ [];
+      next = 0;
+      added = [];
+    }) }
+    ensures len { IfOk result (λ parts. length parts.1.items ≡ workers) }
+    ensures empty { IfOk result (λ parts. (q : ℕ) → queue_at parts.1.items q ≡ []) }
+{
+    let mut gather = Gather::new(alloc);
+    gather.begin(0, workers)?;
+    let queues = new_queues(alloc, workers)?;
+    Ok((gather, queues))
+}
+
+// An empty queue for each worker.
+fn new_queues(alloc: Global, workers: u32) -> Result<Vec<Queue>, AllocError>
+    ensures len { IfOk result (λ queues. length queues.items ≡ workers) }
+    ensures empty { IfOk result (λ queues. (q : ℕ) → queue_at queues.items q ≡ []) }
+{
+    let mut queues = Vec::new(alloc);
+    for _ in 0..workers {
+        queues.push(Queue::new(alloc))?;
+    }
+    Ok(queues)
+}
+
+// Queues a slice for each worker.
+fn push_slices(
+    queues: &mut Vec<Queue>,
+    generation: u64,
+    number: u64,
+    slices: Vec<TimePoint>,
+) -> Result<(), AllocError>
+    requires { length slices.items ≤ length queues.old.items }
+    ensures len { IfOk result (λ _. length queues.new.items ≡ length queues.old.items) }
+    ensures queued { IfOk result (λ _. (q : ℕ) → queue_at queues.new.items q
+        ≡ queue_at queues.old.items q ++ slices_for generation number 0 slices.items q) }
+{
+    let mut k = 0;
+    for point in slices {
+        let queue = &mut queues[k];
+        queue.push(Item::Slice {
+            generation,
+            number,
+            point,
+        })?;
+        k += 1;
+    }
+    Ok(())
+}
+
+// Takes out the first items, as many as wanted or all that are there.
+fn take_front(alloc: Global, queue: &mut Queue, most: u64) -> Result<Vec<Item>, AllocError>
+    ensures { IfOk result (λ items. TakesFront (waiting queue.old) most items.items (waiting queue.new)) }
+{
+    let mut items = Vec::new(alloc);
+    for _ in 0..most {
+        match queue.pop() {
+            None => return Ok(items),
+            Some(item) => items.push(item)?,
+        }
+    }
+    Ok(items)
+}
+
+// Adds what was given. Nothing but Rows is given where no strategy changes.
+fn add_all(gather: &mut Gather, outs: Vec<Out>) -> Result<(), AllocError>
+    requires rows { pieces_in outs.items ≡ [] }
+    requires may { MayAdd gather.old (rows_in outs.items) }
+    ensures { IfOk result (λ _. gather.new ≡ record {
+      begun = gather.old.begun;
+      next = gather.old.next;
+      added = gather.old.added ++ rows_in outs.items;
+    }) }
+{
+    for out in outs {
+        match out {
+            Out::Rows(rows) => gather.add(rows)?,
+            Out::Piece(_) => unreachable!(),
+        }
+    }
+    Ok(())
+}
