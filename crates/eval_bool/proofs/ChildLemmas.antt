@@ -11,7 +11,7 @@ use Rattle.eval_bool.specs.IsJoin.{FewFrom, IsJoin}
 use Rattle.eval_bool.specs.JoinView.{ChildOf, TestOf, all_children, bound_columns, child_advanced, child_columns, child_pushed, child_tables, compared, is_guarded}
 
 -- the same children but for their tables
-abbrev Alike : List ChildOf → List ChildOf → Type 0
+abbrev pub Alike : List ChildOf → List ChildOf → Type 0
 Alike [] [] = Unit {0}
 Alike (x ∷ xs) (y ∷ ys) = (x.columns ≡ y.columns) × (x.negated ≡ y.negated) × Alike xs ys
 Alike xs ys = ⊥
@@ -46,7 +46,7 @@ guarded_alike xs ys tests same =
     ∙ ap (λ b. b && list_all (λ t. all_among (compared t.comparison) (bound_columns ys)) tests)
     (all_alike (λ columns. all_among columns (bound_columns ys)) xs ys same)
 
-join_alike : (columns : List ℕ) (tests : List TestOf) (p q : ℕ) (xs ys : List ChildOf) → IsJoin columns tests p xs
+pub join_alike : (columns : List ℕ) (tests : List TestOf) (p q : ℕ) (xs ys : List ChildOf) → IsJoin columns tests p xs
     → Alike xs ys → FewFrom q ys → IsJoin columns tests q ys
 join_alike columns tests p q xs ys is same few =
     record {

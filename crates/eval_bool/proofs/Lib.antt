@@ -4,3 +4,4 @@ pub mod OrLemmas
 pub mod ChildLemmas
 pub mod HeadLemmas
 pub mod ConjunctLemmas
+pub mod RefillLemmas

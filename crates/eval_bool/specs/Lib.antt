@@ -4,3 +4,4 @@ pub mod JoinView
 pub mod IsJoin
 pub mod Heads
 pub mod OrView
+pub mod BoolData

@@ -1,10 +1,11 @@
 //! A child of a conjunction, and its tables.
 ghost use Rattle.eval_bool.specs.JoinView.{child_advanced};
 ghost use Rattle.eval_bool.specs.Heads.{IsFirst};
+ghost use Rattle.relations.specs.Pushed.{AreOver};
 ghost use Rattle.std.specs.Prelude.{◌≡◌, ◌∷◌, ◌++◌, [], IfOk, OnOk, OnErr, length, nat_lt, ◌+◌, ◌<◌, ◌^◌, IsTrue};
 
 use crate::room::fits;
-use relations::Table;
+use relations::{Table, copied_tables};
 use std::alloc::{AllocError, Global};
 use std::collections::VecDeque;
 use std::marker::Model;
@@ -37,6 +38,27 @@ impl Child {
             negated,
             tables: VecDeque::new(alloc),
         }
+    }
+
+    /// The child with these tables.
+    pub(crate) fn with_tables(self, tables: Vec<Table>) -> Self
+        requires over { AreOver self.columns tables.items }
+        ensures { result ≡ record self { tables = tables.items } }
+    {
+        Child {
+            columns: self.columns,
+            negated: self.negated,
+            tables: VecDeque::from_vec(tables),
+        }
+    }
+
+    /// Copies of its tables.
+    pub(crate) fn copied(&self, alloc: Global) -> Result<Vec<Table>, AllocError>
+        ensures tables { IfOk result (λ tables. tables.items ≡ self.now.tables) }
+        ensures over { AreOver self.now.columns self.now.tables }
+    {
+        let tables = copied_tables(alloc, &self.tables)?;
+        Ok(tables)
     }
 
     pub(crate) fn is_negated(&self) -> bool

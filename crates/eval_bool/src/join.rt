@@ -2,6 +2,7 @@
 ghost use Rattle.std.specs.Prelude.{◌≡◌, ◌+◌, ◌<◌, ◌^◌, ◌∷◌, ◌++◌, [], IfOk, IfSome, IsTrue, MatchOption, OnOk, is_some, length, map};
 ghost use Rattle.mfotl_model.specs.Satisfaction.{Valuation};
 ghost use Rattle.mfotl_model.specs.Tables.{all_apart, has};
+ghost use Rattle.eval_bool.specs.BoolData.{JoinRule, join_of};
 ghost use Rattle.eval_bool.specs.Heads.{AreHeads};
 ghost use Rattle.eval_bool.specs.JoinView.{all_children, child_columns, child_pushed, child_tables, children_of, conjunct_of};
 ghost use Rattle.eval_bool.specs.JoinView.{is_guarded, join_advanced, join_begun, join_due, joins, tests_of};
@@ -10,6 +11,8 @@ use crate::child::Child;
 use crate::combined::combined;
 use crate::conjunct::{Conjunct, Parts, Test, conjunct_columns, split};
 use crate::heads::{Heads, take_heads};
+use crate::recalled::JoinData;
+use crate::refill::{copied_all, refilled};
 use relations::Table;
 use std::alloc::{AllocError, Global};
 use std::marker::Model;
@@ -51,6 +54,42 @@ impl JoinState {
             tests,
             pulled: 0,
             children,
+        })
+    }
+
+    /// The state of which `kept` is the data. The conditions on the conjuncts are those of `new`.
+    pub fn resume(
+        alloc: Global,
+        conjuncts: Vec<Conjunct>,
+        kept: JoinData,
+    ) -> Result<Self, AllocError>
+        requires some { 0 < length (children_of (map conjunct_of conjuncts.items)) }
+        requires apart { IsTrue (all_children all_apart (children_of (map conjunct_of conjuncts.items))) }
+        requires guarded { IsTrue (is_guarded (children_of (map conjunct_of conjuncts.items)) (tests_of (map conjunct_of conjuncts.items))) }
+        requires rule { JoinRule (children_of (map conjunct_of conjuncts.items)) kept }
+        ensures state { IfOk result (λ state.
+            state ≡ join_of (join_begun (map conjunct_of conjuncts.items)) kept) }
+    {
+        let columns = conjunct_columns(alloc, conjuncts.as_slice())?;
+        let Parts { tests, children } = split(alloc, conjuncts)?;
+        let JoinData { pulled, tables } = kept;
+        let children = refilled(alloc, children, tables)?;
+        Ok(JoinState {
+            columns,
+            tests,
+            pulled,
+            children,
+        })
+    }
+
+    /// What the state keeps, as plain data.
+    pub fn state(&self, alloc: Global) -> Result<JoinData, AllocError>
+        ensures same { IfOk result (λ kept. join_of self.now kept ≡ self.now) }
+        ensures rule { IfOk result (λ kept. JoinRule self.now.children kept) }
+    {
+        Ok(JoinData {
+            pulled: self.pulled,
+            tables: copied_all(alloc, self.children.as_slice())?,
         })
     }
 

@@ -10,6 +10,8 @@ mod heads;
 mod join;
 mod matching;
 mod or;
+mod recalled;
+mod refill;
 mod reorder;
 mod room;
 
@@ -18,4 +20,5 @@ pub use conjunct::Conjunct;
 pub use exists::eval_exists;
 pub use join::JoinState;
 pub use or::OrState;
+pub use recalled::{JoinData, OrData};
 pub use reorder::reordered;

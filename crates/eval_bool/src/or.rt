@@ -2,12 +2,14 @@
 ghost use Rattle.std.specs.Prelude.{◌≡◌, ◌+◌, ◌<◌, ◌^◌, ◌||◌, ◌∷◌, ◌++◌, [], IfOk, IfSome, IsTrue, MatchOption, OnOk, is_some, length};
 ghost use Rattle.mfotl_model.specs.Satisfaction.{Valuation};
 ghost use Rattle.mfotl_model.specs.Tables.{all_apart, has};
+ghost use Rattle.eval_bool.specs.BoolData.{OrRule, or_of};
 ghost use Rattle.eval_bool.specs.Firsts.{first_has};
 ghost use Rattle.eval_bool.specs.OrView.{operand_columns, operand_tables, or_advanced, or_begun, or_due, or_pushed, same_columns};
 
+use crate::recalled::OrData;
 use crate::reorder::reordered;
 use crate::room::fits;
-use relations::Table;
+use relations::{Table, copied_tables};
 use std::alloc::{AllocError, Global};
 use std::collections::VecDeque;
 use std::marker::Model;
@@ -62,6 +64,46 @@ impl OrState {
             pulled: 0,
             lefts: VecDeque::new(alloc),
             rights: VecDeque::new(alloc),
+        })
+    }
+
+    /// The state of which `kept` is the data.
+    pub fn resume(
+        alloc: Global,
+        left: &[u32],
+        right: &[u32],
+        kept: OrData,
+    ) -> Result<Self, AllocError>
+        requires apart { IsTrue (all_apart left.now) }
+        requires same { IsTrue (same_columns left.now right.now) }
+        requires rule { OrRule left.now right.now kept }
+        ensures state { IfOk result (λ state. state ≡ or_of left.now right.now kept) }
+    {
+        let OrData {
+            pulled,
+            lefts,
+            rights,
+        } = kept;
+        let left = Vec::from_slice(alloc, left)?;
+        let right = Vec::from_slice(alloc, right)?;
+        Ok(OrState {
+            left,
+            right,
+            pulled,
+            lefts: VecDeque::from_vec(lefts),
+            rights: VecDeque::from_vec(rights),
+        })
+    }
+
+    /// What the state keeps, as plain data.
+    pub fn state(&self, alloc: Global) -> Result<OrData, AllocError>
+        ensures same { IfOk result (λ kept. or_of self.now.left self.now.right kept ≡ self.now) }
+        ensures rule { IfOk result (λ kept. OrRule self.now.left self.now.right kept) }
+    {
+        Ok(OrData {
+            pulled: self.pulled,
+            lefts: copied_tables(alloc, &self.lefts)?,
+            rights: copied_tables(alloc, &self.rights)?,
         })
     }
 

@@ -208,7 +208,7 @@ hit_is interval x u (e ∷ es) h = by (is_at (row_cmp u) e.0) refl
 abbrev pub StandsIn : List (List Value × List (List Value × List ℕ)) → List Value → List Value → Type 0
 StandsIn groups k u = (q : List Value) → is_at (row_cmp k) q ≡ false → times_at groups q u ≡ []
 
-stands_tail : (e : List Value × List (List Value × List ℕ)) (es : List (List Value × List (List Value × List ℕ)))
+pub stands_tail : (e : List Value × List (List Value × List ℕ)) (es : List (List Value × List (List Value × List ℕ)))
     (k u : List Value)
     → IsStrictlySortedBy row_cmp (keys_of (e ∷ es)) → StandsIn (e ∷ es) k u → StandsIn es k u
 stands_tail e es k u h stands q apart = by (is_at (row_cmp q) e.0) refl (stands q apart)

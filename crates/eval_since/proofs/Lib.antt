@@ -8,3 +8,7 @@ pub mod WithinLemmas
 pub mod RuleLemmas
 pub mod StepLemmas
 pub mod FollowsLemmas
+pub mod RecalledLemmas
+pub mod DatedLemmas
+pub mod RestoredLemmas
+pub mod DataLemmas

@@ -8,3 +8,5 @@ pub mod Windows
 pub mod WindowView
 pub mod SinceView
 pub mod Recalled
+pub mod SinceData
+pub mod PreviousData

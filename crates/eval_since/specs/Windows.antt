@@ -10,6 +10,10 @@ use Rattle.eval_since.specs.declared.window.Dated.{Dated}
 use Rattle.mfotl_model.specs.Tables.{all_apart, has_row, part}
 use Rattle.eval_since.specs.Times.{ArePast, recent}
 
+-- no times are kept
+abbrev pub IsBlank : List (List Value × List (List Value × List ℕ)) → Type 0
+IsBlank groups = (q v : List Value) → times_at groups q v ≡ []
+
 -- each row that times are kept for has n values
 abbrev pub Sized : ℕ → List (List Value × List (List Value × List ℕ)) → Type 0
 Sized n groups = (q v : List Value) → nat_eq (length v) n ≡ false → times_at groups q v ≡ []

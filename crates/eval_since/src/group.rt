@@ -1,5 +1,5 @@
 //! Rows with the times kept for them.
-ghost use Rattle.std.specs.Prelude.{◌≡◌, ◌||◌, ◌==◌, [], List, ℕ, OnOk, cond, length};
+ghost use Rattle.std.specs.Prelude.{◌≡◌, ◌||◌, ◌==◌, [], List, None, IfOk, OnOk, cond, length};
 ghost use Rattle.std.specs.BTreeMap.{is_at};
 ghost use Rattle.mfotl_model.specs.Values.{row_cmp};
 ghost use Rattle.mfotl_model.specs.declared.value.Value.{Value};
@@ -9,8 +9,10 @@ ghost use Rattle.eval_since.specs.Times.{ArePast, added, reaches, recent};
 ghost use Rattle.std.specs.List.{list_any};
 ghost use Rattle.std.specs.List.Sorted.{IsStrictlySortedBy};
 ghost use Rattle.std.specs.Map.{keys_of};
+ghost use Rattle.std.specs.Option.{option_or};
 ghost use Rattle.mfotl_model.specs.declared.interval.Interval.{Interval};
-ghost use Rattle.eval_since.specs.Recalled.{recalls};
+ghost use Rattle.relations.specs.KeptRows.{RowsAscend, filled, first_filled, kept_for};
+ghost use Rattle.eval_since.specs.Recalled.{times_kept};
 
 use crate::recalled::KeptRow;
 use crate::times::Times;
@@ -123,27 +125,61 @@ impl Group {
         Ok(())
     }
 
-    /// Appends the rows with their times.
-    pub fn push_kept(&self, alloc: Global, out: &mut Vec<KeptRow>) -> Result<(), AllocError>
-        ensures { OnOk result ((interval : Interval) (x : ℕ) (u : List Value) →
-            recalls interval out.new.items x u
-            ≡ (recalls interval out.old.items x u || reaches interval (times_in self.now u) x)) }
+    /// Puts the times of a row in the place of those that it has.
+    pub fn put(&mut self, row: Row, times: Times) -> Result<(), AllocError>
+        ensures { OnOk result ((v : List Value) → times_in self.new v
+            ≡ cond (is_at (row_cmp row) v) times (times_in self.old v)) }
     {
-        self.push_entries(alloc, out)
+        self.rows.insert(row, times)?;
+        Ok(())
     }
 
-    fn push_entries(&self, alloc: Global, out: &mut Vec<KeptRow>) -> Result<(), AllocError>
-        ensures rows { OnOk result ((interval : Interval) (x : ℕ) (u : List Value) →
-            recalls interval out.new.items x u
-            ≡ (recalls interval out.old.items x u || list_any (hit interval x u) self.now)) }
-        ensures ascend { IsStrictlySortedBy row_cmp (keys_of self.now) }
+    // a row with its times, where it has some and isn't there yet
+    fn pour_row(&mut self, alloc: Global, row: &Row, times: &Times) -> Result<(), AllocError>
+        ensures { OnOk result ((u : List Value) → kept_for self.new u
+            ≡ option_or (kept_for self.old u) (cond (is_at (row_cmp u) row.now) (filled times.now) None)) }
+    {
+        if times.is_empty() {
+            return Ok(());
+        }
+        if self.rows.contains_key(row) {
+            return Ok(());
+        }
+        self.rows.insert(row.copy(alloc)?, times.copy(alloc)?)?;
+        Ok(())
+    }
+
+    fn pour_rows(&self, alloc: Global, out: &mut Group) -> Result<(), AllocError>
+        ensures rows { OnOk result ((u : List Value) → kept_for out.new u
+            ≡ option_or (kept_for out.old u) (first_filled self.now u)) }
+        ensures ascend { RowsAscend self.now }
     {
         for (row, times) in &self.rows {
-            out.push(KeptRow {
-                row: row.copy(alloc)?,
-                times: times.to_vec(alloc)?,
-            })?;
+            out.pour_row(alloc, row, times)?;
         }
         Ok(())
+    }
+
+    /// Copies the rows that have times into a group, but those that it has.
+    pub fn pour(&self, alloc: Global, out: &mut Group) -> Result<(), AllocError>
+        ensures { OnOk result ((u : List Value) → kept_for out.new u
+            ≡ option_or (kept_for out.old u) (filled (times_in self.now u))) }
+    {
+        self.pour_rows(alloc, out)
+    }
+
+    /// The rows with their times.
+    pub fn into_kept(self, alloc: Global) -> Result<Vec<KeptRow>, AllocError>
+        ensures rows { IfOk result (λ rows. times_kept rows.items ≡ self) }
+        ensures ascend { IfOk result (λ rows. RowsAscend (times_kept rows.items)) }
+    {
+        let mut kept = Vec::with_capacity(alloc, self.rows.len())?;
+        for (row, times) in self.rows {
+            kept.push(KeptRow {
+                row,
+                times: times.into_vec(),
+            })?;
+        }
+        Ok(kept)
     }
 }

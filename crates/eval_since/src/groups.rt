@@ -4,8 +4,10 @@ ghost use Rattle.std.specs.BTreeMap.{is_at};
 ghost use Rattle.std.specs.List.{list_any};
 ghost use Rattle.std.specs.List.Sorted.{IsStrictlySortedBy};
 ghost use Rattle.std.specs.Map.{keys_of};
+ghost use Rattle.std.specs.Option.{option_or};
 ghost use Rattle.mfotl_model.specs.declared.interval.Interval.{Interval};
-ghost use Rattle.eval_since.specs.Recalled.{recalls};
+ghost use Rattle.relations.specs.KeptRows.{kept_for};
+ghost use Rattle.eval_since.specs.Recalled.{first_times};
 ghost use Rattle.mfotl_model.specs.Values.{row_cmp};
 ghost use Rattle.mfotl_model.specs.declared.value.Value.{Value};
 ghost use Rattle.eval_since.specs.Groups.{times_at, times_in};
@@ -13,7 +15,7 @@ ghost use Rattle.mfotl_model.specs.Tables.{has_row};
 ghost use Rattle.eval_since.specs.Times.{ArePast, added, reaches, recent};
 
 use crate::group::Group;
-use crate::recalled::KeptRow;
+use crate::times::Times;
 use mfotl_model::{Interval, Row};
 use std::alloc::{AllocError, Global};
 use std::collections::BTreeMap;
@@ -135,17 +137,29 @@ impl Groups {
         Ok(())
     }
 
-    /// Appends the rows with their times.
-    pub fn push_kept(&self, alloc: Global, out: &mut Vec<KeptRow>) -> Result<(), AllocError>
-        ensures rows { OnOk result ((interval : Interval) (x : ℕ) (u : List Value) →
-            recalls interval out.new.items x u
-            ≡ (recalls interval out.old.items x u
-            || list_any (λ e. reaches interval (times_in e.1 u) x) self.now)) }
+    /// Puts the times of a row into a group, in the place of those that it has there.
+    pub fn put(&mut self, alloc: Global, key: Row, row: Row, times: Times) -> Result<(), AllocError>
+        ensures { OnOk result ((q v : List Value) → times_at self.new q v
+            ≡ cond (is_at (row_cmp key) q && is_at (row_cmp row) v) times (times_at self.old q v)) }
+    {
+        if let Some(group) = self.groups.get_mut(&key) {
+            group.put(row, times)?;
+            return Ok(());
+        }
+        let mut group = Group::new(alloc);
+        group.put(row, times)?;
+        self.groups.insert(key, group)?;
+        Ok(())
+    }
+
+    /// Copies the rows that have times into one group, each from the first that has some for it.
+    pub fn pour(&self, alloc: Global, out: &mut Group) -> Result<(), AllocError>
+        ensures rows { OnOk result ((u : List Value) → kept_for out.new u
+            ≡ option_or (kept_for out.old u) (first_times self.now u)) }
         ensures ascend { IsStrictlySortedBy row_cmp (keys_of self.now) }
     {
-        for (key, group) in &self.groups {
-            let _ = key;
-            group.push_kept(alloc, out)?;
+        for (_, group) in &self.groups {
+            group.pour(alloc, out)?;
         }
         Ok(())
     }

@@ -3,13 +3,15 @@
 
 mod group;
 mod groups;
+mod kept;
 pub mod laws;
 mod previous;
+mod rebuild;
 mod recalled;
 mod since;
 mod times;
 mod window;
 
 pub use previous::PrevState;
-pub use recalled::{KeptRow, SinceData};
+pub use recalled::{KeptRow, PrevData, SinceData};
 pub use since::SinceState;

@@ -2,10 +2,12 @@
 ghost use Rattle.std.specs.Prelude.{◌≡◌, ◌+◌, ◌-◌, ◌<◌, ◌^◌, ◌∷◌, ◌++◌, ◌&&◌, [], Bool, IfOk, IfSome, IsTrue, List, MatchOption, OnOk, OnErr, is_some, length, ℕ};
 ghost use Rattle.mfotl_model.specs.Satisfaction.{Valuation, previous, time_at, truth_at};
 ghost use Rattle.mfotl_model.specs.Tables.{all_apart, has};
+ghost use Rattle.eval_since.specs.PreviousData.{PreviousRule, previous_of};
 ghost use Rattle.eval_since.specs.PreviousView.{AdvancesPrevious, FollowsPrevious, previous_due};
 
+use crate::recalled::PrevData;
 use mfotl_model::Interval;
-use relations::Table;
+use relations::{Table, copied_tables};
 use std::alloc::{AllocError, Global};
 use std::collections::VecDeque;
 use std::marker::Model;
@@ -51,6 +53,49 @@ impl PrevState {
             last: 0,
             times: VecDeque::new(alloc),
             tables: VecDeque::new(alloc),
+        })
+    }
+
+    /// The state of which `kept` is the data, where `last` is the time of the position pulled last and
+    /// `times` are those from the next one on.
+    pub fn resume(
+        alloc: Global,
+        interval: &Interval,
+        columns: &[u32],
+        last: u64,
+        times: &[u64],
+        kept: PrevData,
+    ) -> Result<Self, AllocError>
+        requires apart { IsTrue (all_apart columns.now) }
+        requires rule { PreviousRule columns.now times.now kept }
+        ensures state { IfOk result (λ state.
+            state ≡ previous_of interval.now columns.now last times.now kept) }
+        ensures follows { IfOk result (λ state. (t : List ℕ) (a : List Bool) (v : Valuation) →
+            FollowsPrevious (previous_of interval.now columns.now last times.now kept) t a v →
+            FollowsPrevious state t a v) }
+    {
+        let PrevData { pulled, tables } = kept;
+        let times = Vec::from_slice(alloc, times)?;
+        let columns = Vec::from_slice(alloc, columns)?;
+        Ok(PrevState {
+            interval: *interval,
+            columns,
+            pulled,
+            last,
+            times: VecDeque::from_vec(times),
+            tables: VecDeque::from_vec(tables),
+        })
+    }
+
+    /// What the state keeps, as plain data.
+    pub fn state(&self, alloc: Global) -> Result<PrevData, AllocError>
+        ensures same { IfOk result (λ kept.
+            previous_of self.now.interval self.now.columns self.now.last self.now.times kept ≡ self.now) }
+        ensures rule { IfOk result (λ kept. PreviousRule self.now.columns self.now.times kept) }
+    {
+        Ok(PrevData {
+            pulled: self.pulled,
+            tables: copied_tables(alloc, &self.tables)?,
         })
     }
 

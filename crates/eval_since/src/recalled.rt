@@ -1,4 +1,4 @@
-//! The state of SINCE as plain data.
+//! The states of PREVIOUS and SINCE as plain data.
 
 use mfotl_model::Row;
 use relations::Table;
@@ -19,4 +19,12 @@ pub struct SinceData {
     pub lefts: Vec<Table>,
     pub rights: Vec<Table>,
     pub rows: Vec<KeptRow>,
+}
+
+/// What a state of PREVIOUS keeps, apart from its configuration, its positions' times and the time of
+/// the position pulled last.
+#[derive(Drop)]
+pub struct PrevData {
+    pub pulled: u64,
+    pub tables: Vec<Table>,
 }

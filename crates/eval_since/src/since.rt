@@ -5,15 +5,18 @@ ghost use Rattle.mfotl_model.specs.Tables.{all_among, all_apart, has, valuation}
 ghost use Rattle.mfotl_model.specs.declared.value.Value.{Value};
 ghost use Rattle.eval_since.specs.LeftOperand.{left_has};
 ghost use Rattle.relations.specs.Pushed.{left_holds};
-ghost use Rattle.eval_since.specs.Recalled.{recalls};
-ghost use Rattle.eval_since.specs.WindowView.{within};
+ghost use Rattle.relations.specs.KeptRows.{filled, kept_for};
+ghost use Rattle.eval_since.specs.Recalled.{recalls, times_for, times_kept};
+ghost use Rattle.eval_since.specs.WindowView.{kept_times, within};
+ghost use Rattle.eval_since.specs.SinceData.{FollowsData, KeepsRule, newest_of, setting_of};
 ghost use Rattle.eval_since.specs.Windows.{Alone, Ascending, Bounded, Past, Placed};
 ghost use Rattle.eval_since.specs.SinceView.{Advances, Climbs, Follows, SinceOf, due};
 
+use crate::kept::latest;
 use crate::recalled::SinceData;
 use crate::window::Window;
 use mfotl_model::{Interval, Row};
-use relations::{Table, first_pushed, part_of};
+use relations::{Table, copied_tables, first_pushed, part_of};
 use std::alloc::{AllocError, Global};
 use std::collections::VecDeque;
 use std::marker::Model;
@@ -36,12 +39,13 @@ impl Model for SinceState {
     ghost use Rattle.mfotl_model.specs.Tables.{all_among};
     ghost use Rattle.relations.specs.Pushed.{AreOver};
     ghost use Rattle.eval_since.specs.SinceView.{Climbs, SinceOf};
+    ghost use Rattle.eval_since.specs.Windows.{IsBlank};
 
     ghost Value = { SinceOf };
 
     ghost view = { λ s. record { window = s.window; negated = s.negated; pulled = s.pulled; newest = s.newest; times = s.times.items; lefts = s.lefts.items; rights = s.rights.items } };
 
-    ghost invariant = { λ s. record { climbs : Climbs s.window.last s.times.items s.newest; few : s.pulled + length s.times.items ≤ 2 ^ 63; inside : all_among s.window.left s.window.right ≡ true; over : AreOver s.window.right s.rights.items } };
+    ghost invariant = { λ s. record { climbs : Climbs s.window.last s.times.items s.newest; few : s.pulled + length s.times.items ≤ 2 ^ 63; inside : all_among s.window.left s.window.right ≡ true; over_left : AreOver s.window.left s.lefts.items; over : AreOver s.window.right s.rights.items; begins : s.pulled ≡ 0 → IsBlank s.window.groups } };
 }
 
 impl SinceState {
@@ -69,6 +73,56 @@ impl SinceState {
             times: VecDeque::new(alloc),
             lefts: VecDeque::new(alloc),
             rights: VecDeque::new(alloc),
+        })
+    }
+
+    /// The state of which `kept` is the data, where `last` is the time of the position pulled last and
+    /// `times` are those from the next one on.
+    pub fn resume(
+        alloc: Global,
+        interval: &Interval,
+        left: &[u32],
+        right: &[u32],
+        negated: bool,
+        last: u64,
+        times: &[u64],
+        kept: SinceData,
+    ) -> Result<Self, AllocError>
+        requires apart { IsTrue (all_apart right.now) }
+        requires inside { IsTrue (all_among left.now right.now) }
+        requires rule { KeepsRule (record { interval = interval.now; left = left.now; right = right.now; negated = negated }) last times.now kept }
+        ensures setting { IfOk result (λ state. setting_of state ≡ record { interval = interval.now; left = left.now; right = right.now; negated = negated }) }
+        ensures pulled { IfOk result (λ state. state.pulled ≡ kept.pulled) }
+        ensures last { IfOk result (λ state. state.window.last ≡ last) }
+        ensures newest { IfOk result (λ state. state.newest ≡ newest_of last times.now) }
+        ensures times { IfOk result (λ state. state.times ≡ times.now) }
+        ensures lefts { IfOk result (λ state. state.lefts ≡ kept.lefts.items) }
+        ensures rights { IfOk result (λ state. state.rights ≡ kept.rights.items) }
+        ensures kept { IfOk result (λ state. (u : List Value) →
+            kept_times state.window u ≡ times_for kept.rows.items u) }
+        ensures follows { IfOk result (λ state.
+            (t : List ℕ) (a b : List Bool) (v : Valuation) →
+            FollowsData (record { interval = interval.now; left = left.now; right = right.now; negated = negated }) last times.now kept t a b v →
+            Follows state t a b v) }
+    {
+        let SinceData {
+            pulled,
+            lefts,
+            rights,
+            rows,
+        } = kept;
+        let newest = latest(times, last);
+        let times = Vec::from_slice(alloc, times)?;
+        let left = Vec::from_slice(alloc, left)?;
+        let right = Vec::from_slice(alloc, right)?;
+        Ok(SinceState {
+            window: Window::resume(alloc, *interval, left, right, last, rows)?,
+            negated,
+            pulled,
+            newest,
+            times: VecDeque::from_vec(times),
+            lefts: VecDeque::from_vec(lefts),
+            rights: VecDeque::from_vec(rights),
         })
     }
 
@@ -221,11 +275,18 @@ impl SinceState {
         ensures rights { IfOk result (λ kept. kept.rights.items ≡ self.now.rights) }
         ensures rows { IfOk result (λ kept. (x : ℕ) (u : List Value) →
             recalls self.now.window.interval kept.rows.items x u ≡ within self.now.window x u) }
+        ensures kept { IfOk result (λ kept. (u : List Value) →
+            kept_for (times_kept kept.rows.items) u ≡ filled (kept_times self.now.window u)) }
+        ensures rule { IfOk result (λ kept.
+            KeepsRule (setting_of self.now) self.now.window.last self.now.times kept) }
+        ensures follows { IfOk result (λ kept.
+            (t : List ℕ) (a b : List Bool) (v : Valuation) → Follows self.now t a b v →
+            FollowsData (setting_of self.now) self.now.window.last self.now.times kept t a b v) }
     {
         Ok(SinceData {
             pulled: self.pulled,
-            lefts: copied(alloc, &self.lefts)?,
-            rights: copied(alloc, &self.rights)?,
+            lefts: copied_tables(alloc, &self.lefts)?,
+            rights: copied_tables(alloc, &self.rights)?,
             rows: self.window.kept(alloc)?,
         })
     }
@@ -248,16 +309,6 @@ impl SinceState {
         let reached = self.window.interval().contains(0);
         Ok(in_either(kept, held, reached, right.contains(&own)))
     }
-}
-
-fn copied(alloc: Global, tables: &VecDeque<Table>) -> Result<Vec<Table>, AllocError>
-    ensures { IfOk result (λ copies. copies.items ≡ tables.now.items) }
-{
-    let mut copies = Vec::with_capacity(alloc, tables.len())?;
-    for i in 0..tables.len() {
-        copies.push(tables[i].copy(alloc)?)?;
-    }
-    Ok(copies)
 }
 
 fn holds_on(negated: bool, table: &Table, key: &Row) -> bool

@@ -1,5 +1,6 @@
 //! The times that are kept for one row, strictly ascending.
 ghost use Rattle.std.specs.Prelude.{◌≡◌, ◌==◌, ◌∷◌, [], IfOk, OnOk, MatchOption, drop, length};
+ghost use Rattle.std.specs.List.Sorted.{IsStrictlyIncreasing};
 ghost use Rattle.eval_since.specs.Times.{ArePast, added, is_new, reaches, recent};
 
 use mfotl_model::Interval;
@@ -105,9 +106,28 @@ impl Times {
         false
     }
 
-    pub fn to_vec(&self, alloc: Global) -> Result<Vec<u64>, AllocError>
-        ensures { IfOk result (λ copy. copy.items ≡ self.now) }
+    /// The times of a list, which ascend strictly.
+    pub fn from_vec(times: Vec<u64>) -> Self
+        requires { IsStrictlyIncreasing times.items }
+        ensures { result ≡ times.items }
     {
-        copied(alloc, &self.list)
+        Times {
+            list: VecDeque::from_vec(times),
+        }
+    }
+
+    pub fn into_vec(self) -> Vec<u64>
+        ensures { result.items ≡ self }
+    {
+        self.list.into_vec()
+    }
+
+    pub fn copy(&self, alloc: Global) -> Result<Self, AllocError>
+        ensures { IfOk result (λ copy. copy ≡ self.now) }
+    {
+        let times = copied(alloc, &self.list)?;
+        Ok(Times {
+            list: VecDeque::from_vec(times),
+        })
     }
 }

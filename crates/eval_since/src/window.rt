@@ -1,19 +1,24 @@
 //! The window of SINCE: for each row the times at which the right operand held of it and from which
 //! the left one has held on.
-ghost use Rattle.std.specs.Prelude.{◌≡◌, ◌||◌, ◌&&◌, ◌-◌, ◌≤◌, [], ℕ, Bool, if◌then◌else◌, is_ok, IfOk, IfSome, IsTrue, List, None, OnOk, cond, length};
+ghost use Rattle.std.specs.Prelude.{◌≡◌, ◌||◌, ◌&&◌, ◌-◌, ◌≤◌, [], ℕ, Bool, if◌then◌else◌, is_ok, IfOk, IfSome, IsTrue, List, None, OnErr, OnOk, cond, length, map};
 ghost use Rattle.std.specs.BTreeMap.{is_at};
+ghost use Rattle.std.specs.List.{AllByRecursion};
 ghost use Rattle.mfotl_model.specs.Intervals.{in_interval};
 ghost use Rattle.mfotl_model.specs.Tables.{all_apart, all_sized, has_row, part};
 ghost use Rattle.mfotl_model.specs.Values.{row_cmp};
 ghost use Rattle.mfotl_model.specs.declared.value.Value.{Value};
 ghost use Rattle.eval_since.specs.Groups.{times_at};
 ghost use Rattle.eval_since.specs.LeftOperand.{left_has};
-ghost use Rattle.eval_since.specs.Recalled.{recalls};
+ghost use Rattle.relations.specs.KeptRows.{RowsAscend, filled, kept_for};
+ghost use Rattle.eval_since.specs.Recalled.{times_for, times_kept};
+ghost use Rattle.eval_since.specs.SinceData.{KeepsTimes};
 ghost use Rattle.eval_since.specs.Times.{added, reaches, recent};
-ghost use Rattle.eval_since.specs.WindowView.{WindowOf, within};
-ghost use Rattle.eval_since.specs.Windows.{Alone, Ascending, Bounded, Covered, Fresh, IsThinned, Keeps, NotAfter, Past, Placed, Rising};
+ghost use Rattle.eval_since.specs.WindowView.{WindowOf, kept_times, within};
+ghost use Rattle.eval_since.specs.Windows.{Alone, Ascending, Bounded, Covered, Fresh, IsBlank, IsThinned, Keeps, NotAfter, Past, Placed, Rising};
 
+use crate::group::Group;
 use crate::groups::Groups;
+use crate::rebuild::{dated_rows, grouped};
 use crate::recalled::KeptRow;
 use mfotl_model::{Interval, Row};
 use relations::{Table, part_of};
@@ -179,6 +184,34 @@ fn stepped(
     Ok(Contents { groups, dated })
 }
 
+/// What a window keeps with these rows.
+fn restored(
+    alloc: Global,
+    interval: &Interval,
+    right: &[u32],
+    left: &[u32],
+    last: u64,
+    rows: Vec<KeptRow>,
+) -> Result<Contents, AllocError>
+    requires apart { IsTrue (all_apart right.now) }
+    requires rows { RowsAscend (times_kept rows.items) }
+    requires sized { IsTrue (all_sized (length right.now) (map (λ k. k.row) rows.items)) }
+    requires kept { AllByRecursion (λ k. KeepsTimes interval.now.hi last k.times.items) rows.items }
+    ensures kept { IfOk result (λ contents.
+        Keeps interval.now.hi right.now left.now last contents.groups contents.dated.items) }
+    ensures times { IfOk result (λ contents. (q v : List Value) → times_at contents.groups q v
+        ≡ cond (is_at (row_cmp (part right.now left.now v)) q) (times_for rows.items v) []) }
+{
+    if interval.hi.is_none() {
+        let groups = grouped(alloc, right, left, rows)?;
+        let dated = VecDeque::new(alloc);
+        return Ok(Contents { groups, dated });
+    }
+    let dated = dated_rows(alloc, rows.as_slice())?;
+    let groups = grouped(alloc, right, left, rows)?;
+    Ok(Contents { groups, dated })
+}
+
 /// The window of SINCE after some positions.
 #[derive(Drop)]
 pub struct Window {
@@ -219,6 +252,44 @@ impl Window {
         }
     }
 
+    /// The window with these rows, after some positions, the last of which has the time `last`.
+    pub fn resume(
+        alloc: Global,
+        interval: Interval,
+        left: Vec<u32>,
+        right: Vec<u32>,
+        last: u64,
+        rows: Vec<KeptRow>,
+    ) -> Result<Self, AllocError>
+        requires apart { IsTrue (all_apart right.items) }
+        requires rows { RowsAscend (times_kept rows.items) }
+        requires sized { IsTrue (all_sized (length right.items) (map (λ k. k.row) rows.items)) }
+        requires kept { AllByRecursion (λ k. KeepsTimes interval.hi last k.times.items) rows.items }
+        ensures interval { IfOk result (λ window. window.interval ≡ interval) }
+        ensures left { IfOk result (λ window. window.left ≡ left.items) }
+        ensures right { IfOk result (λ window. window.right ≡ right.items) }
+        ensures last { IfOk result (λ window. window.last ≡ last) }
+        ensures kept { IfOk result (λ window. (u : List Value) →
+            kept_times window u ≡ times_for rows.items u) }
+        ensures blank { IfOk result (λ window. rows.items ≡ [] → IsBlank window.groups) }
+    {
+        let contents = restored(
+            alloc,
+            &interval,
+            right.as_slice(),
+            left.as_slice(),
+            last,
+            rows,
+        )?;
+        Ok(Window {
+            interval,
+            left,
+            right,
+            last,
+            contents,
+        })
+    }
+
     /// One position more. Without memory the window is empty.
     pub fn step(
         &mut self,
@@ -234,6 +305,7 @@ impl Window {
             ≡ ((within self.old x u
             && left_has negated lefts.now.rows (part self.old.right self.old.left u))
             || (in_interval self.old.interval (x - now) && has_row rights.rows u))) }
+        ensures blank { OnErr result (IsBlank self.new.groups) }
         ensures last { self.new.last ≡ (if is_ok result then now else self.old.last) }
         ensures interval { self.new.interval ≡ self.old.interval }
         ensures left { self.new.left ≡ self.old.left }
@@ -306,13 +378,19 @@ impl Window {
         self.left.as_slice()
     }
 
-    /// The rows with the times kept for them.
+    /// The rows with the times kept for them, which ascend.
     pub fn kept(&self, alloc: Global) -> Result<Vec<KeptRow>, AllocError>
-        ensures { IfOk result (λ rows. (x : ℕ) (u : List Value) →
-            recalls self.now.interval rows.items x u ≡ within self.now x u) }
+        ensures kept { IfOk result (λ rows. (u : List Value) →
+            kept_for (times_kept rows.items) u ≡ filled (kept_times self.now u)) }
+        ensures rows { IfOk result (λ rows. RowsAscend (times_kept rows.items)) }
+        ensures sized { IfOk result (λ rows.
+            IsTrue (all_sized (length self.now.right) (map (λ k. k.row) rows.items))) }
+        ensures each { IfOk result (λ rows.
+            AllByRecursion (λ k. KeepsTimes self.now.interval.hi self.now.last k.times.items) rows.items) }
     {
-        let mut rows = Vec::new(alloc);
-        self.contents.groups.push_kept(alloc, &mut rows)?;
+        let mut flat = Group::new(alloc);
+        self.contents.groups.pour(alloc, &mut flat)?;
+        let rows = flat.into_kept(alloc)?;
         Ok(rows)
     }
 

@@ -7,3 +7,4 @@ pub mod QueueLemmas
 pub mod KeepingLemmas
 pub mod FollowsLemmas
 pub mod TakingLemmas
+pub mod ResumeLemmas

@@ -7,3 +7,6 @@ pub mod AheadView
 pub mod Rules
 pub mod Keeping
 pub mod UntilView
+pub mod NextData
+pub mod Recalled
+pub mod UntilData

@@ -1,6 +1,9 @@
 //! What UNTIL has seen from the next position on.
 ghost use Rattle.std.specs.Prelude.{◌≡◌, ◌||◌, ◌&&◌, ◌+◌, ◌-◌, ◌∷◌, ◌++◌, ◌≤◌, ◌<◌, ◌^◌, [], ℕ, Bool, true, IfOk, IsTrue, List, OnOk, cond, if◌then◌else◌, is_ok, length, nat_le};
+ghost use Rattle.std.specs.List.{AllByRecursion};
 ghost use Rattle.std.specs.List.Sorted.{IsStrictlySortedBy};
+ghost use Rattle.relations.specs.KeptRows.{RowsAscend};
+ghost use Rattle.eval_until.specs.Recalled.{entries_kept, starts_kept};
 ghost use Rattle.mfotl_model.specs.Intervals.{in_interval};
 ghost use Rattle.mfotl_model.specs.Tables.{all_apart, all_sized, has_row, part};
 ghost use Rattle.mfotl_model.specs.Values.{row_cmp};
@@ -8,11 +11,13 @@ ghost use Rattle.mfotl_model.specs.declared.value.Value.{Value};
 ghost use Rattle.relations.specs.Pushed.{turned};
 ghost use Rattle.eval_until.specs.AheadView.{AheadOf, met, run_start};
 ghost use Rattle.eval_until.specs.Entries.{entries_of};
-ghost use Rattle.eval_until.specs.Keeping.{Covered, CoveredStarts, Fresh, IsLater, IsThinned, Keeps, NotAfter, Rising};
+ghost use Rattle.eval_until.specs.Keeping.{Covered, CoveredStarts, Fresh, IsLater, IsThinned, Keeps, NotAfter, Rising, Sized};
 ghost use Rattle.eval_until.specs.Rules.{Ascending, StartsAbove, StartsBelow, Waiting};
 ghost use Rattle.eval_until.specs.Starts.{kept_start, later_start, start_of, start_taken};
 
 use crate::entries::Entries;
+use crate::rebuild::{kept_marks, kept_starts, queue_of};
+use crate::recalled::{KeptMarks, KeptStart};
 use crate::rows::{add_rows, forget_rows, push_met};
 use crate::starts::{apply_left, forget_starts};
 use mfotl_model::{Interval, Row};
@@ -189,6 +194,75 @@ impl Ahead {
                 queue: VecDeque::new(alloc),
             },
         }
+    }
+
+    /// With these starts and entries, after so many positions.
+    pub fn resume(
+        alloc: Global,
+        interval: Interval,
+        left: Vec<u32>,
+        right: Vec<u32>,
+        negated: bool,
+        pulled: u64,
+        taken: u64,
+        starts: BTreeMap<Row, u64>,
+        rows: BTreeMap<Row, Entries>,
+    ) -> Result<Self, AllocError>
+        requires apart { IsTrue (all_apart right.items) }
+        requires sized { Sized (length right.items) rows.entries }
+        requires waiting { Waiting pulled taken rows.entries }
+        requires ascend { Ascending rows.entries }
+        requires below { StartsBelow taken starts.entries }
+        requires above { negated ≡ true → StartsAbove pulled starts.entries }
+        ensures { IfOk result (λ ahead. ahead ≡ record { interval = interval; left = left.items; right = right.items; negated = negated; pulled = pulled; taken = taken; starts = starts.entries; rows = rows.entries }) }
+    {
+        let queue = queue_of(alloc, negated, &starts, &rows)?;
+        Ok(Ahead {
+            interval,
+            left,
+            right,
+            negated,
+            pulled,
+            taken,
+            contents: Contents {
+                starts,
+                rows,
+                queue,
+            },
+        })
+    }
+
+    /// The rows with their starts, in order.
+    pub fn kept_starts(&self, alloc: Global) -> Result<Vec<KeptStart>, AllocError>
+        ensures starts { IfOk result (λ kept. starts_kept kept.items ≡ self.now.starts) }
+        ensures wide { IfOk result (λ _.
+            AllByRecursion (λ r. length r.0 ≡ length self.now.left) self.now.starts) }
+        ensures ascend { IfOk result (λ _. RowsAscend self.now.starts) }
+    {
+        let kept = kept_starts(alloc, &self.contents.starts, self.left.len())?;
+        Ok(kept)
+    }
+
+    /// The rows with their marks, in order, where `times` are those of the positions from the next one
+    /// to pull on.
+    pub fn kept_marks(
+        &self,
+        alloc: Global,
+        times: &VecDeque<u64>,
+    ) -> Result<Vec<KeptMarks>, AllocError>
+        ensures rows { IfOk result (λ kept.
+            entries_kept self.now.pulled times.now.items kept.items ≡ self.now.rows) }
+        ensures some { IfOk result (λ _. AllByRecursion (λ r. 0 < length r.1) self.now.rows) }
+        ensures ascend { IfOk result (λ _. RowsAscend self.now.rows) }
+        ensures sized { Sized (length self.now.right) self.now.rows }
+        ensures waiting { Waiting self.now.pulled self.now.taken self.now.rows }
+        ensures places { Ascending self.now.rows }
+        ensures below { StartsBelow self.now.taken self.now.starts }
+        ensures above { self.now.negated ≡ true → StartsAbove self.now.pulled self.now.starts }
+    {
+        self.is_bounded();
+        let kept = kept_marks(alloc, &self.contents.rows, self.pulled, times)?;
+        Ok(kept)
     }
 
     /// Takes one position more. Without memory nothing is kept.

@@ -1,9 +1,17 @@
 //! The entries of one row, by ascending positions.
-ghost use Rattle.std.specs.Prelude.{◌≡◌, ◌==◌, ◌∷◌, ◌++◌, [], IsTrue, OnOk, MatchOption, drop, length};
-ghost use Rattle.eval_until.specs.Rules.{all_before};
+ghost use Rattle.std.specs.Prelude.{◌≡◌, ◌==◌, ◌∷◌, ◌++◌, ◌||◌, ◌&&◌, ◌<◌, [], Bool, IfOk, IsTrue, List, OnOk, MatchOption, drop, length, map, nat_eq, ℕ};
+ghost use Rattle.std.specs.List.{list_all, list_any};
+ghost use Rattle.mfotl_model.specs.Tables.{has_row};
+ghost use Rattle.mfotl_model.specs.declared.value.Value.{Value};
+ghost use Rattle.eval_until.specs.Keeping.{breaks_before, names};
+ghost use Rattle.eval_until.specs.Recalled.{entry_at};
+ghost use Rattle.eval_until.specs.Rules.{PlacesAscend, all_before};
 
+use crate::ahead::Taken;
 use crate::meeting::meets;
-use mfotl_model::Interval;
+use crate::rebuild::row_taken;
+use crate::recalled::Mark;
+use mfotl_model::{Interval, Row};
 use std::alloc::{AllocError, Global};
 use std::collections::VecDeque;
 use std::marker::Model;
@@ -42,6 +50,20 @@ fn oldest(list: &VecDeque<Entry>) -> Option<Entry>
     list.front().copied()
 }
 
+// a kept entry has the time of its position, which `times` has, too
+fn mark_of(entry: Entry, pulled: u64, times: &VecDeque<u64>) -> Result<Mark, AllocError>
+    ensures { IfOk result (λ mark. entry_at pulled times.now.items mark ≡ entry) }
+{
+    let index = entry.place.saturating_sub(pulled) as usize;
+    if index >= times.len() || times[index] != entry.ts {
+        return Err(AllocError);
+    }
+    Ok(Mark {
+        place: entry.place,
+        start: entry.start,
+    })
+}
+
 impl Entries {
     ghost use Rattle.eval_until.specs.Entries.{from_place, met_by};
 
@@ -51,6 +73,58 @@ impl Entries {
         Entries {
             list: VecDeque::new(alloc),
         }
+    }
+
+    /// The entries of a list, by ascending positions.
+    pub fn from_vec(list: Vec<Entry>) -> Self
+        requires { PlacesAscend list.items }
+        ensures { result ≡ list.items }
+    {
+        Entries {
+            list: VecDeque::from_vec(list),
+        }
+    }
+
+    /// The marks of the entries, where `times` are those of the positions from `pulled` on.
+    pub fn marks(
+        &self,
+        alloc: Global,
+        pulled: u64,
+        times: &VecDeque<u64>,
+    ) -> Result<Vec<Mark>, AllocError>
+        ensures marks { IfOk result (λ marks.
+            map (entry_at pulled times.now.items) marks.items ≡ self.now) }
+        ensures some { IfOk result (λ _. 0 < length self.now) }
+    {
+        if self.list.is_empty() {
+            return Err(AllocError);
+        }
+        let mut marks = Vec::with_capacity(alloc, self.list.len())?;
+        for k in 0..self.list.len() {
+            marks.push(mark_of(self.list[k], pulled, times)?)?;
+        }
+        Ok(marks)
+    }
+
+    /// Puts a row, at the position of each of its entries, into a queue.
+    pub fn push_taken(
+        &self,
+        alloc: Global,
+        out: &mut Vec<Taken>,
+        row: &Row,
+    ) -> Result<(), AllocError>
+        ensures names { OnOk result ((u : List Value) (j : ℕ) → names out.new.items u j
+            ≡ (names out.old.items u j
+            || list_any (λ e. nat_eq e.place j && has_row (row.now ∷ []) u) self.now)) }
+        ensures all { OnOk result ((test : ℕ → Bool) → list_all (λ q. test q.place) out.new.items
+            ≡ (list_all (λ q. test q.place) out.old.items && list_all (λ e. test e.place) self.now)) }
+        ensures breaks { OnOk result ((w : List Value) (s : ℕ) →
+            breaks_before out.new.items w s ≡ breaks_before out.old.items w s) }
+    {
+        for k in 0..self.list.len() {
+            out.push(row_taken(alloc, self.list[k].place, row)?)?;
+        }
+        Ok(())
     }
 
     pub fn is_empty(&self) -> bool

@@ -6,10 +6,13 @@ mod entries;
 pub mod laws;
 mod meeting;
 mod next;
+mod rebuild;
+mod recalled;
 mod rows;
 mod starts;
 mod until;
 
 pub use entries::Entry;
 pub use next::NextState;
+pub use recalled::{KeptMarks, KeptStart, Mark, NextData, UntilData};
 pub use until::UntilState;

@@ -2,10 +2,12 @@
 ghost use Rattle.std.specs.Prelude.{◌≡◌, ◌+◌, ◌<◌, ◌^◌, ◌∷◌, ◌++◌, ◌&&◌, [], ℕ, Bool, false, IfOk, IfSome, IsTrue, List, MatchOption, OnOk, OnErr, is_some, length};
 ghost use Rattle.mfotl_model.specs.Satisfaction.{Valuation, next, time_at, truth_at};
 ghost use Rattle.mfotl_model.specs.Tables.{all_apart, has};
+ghost use Rattle.eval_until.specs.NextData.{NextRule, next_of};
 ghost use Rattle.eval_until.specs.NextView.{AdvancesNext, FollowsNext, next_due, tables_pushed, with_table};
 
+use crate::recalled::NextData;
 use mfotl_model::Interval;
-use relations::Table;
+use relations::{Table, copied_tables};
 use std::alloc::{AllocError, Global};
 use std::collections::VecDeque;
 use std::marker::Model;
@@ -51,6 +53,52 @@ impl NextState {
             times: VecDeque::new(alloc),
             started: false,
             tables: VecDeque::new(alloc),
+        })
+    }
+
+    /// The state of which `kept` is the data, where `times` are those from the next position on.
+    pub fn resume(
+        alloc: Global,
+        interval: &Interval,
+        columns: &[u32],
+        times: &[u64],
+        kept: NextData,
+    ) -> Result<Self, AllocError>
+        requires apart { IsTrue (all_apart columns.now) }
+        requires rule { NextRule columns.now times.now kept }
+        ensures state { IfOk result (λ state.
+            state ≡ next_of interval.now columns.now times.now kept) }
+        ensures follows { IfOk result (λ state. (t : List ℕ) (a : List Bool) (v : Valuation) →
+            FollowsNext (next_of interval.now columns.now times.now kept) t a v →
+            FollowsNext state t a v) }
+    {
+        let NextData {
+            pulled,
+            started,
+            tables,
+        } = kept;
+        let times = Vec::from_slice(alloc, times)?;
+        let columns = Vec::from_slice(alloc, columns)?;
+        Ok(NextState {
+            interval: *interval,
+            columns,
+            pulled,
+            times: VecDeque::from_vec(times),
+            started,
+            tables: VecDeque::from_vec(tables),
+        })
+    }
+
+    /// What the state keeps, as plain data.
+    pub fn state(&self, alloc: Global) -> Result<NextData, AllocError>
+        ensures same { IfOk result (λ kept.
+            next_of self.now.interval self.now.columns self.now.times kept ≡ self.now) }
+        ensures rule { IfOk result (λ kept. NextRule self.now.columns self.now.times kept) }
+    {
+        Ok(NextData {
+            pulled: self.pulled,
+            started: self.started,
+            tables: copied_tables(alloc, &self.tables)?,
         })
     }
 

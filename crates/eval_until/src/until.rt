@@ -4,12 +4,18 @@ ghost use Rattle.mfotl_model.specs.Satisfaction.{Valuation, time_at, truth_at, u
 ghost use Rattle.mfotl_model.specs.Tables.{all_among, all_apart, has, valuation};
 ghost use Rattle.mfotl_model.specs.Times.{NeverFalls};
 ghost use Rattle.relations.specs.Pushed.{left_holds};
+ghost use Rattle.mfotl_model.specs.declared.value.Value.{Value};
+ghost use Rattle.relations.specs.KeptRows.{kept_for};
+ghost use Rattle.eval_until.specs.Recalled.{entries_kept, starts_kept};
+ghost use Rattle.eval_until.specs.UntilData.{UntilRule, setting_of, until_of};
 ghost use Rattle.eval_until.specs.Rules.{Ascending, StartsAbove, StartsBelow, Waiting};
 ghost use Rattle.eval_until.specs.UntilView.{Advances, Follows, FollowsLeft, Takes, UntilOf, due, past_bound, to_take, took_all};
 
 use crate::ahead::Ahead;
+use crate::rebuild::{rows_map, starts_map};
+use crate::recalled::UntilData;
 use mfotl_model::{Interval, Row};
-use relations::{Table, first_pushed, part_of};
+use relations::{Table, copied_tables, first_pushed, part_of};
 use std::alloc::{AllocError, Global};
 use std::collections::VecDeque;
 use std::marker::Model;
@@ -98,6 +104,78 @@ impl UntilState {
         ensures { IsTrue result → self.now.ahead.pulled + length self.now.times < 2 ^ 63 }
     {
         self.ahead.pulled() + (self.times.len() as u64) < 1 << 63
+    }
+
+    /// The state of which `kept` is the data, where `times` are those from the next position on.
+    pub fn resume(
+        alloc: Global,
+        interval: &Interval,
+        left: &[u32],
+        right: &[u32],
+        negated: bool,
+        times: &[u64],
+        kept: UntilData,
+    ) -> Result<Self, AllocError>
+        requires apart { IsTrue (all_apart right.now) }
+        requires inside { IsTrue (all_among left.now right.now) }
+        requires rule { UntilRule (until_of (record { interval = interval.now; left = left.now; right = right.now; negated = negated }) times.now kept) }
+        ensures setting { IfOk result (λ state. setting_of state ≡ record { interval = interval.now; left = left.now; right = right.now; negated = negated }) }
+        ensures pulled { IfOk result (λ state. state.ahead.pulled ≡ kept.pulled) }
+        ensures taken { IfOk result (λ state. state.ahead.taken ≡ kept.taken) }
+        ensures times { IfOk result (λ state. state.times ≡ times.now) }
+        ensures lefts { IfOk result (λ state. state.lefts ≡ kept.lefts.items) }
+        ensures rights { IfOk result (λ state. state.rights ≡ kept.rights.items) }
+        ensures starts { IfOk result (λ state. (w : List Value) →
+            kept_for state.ahead.starts w ≡ kept_for (starts_kept kept.starts.items) w) }
+        ensures rows { IfOk result (λ state. (u : List Value) → kept_for state.ahead.rows u
+            ≡ kept_for (entries_kept kept.pulled times.now kept.rows.items) u) }
+        ensures left { IfOk result (λ state. (a : List Bool) (v : Valuation) →
+            FollowsLeft (until_of (record { interval = interval.now; left = left.now; right = right.now; negated = negated }) times.now kept) a v →
+            FollowsLeft state a v) }
+        ensures follows { IfOk result (λ state.
+            (t : List ℕ) (a b : List Bool) (v : Valuation) →
+            Follows (until_of (record { interval = interval.now; left = left.now; right = right.now; negated = negated }) times.now kept) t a b v →
+            Follows state t a b v) }
+    {
+        let UntilData {
+            pulled,
+            taken,
+            lefts,
+            rights,
+            starts,
+            rows,
+        } = kept;
+        let starts = starts_map(alloc, starts)?;
+        let rows = rows_map(alloc, rows, pulled, times)?;
+        let times = Vec::from_slice(alloc, times)?;
+        let left = Vec::from_slice(alloc, left)?;
+        let right = Vec::from_slice(alloc, right)?;
+        let ahead = Ahead::resume(
+            alloc, *interval, left, right, negated, pulled, taken, starts, rows,
+        )?;
+        Ok(UntilState {
+            ahead,
+            times: VecDeque::from_vec(times),
+            lefts: VecDeque::from_vec(lefts),
+            rights: VecDeque::from_vec(rights),
+        })
+    }
+
+    /// What the state keeps, as plain data.
+    pub fn state(&self, alloc: Global) -> Result<UntilData, AllocError>
+        ensures same { IfOk result (λ kept.
+            until_of (setting_of self.now) self.now.times kept ≡ self.now) }
+        ensures rule { IfOk result (λ kept.
+            UntilRule (until_of (setting_of self.now) self.now.times kept)) }
+    {
+        Ok(UntilData {
+            pulled: self.ahead.pulled(),
+            taken: self.ahead.taken(),
+            lefts: copied_tables(alloc, &self.lefts)?,
+            rights: copied_tables(alloc, &self.rights)?,
+            starts: self.ahead.kept_starts(alloc)?,
+            rows: self.ahead.kept_marks(alloc, &self.times)?,
+        })
     }
 
     /// Takes the left operand's next table, which of a negated operand is the operand's own.

@@ -16,8 +16,10 @@ use Rattle.mfotl_parse.specs.declared.fault.PolicyFault.TheVariants.{TooManyVari
 use Rattle.mfotl_parse.specs.declared.term.Pair.{Pair}
 use Rattle.mfotl_parse.specs.Causes.{ShowsFault, IsCause, SortsClash, HasNinthVariable, IsLast}
 use Rattle.mfotl_parse.specs.Grammar.{Tree, Fits, spelling, IsFormula, BeginsFormula}
+use Rattle.mfotl_parse.specs.GrammarLaws.{table_clash}
 use Rattle.mfotl_parse.specs.Limits.{max_free}
 use Rattle.mfotl_parse.specs.Meanings.{all_names}
+use Rattle.mfotl_parse.specs.Mentions.{sort_clash}
 use Rattle.mfotl_parse.specs.Reading.{PolicyOf, transition, step, sorted, ended, ended_at, is_closed, at_tail}
 use Rattle.mfotl_parse.specs.Reduction.{reduce}
 use Rattle.mfotl_parse.specs.Shows.{Showing, silent, shown_by}
@@ -28,6 +30,7 @@ use Rattle.mfotl_parse.specs.Transitions.{given}
 use Rattle.mfotl_parse.specs.Viability.{if_moved, is_whole, accepts}
 use Rattle.mfotl_parse.proofs.AcceptedLaw.{accepted_formula}
 use Rattle.mfotl_parse.proofs.FreeNames.{all_free}
+use Rattle.mfotl_parse.proofs.MentionClashes.{clashes_agree}
 use Rattle.mfotl_parse.proofs.ReadMoves.{kept_broken, first_broken, accepts_read, read_silent}
 use Rattle.mfotl_parse.proofs.TracedMoves.{broken, traced, trace}
 use Rattle.mfotl_parse.proofs.TracedTrees.{shows_whole}
@@ -196,6 +199,9 @@ module _ (sig : List PredOf) (ts : List Lexeme) (s : Partial) (ran : run (step s
     abbrev names : SymbolTable
     names = all_names sig tree
 
+    agrees : sort_clash sig tree ≡ table_clash sig tree
+    agrees = sym (clashes_agree sig tree)
+
     -- what the sorts and the number of variables show behind a whole formula
     by_names : (clash : Option ℕ) (uneven : Option Pair) (ninth : Option (List ℕ × ℕ)) (policy : PolicyOf)
         (fault : PolicyFault) → names.clash ≡ clash → uneven_pair names ≡ uneven
@@ -207,7 +213,7 @@ module _ (sig : List PredOf) (ts : List Lexeme) (s : Partial) (ran : run (step s
         (record {
           tree = tree;
           whole = record { end = end; ended = refl; fits = fits; spelled = spelled };
-          clash = ap (λ x. clash_or_pair x (uneven_pair names)) c;
+          clash = agrees ∙ ap (λ x. clash_or_pair x (uneven_pair names)) c;
         })
     by_names None (Some pair) ninth policy fault c u n e =
         let same : SortClash pair.at ≡ fault = cc in
@@ -215,7 +221,7 @@ module _ (sig : List PredOf) (ts : List Lexeme) (s : Partial) (ran : run (step s
         (record {
           tree = tree;
           whole = record { end = end; ended = refl; fits = fits; spelled = spelled };
-          clash = ap (λ x. clash_or_pair x (uneven_pair names)) c ∙ ap (clash_or_pair None) u;
+          clash = agrees ∙ ap (λ x. clash_or_pair x (uneven_pair names)) c ∙ ap (clash_or_pair None) u;
         })
     by_names None None (Some known) policy fault c u n e =
         let same : TooManyVariables known.1 ≡ fault = cc in
@@ -223,7 +229,7 @@ module _ (sig : List PredOf) (ts : List Lexeme) (s : Partial) (ran : run (step s
         (record {
           tree = tree;
           whole = record { end = end; ended = refl; fits = fits; spelled = spelled };
-          even = ap (λ x. clash_or_pair x (uneven_pair names)) c ∙ ap (clash_or_pair None) u;
+          even = agrees ∙ ap (λ x. clash_or_pair x (uneven_pair names)) c ∙ ap (clash_or_pair None) u;
           ninth = ap (λ free. ninth_place (slice_get free max_free)) (sym (all_free sig tree)) ∙ ap ninth_place n;
         })
     by_names None None None policy fault c u n e = absurd cc
@@ -255,7 +261,8 @@ module _ (sig : List PredOf) (ts : List Lexeme) (s : Partial) (ran : run (step s
   clashes tail at c =
       ap (λ x. at_tail x s) c.whole.ended
       ∙ finished_by sig ts s ran c.tree c.whole.fits c.whole.spelled c.whole.end
-      ∙ sorted_clash _ (all_names sig c.tree).clash (uneven_pair (all_names sig c.tree)) _ at c.clash
+      ∙ sorted_clash _ (all_names sig c.tree).clash (uneven_pair (all_names sig c.tree)) _ at
+      (clashes_agree sig c.tree ∙ c.clash)
 
   ninth : (tail : Tail LexFault) (at : ℕ) → HasNinthVariable sig ts tail at
       → at_tail tail s ≡ Err (TooManyVariables at)
@@ -263,7 +270,7 @@ module _ (sig : List PredOf) (ts : List Lexeme) (s : Partial) (ran : run (step s
       ap (λ x. at_tail x s) c.whole.ended
       ∙ finished_by sig ts s ran c.tree c.whole.fits c.whole.spelled c.whole.end
       ∙ sorted_many _ (all_names sig c.tree).clash (uneven_pair (all_names sig c.tree))
-      (slice_get (all_names sig c.tree).free max_free) at c.even
+      (slice_get (all_names sig c.tree).free max_free) at (clashes_agree sig c.tree ∙ c.even)
       (ap (λ free. ninth_place (slice_get free max_free)) (all_free sig c.tree) ∙ c.ninth)
 
   last_shows : (tail : Tail LexFault) (fault : PolicyFault) → IsLast sig ts tail fault → at_tail tail s ≡ Err fault

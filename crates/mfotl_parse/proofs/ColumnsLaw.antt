@@ -1,6 +1,6 @@
 -- The columns of a policy that was read are the free variables of its formula, and its occurrences have their sorts.
 use Rattle.std.proofs.Common.{◌≡◌, ℕ, suc, ◌+◌, ◌-◌, ◌<◌, ◌≤◌, Bool, List, [], ◌∷◌, length, map, Option}
-use Rattle.std.proofs.Common.{Some, Result, Ok, Err, refl, sym, ap, subst, ◌∙◌, arith, cond}
+use Rattle.std.proofs.Common.{Some, None, Result, Ok, Err, refl, sym, ap, subst, ◌∙◌, arith, cond}
 use Rattle.std.proofs.lemmas.Bool.{lt-ltb}
 use Rattle.std.specs.Prelude.{slice_get, IfOk}
 use Rattle.std.specs.List.{range_with_len}
@@ -13,7 +13,7 @@ use Rattle.mfotl_sig.specs.Preds.{PredOf}
 use Rattle.mfotl_parse.specs.declared.fault.PolicyFault.{PolicyFault}
 use Rattle.mfotl_parse.specs.Grammar.{Tree}
 use Rattle.mfotl_parse.specs.Meanings.{no_scope, all_names, value, KeepsRules, IsValue}
-use Rattle.mfotl_parse.specs.SymbolTable.{given_at, vars_of}
+use Rattle.mfotl_parse.specs.SymbolTable.{given_at, uneven_pair, vars_of}
 use Rattle.mfotl_parse.specs.Reading.{PolicyOf, reading}
 use Rattle.mfotl_parse.specs.States.{SymbolTable, no_names}
 use Rattle.mfotl_parse.specs.Views.{policy_of as policy_seen, Gives}
@@ -22,6 +22,7 @@ use Rattle.mfotl_parse.specs.Limits.{max_free}
 use Rattle.mfotl_parse.proofs.BoundVariables.{only_free}
 use Rattle.mfotl_parse.proofs.FreeNames.{few_met}
 use Rattle.mfotl_parse.proofs.LimitLemmas.{length_vars_of}
+use Rattle.mfotl_parse.proofs.MentionClashes.{table_even}
 use Rattle.mfotl_parse.proofs.NamesOrder.{grows_not, tree_grows}
 use Rattle.mfotl_parse.proofs.PolicyLaws.{read_is_spelled}
 use Rattle.mfotl_parse.proofs.SortedTrees.{given_by, tree_sorted}
@@ -50,6 +51,9 @@ columns_from given from (known ∷ free) (sort ∷ sorts) sized each =
 module _ (sig : List PredOf) (tree : Tree) (rules : KeepsRules sig tree) where
   abbrev last : SymbolTable
   last = all_names sig tree
+
+  even : (last.clash ≡ None) × (uneven_pair last ≡ None)
+  even = table_even sig tree rules.even
 
   few : length last.free ≤ max_free
   few = few_met sig tree rules.few_free
@@ -85,7 +89,7 @@ module _ (sig : List PredOf) (tree : Tree) (rules : KeepsRules sig tree) where
   well_sorted = record {
     free = free_is;
     given = given_by last;
-    fits = tree_sorted sig last rules.unclashed rules.even few tree no_scope no_names none_open refl
+    fits = tree_sorted sig last even.0 even.1 few tree no_scope no_names none_open refl
         rules.parts (grows_not last);
     columns = columns_are;
   }

@@ -18,6 +18,10 @@ pub mod TracedParts
 pub mod TracedTrees
 pub mod ReadMoves
 pub mod FreeNames
+pub mod PlaceLemmas
+pub mod MentionSteps
+pub mod MentionTrees
+pub mod MentionClashes
 pub mod WholeTrees
 pub mod CauseLaw
 pub mod PolicyLaws

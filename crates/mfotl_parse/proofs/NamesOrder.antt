@@ -18,14 +18,14 @@ use Rattle.mfotl_parse.specs.Grammar.{WrittenTerm, Named, Number, Quoted, Writte
 use Rattle.mfotl_parse.specs.Grammar.{WrittenArguments, LastArgument, MoreArguments, WrittenVariables, LastVariable}
 use Rattle.mfotl_parse.specs.Grammar.{MoreVariables, Tree, Truth, BareAtom, AtomOf, Comparison, Enclosed, Denied}
 use Rattle.mfotl_parse.specs.Grammar.{Timed, Quantified, Joined}
-use Rattle.mfotl_parse.specs.Meanings.{Scope, operand_of, term_names, argument_names, arguments_names}
+use Rattle.mfotl_parse.specs.Meanings.{Scope, inside, operand_of, term_names, argument_names, arguments_names}
 use Rattle.mfotl_parse.specs.Meanings.{variables_names, variables_scope, names_behind}
 use Rattle.mfotl_parse.specs.Occurrences.{name_of, place_of_variable, place_of}
 use Rattle.mfotl_parse.specs.SymbolTable.{free_place, bound_or_free, free_or_new, with_free, met, bound_more, given_at}
-use Rattle.mfotl_parse.specs.SymbolTable.{sort_of, with_sort, same_sort, first_of, clashed, agreed, occurred}
-use Rattle.mfotl_parse.specs.SymbolTable.{require_sort, constrain_term, compared}
+use Rattle.mfotl_parse.specs.SymbolTable.{sort_of, with_sort, first_of, clashed, agreed, occurred}
+use Rattle.mfotl_parse.specs.SymbolTable.{require_sort, constrain_term, compared, inner_or}
 use Rattle.mfotl_parse.specs.States.{SymbolTable}
-use Rattle.mfotl_parse.specs.WellSorted.{sort_of_constant}
+use Rattle.mfotl_parse.specs.WellSorted.{sort_of_constant, same_sort}
 
 -- these names came to be those: what was given stays, and what was met
 pub record Grows (n m : SymbolTable) : Type 0 where
@@ -153,7 +153,7 @@ sort_grows (variables.Bound k) sort n none = record {
     by_variable (variables.Free j) s e = e
     by_variable (variables.Bound j) s e = given_set n.bound_sorts k j (Some sort) s none e
 
-never_first : (before : Option ℕ) (at : ℕ) → first_of before at ≡ None → ⊥
+pub never_first : (before : Option ℕ) (at : ℕ) → first_of before at ≡ None → ⊥
 never_first (Some place) at e = absurd cc
 never_first None at e = absurd cc
 
@@ -284,6 +284,36 @@ HasPlace (variables.Bound k) n = k < length n.bound_sorts
 abbrev pub Inside : Scope → SymbolTable → Type 0
 Inside scope n = (name : List ℕ) (k : ℕ) → scope name ≡ Some k → k < length n.bound_sorts
 
+pub inside_grows : (scope : Scope) (n m : SymbolTable) → Inside scope n → Grows n m → Inside scope m
+inside_grows scope n m inside g name k e = omega (arith, inside name k e, g.bound)
+
+inner_one : (b : Bool) (variable : ℕ) (outer : Option ℕ) (n : SymbolTable) (k : ℕ)
+    → ((j : ℕ) → outer ≡ Some j → j < length n.bound_sorts) → variable ≡ length n.bound_sorts
+    → inner_or (cond b (Some variable) None) outer ≡ Some k → k < suc (length n.bound_sorts)
+inner_one true variable outer n k within is e = let same : variable ≡ k = cc in omega (arith, same, is)
+inner_one false variable outer n k within is e = omega (arith, within k e)
+
+-- a quantifier's variable is bound inside it
+inside_one : (name : List ℕ) (scope : Scope) (n : SymbolTable) → Inside scope n
+    → Inside (inside name (length n.bound_sorts) scope) (bound_more None n)
+inside_one bound scope n within name k e =
+    let below = inner_one _ (length n.bound_sorts) (scope name) n k (within name) refl e in omega
+    (arith, below, (bound_grows None n).bound, longer)
+  where
+    one_more : (xs : List (Option Sort)) → suc (length xs) ≡ length (xs ++ None ∷ [])
+    one_more [] = refl
+    one_more (x ∷ xs) = ap suc (one_more xs)
+
+    longer : suc (length n.bound_sorts) ≡ length (bound_more None n).bound_sorts
+    longer = one_more n.bound_sorts
+
+pub inside_all : (vs : WrittenVariables) (scope : Scope) (n : SymbolTable) → Inside scope n
+    → Inside (variables_scope vs n scope) (variables_names vs n)
+inside_all (LastVariable v) scope n within = inside_one (name_of v) scope n within
+inside_all (MoreVariables v comma rest) scope n within =
+    inside_all rest (inside (name_of v) (length n.bound_sorts) scope) (bound_more None n)
+    (inside_one (name_of v) scope n within)
+
 pub found_within : (name : List ℕ) (n : SymbolTable) (place : ℕ) → free_place name n ≡ Some place
     → place < length n.free
 found_within name n place e = (position-Some (λ (known : List ℕ × ℕ). bytes_eq name known.0) n.free place ([], 0) e).0
@@ -300,7 +330,7 @@ resolved_place name at n None inside sized = by_place (free_place name n) refl
     by_place None e = omega (arith, sized, length-append n.free_sorts (None ∷ []))
 
 -- after an occurrence of a sort that doesn't clash the variable was given that sort
-same_sorts : (a b : Sort) → same_sort a b ≡ true → a ≡ b
+pub same_sorts : (a b : Sort) → same_sort a b ≡ true → a ≡ b
 same_sorts sorts.Int sorts.Int e = refl
 same_sorts sorts.Int sorts.Text e = absurd cc
 same_sorts sorts.Text sorts.Int e = absurd cc

@@ -36,6 +36,7 @@ use Rattle.mfotl_parse.specs.Viability.{FirstFaults, is_whole}
 use Rattle.mfotl_parse.specs.Views.{policy_of as policy_seen, Gives}
 use Rattle.mfotl_parse.proofs.CauseLaw.{follows}
 use Rattle.mfotl_parse.proofs.FreeNames.{all_free, few_met}
+use Rattle.mfotl_parse.proofs.MentionClashes.{table_even, text_even}
 use Rattle.mfotl_parse.proofs.LimitLemmas.{few_value}
 use Rattle.mfotl_parse.proofs.ReadMoves.{moves_read, accepts_moves, read_silent, silent_read, goes_on_moves}
 use Rattle.mfotl_parse.proofs.ReadMoves.{goes_on_front}
@@ -106,8 +107,7 @@ module _ (sig : List PredOf) (bytes : List ℕ) (policy : PolicyOf) (p : Partial
           parts = keeps.2;
           few_nodes = omega (arith, keeps.0);
           few_levels = omega (arith, keeps.1);
-          unclashed = u.unclashed;
-          even = u.even;
+          even = text_even sig tree u.unclashed u.even;
           few_free = at_most (free_variables tree)
               (ap (λ free. slice_get free max_free) (sym (all_free sig tree)) ∙ u.few);
         };
@@ -128,8 +128,9 @@ module _ (sig : List PredOf) (tree : Tree) (rules : KeepsRules sig tree) where
   finishes =
       let names = all_names sig tree in
       let policy = policy_of sig tree in
-      ap (λ c. sorted c (uneven_pair names) (slice_get names.free max_free) policy) rules.unclashed
-      ∙ ap (λ c. sorted None c (slice_get names.free max_free) policy) rules.even
+      let even = table_even sig tree rules.even in
+      ap (λ c. sorted c (uneven_pair names) (slice_get names.free max_free) policy) even.0
+      ∙ ap (λ c. sorted None c (slice_get names.free max_free) policy) even.1
       ∙ ap (λ c. sorted None None c policy) (slice_get_past names.free max_free (few_met sig tree rules.few_free))
 
 pub spelled_is_read : SpelledIsRead

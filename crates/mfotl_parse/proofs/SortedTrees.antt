@@ -30,18 +30,19 @@ use Rattle.mfotl_parse.specs.Meanings.{arguments_terms, arguments_names, argumen
 use Rattle.mfotl_parse.specs.Meanings.{variables_scope, quantify, interval_of, names_behind, value, HasArity}
 use Rattle.mfotl_parse.specs.Meanings.{PartsKeep}
 use Rattle.mfotl_parse.specs.Occurrences.{name_of, place_of_variable, place_of}
-use Rattle.mfotl_parse.specs.SymbolTable.{number_of, bound_or_free, bound_more, inner_or, given_at, sort_of}
-use Rattle.mfotl_parse.specs.SymbolTable.{same_sort, require_sort, constrain_term, compared}
+use Rattle.mfotl_parse.specs.SymbolTable.{number_of, bound_or_free, bound_more, given_at, sort_of}
+use Rattle.mfotl_parse.specs.SymbolTable.{require_sort, constrain_term, compared}
 use Rattle.mfotl_parse.specs.SymbolTable.{term_of, differ, uneven_pair}
 use Rattle.mfotl_parse.specs.Operands.{truth}
 use Rattle.mfotl_parse.specs.Reduction.{momentary, joined, quantified}
 use Rattle.mfotl_parse.specs.States.{SymbolTable}
-use Rattle.mfotl_parse.specs.WellSorted.{Sorting, sort_of_constant, HasSort, HaveSorts, SidesAgree}
+use Rattle.mfotl_parse.specs.WellSorted.{Sorting, sort_of_constant, same_sort, HasSort, HaveSorts, SidesAgree}
 use Rattle.mfotl_parse.specs.WellSorted.{FitsSorts}
 use Rattle.mfotl_parse.specs.Limits.{max_free}
-use Rattle.mfotl_parse.proofs.NamesOrder.{Grows, grows_then, given_last, bound_grows, placed_grows}
+use Rattle.mfotl_parse.proofs.NamesOrder.{Grows, grows_then, given_last, placed_grows}
 use Rattle.mfotl_parse.proofs.NamesOrder.{compared_grows, term_grows, argument_grows, arguments_grow, variables_grow}
-use Rattle.mfotl_parse.proofs.NamesOrder.{tree_grows, HasPlace, Inside, resolved_place, agreed_sort}
+use Rattle.mfotl_parse.proofs.NamesOrder.{tree_grows, HasPlace, Inside, inside_grows, inside_all, resolved_place}
+use Rattle.mfotl_parse.proofs.NamesOrder.{agreed_sort}
 use Rattle.mfotl_parse.proofs.NamesOrder.{occurs_sort}
 
 -- the sorts that these names give, by the variables' numbers
@@ -63,9 +64,6 @@ given_is n (variables.Bound k) low =
     ap (λ (b : Bool). cond b (given_at (slice_get n.free_sorts (max_free + k)))
     (given_at (slice_get n.bound_sorts (max_free + k - max_free)))) (le-ltb (max_free + k) max_free (omega arith))
     ∙ ap (λ (j : ℕ). given_at (slice_get n.bound_sorts j)) same
-
-pub inside_grows : (scope : Scope) (n m : SymbolTable) → Inside scope n → Grows n m → Inside scope m
-inside_grows scope n m inside g name k e = omega (arith, inside name k e, g.bound)
 
 -- ---- lists
 
@@ -270,33 +268,6 @@ module _ (sig : List PredOf) (last : SymbolTable) (clash : last.clash ≡ None) 
   truth_sorted : (which : Bool) → FitsSorts sig (given_by last) (truth which)
   truth_sorted true = tt
   truth_sorted false = tt
-
-  inner_one : (b : Bool) (variable : ℕ) (outer : Option ℕ) (n : SymbolTable) (k : ℕ)
-      → ((j : ℕ) → outer ≡ Some j → j < length n.bound_sorts) → variable ≡ length n.bound_sorts
-      → inner_or (cond b (Some variable) None) outer ≡ Some k → k < suc (length n.bound_sorts)
-  inner_one true variable outer n k within is e = let same : variable ≡ k = cc in omega (arith, same, is)
-  inner_one false variable outer n k within is e = omega (arith, within k e)
-
-  -- a quantifier's variable is bound inside it
-  inside_one : (name : List ℕ) (scope : Scope) (n : SymbolTable) → Inside scope n
-      → Inside (inside name (length n.bound_sorts) scope) (bound_more None n)
-  inside_one bound scope n within name k e =
-      let below = inner_one _ (length n.bound_sorts) (scope name) n k (within name) refl e in omega
-      (arith, below, (bound_grows None n).bound, longer)
-    where
-      one_more : (xs : List (Option Sort)) → suc (length xs) ≡ length (xs ++ None ∷ [])
-      one_more [] = refl
-      one_more (x ∷ xs) = ap suc (one_more xs)
-
-      longer : suc (length n.bound_sorts) ≡ length (bound_more None n).bound_sorts
-      longer = one_more n.bound_sorts
-
-  inside_all : (vs : WrittenVariables) (scope : Scope) (n : SymbolTable) → Inside scope n
-      → Inside (variables_scope vs n scope) (variables_names vs n)
-  inside_all (LastVariable v) scope n within = inside_one (name_of v) scope n within
-  inside_all (MoreVariables v comma rest) scope n within =
-      inside_all rest (inside (name_of v) (length n.bound_sorts) scope) (bound_more None n)
-      (inside_one (name_of v) scope n within)
 
   pub tree_sorted : (tree : Tree) (scope : Scope) (n : SymbolTable) → Inside scope n → Sized n → PartsKeep sig tree
       → Grows (names_behind sig tree scope n) last

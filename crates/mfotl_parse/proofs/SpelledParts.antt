@@ -32,7 +32,8 @@ use Rattle.mfotl_parse.specs.Intervals.{bracket, high_number_move}
 use Rattle.mfotl_parse.specs.Lookahead.{maybe_unit}
 use Rattle.mfotl_parse.specs.Meanings.{Scope, operand_of, term_names, argument_term, argument_names, arguments_terms}
 use Rattle.mfotl_parse.specs.Meanings.{arguments_names, sorts_behind, atom, bound_value, interval_from, interval_of}
-use Rattle.mfotl_parse.specs.Meanings.{hidden_count, blank_count, argument_count, HasArity, InRange, EndKeeps}
+use Rattle.mfotl_parse.specs.Meanings.{argument_count, HasArity, InRange, EndKeeps}
+use Rattle.mfotl_parse.specs.Occurrences.{hidden_count, blank_count}
 use Rattle.mfotl_parse.specs.Meanings.{IntervalKeeps}
 use Rattle.mfotl_parse.specs.Occurrences.{place_of}
 use Rattle.mfotl_parse.specs.Transitions.{Rule, goes, within_nodes, one_due, none_due, is_empty}

@@ -21,7 +21,8 @@ use Rattle.mfotl_parse.specs.Grammar.{interval_spelling, spelling, FitsVariable,
 use Rattle.mfotl_parse.specs.Grammar.{left_precedence, is_shut, precedence, right_precedence, is_timed, deepens}
 use Rattle.mfotl_parse.specs.Intervals.{any_distance, framed}
 use Rattle.mfotl_parse.specs.Meanings.{Scope, variables_names, variables_scope, quantify, interval_of, names_behind}
-use Rattle.mfotl_parse.specs.Meanings.{value, variable_count, node_count, right_levels, nesting, IntervalKeeps}
+use Rattle.mfotl_parse.specs.Meanings.{value, node_count, right_levels, nesting, IntervalKeeps}
+use Rattle.mfotl_parse.specs.Occurrences.{variable_count}
 use Rattle.mfotl_parse.specs.Meanings.{PartsKeep}
 use Rattle.mfotl_parse.specs.Occurrences.{name_of}
 use Rattle.mfotl_parse.specs.Transitions.{Rule, goes, within_nodes, within_depth}

@@ -31,7 +31,8 @@ use Rattle.mfotl_parse.specs.Meanings.{operand_of, term_names, argument_term, ar
 use Rattle.mfotl_parse.specs.Meanings.{arguments_names, sorts_behind, atom, bound_value, interval_from, interval_of}
 use Rattle.mfotl_parse.specs.Occurrences.{place_of}
 use Rattle.mfotl_parse.specs.Transitions.{Rule, goes}
-use Rattle.mfotl_parse.specs.Shows.{Showing, silent, places_of, name_shown, node_shown, argument_shown}
+use Rattle.mfotl_parse.specs.Mentions.{places_of}
+use Rattle.mfotl_parse.specs.Shows.{Showing, silent, name_shown, node_shown, argument_shown}
 use Rattle.mfotl_parse.specs.Shows.{arguments_shown, closing_shown, bound_shown, above_shown}
 use Rattle.mfotl_parse.specs.Shows.{end_shown, interval_shown, is_omitted}
 use Rattle.mfotl_parse.specs.States.{Frame, Call, SymbolTable, Stage, Partial, ExpectOperand, AfterTemporal}

@@ -20,7 +20,8 @@ use Rattle.mfotl_parse.specs.Grammar.{term_spelling, variable_spelling, variable
 use Rattle.mfotl_parse.specs.Grammar.{spelling, FitsTerm, FitsVariable, FitsVariables, Fits, IsAtomName}
 use Rattle.mfotl_parse.specs.Grammar.{left_precedence, is_shut, precedence, right_precedence, is_timed, deepens}
 use Rattle.mfotl_parse.specs.Intervals.{any_distance}
-use Rattle.mfotl_parse.specs.Meanings.{interval_of, names_behind, value, variable_count, node_count}
+use Rattle.mfotl_parse.specs.Meanings.{interval_of, names_behind, value, node_count}
+use Rattle.mfotl_parse.specs.Occurrences.{variable_count}
 use Rattle.mfotl_parse.specs.Occurrences.{name_of}
 use Rattle.mfotl_parse.specs.Transitions.{Rule, Transition, goes, first_keeps, within_depth, within_nodes}
 use Rattle.mfotl_parse.specs.SymbolTable.{binder_of, bound_more}

@@ -11,10 +11,9 @@ use Rattle.mfotl_parse.specs.declared.fault.PolicyFault.TheVariants.{UnknownPred
 use Rattle.mfotl_parse.specs.declared.fault.PolicyFault.TheVariants.{TooManyVariables, TooDeep, TooManyNodes}
 use Rattle.mfotl_parse.specs.Grammar.{Tree, Fits, spelling, IsFormula, BeginsFormula}
 use Rattle.mfotl_parse.specs.Limits.{max_free}
-use Rattle.mfotl_parse.specs.Meanings.{all_names}
+use Rattle.mfotl_parse.specs.Mentions.{sort_clash}
 use Rattle.mfotl_parse.specs.Occurrences.{free_variables}
 use Rattle.mfotl_parse.specs.Shows.{shown_by}
-use Rattle.mfotl_parse.specs.SymbolTable.{uneven_pair, clash_or_pair}
 
 -- in a formula that begins with the front and the token, the token shows the fault in front of others
 pub record ShowsFault (sig : List PredOf) (front : List Lexeme) (token : Lexeme) (fault : PolicyFault) : Type 0 where
@@ -42,10 +41,6 @@ pub record IsWhole (ts : List Lexeme) (tail : Tail LexFault) (tree : Tree) : Typ
   pub ended : tail ≡ End end
   pub fits : Fits 1 tree
   pub spelled : ts ≡ spelling tree
-
--- where the sorts of a formula clash first
-abbrev pub sort_clash : List PredOf → Tree → Option ℕ
-sort_clash sig tree = clash_or_pair (all_names sig tree).clash (uneven_pair (all_names sig tree))
 
 -- where its ninth free variable stands first
 abbrev pub ninth_variable : Tree → Option ℕ

@@ -72,6 +72,13 @@ pub record ClashExamples : Type 0 where
   pub compared_pair : FailsWith (codes "x = y AND p(x) AND s(y)") (SortClash 2)
   pub occurrence_before_pair : FailsWith (codes "x = y AND p(x) AND s(y) AND s(x)") (SortClash 30)
   pub hidden : FailsWith (codes "(EXISTS x. p(x)) AND EXISTS x. (s(x) AND p(x))") (SortClash 43)
+  pub left_constant : FailsWith (codes "\"a\" < x AND p(x)") (SortClash 14)
+  pub inner_of_two : FailsWith (codes "EXISTS x, x. (p(x) AND s(x))") (SortClash 25)
+  pub outer_again : FailsWith (codes "EXISTS x. (p(x) AND (EXISTS x. s(x)) AND s(x))") (SortClash 43)
+  pub free_again : FailsWith (codes "s(x) AND (EXISTS x. p(x)) AND p(x)") (SortClash 32)
+  pub bound_pair : FailsWith (codes "s(y) AND EXISTS x. (x = y AND p(x))") (SortClash 22)
+  pub second_pair : FailsWith (codes "(x = y AND p(x)) OR EXISTS y. (x >= y AND s(y))") (SortClash 33)
+  pub behind_blanks : FailsWith (codes "EXISTS x. (r(_,_) AND p(x) AND EXISTS y. (s(y) AND p(y)))") (SortClash 53)
   pub before_many : FailsWith (codes "NOT (q(a,b,c,d,e,f,g,h) AND s(i) AND s(a))") (SortClash 39)
 
 -- the text spells this formula over these free variables

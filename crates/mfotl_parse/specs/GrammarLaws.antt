@@ -1,5 +1,5 @@
 -- What the grammar says of every text, and the reader.
-use Rattle.std.specs.Prelude.{◌≡◌, ◌↔◌, ◌⊎◌, ℕ, IsTrue, List, [], ◌∷◌, ◌++◌, Ok, Err}
+use Rattle.std.specs.Prelude.{◌≡◌, ◌↔◌, ◌⊎◌, ℕ, IsTrue, List, [], ◌∷◌, ◌++◌, Option, Ok, Err}
 use Rattle.mfotl_lex.specs.declared.fault.LexFault.{LexFault}
 use Rattle.mfotl_lex.specs.FirstFault as layer
 use Rattle.mfotl_lex.specs.FirstFault.{run}
@@ -10,10 +10,12 @@ use Rattle.mfotl_parse.specs.declared.fault.PolicyFault.{PolicyFault}
 use Rattle.mfotl_parse.specs.declared.fault.PolicyFault.TheVariants.{Lex, Syntax}
 use Rattle.mfotl_parse.specs.Causes.{IsCause, IsLast}
 use Rattle.mfotl_parse.specs.Grammar.{Tree, Fits, spelling, IsFormula, BeginsFormula}
-use Rattle.mfotl_parse.specs.Meanings.{IsValue}
+use Rattle.mfotl_parse.specs.Meanings.{all_names, IsValue}
+use Rattle.mfotl_parse.specs.Mentions.{sort_clash}
 use Rattle.mfotl_parse.specs.Reading.{step, ended_at, at_tail, text_of, reading}
 use Rattle.mfotl_parse.specs.Shows.{Showing, silent, shown_by}
 use Rattle.mfotl_parse.specs.States.{Partial, start}
+use Rattle.mfotl_parse.specs.SymbolTable.{uneven_pair, clash_or_pair}
 use Rattle.mfotl_parse.specs.Viability.{accepts}
 
 -- the reader takes exactly the formulas of the grammar, the other rules apart
@@ -65,6 +67,14 @@ SilentAreRead = (sig : List PredOf) (ts : List Lexeme) → AreRead sig ts ↔ Is
 abbrev pub ExactSoundness : Type 0
 ExactSoundness =
     (sig : List PredOf) → layer.ExactSoundness (step sig) start at_tail BeginsFormula (IsCause sig) (IsLast sig)
+
+-- where the reader's symbol table tells that sorts clash
+abbrev pub table_clash : List PredOf → Tree → Option ℕ
+table_clash sig tree = clash_or_pair (all_names sig tree).clash (uneven_pair (all_names sig tree))
+
+-- it tells that where the places in the text do
+abbrev pub ClashesAgree : Type 0
+ClashesAgree = (sig : List PredOf) (tree : Tree) → table_clash sig tree ≡ sort_clash sig tree
 
 -- the fault is the first that the text shows: the tokens before it begin a formula, and show none
 abbrev pub IsShown : List ℕ → List PredOf → PolicyFault → Type 0

@@ -17,6 +17,7 @@ pub mod Views
 pub mod Examples
 pub mod Grammar
 pub mod Occurrences
+pub mod Mentions
 pub mod Meanings
 pub mod Shows
 pub mod Causes

@@ -24,8 +24,10 @@ use Rattle.mfotl_parse.specs.Grammar.{Tree, Truth, BareAtom, AtomOf, Comparison,
 use Rattle.mfotl_parse.specs.Grammar.{Joined, Fits, spelling, deepens}
 use Rattle.mfotl_parse.specs.Intervals.{distances, any_distance}
 use Rattle.mfotl_parse.specs.SymbolTable.{bound_or_free, met, bound_more, constrain_term, compared, term_of, inner_or}
-use Rattle.mfotl_parse.specs.SymbolTable.{uneven_pair, vars_of}
+use Rattle.mfotl_parse.specs.SymbolTable.{vars_of}
+use Rattle.mfotl_parse.specs.Mentions.{sort_clash}
 use Rattle.mfotl_parse.specs.Occurrences.{name_of, place_of_variable, place_of, free_variables}
+use Rattle.mfotl_parse.specs.Occurrences.{blank_count, variable_count}
 use Rattle.mfotl_parse.specs.Operands.{truth}
 use Rattle.mfotl_parse.specs.Reading.{PolicyOf, text_of}
 use Rattle.mfotl_parse.specs.Reduction.{momentary, joined, quantified}
@@ -172,25 +174,10 @@ value sig (Joined left token operator interval right) scope n =
 
 -- ---- the other rules
 
--- whether the argument is `_`
-abbrev pub hidden_count : WrittenArgument → ℕ
-hidden_count (Given term) = 0
-hidden_count (Hidden token) = 1
-
--- how many of the arguments are `_`
-abbrev pub blank_count : WrittenArguments → ℕ
-blank_count (LastArgument a) = hidden_count a
-blank_count (MoreArguments a comma rest) = hidden_count a + blank_count rest
-
 -- how many arguments there are
 abbrev pub argument_count : WrittenArguments → ℕ
 argument_count (LastArgument a) = 1
 argument_count (MoreArguments a comma rest) = suc (argument_count rest)
-
--- how many variables there are
-abbrev pub variable_count : WrittenVariables → ℕ
-variable_count (LastVariable v) = 1
-variable_count (MoreVariables v comma rest) = suc (variable_count rest)
 
 -- one for each constant, atom, comparison, operator and quantified variable, `_` too
 abbrev pub node_count : Tree → ℕ
@@ -271,9 +258,8 @@ pub record KeepsRules (sig : List PredOf) (tree : Tree) : Type 0 where
   pub few_nodes : node_count tree ≤ max_nodes
   -- at most 64 levels open at once
   pub few_levels : nesting tree ≤ max_levels
-  -- no two occurrences or constants clash, and no two compared variables
-  pub unclashed : (all_names sig tree).clash ≡ None
-  pub even : uneven_pair (all_names sig tree) ≡ None
+  -- no sorts clash
+  pub even : sort_clash sig tree ≡ None
   -- at most 8 free variables
   pub few_free : length (free_variables tree) ≤ max_free
 

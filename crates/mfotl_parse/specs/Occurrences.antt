@@ -1,5 +1,5 @@
--- The free variables of a written policy, as they stand in its text.
-use Rattle.std.specs.Prelude.{ℕ, Bool, false, ◌||◌, List, [], ◌∷◌, ◌++◌, is_some, position, if◌then◌else◌}
+-- The variables of a written policy, as they stand in its text.
+use Rattle.std.specs.Prelude.{ℕ, suc, ◌+◌, Bool, false, ◌||◌, List, [], ◌∷◌, ◌++◌, is_some, position, if◌then◌else◌}
 use Rattle.std.specs.Str.{bytes_eq}
 use Rattle.mfotl_parse.specs.Grammar.{WrittenVariable, Bare, Asked, WrittenTerm, Named, Number, Quoted}
 use Rattle.mfotl_parse.specs.Grammar.{WrittenArgument, Given, Hidden, WrittenArguments, LastArgument, MoreArguments}
@@ -84,3 +84,20 @@ first_ones before (one ∷ rest) = first_ones (with_first before one) rest
 -- the free variables of a policy, each by its first occurrence, in the order of the text
 abbrev pub free_variables : Tree → List Occurrence
 free_variables tree = first_ones [] (free_in tree [])
+
+-- ---- quantified variables, and `_`
+
+-- whether the argument is `_`
+abbrev pub hidden_count : WrittenArgument → ℕ
+hidden_count (Given term) = 0
+hidden_count (Hidden token) = 1
+
+-- how many of the arguments are `_`
+abbrev pub blank_count : WrittenArguments → ℕ
+blank_count (LastArgument a) = hidden_count a
+blank_count (MoreArguments a comma rest) = hidden_count a + blank_count rest
+
+-- how many variables there are
+abbrev pub variable_count : WrittenVariables → ℕ
+variable_count (LastVariable v) = 1
+variable_count (MoreVariables v comma rest) = suc (variable_count rest)

@@ -1,6 +1,6 @@
 -- What each token of a written policy shows: the faults of the rules that it breaks, the one that counts first in
 -- front.
-use Rattle.std.specs.Prelude.{ℕ, suc, ◌+◌, ◌*◌, Bool, true, false, not, ◌&&◌, List, [], ◌∷◌, ◌++◌, Option, Some, None}
+use Rattle.std.specs.Prelude.{ℕ, suc, ◌+◌, ◌*◌, Bool, true, false, not, ◌&&◌, List, [], ◌∷◌, ◌++◌, Option}
 use Rattle.std.specs.Prelude.{is_none, nat_le, nat_lt, if◌then◌else◌}
 use Rattle.mfotl_lex.specs.Lexemes.{Lexeme}
 use Rattle.mfotl_model.specs.declared.policy.Sort.{Sort}
@@ -18,8 +18,9 @@ use Rattle.mfotl_parse.specs.Grammar.{Count, Counted, WrittenEnd, Included, Excl
 use Rattle.mfotl_parse.specs.Grammar.{Omitted, From, Above, Tree, Truth, BareAtom, AtomOf, Comparison, Enclosed}
 use Rattle.mfotl_parse.specs.Grammar.{Denied, Timed, Quantified, Joined, variable_spelling, term_spelling, spelling}
 use Rattle.mfotl_parse.specs.Grammar.{is_timed, deepens}
-use Rattle.mfotl_parse.specs.Meanings.{sorts_behind, bound_value, hidden_count, variable_count, node_count}
-use Rattle.mfotl_parse.specs.Occurrences.{place_of_variable, place_of}
+use Rattle.mfotl_parse.specs.Meanings.{sorts_behind, bound_value, node_count}
+use Rattle.mfotl_parse.specs.Mentions.{places_of}
+use Rattle.mfotl_parse.specs.Occurrences.{place_of_variable, place_of, hidden_count, variable_count}
 use Rattle.mfotl_parse.specs.Transitions.{is_empty}
 use Rattle.mfotl_parse.specs.Limits.{max_levels, max_nodes, max_bound}
 
@@ -54,11 +55,6 @@ abbrev pub prefix_shown : (at levels nodes : ℕ) → List PolicyFault
 prefix_shown at levels nodes = level_shown at levels (node_shown at nodes)
 
 -- ---- atoms
-
--- the sorts of a predicate's places; one that the signature lacks has none
-abbrev pub places_of : Option PredOf → List Sort
-places_of None = []
-places_of (Some pred) = pred.sorts
 
 -- the `(` behind an atom's name, which stands at the offset
 abbrev pub name_shown : Option PredOf → (at nodes : ℕ) → List PolicyFault

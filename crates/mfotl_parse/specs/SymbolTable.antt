@@ -1,5 +1,5 @@
 -- Which variable a name stands for, and the sorts that variables were given.
-use Rattle.std.specs.Prelude.{ℕ, ◌+◌, Bool, true, false, not, List, [], ◌∷◌, ◌++◌, Option, Some, None}
+use Rattle.std.specs.Prelude.{ℕ, ◌+◌, Bool, false, not, List, [], ◌∷◌, ◌++◌, Option, Some, None}
 use Rattle.std.specs.Prelude.{length, position, if◌then◌else◌, slice_set, slice_get, find}
 use Rattle.std.specs.Str.{bytes_eq}
 use Rattle.mfotl_model.specs.declared.policy.Sort.{Sort}
@@ -14,7 +14,7 @@ use Rattle.mfotl_parse.specs.declared.term.Variable.{Variable}
 use Rattle.mfotl_parse.specs.declared.term.Variable.TheVariants as variables
 use Rattle.mfotl_parse.specs.States.{Frame, Parens, Negation, Moment, Binding, Left, SymbolTable}
 use Rattle.mfotl_parse.specs.Limits.{max_free}
-use Rattle.mfotl_parse.specs.WellSorted.{sort_of_constant, sort_or_integer}
+use Rattle.mfotl_parse.specs.WellSorted.{sort_of_constant, same_sort, sort_or_integer}
 
 -- the number of a variable in the formula
 abbrev pub number_of : Variable → ℕ
@@ -89,13 +89,6 @@ sort_of (variables.Bound k) n = given_at (slice_get n.bound_sorts k)
 abbrev pub with_sort : Variable → Sort → SymbolTable → SymbolTable
 with_sort (variables.Free k) sort n = record n { free_sorts = slice_set n.free_sorts k (Some sort) }
 with_sort (variables.Bound k) sort n = record n { bound_sorts = slice_set n.bound_sorts k (Some sort) }
-
--- the sorts are the same
-abbrev pub same_sort : Sort → Sort → Bool
-same_sort sorts.Int sorts.Int = true
-same_sort sorts.Int sorts.Text = false
-same_sort sorts.Text sorts.Int = false
-same_sort sorts.Text sorts.Text = true
 
 -- the first clash stays
 abbrev pub first_of : Option ℕ → ℕ → Option ℕ

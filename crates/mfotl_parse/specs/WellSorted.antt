@@ -1,6 +1,6 @@
 -- What ties the columns of a policy to its formula: the free variables are numbered in the order in which they first
 -- occur, and each occurrence has the sort of its variable. It is said of the formula alone.
-use Rattle.std.specs.Prelude.{◌≡◌, ℕ, List, [], ◌∷◌, Option, None, Some, length, map, Contains}
+use Rattle.std.specs.Prelude.{◌≡◌, ℕ, Bool, true, false, List, [], ◌∷◌, Option, None, Some, length, map, Contains}
 use Rattle.std.specs.List.{range_with_len}
 use Rattle.mfotl_model.specs.declared.policy.Sort.{Sort}
 use Rattle.mfotl_model.specs.declared.policy.Sort.TheVariants as sorts
@@ -18,6 +18,13 @@ use Rattle.mfotl_sig.specs.Preds.{PredOf}
 -- the sort that each variable was given, where one was, by its number
 abbrev pub Sorting : Type 0
 Sorting = ℕ → Option Sort
+
+-- the sorts are the same
+abbrev pub same_sort : Sort → Sort → Bool
+same_sort sorts.Int sorts.Int = true
+same_sort sorts.Int sorts.Text = false
+same_sort sorts.Text sorts.Int = false
+same_sort sorts.Text sorts.Text = true
 
 -- the sort of a constant
 abbrev pub sort_of_constant : Value → Sort

@@ -1,7 +1,7 @@
 //! What a reader of policies may rely on, said of every text. Each law is a function that does nothing: its
 //! clause is the law.
 ghost use Rattle.mfotl_parse.specs.GrammarLaws.{AcceptedExactly, SpelledIsRead, ReadIsSpelled, OneAnswer, SyntaxExactly, SilentAreRead};
-ghost use Rattle.mfotl_parse.specs.GrammarLaws.{ExactSyntax, ExactLex, ExactSoundness, EachFaultIsShown, StaysShown};
+ghost use Rattle.mfotl_parse.specs.GrammarLaws.{ExactSyntax, ExactLex, ExactSoundness, EachFaultIsShown, StaysShown, ClashesAgree};
 ghost use Rattle.mfotl_parse.specs.Viability.{FirstFaults};
 
 /// Syntax is shown exactly by the token that ends viability, the first fault that is shown stays whatever
@@ -63,4 +63,9 @@ pub fn exact_soundness()
 /// What the front of a text shows is shown by the text.
 pub fn stays_shown()
     ensures { StaysShown }
+{}
+
+/// The table of names that the reader keeps tells a clash of sorts where the places in the text do.
+pub fn clashes_agree()
+    ensures { ClashesAgree }
 {}

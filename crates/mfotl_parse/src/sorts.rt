@@ -3,7 +3,7 @@ ghost use Rattle.std.specs.Prelude.{◌≡◌, OnOk, slice_get, slice_set, Some,
 ghost use Rattle.std.specs.Option.{option_copied};
 ghost use Rattle.mfotl_parse.specs.SymbolTable as sorting;
 ghost use Rattle.mfotl_parse.specs.Views.{names_of};
-ghost use Rattle.mfotl_parse.specs.WellSorted.{sort_of_constant};
+ghost use Rattle.mfotl_parse.specs.WellSorted.{sort_of_constant, same_sort};
 
 use crate::symbol_table::SymbolTable;
 use crate::term::{Operand, Pair, Side, Variable};
@@ -108,7 +108,7 @@ fn sort_of_value(value: &Value) -> Sort
 }
 
 fn same_sort(left: Sort, right: Sort) -> bool
-    ensures { result ≡ sorting.same_sort left right }
+    ensures { result ≡ same_sort left right }
 {
     match (left, right) {
         (Sort::Int, Sort::Int) => true,

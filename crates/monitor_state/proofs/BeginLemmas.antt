@@ -1,5 +1,5 @@
 -- The nodes with which a monitor begins stand for the empty log.
-use Rattle.std.proofs.Common.{subst, ◌≡◌, ◌+◌, ◌-◌, ◌≤◌, Bool, true, false, cond, List, [], ◌∷◌, ◌++◌, length, map, drop, refl, sym, ap, ◌∙◌, arith, append_assoc, append-nil, inl, inr}
+use Rattle.std.proofs.Common.{subst, ◌≡◌, ◌+◌, ◌-◌, ◌≤◌, Bool, true, false, ◌&&◌, cond, List, [], ◌∷◌, ◌++◌, length, map, drop, refl, sym, ap, ◌∙◌, arith, append_assoc, append-nil, inl, inr}
 use Rattle.mfotl_model.specs.Exact.{AllExact, View}
 use Rattle.mfotl_model.specs.FreeVariables.{fv}
 use Rattle.mfotl_model.specs.Log.{times}
@@ -26,8 +26,9 @@ use Rattle.monitor_state.proofs.RegionLemmas.{joined_within}
 use Rattle.monitor_state.proofs.SinceSteps.{free_operand}
 use Rattle.monitor_state.specs.Beginnings.{Adds, AddsIf, Begins, BeginsJoin, BeginsNode, IsJoined, NextBegun, OrBegun, PreviousBegun, SinceBegun}
 use Rattle.monitor_state.specs.Constants.{stands_alone}
-use Rattle.monitor_state.specs.Nodes.{children, left_operand, nodes_in, nodes_of, operands}
-use Rattle.monitor_state.specs.Stands.{ChildrenStand, IsConstant, IsFor, IsJoin, IsOr, IsSince, JoinStands, NextStands, OrStands, PreviousStands, bare, conjunct_as, NodeStands, NodesStand, SinceStands, StateOf}
+use Rattle.monitor_state.specs.Nodes.{children, filters, left_operand, nodes_in, nodes_of, operands, without_last}
+use Rattle.monitor_state.specs.Stands.{ChildrenStand, IsConstant, IsFor, IsJoin, IsOr, JoinStands, NextStands, OrStands, PreviousStands, bare, conjunct_as, NodeStands, NodesStand, StateOf}
+use Rattle.monitor_state.specs.SinceNode.{IsSince, IsSinceState, SinceStands, SinceStandsAt}
 use Rattle.monitor_state.specs.Views.{reached}
 use Rattle.monitor_state.specs.declared.node.Node.{Node}
 use Rattle.monitor_state.specs.declared.node.Node.TheVariants as node
@@ -79,21 +80,24 @@ exists_adds r h x f old mid new same first is =
     (adds_then (nodes_in role.Whole f) (Exists x f ∷ []) old mid new first
     (adds_one (Exists x f) (node.Exists x.number) mid new is refl (λ view empty. tt)))
 
-since_is : (i : Interval) (f g : CoreForm) (s : SinceOf) (order : TableOf) → SinceBegun i f g s
-    → order.columns ≡ fv (meaning (Since i f g)) → IsSince i f g s order
-unfolding fv
-since_is i f g s order begun columns =
+pub since_state_is : (i : Interval) (f g : CoreForm) (s : SinceOf) → SinceBegun i f g s → IsSinceState i f g s
+since_state_is i f g s begun =
     record {
       interval = ap (λ (x : SinceOf). x.window.interval) begun.begun;
       negated = ap (λ (x : SinceOf). x.negated) begun.begun;
       left = ap (λ (x : SinceOf). x.window.left) begun.begun ∙ sym (free_operand f);
       right = ap (λ (x : SinceOf). x.window.right) begun.begun;
-      ordered = columns;
     }
 
-since_begins : (i : Interval) (f g : CoreForm) (s : SinceOf) → SinceBegun i f g s → (view : View) → view.log ≡ []
-    → SinceStands view i f g s
-since_begins i f g s begun view empty =
+since_is : (i : Interval) (f g : CoreForm) (s : SinceOf) (order : TableOf) → SinceBegun i f g s
+    → order.columns ≡ fv (meaning (Since i f g)) → IsSince i f g s order
+unfolding fv
+since_is i f g s order begun columns =
+    record { state = since_state_is i f g s begun; ordered = columns }
+
+pub since_begins_at : (i : Interval) (f g : CoreForm) (s : SinceOf) → SinceBegun i f g s → (view : View) → view.log ≡ []
+    → SinceStandsAt view 0 i f g s
+since_begins_at i f g s begun view empty =
     let pulled : s.pulled ≡ 0 = ap (λ (x : SinceOf). x.pulled) begun.begun in
     let times : length s.times ≡ 0 = ap (λ (x : SinceOf). length x.times) begun.begun in
     let lefts : length s.lefts ≡ 0 = ap (λ (x : SinceOf). length x.lefts) begun.begun in
@@ -102,7 +106,7 @@ since_begins i f g s begun view empty =
     let left : 0 ≡ reached view f = none_reached view empty f in
     let right : 0 ≡ reached view g = none_reached view empty g in
     record {
-      pulled = pulled ∙ none_reached view empty (Since i f g);
+      pulled = pulled;
       timed = omega arith;
       left_pushed = omega arith;
       right_pushed = omega arith;
@@ -111,15 +115,20 @@ since_begins i f g s begun view empty =
       follows = λ dom v covers near t a b dates tells tells_right. begun.follows t a b v;
     }
 
-pub since_adds : (r : Role) (h : CoreForm) (i : Interval) (f g : CoreForm) (old mid more new : List Node) → h ≡ Since i f g
-    → Adds (nodes_in role.Left f) old mid → Adds (nodes_in role.Whole g) mid more
+since_begins : (i : Interval) (f g : CoreForm) (s : SinceOf) → SinceBegun i f g s → (view : View) → view.log ≡ []
+    → SinceStands view i f g s
+since_begins i f g s begun view empty =
+    subst (λ p. SinceStandsAt view p i f g s) (none_reached view empty (Since i f g)) (since_begins_at i f g s begun view empty)
+
+pub since_adds : (r : Role) (h : CoreForm) (i : Interval) (f g : CoreForm) (old more new : List Node) → h ≡ Since i f g
+    → Adds (nodes_in role.Left f ++ nodes_in role.Whole g) old more
     → (h ≡ Since i f g → Adds (h ∷ []) more new)
     → Adds (nodes_in r h) old new
 unfolding nodes_in
-since_adds r h i f g old mid more new same first second own =
+since_adds r h i f g old more new same both own =
     subst (λ k. Adds (nodes_in r k) old new) (sym same)
     (adds_then (nodes_in role.Left f ++ nodes_in role.Whole g) (Since i f g ∷ []) old more new
-    (adds_then (nodes_in role.Left f) (nodes_in role.Whole g) old mid more first second)
+    both
     (subst (λ k. Adds (k ∷ []) more new) same (own same)))
 
 pub since_added : (h : CoreForm) (i : Interval) (f g : CoreForm) (s : SinceOf) (order : TableOf) (old new : List Node)
@@ -171,13 +180,14 @@ bare_begun (ChildPart f n ∷ ps) =
     ap (λ (ds : List ChildOf). record { columns = fv (meaning f); negated = n; tables = [] } ∷ ds) (bare_begun ps)
 bare_begun (TestPart c w ∷ ps) = bare_begun ps
 
-join_is : (f : CoreForm) (s : JoinOf) → BeginsJoin f s → IsJoin f s
-join_is f s begins =
+join_is : (f : CoreForm) (s : JoinOf) → operands f ≡ children (conjuncts_of f) → BeginsJoin f s → IsJoin f s
+join_is f s same begins =
     record {
       columns = ap (λ (x : JoinOf). x.columns) begins.begun;
       tests = ap (λ (x : JoinOf). x.tests) begins.begun;
       parts = ap (λ (x : JoinOf). map bare x.children) begins.begun ∙ bare_begun (conjuncts_of f);
       some = begins.some;
+      whole = same;
     }
 
 join_begins : (f : CoreForm) (s : JoinOf) → operands f ≡ children (conjuncts_of f) → BeginsJoin f s → (view : View)
@@ -199,15 +209,17 @@ unjudged_adds own f old new not_own same =
     subst (λ b. AddsIf b f old new) (sym not_own) (subst (λ ns. Adds [] old ns) (sym same) (adds_none old))
 
 -- the node of a conjunction that has a child
-pub join_node : (h : CoreForm) (s : JoinOf) → IsJoined h → BeginsJoin h s → BeginsNode h (node.Join s)
-join_node h s (inl same) begins =
+pub join_node : (h : CoreForm) (s : JoinOf) → IsJoined h → operands h ≡ children (conjuncts_of h) → BeginsJoin h s
+    → BeginsNode h (node.Join s)
+join_node h s (inl same) whole begins =
     let own = subst (λ k. BeginsJoin k s) same.2 begins in
+    let all = subst (λ k. operands k ≡ children (conjuncts_of k)) same.2 whole in
     subst (λ k. BeginsNode k (node.Join s)) (sym same.2)
-    (join_is (And same.0 same.1) s own, join_begins (And same.0 same.1) s refl own)
-join_node h s (inr same) begins =
+    (join_is (And same.0 same.1) s all own, join_begins (And same.0 same.1) s all own)
+join_node h s (inr same) whole begins =
     let own = subst (λ k. BeginsJoin k s) same.1 begins in
     subst (λ k. BeginsNode k (node.Join s)) (sym same.1)
-    (join_is (Not same.0) s own, join_begins (Not same.0) s refl own)
+    (join_is (Not same.0) s refl own, join_begins (Not same.0) s refl own)
 
 -- the node of one that has none
 pub tests_node : (h : CoreForm) (table : TableOf) → IsJoined h → IsConstant h table → BeginsNode h (node.Constant table)
@@ -216,20 +228,29 @@ tests_node h table (inl same) is =
 tests_node h table (inr same) is =
     subst (λ k. BeginsNode k (node.Constant table)) (sym same.1) (subst (λ k. IsConstant k table) same.1 is, λ view empty. tt)
 
--- its operands are its children
-pub joined_operands : (h : CoreForm) → IsJoined h → operands h ≡ children (conjuncts_of h)
-joined_operands h (inl same) = subst (λ k. operands k ≡ children (conjuncts_of k)) (sym same.2) refl
-joined_operands h (inr same) = subst (λ k. operands k ≡ children (conjuncts_of k)) (sym same.1) refl
-
-pub and_adds : (r : Role) (h f g : CoreForm) (own : Bool) (old mid more new : List Node) → h ≡ And f g → own ≡ is_conjunction r
-    → Adds (nodes_in role.Part f) old mid → Adds (nodes_in role.Part g) mid more
-    → AddsIf own h more new → Adds (nodes_in r h) old new
+pub and_adds : (r : Role) (h f g : CoreForm) (own : Bool) (old mid new : List Node) → h ≡ And f g → own ≡ is_conjunction r
+    → (is_conjunction r && filters f g) ≡ false
+    → Adds (nodes_in role.Part f ++ nodes_in role.Part g) old mid
+    → AddsIf own h mid new → Adds (nodes_in r h) old new
 unfolding nodes_in
-and_adds r h f g own old mid more new same is first second last =
+and_adds r h f g own old mid new same is joins first last =
     subst (λ k. Adds (nodes_in r k) old new) (sym same)
-    (adds_then (nodes_in role.Part f ++ nodes_in role.Part g) (cond (is_conjunction r) (And f g ∷ []) []) old more new
-    (adds_then (nodes_in role.Part f) (nodes_in role.Part g) old mid more first second)
-    (subst (λ b. Adds (cond b (And f g ∷ []) []) more new) is (subst (λ k. AddsIf own k more new) same last)))
+    (subst (λ b. Adds (cond b (nodes_in role.Whole f ++ without_last (nodes_in role.Part g) ++ And f g ∷ [])
+    (nodes_in role.Part f ++ nodes_in role.Part g ++ cond (is_conjunction r) (And f g ∷ []) [])) old new) (sym joins)
+    (adds_then (nodes_in role.Part f ++ nodes_in role.Part g) (cond (is_conjunction r) (And f g ∷ []) []) old mid new first
+    (subst (λ b. Adds (cond b (And f g ∷ []) []) mid new) is (subst (λ k. AddsIf own k mid new) same last))))
+
+pub filter_adds : (r : Role) (h f g : CoreForm) (old mid more new : List Node) → h ≡ And f g
+    → (is_conjunction r && filters f g) ≡ true
+    → Adds (nodes_in role.Whole f) old mid → Adds (without_last (nodes_in role.Part g)) mid more
+    → Adds (And f g ∷ []) more new → Adds (nodes_in r h) old new
+unfolding nodes_in
+filter_adds r h f g old mid more new same only first second own =
+    subst (λ k. Adds (nodes_in r k) old new) (sym same)
+    (subst (λ b. Adds (cond b (nodes_in role.Whole f ++ without_last (nodes_in role.Part g) ++ And f g ∷ [])
+    (nodes_in role.Part f ++ nodes_in role.Part g ++ cond (is_conjunction r) (And f g ∷ []) [])) old new) (sym only)
+    (adds_then (nodes_in role.Whole f ++ without_last (nodes_in role.Part g)) (And f g ∷ []) old more new
+    (adds_then (nodes_in role.Whole f) (without_last (nodes_in role.Part g)) old mid more first second) own))
 
 pub not_adds : (r s : Role) (h f : CoreForm) (own : Bool) (old mid new : List Node) → h ≡ Not f → own ≡ judges_not r → s ≡ under_not r
     → Adds (nodes_in s f) old mid → AddsIf own h mid new → Adds (nodes_in r h) old new
@@ -278,14 +299,14 @@ pub or_added : (f g : CoreForm) (s : OrOf) (old new : List Node) → OrBegun f g
 or_added f g s old new begun is =
     adds_one (Or f g) (node.Or s) old new is (or_is f g s begun) (λ view empty. or_begins f g s begun view empty)
 
-pub or_adds : (r : Role) (h f g : CoreForm) (old mid more new : List Node) → h ≡ Or f g
-    → Adds (nodes_in role.Whole f) old mid → Adds (nodes_in role.Whole g) mid more
+pub or_adds : (r : Role) (h f g : CoreForm) (old more new : List Node) → h ≡ Or f g
+    → Adds (nodes_in role.Whole f ++ nodes_in role.Whole g) old more
     → Adds (Or f g ∷ []) more new → Adds (nodes_in r h) old new
 unfolding nodes_in
-or_adds r h f g old mid more new same first second last =
+or_adds r h f g old more new same both last =
     subst (λ k. Adds (nodes_in r k) old new) (sym same)
     (adds_then (nodes_in role.Whole f ++ nodes_in role.Whole g) (Or f g ∷ []) old more new
-    (adds_then (nodes_in role.Whole f) (nodes_in role.Whole g) old mid more first second) last)
+    both last)
 
 previous_begins : (i : Interval) (f : CoreForm) (s : PrevOf) → PreviousBegun i f s → (view : View) → view.log ≡ []
     → PreviousStands view i f s

@@ -5,7 +5,7 @@ use Rattle.mfotl_model.proofs.CountLemmas.{counted_settled, next_unsettled}
 use Rattle.mfotl_model.proofs.LogicLemmas.{all_in, all_from}
 use Rattle.mfotl_model.specs.Counts.{settled_count}
 use Rattle.mfotl_model.specs.Formulas.{Form}
-use Rattle.mfotl_model.specs.Formulas.Form.{Next, Or, Previous, Since}
+use Rattle.mfotl_model.specs.Formulas.Form.{And, Next, Or, Previous, Since}
 use Rattle.mfotl_model.specs.Settled.{settled, next_settled, previous_settled, since_settled}
 use Rattle.mfotl_model.specs.Times.{NeverFalls}
 use Rattle.std.proofs.Common.{ap₂}
@@ -91,6 +91,46 @@ count_or t rising f g n left right done =
     (λ h.
     let both = and_parts (settled t f n) (settled t g n) h in
     done (count_below t rising f n both.0) (count_below t rising g n both.1))
+
+-- so is an AND
+pub count_and : (t : List ℕ) → NeverFalls t → (f g : Form) (n : ℕ) → n ≤ settled_count t f → n ≤ settled_count t g
+    → (n < settled_count t f → n < settled_count t g → ⊥)
+    → n ≡ settled_count t (And f g)
+unfolding settled
+count_and t rising f g n left right done =
+    count_is t rising (And f g) n
+    (λ j low. and_from (settled t f j) (settled t g j) (counted_settled t f j (omega arith)) (counted_settled t g j (omega arith)))
+    (λ h.
+    let both = and_parts (settled t f n) (settled t g n) h in
+    done (count_below t rising f n both.0) (count_below t rising g n both.1))
+
+-- an AND is settled no further than its second operand
+pub and_below : (t : List ℕ) → NeverFalls t → (f g : Form) → settled_count t (And f g) ≤ settled_count t g
+unfolding settled
+and_below t rising f g =
+    elim (cases_lt (settled_count t g) (settled_count t (And f g))) [
+      | inl more ↦
+          let both = and_parts (settled t f (settled_count t g)) (settled t g (settled_count t g))
+          (counted_settled t (And f g) (settled_count t g) more) in
+          let low : settled_count t g < settled_count t g = count_below t rising g (settled_count t g) both.1 in
+          absurd (omega arith)
+      | inr most ↦ most
+    ]
+
+-- a SINCE is settled below the counts of both its operands
+pub since_counted : (t : List ℕ) → NeverFalls t → (interval : Interval) (f g : Form) (n : ℕ)
+    → (settled t (Since interval f g) n ≡ true → (n < settled_count t f) × (n < settled_count t g))
+    × (n < settled_count t f → n < settled_count t g → settled t (Since interval f g) n ≡ true)
+unfolding settled since_settled
+since_counted t rising interval f g n = (
+  λ h.
+      let both = and_parts (settled t f n) (settled t g n)
+      (all_in (λ k. settled t f k && settled t g k) 0 (n + 1) n h (omega arith) (omega arith)) in
+      (count_below t rising f n both.0, count_below t rising g n both.1),
+  λ left right.
+      all_from (λ k. settled t f k && settled t g k) 0 (n + 1)
+      (λ k least most. and_from (settled t f k) (settled t g k) (counted_settled t f k (omega arith)) (counted_settled t g k (omega arith))),
+)
 
 -- the first position, or what holds of any later one
 pub ready_or_first : (n : ℕ) (b : Bool) → (0 < n → b ≡ true) → (nat_eq n 0 || b) ≡ true

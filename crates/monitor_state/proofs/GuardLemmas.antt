@@ -229,12 +229,6 @@ or_even r f g a =
     (among_joined y (fv (meaning f)) (fv (meaning g)) ∙ or_right (among y (fv (meaning f))) (among y (fv (meaning g))) m)).0))
 
 -- the same of a core that is known to be so
-pub and_left_at : (r : Role) (h f g : CoreForm) → h ≡ And f g → Accepted r h → Accepted role.Part f
-and_left_at r h f g same a = and_left r f g (subst (Accepted r) same a)
-
-pub and_right_at : (r : Role) (h f g : CoreForm) → h ≡ And f g → Accepted r h → Accepted role.Part g
-and_right_at r h f g same a = and_right r f g (subst (Accepted r) same a)
-
 pub and_own_at : (r : Role) (h f g : CoreForm) (own : Bool) → h ≡ And f g → own ≡ is_conjunction r → Accepted r h → GuardedIf own h
 and_own_at r h f g own same is a holds =
     subst (λ k. (names : Names) × (guards names k ≡ None)) (sym same) (and_own r f g (subst (Accepted r) same a) (sym is ∙ holds))

@@ -373,6 +373,7 @@ module _ (view : View) (point : TimePoint) (rising : NeverFalls (times (longer v
           tests = ap (λ (x : JoinOf). x.tests) takes.pulls.state ∙ is.tests;
           parts = ap (map bare) new_children ∙ bare_dropped (length tables) (children_fed old.children lists) ∙ bare_is;
           some = is.some;
+          whole = is.whole;
         }
 
     pub join_stands : JoinStands (longer view point) f new

@@ -23,3 +23,8 @@ pub mod ConstantLemmas
 pub mod SizeLemmas
 pub mod StepLemmas
 pub mod LawProofs
+pub mod WindowSteps
+pub mod FilterSteps
+pub mod WholeLemmas
+pub mod FilterBegins
+pub mod SiftLemmas

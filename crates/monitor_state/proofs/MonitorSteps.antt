@@ -1,20 +1,23 @@
 -- The nodes of a monitor take a time-point one after the other.
-use Rattle.std.proofs.Common.{subst, ◌≡◌, ℕ, Bool, true, false, cond, suc, ◌+◌, ◌<◌, ◌≤◌, List, [], ◌∷◌, ◌++◌, length, take, drop, get_or, set, refl, sym, ap, ◌∙◌, arith, append_assoc, append-nil, add-one}
+use Rattle.std.proofs.Common.{subst, ◌≡◌, ℕ, Bool, true, false, ◌&&◌, cond, suc, ◌+◌, ◌<◌, ◌≤◌, List, [], ◌∷◌, ◌++◌, length, take, drop, get_or, set, refl, sym, ap, ◌∙◌, inl, inr, arith, append_assoc, append-nil, add-one}
+use Rattle.std.proofs.lemmas.Bool.{and_parts, cases_Bool}
+use Rattle.mfotl_model.specs.FreeVariables.{fv}
+use Rattle.mfotl_model.specs.Tables.{all_among}
 use Rattle.std.proofs.Math.Seq.{take-suc-set, drop-cons}
 use Rattle.std.proofs.lemmas.List.{drop-set-lt, drop_all, take_all}
 use Rattle.mfotl_model.specs.Exact.{View}
 use Rattle.mfotl_model.specs.Tables.{TableOf}
 use Rattle.mfotl_model.specs.declared.event.TimePoint.{TimePoint}
 use Rattle.mfotl_model.specs.declared.term.Comparison.{Comparison}
-use Rattle.monitorable.specs.CoreForms.{CoreForm, True, False, Atom, Compare, Not, And, Or, Exists, Previous, Next, Since, Until}
+use Rattle.monitorable.specs.CoreForms.{CoreForm, meaning, True, False, Atom, Compare, Not, And, Or, Exists, Previous, Next, Since, Until}
 use Rattle.monitorable.specs.Conjuncts.{PartForm, conjuncts_of, negated_part}
 use Rattle.monitorable.specs.Conjuncts.PartForm.{Child as ChildPart, Test as TestPart}
-use Rattle.monitorable.specs.Fragment.{binds, is_conjunction, judges_not, under_not}
+use Rattle.monitorable.specs.Fragment.{binds, bound_by, is_conjunction, judges_not, under_not}
 use Rattle.monitorable.specs.declared.role.Role.{Role}
 use Rattle.monitorable.specs.declared.role.Role.TheVariants as role
 use Rattle.monitor_state.specs.Constants.{stands_alone}
 use Rattle.monitor_state.specs.Going.{AllPremises, Going, Works}
-use Rattle.monitor_state.specs.Nodes.{children, left_operand, nodes_in, nodes_of, operands}
+use Rattle.monitor_state.specs.Nodes.{children, filters, left_operand, nodes_in, nodes_of, operands, window_operands, without_last}
 use Rattle.monitor_state.specs.Stacks.{Pops}
 use Rattle.monitor_state.specs.Stands.{NodesStand}
 use Rattle.monitor_state.specs.Steps.{Advances, News, Premises, StackNews, longer}
@@ -37,6 +40,16 @@ works_one : (goal f : CoreForm) (pending rest : List CoreForm) → operands f �
     → Works goal pending (f ∷ rest)
 works_one goal f pending rest none works =
     (pending, sym (append-nil pending) ∙ ap (λ fs. pending ++ fs) (sym none), works)
+
+-- the last one is put off
+pub last_off : (fs : List CoreForm) (f : CoreForm) → without_last (fs ++ f ∷ []) ≡ fs
+last_off [] f = refl
+last_off (g ∷ []) f = refl
+last_off (g ∷ h ∷ fs) f = ap (λ gs. g ∷ gs) (last_off (h ∷ fs) f)
+
+no_window : (own inside : Bool) → (own && (false && inside)) ≡ false
+no_window true inside = refl
+no_window false inside = refl
 
 module _ (goal : CoreForm) where
   works_nothing : (pending rest : List CoreForm) → Works goal (pending ++ []) rest → Works goal pending ([] ++ rest)
@@ -89,6 +102,98 @@ module _ (goal : CoreForm) where
       (sym (append_assoc ns ms (h ∷ rest)) ∙ sym (append_assoc (ns ++ ms) (h ∷ []) rest))
       (first (second (after_two h pending rest xs ys is works)))
 
+  -- a conjunction whose conjuncts are all its node's operands
+  and_work : (r : Role) (f g : CoreForm) (pending rest : List CoreForm)
+      → Works goal (pending ++ roots r (And f g)) rest
+      → ((more : List CoreForm) → Works goal (pending ++ children (conjuncts_of f)) more → Works goal pending (nodes_in role.Part f ++ more))
+      → ((more : List CoreForm) → Works goal ((pending ++ children (conjuncts_of f)) ++ children (conjuncts_of g)) more
+      → Works goal (pending ++ children (conjuncts_of f)) (nodes_in role.Part g ++ more))
+      → (is_conjunction r && filters f g) ≡ false
+      → Works goal pending ((nodes_in role.Part f ++ nodes_in role.Part g ++ cond (is_conjunction r) (And f g ∷ []) []) ++ rest)
+  unfolding conjuncts_of
+  and_work r f g pending rest works first second joins =
+      subst (Works goal pending)
+      (sym (append_assoc (nodes_in role.Part f) (nodes_in role.Part g) (own ++ rest))
+      ∙ sym (append_assoc (nodes_in role.Part f ++ nodes_in role.Part g) own rest))
+      (first (nodes_in role.Part g ++ (own ++ rest)) (second (own ++ rest) (last r joins works)))
+    where
+      own : List CoreForm
+      own = cond (is_conjunction r) (And f g ∷ []) []
+
+      split : children (conjuncts_of (And f g)) ≡ children (conjuncts_of f) ++ children (conjuncts_of g)
+      split = children_append (conjuncts_of f) (conjuncts_of g)
+
+      whole : filters f g ≡ false → Works goal (pending ++ And f g ∷ []) rest
+          → Works goal ((pending ++ children (conjuncts_of f)) ++ children (conjuncts_of g)) (And f g ∷ rest)
+      whole none w =
+          after_two (And f g) pending rest (children (conjuncts_of f)) (children (conjuncts_of g))
+          (ap (λ b. cond b (f ∷ window_operands (left_operand g)) (children (conjuncts_of (And f g)))) none ∙ split) w
+
+      last : (r : Role) → (is_conjunction r && filters f g) ≡ false → Works goal (pending ++ roots r (And f g)) rest
+          → Works goal ((pending ++ children (conjuncts_of f)) ++ children (conjuncts_of g))
+          (cond (is_conjunction r) (And f g ∷ []) [] ++ rest)
+      last role.Whole none w = whole none w
+      last role.Negated none w = whole none w
+      last role.Left none w = whole none w
+      last role.Part none w =
+          subst (λ fs. Works goal fs rest)
+          (ap (λ fs. pending ++ fs) split ∙ sym (append_assoc pending (children (conjuncts_of f)) (children (conjuncts_of g)))) w
+
+  joined_work : (r : Role) (f g : CoreForm) (pending rest : List CoreForm) → (is_conjunction r && filters f g) ≡ false
+      → ((is_conjunction r && filters f g) ≡ false
+      → Works goal pending ((nodes_in role.Part f ++ nodes_in role.Part g ++ cond (is_conjunction r) (And f g ∷ []) []) ++ rest))
+      → Works goal pending (nodes_in r (And f g) ++ rest)
+  unfolding nodes_in
+  joined_work r f g pending rest none works =
+      subst (λ b. Works goal pending (cond b (nodes_in role.Whole f ++ without_last (nodes_in role.Part g) ++ And f g ∷ [])
+      (nodes_in role.Part f ++ nodes_in role.Part g ++ cond (is_conjunction r) (And f g ∷ []) []) ++ rest)) (sym none) (works none)
+
+  -- a conjunction whose right side is a window or the NOT of one: either it only filters, or it doesn't
+  window_work : (r : Role) (f g w : CoreForm) (ns ms : List CoreForm) (a b : CoreForm) (pending rest : List CoreForm)
+      → nodes_in role.Part g ≡ ns ++ ms ++ w ∷ [] → window_operands (left_operand g) ≡ a ∷ b ∷ []
+      → Works goal (pending ++ roots r (And f g)) rest
+      → ((more : List CoreForm) → Works goal (pending ++ f ∷ []) more → Works goal pending (nodes_in role.Whole f ++ more))
+      → ((below more : List CoreForm) → Works goal (below ++ a ∷ []) more → Works goal below (ns ++ more))
+      → ((below more : List CoreForm) → Works goal (below ++ b ∷ []) more → Works goal below (ms ++ more))
+      → ((is_conjunction r && filters f g) ≡ false
+      → Works goal pending ((nodes_in role.Part f ++ nodes_in role.Part g ++ cond (is_conjunction r) (And f g ∷ []) []) ++ rest))
+      → Works goal pending (nodes_in r (And f g) ++ rest)
+  unfolding nodes_in
+  window_work r f g w ns ms a b pending rest nodes ops works first left right joins =
+      elim (cases_Bool (is_conjunction r && filters f g)) [
+        | inl only ↦
+            subst (λ b. Works goal pending (cond b (nodes_in role.Whole f ++ without_last (nodes_in role.Part g) ++ And f g ∷ [])
+            (nodes_in role.Part f ++ nodes_in role.Part g ++ cond (is_conjunction r) (And f g ∷ []) []) ++ rest)) (sym only)
+            (subst (λ xs. Works goal pending ((nodes_in role.Whole f ++ xs ++ And f g ∷ []) ++ rest))
+            (sym (ap without_last nodes ∙ last_off (ns ++ ms) w))
+            (subst (Works goal pending)
+            (sym (append_assoc (nodes_in role.Whole f) (ns ++ ms) (And f g ∷ rest))
+            ∙ sym (append_assoc (nodes_in role.Whole f ++ (ns ++ ms)) (And f g ∷ []) rest))
+            (first ((ns ++ ms) ++ (And f g ∷ rest))
+            (subst (Works goal (pending ++ f ∷ [])) (sym (append_assoc ns ms (And f g ∷ rest)))
+            (left (pending ++ f ∷ []) (ms ++ (And f g ∷ rest))
+            (right ((pending ++ f ∷ []) ++ a ∷ []) (And f g ∷ rest) (taken only)))))))
+        | inr none ↦ joined_work r f g pending rest none joins
+      ]
+    where
+      own_root : (r : Role) → (is_conjunction r && filters f g) ≡ true → Works goal (pending ++ roots r (And f g)) rest
+          → Works goal (pending ++ And f g ∷ []) rest
+      own_root role.Whole e h = h
+      own_root role.Negated e h = h
+      own_root role.Left e h = h
+      own_root role.Part e h = absurd (let clash : true ≡ false = sym e in cc)
+
+      taken : (is_conjunction r && filters f g) ≡ true → Works goal (((pending ++ f ∷ []) ++ a ∷ []) ++ b ∷ []) (And f g ∷ rest)
+      taken only = (
+        pending,
+        append_assoc (pending ++ f ∷ []) (a ∷ []) (b ∷ [])
+            ∙ append_assoc pending (f ∷ []) (a ∷ b ∷ [])
+            ∙ ap (λ fs. pending ++ (f ∷ fs)) (sym ops)
+            ∙ ap (λ c. pending ++ cond c (f ∷ window_operands (left_operand g)) (children (conjuncts_of (And f g))))
+            (sym (and_parts (is_conjunction r) (filters f g) only).1),
+        own_root r only works,
+      )
+
   -- the nodes of a core put its roots on the stack
   pub nodes_work : (r : Role) (f : CoreForm) (pending rest : List CoreForm) → Works goal (pending ++ roots r f) rest
       → Works goal pending (nodes_in r f ++ rest)
@@ -124,32 +229,33 @@ module _ (goal : CoreForm) where
       (subst (λ fs. Works goal (pending ++ fs) rest) (roots_whole r (Until i f g) refl refl refl) works)
       (nodes_work role.Left f pending (nodes_in role.Whole g ++ (Until i f g ∷ rest)))
       (nodes_work role.Whole g (pending ++ left_operand f ∷ []) (Until i f g ∷ rest))
+  nodes_work r (And f (Since i a b)) pending rest works =
+      window_work r f (Since i a b) (Since i a b) (nodes_in role.Left a) (nodes_in role.Whole b) (left_operand a) b pending rest
+      refl refl works (nodes_work role.Whole f pending) (λ below. nodes_work role.Left a below) (λ below. nodes_work role.Whole b below)
+      (and_work r f (Since i a b) pending rest works (nodes_work role.Part f pending)
+      (nodes_work role.Part (Since i a b) (pending ++ children (conjuncts_of f))))
+  nodes_work r (And f (Until i a b)) pending rest works =
+      window_work r f (Until i a b) (Until i a b) (nodes_in role.Left a) (nodes_in role.Whole b) (left_operand a) b pending rest
+      refl refl works (nodes_work role.Whole f pending) (λ below. nodes_work role.Left a below) (λ below. nodes_work role.Whole b below)
+      (and_work r f (Until i a b) pending rest works (nodes_work role.Part f pending)
+      (nodes_work role.Part (Until i a b) (pending ++ children (conjuncts_of f))))
+  nodes_work r (And f (Not (Since i a b))) pending rest works =
+      window_work r f (Not (Since i a b)) (Since i a b) (nodes_in role.Left a) (nodes_in role.Whole b) (left_operand a) b pending rest
+      (append-nil (nodes_in role.Negated (Since i a b))) refl works (nodes_work role.Whole f pending)
+      (λ below. nodes_work role.Left a below) (λ below. nodes_work role.Whole b below)
+      (and_work r f (Not (Since i a b)) pending rest works (nodes_work role.Part f pending)
+      (nodes_work role.Part (Not (Since i a b)) (pending ++ children (conjuncts_of f))))
+  nodes_work r (And f (Not (Until i a b))) pending rest works =
+      window_work r f (Not (Until i a b)) (Until i a b) (nodes_in role.Left a) (nodes_in role.Whole b) (left_operand a) b pending rest
+      (append-nil (nodes_in role.Negated (Until i a b))) refl works (nodes_work role.Whole f pending)
+      (λ below. nodes_work role.Left a below) (λ below. nodes_work role.Whole b below)
+      (and_work r f (Not (Until i a b)) pending rest works (nodes_work role.Part f pending)
+      (nodes_work role.Part (Not (Until i a b)) (pending ++ children (conjuncts_of f))))
   nodes_work r (And f g) pending rest works =
-      subst (Works goal pending)
-      (sym (append_assoc (nodes_in role.Part f) (nodes_in role.Part g) (own ++ rest))
-      ∙ sym (append_assoc (nodes_in role.Part f ++ nodes_in role.Part g) own rest))
-      (nodes_work role.Part f pending (nodes_in role.Part g ++ (own ++ rest))
-      (nodes_work role.Part g (pending ++ children (conjuncts_of f)) (own ++ rest) (last r works)))
-    where
-      own : List CoreForm
-      own = cond (is_conjunction r) (And f g ∷ []) []
-
-      split : operands (And f g) ≡ children (conjuncts_of f) ++ children (conjuncts_of g)
-      split = children_append (conjuncts_of f) (conjuncts_of g)
-
-      whole : Works goal (pending ++ And f g ∷ []) rest
-          → Works goal ((pending ++ children (conjuncts_of f)) ++ children (conjuncts_of g)) (And f g ∷ rest)
-      whole w = after_two (And f g) pending rest (children (conjuncts_of f)) (children (conjuncts_of g)) split w
-
-      last : (r : Role) → Works goal (pending ++ roots r (And f g)) rest
-          → Works goal ((pending ++ children (conjuncts_of f)) ++ children (conjuncts_of g))
-          (cond (is_conjunction r) (And f g ∷ []) [] ++ rest)
-      last role.Whole w = whole w
-      last role.Negated w = whole w
-      last role.Left w = whole w
-      last role.Part w =
-          subst (λ fs. Works goal fs rest)
-          (ap (λ fs. pending ++ fs) split ∙ sym (append_assoc pending (children (conjuncts_of f)) (children (conjuncts_of g)))) w
+      joined_work r f g pending rest
+      (no_window (is_conjunction r) (all_among (fv (meaning g)) (bound_by f)))
+      (and_work r f g pending rest works (nodes_work role.Part f pending)
+      (nodes_work role.Part g (pending ++ children (conjuncts_of f))))
   nodes_work role.Whole (Not f) pending rest works =
       subst (Works goal pending) (sym (append_assoc (nodes_in role.Negated f) (Not f ∷ []) rest))
       (nodes_work role.Negated f pending (Not f ∷ rest) (pending, refl, works))
@@ -180,6 +286,16 @@ module _ (view : View) (point given : TimePoint) (whole : CoreForm) where
       → AllPremises view point given whole (h ∷ []) → AllPremises view point given whole (ns ++ ms ++ h ∷ [])
   premises_two ns ms h first second own = premises_append (ns ++ ms) (h ∷ []) (premises_append ns ms first second) own
 
+  premises_either : (b : Bool) (fs gs : List CoreForm) → AllPremises view point given whole fs → AllPremises view point given whole gs
+      → AllPremises view point given whole (cond b fs gs)
+  premises_either true fs gs first second = first
+  premises_either false fs gs first second = second
+
+  premises_fewer : (fs : List CoreForm) → AllPremises view point given whole fs → AllPremises view point given whole (without_last fs)
+  premises_fewer [] all = tt
+  premises_fewer (f ∷ []) all = tt
+  premises_fewer (f ∷ g ∷ fs) all = (all.0, premises_fewer (g ∷ fs) all.1)
+
   -- what the step takes for granted of a core it does of each part
   pub premises_all : (r : Role) (f : CoreForm) → Premises view point given whole f → AllPremises view point given whole (nodes_in r f)
   unfolding nodes_in
@@ -196,11 +312,18 @@ module _ (view : View) (point given : TimePoint) (whole : CoreForm) where
       (premises_all role.Whole f (record { rising = p.rising; passes = p.passes; whole_is = p.whole_is; sound = p.sound; ts = p.ts; same = p.same }))
       (p, tt)
   premises_all r (And f g) p =
-      premises_append (nodes_in role.Part f ++ nodes_in role.Part g) (cond (is_conjunction r) (And f g ∷ []) [])
+      premises_either (is_conjunction r && filters f g) (nodes_in role.Whole f ++ without_last (nodes_in role.Part g) ++ And f g ∷ [])
+      (nodes_in role.Part f ++ nodes_in role.Part g ++ cond (is_conjunction r) (And f g ∷ []) [])
+      (premises_two (nodes_in role.Whole f) (without_last (nodes_in role.Part g)) (And f g)
+      (premises_all role.Whole f (record { rising = p.rising; passes = p.passes; whole_is = p.whole_is; sound = p.sound.0; ts = p.ts; same = p.same.0 }))
+      (premises_fewer (nodes_in role.Part g)
+      (premises_all role.Part g (record { rising = p.rising; passes = p.passes; whole_is = p.whole_is; sound = p.sound.1; ts = p.ts; same = p.same.1 })))
+      (p, tt))
+      (premises_append (nodes_in role.Part f ++ nodes_in role.Part g) (cond (is_conjunction r) (And f g ∷ []) [])
       (premises_append (nodes_in role.Part f) (nodes_in role.Part g)
       (premises_all role.Part f (record { rising = p.rising; passes = p.passes; whole_is = p.whole_is; sound = p.sound.0; ts = p.ts; same = p.same.0 }))
       (premises_all role.Part g (record { rising = p.rising; passes = p.passes; whole_is = p.whole_is; sound = p.sound.1; ts = p.ts; same = p.same.1 })))
-      (premises_if (is_conjunction r) (And f g) p)
+      (premises_if (is_conjunction r) (And f g) p))
   premises_all r (Or f g) p =
       premises_two (nodes_in role.Whole f) (nodes_in role.Whole g) (Or f g)
       (premises_all role.Whole f (record { rising = p.rising; passes = p.passes; whole_is = p.whole_is; sound = p.sound.2; ts = p.ts; same = p.same.0 }))

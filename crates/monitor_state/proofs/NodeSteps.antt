@@ -1,6 +1,6 @@
 -- What one node does in a step.
-use Rattle.std.proofs.Common.{None, subst, ◌≡◌, ℕ, suc, ◌+◌, ◌<◌, Bool, true, false, not, ◌&&◌, nat_eq, nat_lt, List, [], ◌∷◌, ◌++◌, length, map, get_or, refl, sym, ap, ap₂, ◌∙◌, arith, append_assoc, append-nil}
-use Rattle.std.proofs.lemmas.Bool.{lt-ltb, ltb-true, cond-true, cond-false, ne_eqb}
+use Rattle.std.proofs.Common.{None, subst, ◌≡◌, ℕ, suc, ◌+◌, ◌<◌, Bool, true, false, not, ◌&&◌, cond, nat_eq, nat_lt, List, [], ◌∷◌, ◌++◌, length, map, get_or, refl, sym, ap, ap₂, ◌∙◌, arith, append_assoc, append-nil}
+use Rattle.std.proofs.lemmas.Bool.{and_parts, lt-ltb, ltb-true, cond-true, cond-false, ne_eqb}
 use Rattle.std.proofs.lemmas.List.{length-map, map-append}
 use Rattle.std.proofs.Math.Seq.{get_or-append_seam}
 use Rattle.std.specs.List.{list_any}
@@ -15,7 +15,7 @@ use Rattle.mfotl_model.specs.Log.{times}
 use Rattle.mfotl_model.specs.Regions.{Passes}
 use Rattle.mfotl_model.specs.Satisfaction.{Valuation, sat, with_value, event_of, has_event, database_at}
 use Rattle.mfotl_model.specs.Settled.{settled}
-use Rattle.mfotl_model.specs.Tables.{TableOf, has}
+use Rattle.mfotl_model.specs.Tables.{TableOf, all_among, has}
 use Rattle.mfotl_model.specs.Times.{NeverFalls}
 use Rattle.mfotl_model.specs.declared.event.TimePoint.{TimePoint}
 use Rattle.mfotl_model.specs.declared.formula.Bound.{Bound}
@@ -36,7 +36,7 @@ use Rattle.monitor_state.proofs.OrSteps.{or_is, or_news, or_stands}
 use Rattle.monitor_state.specs.OrFeeding.{OrTakes}
 use Rattle.monitor_state.proofs.JoinSteps.{join_is, join_news, join_stands}
 use Rattle.monitor_state.specs.JoinFeeding.{JoinTakes}
-use Rattle.monitorable.specs.Fragment.{Names, frag}
+use Rattle.monitorable.specs.Fragment.{Names, bound_by, frag}
 use Rattle.monitor_state.proofs.CountLemmas.{count_is}
 use Rattle.monitor_state.proofs.ExactLemmas.{log_more, rising_before}
 use Rattle.monitor_state.proofs.SinceSteps.{since_is, since_news, since_stands}
@@ -50,7 +50,11 @@ use Rattle.eval_until.specs.UntilView.{UntilOf}
 use Rattle.monitorable.specs.CoreForms.{Until}
 use Rattle.monitor_state.proofs.UntilSteps.{until_is, until_news, until_stands}
 use Rattle.monitor_state.specs.UntilFeeding.{UntilTakes}
-use Rattle.monitor_state.specs.Nodes.{children, left_operand, operands}
+use Rattle.monitor_state.specs.Nodes.{children, filters, is_window, left_operand, operands, window_operands}
+use Rattle.monitor_state.proofs.FilterSteps.{filter_is, filter_news, filter_stands}
+use Rattle.monitor_state.specs.FilterFeeding.{FilterTakes}
+use Rattle.monitor_state.specs.declared.filter.FilterState.{FilterState}
+use Rattle.monitorable.specs.Soundness.{IsSound}
 use Rattle.monitor_state.specs.Quantified.{IsWithout, Quantifies}
 use Rattle.monitor_state.specs.Stacks.{Pops, PopsMany}
 use Rattle.monitor_state.specs.Stands.{ChildrenStand, IsConstant, IsJoin, JoinStands}
@@ -163,6 +167,12 @@ constant_new : (view : View) (f : CoreForm) (i : ℕ) (table : TableOf) → IsCo
 constant_new view f i table is =
     record { columns = is.columns; rows = λ dom v covers near. is.rows view.log dom v i }
 
+-- a conjunction without operands has no children
+alone_children : (f g : CoreForm) (b : Bool)
+    → cond b (f ∷ window_operands (left_operand g)) (children (conjuncts_of (And f g))) ≡ [] → children (conjuncts_of (And f g)) ≡ []
+alone_children f g true none = absurd (let e : (f ∷ window_operands (left_operand g)) ≡ [] = none in cc)
+alone_children f g false none = none
+
 constant_one : (view : View) (point given : TimePoint) (whole f : CoreForm) (below : List CoreForm) (table : TableOf)
     (stack : List (List TableOf)) (tables : List TableOf) → tables ≡ table ∷ [] → Premises view point given whole f → IsConstant f table
     → ((t : List ℕ) (i : ℕ) → settled t (meaning f) i ≡ nat_lt i (length t))
@@ -189,7 +199,7 @@ constant_advances table given stack tables made view point whole (Not f) below p
     let one = constant_one view point given whole (Not f) below table stack tables made premises is (λ t i. tests_all t i (Not f) is.alone) stacked in
     (is, tt, one.0, one.1)
 constant_advances table given stack tables made view point whole (And f g) below premises is stands stacked =
-    let one = constant_one view point given whole (And f g) below table stack tables made premises is (λ t i. tests_all t i (And f g) is.alone) stacked in
+    let one = constant_one view point given whole (And f g) below table stack tables made premises is (λ t i. tests_all t i (And f g) (alone_children f g (filters f g) is.alone)) stacked in
     (is, tt, one.0, one.1)
 constant_advances table given stack tables made view point whole f below premises is stands stacked = absurd is
 
@@ -402,9 +412,9 @@ pub join_advances : (old new : JoinOf) (given : TimePoint) (stack rest lists : L
     → PopsMany (length old.children) stack rest lists → JoinTakes old lists new tables
     → Advances (node.Join old) given stack (node.Join new) rest tables
 join_advances old new given stack rest lists tables pops takes view point whole (And f g) below premises is stands stacked =
-    join_taken view point given whole (And f g) below old new stack rest lists tables refl premises is stands stacked pops takes
+    join_taken view point given whole (And f g) below old new stack rest lists tables is.whole premises is stands stacked pops takes
 join_advances old new given stack rest lists tables pops takes view point whole (Not f) below premises is stands stacked =
-    join_taken view point given whole (Not f) below old new stack rest lists tables refl premises is stands stacked pops takes
+    join_taken view point given whole (Not f) below old new stack rest lists tables is.whole premises is stands stacked pops takes
 join_advances old new given stack rest lists tables pops takes view point whole f below premises is stands stacked = absurd is
 
 pub or_advances : (old new : OrOf) (given : TimePoint) (stack mid rest : List (List TableOf)) (ls rs tables : List TableOf)
@@ -442,3 +452,48 @@ next_advances old new given stack rest operand tables pops takes view point whol
       next_news view point i f premises.rising old new is stands given.ts premises.ts operand news.1 tables takes,
     )
 next_advances old new given stack rest operand tables pops takes view point whole f below premises is stands stacked = absurd is
+
+sound_operand : (whole g : CoreForm) → IsSound whole g → IsSound whole (left_operand g)
+sound_operand whole (Not f) sound = sound
+sound_operand whole f sound = sound
+
+-- the three topmost are a filter's operands'
+pops_filtered : (view : View) (point : TimePoint) (below : List CoreForm) (f w : CoreForm)
+    (stack high mid rest : List (List TableOf)) (fs ls rs : List TableOf) → is_window w ≡ true
+    → StackNews view point (below ++ (f ∷ window_operands w)) stack → Pops stack high rs → Pops high mid ls → Pops mid rest fs
+    → StackNews view point below rest × News view point f fs × StackNews view point (window_operands w) (ls ∷ rs ∷ [])
+pops_filtered view point below f (Since i a b) stack high mid rest fs ls rs is news last second first =
+    let two = pops_two view point (below ++ f ∷ []) (left_operand a) b stack high mid ls rs
+    (subst (λ cs. StackNews view point cs stack) (sym (append_assoc below (f ∷ []) (left_operand a ∷ b ∷ []))) news) last second in
+    let one = pops_top view point below f mid rest fs two.0 first in
+    (one.0, one.1, (two.1, (two.2, tt)))
+pops_filtered view point below f (Until i a b) stack high mid rest fs ls rs is news last second first =
+    let two = pops_two view point (below ++ f ∷ []) (left_operand a) b stack high mid ls rs
+    (subst (λ cs. StackNews view point cs stack) (sym (append_assoc below (f ∷ []) (left_operand a ∷ b ∷ []))) news) last second in
+    let one = pops_top view point below f mid rest fs two.0 first in
+    (one.0, one.1, (two.1, (two.2, tt)))
+pops_filtered view point below f w stack high mid rest fs ls rs is news last second first =
+    absurd (let clash : true ≡ false = sym is in cc)
+
+pub filter_advances : (old new : FilterState) (given : TimePoint) (stack high mid rest : List (List TableOf))
+    (fs ls rs tables : List TableOf)
+    → Pops stack high rs → Pops high mid ls → Pops mid rest fs → FilterTakes old given.ts fs ls rs new tables
+    → Advances (node.Filter old) given stack (node.Filter new) rest tables
+filter_advances old new given stack high mid rest fs ls rs tables last second first takes view point whole (And f g) below
+    premises is stands stacked =
+    let sound = sound_operand whole g premises.sound.1 in
+    let news = pops_filtered view point below f (left_operand g) stack high mid rest fs ls rs
+    (and_parts (is_window (left_operand g)) (all_among (fv (meaning g)) (bound_by f)) is.only).0
+    (subst (λ cs. StackNews view point (below ++ cs) stack)
+    (ap (λ b. cond b (f ∷ window_operands (left_operand g)) (children (conjuncts_of (And f g)))) is.only) stacked)
+    last second first in (
+      filter_is view point whole f g premises.rising premises.passes sound old is stands given.ts premises.ts fs ls rs
+          news.1 news.2 new tables takes,
+      filter_stands view point whole f g premises.rising premises.passes sound old is stands given.ts premises.ts fs ls rs
+          news.1 news.2 new tables takes,
+      news.0,
+      filter_news view point whole f g premises.rising premises.passes sound old is stands given.ts premises.ts fs ls rs
+          news.1 news.2 new tables takes,
+    )
+filter_advances old new given stack high mid rest fs ls rs tables last second first takes view point whole f below premises is
+    stands stacked = absurd is

@@ -1,7 +1,7 @@
 -- A SINCE's state over one step.
-use Rattle.std.proofs.Common.{subst, ◌≡◌, ℕ, ◌+◌, ◌-◌, ◌≤◌, Bool, true, false, not, ◌&&◌, nat_lt, List, [], ◌∷◌, ◌++◌, length, drop, refl, sym, ap, ap₂, ◌∙◌, arith, length-append}
-use Rattle.std.proofs.lemmas.Bool.{lt-ltb}
-use Rattle.std.proofs.lemmas.List.{length-drop, length-map}
+use Rattle.std.proofs.Common.{subst, ◌≡◌, ℕ, ◌+◌, ◌-◌, ◌<◌, ◌≤◌, Bool, true, false, not, ◌&&◌, nat_lt, List, [], ◌∷◌, ◌++◌, length, drop, refl, sym, ap, ap₂, ◌∙◌, arith, length-append}
+use Rattle.std.proofs.lemmas.Bool.{and_parts, lt-ltb, ltb-true}
+use Rattle.std.proofs.lemmas.List.{length-drop}
 use Rattle.mfotl_model.specs.Counts.{settled_count}
 use Rattle.mfotl_model.specs.Exact.{View, Covers, AllExact}
 use Rattle.mfotl_model.specs.FreeVariables.{fv}
@@ -14,16 +14,16 @@ use Rattle.mfotl_model.specs.Times.{NeverFalls}
 use Rattle.mfotl_model.specs.declared.event.TimePoint.{TimePoint}
 use Rattle.mfotl_model.specs.declared.interval.Interval.{Interval}
 use Rattle.mfotl_model.specs.declared.value.Value.{Value}
-use Rattle.eval_since.specs.SinceView.{Follows, SinceOf}
+use Rattle.eval_since.specs.SinceView.{Advances, Follows, SinceOf, due}
 use Rattle.monitorable.specs.CoreForms.{CoreForm, meaning, Not, Since}
 use Rattle.monitorable.specs.Soundness.{HasVariablesOf}
 use Rattle.relations.specs.Pushed.{StandFrom, left_holds}
 use Rattle.monitor_state.proofs.CountLemmas.{count_since}
 use Rattle.monitor_state.proofs.ExactLemmas.{all_stay, covers_before, dates_before, dates_new, exact_append, exact_drop, exact_tell, log_more, reached_within, stand_exact, tells_before, truths_tell}
 use Rattle.monitor_state.proofs.RegionLemmas.{joined_inside, near_part, near_right, right_inside}
-use Rattle.monitor_state.specs.Feeding.{SinceTakes}
+use Rattle.monitor_state.specs.Feeding.{SinceFeeds, SincePulled, SinceTakes}
 use Rattle.monitor_state.specs.Nodes.{is_negated, left_operand}
-use Rattle.monitor_state.specs.Stands.{IsSince, SinceStands}
+use Rattle.monitor_state.specs.SinceNode.{IsSince, IsSinceState, SinceStands, SinceStandsAt}
 use Rattle.monitor_state.specs.Steps.{News, longer}
 use Rattle.monitor_state.specs.Views.{Dates, Tells, reached}
 
@@ -64,61 +64,61 @@ module _ (view : View) (point : TimePoint) (i : Interval) (f g : CoreForm)
   near_operand : (v : Valuation) → view.near (fv (meaning g)) v ≡ true → view.near (fv (meaning f)) v ≡ true
   near_operand v h = near_part (fv view.whole) view.near passes (fv (meaning f)) (fv (meaning g)) variables v h
 
-  module _ (old : SinceOf) (order : TableOf) (is : IsSince i f g old order) (stands : SinceStands view i f g old)
+  module _ (old : SinceOf) (is : IsSinceState i f g old) (p : ℕ) (stands : SinceStandsAt view p i f g old)
       (ts : ℕ) (ts_is : ts ≡ point.ts) (ls rs : List TableOf)
       (left : News view point (left_operand f) ls) (right : News view point g rs)
-      (new : SinceOf) (tables : List TableOf) (takes : SinceTakes order.columns old ts ls rs new tables) where
-    timed_is : takes.timed ≡ record old { newest = ts; times = old.times ++ ts ∷ [] }
-    timed_is = takes.time
+      (fed : SinceOf) (feeds : SinceFeeds old ts ls rs fed) where
+    timed_is : feeds.timed ≡ record old { newest = ts; times = old.times ++ ts ∷ [] }
+    timed_is = feeds.time
 
-    left_is : takes.fed_left ≡ record old { newest = ts; times = old.times ++ ts ∷ []; lefts = old.lefts ++ ls }
-    left_is = takes.lefts.pushed ∙ ap (λ (x : SinceOf). record x { lefts = x.lefts ++ ls }) timed_is
+    left_is : feeds.fed_left ≡ record old { newest = ts; times = old.times ++ ts ∷ []; lefts = old.lefts ++ ls }
+    left_is = feeds.lefts.pushed ∙ ap (λ (x : SinceOf). record x { lefts = x.lefts ++ ls }) timed_is
 
-    fed_is : takes.fed
+    fed_is : fed
         ≡ record old { newest = ts; times = old.times ++ ts ∷ []; lefts = old.lefts ++ ls; rights = old.rights ++ rs }
-    fed_is = takes.rights.pushed ∙ ap (λ (x : SinceOf). record x { rights = x.rights ++ rs }) left_is
+    fed_is = feeds.rights.pushed ∙ ap (λ (x : SinceOf). record x { rights = x.rights ++ rs }) left_is
 
     left_count : reached view f + length ls ≡ reached (longer view point) f
     left_count =
         ap (λ n. n + length ls) (sym (reached_operand view f)) ∙ left.count ∙ reached_operand (longer view point) f
 
-    left_place : takes.timed.pulled + length takes.timed.lefts ≡ reached view f
+    left_place : feeds.timed.pulled + length feeds.timed.lefts ≡ reached view f
     left_place = ap (λ (x : SinceOf). x.pulled + length x.lefts) timed_is ∙ stands.left_pushed
 
-    right_place : takes.fed_left.pulled + length takes.fed_left.rights ≡ reached view g
+    right_place : feeds.fed_left.pulled + length feeds.fed_left.rights ≡ reached view g
     right_place = ap (λ (x : SinceOf). x.pulled + length x.rights) left_is ∙ stands.right_pushed
 
     module _ (dom : List Value) (v : Valuation) (covers : Covers (longer view point) dom)
         (near : view.near (fv (meaning g)) v ≡ true) (t : List ℕ) (a b : List Bool) (dates : Dates (longer view point) t)
         (tells : Tells (longer view point) dom v f a) (tells_right : Tells (longer view point) dom v g b) where
-      begun : Follows takes.timed t a b v
+      begun : Follows feeds.timed t a b v
       begun =
-          takes.time_follows t a b v
+          feeds.time_follows t a b v
           (stands.follows dom v (covers_before view point rising dom covers) near t a b
           (dates_before view point rising t dates)
           (tells_before view point rising dom v f a tells) (tells_before view point rising dom v g b tells_right))
           (ts_is ∙ dates_new view point rising t dates ∙ ap (time_at t) (sym stands.timed))
 
-      left_stand : StandFrom (λ k table. left_holds takes.timed.negated table v ≡ truth_at a k)
-          (takes.timed.pulled + length takes.timed.lefts) ls
+      left_stand : StandFrom (λ k table. left_holds feeds.timed.negated table v ≡ truth_at a k)
+          (feeds.timed.pulled + length feeds.timed.lefts) ls
       left_stand =
-          let negated : is_negated f ≡ takes.timed.negated = sym (ap (λ (x : SinceOf). x.negated) timed_is ∙ is.negated) in
+          let negated : is_negated f ≡ feeds.timed.negated = sym (ap (λ (x : SinceOf). x.negated) timed_is ∙ is.negated) in
           let more : reached view f + length ls ≡ reached (longer view point) f = left_count in
-          subst (λ n. StandFrom (λ k table. left_holds n table v ≡ truth_at a k) (takes.timed.pulled + length takes.timed.lefts) ls)
+          subst (λ n. StandFrom (λ k table. left_holds n table v ≡ truth_at a k) (feeds.timed.pulled + length feeds.timed.lefts) ls)
           negated
           (subst (λ p. StandFrom (λ k table. left_holds (is_negated f) table v ≡ truth_at a k) p ls) (sym left_place)
           (left_tell (longer view point) f dom v a (reached view f) ls covers (near_operand v near) tells (omega arith)
           (subst (λ p. AllExact (longer view point) (meaning (left_operand f)) p ls) (reached_operand view f) left.exact)))
 
       right_stand : StandFrom (λ k table. has table v ≡ truth_at b k)
-          (takes.fed_left.pulled + length takes.fed_left.rights) rs
+          (feeds.fed_left.pulled + length feeds.fed_left.rights) rs
       right_stand =
           let more : reached view g + length rs ≡ reached (longer view point) g = right.count in
           subst (λ p. StandFrom (λ k table. has table v ≡ truth_at b k) p rs) (sym right_place)
           (exact_tell (longer view point) g dom v b (reached view g) rs covers near tells_right (omega arith) right.exact)
 
-      fed_follows : Follows takes.fed t a b v
-      fed_follows = takes.rights.follows t a b v (takes.lefts.follows t a b v begun left_stand) right_stand
+      fed_follows : Follows fed t a b v
+      fed_follows = feeds.rights.follows t a b v (feeds.lefts.follows t a b v begun left_stand) right_stand
 
     fed_lefts : AllExact (longer view point) (meaning (left_operand f)) old.pulled (old.lefts ++ ls)
     fed_lefts =
@@ -133,132 +133,250 @@ module _ (view : View) (point : TimePoint) (i : Interval) (f g : CoreForm)
         exact_append (longer view point) (meaning g) old.pulled (reached view g) old.rights rs (omega arith)
         (all_stay view point rising g old.pulled old.rights (omega arith) stands.rights) right.exact
 
-    pulled_is : new.pulled ≡ old.pulled + length tables
-    pulled_is = takes.pulls.pulled ∙ ap (λ (x : SinceOf). x.pulled + length tables) fed_is
+    pub since_fed_is : IsSinceState i f g fed
+    since_fed_is =
+        record {
+          interval = ap (λ (x : SinceOf). x.window.interval) fed_is ∙ is.interval;
+          negated = ap (λ (x : SinceOf). x.negated) fed_is ∙ is.negated;
+          left = ap (λ (x : SinceOf). x.window.left) fed_is ∙ is.left;
+          right = ap (λ (x : SinceOf). x.window.right) fed_is ∙ is.right;
+        }
 
-    -- what was pushed and not pulled
-    kept_times : new.pulled + length new.times ≡ length (longer view point).log
-    kept_times =
-        let pulled : new.pulled ≡ old.pulled + length tables = pulled_is in
+    fed_times : fed.pulled + length fed.times ≡ length (longer view point).log
+    fed_times =
         let timed : old.pulled + length old.times ≡ length view.log = stands.timed in
         let more : length (longer view point).log ≡ length view.log + 1 = log_more view point rising in
-        let fed : takes.fed.times ≡ old.times ++ ts ∷ [] = ap (λ (x : SinceOf). x.times) fed_is in
         let size : length (old.times ++ ts ∷ []) ≡ length old.times + length (ts ∷ []) = length-append old.times (ts ∷ []) in
-        let fed_size : length takes.fed.times ≡ length (old.times ++ ts ∷ []) = ap length fed in
         let one : length (ts ∷ []) ≡ 1 = omega arith in
-        let room : length tables ≤ length takes.fed.times = takes.pulls.in_times in
-        let rest : length new.times ≡ length takes.fed.times - length tables =
-        ap length takes.pulls.times ∙ length-drop (length tables) takes.fed.times in
-        omega arith
+        ap (λ (x : SinceOf). x.pulled + length x.times) fed_is
+        ∙ (let sum : old.pulled + length (old.times ++ ts ∷ []) ≡ length (longer view point).log = omega arith in sum)
 
-    kept_lefts : new.pulled + length new.lefts ≡ reached (longer view point) f
-    kept_lefts =
-        let pulled : new.pulled ≡ old.pulled + length tables = pulled_is in
+    fed_left_count : fed.pulled + length fed.lefts ≡ reached (longer view point) f
+    fed_left_count =
         let pushed : old.pulled + length old.lefts ≡ reached view f = stands.left_pushed in
         let more : reached view f + length ls ≡ reached (longer view point) f = left_count in
         let size : length (old.lefts ++ ls) ≡ length old.lefts + length ls = length-append old.lefts ls in
-        let fed_size : length takes.fed.lefts ≡ length (old.lefts ++ ls) = ap (λ (x : SinceOf). length x.lefts) fed_is in
-        let room : length tables ≤ length takes.fed.lefts = takes.pulls.in_lefts in
-        let rest : length new.lefts ≡ length takes.fed.lefts - length tables =
-        ap length takes.pulls.lefts ∙ length-drop (length tables) takes.fed.lefts in
-        omega arith
+        ap (λ (x : SinceOf). x.pulled + length x.lefts) fed_is
+        ∙ (let sum : old.pulled + length (old.lefts ++ ls) ≡ reached (longer view point) f = omega arith in sum)
 
-    kept_rights : new.pulled + length new.rights ≡ reached (longer view point) g
-    kept_rights =
-        let pulled : new.pulled ≡ old.pulled + length tables = pulled_is in
+    fed_right_count : fed.pulled + length fed.rights ≡ reached (longer view point) g
+    fed_right_count =
         let pushed : old.pulled + length old.rights ≡ reached view g = stands.right_pushed in
         let more : reached view g + length rs ≡ reached (longer view point) g = right.count in
         let size : length (old.rights ++ rs) ≡ length old.rights + length rs = length-append old.rights rs in
-        let fed_size : length takes.fed.rights ≡ length (old.rights ++ rs) = ap (λ (x : SinceOf). length x.rights) fed_is in
-        let room : length tables ≤ length takes.fed.rights = takes.pulls.in_rights in
-        let rest : length new.rights ≡ length takes.fed.rights - length tables =
-        ap length takes.pulls.rights ∙ length-drop (length tables) takes.fed.rights in
-        omega arith
+        ap (λ (x : SinceOf). x.pulled + length x.rights) fed_is
+        ∙ (let sum : old.pulled + length (old.rights ++ rs) ≡ reached (longer view point) g = omega arith in sum)
 
-    done_all : (b c d : Bool) → b ≡ true → c ≡ true → d ≡ true → (b && c && d) ≡ false → ⊥
-    done_all true true true h k l e = cc
-    done_all true true false h k l e = cc
-    done_all true false d h k l e = cc
-    done_all false c d h k l e = cc
+    -- what was pushed stands where it did, for the longer log
+    pub since_fed : SinceStandsAt (longer view point) p i f g fed
+    since_fed =
+        record {
+          pulled = ap (λ (x : SinceOf). x.pulled) fed_is ∙ stands.pulled;
+          timed = fed_times;
+          left_pushed = fed_left_count;
+          right_pushed = fed_right_count;
+          lefts =
+              subst (λ (x : SinceOf). AllExact (longer view point) (meaning (left_operand f)) x.pulled x.lefts) (sym fed_is) fed_lefts;
+          rights = subst (λ (x : SinceOf). AllExact (longer view point) (meaning g) x.pulled x.rights) (sym fed_is) fed_rights;
+          follows = λ dom v covers near t a b dates tells tells_right.
+              fed_follows dom v covers near t a b dates tells tells_right;
+        }
 
-    all_pulled : new.pulled ≡ reached (longer view point) (Since i f g)
-    all_pulled =
-        let times_size : length (times (longer view point).log) ≡ length (longer view point).log =
-        length-map (longer view point).log (λ p. p.ts) in
-        let in_log : new.pulled + length new.times ≡ length (longer view point).log = kept_times in
-        let lefts : new.pulled + length new.lefts ≡ reached (longer view point) f = kept_lefts in
-        let rights : new.pulled + length new.rights ≡ reached (longer view point) g = kept_rights in
-        count_since (times (longer view point).log) rising i (meaning f) (meaning g) new.pulled (omega arith) (omega arith)
-        (λ low high.
-        let most : reached (longer view point) f ≤ length (longer view point).log = reached_within (longer view point) f in
-        done_all (nat_lt 0 (length new.times)) (nat_lt 0 (length new.lefts)) (nat_lt 0 (length new.rights))
-        (lt-ltb 0 (length new.times) (omega arith)) (lt-ltb 0 (length new.lefts) (omega arith))
-        (lt-ltb 0 (length new.rights) (omega arith)) takes.ends)
+-- n positions were pulled, and the state is right where it was
+pub record SinceMoves (n : ℕ) (old new : SinceOf) : Type 0 where
+  pub pulled : new.pulled ≡ old.pulled + n
+  pub negated : new.negated ≡ old.negated
+  pub interval : new.window.interval ≡ old.window.interval
+  pub left : new.window.left ≡ old.window.left
+  pub right : new.window.right ≡ old.window.right
+  pub times : new.times ≡ drop n old.times
+  pub lefts : new.lefts ≡ drop n old.lefts
+  pub rights : new.rights ≡ drop n old.rights
+  pub in_times : n ≤ length old.times
+  pub in_lefts : n ≤ length old.lefts
+  pub in_rights : n ≤ length old.rights
+  pub follows : (t : List ℕ) (a b : List Bool) (v : Valuation) → Follows old t a b v → Follows new t a b v
+
+pulled_moves : (columns : List ℕ) (old new : SinceOf) (tables : List TableOf) → SincePulled columns old new tables
+    → SinceMoves (length tables) old new
+pulled_moves columns old new tables pulls =
+    record {
+      pulled = pulls.pulled;
+      negated = pulls.negated;
+      interval = pulls.interval;
+      left = pulls.left;
+      right = pulls.right;
+      times = pulls.times;
+      lefts = pulls.lefts;
+      rights = pulls.rights;
+      in_times = pulls.in_times;
+      in_lefts = pulls.in_lefts;
+      in_rights = pulls.in_rights;
+      follows = pulls.follows;
+    }
+
+pub since_due_parts : (s : SinceOf) → due s ≡ true → (0 < length s.times) × (0 < length s.lefts) × (0 < length s.rights)
+since_due_parts s h =
+    let one = and_parts (nat_lt 0 (length s.times) && nat_lt 0 (length s.lefts)) (nat_lt 0 (length s.rights)) h in
+    let two = and_parts (nat_lt 0 (length s.times)) (nat_lt 0 (length s.lefts)) one.0 in (
+      ltb-true 0 (length s.times) two.0,
+      ltb-true 0 (length s.lefts) two.1,
+      ltb-true 0 (length s.rights) one.1,
+    )
+
+-- one position was pulled
+pub one_moves : (old new : SinceOf) → due old ≡ true → Advances old new
+    → ((t : List ℕ) (a b : List Bool) (v : Valuation) → Follows old t a b v → Follows new t a b v) → SinceMoves 1 old new
+one_moves old new ready advances follows =
+    let some = since_due_parts old ready in
+    let times : 0 < length old.times = some.0 in
+    let lefts : 0 < length old.lefts = some.1 in
+    let rights : 0 < length old.rights = some.2 in
+    record {
+      pulled = advances.pulled;
+      negated = advances.negated;
+      interval = advances.interval;
+      left = advances.left;
+      right = advances.right;
+      times = advances.times;
+      lefts = advances.lefts;
+      rights = advances.rights;
+      in_times = omega arith;
+      in_lefts = omega arith;
+      in_rights = omega arith;
+      follows = follows;
+    }
+
+module _ (view : View) (i : Interval) (f g : CoreForm) (n : ℕ) (old new : SinceOf) (moves : SinceMoves n old new) where
+  pub since_moved_is : IsSinceState i f g old → IsSinceState i f g new
+  since_moved_is is =
+      record {
+        interval = moves.interval ∙ is.interval;
+        negated = moves.negated ∙ is.negated;
+        left = moves.left ∙ is.left;
+        right = moves.right ∙ is.right;
+      }
+
+  -- the rest stands as many positions further
+  pub since_moved : (p : ℕ) → SinceStandsAt view p i f g old → SinceStandsAt view (p + n) i f g new
+  since_moved p stands =
+      let pulled : new.pulled ≡ old.pulled + n = moves.pulled in
+      let timed : old.pulled + length old.times ≡ length view.log = stands.timed in
+      let lefts : old.pulled + length old.lefts ≡ reached view f = stands.left_pushed in
+      let rights : old.pulled + length old.rights ≡ reached view g = stands.right_pushed in
+      let in_times : n ≤ length old.times = moves.in_times in
+      let in_lefts : n ≤ length old.lefts = moves.in_lefts in
+      let in_rights : n ≤ length old.rights = moves.in_rights in
+      let rest_times : length new.times ≡ length old.times - n = ap length moves.times ∙ length-drop n old.times in
+      let rest_lefts : length new.lefts ≡ length old.lefts - n = ap length moves.lefts ∙ length-drop n old.lefts in
+      let rest_rights : length new.rights ≡ length old.rights - n = ap length moves.rights ∙ length-drop n old.rights in
+      record {
+        pulled = moves.pulled ∙ ap (λ q. q + n) stands.pulled;
+        timed = omega arith;
+        left_pushed = omega arith;
+        right_pushed = omega arith;
+        lefts =
+            subst (λ xs. AllExact view (meaning (left_operand f)) new.pulled xs) (sym moves.lefts)
+            (subst (λ k. AllExact view (meaning (left_operand f)) k (drop n old.lefts)) (sym moves.pulled)
+            (exact_drop view (meaning (left_operand f)) old.pulled n old.lefts stands.lefts));
+        rights =
+            subst (λ xs. AllExact view (meaning g) new.pulled xs) (sym moves.rights)
+            (subst (λ k. AllExact view (meaning g) k (drop n old.rights)) (sym moves.pulled)
+            (exact_drop view (meaning g) old.pulled n old.rights stands.rights));
+        follows = λ dom v covers near t a b dates tells tells_right.
+            moves.follows t a b v (stands.follows dom v covers near t a b dates tells tells_right);
+      }
+
+done_all : (b c d : Bool) → b ≡ true → c ≡ true → d ≡ true → (b && c && d) ≡ false → ⊥
+done_all true true true h k l e = cc
+done_all true true false h k l e = cc
+done_all true false d h k l e = cc
+done_all false c d h k l e = cc
+
+-- where nothing is due, a state has pulled each settled position
+pub since_all_pulled : (view : View) → NeverFalls (times view.log) → (i : Interval) (f g : CoreForm) (p : ℕ) (s : SinceOf)
+    → SinceStandsAt view p i f g s → due s ≡ false → p ≡ reached view (Since i f g)
+since_all_pulled view rising i f g p s stands ends =
+    let pulled : s.pulled ≡ p = stands.pulled in
+    let in_log : s.pulled + length s.times ≡ length view.log = stands.timed in
+    let lefts : s.pulled + length s.lefts ≡ reached view f = stands.left_pushed in
+    let rights : s.pulled + length s.rights ≡ reached view g = stands.right_pushed in
+    count_since (times view.log) rising i (meaning f) (meaning g) p (omega arith) (omega arith)
+    (λ low high.
+    let most : reached view f ≤ length view.log = reached_within view f in
+    done_all (nat_lt 0 (length s.times)) (nat_lt 0 (length s.lefts)) (nat_lt 0 (length s.rights))
+    (lt-ltb 0 (length s.times) (omega arith)) (lt-ltb 0 (length s.lefts) (omega arith))
+    (lt-ltb 0 (length s.rights) (omega arith)) ends)
+
+-- what a state that stands tells of a near row
+pub since_right : (view : View) (i : Interval) (f g : CoreForm) (p : ℕ) (s : SinceOf) → SinceStandsAt view p i f g s
+    → (dom : List Value) (v : Valuation) → Covers view dom → view.near (fv (meaning g)) v ≡ true
+    → Follows s (times view.log) (truths (length view.log) (λ j. sat view.log dom v j (meaning f)))
+    (truths (length view.log) (λ j. sat view.log dom v j (meaning g))) v
+since_right view i f g p s stands dom v covers near =
+    stands.follows dom v covers near (times view.log) (truths (length view.log) (λ j. sat view.log dom v j (meaning f)))
+    (truths (length view.log) (λ j. sat view.log dom v j (meaning g))) (λ j low. refl) (truths_tell view dom v f) (truths_tell view dom v g)
+
+module _ (view : View) (point : TimePoint) (i : Interval) (f g : CoreForm)
+    (rising : NeverFalls (times (longer view point).log)) (passes : Passes (fv view.whole) view.near)
+    (variables : HasVariablesOf g f) where
+  module _ (old : SinceOf) (order : TableOf) (is : IsSince i f g old order) (stands : SinceStands view i f g old)
+      (ts : ℕ) (ts_is : ts ≡ point.ts) (ls rs : List TableOf)
+      (left : News view point (left_operand f) ls) (right : News view point g rs)
+      (new : SinceOf) (tables : List TableOf) (takes : SinceTakes order.columns old ts ls rs new tables) where
+    begun_is : IsSinceState i f g takes.fed
+    begun_is =
+        since_fed_is view point i f g rising passes variables old is.state (reached view (Since i f g)) stands ts ts_is ls rs
+        left right takes.fed takes.feeds
+
+    begun_stands : SinceStandsAt (longer view point) (reached view (Since i f g)) i f g takes.fed
+    begun_stands =
+        since_fed view point i f g rising passes variables old is.state (reached view (Since i f g)) stands ts ts_is ls rs
+        left right takes.fed takes.feeds
+
+    moves : SinceMoves (length tables) takes.fed new
+    moves = pulled_moves order.columns takes.fed new tables takes.pulls
+
+    new_stands : SinceStandsAt (longer view point) (reached view (Since i f g) + length tables) i f g new
+    new_stands =
+        since_moved (longer view point) i f g (length tables) takes.fed new moves (reached view (Since i f g)) begun_stands
+
+    count : reached view (Since i f g) + length tables ≡ reached (longer view point) (Since i f g)
+    count =
+        since_all_pulled (longer view point) rising i f g (reached view (Since i f g) + length tables) new new_stands takes.ends
 
     -- the columns are the right operand's
     in_right : all_among order.columns takes.fed.window.right ≡ true
-    in_right =
-        let right_columns : takes.fed.window.right ≡ fv (meaning g) = ap (λ (x : SinceOf). x.window.right) fed_is ∙ is.right in
-        ap₂ all_among is.ordered right_columns
-        ∙ joined_inside (fv (meaning f)) (fv (meaning g)) variables
+    in_right = ap₂ all_among is.ordered begun_is.right ∙ joined_inside (fv (meaning f)) (fv (meaning g)) variables
 
     in_order : all_among takes.fed.window.right order.columns ≡ true
-    in_order =
-        let right_columns : takes.fed.window.right ≡ fv (meaning g) = ap (λ (x : SinceOf). x.window.right) fed_is ∙ is.right in
-        ap₂ all_among right_columns is.ordered
-        ∙ right_inside (fv (meaning f)) (fv (meaning g))
+    in_order = ap₂ all_among begun_is.right is.ordered ∙ right_inside (fv (meaning f)) (fv (meaning g))
 
-    tables_exact : AllExact (longer view point) (meaning (Since i f g)) old.pulled tables
+    tables_exact : AllExact (longer view point) (meaning (Since i f g)) (reached view (Since i f g)) tables
     unfolding fv sat
     tables_exact =
-        stand_exact (longer view point) (meaning (Since i f g)) order.columns old.pulled tables is.ordered takes.pulls.over
+        stand_exact (longer view point) (meaning (Since i f g)) order.columns (reached view (Since i f g)) tables is.ordered takes.pulls.over
         (λ dom v covers near.
         let beside : view.near (fv (meaning g)) v ≡ true =
         near_right (fv view.whole) view.near passes (fv (meaning f)) (fv (meaning g)) v near in
         let t : List ℕ = times (longer view point).log in
         let a : List Bool = truths (length (longer view point).log) (λ j. sat (longer view point).log dom v j (meaning f)) in
         let b : List Bool = truths (length (longer view point).log) (λ j. sat (longer view point).log dom v j (meaning g)) in
-        let follows : Follows takes.fed t a b v =
-        fed_follows dom v covers beside t a b (λ j low. refl) (truths_tell (longer view point) dom v f) (truths_tell (longer view point) dom v g) in
-        subst (λ p. StandFrom (λ k table. has table v ≡ since i t a b k) p tables) (ap (λ (x : SinceOf). x.pulled) fed_is)
-        (subst (λ j. StandFrom (λ k table. has table v ≡ since j t a b k) takes.fed.pulled tables)
-        (ap (λ (x : SinceOf). x.window.interval) fed_is ∙ is.interval)
-        (takes.pulls.rows t a b v follows in_right in_order)))
+        subst (λ p. StandFrom (λ k table. has table v ≡ since i t a b k) p tables) begun_stands.pulled
+        (subst (λ j. StandFrom (λ k table. has table v ≡ since j t a b k) takes.fed.pulled tables) begun_is.interval
+        (takes.pulls.rows t a b v
+        (since_right (longer view point) i f g (reached view (Since i f g)) takes.fed begun_stands dom v covers beside)
+        in_right in_order)))
 
     pub since_is : IsSince i f g new order
     since_is =
         record {
-          interval = takes.pulls.interval ∙ ap (λ (x : SinceOf). x.window.interval) fed_is ∙ is.interval;
-          negated = takes.pulls.negated ∙ ap (λ (x : SinceOf). x.negated) fed_is ∙ is.negated;
-          left = takes.pulls.left ∙ ap (λ (x : SinceOf). x.window.left) fed_is ∙ is.left;
-          right = takes.pulls.right ∙ ap (λ (x : SinceOf). x.window.right) fed_is ∙ is.right;
+          state = since_moved_is (longer view point) i f g (length tables) takes.fed new moves begun_is;
           ordered = is.ordered;
         }
 
     pub since_stands : SinceStands (longer view point) i f g new
-    since_stands =
-        record {
-          pulled = all_pulled;
-          timed = kept_times;
-          left_pushed = kept_lefts;
-          right_pushed = kept_rights;
-          lefts =
-              subst (λ xs. AllExact (longer view point) (meaning (left_operand f)) new.pulled xs)
-              (sym (takes.pulls.lefts ∙ ap (λ (x : SinceOf). drop (length tables) x.lefts) fed_is))
-              (subst (λ k. AllExact (longer view point) (meaning (left_operand f)) k (drop (length tables) (old.lefts ++ ls))) (sym pulled_is)
-              (exact_drop (longer view point) (meaning (left_operand f)) old.pulled (length tables) (old.lefts ++ ls) fed_lefts));
-          rights =
-              subst (λ xs. AllExact (longer view point) (meaning g) new.pulled xs)
-              (sym (takes.pulls.rights ∙ ap (λ (x : SinceOf). drop (length tables) x.rights) fed_is))
-              (subst (λ k. AllExact (longer view point) (meaning g) k (drop (length tables) (old.rights ++ rs))) (sym pulled_is)
-              (exact_drop (longer view point) (meaning g) old.pulled (length tables) (old.rights ++ rs) fed_rights));
-          follows = λ dom v covers near t a b dates tells tells_right.
-              takes.pulls.follows t a b v (fed_follows dom v covers near t a b dates tells tells_right);
-        }
+    since_stands = subst (λ p. SinceStandsAt (longer view point) p i f g new) count new_stands
 
     pub since_news : News view point (Since i f g) tables
-    since_news =
-        record {
-          count = ap (λ n. n + length tables) (sym stands.pulled) ∙ sym pulled_is ∙ all_pulled;
-          exact = subst (λ k. AllExact (longer view point) (meaning (Since i f g)) k tables) stands.pulled tables_exact;
-        }
+    since_news = record { count = count; exact = tables_exact }

@@ -13,26 +13,29 @@ use Rattle.monitor_state.proofs.BeginLemmas.{adds_one, adds_then, none_reached}
 use Rattle.monitor_state.proofs.SinceSteps.{free_operand}
 use Rattle.monitor_state.specs.Beginnings.{Adds, UntilBegun}
 use Rattle.monitor_state.specs.Nodes.{left_operand, nodes_in}
-use Rattle.monitor_state.specs.UntilNode.{IsUntil, UntilStands}
+use Rattle.monitor_state.specs.UntilNode.{IsUntil, IsUntilState, UntilStands, UntilStandsAt}
 use Rattle.monitor_state.specs.Views.{reached}
 use Rattle.monitor_state.specs.declared.node.Node.{Node}
 use Rattle.monitor_state.specs.declared.node.Node.TheVariants as node
 
-until_is : (i : Interval) (f g : CoreForm) (s : UntilOf) (order : TableOf) → UntilBegun i f g s
-    → order.columns ≡ fv (meaning (Until i f g)) → IsUntil i f g s order
-unfolding fv
-until_is i f g s order begun columns =
+pub until_state_is : (i : Interval) (f g : CoreForm) (s : UntilOf) → UntilBegun i f g s → IsUntilState i f g s
+until_state_is i f g s begun =
     record {
       interval = ap (λ (x : UntilOf). x.ahead.interval) begun.begun;
       negated = ap (λ (x : UntilOf). x.ahead.negated) begun.begun;
       left = ap (λ (x : UntilOf). x.ahead.left) begun.begun ∙ sym (free_operand f);
       right = ap (λ (x : UntilOf). x.ahead.right) begun.begun;
-      ordered = columns;
     }
 
-until_begins : (i : Interval) (f g : CoreForm) (s : UntilOf) → UntilBegun i f g s → (view : View) → view.log ≡ []
-    → UntilStands view i f g s
-until_begins i f g s begun view empty =
+until_is : (i : Interval) (f g : CoreForm) (s : UntilOf) (order : TableOf) → UntilBegun i f g s
+    → order.columns ≡ fv (meaning (Until i f g)) → IsUntil i f g s order
+unfolding fv
+until_is i f g s order begun columns =
+    record { state = until_state_is i f g s begun; ordered = columns }
+
+pub until_begins_at : (i : Interval) (f g : CoreForm) (s : UntilOf) → UntilBegun i f g s → (view : View) → view.log ≡ []
+    → UntilStandsAt view 0 i f g s
+until_begins_at i f g s begun view empty =
     let pulled : s.ahead.pulled ≡ 0 = ap (λ (x : UntilOf). x.ahead.pulled) begun.begun in
     let taken : s.ahead.taken ≡ 0 = ap (λ (x : UntilOf). x.ahead.taken) begun.begun in
     let lefts : length s.lefts ≡ 0 = ap (λ (x : UntilOf). length x.lefts) begun.begun in
@@ -40,8 +43,7 @@ until_begins i f g s begun view empty =
     let left : 0 ≡ reached view f = none_reached view empty f in
     let right : 0 ≡ reached view g = none_reached view empty g in
     record {
-      pulled = pulled ∙ none_reached view empty (Until i f g);
-      taken = omega arith;
+      pulled = pulled;
       kept = ap (λ (x : UntilOf). x.times) begun.begun ∙ sym (ap₂ (λ n log. drop n (times log)) pulled empty);
       left_pushed = omega arith;
       right_pushed = omega arith;
@@ -55,16 +57,29 @@ until_begins i f g s begun view empty =
       follows = λ dom v covers near t a b dates long tells tells_right. begun.follows t a b v;
     }
 
-pub until_adds : (r : Role) (h : CoreForm) (i : Interval) (f g : CoreForm) (old mid more new : List Node)
+until_begins : (i : Interval) (f g : CoreForm) (s : UntilOf) → UntilBegun i f g s → (view : View) → view.log ≡ []
+    → UntilStands view i f g s
+until_begins i f g s begun view empty =
+    let taken : s.ahead.taken ≡ 0 = ap (λ (x : UntilOf). x.ahead.taken) begun.begun in
+    let left : 0 ≡ reached view f = none_reached view empty f in
+    let right : 0 ≡ reached view g = none_reached view empty g in
+    record {
+      at =
+          subst (λ p. UntilStandsAt view p i f g s) (none_reached view empty (Until i f g))
+          (until_begins_at i f g s begun view empty);
+      taken = omega arith;
+    }
+
+pub until_adds : (r : Role) (h : CoreForm) (i : Interval) (f g : CoreForm) (old more new : List Node)
     → h ≡ Until i f g
-    → Adds (nodes_in role.Left f) old mid → Adds (nodes_in role.Whole g) mid more
+    → Adds (nodes_in role.Left f ++ nodes_in role.Whole g) old more
     → (h ≡ Until i f g → Adds (h ∷ []) more new)
     → Adds (nodes_in r h) old new
 unfolding nodes_in
-until_adds r h i f g old mid more new same first second own =
+until_adds r h i f g old more new same both own =
     subst (λ k. Adds (nodes_in r k) old new) (sym same)
     (adds_then (nodes_in role.Left f ++ nodes_in role.Whole g) (Until i f g ∷ []) old more new
-    (adds_then (nodes_in role.Left f) (nodes_in role.Whole g) old mid more first second)
+    both
     (subst (λ k. Adds (k ∷ []) more new) same (own same)))
 
 pub until_added : (h : CoreForm) (i : Interval) (f g : CoreForm) (s : UntilOf) (order : TableOf) (old new : List Node)

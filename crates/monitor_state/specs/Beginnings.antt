@@ -11,14 +11,16 @@ use Rattle.eval_since.specs.PreviousView.{FollowsPrevious, PrevOf}
 use Rattle.eval_since.specs.SinceView.{Follows, SinceOf}
 use Rattle.eval_until.specs.NextView.{FollowsNext, NextOf}
 use Rattle.eval_until.specs.UntilView.{Follows as FollowsUntil, FollowsLeft, UntilOf}
-use Rattle.monitorable.specs.CoreForms.{CoreForm, meaning, And, Not}
+use Rattle.monitorable.specs.CoreForms.{CoreForm, meaning, And, Not, Since, Until}
 use Rattle.monitorable.specs.Conjuncts.{PartForm, conjuncts_of}
 use Rattle.monitorable.specs.Conjuncts.PartForm.{Child, Test}
 use Rattle.monitorable.specs.Fragment.{Names, fault_in, guards}
 use Rattle.monitorable.specs.declared.role.Role.{Role}
-use Rattle.monitor_state.specs.Nodes.{children, is_negated}
+use Rattle.monitor_state.specs.Nodes.{children, is_negated, operands}
 use Rattle.monitor_state.specs.Stands.{IsFor, NodeStands, NodesStand, Stands, StateOf, conjunct_as}
 use Rattle.monitor_state.specs.declared.node.Node.{Node}
+use Rattle.monitor_state.specs.declared.window.Window.{Window}
+use Rattle.monitor_state.specs.declared.window.Window.TheVariants as window
 
 -- the fragment accepts the core in its role, with some names of its variables
 abbrev pub Accepted : Role → CoreForm → Type 0
@@ -46,6 +48,10 @@ Adds fs old new =
 -- the core is a conjunction: an AND or a NOT
 abbrev pub IsJoined : CoreForm → Type 0
 IsJoined h = ((f : CoreForm) × (g : CoreForm) × (h ≡ And f g)) ⊎ ((f : CoreForm) × (h ≡ Not f))
+
+-- none of its conjuncts only filters, where it is its own
+abbrev pub WholeIf : Bool → CoreForm → Type 0
+WholeIf own h = own ≡ true → operands h ≡ children (conjuncts_of h)
 
 -- the node of the core was added, where it is its own
 abbrev pub AddsIf : Bool → CoreForm → List Node → List Node → Type 0
@@ -107,3 +113,9 @@ pub record UntilBegun (i : Interval) (f g : CoreForm) (s : UntilOf) : Type 0 whe
 -- a state stands for the empty log, in each region
 abbrev pub Begins : CoreForm → StateOf → Type 0
 Begins core state = (view : View) → view.log ≡ [] → Stands view core state
+
+-- a window's state before the first position
+abbrev pub WindowBegun : CoreForm → Window → Type 0
+WindowBegun (Since i f g) (window.Since s) = SinceBegun i f g s
+WindowBegun (Until i f g) (window.Until s) = UntilBegun i f g s
+WindowBegun f other = ⊥

@@ -39,16 +39,20 @@ pub record SincePulled (columns : List ℕ) (old new : SinceOf) (tables : List T
       → all_among columns old.window.right ≡ true → all_among old.window.right columns ≡ true
       → StandFrom (λ i table. has table v ≡ since old.window.interval t a b i) old.pulled tables
 
--- a state takes a time and tables of both operands, and gives all tables that are due then
-pub record SinceTakes (columns : List ℕ) (old : SinceOf) (ts : ℕ) (ls rs : List TableOf) (new : SinceOf)
-    (tables : List TableOf) : Type 0 where
+-- a state takes a time and tables of both operands
+pub record SinceFeeds (old : SinceOf) (ts : ℕ) (ls rs : List TableOf) (fed : SinceOf) : Type 0 where
   pub timed : SinceOf
   pub fed_left : SinceOf
-  pub fed : SinceOf
   pub time : timed ≡ record old { newest = ts; times = old.times ++ ts ∷ [] }
   pub time_follows : (t : List ℕ) (a b : List Bool) (v : Valuation) → Follows old t a b v
       → ts ≡ time_at t (old.pulled + length old.times) → Follows timed t a b v
   pub lefts : LeftsPushed timed fed_left ls
   pub rights : RightsPushed fed_left fed rs
+
+-- the same, and gives all tables that are due then
+pub record SinceTakes (columns : List ℕ) (old : SinceOf) (ts : ℕ) (ls rs : List TableOf) (new : SinceOf)
+    (tables : List TableOf) : Type 0 where
+  pub fed : SinceOf
+  pub feeds : SinceFeeds old ts ls rs fed
   pub pulls : SincePulled columns fed new tables
   pub ends : due new ≡ false

@@ -9,7 +9,11 @@ pub mod UntilFeeding
 pub mod Constants
 pub mod Nodes
 pub mod Views
+pub mod SinceNode
 pub mod UntilNode
+pub mod WindowNode
+pub mod FilterNode
+pub mod FilterFeeding
 pub mod Stands
 pub mod Steps
 pub mod Going

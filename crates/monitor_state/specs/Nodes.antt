@@ -1,11 +1,14 @@
 -- The nodes of a monitor: one for each part of the core that is evaluated by itself, operands first. A
--- conjunction is one node with all its conjuncts.
-use Rattle.std.specs.Prelude.{Bool, true, false, cond, List, [], ◌∷◌, ◌++◌}
+-- conjunction is one node with all its conjuncts; but where its right side is a window that only filters the
+-- rows of its left side, the node has the left side and the window's operands.
+use Rattle.std.specs.Prelude.{Bool, true, false, ◌&&◌, cond, List, [], ◌∷◌, ◌++◌}
+use Rattle.mfotl_model.specs.FreeVariables.{fv}
+use Rattle.mfotl_model.specs.Tables.{all_among}
 use Rattle.monitorable.specs.Conjuncts.{PartForm, conjuncts_of}
 use Rattle.monitorable.specs.Conjuncts.PartForm.{Child, Test}
-use Rattle.monitorable.specs.CoreForms.{CoreForm, Compare, Not, And, Or, Exists, Previous}
+use Rattle.monitorable.specs.CoreForms.{CoreForm, meaning, Compare, Not, And, Or, Exists, Previous}
 use Rattle.monitorable.specs.CoreForms.{Next, Since, Until}
-use Rattle.monitorable.specs.Fragment.{binds, is_conjunction, judges_not, under_not}
+use Rattle.monitorable.specs.Fragment.{binds, bound_by, is_conjunction, judges_not, under_not}
 use Rattle.monitorable.specs.declared.role.Role.{Role}
 use Rattle.monitorable.specs.declared.role.Role.TheVariants.{Whole, Part, Left}
 use Rattle.monitor_state.specs.Constants.{stands_alone}
@@ -16,7 +19,7 @@ children [] = []
 children (Child f negated ∷ parts) = f ∷ children parts
 children (Test c wanted ∷ parts) = children parts
 
--- the left operand of SINCE or UNTIL without its NOT
+-- the left operand of SINCE or UNTIL, or a window that filters, without its NOT
 abbrev pub left_operand : CoreForm → CoreForm
 left_operand (Not f) = f
 left_operand f = f
@@ -26,10 +29,34 @@ abbrev pub is_negated : CoreForm → Bool
 is_negated (Not f) = true
 is_negated f = false
 
+-- whether a core is a window: a SINCE or an UNTIL
+abbrev pub is_window : CoreForm → Bool
+is_window (Since i f g) = true
+is_window (Until i f g) = true
+is_window f = false
+
+-- the cores whose tables a window takes, from left to right
+abbrev pub window_operands : CoreForm → List CoreForm
+window_operands (Since i f g) = left_operand f ∷ g ∷ []
+window_operands (Until i f g) = left_operand f ∷ g ∷ []
+window_operands f = []
+
+-- whether of a conjunction of f and g the second one only filters the first one's rows: it is a window, or
+-- the NOT of one, and the first one binds all its variables
+abbrev pub filters : CoreForm → CoreForm → Bool
+filters f g = is_window (left_operand g) && all_among (fv (meaning g)) (bound_by f)
+
+-- cores without the last one
+abbrev pub without_last : List CoreForm → List CoreForm
+without_last [] = []
+without_last (f ∷ []) = []
+without_last (f ∷ g ∷ fs) = f ∷ without_last (g ∷ fs)
+
 -- the cores whose tables a core's node takes, from left to right
 abbrev pub operands : CoreForm → List CoreForm
 operands (Not f) = children (conjuncts_of (Not f))
-operands (And f g) = children (conjuncts_of (And f g))
+operands (And f g) =
+    cond (filters f g) (f ∷ window_operands (left_operand g)) (children (conjuncts_of (And f g)))
 operands (Or f g) = f ∷ g ∷ []
 operands (Exists x f) = f ∷ []
 operands (Previous i f) = f ∷ []
@@ -38,12 +65,15 @@ operands (Since i f g) = left_operand f ∷ g ∷ []
 operands (Until i f g) = left_operand f ∷ g ∷ []
 operands f = []
 
--- the cores of the nodes of a core in its role, each behind its operands
+-- the cores of the nodes of a core in its role, each behind its operands; a window that filters has no node of
+-- its own
 unfoldable pub nodes_in : Role → CoreForm → List CoreForm
 nodes_in role (Compare c) = cond (stands_alone role (binds c)) (Compare c ∷ []) []
 nodes_in role (Not f) = nodes_in (under_not role) f ++ cond (judges_not role) (Not f ∷ []) []
 nodes_in role (And f g) =
-    nodes_in Part f ++ nodes_in Part g ++ cond (is_conjunction role) (And f g ∷ []) []
+    cond (is_conjunction role && filters f g)
+    (nodes_in Whole f ++ without_last (nodes_in Part g) ++ And f g ∷ [])
+    (nodes_in Part f ++ nodes_in Part g ++ cond (is_conjunction role) (And f g ∷ []) [])
 nodes_in role (Or f g) = nodes_in Whole f ++ nodes_in Whole g ++ Or f g ∷ []
 nodes_in role (Exists x f) = nodes_in Whole f ++ Exists x f ∷ []
 nodes_in role (Previous i f) = nodes_in Whole f ++ Previous i f ∷ []

@@ -1,7 +1,7 @@
 -- When what a monitor keeps stands for a log, in a region of rows.
 use Rattle.std.specs.Prelude.{◌≡◌, ℕ, ◌+◌, ◌-◌, ◌≤◌, ◌<◌, Bool, true, false, List, [], ◌∷◌, length, drop, map}
 use Rattle.mfotl_model.specs.Exact.{AllExact, Covers, View}
-use Rattle.mfotl_model.specs.FreeVariables.{fv, joined}
+use Rattle.mfotl_model.specs.FreeVariables.{fv}
 use Rattle.mfotl_model.specs.Log.{times}
 use Rattle.mfotl_model.specs.Satisfaction.{Valuation, sat}
 use Rattle.mfotl_model.specs.Tables.{TableOf, has}
@@ -12,13 +12,14 @@ use Rattle.eval_bool.specs.JoinView.{ChildOf, ConjunctOf, JoinOf, children_of, c
 use Rattle.eval_bool.specs.JoinView.ConjunctOf.{Child, Test}
 use Rattle.eval_bool.specs.OrView.{OrOf}
 use Rattle.eval_since.specs.PreviousView.{FollowsPrevious, PrevOf}
-use Rattle.eval_since.specs.SinceView.{Follows, SinceOf}
 use Rattle.eval_until.specs.NextView.{FollowsNext, NextOf, tables_pushed}
 use Rattle.monitorable.specs.CoreForms.{CoreForm, meaning, True, False, Atom, Compare, Not, And, Or, Exists, Previous, Next, Since}
 use Rattle.monitorable.specs.Conjuncts.{PartForm, conjuncts_of}
 use Rattle.monitorable.specs.Conjuncts.PartForm.{Child as ChildPart, Test as TestPart}
 use Rattle.monitorable.specs.CoreForms.{Until}
-use Rattle.monitor_state.specs.Nodes.{children, is_negated, left_operand, nodes_of, operands}
+use Rattle.monitor_state.specs.Nodes.{children, nodes_of, operands}
+use Rattle.monitor_state.specs.FilterNode.{FilterStands, IsFilter}
+use Rattle.monitor_state.specs.SinceNode.{IsSince, SinceStands}
 use Rattle.monitor_state.specs.UntilNode.{IsUntil, UntilStands}
 use Rattle.monitor_state.specs.Views.{Dates, Tells, reached}
 use Rattle.monitor_state.specs.declared.node.Node.{Node}
@@ -41,15 +42,6 @@ pub record IsNext (i : Interval) (f : CoreForm) (s : NextOf) : Type 0 where
   pub interval : s.interval ≡ i
   pub columns : s.columns ≡ fv (meaning f)
 
--- the state is one of a SINCE of the cores f and g, with this interval, and its tables are put into
--- the order of the columns of both
-pub record IsSince (i : Interval) (f g : CoreForm) (s : SinceOf) (order : TableOf) : Type 0 where
-  pub interval : s.window.interval ≡ i
-  pub negated : s.negated ≡ is_negated f
-  pub left : s.window.left ≡ fv (meaning (left_operand f))
-  pub right : s.window.right ≡ fv (meaning g)
-  pub ordered : order.columns ≡ joined (fv (meaning f)) (fv (meaning g))
-
 -- a conjunct as the state of a conjunction has it
 abbrev pub conjunct_as : PartForm → ConjunctOf
 conjunct_as (ChildPart f negated) = Child (fv (meaning f)) negated
@@ -59,12 +51,13 @@ conjunct_as (TestPart c wanted) = Test c wanted
 abbrev pub bare : ChildOf → ChildOf
 bare c = record c { tables = [] }
 
--- the state is one of the core's conjunction, which has a child
+-- the state is one of the core's conjunction, which has a child and none that only filters
 pub record IsJoin (f : CoreForm) (s : JoinOf) : Type 0 where
   pub columns : s.columns ≡ conjunct_columns (map conjunct_as (conjuncts_of f))
   pub tests : s.tests ≡ tests_of (map conjunct_as (conjuncts_of f))
   pub parts : map bare s.children ≡ children_of (map conjunct_as (conjuncts_of f))
   pub some : 0 < length (children (conjuncts_of f))
+  pub whole : operands f ≡ children (conjuncts_of f)
 
 -- the state is one of an OR of the cores f and g
 pub record IsOr (f g : CoreForm) (s : OrOf) : Type 0 where
@@ -80,6 +73,7 @@ IsFor (And f g) (node.Constant table) = IsConstant (And f g) table
 IsFor (Atom atom) (node.Atom a) = a ≡ atom
 IsFor (Not f) (node.Join s) = IsJoin (Not f) s
 IsFor (And f g) (node.Join s) = IsJoin (And f g) s
+IsFor (And f g) (node.Filter s) = IsFilter f g s
 IsFor (Or f g) (node.Or s) = IsOr f g s
 IsFor (Exists x f) (node.Exists y) = y ≡ x.number
 IsFor (Previous i f) (node.Previous s) = IsPrevious i f s
@@ -137,23 +131,11 @@ pub record NextStands (view : View) (i : Interval) (f : CoreForm) (s : NextOf) :
       → (t : List ℕ) (a : List Bool) → Dates view t → length view.log ≤ length t → Tells view dom v f a
       → FollowsNext s t a v
 
--- The state of a SINCE stands for the log: it gave the tables of the settled positions, and keeps the
--- times and the operands' tables that were not used; these are exact, and it is right for each near row.
-pub record SinceStands (view : View) (i : Interval) (f g : CoreForm) (s : SinceOf) : Type 0 where
-  pub pulled : s.pulled ≡ reached view (Since i f g)
-  pub timed : s.pulled + length s.times ≡ length view.log
-  pub left_pushed : s.pulled + length s.lefts ≡ reached view f
-  pub right_pushed : s.pulled + length s.rights ≡ reached view g
-  pub lefts : AllExact view (meaning (left_operand f)) s.pulled s.lefts
-  pub rights : AllExact view (meaning g) s.pulled s.rights
-  pub follows : (dom : List Value) (v : Valuation) → Covers view dom → view.near (fv (meaning g)) v ≡ true
-      → (t : List ℕ) (a b : List Bool) → Dates view t → Tells view dom v f a → Tells view dom v g b
-      → Follows s t a b v
-
 -- a node stands for the log
 abbrev pub NodeStands : View → CoreForm → Node → Type 0
 NodeStands view (Not f) (node.Join s) = JoinStands view (Not f) s
 NodeStands view (And f g) (node.Join s) = JoinStands view (And f g) s
+NodeStands view (And f g) (node.Filter s) = FilterStands view f g s
 NodeStands view (Or f g) (node.Or s) = OrStands view f g s
 NodeStands view (Previous i f) (node.Previous s) = PreviousStands view i f s
 NodeStands view (Next i f) (node.Next s) = NextStands view i f s

@@ -56,13 +56,10 @@ pub record UntilPulled (columns : List ℕ) (old new : UntilOf) (tables : List T
       → all_among columns old.ahead.right ≡ true → all_among old.ahead.right columns ≡ true
       → StandFrom (λ i table. has table v ≡ until old.ahead.interval t a b i) old.ahead.pulled tables
 
--- a state takes a time and tables of both operands, and gives all tables that are due then; it has taken the
--- positions that can be
-pub record UntilTakes (columns : List ℕ) (old : UntilOf) (ts : ℕ) (ls rs : List TableOf) (new : UntilOf)
-    (tables : List TableOf) : Type 0 where
+-- a state takes a time and tables of both operands
+pub record UntilFeeds (old : UntilOf) (ts : ℕ) (ls rs : List TableOf) (fed : UntilOf) : Type 0 where
   pub timed : UntilOf
   pub fed_left : UntilOf
-  pub fed : UntilOf
   pub time : timed ≡ record old { times = old.times ++ ts ∷ [] }
   pub time_left : (a : List Bool) (v : Valuation) → FollowsLeft old a v → FollowsLeft timed a v
   pub time_follows : (t : List ℕ) (a b : List Bool) (v : Valuation) → Follows old t a b v
@@ -70,6 +67,12 @@ pub record UntilTakes (columns : List ℕ) (old : UntilOf) (ts : ℕ) (ls rs : L
       → Follows timed t a b v
   pub lefts : UntilLeftsPushed timed fed_left ls
   pub rights : UntilRightsPushed fed_left fed rs
+
+-- the same, and gives all tables that are due then; it has taken the positions that can be
+pub record UntilTakes (columns : List ℕ) (old : UntilOf) (ts : ℕ) (ls rs : List TableOf) (new : UntilOf)
+    (tables : List TableOf) : Type 0 where
+  pub fed : UntilOf
+  pub feeds : UntilFeeds old ts ls rs fed
   pub pulls : UntilPulled columns fed new tables
   pub ends : due new ≡ false
   pub all : took_all new ≡ true

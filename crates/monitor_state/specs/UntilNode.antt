@@ -12,22 +12,23 @@ use Rattle.monitorable.specs.CoreForms.{CoreForm, meaning, Until}
 use Rattle.monitor_state.specs.Nodes.{is_negated, left_operand}
 use Rattle.monitor_state.specs.Views.{Dates, Tells, reached}
 
--- the state is one of an UNTIL of the cores f and g, with this interval, and its tables are put into
--- the order of the columns of both
-pub record IsUntil (i : Interval) (f g : CoreForm) (s : UntilOf) (order : TableOf) : Type 0 where
+-- the state is one of an UNTIL of the cores f and g, with this interval
+pub record IsUntilState (i : Interval) (f g : CoreForm) (s : UntilOf) : Type 0 where
   pub interval : s.ahead.interval ≡ i
   pub negated : s.ahead.negated ≡ is_negated f
   pub left : s.ahead.left ≡ fv (meaning (left_operand f))
   pub right : s.ahead.right ≡ fv (meaning g)
+
+-- the same, and its tables are put into the order of the columns of both
+pub record IsUntil (i : Interval) (f g : CoreForm) (s : UntilOf) (order : TableOf) : Type 0 where
+  pub state : IsUntilState i f g s
   pub ordered : order.columns ≡ joined (fv (meaning f)) (fv (meaning g))
 
--- The state of an UNTIL stands for the log: it gave the tables of the settled positions, and took those of both
--- operands as far as both are settled; it keeps the timestamps of the positions that it gave no table of, and the
--- operands' tables that it didn't take. These are exact; its left side is right for each row that is near over the
--- left operand's variables, and all of it for each near row of the right one's.
-pub record UntilStands (view : View) (i : Interval) (f g : CoreForm) (s : UntilOf) : Type 0 where
-  pub pulled : s.ahead.pulled ≡ reached view (Until i f g)
-  pub taken : s.ahead.taken ≡ min (reached view f) (reached view g)
+-- The state of an UNTIL stands for the log with p positions pulled: it keeps the timestamps of the positions that
+-- it gave no table of, and the operands' tables that it didn't take. These are exact; its left side is right for
+-- each row that is near over the left operand's variables, and all of it for each near row of the right one's.
+pub record UntilStandsAt (view : View) (p : ℕ) (i : Interval) (f g : CoreForm) (s : UntilOf) : Type 0 where
+  pub pulled : s.ahead.pulled ≡ p
   pub kept : s.times ≡ drop s.ahead.pulled (times view.log)
   pub left_pushed : s.ahead.taken + length s.lefts ≡ reached view f
   pub right_pushed : s.ahead.taken + length s.rights ≡ reached view g
@@ -38,3 +39,8 @@ pub record UntilStands (view : View) (i : Interval) (f g : CoreForm) (s : UntilO
   pub follows : (dom : List Value) (v : Valuation) → Covers view dom → view.near (fv (meaning g)) v ≡ true
       → (t : List ℕ) (a b : List Bool) → Dates view t → length view.log ≤ length t → Tells view dom v f a
       → Tells view dom v g b → Follows s t a b v
+
+-- it gave the tables of the settled positions, and took those of both operands as far as both are settled
+pub record UntilStands (view : View) (i : Interval) (f g : CoreForm) (s : UntilOf) : Type 0 where
+  pub at : UntilStandsAt view (reached view (Until i f g)) i f g s
+  pub taken : s.ahead.taken ≡ min (reached view f) (reached view g)

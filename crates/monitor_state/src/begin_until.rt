@@ -31,7 +31,7 @@ pub fn add_until(
     add(Node::Until(state, Table::empty(alloc, columns)), nodes)
 }
 
-fn until_state(
+pub fn until_state(
     alloc: Global,
     interval: &Interval,
     left: &Core,

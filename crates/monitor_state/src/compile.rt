@@ -1,9 +1,10 @@
 //! The nodes of a core.
-ghost use Rattle.std.specs.Prelude.{◌∷◌, [], OnOk};
-ghost use Rattle.monitorable.specs.CoreForms.{node_form, Atom};
+ghost use Rattle.std.specs.Prelude.{◌≡◌, ◌++◌, ◌∷◌, [], OnOk};
+ghost use Rattle.monitorable.specs.CoreForms.{node_form, And, Atom};
 ghost use Rattle.monitor_state.specs.Beginnings.{Accepted, Adds};
-ghost use Rattle.monitor_state.specs.Nodes.{nodes_in};
+ghost use Rattle.monitor_state.specs.Nodes.{nodes_in, without_last};
 
+use crate::begin_filter::{add_filter, is_filtered, without_not};
 use crate::begin_until::add_until;
 use crate::conjunction::add_join;
 use crate::constant::{add_comparison, add_false, add_true};
@@ -14,6 +15,7 @@ use monitorable::{Node as Core, Role};
 use std::alloc::{AllocError, Global};
 
 /// Adds the nodes of a core, each behind its operands.
+#[cycle(add_nodes)]
 pub fn add_nodes(
     alloc: Global,
     core: &Core,
@@ -36,24 +38,17 @@ pub fn add_nodes(
             add_nodes(alloc, inner, role.under_not(), nodes)?;
             add_join(alloc, role.judges_not(), core, nodes)
         }
-        Core::And(left, right) => {
-            add_nodes(alloc, left, Role::Part, nodes)?;
-            add_nodes(alloc, right, Role::Part, nodes)?;
-            add_join(alloc, role.is_conjunction(), core, nodes)
-        }
+        Core::And(left, right) => add_and(alloc, core, left, right, role, nodes),
         Core::Since(interval, left, right) => {
-            add_nodes(alloc, left, Role::Left, nodes)?;
-            add_nodes(alloc, right, Role::Whole, nodes)?;
+            add_both(alloc, left, Role::Left, right, Role::Whole, nodes)?;
             add_since(alloc, core, interval, left, right, nodes)
         }
         Core::Until(interval, left, right) => {
-            add_nodes(alloc, left, Role::Left, nodes)?;
-            add_nodes(alloc, right, Role::Whole, nodes)?;
+            add_both(alloc, left, Role::Left, right, Role::Whole, nodes)?;
             add_until(alloc, core, interval, left, right, nodes)
         }
         Core::Or(left, right) => {
-            add_nodes(alloc, left, Role::Whole, nodes)?;
-            add_nodes(alloc, right, Role::Whole, nodes)?;
+            add_both(alloc, left, Role::Whole, right, Role::Whole, nodes)?;
             add_or(alloc, left, right, nodes)
         }
         Core::Previous(interval, inner) => {
@@ -64,6 +59,66 @@ pub fn add_nodes(
             add_nodes(alloc, inner, Role::Whole, nodes)?;
             add_next(alloc, interval, inner, nodes)
         }
+    }
+}
+
+// The nodes of both operands.
+#[cycle(add_nodes)]
+fn add_both(
+    alloc: Global,
+    left: &Core,
+    left_role: Role,
+    right: &Core,
+    right_role: Role,
+    nodes: &mut Vec<Node>,
+) -> Result<(), AllocError>
+    requires left { Accepted left_role (node_form left.now) }
+    requires right { Accepted right_role (node_form right.now) }
+    ensures { OnOk result (Adds (nodes_in left_role (node_form left.now) ++ nodes_in right_role (node_form right.now))
+        nodes.old.items nodes.new.items) }
+{
+    add_nodes(alloc, left, left_role, nodes)?;
+    add_nodes(alloc, right, right_role, nodes)
+}
+
+// The nodes of a conjunction of these sides.
+#[cycle(add_nodes)]
+fn add_and(
+    alloc: Global,
+    core: &Core,
+    left: &Core,
+    right: &Core,
+    role: Role,
+    nodes: &mut Vec<Node>,
+) -> Result<(), AllocError>
+    requires sides { node_form core.now ≡ And (node_form left.now) (node_form right.now) }
+    requires accepted { Accepted role (And (node_form left.now) (node_form right.now)) }
+    ensures { OnOk result (Adds (nodes_in role (node_form core.now)) nodes.old.items nodes.new.items) }
+{
+    let own = role.is_conjunction();
+    if is_filtered(alloc, own, left, right)? {
+        add_nodes(alloc, left, Role::Whole, nodes)?;
+        add_operands(alloc, without_not(right), nodes)?;
+        return add_filter(alloc, left, right, nodes);
+    }
+    add_both(alloc, left, Role::Part, right, Role::Part, nodes)?;
+    add_join(alloc, own, core, nodes)
+}
+
+// The nodes of a window's operands. The window has none.
+#[cycle(add_nodes)]
+fn add_operands(alloc: Global, window: &Core, nodes: &mut Vec<Node>) -> Result<(), AllocError>
+    requires { Accepted Role.Part (node_form window.now) }
+    ensures { OnOk result (Adds (without_last (nodes_in Role.Part (node_form window.now))) nodes.old.items nodes.new.items) }
+{
+    match window {
+        Core::Since(_interval, left, right) => {
+            add_both(alloc, left, Role::Left, right, Role::Whole, nodes)
+        }
+        Core::Until(_interval, left, right) => {
+            add_both(alloc, left, Role::Left, right, Role::Whole, nodes)
+        }
+        _ => Err(AllocError),
     }
 }
 

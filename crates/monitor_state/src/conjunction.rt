@@ -5,7 +5,7 @@ ghost use Rattle.eval_bool.specs.JoinView.{children_of, conjunct_of, is_guarded,
 ghost use Rattle.monitorable.specs.Conjuncts.{conjuncts_of};
 ghost use Rattle.monitorable.specs.CoreForms.{node_form};
 ghost use Rattle.monitorable.specs.PartView.{part_form};
-ghost use Rattle.monitor_state.specs.Beginnings.{AddsIf, BeginsNode, GuardedIf, IsJoined, is_child};
+ghost use Rattle.monitor_state.specs.Beginnings.{AddsIf, BeginsNode, GuardedIf, IsJoined, WholeIf, is_child};
 ghost use Rattle.monitor_state.specs.Stands.{conjunct_as};
 
 use crate::constant::tested;
@@ -23,6 +23,7 @@ pub fn add_join(
 ) -> Result<(), AllocError>
     requires joined { IsJoined (node_form core.now) }
     requires guarded { GuardedIf own (node_form core.now) }
+    requires whole { WholeIf own (node_form core.now) }
     ensures { OnOk result (AddsIf own (node_form core.now) nodes.old.items nodes.new.items) }
 {
     if !own {
@@ -36,6 +37,7 @@ pub fn add_join(
 fn conjunction(alloc: Global, core: &Core) -> Result<Node, AllocError>
     requires joined { IsJoined (node_form core.now) }
     requires guarded { GuardedIf true (node_form core.now) }
+    requires whole { WholeIf true (node_form core.now) }
     ensures { IfOk result (BeginsNode (node_form core.now)) }
 {
     let parts = conjuncts(alloc, core)?;

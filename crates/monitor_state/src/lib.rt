@@ -2,10 +2,12 @@
 //! they settle.
 #![tactic(auto)]
 
+mod begin_filter;
 mod begin_until;
 mod compile;
 mod conjunction;
 mod constant;
+mod filter;
 mod join;
 pub mod laws;
 mod monitor;
@@ -19,6 +21,7 @@ mod since;
 mod stack;
 mod tables;
 mod until;
+mod window;
 
 pub use monitor::Monitor;
 pub use tables::Tables;

@@ -3,6 +3,7 @@ ghost use Rattle.std.specs.Prelude.{◌≡◌, ◌++◌, ◌∷◌, [], IfOk, On
 ghost use Rattle.monitor_state.specs.Quantified.{Quantifies};
 ghost use Rattle.monitor_state.specs.Steps.{Advances};
 
+use crate::filter::{FilterState, take_filter};
 use crate::join::take_join;
 use crate::next::take_next;
 use crate::or::take_or;
@@ -28,6 +29,8 @@ pub enum Node {
     Exists(u32),
     /// A conjunction with a child.
     Join(JoinState),
+    /// A conjunction whose right side only filters.
+    Filter(FilterState),
     /// OR of operands with the same variables.
     Or(OrState),
     Previous(PrevState),
@@ -54,6 +57,7 @@ impl Node {
             Node::Atom(atom) => advance_atom(alloc, atom, point, stack),
             Node::Exists(var) => advance_exists(alloc, *var, point, stack),
             Node::Join(state) => advance_join(alloc, state, point, stack),
+            Node::Filter(state) => advance_filter(alloc, state, point, stack),
             Node::Or(state) => advance_or(alloc, state, point, stack),
             Node::Previous(state) => advance_previous(alloc, state, point, stack),
             Node::Next(state) => advance_next(alloc, state, point, stack),
@@ -131,6 +135,21 @@ fn advance_join(
     }
     let lists = popped_many(stack, children)?;
     take_join(alloc, state, lists)
+}
+
+fn advance_filter(
+    alloc: Global,
+    state: &mut FilterState,
+    point: &TimePoint,
+    stack: &mut Vec<Tables>,
+) -> Result<Tables, AllocError>
+    ensures { IfOk result (λ tables. Advances (Node.Filter state.old) point.now stack.old.items
+        (Node.Filter state.new) stack.new.items tables) }
+{
+    let right = popped(alloc, stack);
+    let left = popped(alloc, stack);
+    let tables = popped(alloc, stack);
+    take_filter(alloc, state, point.ts, tables, left, right)
 }
 
 fn advance_or(

@@ -44,7 +44,7 @@ pub fn add_since(
     add(Node::Since(state, Table::empty(alloc, columns)), nodes)
 }
 
-fn since_state(
+pub fn since_state(
     alloc: Global,
     interval: &Interval,
     left: &Core,

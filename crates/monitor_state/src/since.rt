@@ -1,7 +1,7 @@
 //! A SINCE takes a time and its operands' tables.
 ghost use Rattle.std.specs.Prelude.{◌≡◌, false, IfOk, OnOk};
 ghost use Rattle.eval_since.specs.SinceView.{due};
-ghost use Rattle.monitor_state.specs.Feeding.{LeftsPushed, RightsPushed, SincePulled, SinceTakes};
+ghost use Rattle.monitor_state.specs.Feeding.{LeftsPushed, RightsPushed, SinceFeeds, SincePulled, SinceTakes};
 
 use crate::ordering::in_order;
 use crate::tables::Tables;
@@ -21,13 +21,25 @@ pub fn take_since(
 ) -> Result<Tables, AllocError>
     ensures { IfOk result (λ tables. SinceTakes order.now.columns state.old ts left right state.new tables) }
 {
+    feed_since(state, ts, left, right)?;
+    pulled(alloc, state, order)
+}
+
+/// Pushes a time and the operands' tables.
+pub fn feed_since(
+    state: &mut SinceState,
+    ts: u64,
+    left: Tables,
+    right: Tables,
+) -> Result<(), AllocError>
+    ensures { OnOk result (SinceFeeds state.old ts left right state.new) }
+{
     if !state.takes_time(ts) {
         return Err(AllocError);
     }
     state.push_time(ts)?;
     push_lefts(state, left)?;
-    push_rights(state, right)?;
-    pulled(alloc, state, order)
+    push_rights(state, right)
 }
 
 fn push_lefts(state: &mut SinceState, mut tables: Tables) -> Result<(), AllocError>

@@ -1,7 +1,7 @@
 //! An UNTIL takes a time and its operands' tables.
 ghost use Rattle.std.specs.Prelude.{◌≡◌, false, true, IfOk, OnOk};
 ghost use Rattle.eval_until.specs.UntilView.{due, took_all};
-ghost use Rattle.monitor_state.specs.UntilFeeding.{UntilLeftsPushed, UntilPulled, UntilRightsPushed, UntilTakes};
+ghost use Rattle.monitor_state.specs.UntilFeeding.{UntilFeeds, UntilLeftsPushed, UntilPulled, UntilRightsPushed, UntilTakes};
 
 use crate::ordering::in_order;
 use crate::tables::Tables;
@@ -21,13 +21,25 @@ pub fn take_until(
 ) -> Result<Tables, AllocError>
     ensures { IfOk result (λ tables. UntilTakes order.now.columns state.old ts left right state.new tables) }
 {
+    feed_until(state, ts, left, right)?;
+    pulled(alloc, state, order)
+}
+
+/// Pushes a time and the operands' tables.
+pub fn feed_until(
+    state: &mut UntilState,
+    ts: u64,
+    left: Tables,
+    right: Tables,
+) -> Result<(), AllocError>
+    ensures { OnOk result (UntilFeeds state.old ts left right state.new) }
+{
     if !state.takes_time() {
         return Err(AllocError);
     }
     state.push_time(ts)?;
     push_lefts(state, left)?;
-    push_rights(state, right)?;
-    pulled(alloc, state, order)
+    push_rights(state, right)
 }
 
 fn push_lefts(state: &mut UntilState, mut tables: Tables) -> Result<(), AllocError>

@@ -26,4 +26,4 @@ pub use join::{Part, conjuncts};
 pub use node::Node;
 pub use policy_core::Core;
 pub use role::Role;
-pub use variables::binds;
+pub use variables::{binds, bound_by};

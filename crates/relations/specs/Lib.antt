@@ -4,4 +4,5 @@ pub mod Entries
 pub mod Searches
 pub mod Indexes
 pub mod Pushed
+pub mod KeptRows
 pub mod Examples

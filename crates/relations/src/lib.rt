@@ -2,6 +2,7 @@
 #![tactic(auto)]
 
 mod antijoin;
+mod ascending;
 mod choosing;
 mod columns;
 mod entry;
@@ -19,6 +20,6 @@ mod union;
 
 pub use columns::{part_of, value_at};
 pub use index::Index;
-pub use pushed::first_pushed;
+pub use pushed::{copied_tables, first_pushed};
 pub use steps::Steps;
 pub use table::Table;

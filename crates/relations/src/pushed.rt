@@ -1,6 +1,8 @@
 //! What is pushed position by position.
-ghost use Rattle.std.specs.Prelude.{◌≡◌, ◌<◌, ◌∷◌, drop, length};
+ghost use Rattle.std.specs.Prelude.{◌≡◌, ◌<◌, ◌∷◌, IfOk, drop, length};
 
+use crate::table::Table;
+use std::alloc::{AllocError, Global};
 use std::collections::VecDeque;
 
 /// The item that was pushed first, of those that are left.
@@ -13,4 +15,15 @@ pub fn first_pushed<T>(queue: &VecDeque<T>) -> &T
         Some(item) => item,
         None => unreachable!(),
     }
+}
+
+/// Copies of the tables that are left, in their order.
+pub fn copied_tables(alloc: Global, tables: &VecDeque<Table>) -> Result<Vec<Table>, AllocError>
+    ensures { IfOk result (λ copies. copies.items ≡ tables.now.items) }
+{
+    let mut copies = Vec::with_capacity(alloc, tables.len())?;
+    for i in 0..tables.len() {
+        copies.push(tables[i].copy(alloc)?)?;
+    }
+    Ok(copies)
 }

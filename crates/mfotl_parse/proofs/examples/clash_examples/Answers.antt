@@ -28,5 +28,12 @@ returns c = record {
   compared_pair = refl;
   occurrence_before_pair = refl;
   hidden = refl;
+  left_constant = refl;
+  inner_of_two = refl;
+  outer_again = refl;
+  free_again = refl;
+  bound_pair = refl;
+  second_pair = refl;
+  behind_blanks = refl;
   before_many = refl;
 }

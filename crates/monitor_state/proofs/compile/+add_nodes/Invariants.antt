@@ -1,6 +1,16 @@
+use Rattle.std.proofs.Common.{◌+◌, ◌*◌}
 use Rattle.monitorable.specs.CoreForms.{node_form}
 use Rattle.monitorable.specs.NodeCount.{nodes}
 use Rattle.monitor_state.proofs.compile.+add_nodes.Given as goal
 
 abbrev pub decreases-add_nodes : goal.decreases-add_nodes
-decreases-add_nodes l = nodes (node_form l.core.now)
+decreases-add_nodes l = 2 * nodes (node_form l.core.now)
+
+abbrev pub decreases-add_both : goal.decreases-add_both
+decreases-add_both l = 2 * (nodes (node_form l.left.now) + nodes (node_form l.right.now))
+
+abbrev pub decreases-add_and : goal.decreases-add_and
+decreases-add_and l = 2 * (nodes (node_form l.left.now) + nodes (node_form l.right.now)) + 1
+
+abbrev pub decreases-add_operands : goal.decreases-add_operands
+decreases-add_operands l = 2 * nodes (node_form l.window.now)

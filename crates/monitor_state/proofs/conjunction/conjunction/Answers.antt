@@ -5,7 +5,7 @@ use Rattle.eval_bool.specs.JoinView.{children_of, is_guarded, join_begun, tests_
 use Rattle.monitorable.specs.Conjuncts.{conjuncts_of}
 use Rattle.monitorable.specs.CoreForms.{node_form}
 use Rattle.monitorable.specs.PartView.{part_form}
-use Rattle.monitor_state.proofs.BeginLemmas.{join_node, joined_operands, tests_node}
+use Rattle.monitor_state.proofs.BeginLemmas.{join_node, tests_node}
 use Rattle.monitor_state.proofs.ConstantLemmas.{tests_are, tests_closed}
 use Rattle.monitor_state.proofs.GuardLemmas.{join_guarded, some_child}
 use Rattle.monitor_state.specs.Beginnings.{is_child}
@@ -38,6 +38,7 @@ returns-then-has_child c =
     ap (list_any is_child) (sym forms) ∙ sym (any_mapped part_form is_child c.as_slice-parts.result.now)
     ∙ sym c.has_child.ensures ∙ c.if-has_child.true in
     join_node (node_form c.args.core.now) c.in_ok-state.state c.requires.joined
+    (c.requires.whole refl)
     (record {
       begun = c.in_ok-state.ensures ∙ ap (λ ps. join_begun (map conjunct_as ps)) forms;
       some = (some_child (conjuncts_of (node_form c.args.core.now)) has).1;
@@ -65,7 +66,7 @@ returns c =
     ∙ sym c.has_child.ensures ∙ c.if-has_child.false in
     tests_node (node_form c.args.core.now) c.in_ok-table.table c.requires.joined
     (tests_are guarded.0 (node_form c.args.core.now) c.in_ok-table.table
-    (joined_operands (node_form c.args.core.now) c.requires.joined) guarded.1 none
+    (c.requires.whole refl) guarded.1 none
     c.in_ok-table.ensures.columns
     (λ v. c.in_ok-table.ensures.has v
     ∙ sym (list_all-map (passes_test v) part_form c.as_slice-parts.result.now)

@@ -7,18 +7,13 @@ use Rattle.monitor_state.proofs.since.take_since.Goals as goal
 pub returns : goal.returns
 returns c =
     ok_both c.pulled.result
-    (SincePulled c.args.order.now.columns c.push_rights.new.state c.pulled.new.state)
+    (SincePulled c.args.order.now.columns c.feed_since.new.state c.pulled.new.state)
     (due c.pulled.new.state ≡ false)
     (SinceTakes c.args.order.now.columns c.args.state.now c.args.ts c.args.left c.args.right c.pulled.new.state)
     (λ tables pulls ends.
     record {
-      timed = c.push_time.new.self;
-      fed_left = c.push_lefts.new.state;
-      fed = c.push_rights.new.state;
-      time = c.in_ok-push_time.ensures.pushed;
-      time_follows = c.in_ok-push_time.ensures.follows;
-      lefts = c.in_ok-push_lefts.ensures;
-      rights = c.in_ok-push_rights.ensures;
+      fed = c.feed_since.new.state;
+      feeds = c.in_ok-feed_since.ensures;
       pulls = pulls;
       ends = ends;
     })

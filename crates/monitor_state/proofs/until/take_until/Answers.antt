@@ -8,20 +8,14 @@ use Rattle.monitor_state.proofs.until.take_until.Goals as goal
 pub returns : goal.returns
 returns c =
     let Pulled : List TableOf → Type 0 =
-    UntilPulled c.args.order.now.columns c.push_rights.new.state c.pulled.new.state in
+    UntilPulled c.args.order.now.columns c.feed_until.new.state c.pulled.new.state in
     let Ends : List TableOf → Type 0 = λ tables. Pulled tables × (due c.pulled.new.state ≡ false) in
     ok_both c.pulled.result Ends (took_all c.pulled.new.state ≡ true)
     (UntilTakes c.args.order.now.columns c.args.state.now c.args.ts c.args.left c.args.right c.pulled.new.state)
     (λ tables ends all.
     record {
-      timed = c.push_time.new.self;
-      fed_left = c.push_lefts.new.state;
-      fed = c.push_rights.new.state;
-      time = c.in_ok-push_time.ensures.pushed;
-      time_left = c.in_ok-push_time.ensures.left;
-      time_follows = c.in_ok-push_time.ensures.follows;
-      lefts = c.in_ok-push_lefts.ensures;
-      rights = c.in_ok-push_rights.ensures;
+      fed = c.feed_until.new.state;
+      feeds = c.in_ok-feed_until.ensures;
       pulls = ends.0;
       ends = ends.1;
       all = all;

@@ -17,6 +17,8 @@ invariant_of-self-2 c =
       climbs = c.self.invariant.climbs;
       few = c.self.invariant.few;
       inside = c.self.invariant.inside;
+      over_left = c.self.invariant.over_left;
+      begins = c.self.invariant.begins;
       over = rw c.in_ok-push_back.ensures.items (over_push s.window.right s.rights.items c.args.table
           c.self.invariant.over
           (rw (← c.self.view_is) at c.requires.columns));

@@ -14,6 +14,8 @@ invariant_of-self-2 c =
       climbs = rw c.in_ok-push_back.ensures.items (climbs_push c.self.inside.window.last c.self.inside.times.items
           c.self.inside.newest c.args.ts c.self.invariant.climbs rises);
       inside = c.self.invariant.inside;
+      over_left = c.self.invariant.over_left;
+      begins = c.self.invariant.begins;
       over = c.self.invariant.over;
       few = rw c.in_ok-push_back.ensures.items (omega
           (arith, length_push c.self.inside.times.items c.args.ts, n, p, m));

@@ -1,0 +1,33 @@
+use Rattle.std.proofs.Common.{◌≡◌, [], Some, None, refl, ap, ◌∙◌}
+use Rattle.std.specs.Option.{unwrap_or}
+use Rattle.std.specs.Map.{lookup}
+use Rattle.std.specs.BTreeMap.{is_at}
+use Rattle.mfotl_model.specs.Values.{row_cmp}
+use Rattle.relations.proofs.MapLemmas.{written}
+use Rattle.eval_since.proofs.GroupLemmas.{regrouped}
+use Rattle.eval_since.proofs.groups.Groups.put.Goals as goal
+
+pub returns-in-Some : goal.returns-in-Some
+returns-in-Some c = λ q v.
+    let old = c.self.inside.groups in
+    let is : Some c.in-Some.group.now ≡ lookup (is_at (row_cmp c.args.key)) old.entries = c.in-Some.ensures.value in
+    rw (← c.self.view_is) (regrouped (λ _. c.args.times) c.args.key c.args.row q v old.entries
+    (c.get_mut.follows.lender c.put.new.self).entries
+    c.put.new.self c.in-Some.group.now (Some c.put.new.self)
+    (written c.args.key q old (c.get_mut.follows.lender c.put.new.self) c.put.new.self c.in-Some.group.now
+    (c.get_mut.follows.holds c.put.new.self) is)
+    refl
+    (ap (λ o. unwrap_or o []) is)
+    (c.in_ok-put.ensures v))
+
+pub returns : goal.returns
+returns c = λ q v.
+    let old = c.self.inside.groups in
+    let is : None ≡ lookup (is_at (row_cmp c.args.key)) old.entries = c.in_default.ensures.value in
+    rw (← c.self.view_is) (regrouped (λ _. c.args.times) c.args.key c.args.row q v old.entries
+    c.insert.new.self.entries
+    c.put-2.new.self c.new-group.result (Some c.put-2.new.self)
+    (rw c.get_mut.follows.holds-at-none at (c.in_ok-insert.ensures.updates.0 q))
+    refl
+    (c.new-group.ensures ∙ ap (λ o. unwrap_or o []) is)
+    (c.in_ok-put-2.ensures v))

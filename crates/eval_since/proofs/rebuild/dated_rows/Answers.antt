@@ -1,0 +1,29 @@
+use Rattle.std.proofs.Common.{◌&&◌, nat_eq, sym, subst, ap, ◌∙◌, rules}
+use Rattle.std.proofs.lemmas.List.Sorted.{IsNonDecreasingBy-from_sort_by_key, list_any-IsPermutation}
+use Rattle.std.specs.List.{list_all}
+use Rattle.mfotl_model.specs.Tables.{has_row}
+use Rattle.eval_since.specs.Windows.{Rising, names}
+use Rattle.eval_since.specs.declared.window.Dated.{Dated}
+use Rattle.relations.proofs.TestLemmas.{all_moved}
+use Rattle.eval_since.proofs.DatedLemmas.{rising_from}
+use Rattle.eval_since.proofs.rebuild.dated_rows.Goals as goal
+
+pub returns-clause-names : goal.returns-clause-names
+returns-clause-names c = λ v y.
+    ap (λ ds. names ds v y) c.from_vec.ensures.items
+    ∙ sym (list_any-IsPermutation (λ (d : Dated). nat_eq d.ts y && has_row d.rows.items v) c.in_ok-list.list.items
+    c.sort_unstable_by_key.new.self.items c.sort_unstable_by_key.ensures.permutation)
+    ∙ c.in_ok-list.ensures.names v y
+
+pub returns-clause-all : goal.returns-clause-all
+returns-clause-all c = λ test.
+    ap (list_all (λ (d : Dated). test d.ts)) c.from_vec.ensures.items
+    ∙ all_moved (λ (d : Dated). test d.ts) c.in_ok-list.list.items c.sort_unstable_by_key.new.self.items
+    c.sort_unstable_by_key.ensures.permutation
+    ∙ c.in_ok-list.ensures.all test
+
+pub returns-clause-rising : goal.returns-clause-rising
+returns-clause-rising c =
+    subst Rising (sym c.from_vec.ensures.items) (rising_from c.sort_unstable_by_key.new.self.items
+    (IsNonDecreasingBy-from_sort_by_key (λ (d : Dated). d.ts) c.sort_unstable_by_key.new.self.items
+    c.sort_unstable_by_key.ensures.sorted (λ a r q k. search rules)))

@@ -1,0 +1,25 @@
+use Rattle.std.proofs.Common.{◌≡◌, ◌∷◌, sym, subst, ap, ◌∙◌, rules}
+use Rattle.std.specs.List.{AllByRecursion}
+use Rattle.std.specs.List.Sorted.{IsStrictlyIncreasing}
+use Rattle.mfotl_model.specs.Tables.{part}
+use Rattle.eval_since.specs.Groups.{times_at}
+use Rattle.eval_since.specs.Recalled.{put_times, times_kept}
+use Rattle.eval_since.specs.declared.recalled.KeptRow.{KeptRow}
+use Rattle.eval_since.proofs.RecalledLemmas.{put_more}
+use Rattle.eval_since.proofs.rebuild.grouped.Goals as goal
+
+pub loop-kept-preserved : goal.loop-kept-preserved
+loop-kept-preserved c =
+    let rest : c.loop-kept.kept-iterator.rest.items ≡ c.in-Some.kept ∷ c.next.new.self.rest.items = search rules in
+    record {
+      ascend = (subst (AllByRecursion (λ (k : KeptRow). IsStrictlyIncreasing k.times.items)) rest
+          c.loop-kept.invariant.ascend).1;
+      put = λ q v.
+          put_more c.args.right.now c.args.left.now c.in-Some.kept c.next.new.self.rest.items c.in_ok-key.key q v
+          (times_at c.put.new.self q v) (times_at c.loop-kept.groups q v)
+          (c.in_ok-key.ensures ∙ ap (part c.args.right.now c.args.left.now) c.values.ensures)
+          (rw c.from_vec.ensures at (c.in_ok-put.ensures q v))
+          ∙ sym (ap (λ ks. put_times c.args.right.now c.args.left.now (times_kept ks) q v
+          (times_at c.loop-kept.groups q v)) rest)
+          ∙ c.loop-kept.invariant.put q v;
+    }

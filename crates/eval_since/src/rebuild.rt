@@ -1,0 +1,90 @@
+//! The rows of plain data, put back into groups, and the queue that finds their times.
+ghost use Rattle.std.specs.Prelude.{◌≡◌, ◌||◌, ◌&&◌, ◌∷◌, [], Bool, IfOk, List, OnOk, nat_eq, ℕ};
+ghost use Rattle.std.specs.List.{AllByRecursion, list_all, list_any};
+ghost use Rattle.std.specs.List.Sorted.{IsStrictlyIncreasing};
+ghost use Rattle.mfotl_model.specs.Tables.{has_row};
+ghost use Rattle.mfotl_model.specs.declared.value.Value.{Value};
+ghost use Rattle.eval_since.specs.Groups.{times_at};
+ghost use Rattle.eval_since.specs.Recalled.{named, put_times, times_kept};
+ghost use Rattle.eval_since.specs.Windows.{Rising, names};
+
+use crate::groups::Groups;
+use crate::recalled::KeptRow;
+use crate::times::Times;
+use crate::window::Dated;
+use mfotl_model::Row;
+use relations::part_of;
+use std::alloc::{AllocError, Global};
+use std::collections::VecDeque;
+
+/// The rows with their times, in the groups of their parts.
+pub fn grouped(
+    alloc: Global,
+    right: &[u32],
+    left: &[u32],
+    rows: Vec<KeptRow>,
+) -> Result<Groups, AllocError>
+    requires { AllByRecursion (λ k. IsStrictlyIncreasing k.times.items) rows.items }
+    ensures { IfOk result (λ groups. (q v : List Value) → times_at groups q v
+        ≡ put_times right.now left.now (times_kept rows.items) q v []) }
+{
+    let mut groups = Groups::new(alloc);
+    for kept in rows {
+        let key = part_of(alloc, right, left, kept.row.values())?;
+        groups.put(alloc, key, kept.row, Times::from_vec(kept.times))?;
+    }
+    Ok(groups)
+}
+
+fn dated(alloc: Global, row: &Row, ts: u64) -> Result<Dated, AllocError>
+    ensures ts { IfOk result (λ dated. dated.ts ≡ ts) }
+    ensures rows { IfOk result (λ dated. dated.rows.items ≡ row.now ∷ []) }
+{
+    let mut rows = Vec::with_capacity(alloc, 1)?;
+    rows.push(row.copy(alloc)?)?;
+    Ok(Dated { ts, rows })
+}
+
+// a row at each of its times
+fn push_dated(
+    alloc: Global,
+    out: &mut Vec<Dated>,
+    row: &Row,
+    times: &[u64],
+) -> Result<(), AllocError>
+    ensures names { OnOk result ((v : List Value) (y : ℕ) → names out.new.items v y
+        ≡ (names out.old.items v y || list_any (λ t. nat_eq t y && has_row (row.now ∷ []) v) times.now)) }
+    ensures all { OnOk result ((test : ℕ → Bool) → list_all (λ d. test d.ts) out.new.items
+        ≡ (list_all (λ d. test d.ts) out.old.items && list_all test times.now)) }
+{
+    for ts in times {
+        out.push(dated(alloc, row, *ts)?)?;
+    }
+    Ok(())
+}
+
+fn dated_list(alloc: Global, rows: &[KeptRow]) -> Result<Vec<Dated>, AllocError>
+    ensures names { IfOk result (λ list. (v : List Value) (y : ℕ) →
+        names list.items v y ≡ named rows.now v y) }
+    ensures all { IfOk result (λ list. (test : ℕ → Bool) → list_all (λ d. test d.ts) list.items
+        ≡ list_all (λ k. list_all test k.times.items) rows.now) }
+{
+    let mut list = Vec::new(alloc);
+    for kept in rows {
+        push_dated(alloc, &mut list, &kept.row, kept.times.as_slice())?;
+    }
+    Ok(list)
+}
+
+/// Each of the times with its row, the earliest first.
+pub fn dated_rows(alloc: Global, rows: &[KeptRow]) -> Result<VecDeque<Dated>, AllocError>
+    ensures names { IfOk result (λ queue. (v : List Value) (y : ℕ) →
+        names queue.items v y ≡ named rows.now v y) }
+    ensures all { IfOk result (λ queue. (test : ℕ → Bool) → list_all (λ d. test d.ts) queue.items
+        ≡ list_all (λ k. list_all test k.times.items) rows.now) }
+    ensures rising { IfOk result (λ queue. Rising queue.items) }
+{
+    let mut list = dated_list(alloc, rows)?;
+    list.sort_unstable_by_key(|dated| dated.ts);
+    Ok(VecDeque::from_vec(list))
+}

@@ -1,0 +1,289 @@
+-- What UNTIL keeps with given starts and entries, and that look-ups alone tell whether a state is right.
+use Rattle.std.proofs.Common.{◌≡◌, ℕ, ◌+◌, ◌-◌, ◌<◌, ◌≤◌, Bool, true, false, cond, nat_eq, nat_le, nat_lt, ◌&&◌, ◌||◌, List, [], ◌∷◌, length, map, get_or, Option, Some, None, refl, sym, subst, ap, ◌∙◌, arith, suc}
+use Rattle.std.proofs.lemmas.Bool.{and_from, and_parts, or_left, or_right}
+use Rattle.std.proofs.lemmas.Bool.Decides.{nat_tests}
+use Rattle.std.specs.BTreeMap.{is_at}
+use Rattle.std.specs.List.{AllByRecursion, list_all, list_any}
+use Rattle.std.specs.List.Sorted.{IsNonDecreasingBy}
+use Rattle.std.specs.Option.{IfSome, unwrap_or}
+use Rattle.mfotl_model.proofs.LogicLemmas.{same_number}
+use Rattle.mfotl_model.specs.Satisfaction.{Valuation, time_at}
+use Rattle.mfotl_model.specs.Tables.{TableOf, all_apart, has_row}
+use Rattle.mfotl_model.specs.Values.{row_cmp}
+use Rattle.mfotl_model.specs.declared.interval.Interval.{Interval}
+use Rattle.mfotl_model.specs.declared.value.Value.{Value}
+use Rattle.relations.specs.KeptRows.{RowsAscend, kept_for, last_for}
+use Rattle.relations.proofs.KeptLemmas.{each_kept, last_is, or_none}
+use Rattle.relations.proofs.TestLemmas.{all_weaker}
+use Rattle.eval_until.specs.AheadView.{AheadOf}
+use Rattle.eval_until.specs.Entries.{entries_of, met_by}
+use Rattle.eval_until.specs.Keeping.{Keeps, Rising, Sized, breaks_before, names}
+use Rattle.eval_until.specs.Recalled.{broken, named}
+use Rattle.eval_until.specs.Rules.{Ascending, PlacesAscend, StartsAbove, StartsBelow, Waiting}
+use Rattle.eval_until.specs.Starts.{kept_start}
+use Rattle.eval_until.specs.UntilView.{Follows, FollowsLeft}
+use Rattle.eval_until.specs.declared.ahead.Taken.{Taken}
+use Rattle.eval_until.specs.declared.entries.Entry.{Entry}
+
+low_all : (m : ℕ) (qs : List Taken) → ((j : ℕ) (d : Taken) → j < length qs → m ≤ (get_or qs j d).place)
+    → list_all (λ r. nat_le m r.place) qs ≡ true
+low_all m [] low = refl
+low_all m (q ∷ qs) low =
+    let first : m ≤ q.place = low 0 q (omega arith) in
+    and_from (nat_le m q.place) (list_all (λ r. nat_le m r.place) qs) (grind (arith, nat_tests))
+    (low_all m qs (λ j e l. low (suc j) e (omega arith)))
+
+-- positions in order never fall
+pub rising_from : (qs : List Taken) → IsNonDecreasingBy (λ q. q.place) qs → Rising qs
+rising_from [] up = tt
+rising_from (q ∷ qs) up = (
+  low_all q.place qs (λ j e l. up 0 (suc j) e (omega arith) (omega arith)),
+  rising_from qs (λ i j e l m. up (suc i) (suc j) e (omega arith) (omega arith)),
+)
+
+all_own : (p : ℕ → Bool) (es : List Entry) → ((j : ℕ) → list_any (λ e. nat_eq e.place j) es ≡ true → p j ≡ true)
+    → list_all (λ e. p e.place) es ≡ true
+all_own p [] each = refl
+all_own p (e ∷ es) each =
+    and_from (p e.place) (list_all (λ f. p f.place) es)
+    (each e.place (or_left (nat_eq e.place e.place) (list_any (λ f. nat_eq f.place e.place) es) (same_number e.place)))
+    (all_own p es (λ j there. each j (or_right (nat_eq e.place j) (list_any (λ f. nat_eq f.place j) es) there)))
+
+any_with : (c : Bool) (j : ℕ) (es : List Entry) → c ≡ true → list_any (λ e. nat_eq e.place j) es ≡ true
+    → list_any (λ e. nat_eq e.place j && c) es ≡ true
+any_with c j [] is there = there
+any_with c j (e ∷ es) is there = by (nat_eq e.place j) (any_with c j es is) there
+  where
+    by : (b : Bool)
+        → (list_any (λ f. nat_eq f.place j) es ≡ true → list_any (λ f. nat_eq f.place j && c) es ≡ true)
+        → (b || list_any (λ f. nat_eq f.place j) es) ≡ true
+        → ((b && c) || list_any (λ f. nat_eq f.place j && c) es) ≡ true
+    by true rest there = or_left c (list_any (λ f. nat_eq f.place j && c) es) is
+    by false rest there = rest there
+
+-- the rows name the position of each entry that is kept for a row
+named_own : (rows : List (List Value × List Entry)) (u : List Value)
+    → list_all (λ e. named rows u e.place) (entries_of rows u) ≡ true
+named_own [] u = refl
+named_own (r ∷ rs) u = by (is_at (row_cmp u) r.0) refl (named_own rs u)
+  where
+    own : ℕ → Bool
+    own j = list_any (λ (e : Entry). nat_eq e.place j && has_row (r.0 ∷ []) u) r.1
+
+    by : (b : Bool) → is_at (row_cmp u) r.0 ≡ b → list_all (λ e. named rs u e.place) (entries_of rs u) ≡ true
+        → list_all (λ e. named (r ∷ rs) u e.place) (unwrap_or (cond b (Some r.1) (kept_for rs u)) []) ≡ true
+    by true at rest = all_own (named (r ∷ rs) u) r.1 (λ j there.
+        or_left (own j) (named rs u j)
+        (any_with (has_row (r.0 ∷ []) u) j r.1 (or_left (is_at (row_cmp u) r.0) false at) there))
+    by false at rest = all_weaker (λ (e : Entry). named rs u e.place) (λ (e : Entry). named (r ∷ rs) u e.place)
+        (entries_of rs u) (λ e there. or_right (own e.place) (named rs u e.place) there) rest
+
+-- the starts break the run of each row before its start
+broken_own : (starts : List (List Value × ℕ)) (w : List Value) → IfSome (kept_start starts w) (λ s. 0 < s)
+    → IfSome (kept_start starts w) (λ s. broken starts w s ≡ true)
+broken_own [] w low = tt
+broken_own (r ∷ rs) w low = by (is_at (row_cmp w) r.0) refl low (broken_own rs w)
+  where
+    own : ℕ → Bool
+    own s = nat_eq (r.1 - 1 + 1) s && has_row (r.0 ∷ []) w
+
+    later : (o : Option ℕ) → IfSome o (λ s. broken rs w s ≡ true) → IfSome o (λ s. (own s || broken rs w s) ≡ true)
+    later None there = tt
+    later (Some s) there = or_right (own s) (broken rs w s) there
+
+    by : (b : Bool) → is_at (row_cmp w) r.0 ≡ b → IfSome (cond b (Some r.1) (kept_start rs w)) (λ s. 0 < s)
+        → (IfSome (kept_start rs w) (λ s. 0 < s) → IfSome (kept_start rs w) (λ s. broken rs w s ≡ true))
+        → IfSome (cond b (Some r.1) (kept_start rs w)) (λ s. (own s || broken rs w s) ≡ true)
+    by true at low rest =
+        let some : 0 < r.1 = low in
+        or_left (own r.1) (broken rs w r.1)
+        (and_from (nat_eq (r.1 - 1 + 1) r.1) (has_row (r.0 ∷ []) w) (grind (arith, nat_tests))
+        (or_left (is_at (row_cmp w) r.0) false at))
+    by false at low rest = later (kept_start rs w) (rest low)
+
+-- what each row's entries pass, by look-ups
+rows_all : (p : Entry → Bool) (rows : List (List Value × List Entry)) → RowsAscend rows
+    → ((u : List Value) → list_all p (entries_of rows u) ≡ true) → list_all (λ r. list_all p r.1) rows ≡ true
+rows_all p rows up all = each rows (each_kept (λ u es. list_all p es ≡ true) rows up (λ u es is.
+    sym (ap (λ o. list_all p (unwrap_or o [])) is) ∙ all u))
+  where
+    each : (rs : List (List Value × List Entry))
+        → AllByRecursion (λ (r : List Value × List Entry). list_all p r.1 ≡ true) rs
+        → list_all (λ r. list_all p r.1) rs ≡ true
+    each [] h = refl
+    each (r ∷ rs) h = and_from (list_all p r.1) (list_all (λ r. list_all p r.1) rs) h.0 (each rs h.1)
+
+starts_all : (p : ℕ → Bool) (starts : List (List Value × ℕ)) → RowsAscend starts
+    → ((w : List Value) → IfSome (kept_start starts w) (λ s. p s ≡ true)) → list_all (λ r. p r.1) starts ≡ true
+starts_all p starts up all = each starts (each_kept (λ w s. p s ≡ true) starts up (λ w s is.
+    subst (λ (o : Option ℕ). IfSome o (λ s. p s ≡ true)) is (all w)))
+  where
+    each : (rs : List (List Value × ℕ)) → AllByRecursion (λ (r : List Value × ℕ). p r.1 ≡ true) rs
+        → list_all (λ r. p r.1) rs ≡ true
+    each [] h = refl
+    each (r ∷ rs) h = and_from (p r.1) (list_all (λ r. p r.1) rs) h.0 (each rs h.1)
+
+both_some : (P Q R : ℕ → Type 0) → ((s : ℕ) → P s → Q s → R s) → (o : Option ℕ) → IfSome o P → IfSome o Q → IfSome o R
+both_some P Q R gives None p q = tt
+both_some P Q R gives (Some s) p q = gives s p q
+
+-- what is kept with these starts and entries
+pub keeps_resumed : (negated : Bool) (right : List ℕ) (pulled taken : ℕ) (starts : List (List Value × ℕ))
+    (rows : List (List Value × List Entry)) (queue : List Taken)
+    → all_apart right ≡ true → Sized (length right) rows → Waiting pulled taken rows → Ascending rows
+    → StartsBelow taken starts → (negated ≡ true → StartsAbove pulled starts)
+    → RowsAscend rows → (negated ≡ true → RowsAscend starts)
+    → ((u : List Value) (j : ℕ) → names queue u j ≡ named rows u j)
+    → (negated ≡ true → (w : List Value) (s : ℕ)
+    → breaks_before queue w s ≡ (breaks_before [] w s || broken starts w s))
+    → ((test : ℕ → Bool) → list_all (λ q. test q.place) queue
+    ≡ (list_all (λ r. list_all (λ e. test e.place) r.1) rows
+    && cond negated (list_all (λ r. test (r.1 - 1)) starts) true))
+    → Rising queue → Keeps negated right pulled taken starts rows queue
+keeps_resumed negated right pulled taken starts rows queue apart sized waiting ascend below above up ups same
+    breaks tests rising =
+    record {
+      apart = apart;
+      sized = sized;
+      ascend = ascend;
+      below = λ u. all_weaker (λ e. nat_le pulled e.place && nat_lt e.place taken && nat_le e.start e.place)
+          (λ e. nat_lt e.place taken && nat_le e.start e.place) (entries_of rows u)
+          (λ e h. let parts = and_parts (nat_le pulled e.place && nat_lt e.place taken) (nat_le e.start e.place) h in
+          and_from (nat_lt e.place taken) (nat_le e.start e.place)
+          (and_parts (nat_le pulled e.place) (nat_lt e.place taken) parts.0).1 parts.1) (waiting u);
+      low = below;
+      covered = λ u. all_weaker (λ e. named rows u e.place) (λ e. names queue u e.place) (entries_of rows u)
+          (λ e there. same u e.place ∙ there) (named_own rows u);
+      breaks = λ is w. both_some (λ s. pulled < s) (λ s. broken starts w s ≡ true)
+          (λ s. breaks_before queue w s ≡ true) (λ s low there. breaks is w s ∙ there) (kept_start starts w)
+          (above is w)
+          (broken_own starts w (both_some (λ s. pulled < s) (λ s. pulled < s) (λ s. 0 < s) (λ s low low2. omega arith)
+          (kept_start starts w) (above is w) (above is w)));
+      rising = rising;
+      after = tests (λ p. nat_lt p taken) ∙ and_from (list_all (λ r. list_all (λ e. nat_lt e.place taken) r.1) rows)
+          (cond negated (list_all (λ r. nat_lt (r.1 - 1) taken) starts) true)
+          (rows_all (λ e. nat_lt e.place taken) rows up (λ u.
+          all_weaker (λ e. nat_le pulled e.place && nat_lt e.place taken && nat_le e.start e.place)
+          (λ e. nat_lt e.place taken) (entries_of rows u)
+          (λ e h. let parts = and_parts (nat_le pulled e.place && nat_lt e.place taken) (nat_le e.start e.place) h in
+          (and_parts (nat_le pulled e.place) (nat_lt e.place taken) parts.0).1) (waiting u)))
+          (only negated refl (λ s. nat_lt (s - 1) taken) (λ s low high. grind (arith, nat_tests)));
+      fresh = tests (λ p. nat_le pulled p) ∙ and_from (list_all (λ r. list_all (λ e. nat_le pulled e.place) r.1) rows)
+          (cond negated (list_all (λ r. nat_le pulled (r.1 - 1)) starts) true)
+          (rows_all (λ e. nat_le pulled e.place) rows up (λ u.
+          all_weaker (λ e. nat_le pulled e.place && nat_lt e.place taken && nat_le e.start e.place)
+          (λ e. nat_le pulled e.place) (entries_of rows u)
+          (λ e h. let parts = and_parts (nat_le pulled e.place && nat_lt e.place taken) (nat_le e.start e.place) h in
+          (and_parts (nat_le pulled e.place) (nat_lt e.place taken) parts.0).0) (waiting u)))
+          (only negated refl (λ s. nat_le pulled (s - 1)) (λ s low high. grind (arith, nat_tests)));
+    }
+  where
+    only : (n : Bool) → negated ≡ n → (p : ℕ → Bool) → ((s : ℕ) → pulled < s → s ≤ taken → p s ≡ true)
+        → cond n (list_all (λ (r : List Value × ℕ). p r.1) starts) true ≡ true
+    only true is p gives = starts_all p starts (ups is) (λ w.
+        both_some (λ s. pulled < s) (λ s. s ≤ taken) (λ s. p s ≡ true) gives (kept_start starts w) (above is w)
+        (below w))
+    only false is p gives = refl
+
+-- the look-ups of a map that was filled with rows that ascend
+pub filled_map : {X : Type 0} (es entries : List (List Value × X)) → RowsAscend es
+    → ((u : List Value) → kept_for entries u ≡ last_for es u None)
+    → (u : List Value) → kept_for entries u ≡ kept_for es u
+filled_map es entries up filled u = filled u ∙ last_is es up u None ∙ or_none (kept_for es u)
+
+-- each row's entries ascend
+pub each_ascends : (rows : List (List Value × List Entry)) → RowsAscend rows → Ascending rows
+    → AllByRecursion (λ r. PlacesAscend r.1) rows
+each_ascends rows up ascend = each_kept (λ u es. PlacesAscend es) rows up (λ u es is.
+    subst PlacesAscend (ap (λ o. unwrap_or o []) is) (ascend u))
+
+-- a state whose starts are found alike is right on the left side where the other is
+pub left_alike : (k m : AheadOf) (times ts : List ℕ) (lefts rights rs : List TableOf) (a : List Bool) (v : Valuation)
+    → m ≡ record k { starts = m.starts; rows = m.rows }
+    → ((w : List Value) → kept_for m.starts w ≡ kept_for k.starts w)
+    → FollowsLeft (record { ahead = k; times = times; lefts = lefts; rights = rights }) a v
+    → FollowsLeft (record { ahead = m; times = ts; lefts = lefts; rights = rs }) a v
+left_alike k m times ts lefts rights rs a v shape same f =
+    subst (λ (n : AheadOf). FollowsLeft (record { ahead = n; times = ts; lefts = lefts; rights = rs }) a v) (sym shape)
+    (record {
+      lefts = f.lefts;
+      runs = λ i low. ap (λ o. nat_le (unwrap_or o (cond k.negated 0 k.taken)) i) (same (map v k.left)) ∙ f.runs i low;
+    })
+
+-- the same for both sides
+pub follows_alike : (k m : AheadOf) (times : List ℕ) (lefts rights : List TableOf) (t : List ℕ) (a b : List Bool)
+    (v : Valuation)
+    → m ≡ record k { starts = m.starts; rows = m.rows }
+    → ((w : List Value) → kept_for m.starts w ≡ kept_for k.starts w)
+    → ((u : List Value) → kept_for m.rows u ≡ kept_for k.rows u)
+    → Follows (record { ahead = k; times = times; lefts = lefts; rights = rights }) t a b v
+    → Follows (record { ahead = m; times = times; lefts = lefts; rights = rights }) t a b v
+follows_alike k m times lefts rights t a b v shape starts rows f =
+    subst (λ (n : AheadOf). Follows (record { ahead = n; times = times; lefts = lefts; rights = rights }) t a b v)
+    (sym shape)
+    (record {
+      left = left_alike k (record k { starts = m.starts; rows = m.rows }) times times lefts rights rights a v refl
+          starts f.left;
+      long = f.long;
+      times = f.times;
+      rights = f.rights;
+      window = λ i low. ap (λ o. met_by k.interval i (time_at t i) (unwrap_or o [])) (rows (map v k.right))
+          ∙ f.window i low;
+    })
+
+-- maps with the same look-ups keep the same rules
+pub sized_as : (n : ℕ) (rows new : List (List Value × List Entry))
+    → ((u : List Value) → kept_for new u ≡ kept_for rows u)
+    → Sized n rows → Sized n new
+sized_as n rows new same sized u other = ap (λ o. unwrap_or o []) (same u) ∙ sized u other
+
+pub waiting_as : (pulled taken : ℕ) (rows new : List (List Value × List Entry))
+    → ((u : List Value) → kept_for new u ≡ kept_for rows u) → Waiting pulled taken rows → Waiting pulled taken new
+waiting_as pulled taken rows new same waiting u =
+    ap (λ o. list_all (λ e. nat_le pulled e.place && nat_lt e.place taken && nat_le e.start e.place) (unwrap_or o []))
+    (same u) ∙ waiting u
+
+pub ascend_as : (rows new : List (List Value × List Entry)) → ((u : List Value) → kept_for new u ≡ kept_for rows u)
+    → Ascending rows → Ascending new
+ascend_as rows new same ascend u = subst PlacesAscend (sym (ap (λ o. unwrap_or o []) (same u))) (ascend u)
+
+pub starts_as : (P : ℕ → Type 0) (starts new : List (List Value × ℕ))
+    → ((w : List Value) → kept_for new w ≡ kept_for starts w)
+    → ((w : List Value) → IfSome (kept_start starts w) P) → (w : List Value) → IfSome (kept_start new w) P
+starts_as P starts new same all w = subst (λ (o : Option ℕ). IfSome o P) (sym (same w)) (all w)
+
+-- what is kept over the same columns
+pub shape_of : (m : AheadOf) (interval : Interval) (left own_left right own_right : List ℕ) (negated : Bool)
+    (pulled taken : ℕ) (starts : List (List Value × ℕ)) (rows : List (List Value × List Entry))
+    → m ≡ record {
+      interval = interval;
+      left = own_left;
+      right = own_right;
+      negated = negated;
+      pulled = pulled;
+      taken = taken;
+      starts = starts;
+      rows = rows;
+    }
+    → own_left ≡ left → own_right ≡ right
+    → m ≡ record {
+      interval = interval;
+      left = left;
+      right = right;
+      negated = negated;
+      pulled = pulled;
+      taken = taken;
+      starts = m.starts;
+      rows = m.rows;
+    }
+shape_of m interval left own_left right own_right negated pulled taken starts rows is el er =
+    is ∙ (λ i. record {
+      interval = interval;
+      left = el i;
+      right = er i;
+      negated = negated;
+      pulled = pulled;
+      taken = taken;
+      starts = (sym (ap (λ (k : AheadOf). k.starts) is)) i;
+      rows = (sym (ap (λ (k : AheadOf). k.rows) is)) i;
+    })

@@ -1,0 +1,48 @@
+use Rattle.std.proofs.Common.{◌≡◌, Bool, true, false, nat_eq, ◌&&◌, ◌||◌, List, [], ◌∷◌, refl, sym, ap, ◌∙◌, rules}
+use Rattle.std.specs.List.{list_all, list_any}
+use Rattle.mfotl_model.specs.Tables.{has_row}
+use Rattle.mfotl_model.specs.declared.value.Value.{Value}
+use Rattle.eval_until.specs.Keeping.{names}
+use Rattle.eval_until.specs.Recalled.{named}
+use Rattle.eval_until.specs.declared.ahead.Taken.{Taken}
+use Rattle.eval_until.specs.declared.entries.Entry.{Entry}
+use Rattle.relations.proofs.TestLemmas.{and_true}
+use Rattle.eval_until.proofs.rebuild.push_rows.Goals as goal
+
+or_grouped : (a b c : Bool) → ((a || b) || c) ≡ (a || (b || c))
+or_grouped true b c = refl
+or_grouped false b c = refl
+
+and_grouped : (a b c : Bool) → ((a && b) && c) ≡ (a && (b && c))
+and_grouped true b c = refl
+and_grouped false b c = refl
+
+pub loop-row-preserved : goal.loop-row-preserved
+loop-row-preserved c =
+    let rest : c.loop-row.row-iterator ≡ (c.in-Some.row.now, c.in-Some.entries.now) ∷ c.next.new.self = search rules in
+    record {
+      names = λ u j.
+          ap (λ b. b || named c.next.new.self u j) (c.in_ok-push_taken.ensures.names u j)
+          ∙ or_grouped (names c.loop-row.out.items u j)
+          (list_any (λ (e : Entry). nat_eq e.place j && has_row (c.in-Some.row.now ∷ []) u) c.in-Some.entries.now)
+          (named c.next.new.self u j)
+          ∙ sym (ap (λ rs. names c.loop-row.out.items u j || named rs u j) rest)
+          ∙ c.loop-row.invariant.names u j;
+      breaks = λ w s. c.in_ok-push_taken.ensures.breaks w s ∙ c.loop-row.invariant.breaks w s;
+      all = λ test.
+          let passes : List (List Value × List Entry) → Bool =
+          λ rs. list_all (λ (r : List Value × List Entry). list_all (λ (e : Entry). test e.place) r.1) rs in
+          ap (λ b. b && passes c.next.new.self) (c.in_ok-push_taken.ensures.all test)
+          ∙ and_grouped (list_all (λ (q : Taken). test q.place) c.loop-row.out.items)
+          (list_all (λ (e : Entry). test e.place) c.in-Some.entries.now) (passes c.next.new.self)
+          ∙ sym (ap (λ rs. list_all (λ (q : Taken). test q.place) c.loop-row.out.items && passes rs) rest)
+          ∙ c.loop-row.invariant.all test;
+    }
+
+pub returns-clause-all : goal.returns-clause-all
+returns-clause-all c = λ test.
+    let end : c.loop-row.row-iterator ≡ [] = search rules in
+    and_true (list_all (λ (q : Taken). test q.place) c.loop-row.out.items)
+    ∙ sym (ap (λ rs. list_all (λ (q : Taken). test q.place) c.loop-row.out.items
+    && list_all (λ (r : List Value × List Entry). list_all (λ (e : Entry). test e.place) r.1) rs) end)
+    ∙ c.loop-row.invariant.all test

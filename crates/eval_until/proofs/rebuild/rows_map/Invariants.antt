@@ -1,0 +1,17 @@
+use Rattle.std.proofs.Common.{◌≡◌, List, None}
+use Rattle.std.specs.List.{AllByRecursion}
+use Rattle.mfotl_model.specs.declared.value.Value.{Value}
+use Rattle.relations.specs.KeptRows.{kept_for, last_for}
+use Rattle.eval_until.specs.Recalled.{entries_kept}
+use Rattle.eval_until.specs.Rules.{PlacesAscend}
+use Rattle.eval_until.specs.declared.entries.Entry.{Entry}
+use Rattle.eval_until.proofs.rebuild.rows_map.Given as goal
+
+abbrev pub invariant-loop-kept : goal.invariant-loop-kept
+invariant-loop-kept l = record {
+  ascend : AllByRecursion (λ (r : List Value × List Entry). PlacesAscend r.1)
+      (entries_kept l.pulled l.times l.kept-iterator.rest.items);
+  put : (u : List Value) →
+      last_for (entries_kept l.pulled l.times l.kept-iterator.rest.items) u (kept_for l.map.entries u)
+      ≡ last_for (entries_kept l.pulled l.times l.fn.rows.items) u None;
+}

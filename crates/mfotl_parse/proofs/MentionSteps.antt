@@ -1,0 +1,450 @@
+-- Each step of the reader's symbol table gives to sorts what a mention in the text asks.
+use Rattle.std.proofs.Common.{◌≡◌, ℕ, suc, Bool, true, false, cond, not, List, [], ◌∷◌, ◌++◌, length, Option}
+use Rattle.std.proofs.Common.{Some, None, refl, sym, ap, subst, ◌∙◌, arith}
+use Rattle.std.proofs.lemmas.Bool.{eq-eqb, eqb-true}
+use Rattle.std.proofs.lemmas.List.{append-nil, append_assoc, length-append, length-set}
+use Rattle.std.proofs.lemmas.List.Folds.{list_any-append}
+use Rattle.std.specs.Prelude.{◌||◌, ◌&&◌, nat_eq, slice_get}
+use Rattle.std.specs.Str.{bytes_eq}
+use Rattle.mfotl_model.specs.declared.policy.Sort.{Sort}
+use Rattle.mfotl_parse.specs.declared.term.Pair.{Pair}
+use Rattle.mfotl_parse.specs.declared.term.Variable.{Variable}
+use Rattle.mfotl_parse.specs.declared.term.Variable.TheVariants as variables
+use Rattle.mfotl_parse.specs.Mentions.{Binding, Unbound, BoundAs, same_binding, Mention, Occurs, Stands, Compares}
+use Rattle.mfotl_parse.specs.Mentions.{asks_other, ask_other, clashes, place_of_mention, first_clash, or_else}
+use Rattle.mfotl_parse.specs.States.{SymbolTable}
+use Rattle.mfotl_parse.specs.SymbolTable.{free_place, bound_or_free, free_or_new, with_free, met, bound_more, given_at}
+use Rattle.mfotl_parse.specs.SymbolTable.{sort_of, with_sort, first_of, clashed, agreed, occurred, require_sort, differ}
+use Rattle.mfotl_parse.specs.WellSorted.{same_sort}
+use Rattle.mfotl_parse.proofs.NamesOrder.{HasPlace, never_first, same_sorts}
+use Rattle.mfotl_parse.proofs.PlaceLemmas.{place_of_name, stays_found, found_last, same_names, name_is, one_name}
+use Rattle.mfotl_parse.proofs.PlaceLemmas.{none_more, none_past, sort_more, sort_set}
+
+-- the sort at a place
+abbrev place_sort : Option ℕ → List (Option Sort) → Option Sort
+place_sort None given = None
+place_sort (Some k) given = given_at (slice_get given k)
+
+-- the sort that the table gives to a variable
+abbrev pub given_to : Binding → SymbolTable → Option Sort
+given_to (Unbound name) n = place_sort (place_of_name name n.free) n.free_sorts
+given_to (BoundAs k) n = given_at (slice_get n.bound_sorts k)
+
+-- the table's variable is this one
+abbrev pub Refers : Binding → Variable → List (List ℕ × ℕ) → Type 0
+Refers (Unbound name) (variables.Free k) free = place_of_name name free ≡ Some k
+Refers (Unbound name) (variables.Bound k) free = ⊥
+Refers (BoundAs j) (variables.Free k) free = ⊥
+Refers (BoundAs j) (variables.Bound k) free = j ≡ k
+
+pub refers_sort : (b : Binding) (v : Variable) (n : SymbolTable) → Refers b v n.free → given_to b n ≡ sort_of v n
+refers_sort (Unbound name) (variables.Free k) n r = ap (λ (o : Option ℕ). place_sort o n.free_sorts) r
+refers_sort (Unbound name) (variables.Bound k) n r = absurd r
+refers_sort (BoundAs j) (variables.Free k) n r = absurd r
+refers_sort (BoundAs j) (variables.Bound k) n r = ap (λ (i : ℕ). given_at (slice_get n.bound_sorts i)) r
+
+same_is : (b c : Binding) → same_binding b c ≡ true → b ≡ c
+same_is (Unbound a) (Unbound d) e = ap Unbound (same_names a d e)
+same_is (Unbound a) (BoundAs k) e = absurd cc
+same_is (BoundAs j) (Unbound d) e = absurd cc
+same_is (BoundAs j) (BoundAs k) e = ap BoundAs (eqb-true j k e)
+
+-- ---- a variable that was given a sort
+
+set_free : (a d : List ℕ) (k : ℕ) (s : Sort) (n : SymbolTable) → place_of_name d n.free ≡ Some k
+    → HasPlace (variables.Free k) n → given_to (Unbound a) (with_sort (variables.Free k) s n)
+    ≡ cond (bytes_eq a d) (Some s) (given_to (Unbound a) n)
+set_free a d k s n r within = by_place (place_of_name a n.free) refl
+  where
+    unmet : (x : Bool) → bytes_eq a d ≡ x → place_of_name a n.free ≡ None → None ≡ cond x (Some s) None
+    unmet true e is =
+        let same = ap (λ (name : List ℕ). place_of_name name n.free) (same_names a d e) in
+        let here : None ≡ Some k = sym is ∙ same ∙ r in absurd cc
+    unmet false e is = refl
+
+    apart : (j : ℕ) (y : Bool) → nat_eq j k ≡ y → place_of_name a n.free ≡ Some j → bytes_eq a d ≡ false → y ≡ false
+    apart j true f is e =
+        let same = one_name a d n.free k (is ∙ ap (λ (i : ℕ). Some i) (eqb-true j k f)) r in
+        let here : true ≡ false = sym (name_is d) ∙ ap (λ (x : List ℕ). bytes_eq x d) (sym same) ∙ e in absurd cc
+    apart j false f is e = refl
+
+    test_is : (j : ℕ) (x : Bool) → bytes_eq a d ≡ x → place_of_name a n.free ≡ Some j → nat_eq j k ≡ x
+    test_is j true e is =
+        let same = ap (λ (name : List ℕ). place_of_name name n.free) (same_names a d e) in
+        let here : Some j ≡ Some k = sym is ∙ same ∙ r in
+        let number : j ≡ k = cc in eq-eqb j k number
+    test_is j false e is = apart j (nat_eq j k) refl is e
+
+    by_place : (o : Option ℕ) → place_of_name a n.free ≡ o
+        → place_sort o (with_sort (variables.Free k) s n).free_sorts
+        ≡ cond (bytes_eq a d) (Some s) (place_sort o n.free_sorts)
+    by_place None is = unmet (bytes_eq a d) refl is
+    by_place (Some j) is =
+        sort_set n.free_sorts k s j within
+        ∙ ap (λ (x : Bool). cond x (Some s) (given_at (slice_get n.free_sorts j)))
+        (test_is j (bytes_eq a d) refl is)
+
+set_given : (c b : Binding) (v : Variable) (s : Sort) (n : SymbolTable) → Refers b v n.free → HasPlace v n
+    → given_to c (with_sort v s n) ≡ cond (same_binding c b) (Some s) (given_to c n)
+set_given (Unbound a) (Unbound d) (variables.Free k) s n r within = set_free a d k s n r within
+set_given (BoundAs i) (Unbound d) (variables.Free k) s n r within = refl
+set_given c (Unbound d) (variables.Bound k) s n r within = absurd r
+set_given c (BoundAs j) (variables.Free k) s n r within = absurd r
+set_given (Unbound a) (BoundAs j) (variables.Bound k) s n r within = refl
+set_given (BoundAs i) (BoundAs j) (variables.Bound k) s n r within =
+    sort_set n.bound_sorts k s i within
+    ∙ ap (λ (m : ℕ). cond (nat_eq i m) (Some s) (given_at (slice_get n.bound_sorts i))) (sym r)
+
+-- nothing else changes
+record OnlySorts (n m : SymbolTable) : Type 0 where
+  bound : length m.bound_sorts ≡ length n.bound_sorts
+  sized : length m.free_sorts ≡ length n.free_sorts
+  free : m.free ≡ n.free
+  clash : m.clash ≡ n.clash
+  pairs : m.pairs ≡ n.pairs
+
+only_sorts : (v : Variable) (s : Sort) (n : SymbolTable) → OnlySorts n (with_sort v s n)
+only_sorts (variables.Free k) s n = record {
+  bound = refl;
+  sized = length-set n.free_sorts k (Some s);
+  free = refl;
+  clash = refl;
+  pairs = refl;
+}
+only_sorts (variables.Bound k) s n = record {
+  bound = length-set n.bound_sorts k (Some s);
+  sized = refl;
+  free = refl;
+  clash = refl;
+  pairs = refl;
+}
+
+-- ---- compared variables
+
+-- the table's pair is this one
+pub record IsPair (free : List (List ℕ × ℕ)) (left right : Binding) (at : ℕ) (pair : Pair) : Type 0 where
+  pub at_is : pair.at ≡ at
+  pub left_is : Refers left pair.left free
+  pub right_is : Refers right pair.right free
+
+-- the first is such a pair, and so are the others
+abbrev pub BeginsWith : (Pair → Type 0) → (List Pair → Type 0) → List Pair → Type 0
+BeginsWith First Rest [] = ⊥
+BeginsWith First Rest (pair ∷ ps) = First pair × Rest ps
+
+-- the table's pairs are those of the mentions
+abbrev pub PairsOf : List (List ℕ × ℕ) → List Mention → List Pair → Type 0
+PairsOf free [] ps = ps ≡ []
+PairsOf free (Occurs b at s ∷ ms) ps = PairsOf free ms ps
+PairsOf free (Stands given at s ∷ ms) ps = PairsOf free ms ps
+PairsOf free (Compares left right at ∷ ms) ps =
+    BeginsWith (λ pair. IsPair free left right at pair) (λ rest. PairsOf free ms rest) ps
+
+pairs_append : (free : List (List ℕ × ℕ)) (ms more : List Mention) (ps qs : List Pair) → PairsOf free ms ps
+    → PairsOf free more qs → PairsOf free (ms ++ more) (ps ++ qs)
+pairs_append free [] more [] qs h k = k
+pairs_append free [] more (p ∷ ps) qs h k = absurd cc
+pairs_append free (Occurs b at s ∷ ms) more ps qs h k = pairs_append free ms more ps qs h k
+pairs_append free (Stands given at s ∷ ms) more ps qs h k = pairs_append free ms more ps qs h k
+pairs_append free (Compares left right at ∷ ms) more [] qs h k = absurd h
+pairs_append free (Compares left right at ∷ ms) more (p ∷ ps) qs h k = (h.0, pairs_append free ms more ps qs h.1 k)
+
+pairs_stay : (free later : List (List ℕ × ℕ)) → ((b : Binding) (v : Variable) → Refers b v free → Refers b v later)
+    → (ms : List Mention) (ps : List Pair) → PairsOf free ms ps → PairsOf later ms ps
+pairs_stay free later stay [] ps h = h
+pairs_stay free later stay (Occurs b at s ∷ ms) ps h = pairs_stay free later stay ms ps h
+pairs_stay free later stay (Stands given at s ∷ ms) ps h = pairs_stay free later stay ms ps h
+pairs_stay free later stay (Compares left right at ∷ ms) [] h = absurd h
+pairs_stay free later stay (Compares left right at ∷ ms) (p ∷ ps) h =
+    let first : IsPair later left right at p = record {
+      at_is = h.0.at_is;
+      left_is = stay left p.left h.0.left_is;
+      right_is = stay right p.right h.0.right_is;
+    } in (first, pairs_stay free later stay ms ps h.1)
+
+-- ---- the first clash
+
+clash_more : (front ms : List Mention) (m : Mention) → first_clash front (ms ++ m ∷ [])
+    ≡ or_else (first_clash front ms) (cond (clashes (front ++ ms) m) (Some (place_of_mention m)) None)
+clash_more front [] m =
+    ap (λ (all : List Mention). cond (clashes all m) (Some (place_of_mention m)) None) (sym (append-nil front))
+clash_more front (x ∷ ms) m = by_test (clash_more (front ++ x ∷ []) ms m) (clashes front x)
+  where
+    by_test : first_clash (front ++ x ∷ []) (ms ++ m ∷ [])
+        ≡ or_else (first_clash (front ++ x ∷ []) ms)
+        (cond (clashes ((front ++ x ∷ []) ++ ms) m) (Some (place_of_mention m)) None)
+        → (b : Bool) → cond b (Some (place_of_mention x)) (first_clash (front ++ x ∷ []) (ms ++ m ∷ []))
+        ≡ or_else (cond b (Some (place_of_mention x)) (first_clash (front ++ x ∷ []) ms))
+        (cond (clashes (front ++ x ∷ ms) m) (Some (place_of_mention m)) None)
+    by_test later true = refl
+    by_test later false =
+        later
+        ∙ ap (λ (all : List Mention). or_else (first_clash (front ++ x ∷ []) ms)
+        (cond (clashes all m) (Some (place_of_mention m)) None)) (append_assoc front (x ∷ []) ms)
+
+-- ---- what the table says behind mentions, where so many variables were quantified
+
+pub record Follows (before : List Mention) (count : ℕ) (n : SymbolTable) : Type 0 where
+  pub counted : length n.bound_sorts ≡ count
+  pub sized : length n.free_sorts ≡ length n.free
+  pub clash : n.clash ≡ first_clash [] before
+  pub sorts : n.clash ≡ None → (b : Binding) (s : Sort) → ask_other b s before ≡ differ (given_to b n) (Some s)
+  pub pairs : PairsOf n.free before n.pairs
+
+nothing_more : (b : Bool) → (b || (false || false)) ≡ b
+nothing_more true = refl
+nothing_more false = refl
+
+once_more : (b : Bool) → (b || (b || false)) ≡ b
+once_more true = refl
+once_more false = refl
+
+only_later : (b : Bool) → (false || (b || false)) ≡ b
+only_later true = refl
+only_later false = refl
+
+module _ (before : List Mention) (count : ℕ) (n : SymbolTable) (f : Follows before count n) where
+  clash_is : (m : Mention) (x : Bool) → (n.clash ≡ None → clashes before m ≡ x)
+      → or_else n.clash (cond x (Some (place_of_mention m)) None) ≡ first_clash [] (before ++ m ∷ [])
+  clash_is m x test =
+      by_clash n.clash refl
+      ∙ ap (λ (o : Option ℕ). or_else o (cond (clashes before m) (Some (place_of_mention m)) None)) f.clash
+      ∙ sym (clash_more [] before m)
+    where
+      by_clash : (o : Option ℕ) → n.clash ≡ o → or_else o (cond x (Some (place_of_mention m)) None)
+          ≡ or_else o (cond (clashes before m) (Some (place_of_mention m)) None)
+      by_clash (Some at) e = refl
+      by_clash None e = ap (λ (b : Bool). cond b (Some (place_of_mention m)) None) (sym (test e))
+
+  same_clash : (o : Option ℕ) → o ≡ or_else o None
+  same_clash (Some at) = refl
+  same_clash None = refl
+
+  pairs_same : (m : Mention) → PairsOf n.free (m ∷ []) [] → PairsOf n.free (before ++ m ∷ []) n.pairs
+  pairs_same m none =
+      subst (λ (ps : List Pair). PairsOf n.free (before ++ m ∷ []) ps) (append-nil n.pairs)
+      (pairs_append n.free before (m ∷ []) n.pairs [] f.pairs none)
+
+  -- nothing changes
+  kept : (m : Mention) → PairsOf n.free (m ∷ []) [] → (n.clash ≡ None → clashes before m ≡ false)
+      → (n.clash ≡ None → (c : Binding) (t : Sort) → (differ (given_to c n) (Some t) || (asks_other c t m || false))
+      ≡ differ (given_to c n) (Some t))
+      → Follows (before ++ m ∷ []) count n
+  kept m none test same = record {
+    counted = f.counted;
+    sized = f.sized;
+    clash = same_clash n.clash ∙ clash_is m false test;
+    sorts = λ e c t. list_any-append (asks_other c t) before (m ∷ [])
+        ∙ ap (λ (b : Bool). b || (asks_other c t m || false)) (f.sorts e c t) ∙ same e c t;
+    pairs = pairs_same m none;
+  }
+
+  -- it clashes
+  clashed_by : (m : Mention) → PairsOf n.free (m ∷ []) [] → (n.clash ≡ None → clashes before m ≡ true)
+      → Follows (before ++ m ∷ []) count (clashed (place_of_mention m) n)
+  clashed_by m none test = record {
+    counted = f.counted;
+    sized = f.sized;
+    clash = first_is n.clash ∙ clash_is m true test;
+    sorts = λ e c t. absurd (never_first n.clash (place_of_mention m) e);
+    pairs = pairs_same m none;
+  }
+    where
+      first_is : (o : Option ℕ) → first_of o (place_of_mention m) ≡ or_else o (Some (place_of_mention m))
+      first_is (Some at) = refl
+      first_is None = refl
+
+  pub stands : (given : Sort) (at : ℕ) (sort : Sort)
+      → Follows (before ++ Stands given at sort ∷ []) count (agreed given at sort n)
+  stands given at sort = by_same (same_sort given sort) refl
+    where
+      by_same : (x : Bool) → same_sort given sort ≡ x
+          → Follows (before ++ Stands given at sort ∷ []) count (cond x n (clashed at n))
+      by_same true e =
+          kept (Stands given at sort) refl (λ none. ap not e)
+          (λ none c t. nothing_more (differ (given_to c n) (Some t)))
+      by_same false e = clashed_by (Stands given at sort) refl (λ none. ap not e)
+
+  -- a variable that had no sort
+  first_sort : (b : Binding) (at : ℕ) (s : Sort) (later : ℕ) (m : SymbolTable) → given_to b n ≡ None
+      → ((c : Binding) → given_to c m ≡ cond (same_binding c b) (Some s) (given_to c n))
+      → length m.bound_sorts ≡ later → length m.free_sorts ≡ length n.free_sorts → m.free ≡ n.free
+      → m.clash ≡ n.clash → m.pairs ≡ n.pairs → Follows (before ++ Occurs b at s ∷ []) later m
+  first_sort b at s later m none given counted sized free clash pairs = record {
+    counted = counted;
+    sized = sized ∙ f.sized ∙ ap length (sym free);
+    clash = clash ∙ same_clash n.clash
+        ∙ clash_is (Occurs b at s) false
+        (λ e. f.sorts e b s ∙ ap (λ (o : Option Sort). differ o (Some s)) none);
+    sorts = λ e c t. list_any-append (asks_other c t) before (Occurs b at s ∷ [])
+        ∙ ap (λ (x : Bool). x || (asks_other c t (Occurs b at s) || false)) (f.sorts (sym clash ∙ e) c t)
+        ∙ by_test c t (same_binding c b) refl
+        ∙ ap (λ (o : Option Sort). differ o (Some t)) (sym (given c));
+    pairs = subst (λ (ps : List Pair). PairsOf m.free (before ++ Occurs b at s ∷ []) ps) (sym pairs)
+        (subst (λ (fs : List (List ℕ × ℕ)). PairsOf fs (before ++ Occurs b at s ∷ []) n.pairs) (sym free)
+        (pairs_same (Occurs b at s) refl));
+  }
+    where
+      by_test : (c : Binding) (t : Sort) (x : Bool) → same_binding c b ≡ x
+          → (differ (given_to c n) (Some t) || ((x && not (same_sort s t)) || false))
+          ≡ differ (cond x (Some s) (given_to c n)) (Some t)
+      by_test c t true e =
+          ap (λ (o : Option Sort). differ o (Some t) || (not (same_sort s t) || false))
+          (ap (λ (d : Binding). given_to d n) (same_is c b e) ∙ none)
+          ∙ only_later (not (same_sort s t))
+      by_test c t false e = nothing_more (differ (given_to c n) (Some t))
+
+  pub occurs : (b : Binding) (v : Variable) (at : ℕ) (s : Sort) → Refers b v n.free → HasPlace v n
+      → Follows (before ++ Occurs b at s ∷ []) count (require_sort v at s n)
+  occurs b v at s r within = by_given (sort_of v n) (refers_sort b v n r)
+    where
+      by_same : (l : Sort) (x : Bool) → same_sort l s ≡ x → given_to b n ≡ Some l
+          → Follows (before ++ Occurs b at s ∷ []) count (cond x n (clashed at n))
+      by_same l true e is =
+          kept (Occurs b at s) refl
+          (λ none. f.sorts none b s ∙ ap (λ (o : Option Sort). differ o (Some s)) is ∙ ap not e)
+          (λ none c t. by_test c t (same_binding c b) refl)
+        where
+          by_test : (c : Binding) (t : Sort) (y : Bool) → same_binding c b ≡ y
+              → (differ (given_to c n) (Some t) || ((y && not (same_sort s t)) || false))
+              ≡ differ (given_to c n) (Some t)
+          by_test c t true g =
+              let has : given_to c n ≡ Some s = ap (λ (d : Binding). given_to d n) (same_is c b g) ∙ is
+              ∙ ap (λ (q : Sort). Some q) (same_sorts l s e) in
+              ap (λ (o : Option Sort). differ o (Some t) || (not (same_sort s t) || false)) has
+              ∙ once_more (not (same_sort s t)) ∙ ap (λ (o : Option Sort). differ o (Some t)) (sym has)
+          by_test c t false g = nothing_more (differ (given_to c n) (Some t))
+      by_same l false e is =
+          clashed_by (Occurs b at s) refl
+          (λ none. f.sorts none b s ∙ ap (λ (o : Option Sort). differ o (Some s)) is ∙ ap not e)
+
+      by_given : (given : Option Sort) → given_to b n ≡ given
+          → Follows (before ++ Occurs b at s ∷ []) count (occurred given v at s n)
+      by_given None is =
+          let o = only_sorts v s n in
+          first_sort b at s count (with_sort v s n) is (λ c. set_given c b v s n r within) (o.bound ∙ f.counted)
+          o.sized o.free o.clash o.pairs
+      by_given (Some l) is = by_same l (same_sort l s) refl is
+
+  -- a `_`
+  pub blank : (at : ℕ) (s : Sort)
+      → Follows (before ++ Occurs (BoundAs count) at s ∷ []) (suc count) (bound_more (Some s) n)
+  blank at s =
+      first_sort (BoundAs count) at s (suc count) (bound_more (Some s) n)
+      (none_past n.bound_sorts count (omega (arith, f.counted))) given
+      (omega (arith, f.counted, length-append n.bound_sorts (Some s ∷ []))) refl refl refl refl
+    where
+      given : (c : Binding) → given_to c (bound_more (Some s) n)
+          ≡ cond (same_binding c (BoundAs count)) (Some s) (given_to c n)
+      given (Unbound name) = refl
+      given (BoundAs k) =
+          sort_more n.bound_sorts s k
+          ∙ ap (λ (j : ℕ). cond (nat_eq k j) (Some s) (given_at (slice_get n.bound_sorts k))) f.counted
+
+  pub compares : (left right : Binding) (v w : Variable) (at : ℕ) → Refers left v n.free → Refers right w n.free
+      → Follows (before ++ Compares left right at ∷ []) count
+      (record n { pairs = n.pairs ++ record { at = at; left = v; right = w } ∷ [] })
+  compares left right v w at r q =
+      let pair : Pair = record { at = at; left = v; right = w } in
+      let is : IsPair n.free left right at pair = record { at_is = refl; left_is = r; right_is = q } in
+      record {
+        counted = f.counted;
+        sized = f.sized;
+        clash = same_clash n.clash ∙ clash_is (Compares left right at) false (λ e. refl);
+        sorts = λ e c t. list_any-append (asks_other c t) before (Compares left right at ∷ [])
+            ∙ ap (λ (b : Bool). b || (false || false)) (f.sorts e c t)
+            ∙ nothing_more (differ (given_to c n) (Some t))
+            ∙ ap (λ (o : Option Sort). differ o (Some t)) (given pair c);
+        pairs = pairs_append n.free before (Compares left right at ∷ []) n.pairs (pair ∷ []) f.pairs (is, refl);
+      }
+    where
+      given : (pair : Pair) (c : Binding) → given_to c n ≡ given_to c (record n { pairs = n.pairs ++ pair ∷ [] })
+      given pair (Unbound name) = refl
+      given pair (BoundAs k) = refl
+
+  -- a quantified variable
+  pub bound : Follows before (suc count) (bound_more None n)
+  bound = record {
+    counted = omega (arith, f.counted, length-append n.bound_sorts (None ∷ []));
+    sized = f.sized;
+    clash = f.clash;
+    sorts = λ e b s. f.sorts e b s ∙ ap (λ (o : Option Sort). differ o (Some s)) (sym (given b));
+    pairs = f.pairs;
+  }
+    where
+      given : (c : Binding) → given_to c (bound_more None n) ≡ given_to c n
+      given (Unbound name) = refl
+      given (BoundAs k) = none_more n.bound_sorts k
+
+-- ---- names
+
+-- what binds a name, by the variable that a quantifier gave it
+abbrev pub from_scope : Option ℕ → List ℕ → Binding
+from_scope (Some k) name = BoundAs k
+from_scope None name = Unbound name
+
+refers_more : (b : Binding) (v : Variable) (free : List (List ℕ × ℕ)) (one : List ℕ × ℕ) → Refers b v free
+    → Refers b v (free ++ one ∷ [])
+refers_more (Unbound name) (variables.Free k) free one r =
+    stays_found (λ (known : List ℕ × ℕ). bytes_eq name known.0) free one k r
+refers_more (Unbound name) (variables.Bound k) free one r = absurd r
+refers_more (BoundAs j) (variables.Free k) free one r = absurd r
+refers_more (BoundAs j) (variables.Bound k) free one r = r
+
+pub met_refers : (bound : Option ℕ) (name : List ℕ) (at : ℕ) (n : SymbolTable) (b : Binding) (v : Variable)
+    → Refers b v n.free → Refers b v (met bound name at n).free
+met_refers (Some k) name at n b v r = r
+met_refers None name at n b v r = by_place (free_place name n)
+  where
+    by_place : (place : Option ℕ) → Refers b v (with_free place name at n).free
+    by_place (Some k) = r
+    by_place None = refers_more b v n.free (name, at) r
+
+-- the name's variable is the one that binds it
+pub name_refers : (bound : Option ℕ) (name : List ℕ) (at : ℕ) (n : SymbolTable)
+    → Refers (from_scope bound name) (bound_or_free bound name n) (met bound name at n).free
+name_refers (Some k) name at n = refl
+name_refers None name at n = by_place (free_place name n) refl
+  where
+    by_place : (place : Option ℕ) → free_place name n ≡ place
+        → Refers (Unbound name) (free_or_new place n) (with_free place name at n).free
+    by_place (Some k) e = e
+    by_place None e =
+        found_last (λ (known : List ℕ × ℕ). bytes_eq name known.0) n.free (name, at) e
+        ∙ ap (λ (b : Bool). cond b (Some (length n.free)) None) (name_is name)
+
+pub met_follows : (before : List Mention) (count : ℕ) (n : SymbolTable) (bound : Option ℕ) (name : List ℕ) (at : ℕ)
+    → Follows before count n → Follows before count (met bound name at n)
+met_follows before count n (Some k) name at f = f
+met_follows before count n None name at f = by_place (free_place name n) refl
+  where
+    at_place : (x : Bool) → place_sort (cond x (Some (length n.free)) None) (n.free_sorts ++ None ∷ []) ≡ None
+    at_place true =
+        none_more n.free_sorts (length n.free) ∙ none_past n.free_sorts (length n.free) (omega (arith, f.sized))
+    at_place false = refl
+
+    by_name : (other : List ℕ) (o : Option ℕ) → place_of_name other n.free ≡ o → free_place name n ≡ None
+        → given_to (Unbound other) (with_free None name at n) ≡ place_sort o n.free_sorts
+    by_name other None is e =
+        ap (λ (p : Option ℕ). place_sort p (n.free_sorts ++ None ∷ []))
+        (found_last (λ (known : List ℕ × ℕ). bytes_eq other known.0) n.free (name, at) is)
+        ∙ at_place (bytes_eq other name)
+    by_name other (Some k) is e =
+        ap (λ (p : Option ℕ). place_sort p (n.free_sorts ++ None ∷ []))
+        (stays_found (λ (known : List ℕ × ℕ). bytes_eq other known.0) n.free (name, at) k is)
+        ∙ none_more n.free_sorts k
+
+    given : (c : Binding) → free_place name n ≡ None → given_to c (with_free None name at n) ≡ given_to c n
+    given (Unbound other) e = by_name other (place_of_name other n.free) refl e
+    given (BoundAs k) e = refl
+
+    by_place : (place : Option ℕ) → free_place name n ≡ place → Follows before count (with_free place name at n)
+    by_place (Some k) e = f
+    by_place None e = record {
+      counted = f.counted;
+      sized = omega (arith, f.sized, length-append n.free ((name, at) ∷ []), length-append n.free_sorts (None ∷ []));
+      clash = f.clash;
+      sorts = λ none b s. f.sorts none b s ∙ ap (λ (o : Option Sort). differ o (Some s)) (sym (given b e));
+      pairs = pairs_stay n.free (n.free ++ (name, at) ∷ []) (λ b v r. refers_more b v n.free (name, at) r) before
+          n.pairs f.pairs;
+    }

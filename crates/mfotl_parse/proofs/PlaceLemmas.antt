@@ -1,0 +1,133 @@
+-- The place of a name in a list that grows at its end, and the sorts at places.
+use Rattle.std.proofs.Common.{◌≡◌, ℕ, zero, suc, ◌+◌, ◌<◌, ◌≤◌, Bool, true, false, cond, ltb, List, [], ◌∷◌, ◌++◌}
+use Rattle.std.proofs.Common.{length, Option, Some, None, inl, inr, refl, sym, ap, ◌∙◌, arith}
+use Rattle.std.proofs.Math.Dec.{eqb-suc-zero, eqb-zero-suc, eqb-suc-suc}
+use Rattle.std.proofs.lemmas.Bool.{cases_lt, lt-ltb, le-ltb}
+use Rattle.std.proofs.lemmas.List.Quantifiers.{position-Some}
+use Rattle.std.proofs.lemmas.Option.{slice_get_past}
+use Rattle.std.proofs.lemmas.Slice.Eq.{bytes_eq-Decides}
+use Rattle.std.specs.List.{position, prefix_len}
+use Rattle.std.specs.Option.{option_map}
+use Rattle.std.specs.Prelude.{not, nat_eq, get_or, slice_get, slice_set}
+use Rattle.std.specs.Str.{bytes_eq}
+use Rattle.mfotl_model.specs.declared.policy.Sort.{Sort}
+use Rattle.mfotl_parse.specs.SymbolTable.{given_at}
+
+-- ---- the first that passes
+
+ltb_suc : (r n : ℕ) → ltb (suc r) (suc n) ≡ ltb r n
+ltb_suc r n =
+    elim (cases_lt r n) [
+      | inl below ↦ lt-ltb (suc r) (suc n) (omega (arith, below)) ∙ sym (lt-ltb r n below)
+      | inr above ↦ le-ltb (suc r) (suc n) (omega (arith, above)) ∙ sym (le-ltb r n above)
+    ]
+
+position_cons : {X : Type 0} (p : X → Bool) (x : X) (xs : List X) → position p (x ∷ xs)
+    ≡ cond (p x) (Some 0) (option_map suc (position p xs))
+position_cons p x xs = by_test (prefix_len (λ y. not (p y)) xs) (length xs) (p x)
+  where
+    inner : (r : ℕ) (b : Bool) → cond b (Some (suc r)) None ≡ option_map suc (cond b (Some r) None)
+    inner r true = refl
+    inner r false = refl
+
+    by_test : (r n : ℕ) (b : Bool) → cond (ltb (cond (not b) (1 + r) 0) (suc n)) (Some (cond (not b) (1 + r) 0)) None
+        ≡ cond b (Some 0) (option_map suc (cond (ltb r n) (Some r) None))
+    by_test r n true = ap (λ (c : Bool). cond c (Some 0) None) (lt-ltb 0 (suc n) (omega arith))
+    by_test r n false =
+        let one_more : 1 + r ≡ suc r = omega arith in
+        ap (λ (m : ℕ). cond (ltb m (suc n)) (Some m) None) one_more
+        ∙ ap (λ (c : Bool). cond c (Some (suc r)) None) (ltb_suc r n) ∙ inner r (ltb r n)
+
+pub stays_found : {X : Type 0} (p : X → Bool) (xs : List X) (x : X) (k : ℕ) → position p xs ≡ Some k
+    → position p (xs ++ x ∷ []) ≡ Some k
+stays_found p [] x k e = absurd cc
+stays_found p (y ∷ xs) x k e =
+    position_cons p y (xs ++ x ∷ [])
+    ∙ by_test (λ j is. stays_found p xs x j is) (p y) (sym (position_cons p y xs) ∙ e)
+  where
+    by_rest : ((j : ℕ) → position p xs ≡ Some j → position p (xs ++ x ∷ []) ≡ Some j) → (o : Option ℕ)
+        → position p xs ≡ o → option_map suc o ≡ Some k → option_map suc (position p (xs ++ x ∷ [])) ≡ Some k
+    by_rest later None is f = absurd cc
+    by_rest later (Some j) is f = ap (option_map suc) (later j is) ∙ f
+
+    by_test : ((j : ℕ) → position p xs ≡ Some j → position p (xs ++ x ∷ []) ≡ Some j) → (b : Bool)
+        → cond b (Some 0) (option_map suc (position p xs)) ≡ Some k
+        → cond b (Some 0) (option_map suc (position p (xs ++ x ∷ []))) ≡ Some k
+    by_test later true f = f
+    by_test later false f = by_rest later (position p xs) refl f
+
+pub found_last : {X : Type 0} (p : X → Bool) (xs : List X) (x : X) → position p xs ≡ None
+    → position p (xs ++ x ∷ []) ≡ cond (p x) (Some (length xs)) None
+found_last p [] x e = position_cons p x []
+found_last p (y ∷ xs) x e =
+    position_cons p y (xs ++ x ∷ [])
+    ∙ by_test (λ is. found_last p xs x is) (p y) (sym (position_cons p y xs) ∙ e)
+  where
+    suc_of : (b : Bool) → option_map suc (cond b (Some (length xs)) None) ≡ cond b (Some (suc (length xs))) None
+    suc_of true = refl
+    suc_of false = refl
+
+    by_rest : (position p xs ≡ None → position p (xs ++ x ∷ []) ≡ cond (p x) (Some (length xs)) None)
+        → (o : Option ℕ) → position p xs ≡ o → option_map suc o ≡ None
+        → option_map suc (position p (xs ++ x ∷ [])) ≡ cond (p x) (Some (suc (length xs))) None
+    by_rest later None is f = ap (option_map suc) (later is) ∙ suc_of (p x)
+    by_rest later (Some j) is f = absurd cc
+
+    by_test : (position p xs ≡ None → position p (xs ++ x ∷ []) ≡ cond (p x) (Some (length xs)) None) → (b : Bool)
+        → cond b (Some 0) (option_map suc (position p xs)) ≡ None
+        → cond b (Some 0) (option_map suc (position p (xs ++ x ∷ []))) ≡ cond (p x) (Some (suc (length xs))) None
+    by_test later true f = absurd cc
+    by_test later false f = by_rest later (position p xs) refl f
+
+-- ---- names
+
+pub same_names : (a b : List ℕ) → bytes_eq a b ≡ true → a ≡ b
+same_names a b e = (bytes_eq-Decides a b).0 e
+
+pub name_is : (a : List ℕ) → bytes_eq a a ≡ true
+name_is a = (bytes_eq-Decides a a).1 refl
+
+-- where a name stands among the free ones
+abbrev pub place_of_name : List ℕ → List (List ℕ × ℕ) → Option ℕ
+place_of_name name free = position (λ known. bytes_eq name known.0) free
+
+-- no two names stand at one place
+pub one_name : (a b : List ℕ) (free : List (List ℕ × ℕ)) (k : ℕ) → place_of_name a free ≡ Some k
+    → place_of_name b free ≡ Some k → a ≡ b
+one_name a b free k e f =
+    same_names a (get_or free k ([], 0)).0
+    (position-Some (λ (known : List ℕ × ℕ). bytes_eq a known.0) free k ([], 0) e).1
+    ∙ sym (same_names b (get_or free k ([], 0)).0
+    (position-Some (λ (known : List ℕ × ℕ). bytes_eq b known.0) free k ([], 0) f).1)
+
+-- ---- sorts at places
+
+pub none_more : (xs : List (Option Sort)) (k : ℕ) → given_at (slice_get (xs ++ None ∷ []) k)
+    ≡ given_at (slice_get xs k)
+none_more [] zero = refl
+none_more [] (suc k) = refl
+none_more (x ∷ xs) zero = refl
+none_more (x ∷ xs) (suc k) = none_more xs k
+
+pub none_past : (xs : List (Option Sort)) (k : ℕ) → length xs ≤ k → given_at (slice_get xs k) ≡ None
+none_past xs k past = ap given_at (slice_get_past xs k past)
+
+pub sort_more : (xs : List (Option Sort)) (s : Sort) (k : ℕ) → given_at (slice_get (xs ++ Some s ∷ []) k)
+    ≡ cond (nat_eq k (length xs)) (Some s) (given_at (slice_get xs k))
+sort_more [] s zero = refl
+sort_more [] s (suc k) = ap (λ (b : Bool). cond b (Some s) None) (sym (eqb-suc-zero k))
+sort_more (x ∷ xs) s zero = ap (λ (b : Bool). cond b (Some s) x) (sym (eqb-zero-suc (length xs)))
+sort_more (x ∷ xs) s (suc k) =
+    sort_more xs s k
+    ∙ ap (λ (b : Bool). cond b (Some s) (given_at (slice_get xs k))) (sym (eqb-suc-suc k (length xs)))
+
+pub sort_set : (xs : List (Option Sort)) (k : ℕ) (s : Sort) (j : ℕ) → k < length xs
+    → given_at (slice_get (slice_set xs k (Some s)) j) ≡ cond (nat_eq j k) (Some s) (given_at (slice_get xs j))
+sort_set [] k s j within = absurd (omega (arith, within))
+sort_set (x ∷ xs) zero s zero within = refl
+sort_set (x ∷ xs) zero s (suc j) within =
+    ap (λ (b : Bool). cond b (Some s) (given_at (slice_get xs j))) (sym (eqb-suc-zero j))
+sort_set (x ∷ xs) (suc k) s zero within = ap (λ (b : Bool). cond b (Some s) x) (sym (eqb-zero-suc k))
+sort_set (x ∷ xs) (suc k) s (suc j) within =
+    sort_set xs k s j (omega (arith, within))
+    ∙ ap (λ (b : Bool). cond b (Some s) (given_at (slice_get xs j))) (sym (eqb-suc-suc j k))

@@ -1,0 +1,105 @@
+-- The node of a conjunction whose right side only filters, with which a monitor begins.
+use Rattle.std.proofs.Common.{subst, ◌≡◌, Bool, true, false, ◌&&◌, ◌++◌, List, [], ◌∷◌, length, refl, sym, ap, ◌∙◌, arith, append-nil}
+use Rattle.std.proofs.lemmas.Bool.{and_parts}
+use Rattle.mfotl_model.specs.Exact.{AllExact, View}
+use Rattle.mfotl_model.specs.FreeVariables.{fv}
+use Rattle.mfotl_model.specs.Tables.{all_among}
+use Rattle.eval_until.specs.UntilView.{took_all}
+use Rattle.mfotl_model.specs.declared.interval.Interval.{Interval}
+use Rattle.monitorable.specs.CoreForms.{CoreForm, meaning, Not, And, Since, Until}
+use Rattle.monitorable.specs.Fragment.{bound_by, fault_in, is_conjunction}
+use Rattle.monitorable.specs.declared.role.Role.{Role}
+use Rattle.monitorable.specs.declared.role.Role.TheVariants as role
+use Rattle.monitor_state.proofs.BeginLemmas.{adds_one, none_reached, since_begins_at, since_state_is}
+use Rattle.monitor_state.proofs.GuardLemmas.{and_left, and_own, not_under}
+use Rattle.monitor_state.proofs.WholeLemmas.{part_whole}
+use Rattle.monitor_state.proofs.MonitorSteps.{last_off}
+use Rattle.monitor_state.proofs.UntilBegins.{until_begins_at, until_state_is}
+use Rattle.monitor_state.specs.Beginnings.{Accepted, Adds, WindowBegun}
+use Rattle.monitor_state.specs.Nodes.{filters, is_negated, is_window, left_operand, nodes_in, without_last}
+use Rattle.monitor_state.specs.Views.{reached}
+use Rattle.monitor_state.specs.WindowNode.{IsWindow, WindowStands, window_took_all}
+use Rattle.monitor_state.specs.declared.filter.FilterState.{FilterState}
+use Rattle.monitor_state.specs.declared.node.Node.{Node}
+use Rattle.monitor_state.specs.declared.node.Node.TheVariants as node
+use Rattle.monitor_state.specs.declared.window.Window.{Window}
+use Rattle.monitor_state.specs.declared.window.Window.TheVariants as window
+
+pub is_filter_window : (own : Bool) (f g : CoreForm) → (own && filters f g) ≡ true → is_window (left_operand g) ≡ true
+is_filter_window own f g only =
+    (and_parts (is_window (left_operand g)) (all_among (fv (meaning g)) (bound_by f)) (and_parts own (filters f g) only).1).0
+
+pub is_filtered_window : (f g : CoreForm) → filters f g ≡ true → is_window (left_operand g) ≡ true
+is_filtered_window f g only = is_filter_window true f g only
+
+-- what is filtered is accepted by itself
+pub filtered_whole : (r : Role) (f g : CoreForm) (own : Bool) → own ≡ is_conjunction r → (own && filters f g) ≡ true
+    → Accepted r (And f g) → Accepted role.Whole f
+filtered_whole r f g own is only accepted =
+    let both = and_parts own (filters f g) only in
+    let guard = and_own r f g accepted (sym is ∙ both.0) in
+    part_whole f g guard.0
+    (and_parts (is_window (left_operand g)) (all_among (fv (meaning g)) (bound_by f)) both.1).1 guard.1
+    (and_left r f g accepted)
+
+-- so is the window without its NOT, as a conjunct
+pub operand_accepted : (g : CoreForm) → is_window (left_operand g) ≡ true → Accepted role.Part g
+    → Accepted role.Part (left_operand g)
+unfolding fault_in
+operand_accepted (Not (Since i a b)) is accepted = not_under role.Part (Since i a b) accepted
+operand_accepted (Not (Until i a b)) is accepted = not_under role.Part (Until i a b) accepted
+operand_accepted (Not f) is accepted = absurd (let clash : true ≡ false = sym is in cc)
+operand_accepted g is accepted = accepted
+
+-- and has the same nodes below it
+pub operand_nodes : (g : CoreForm) → is_window (left_operand g) ≡ true
+    → without_last (nodes_in role.Part (left_operand g)) ≡ without_last (nodes_in role.Part g)
+unfolding nodes_in
+operand_nodes (Not (Since i a b)) is = ap without_last (sym (append-nil (nodes_in role.Negated (Since i a b))))
+operand_nodes (Not (Until i a b)) is = ap without_last (sym (append-nil (nodes_in role.Negated (Until i a b))))
+operand_nodes (Not f) is = absurd (let clash : true ≡ false = sym is in cc)
+operand_nodes g is = refl
+
+pub since_operands : (h : CoreForm) (i : Interval) (f g : CoreForm) (old new : List Node) → h ≡ Since i f g
+    → Adds (nodes_in role.Left f ++ nodes_in role.Whole g) old new → Adds (without_last (nodes_in role.Part h)) old new
+unfolding nodes_in
+since_operands h i f g old new same both =
+    subst (λ k. Adds (without_last (nodes_in role.Part k)) old new) (sym same)
+    (subst (λ ns. Adds ns old new) (sym (last_off (nodes_in role.Left f ++ nodes_in role.Whole g) (Since i f g))) both)
+
+pub until_operands : (h : CoreForm) (i : Interval) (f g : CoreForm) (old new : List Node) → h ≡ Until i f g
+    → Adds (nodes_in role.Left f ++ nodes_in role.Whole g) old new → Adds (without_last (nodes_in role.Part h)) old new
+unfolding nodes_in
+until_operands h i f g old new same both =
+    subst (λ k. Adds (without_last (nodes_in role.Part k)) old new) (sym same)
+    (subst (λ ns. Adds ns old new) (sym (last_off (nodes_in role.Left f ++ nodes_in role.Whole g) (Until i f g))) both)
+
+window_is : (w : CoreForm) (s : Window) → WindowBegun w s → IsWindow w s
+window_is (Since i f g) (window.Since s) begun = since_state_is i f g s begun
+window_is (Until i f g) (window.Until s) begun = until_state_is i f g s begun
+window_is w s begun = absurd begun
+
+window_begins : (w : CoreForm) (s : Window) → WindowBegun w s → (view : View) → view.log ≡ []
+    → WindowStands view 0 w s × (window_took_all s ≡ true)
+window_begins (Since i f g) (window.Since s) begun view empty = (since_begins_at i f g s begun view empty, refl)
+window_begins (Until i f g) (window.Until s) begun view empty =
+    (until_begins_at i f g s begun view empty, ap took_all begun.begun)
+window_begins w s begun view empty = absurd begun
+
+pub filter_added : (f g : CoreForm) (s : FilterState) (old new : List Node) → filters f g ≡ true
+    → s.negated ≡ is_negated g → s.tables ≡ [] → WindowBegun (left_operand g) s.window
+    → new ≡ old ++ node.Filter s ∷ [] → Adds (And f g ∷ []) old new
+filter_added f g s old new only turns none begun is =
+    adds_one (And f g) (node.Filter s) old new is
+    (record { only = only; turns = turns; asks = window_is (left_operand g) s.window begun })
+    (λ view empty.
+    let begins = window_begins (left_operand g) s.window begun view empty in
+    let here : 0 ≡ reached view (And f g) = none_reached view empty (And f g) in
+    let there : 0 ≡ reached view f = none_reached view empty f in
+    let size : length s.tables ≡ 0 = ap length none in
+    record {
+      pushed = omega arith;
+      exact = subst (AllExact view (meaning f) (reached view (And f g))) (sym none) tt;
+      behind = subst (λ p. WindowStands view p (left_operand g) s.window) here begins.0;
+      all = begins.1;
+    })

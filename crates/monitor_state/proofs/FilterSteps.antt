@@ -1,0 +1,254 @@
+-- The state of a conjunction whose right side only filters, over one step.
+use Rattle.std.proofs.Common.{subst, ◌≡◌, ℕ, ◌+◌, ◌<◌, ◌≤◌, Bool, true, false, ◌&&◌, nat_eq, List, [], ◌∷◌, ◌++◌, length, map, refl, sym, ap, ap₂, ◌∙◌, inl, inr, arith, length-append}
+use Rattle.std.proofs.lemmas.Bool.{and_parts, cases_Bool, cond-false, cond-true, or_cases, or_left, or_right}
+use Rattle.std.proofs.lemmas.List.Folds.{list_any-append}
+use Rattle.mfotl_model.proofs.CountLemmas.{counted_settled}
+use Rattle.mfotl_model.proofs.LogicLemmas.{among_joined}
+use Rattle.mfotl_model.specs.Exact.{View, AllExact, Exact}
+use Rattle.mfotl_model.specs.FreeVariables.{among, fv, joined}
+use Rattle.mfotl_model.specs.Log.{times}
+use Rattle.mfotl_model.specs.Regions.{Passes}
+use Rattle.mfotl_model.specs.Satisfaction.{Valuation, sat}
+use Rattle.mfotl_model.specs.Settled.{settled}
+use Rattle.mfotl_model.specs.Tables.{TableOf, all_among, has, has_row, valuation}
+use Rattle.mfotl_model.specs.Times.{NeverFalls}
+use Rattle.mfotl_model.specs.declared.event.TimePoint.{TimePoint}
+use Rattle.mfotl_model.specs.declared.value.Value.{Value}
+use Rattle.monitorable.proofs.Coincidence.{coincidence}
+use Rattle.monitorable.specs.CoreForms.{CoreForm, meaning, Compare, Not, And}
+use Rattle.monitorable.specs.Fragment.{binds, bound_by}
+use Rattle.monitorable.specs.Soundness.{IsSound}
+use Rattle.relations.proofs.JoinLemmas.{member_of_all, read_own}
+use Rattle.relations.specs.Pushed.{turned}
+use Rattle.monitor_state.proofs.CountLemmas.{and_below, count_and, count_below}
+use Rattle.monitor_state.proofs.ExactLemmas.{all_stay, exact_append, reached_grows, reached_within, rising_before}
+use Rattle.monitor_state.proofs.RegionLemmas.{all_from_each, joined_within}
+use Rattle.monitor_state.proofs.SinceSteps.{free_operand, reached_operand}
+use Rattle.monitor_state.proofs.WindowSteps.{window_due_at, window_fed, window_gone, window_means, window_settled}
+use Rattle.monitor_state.specs.FilterFeeding.{FilterPulled, FilterStep, FilterStops, FilterTakes, Sifts}
+use Rattle.monitor_state.specs.FilterNode.{FilterStands, IsFilter}
+use Rattle.monitor_state.specs.Nodes.{filters, is_negated, is_window, left_operand, window_operands}
+use Rattle.monitor_state.specs.Steps.{News, StackNews, longer}
+use Rattle.monitor_state.specs.Views.{reached}
+use Rattle.monitor_state.specs.WindowNode.{IsWindow, WindowStands, window_due}
+use Rattle.monitor_state.specs.declared.filter.FilterState.{FilterState}
+use Rattle.monitor_state.specs.declared.window.Window.{Window}
+
+-- what a core binds is free in it
+pub bound_free : (f : CoreForm) (y : ℕ) → among y (bound_by f) ≡ true → among y (fv (meaning f)) ≡ true
+unfolding fv bound_by
+bound_free (Compare c) y h =
+    elim (cases_Bool (binds c)) [
+      | inl e ↦ sym (ap (among y) (cond-true (binds c) (fv (meaning (Compare c))) [] e)) ∙ h
+      | inr e ↦
+          absurd (let clash : true ≡ false =
+          sym h ∙ ap (among y) (cond-false (binds c) (fv (meaning (Compare c))) [] e) in cc)
+    ]
+bound_free (Not f) y h = absurd (let clash : true ≡ false = sym h in cc)
+bound_free (And f g) y h =
+    among_joined y (fv (meaning f)) (fv (meaning g))
+    ∙ elim (or_cases (among y (bound_by f)) (among y (bound_by g))
+    (sym (list_any-append (λ z. nat_eq y z) (bound_by f) (bound_by g)) ∙ h)) [
+      | inl e ↦ or_left (among y (fv (meaning f))) (among y (fv (meaning g))) (bound_free f y e)
+      | inr e ↦ or_right (among y (fv (meaning f))) (among y (fv (meaning g))) (bound_free g y e)
+    ]
+bound_free f y h = h
+
+-- the variables of what only filters are the other side's
+pub filter_free : (f g : CoreForm) → filters f g ≡ true → (y : ℕ) → among y (fv (meaning g)) ≡ true
+    → among y (fv (meaning f)) ≡ true
+filter_free f g only y m =
+    bound_free f y
+    (member_of_all (λ z. among z (bound_by f)) (fv (meaning g)) y
+    (and_parts (is_window (left_operand g)) (all_among (fv (meaning g)) (bound_by f)) only).1 m)
+
+turned_sat : (view : View) (dom : List Value) (v : Valuation) (p : ℕ) (g : CoreForm)
+    → turned (is_negated g) (sat view.log dom v p (meaning (left_operand g))) ≡ sat view.log dom v p (meaning g)
+unfolding sat
+turned_sat view dom v p (Not f) = refl
+turned_sat view dom v p f = refl
+
+has_is : (table : TableOf) (columns : List ℕ) (v : Valuation) → table.columns ≡ columns
+    → has table v ≡ has_row table.rows (map v columns)
+unfolding has
+has_is table columns v same = ap (λ cs. has_row table.rows (map v cs)) same
+
+-- a state that stands with p positions pulled
+record StandsAt (view : View) (f g : CoreForm) (p : ℕ) (s : FilterState) : Type 0 where
+  turns : s.negated ≡ is_negated g
+  pushed : p + length s.tables ≡ reached view f
+  inside : p ≤ reached view g
+  exact : AllExact view (meaning f) p s.tables
+  asks : IsWindow (left_operand g) s.window
+  behind : WindowStands view p (left_operand g) s.window
+
+module _ (view : View) (rising : NeverFalls (times view.log)) (passes : Passes (fv view.whole) view.near)
+    (f g : CoreForm) (only : filters f g ≡ true) where
+  -- a table without what the window filters out is exact for the conjunction
+  sifted_exact : (p : ℕ) (s : Window) (negated : Bool) (table kept : TableOf) → negated ≡ is_negated g
+      → IsWindow (left_operand g) s → WindowStands view p (left_operand g) s → Exact view (meaning f) p table
+      → kept.columns ≡ table.columns → Sifts s negated table.columns table.rows kept.rows
+      → Exact view (meaning (And f g)) p kept
+  unfolding fv sat
+  sifted_exact p s negated table kept turns is stands exact over sifts =
+      record {
+        columns =
+            over ∙ exact.columns
+            ∙ sym (joined_within (fv (meaning f)) (fv (meaning g))
+            (all_from_each (fv (meaning g)) (fv (meaning f)) (λ y m. filter_free f g only y m)));
+        rows = λ dom v covers near.
+            let own : Valuation = valuation table.columns (map v table.columns) in
+            let agree : (y : ℕ) → among y (fv (meaning (left_operand g))) ≡ true
+            → (among y (fv (meaning f)) ≡ true) × (own y ≡ v y) = λ y m.
+            let inner : among y (fv (meaning f)) ≡ true =
+            filter_free f g only y (ap (among y) (sym (free_operand g)) ∙ m) in
+            (inner, read_own v table.columns y (ap (among y) exact.columns ∙ inner)) in
+            has_is kept table.columns v over
+            ∙ sifts (map v table.columns) (sat view.log dom v p (meaning (left_operand g)))
+            (λ answer answers.
+            window_means view rising passes (left_operand g) s p is stands dom own covers
+            (passes (joined (fv (meaning f)) (fv (meaning g))) (fv (meaning (left_operand g))) v own
+            (λ y m free. (
+              among_joined y (fv (meaning f)) (fv (meaning g))
+                  ∙ or_left (among y (fv (meaning f))) (among y (fv (meaning g))) (agree y m).0,
+              sym (agree y m).1,
+            )) near) answer answers
+            ∙ coincidence view.log dom (meaning (left_operand g)) own v p (λ y m. (agree y m).1))
+            ∙ ap₂ (λ a b. a && b)
+            (sym (has_is table table.columns v refl)
+            ∙ exact.rows dom v covers
+            (passes (joined (fv (meaning f)) (fv (meaning g))) (fv (meaning f)) v v
+            (λ y m free. (
+              among_joined y (fv (meaning f)) (fv (meaning g))
+                  ∙ or_left (among y (fv (meaning f))) (among y (fv (meaning g))) m,
+              refl,
+            )) near))
+            (ap (λ n. turned n (sat view.log dom v p (meaning (left_operand g)))) turns ∙ turned_sat view dom v p g);
+      }
+
+  step_stands : (p : ℕ) (old new : FilterState) (kept : TableOf) → StandsAt view f g p old → FilterStep old new kept
+      → StandsAt view f g (p + 1) new × Exact view (meaning (And f g)) p kept
+  step_stands p old new kept stands step =
+      let ready = window_settled view (left_operand g) old.window step.ready p stands.asks stands.behind step.settles in
+      let within : reached view f ≤ length view.log = reached_within view f in
+      let pushed : p + length old.tables ≡ reached view f = stands.pushed in
+      let front : length old.tables ≡ length (step.table ∷ new.tables) = ap length step.front in
+      let settles : settled (times view.log) (meaning (left_operand g)) p ≡ true =
+      sym (window_due_at view rising (left_operand g) step.ready p (omega arith) ready.0 ready.1) ∙ step.was_due in
+      let low : p < reached view (left_operand g) =
+      count_below (times view.log) rising (meaning (left_operand g)) p settles in
+      let same : reached view (left_operand g) ≡ reached view g = reached_operand view g in
+      let gone = window_gone view (left_operand g) step.ready new.window p ready.0 ready.1 step.was_due step.goes in
+      let exact = subst (AllExact view (meaning f) p) step.front stands.exact in (
+        record {
+          turns = step.turns ∙ stands.turns;
+          pushed = omega arith;
+          inside = omega arith;
+          exact = exact.1;
+          asks = gone.0;
+          behind = gone.1;
+        },
+        sifted_exact p step.ready old.negated step.table kept stands.turns ready.0 ready.1 exact.0 step.over step.sifts,
+      )
+
+  steps_stand : (p : ℕ) (old new : FilterState) (tables : List TableOf) → StandsAt view f g p old
+      → FilterPulled old new tables
+      → StandsAt view f g (p + length tables) new × AllExact view (meaning (And f g)) p tables
+  steps_stand p old new [] stands same =
+      let none : p ≡ p + 0 = omega arith in
+      (subst (λ q. StandsAt view f g q new) none (subst (StandsAt view f g p) (sym same) stands), tt)
+  steps_stand p old new (kept ∷ tables) stands pulled =
+      let one = step_stands p old pulled.0 kept stands pulled.1 in
+      let rest = steps_stand (p + 1) pulled.0 new tables one.0 pulled.2 in
+      let at : p + 1 + length tables ≡ p + length (kept ∷ tables) = omega arith in
+      (subst (λ q. StandsAt view f g q new) at rest.0, (one.1, rest.1))
+
+  stops_stand : (p : ℕ) (old new : FilterState) → StandsAt view f g p old → FilterStops old new
+      → StandsAt view f g p new
+  stops_stand p old new stands stops =
+      let ready = window_settled view (left_operand g) old.window new.window p stands.asks stands.behind stops.settles in
+      record {
+        turns = stops.turns ∙ stands.turns;
+        pushed = ap (λ ts. p + length ts) stops.tables ∙ stands.pushed;
+        inside = stands.inside;
+        exact = subst (AllExact view (meaning f) p) (sym stops.tables) stands.exact;
+        asks = ready.0;
+        behind = ready.1;
+      }
+
+  -- where no more can be pulled, all settled positions are
+  all_pulled : (p : ℕ) (s : FilterState) → StandsAt view f g p s → (window_due s.window ≡ true → s.tables ≡ [])
+      → p ≡ reached view (And f g)
+  all_pulled p s stands done =
+      let pushed : p + length s.tables ≡ reached view f = stands.pushed in
+      let within : reached view f ≤ length view.log = reached_within view f in
+      let same : reached view (left_operand g) ≡ reached view g = reached_operand view g in
+      count_and (times view.log) rising (meaning f) (meaning g) p (omega arith) stands.inside
+      (λ low high.
+      let ready : settled (times view.log) (meaning (left_operand g)) p ≡ true =
+      counted_settled (times view.log) (meaning (left_operand g)) p (omega arith) in
+      let none : length s.tables ≡ 0 =
+      ap length (done (window_due_at view rising (left_operand g) s.window p (omega arith) stands.asks stands.behind ∙ ready)) in
+      absurd (omega arith))
+
+module _ (view : View) (point : TimePoint) (whole : CoreForm) (f g : CoreForm)
+    (rising : NeverFalls (times (longer view point).log)) (passes : Passes (fv view.whole) view.near)
+    (sound : IsSound whole (left_operand g))
+    (old : FilterState) (is : IsFilter f g old) (stands : FilterStands view f g old)
+    (ts : ℕ) (ts_is : ts ≡ point.ts) (fs ls rs : List TableOf) (news : News view point f fs)
+    (operands_news : StackNews view point (window_operands (left_operand g)) (ls ∷ rs ∷ []))
+    (new : FilterState) (tables : List TableOf) (takes : FilterTakes old ts fs ls rs new tables) where
+  fed_stands : StandsAt (longer view point) f g (reached view (And f g)) takes.fed
+  fed_stands =
+      let fed = window_fed view point whole (left_operand g) old.window takes.fed.window (reached view (And f g)) ts ls rs
+      rising passes sound (reached_within view (And f g)) ts_is is.asks stands.behind operands_news takes.feeds in
+      let pushed : reached view (And f g) + length old.tables ≡ reached view f = stands.pushed in
+      let more : reached view f + length fs ≡ reached (longer view point) f = news.count in
+      let size : length (old.tables ++ fs) ≡ length old.tables + length fs = length-append old.tables fs in
+      let now : length takes.fed.tables ≡ length (old.tables ++ fs) = ap length takes.pushed in
+      let grows : reached view g ≤ reached (longer view point) g = reached_grows view point rising g in
+      let before : reached view (And f g) ≤ reached view g =
+      and_below (times view.log) (rising_before view point rising) (meaning f) (meaning g) in
+      record {
+        turns = takes.turns ∙ is.turns;
+        pushed = omega arith;
+        inside = omega arith;
+        exact =
+            subst (AllExact (longer view point) (meaning f) (reached view (And f g))) (sym takes.pushed)
+            (exact_append (longer view point) (meaning f) (reached view (And f g)) (reached view f) old.tables fs
+            stands.pushed
+            (all_stay view point rising f (reached view (And f g)) old.tables (omega arith) stands.exact) news.exact);
+        asks = fed.0;
+        behind = fed.1;
+      }
+
+  last_stands : StandsAt (longer view point) f g (reached view (And f g) + length tables) takes.last
+      × AllExact (longer view point) (meaning (And f g)) (reached view (And f g)) tables
+  last_stands =
+      steps_stand (longer view point) rising passes f g is.only (reached view (And f g)) takes.fed takes.last tables
+      fed_stands takes.pulls
+
+  new_stands : StandsAt (longer view point) f g (reached view (And f g) + length tables) new
+  new_stands =
+      stops_stand (longer view point) rising passes f g is.only (reached view (And f g) + length tables) takes.last new
+      last_stands.0 takes.stops
+
+  count : reached view (And f g) + length tables ≡ reached (longer view point) (And f g)
+  count =
+      all_pulled (longer view point) rising passes f g is.only (reached view (And f g) + length tables) new new_stands
+      takes.stops.done
+
+  pub filter_is : IsFilter f g new
+  filter_is = record { only = is.only; turns = new_stands.turns; asks = new_stands.asks }
+
+  pub filter_stands : FilterStands (longer view point) f g new
+  filter_stands =
+      record {
+        pushed = ap (λ n. n + length new.tables) (sym count) ∙ new_stands.pushed;
+        exact = subst (λ p. AllExact (longer view point) (meaning f) p new.tables) count new_stands.exact;
+        behind = subst (λ p. WindowStands (longer view point) p (left_operand g) new.window) count new_stands.behind;
+        all = takes.stops.all;
+      }
+
+  pub filter_news : News view point (And f g) tables
+  filter_news = record { count = count; exact = last_stands.1 }

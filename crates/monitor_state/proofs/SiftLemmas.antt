@@ -1,0 +1,122 @@
+-- Rows that stay, and tables pulled, one after the other.
+use Rattle.std.proofs.Common.{subst, ◌≡◌, ℕ, ◌<◌, Bool, true, false, ◌&&◌, ◌||◌, nat_eq, List, [], ◌∷◌, ◌++◌, length, refl, sym, ap, ◌∙◌, arith, append_assoc, append-nil}
+use Rattle.std.proofs.lemmas.Bool.{and_from, and_parts}
+use Rattle.std.proofs.lemmas.List.Folds.{list_any-append}
+use Rattle.std.specs.List.Sorted.{IsStrictlySortedBy}
+use Rattle.std.proofs.Common.{Ordering, Less, cond}
+use Rattle.std.specs.Ordering.{eq_by_cmp}
+use Rattle.std.specs.List.{AllByRecursion, list_all}
+use Rattle.std.proofs.lemmas.Map.Views.{tells_apart}
+use Rattle.mfotl_model.proofs.RowLemmas.{row_exact}
+use Rattle.mfotl_model.specs.Tables.{TableOf, has_row, valuation}
+use Rattle.mfotl_model.specs.Values.{row_cmp}
+use Rattle.mfotl_model.specs.declared.value.Value.{Value}
+use Rattle.relations.specs.Pushed.{turned}
+use Rattle.relations.specs.Tables.{IsTable}
+use Rattle.monitor_state.specs.FilterFeeding.{FilterPulled, FilterStep, Sifts}
+use Rattle.monitor_state.specs.WindowNode.{Answers}
+use Rattle.monitor_state.specs.declared.filter.FilterState.{FilterState}
+use Rattle.monitor_state.specs.declared.window.Window.{Window}
+
+pub pulled_more : (old mid new : FilterState) (tables : List TableOf) (kept : TableOf) → FilterPulled old mid tables
+    → FilterStep mid new kept → FilterPulled old new (tables ++ kept ∷ [])
+pulled_more old mid new [] kept same step = (new, subst (λ s. FilterStep s new kept) same step, refl)
+pulled_more old mid new (table ∷ tables) kept pulled step =
+    (pulled.0, pulled.1, pulled_more pulled.0 mid new tables kept pulled.2 step)
+
+-- the next table shortens what is kept
+pub pulled_fewer : (old new : FilterState) (kept : TableOf) → FilterStep old new kept
+    → length new.tables < length old.tables
+pulled_fewer old new kept step =
+    let size : length old.tables ≡ length (step.table ∷ new.tables) = ap length step.front in omega arith
+
+module _ {K : Type 0} (c : K → K → Ordering) where
+  all_without : (P : K → Type 0) (xs ys : List K) (y : K) → AllByRecursion P (xs ++ y ∷ ys)
+      → AllByRecursion P (xs ++ ys)
+  all_without P [] ys y all = all.1
+  all_without P (x ∷ xs) ys y all = (all.0, all_without P xs ys y all.1)
+
+  sorted_without : (xs ys : List K) (y : K) → IsStrictlySortedBy c (xs ++ y ∷ ys) → IsStrictlySortedBy c (xs ++ ys)
+  unfolding IsStrictlySortedBy
+  sorted_without [] ys y sorted = sorted.1
+  sorted_without (x ∷ xs) ys y sorted = (all_without (λ z. c x z ≡ Less) xs ys y sorted.0, sorted_without xs ys y sorted.1)
+
+holds_without : {X : Type 0} (p : X → Bool) (xs ys : List X) (y : X) → list_all p (xs ++ y ∷ ys) ≡ true
+    → list_all p (xs ++ ys) ≡ true
+holds_without p [] ys y h = (and_parts (p y) (list_all p ys) h).1
+holds_without p (x ∷ xs) ys y h =
+    let parts = and_parts (p x) (list_all p (xs ++ y ∷ ys)) h in
+    and_from (p x) (list_all p (xs ++ ys)) parts.0 (holds_without p xs ys y parts.1)
+
+-- a table without one of its rows is one
+table_without : (columns : List ℕ) (xs ys : List (List Value)) (y : List Value) → IsTable columns (xs ++ y ∷ ys)
+    → IsTable columns (xs ++ ys)
+table_without columns xs ys y is =
+    record {
+      apart = is.apart;
+      sized = holds_without (λ row. nat_eq (length row) (length columns)) xs ys y is.sized;
+      sorted = sorted_without row_cmp xs ys y is.sorted;
+    }
+
+-- a row stays or doesn't
+pub table_kept : (columns : List ℕ) (stays : Bool) (kept new rest : List (List Value)) (row : List Value)
+    → IsTable columns (kept ++ row ∷ rest) → new ≡ kept ++ cond stays (row ∷ []) [] → IsTable columns (new ++ rest)
+table_kept columns true kept new rest row is same =
+    subst (IsTable columns) (sym (ap (λ xs. xs ++ rest) same ∙ append_assoc kept (row ∷ []) rest)) is
+table_kept columns false kept new rest row is same =
+    subst (λ xs. IsTable columns (xs ++ rest)) (sym (same ∙ append-nil kept)) (table_without columns kept rest row is)
+
+added : (d k e t s : Bool) → k ≡ (d && t) → (e ≡ true → s ≡ t)
+    → (k || cond s (e || false) false) ≡ ((d || (e || false)) && t)
+added d k true t s before same = grown d k t s before (same refl)
+  where
+    grown : (d k t s : Bool) → k ≡ (d && t) → s ≡ t → (k || cond s (true || false) false) ≡ ((d || (true || false)) && t)
+    grown true true true true before same = refl
+    grown true true true false before same = cc
+    grown true true false s before same = cc
+    grown true false true s before same = cc
+    grown true false false false before same = refl
+    grown true false false true before same = cc
+    grown false true t s before same = cc
+    grown false false true true before same = refl
+    grown false false true false before same = cc
+    grown false false false false before same = refl
+    grown false false false true before same = cc
+added d k false t s before same = stayed d k t s before
+  where
+    stayed : (d k t s : Bool) → k ≡ (d && t) → (k || cond s (false || false) false) ≡ ((d || (false || false)) && t)
+    stayed true true true true before = refl
+    stayed true true true false before = refl
+    stayed true true false s before = cc
+    stayed true false true s before = cc
+    stayed true false false true before = refl
+    stayed true false false false before = refl
+    stayed false true t s before = cc
+    stayed false false true true before = refl
+    stayed false false true false before = refl
+    stayed false false false true before = refl
+    stayed false false false false before = refl
+
+has_chosen : (stays : Bool) (row u : List Value)
+    → has_row (cond stays (row ∷ []) []) u ≡ cond stays (eq_by_cmp row_cmp u row || false) false
+has_chosen true row u = refl
+has_chosen false row u = refl
+
+pub sift_none : (w : Window) (negated : Bool) (columns : List ℕ) (kept : List (List Value)) → kept ≡ []
+    → Sifts w negated columns [] kept
+sift_none w negated columns kept none row holds answers = ap (λ rows. has_row rows row) none
+
+pub sift_more : (w : Window) (negated answer stays : Bool) (columns : List ℕ) (done kept new : List (List Value)) (row : List Value)
+    → Sifts w negated columns done kept → Answers w (valuation columns row) answer → stays ≡ turned negated answer
+    → new ≡ kept ++ cond stays (row ∷ []) []
+    → Sifts w negated columns (done ++ row ∷ []) new
+sift_more w negated answer stays columns done kept new row before told is same u holds answers =
+    ap (λ rows. has_row rows u) same
+    ∙ list_any-append (eq_by_cmp row_cmp u) kept (cond stays (row ∷ []) [])
+    ∙ ap (λ b. has_row kept u || b) (has_chosen stays row u)
+    ∙ added (has_row done u) (has_row kept u) (eq_by_cmp row_cmp u row) (turned negated holds) stays (before u holds answers)
+    (λ e.
+    is
+    ∙ ap (turned negated)
+    (answers answer (subst (λ r. Answers w (valuation columns r) answer) (sym (tells_apart row_exact u row e)) told)))
+    ∙ ap (λ b. b && turned negated holds) (sym (list_any-append (eq_by_cmp row_cmp u) done (row ∷ [])))

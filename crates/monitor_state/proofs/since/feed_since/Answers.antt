@@ -1,0 +1,17 @@
+use Rattle.monitor_state.proofs.OrderingLemmas.{on_ok_then}
+use Rattle.monitor_state.specs.Feeding.{SinceFeeds}
+use Rattle.monitor_state.proofs.since.feed_since.Goals as goal
+
+pub returns : goal.returns
+returns c =
+    on_ok_then c.push_rights.result _ (SinceFeeds c.args.state.now c.args.ts c.args.left c.args.right c.push_rights.new.state)
+    (λ rights.
+    record {
+      timed = c.push_time.new.self;
+      fed_left = c.push_lefts.new.state;
+      time = c.in_ok-push_time.ensures.pushed;
+      time_follows = c.in_ok-push_time.ensures.follows;
+      lefts = c.in_ok-push_lefts.ensures;
+      rights = rights;
+    })
+    c.push_rights.ensures

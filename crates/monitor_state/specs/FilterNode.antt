@@ -1,0 +1,22 @@
+-- When the state of a conjunction whose right side only filters stands for a log, in a region of rows.
+use Rattle.std.specs.Prelude.{◌≡◌, ◌+◌, true, length}
+use Rattle.mfotl_model.specs.Exact.{AllExact, View}
+use Rattle.monitorable.specs.CoreForms.{CoreForm, meaning, And}
+use Rattle.monitor_state.specs.Nodes.{filters, is_negated, left_operand}
+use Rattle.monitor_state.specs.Views.{reached}
+use Rattle.monitor_state.specs.WindowNode.{IsWindow, WindowStands, window_took_all}
+use Rattle.monitor_state.specs.declared.filter.FilterState.{FilterState}
+
+-- the state is one of a conjunction of the cores f and g, of which g only filters
+pub record IsFilter (f g : CoreForm) (s : FilterState) : Type 0 where
+  pub only : filters f g ≡ true
+  pub turns : s.negated ≡ is_negated g
+  pub asks : IsWindow (left_operand g) s.window
+
+-- The state stands for the log: it gave the tables of the settled positions, and keeps those of the left side that
+-- were not used, which are exact; the window stands where the conjunction does, and took all that it can.
+pub record FilterStands (view : View) (f g : CoreForm) (s : FilterState) : Type 0 where
+  pub pushed : reached view (And f g) + length s.tables ≡ reached view f
+  pub exact : AllExact view (meaning f) (reached view (And f g)) s.tables
+  pub behind : WindowStands view (reached view (And f g)) (left_operand g) s.window
+  pub all : window_took_all s.window ≡ true

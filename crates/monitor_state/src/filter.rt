@@ -1,0 +1,143 @@
+//! A conjunction whose right side only filters takes a time and its operands' tables.
+ghost use Rattle.std.specs.Prelude.{◌≡◌, ◌++◌, ◌∷◌, [], cond, IfOk, IsTrue, MatchOption, OnOk};
+ghost use Rattle.mfotl_model.specs.Tables.{TableOf};
+ghost use Rattle.relations.specs.Pushed.{turned};
+ghost use Rattle.relations.specs.Tables.{IsTable};
+ghost use Rattle.monitor_state.specs.FilterFeeding.{FilterPulled, FilterStep, FilterStops, FilterTakes, RowSifted, Sifts};
+ghost use Rattle.monitor_state.specs.WindowNode.{window_due, window_took_all};
+
+use crate::tables::Tables;
+use crate::window::{Window, feed_window, go_on, holds, is_due, settle};
+use mfotl_model::Row;
+use relations::Table;
+use std::alloc::{AllocError, Global};
+
+/// The state of a conjunction whose right side, a window or the NOT of one, only filters the rows of the
+/// left one: the left side's tables that were not used, and the window, which stays behind with them.
+#[derive(Drop)]
+pub struct FilterState {
+    pub tables: Tables,
+    pub window: Window,
+    pub negated: bool,
+}
+
+/// Pushes the operands' tables, and pulls all tables that are due then.
+pub fn take_filter(
+    alloc: Global,
+    state: &mut FilterState,
+    ts: u64,
+    tables: Tables,
+    left: Tables,
+    right: Tables,
+) -> Result<Tables, AllocError>
+    ensures { IfOk result (FilterTakes state.old ts tables left right state.new) }
+{
+    feed_window(&mut state.window, ts, left, right)?;
+    push_tables(&mut state.tables, tables)?;
+    pulled(alloc, state)
+}
+
+fn push_tables(kept: &mut Tables, mut tables: Tables) -> Result<(), AllocError>
+    ensures { OnOk result (kept.new ≡ kept.old ++ tables) }
+{
+    while let Some(table) = tables.take() {
+        kept.push(table)?;
+    }
+    Ok(())
+}
+
+fn pulled(alloc: Global, state: &mut FilterState) -> Result<Tables, AllocError>
+    ensures { IfOk result (λ tables. (last : FilterState) × FilterPulled state.old last tables × FilterStops last state.new) }
+{
+    let mut tables = Tables::new(alloc);
+    while let Some(table) = pull(alloc, state)? {
+        tables.push(table)?;
+    }
+    Ok(tables)
+}
+
+// The next table, `None` while it is not due.
+fn pull(alloc: Global, state: &mut FilterState) -> Result<Option<Table>, AllocError>
+    ensures { IfOk result (λ answer.
+        MatchOption answer (FilterStops state.old state.new) (FilterStep state.old state.new)) }
+{
+    settle(alloc, &mut state.window)?;
+    if !is_due(&state.window) {
+        return Ok(None);
+    }
+    let Some(table) = state.tables.take() else {
+        return Ok(None);
+    };
+    let kept = sifted(alloc, &state.window, state.negated, table)?;
+    go_on(alloc, &mut state.window)?;
+    Ok(Some(kept))
+}
+
+// The rows of which the window holds, or doesn't where it is negated. No row is copied.
+fn sifted(alloc: Global, window: &Window, negated: bool, table: Table) -> Result<Table, AllocError>
+    requires due { IsTrue (window_due window.now) }
+    requires all { IsTrue (window_took_all window.now) }
+    ensures over { IfOk result (λ kept. kept.columns ≡ table.columns) }
+    ensures sifts { IfOk result (λ kept. Sifts window.now negated table.columns table.rows kept.rows) }
+{
+    let columns = Vec::from_slice(alloc, table.columns())?;
+    let kept = kept_rows(
+        alloc,
+        window,
+        negated,
+        columns.as_slice(),
+        table.into_rows(),
+    )?;
+    Ok(Table::from_ascending(columns, kept))
+}
+
+fn kept_rows(
+    alloc: Global,
+    window: &Window,
+    negated: bool,
+    columns: &[u32],
+    rows: Vec<Row>,
+) -> Result<Vec<Row>, AllocError>
+    requires due { IsTrue (window_due window.now) }
+    requires all { IsTrue (window_took_all window.now) }
+    requires is_table { IsTable columns.now rows.items }
+    ensures is_table { IfOk result (λ kept. IsTable columns.now kept.items) }
+    ensures sifts { IfOk result (λ kept. Sifts window.now negated columns.now rows.items kept.items) }
+{
+    let mut kept = Vec::new(alloc);
+    for row in rows {
+        keep_held(alloc, window, negated, columns, row, &mut kept)?;
+    }
+    Ok(kept)
+}
+
+fn keep_held(
+    alloc: Global,
+    window: &Window,
+    negated: bool,
+    columns: &[u32],
+    row: Row,
+    kept: &mut Vec<Row>,
+) -> Result<(), AllocError>
+    requires due { IsTrue (window_due window.now) }
+    requires all { IsTrue (window_took_all window.now) }
+    ensures { OnOk result (RowSifted window.now negated columns.now row kept.old.items kept.new.items) }
+{
+    let answer = holds(alloc, window, columns, &row)?;
+    keep(kept, stays(negated, answer), row)
+}
+
+fn keep(kept: &mut Vec<Row>, stays: bool, row: Row) -> Result<(), AllocError>
+    ensures { OnOk result (kept.new.items ≡ kept.old.items ++ cond stays (row ∷ []) []) }
+{
+    if stays {
+        kept.push(row)?;
+    }
+    Ok(())
+}
+
+fn stays(negated: bool, holds: bool) -> bool
+    ensures { result ≡ turned negated holds }
+{
+    if negated { !holds } else { holds }
+}

@@ -1,0 +1,79 @@
+//! Windows, which are asked row by row.
+ghost use Rattle.std.specs.Prelude.{◌≡◌, IfOk, IsTrue, OnOk};
+ghost use Rattle.mfotl_model.specs.Tables.{valuation};
+ghost use Rattle.monitor_state.specs.FilterFeeding.{WindowFeeds, WindowGoes, WindowSettles};
+ghost use Rattle.monitor_state.specs.WindowNode.{Answers, window_due, window_took_all};
+
+use crate::since::feed_since;
+use crate::tables::Tables;
+use crate::until::feed_until;
+use eval_since::SinceState;
+use eval_until::UntilState;
+use mfotl_model::Row;
+use std::alloc::{AllocError, Global};
+
+/// A SINCE or an UNTIL that is asked row by row: no table of it is made.
+#[derive(Drop)]
+pub enum Window {
+    Since(SinceState),
+    Until(UntilState),
+}
+
+/// Takes a time and the operands' tables.
+pub fn feed_window(
+    window: &mut Window,
+    ts: u64,
+    left: Tables,
+    right: Tables,
+) -> Result<(), AllocError>
+    ensures { OnOk result (WindowFeeds window.old ts left right window.new) }
+{
+    match window {
+        Window::Since(state) => feed_since(state, ts, left, right),
+        Window::Until(state) => feed_until(state, ts, left, right),
+    }
+}
+
+/// Takes the positions that can be taken, as an answer asks.
+pub fn settle(alloc: Global, window: &mut Window) -> Result<(), AllocError>
+    ensures settles { OnOk result (WindowSettles window.old window.new) }
+    ensures all { OnOk result (IsTrue (window_took_all window.new)) }
+{
+    match window {
+        Window::Since(_) => Ok(()),
+        Window::Until(state) => state.take_all(alloc),
+    }
+}
+
+/// Whether the next position can be asked for and pulled.
+pub fn is_due(window: &Window) -> bool
+    ensures { result ≡ window_due window.now }
+{
+    match window {
+        Window::Since(state) => state.is_due(),
+        Window::Until(state) => state.is_due(),
+    }
+}
+
+/// Whether the window holds at the next position, of the valuation that a row gives to these columns.
+pub fn holds(alloc: Global, window: &Window, columns: &[u32], row: &Row) -> Result<bool, AllocError>
+    requires due { IsTrue (window_due window.now) }
+    requires all { IsTrue (window_took_all window.now) }
+    ensures { IfOk result (Answers window.now (valuation columns.now row.now)) }
+{
+    match window {
+        Window::Since(state) => state.holds(alloc, columns, row),
+        Window::Until(state) => state.holds(alloc, columns, row),
+    }
+}
+
+/// Goes on by one position.
+pub fn go_on(alloc: Global, window: &mut Window) -> Result<(), AllocError>
+    requires due { IsTrue (window_due window.old) }
+    ensures { OnOk result (WindowGoes window.old window.new) }
+{
+    match window {
+        Window::Since(state) => state.advance(alloc),
+        Window::Until(state) => state.advance(alloc),
+    }
+}
