@@ -1,0 +1,2 @@
+approve(report:int, by:string)
+publish(report:int)
