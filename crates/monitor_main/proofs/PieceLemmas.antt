@@ -1,12 +1,12 @@
 -- Piece after piece of a log.
-use Rattle.std.proofs.Common.{◌≡◌, ◌∙◌, ap, ap₂, subst, sym, refl, ℕ, ◌≤◌, arith, Bool, true, false, List, [], ◌∷◌}
-use Rattle.std.proofs.Common.{◌++◌, length, take, drop, Option, Some, None, append-nil, take-append-drop, IfSome}
+use Rattle.std.proofs.Common.{◌≡◌, ◌∙◌, ap, ap₂, subst, sym, refl, ℕ, ◌≤◌, Bool, true, false, List, [], ◌∷◌}
+use Rattle.std.proofs.Common.{◌++◌, length, take, Option, Some, None, append-nil, IfSome}
 use Rattle.std.proofs.KnownBytes.{Consumes-nil, Consumes-trans, Consumes-whole}
 use Rattle.std.specs.Io.KnownBytes.{IsAtEnd}
-use Rattle.std.specs.Prelude.{Result, Ok, Err, IfErr}
+use Rattle.std.specs.Prelude.{Ok, Err}
 use Rattle.mon_outside.specs.Causes.{Rose}
 use Rattle.mon_outside.specs.Inputs.{Consumes, Moves}
-use Rattle.mon_outside.specs.Sink.{Appends, AppendsFront}
+use Rattle.mon_outside.specs.Sink.{AppendsFront}
 use Rattle.mfotl_model.specs.Formulas.{Form}
 use Rattle.mfotl_model.specs.VerdictText.{verdicts}
 use Rattle.mfotl_model.specs.declared.event.TimePoint.{TimePoint}
@@ -24,17 +24,15 @@ use Rattle.monitor_state.specs.Stands.{StateOf, Stands}
 use Rattle.monitor_main.specs.Answer.{standard, text_on, violated_on}
 use Rattle.monitor_main.specs.CheckedPolicies.{IsCoreOf}
 use Rattle.monitor_main.specs.Decisions.{Effect, HasCauses}
-use Rattle.monitor_main.specs.LogRuns.{EndsClear, ForEachPolicy, IsOutputFault, StopsBytes, StopsLines, WritesLines}
+use Rattle.monitor_main.specs.LogRuns.{EndsClear, StopsBytes, StopsLines, WritesLines}
 use Rattle.monitor_main.specs.Pieces.{Feeds, FollowsLog, IsPieceFault, ReadsPiece, SoFar, TakesAll}
-use Rattle.monitor_main.specs.VerdictRows.{lines}
-use Rattle.monitor_main.specs.declared.refusal.InputFile.TheVariants as file
 use Rattle.monitor_main.specs.declared.refusal.Refusal.{Refusal}
 use Rattle.monitor_main.specs.declared.refusal.Refusal.TheVariants.{Log, Read, Write, Memory}
 use Rattle.monitor_main.proofs.LineLemmas.{no_lines}
 use Rattle.monitor_main.proofs.LoadLemmas.{rose_later}
 use Rattle.monitor_main.proofs.LogTimes.{read_never_falls}
 use Rattle.monitor_main.proofs.PointLemmas.{begins, first_text, front}
-use Rattle.monitor_main.proofs.SinkLemmas.{longer_front, no_front, whole_front}
+use Rattle.monitor_main.proofs.SinkLemmas.{longer_front, whole_front}
 
 take_front : (xs ys : List TimePoint) → take (length xs) (xs ++ ys) ≡ xs
 take_front [] [] = refl
@@ -193,7 +191,7 @@ module _ (core : CoreForm) (sig : List PredOf) where
       let before : reading sig standard c.bytes reader.is_ended ≡ shown sig standard c.bytes =
       ap (λ b. reading sig standard c.bytes b) untold in
       let points : take next.given (read (progress next bytes)).points
-          ≡ take reader.given (read (progress reader c.bytes)).points =
+      ≡ take reader.given (read (progress reader c.bytes)).points =
       ap₂ (λ n (r : Reading). take n r.points) given (read_is sig next bytes sig_is limits_is)
       ∙ front_same reader.given (shown sig standard c.bytes) (reading sig standard bytes next.is_ended)
       (front_stays sig standard c.bytes piece next.is_ended) (s.all ∙ ap (λ (r : Reading). length r.points) before)

@@ -22,10 +22,9 @@ use Rattle.log_reader.specs.declared.next.Next.TheVariants.{Point, More, End}
 use Rattle.monitorable.proofs.TextFinal.{text_final}
 use Rattle.monitorable.specs.CoreForms.{CoreForm}
 use Rattle.monitorable.specs.Laws.{open_log, whole_view}
-use Rattle.monitor_state.specs.Beginnings.{Begins}
 use Rattle.monitor_state.specs.MonitorView.{MonitorOf}
 use Rattle.monitor_state.specs.Stands.{StateOf, Stands}
-use Rattle.monitor_main.specs.Answer.{text_on, violated_on}
+use Rattle.monitor_main.specs.Answer.{text_on}
 use Rattle.monitor_main.specs.CheckedPolicies.{IsCoreOf, IsEvaluable}
 use Rattle.monitor_main.specs.LogRuns.{ForEachLog, ForEachPolicy, IsOutputFault, IsReady, StopsLines}
 use Rattle.monitor_main.specs.LogRuns.{TakesPoint, WritesLines}
@@ -35,7 +34,7 @@ use Rattle.monitor_main.specs.VerdictRows.{lines}
 use Rattle.monitor_main.specs.Verdicts.{news}
 use Rattle.monitor_main.specs.declared.refusal.Refusal.{Refusal}
 use Rattle.monitor_main.specs.declared.refusal.Refusal.TheVariants.{Memory, Write}
-use Rattle.monitor_main.proofs.LineLemmas.{lines_behind, lines_front, no_lines}
+use Rattle.monitor_main.proofs.LineLemmas.{lines_behind, lines_front}
 use Rattle.monitor_main.proofs.LoadLemmas.{rose_later}
 use Rattle.monitor_main.proofs.LogTimes.{read_never_falls}
 use Rattle.monitor_main.proofs.SinkLemmas.{longer_front, whole_front}

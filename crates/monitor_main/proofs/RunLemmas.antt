@@ -15,7 +15,6 @@ use Rattle.mfotl_lex.specs.Scans.{log_scan}
 use Rattle.mfotl_sig.specs.Preds.{PredOf}
 use Rattle.log_reader.specs.Readings.{NoFault, Ending, Reading, Fault, accepted, reading, run, shown}
 use Rattle.log_reader.specs.declared.fault.LogFault.{LogFault}
-use Rattle.log_reader.specs.declared.limits.Limits.{Limits}
 use Rattle.monitor_main.specs.declared.refusal.InputFile.{InputFile}
 use Rattle.monitor_main.specs.declared.refusal.InputFile.TheVariants as file
 use Rattle.monitor_main.specs.declared.refusal.Refusal.{Refusal}
@@ -27,7 +26,7 @@ use Rattle.monitor_main.specs.Answer.{standard, text_on, verdict_status, violate
 use Rattle.monitor_main.specs.CheckedPolicies.{IsCoreOf}
 use Rattle.monitor_main.specs.Decisions.{ComesTo, Effect, Ends, FailsInLog, Finishes, HasCauses, MonitorsLog, Refuses}
 use Rattle.log_reader.specs.Growth.{Keeps}
-use Rattle.monitor_main.specs.LogRuns.{EndsClear, IsReadOf, StopsBytes, StopsLines}
+use Rattle.monitor_main.specs.LogRuns.{EndsClear, IsReadOf, StopsBytes}
 use Rattle.log_reader.proofs.GrowthLemmas.{front_stays}
 use Rattle.monitor_main.specs.Pieces.{FollowsLog}
 use Rattle.monitor_main.proofs.LoadLemmas.{rose_later}
@@ -268,9 +267,12 @@ module _ (checked : CheckedPolicy) (log : Name) (core : CoreForm) (is : IsCoreOf
   log_unopened closed rose =
       log_monitored checked log _ same later (omega arith) asked core is [] false
       (told_all before.files _ (λ files. unopened_read (content files log) opened closed))
-      (Err (Read file.Log)) tt
-      (refl, refl, ap (λ (r : Reading). r.ending) (nothing_shown checked.sig),
-      rw (nothing_shown checked.sig) (appends_none old.written))
+      (Err (Read file.Log)) tt (
+        refl,
+        refl,
+        ap (λ (r : Reading). r.ending) (nothing_shown checked.sig),
+        rw (nothing_shown checked.sig) (appends_none old.written),
+      )
       (no_front old.written _) rose
 
   -- the open file was monitored

@@ -1,5 +1,4 @@
 use Rattle.std.proofs.Common.{◌≡◌, ◌∙◌, ap, arith, sym, subst, refl, []}
-use Rattle.mon_outside.specs.Views.{inputs_view, sink_view}
 use Rattle.log_reader.specs.Progress.{Progress}
 use Rattle.log_reader.specs.Readers.{Reader}
 use Rattle.monitorable.specs.Laws.{whole_view}

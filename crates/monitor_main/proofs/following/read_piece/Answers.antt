@@ -1,5 +1,5 @@
-use Rattle.std.proofs.Common.{◌≡◌, take, [], rules}
-use Rattle.monitor_main.proofs.PieceLemmas.{fed, moved, moved_none, told_end}
+use Rattle.std.proofs.Common.{take}
+use Rattle.monitor_main.proofs.PieceLemmas.{fed, moved}
 use Rattle.monitor_main.proofs.following.read_piece.Goals as goal
 
 pub returns-in-Ok-feed-clause-reads : goal.returns-in-Ok-feed-clause-reads

@@ -1,5 +1,4 @@
 use Rattle.std.proofs.Common.{ap, subst, sym}
-use Rattle.mon_outside.specs.Views.{inputs_view, sink_view}
 use Rattle.log_reader.specs.Progress.{Progress}
 use Rattle.monitor_state.specs.Beginnings.{Begins}
 use Rattle.monitor_state.specs.MonitorView.{monitor_of}
