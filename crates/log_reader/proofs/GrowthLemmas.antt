@@ -3,6 +3,7 @@ use Rattle.std.proofs.Common.{◌≡◌, ◌∙◌, ap, ap₂, sym, refl, arith,
 use Rattle.std.proofs.Common.{not, ◌&&◌, nat_lt, List, [], ◌∷◌, ◌++◌, length, take, drop, Option, Some, None}
 use Rattle.std.proofs.Common.{append_assoc, append-nil}
 use Rattle.std.specs.Prelude.{Result, Ok, Err}
+use Rattle.std.proofs.Math.Bool.{and-false}
 use Rattle.std.proofs.lemmas.Bool.{le-ltb, ltb-false, ltb-true, lt-ltb}
 use Rattle.mfotl_lex.specs.Growing.{grown, joined, joined_at, stopped as stopped_at}
 use Rattle.mfotl_lex.specs.Lexemes.{Lexeme, Tokens, tokens}
@@ -14,7 +15,7 @@ use Rattle.mfotl_lex.proofs.GrowingLemmas.{more_bytes}
 use Rattle.mfotl_model.specs.declared.event.TimePoint.{TimePoint}
 use Rattle.mfotl_sig.specs.Preds.{PredOf}
 use Rattle.log_reader.specs.Partials.{Partial, blank}
-use Rattle.log_reader.specs.Readings.{NoFault, Reading, accepted, behind, behind_tokens, is_long}
+use Rattle.log_reader.specs.Readings.{NoFault, Reading, behind, behind_tokens, is_long}
 use Rattle.log_reader.specs.Readings.{nothing_left, place_at, reading, run, shown, went_on}
 use Rattle.log_reader.specs.Growth.{Keeps, ShownStays}
 use Rattle.log_reader.specs.Steps.{completed, step}
@@ -96,52 +97,59 @@ module _ (sig : List PredOf) (limits : Limits) where
       (run_keeps further blank list)
 
   -- the front is longer than the limit: nothing behind it counts
-  pub long_same : (seen left : List ℕ) → limits.bytes < length seen
-      → accepted sig limits (seen ++ left) ≡ shown sig limits seen
+  pub long_same : (seen left : List ℕ) (ended : Bool) → limits.bytes < length seen
+      → reading sig limits (seen ++ left) ended ≡ shown sig limits seen
   unfolding reading
-  long_same seen left long =
+  long_same seen left ended long =
       let whole_long : is_long limits (seen ++ left) ≡ true =
       lt-ltb limits.bytes (length (seen ++ left)) (rw length-append (omega arith)) in
       let front_long : is_long limits seen ≡ true = lt-ltb limits.bytes (length seen) long in
       let looked : take limits.bytes (seen ++ left) ≡ take limits.bytes seen =
       take-append-le limits.bytes seen left (omega arith) in
-      let place_is : place_at limits (seen ++ left) true 0 ≡ place_at limits seen false 0 =
-      ap₂ (λ bytes b. record { mode = Log; at = 0; rest = drop 0 bytes; ended = true && not b }) looked whole_long in
-      let last_is : (q : Partial) → nothing_left limits (seen ++ left) true q ≡ nothing_left limits seen false q =
+      let untold : (ended && not (is_long limits (seen ++ left))) ≡ false =
+      ap (λ b. ended && not b) whole_long ∙ and-false ended in
+      let place_is : place_at limits (seen ++ left) ended 0 ≡ place_at limits seen false 0 =
+      ap₂ (λ bytes b. record { mode = Log; at = 0; rest = drop 0 bytes; ended = b }) looked untold in
+      let last_is : (q : Partial) → nothing_left limits (seen ++ left) ended q ≡ nothing_left limits seen false q =
       λ q. rw (whole_long, front_long) refl in
-      ap (run_tokens (nothing_left limits (seen ++ left) true)) (ap tokens place_is)
+      ap (run_tokens (nothing_left limits (seen ++ left) ended)) (ap tokens place_is)
       ∙ run_alike _ _ (behind_alike (tokens (place_at limits seen false 0)).fault _ _ last_is) blank _
 
   -- the front is within the limit
-  short_keeps : (seen left : List ℕ) → length seen ≤ limits.bytes
-      → Keeps (shown sig limits seen) (accepted sig limits (seen ++ left))
+  short_keeps : (seen left : List ℕ) (ended : Bool) → length seen ≤ limits.bytes
+      → Keeps (shown sig limits seen) (reading sig limits (seen ++ left) ended)
   unfolding reading
-  short_keeps seen left short =
+  short_keeps seen left ended short =
       let n = limits.bytes - length seen in
       let count : limits.bytes ≡ length seen + n = omega arith in
       let more = take n left in
-      let e = not (is_long limits (seen ++ left)) in
+      let e = ended && not (is_long limits (seen ++ left)) in
       let p = place_at limits seen false 0 in
       let front_short : is_long limits seen ≡ false = le-ltb limits.bytes (length seen) short in
       let front_is : take limits.bytes seen ≡ seen = take_all limits.bytes seen short in
       let looked : take limits.bytes (seen ++ left) ≡ take limits.bytes seen ++ more =
       ap (λ k. take k (seen ++ left)) count ∙ take-append-add seen left n ∙ ap (λ xs. xs ++ more) (sym front_is) in
-      let place_is : place_at limits (seen ++ left) true 0 ≡ grown p more e =
-      ap (λ bytes. record { mode = Log; at = 0; rest = drop 0 bytes; ended = true && e }) looked in
-      let tokens_are : tokens (place_at limits (seen ++ left) true 0) ≡ joined (tokens p) (tokens (grown
+      let place_is : place_at limits (seen ++ left) ended 0 ≡ grown p more e =
+      ap (λ bytes. record { mode = Log; at = 0; rest = drop 0 bytes; ended = e }) looked in
+      let tokens_are : tokens (place_at limits (seen ++ left) ended 0) ≡ joined (tokens p) (tokens (grown
       (stopped_at p) more e)) =
       ap tokens place_is ∙ (more_bytes p more e refl).1 in
       let none : (q : Partial) → nothing_left limits seen false q ≡ nothing = λ q. rw front_short refl in
-      let last = nothing_left limits (seen ++ left) true in
+      let last = nothing_left limits (seen ++ left) ended in
       rw (ap (run_tokens last) tokens_are)
       (joined_keeps (nothing_left limits seen false) last none (tokens p).fault (tokens p).list (tokens (grown
       (stopped_at p) more e)))
 
+  -- what a front shows stays, whatever comes behind it, and whether or not the end is told then
+  pub front_stays : (seen left : List ℕ) (ended : Bool)
+      → Keeps (shown sig limits seen) (reading sig limits (seen ++ left) ended)
+  front_stays seen left ended = go (nat_lt limits.bytes (length seen)) refl
+    where
+      go : (b : Bool) → nat_lt limits.bytes (length seen) ≡ b
+          → Keeps (shown sig limits seen) (reading sig limits (seen ++ left) ended)
+      go true e = same _ _ (long_same seen left ended (ltb-true _ _ e))
+      go false e = short_keeps seen left ended (ltb-false _ _ e)
+
 -- what the front shows stays
 pub shown_stays : ShownStays
-shown_stays sig limits seen left = go (nat_lt limits.bytes (length seen)) refl
-  where
-    go : (b : Bool) → nat_lt limits.bytes (length seen) ≡ b → Keeps (shown sig limits seen) (accepted sig limits
-        (seen ++ left))
-    go true e = same _ _ (long_same sig limits seen left (ltb-true _ _ e))
-    go false e = short_keeps sig limits seen left (ltb-false _ _ e)
+shown_stays sig limits seen left = front_stays sig limits seen left true

@@ -1,6 +1,6 @@
 -- An integer that is read straight from the bytes is what the token there stands for.
 use Rattle.std.proofs.Common.{◌≡◌, ℕ, suc, ◌+◌, ◌-◌, ◌*◌, ◌≤◌, ◌<◌, Bool, true, false, List, [], ◌∷◌, ◌++◌, length}
-use Rattle.std.proofs.Common.{get_or, drop-cons, take, drop, zero, Result, Option, Some, None, Ok, ℤ, pos, nat_lt, refl}
+use Rattle.std.proofs.Common.{get_or, drop-cons, take, drop, zero, Result, Option, Some, None, Ok, ℤ, nat_lt, refl}
 use Rattle.std.proofs.Common.{sym, ap, subst, ◌∙◌, inl, inr, arith}
 use Rattle.std.specs.Prelude.{◌==◌, ◌||◌, nat_le, unwrap_or}
 use Rattle.std.specs.Char.{is_ascii_digit}

@@ -4,10 +4,10 @@ pub mod VerdictLemmas
 pub mod ToldLemmas
 pub mod LoadLemmas
 pub mod SinkLemmas
-pub mod LogLemmas
 pub mod TableLemmas
 pub mod LineLemmas
 pub mod PointLemmas
+pub mod PieceLemmas
 pub mod RunLemmas
 pub mod DecideLemmas
 pub mod ReportLemmas

@@ -1,6 +1,6 @@
 -- The lines of the time-points that a reader gives.
 use Rattle.std.proofs.Common.{◌≡◌, ◌∙◌, ap, subst, sym, refl, ℕ, zero, suc, ◌+◌, ◌≤◌, Bool}
-use Rattle.std.proofs.Common.{true, false, ◌||◌, List, [], ◌∷◌, ◌++◌, take, drop, Option}
+use Rattle.std.proofs.Common.{true, false, ◌||◌, List, [], ◌∷◌, ◌++◌, length, take, drop, Option}
 use Rattle.std.proofs.Common.{append_assoc, append-nil, add-one}
 use Rattle.std.specs.Prelude.{Result, Ok, Err}
 use Rattle.std.proofs.lemmas.List.{map-append, take-append-drop}
@@ -22,19 +22,19 @@ use Rattle.log_reader.specs.declared.next.Next.TheVariants.{Point, More, End}
 use Rattle.monitorable.proofs.TextFinal.{text_final}
 use Rattle.monitorable.specs.CoreForms.{CoreForm}
 use Rattle.monitorable.specs.Laws.{open_log, whole_view}
-use Rattle.monitor_state.specs.Beginnings.{Begins}
 use Rattle.monitor_state.specs.MonitorView.{MonitorOf}
 use Rattle.monitor_state.specs.Stands.{StateOf, Stands}
-use Rattle.monitor_main.specs.Answer.{text_on, violated_on}
+use Rattle.monitor_main.specs.Answer.{text_on}
 use Rattle.monitor_main.specs.CheckedPolicies.{IsCoreOf, IsEvaluable}
-use Rattle.monitor_main.specs.LogRuns.{EndsClear, ForEachLog, ForEachPolicy, IsOutputFault, IsReady, StopsLines}
+use Rattle.monitor_main.specs.LogRuns.{ForEachLog, ForEachPolicy, IsOutputFault, IsReady, StopsLines}
 use Rattle.monitor_main.specs.LogRuns.{TakesPoint, WritesLines}
+use Rattle.monitor_main.specs.Pieces.{SoFar, TakesAll}
 use Rattle.monitor_main.specs.Refusals.{log_refusal}
 use Rattle.monitor_main.specs.VerdictRows.{lines}
 use Rattle.monitor_main.specs.Verdicts.{news}
 use Rattle.monitor_main.specs.declared.refusal.Refusal.{Refusal}
 use Rattle.monitor_main.specs.declared.refusal.Refusal.TheVariants.{Memory, Write}
-use Rattle.monitor_main.proofs.LineLemmas.{lines_behind, lines_front, no_lines}
+use Rattle.monitor_main.proofs.LineLemmas.{lines_behind, lines_front}
 use Rattle.monitor_main.proofs.LoadLemmas.{rose_later}
 use Rattle.monitor_main.proofs.LogTimes.{read_never_falls}
 use Rattle.monitor_main.proofs.SinkLemmas.{longer_front, whole_front}
@@ -91,7 +91,7 @@ front_rises : (xs ys : List TimePoint) → NeverFalls (times (xs ++ ys)) → Nev
 front_rises xs ys rising =
     front_never_falls (times xs) (times ys) (subst NeverFalls (map-append (λ p. p.ts) xs ys) rising)
 
-points_rise : (start : Progress) → NeverFalls (times (read start).points)
+pub points_rise : (start : Progress) → NeverFalls (times (read start).points)
 points_rise start = read_never_falls start.sig start.limits start.bytes start.is_ended
 
 -- the text on what was read begins with that on its first time-points
@@ -129,6 +129,14 @@ module _ (monitor : MonitorOf) (core : CoreForm) (same : monitor.core ≡ core) 
   pub at_log : (P : CoreForm → List TimePoint → Type 0) → ForEachLog monitor point (P monitor.core) → P core log
   at_log P each = subst (λ g. P g log) same (each log rising own_stands)
 
+-- one time-point more was given
+pub one_more_given : (first old new : Reader) → old ≡ record first { given = old.given; kept = old.kept }
+    → new ≡ record old { given = old.given + 1; kept = new.kept }
+    → new ≡ record first { given = new.given; kept = new.kept }
+one_more_given first old new before is =
+    is ∙ ap (λ (r : Reader). record r { given = old.given + 1; kept = new.kept }) before
+    ∙ ap (λ n. record first { given = n; kept = new.kept }) (sym (ap (λ (r : Reader). r.given) is))
+
 -- the output failed on a line
 pub output_stops : (policy : Form) (r : Reading) (old new : Option (List ℕ)) (before mid now : ℕ) (refusal : Refusal)
     → before ≤ mid → IsOutputFault refusal mid now → StopsLines policy r old new before now refusal
@@ -139,7 +147,7 @@ output_stops policy r old new before mid now other later h = absurd h
 module _ (core : CoreForm) where
   -- So many time-points were given. The state stands for them, and the lines of the positions that are settled
   -- in them were written.
-  pub record SoFar (start : Progress) (reader : Reader) (number : ℕ) (state : StateOf) (old new : Option (List ℕ))
+  pub record Takes (start : Progress) (reader : Reader) (number : ℕ) (state : StateOf) (old new : Option (List ℕ))
       (violated : Bool) : Type 0 where
     pub reads : Reads reader start.bytes
     pub reader_is : progress reader start.bytes ≡ record start { given = number }
@@ -147,18 +155,19 @@ module _ (core : CoreForm) where
     pub lines_are : ForEachPolicy core (λ policy.
         WritesLines (verdicts (open_log (take number (read start).points)) policy) old new violated)
 
-  -- nothing was given
-  pub begins : (reader : Reader) (bytes : List ℕ) (state : StateOf) (old : Option (List ℕ)) → reader.given ≡ 0
-      → Reads reader bytes → Begins core state → SoFar (progress reader bytes) reader 0 state old old false
-  begins reader bytes state old first reads start = record {
+  -- as many as were given before
+  pub begins : (reader : Reader) (bytes : List ℕ) (state : StateOf) (old now : Option (List ℕ)) (violated : Bool)
+      → Reads reader bytes → SoFar core (progress reader bytes) state old now violated
+      → Takes (progress reader bytes) reader reader.given state old now violated
+  begins reader bytes state old now violated reads so_far = record {
     reads = reads;
-    reader_is = ap (λ n. record (progress reader bytes) { given = n }) first;
-    stands = start (whole_view [] core) refl;
-    lines_are = λ policy is. no_lines old;
+    reader_is = refl;
+    stands = so_far.stands;
+    lines_are = so_far.lines_are;
   }
 
   module _ (start : Progress) (reader : Reader) (number : ℕ) (state : StateOf) (old mid : Option (List ℕ))
-      (violated : Bool) (so_far : SoFar start reader number state old mid violated) where
+      (violated : Bool) (so_far : Takes start reader number state old mid violated) where
     due_is : (answer : Result Next LogFault) → due (progress reader start.bytes) ≡ answer
         → due (record start { given = number }) ≡ answer
     due_is answer e = subst (λ (p : Progress). due p ≡ answer) so_far.reader_is e
@@ -204,7 +213,7 @@ module _ (core : CoreForm) where
       pub goes_on : (next : Reader) → next ≡ record reader { given = reader.given + 1; kept = next.kept }
           → Reads next start.bytes → (after : StateOf) (new : Option (List ℕ)) (has_row : Bool)
           → TakesPoint core (take number (read start).points) point after mid new has_row
-          → SoFar start next (number + 1) after old new (violated || has_row)
+          → Takes start next (number + 1) after old new (violated || has_row)
       goes_on next next_is reads after new has_row taken =
           let ps : List TimePoint = (read start).points in
           record {
@@ -227,21 +236,34 @@ module _ (core : CoreForm) where
         subst (λ ps. WritesLines (verdicts (open_log ps) policy) old mid violated)
         (take_none_left number (read start).points g.none) (so_far.lines_are policy is)
 
-    ends_clear : GivesEnding (drop number (read start).points) (read start).ending NoFault
-        → ForEachPolicy core (λ policy. EndsClear policy (read start) old mid violated)
-    unfolding text_on violated_on
-    ends_clear g policy is =
-        let all = all_written NoFault g policy is in
-        record { clear = g.ending_is; written = all.written; some = all.some }
+    ends_clear : (next : Reader) → next ≡ record reader { kept = next.kept } → Reads next start.bytes
+        → state.taken ≡ reader.given → GivesEnding (drop number (read start).points) (read start).ending NoFault
+        → TakesAll core next start.bytes state old mid violated
+    ends_clear next next_is reads counted g =
+        let is : progress next start.bytes ≡ record start { given = number } =
+        ap (λ (r : Reader). progress r start.bytes) next_is ∙ so_far.reader_is in
+        let count : number ≡ length (read start).points =
+        sym (ap (λ (p : Progress). p.given) so_far.reader_is) ∙ sym counted ∙ so_far.stands.taken
+        ∙ ap (λ (ps : List TimePoint). length ps) (take_none_left number (read start).points g.none) in
+        record {
+          reads = reads;
+          so_far = subst (λ (p : Progress). SoFar core p state old mid violated) (sym is)
+              (record { stands = so_far.stands; lines_are = so_far.lines_are });
+          all = ap (λ (p : Progress). p.given) is ∙ count
+              ∙ ap (λ (p : Progress). length (read p).points) (sym is);
+          clear = ap (λ (p : Progress). (read p).ending) is ∙ g.ending_is;
+        }
 
-    pub ends_more : due (progress reader start.bytes) ≡ Ok More
-        → ForEachPolicy core (λ policy. EndsClear policy (read start) old mid violated)
-    ends_more e = ends_clear
+    pub ends_more : (next : Reader) → next ≡ record reader { kept = next.kept } → Reads next start.bytes
+        → state.taken ≡ reader.given → due (progress reader start.bytes) ≡ Ok More
+        → TakesAll core next start.bytes state old mid violated
+    ends_more next next_is reads counted e = ends_clear next next_is reads counted
         (gives_more start.is_ended (drop number (read start).points) (read start).ending (due_is (Ok More) e))
 
-    pub ends_end : due (progress reader start.bytes) ≡ Ok End
-        → ForEachPolicy core (λ policy. EndsClear policy (read start) old mid violated)
-    ends_end e = ends_clear
+    pub ends_end : (next : Reader) → next ≡ record reader { kept = next.kept } → Reads next start.bytes
+        → state.taken ≡ reader.given → due (progress reader start.bytes) ≡ Ok End
+        → TakesAll core next start.bytes state old mid violated
+    ends_end next next_is reads counted e = ends_clear next next_is reads counted
         (gives_end start.is_ended (drop number (read start).points) (read start).ending (due_is (Ok End) e))
 
     stops : (fault : LogFault) → due (progress reader start.bytes) ≡ Err fault

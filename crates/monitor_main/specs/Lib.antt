@@ -17,4 +17,5 @@ pub mod CheckedPolicies
 pub mod Loading
 pub mod LogRuns
 pub mod Decisions
+pub mod Pieces
 pub mod Outcomes

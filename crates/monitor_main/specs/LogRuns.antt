@@ -1,5 +1,5 @@
 -- How the monitoring of a log may end.
-use Rattle.std.specs.Prelude.{◌≡◌, ◌⊎◌, ◌<◌, ◌++◌, ℕ, Bool, true, false, not, List, [], ◌∷◌, length}
+use Rattle.std.specs.Prelude.{◌≡◌, ◌++◌, ℕ, Bool, true, false, not, List, [], ◌∷◌}
 use Rattle.std.specs.Prelude.{Option, Some}
 use Rattle.mon_outside.specs.Causes.{Rose}
 use Rattle.mon_outside.specs.Sink.{Appends, AppendsFront}
@@ -15,7 +15,6 @@ use Rattle.monitorable.specs.Laws.{whole_view}
 use Rattle.monitor_state.specs.MonitorView.{MonitorOf}
 use Rattle.monitor_state.specs.Stands.{StateOf, Stands}
 use Rattle.relations.specs.Tables.{IsTable}
-use Rattle.log_reader.specs.Readers.{Reader, Reads}
 use Rattle.log_reader.specs.Readings.{Reading, NoFault, Fault}
 use Rattle.monitor_main.specs.declared.refusal.InputFile.TheVariants as file
 use Rattle.monitor_main.specs.declared.refusal.Refusal.{Refusal}
@@ -25,13 +24,12 @@ use Rattle.monitor_main.specs.CheckedPolicies.{IsCoreOf, IsEvaluable}
 use Rattle.monitor_main.specs.VerdictRows.{is_empty, lines, some_rows}
 use Rattle.monitor_main.specs.Verdicts.{news, verdicts_of}
 
--- The bytes that were given of a log: all, or more than the limit, unless a call failed. What is left of the
--- log is the rest of the open file, and nothing was given where it could not be opened.
-pub record IsGathered (limit : ℕ) (all : List ℕ) (after : InputsView) (bytes : List ℕ) (failed : Bool)
-    : Type 0 where
+-- The bytes that were read of a log, and whether they are known to be all. What is left of the log is the rest of
+-- the open file, and nothing was read where it could not be opened.
+pub record IsReadOf (all : List ℕ) (after : InputsView) (bytes : List ℕ) (ended : Bool) : Type 0 where
   pub left : List ℕ
   pub all_is : all ≡ bytes ++ left
-  pub whole : failed ≡ false → (left ≡ []) ⊎ (limit < length bytes)
+  pub whole : ended ≡ true → left ≡ []
   pub opened : after.is_open ≡ true → after.rest ≡ Some left
   pub unopened : after.is_open ≡ false → bytes ≡ []
 
@@ -97,11 +95,6 @@ pub record TakesPoint (core : CoreForm) (log : List TimePoint) (point : TimePoin
 
 -- ---- all of them
 
--- some bytes were fed
-pub record IsFed (reader : Reader) : Type 0 where
-  pub bytes : List ℕ
-  pub reads : Reads reader bytes
-
 -- all lines were written, and no fault stands behind them
 pub record EndsClear (policy : Form) (r : Reading) (old new : Option (List ℕ)) (violated : Bool) : Type 0 where
   pub clear : r.ending ≡ NoFault
@@ -114,8 +107,8 @@ StopsLines policy r old new before now (Log fault) =
     (r.ending ≡ Fault fault) × Appends old new (text_on policy r)
 StopsLines policy r old new before now refusal = IsOutputFault refusal before now
 
--- the same where the bytes may be only the front of the log
+-- the same where the bytes may be only the front of the log, and no more could be read
 abbrev pub StopsBytes : Bool → Form → Reading → Option (List ℕ) → Option (List ℕ) → ℕ → ℕ → Refusal → Type 0
-StopsBytes failed policy r old new before now (Read name) =
-    (name ≡ file.Log) × (failed ≡ true) × (r.ending ≡ NoFault) × Appends old new (text_on policy r)
-StopsBytes failed policy r old new before now refusal = StopsLines policy r old new before now refusal
+StopsBytes ended policy r old new before now (Read name) =
+    (name ≡ file.Log) × (ended ≡ false) × (r.ending ≡ NoFault) × Appends old new (text_on policy r)
+StopsBytes ended policy r old new before now refusal = StopsLines policy r old new before now refusal

@@ -5,6 +5,7 @@
 mod check;
 mod checked_policy;
 mod fault_lines;
+mod following;
 pub mod laws;
 mod limits;
 mod log;
