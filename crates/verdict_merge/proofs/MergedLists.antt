@@ -37,7 +37,7 @@ module _ {X Z : Type 0} (gives : Vec X Z → IntoIter X Z → Type 0)
     all_given =
         let items =
         items_from_whole_run (YieldsList-from_vec lists same (it.rest.ok.0
-            ∙ ap length same)) merges.0 merges.1 merges.2 in
+        ∙ ap length same)) merges.0 merges.1 merges.2 in
         merges.3 (map (λ l. l.items) lists)
         (subst (λ us. SourcesGive gives into_iter_steps us (map (λ l. l.items) lists))
         (sym (sym (map_same merges.0.items) ∙ items)) (sources lists))
