@@ -3,6 +3,7 @@
 
 mod cell;
 mod cells;
+mod driver;
 mod item;
 pub mod laws;
 mod machine;
@@ -11,8 +12,10 @@ mod piece;
 mod queue;
 mod router;
 mod routes;
+mod seed;
 mod settled;
 mod stage;
+mod turns;
 mod worker;
 
 pub use cells::{Applied, Step};
@@ -20,4 +23,6 @@ pub use item::{Entry, Item, Out};
 pub use phase::Worker;
 pub use piece::Piece;
 pub use routes::Router;
+pub use seed::Seed;
 pub use stage::Machine;
+pub use turns::{Driver, Turn};
