@@ -1,24 +1,27 @@
 -- Main's view of the cells is the world's.
-use Rattle.std.proofs.Common.{◌≡◌, ◌≢◌, ℕ, zero, suc, ◌+◌, ◌≤◌, ◌<◌, ◌==◌, List, [], ◌∷◌, ◌++◌, length, take, drop, set, sym}
-use Rattle.std.proofs.Common.{refl, ap, ◌∙◌, subst, append-nil, arith, take-add, slice_set}
-use Rattle.std.specs.List.{AllByRecursion}
+use Rattle.std.proofs.Common.{◌≡◌, ◌≢◌, ℕ, zero, suc, ◌+◌, ◌≤◌, ◌<◌, List, [], ◌∷◌, ◌++◌, length, take, drop, set, sym}
+use Rattle.std.proofs.Common.{refl, ap, ◌∙◌, subst, append-nil, arith, eq-eqb, take-add, slice_set, true, Option, Some, None, IfSome}
+use Rattle.mfotl_model.specs.declared.event.TimePoint.{TimePoint}
+use Rattle.verdict_merge.specs.declared.rows.Verdict.{Verdict}
 use mathlib.Core.Option.{some}
 use lib.ListN.{get_elem?}
 use native.Mathlib.Decide.{ℕ_discrete}
-use Rattle.turn_hub.specs.Answers.{MayHand, swapped_line}
+use Rattle.turn_hub.specs.Answers.{MayHand}
 use Rattle.turn_hub.specs.Ends.{main_view}
 use Rattle.rescale_core.proofs.CellLemmas.{line_only, only_slices}
 use Rattle.rescale_core.proofs.Pieces.{answers_cut}
 use Rattle.rescale_core.proofs.Soundness.{has_of}
-use Rattle.rescale_core.specs.Lines.{Due, first_spot}
+use Rattle.rescale_core.specs.Lines.{first_spot}
 use Rattle.rescale_core.specs.Moving.{CellLine, IsDriverOf, IsLineOf, lines_of}
-use Rattle.rescale_core.specs.Routing.{ArePoints}
+use Rattle.rescale_core.specs.Routing.{ArePoints, HasEnded, IsRouterOf}
 use Rattle.rescale_core.specs.Seeds.{SeedOf}
 use Rattle.rescale_core.specs.Soundly.{IsSound}
 use Rattle.rescale_core.specs.Stages.{Answers}
-use Rattle.rescale_core.specs.Working.{IsSlice, May, Told}
-use Rattle.rescale_core.specs.Works.{MayBy, ToldBy, seen}
-use Rattle.rescale_core.specs.Worlds.{World, Seat, line_in}
+use Rattle.rescale_core.specs.Working.{May, Told}
+use Rattle.rescale_core.specs.Works.{MayBy, ToldBy}
+use Rattle.rescale_core.specs.Worlds.{World, Allowed, Seat, after, line_in}
+use Rattle.rescale_core.specs.Worlds.Move.{Read, Emit}
+use Rattle.rescale_core.specs.declared.item.Entry.TheVariants.{Point}
 use Rattle.rescale_core.specs.declared.item.Item.{Item}
 use Rattle.rescale_core.specs.declared.item.Out.{Out}
 use Rattle.rescale_core.specs.declared.turns.Driver.{Driver}
@@ -130,3 +133,46 @@ may_nothing d k items e near w is =
           (sym (ap (λ z. l.0.handed ++ z) e ∙ append-nil l.0.handed ∙ il.handed))
           (may_fed w k is.router.sound is.router.unchanged)),
     )
+
+-- ---- reading, emitting and the end
+
+pub driver_read : (d e : Driver) (w : World) (p : TimePoint) → IsDriverOf d w → e.main ≡ d.main
+    → IsRouterOf e.router (after w (Read (Point p))) → IsDriverOf e (after w (Read (Point p)))
+driver_read d e w p is same router =
+    let m : lines_of e ≡ lines_of d = ap (λ z. (main_view z).lines) same in
+    record {
+      router = router;
+      lines = λ k l at.
+          line_kept w (after w (Read (Point p))) k l refl refl refl
+          (is.lines k l (ap (λ z. get_elem? z k) (sym m) ∙ at));
+      beyond = λ k high. is.beyond k (subst (λ (z : List CellLine). length z ≤ k) m high);
+    }
+
+driver_emitted : (d e : Driver) (w : World) (v : Verdict) → IsDriverOf d w → e.main ≡ d.main
+    → IsRouterOf e.router (after w (Emit v)) → IsDriverOf e (after w (Emit v))
+driver_emitted d e w v is same router =
+    let m : lines_of e ≡ lines_of d = ap (λ z. (main_view z).lines) same in
+    record {
+      router = router;
+      lines = λ k l at.
+          line_kept w (after w (Emit v)) k l refl refl refl (is.lines k l (ap (λ z. get_elem? z k) (sym m) ∙ at));
+      beyond = λ k high. is.beyond k (subst (λ (z : List CellLine). length z ≤ k) m high);
+    }
+
+pub driver_emits : (d e : Driver) (o : Option Verdict) → e.main ≡ d.main
+    → IfSome o (λ v. (w : World) → IsRouterOf d.router w
+    → Allowed w (Emit v) × IsRouterOf e.router (after w (Emit v)))
+    → IfSome o (λ v. (w : World) → IsDriverOf d w → Allowed w (Emit v) × IsDriverOf e (after w (Emit v)))
+driver_emits d e None m h = tt
+driver_emits d e (Some v) m h = λ w is.
+    let r = h w is.router in
+    (r.0, driver_emitted d e w v is m r.1)
+
+-- where all was collected, main has the turn
+pub line_mine : (w : World) (k : ℕ) (l : CellLine) → IsLineOf w k l → HasEnded w → l.mine ≡ true
+line_mine w k l il end =
+    let back = end.all_back k in
+    let last = il.last in
+    let taken = il.taken in
+    let none : l.last ≡ 0 = omega arith in
+    il.mine ∙ eq-eqb l.last 0 none

@@ -2,7 +2,6 @@
 use Rattle.std.proofs.Common.{◌≡◌, ◌≢◌, ℕ, zero, suc, ◌+◌, ◌<◌, ◌≤◌, Bool, true, false, cond, nat_eq, List, [], ◌∷◌, ◌++◌}
 use Rattle.std.proofs.Common.{length, map, take, drop, get_or, replicate, sym, refl, ap, ◌∙◌, subst, append_assoc}
 use Rattle.std.proofs.Common.{append-nil, arith, eq-eqb, ne_eqb, eqb-true, take-add, suc-add}
-use mathlib.Core.Option.{some}
 use lib.ListN.{get_elem?}
 use Rattle.mfotl_model.specs.Strategies.{Strategy}
 use Rattle.rescale_core.proofs.GatherLemmas.{gather_kept}
@@ -10,7 +9,7 @@ use Rattle.rescale_core.proofs.Leading.{answers_more}
 use Rattle.rescale_core.proofs.Soundness.{step_sound}
 use Rattle.rescale_core.proofs.WorldLemmas.{supplies_length}
 use Rattle.rescale_core.specs.Lines.{Spot, Due, first_spot, line, spot_after}
-use Rattle.rescale_core.specs.Moving.{CellLine, IsDriverOf, Kind, Moves, Reaches, lines_of}
+use Rattle.rescale_core.specs.Moving.{CellLine, Kind, Moves, Reaches, lines_of}
 use Rattle.rescale_core.specs.Moving.Kind.{Takes}
 use Rattle.rescale_core.specs.Routing.{ArePoints, IsRouterOf}
 use Rattle.rescale_core.specs.Soundly.{IsSound}

@@ -9,7 +9,7 @@ use Rattle.turn_hub.specs.Ends.{main_view}
 use Rattle.rescale_core.proofs.DriverLemmas.{answered_last, get_below, get_here, line_kept, lines_set, may_fed, seed_in}
 use Rattle.rescale_core.proofs.DriverLemmas.{some_is}
 use Rattle.rescale_core.proofs.Taking.{Took, reaches_on, takes_all, took_router}
-use Rattle.rescale_core.specs.Moving.{CellLine, HasTurn, IsDriverOf, IsLineOf, Kind, Moves, Reaches, collects, lines_of}
+use Rattle.rescale_core.specs.Moving.{CellLine, HasTurn, IsDriverOf, IsLineOf, Moves, Reaches, collects, lines_of}
 use Rattle.rescale_core.specs.Moving.Kind.{Feeds, Takes}
 use Rattle.rescale_core.specs.Routing.{HasTaken, IsRouterOf, feeds}
 use Rattle.rescale_core.specs.Seeds.{SeedOf}

@@ -1,4 +1,4 @@
--- What a machine's worlds are, and how they end.
+-- What the worlds of a machine and of a driver are, and how they end.
 use Rattle.std.specs.Prelude.{◌≡◌, ℕ, List, map}
 use Rattle.std.specs.List.{range_with_len}
 use Rattle.mfotl_model.specs.Strategies.{workers_of}
@@ -6,12 +6,15 @@ use Rattle.verdict_merge.specs.Gathers.{rows_at}
 use Rattle.verdict_merge.specs.Laws.{IsPartition}
 use Rattle.rescale_core.specs.Cells.{Enabled, IsMachineOf}
 use Rattle.rescale_core.specs.Laws.{EmitsVerdicts, FitsAndAnswers}
+use Rattle.rescale_core.specs.Moving.{IsDriverOf, Kind, Reaches}
+use Rattle.rescale_core.specs.Routing.{HasEnded}
 use Rattle.rescale_core.specs.Soundly.{IsSound}
 use Rattle.rescale_core.specs.Workers.{owner, settled_in, violations_at}
 use Rattle.rescale_core.specs.Worlds.{World, IsGathered, spot_in, verdict_on}
 use Rattle.rescale_core.specs.declared.cells.Step.{Step}
 use Rattle.rescale_core.specs.declared.item.Entry.{Entry}
 use Rattle.rescale_core.specs.declared.stage.Machine.{Machine}
+use Rattle.rescale_core.specs.declared.turns.Driver.{Driver}
 
 -- in each world that a machine stands for, what workers were handed fits, what they gave answers it, and what was
 -- emitted are the first verdicts
@@ -34,3 +37,15 @@ abbrev pub RowsPartition : Type 0
 RowsPartition =
     (w : World) (i : ℕ) (all : IsGathered w i) → IsSound w
     → IsPartition (owner all.1) (workers_of all.1) (rows_at i w.rows) (violations_at w.core (spot_in w).points i)
+
+-- whatever a driver does, what was emitted are the first verdicts, where they were
+abbrev pub DriverWorlds : Type 0
+DriverWorlds =
+    (d : Driver) (w : World) (steps : List Kind) (x : World) → IsDriverOf d w → EmitsVerdicts w → Reaches w steps x
+    → IsSound x × EmitsVerdicts x
+
+-- where it has ended, all verdicts on what was read were emitted
+abbrev pub DriverEnds : Type 0
+DriverEnds =
+    (d : Driver) (w : World) → IsDriverOf d w → EmitsVerdicts w → HasEnded w
+    → w.emitted ≡ map (verdict_on w.core (spot_in w).points) (range_with_len 0 (settled_in w.core (spot_in w).points))

@@ -1,4 +1,4 @@
-use Rattle.std.proofs.Common.{◌≡◌, refl, ap, ◌∙◌, arith, [], List, length, ◌<◌, slice_set}
+use Rattle.std.proofs.Common.{◌≡◌, refl, ap, ◌∙◌, arith, [], List, slice_set}
 use Rattle.turn_hub.specs.Answers.{swapped_line}
 use Rattle.turn_hub.specs.Ends.{main_view}
 use Rattle.rescale_core.specs.Moving.{lines_of}
