@@ -27,3 +27,4 @@ pub mod Ending
 pub mod Taking
 pub mod DriverLemmas
 pub mod TurnLemmas
+pub mod Keeping

@@ -6,7 +6,7 @@ use Rattle.verdict_merge.specs.Gathers.{rows_at}
 use Rattle.verdict_merge.specs.Laws.{IsPartition}
 use Rattle.rescale_core.specs.Cells.{Enabled, IsMachineOf}
 use Rattle.rescale_core.specs.Laws.{EmitsVerdicts, FitsAndAnswers}
-use Rattle.rescale_core.specs.Moving.{IsDriverOf, Kind, Reaches}
+use Rattle.rescale_core.specs.Moving.{IsDriverOf, Kind, Reaches, TurnsTo}
 use Rattle.rescale_core.specs.Routing.{HasEnded}
 use Rattle.rescale_core.specs.Soundly.{IsSound}
 use Rattle.rescale_core.specs.Workers.{owner, settled_in, violations_at}
@@ -15,6 +15,7 @@ use Rattle.rescale_core.specs.declared.cells.Step.{Step}
 use Rattle.rescale_core.specs.declared.item.Entry.{Entry}
 use Rattle.rescale_core.specs.declared.stage.Machine.{Machine}
 use Rattle.rescale_core.specs.declared.turns.Driver.{Driver}
+use Rattle.rescale_core.specs.declared.turns.Turn.{Turn}
 
 -- in each world that a machine stands for, what workers were handed fits, what they gave answers it, and what was
 -- emitted are the first verdicts
@@ -49,3 +50,10 @@ abbrev pub DriverEnds : Type 0
 DriverEnds =
     (d : Driver) (w : World) → IsDriverOf d w → EmitsVerdicts w → HasEnded w
     → w.emitted ≡ map (verdict_on w.core (spot_in w).points) (range_with_len 0 (settled_in w.core (spot_in w).points))
+
+-- a turn reads and emits nothing
+abbrev pub TurnKeeps : Type 0
+TurnKeeps =
+    (d e : Driver) (k : ℕ) (turn : Turn) (w : World) → TurnsTo d k turn e → IsDriverOf d w → EmitsVerdicts w
+    → (x : World) × IsDriverOf e x × EmitsVerdicts x × (x.core ≡ w.core) × (x.first ≡ w.first) × (x.read ≡ w.read)
+    × (x.emitted ≡ w.emitted)

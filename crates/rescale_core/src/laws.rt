@@ -1,5 +1,5 @@
 //! Laws of worlds, as theorems on the definitions. Each call does nothing: its clause is the law.
-ghost use Rattle.rescale_core.specs.Ends.{DriverEnds, DriverWorlds, MachineEnds, MachineWorlds, RowsPartition};
+ghost use Rattle.rescale_core.specs.Ends.{DriverEnds, DriverWorlds, MachineEnds, MachineWorlds, RowsPartition, TurnKeeps};
 ghost use Rattle.rescale_core.specs.Laws.{PolicyViolations, ReachedWorlds};
 
 /// In each world that steps reach from the first one, what each worker was handed fits, what it gave answers that,
@@ -21,6 +21,11 @@ pub fn machine_ends()
 /// In each world that a driver's steps reach what was emitted are the first verdicts on all that was read.
 pub fn driver_worlds()
     ensures { DriverWorlds }
+{}
+
+/// In the world that a turn reaches the same was read and emitted as before.
+pub fn turn_keeps()
+    ensures { TurnKeeps }
 {}
 
 /// Where a driver has ended, it emitted all verdicts on all that it read.
