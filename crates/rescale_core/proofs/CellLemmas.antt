@@ -79,7 +79,7 @@ line_only k (Point p ∷ es) a h =
     if_either (λ x. OnlySlices (x ++ line k (moved a (Point p)) es)) (nat_lt k (workers_of a.strategy))
     (Slicing a.generation a.strategy a.points p ∷ []) rest rest
 
-only_slices : (c : CoreForm) (k : ℕ) (pieces : List Piece) (ds : List Due) (items : List Item) → OnlySlices ds
+pub only_slices : (c : CoreForm) (k : ℕ) (pieces : List Piece) (ds : List Due) (items : List Item) → OnlySlices ds
     → Supplies c k pieces ds items → AllByRecursion IsSlice items
 only_slices c k pieces ds [] o s = tt
 only_slices c k pieces [] (i ∷ is) o s = absurd s

@@ -16,6 +16,8 @@ use Rattle.rescale_core.proofs.Given.{given_there, is_of, kept, on_line, settlin
 use Rattle.rescale_core.proofs.LogLemmas.{settled_within}
 use Rattle.rescale_core.proofs.CellLemmas.{OnlySlices, line_only}
 use Rattle.rescale_core.specs.Cells.{Enabled, IsMachineOf}
+use Rattle.rescale_core.specs.Laws.{EmitsVerdicts}
+use Rattle.rescale_core.specs.Routing.{HasEnded}
 use Rattle.rescale_core.specs.Lines.{Due, first_spot}
 use Rattle.rescale_core.specs.Lines.Due.{Slicing, Parting, Hole}
 use Rattle.rescale_core.specs.Soundly.{IsSound}
@@ -53,6 +55,68 @@ at_end a b h = by (below a b)
     by (inl less) = absurd (h less)
     by (inr more) = more
 
+-- all that each worker is due was handed over, and all that it gave for it was collected
+module _ (w : World) (sound : IsSound w) (fed : (k : ℕ) → length (line_in w k) ≤ length (w.seats k).fed)
+    (back : (k : ℕ) → length (w.seats k).fed ≤ (w.seats k).collected) where
+  all_back : (k : ℕ) → Answers w.core k (line_in w k) (w.seats k).back
+  all_back k =
+      let f = fed k in
+      let b = back k in
+      subst (λ (ds : List Due). Answers w.core k ds (w.seats k).back)
+      (taken_all (w.seats k).collected (line_in w k) (omega arith)) (sound.seated k).back
+
+  -- so all Rows for each settled position are there
+  all_gathered : (i : ℕ) → i < settled_in w.core (spot_in w).points → IsGathered w i
+  all_gathered i low =
+      let start = settled_within w.core [] in
+      let r = settling w.core w.read (first_spot w.first) i (omega arith) low in
+      let all = due_all w sound i r.generation r.strategy r.log r.point r.is r.low r.high in
+      let D = DueRow w sound i r.generation r.strategy r.log r.point in
+      let n : ℕ = workers_of r.strategy in
+      let workers : List ℕ = map (λ (x : Rows). x.worker) (rows_at i w.rows) in
+      let size : length workers ≡ length (rows_at i w.rows) = length-map (rows_at i w.rows) (λ (x : Rows). x.worker) in
+      let most : length workers ≤ n =
+      at_most n workers (sound.rows_apart i)
+      (below_of n (rows_at i w.rows)
+      (every_map D (λ (x : Rows). x.worker < n) (rows_at i w.rows) (λ x d. d.near) all)) in
+      let least : n ≤ length workers =
+      at_least n workers (λ k near.
+      let on = on_line k w.read (first_spot w.first) (length r.log) r.generation r.strategy r.log r.point near r.is in
+      let given = given_there w.core k i on.before r.generation r.strategy r.log r.point on.behind
+      (w.seats k).back r.low
+      r.high (subst (λ (ds : List Due). Answers w.core k ds (w.seats k).back) on.is (all_back k)) in
+      worker_there k i w.rows
+      (kept (λ (x : Rows). nat_eq x.worker k) (is_of k i) w.rows
+      (ap (list_any (is_of k i)) (sound.seated k).rows ∙ given))) in
+      (r.generation, r.strategy, r.log, r.point, r.is, r.low, r.high, omega arith)
+
+  all_out : EmitsVerdicts w → (IsGathered w (length w.emitted) → ⊥)
+      → length w.emitted ≡ settled_in w.core (spot_in w).points
+  all_out verdicts none = at (below (length w.emitted) (settled_in w.core (spot_in w).points))
+    where
+      at : (length w.emitted < settled_in w.core (spot_in w).points)
+          ⊎ (settled_in w.core (spot_in w).points ≤ length w.emitted)
+          → length w.emitted ≡ settled_in w.core (spot_in w).points
+      at (inl less) = absurd (none (all_gathered (length w.emitted) less))
+      at (inr more) = let most = verdicts.settled in omega arith
+
+-- where a world has ended, all verdicts were emitted
+pub world_emitted : (w : World) → IsSound w → EmitsVerdicts w → HasEnded w
+    → length w.emitted ≡ settled_in w.core (spot_in w).points
+world_emitted w sound verdicts end = all_out w sound fed back verdicts end.none_to_emit
+  where
+    fed : (k : ℕ) → length (line_in w k) ≤ length (w.seats k).fed
+    fed k =
+        dropped_all (length (w.seats k).fed) (line_in w k)
+        (at (drop (length (w.seats k).fed) (line_in w k)) (end.none_wait k))
+      where
+        at : (ds : List Due) → map (chance w.core k w.pieces) ds ≡ [] → ds ≡ []
+        at [] e = refl
+        at (d ∷ ds) e = cc
+
+    back : (k : ℕ) → length (w.seats k).fed ≤ (w.seats k).collected
+    back k = let e = end.all_back k in omega arith
+
 module _ (m : Machine) (entries : List Entry) (w : World) (is : IsMachineOf m entries w)
     (none : (s : Step) → Enabled w m.left.items s → ⊥) where
   sound : IsSound w
@@ -84,50 +148,13 @@ module _ (m : Machine) (entries : List Entry) (w : World) (is : IsMachineOf m en
       at (Parting t ∷ ds) e o = absurd (subst OnlySlices e o)
       at (Hole t j ∷ ds) e o = absurd (subst OnlySlices e o)
 
-  -- and all that it gave for it was collected
-  all_back : (k : ℕ) → Answers w.core k (line_in w k) (w.seats k).back
-  all_back k =
-      let fed = all_fed k in
-      let s = sound.seated k in
-      let low = s.taken in
-      let less = s.collected in
+  all_collected : (k : ℕ) → length (w.seats k).fed ≤ (w.seats k).collected
+  all_collected k =
       let taken : length (w.seats k).fed ≤ (w.seats k).taken =
       at_end (w.seats k).taken (length (w.seats k).fed) (λ h. none (step.Take k) h) in
       let collected : (w.seats k).taken ≤ (w.seats k).collected =
       at_end (w.seats k).collected (w.seats k).taken (λ h. none (step.Collect k) h) in
-      subst (λ (ds : List Due). Answers w.core k ds (w.seats k).back)
-      (taken_all (w.seats k).collected (line_in w k) (omega arith)) s.back
-
-  -- so all Rows for each settled position are there
-  all_gathered : (i : ℕ) → i < settled_in w.core (spot_in w).points → IsGathered w i
-  all_gathered i low =
-      let start = settled_within w.core [] in
-      let r = settling w.core w.read (first_spot w.first) i (omega arith) low in
-      let all = due_all w sound i r.generation r.strategy r.log r.point r.is r.low r.high in
-      let D = DueRow w sound i r.generation r.strategy r.log r.point in
-      let n : ℕ = workers_of r.strategy in
-      let workers : List ℕ = map (λ (x : Rows). x.worker) (rows_at i w.rows) in
-      let size : length workers ≡ length (rows_at i w.rows) = length-map (rows_at i w.rows) (λ (x : Rows). x.worker) in
-      let most : length workers ≤ n =
-      at_most n workers (sound.rows_apart i)
-      (below_of n (rows_at i w.rows)
-      (every_map D (λ (x : Rows). x.worker < n) (rows_at i w.rows) (λ x d. d.near) all)) in
-      let least : n ≤ length workers =
-      at_least n workers (λ k near.
-      let on = on_line k w.read (first_spot w.first) (length r.log) r.generation r.strategy r.log r.point near r.is in
-      let given = given_there w.core k i on.before r.generation r.strategy r.log r.point on.behind
-      (w.seats k).back r.low
-      r.high (subst (λ (ds : List Due). Answers w.core k ds (w.seats k).back) on.is (all_back k)) in
-      worker_there k i w.rows
-      (kept (λ (x : Rows). nat_eq x.worker k) (is_of k i) w.rows
-      (ap (list_any (is_of k i)) (sound.seated k).rows ∙ given))) in
-      (r.generation, r.strategy, r.log, r.point, r.is, r.low, r.high, omega arith)
+      omega arith
 
   pub all_emitted : length w.emitted ≡ settled_in w.core (spot_in w).points
-  all_emitted = at (below (length w.emitted) (settled_in w.core (spot_in w).points))
-    where
-      at : (length w.emitted < settled_in w.core (spot_in w).points)
-          ⊎ (settled_in w.core (spot_in w).points ≤ length w.emitted)
-          → length w.emitted ≡ settled_in w.core (spot_in w).points
-      at (inl less) = absurd (none step.Emit (all_gathered (length w.emitted) less))
-      at (inr more) = let most = is.verdicts.settled in omega arith
+  all_emitted = all_out w sound all_fed all_collected is.verdicts (λ g. none step.Emit g)

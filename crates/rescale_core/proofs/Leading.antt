@@ -9,9 +9,11 @@ use Rattle.rescale_core.specs.Seeds.{SeedOf}
 use Rattle.rescale_core.specs.Stages.{Stage, Meets, stage, stage_after, Follows, Gives, Answers}
 use Rattle.rescale_core.specs.Workers.{IsFor}
 use Rattle.rescale_core.specs.Working.{IsAt, StandsFor, May, Has, first_stage, line_of, CanTake, Steps}
+use Rattle.rescale_core.specs.Works.{MayBy, StandsBy, seen}
 use Rattle.turn_hub.specs.Work.{Takes, Leads}
 use Rattle.monitorable.specs.CoreForms.{CoreForm}
 use Rattle.rescale_core.specs.declared.phase.Worker.{Worker}
+use Rattle.rescale_core.specs.declared.seed.Seed.{Seed}
 use Rattle.rescale_core.specs.declared.item.Entry.{Entry}
 use Rattle.rescale_core.specs.declared.item.Item.{Item}
 use Rattle.rescale_core.specs.declared.item.Out.{Out}
@@ -105,3 +107,38 @@ module _ (s : SeedOf) (t : List Item) (g : List Out) (w : Worker) (i : Item) (x 
 pub leads_on : (w : Worker) (i : Item) (x : Worker) (gave : List Out) → Steps w i x gave
     → Leads StandsFor May w (i ∷ []) x gave
 leads_on w i x gave steps s t g st may = stands_on s t g w i x gave st steps
+
+-- ---- seeds with a core
+
+module _ (s : SeedOf) (w : Worker) (core : core_form w.core ≡ s.core) where
+  -- the seed, with the worker's own core
+  abbrev with_core : Seed
+  with_core = record { core = w.core; first = s.first; k = s.k }
+
+  seen_same : seen with_core ≡ s
+  seen_same = ap (λ (c : CoreForm). record { core = c; first = s.first; k = s.k }) core
+
+pub takes_by : (w : Worker) (items : List Item) → Takes StandsFor May w items → Takes StandsBy MayBy w items
+takes_by w items t =
+    let same : seen (with_core t.0 w t.3.core) ≡ t.0 = seen_same t.0 w t.3.core in (
+      with_core t.0 w t.3.core,
+      t.1,
+      t.2,
+      subst (λ (s : SeedOf). StandsFor s t.1 t.2 w) (sym same) t.3,
+      subst (λ (s : SeedOf). May s (t.1 ++ items)) (sym same) t.4,
+    )
+
+pub takes_seen : (w : Worker) (items : List Item) → Takes StandsBy MayBy w items → Takes StandsFor May w items
+takes_seen w items t = (seen t.0, t.1, t.2, t.3, t.4)
+
+pub leads_by : (w : Worker) (items : List Item) (x : Worker) (outs : List Out) → Leads StandsFor May w items x outs
+    → Leads StandsBy MayBy w items x outs
+leads_by w items x outs h = λ s t g. h (seen s) t g
+
+pub leads_seen : (w : Worker) (items : List Item) (x : Worker) (outs : List Out)
+    → Leads StandsBy MayBy w items x outs → Leads StandsFor May w items x outs
+leads_seen w items x outs h = λ s t g st may.
+    let same : seen (with_core s w st.core) ≡ s = seen_same s w st.core in
+    subst (λ (y : SeedOf). StandsFor y (t ++ items) (g ++ outs) x) same
+    (h (with_core s w st.core) t g (subst (λ (y : SeedOf). StandsFor y t g w) (sym same) st)
+    (subst (λ (y : SeedOf). May y (t ++ items)) (sym same) may))

@@ -24,3 +24,7 @@ pub mod MachineLemmas
 pub mod Counting
 pub mod Given
 pub mod Ending
+pub mod Taking
+pub mod DriverLemmas
+pub mod TurnLemmas
+pub mod Keeping

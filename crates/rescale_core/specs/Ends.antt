@@ -1,17 +1,33 @@
--- What a machine's worlds are, and how they end.
-use Rattle.std.specs.Prelude.{◌≡◌, ℕ, List, map}
+-- What the worlds of a machine and of a driver are, and how they end.
+use Rattle.std.specs.Prelude.{◌≡◌, ℕ, List, [], map}
+use mathlib.Core.Option.{some}
+use lib.ListN.{get_elem?}
 use Rattle.std.specs.List.{range_with_len}
-use Rattle.mfotl_model.specs.Strategies.{workers_of}
+use Rattle.mfotl_model.specs.Strategies.{Strategy, workers_of}
+use Rattle.monitorable.specs.CoreForms.{CoreForm}
+use Rattle.turn_hub.specs.Ends.{Starts, main_view}
+use Rattle.turn_hub.specs.Steps.{started}
+use Rattle.turn_hub.specs.declared.hub.Main.{Main}
 use Rattle.verdict_merge.specs.Gathers.{rows_at}
 use Rattle.verdict_merge.specs.Laws.{IsPartition}
 use Rattle.rescale_core.specs.Cells.{Enabled, IsMachineOf}
 use Rattle.rescale_core.specs.Laws.{EmitsVerdicts, FitsAndAnswers}
+use Rattle.rescale_core.specs.Moving.{IsDriverOf, IsOpened, Kind, Reaches, TurnsTo}
+use Rattle.rescale_core.specs.Routing.{HasEnded}
 use Rattle.rescale_core.specs.Soundly.{IsSound}
 use Rattle.rescale_core.specs.Workers.{owner, settled_in, violations_at}
+use Rattle.rescale_core.specs.Working.{StandsFor, seed_of}
+use Rattle.rescale_core.specs.Works.{StandsBy, begun}
 use Rattle.rescale_core.specs.Worlds.{World, IsGathered, spot_in, verdict_on}
 use Rattle.rescale_core.specs.declared.cells.Step.{Step}
 use Rattle.rescale_core.specs.declared.item.Entry.{Entry}
+use Rattle.rescale_core.specs.declared.item.Item.{Item}
+use Rattle.rescale_core.specs.declared.item.Out.{Out}
+use Rattle.rescale_core.specs.declared.phase.Worker.{Worker}
+use Rattle.rescale_core.specs.declared.seed.Seed.{Seed}
 use Rattle.rescale_core.specs.declared.stage.Machine.{Machine}
+use Rattle.rescale_core.specs.declared.turns.Driver.{Driver}
+use Rattle.rescale_core.specs.declared.turns.Turn.{Turn}
 
 -- in each world that a machine stands for, what workers were handed fits, what they gave answers it, and what was
 -- emitted are the first verdicts
@@ -34,3 +50,31 @@ abbrev pub RowsPartition : Type 0
 RowsPartition =
     (w : World) (i : ℕ) (all : IsGathered w i) → IsSound w
     → IsPartition (owner all.1) (workers_of all.1) (rows_at i w.rows) (violations_at w.core (spot_in w).points i)
+
+-- whatever a driver does, what was emitted are the first verdicts, where they were
+abbrev pub DriverWorlds : Type 0
+DriverWorlds =
+    (d : Driver) (w : World) (steps : List Kind) (x : World) → IsDriverOf d w → EmitsVerdicts w → Reaches w steps x
+    → IsSound x × EmitsVerdicts x
+
+-- where it has ended, all verdicts on what was read were emitted
+abbrev pub DriverEnds : Type 0
+DriverEnds =
+    (d : Driver) (w : World) → IsDriverOf d w → EmitsVerdicts w → HasEnded w
+    → w.emitted ≡ map (verdict_on w.core (spot_in w).points) (range_with_len 0 (settled_in w.core (spot_in w).points))
+
+-- a turn reads and emits nothing
+abbrev pub TurnKeeps : Type 0
+TurnKeeps =
+    (d e : Driver) (k : ℕ) (turn : Turn) (w : World) → TurnsTo d k turn e → IsDriverOf d w → EmitsVerdicts w
+    → (x : World) × IsDriverOf e x × EmitsVerdicts x × (x.core ≡ w.core) × (x.first ≡ w.first) × (x.read ≡ w.read)
+    × (x.emitted ≡ w.emitted)
+
+-- a hub that is opened on the workers of a core and a strategy, in order, is right for a driver
+abbrev pub OpenedWorkers : Type 0
+OpenedWorkers =
+    (c : CoreForm) (s : Strategy) (works : List Worker) (main : Main Worker Item Out Seed)
+    → ((k : ℕ) (w : Worker) → get_elem? works k ≡ some w
+    → (seed_of w ≡ record { core = c; first = s; k = k }) × StandsFor (seed_of w) [] [] w)
+    → (main_view main).lines ≡ map (λ w. started (begun w)) works
+    → Starts StandsBy begun works × IsOpened c s main

@@ -7,9 +7,11 @@ pub mod Worlds
 pub mod Seeds
 pub mod Settlings
 pub mod Working
+pub mod Works
 pub mod Soundly
 pub mod Queues
 pub mod Routing
+pub mod Moving
 pub mod Laws
 pub mod Cells
 pub mod Ends

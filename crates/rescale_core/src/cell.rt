@@ -4,6 +4,7 @@ ghost use Rattle.rescale_core.specs.Cells.{MayTake, Takes};
 
 use crate::cells::{Applied, Cell};
 use std::alloc::{AllocError, Global};
+use turn_hub::Work;
 
 impl Cell {
     /// The worker takes the next item, if it was handed one.

@@ -1,5 +1,5 @@
 //! Laws of worlds, as theorems on the definitions. Each call does nothing: its clause is the law.
-ghost use Rattle.rescale_core.specs.Ends.{MachineEnds, MachineWorlds, RowsPartition};
+ghost use Rattle.rescale_core.specs.Ends.{DriverEnds, DriverWorlds, MachineEnds, MachineWorlds, OpenedWorkers, RowsPartition, TurnKeeps};
 ghost use Rattle.rescale_core.specs.Laws.{PolicyViolations, ReachedWorlds};
 
 /// In each world that steps reach from the first one, what each worker was handed fits, what it gave answers that,
@@ -16,6 +16,26 @@ pub fn machine_worlds()
 /// Where a machine can do no step, it emitted all verdicts on all entries.
 pub fn machine_ends()
     ensures { MachineEnds }
+{}
+
+/// A hub that is opened on a core's and strategy's workers, in order, is right for a driver.
+pub fn opened_workers()
+    ensures { OpenedWorkers }
+{}
+
+/// In each world that a driver's steps reach what was emitted are the first verdicts on all that was read.
+pub fn driver_worlds()
+    ensures { DriverWorlds }
+{}
+
+/// In the world that a turn reaches the same was read and emitted as before.
+pub fn turn_keeps()
+    ensures { TurnKeeps }
+{}
+
+/// Where a driver has ended, it emitted all verdicts on all that it read.
+pub fn driver_ends()
+    ensures { DriverEnds }
 {}
 
 /// What the workers say of a position is by owner a partition of its violations.

@@ -3,16 +3,22 @@
 
 mod cell;
 mod cells;
+mod driver;
 mod item;
 pub mod laws;
 mod machine;
+mod machine_start;
+mod outstanding;
 mod phase;
 mod piece;
 mod queue;
 mod router;
+mod router_start;
 mod routes;
+mod seed;
 mod settled;
 mod stage;
+mod turns;
 mod worker;
 
 pub use cells::{Applied, Step};
@@ -20,4 +26,6 @@ pub use item::{Entry, Item, Out};
 pub use phase::Worker;
 pub use piece::Piece;
 pub use routes::Router;
+pub use seed::Seed;
 pub use stage::Machine;
+pub use turns::{Driver, Turn};

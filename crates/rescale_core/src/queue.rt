@@ -1,5 +1,6 @@
 //! What waits for one worker.
 ghost use Rattle.std.specs.Prelude.{◌≡◌, ◌++◌, ◌∷◌, [], IfOk, length};
+ghost use Rattle.std.specs.List.{list_all};
 ghost use Rattle.rescale_core.specs.Chances.{Pops, sure_items};
 ghost use Rattle.rescale_core.specs.Chances.Chance.{Sure};
 ghost use Rattle.rescale_core.specs.Queues.{is_clear, waiting};
@@ -50,4 +51,11 @@ impl Queue {
     {
         self.items.is_empty()
     }
+}
+
+/// Whether nothing stands in any queue.
+pub(crate) fn none_wait(queues: &[Queue]) -> bool
+    ensures { result ≡ list_all is_clear queues.now }
+{
+    queues.iter().all(|queue| queue.is_empty())
 }

@@ -1,60 +1,23 @@
 //! The router: what is read is queued for each worker, until it is handed over.
-ghost use Rattle.std.specs.Prelude.{◌≡◌, ◌++◌, ◌∷◌, [], ◌<◌, ◌≤◌, ◌+◌, ◌⊎◌, ℕ, IfOk, IfSome, IfNone, length};
-ghost use Rattle.std.specs.Prelude.{cond, get_or, nat_eq, true};
-ghost use Rattle.std.specs.List.{list_all};
-ghost use Rattle.mfotl_model.specs.Strategies.{workers_of};
-ghost use Rattle.monitorable.specs.Cores.{core_form};
+ghost use Rattle.std.specs.Prelude.{◌≡◌, ◌++◌, [], ◌<◌, ◌≤◌, ◌⊎◌, IfOk, IfSome, IfNone, length, true, ℕ};
 ghost use Rattle.rescale_core.specs.Chances.{sure_items};
-ghost use Rattle.rescale_core.specs.Queues.{is_clear, queue_at, waiting};
+ghost use Rattle.rescale_core.specs.Queues.{queue_at, waiting};
 ghost use Rattle.rescale_core.specs.Routing.{HasEnded, HasTaken, IsRouterOf, MayAdd, TakesFront, feeds, slices_for};
-ghost use Rattle.rescale_core.specs.Workers.{IsFor, MayFollow};
-ghost use Rattle.rescale_core.specs.Worlds.{World, Allowed, AreAllowed, IsGathered, after, first_world, pieces_in, queue_in, rows_in, run, spot_in};
+ghost use Rattle.rescale_core.specs.Workers.{MayFollow};
+ghost use Rattle.rescale_core.specs.Worlds.{World, Allowed, AreAllowed, IsGathered, after, pieces_in, queue_in, rows_in, run, spot_in};
 ghost use Rattle.rescale_core.specs.Worlds.Move.{Read, Collect, Emit};
 ghost use Rattle.rescale_core.specs.declared.item.Entry.TheVariants.{Point};
 
 use crate::item::{Item, Out};
-use crate::queue::Queue;
+use crate::outstanding::{lower, none_outstanding, raise};
+use crate::queue::{Queue, none_wait};
 use crate::routes::Router;
 use event_splitter::split;
 use mfotl_model::TimePoint;
-use monitorable::Core;
-use slice_strategy::{Slicer, Strategy};
 use std::alloc::{AllocError, Global};
 use verdict_merge::{Gather, Verdict};
 
 impl Router {
-    /// The router that read nothing yet.
-    pub fn start(alloc: Global, core: Core, strategy: Strategy) -> Result<Self, AllocError>
-        requires { IsFor (core_form core) strategy }
-        ensures { IfOk result (λ router. IsRouterOf router (first_world (core_form core) strategy)) }
-    {
-        let (gather, queues, outstanding) = first_parts(alloc, strategy.workers())?;
-        Ok(Router::first(core, strategy, gather, queues, outstanding))
-    }
-
-    // The router of the first generation.
-    fn first(
-        core: Core,
-        strategy: Strategy,
-        gather: Gather,
-        queues: Vec<Queue>,
-        outstanding: Vec<u64>,
-    ) -> Self
-        ensures fits { (core_form result.core ≡ core_form core) × (result.strategy ≡ strategy) }
-        ensures counts { (result.generation ≡ 0) × (result.points ≡ 0) }
-        ensures waits { (result.gather ≡ gather) × (result.queues ≡ queues) × (result.outstanding ≡ outstanding) }
-    {
-        Router {
-            core,
-            strategy,
-            generation: 0,
-            points: 0,
-            queues,
-            outstanding,
-            gather,
-        }
-    }
-
     /// Queues a slice of the time-point for each worker, also an empty one.
     pub fn read_point(&mut self, alloc: Global, point: TimePoint) -> Result<(), AllocError>
         requires { (w : World) × IsRouterOf self.old w × MayFollow (spot_in w).points point }
@@ -132,38 +95,6 @@ impl Router {
     }
 }
 
-// What is gathered, queued and counted before anything was read.
-fn first_parts(alloc: Global, workers: u32) -> Result<(Gather, Vec<Queue>, Vec<u64>), AllocError>
-    requires { 0 < workers }
-    ensures gather { IfOk result (λ parts. parts.0 ≡ record {
-      begun = record { generation = 0; workers = workers } ∷ [];
-      next = 0;
-      added = [];
-    }) }
-    ensures len { IfOk result (λ parts. length parts.1.items ≡ workers) }
-    ensures empty { IfOk result (λ parts. (q : ℕ) → queue_at parts.1.items q ≡ []) }
-    ensures counted { IfOk result (λ parts. length parts.2.items ≡ workers) }
-    ensures zero { IfOk result (λ parts. (q : ℕ) → get_or parts.2.items q 0 ≡ 0) }
-{
-    let mut gather = Gather::new(alloc);
-    gather.begin(0, workers)?;
-    let queues = new_queues(alloc, workers)?;
-    let outstanding = Vec::from_elem(alloc, 0, workers as usize)?;
-    Ok((gather, queues, outstanding))
-}
-
-// An empty queue for each worker.
-fn new_queues(alloc: Global, workers: u32) -> Result<Vec<Queue>, AllocError>
-    ensures len { IfOk result (λ queues. length queues.items ≡ workers) }
-    ensures empty { IfOk result (λ queues. (q : ℕ) → queue_at queues.items q ≡ []) }
-{
-    let mut queues = Vec::new(alloc);
-    for _ in 0..workers {
-        queues.push(Queue::new(alloc))?;
-    }
-    Ok(queues)
-}
-
 // Queues a slice for each worker.
 fn push_slices(
     queues: &mut Vec<Queue>,
@@ -220,43 +151,4 @@ fn add_all(gather: &mut Gather, outs: Vec<Out>) -> Result<(), AllocError>
         }
     }
     Ok(())
-}
-
-// Counts so many more for worker `k`.
-fn raise(counts: &mut Vec<u64>, k: u32, more: u64) -> Result<(), AllocError>
-    ensures len { IfOk result (λ _. length counts.new.items ≡ length counts.old.items) }
-    ensures more { IfOk result (λ _. (q : ℕ) → get_or counts.new.items q 0
-        ≡ get_or counts.old.items q 0 + cond (nat_eq q k) more 0) }
-{
-    if k as usize >= counts.len() {
-        return Err(AllocError);
-    }
-    let count = counts[k as usize];
-    counts[k as usize] = count.checked_add(more).ok_or(AllocError)?;
-    Ok(())
-}
-
-// Counts so many less for worker `k`.
-fn lower(counts: &mut Vec<u64>, k: u32, less: u64)
-    requires low { k < length counts.old.items }
-    requires less { less ≤ get_or counts.old.items k 0 }
-    ensures len { length counts.new.items ≡ length counts.old.items }
-    ensures less { (q : ℕ) → get_or counts.new.items q 0 + cond (nat_eq q k) less 0 ≡ get_or counts.old.items q 0 }
-{
-    let count = counts[k as usize];
-    counts[k as usize] = count - less;
-}
-
-// Whether nothing stands in any queue.
-fn none_wait(queues: &[Queue]) -> bool
-    ensures { result ≡ list_all is_clear queues.now }
-{
-    queues.iter().all(|queue| queue.is_empty())
-}
-
-// Whether no worker has anything that was not collected.
-fn none_outstanding(counts: &[u64]) -> bool
-    ensures { result ≡ list_all (nat_eq 0) counts.now }
-{
-    counts.iter().all(|count| 0 == *count)
 }

@@ -1,12 +1,12 @@
 //! A worker: what it does with what it is handed.
-ghost use Rattle.std.specs.Prelude.{◌≡◌, ◌++◌, ◌∷◌, [], List, IfOk};
+ghost use Rattle.std.specs.Prelude.{◌≡◌, [], IfOk};
 ghost use Rattle.monitorable.specs.Cores.{core_form};
-ghost use Rattle.turn_hub.specs.Work.{Takes, Leads};
 ghost use Rattle.rescale_core.specs.Workers.{IsFor};
-ghost use Rattle.rescale_core.specs.Working.{CanTake, Gave, IsAt, IsSlice, May, StandsFor, first_stage, seed_of};
+ghost use Rattle.rescale_core.specs.Working.{CanTake, Gave, IsAt, IsSlice, StandsFor, first_stage, seed_of};
 
 use crate::item::{Item, Out};
 use crate::phase::{Phase, Worker};
+use crate::seed::Seed;
 use crate::settled::{give_rows, numbered};
 use mfotl_model::TimePoint;
 use monitor_state::Monitor;
@@ -14,6 +14,7 @@ use monitorable::Core;
 use slice_strategy::{Slicer, Strategy};
 use std::alloc::{AllocError, Global};
 use std::snapshot::Snapshot;
+use turn_hub::Work;
 
 impl Worker {
     /// The worker of number `k` that took nothing yet: it monitors if the strategy has so many workers.
@@ -35,16 +36,6 @@ impl Worker {
             first,
             phase,
         })
-    }
-
-    /// Takes an item, and appends what it gives. After an error the worker is of no further use.
-    pub fn work(&mut self, alloc: Global, item: Item, outs: &mut Vec<Out>) -> Result<(), AllocError>
-        requires { Takes StandsFor May self.old (item ∷ []) }
-        ensures { IfOk result (λ _. (gave : List Out) × (outs.new.items ≡ outs.old.items ++ gave)
-            × Leads StandsFor May self.old (item ∷ []) self.new gave) }
-    {
-        self.take(alloc, item, outs)?;
-        Ok(())
     }
 
     fn take(&mut self, alloc: Global, item: Item, outs: &mut Vec<Out>) -> Result<(), AllocError>
@@ -82,6 +73,36 @@ impl Worker {
         let tables = monitor.step(alloc, &point)?;
         let settled = numbered(alloc, monitor, first, tables)?;
         give_rows(alloc, strategy, self.number, generation, settled, outs)?;
+        Ok(())
+    }
+}
+
+impl Work for Worker {
+    ghost use Rattle.rescale_core.specs.Works.{MayBy, StandsBy, ToldBy, begun, may_less_by, may_none_by, tells_by};
+
+    type Item = Item;
+
+    type Out = Out;
+
+    type Seed = Seed;
+
+    ghost seed = { begun };
+
+    ghost stands = { StandsBy };
+
+    ghost told = { ToldBy };
+
+    ghost may = { MayBy };
+
+    ghost tells = { tells_by };
+
+    ghost may_none = { may_none_by };
+
+    ghost may_less = { may_less_by };
+
+    /// Takes an item, and appends what it gives. After an error the worker is of no further use.
+    fn work(&mut self, alloc: Global, item: Item, outs: &mut Vec<Out>) -> Result<(), AllocError> {
+        self.take(alloc, item, outs)?;
         Ok(())
     }
 }

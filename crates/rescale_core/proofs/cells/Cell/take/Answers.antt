@@ -1,5 +1,6 @@
-use Rattle.std.proofs.Common.{◌≡◌, ◌++◌, length, arith, refl, sym, ap, ◌∙◌}
+use Rattle.std.proofs.Common.{◌≡◌, ◌++◌, ◌∷◌, [], length, arith, refl, sym, ap, ◌∙◌}
 use Rattle.rescale_core.proofs.CellLemmas.{may_take, same_cell, took}
+use Rattle.rescale_core.proofs.Leading.{leads_seen, takes_by}
 use Rattle.rescale_core.proofs.MachineLemmas.{none_left}
 use Rattle.rescale_core.proofs.cells.Cell.take.Goals as goal
 
@@ -20,11 +21,11 @@ work-requires c =
     let is = c.requires.4 in
     let may = may_take w k is.before c.in-Some.item c.pop_front.new.self.items c.requires.2 c.requires.3
     (is.fed ∙ ap (λ x. is.before ++ x) c.in-Some.ensures.items) in
-    (_, is.before, _, is.stands, may.1)
+    takes_by c.args.self.now.worker (c.in-Some.item ∷ []) (_, is.before, _, is.stands, may.1)
 
 pub returns : goal.returns
 returns c = λ w k sound points is.
     let g = c.in_ok-work.ensures in
     let r = took w k c.args.self.now _ c.in-Some.item g.0 sound points is c.in-Some.ensures.items
-    c.in_ok-self.ensures g.1 g.2 in
+    c.in_ok-self.ensures g.1 (leads_seen c.args.self.now.worker (c.in-Some.item ∷ []) _ g.0 g.2) in
     (g.0, r.0, r.1)

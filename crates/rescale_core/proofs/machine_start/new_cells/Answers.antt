@@ -5,7 +5,7 @@ use Rattle.rescale_core.specs.Cells.{IsCellOf}
 use Rattle.rescale_core.specs.Worlds.{World, first_world, nth}
 use Rattle.rescale_core.specs.declared.cells.Cell.{Cell}
 use Rattle.rescale_core.proofs.CellLemmas.{nth_last}
-use Rattle.rescale_core.proofs.machine.new_cells.Goals as goal
+use Rattle.rescale_core.proofs.machine_start.new_cells.Goals as goal
 
 pub loop-k-preserved : goal.loop-k-preserved
 loop-k-preserved c =

@@ -1,6 +1,6 @@
 use Rattle.std.proofs.Common.{◌≡◌, [], ℕ, length}
 use Rattle.rescale_core.specs.Queues.{queue_at}
-use Rattle.rescale_core.proofs.router.new_queues.Given as goal
+use Rattle.rescale_core.proofs.router_start.new_queues.Given as goal
 
 abbrev pub invariant-loop : goal.invariant-loop
 invariant-loop l = record {

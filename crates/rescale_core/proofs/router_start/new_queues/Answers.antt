@@ -2,7 +2,7 @@ use Rattle.std.proofs.Common.{◌≡◌, ap, length, ◌∷◌, ◌++◌, [], �
 use Rattle.rescale_core.specs.Queues.{queue_at}
 use Rattle.rescale_core.specs.declared.queue.Queue.{Queue}
 use Rattle.rescale_core.proofs.QueueLemmas.{queue_empty}
-use Rattle.rescale_core.proofs.router.new_queues.Goals as goal
+use Rattle.rescale_core.proofs.router_start.new_queues.Goals as goal
 
 pub loop-preserved : goal.loop-preserved
 loop-preserved c =

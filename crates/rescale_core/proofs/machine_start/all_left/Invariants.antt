@@ -1,5 +1,5 @@
 use Rattle.std.proofs.Common.{◌≡◌, ◌++◌}
-use Rattle.rescale_core.proofs.machine.all_left.Given as goal
+use Rattle.rescale_core.proofs.machine_start.all_left.Given as goal
 
 abbrev pub invariant-loop-entry : goal.invariant-loop-entry
 invariant-loop-entry l = l.left.items ++ l.entry-iterator.rest.items ≡ l.fn.entries.items

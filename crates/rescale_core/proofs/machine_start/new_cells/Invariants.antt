@@ -3,7 +3,7 @@ use Rattle.monitorable.specs.Cores.{core_form}
 use Rattle.rescale_core.specs.Cells.{IsCellOf}
 use Rattle.rescale_core.specs.Worlds.{first_world, nth}
 use Rattle.rescale_core.specs.declared.cells.Cell.{Cell}
-use Rattle.rescale_core.proofs.machine.new_cells.Given as goal
+use Rattle.rescale_core.proofs.machine_start.new_cells.Given as goal
 
 abbrev pub invariant-loop-k : goal.invariant-loop-k
 invariant-loop-k l = record {

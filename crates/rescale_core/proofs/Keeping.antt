@@ -1,0 +1,109 @@
+-- Steps keep what holds of worlds.
+use Rattle.std.proofs.Common.{ℕ, zero, suc, List, [], ◌∷◌, ◌++◌, ◌≡◌, ◌∙◌, refl, replicate, sym, subst}
+use Rattle.std.specs.List.{AllByRecursion}
+use Rattle.rescale_core.specs.Laws.{EmitsVerdicts}
+use Rattle.rescale_core.specs.Moving.{IsDriverOf, Kind, Reaches, StepsBy, TurnsTo, collects}
+use Rattle.rescale_core.specs.Moving.Kind.{Reads, Feeds, Takes, Collects, Emits}
+use Rattle.rescale_core.specs.Soundly.{IsSound}
+use Rattle.rescale_core.specs.Worlds.{World, Allowed, Move, after}
+use Rattle.rescale_core.specs.Worlds.Move.{Read, Feed, Take, Collect, Emit}
+use Rattle.rescale_core.specs.declared.turns.Driver.{Driver}
+use Rattle.rescale_core.specs.declared.turns.Turn.{Turn}
+use Rattle.rescale_core.specs.declared.turns.Turn.TheVariants.{Moved, NotYet, Broken}
+use Rattle.rescale_core.proofs.Soundness.{step_sound}
+use Rattle.rescale_core.proofs.Verdicts.{step_verdicts}
+
+by_move : (w x : World) (m : Move) → IsSound w → EmitsVerdicts w → Allowed w m → x ≡ after w m
+    → IsSound x × EmitsVerdicts x
+by_move w x m sound verdicts may e =
+    subst (λ y. IsSound y × EmitsVerdicts y) (sym e) (step_sound w m sound may, step_verdicts w m sound may verdicts)
+
+by_step : (w x : World) (s : Kind) → IsSound w → EmitsVerdicts w → StepsBy w s x → IsSound x × EmitsVerdicts x
+by_step w x (Reads e) sound verdicts h = by_move w x (Read e) sound verdicts h.0 h.1
+by_step w x (Feeds k) sound verdicts h = by_move w x (Feed k h.0) sound verdicts h.1 h.2
+by_step w x (Takes k) sound verdicts h = by_move w x (Take k h.0) sound verdicts h.1 h.2
+by_step w x (Collects k) sound verdicts h = by_move w x (Collect k) sound verdicts h.0 h.1
+by_step w x Emits sound verdicts h = by_move w x (Emit h.0) sound verdicts h.1 h.2
+
+pub by_steps : (steps : List Kind) (w x : World) → IsSound w → EmitsVerdicts w → Reaches w steps x
+    → IsSound x × EmitsVerdicts x
+by_steps [] w x sound verdicts h = subst (λ y. IsSound y × EmitsVerdicts y) h (sound, verdicts)
+by_steps (s ∷ steps) w x sound verdicts h =
+    let one = by_step w h.0 s sound verdicts h.1 in
+    by_steps steps h.0 x one.0 one.1 h.2
+
+-- a step that reads nothing and emits nothing
+abbrev IsInner : Kind → Type 0
+IsInner (Reads e) = ⊥
+IsInner (Feeds k) = Unit {0}
+IsInner (Takes k) = Unit {0}
+IsInner (Collects k) = Unit {0}
+IsInner Emits = ⊥
+
+-- the same was read and emitted
+pub record Keeps (w x : World) : Type 0 where
+  pub core : x.core ≡ w.core
+  pub first : x.first ≡ w.first
+  pub read : x.read ≡ w.read
+  pub emitted : x.emitted ≡ w.emitted
+
+kept_to : (w x y : World) → y ≡ x → Keeps w x → Keeps w y
+kept_to w x y e k = subst (Keeps w) (sym e) k
+
+kept_on : (w x y : World) → Keeps w x → Keeps x y → Keeps w y
+kept_on w x y a b = record {
+  core = b.core ∙ a.core;
+  first = b.first ∙ a.first;
+  read = b.read ∙ a.read;
+  emitted = b.emitted ∙ a.emitted;
+}
+
+keeps_step : (w x : World) (s : Kind) → IsInner s → StepsBy w s x → Keeps w x
+keeps_step w x (Reads e) i h = absurd i
+keeps_step w x (Feeds k) i h =
+    kept_to w (after w (Feed k h.0)) x h.2 (record { core = refl; first = refl; read = refl; emitted = refl })
+keeps_step w x (Takes k) i h =
+    kept_to w (after w (Take k h.0)) x h.2 (record { core = refl; first = refl; read = refl; emitted = refl })
+keeps_step w x (Collects k) i h =
+    kept_to w (after w (Collect k)) x h.1 (record { core = refl; first = refl; read = refl; emitted = refl })
+keeps_step w x Emits i h = absurd i
+
+keeps_steps : (steps : List Kind) (w x : World) → AllByRecursion IsInner steps → Reaches w steps x → Keeps w x
+keeps_steps [] w x i h = subst (Keeps w) h (record { core = refl; first = refl; read = refl; emitted = refl })
+keeps_steps (s ∷ steps) w x i h =
+    kept_on w h.0 x (keeps_step w h.0 s i.0 h.1) (keeps_steps steps h.0 x i.1 h.2)
+
+inner_more : (a b : List Kind) → AllByRecursion IsInner a → AllByRecursion IsInner b → AllByRecursion IsInner (a ++ b)
+inner_more [] b x y = y
+inner_more (s ∷ a) b x y = (x.0, inner_more a b x.1 y)
+
+inner_times : (n : ℕ) (s : Kind) → IsInner s → AllByRecursion IsInner (replicate n s)
+inner_times zero s i = tt
+inner_times (suc n) s i = (i, inner_times n s i)
+
+inner_collects : (k n : ℕ) → AllByRecursion IsInner (collects k n)
+inner_collects k zero = tt
+inner_collects k (suc n) = (tt, tt)
+
+-- a turn moves by inner steps
+pub turn_moves : (d e : Driver) (k : ℕ) (turn : Turn) (w : World) → TurnsTo d k turn e → IsDriverOf d w
+    → (steps : List Kind) × AllByRecursion IsInner steps × (x : World) × Reaches w steps x × IsDriverOf e x
+turn_moves d e k (Moved n m) w t is =
+    let r = t.0 w is in (
+      (replicate n (Takes k) ++ collects k n) ++ replicate m (Feeds k),
+      inner_more (replicate n (Takes k) ++ collects k n) (replicate m (Feeds k))
+          (inner_more (replicate n (Takes k)) (collects k n) (inner_times n (Takes k) tt) (inner_collects k n))
+          (inner_times m (Feeds k) tt),
+      r.0,
+      r.1,
+      r.2,
+    )
+turn_moves d e k NotYet w t is = let r = t.0 w is in ([], tt, r.0, r.1, r.2)
+turn_moves d e k Broken w t is = let r = t.0 w is in ([], tt, r.0, r.1, r.2)
+
+pub turn_keeps : (d e : Driver) (k : ℕ) (turn : Turn) (w : World) → TurnsTo d k turn e → IsDriverOf d w
+    → EmitsVerdicts w → (x : World) × IsDriverOf e x × EmitsVerdicts x × Keeps w x
+turn_keeps d e k turn w t is verdicts =
+    let m = turn_moves d e k turn w t is in
+    let v = by_steps m.0 w m.2 is.router.sound verdicts m.3 in
+    (m.2, m.4, v.1, keeps_steps m.0 w m.2 m.1 m.3)

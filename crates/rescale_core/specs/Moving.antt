@@ -1,0 +1,111 @@
+-- The steps that a driver makes, and the worlds for which it stands.
+use Rattle.std.specs.Prelude.{◌≡◌, ℕ, zero, suc, ◌+◌, ◌==◌, ◌≤◌, true, List, [], ◌∷◌, ◌++◌, length, replicate}
+use mathlib.Core.Option.{some}
+use lib.ListN.{get_elem?}
+use Rattle.mfotl_model.specs.Strategies.{Strategy}
+use Rattle.monitorable.specs.CoreForms.{CoreForm}
+use Rattle.turn_hub.specs.Answers.{LooksOnce}
+use Rattle.turn_hub.specs.Ends.{main_view}
+use Rattle.turn_hub.specs.Words.{broken, hand_turn}
+use Rattle.turn_hub.specs.declared.hub.Main.{Main}
+use Rattle.turn_hub.specs.declared.view.Line.{Line}
+use Rattle.verdict_merge.specs.declared.rows.Verdict.{Verdict}
+use Rattle.rescale_core.specs.Chances.{sure_items}
+use Rattle.rescale_core.specs.Routing.{IsRouterOf}
+use Rattle.rescale_core.specs.Works.{seen}
+use Rattle.rescale_core.specs.Worlds.{World, Allowed, after, first_seat, queue_in}
+use Rattle.rescale_core.specs.Worlds.Move.{Read, Feed, Take, Collect, Emit}
+use Rattle.rescale_core.specs.declared.item.Entry.{Entry}
+use Rattle.rescale_core.specs.declared.item.Item.{Item}
+use Rattle.rescale_core.specs.declared.item.Out.{Out}
+use Rattle.rescale_core.specs.declared.phase.Worker.{Worker}
+use Rattle.rescale_core.specs.declared.seed.Seed.{Seed}
+use Rattle.rescale_core.specs.declared.turns.Driver.{Driver}
+use Rattle.rescale_core.specs.declared.turns.Turn.{Turn}
+use Rattle.rescale_core.specs.declared.turns.Turn.TheVariants.{Moved, NotYet, Broken}
+
+-- what main knows of a worker's cell
+abbrev pub CellLine : Type 0
+CellLine = Line Seed Item Out
+
+-- the lines of a driver
+abbrev pub lines_of : Driver → List CellLine
+lines_of d = (main_view d.main).lines
+
+-- the kinds of steps: an entry is read, worker k is handed an item, takes one, what it gave is collected, or a
+-- verdict is emitted
+pub data Kind : Type 0 where
+  Reads : Entry → Kind
+  Feeds : ℕ → Kind
+  Takes : ℕ → Kind
+  Collects : ℕ → Kind
+  Emits : Kind
+
+-- a step of the kind leads from one world to another
+abbrev pub StepsBy : World → Kind → World → Type 0
+StepsBy w (Reads e) x = Allowed w (Read e) × (x ≡ after w (Read e))
+StepsBy w (Feeds k) x = (i : Item) × Allowed w (Feed k i) × (x ≡ after w (Feed k i))
+StepsBy w (Takes k) x = (gave : List Out) × Allowed w (Take k gave) × (x ≡ after w (Take k gave))
+StepsBy w (Collects k) x = Allowed w (Collect k) × (x ≡ after w (Collect k))
+StepsBy w Emits x = (v : Verdict) × Allowed w (Emit v) × (x ≡ after w (Emit v))
+
+-- steps of these kinds, one after the other
+abbrev pub Reaches : World → List Kind → World → Type 0
+Reaches w [] x = w ≡ x
+Reaches w (s ∷ ss) x = (y : World) × StepsBy w s y × Reaches y ss x
+
+-- main's view of a cell is the world's: what was handed over, what came back, that all that was taken is collected, and
+-- how many items were handed over last
+pub record IsLineOf (w : World) (k : ℕ) (l : CellLine) : Type 0 where
+  pub seed : seen l.seed ≡ record { core = w.core; first = w.first; k = k }
+  pub handed : l.handed ≡ (w.seats k).fed
+  pub back : l.back ≡ (w.seats k).back
+  pub outs : (w.seats k).outs ≡ (w.seats k).back
+  pub taken : (w.seats k).taken ≡ (w.seats k).collected
+  pub last : l.last + (w.seats k).taken ≡ length (w.seats k).fed
+  pub mine : l.mine ≡ (l.last == 0)
+
+-- The driver stands for the world: its router does, main's view is the world's, and a worker without a cell was handed
+-- nothing.
+pub record IsDriverOf (d : Driver) (w : World) : Type 0 where
+  pub router : IsRouterOf d.router w
+  pub lines : (k : ℕ) (l : CellLine) → get_elem? (lines_of d) k ≡ some l → IsLineOf w k l
+  pub beyond : (k : ℕ) → length (lines_of d) ≤ k → w.seats k ≡ first_seat
+
+-- each cell was opened on the worker of its number, of this core and strategy, and nothing was handed over
+abbrev pub IsOpened : CoreForm → Strategy → Main Worker Item Out Seed → Type 0
+IsOpened c s main =
+    (k : ℕ) (l : CellLine) → get_elem? (main_view main).lines k ≡ some l
+    → (seen l.seed ≡ record { core = c; first = s; k = k })
+    × (l.handed ≡ []) × (l.back ≡ []) × (l.last ≡ 0) × (l.mine ≡ true)
+
+-- from each world for which the one driver stands, steps of these kinds lead to one for which the other stands
+abbrev pub Moves : Driver → List Kind → Driver → Type 0
+Moves d steps e = (w : World) → IsDriverOf d w → (x : World) × Reaches w steps x × IsDriverOf e x
+
+-- collecting is a step only where something was taken
+abbrev pub collects : ℕ → ℕ → List Kind
+collects k zero = []
+collects k (suc n) = Collects k ∷ []
+
+-- nothing is ready for worker k
+abbrev pub NoneReady : Driver → ℕ → Type 0
+NoneReady d k = (w : World) → IsDriverOf d w → sure_items (queue_in w k) ≡ []
+
+-- The worker took the n items that it had, which was collected, and was handed m, all that were ready; or nothing
+-- happened, as this call found the worker's turn, or a broken cell.
+abbrev pub TurnsTo : Driver → ℕ → Turn → Driver → Type 0
+TurnsTo d k (Moved n m) e =
+    Moves d ((replicate n (Takes k) ++ collects k n) ++ replicate m (Feeds k)) e × NoneReady e k
+TurnsTo d k NotYet e = Moves d [] e × LooksOnce (main_view d.main) k hand_turn (main_view e.main)
+TurnsTo d k Broken e = Moves d [] e × LooksOnce (main_view d.main) k broken (main_view e.main)
+
+-- main left the turn of this cell with itself, with nothing handed over last
+abbrev pub HasTurn : List CellLine → ℕ → Type 0
+HasTurn lines k = (l : CellLine) × (get_elem? lines k ≡ some l) × (l.mine ≡ true) × (l.last ≡ 0)
+
+-- the worker took the n items that it had, which was collected, and main has the turn; or nothing happened
+abbrev pub TakesBack : Driver → ℕ → Turn → Driver → Type 0
+TakesBack d k (Moved n m) e = Moves d (replicate n (Takes k) ++ collects k n) e × HasTurn (lines_of e) k
+TakesBack d k NotYet e = Moves d [] e × LooksOnce (main_view d.main) k hand_turn (main_view e.main)
+TakesBack d k Broken e = Moves d [] e × LooksOnce (main_view d.main) k broken (main_view e.main)

@@ -1,0 +1,126 @@
+//! Main's part: it reads, hands over, collects and emits.
+ghost use Rattle.std.specs.Prelude.{◌≡◌, ◌∷◌, [], ◌<◌, ℕ, true, replicate, IfOk, IfSome, IfNone, length};
+ghost use Rattle.mfotl_model.specs.Strategies.{Strategy as OneStrategy};
+ghost use Rattle.monitorable.specs.CoreForms.{CoreForm};
+ghost use Rattle.turn_hub.specs.Ends.{AllMine, IsMainOf, cell_count, main_view};
+ghost use Rattle.rescale_core.specs.Moving.{HasTurn, IsDriverOf, IsOpened, Moves, Reaches, TakesBack, TurnsTo, NoneReady};
+ghost use Rattle.rescale_core.specs.Moving.Kind.{Feeds, Reads};
+ghost use Rattle.rescale_core.specs.Routing.{HasEnded, IsRouterOf};
+ghost use Rattle.rescale_core.specs.Workers.{MayFollow};
+ghost use Rattle.rescale_core.specs.Worlds.{World, Allowed, IsGathered, after, first_world, spot_in};
+ghost use Rattle.rescale_core.specs.Worlds.Move.{Emit};
+ghost use Rattle.rescale_core.specs.declared.item.Entry.TheVariants.{Point};
+
+use crate::phase::Worker;
+use crate::routes::Router;
+use crate::turns::{Driver, Turn};
+use mfotl_model::TimePoint;
+use std::alloc::{AllocError, Global};
+use turn_hub::{Hub, Main, Swap};
+use verdict_merge::Verdict;
+
+impl Driver {
+    /// The driver that did nothing yet, of a router that was just started and a hub that was just opened on workers of
+    /// its core and strategy.
+    pub fn open(router: Router, main: Main<Worker>) -> Self
+        requires { (c : CoreForm) × (s : OneStrategy) × IsRouterOf router (first_world c s) × IsOpened c s main }
+        ensures stands { (c : CoreForm) (s : OneStrategy) → IsRouterOf router (first_world c s) → IsOpened c s main
+            → IsDriverOf result (first_world c s) }
+        ensures main { result.main ≡ main }
+    {
+        Driver { router, main }
+    }
+
+    /// Queues a slice of the time-point for each worker, also an empty one.
+    pub fn read_point(&mut self, alloc: Global, point: TimePoint) -> Result<(), AllocError>
+        requires { (w : World) × IsDriverOf self.old w × MayFollow (spot_in w).points point }
+        ensures moves { IfOk result (λ _. (w : World) → MayFollow (spot_in w).points point → IsDriverOf self.old w
+            → (x : World) × Reaches w (Reads (Point point) ∷ []) x × IsDriverOf self.new x) }
+        ensures main { IfOk result (λ _. self.new.main ≡ self.old.main) }
+    {
+        self.router.read_point(alloc, point)?;
+        Ok(())
+    }
+
+    /// The next verdict, once all its Rows were collected.
+    pub fn emit(&mut self, alloc: Global) -> Result<Option<Verdict>, AllocError>
+        ensures emitted { IfOk result (λ o. IfSome o (λ v. (w : World) → IsDriverOf self.old w
+            → Allowed w (Emit v) × IsDriverOf self.new (after w (Emit v)))) }
+        ensures none { IfOk result (λ o. IfNone o ((w : World) → IsDriverOf self.old w
+            → (IsGathered w (length w.emitted) → ⊥) × IsDriverOf self.new w)) }
+        ensures main { IfOk result (λ _. self.new.main ≡ self.old.main) }
+    {
+        let verdict = self.router.emit(alloc)?;
+        Ok(verdict)
+    }
+
+    /// Whether no item waits, every item handed over was collected, and there is no verdict to emit. Then all turns are
+    /// main's.
+    pub fn ended(&self) -> bool
+        ensures ended { (w : World) → IsDriverOf self.now w → result ≡ true → HasEnded w }
+        ensures open { (w : World) → IsDriverOf self.now w → HasEnded w → result ≡ true }
+        ensures mine { (w : World) → IsDriverOf self.now w → result ≡ true → AllMine (main_view self.now.main) }
+    {
+        self.router.ended()
+    }
+
+    /// Main's end, as it stands.
+    pub fn release(self) -> Main<Worker>
+        ensures { result ≡ self.main }
+    {
+        let Driver { router: _, main } = self;
+        main
+    }
+
+    /// Collects what the items that worker `k` had gave, and hands over all that are ready then. Where it is the worker's
+    /// turn, or the worker is broken, nothing happens.
+    pub fn turn(&mut self, alloc: Global, hub: &Hub<Worker>, k: u32) -> Result<Turn, AllocError>
+        requires stands { (w : World) × IsDriverOf self.old w }
+        requires main { IsMainOf hub.now self.old.main × (k < cell_count hub.now) }
+        ensures did { IfOk result (λ turn. TurnsTo self.old k turn self.new) }
+        ensures main { IfOk result (λ _. IsMainOf hub.now self.new.main) }
+    {
+        let back = self.take_back(alloc, hub, k)?;
+        let Turn::Moved(given, _) = back else {
+            return Ok(back);
+        };
+        let handed = self.hand_over(alloc, hub, k)?;
+        Ok(Turn::Moved(given, handed))
+    }
+
+    // Collects what the items that the worker had gave.
+    fn take_back(&mut self, alloc: Global, hub: &Hub<Worker>, k: u32) -> Result<Turn, AllocError>
+        requires stands { (w : World) × IsDriverOf self.old w }
+        requires main { IsMainOf hub.now self.old.main × (k < cell_count hub.now) }
+        ensures did { IfOk result (λ turn. TakesBack self.old k turn self.new) }
+        ensures main { IfOk result (λ _. IsMainOf hub.now self.new.main) }
+    {
+        match hub.swap(&mut self.main, k, Vec::new(alloc)) {
+            Swap::NotYet(_) => Ok(Turn::NotYet),
+            Swap::Broken(_) => Ok(Turn::Broken),
+            Swap::Back(given, outs) => {
+                if given != 0 {
+                    self.router.collect(k, given, outs)?;
+                }
+                Ok(Turn::Moved(given, 0))
+            }
+        }
+    }
+
+    // Hands over all that are ready, and says how many these are.
+    fn hand_over(&mut self, alloc: Global, hub: &Hub<Worker>, k: u32) -> Result<u64, AllocError>
+        requires stands { (w : World) × IsDriverOf self.old w }
+        requires main { IsMainOf hub.now self.old.main × (k < cell_count hub.now) }
+        requires mine { HasTurn (main_view self.old.main).lines k }
+        ensures did { IfOk result (λ m. Moves self.old (replicate m (Feeds k)) self.new) }
+        ensures all { IfOk result (λ _. NoneReady self.new k) }
+        ensures main { IfOk result (λ _. IsMainOf hub.now self.new.main) }
+    {
+        let items = self.router.take_ready(alloc, k, u64::MAX)?;
+        let handed = items.len() as u64;
+        match hub.swap(&mut self.main, k, items) {
+            Swap::Back(_, _) => Ok(handed),
+            _ => unreachable!(),
+        }
+    }
+}

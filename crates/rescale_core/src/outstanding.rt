@@ -1,0 +1,37 @@
+//! How many items each worker was handed that were not collected.
+ghost use Rattle.std.specs.Prelude.{◌≡◌, ◌<◌, ◌≤◌, ◌+◌, IfOk, length, cond, get_or, nat_eq, ℕ};
+ghost use Rattle.std.specs.List.{list_all};
+
+use std::alloc::AllocError;
+
+/// Counts so many more for worker `k`.
+pub(crate) fn raise(counts: &mut Vec<u64>, k: u32, more: u64) -> Result<(), AllocError>
+    ensures len { IfOk result (λ _. length counts.new.items ≡ length counts.old.items) }
+    ensures more { IfOk result (λ _. (q : ℕ) → get_or counts.new.items q 0
+        ≡ get_or counts.old.items q 0 + cond (nat_eq q k) more 0) }
+{
+    if k as usize >= counts.len() {
+        return Err(AllocError);
+    }
+    let count = counts[k as usize];
+    counts[k as usize] = count.checked_add(more).ok_or(AllocError)?;
+    Ok(())
+}
+
+/// Counts so many less for worker `k`.
+pub(crate) fn lower(counts: &mut Vec<u64>, k: u32, less: u64)
+    requires low { k < length counts.old.items }
+    requires less { less ≤ get_or counts.old.items k 0 }
+    ensures len { length counts.new.items ≡ length counts.old.items }
+    ensures less { (q : ℕ) → get_or counts.new.items q 0 + cond (nat_eq q k) less 0 ≡ get_or counts.old.items q 0 }
+{
+    let count = counts[k as usize];
+    counts[k as usize] = count - less;
+}
+
+/// Whether no worker has anything that was not collected.
+pub(crate) fn none_outstanding(counts: &[u64]) -> bool
+    ensures { result ≡ list_all (nat_eq 0) counts.now }
+{
+    counts.iter().all(|count| 0 == *count)
+}
