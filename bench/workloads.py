@@ -42,6 +42,16 @@ def clock(draw, step):
         yield now
 
 
+def portions(draw, events, step, most):
+    """Timestamps, and how many events each has: fewer than `most`, until all are given out."""
+    for now in clock(draw, step):
+        if events <= 0:
+            return
+        size = min(draw.randrange(most), events)
+        events -= size
+        yield now, size
+
+
 def approvals_one_by_one(draw, events):
     recent = deque([0] * 4, maxlen=4)
     for number, now in zip(range(events), clock(draw, 3)):
@@ -86,12 +96,9 @@ class Owed:
 
 def requests_granted_later(draw, events):
     owed, numbers = Owed(), itertools.count()
-    left = events
-    for now in clock(draw, 3):
-        if left <= 0:
-            return
+    for now, size in portions(draw, events, 3, 5):
         here = []
-        for _ in range(min(draw.randrange(5), left)):
+        for _ in range(size):
             request = owed.take(now)
             if request is not None:
                 here.append(event("grant", request if draw.randrange(20) else 2_000_000))
@@ -99,23 +106,18 @@ def requests_granted_later(draw, events):
                 request = next(numbers) * 7919 % 1_000_003
                 owed.add(now + 100 + draw.randrange(800), request)
                 here.append(event("request", request))
-        left -= len(here)
         yield now, here
 
 
 def requests_with_drops(draw, events):
-    left = events
-    for now in clock(draw, 4):
-        if left <= 0:
-            return
+    for now, size in portions(draw, events, 4, 60):
         here = []
-        for _ in range(min(draw.randrange(60), left)):
+        for _ in range(size):
             kind, number = draw.randrange(8), draw.randrange(800)
             if kind < 4:
                 here.append(event("req", number, f"user{draw.randrange(50)}"))
             else:
                 here.append(event("grant" if kind < 7 else "drop", number))
-        left -= len(here)
         yield now, here
 
 
