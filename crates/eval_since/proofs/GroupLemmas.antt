@@ -2,21 +2,17 @@
 use Rattle.std.proofs.Common.{◌≡◌, ℕ, ◌+◌, ◌<◌, ◌≤◌, Bool, true, false, cond, nat_eq, ◌&&◌, ◌||◌, List, [], ◌∷◌, length, get_or, take, Option, Some, None, refl, sym, ap, ◌∙◌, arith}
 use Rattle.std.specs.BTreeMap.{is_at}
 use Rattle.std.specs.List.{list_any}
-use Rattle.std.specs.Map.{lookup, keys_of}
+use Rattle.std.specs.Map.{lookup}
 use Rattle.std.specs.Option.{unwrap_or}
-use Rattle.std.specs.declared.cmp.Ordering.TheVariants.{Equal}
 use Rattle.mfotl_model.specs.Values.{row_cmp, row_total}
 use Rattle.mfotl_model.specs.declared.value.Value.{Value}
-use Rattle.mfotl_model.proofs.RowLemmas.{row_exact}
 use Rattle.std.proofs.lemmas.Bool.{eqb-true}
 use Rattle.std.proofs.lemmas.List.{take_all}
 use Rattle.std.specs.Cmp.{eq_by_cmp_equiv}
-use Rattle.std.proofs.lemmas.Map.{lookup-none}
-use Rattle.std.proofs.lemmas.Map.Entries.{none_past_head}
-use Rattle.std.proofs.lemmas.Map.Keys.{sorted_tail, IsDistinct-from_sorted}
-use Rattle.std.specs.List.Sorted.{IsStrictlySortedBy}
 use Rattle.mfotl_model.specs.declared.interval.Interval.{Interval}
 use Rattle.mfotl_model.specs.Tables.{has_row}
+use Rattle.relations.specs.KeptRows.{RowsDiffer}
+use Rattle.relations.proofs.KeptLemmas.{differ_tail, none_behind}
 use Rattle.relations.proofs.MapLemmas.{same_row}
 use Rattle.relations.proofs.TableRows.{has_more}
 use Rattle.eval_since.specs.Groups.{hit, times_in, group_of, times_at}
@@ -102,13 +98,13 @@ pub kept_some : {X : Type 0} (parts : List (List Value)) (i : ℕ) (x key : List
     → AreGone (take i parts) old cur
     → AreKept (take i parts) old kept
     → Some g ≡ lookup (is_at (row_cmp x)) cur
-    → row_cmp x key ≡ Equal
+    → is_at (row_cmp x) key ≡ true
     → ((q : List Value) → lookup (is_at (row_cmp q)) new
     ≡ cond (is_at (row_cmp key) q) (Some g) (lookup (is_at (row_cmp q)) kept))
     → AreKept (take (i + 1) parts) old new
 kept_some {X} parts i x key old cur kept new g low e gone before some same step = λ q.
     step q
-    ∙ ap (λ k. cond (is_at (row_cmp k) q) (Some g) (lookup (is_at (row_cmp q)) kept)) (sym (row_exact x key same))
+    ∙ ap (λ k. cond (is_at (row_cmp k) q) (Some g) (lookup (is_at (row_cmp q)) kept)) (sym (same_row x key same))
     ∙ ap (λ o. cond (is_at (row_cmp x) q) (Some g) o) (before q)
     ∙ by q (has_row (take i parts) q) (is_at (row_cmp x) q) refl (gone q)
     ∙ sym (ap (λ b. cond b (lookup (is_at (row_cmp q)) old) None) (has_more parts i x q low e))
@@ -188,19 +184,18 @@ or_false false = refl
 
 -- what is found among the entries is what the row's own entry gives
 pub hit_is : (interval : Interval) (x : ℕ) (u : List Value) (es : List (List Value × List ℕ))
-    → IsStrictlySortedBy row_cmp (keys_of es)
+    → RowsDiffer es
     → list_any (hit interval x u) es ≡ reaches interval (times_in es u) x
 hit_is interval x u [] h = refl
 hit_is interval x u (e ∷ es) h = by (is_at (row_cmp u) e.0) refl
-    (hit_is interval x u es (sorted_tail row_cmp e.0 (keys_of es) h))
+    (hit_is interval x u es (differ_tail e es h))
   where
     by : (b : Bool) → is_at (row_cmp u) e.0 ≡ b → list_any (hit interval x u) es ≡ reaches interval (times_in es u) x
         → ((b && reaches interval e.1 x) || list_any (hit interval x u) es)
         ≡ reaches interval (unwrap_or (cond b (Some e.1) (lookup (is_at (row_cmp u)) es)) []) x
     by true at rest =
         ap (λ r. reaches interval e.1 x || r) (rest ∙ ap (λ o. reaches interval (unwrap_or o []) x)
-        (lookup-none (is_at (row_cmp u)) es (none_past_head (eq_by_cmp_equiv row_total) u e es
-        (IsDistinct-from_sorted row_cmp (keys_of (e ∷ es)) h) at)))
+        (none_behind u e es h at))
         ∙ or_false (reaches interval e.1 x)
     by false at rest = rest
 
@@ -210,23 +205,22 @@ StandsIn groups k u = (q : List Value) → is_at (row_cmp k) q ≡ false → tim
 
 pub stands_tail : (e : List Value × List (List Value × List ℕ)) (es : List (List Value × List (List Value × List ℕ)))
     (k u : List Value)
-    → IsStrictlySortedBy row_cmp (keys_of (e ∷ es)) → StandsIn (e ∷ es) k u → StandsIn es k u
+    → RowsDiffer (e ∷ es) → StandsIn (e ∷ es) k u → StandsIn es k u
 stands_tail e es k u h stands q apart = by (is_at (row_cmp q) e.0) refl (stands q apart)
   where
     by : (b : Bool) → is_at (row_cmp q) e.0 ≡ b → times_in
         (unwrap_or (cond b (Some e.1) (lookup (is_at (row_cmp q)) es)) []) u ≡ [] → times_at es q u ≡ []
     by true at was = ap (λ o. times_in (unwrap_or o []) u)
-        (lookup-none (is_at (row_cmp q)) es (none_past_head (eq_by_cmp_equiv row_total) q e es
-        (IsDistinct-from_sorted row_cmp (keys_of (e ∷ es)) h) at))
+        (none_behind q e es h at)
     by false at was = was
 
 -- where a row stands in one group alone, what is found in any group is found there
 pub group_is : (interval : Interval) (x : ℕ) (k u : List Value)
-    (es : List (List Value × List (List Value × List ℕ))) → IsStrictlySortedBy row_cmp (keys_of es) → StandsIn es k u
+    (es : List (List Value × List (List Value × List ℕ))) → RowsDiffer es → StandsIn es k u
     → list_any (λ e. reaches interval (times_in e.1 u) x) es ≡ reaches interval (times_at es k u) x
 group_is interval x k u [] h stands = refl
 group_is interval x k u (e ∷ es) h stands =
-    by (is_at (row_cmp k) e.0) refl (group_is interval x k u es (sorted_tail row_cmp e.0 (keys_of es) h)
+    by (is_at (row_cmp k) e.0) refl (group_is interval x k u es (differ_tail e es h)
     (stands_tail e es k u h stands)) (stands e.0)
   where
     by : (b : Bool) → is_at (row_cmp k) e.0 ≡ b
@@ -237,8 +231,7 @@ group_is interval x k u (e ∷ es) h stands =
     by true at rest there =
         ap (λ r. reaches interval (times_in e.1 u) x || r) (rest
         ∙ ap (λ o. reaches interval (times_in (unwrap_or o []) u) x)
-        (lookup-none (is_at (row_cmp k)) es (none_past_head (eq_by_cmp_equiv row_total) k e es
-        (IsDistinct-from_sorted row_cmp (keys_of (e ∷ es)) h) at)))
+        (none_behind k e es h at))
         ∙ or_false (reaches interval (times_in e.1 u) x)
     by false at rest there =
         let here : times_at (e ∷ es) e.0 u ≡ times_in e.1 u = ap

@@ -5,7 +5,6 @@ use Rattle.std.proofs.lemmas.Map.Keys.{sorted_tail}
 use Rattle.std.specs.BTreeMap.{is_at}
 use Rattle.std.specs.Cmp.{eq_by_cmp_equiv}
 use Rattle.std.specs.List.{AllByRecursion, list_any}
-use Rattle.std.specs.List.Sorted.{IsStrictlySortedBy}
 use Rattle.std.specs.Map.{lookup, keys_of}
 use Rattle.std.specs.Option.{option_or, unwrap_or}
 use Rattle.std.specs.Ordering.{eq_by_cmp}
@@ -13,8 +12,8 @@ use Rattle.mfotl_model.specs.Tables.{all_sized, part}
 use Rattle.mfotl_model.specs.Values.{row_cmp, row_total}
 use Rattle.mfotl_model.specs.declared.interval.Interval.{Interval}
 use Rattle.mfotl_model.specs.declared.value.Value.{Value}
-use Rattle.relations.specs.KeptRows.{RowsAscend, filled, kept_for}
-use Rattle.relations.proofs.KeptLemmas.{each_kept, filled_back, filled_is, none_behind, or_none}
+use Rattle.relations.specs.KeptRows.{RowsAscend, RowsDiffer, filled, kept_for}
+use Rattle.relations.proofs.KeptLemmas.{ascending_differ, differ_tail, each_kept, filled_back, filled_is, none_behind, or_none}
 use Rattle.relations.proofs.MapLemmas.{same_row}
 use Rattle.eval_since.specs.Groups.{hit, times_at, times_in}
 use Rattle.eval_since.specs.Recalled.{first_times, put_times, recalls, times_for, times_kept}
@@ -24,11 +23,11 @@ use Rattle.eval_since.proofs.GroupLemmas.{StandsIn, hit_is, stands_tail}
 
 -- where a row stands in one group alone, the first times found are those there
 pub first_there : (k u : List Value) (es : List (List Value × List (List Value × List ℕ)))
-    → IsStrictlySortedBy row_cmp (keys_of es) → StandsIn es k u → first_times es u ≡ filled (times_at es k u)
-first_there k u [] up stands = refl
-first_there k u (e ∷ es) up stands =
-    by (is_at (row_cmp k) e.0) refl (first_there k u es (sorted_tail row_cmp e.0 (keys_of es) up)
-    (stands_tail e es k u up stands)) (stands e.0)
+    → RowsDiffer es → StandsIn es k u → first_times es u ≡ filled (times_at es k u)
+first_there k u [] apart stands = refl
+first_there k u (e ∷ es) apart stands =
+    by (is_at (row_cmp k) e.0) refl (first_there k u es (differ_tail e es apart)
+    (stands_tail e es k u apart stands)) (stands e.0)
   where
     by : (b : Bool) → is_at (row_cmp k) e.0 ≡ b → first_times es u ≡ filled (times_at es k u)
         → (is_at (row_cmp k) e.0 ≡ false → times_at (e ∷ es) e.0 u ≡ [])
@@ -36,7 +35,7 @@ first_there k u (e ∷ es) up stands =
         ≡ filled (times_in (unwrap_or (cond b (Some e.1) (lookup (is_at (row_cmp k)) es)) []) u)
     by true at rest there =
         ap (option_or (filled (times_in e.1 u))) (rest
-        ∙ ap (λ o. filled (times_in (unwrap_or o []) u)) (none_behind k e es up at))
+        ∙ ap (λ o. filled (times_in (unwrap_or o []) u)) (none_behind k e es apart at))
         ∙ or_none (filled (times_in e.1 u))
     by false at rest there =
         let here : times_at (e ∷ es) e.0 u ≡ times_in e.1 u = ap
@@ -47,7 +46,8 @@ first_there k u (e ∷ es) up stands =
 -- what the data says of a row is what its own times say
 pub recalls_is : (interval : Interval) (rows : List KeptRow) (x : ℕ) (u : List Value) → RowsAscend (times_kept rows)
     → recalls interval rows x u ≡ reaches interval (times_for rows u) x
-recalls_is interval rows x u up = pairs rows ∙ hit_is interval x u (times_kept rows) up
+recalls_is interval rows x u up = pairs rows
+    ∙ hit_is interval x u (times_kept rows) (ascending_differ (times_kept rows) up)
   where
     pairs : (ks : List KeptRow) → recalls interval ks x u ≡ list_any (hit interval x u) (times_kept ks)
     pairs [] = refl
@@ -97,7 +97,8 @@ put_is right left (e ∷ es) up q v times =
         ap (λ r. cond (is_at (row_cmp (part right left v)) q)
         (unwrap_or (kept_for es v) (cond (is_at (row_cmp (part right left r)) q && true) e.1 times))
         (cond (is_at (row_cmp (part right left r)) q && true) e.1 times)) (same_row e.0 v at)
-        ∙ here (is_at (row_cmp (part right left v)) q) (kept_for es v) (none_behind v e es up turned)
+        ∙ here (is_at (row_cmp (part right left v)) q) (kept_for es v)
+        (none_behind v e es (ascending_differ (e ∷ es) up) turned)
         ∙ sym (ap (λ b. cond (is_at (row_cmp (part right left v)) q)
         (unwrap_or (cond b (Some e.1) (kept_for es v)) times) times) turned)
     by false at =

@@ -1,5 +1,5 @@
-//! Rows with the times kept for them.
-ghost use Rattle.std.specs.Prelude.{◌≡◌, ◌||◌, ◌==◌, [], List, None, IfOk, OnOk, cond, length};
+//! Rows with the times kept for them, each found by its hash.
+ghost use Rattle.std.specs.Prelude.{◌≡◌, ◌||◌, ◌==◌, [], List, OnOk, cond, length};
 ghost use Rattle.std.specs.BTreeMap.{is_at};
 ghost use Rattle.mfotl_model.specs.Values.{row_cmp};
 ghost use Rattle.mfotl_model.specs.declared.value.Value.{Value};
@@ -7,23 +7,20 @@ ghost use Rattle.eval_since.specs.Groups.{times_in, hit};
 ghost use Rattle.mfotl_model.specs.Tables.{has_row};
 ghost use Rattle.eval_since.specs.Times.{ArePast, added, reaches, recent};
 ghost use Rattle.std.specs.List.{list_any};
-ghost use Rattle.std.specs.List.Sorted.{IsStrictlySortedBy};
-ghost use Rattle.std.specs.Map.{keys_of};
 ghost use Rattle.std.specs.Option.{option_or};
 ghost use Rattle.mfotl_model.specs.declared.interval.Interval.{Interval};
-ghost use Rattle.relations.specs.KeptRows.{RowsAscend, filled, first_filled, kept_for};
-ghost use Rattle.eval_since.specs.Recalled.{times_kept};
+ghost use Rattle.relations.specs.KeptRows.{RowsDiffer, filled, first_filled, kept_for};
 
-use crate::recalled::KeptRow;
+use crate::ordered::OrderedGroup;
 use crate::times::Times;
 use mfotl_model::{Interval, Row};
 use std::alloc::{AllocError, Global};
-use std::collections::BTreeMap;
+use std::collections::HashMap;
 use std::marker::Model;
 
 #[derive(Drop)]
 pub struct Group {
-    rows: BTreeMap<Row, Times>,
+    rows: HashMap<Row, Times>,
 }
 
 impl Model for Group {
@@ -40,7 +37,7 @@ impl Group {
         ensures { result ≡ [] }
     {
         Group {
-            rows: BTreeMap::new(alloc),
+            rows: HashMap::new(alloc),
         }
     }
 
@@ -115,7 +112,7 @@ impl Group {
     ) -> Result<(), AllocError>
         ensures rows { OnOk result ((u : List Value) → has_row out.new.items u
             ≡ (has_row out.old.items u || list_any (hit interval.now x u) self.now)) }
-        ensures ascend { IsStrictlySortedBy row_cmp (keys_of self.now) }
+        ensures differ { RowsDiffer self.now }
     {
         for (row, times) in &self.rows {
             if times.reaches(interval, x) {
@@ -134,25 +131,10 @@ impl Group {
         Ok(())
     }
 
-    // a row with its times, where it has some and isn't there yet
-    fn pour_row(&mut self, alloc: Global, row: &Row, times: &Times) -> Result<(), AllocError>
-        ensures { OnOk result ((u : List Value) → kept_for self.new u
-            ≡ option_or (kept_for self.old u) (cond (is_at (row_cmp u) row.now) (filled times.now) None)) }
-    {
-        if times.is_empty() {
-            return Ok(());
-        }
-        if self.rows.contains_key(row) {
-            return Ok(());
-        }
-        self.rows.insert(row.copy(alloc)?, times.copy(alloc)?)?;
-        Ok(())
-    }
-
-    fn pour_rows(&self, alloc: Global, out: &mut Group) -> Result<(), AllocError>
+    fn pour_rows(&self, alloc: Global, out: &mut OrderedGroup) -> Result<(), AllocError>
         ensures rows { OnOk result ((u : List Value) → kept_for out.new u
             ≡ option_or (kept_for out.old u) (first_filled self.now u)) }
-        ensures ascend { RowsAscend self.now }
+        ensures differ { RowsDiffer self.now }
     {
         for (row, times) in &self.rows {
             out.pour_row(alloc, row, times)?;
@@ -160,26 +142,11 @@ impl Group {
         Ok(())
     }
 
-    /// Copies the rows that have times into a group, but those that it has.
-    pub fn pour(&self, alloc: Global, out: &mut Group) -> Result<(), AllocError>
+    /// Copies the rows that have times into one that has them in order, but those that it has.
+    pub fn pour(&self, alloc: Global, out: &mut OrderedGroup) -> Result<(), AllocError>
         ensures { OnOk result ((u : List Value) → kept_for out.new u
             ≡ option_or (kept_for out.old u) (filled (times_in self.now u))) }
     {
         self.pour_rows(alloc, out)
-    }
-
-    /// The rows with their times.
-    pub fn into_kept(self, alloc: Global) -> Result<Vec<KeptRow>, AllocError>
-        ensures rows { IfOk result (λ rows. times_kept rows.items ≡ self) }
-        ensures ascend { IfOk result (λ rows. RowsAscend (times_kept rows.items)) }
-    {
-        let mut kept = Vec::with_capacity(alloc, self.rows.len())?;
-        for (row, times) in self.rows {
-            kept.push(KeptRow {
-                row,
-                times: times.into_vec(),
-            })?;
-        }
-        Ok(kept)
     }
 }

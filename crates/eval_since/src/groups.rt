@@ -2,11 +2,9 @@
 ghost use Rattle.std.specs.Prelude.{◌≡◌, ◌||◌, ◌&&◌, ◌==◌, [], List, ℕ, OnOk, cond, length, not};
 ghost use Rattle.std.specs.BTreeMap.{is_at};
 ghost use Rattle.std.specs.List.{list_any};
-ghost use Rattle.std.specs.List.Sorted.{IsStrictlySortedBy};
-ghost use Rattle.std.specs.Map.{keys_of};
 ghost use Rattle.std.specs.Option.{option_or};
 ghost use Rattle.mfotl_model.specs.declared.interval.Interval.{Interval};
-ghost use Rattle.relations.specs.KeptRows.{kept_for};
+ghost use Rattle.relations.specs.KeptRows.{RowsDiffer, kept_for};
 ghost use Rattle.eval_since.specs.Recalled.{first_times};
 ghost use Rattle.mfotl_model.specs.Values.{row_cmp};
 ghost use Rattle.mfotl_model.specs.declared.value.Value.{Value};
@@ -15,15 +13,16 @@ ghost use Rattle.mfotl_model.specs.Tables.{has_row};
 ghost use Rattle.eval_since.specs.Times.{ArePast, added, reaches, recent};
 
 use crate::group::Group;
+use crate::ordered::OrderedGroup;
 use crate::times::Times;
 use mfotl_model::{Interval, Row};
 use std::alloc::{AllocError, Global};
-use std::collections::BTreeMap;
+use std::collections::HashMap;
 use std::marker::Model;
 
 #[derive(Drop)]
 pub struct Groups {
-    groups: BTreeMap<Row, Group>,
+    groups: HashMap<Row, Group>,
 }
 
 impl Model for Groups {
@@ -40,7 +39,7 @@ impl Groups {
         ensures { result ≡ [] }
     {
         Groups {
-            groups: BTreeMap::new(alloc),
+            groups: HashMap::new(alloc),
         }
     }
 
@@ -88,7 +87,7 @@ impl Groups {
         ensures { OnOk result ((q v : List Value) → times_at self.new q v
             ≡ cond (has_row parts.now q) (times_at self.old q v) []) }
     {
-        let mut kept = BTreeMap::new(alloc);
+        let mut kept = HashMap::new(alloc);
         for part in parts {
             if let Some((key, group)) = self.groups.remove_entry(part) {
                 kept.insert(key, group)?;
@@ -128,7 +127,7 @@ impl Groups {
         ensures rows { OnOk result ((u : List Value) → has_row out.new.items u
             ≡ (has_row out.old.items u
             || list_any (λ e. reaches interval.now (times_in e.1 u) x) self.now)) }
-        ensures ascend { IsStrictlySortedBy row_cmp (keys_of self.now) }
+        ensures differ { RowsDiffer self.now }
     {
         for (key, group) in &self.groups {
             let _ = key;
@@ -152,11 +151,11 @@ impl Groups {
         Ok(())
     }
 
-    /// Copies the rows that have times into one group, each from the first that has some for it.
-    pub fn pour(&self, alloc: Global, out: &mut Group) -> Result<(), AllocError>
+    /// Copies the rows that have times into one group in order, each from the first that has some for it.
+    pub fn pour(&self, alloc: Global, out: &mut OrderedGroup) -> Result<(), AllocError>
         ensures rows { OnOk result ((u : List Value) → kept_for out.new u
             ≡ option_or (kept_for out.old u) (first_times self.now u)) }
-        ensures ascend { IsStrictlySortedBy row_cmp (keys_of self.now) }
+        ensures differ { RowsDiffer self.now }
     {
         for (_, group) in &self.groups {
             group.pour(alloc, out)?;

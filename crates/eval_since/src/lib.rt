@@ -5,6 +5,7 @@ mod group;
 mod groups;
 mod kept;
 pub mod laws;
+mod ordered;
 mod previous;
 mod rebuild;
 mod recalled;

@@ -16,8 +16,8 @@ ghost use Rattle.eval_since.specs.Times.{added, reaches, recent};
 ghost use Rattle.eval_since.specs.WindowView.{WindowOf, kept_times, within};
 ghost use Rattle.eval_since.specs.Windows.{Alone, Ascending, Bounded, Covered, Fresh, IsBlank, IsThinned, Keeps, NotAfter, Past, Placed, Rising};
 
-use crate::group::Group;
 use crate::groups::Groups;
+use crate::ordered::OrderedGroup;
 use crate::rebuild::{dated_rows, grouped};
 use crate::recalled::KeptRow;
 use mfotl_model::{Interval, Row};
@@ -388,7 +388,7 @@ impl Window {
         ensures each { IfOk result (λ rows.
             AllByRecursion (λ k. KeepsTimes self.now.interval.hi self.now.last k.times.items) rows.items) }
     {
-        let mut flat = Group::new(alloc);
+        let mut flat = OrderedGroup::new(alloc);
         self.contents.groups.pour(alloc, &mut flat)?;
         let rows = flat.into_kept(alloc)?;
         Ok(rows)

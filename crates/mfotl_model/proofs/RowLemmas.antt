@@ -1,30 +1,19 @@
 -- Rows and events: what compares as equal is equal, and which rows there are over a domain.
 use Rattle.std.proofs.Common.{◌≡◌, ℕ, zero, suc, Bool, true, false, ◌&&◌, nat_eq, List, [], ◌∷◌, length, map, refl, sym, ap, ◌∙◌}
 use Rattle.std.proofs.Math.Dec.{eqb-suc-zero, eqb-zero-suc, eqb-suc-suc}
-use Rattle.std.proofs.lemmas.Map.Lookups.{CmpEqualImpliesEq, exact_signed, exact_unsigned, exact_bytes}
-use Rattle.std.specs.FinMap.{slice_cmp-IsAntisymmetric}
+use Rattle.std.proofs.lemmas.Map.Lookups.{CmpEqualImpliesEq, exact_unsigned}
 use Rattle.std.specs.List.{list_any, list_all}
 use Rattle.std.specs.Ordering.{eq_by_cmp, is_eq, ordering_then, nat_cmp}
 use Rattle.std.specs.declared.cmp.Ordering.{Ordering}
 use Rattle.std.specs.declared.cmp.Ordering.TheVariants.{Less, Equal, Greater}
 use Rattle.mfotl_model.specs.Domains.{within}
 use Rattle.mfotl_model.specs.Events.{event_cmp}
+pub use Rattle.mfotl_model.specs.Hashes.{value_exact, row_exact}
 use Rattle.mfotl_model.specs.Values.{value_cmp, row_cmp}
 use Rattle.mfotl_model.specs.Violations.{all_rows}
 use Rattle.mfotl_model.specs.declared.event.Event.{Event}
 use Rattle.mfotl_model.specs.declared.value.Value.{Value}
-use Rattle.mfotl_model.specs.declared.value.Value.TheVariants.{Int, Text}
 use Rattle.mfotl_model.proofs.LogicLemmas.{any_alike, any_map, any_flat_map}
-
--- values that compare as equal are one
-pub value_exact : CmpEqualImpliesEq value_cmp
-value_exact (Int x) (Int y) h = ap Int (exact_signed x y h)
-value_exact (Int x) (Text t) h = cc
-value_exact (Text s) (Int y) h = cc
-value_exact (Text s) (Text t) h = ap Text (exact_bytes s t h)
-
-pub row_exact : CmpEqualImpliesEq row_cmp
-row_exact = slice_cmp-IsAntisymmetric value_exact
 
 -- the first of two orders, where both together find no difference
 first_equal : (a b : Ordering) → ordering_then a b ≡ Equal → a ≡ Equal

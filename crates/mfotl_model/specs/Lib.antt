@@ -1,5 +1,6 @@
 pub mod Ascending
 pub mod Values
+pub mod Hashes
 pub mod HeldValues
 pub mod Events
 pub mod Formulas

@@ -3,12 +3,14 @@ ghost use Rattle.std.specs.Prelude.{◌≡◌, ◌++◌, ◌∷◌, [], IfOk, le
 ghost use Rattle.std.specs.Cmp.{eq_by_cmp_equiv, partial_equiv_from_equiv, partial_order_from_agreeing_total};
 ghost use Rattle.std.specs.Ordering.{as_partial_cmp, eq_by_cmp};
 ghost use Rattle.mfotl_model.specs.Ascending.{ascending};
+ghost use Rattle.mfotl_model.specs.Hashes.{row_writes, rows_alike};
 ghost use Rattle.mfotl_model.specs.HeldValues.{held_values};
 ghost use Rattle.mfotl_model.specs.Values.{row_cmp, row_total};
 
 use crate::value::Value;
 use std::alloc::{AllocError, Global};
 use std::cmp::Ordering;
+use std::hash::{Hash, Hasher};
 use std::marker::Model;
 
 // Up to two values stand in the row itself, more in memory of their own.
@@ -205,6 +207,16 @@ impl Ord for Row {
 
     fn cmp(&self, other: &Row) -> Ordering {
         self.values().cmp(other.values())
+    }
+}
+
+impl Hash for Row {
+    ghost hash_input = { row_writes };
+
+    ghost respects_eq = { rows_alike };
+
+    fn hash<H: Hasher>(&self, state: &mut H) {
+        Value::hash_slice(self.values(), state);
     }
 }
 

@@ -2,11 +2,13 @@
 ghost use Rattle.std.specs.Prelude.{◌≡◌, IfOk, refl};
 ghost use Rattle.std.specs.Cmp.{eq_by_cmp_equiv, partial_equiv_from_equiv, partial_order_from_agreeing_total};
 ghost use Rattle.std.specs.Ordering.{as_partial_cmp, eq_by_cmp};
+ghost use Rattle.mfotl_model.specs.Hashes.{value_writes, values_alike};
 ghost use Rattle.mfotl_model.specs.Values.{value_cmp, value_total};
 
 use crate::text::Text;
 use std::alloc::{AllocError, Global};
 use std::cmp::Ordering;
+use std::hash::{Hash, Hasher};
 
 /// Integers order by number, texts by bytes, and each integer stands before each text.
 #[derive(Debug, Drop)]
@@ -65,6 +67,19 @@ impl Ord for Value {
             (Value::Int(_), Value::Text(_)) => Ordering::Less,
             (Value::Text(_), Value::Int(_)) => Ordering::Greater,
             (Value::Text(left), Value::Text(right)) => left.cmp(right),
+        }
+    }
+}
+
+impl Hash for Value {
+    ghost hash_input = { value_writes };
+
+    ghost respects_eq = { values_alike };
+
+    fn hash<H: Hasher>(&self, state: &mut H) {
+        match self {
+            Value::Int(number) => number.hash(state),
+            Value::Text(text) => text.hash(state),
         }
     }
 }

@@ -1,5 +1,5 @@
 -- The atoms of a core.
-use Rattle.std.specs.Prelude.{List, [], ◌∷◌, ◌++◌, Option, Some, None}
+use Rattle.std.specs.Prelude.{List, [], ◌∷◌, ◌++◌}
 use Rattle.monitorable.specs.CoreForms.{CoreForm, True, False, Atom, Compare, Not, And, Or, Exists, Previous, Next}
 use Rattle.monitorable.specs.CoreForms.{Since, Until}
 use Rattle.mfotl_model.specs.declared.term.Atom.{Atom as OneAtom}
@@ -18,8 +18,3 @@ atoms_of (Previous interval f) = atoms_of f
 atoms_of (Next interval f) = atoms_of f
 atoms_of (Since interval f g) = atoms_of f ++ atoms_of g
 atoms_of (Until interval f g) = atoms_of f ++ atoms_of g
-
--- the atom that a core is, if it is one
-abbrev pub only_atom : CoreForm → Option OneAtom
-only_atom (Atom atom) = Some atom
-only_atom f = None

@@ -26,8 +26,6 @@ pub struct Core {
 }
 
 impl Core {
-    ghost use Rattle.std.specs.Prelude.{option_copied};
-    ghost use Rattle.monitorable.specs.Atoms.{only_atom};
     ghost use Rattle.monitorable.specs.Cores.{core_form};
 
     pub(crate) fn new(alloc: Global, root: Node) -> Result<Self, AllocError>
@@ -58,16 +56,6 @@ impl Core {
         ensures { result.now ≡ atoms_of (core_form self.now) }
     {
         &self.atoms
-    }
-
-    /// The atom that the core is, if it is nothing else.
-    pub fn as_atom(&self) -> Option<&Atom>
-        ensures { option_copied result ≡ only_atom (core_form self.now) }
-    {
-        match &self.root {
-            Node::Atom(atom) => Some(atom),
-            _ => None,
-        }
     }
 
     pub fn copy(&self, alloc: Global) -> Result<Self, AllocError>

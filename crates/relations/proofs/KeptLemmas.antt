@@ -1,25 +1,32 @@
--- What is kept for rows that ascend: by look-ups, and one after another.
+-- What is kept for rows that differ: by look-ups, and one after another.
 use Rattle.std.proofs.Common.{◌≡◌, ◌<◌, Bool, true, false, cond, nat_eq, List, [], ◌∷◌, length, Option, Some, None, refl, sym, ap, ◌∙◌, arith}
 use Rattle.std.proofs.lemmas.Bool.{eqb-true}
 use Rattle.std.proofs.lemmas.Map.{lookup-none}
 use Rattle.std.proofs.lemmas.Map.Entries.{none_past_head}
-use Rattle.std.proofs.lemmas.Map.Keys.{sorted_tail, IsDistinct-from_sorted}
+use Rattle.std.proofs.lemmas.Map.Keys.{sorted_tail, IsDistinct-from_sorted, IsDistinct-tail}
 use Rattle.std.specs.BTreeMap.{is_at}
 use Rattle.std.specs.Cmp.{eq_by_cmp_equiv}
 use Rattle.std.specs.List.{AllByRecursion}
 use Rattle.std.specs.Map.{keys_of}
 use Rattle.std.specs.Option.{IfSome, is_some, option_or, unwrap_or}
+use Rattle.std.specs.Ordering.{eq_by_cmp}
 use Rattle.mfotl_model.specs.Values.{row_cmp, row_total}
 use Rattle.mfotl_model.specs.declared.value.Value.{Value}
 use Rattle.relations.proofs.MapLemmas.{same_row}
-use Rattle.relations.specs.KeptRows.{RowsAscend, filled, first_filled, kept_for, last_for}
+use Rattle.relations.specs.KeptRows.{RowsAscend, RowsDiffer, filled, first_filled, kept_for, last_for}
+
+-- rows that ascend differ
+pub ascending_differ : {X : Type 0} (es : List (List Value × X)) → RowsAscend es → RowsDiffer es
+ascending_differ es up = IsDistinct-from_sorted row_cmp (keys_of es) up
+
+pub differ_tail : {X : Type 0} (e : List Value × X) (es : List (List Value × X)) → RowsDiffer (e ∷ es) → RowsDiffer es
+differ_tail e es apart = IsDistinct-tail (eq_by_cmp row_cmp) e.0 (keys_of es) apart
 
 -- behind a row nothing is kept for it
-pub none_behind : {X : Type 0} (u : List Value) (e : List Value × X) (es : List (List Value × X)) → RowsAscend (e ∷ es)
+pub none_behind : {X : Type 0} (u : List Value) (e : List Value × X) (es : List (List Value × X)) → RowsDiffer (e ∷ es)
     → is_at (row_cmp u) e.0 ≡ true → kept_for es u ≡ None
-none_behind u e es up at =
-    lookup-none (is_at (row_cmp u)) es (none_past_head (eq_by_cmp_equiv row_total) u e es
-    (IsDistinct-from_sorted row_cmp (keys_of (e ∷ es)) up) at)
+none_behind u e es apart at =
+    lookup-none (is_at (row_cmp u)) es (none_past_head (eq_by_cmp_equiv row_total) u e es apart at)
 
 -- what holds of all that look-ups find holds of each row
 pub each_kept : {X : Type 0} (Q : List Value → X → Type 0) (es : List (List Value × X)) → RowsAscend es
@@ -33,7 +40,7 @@ each_kept {X} Q (e ∷ es) up found = (
   where
     behind : (u : List Value) (x : X) (b : Bool) → is_at (row_cmp u) e.0 ≡ b → kept_for es u ≡ Some x
         → cond b (Some e.1) (kept_for es u) ≡ Some x
-    behind u x true at is = absurd (let w : None ≡ Some x = sym (none_behind u e es up at) ∙ is in cc)
+    behind u x true at is = absurd (let w : None ≡ Some x = sym (none_behind u e es (ascending_differ (e ∷ es) up) at) ∙ is in cc)
     behind u x false at is = is
 
 -- what holds of each row holds of all that look-ups find
@@ -51,17 +58,17 @@ or_none None = refl
 or_none (Some x) = refl
 
 -- the first list of a row is its only one
-pub first_is_only : {X : Type 0} (es : List (List Value × List X)) → RowsAscend es → (u : List Value)
+pub first_is_only : {X : Type 0} (es : List (List Value × List X)) → RowsDiffer es → (u : List Value)
     → first_filled es u ≡ filled (unwrap_or (kept_for es u) [])
-first_is_only [] up u = refl
-first_is_only {X} (e ∷ es) up u =
-    by (is_at (row_cmp u) e.0) refl (first_is_only es (sorted_tail row_cmp e.0 (keys_of es) up) u)
+first_is_only [] apart u = refl
+first_is_only {X} (e ∷ es) apart u =
+    by (is_at (row_cmp u) e.0) refl (first_is_only es (differ_tail e es apart) u)
   where
     by : (b : Bool) → is_at (row_cmp u) e.0 ≡ b → first_filled es u ≡ filled (unwrap_or (kept_for es u) [])
         → option_or (cond b (filled e.1) None) (first_filled es u)
         ≡ filled (unwrap_or (cond b (Some e.1) (kept_for es u)) [])
     by true at rest =
-        ap (option_or (filled e.1)) (rest ∙ ap (λ o. filled (unwrap_or o [])) (none_behind u e es up at))
+        ap (option_or (filled e.1)) (rest ∙ ap (λ o. filled (unwrap_or o [])) (none_behind u e es apart at))
         ∙ or_none (filled e.1)
     by false at rest = rest
 
@@ -122,16 +129,16 @@ pub filled_is : {X : Type 0} (xs ys : List X) → filled xs ≡ Some ys → (xs 
 filled_is [] ys e = absurd (let w : None ≡ Some ys = e in cc)
 filled_is (x ∷ xs) ys e = (let same : x ∷ xs ≡ ys = cc in same, omega arith)
 
--- of rows that ascend the last one is the only one
-pub last_is : {X : Type 0} (es : List (List Value × X)) → RowsAscend es → (u : List Value) (o : Option X)
+-- of rows that differ the last one is the only one
+pub last_is : {X : Type 0} (es : List (List Value × X)) → RowsDiffer es → (u : List Value) (o : Option X)
     → last_for es u o ≡ option_or (kept_for es u) o
-last_is [] up u o = refl
-last_is {X} (e ∷ es) up u o =
-    last_is es (sorted_tail row_cmp e.0 (keys_of es) up) u (cond (is_at (row_cmp e.0) u) (Some e.1) o)
+last_is [] apart u o = refl
+last_is {X} (e ∷ es) apart u o =
+    last_is es (differ_tail e es apart) u (cond (is_at (row_cmp e.0) u) (Some e.1) o)
     ∙ ap (λ b. option_or (kept_for es u) (cond b (Some e.1) o)) ((eq_by_cmp_equiv row_total).symm e.0 u)
     ∙ by (is_at (row_cmp u) e.0) refl
   where
     by : (b : Bool) → is_at (row_cmp u) e.0 ≡ b
         → option_or (kept_for es u) (cond b (Some e.1) o) ≡ option_or (cond b (Some e.1) (kept_for es u)) o
-    by true at = ap (λ p. option_or p (Some e.1)) (none_behind u e es up at)
+    by true at = ap (λ p. option_or p (Some e.1)) (none_behind u e es apart at)
     by false at = refl

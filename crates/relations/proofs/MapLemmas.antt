@@ -1,9 +1,11 @@
 -- What a change at one row leaves in a map at each row.
 use Rattle.std.proofs.Common.{◌≡◌, Bool, true, false, cond, List, Option, Some, None, refl, sym, subst, ap, ◌∙◌}
 use Rattle.std.specs.BTreeMap.{BTreeMap, WritesThrough, is_at}
+use Rattle.std.specs.HashMap as hash
+use Rattle.std.specs.HashMap.{HashMap}
 use Rattle.std.specs.Map.{lookup}
 use Rattle.std.specs.Option.{unwrap_or, IsSome}
-use Rattle.std.specs.Ordering.{is_eq}
+use Rattle.std.specs.Ordering.{eq_by_cmp, is_eq}
 use Rattle.std.specs.declared.cmp.Ordering.{Ordering}
 use Rattle.std.specs.declared.cmp.Ordering.TheVariants.{Less, Equal, Greater}
 use Rattle.mfotl_model.specs.Values.{row_cmp}
@@ -66,5 +68,26 @@ removed {X} row v m n k w first second = second ∙ ap (λ o. cond (is_at (row_c
   where
     by : (b : Bool) → cond b None (cond b (Some w) (lookup (is_at (row_cmp v)) m.entries))
         ≡ cond b None (lookup (is_at (row_cmp v)) m.entries)
+    by true = refl
+    by false = refl
+
+-- what a write through `get_mut` leaves at each key of a map that finds rows by their hashes
+pub put_through : {X S : Type 0} (row v : List Value) (m n : HashMap (List Value) X S) (w old : X)
+    → hash.WritesThrough (eq_by_cmp row_cmp) (eq_by_cmp row_cmp row) m w n
+    → Some old ≡ lookup (is_at (row_cmp row)) m.entries
+    → lookup (is_at (row_cmp v)) n.entries ≡ cond (is_at (row_cmp row) v) (Some w)
+    (lookup (is_at (row_cmp v)) m.entries)
+put_through row v m n w old writes is = (writes.3 (some_there _ old is)).0 v
+
+-- what is left after a write and a removal at one key
+pub taken_out : {X : Type 0} (row v : List Value) (m n k : List (List Value × X)) (w : X)
+    → lookup (is_at (row_cmp v)) n ≡ cond (is_at (row_cmp row) v) (Some w) (lookup (is_at (row_cmp v)) m)
+    → lookup (is_at (row_cmp v)) k ≡ cond (is_at (row_cmp row) v) None (lookup (is_at (row_cmp v)) n)
+    → lookup (is_at (row_cmp v)) k ≡ cond (is_at (row_cmp row) v) None (lookup (is_at (row_cmp v)) m)
+taken_out {X} row v m n k w first second = second ∙ ap (λ o. cond (is_at (row_cmp row) v) None o) first
+    ∙ by (is_at (row_cmp row) v)
+  where
+    by : (b : Bool) → cond b None (cond b (Some w) (lookup (is_at (row_cmp v)) m))
+        ≡ cond b None (lookup (is_at (row_cmp v)) m)
     by true = refl
     by false = refl

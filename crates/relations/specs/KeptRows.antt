@@ -1,9 +1,11 @@
 -- Rows with what is kept for each of them, as lists of pairs.
 use Rattle.std.specs.Prelude.{cond, Option, Some, None, List, [], ◌∷◌}
 use Rattle.std.specs.BTreeMap.{is_at}
+use Rattle.std.specs.List.{IsDistinct}
 use Rattle.std.specs.List.Sorted.{IsStrictlySortedBy}
 use Rattle.std.specs.Map.{lookup, keys_of}
 use Rattle.std.specs.Option.{option_or}
+use Rattle.std.specs.Ordering.{eq_by_cmp}
 use Rattle.mfotl_model.specs.Values.{row_cmp}
 use Rattle.mfotl_model.specs.declared.value.Value.{Value}
 
@@ -14,6 +16,10 @@ kept_for rows u = lookup (is_at (row_cmp u)) rows
 -- the rows ascend strictly
 abbrev pub RowsAscend : {X : Type 0} → List (List Value × X) → Type 0
 RowsAscend rows = IsStrictlySortedBy row_cmp (keys_of rows)
+
+-- no row is there twice
+abbrev pub RowsDiffer : {X : Type 0} → List (List Value × X) → Type 0
+RowsDiffer rows = IsDistinct (eq_by_cmp row_cmp) (keys_of rows)
 
 -- a list as it is kept: not at all where it is empty
 abbrev pub filled : {X : Type 0} → List X → Option (List X)

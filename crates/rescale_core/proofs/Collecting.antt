@@ -28,7 +28,8 @@ use Rattle.rescale_core.specs.declared.piece.Piece.{Piece}
 use Rattle.rescale_core.specs.declared.item.Out.{Out}
 use Rattle.verdict_merge.specs.declared.rows.Rows.{Rows}
 use Rattle.rescale_core.specs.Worlds.Move.{Collect}
-use Rattle.rescale_core.proofs.Pieces.{distinct_snoc, drop_front, answers_cut, last_more, rises_cut, rises_front, last_rises, turns_cut, turns_front, Came, answers_came, Lone, answers_lone}
+use Rattle.rescale_core.proofs.Pieces.{distinct_snoc, drop_front, answers_cut, last_more, rises_cut, rises_front}
+use Rattle.rescale_core.proofs.Pieces.{last_rises, turns_cut, turns_front, Came, answers_came, Lone, answers_lone}
 use Rattle.rescale_core.proofs.SeatLemmas.{at_seat, at_seat_else, by_worker, own_rows, other_rows}
 
 -- ---- collecting

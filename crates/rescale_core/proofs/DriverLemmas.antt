@@ -1,6 +1,8 @@
 -- Main's view of the cells is the world's.
-use Rattle.std.proofs.Common.{◌≡◌, ◌≢◌, ℕ, zero, suc, ◌+◌, ◌≤◌, ◌<◌, List, [], ◌∷◌, ◌++◌, length, take, drop, set, sym}
-use Rattle.std.proofs.Common.{refl, ap, ◌∙◌, subst, append-nil, arith, eq-eqb, take-add, slice_set, true, Option, Some, None, IfSome}
+use Rattle.std.proofs.Common.{◌≡◌, ◌≢◌, ℕ, zero, suc, ◌+◌, ◌≤◌, ◌<◌, List, [], ◌∷◌, ◌++◌, length, take, drop, set}
+use Rattle.std.proofs.Common.{sym}
+use Rattle.std.proofs.Common.{refl, ap, ◌∙◌, subst, append-nil, arith, eq-eqb, take-add, slice_set, true, Option}
+use Rattle.std.proofs.Common.{Some, None, IfSome}
 use Rattle.mfotl_model.specs.declared.event.TimePoint.{TimePoint}
 use Rattle.verdict_merge.specs.declared.rows.Verdict.{Verdict}
 use mathlib.Core.Option.{some}

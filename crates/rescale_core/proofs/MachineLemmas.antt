@@ -29,7 +29,8 @@ use Rattle.rescale_core.specs.declared.item.Item.{Item}
 use Rattle.rescale_core.specs.declared.item.Out.{Out}
 use Rattle.rescale_core.specs.declared.routes.Router.{Router}
 use Rattle.rescale_core.specs.declared.stage.Machine.{Machine}
-use Rattle.rescale_core.proofs.CellLemmas.{nth_set, nth_else, line_none, seed_in, seat_here, seat_else, back_cell, same_cell}
+use Rattle.rescale_core.proofs.CellLemmas.{nth_set, nth_else, line_none, seed_in, seat_here, seat_else, back_cell}
+use Rattle.rescale_core.proofs.CellLemmas.{same_cell}
 
 -- ---- one seat's steps
 

@@ -82,7 +82,8 @@ one_longer : (w : World) (k : ℕ) (i : Item) (q n : ℕ) (b : Bool) → nat_eq 
     → length (cond b (fed_more (w.seats k) i) (w.seats q)).fed + cond b n 0
     ≡ length (w.seats q).fed + cond b (suc n) 0
 one_longer w k i q n true e =
-    let at : length (w.seats k).fed ≡ length (w.seats q).fed = ap (λ y. length (w.seats y).fed) (sym (eqb-true q k e)) in
+    let at : length (w.seats k).fed ≡ length (w.seats q).fed =
+    ap (λ y. length (w.seats y).fed) (sym (eqb-true q k e)) in
     let l : length ((w.seats k).fed ++ i ∷ []) ≡ length (w.seats k).fed + 1 = length-append (w.seats k).fed (i ∷ []) in
     omega arith
 one_longer w k i q n false e = refl

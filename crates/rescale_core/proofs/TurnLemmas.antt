@@ -1,12 +1,15 @@
 -- How a turn of main's moves the world.
-use Rattle.std.proofs.Common.{◌≡◌, ◌≢◌, ℕ, suc, ◌+◌, ◌-◌, ◌≤◌, ◌<◌, cond, List, [], ◌∷◌, ◌++◌, length, take, drop, replicate}
-use Rattle.std.proofs.Common.{sym, refl, ap, ◌∙◌, subst, append_assoc, append-nil, arith, eq-eqb, ne_eqb, length-append}
+use Rattle.std.proofs.Common.{◌≡◌, ◌≢◌, ℕ, suc, ◌+◌, ◌-◌, ◌≤◌, ◌<◌, cond, List, [], ◌∷◌, ◌++◌, length, take, drop}
+use Rattle.std.proofs.Common.{replicate}
+use Rattle.std.proofs.Common.{sym, refl, ap, ◌∙◌, subst, append_assoc, append-nil, arith, eq-eqb, ne_eqb}
+use Rattle.std.proofs.Common.{length-append}
 use Rattle.std.proofs.Common.{length-set, slice_set}
 use mathlib.Core.Option.{some}
 use lib.ListN.{get_elem?}
 use Rattle.turn_hub.specs.Answers.{MayHand, swapped_line}
 use Rattle.turn_hub.specs.Ends.{main_view}
-use Rattle.rescale_core.proofs.DriverLemmas.{answered_last, get_below, get_here, line_kept, lines_set, may_fed, seed_in}
+use Rattle.rescale_core.proofs.DriverLemmas.{answered_last, get_below, get_here, line_kept, lines_set, may_fed}
+use Rattle.rescale_core.proofs.DriverLemmas.{seed_in}
 use Rattle.rescale_core.proofs.DriverLemmas.{some_is}
 use Rattle.rescale_core.proofs.Taking.{Took, reaches_on, takes_all, took_router}
 use Rattle.rescale_core.specs.Moving.{CellLine, HasTurn, IsDriverOf, IsLineOf, Moves, Reaches, collects, lines_of}

@@ -4,7 +4,7 @@ use Rattle.std.specs.Map.{lookup}
 use Rattle.std.specs.BTreeMap.{is_at}
 use Rattle.mfotl_model.specs.Values.{row_cmp}
 use Rattle.eval_since.specs.Times.{added}
-use Rattle.relations.proofs.MapLemmas.{changed, written}
+use Rattle.relations.proofs.MapLemmas.{changed, put_through}
 use Rattle.eval_since.proofs.group.Group.add.Goals as goal
 
 pub returns-in-Some : goal.returns-in-Some
@@ -13,7 +13,7 @@ returns-in-Some c = λ v.
     let is : Some c.in-Some.times.now ≡ lookup (is_at (row_cmp c.args.row)) old.entries = c.in-Some.ensures.value in
     rw (← c.self.view_is) (changed [] (λ ts. added c.args.bounded ts c.args.x) c.args.row v old.entries
     (c.get_mut.follows.lender c.add.new.self).entries (Some c.add.new.self)
-    (written c.args.row v old (c.get_mut.follows.lender c.add.new.self) c.add.new.self c.in-Some.times.now
+    (put_through c.args.row v old (c.get_mut.follows.lender c.add.new.self) c.add.new.self c.in-Some.times.now
     (c.get_mut.follows.holds c.add.new.self) is)
     (c.in_ok-add.ensures ∙ ap (λ o. added c.args.bounded (unwrap_or o []) c.args.x) is))
 

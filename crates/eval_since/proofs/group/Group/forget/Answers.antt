@@ -1,10 +1,11 @@
 use Rattle.std.proofs.Common.{◌≡◌, [], Some, None, sym, ap, ◌∙◌}
 use Rattle.std.specs.Option.{unwrap_or}
 use Rattle.std.specs.Map.{lookup}
-use Rattle.std.specs.BTreeMap.{is_at, BTreeMap}
+use Rattle.std.specs.BTreeMap.{is_at}
+use Rattle.std.specs.HashMap.{HashMap}
 use Rattle.mfotl_model.specs.Values.{row_cmp}
 use Rattle.eval_since.specs.Times.{recent}
-use Rattle.relations.proofs.MapLemmas.{changed, nothing_there, written, removed}
+use Rattle.relations.proofs.MapLemmas.{changed, nothing_there, put_through, taken_out}
 use Rattle.eval_since.proofs.GroupLemmas.{recent_none, empty_list}
 use Rattle.eval_since.proofs.group.Group.forget.Goals as goal
 use Rattle.eval_since.proofs.group.Group.forget.Goals.{in-Some-1, in-None-1}
@@ -16,7 +17,7 @@ returns-in_default c = λ v.
     rw (← c.self.view_is) (changed [] (recent c.args.hi c.args.now) c.args.row.now v old.entries
     c.get_mut.follows.lender-at-none.entries None
     (nothing_there c.args.row.now v old.entries c.get_mut.follows.lender-at-none.entries
-    (ap (λ (m : BTreeMap _ _). m.entries) c.get_mut.follows.holds-at-none) is)
+    (ap (λ (m : HashMap _ _ _). m.entries) c.get_mut.follows.holds-at-none) is)
     (sym (recent_none c.args.hi c.args.now) ∙ ap (λ o. recent c.args.hi c.args.now (unwrap_or o [])) is))
 
 pub returns-then-is_empty : goal.returns-then-is_empty
@@ -28,8 +29,9 @@ returns-then-is_empty c = λ v.
     [ in-Some-1 w ↦ w.self-is | in-None-1 w ↦ w.self-is ] in
     rw (same, ← c.self.view_is) (changed [] (recent c.args.hi c.args.now) c.args.row.now v old.entries
     c.remove.new.self.entries None
-    (removed c.args.row.now v old (c.get_mut.follows.lender c.forget.new.self) c.remove.new.self c.forget.new.self
-    (written c.args.row.now v old (c.get_mut.follows.lender c.forget.new.self) c.forget.new.self c.in-Some.times.now
+    (taken_out c.args.row.now v old.entries (c.get_mut.follows.lender c.forget.new.self).entries
+    c.remove.new.self.entries c.forget.new.self
+    (put_through c.args.row.now v old (c.get_mut.follows.lender c.forget.new.self) c.forget.new.self c.in-Some.times.now
     (c.get_mut.follows.holds c.forget.new.self) is)
     (c.remove.ensures.updates.0 v))
     (empty_list c.forget.new.self (sym c.is_empty.ensures ∙ c.if-is_empty.true) ∙ c.forget.ensures
@@ -42,6 +44,6 @@ returns-else-is_empty c = λ v.
     c.in-Some.ensures.value in
     rw (← c.self.view_is) (changed [] (recent c.args.hi c.args.now) c.args.row.now v old.entries
     (c.get_mut.follows.lender c.forget.new.self).entries (Some c.forget.new.self)
-    (written c.args.row.now v old (c.get_mut.follows.lender c.forget.new.self) c.forget.new.self c.in-Some.times.now
+    (put_through c.args.row.now v old (c.get_mut.follows.lender c.forget.new.self) c.forget.new.self c.in-Some.times.now
     (c.get_mut.follows.holds c.forget.new.self) is)
     (c.forget.ensures ∙ ap (λ o. recent c.args.hi c.args.now (unwrap_or o [])) is))

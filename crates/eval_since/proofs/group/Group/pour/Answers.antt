@@ -8,4 +8,4 @@ use Rattle.eval_since.proofs.group.Group.pour.Goals as goal
 pub returns : goal.returns
 returns c =
     on_ok_weaker c.pour_rows.result (λ e u. e u ∙ ap (option_or (kept_for c.args.out.now u))
-    (first_is_only c.args.self.now c.pour_rows.ensures.ascend u)) c.pour_rows.ensures.rows
+    (first_is_only c.args.self.now c.pour_rows.ensures.differ u)) c.pour_rows.ensures.rows

@@ -7,4 +7,4 @@ use Rattle.eval_since.proofs.group.Group.push_reaching.Goals as goal
 pub returns : goal.returns
 returns c =
     on_ok_weaker c.push_hits.result (λ e u. e u ∙ ap (λ b. has_row c.args.out.now.items u || b)
-    (hit_is c.args.interval.now c.args.x u c.args.self.now c.push_hits.ensures.ascend)) c.push_hits.ensures.rows
+    (hit_is c.args.interval.now c.args.x u c.args.self.now c.push_hits.ensures.differ)) c.push_hits.ensures.rows

@@ -4,7 +4,7 @@ use Rattle.std.specs.Map.{lookup}
 use Rattle.std.specs.BTreeMap.{is_at}
 use Rattle.mfotl_model.specs.Values.{row_cmp}
 use Rattle.eval_since.specs.Times.{added}
-use Rattle.relations.proofs.MapLemmas.{written}
+use Rattle.relations.proofs.MapLemmas.{put_through}
 use Rattle.eval_since.proofs.GroupLemmas.{regrouped}
 use Rattle.eval_since.proofs.groups.Groups.add.Goals as goal
 
@@ -15,7 +15,7 @@ returns-in-Some c = λ q v.
     rw (← c.self.view_is) (regrouped (λ ts. added c.args.bounded ts c.args.x) c.args.key c.args.row q v old.entries
     (c.get_mut.follows.lender c.add.new.self).entries
     c.add.new.self c.in-Some.group.now (Some c.add.new.self)
-    (written c.args.key q old (c.get_mut.follows.lender c.add.new.self) c.add.new.self c.in-Some.group.now
+    (put_through c.args.key q old (c.get_mut.follows.lender c.add.new.self) c.add.new.self c.in-Some.group.now
     (c.get_mut.follows.holds c.add.new.self) is)
     refl
     (ap (λ o. unwrap_or o []) is)

@@ -1,10 +1,11 @@
 use Rattle.std.proofs.Common.{◌≡◌, [], Some, None, refl, sym, ap, ◌∙◌}
 use Rattle.std.specs.Option.{unwrap_or}
 use Rattle.std.specs.Map.{lookup}
-use Rattle.std.specs.BTreeMap.{BTreeMap, is_at}
+use Rattle.std.specs.BTreeMap.{is_at}
+use Rattle.std.specs.HashMap.{HashMap}
 use Rattle.mfotl_model.specs.Values.{row_cmp}
 use Rattle.eval_since.specs.Times.{recent}
-use Rattle.relations.proofs.MapLemmas.{written, removed, nothing_there}
+use Rattle.relations.proofs.MapLemmas.{put_through, taken_out, nothing_there}
 use Rattle.eval_since.proofs.GroupLemmas.{regrouped, empty_list, none_recent}
 use Rattle.eval_since.proofs.groups.Groups.forget.Goals as goal
 use Rattle.eval_since.proofs.groups.Groups.forget.Goals.{in-Some-1, in-None-1}
@@ -17,7 +18,7 @@ returns-in_default c = λ q v.
     c.get_mut.follows.lender-at-none.entries
     [] [] None
     (nothing_there c.args.key.now q old.entries c.get_mut.follows.lender-at-none.entries
-    (ap (λ (m : BTreeMap _ _). m.entries) c.get_mut.follows.holds-at-none) is)
+    (ap (λ (m : HashMap _ _ _). m.entries) c.get_mut.follows.holds-at-none) is)
     refl
     (ap (λ o. unwrap_or o []) is)
     (none_recent c.args.hi c.args.now c.args.row.now v))
@@ -32,8 +33,9 @@ returns-then-is_empty c = λ q v.
     rw (same, ← c.self.view_is) (regrouped (recent c.args.hi c.args.now) c.args.key.now c.args.row.now q v
     old.entries c.remove.new.self.entries
     c.forget.new.self c.in-Some.group.now None
-    (removed c.args.key.now q old (c.get_mut.follows.lender c.forget.new.self) c.remove.new.self c.forget.new.self
-    (written c.args.key.now q old (c.get_mut.follows.lender c.forget.new.self) c.forget.new.self c.in-Some.group.now
+    (taken_out c.args.key.now q old.entries (c.get_mut.follows.lender c.forget.new.self).entries
+    c.remove.new.self.entries c.forget.new.self
+    (put_through c.args.key.now q old (c.get_mut.follows.lender c.forget.new.self) c.forget.new.self c.in-Some.group.now
     (c.get_mut.follows.holds c.forget.new.self) is)
     (c.remove.ensures.updates.0 q))
     (empty_list c.forget.new.self (sym c.is_empty.ensures ∙ c.if-is_empty.true))
@@ -48,7 +50,7 @@ returns-else-is_empty c = λ q v.
     rw (← c.self.view_is) (regrouped (recent c.args.hi c.args.now) c.args.key.now c.args.row.now q v old.entries
     (c.get_mut.follows.lender c.forget.new.self).entries
     c.forget.new.self c.in-Some.group.now (Some c.forget.new.self)
-    (written c.args.key.now q old (c.get_mut.follows.lender c.forget.new.self) c.forget.new.self c.in-Some.group.now
+    (put_through c.args.key.now q old (c.get_mut.follows.lender c.forget.new.self) c.forget.new.self c.in-Some.group.now
     (c.get_mut.follows.holds c.forget.new.self) is)
     refl
     (ap (λ o. unwrap_or o []) is)

@@ -3,7 +3,7 @@ use Rattle.std.specs.Option.{unwrap_or}
 use Rattle.std.specs.Map.{lookup}
 use Rattle.std.specs.BTreeMap.{is_at}
 use Rattle.mfotl_model.specs.Values.{row_cmp}
-use Rattle.relations.proofs.MapLemmas.{written}
+use Rattle.relations.proofs.MapLemmas.{put_through}
 use Rattle.eval_since.proofs.GroupLemmas.{regrouped}
 use Rattle.eval_since.proofs.groups.Groups.put.Goals as goal
 
@@ -14,7 +14,7 @@ returns-in-Some c = λ q v.
     rw (← c.self.view_is) (regrouped (λ _. c.args.times) c.args.key c.args.row q v old.entries
     (c.get_mut.follows.lender c.put.new.self).entries
     c.put.new.self c.in-Some.group.now (Some c.put.new.self)
-    (written c.args.key q old (c.get_mut.follows.lender c.put.new.self) c.put.new.self c.in-Some.group.now
+    (put_through c.args.key q old (c.get_mut.follows.lender c.put.new.self) c.put.new.self c.in-Some.group.now
     (c.get_mut.follows.holds c.put.new.self) is)
     refl
     (ap (λ o. unwrap_or o []) is)

@@ -14,7 +14,7 @@ returns-clause-kept c = rw (← c.self.view_is) (
     λ u. ap (λ es. kept_for es u) c.in_ok-rows.ensures.rows
     ∙ c.in_ok-pour.ensures.rows u
     ∙ ap (λ es. option_or (kept_for es u) (first_times k.contents.groups u)) c.new-flat.ensures
-    ∙ first_there (part k.right.items k.left.items u) u k.contents.groups c.pour.ensures.ascend
+    ∙ first_there (part k.right.items k.left.items u) u k.contents.groups c.pour.ensures.differ
     (λ q. c.self.invariant.placed q u))
 
 pub returns-clause-sized : goal.returns-clause-sized

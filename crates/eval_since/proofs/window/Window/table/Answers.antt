@@ -22,7 +22,7 @@ from_rows-requires-clause-sized c =
     (λ u. c.in_ok-push_reaching.ensures.rows u
     ∙ ap (λ rows. has_row rows u || list_any (λ e. reaches k.interval (times_in e.1 u) k.last) k.contents.groups)
     c.new-rows.ensures.items
-    ∙ group_is k.interval k.last (part k.right.items k.left.items u) u k.contents.groups c.push_reaching.ensures.ascend
+    ∙ group_is k.interval k.last (part k.right.items k.left.items u) u k.contents.groups c.push_reaching.ensures.differ
     (λ q. c.self.invariant.placed q u))
 
 pub returns-clause-rows : goal.returns-clause-rows
@@ -34,5 +34,5 @@ returns-clause-rows c = rw (← c.self.view_is) (
     ∙ ap (λ rows. has_row rows u || list_any (λ e. reaches k.interval (times_in e.1 u) k.last) k.contents.groups)
     c.new-rows.ensures.items
     ∙ group_is k.interval k.last (part k.right.items k.left.items u) u k.contents.groups
-    c.push_reaching.ensures.ascend
+    c.push_reaching.ensures.differ
     (λ q. c.self.invariant.placed q u))

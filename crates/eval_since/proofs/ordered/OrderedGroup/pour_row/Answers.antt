@@ -3,7 +3,7 @@ use Rattle.std.specs.BTreeMap.{is_at}
 use Rattle.mfotl_model.specs.Values.{row_cmp}
 use Rattle.relations.specs.KeptRows.{filled, kept_for}
 use Rattle.relations.proofs.KeptLemmas.{filled_none, filled_some, none_more, one_poured, there_already}
-use Rattle.eval_since.proofs.group.Group.pour_row.Goals as goal
+use Rattle.eval_since.proofs.ordered.OrderedGroup.pour_row.Goals as goal
 
 pub returns-then-is_empty : goal.returns-then-is_empty
 returns-then-is_empty c = λ u.

@@ -1,0 +1,74 @@
+//! Rows with the times kept for them, in order.
+ghost use Rattle.std.specs.Prelude.{◌≡◌, [], List, None, IfOk, OnOk, cond};
+ghost use Rattle.std.specs.BTreeMap.{is_at};
+ghost use Rattle.std.specs.Option.{option_or};
+ghost use Rattle.mfotl_model.specs.Values.{row_cmp};
+ghost use Rattle.mfotl_model.specs.declared.value.Value.{Value};
+ghost use Rattle.relations.specs.KeptRows.{RowsAscend, filled, kept_for};
+ghost use Rattle.eval_since.specs.Recalled.{times_kept};
+
+use crate::recalled::KeptRow;
+use crate::times::Times;
+use mfotl_model::Row;
+use std::alloc::{AllocError, Global};
+use std::collections::BTreeMap;
+use std::marker::Model;
+
+#[derive(Drop)]
+pub struct OrderedGroup {
+    rows: BTreeMap<Row, Times>,
+}
+
+impl Model for OrderedGroup {
+    ghost use Rattle.std.specs.Prelude.{List, ℕ};
+    ghost use Rattle.mfotl_model.specs.declared.value.Value.{Value as OneValue};
+
+    ghost Value = { List (List OneValue × List ℕ) };
+
+    ghost view = { λ g. g.rows.entries };
+}
+
+impl OrderedGroup {
+    pub fn new(alloc: Global) -> Self
+        ensures { result ≡ [] }
+    {
+        OrderedGroup {
+            rows: BTreeMap::new(alloc),
+        }
+    }
+
+    /// Copies a row with its times, where it has some and isn't there yet.
+    pub fn pour_row(
+        &mut self,
+        alloc: Global,
+        row: &Row,
+        times: &Times,
+    ) -> Result<(), AllocError>
+        ensures { OnOk result ((u : List Value) → kept_for self.new u
+            ≡ option_or (kept_for self.old u) (cond (is_at (row_cmp u) row.now) (filled times.now) None)) }
+    {
+        if times.is_empty() {
+            return Ok(());
+        }
+        if self.rows.contains_key(row) {
+            return Ok(());
+        }
+        self.rows.insert(row.copy(alloc)?, times.copy(alloc)?)?;
+        Ok(())
+    }
+
+    /// The rows with their times.
+    pub fn into_kept(self, alloc: Global) -> Result<Vec<KeptRow>, AllocError>
+        ensures rows { IfOk result (λ rows. times_kept rows.items ≡ self) }
+        ensures ascend { IfOk result (λ rows. RowsAscend (times_kept rows.items)) }
+    {
+        let mut kept = Vec::with_capacity(alloc, self.rows.len())?;
+        for (row, times) in self.rows {
+            kept.push(KeptRow {
+                row,
+                times: times.into_vec(),
+            })?;
+        }
+        Ok(kept)
+    }
+}
