@@ -252,6 +252,29 @@ pub starts_as : (P : ℕ → Type 0) (starts new : List (List Value × ℕ))
     → ((w : List Value) → IfSome (kept_start starts w) P) → (w : List Value) → IfSome (kept_start new w) P
 starts_as P starts new same all w = subst (λ (o : Option ℕ). IfSome o P) (sym (same w)) (all w)
 
+-- what is kept in maps with the same look-ups is kept alike
+pub keeps_alike : (negated : Bool) (right : List ℕ) (pulled taken : ℕ) (starts more : List (List Value × ℕ))
+    (rows new : List (List Value × List Entry)) (queue : List Taken)
+    → ((w : List Value) → kept_for more w ≡ kept_for starts w)
+    → ((u : List Value) → kept_for new u ≡ kept_for rows u)
+    → Keeps negated right pulled taken starts rows queue → Keeps negated right pulled taken more new queue
+keeps_alike negated right pulled taken starts more rows new queue starts_same rows_same keeps =
+    record {
+      apart = keeps.apart;
+      sized = sized_as (length right) rows new rows_same keeps.sized;
+      ascend = ascend_as rows new rows_same keeps.ascend;
+      below = λ u. ap (λ o. list_all (λ e. nat_lt e.place taken && nat_le e.start e.place) (unwrap_or o []))
+          (rows_same u) ∙ keeps.below u;
+      low = starts_as (λ s. s ≤ taken) starts more starts_same keeps.low;
+      covered = λ u. ap (λ o. list_all (λ e. names queue u e.place) (unwrap_or o [])) (rows_same u)
+          ∙ keeps.covered u;
+      breaks = λ is w. subst (λ (o : Option ℕ). IfSome o (λ s. breaks_before queue w s ≡ true))
+          (sym (starts_same w)) (keeps.breaks is w);
+      rising = keeps.rising;
+      after = keeps.after;
+      fresh = keeps.fresh;
+    }
+
 -- what is kept over the same columns
 pub shape_of : (m : AheadOf) (interval : Interval) (left own_left right own_right : List ℕ) (negated : Bool)
     (pulled taken : ℕ) (starts : List (List Value × ℕ)) (rows : List (List Value × List Entry))

@@ -2,20 +2,20 @@
 use Rattle.std.proofs.Common.{◌≡◌, ℕ, zero, suc, ◌+◌, ◌<◌, ◌≤◌, Bool, true, false, cond, nat_eq, ◌&&◌, ◌||◌, nat_le, List, [], ◌∷◌, ◌++◌, Option, Some, None, length, get_or, take, refl, sym, ap, ap₂, ◌∙◌, arith}
 use Rattle.std.proofs.lemmas.Bool.{eqb-true}
 use Rattle.std.proofs.lemmas.Bool.Decides.{nat_tests}
-use Rattle.std.proofs.lemmas.Map.{lookup-none}
-use Rattle.std.proofs.lemmas.Map.Entries.{none_past_head}
-use Rattle.std.proofs.lemmas.Map.Keys.{sorted_tail, IsDistinct-from_sorted}
+use Rattle.std.proofs.lemmas.Map.Keys.{IsDistinct-from_sorted}
 use Rattle.std.specs.BTreeMap.{is_at}
 use Rattle.std.specs.Cmp.{eq_by_cmp_equiv}
 use Rattle.std.specs.List.{AllByRecursion, IsDistinct, list_any}
 use Rattle.std.specs.List.Sorted.{IsStrictlySortedBy}
-use Rattle.std.specs.Map.{keys_of, lookup}
+use Rattle.std.specs.Map.{lookup}
 use Rattle.std.specs.Option.{unwrap_or}
 use Rattle.std.specs.Ordering.{eq_by_cmp}
 use Rattle.mfotl_model.specs.Tables.{has_row}
 use Rattle.mfotl_model.specs.Values.{row_cmp, row_total}
 use Rattle.mfotl_model.specs.declared.interval.Interval.{Interval}
 use Rattle.mfotl_model.specs.declared.value.Value.{Value}
+use Rattle.relations.specs.KeptRows.{RowsDiffer}
+use Rattle.relations.proofs.KeptLemmas.{differ_tail, none_behind}
 use Rattle.relations.proofs.MapLemmas.{same_row}
 use Rattle.relations.proofs.TableRows.{has_more}
 use Rattle.eval_until.specs.declared.entries.Entry.{Entry}
@@ -178,11 +178,11 @@ start_gone next row w m n s is low step = step ∙ by (is_at (row_cmp row) w) re
 
 -- what is found among the entries of all rows is what the row's own entries give
 pub hit_is : (interval : Interval) (i x : ℕ) (u : List Value) (es : List (List Value × List Entry))
-    → IsStrictlySortedBy row_cmp (keys_of es)
+    → RowsDiffer es
     → list_any (λ e. eq_by_cmp row_cmp u e.0 && met_by interval i x e.1) es ≡ met_by interval i x (entries_of es u)
 hit_is interval i x u [] h = refl
 hit_is interval i x u (e ∷ es) h = by (is_at (row_cmp u) e.0) refl
-    (hit_is interval i x u es (sorted_tail row_cmp e.0 (keys_of es) h))
+    (hit_is interval i x u es (differ_tail e es h))
   where
     by : (b : Bool) → is_at (row_cmp u) e.0 ≡ b
         → list_any (λ e. eq_by_cmp row_cmp u e.0 && met_by interval i x e.1) es
@@ -192,8 +192,7 @@ hit_is interval i x u (e ∷ es) h = by (is_at (row_cmp u) e.0) refl
         ≡ met_by interval i x (unwrap_or (cond b (Some e.1) (lookup (is_at (row_cmp u)) es)) [])
     by true at rest =
         ap (λ r. met_by interval i x e.1 || r) (rest ∙ ap (λ o. met_by interval i x (unwrap_or o []))
-        (lookup-none (is_at (row_cmp u)) es (none_past_head (eq_by_cmp_equiv row_total) u e es
-        (IsDistinct-from_sorted row_cmp (keys_of (e ∷ es)) h) at)))
+        (none_behind u e es h at))
         ∙ or_false (met_by interval i x e.1)
     by false at rest = rest
 

@@ -3,6 +3,7 @@ pub mod UntilBefore
 pub mod UntilLaws
 pub mod Entries
 pub mod Starts
+pub mod InOrder
 pub mod AheadView
 pub mod Rules
 pub mod Keeping

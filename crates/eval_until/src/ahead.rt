@@ -11,19 +11,21 @@ ghost use Rattle.mfotl_model.specs.declared.value.Value.{Value};
 ghost use Rattle.relations.specs.Pushed.{turned};
 ghost use Rattle.eval_until.specs.AheadView.{AheadOf, met, run_start};
 ghost use Rattle.eval_until.specs.Entries.{entries_of};
-ghost use Rattle.eval_until.specs.Keeping.{Covered, CoveredStarts, Fresh, IsLater, IsThinned, Keeps, NotAfter, Rising, Sized};
+ghost use Rattle.eval_until.specs.Keeping.{Keeps, Sized};
 ghost use Rattle.eval_until.specs.Rules.{Ascending, StartsAbove, StartsBelow, Waiting};
-ghost use Rattle.eval_until.specs.Starts.{kept_start, later_start, start_of, start_taken};
+ghost use Rattle.eval_until.specs.Starts.{kept_start, start_of, start_taken};
 
 use crate::entries::Entries;
+use crate::expiry::expire;
+use crate::ordered::{hashed_rows, hashed_starts, ordered_rows, ordered_starts};
 use crate::rebuild::{kept_marks, kept_starts, queue_of};
 use crate::recalled::{KeptMarks, KeptStart};
-use crate::rows::{add_rows, forget_rows, push_met};
-use crate::starts::{apply_left, forget_starts};
+use crate::rows::{add_rows, push_met, row_met};
+use crate::starts::apply_left;
 use mfotl_model::{Interval, Row};
 use relations::Table;
 use std::alloc::{AllocError, Global};
-use std::collections::{BTreeMap, VecDeque};
+use std::collections::{BTreeMap, HashMap, VecDeque};
 use std::marker::Model;
 use std::mem;
 
@@ -40,8 +42,8 @@ pub struct Taken {
 /// so that what is pulled is found.
 #[derive(Drop)]
 struct Contents {
-    starts: BTreeMap<Row, u64>,
-    rows: BTreeMap<Row, Entries>,
+    starts: HashMap<Row, u64>,
+    rows: HashMap<Row, Entries>,
     queue: VecDeque<Taken>,
 }
 
@@ -101,51 +103,6 @@ fn stepped(
     })
 }
 
-// a run that began with the position `next` or before tells nothing more; only those of a negated
-// operand may be forgotten, since they are taken to begin with the first position
-fn forget_breaks(starts: &mut BTreeMap<Row, u64>, negated: bool, table: &[Row], next: u64)
-    ensures { (w : List Value) → kept_start starts.new.entries w
-        ≡ cond (negated && has_row table.now w) (later_start next (kept_start starts.old.entries w))
-        (kept_start starts.old.entries w) }
-{
-    if negated {
-        forget_starts(starts, table, next);
-    }
-}
-
-/// Forgets what stands before the position `next`, by the rows that it came with.
-fn expire(
-    rows: &mut BTreeMap<Row, Entries>,
-    starts: &mut BTreeMap<Row, u64>,
-    queue: &mut VecDeque<Taken>,
-    negated: bool,
-    next: u64,
-)
-    requires rows { Covered queue.old.items rows.old.entries }
-    requires rising { Rising queue.old.items }
-    ensures rows { (u : List Value) →
-        IsThinned next (entries_of rows.old.entries u) (entries_of rows.new.entries u) }
-    ensures starts { (w : List Value) →
-        IsLater negated next (kept_start starts.old.entries w) (kept_start starts.new.entries w) }
-    ensures covered { Covered queue.new.items rows.new.entries }
-    ensures breaks { negated ≡ true → CoveredStarts queue.old.items starts.old.entries →
-        CoveredStarts queue.new.items starts.new.entries }
-    ensures rising { Rising queue.new.items }
-    ensures fresh { Fresh next queue.new.items }
-    ensures after { (p : ℕ) → NotAfter p queue.old.items → NotAfter p queue.new.items }
-{
-    while let Some(front) = queue.front() {
-        if front.place >= next {
-            return;
-        }
-        let Some(old) = queue.pop_front() else {
-            return;
-        };
-        forget_rows(rows, old.rights.as_slice(), next);
-        forget_breaks(starts, negated, old.breaks.as_slice(), next);
-    }
-}
-
 /// What UNTIL has seen from the next position on.
 #[derive(Drop)]
 pub struct Ahead {
@@ -160,11 +117,12 @@ pub struct Ahead {
 
 impl Model for Ahead {
     ghost use Rattle.eval_until.specs.AheadView.{AheadOf};
+    ghost use Rattle.eval_until.specs.InOrder.{in_order};
     ghost use Rattle.eval_until.specs.Keeping.{Keeps};
 
     ghost Value = { AheadOf };
 
-    ghost view = { λ k. record { interval = k.interval; left = k.left.items; right = k.right.items; negated = k.negated; pulled = k.pulled; taken = k.taken; starts = k.contents.starts.entries; rows = k.contents.rows.entries } };
+    ghost view = { λ k. record { interval = k.interval; left = k.left.items; right = k.right.items; negated = k.negated; pulled = k.pulled; taken = k.taken; starts = in_order k.contents.starts.entries; rows = in_order k.contents.rows.entries } };
 
     ghost invariant = { λ k. Keeps k.negated k.right.items k.pulled k.taken k.contents.starts.entries k.contents.rows.entries k.contents.queue.items };
 }
@@ -189,8 +147,8 @@ impl Ahead {
             pulled: 0,
             taken: 0,
             contents: Contents {
-                starts: BTreeMap::new(alloc),
-                rows: BTreeMap::new(alloc),
+                starts: HashMap::new(alloc),
+                rows: HashMap::new(alloc),
                 queue: VecDeque::new(alloc),
             },
         }
@@ -217,6 +175,8 @@ impl Ahead {
         ensures { IfOk result (λ ahead. ahead ≡ record { interval = interval; left = left.items; right = right.items; negated = negated; pulled = pulled; taken = taken; starts = starts.entries; rows = rows.entries }) }
     {
         let queue = queue_of(alloc, negated, &starts, &rows)?;
+        let starts = hashed_starts(alloc, starts)?;
+        let rows = hashed_rows(alloc, rows)?;
         Ok(Ahead {
             interval,
             left,
@@ -239,7 +199,8 @@ impl Ahead {
             AllByRecursion (λ r. length r.0 ≡ length self.now.left) self.now.starts) }
         ensures ascend { IfOk result (λ _. RowsAscend self.now.starts) }
     {
-        let kept = kept_starts(alloc, &self.contents.starts, self.left.len())?;
+        let starts = ordered_starts(alloc, &self.contents.starts)?;
+        let kept = kept_starts(alloc, &starts, self.left.as_slice().len())?;
         Ok(kept)
     }
 
@@ -261,7 +222,9 @@ impl Ahead {
         ensures above { self.now.negated ≡ true → StartsAbove self.now.pulled self.now.starts }
     {
         self.is_bounded();
-        let kept = kept_marks(alloc, &self.contents.rows, self.pulled, times)?;
+        self.is_sized();
+        let rows = ordered_rows(alloc, &self.contents.rows)?;
+        let kept = kept_marks(alloc, &rows, self.pulled, times)?;
         Ok(kept)
     }
 
@@ -293,8 +256,8 @@ impl Ahead {
         let contents = mem::replace(
             &mut self.contents,
             Contents {
-                starts: BTreeMap::new(alloc),
-                rows: BTreeMap::new(alloc),
+                starts: HashMap::new(alloc),
+                rows: HashMap::new(alloc),
                 queue: VecDeque::new(alloc),
             },
         );
@@ -346,10 +309,7 @@ impl Ahead {
     pub fn met(&self, row: &Row, i: u64, x: u64) -> bool
         ensures { result ≡ met self.now i x row.now }
     {
-        match self.contents.rows.get(row) {
-            Some(entries) => entries.met(&self.interval, i, x),
-            None => false,
-        }
+        row_met(&self.contents.rows, row, &self.interval, i, x)
     }
 
     /// The rows of which some entry meets UNTIL at the position `i`, whose time is `x`.
@@ -392,6 +352,13 @@ impl Ahead {
         ensures { result.now ≡ self.now.right }
     {
         self.right.as_slice()
+    }
+
+    // each row with entries has a value for each of the right operand's columns
+    fn is_sized(&self)
+        ensures { Sized (length self.now.right) self.now.rows }
+    {
+        let _ = &self.taken;
     }
 
     /// What is kept of positions, and no more.

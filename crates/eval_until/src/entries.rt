@@ -50,6 +50,16 @@ fn oldest(list: &VecDeque<Entry>) -> Option<Entry>
     list.front().copied()
 }
 
+fn copied(alloc: Global, list: &VecDeque<Entry>) -> Result<Vec<Entry>, AllocError>
+    ensures { IfOk result (λ copy. copy.items ≡ list.now.items) }
+{
+    let mut copy = Vec::with_capacity(alloc, list.len())?;
+    for i in 0..list.len() {
+        copy.push(list[i])?;
+    }
+    Ok(copy)
+}
+
 // a kept entry has the time of its position, which `times` has, too
 fn mark_of(entry: Entry, pulled: u64, times: &VecDeque<u64>) -> Result<Mark, AllocError>
     ensures { IfOk result (λ mark. entry_at pulled times.now.items mark ≡ entry) }
@@ -125,6 +135,15 @@ impl Entries {
             out.push(row_taken(alloc, self.list[k].place, row)?)?;
         }
         Ok(())
+    }
+
+    pub fn copy(&self, alloc: Global) -> Result<Self, AllocError>
+        ensures { IfOk result (λ copy. copy ≡ self.now) }
+    {
+        let list = copied(alloc, &self.list)?;
+        Ok(Entries {
+            list: VecDeque::from_vec(list),
+        })
     }
 
     pub fn is_empty(&self) -> bool

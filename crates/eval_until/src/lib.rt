@@ -3,9 +3,11 @@
 
 mod ahead;
 mod entries;
+mod expiry;
 pub mod laws;
 mod meeting;
 mod next;
+mod ordered;
 mod rebuild;
 mod recalled;
 mod rows;

@@ -3,11 +3,11 @@ ghost use Rattle.std.specs.Prelude.{◌≡◌, ◌||◌, ◌&&◌, ◌∷◌, �
 ghost use Rattle.std.specs.BTreeMap.{is_at};
 ghost use Rattle.std.specs.List.{list_any};
 ghost use Rattle.std.specs.List.Sorted.{IsStrictlySortedBy};
-ghost use Rattle.std.specs.Map.{keys_of};
 ghost use Rattle.std.specs.Ordering.{eq_by_cmp};
 ghost use Rattle.mfotl_model.specs.Tables.{has_row, part};
 ghost use Rattle.mfotl_model.specs.Values.{row_cmp};
 ghost use Rattle.mfotl_model.specs.declared.value.Value.{Value};
+ghost use Rattle.relations.specs.KeptRows.{RowsDiffer};
 ghost use Rattle.eval_until.specs.Entries.{entries_of, from_place, met_by};
 ghost use Rattle.eval_until.specs.Rules.{all_before};
 ghost use Rattle.eval_until.specs.Starts.{start_of};
@@ -17,12 +17,12 @@ use crate::starts::start_at;
 use mfotl_model::{Interval, Row};
 use relations::part_of;
 use std::alloc::{AllocError, Global};
-use std::collections::BTreeMap;
+use std::collections::HashMap;
 
 // the entries of a row, with one more
 fn add_entry(
     alloc: Global,
-    rows: &mut BTreeMap<Row, Entries>,
+    rows: &mut HashMap<Row, Entries>,
     row: Row,
     entry: Entry,
 ) -> Result<(), AllocError>
@@ -45,8 +45,8 @@ fn add_entry(
 /// reaches yet.
 pub fn add_rows(
     alloc: Global,
-    rows: &mut BTreeMap<Row, Entries>,
-    starts: &BTreeMap<Row, u64>,
+    rows: &mut HashMap<Row, Entries>,
+    starts: &HashMap<Row, u64>,
     right: &[u32],
     left: &[u32],
     negated: bool,
@@ -69,7 +69,7 @@ pub fn add_rows(
 }
 
 // forgets what stands before the position `next`, of one row
-fn forget_row(rows: &mut BTreeMap<Row, Entries>, row: &Row, next: u64)
+fn forget_row(rows: &mut HashMap<Row, Entries>, row: &Row, next: u64)
     ensures { (u : List Value) → entries_of rows.new.entries u
         ≡ cond (is_at (row_cmp row.now) u) (from_place next (entries_of rows.old.entries u))
         (entries_of rows.old.entries u) }
@@ -84,7 +84,7 @@ fn forget_row(rows: &mut BTreeMap<Row, Entries>, row: &Row, next: u64)
 }
 
 /// Forgets what stands before the position `next`, of these rows.
-pub fn forget_rows(rows: &mut BTreeMap<Row, Entries>, table: &[Row], next: u64)
+pub fn forget_rows(rows: &mut HashMap<Row, Entries>, table: &[Row], next: u64)
     ensures { (u : List Value) → entries_of rows.new.entries u
         ≡ cond (has_row table.now u) (from_place next (entries_of rows.old.entries u))
         (entries_of rows.old.entries u) }
@@ -97,7 +97,7 @@ pub fn forget_rows(rows: &mut BTreeMap<Row, Entries>, table: &[Row], next: u64)
 /// Appends the rows of which some entry meets UNTIL at the position `i`, whose time is `x`.
 pub fn push_met(
     alloc: Global,
-    rows: &BTreeMap<Row, Entries>,
+    rows: &HashMap<Row, Entries>,
     out: &mut Vec<Row>,
     interval: &Interval,
     i: u64,
@@ -106,7 +106,7 @@ pub fn push_met(
     ensures rows { OnOk result ((u : List Value) → has_row out.new.items u
         ≡ (has_row out.old.items u
         || list_any (λ e. eq_by_cmp row_cmp u e.0 && met_by interval.now i x e.1) rows.now.entries)) }
-    ensures ascend { IsStrictlySortedBy row_cmp (keys_of rows.now.entries) }
+    ensures differ { RowsDiffer rows.now.entries }
 {
     for (row, entries) in rows {
         if entries.met(interval, i, x) {
@@ -114,4 +114,14 @@ pub fn push_met(
         }
     }
     Ok(())
+}
+
+/// Whether some entry of a row meets UNTIL at the position `i`, whose time is `x`.
+pub fn row_met(rows: &HashMap<Row, Entries>, row: &Row, interval: &Interval, i: u64, x: u64) -> bool
+    ensures { result ≡ met_by interval.now i x (entries_of rows.now.entries row.now) }
+{
+    match rows.get(row) {
+        Some(entries) => entries.met(interval, i, x),
+        None => false,
+    }
 }

@@ -8,10 +8,10 @@ ghost use Rattle.eval_until.specs.Starts.{kept_start, later_start, start_of, sta
 
 use mfotl_model::Row;
 use std::alloc::{AllocError, Global};
-use std::collections::BTreeMap;
+use std::collections::HashMap;
 
 /// Where the run of a row begins, of which the positions before `place` were taken.
-pub fn start_at(starts: &BTreeMap<Row, u64>, negated: bool, place: u64, row: &Row) -> u64
+pub fn start_at(starts: &HashMap<Row, u64>, negated: bool, place: u64, row: &Row) -> u64
     ensures { result ≡ start_of negated place starts.now.entries row.now }
 {
     match starts.get(row) {
@@ -23,14 +23,14 @@ pub fn start_at(starts: &BTreeMap<Row, u64>, negated: bool, place: u64, row: &Ro
 // the runs that go on or begin at the position `place`
 fn kept_starts(
     alloc: Global,
-    starts: &BTreeMap<Row, u64>,
+    starts: &HashMap<Row, u64>,
     table: &[Row],
     place: u64,
-) -> Result<BTreeMap<Row, u64>, AllocError>
+) -> Result<HashMap<Row, u64>, AllocError>
     ensures { IfOk result (λ kept. (w : List Value) → kept_start kept.entries w
         ≡ cond (has_row table.now w) (Some (start_of false place starts.now.entries w)) None) }
 {
-    let mut kept = BTreeMap::new(alloc);
+    let mut kept = HashMap::new(alloc);
     for row in table {
         kept.insert(row.copy(alloc)?, start_at(starts, false, place, row))?;
     }
@@ -40,7 +40,7 @@ fn kept_starts(
 // the runs that break, and begin anew at the position `behind`
 fn break_starts(
     alloc: Global,
-    starts: &mut BTreeMap<Row, u64>,
+    starts: &mut HashMap<Row, u64>,
     table: &[Row],
     behind: u64,
 ) -> Result<(), AllocError>
@@ -56,7 +56,7 @@ fn break_starts(
 /// Applies the rows of the left operand's table at the position `place`.
 pub fn apply_left(
     alloc: Global,
-    starts: &mut BTreeMap<Row, u64>,
+    starts: &mut HashMap<Row, u64>,
     negated: bool,
     table: &[Row],
     place: u64,
@@ -74,7 +74,7 @@ pub fn apply_left(
 }
 
 // forgets the start of one row where it is not behind the position `next`
-fn forget_start(starts: &mut BTreeMap<Row, u64>, row: &Row, next: u64)
+fn forget_start(starts: &mut HashMap<Row, u64>, row: &Row, next: u64)
     ensures { (w : List Value) → kept_start starts.new.entries w
         ≡ cond (is_at (row_cmp row.now) w) (later_start next (kept_start starts.old.entries w))
         (kept_start starts.old.entries w) }
@@ -88,7 +88,7 @@ fn forget_start(starts: &mut BTreeMap<Row, u64>, row: &Row, next: u64)
 }
 
 /// Forgets the starts of these rows that are not behind the position `next`.
-pub fn forget_starts(starts: &mut BTreeMap<Row, u64>, table: &[Row], next: u64)
+pub fn forget_starts(starts: &mut HashMap<Row, u64>, table: &[Row], next: u64)
     ensures { (w : List Value) → kept_start starts.new.entries w
         ≡ cond (has_row table.now w) (later_start next (kept_start starts.old.entries w))
         (kept_start starts.old.entries w) }

@@ -3,7 +3,7 @@ use Rattle.std.specs.Option.{unwrap_or}
 use Rattle.std.specs.Map.{lookup}
 use Rattle.std.specs.BTreeMap.{is_at}
 use Rattle.mfotl_model.specs.Values.{row_cmp}
-use Rattle.relations.proofs.MapLemmas.{changed, written}
+use Rattle.relations.proofs.MapLemmas.{changed, put_through}
 use Rattle.eval_until.specs.Rules.{all_before}
 use Rattle.eval_until.proofs.rows.add_entry.Goals as goal
 
@@ -20,7 +20,7 @@ returns-in-Some c = λ u.
     changed [] (λ es. es ++ c.args.entry ∷ []) c.args.row u old.entries
     (c.get_mut.follows.lender c.push.new.self).entries
     (Some c.push.new.self)
-    (written c.args.row u old (c.get_mut.follows.lender c.push.new.self) c.push.new.self c.in-Some.entries.now
+    (put_through c.args.row u old (c.get_mut.follows.lender c.push.new.self) c.push.new.self c.in-Some.entries.now
     (c.get_mut.follows.holds c.push.new.self) is)
     (c.in_ok-push.ensures ∙ ap (λ o. unwrap_or o [] ++ c.args.entry ∷ []) is)
 

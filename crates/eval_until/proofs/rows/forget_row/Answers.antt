@@ -1,9 +1,10 @@
 use Rattle.std.proofs.Common.{◌≡◌, [], Some, None, sym, ap, ◌∙◌}
 use Rattle.std.specs.Option.{unwrap_or}
 use Rattle.std.specs.Map.{lookup}
-use Rattle.std.specs.BTreeMap.{BTreeMap, is_at}
+use Rattle.std.specs.BTreeMap.{is_at}
+use Rattle.std.specs.HashMap.{HashMap}
 use Rattle.mfotl_model.specs.Values.{row_cmp}
-use Rattle.relations.proofs.MapLemmas.{changed, written, removed, nothing_there}
+use Rattle.relations.proofs.MapLemmas.{changed, nothing_there, put_through, taken_out}
 use Rattle.eval_until.specs.Entries.{from_place}
 use Rattle.eval_until.proofs.EntriesLemmas.{from_none}
 use Rattle.eval_until.proofs.RowsLemmas.{empty_list}
@@ -15,7 +16,7 @@ returns-in_default c = λ u.
     let is : None ≡ lookup (is_at (row_cmp c.args.row.now)) old.entries = c.in_default.ensures.value in
     changed [] (from_place c.args.next) c.args.row.now u old.entries c.get_mut.follows.lender-at-none.entries None
     (nothing_there c.args.row.now u old.entries c.get_mut.follows.lender-at-none.entries
-    (ap (λ (m : BTreeMap _ _). m.entries) c.get_mut.follows.holds-at-none) is)
+    (ap (λ (m : HashMap _ _ _). m.entries) c.get_mut.follows.holds-at-none) is)
     (sym (from_none c.args.next) ∙ ap (λ o. from_place c.args.next (unwrap_or o [])) is)
 
 pub returns-then-is_empty : goal.returns-then-is_empty
@@ -24,8 +25,9 @@ returns-then-is_empty c = λ u.
     let is : Some c.in-Some.entries.now ≡ lookup (is_at (row_cmp c.args.row.now)) old.entries =
     c.in-Some.ensures.value in
     changed [] (from_place c.args.next) c.args.row.now u old.entries c.remove.new.self.entries None
-    (removed c.args.row.now u old (c.get_mut.follows.lender c.forget.new.self) c.remove.new.self c.forget.new.self
-    (written c.args.row.now u old (c.get_mut.follows.lender c.forget.new.self) c.forget.new.self
+    (taken_out c.args.row.now u old.entries (c.get_mut.follows.lender c.forget.new.self).entries
+    c.remove.new.self.entries c.forget.new.self
+    (put_through c.args.row.now u old (c.get_mut.follows.lender c.forget.new.self) c.forget.new.self
     c.in-Some.entries.now (c.get_mut.follows.holds c.forget.new.self) is)
     (c.remove.ensures.updates.0 u))
     (empty_list c.forget.new.self (sym c.is_empty.ensures ∙ c.if-is_empty.true) ∙ c.forget.ensures
@@ -38,6 +40,6 @@ returns-else-is_empty c = λ u.
     c.in-Some.ensures.value in
     changed [] (from_place c.args.next) c.args.row.now u old.entries
     (c.get_mut.follows.lender c.forget.new.self).entries (Some c.forget.new.self)
-    (written c.args.row.now u old (c.get_mut.follows.lender c.forget.new.self) c.forget.new.self
+    (put_through c.args.row.now u old (c.get_mut.follows.lender c.forget.new.self) c.forget.new.self
     c.in-Some.entries.now (c.get_mut.follows.holds c.forget.new.self) is)
     (c.forget.ensures ∙ ap (λ o. from_place c.args.next (unwrap_or o [])) is)

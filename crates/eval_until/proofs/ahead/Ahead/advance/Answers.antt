@@ -1,8 +1,10 @@
-use Rattle.std.proofs.Common.{◌+◌}
-use Rattle.eval_until.specs.Entries.{entries_of}
+use Rattle.std.proofs.Common.{◌+◌, cond, nat_le, sym, ap, ◌∙◌}
+use Rattle.std.specs.Option.{unwrap_or}
+use Rattle.eval_until.specs.Entries.{entries_of, met_by}
 use Rattle.eval_until.specs.Starts.{kept_start}
 use Rattle.eval_until.proofs.EntriesLemmas.{met_thinned}
 use Rattle.eval_until.proofs.KeepingLemmas.{kept_pulled, start_later}
+use Rattle.eval_until.proofs.OrderLemmas.{entries_in_order, kept_in_order}
 use Rattle.eval_until.proofs.ahead.Ahead.advance.Goals as goal
 
 pub invariant_of-self : goal.invariant_of-self
@@ -17,11 +19,17 @@ invariant_of-self c =
 pub returns-clause-met : goal.returns-clause-met
 returns-clause-met c = rw (← c.self.view_is) (
     let k = c.self.inside in
-    λ i x u low. met_thinned k.interval i x (k.pulled + 1) (entries_of k.contents.rows.entries u)
-    (entries_of c.expire.new.rows.entries u) low (c.expire.ensures.rows u))
+    λ i x u low. ap (met_by k.interval i x) (entries_in_order c.expire.new.rows.entries u)
+    ∙ met_thinned k.interval i x (k.pulled + 1) (entries_of k.contents.rows.entries u)
+    (entries_of c.expire.new.rows.entries u) low (c.expire.ensures.rows u)
+    ∙ ap (met_by k.interval i x) (sym (entries_in_order k.contents.rows.entries u)))
 
 pub returns-clause-start : goal.returns-clause-start
 returns-clause-start c = rw (← c.self.view_is) (
     let k = c.self.inside in
-    λ i w low. start_later k.negated (k.pulled + 1) k.taken i (kept_start k.contents.starts.entries w)
-    (kept_start c.expire.new.starts.entries w) low (c.expire.ensures.starts w))
+    λ i w low.
+    ap (λ o. nat_le (unwrap_or o (cond k.negated 0 k.taken)) i) (kept_in_order c.expire.new.starts.entries w)
+    ∙ start_later k.negated (k.pulled + 1) k.taken i (kept_start k.contents.starts.entries w)
+    (kept_start c.expire.new.starts.entries w) low (c.expire.ensures.starts w)
+    ∙ ap (λ o. nat_le (unwrap_or o (cond k.negated 0 k.taken)) i)
+    (sym (kept_in_order k.contents.starts.entries w)))

@@ -1,20 +1,34 @@
+use Rattle.std.proofs.Common.{◌<◌, ◌≤◌}
+use Rattle.eval_until.specs.InOrder.{in_order}
 use Rattle.eval_until.proofs.KeepingLemmas.{above_is, waiting_is}
+use Rattle.eval_until.proofs.OrderLemmas.{kept_in_order}
+use Rattle.eval_until.proofs.ResumeLemmas.{ascend_as, starts_as, waiting_as}
 use Rattle.eval_until.proofs.ahead.Ahead.is_bounded.Goals as goal
 
 pub returns-clause-waiting : goal.returns-clause-waiting
 returns-clause-waiting c = rw (← c.self.view_is) (
     let k = c.self.inside in
-    waiting_is k.negated k.right.items k.pulled k.taken k.contents.starts.entries k.contents.rows.entries
-    k.contents.queue.items c.self.invariant)
+    waiting_as k.pulled k.taken k.contents.rows.entries (in_order k.contents.rows.entries)
+    (kept_in_order k.contents.rows.entries)
+    (waiting_is k.negated k.right.items k.pulled k.taken k.contents.starts.entries k.contents.rows.entries
+    k.contents.queue.items c.self.invariant))
 
 pub returns-clause-ascend : goal.returns-clause-ascend
-returns-clause-ascend c = rw (← c.self.view_is) c.self.invariant.ascend
+returns-clause-ascend c = rw (← c.self.view_is) (
+    let k = c.self.inside in
+    ascend_as k.contents.rows.entries (in_order k.contents.rows.entries) (kept_in_order k.contents.rows.entries)
+    c.self.invariant.ascend)
 
 pub returns-clause-below : goal.returns-clause-below
-returns-clause-below c = rw (← c.self.view_is) c.self.invariant.low
+returns-clause-below c = rw (← c.self.view_is) (
+    let k = c.self.inside in
+    starts_as (λ s. s ≤ k.taken) k.contents.starts.entries (in_order k.contents.starts.entries)
+    (kept_in_order k.contents.starts.entries) c.self.invariant.low)
 
 pub returns-clause-above : goal.returns-clause-above
 returns-clause-above c = rw (← c.self.view_is) (
     let k = c.self.inside in
-    above_is k.negated k.right.items k.pulled k.taken k.contents.starts.entries k.contents.rows.entries
-    k.contents.queue.items c.self.invariant)
+    λ is. starts_as (λ s. k.pulled < s) k.contents.starts.entries (in_order k.contents.starts.entries)
+    (kept_in_order k.contents.starts.entries)
+    (above_is k.negated k.right.items k.pulled k.taken k.contents.starts.entries k.contents.rows.entries
+    k.contents.queue.items c.self.invariant is))

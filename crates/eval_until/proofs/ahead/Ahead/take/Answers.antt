@@ -1,14 +1,20 @@
-use Rattle.std.proofs.Common.{refl}
+use Rattle.std.proofs.Common.{◌+◌, ◌-◌, cond, nat_le, ◌&&◌, ◌||◌, refl, sym, ap, ap₂, ◌∙◌}
+use Rattle.std.specs.Option.{unwrap_or}
+use Rattle.mfotl_model.specs.Intervals.{in_interval}
 use Rattle.mfotl_model.specs.Tables.{has_row, part}
-use Rattle.eval_until.specs.Entries.{entries_of}
+use Rattle.relations.specs.Pushed.{turned}
+use Rattle.eval_until.specs.Entries.{entries_of, met_by}
 use Rattle.eval_until.specs.Starts.{kept_start, start_of}
 use Rattle.eval_until.proofs.KeepingLemmas.{met_taken, start_stepped}
+use Rattle.eval_until.proofs.OrderLemmas.{entries_in_order, kept_in_order}
 use Rattle.eval_until.proofs.ahead.Ahead.take.Goals as goal
 
 pub returns-clause-met : goal.returns-clause-met
 returns-clause-met c = rw (← c.self.view_is) (
     let k = c.self.inside in
-    λ i x u. met_taken k.interval i x (has_row c.args.rights.rows u) (entries_of k.contents.rows.entries u)
+    λ i x u.
+    ap (met_by k.interval i x) (entries_in_order c.in_ok-self-inside.field-0.rows.entries u)
+    ∙ met_taken k.interval i x (has_row c.args.rights.rows u) (entries_of k.contents.rows.entries u)
     (entries_of c.in_ok-self-inside.field-0.rows.entries u)
     (record {
       place = k.taken;
@@ -20,15 +26,25 @@ returns-clause-met c = rw (← c.self.view_is) (
       c.as_slice-left.ensures.value,
       c.replace-contents.ensures.value,
       c.into_rows-rights.ensures.rows,
-    ) at c.in_ok-self-inside.ensures.rows) u))
+    ) at c.in_ok-self-inside.ensures.rows) u)
+    ∙ ap₂ (λ m s. m || (has_row c.args.rights.rows u
+    && (nat_le s i && nat_le i k.taken && in_interval k.interval (c.args.ts - x))))
+    (ap (met_by k.interval i x) (sym (entries_in_order k.contents.rows.entries u)))
+    (ap (λ o. unwrap_or o (cond k.negated 0 k.taken))
+    (sym (kept_in_order k.contents.starts.entries (part k.right.items k.left.items u)))))
 
 pub returns-clause-start : goal.returns-clause-start
 returns-clause-start c = rw (← c.self.view_is) (
     let k = c.self.inside in
-    λ w. start_stepped k.negated (has_row c.args.lefts.rows w) k.taken
+    λ w.
+    ap (λ o. unwrap_or o (cond k.negated 0 (k.taken + 1)))
+    (kept_in_order c.in_ok-self-inside.field-0.starts.entries w)
+    ∙ start_stepped k.negated (has_row c.args.lefts.rows w) k.taken
     (start_of k.negated k.taken k.contents.starts.entries w)
     (kept_start k.contents.starts.entries w) (kept_start c.in_ok-self-inside.field-0.starts.entries w) refl
     ((rw (
       c.replace-contents.ensures.value,
       c.into_rows-lefts.ensures.rows,
-    ) at c.in_ok-self-inside.ensures.starts) w))
+    ) at c.in_ok-self-inside.ensures.starts) w)
+    ∙ ap (λ o. cond (turned k.negated (has_row c.args.lefts.rows w)) (unwrap_or o (cond k.negated 0 k.taken))
+    (k.taken + 1)) (sym (kept_in_order k.contents.starts.entries w)))

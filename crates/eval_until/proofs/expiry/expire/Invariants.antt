@@ -3,7 +3,7 @@ use Rattle.mfotl_model.specs.declared.value.Value.{Value}
 use Rattle.eval_until.specs.Entries.{entries_of}
 use Rattle.eval_until.specs.Keeping.{Covered, CoveredStarts, IsLater, IsThinned, NotAfter, Rising}
 use Rattle.eval_until.specs.Starts.{kept_start}
-use Rattle.eval_until.proofs.ahead.expire.Given as goal
+use Rattle.eval_until.proofs.expiry.expire.Given as goal
 
 abbrev pub invariant-loop-front : goal.invariant-loop-front
 invariant-loop-front l = record {

@@ -6,7 +6,7 @@ use Rattle.eval_until.specs.Keeping.{Covered, CoveredStarts, NotAfter, Rising}
 use Rattle.eval_until.specs.Starts.{kept_start}
 use Rattle.eval_until.proofs.EntriesLemmas.{thin_more}
 use Rattle.eval_until.proofs.QueueLemmas.{after_rest, breaks_more, covered_more, fresh_front, front_before, later_more}
-use Rattle.eval_until.proofs.ahead.expire.Goals as goal
+use Rattle.eval_until.proofs.expiry.expire.Goals as goal
 
 pub returns-then-front-next-clause-fresh : goal.returns-then-front-next-clause-fresh
 returns-then-front-next-clause-fresh c =

@@ -1,0 +1,59 @@
+//! What goes, once a position is pulled.
+ghost use Rattle.std.specs.Prelude.{◌≡◌, ◌&&◌, ℕ, true, List, cond};
+ghost use Rattle.mfotl_model.specs.Tables.{has_row};
+ghost use Rattle.mfotl_model.specs.declared.value.Value.{Value};
+ghost use Rattle.eval_until.specs.Entries.{entries_of};
+ghost use Rattle.eval_until.specs.Keeping.{Covered, CoveredStarts, Fresh, IsLater, IsThinned, NotAfter, Rising};
+ghost use Rattle.eval_until.specs.Starts.{kept_start, later_start};
+
+use crate::ahead::Taken;
+use crate::entries::Entries;
+use crate::rows::forget_rows;
+use crate::starts::forget_starts;
+use mfotl_model::Row;
+use std::collections::{HashMap, VecDeque};
+
+// a run that began with the position `next` or before tells nothing more; only those of a negated
+// operand may be forgotten, since they are taken to begin with the first position
+fn forget_breaks(starts: &mut HashMap<Row, u64>, negated: bool, table: &[Row], next: u64)
+    ensures { (w : List Value) → kept_start starts.new.entries w
+        ≡ cond (negated && has_row table.now w) (later_start next (kept_start starts.old.entries w))
+        (kept_start starts.old.entries w) }
+{
+    if negated {
+        forget_starts(starts, table, next);
+    }
+}
+
+/// Forgets what stands before the position `next`, by the rows that it came with.
+pub fn expire(
+    rows: &mut HashMap<Row, Entries>,
+    starts: &mut HashMap<Row, u64>,
+    queue: &mut VecDeque<Taken>,
+    negated: bool,
+    next: u64,
+)
+    requires rows { Covered queue.old.items rows.old.entries }
+    requires rising { Rising queue.old.items }
+    ensures rows { (u : List Value) →
+        IsThinned next (entries_of rows.old.entries u) (entries_of rows.new.entries u) }
+    ensures starts { (w : List Value) →
+        IsLater negated next (kept_start starts.old.entries w) (kept_start starts.new.entries w) }
+    ensures covered { Covered queue.new.items rows.new.entries }
+    ensures breaks { negated ≡ true → CoveredStarts queue.old.items starts.old.entries →
+        CoveredStarts queue.new.items starts.new.entries }
+    ensures rising { Rising queue.new.items }
+    ensures fresh { Fresh next queue.new.items }
+    ensures after { (p : ℕ) → NotAfter p queue.old.items → NotAfter p queue.new.items }
+{
+    while let Some(front) = queue.front() {
+        if front.place >= next {
+            return;
+        }
+        let Some(old) = queue.pop_front() else {
+            return;
+        };
+        forget_rows(rows, old.rights.as_slice(), next);
+        forget_breaks(starts, negated, old.breaks.as_slice(), next);
+    }
+}
