@@ -16,11 +16,13 @@ _monitor() {
       compopt -o filenames 2>/dev/null
       mapfile -t COMPREPLY < <(compgen -f -- "$current")
       return ;;
+    --strategy | --threads)
+      return ;;
   esac
 
   local options option left=""
   case ${COMP_WORDS[1]} in
-    run) options="--sig --policy --log" ;;
+    run) options="--sig --policy --log --strategy --threads" ;;
     check) options="--sig --policy" ;;
     *) return ;;
   esac
