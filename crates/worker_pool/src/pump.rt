@@ -126,13 +126,14 @@ fn has_room(_driver: &Driver) -> bool {
     true
 }
 
-// Goes on until each worker's queue has room for an item.
+// Goes on until each worker's queue has room for an item, at least for one turn where `turns` is told.
 fn make_room<R: Wait, O: Sink, G: Gate>(
     shop: &Shop<'_, R, G>,
     own: &mut Vec<WorkerHand>,
     driver: &mut Driver,
     page: &mut Page,
     out: &mut O,
+    mut turns: bool,
 ) -> Result<(), Stop>
     requires runs { Runs driver.old (O.written out.old) page.old.tally }
     requires main { IsMainOf shop.now.hub.now driver.old.main }
@@ -147,17 +148,16 @@ fn make_room<R: Wait, O: Sink, G: Gate>(
     ensures later { O.faults out.old ≤ O.faults out.new }
 {
     for _ in shop.rt.forever() {
-        if has_room(driver) {
+        if !turns && has_room(driver) {
             return Ok(());
         }
         round(shop, own, driver, page, out)?;
-        thread::yield_now();
+        turns = false;
     }
     unreachable!()
 }
 
-/// Reads a time-point, once there is room for it. At a time-point for which `turns` is told there is a turn of the loop
-/// before.
+/// Reads a time-point, once there is room for it; where `turns` is told, behind a turn of the loop.
 pub(crate) fn route<R: Wait, O: Sink, G: Gate>(
     shop: &Shop<'_, R, G>,
     own: &mut Vec<WorkerHand>,
@@ -179,10 +179,7 @@ pub(crate) fn route<R: Wait, O: Sink, G: Gate>(
     ensures stop { IfErr result (λ stop. IsOutputStop (O.faults out.old) (O.faults out.new) stop) }
     ensures later { O.faults out.old ≤ O.faults out.new }
 {
-    if turns {
-        round(shop, own, driver, page, out)?;
-    }
-    make_room(shop, own, driver, page, out)?;
+    make_room(shop, own, driver, page, out, turns)?;
     driver.read_point(shop.alloc, point)?;
     Ok(())
 }
