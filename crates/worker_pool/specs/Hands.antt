@@ -17,7 +17,7 @@ abbrev pub WorkerHand : Type 0
 WorkerHand = Hand Worker Item Out Seed
 
 -- each is a hand of the hub
-abbrev pub AreHandsOf : WorkerHub → List WorkerHand → Type 0
+unfoldable pub AreHandsOf : WorkerHub → List WorkerHand → Type 0
 AreHandsOf hub hands = All (λ h. IsHandOf hub h) hands
 
 -- the cells that the hands serve

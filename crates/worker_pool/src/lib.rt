@@ -1,7 +1,11 @@
 //! Monitors a log with a pool of threads: the layer above opens the log and says what the end means.
 #![tactic(auto)]
 
+mod bell;
+mod bells;
+mod crew;
 mod end;
+mod errand;
 mod following;
 mod hands;
 mod monitoring;
