@@ -43,7 +43,6 @@ pub fn monitor<R: Threads + Wait + Sync, I: Inputs, O: Sink, G: Gate + Sync>(
     ensures follows { ForEachPolicy (core_form plan.core) (λ policy. FollowsLog log.old.sig policy
         (effect I.Inputs O.Sink inputs.old inputs.new out.old out.new) result) }
 {
-    let _ = (rt, alloc, threads, gate, log, inputs, out);
     drop(plan);
     End::Memory
 }
