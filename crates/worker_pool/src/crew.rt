@@ -1,6 +1,6 @@
 //! What runs the threads beside main's errand.
-ghost use Rattle.std.specs.Prelude.{◌≡◌, All, List};
-ghost use Rattle.worker_pool.specs.Hands.{AreHandsOf, WorkerHand};
+ghost use Rattle.std.specs.Prelude.{◌≡◌, List};
+ghost use Rattle.worker_pool.specs.Hands.{AreGroupsOf, AreHandsOf, WorkerHand};
 
 use crate::bells::Bells;
 use crate::errand::Errand;
@@ -24,7 +24,7 @@ fn start_all<'s, E, R: Wait + Sync, G: Gate + Sync>(
     own: &mut Vec<WorkerHand>,
     threads: &mut Vec<Thread>,
 ) -> Result<(), AllocError>
-    requires groups { All (λ g. AreHandsOf hub.now g.items) groups.items }
+    requires groups { AreGroupsOf hub.now groups.items }
     requires own { AreHandsOf hub.now own.old.items }
     ensures own { AreHandsOf hub.now own.new.items }
 {
@@ -70,7 +70,7 @@ fn in_scope<'s, 'm, E, R: Threads + Wait + Sync, G: Gate + Sync, T: Errand>(
     mut own: Vec<WorkerHand>,
     errand: &'m mut T,
 ) -> (T::Answer, &'m mut T)
-    requires groups { All (λ g. AreHandsOf hub.now g.items) groups.items }
+    requires groups { AreGroupsOf hub.now groups.items }
     requires own { AreHandsOf hub.now own.items }
     requires can { (hands : List WorkerHand) → AreHandsOf hub.now hands → T.can errand.old hands }
     ensures same { result.1.ghost_name ≡ errand.entry.ghost_name }
@@ -105,7 +105,7 @@ pub(crate) fn beside<R: Threads + Wait + Sync, G: Gate + Sync, T: Errand>(
     own: Vec<WorkerHand>,
     errand: &mut T,
 ) -> T::Answer
-    requires groups { All (λ g. AreHandsOf hub.now g.items) groups.items }
+    requires groups { AreGroupsOf hub.now groups.items }
     requires own { AreHandsOf hub.now own.items }
     requires can { (hands : List WorkerHand) → AreHandsOf hub.now hands → T.can errand.old hands }
     ensures { T.did errand.old result errand.new }
@@ -114,7 +114,7 @@ pub(crate) fn beside<R: Threads + Wait + Sync, G: Gate + Sync, T: Errand>(
         thread::scope_env(),
         rt,
         move |scope|
-            requires groups { All (λ g. AreHandsOf hub.now g.items) groups.items }
+            requires groups { AreGroupsOf hub.now groups.items }
             requires own { AreHandsOf hub.now own.items }
             requires can { (hands : List WorkerHand) → AreHandsOf hub.now hands → T.can errand.now hands }
         { in_scope(rt, alloc, scope, hub, gate, bells, groups, own, errand) },

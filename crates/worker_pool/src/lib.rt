@@ -4,11 +4,13 @@
 mod bell;
 mod bells;
 mod crew;
+mod dealing;
 mod end;
 mod errand;
 mod following;
 mod hands;
 mod monitoring;
+mod opening;
 mod page;
 mod plan;
 mod pump;

@@ -81,9 +81,7 @@ pub(crate) fn start<'s, E, R: Wait + Sync, G: Gate + Sync>(
     ensures hands { AreHandsOf hub.now result.items }
     ensures room { (vec_len threads.new ≤ vec_len threads.old + 1) × (vec_capacity threads.new ≡ vec_capacity threads.old) }
 {
-    match scope.spawn(move || {
-        serve_until(rt, alloc, hub, hands, bell, main, gate)
-    }) {
+    match scope.spawn(move || { serve_until(rt, alloc, hub, hands, bell, main, gate) }) {
         Ok(thread) => {
             threads.push_reserved(thread);
             Vec::new(alloc)

@@ -8,7 +8,7 @@ use Rattle.worker_pool.proofs.crew.start_all.Goals as goal
 pub start-refused-requires-clause-hands : goal.start-refused-requires-clause-hands
 start-refused-requires-clause-hands g c κs within =
     All-head (λ h. AreHandsOf c.args.hub.now h.items) _ _
-        (subst (All (λ h. AreHandsOf c.args.hub.now h.items)) c.in-Some.ensures.items c.loop-t.invariant.groups)
+    (subst (All (λ h. AreHandsOf c.args.hub.now h.items)) c.in-Some.ensures.items c.loop-t.invariant.groups)
 
 -- the groups after it are, and so are the hands that came back
 pub loop-t-preserved : goal.loop-t-preserved
@@ -17,6 +17,6 @@ loop-t-preserved g c = record {
       (subst (All (λ h. AreHandsOf c.args.hub.now h.items)) c.in-Some.ensures.items c.loop-t.invariant.groups);
   own = subst (λ hands. AreHandsOf c.args.hub.now hands) (sym c.in_ok-append.ensures.items)
       (more_hands c.args.hub.now c.loop-t.own.items c.start-refused.result.items c.loop-t.invariant.own
-          c.start-refused.ensures.hands);
+      c.start-refused.ensures.hands);
   room = search rules;
 }

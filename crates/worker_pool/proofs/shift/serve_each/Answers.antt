@@ -10,9 +10,12 @@ pub loop-k-preserved : goal.loop-k-preserved
 unfolding AreHandsOf
 loop-k-preserved g c =
     let hands = c.loop-k.hands.items in
-    let cell : (WorkerHand → _) = (λ h. hand_cell h) in
-    ((All-set (λ h. IsHandOf c.args.hub.now h) hands c.loop-k.k c.serve.new.hand c.serve.ensures.hand.0
+    let cell : (WorkerHand → _) = (λ h. hand_cell h) in (
+      (
+        All-set (λ h. IsHandOf c.args.hub.now h) hands c.loop-k.k c.serve.new.hand c.serve.ensures.hand.0
             c.loop-k.invariant.0.0,
         map-set_same cell hands c.loop-k.k c.serve.new.hand c.index_mut.result.now
-            (c.serve.ensures.hand.1 ∙ ap cell c.index_mut.ensures.value) ∙ c.loop-k.invariant.0.1),
-        search rules)
+            (c.serve.ensures.hand.1 ∙ ap cell c.index_mut.ensures.value) ∙ c.loop-k.invariant.0.1,
+      ),
+      search rules,
+    )
