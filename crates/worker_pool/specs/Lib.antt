@@ -4,5 +4,6 @@ pub mod Policies
 pub mod Effects
 pub mod Endings
 pub mod Hands
+pub mod Opening
 pub mod Writing
 pub mod Pieces

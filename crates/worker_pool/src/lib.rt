@@ -1,10 +1,16 @@
 //! Monitors a log with a pool of threads: the layer above opens the log and says what the end means.
 #![tactic(auto)]
 
+mod bell;
+mod bells;
+mod crew;
+mod dealing;
 mod end;
+mod errand;
 mod following;
 mod hands;
 mod monitoring;
+mod opening;
 mod page;
 mod plan;
 mod pump;
