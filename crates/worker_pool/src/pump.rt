@@ -14,7 +14,6 @@ use mon_outside::{Gate, Sink};
 use rescale_core::{Driver, Turn};
 use std::alloc::{AllocError, Global};
 use std::sync::Wait;
-use std::thread;
 
 // Writes the line of each verdict that is ready.
 fn write_ready<R: Wait, O: Sink>(
@@ -42,13 +41,13 @@ fn write_ready<R: Wait, O: Sink>(
     unreachable!()
 }
 
-// Collects from each worker what it gave, and hands over what is ready for it.
+// Collects from each worker what it gave, and hands over what is ready for it. Answers whether there was any of it.
 fn turn_all<R, G, O: Sink>(
     shop: &Shop<'_, R, G>,
     driver: &mut Driver,
     page: &Page,
     out: &O,
-) -> Result<(), AllocError>
+) -> Result<bool, AllocError>
     requires runs { Runs driver.old (O.written out.now) page.now.tally }
     requires main { IsMainOf shop.now.hub.now driver.old.main }
     requires cells { shop.now.cells ≤ cell_count shop.now.hub.now }
@@ -56,23 +55,32 @@ fn turn_all<R, G, O: Sink>(
     ensures ok { OnOk result (Keeps driver.old (O.written out.now) page.now.tally
         driver.new (O.written out.now) page.now.tally) }
 {
+    let mut busy = false;
     for k in 0..shop.cells {
         let turn = driver.turn(shop.alloc, shop.hub, k)?;
-        if let Turn::Broken = turn {
-            return Err(AllocError);
+        match turn {
+            Turn::NotYet => {}
+            Turn::Broken => return Err(AllocError),
+            Turn::Moved(given, handed) => {
+                busy |= given != 0 || handed != 0;
+                if handed != 0 {
+                    shop.bells.ring(k);
+                }
+            }
         }
     }
-    Ok(())
+    Ok(busy)
 }
 
-// One turn of main's loop: each worker, main's own hands, and the lines that are ready.
+// One turn of main's loop: each worker, main's own hands, and the lines that are ready. Answers whether there was
+// something to do.
 fn round<R: Wait, O: Sink, G: Gate>(
     shop: &Shop<'_, R, G>,
     own: &mut Vec<WorkerHand>,
     driver: &mut Driver,
     page: &mut Page,
     out: &mut O,
-) -> Result<(), Stop>
+) -> Result<bool, Stop>
     requires runs { Runs driver.old (O.written out.old) page.old.tally }
     requires main { IsMainOf shop.now.hub.now driver.old.main }
     requires cells { shop.now.cells ≤ cell_count shop.now.hub.now }
@@ -85,9 +93,10 @@ fn round<R: Wait, O: Sink, G: Gate>(
     ensures stop { IfErr result (λ stop. IsOutputStop (O.faults out.old) (O.faults out.new) stop) }
     ensures later { O.faults out.old ≤ O.faults out.new }
 {
-    turn_all(shop, driver, page, out)?;
-    serve_each(shop.alloc, shop.hub, own, shop.gate);
-    write_ready(shop.rt, shop.alloc, driver, page, out)
+    let turned = turn_all(shop, driver, page, out)?;
+    let served = serve_each(shop.alloc, shop.hub, own, shop.gate);
+    write_ready(shop.rt, shop.alloc, driver, page, out)?;
+    Ok(turned || served)
 }
 
 /// Goes on until the lines of all settled positions are written.
@@ -111,12 +120,14 @@ pub(crate) fn drain<R: Wait, O: Sink, G: Gate>(
     ensures stop { IfErr result (λ stop. IsOutputStop (O.faults out.old) (O.faults out.new) stop) }
     ensures later { O.faults out.old ≤ O.faults out.new }
 {
+    let mut idle = 0u64;
     for _ in shop.rt.forever() {
-        round(shop, own, driver, page, out)?;
+        let heard = shop.bells.main.rings();
+        let busy = round(shop, own, driver, page, out)?;
         if driver.ended() {
             return Ok(());
         }
-        thread::yield_now();
+        idle = shop.rest(busy, heard, idle);
     }
     unreachable!()
 }
@@ -147,11 +158,14 @@ fn make_room<R: Wait, O: Sink, G: Gate>(
     ensures stop { IfErr result (λ stop. IsOutputStop (O.faults out.old) (O.faults out.new) stop) }
     ensures later { O.faults out.old ≤ O.faults out.new }
 {
+    let mut idle = 0u64;
     for _ in shop.rt.forever() {
         if !turns && has_room(driver) {
             return Ok(());
         }
-        round(shop, own, driver, page, out)?;
+        let heard = shop.bells.main.rings();
+        let busy = round(shop, own, driver, page, out)?;
+        idle = shop.rest(busy, heard, idle);
         turns = false;
     }
     unreachable!()
