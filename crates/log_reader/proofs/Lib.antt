@@ -26,3 +26,4 @@ pub mod CompletedLaws
 pub mod ReaderLemmas
 pub mod GrowthLemmas
 pub mod AnswerLemmas
+pub mod DemoLemmas
