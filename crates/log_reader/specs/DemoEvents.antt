@@ -20,15 +20,15 @@ person_at place =
     else Eve
 
 -- the event of a kind from 0 to 7 and of an identity; who asks is drawn behind s
-abbrev pub event_of : ℕ → ℕ → ℕ → DemoEvent
-event_of kind id s =
+abbrev pub event_of_kind : ℕ → ℕ → ℕ → DemoEvent
+event_of_kind kind id s =
     if nat_lt kind 4 then Request id (person_at (drawn 5 s))
     else if nat_lt kind 7 then Grant id
     else Drop id
 
 -- the event that is drawn behind s: its kind, its identity, and who asks
 abbrev pub event_behind : ℕ → DemoEvent
-event_behind s = event_of (drawn 8 s) (drawn 100 (moved_on s)) (moved_on (moved_on s))
+event_behind s = event_of_kind (drawn 8 s) (drawn 100 (moved_on s)) (moved_on (moved_on s))
 
 -- how far its draws move s on: two for each event, and one more for a request
 abbrev pub behind_event : ℕ → ℕ

@@ -25,4 +25,5 @@ pub mod FaultTexts
 pub mod DemoDraws
 pub mod DemoEvents
 pub mod DemoTexts
+pub mod DemoPoints
 pub mod WorkedTexts
