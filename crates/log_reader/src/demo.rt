@@ -30,7 +30,8 @@ const LONGEST_WAIT: u64 = 4;
 // A time-point has fewer events than this.
 const MOST_EVENTS: u64 = 6;
 
-/// The texts of a run: a signature, a policy, a log and a script of changes.
+/// The texts of a run, each as its file would have it: a signature, a policy, a log over that signature and
+/// a script of changes of the strategy, which is empty at first.
 #[derive(Drop)]
 pub struct Demo {
     pub sig: String,
@@ -39,7 +40,7 @@ pub struct Demo {
     pub changes: String,
 }
 
-/// The demo of this seed. Only its log depends on the seed.
+/// The demo of this seed. Only its log depends on the seed: 2,000 time-points with up to five events each.
 pub fn generate(alloc: Global, seed: u64) -> Result<Demo, AllocError>
     ensures sig { IfOk result (λ demo. string_bytes demo.sig ≡ signature_text) }
     ensures policy { IfOk result (λ demo. string_bytes demo.policy ≡ policy_text) }

@@ -7,12 +7,13 @@ use crate::demo_draws::Draws;
 use itoa::Buffer;
 use std::alloc::AllocError;
 
-// An identity is below this.
+// Identities are below this.
 const IDENTITIES: u64 = 100;
 
+// So many people make requests.
 const PEOPLE: u64 = 5;
 
-// Of as many kinds of events, the first are requests, the next grants, and the last one drops.
+// Kinds below 4 are requests, those below 7 grants, and the last one is a drop.
 const KINDS: u64 = 8;
 
 /// Who makes a request.
