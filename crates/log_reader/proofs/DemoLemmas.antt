@@ -3,43 +3,44 @@ use Rattle.std.proofs.Common.{◌≡◌, ℕ, suc, ◌+◌, List, ◌∷◌, ◌
 use Rattle.std.proofs.lemmas.List.{append-nil}
 use Rattle.std.specs.List.{flat_map}
 use Rattle.log_reader.specs.declared.demo_event.DemoEvent.{DemoEvent}
-use Rattle.log_reader.specs.DemoEvents.{Moment, event_behind, events_behind, behind_event, behind_events, moments}
+use Rattle.log_reader.specs.DemoEvents.{Moment, event_behind, events_behind, state_behind, state_behind_all, moments}
 use Rattle.log_reader.specs.DemoEvents.{written, line_of}
 use Rattle.log_reader.specs.DemoDraws.{drawn, moved_on}
 
 -- ---- events
 
-events_first : (n m s : ℕ) → n ≡ suc m → events_behind n s ≡ event_behind s ∷ events_behind m (behind_event s)
+events_first : (n m s : ℕ) → n ≡ suc m → events_behind n s ≡ event_behind s ∷ events_behind m (state_behind s)
 unfolding events_behind
 events_first n m s e = rw e refl
 
-behind_events_first : (n m s : ℕ) → n ≡ suc m → behind_events n s ≡ behind_events m (behind_event s)
-unfolding behind_events
-behind_events_first n m s e = rw e refl
+state_first : (n m s : ℕ) → n ≡ suc m → state_behind_all n s ≡ state_behind_all m (state_behind s)
+unfolding state_behind_all
+state_first n m s e = rw e refl
 
 -- one more event is written
 pub event_written : (out out' all : List ℕ) (n m s s' : ℕ) (e : DemoEvent) → n ≡ suc m → e ≡ event_behind s
-    → s' ≡ behind_event s → out' ≡ out ++ written e → out ++ flat_map written (events_behind n s) ≡ all
+    → s' ≡ state_behind s → out' ≡ out ++ written e → out ++ flat_map written (events_behind n s) ≡ all
     → out' ++ flat_map written (events_behind m s') ≡ all
 event_written out out' all n m s s' e more event behind wrote is =
     rw (wrote, event, behind)
-    (append_assoc out (written (event_behind s)) (flat_map written (events_behind m (behind_event s)))
+    (append_assoc out (written (event_behind s)) (flat_map written (events_behind m (state_behind s)))
     ∙ ap (λ es. out ++ flat_map written es) (sym (events_first n m s more)) ∙ is)
 
 -- and its draws are behind
-pub event_drawn : (n m s s' end : ℕ) → n ≡ suc m → s' ≡ behind_event s → behind_events n s ≡ end
-    → behind_events m s' ≡ end
-event_drawn n m s s' end more behind is = rw behind (sym (behind_events_first n m s more) ∙ is)
+pub event_drawn : (n m s s' end : ℕ) → n ≡ suc m → s' ≡ state_behind s → state_behind_all n s ≡ end
+    → state_behind_all m s' ≡ end
+event_drawn n m s s' end more behind is = rw behind (sym (state_first n m s more) ∙ is)
 
 -- all events are written
-pub events_written : (out all : List ℕ) (n s : ℕ) → n ≡ 0 → out ++ flat_map written (events_behind n s) ≡ all → out ≡ all
+pub events_written : (out all : List ℕ) (n s : ℕ) → n ≡ 0 → out ++ flat_map written (events_behind n s) ≡ all
+    → out ≡ all
 unfolding events_behind
 events_written out all n s none is =
     sym (append-nil out) ∙ ap (λ k. out ++ flat_map written (events_behind k s)) (sym none) ∙ is
 
-pub events_drawn : (n s end : ℕ) → n ≡ 0 → behind_events n s ≡ end → s ≡ end
-unfolding behind_events
-events_drawn n s end none is = ap (λ k. behind_events k s) (sym none) ∙ is
+pub events_drawn : (n s end : ℕ) → n ≡ 0 → state_behind_all n s ≡ end → s ≡ end
+unfolding state_behind_all
+events_drawn n s end none is = ap (λ k. state_behind_all k s) (sym none) ∙ is
 
 -- ---- time-points
 
@@ -52,7 +53,7 @@ moment_at time s = record {
 
 moments_first : (n m time s : ℕ) → n ≡ suc m → moments n time s
     ≡ moment_at time s
-    ∷ moments m (time + drawn 4 s) (behind_events (drawn 6 (moved_on s)) (moved_on (moved_on s)))
+    ∷ moments m (time + drawn 4 s) (state_behind_all (drawn 6 (moved_on s)) (moved_on (moved_on s)))
 unfolding moments moment_at
 moments_first n m time s e = rw e refl
 
@@ -60,7 +61,7 @@ moments_first n m time s e = rw e refl
 pub moment_written : (out out' all : List ℕ) (n m time now s s1 s' : ℕ) → n ≡ suc m
     → now ≡ drawn 4 s → s1 ≡ moved_on s
     → out' ≡ out ++ line_of (record { time = time + now; events = events_behind (drawn 6 s1) (moved_on s1) })
-    → s' ≡ behind_events (drawn 6 s1) (moved_on s1)
+    → s' ≡ state_behind_all (drawn 6 s1) (moved_on s1)
     → out ++ flat_map line_of (moments n time s) ≡ all
     → out' ++ flat_map line_of (moments m (time + now) s') ≡ all
 unfolding moment_at

@@ -20,7 +20,8 @@ use Rattle.log_reader.proofs.WordLexing.{CutsInto, nothing_cut, blank_cut, mark_
 
 -- an event as the grammar sees it
 abbrev pub mention_of : DemoEvent → Mention
-mention_of (Request id who) = record { name = codes "req"; first = Bare (decimal id) ∷ Bare (name_of who) ∷ []; more = [] }
+mention_of (Request id who) =
+    record { name = codes "req"; first = Bare (decimal id) ∷ Bare (name_of who) ∷ []; more = [] }
 mention_of (Grant id) = record { name = codes "grant"; first = Bare (decimal id) ∷ []; more = [] }
 mention_of (Drop id) = record { name = codes "drop"; first = Bare (decimal id) ∷ []; more = [] }
 
@@ -89,7 +90,8 @@ event_cut (Drop id) more mentions symbols small cuts =
 -- ---- a time-point
 
 events_cut : (events : List DemoEvent) (more : List ℕ) (symbols : List Symbol) → AllByRecursion IsSmall events
-    → CutsInto more symbols → CutsInto (flat_map written events ++ more) (spell_mentions (map mention_of events) symbols)
+    → CutsInto more symbols
+    → CutsInto (flat_map written events ++ more) (spell_mentions (map mention_of events) symbols)
 events_cut [] more symbols small cuts = cuts
 events_cut (e ∷ events) more symbols small cuts =
     subst (λ bytes. CutsInto bytes (spell_mentions (map mention_of (e ∷ events)) symbols))
@@ -114,9 +116,11 @@ abbrev pub point_text : Moment → PointText
 point_text m = record { stamp = decimal m.time; mentions = map mention_of m.events; is_closed = true }
 
 line_cut : (earliest last : ℕ) (m : Moment) (more : List ℕ) (symbols : List Symbol) → last < 2 ^ 64
-    → IsSound earliest last m → CutsInto more symbols → CutsInto (line_of m ++ more) (spell_point (point_text m) symbols)
+    → IsSound earliest last m → CutsInto more symbols
+    → CutsInto (line_of m ++ more) (spell_point (point_text m) symbols)
 line_cut earliest last m more symbols small sound cuts =
-    let end = mark_cut 59 Semicolon (10 ∷ more) symbols refl refl refl refl refl (blank_cut 10 more symbols refl cuts) in
+    let feed = blank_cut 10 more symbols refl cuts in
+    let end = mark_cut 59 Semicolon (10 ∷ more) symbols refl refl refl refl refl feed in
     let events = events_cut m.events (59 ∷ 10 ∷ more) (Terminator ∷ symbols) sound.small end in
     let time = number_cut m.time (flat_map written m.events ++ (59 ∷ 10 ∷ more)) _ (omega (arith, small, sound.within))
     (events_apart m.events (59 ∷ 10 ∷ more) refl) events in

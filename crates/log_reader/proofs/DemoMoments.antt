@@ -7,8 +7,8 @@ use Rattle.std.specs.List.{AllByRecursion}
 use Rattle.log_reader.specs.declared.demo_event.DemoEvent.{DemoEvent}
 use Rattle.log_reader.specs.declared.demo_event.DemoEvent.TheVariants.{Request, Grant, Drop}
 use Rattle.log_reader.specs.DemoDraws.{drawn, moved_on}
-use Rattle.log_reader.specs.DemoEvents.{Moment, person_at, event_behind, behind_event, events_behind}
-use Rattle.log_reader.specs.DemoEvents.{behind_events, moments}
+use Rattle.log_reader.specs.DemoEvents.{Moment, person_at, event_behind, state_behind, events_behind}
+use Rattle.log_reader.specs.DemoEvents.{state_behind_all, moments}
 
 -- an event's identity is small
 abbrev pub IsSmall : DemoEvent → Type 0
@@ -42,19 +42,19 @@ event_small s =
 events_small : (count s : ℕ) → AllByRecursion IsSmall (events_behind count s)
 unfolding events_behind
 events_small zero s = tt
-events_small (suc count) s = (event_small s, events_small count (behind_event s))
+events_small (suc count) s = (event_small s, events_small count (state_behind s))
 
 length-events_behind : (count s : ℕ) → length (events_behind count s) ≡ count
 unfolding events_behind
 length-events_behind zero s = refl
-length-events_behind (suc count) s = let rest = length-events_behind count (behind_event s) in omega (arith, rest)
+length-events_behind (suc count) s = let rest = length-events_behind count (state_behind s) in omega (arith, rest)
 
 pub length-moments : (count time s : ℕ) → length (moments count time s) ≡ count
 unfolding moments
 length-moments zero time s = refl
 length-moments (suc count) time s =
     let rest = length-moments count (time + drawn 4 s)
-    (behind_events (drawn 6 (moved_on s)) (moved_on (moved_on s))) in omega (arith, rest)
+    (state_behind_all (drawn 6 (moved_on s)) (moved_on (moved_on s))) in omega (arith, rest)
 
 pub moments_sound : (count time s last : ℕ) → time + 3 * count ≤ last → AreSound time last (moments count time s)
 unfolding moments
@@ -69,6 +69,6 @@ moments_sound (suc count) time s last room =
         few = omega (arith, many, length-events_behind (drawn 6 (moved_on s)) behind);
         small = events_small (drawn 6 (moved_on s)) behind;
       },
-      moments_sound count (time + drawn 4 s) (behind_events (drawn 6 (moved_on s)) behind) last
+      moments_sound count (time + drawn 4 s) (state_behind_all (drawn 6 (moved_on s)) behind) last
           (omega (arith, wait, room)),
     )

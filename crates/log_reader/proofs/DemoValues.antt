@@ -40,7 +40,8 @@ events_value (e ∷ events) before small =
     event_value e before (map mention_of events) small.0
     ∙ events_value events (insert_key event_cmp before (event_of e)) small.1
 
-one_group : (e : DemoEvent) (mentions : List Mention) → group_count (mention_of e ∷ mentions) ≡ suc (group_count mentions)
+one_group : (e : DemoEvent) (mentions : List Mention)
+    → group_count (mention_of e ∷ mentions) ≡ suc (group_count mentions)
 one_group (Request id who) mentions = omega arith
 one_group (Grant id) mentions = omega arith
 one_group (Drop id) mentions = omega arith
@@ -59,7 +60,8 @@ module _ (limits : Limits) (enough : 5 ≤ limits.events) where
   moment_value earliest last m small sound =
       let few = le-ltb limits.events (group_count (map mention_of m.events))
       (omega (arith, enough, sound.few, groups_counted m.events)) in
-      rw (decimal_timestamp m.time (omega (arith, small, sound.within)), events_value m.events [] sound.small, few) refl
+      let stamp = decimal_timestamp m.time (omega (arith, small, sound.within)) in
+      rw (stamp, events_value m.events [] sound.small, few) refl
 
   first_value : (earliest room : ℕ) (m : Moment) (ms : List Moment) (points : List TimePoint)
       → point_value demo_preds limits (point_text m) ≡ Some (point_of m)
@@ -98,9 +100,11 @@ event_short (Request id who) small =
       length-append ((decimal id ++ codes ",") ++ name_of who) (codes ")"),
     )
 event_short (Grant id) small =
-    let digits = decimal_short id (omega (arith, small)) in omega (arith, digits, length-append (decimal id) (codes ")"))
+    let digits = decimal_short id (omega (arith, small)) in
+    omega (arith, digits, length-append (decimal id) (codes ")"))
 event_short (Drop id) small =
-    let digits = decimal_short id (omega (arith, small)) in omega (arith, digits, length-append (decimal id) (codes ")"))
+    let digits = decimal_short id (omega (arith, small)) in
+    omega (arith, digits, length-append (decimal id) (codes ")"))
 
 events_short : (events : List DemoEvent) → AllByRecursion IsSmall events
     → length (flat_map written events) ≤ 40 * length events

@@ -31,8 +31,8 @@ abbrev pub event_behind : ℕ → DemoEvent
 event_behind s = event_of_kind (drawn 8 s) (drawn 100 (moved_on s)) (moved_on (moved_on s))
 
 -- how far its draws move s on: two for each event, and one more for a request
-abbrev pub behind_event : ℕ → ℕ
-behind_event s =
+abbrev pub state_behind : ℕ → ℕ
+state_behind s =
     if nat_lt (drawn 8 s) 4 then moved_on (moved_on (moved_on s)) else moved_on (moved_on s)
 
 -- ---- a time-point
@@ -40,12 +40,12 @@ behind_event s =
 -- so many events, drawn one after another
 unfoldable pub events_behind : ℕ → ℕ → List DemoEvent
 events_behind zero s = []
-events_behind (suc count) s = event_behind s ∷ events_behind count (behind_event s)
+events_behind (suc count) s = event_behind s ∷ events_behind count (state_behind s)
 
 -- how far their draws move s on
-unfoldable pub behind_events : ℕ → ℕ → ℕ
-behind_events zero s = s
-behind_events (suc count) s = behind_events count (behind_event s)
+unfoldable pub state_behind_all : ℕ → ℕ → ℕ
+state_behind_all zero s = s
+state_behind_all (suc count) s = state_behind_all count (state_behind s)
 
 -- a time-point that was drawn
 pub record Moment : Type 0 where
@@ -60,7 +60,7 @@ moments (suc count) time s =
     let now = time + drawn 4 s in
     let many = drawn 6 (moved_on s) in
     let behind = moved_on (moved_on s) in
-    record { time = now; events = events_behind many behind } ∷ moments count now (behind_events many behind)
+    record { time = now; events = events_behind many behind } ∷ moments count now (state_behind_all many behind)
 
 -- ---- how they are written
 

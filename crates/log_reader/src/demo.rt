@@ -2,7 +2,7 @@
 
 ghost use Rattle.std.specs.Prelude.{◌≡◌, ◌++◌, ◌+◌, ◌<◌, IfOk, OnOk, string_bytes};
 ghost use Rattle.std.specs.List.{flat_map};
-ghost use Rattle.log_reader.specs.DemoEvents.{events_behind, behind_events, moments, written, line_of};
+ghost use Rattle.log_reader.specs.DemoEvents.{events_behind, state_behind_all, moments, written, line_of};
 ghost use Rattle.log_reader.specs.DemoDraws.{drawn, moved_on};
 ghost use Rattle.log_reader.specs.DemoTexts.{signature_text, policy_text, log_text, changes_text};
 
@@ -25,10 +25,10 @@ const CHANGES: &str = "before 250 i=hash:4\n\
 const TIME_POINTS: u64 = 2_000;
 
 // A time-point is less than this later than the one before it.
-const LONGEST_WAIT: u64 = 4;
+const WAIT_BOUND: u64 = 4;
 
 // A time-point has fewer events than this.
-const MOST_EVENTS: u64 = 6;
+const EVENT_BOUND: u64 = 6;
 
 /// The texts of a run, each as its file would have it: a signature, a policy, a log over that signature and
 /// a script of changes of the strategy, which is empty at first.
@@ -63,7 +63,7 @@ fn push_log(log: &mut String, seed: u64) -> Result<(), AllocError>
     let mut draws = Draws { state: seed };
     let mut time: u64 = 0;
     for _ in 0..TIME_POINTS {
-        time += draws.below(LONGEST_WAIT);
+        time += draws.below(WAIT_BOUND);
         push_line(log, &mut draws, time)?;
     }
     Ok(())
@@ -76,11 +76,11 @@ fn push_line(log: &mut String, draws: &mut Draws, time: u64) -> Result<(), Alloc
       events = events_behind (drawn 6 draws.old.state) (moved_on draws.old.state);
     })) }
     ensures draws { OnOk result (draws.new.state
-        ≡ behind_events (drawn 6 draws.old.state) (moved_on draws.old.state)) }
+        ≡ state_behind_all (drawn 6 draws.old.state) (moved_on draws.old.state)) }
 {
     log.push_str("@")?;
     log.push_str(Buffer::new().format(time))?;
-    let count = draws.below(MOST_EVENTS);
+    let count = draws.below(EVENT_BOUND);
     push_events(log, draws, count)?;
     log.push_str(";\n")
 }
@@ -89,7 +89,7 @@ fn push_line(log: &mut String, draws: &mut Draws, time: u64) -> Result<(), Alloc
 fn push_events(log: &mut String, draws: &mut Draws, count: u64) -> Result<(), AllocError>
     ensures events { OnOk result (string_bytes log.new
         ≡ string_bytes log.old ++ flat_map written (events_behind count draws.old.state)) }
-    ensures draws { OnOk result (draws.new.state ≡ behind_events count draws.old.state) }
+    ensures draws { OnOk result (draws.new.state ≡ state_behind_all count draws.old.state) }
 {
     for _ in 0..count {
         DemoEvent::draw(draws).push_to(log)?;

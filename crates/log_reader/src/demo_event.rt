@@ -1,7 +1,7 @@
 //! The events of the demo's log.
 
 ghost use Rattle.std.specs.Prelude.{◌≡◌, ◌++◌, OnOk, string_bytes, decimal};
-ghost use Rattle.log_reader.specs.DemoEvents.{event_behind, person_at, behind_event, name_of, written};
+ghost use Rattle.log_reader.specs.DemoEvents.{event_behind, person_at, state_behind, name_of, written};
 
 use crate::demo_draws::Draws;
 use itoa::Buffer;
@@ -64,7 +64,7 @@ impl DemoEvent {
     /// Draws an event.
     pub fn draw(draws: &mut Draws) -> DemoEvent
         ensures event { result ≡ event_behind draws.old.state }
-        ensures draws { draws.new.state ≡ behind_event draws.old.state }
+        ensures draws { draws.new.state ≡ state_behind draws.old.state }
     {
         let kind = draws.below(KINDS);
         let id = draws.below(IDENTITIES);
