@@ -1,7 +1,7 @@
--- The policy and the changes of a demo are accepted: what is read of them.
-use Rattle.std.specs.Prelude.{◌≡◌, ℕ, List, [], ◌∷◌, codes, Some, None, Ok, pos}
+-- The signature, the policy and the changes of a demo are accepted: what is read of them.
+use Rattle.std.specs.Prelude.{◌≡◌, ℕ, List, [], ◌∷◌, codes, false, Some, None, Ok, pos}
 use Rattle.log_reader.specs.DemoPoints.{demo_preds}
-use Rattle.log_reader.specs.DemoTexts.{policy_text, changes_text}
+use Rattle.log_reader.specs.DemoTexts.{signature_text, policy_text, changes_text}
 use Rattle.mfotl_model.specs.Formulas.{Form, Atom, Not, And, Implies, Once, Eventually}
 use Rattle.mfotl_model.specs.Strategies.{Strategy}
 use Rattle.mfotl_model.specs.Strategies.Entry.{Uncut, Hash, Cut}
@@ -9,8 +9,9 @@ use Rattle.mfotl_model.specs.declared.policy.Sort.TheVariants as sorts
 use Rattle.mfotl_model.specs.declared.policy.Var.{Var}
 use Rattle.mfotl_model.specs.declared.term.Term.TheVariants as terms
 use Rattle.mfotl_parse.specs.Intervals.{distances}
-use Rattle.mfotl_parse.specs.Reading.{PolicyOf, reading as policy_read}
+use Rattle.mfotl_parse.specs.Reading.{PolicyOf}
 use Rattle.monitorable.specs.Fragment.{frag_fault, free_names}
+use Rattle.monitor_main.specs.Answer.{is_long, signature_of, policy_in}
 use Rattle.slice_strategy.specs.ChangeReading.{reading as changes_read}
 use Rattle.slice_strategy.specs.declared.change.Change.{Change}
 
@@ -49,14 +50,19 @@ demo_changes =
     ∷ change 1250 (Hash 1 ∷ Uncut ∷ [])
     ∷ change 1500 (Hash 8 ∷ Uncut ∷ []) ∷ []
 
--- the policy is read over the demo's signature
-abbrev pub DemoPolicyIsAccepted : Type 0
-DemoPolicyIsAccepted = policy_read policy_text demo_preds ≡ Ok demo_policy
+-- the signature is read
+abbrev pub DemoSignatureIsAccepted : Type 0
+DemoSignatureIsAccepted = signature_of signature_text ≡ Ok demo_preds
 
--- it is in the fragment
+-- the policy is read over it, and can be monitored
+abbrev pub DemoPolicyIsAccepted : Type 0
+DemoPolicyIsAccepted = policy_in demo_preds policy_text ≡ Ok demo_policy
+
+-- the fragment accepts it
 abbrev pub DemoPolicyIsMonitorable : Type 0
 DemoPolicyIsMonitorable = frag_fault (free_names demo_policy.vars) demo_policy.formula ≡ None
 
--- the changes are read over its variables
+-- the changes are not too long, and are read over its variables
 abbrev pub DemoChangesAreAccepted : Type 0
-DemoChangesAreAccepted = changes_read demo_policy.vars changes_text ≡ Ok demo_changes
+DemoChangesAreAccepted =
+    (is_long changes_text ≡ false) × (changes_read demo_policy.vars changes_text ≡ Ok demo_changes)
