@@ -29,7 +29,8 @@ returns-clause-signature c = refl
 pub returns-clause-policy : goal.returns-clause-policy
 unfolding policy_in fv bound_by needed_by fault_in nodes positive negative depth binder_of vars_of reading reading_on
     layer.reading run step transition ended_at reduce word_class operator_class temporal_class tokens tokens_within
-    next_token after plain_scan minus_scan closed_text text_end text_scan order_scan digits_value integer_value blank_len comment_len mode_behind
+    next_token after plain_scan minus_scan closed_text text_end text_scan order_scan
+    digits_value integer_value blank_len comment_len mode_behind
 returns-clause-policy c = refl
 
 pub returns-clause-fragment : goal.returns-clause-fragment
