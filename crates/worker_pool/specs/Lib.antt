@@ -1,0 +1,9 @@
+-- The definitions that the contracts cite, in reading order.
+pub mod Texts
+pub mod Policies
+pub mod Effects
+pub mod Endings
+pub mod Hands
+pub mod Opening
+pub mod Writing
+pub mod Pieces

@@ -1,0 +1,25 @@
+//! Monitors a log with a pool of threads: the layer above opens the log and says what the end means.
+#![tactic(auto)]
+
+mod bell;
+mod bells;
+mod crew;
+mod dealing;
+mod end;
+mod errand;
+mod following;
+mod hands;
+mod monitoring;
+mod opening;
+mod page;
+mod plan;
+mod pump;
+mod routing;
+mod shift;
+mod shop;
+mod stop;
+mod tally;
+
+pub use end::End;
+pub use monitoring::monitor;
+pub use plan::Plan;
