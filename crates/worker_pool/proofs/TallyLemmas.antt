@@ -3,8 +3,9 @@ use Rattle.std.proofs.Common.{◌≡◌, ◌∙◌, ap, ap₂, sym, refl, arith,
 use Rattle.std.proofs.Common.{cond, nat_lt, List, [], ◌∷◌, ◌++◌, length, length-append}
 use Rattle.std.specs.List.{count_by, sum_by, list_any}
 use Rattle.std.proofs.lemmas.List.Sums.{sum_by-append}
-use Rattle.mfotl_model.specs.VerdictText.{VerdictOf}
-use Rattle.worker_pool.specs.Texts.{has_row, is_empty, some_rows, tally_of}
+use Rattle.mfotl_model.specs.VerdictText.{VerdictOf, verdicts}
+use Rattle.worker_pool.specs.Laws.{ViolationsCounted}
+use Rattle.worker_pool.specs.Texts.{has_row, is_empty, log_in, some_rows, tally_of, tally_on, violated_on}
 use Rattle.worker_pool.specs.declared.tally.Tally.{Tally}
 
 row_counts : {X : Type 0} (rows : List X) → cond (nat_lt 0 (length rows)) 1 0 ≡ cond (not (is_empty rows)) 1 0
@@ -39,6 +40,10 @@ some_by true c n e = refl
 some_by false c n e = e
 
 -- some verdict has a row exactly where one that has is counted
-pub some_counted : (vs : List VerdictOf) → some_rows vs ≡ nat_lt 0 (tally_of vs).violated
+some_counted : (vs : List VerdictOf) → some_rows vs ≡ nat_lt 0 (tally_of vs).violated
 some_counted [] = refl
 some_counted (v ∷ vs) = some_by (has_row v) (some_rows vs) (count_by has_row vs) (some_counted vs)
+
+pub violations_counted : ViolationsCounted
+unfolding violated_on tally_on
+violations_counted policy r = some_counted (verdicts (log_in r) policy)
