@@ -26,3 +26,10 @@ pub mod CompletedLaws
 pub mod ReaderLemmas
 pub mod GrowthLemmas
 pub mod AnswerLemmas
+pub mod DemoLemmas
+pub mod WordLexing
+pub mod DecimalWords
+pub mod DemoMoments
+pub mod DemoLexing
+pub mod DemoValues
+pub mod DemoIsRead

@@ -22,4 +22,8 @@ pub mod Soundness
 pub mod Readers
 pub mod GivenPoints
 pub mod FaultTexts
+pub mod DemoDraws
+pub mod DemoEvents
+pub mod DemoTexts
+pub mod DemoPoints
 pub mod WorkedTexts

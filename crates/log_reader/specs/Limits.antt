@@ -1,5 +1,6 @@
 -- The limits of a log, one word for each.
 use Rattle.std.specs.Prelude.{ℕ, ◌-◌, ◌^◌}
+use Rattle.log_reader.specs.declared.limits.Limits.{Limits}
 
 -- the bytes of a log
 abbrev pub byte_limit : ℕ
@@ -20,3 +21,7 @@ last_timestamp = 2 ^ 62
 -- the bytes that a reader holds at most where it asks for more: a Text's quote and content
 abbrev pub held_limit : ℕ
 held_limit = 4097
+
+-- the limits of the monitor
+abbrev pub standard : Limits
+standard = record { bytes = byte_limit; points = point_limit; events = event_limit }

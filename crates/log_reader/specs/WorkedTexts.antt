@@ -1,5 +1,6 @@
 -- Logs and what is read of them, worked out by hand.
-use Rattle.std.specs.Prelude.{◌≡◌, ℕ, List, [], ◌∷◌, codes, pos, negsuc, Ok, Err}
+use Rattle.std.specs.Prelude.{◌≡◌, ℕ, List, [], ◌∷◌, ◌++◌, codes, pos, negsuc, Ok, Err}
+use Rattle.std.specs.List.{flat_map}
 use Rattle.mfotl_lex.specs.declared.kind.Kind.TheVariants as kinds
 use Rattle.mfotl_lex.specs.declared.fault.LexFaultKind.TheVariants.{BadByte, OpenText}
 use Rattle.mfotl_model.specs.declared.event.Event.{Event}
@@ -12,6 +13,7 @@ use Rattle.log_reader.specs.declared.fault.LogFault.TheVariants.{Lex, Syntax, Un
 use Rattle.log_reader.specs.declared.fault.LogFault.TheVariants.{IntRange, TimestampRange, FallingTime, TooManyEvents}
 use Rattle.log_reader.specs.declared.fault.LogFault.TheVariants.{TooManyPoints, TooLong}
 use Rattle.log_reader.specs.declared.limits.Limits.{Limits}
+use Rattle.log_reader.specs.DemoEvents.{moments, line_of}
 use Rattle.log_reader.specs.FaultTexts.{fault_text}
 use Rattle.log_reader.specs.Symbols.{Says, Quoted, symbol_of}
 use Rattle.log_reader.specs.ValuesRead.{value_at}
@@ -108,3 +110,14 @@ pub record WorkedPrints : Type 0 where
   pub groups : fault_text (TooManyEvents 24) ≡ codes "TooManyEvents at 24"
   pub points : fault_text (TooManyPoints 5) ≡ codes "TooManyPoints at 5"
   pub long : fault_text (TooLong 8) ≡ codes "TooLong at 8"
+
+-- the first lines of the demo's log
+abbrev pub first_lines : ℕ → ℕ → List ℕ
+first_lines count seed = flat_map line_of (moments count 0 seed)
+
+-- for two seeds, worked out beside the definitions
+pub record WorkedDemo : Type 0 where
+  pub seed_0 : first_lines 3 0 ≡ codes "@3;\n@4 grant(91) req(75,eve) req(3,cat) grant(45);\n@4;\n"
+  pub seed_42 : first_lines 4 42
+      ≡ codes "@2 req(3,eve) grant(69);\n@4 grant(4) grant(82);\n@6 grant(10) req(69,eve) req(8,eve) drop(60);\n"
+      ++ codes "@7 grant(52) grant(74) req(48,dan) req(12,dan);\n"

@@ -1,8 +1,9 @@
 //! What holds of every log. Each law is a function that does nothing: its clause is the law.
 
+ghost use Rattle.log_reader.specs.DemoPoints.{DemoSignatureIsAccepted, DemoLogIsAccepted};
 ghost use Rattle.log_reader.specs.Growth.{ShownStays};
 ghost use Rattle.log_reader.specs.Laws.{ReadIsSpelled, SpelledIsRead, OneAnswer, ExactSyntax, ExactFaults, PointsAreCompleted};
-ghost use Rattle.log_reader.specs.WorkedTexts.{WorkedValues, WorkedFaults, WorkedFronts, WorkedPrints};
+ghost use Rattle.log_reader.specs.WorkedTexts.{WorkedValues, WorkedFaults, WorkedFronts, WorkedPrints, WorkedDemo};
 
 /// A log that is read to its end spells its time-points, and keeps the rules.
 pub fn read_is_spelled()
@@ -45,4 +46,11 @@ pub fn worked_texts()
     ensures faults { WorkedFaults }
     ensures fronts { WorkedFronts }
     ensures prints { WorkedPrints }
+    ensures demo { WorkedDemo }
+{}
+
+/// The demo of each seed is accepted: its signature is read, and its log is read to its end.
+pub fn demo_is_accepted()
+    ensures signature { DemoSignatureIsAccepted }
+    ensures log { DemoLogIsAccepted }
 {}

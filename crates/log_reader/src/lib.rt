@@ -3,6 +3,9 @@
 #![tactic(auto)]
 
 mod cursor;
+mod demo;
+mod demo_draws;
+mod demo_event;
 mod fault;
 mod grammar;
 pub mod laws;
@@ -15,6 +18,7 @@ mod stage;
 mod stretch;
 mod values;
 
+pub use demo::{Demo, generate};
 pub use fault::LogFault;
 pub use limits::Limits;
 pub use next::Next;

@@ -19,3 +19,4 @@ pub mod LogRuns
 pub mod Decisions
 pub mod Pieces
 pub mod Outcomes
+pub mod DemoLaws

@@ -4,6 +4,7 @@
 
 mod check;
 mod checked_policy;
+pub mod demo_laws;
 mod fault_lines;
 mod following;
 pub mod laws;

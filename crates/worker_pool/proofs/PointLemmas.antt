@@ -274,7 +274,8 @@ module _ (core : CoreForm) (start : Progress) (reader : Reader) (driver : Driver
   -- the fault stands behind all lines
   stops_by : (fault : LogFault) → due (progress reader start.bytes) ≡ Err fault
       → (after : Driver) (new : Option (List ℕ)) (more : Tally) → Keeps driver mid tally after new more → IsOver after
-      → ForEachPolicy core (λ policy. ((read start).ending ≡ Fault fault) × Appends old new (text_on policy (read start)))
+      → ForEachPolicy core (λ policy.
+      ((read start).ending ≡ Fault fault) × Appends old new (text_on policy (read start)))
   unfolding text_on
   stops_by fault e after new more keeps over policy is =
       let g = gives_fault start.is_ended (drop reader.given (read start).points) (read start).ending fault
@@ -286,8 +287,8 @@ module _ (core : CoreForm) (start : Progress) (reader : Reader) (driver : Driver
       )
 
   -- the fault stops the lines
-  pub stops_with : (fault : LogFault) (why : Stop) → why ≡ stop_for fault → Fails fault (due (progress reader start.bytes))
-      → (after : Driver) (new : Option (List ℕ)) (more : Tally) → Keeps driver mid tally after new more → IsOver after
+  pub stops_with : (fault : LogFault) (why : Stop) → why ≡ stop_for fault
+      → Fails fault (due (progress reader start.bytes)) → (after : Driver) (new : Option (List ℕ)) (more : Tally) → Keeps driver mid tally after new more → IsOver after
       → (before now : ℕ) → ForEachPolicy core (λ policy. StopsLines policy (read start) old new before now why)
   stops_with log.Memory why is e after new more keeps over before now policy core_is = rw is tt
   stops_with fault why is e after new more keeps over before now policy core_is =

@@ -1,8 +1,12 @@
 //! Main's turns: what is ready is handed over, collected and written.
 ghost use Rattle.std.specs.Prelude.{◌≡◌, ◌≤◌, IfErr, OnOk, OnErr};
+ghost use Rattle.rescale_core.specs.Moving.{IsDriverOf};
+ghost use Rattle.rescale_core.specs.Workers.{MayFollow};
+ghost use Rattle.rescale_core.specs.Worlds.{World, spot_in};
 ghost use Rattle.turn_hub.specs.Ends.{IsMainOf, cell_count};
 ghost use Rattle.worker_pool.specs.Hands.{AreHandsOf};
-ghost use Rattle.worker_pool.specs.Writing.{Adds, FallsShort, IsOutputStop, IsOver, Keeps, Runs, RunsTo};
+ghost use Rattle.worker_pool.specs.Writing.{Adds, FallsShort, IsOutputStop, IsOver, IsRoomy, Keeps};
+ghost use Rattle.worker_pool.specs.Writing.{ReadsIn, Runs, RunsTo};
 
 use crate::hands::WorkerHand;
 use crate::page::Page;
@@ -132,11 +136,6 @@ pub(crate) fn drain<R: Wait, O: Sink, G: Gate>(
     unreachable!()
 }
 
-// Whether each worker's queue has room.
-fn has_room(_driver: &Driver) -> bool {
-    true
-}
-
 // Goes on until each worker's queue has room for an item, at least for one turn where `turns` is told.
 fn make_room<R: Wait, O: Sink, G: Gate>(
     shop: &Shop<'_, R, G>,
@@ -152,6 +151,7 @@ fn make_room<R: Wait, O: Sink, G: Gate>(
     requires hands { AreHandsOf shop.now.hub.now own.old.items }
     ensures hands { AreHandsOf shop.now.hub.now own.new.items }
     ensures main { OnOk result (IsMainOf shop.now.hub.now driver.new.main) }
+    ensures room { OnOk result (IsRoomy driver.new) }
     ensures ok { OnOk result (Keeps driver.old (O.written out.old) page.old.tally
         driver.new (O.written out.new) page.new.tally) }
     ensures err { OnErr result (FallsShort driver.old (O.written out.old) page.old.tally (O.written out.new)) }
@@ -160,7 +160,7 @@ fn make_room<R: Wait, O: Sink, G: Gate>(
 {
     let mut idle = 0u64;
     for _ in shop.rt.forever() {
-        if !turns && has_room(driver) {
+        if !turns && driver.has_room() {
             return Ok(());
         }
         let heard = shop.bells.main.rings();
@@ -169,6 +169,16 @@ fn make_room<R: Wait, O: Sink, G: Gate>(
         turns = false;
     }
     unreachable!()
+}
+
+// Reads a time-point. There is room for it.
+fn admit(alloc: Global, driver: &mut Driver, point: TimePoint) -> Result<(), AllocError>
+    requires room { IsRoomy driver.old }
+    requires may { (w : World) × IsDriverOf driver.old w × MayFollow (spot_in w).points point }
+    ensures reads { OnOk result (ReadsIn driver.old point driver.new) }
+    ensures main { OnOk result (driver.new.main ≡ driver.old.main) }
+{
+    driver.read_point(alloc, point)
 }
 
 /// Reads a time-point, once there is room for it; where `turns` is told, behind a turn of the loop.
@@ -194,6 +204,6 @@ pub(crate) fn route<R: Wait, O: Sink, G: Gate>(
     ensures later { O.faults out.old ≤ O.faults out.new }
 {
     make_room(shop, own, driver, page, out, turns)?;
-    driver.read_point(shop.alloc, point)?;
+    admit(shop.alloc, driver, point)?;
     Ok(())
 }

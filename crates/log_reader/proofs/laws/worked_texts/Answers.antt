@@ -5,6 +5,7 @@ use Rattle.mfotl_lex.specs.Lexemes.{next_token, after, tokens, tokens_within}
 use Rattle.mfotl_lex.specs.Places.{mode_behind}
 use Rattle.mfotl_lex.specs.Scans.{log_scan, text_scan, closed_text, text_end}
 use Rattle.mfotl_lex.specs.Numbers.{digits_value, integer_value}
+use Rattle.log_reader.specs.DemoEvents.{moments, events_behind, state_behind_all}
 use Rattle.log_reader.specs.Readings.{run, reading}
 use Rattle.log_reader.specs.Steps.{step, completed}
 use Rattle.log_reader.specs.ValuesRead.{integer_at}
@@ -78,4 +79,11 @@ returns-clause-prints c = record {
   groups = refl;
   points = refl;
   long = refl;
+}
+
+pub returns-clause-demo : goal.returns-clause-demo
+unfolding digits moments events_behind state_behind_all
+returns-clause-demo c = record {
+  seed_0 = refl;
+  seed_42 = refl;
 }
