@@ -33,7 +33,7 @@ use Rattle.worker_pool.specs.declared.stop.Stop.{Stop}
 use Rattle.worker_pool.specs.declared.stop.Stop.TheVariants as stop
 use Rattle.worker_pool.specs.declared.tally.Tally.{Tally}
 use Rattle.worker_pool.proofs.LogTimes.{read_never_falls}
-use Rattle.worker_pool.proofs.SinkLemmas.{longer_front, whole_front}
+use Rattle.worker_pool.proofs.SinkLemmas.{longer_front}
 use Rattle.worker_pool.proofs.VerdictLemmas.{first_lines, policy_verdicts}
 use Rattle.worker_pool.proofs.WritingLemmas.{over_written, stops}
 
@@ -274,20 +274,20 @@ module _ (core : CoreForm) (start : Progress) (reader : Reader) (driver : Driver
   -- the fault stands behind all lines
   stops_by : (fault : LogFault) → due (progress reader start.bytes) ≡ Err fault
       → (after : Driver) (new : Option (List ℕ)) (more : Tally) → Keeps driver mid tally after new more → IsOver after
-      → ForEachPolicy core (λ policy. ((read start).ending ≡ Fault fault) × Appends old new (text_on policy (read start)))
+      → ForEachPolicy core (λ policy.
+      ((read start).ending ≡ Fault fault) × Appends old new (text_on policy (read start)))
   unfolding text_on
   stops_by fault e after new more keeps over policy is =
       let g = gives_fault start.is_ended (drop reader.given (read start).points) (read start).ending fault
-      (due_is (Err fault) e) in
-      (
+      (due_is (Err fault) e) in (
         g.ending_is,
         subst (λ vs. Appends old new (lines vs)) (policy_verdicts core policy is (read start).points)
             (all_written (Fault fault) g after new more keeps over).0,
       )
 
   -- the fault stops the lines
-  pub stops_with : (fault : LogFault) (why : Stop) → why ≡ stop_for fault → Fails fault (due (progress reader start.bytes))
-      → (after : Driver) (new : Option (List ℕ)) (more : Tally) → Keeps driver mid tally after new more → IsOver after
+  pub stops_with : (fault : LogFault) (why : Stop) → why ≡ stop_for fault
+      → Fails fault (due (progress reader start.bytes)) → (after : Driver) (new : Option (List ℕ)) (more : Tally) → Keeps driver mid tally after new more → IsOver after
       → (before now : ℕ) → ForEachPolicy core (λ policy. StopsLines policy (read start) old new before now why)
   stops_with log.Memory why is e after new more keeps over before now policy core_is = rw is tt
   stops_with fault why is e after new more keeps over before now policy core_is =

@@ -1,5 +1,6 @@
 -- What main has read and written stays true from turn to turn.
-use Rattle.std.proofs.Common.{◌≡◌, ◌∙◌, ℕ, ◌+◌, ◌≤◌, List, [], ◌∷◌, ◌++◌, map, length, Option, sym, refl, ap, ap₂, subst}
+use Rattle.std.proofs.Common.{◌≡◌, ◌∙◌, ℕ, ◌≤◌, List, [], ◌∷◌, ◌++◌, map, length, Option}
+use Rattle.std.proofs.Common.{sym, refl, ap, ap₂, subst}
 use Rattle.std.proofs.Common.{append-nil, OnOk, OnErr, Ok, Err, Bool, true}
 use Rattle.std.specs.Prelude.{Result}
 use Rattle.std.specs.List.{range_with_len}
@@ -15,19 +16,18 @@ use Rattle.rescale_core.proofs.Verdicts.{first_verdicts as none_emitted}
 use Rattle.rescale_core.proofs.WorldLemmas.{spot_more}
 use Rattle.rescale_core.specs.Laws.{EmitsVerdicts}
 use Rattle.rescale_core.specs.Lines.{Spot, first_spot, spot_after}
-use Rattle.rescale_core.specs.Moving.{IsDriverOf, Reaches, TurnsTo}
+use Rattle.rescale_core.specs.Moving.{IsDriverOf, TurnsTo}
 use Rattle.rescale_core.specs.Moving.Kind.{Emits, Reads}
 use Rattle.rescale_core.specs.Routing.{HasEnded}
 use Rattle.rescale_core.specs.Workers.{MayFollow, settled_in}
 use Rattle.rescale_core.specs.Worlds.{World, Allowed, after, first_world, spot_in, verdict_on}
 use Rattle.rescale_core.specs.Worlds.Move.{Emit, Read}
-use Rattle.rescale_core.specs.declared.item.Entry.{Entry}
 use Rattle.rescale_core.specs.declared.item.Entry.TheVariants.{Point}
 use Rattle.rescale_core.specs.declared.turns.Driver.{Driver}
 use Rattle.rescale_core.specs.declared.turns.Turn.{Turn}
 use Rattle.verdict_merge.specs.declared.rows.Verdict.{Verdict}
 use Rattle.worker_pool.specs.Texts.{lines, tally_of}
-use Rattle.worker_pool.specs.Writing.{Adds, Begins, Falls, FallsShort, IsOver, Keeps, Runs, RunsTo, Writes}
+use Rattle.worker_pool.specs.Writing.{Adds, Begins, FallsShort, IsOver, Keeps, ReadsIn, Runs, RunsTo, Writes}
 use Rattle.worker_pool.specs.Writing.{all_verdicts, first_verdicts, seen}
 use Rattle.worker_pool.specs.declared.tally.Tally.{Tally}
 use Rattle.worker_pool.proofs.SinkLemmas.{appends_more, appends_none, front_behind, whole_front}
@@ -204,12 +204,6 @@ pub may_point : (d e : Driver) (a b : Option (List ℕ)) (t u : Tally) (p : Time
     → RunsTo d a t p → (w : World) × IsDriverOf e w × MayFollow (spot_in w).points p
 may_point d e a b t u p k r =
     let w = k r.0 r.1 r.2 r.3 in (w.world, w.stands, subst (λ ps. MayFollow ps p) (sym w.points_are) r.4)
-
--- from each world in which the time-point may follow, the driver comes to one in which it was read
-abbrev pub ReadsIn : Driver → TimePoint → Driver → Type 0
-ReadsIn d p e =
-    (w : World) → MayFollow (spot_in w).points p → IsDriverOf d w
-    → (x : World) × Reaches w (Reads (Point p) ∷ []) x × IsDriverOf e x
 
 points_after : (w : World) (p : TimePoint) → (spot_in (after w (Read (Point p)))).points ≡ (spot_in w).points ++ p ∷ []
 points_after w p = ap (λ (a : Spot). a.points) (spot_more (first_spot w.first) w.read (Point p ∷ []))

@@ -7,3 +7,4 @@ pub mod Hands
 pub mod Opening
 pub mod Writing
 pub mod Pieces
+pub mod Laws

@@ -10,6 +10,7 @@ mod end;
 mod errand;
 mod following;
 mod hands;
+pub mod laws;
 mod monitoring;
 mod opening;
 mod page;
