@@ -10,6 +10,7 @@ pub mod PointLemmas
 pub mod PieceLemmas
 pub mod RunLemmas
 pub mod DecideLemmas
+pub mod CommandLemmas
 pub mod ReportLemmas
 pub mod UsageLemmas
 pub mod AnswerLemmas

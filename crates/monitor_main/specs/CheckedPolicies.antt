@@ -1,8 +1,10 @@
 -- A policy that can be monitored, and how it is made of a signature and a policy.
-use Rattle.std.specs.Prelude.{◌≡◌, ◌++◌, true, None, Result, Ok, Err}
+use Rattle.std.specs.Prelude.{◌≡◌, ◌++◌, true, List, length, None, Result, Ok, Err}
+use Rattle.std.specs.List.{range_with_len}
 use Rattle.mfotl_model.specs.Formulas.{Form}
 use Rattle.mfotl_model.specs.FreeVariables.{fv}
 use Rattle.mfotl_model.specs.Tables.{all_apart}
+use Rattle.mfotl_model.specs.declared.policy.Var.{Var}
 use Rattle.mfotl_parse.specs.Views.{policy_of}
 use Rattle.monitorable.specs.CoreForms.{CoreForm, meaning}
 use Rattle.monitorable.specs.Fragment.{Fits, Names, frag_fault}
@@ -30,6 +32,10 @@ pub record IsCoreOf (core : CoreForm) (policy : Form) : Type 0 where
   pub settles : SettlesWith core policy
   pub violations : HasViolationsOf core policy
   pub evaluable : IsEvaluable core
+
+-- the core's free variables are the policy's, numbered from 0
+abbrev pub HasVariables : List Var → CoreForm → Type 0
+HasVariables vars core = fv (meaning core) ≡ range_with_len 0 (length vars)
 
 -- the refusal is the one due; want of memory may come at any time
 abbrev pub Fails : {Y : Type 0} → Refusal → Result Y Refusal → Type 0

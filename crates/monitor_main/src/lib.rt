@@ -1,5 +1,5 @@
-//! The monitor's top call: words, signature, policy and log in; verdict lines, a fault line and a
-//! status out. The programs above make its inputs and its sinks.
+//! The monitor's top call: words, signature, policy, strategy and log in; verdict lines, a fault line
+//! and a status out. The programs above make its inputs and its sinks.
 #![tactic(auto)]
 
 mod check;
@@ -15,8 +15,10 @@ mod real_inputs;
 mod real_sink;
 mod refusal;
 mod retrying;
+mod run_options;
 mod running;
 mod status;
+mod strategy_text;
 mod verdict_lines;
 mod words;
 

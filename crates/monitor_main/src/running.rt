@@ -16,6 +16,7 @@ use crate::checked_policy::load_sources;
 use crate::monitoring::monitor_policy;
 use crate::refusal::Refusal;
 use crate::status::Status;
+use crate::strategy_text::read_strategy;
 use crate::words::{Command, read_words};
 use mon_outside::{Failed, Gate, Inputs, Sink, write_whole};
 use std::alloc::Global;
@@ -34,7 +35,11 @@ fn obey<I: Inputs, O: Sink>(
 {
     let checked = load_sources(alloc, command.sources(), inputs)?;
     match command {
-        Command::Run(_, log) => monitor_policy(alloc, &checked, log, inputs, out),
+        Command::Run(_, options) => {
+            let first = read_strategy(alloc, options.strategy, &checked.policy)?;
+            drop(first);
+            monitor_policy(alloc, &checked, options.log, inputs, out)
+        }
         Command::Check(_) => accept(alloc, &checked, out),
     }
 }
