@@ -39,6 +39,12 @@ pub record MemoryFiles : Type 0 where
   pub plan : Plan
   pub rest : Option (List ℕ)
 
+-- Files in memory of which no call fails.
+pub record SureFiles : Type 0 where
+  pub files : Files
+  pub piece : ℕ
+  pub rest : Option (List ℕ)
+
 -- A sink in memory: it takes each piece whole.
 pub record MemoryBytes : Type 0 where
   pub written : List ℕ

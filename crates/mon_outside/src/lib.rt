@@ -12,6 +12,8 @@ mod loading;
 mod mem_inputs;
 mod mem_sink;
 mod sink;
+mod sure_inputs;
+mod sure_sink;
 
 pub use buffered_sink::BufferedSink;
 pub use fault::{Failed, LoadFault, ReadFault};
@@ -21,3 +23,5 @@ pub use loading::{load, read_more, read_to_end};
 pub use mem_inputs::{MemInputs, NamedFile};
 pub use mem_sink::MemSink;
 pub use sink::{Sink, write_whole};
+pub use sure_inputs::SureInputs;
+pub use sure_sink::SureSink;

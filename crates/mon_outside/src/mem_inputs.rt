@@ -19,7 +19,7 @@ pub struct NamedFile {
 }
 
 // The bytes of the first file of this name.
-fn find_file<'a>(files: &'a [NamedFile], name: &str) -> Option<&'a [u8]>
+pub(crate) fn find_file<'a>(files: &'a [NamedFile], name: &str) -> Option<&'a [u8]>
     ensures { option_copied result ≡ find_file (named files.now) name.now }
 {
     for file in files {

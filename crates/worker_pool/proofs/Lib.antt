@@ -1,0 +1,7 @@
+pub mod SinkLemmas
+pub mod LogTimes
+pub mod VerdictLemmas
+pub mod TallyLemmas
+pub mod WritingLemmas
+pub mod PointLemmas
+pub mod PieceLemmas

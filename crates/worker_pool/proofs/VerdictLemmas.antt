@@ -1,0 +1,101 @@
+-- The verdicts of a world are those of each policy that its core is one of.
+use Rattle.std.proofs.Common.{◌≡◌, ◌∙◌, ap, ap₂, sym, refl, subst, arith, ℕ, zero, suc, ◌+◌, ◌-◌, ◌≤◌, Bool, true, false}
+use Rattle.std.proofs.Common.{cond, List, [], ◌∷◌, ◌++◌, map, length, add-one}
+use Rattle.std.specs.List.{flat_map, range_with_len, take_while}
+use Rattle.std.proofs.lemmas.Grind.{flat_map-append}
+use Rattle.std.proofs.lemmas.List.{length-map, map-append}
+use Rattle.std.proofs.lemmas.List.Sums.{take_while-cons}
+use Rattle.mfotl_model.specs.Counts.{passing, settled_count}
+use Rattle.mfotl_model.specs.Formulas.{Form}
+use Rattle.mfotl_model.specs.Log.{times}
+use Rattle.mfotl_model.specs.Satisfaction.{time_at}
+use Rattle.mfotl_model.specs.Settled.{settled}
+use Rattle.mfotl_model.specs.VerdictText.{VerdictOf, line_of, verdict_at, verdicts}
+use Rattle.mfotl_model.specs.declared.event.TimePoint.{TimePoint}
+use Rattle.monitorable.specs.CoreForms.{CoreForm, meaning}
+use Rattle.monitorable.specs.Laws.{open_log}
+use Rattle.rescale_core.proofs.LogLemmas.{policy_violations}
+use Rattle.rescale_core.specs.Workers.{settled_in}
+use Rattle.rescale_core.specs.Worlds.{verdict_on}
+use Rattle.worker_pool.specs.Policies.{IsCoreOf}
+use Rattle.worker_pool.specs.Texts.{lines}
+use Rattle.worker_pool.specs.Writing.{all_verdicts, first_verdicts, seen}
+
+taken_by : (p : ℕ → Bool) (i n : ℕ) (b : Bool)
+    → take_while p (range_with_len (i + 1) n) ≡ range_with_len (i + 1) (passing p (i + 1) n)
+    → cond b (i ∷ take_while p (range_with_len (i + 1) n)) []
+    ≡ range_with_len i (cond b (passing p (i + 1) n + 1) 0)
+taken_by p i n true rest = ap (λ xs. i ∷ xs) rest ∙ ap (range_with_len i) (sym (add-one (passing p (i + 1) n)))
+taken_by p i n false rest = refl
+
+-- the numbers before the first that fails the test
+taken : (p : ℕ → Bool) (i n : ℕ) → take_while p (range_with_len i n) ≡ range_with_len i (passing p i n)
+taken p i zero = refl
+taken p i (suc n) = take_while-cons p i (range_with_len (i + 1) n) ∙ taken_by p i n (p i) (taken p (i + 1) n)
+
+range_more : (i n m : ℕ) → range_with_len i (n + m) ≡ range_with_len i n ++ range_with_len (i + n) m
+range_more i zero m =
+    let none : 0 + m ≡ m = omega arith in
+    let at : i ≡ i + 0 = omega arith in
+    ap (range_with_len i) none ∙ ap (λ k. range_with_len k m) at
+range_more i (suc n) m =
+    let count : suc n + m ≡ suc (n + m) = omega arith in
+    let at : i + 1 + n ≡ i + suc n = omega arith in
+    ap (range_with_len i) count
+    ∙ ap (λ xs. i ∷ xs) (range_more (i + 1) n m ∙ ap (λ k. range_with_len (i + 1) n ++ range_with_len k m) at)
+
+-- functions that agree map alike
+map_same : {A B : Type 0} (f g : A → B) → ((a : A) → f a ≡ g a) → (xs : List A) → map f xs ≡ map g xs
+map_same f g same [] = refl
+map_same f g same (x ∷ xs) = ap₂ (λ y ys. y ∷ ys) (same x) (map_same f g same xs)
+
+-- tests that agree let as many pass
+passing_same : (p q : ℕ → Bool) → ((j : ℕ) → p j ≡ q j) → (i n : ℕ) → passing p i n ≡ passing q i n
+passing_same p q same i zero = refl
+passing_same p q same i (suc n) = ap₂ (λ b k. cond b (k + 1) 0) (same i) (passing_same p q same (i + 1) n)
+
+-- the verdicts are those on the positions that are counted
+counted : (log : List TimePoint) (policy : Form)
+    → verdicts (open_log log) policy
+    ≡ map (verdict_at log policy) (range_with_len 0 (settled_count (times log) policy))
+unfolding settled_count
+counted log policy =
+    ap (map (verdict_at log policy))
+    (taken (settled (times log) policy) 0 (length log)
+    ∙ ap (λ n. range_with_len 0 (passing (settled (times log) policy) 0 n)) (sym (length-map log (λ p. p.ts))))
+
+module _ (core : CoreForm) (policy : Form) (is : IsCoreOf core policy) (points : List TimePoint) where
+  -- a core is settled as far as its policy
+  settled_same : settled_in core points ≡ settled_count (times points) policy
+  unfolding settled_count
+  settled_same =
+      passing_same (settled (times points) (meaning core)) (settled (times points) policy) (is.settles (times points)) 0
+      (length (times points))
+
+  one_same : (i : ℕ) → seen (verdict_on core points i) ≡ verdict_at points policy i
+  one_same i =
+      ap (λ rows. record { point = i; ts = time_at (times points) i; rows = rows })
+      (policy_violations core policy points i is.violations)
+
+  pub policy_verdicts : all_verdicts core points ≡ verdicts (open_log points) policy
+  policy_verdicts =
+      map_same (λ i. seen (verdict_on core points i)) (verdict_at points policy) one_same
+      (range_with_len 0 (settled_in core points))
+      ∙ ap (λ n. map (verdict_at points policy) (range_with_len 0 n)) settled_same
+      ∙ sym (counted points policy)
+
+-- the lines of the first verdicts stand before those of the others
+pub first_lines : (core : CoreForm) (points : List TimePoint) (n : ℕ) → n ≤ settled_in core points
+    → (rest : List ℕ)
+    × (lines (all_verdicts core points) ≡ lines (first_verdicts core points n) ++ rest)
+first_lines core points n within =
+    let m : ℕ = settled_in core points - n in
+    let sum : settled_in core points ≡ n + m = omega arith in
+    let verdict : ℕ → VerdictOf = λ i. seen (verdict_on core points i) in
+    (
+      lines (map verdict (range_with_len (0 + n) m)),
+      ap (λ k. lines (map verdict (range_with_len 0 k))) sum
+          ∙ ap (λ xs. lines (map verdict xs)) (range_more 0 n m)
+          ∙ ap lines (map-append verdict (range_with_len 0 n) (range_with_len (0 + n) m))
+          ∙ flat_map-append line_of (map verdict (range_with_len 0 n)) (map verdict (range_with_len (0 + n) m)),
+    )

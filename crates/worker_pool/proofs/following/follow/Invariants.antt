@@ -1,0 +1,24 @@
+use Rattle.std.proofs.Common.{◌≡◌, ◌≤◌, false}
+use Rattle.monitorable.specs.CoreForms.{CoreForm}
+use Rattle.turn_hub.specs.Ends.{IsMainOf}
+use Rattle.worker_pool.specs.Hands.{AreHandsOf}
+use Rattle.worker_pool.specs.Writing.{Begins}
+use Rattle.worker_pool.proofs.PieceLemmas.{Course}
+use Rattle.worker_pool.proofs.following.follow.Given as goal
+
+abbrev pub invariant-loop : goal.invariant-loop
+invariant-loop g l = record {
+  works : l.reader.is_broken ≡ false;
+  main : IsMainOf l.shop.hub.now l.driver.main;
+  hands : AreHandsOf l.shop.hub.now l.own.items;
+  files : g.I.Inputs.files l.inputs ≡ g.I.Inputs.files l.fn.inputs;
+  stays_open : g.I.Inputs.is_open l.inputs ≡ g.I.Inputs.is_open l.fn.inputs;
+  asks_nothing : g.I.Inputs.asked l.inputs ≡ g.I.Inputs.asked l.fn.inputs;
+  later : g.I.Inputs.faults l.fn.inputs ≤ g.I.Inputs.faults l.inputs;
+  later_out : g.O.Sink.faults l.fn.out ≤ g.O.Sink.faults l.out;
+  course : (core : CoreForm) → Begins core l.fn.driver → Course core l.fn.reader.sig
+      (g.I.Inputs.rest l.fn.inputs) (g.I.Inputs.rest l.inputs) l.reader l.driver (g.O.Sink.written l.fn.out)
+      (g.O.Sink.written l.out) l.page.tally;
+  can : (goal.iterator-loop g).can_next l.iterator';
+  finite : (goal.iterator-loop g).is_finite l.iterator';
+}

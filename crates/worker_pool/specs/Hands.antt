@@ -1,0 +1,29 @@
+-- The hands that a thread or main serves.
+use Rattle.std.specs.Prelude.{◌≡◌, ℕ, List, map, All}
+use Rattle.turn_hub.specs.Ends.{IsHandOf, hand_cell}
+use Rattle.turn_hub.specs.declared.hub.Hand.{Hand}
+use Rattle.turn_hub.specs.declared.hub.Hub.{Hub}
+use Rattle.rescale_core.specs.declared.item.Item.{Item}
+use Rattle.rescale_core.specs.declared.item.Out.{Out}
+use Rattle.rescale_core.specs.declared.phase.Worker.{Worker}
+use Rattle.rescale_core.specs.declared.seed.Seed.{Seed}
+
+-- a hub whose works are workers
+abbrev pub WorkerHub : Type 0
+WorkerHub = Hub Worker Item Out Seed
+
+-- a hand of such a hub
+abbrev pub WorkerHand : Type 0
+WorkerHand = Hand Worker Item Out Seed
+
+-- each is a hand of the hub
+abbrev pub AreHandsOf : WorkerHub → List WorkerHand → Type 0
+AreHandsOf hub hands = All (λ h. IsHandOf hub h) hands
+
+-- the cells that the hands serve
+abbrev pub cells_of : List WorkerHand → List ℕ
+cells_of hands = map (λ h. hand_cell h) hands
+
+-- hands of this hub, of just these cells
+abbrev pub Serve : WorkerHub → List ℕ → List WorkerHand → Type 0
+Serve hub cells hands = AreHandsOf hub hands × (cells_of hands ≡ cells)

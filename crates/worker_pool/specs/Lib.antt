@@ -1,0 +1,8 @@
+-- The definitions that the contracts cite, in reading order.
+pub mod Texts
+pub mod Policies
+pub mod Effects
+pub mod Endings
+pub mod Hands
+pub mod Writing
+pub mod Pieces

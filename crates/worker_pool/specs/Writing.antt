@@ -1,0 +1,96 @@
+-- What main has read and written, by the world of its driver.
+use Rattle.std.specs.Prelude.{◌≡◌, ◌≤◌, ℕ, List, [], ◌∷◌, ◌++◌, Option, length, map}
+use Rattle.std.specs.List.{range_with_len}
+use Rattle.mon_outside.specs.Causes.{Rose}
+use Rattle.mon_outside.specs.Sink.{Appends, AppendsFront}
+use Rattle.mfotl_model.specs.Strategies.{Strategy}
+use Rattle.mfotl_model.specs.VerdictText.{VerdictOf}
+use Rattle.mfotl_model.specs.declared.event.TimePoint.{TimePoint}
+use Rattle.monitorable.specs.CoreForms.{CoreForm}
+use Rattle.rescale_core.specs.Laws.{EmitsVerdicts}
+use Rattle.rescale_core.specs.Moving.{IsDriverOf}
+use Rattle.rescale_core.specs.Workers.{MayFollow, settled_in}
+use Rattle.rescale_core.specs.Worlds.{World, first_world, spot_in, verdict_on}
+use Rattle.rescale_core.specs.declared.turns.Driver.{Driver}
+use Rattle.verdict_merge.specs.declared.rows.Verdict.{Verdict}
+use Rattle.worker_pool.specs.Texts.{lines, tally_of}
+use Rattle.worker_pool.specs.declared.stop.Stop.{Stop}
+use Rattle.worker_pool.specs.declared.stop.Stop.TheVariants.{Log, Read, Sink, Memory}
+use Rattle.worker_pool.specs.declared.tally.Tally.{Tally}
+
+-- a verdict as its line is made of it
+abbrev pub seen : Verdict → VerdictOf
+seen v = record { point = v.point; ts = v.ts; rows = v.rows }
+
+-- the verdicts on the first positions of a log
+abbrev pub first_verdicts : CoreForm → List TimePoint → ℕ → List VerdictOf
+first_verdicts core points n = map (λ i. seen (verdict_on core points i)) (range_with_len 0 n)
+
+-- the verdicts on all positions that are settled
+abbrev pub all_verdicts : CoreForm → List TimePoint → List VerdictOf
+all_verdicts core points = first_verdicts core points (settled_in core points)
+
+-- The driver stands for a world of this core in which these time-points were read, and since `start` the lines of the
+-- verdicts that were emitted there were written and counted.
+pub record Writes (core : CoreForm) (points : List TimePoint) (start : Option (List ℕ)) (driver : Driver)
+    (now : Option (List ℕ)) (tally : Tally) : Type 0 where
+  pub world : World
+  pub stands : IsDriverOf driver world
+  pub core_is : world.core ≡ core
+  pub points_are : (spot_in world).points ≡ points
+  pub verdicts : EmitsVerdicts world
+  pub text : Appends start now (lines (map seen world.emitted))
+  pub counts : tally ≡ tally_of (map seen world.emitted)
+
+-- nothing was read as yet in the world of this core
+pub record Begins (core : CoreForm) (driver : Driver) : Type 0 where
+  pub first : Strategy
+  pub stands : IsDriverOf driver (first_world core first)
+
+-- some world and start are so
+abbrev pub Runs : Driver → Option (List ℕ) → Tally → Type 0
+Runs driver now tally =
+    (core : CoreForm) × (points : List TimePoint) × (start : Option (List ℕ)) × Writes core points start driver now tally
+
+-- the same, and this time-point may come next
+abbrev pub RunsTo : Driver → Option (List ℕ) → Tally → TimePoint → Type 0
+RunsTo driver now tally point =
+    (core : CoreForm) × (points : List TimePoint) × (start : Option (List ℕ))
+    × Writes core points start driver now tally × MayFollow points point
+
+-- whatever was read and written before, no time-point was read since, and the verdicts emitted since were written
+abbrev pub Keeps : Driver → Option (List ℕ) → Tally → Driver → Option (List ℕ) → Tally → Type 0
+Keeps d now t e then u =
+    (core : CoreForm) (points : List TimePoint) (start : Option (List ℕ)) → Writes core points start d now t
+    → Writes core points start e then u
+
+-- one more time-point was read, if it may follow
+abbrev pub Adds : Driver → Option (List ℕ) → Tally → TimePoint → Driver → Option (List ℕ) → Tally → Type 0
+Adds d now t point e then u =
+    (core : CoreForm) (points : List TimePoint) (start : Option (List ℕ)) → MayFollow points point
+    → Writes core points start d now t → Writes core (points ++ point ∷ []) start e then u
+
+-- what was written since `start` is a front of the lines of the first verdicts
+pub record Falls (core : CoreForm) (points : List TimePoint) (start now : Option (List ℕ)) : Type 0 where
+  pub count : ℕ
+  pub settled : count ≤ settled_in core points
+  pub front : AppendsFront start now (lines (first_verdicts core points count))
+
+-- so it is, whatever was read and written before
+abbrev pub FallsShort : Driver → Option (List ℕ) → Tally → Option (List ℕ) → Type 0
+FallsShort d now t then =
+    (core : CoreForm) (points : List TimePoint) (start : Option (List ℕ)) → Writes core points start d now t
+    → Falls core points start then
+
+-- all verdicts on what was read were emitted
+abbrev pub IsOver : Driver → Type 0
+IsOver d =
+    (w : World) → IsDriverOf d w → EmitsVerdicts w
+    → map seen w.emitted ≡ all_verdicts w.core (spot_in w).points
+
+-- the output failed, which shows in its count, or memory was refused
+abbrev pub IsOutputStop : ℕ → ℕ → Stop → Type 0
+IsOutputStop before now (Log fault) = ⊥
+IsOutputStop before now Read = ⊥
+IsOutputStop before now Sink = Rose before now
+IsOutputStop before now Memory = Unit {0}

@@ -1,0 +1,102 @@
+//! The log in pieces: all lines of a piece are written and handed on before the next piece is read.
+ghost use Rattle.std.specs.Prelude.{◌≡◌, ◌<◌, ◌≤◌, IsTrue, length, [], false};
+ghost use Rattle.log_reader.specs.Progress.{start};
+ghost use Rattle.log_reader.specs.Readers.{Reads, progress};
+ghost use Rattle.monitorable.specs.CoreForms.{CoreForm};
+ghost use Rattle.turn_hub.specs.Ends.{IsMainOf, cell_count};
+ghost use Rattle.worker_pool.specs.Effects.{effect};
+ghost use Rattle.worker_pool.specs.Endings.{FollowsLog};
+ghost use Rattle.worker_pool.specs.Hands.{AreHandsOf};
+ghost use Rattle.worker_pool.specs.Pieces.{ReadsPiece, end_of};
+ghost use Rattle.worker_pool.specs.Policies.{ForEachPolicy};
+ghost use Rattle.worker_pool.specs.Texts.{standard, tally_of};
+ghost use Rattle.worker_pool.specs.Writing.{Begins, IsOver};
+
+use crate::hands::WorkerHand;
+use crate::page::Page;
+use crate::routing::route_complete;
+use crate::shop::Shop;
+use crate::stop::Stop;
+use crate::tally::Tally;
+use log_reader::LogReader;
+use mon_outside::{Gate, Inputs, Sink};
+use rescale_core::Driver;
+use std::alloc::Global;
+use std::sync::Wait;
+
+// Reads once, and feeds what was given; no byte is the end. It waits for the log only where the output
+// holds nothing back.
+fn read_piece<I: Inputs, O: Sink>(
+    alloc: Global,
+    inputs: &mut I,
+    buffer: &mut [u8],
+    reader: &mut LogReader<'_>,
+    _out: &O,
+) -> Result<(), Stop>
+    requires room { 0 < length buffer.old }
+    requires opened { IsTrue (I.is_open inputs.old) }
+    requires works { reader.old.is_broken ≡ false }
+    requires open { reader.old.is_ended ≡ false }
+    requires handed_on { O.held _out.now ≡ [] }
+    ensures files { I.files inputs.new ≡ I.files inputs.old }
+    ensures stays_open { I.is_open inputs.new ≡ I.is_open inputs.old }
+    ensures asks_nothing { I.asked inputs.new ≡ I.asked inputs.old }
+    ensures later { I.faults inputs.old ≤ I.faults inputs.new }
+    ensures reads { ReadsPiece reader.old reader.new (I.rest inputs.old) (I.rest inputs.new)
+        (I.faults inputs.old) (I.faults inputs.new) result }
+{
+    match inputs.read(buffer) {
+        Ok(0) => {
+            reader.finish();
+            Ok(())
+        }
+        Ok(count) => match reader.feed(alloc, &buffer[..count]) {
+            Ok(()) => Ok(()),
+            Err(_) => Err(Stop::Memory),
+        },
+        Err(_) => Err(Stop::Read),
+    }
+}
+
+/// Monitors the open file as a log, piece after piece, and answers what was counted of its lines. What was
+/// written is handed on before each read.
+pub(crate) fn follow<R: Wait, I: Inputs, O: Sink, G: Gate>(
+    shop: &Shop<'_, R, G>,
+    own: &mut Vec<WorkerHand>,
+    driver: &mut Driver,
+    inputs: &mut I,
+    buffer: &mut [u8],
+    reader: &mut LogReader<'_>,
+    out: &mut O,
+) -> Result<Tally, Stop>
+    requires room { 0 < length buffer.old }
+    requires opened { IsTrue (I.is_open inputs.old) }
+    requires fresh { progress reader.old [] ≡ start reader.old.sig standard }
+    requires reads { Reads reader.old [] }
+    requires begins { (core : CoreForm) × Begins core driver.old }
+    requires main { IsMainOf shop.now.hub.now driver.old.main }
+    requires cells { shop.now.cells ≤ cell_count shop.now.hub.now }
+    requires hands { AreHandsOf shop.now.hub.now own.old.items }
+    ensures hands { AreHandsOf shop.now.hub.now own.new.items }
+    ensures files { I.files inputs.new ≡ I.files inputs.old }
+    ensures stays_open { I.is_open inputs.new ≡ I.is_open inputs.old }
+    ensures asks_nothing { I.asked inputs.new ≡ I.asked inputs.old }
+    ensures later { I.faults inputs.old ≤ I.faults inputs.new }
+    ensures later_out { O.faults out.old ≤ O.faults out.new }
+    ensures follows { (core : CoreForm) → Begins core driver.old → ForEachPolicy core (λ policy.
+        FollowsLog reader.old.sig policy (effect I.Inputs O.Sink inputs.old inputs.new out.old out.new)
+        (end_of result)) }
+{
+    let mut page = Page::blank(shop.alloc);
+    for _ in shop.rt.forever() {
+        route_complete(shop, own, driver, &mut page, reader, out)?;
+        if reader.is_finished() {
+            return Ok(page.tally);
+        }
+        if out.flush().is_err() {
+            return Err(Stop::Sink);
+        }
+        read_piece(shop.alloc, inputs, buffer, reader, out)?;
+    }
+    unreachable!()
+}

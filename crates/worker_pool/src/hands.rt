@@ -1,0 +1,9 @@
+//! The hub of workers and its hands.
+use rescale_core::Worker;
+use turn_hub::{Hand, Hub};
+
+/// A hub whose works are workers.
+pub(crate) type WorkerHub = Hub<Worker>;
+
+/// A hand of such a hub.
+pub(crate) type WorkerHand = Hand<Worker>;

@@ -1,0 +1,71 @@
+//! The time-points of a log that are complete, one after the other.
+ghost use Rattle.std.specs.Prelude.{◌≡◌, ◌^◌, ◌<◌, ◌≤◌, IfOk, IfErr, OnOk, false};
+ghost use Rattle.mon_outside.specs.Sink.{AppendsFront};
+ghost use Rattle.log_reader.specs.Progress.{read};
+ghost use Rattle.log_reader.specs.Readers.{progress};
+ghost use Rattle.turn_hub.specs.Ends.{IsMainOf, cell_count};
+ghost use Rattle.worker_pool.specs.Hands.{AreHandsOf};
+ghost use Rattle.worker_pool.specs.Pieces.{ForEachRun, IsUnderWay, StopsLines, TakesAll};
+ghost use Rattle.worker_pool.specs.Policies.{ForEachPolicy};
+ghost use Rattle.worker_pool.specs.Texts.{text_on};
+
+use crate::hands::WorkerHand;
+use crate::page::Page;
+use crate::pump::{drain, route};
+use crate::shop::Shop;
+use crate::stop::Stop;
+use log_reader::{LogFault, LogReader, Next};
+use mon_outside::{Gate, Sink};
+use rescale_core::Driver;
+use std::sync::Wait;
+
+// After so many time-points main turns to the workers, so that they work while it reads on.
+const BATCH: u64 = 64;
+
+/// Reads all time-points that are complete, and writes all lines that are due by then.
+pub(crate) fn route_complete<R: Wait, O: Sink, G: Gate>(
+    shop: &Shop<'_, R, G>,
+    own: &mut Vec<WorkerHand>,
+    driver: &mut Driver,
+    page: &mut Page,
+    reader: &mut LogReader<'_>,
+    out: &mut O,
+) -> Result<(), Stop>
+    requires works { reader.old.is_broken ≡ false }
+    requires few { reader.old.limits.points < 2 ^ 63 }
+    requires under_way { IsUnderWay reader.old driver.old (O.written out.old) page.old.tally }
+    requires main { IsMainOf shop.now.hub.now driver.old.main }
+    requires cells { shop.now.cells ≤ cell_count shop.now.hub.now }
+    requires hands { AreHandsOf shop.now.hub.now own.old.items }
+    ensures hands { AreHandsOf shop.now.hub.now own.new.items }
+    ensures main { OnOk result (IsMainOf shop.now.hub.now driver.new.main) }
+    ensures reader { OnOk result (reader.new
+        ≡ record reader.old { given = reader.new.given; kept = reader.new.kept }) }
+    ensures ok { OnOk result (ForEachRun reader.old driver.old (O.written out.old) page.old.tally
+        (λ core bytes start. TakesAll core reader.new bytes driver.new start (O.written out.new) page.new.tally)) }
+    ensures stops { IfErr result (λ stop. ForEachRun reader.old driver.old (O.written out.old) page.old.tally
+        (λ core bytes start. ForEachPolicy core (λ policy. StopsLines policy
+        (read (progress reader.old bytes)) start (O.written out.new) (O.faults out.old) (O.faults out.new) stop))) }
+    ensures front { ForEachRun reader.old driver.old (O.written out.old) page.old.tally
+        (λ core bytes start. ForEachPolicy core (λ policy. AppendsFront
+        start (O.written out.new) (text_on policy (read (progress reader.old bytes))))) }
+    ensures later { O.faults out.old ≤ O.faults out.new }
+{
+    let mut number = 0u64;
+    for _ in shop.rt.forever() {
+        match reader.next(shop.alloc) {
+            Ok(Next::Point(point)) => {
+                number = number.wrapping_add(1);
+                route(shop, own, driver, page, out, number % BATCH == 0, point)?;
+            }
+            Ok(Next::More) => return drain(shop, own, driver, page, out),
+            Ok(Next::End) => return drain(shop, own, driver, page, out),
+            Err(LogFault::Memory) => return Err(Stop::Memory),
+            Err(fault) => {
+                drain(shop, own, driver, page, out)?;
+                return Err(Stop::Log(fault));
+            }
+        }
+    }
+    unreachable!()
+}

@@ -1,0 +1,27 @@
+//! Why main's loop stops before the end of a log without faults.
+use log_reader::LogFault;
+use std::alloc::AllocError;
+
+/// What stops main's loop.
+#[derive(Drop)]
+pub(crate) enum Stop {
+    /// The first fault of the log, behind all lines.
+    Log(LogFault),
+    /// The log could not be read on.
+    Read,
+    /// The output took no more bytes.
+    Sink,
+    /// Memory was refused.
+    Memory,
+}
+
+impl From<AllocError> for Stop {
+    ghost use Rattle.std.specs.Prelude.{◌≡◌};
+    ghost use Rattle.worker_pool.specs.declared.stop.Stop.TheVariants.{Memory};
+
+    ghost from_gives = { λ fault stop. stop ≡ Memory };
+
+    fn from(_: AllocError) -> Self {
+        Stop::Memory
+    }
+}

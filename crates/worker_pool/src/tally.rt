@@ -1,0 +1,41 @@
+//! What is counted of the verdicts.
+ghost use Rattle.std.specs.Prelude.{◌≡◌, ◌+◌, [], OnOk, IfOk, cond, nat_lt};
+ghost use Rattle.worker_pool.specs.Texts.{tally_of};
+
+use std::alloc::AllocError;
+
+/// How many verdicts there were, how many of them had a row, and how many rows all had.
+#[derive(Clone, Copy)]
+pub(crate) struct Tally {
+    pub(crate) settled: u64,
+    pub(crate) violated: u64,
+    pub(crate) rows: u128,
+}
+
+impl Tally {
+    /// Nothing was counted.
+    pub(crate) fn none() -> Self
+        ensures { result ≡ tally_of [] }
+    {
+        Tally {
+            settled: 0,
+            violated: 0,
+            rows: 0,
+        }
+    }
+
+    /// One verdict more, with so many rows.
+    pub(crate) fn count(&mut self, rows: usize) -> Result<(), AllocError>
+        ensures settled { OnOk result (self.new.settled ≡ self.old.settled + 1) }
+        ensures violated { OnOk result (self.new.violated ≡ self.old.violated + cond (nat_lt 0 rows) 1 0) }
+        ensures rows { OnOk result (self.new.rows ≡ self.old.rows + rows) }
+    {
+        self.settled = self.settled.checked_add(1).ok_or(AllocError)?;
+        self.violated = self
+            .violated
+            .checked_add(u64::from(rows > 0))
+            .ok_or(AllocError)?;
+        self.rows = self.rows.checked_add(rows as u128).ok_or(AllocError)?;
+        Ok(())
+    }
+}
