@@ -18,9 +18,11 @@ use Rattle.monitor_main.specs.declared.refusal.Refusal.TheVariants.{Usage, Read,
 use Rattle.monitor_main.specs.Answer.{◌>>=◌, Answer, CheckedPolicy, checked_over, Task}
 use Rattle.monitor_main.specs.Answer.{bytes_of, check_answer, command_answer, ok_value, policy_at}
 use Rattle.monitor_main.specs.Answer.{refused, run_answer, seen_of, signature_of, source_bytes, task_at}
-use Rattle.monitor_main.specs.Answer.{strategy_in, task_by, task_on, text_at_failure, text_before, text_of_seen, text_on}
+use Rattle.monitor_main.specs.Answer.{strategy_in, task_by, task_on, text_at_failure, text_before, text_of_seen}
+use Rattle.worker_pool.specs.Texts.{text_on}
 use Rattle.monitor_main.specs.CheckedPolicies.{Fails, IsInside}
-use Rattle.monitor_main.specs.Decisions.{CarriesOut, ComesTo, CommandFails, Effect, Ends}
+use Rattle.monitor_main.specs.Decisions.{CarriesOut, ComesTo, CommandFails, Ends}
+use Rattle.worker_pool.specs.Effects.{Effect}
 use Rattle.monitor_main.specs.Decisions.{FailsInLog, Finishes, HasCauses, MonitorsLog}
 use Rattle.monitor_main.specs.FilesAsked.{AsksInOrder, names_to, source_names}
 use Rattle.monitor_main.specs.Loading.{HasNoPolicy, IsLoadFault, IsSource, LoadsSources, NoPolicy, StopsInSources}
@@ -28,7 +30,7 @@ use Rattle.monitor_main.specs.LogRuns.{IsOutputFault}
 use Rattle.monitor_main.specs.Words.{Command, RunOptions, Sources, Run, Check, command_sources}
 use Rattle.monitor_main.proofs.DecideLemmas.{comes_as, comes_memory, comes_refused, refuses_at, unwritten}
 use Rattle.monitor_main.proofs.LoadLemmas.{rose_later}
-use Rattle.monitor_main.proofs.SinkLemmas.{appends_none, no_front}
+use Rattle.worker_pool.proofs.SinkLemmas.{appends_none, no_front}
 use Rattle.monitor_main.proofs.ToldLemmas.{asked_twice, told_at, told_both, told_map}
 
 -- ---- no policy
@@ -205,7 +207,8 @@ module _ (sources : Sources) (options : RunOptions) (strategy : Strategy) (befor
     module _ (files : Files) (policy_is : policy_at sources files ≡ Ok checked) where
       log_reached : bytes_of (Run sources options) files file.Log ≡ Some (content files options.log)
       unfolding bytes_of
-      log_reached = ap (λ (t : Result Task Refusal). option_map (λ (t : Task). t.log) (ok_value t)) (task_is files policy_is)
+      log_reached =
+          ap (λ (t : Result Task Refusal). option_map (λ (t : Task). t.log) (ok_value t)) (task_is files policy_is)
 
       before_clear : (f : Form) (r : Reading) (ending : Ending) → ending ≡ NoFault
           → text_before f r ending ≡ Some (text_on f r)
@@ -233,7 +236,8 @@ module _ (sources : Sources) (options : RunOptions) (strategy : Strategy) (befor
       fails_by_name : (name : InputFile) → name ≡ file.Log
           → FailsInLog (task_on checked (content files options.log))
           (record { before = mid; after = after; old = old; new = new }) name
-          → CommandFails (Run sources options) files (record { before = before; after = after; old = old; new = new }) name
+          → CommandFails (Run sources options) files
+          (record { before = before; after = after; old = old; new = new }) name
       fails_by_name file.Signature e f = absurd cc
       fails_by_name file.Policy e f = absurd cc
       fails_by_name file.Log e f = fails_at_log f
@@ -383,6 +387,7 @@ pub command_stops : (command : Command) (sources : Sources) (before after : Inpu
     → sources ≡ command_sources command → after.files ≡ before.files → before.faults ≤ after.faults → (r : Refusal)
     → StopsInSources sources before after r → CarriesOut command (unwritten before after out) (Err r)
 command_stops (Run own options) sources before after out is same later r stops =
-    run_stops own options before after out same later r (subst (λ (s : Sources). StopsInSources s before after r) is stops)
+    run_stops own options before after out same later r
+    (subst (λ (s : Sources). StopsInSources s before after r) is stops)
 command_stops (Check own) sources before after out is same later r stops =
     check_stops own before after out same later r (subst (λ (s : Sources). StopsInSources s before after r) is stops)

@@ -2,7 +2,7 @@
 use Rattle.std.proofs.Common.{◌≡◌, ap, arith, subst, sym, refl, inl, inr, ℕ, ◌≤◌, Bool, List}
 use Rattle.std.proofs.Common.{[], Option, Some, None}
 use Rattle.std.proofs.lemmas.Result.{IfErr-weaker, IfOk-weaker}
-use Rattle.std.specs.Prelude.{Result, Err, IfOk, IfErr, MatchOption, ◌≢◌}
+use Rattle.std.specs.Prelude.{Result, Err, MatchOption, ◌≢◌}
 use Rattle.clap.specs.Words.{Text}
 use Rattle.mon_outside.specs.Causes.{Rose}
 use Rattle.mon_outside.specs.Files.{Files}
@@ -14,7 +14,8 @@ use Rattle.monitor_main.specs.declared.refusal.Refusal.TheVariants.{Usage, Read,
 use Rattle.monitor_main.specs.Answer.{Answer, answer, answer_to}
 use Rattle.monitor_main.specs.Answer.{command_answer}
 use Rattle.monitor_main.specs.Answer.{refused}
-use Rattle.monitor_main.specs.Decisions.{CarriesOut, ComesTo, Effect, Ends, FailsAt}
+use Rattle.monitor_main.specs.Decisions.{CarriesOut, ComesTo, Ends, FailsAt}
+use Rattle.worker_pool.specs.Effects.{Effect}
 use Rattle.monitor_main.specs.Decisions.{Finishes, HandsOn, HasCauses, Obeys}
 use Rattle.monitor_main.specs.Decisions.{Refuses}
 use Rattle.monitor_main.specs.FilesAsked.{AsksInOrder}
@@ -23,7 +24,7 @@ use Rattle.monitor_main.specs.declared.words.WordsFault.{WordsFault}
 use Rattle.monitor_main.specs.declared.words.WordsFault.TheVariants as fault
 use Rattle.monitor_main.specs.Words.{Command, command_of}
 use Rattle.monitor_main.proofs.LoadLemmas.{rose_later}
-use Rattle.monitor_main.proofs.SinkLemmas.{appends_none, no_front}
+use Rattle.worker_pool.proofs.SinkLemmas.{appends_none, no_front}
 use Rattle.monitor_main.proofs.ToldLemmas.{asked_none, told_all, told_map}
 
 module _ (a b : Answer) (same : a ≡ b) (fails others : InputFile → Type 0) (more : (name : InputFile) → fails name

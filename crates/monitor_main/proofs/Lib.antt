@@ -1,13 +1,7 @@
 pub mod WordsLemmas
-pub mod LogTimes
 pub mod VerdictLemmas
 pub mod ToldLemmas
 pub mod LoadLemmas
-pub mod SinkLemmas
-pub mod TableLemmas
-pub mod LineLemmas
-pub mod PointLemmas
-pub mod PieceLemmas
 pub mod RunLemmas
 pub mod DecideLemmas
 pub mod CommandLemmas

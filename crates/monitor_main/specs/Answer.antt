@@ -1,14 +1,11 @@
 -- What a run answers, told by its words and the bytes of its files: the status, and the bytes that it
 -- writes to the output and to the errors.
-use Rattle.std.specs.Prelude.{ℕ, Bool, true, false, not, List, [], length, nat_lt}
+use Rattle.std.specs.Prelude.{ℕ, Bool, true, false, List, [], length, nat_lt}
 use Rattle.std.specs.Prelude.{Option, Some, None, Result, Ok, Err, if◌then◌else◌, option_map}
-use Rattle.std.specs.List.{list_any}
 use Rattle.clap.specs.Words.{Text}
 use Rattle.mon_outside.specs.Files.{Files, content}
 use Rattle.mfotl_model.specs.Formulas.{Form}
-use Rattle.mfotl_model.specs.Log.{Log}
 use Rattle.mfotl_model.specs.Strategies.{Strategy}
-use Rattle.mfotl_model.specs.VerdictText.{text, verdicts}
 use Rattle.mfotl_model.specs.declared.policy.Var.{Var}
 use Rattle.mfotl_sig.specs.Preds.{PredOf}
 use Rattle.mfotl_sig.specs.Reading.{reading as signature_read}
@@ -16,9 +13,8 @@ use Rattle.mfotl_parse.specs.Reading.{PolicyOf, reading as policy_read}
 use Rattle.monitorable.specs.Fragment.{frag_fault, free_names}
 use Rattle.monitorable.specs.declared.fault.FragmentFault.{FragmentFault}
 use Rattle.slice_strategy.specs.Reading.{reading as strategy_read}
-use Rattle.log_reader.specs.Limits.{byte_limit, event_limit, point_limit}
 use Rattle.log_reader.specs.Readings.{Ending, NoFault, Reading, Fault, accepted, shown}
-use Rattle.log_reader.specs.declared.limits.Limits.{Limits}
+use Rattle.worker_pool.specs.Texts.{standard, text_on, violated_on}
 use Rattle.monitor_main.specs.declared.refusal.InputFile.{InputFile}
 use Rattle.monitor_main.specs.declared.refusal.InputFile.TheVariants as file
 use Rattle.monitor_main.specs.declared.refusal.Refusal.{Refusal}
@@ -28,7 +24,6 @@ use Rattle.monitor_main.specs.declared.status.Status.TheVariants as status
 use Rattle.monitor_main.specs.CheckLine.{monitorable_line}
 use Rattle.monitor_main.specs.Limits.{max_file}
 use Rattle.monitor_main.specs.Refusals.{line_of, status_of}
-use Rattle.monitor_main.specs.VerdictRows.{is_empty}
 use Rattle.monitor_main.specs.Words.{Sources, RunOptions, Command, Run, Check, command_of}
 
 -- a status, and the bytes written to the output and to the errors
@@ -117,22 +112,6 @@ task_by options files checked =
 -- the signature, then the policy, then the strategy, and the log in the file of its name
 unfoldable pub task_at : Sources → RunOptions → Files → Result Task Refusal
 task_at sources options files = policy_at sources files >>= task_by options files
-
--- how much a log may have
-abbrev pub standard : Limits
-standard = record { bytes = byte_limit; points = point_limit; events = event_limit }
-
--- the time-points that were read, behind which more could come
-abbrev pub log_in : Reading → Log
-log_in r = record { points = r.points; closed = false }
-
--- the text of the verdicts on what was read
-unfoldable pub text_on : Form → Reading → List ℕ
-text_on policy r = text (log_in r) policy
-
--- some verdict on what was read has a row
-unfoldable pub violated_on : Form → Reading → Bool
-violated_on policy r = list_any (λ v. not (is_empty v.rows)) (verdicts (log_in r) policy)
 
 -- the status where the log was read to its end: whether a verdict has a row
 abbrev pub verdict_status : Bool → Status

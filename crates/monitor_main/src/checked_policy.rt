@@ -5,7 +5,8 @@ ghost use Rattle.mon_outside.specs.Inputs.{asked_more};
 ghost use Rattle.mon_outside.specs.Views.{inputs_view};
 ghost use Rattle.monitorable.specs.Cores.{core_form};
 ghost use Rattle.monitor_main.specs.Answer.{checked_over, signature_of};
-ghost use Rattle.monitor_main.specs.CheckedPolicies.{Gives, HasVariables, IsCoreOf, IsInside, checked_in};
+ghost use Rattle.monitor_main.specs.CheckedPolicies.{Gives, HasVariables, IsInside, checked_in};
+ghost use Rattle.worker_pool.specs.Policies.{IsCoreOf};
 ghost use Rattle.monitor_main.specs.CommandViews.{sources_in};
 ghost use Rattle.monitor_main.specs.Limits.{max_file};
 ghost use Rattle.monitor_main.specs.Loading.{IsRefused, LoadsSources, StopsInSources};
@@ -33,6 +34,17 @@ impl Drop for CheckedPolicy {
         drop(sig);
         drop(policy);
         drop(core);
+    }
+}
+
+impl CheckedPolicy {
+    /// What a log is monitored with.
+    pub fn into_parts(self) -> (Signature, Core)
+        ensures { result ≡ (self.sig, self.core) }
+    {
+        let CheckedPolicy { sig, policy, core } = self;
+        drop(policy);
+        (sig, core)
     }
 }
 

@@ -5,10 +5,8 @@
 mod check;
 mod checked_policy;
 mod fault_lines;
-mod following;
 pub mod laws;
 mod limits;
-mod log;
 mod monitoring;
 mod options;
 mod real_inputs;
@@ -19,7 +17,6 @@ mod run_options;
 mod running;
 mod status;
 mod strategy_text;
-mod verdict_lines;
 mod words;
 
 pub use real_inputs::RealInputs;

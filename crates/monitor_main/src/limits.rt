@@ -8,6 +8,3 @@ pub const MAX_THREADS: u32 = 64;
 
 /// So many threads serve the workers where the words say nothing of it: the default of `--threads`.
 pub const DEFAULT_THREADS: u32 = 4;
-
-/// The most bytes of a log that are read at once.
-pub const BUFFER: usize = 65_536;

@@ -32,8 +32,8 @@ returns-in_err-first-in-Run g c =
     c.in_ok-checked.ensures.files c.in_ok-checked.ensures.later _ c.in_err-first-in-Run.ensures.inside
     c.in_err-first-in-Run.ensures.gives)
 
-pub returns-in-Run : goal.returns-in-Run
-returns-in-Run g c =
+pub returns-in_ok-first-in-Run : goal.returns-in_ok-first-in-Run
+returns-in_ok-first-in-Run g c =
     let before = inputs_view g.I.Inputs c.args.inputs.now in
     let mid = inputs_view g.I.Inputs c.load_sources.new.inputs in
     let checked = checked_in c.in_ok-checked.checked in
@@ -46,8 +46,8 @@ returns-in-Run g c =
     (sink_view g.O.Sink c.args.out.now) (sink_view g.O.Sink c.monitor_policy.new.out) c.monitor_policy.result
     c.monitor_policy.ensures)
 
-pub returns : goal.returns
-returns g c =
+pub returns-in-Check : goal.returns-in-Check
+returns-in-Check g c =
     let before = inputs_view g.I.Inputs c.args.inputs.now in
     let mid = inputs_view g.I.Inputs c.load_sources.new.inputs in
     let checked = checked_in c.in_ok-checked.checked in
