@@ -29,7 +29,7 @@ use Rattle.rescale_core.specs.declared.cells.Step.TheVariants as step
 use Rattle.rescale_core.specs.declared.item.Entry.{Entry}
 use Rattle.rescale_core.specs.declared.stage.Machine.{Machine}
 
-drop_only : (n : ℕ) (ds : List Due) → OnlySlices ds → OnlySlices (drop n ds)
+pub drop_only : (n : ℕ) (ds : List Due) → OnlySlices ds → OnlySlices (drop n ds)
 drop_only zero ds o = o
 drop_only (suc n) [] o = tt
 drop_only (suc n) (Slicing g s log p ∷ ds) o = drop_only n ds o

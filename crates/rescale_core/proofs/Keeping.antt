@@ -1,5 +1,5 @@
 -- Steps keep what holds of worlds.
-use Rattle.std.proofs.Common.{ℕ, zero, suc, List, [], ◌∷◌, ◌++◌, ◌≡◌, ◌∙◌, refl, replicate, sym, subst}
+use Rattle.std.proofs.Common.{ℕ, zero, suc, List, [], ◌∷◌, ◌++◌, ◌≡◌, ◌≤◌, ◌∙◌, arith, refl, replicate, sym, subst}
 use Rattle.std.specs.List.{AllByRecursion}
 use Rattle.rescale_core.specs.Laws.{EmitsVerdicts}
 use Rattle.rescale_core.specs.Moving.{IsDriverOf, Kind, Reaches, StepsBy, TurnsTo, collects}
@@ -12,6 +12,8 @@ use Rattle.rescale_core.specs.declared.turns.Turn.{Turn}
 use Rattle.rescale_core.specs.declared.turns.Turn.TheVariants.{Moved, NotYet, Broken}
 use Rattle.rescale_core.proofs.Soundness.{step_sound}
 use Rattle.rescale_core.proofs.Verdicts.{step_verdicts}
+use Rattle.rescale_core.proofs.Waits.{waits_for}
+use Rattle.rescale_core.specs.Waiting.{added, waiting_in}
 
 by_move : (w x : World) (m : Move) → IsSound w → EmitsVerdicts w → Allowed w m → x ≡ after w m
     → IsSound x × EmitsVerdicts x
@@ -73,6 +75,30 @@ keeps_steps [] w x i h = subst (Keeps w) h (record { core = refl; first = refl; 
 keeps_steps (s ∷ steps) w x i h =
     kept_on w h.0 x (keeps_step w h.0 s i.0 h.1) (keeps_steps steps h.0 x i.1 h.2)
 
+-- nor does more wait
+waits_move : (w x : World) (m : Move) (q : ℕ) → IsSound w → Allowed w m → added m ≡ 0 → x ≡ after w m
+    → waiting_in x q ≤ waiting_in w q
+waits_move w x m q sound may none e =
+    let h = waits_for w m q sound may in
+    subst (λ y. waiting_in y q ≤ waiting_in w q) (sym e) (omega arith)
+
+waits_step : (w x : World) (s : Kind) (q : ℕ) → IsInner s → IsSound w → StepsBy w s x
+    → waiting_in x q ≤ waiting_in w q
+waits_step w x (Reads e) q i sound h = absurd i
+waits_step w x (Feeds k) q i sound h = waits_move w x (Feed k h.0) q sound h.1 refl h.2
+waits_step w x (Takes k) q i sound h = waits_move w x (Take k h.0) q sound h.1 refl h.2
+waits_step w x (Collects k) q i sound h = waits_move w x (Collect k) q sound h.0 refl h.1
+waits_step w x Emits q i sound h = absurd i
+
+waits_steps : (steps : List Kind) (w x : World) (q : ℕ) → AllByRecursion IsInner steps → IsSound w
+    → EmitsVerdicts w → Reaches w steps x → waiting_in x q ≤ waiting_in w q
+waits_steps [] w x q i sound verdicts h = subst (λ y. waiting_in y q ≤ waiting_in w q) h (omega arith)
+waits_steps (s ∷ steps) w x q i sound verdicts h =
+    let one = by_step w h.0 s sound verdicts h.1 in
+    let here = waits_step w h.0 s q i.0 sound h.1 in
+    let rest = waits_steps steps h.0 x q i.1 one.0 one.1 h.2 in
+    omega arith
+
 inner_more : (a b : List Kind) → AllByRecursion IsInner a → AllByRecursion IsInner b → AllByRecursion IsInner (a ++ b)
 inner_more [] b x y = y
 inner_more (s ∷ a) b x y = (x.0, inner_more a b x.1 y)
@@ -102,8 +128,14 @@ turn_moves d e k NotYet w t is = let r = t.0 w is in ([], tt, r.0, r.1, r.2)
 turn_moves d e k Broken w t is = let r = t.0 w is in ([], tt, r.0, r.1, r.2)
 
 pub turn_keeps : (d e : Driver) (k : ℕ) (turn : Turn) (w : World) → TurnsTo d k turn e → IsDriverOf d w
-    → EmitsVerdicts w → (x : World) × IsDriverOf e x × EmitsVerdicts x × Keeps w x
+    → EmitsVerdicts w
+    → (x : World) × IsDriverOf e x × EmitsVerdicts x × Keeps w x × ((q : ℕ) → waiting_in x q ≤ waiting_in w q)
 turn_keeps d e k turn w t is verdicts =
     let m = turn_moves d e k turn w t is in
-    let v = by_steps m.0 w m.2 is.router.sound verdicts m.3 in
-    (m.2, m.4, v.1, keeps_steps m.0 w m.2 m.1 m.3)
+    let v = by_steps m.0 w m.2 is.router.sound verdicts m.3 in (
+      m.2,
+      m.4,
+      v.1,
+      keeps_steps m.0 w m.2 m.1 m.3,
+      (λ q. waits_steps m.0 w m.2 q m.1 is.router.sound verdicts m.3),
+    )

@@ -24,6 +24,7 @@ pub mod MachineLemmas
 pub mod Counting
 pub mod Given
 pub mod Ending
+pub mod Waits
 pub mod Taking
 pub mod DriverLemmas
 pub mod TurnLemmas

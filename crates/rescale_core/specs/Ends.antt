@@ -1,5 +1,5 @@
 -- What the worlds of a machine and of a driver are, and how they end.
-use Rattle.std.specs.Prelude.{◌≡◌, ℕ, List, [], map}
+use Rattle.std.specs.Prelude.{◌≡◌, ◌≤◌, ℕ, List, [], map}
 use mathlib.Core.Option.{some}
 use lib.ListN.{get_elem?}
 use Rattle.std.specs.List.{range_with_len}
@@ -12,9 +12,10 @@ use Rattle.verdict_merge.specs.Gathers.{rows_at}
 use Rattle.verdict_merge.specs.Laws.{IsPartition}
 use Rattle.rescale_core.specs.Cells.{Enabled, IsMachineOf}
 use Rattle.rescale_core.specs.Laws.{EmitsVerdicts, FitsAndAnswers}
-use Rattle.rescale_core.specs.Moving.{IsDriverOf, IsOpened, Kind, Reaches, TurnsTo}
+use Rattle.rescale_core.specs.Moving.{IsDriverOf, IsOpened, Kind, Reaches, TurnsTo, core_of}
 use Rattle.rescale_core.specs.Routing.{HasEnded}
 use Rattle.rescale_core.specs.Soundly.{IsSound}
+use Rattle.rescale_core.specs.Waiting.{waiting_in}
 use Rattle.rescale_core.specs.Workers.{owner, settled_in, violations_at}
 use Rattle.rescale_core.specs.Working.{StandsFor, seed_of}
 use Rattle.rescale_core.specs.Works.{StandsBy, begun}
@@ -63,12 +64,16 @@ DriverEnds =
     (d : Driver) (w : World) → IsDriverOf d w → EmitsVerdicts w → HasEnded w
     → w.emitted ≡ map (verdict_on w.core (spot_in w).points) (range_with_len 0 (settled_in w.core (spot_in w).points))
 
--- a turn reads and emits nothing
+-- the driver's core is that of each world for which it stands
+abbrev pub DriverCore : Type 0
+DriverCore = (d : Driver) (w : World) → IsDriverOf d w → core_of d ≡ w.core
+
+-- a turn reads and emits nothing, and makes no more wait
 abbrev pub TurnKeeps : Type 0
 TurnKeeps =
     (d e : Driver) (k : ℕ) (turn : Turn) (w : World) → TurnsTo d k turn e → IsDriverOf d w → EmitsVerdicts w
     → (x : World) × IsDriverOf e x × EmitsVerdicts x × (x.core ≡ w.core) × (x.first ≡ w.first) × (x.read ≡ w.read)
-    × (x.emitted ≡ w.emitted)
+    × (x.emitted ≡ w.emitted) × ((q : ℕ) → waiting_in x q ≤ waiting_in w q)
 
 -- a hub that is opened on the workers of a core and a strategy, in order, is right for a driver
 abbrev pub OpenedWorkers : Type 0

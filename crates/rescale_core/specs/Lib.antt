@@ -11,6 +11,7 @@ pub mod Works
 pub mod Soundly
 pub mod Queues
 pub mod Routing
+pub mod Waiting
 pub mod Moving
 pub mod Laws
 pub mod Cells

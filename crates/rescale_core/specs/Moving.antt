@@ -4,6 +4,7 @@ use mathlib.Core.Option.{some}
 use lib.ListN.{get_elem?}
 use Rattle.mfotl_model.specs.Strategies.{Strategy}
 use Rattle.monitorable.specs.CoreForms.{CoreForm}
+use Rattle.monitorable.specs.Cores.{core_form}
 use Rattle.turn_hub.specs.Answers.{LooksOnce}
 use Rattle.turn_hub.specs.Ends.{main_view}
 use Rattle.turn_hub.specs.Words.{broken, hand_turn}
@@ -31,6 +32,10 @@ CellLine = Line Seed Item Out
 -- the lines of a driver
 abbrev pub lines_of : Driver → List CellLine
 lines_of d = (main_view d.main).lines
+
+-- the core that a driver's workers monitor
+abbrev pub core_of : Driver → CoreForm
+core_of d = core_form d.router.core
 
 -- the kinds of steps: an entry is read, worker k is handed an item, takes one, what it gave is collected, or a
 -- verdict is emitted

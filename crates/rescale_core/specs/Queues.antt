@@ -8,6 +8,10 @@ use Rattle.rescale_core.specs.declared.queue.Queue.{Queue}
 abbrev pub waiting : Queue → List Chance
 waiting queue = map (λ i. Sure i) queue.items.items
 
+-- how many stand in a queue
+abbrev pub length_of : Queue → ℕ
+length_of queue = length queue.items.items
+
 -- whether nothing stands in a queue
 abbrev pub is_clear : Queue → Bool
 is_clear queue = nat_eq (length queue.items.items) 0

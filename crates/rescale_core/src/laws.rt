@@ -1,6 +1,7 @@
 //! Laws of worlds, as theorems on the definitions. Each call does nothing: its clause is the law.
-ghost use Rattle.rescale_core.specs.Ends.{DriverEnds, DriverWorlds, MachineEnds, MachineWorlds, OpenedWorkers, RowsPartition, TurnKeeps};
+ghost use Rattle.rescale_core.specs.Ends.{DriverCore, DriverEnds, DriverWorlds, MachineEnds, MachineWorlds, OpenedWorkers, RowsPartition, TurnKeeps};
 ghost use Rattle.rescale_core.specs.Laws.{PolicyViolations, ReachedWorlds};
+ghost use Rattle.rescale_core.specs.Waiting.{WaitsFor};
 
 /// In each world that steps reach from the first one, what each worker was handed fits, what it gave answers that,
 /// and what was emitted are the first verdicts on all that was read.
@@ -28,9 +29,19 @@ pub fn driver_worlds()
     ensures { DriverWorlds }
 {}
 
-/// In the world that a turn reaches the same was read and emitted as before.
+/// In the world that a turn reaches the same was read and emitted as before, and no more waits.
 pub fn turn_keeps()
     ensures { TurnKeeps }
+{}
+
+/// A driver's core is its worlds'.
+pub fn driver_core()
+    ensures { DriverCore }
+{}
+
+/// What reading makes wait for a worker, where nothing else makes more wait.
+pub fn waits_for()
+    ensures { WaitsFor }
 {}
 
 /// Where a driver has ended, it emitted all verdicts on all that it read.

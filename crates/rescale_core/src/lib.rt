@@ -19,6 +19,7 @@ mod seed;
 mod settled;
 mod stage;
 mod turns;
+mod waiting;
 mod worker;
 
 pub use cells::{Applied, Step};

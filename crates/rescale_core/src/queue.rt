@@ -3,7 +3,8 @@ ghost use Rattle.std.specs.Prelude.{◌≡◌, ◌++◌, ◌∷◌, [], IfOk, le
 ghost use Rattle.std.specs.List.{list_all};
 ghost use Rattle.rescale_core.specs.Chances.{Pops, sure_items};
 ghost use Rattle.rescale_core.specs.Chances.Chance.{Sure};
-ghost use Rattle.rescale_core.specs.Queues.{is_clear, waiting};
+ghost use Rattle.rescale_core.specs.Queues.{is_clear, length_of, waiting};
+ghost use Rattle.rescale_core.specs.Waiting.{is_short};
 
 use crate::item::Item;
 use std::alloc::{AllocError, Global};
@@ -45,12 +46,36 @@ impl Queue {
         self.items.len() as u64
     }
 
+    /// How many items are there.
+    pub(crate) fn len(&self) -> u64
+        ensures { result ≡ length_of self.now }
+    {
+        self.items.len() as u64
+    }
+
+    /// Whether there is room for more.
+    pub(crate) fn is_short(&self) -> bool
+        ensures { result ≡ is_short self.now }
+    {
+        self.len() < FULL
+    }
+
     /// Whether no item is there.
     pub(crate) fn is_empty(&self) -> bool
         ensures { result ≡ is_clear self.now }
     {
         self.items.is_empty()
     }
+}
+
+/// From so many on no more is read.
+const FULL: u64 = 1024;
+
+/// Whether there is room for more in each queue.
+pub(crate) fn all_short(queues: &[Queue]) -> bool
+    ensures { result ≡ list_all is_short queues.now }
+{
+    queues.iter().all(|queue| queue.is_short())
 }
 
 /// Whether nothing stands in any queue.

@@ -5,3 +5,4 @@ pub mod TallyLemmas
 pub mod WritingLemmas
 pub mod PointLemmas
 pub mod PieceLemmas
+pub mod HandLemmas

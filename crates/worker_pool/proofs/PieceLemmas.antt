@@ -201,7 +201,8 @@ module _ (core : CoreForm) (sig : List PredOf) where
         (t : Tally) → (c : Course first rest reader driver old now t)
         → AppendsFront old now (text_on policy (reading sig standard c.bytes reader.is_ended))
     course_front first rest reader driver old now t c =
-        subst (λ (r : Reading). AppendsFront old now (text_on policy r)) (read_is sig reader c.bytes c.sig_is c.limits_is)
+        subst (λ (r : Reading). AppendsFront old now (text_on policy r))
+        (read_is sig reader c.bytes c.sig_is c.limits_is)
         (front core (progress reader c.bytes) reader driver old now t
         (begins core reader c.bytes driver old now t c.reads c.so_far) policy is)
 
@@ -233,7 +234,8 @@ module _ (core : CoreForm) (sig : List PredOf) where
         k.more k.points (read_never_falls sig standard (bytes ++ piece) false) in
         let all : Appends old now (lines (verdicts (open_log (shown sig standard bytes).points) policy)) =
         subst (λ vs. Appends old now (lines vs)) (policy_verdicts core policy is (shown sig standard bytes).points)
-        (subst (λ b. Appends old now (lines (all_verdicts core (reading sig standard bytes b).points))) untold s.written) in
+        (subst (λ b. Appends old now (lines (all_verdicts core (reading sig standard bytes b).points))) untold
+        s.written) in
         rw text.1 (longer_front old now _ _ (whole_front old now _ all))
 
     -- ---- how it ends
@@ -275,8 +277,8 @@ module _ (core : CoreForm) (sig : List PredOf) where
             taken = c.taken;
             whole = c.whole;
             ends = stops_end reader.is_ended (reading sig standard c.bytes reader.is_ended) before why later
-                (subst (λ (due : Reading). StopsLines policy due e.old.written e.new.written before e.new.faults why) same
-                stops);
+                (subst (λ (due : Reading). StopsLines policy due e.old.written e.new.written before e.new.faults why)
+                same stops);
             front = subst (λ (due : Reading). AppendsFront e.old.written e.new.written (text_on policy due)) same part;
           }
 
@@ -295,7 +297,8 @@ module _ (core : CoreForm) (sig : List PredOf) where
 
       -- no more could be read, or fed
       module _ (mid mid_rest : Option (List ℕ)) (same : e.new.written ≡ mid)
-          (s : Settled e.before.rest mid_rest reader driver e.old.written mid t) (untold : reader.is_ended ≡ false) where
+          (s : Settled e.before.rest mid_rest reader driver e.old.written mid t)
+          (untold : reader.is_ended ≡ false) where
         piece_ends : (piece : List ℕ) (before : ℕ) (why : Stop) → e.before.faults ≤ before
             → IsPieceStop piece before e.after.faults why
             → EndsBy false policy (shown sig standard (s.course.bytes ++ piece)) e (end_of (Err why))

@@ -12,10 +12,12 @@ use Rattle.mfotl_model.specs.Log.{times}
 use Rattle.mfotl_model.specs.Times.{NeverFalls}
 use Rattle.mfotl_model.specs.VerdictText.{verdicts}
 use Rattle.mfotl_model.specs.declared.event.TimePoint.{TimePoint}
+use Rattle.log_reader.specs.Given.{Fails}
 use Rattle.log_reader.specs.Progress.{Progress, answer_by, due, read}
 use Rattle.log_reader.specs.Readers.{Reader, Reads, progress}
 use Rattle.log_reader.specs.Readings.{NoFault, Ending, Fault, Reading}
 use Rattle.log_reader.specs.declared.fault.LogFault.{LogFault}
+use Rattle.log_reader.specs.declared.fault.LogFault.TheVariants as log
 use Rattle.log_reader.specs.declared.next.Next.{Next}
 use Rattle.log_reader.specs.declared.next.Next.TheVariants.{Point, More, End}
 use Rattle.monitorable.proofs.TextFinal.{text_final}
@@ -23,7 +25,7 @@ use Rattle.monitorable.specs.CoreForms.{CoreForm}
 use Rattle.monitorable.specs.Laws.{open_log}
 use Rattle.rescale_core.specs.Workers.{MayFollow}
 use Rattle.rescale_core.specs.declared.turns.Driver.{Driver}
-use Rattle.worker_pool.specs.Pieces.{SoFar, StopsLines, TakesAll}
+use Rattle.worker_pool.specs.Pieces.{SoFar, StopsLines, TakesAll, stop_for}
 use Rattle.worker_pool.specs.Policies.{ForEachPolicy, IsCoreOf}
 use Rattle.worker_pool.specs.Texts.{lines, tally_of, text_on}
 use Rattle.worker_pool.specs.Writing.{Adds, Falls, FallsShort, IsOutputStop, IsOver, Keeps, Writes, all_verdicts}
@@ -270,9 +272,10 @@ module _ (core : CoreForm) (start : Progress) (reader : Reader) (driver : Driver
       (gives_end start.is_ended (drop reader.given (read start).points) (read start).ending (due_is (Ok End) e))
 
   -- the fault stands behind all lines
-  pub stops_by : (fault : LogFault) → due (progress reader start.bytes) ≡ Err fault
+  stops_by : (fault : LogFault) → due (progress reader start.bytes) ≡ Err fault
       → (after : Driver) (new : Option (List ℕ)) (more : Tally) → Keeps driver mid tally after new more → IsOver after
-      → ForEachPolicy core (λ policy. ((read start).ending ≡ Fault fault) × Appends old new (text_on policy (read start)))
+      → ForEachPolicy core (λ policy.
+      ((read start).ending ≡ Fault fault) × Appends old new (text_on policy (read start)))
   unfolding text_on
   stops_by fault e after new more keeps over policy is =
       let g = gives_fault start.is_ended (drop reader.given (read start).points) (read start).ending fault
@@ -282,3 +285,11 @@ module _ (core : CoreForm) (start : Progress) (reader : Reader) (driver : Driver
         subst (λ vs. Appends old new (lines vs)) (policy_verdicts core policy is (read start).points)
             (all_written (Fault fault) g after new more keeps over).0,
       )
+
+  -- the fault stops the lines
+  pub stops_with : (fault : LogFault) (why : Stop) → why ≡ stop_for fault
+      → Fails fault (due (progress reader start.bytes)) → (after : Driver) (new : Option (List ℕ)) (more : Tally) → Keeps driver mid tally after new more → IsOver after
+      → (before now : ℕ) → ForEachPolicy core (λ policy. StopsLines policy (read start) old new before now why)
+  stops_with log.Memory why is e after new more keeps over before now policy core_is = rw is tt
+  stops_with fault why is e after new more keeps over before now policy core_is =
+      rw is (stops_by fault e after new more keeps over policy core_is)

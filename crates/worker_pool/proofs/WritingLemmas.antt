@@ -1,6 +1,7 @@
 -- What main has read and written stays true from turn to turn.
-use Rattle.std.proofs.Common.{◌≡◌, ◌∙◌, ℕ, ◌+◌, ◌≤◌, List, [], ◌∷◌, ◌++◌, map, length, Option, sym, refl, ap, ap₂, subst}
-use Rattle.std.proofs.Common.{append-nil, OnErr, Ok, Err, Bool, true}
+use Rattle.std.proofs.Common.{◌≡◌, ◌∙◌, ℕ, ◌+◌, ◌≤◌, List, [], ◌∷◌, ◌++◌, map, length, Option}
+use Rattle.std.proofs.Common.{sym, refl, ap, ap₂, subst}
+use Rattle.std.proofs.Common.{append-nil, OnOk, OnErr, Ok, Err, Bool, true}
 use Rattle.std.specs.Prelude.{Result}
 use Rattle.std.specs.List.{range_with_len}
 use Rattle.std.proofs.lemmas.Grind.{flat_map-append}
@@ -27,7 +28,7 @@ use Rattle.rescale_core.specs.declared.turns.Driver.{Driver}
 use Rattle.rescale_core.specs.declared.turns.Turn.{Turn}
 use Rattle.verdict_merge.specs.declared.rows.Verdict.{Verdict}
 use Rattle.worker_pool.specs.Texts.{lines, tally_of}
-use Rattle.worker_pool.specs.Writing.{Adds, Begins, Falls, FallsShort, IsOver, Keeps, Runs, RunsTo, Writes}
+use Rattle.worker_pool.specs.Writing.{Adds, Begins, Falls, FallsShort, IsOver, Keeps, ReadsIn, Runs, RunsTo, Writes}
 use Rattle.worker_pool.specs.Writing.{all_verdicts, first_verdicts, seen}
 use Rattle.worker_pool.specs.declared.tally.Tally.{Tally}
 use Rattle.worker_pool.proofs.SinkLemmas.{appends_more, appends_none, front_behind, whole_front}
@@ -35,6 +36,10 @@ use Rattle.worker_pool.proofs.SinkLemmas.{appends_more, appends_none, front_behi
 pub on_err : {T E : Type 0} (r : Result T E) (P : Type 0) → P → OnErr r P
 on_err (Ok x) P p = tt
 on_err (Err e) P p = p
+
+pub on_ok_both : {T E : Type 0} (r : Result T E) (P Q R : Type 0) → (P → Q → R) → OnOk r P → OnOk r Q → OnOk r R
+on_ok_both (Ok x) P Q R f p q = f p q
+on_ok_both (Err e) P Q R f p q = tt
 
 -- ---- one after the other
 
@@ -107,7 +112,7 @@ emitted_next : (w : World) (d : Driver) (v : Verdict) → IsDriverOf d w → Emi
     → EmitsVerdicts (after w (Emit v))
 emitted_next w d v is verdicts may =
     (by_steps (Emits ∷ []) w (after w (Emit v)) is.router.sound verdicts
-    (after w (Emit v), ((v, may, refl), refl))).1
+    (after w (Emit v), (v, may, refl), refl)).1
 
 pub wrote_one : (d e : Driver) (v : Verdict) (a b : Option (List ℕ)) (t u : Tally) → EmitsIn d v e
     → Appends a b (line_of (seen v))
@@ -154,6 +159,12 @@ stops d now t core points start w = record {
       (whole_front start now (lines (map seen w.world.emitted)) w.text);
 }
 
+-- whether it went well or not
+pub falls_either : {T E : Type 0} (r : Result T E) (d e : Driver) (a b : Option (List ℕ)) (t u : Tally)
+    → OnOk r (Keeps d a t e b u) → OnErr r (FallsShort d a t b) → FallsShort d a t b
+falls_either (Ok x) d e a b t u keeps falls = falls_on d e a b b t u keeps (stops e b u)
+falls_either (Err x) d e a b t u keeps falls = falls
+
 -- a line was written in part
 pub cut_short : (d e : Driver) (v : Verdict) (a b : Option (List ℕ)) (t : Tally) → EmitsIn d v e
     → AppendsFront a b (line_of (seen v)) → FallsShort d a t b
@@ -175,9 +186,9 @@ cut_short d e v a b t emits part core points start w =
 -- all verdicts were emitted
 pub is_over : (d : Driver) (b : Bool) → b ≡ true
     → ((w : World) → IsDriverOf d w → b ≡ true → HasEnded w) → IsOver d
-is_over d b yes ended w is verdicts =
+is_over d b told ended w is verdicts =
     emitted_first w.core (spot_in w).points w refl refl verdicts
-    ∙ ap (first_verdicts w.core (spot_in w).points) (world_emitted w is.router.sound verdicts (ended w is yes))
+    ∙ ap (first_verdicts w.core (spot_in w).points) (world_emitted w is.router.sound verdicts (ended w is told))
 
 -- so their lines were written
 pub over_written : (core : CoreForm) (points : List TimePoint) (start now : Option (List ℕ)) (d : Driver) (t : Tally)
@@ -194,12 +205,6 @@ pub may_point : (d e : Driver) (a b : Option (List ℕ)) (t u : Tally) (p : Time
     → RunsTo d a t p → (w : World) × IsDriverOf e w × MayFollow (spot_in w).points p
 may_point d e a b t u p k r =
     let w = k r.0 r.1 r.2 r.3 in (w.world, w.stands, subst (λ ps. MayFollow ps p) (sym w.points_are) r.4)
-
--- from each world in which the time-point may follow, the driver comes to one in which it was read
-abbrev pub ReadsIn : Driver → TimePoint → Driver → Type 0
-ReadsIn d p e =
-    (w : World) → MayFollow (spot_in w).points p → IsDriverOf d w
-    → (x : World) × Reaches w (Reads (Point p) ∷ []) x × IsDriverOf e x
 
 points_after : (w : World) (p : TimePoint) → (spot_in (after w (Read (Point p)))).points ≡ (spot_in w).points ++ p ∷ []
 points_after w p = ap (λ (a : Spot). a.points) (spot_more (first_spot w.first) w.read (Point p ∷ []))

@@ -1,5 +1,6 @@
 -- The hands that a thread or main serves.
-use Rattle.std.specs.Prelude.{◌≡◌, ℕ, List, map, All}
+use Rattle.std.specs.Prelude.{◌≡◌, ℕ, List, Vec, map, All}
+use Rattle.std.specs.Global.{Global}
 use Rattle.turn_hub.specs.Ends.{IsHandOf, hand_cell}
 use Rattle.turn_hub.specs.declared.hub.Hand.{Hand}
 use Rattle.turn_hub.specs.declared.hub.Hub.{Hub}
@@ -17,8 +18,12 @@ abbrev pub WorkerHand : Type 0
 WorkerHand = Hand Worker Item Out Seed
 
 -- each is a hand of the hub
-abbrev pub AreHandsOf : WorkerHub → List WorkerHand → Type 0
+unfoldable pub AreHandsOf : WorkerHub → List WorkerHand → Type 0
 AreHandsOf hub hands = All (λ h. IsHandOf hub h) hands
+
+-- in each group are hands of the hub
+abbrev pub AreGroupsOf : WorkerHub → List (Vec WorkerHand Global) → Type 0
+AreGroupsOf hub groups = All (λ g. AreHandsOf hub g.items) groups
 
 -- the cells that the hands serve
 abbrev pub cells_of : List WorkerHand → List ℕ

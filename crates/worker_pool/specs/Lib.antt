@@ -4,5 +4,7 @@ pub mod Policies
 pub mod Effects
 pub mod Endings
 pub mod Hands
+pub mod Opening
 pub mod Writing
 pub mod Pieces
+pub mod Laws

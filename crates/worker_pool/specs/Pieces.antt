@@ -10,6 +10,8 @@ use Rattle.monitorable.specs.CoreForms.{CoreForm}
 use Rattle.log_reader.specs.Progress.{Progress, read}
 use Rattle.log_reader.specs.Readers.{ForEach, Reader, Reads, progress}
 use Rattle.log_reader.specs.Readings.{Fault, NoFault, Reading}
+use Rattle.log_reader.specs.declared.fault.LogFault.{LogFault}
+use Rattle.log_reader.specs.declared.fault.LogFault.TheVariants as log
 use Rattle.rescale_core.specs.declared.turns.Driver.{Driver}
 use Rattle.worker_pool.specs.Texts.{lines, tally_of, text_on}
 use Rattle.worker_pool.specs.Writing.{IsOutputStop, Writes, all_verdicts}
@@ -27,6 +29,11 @@ end_of (Err (Log fault)) = LogEnds fault
 end_of (Err Read) = ReadFailed
 end_of (Err Sink) = SinkFailed
 end_of (Err Memory) = end.Memory
+
+-- what stops the loop at a fault of the log
+abbrev pub stop_for : LogFault → Stop
+stop_for log.Memory = Memory
+stop_for fault = Log fault
 
 -- ---- the time-points of the bytes so far
 

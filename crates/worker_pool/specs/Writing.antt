@@ -8,9 +8,12 @@ use Rattle.mfotl_model.specs.VerdictText.{VerdictOf}
 use Rattle.mfotl_model.specs.declared.event.TimePoint.{TimePoint}
 use Rattle.monitorable.specs.CoreForms.{CoreForm}
 use Rattle.rescale_core.specs.Laws.{EmitsVerdicts}
-use Rattle.rescale_core.specs.Moving.{IsDriverOf}
+use Rattle.rescale_core.specs.Moving.{IsDriverOf, Reaches}
+use Rattle.rescale_core.specs.Moving.Kind.{Reads}
+use Rattle.rescale_core.specs.Waiting.{HasRoom}
 use Rattle.rescale_core.specs.Workers.{MayFollow, settled_in}
 use Rattle.rescale_core.specs.Worlds.{World, first_world, spot_in, verdict_on}
+use Rattle.rescale_core.specs.declared.item.Entry.TheVariants.{Point}
 use Rattle.rescale_core.specs.declared.turns.Driver.{Driver}
 use Rattle.verdict_merge.specs.declared.rows.Verdict.{Verdict}
 use Rattle.worker_pool.specs.Texts.{lines, tally_of}
@@ -50,7 +53,8 @@ pub record Begins (core : CoreForm) (driver : Driver) : Type 0 where
 -- some world and start are so
 abbrev pub Runs : Driver → Option (List ℕ) → Tally → Type 0
 Runs driver now tally =
-    (core : CoreForm) × (points : List TimePoint) × (start : Option (List ℕ)) × Writes core points start driver now tally
+    (core : CoreForm) × (points : List TimePoint) × (start : Option (List ℕ))
+    × Writes core points start driver now tally
 
 -- the same, and this time-point may come next
 abbrev pub RunsTo : Driver → Option (List ℕ) → Tally → TimePoint → Type 0
@@ -81,6 +85,16 @@ abbrev pub FallsShort : Driver → Option (List ℕ) → Tally → Option (List 
 FallsShort d now t then =
     (core : CoreForm) (points : List TimePoint) (start : Option (List ℕ)) → Writes core points start d now t
     → Falls core points start then
+
+-- so few items wait for each worker that one more may be read
+abbrev pub IsRoomy : Driver → Type 0
+IsRoomy d = (w : World) → IsDriverOf d w → HasRoom w
+
+-- from each world in which the time-point may follow, the driver comes to one in which it was read
+abbrev pub ReadsIn : Driver → TimePoint → Driver → Type 0
+ReadsIn d p e =
+    (w : World) → MayFollow (spot_in w).points p → IsDriverOf d w
+    → (x : World) × Reaches w (Reads (Point p) ∷ []) x × IsDriverOf e x
 
 -- all verdicts on what was read were emitted
 abbrev pub IsOver : Driver → Type 0

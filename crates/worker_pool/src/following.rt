@@ -9,8 +9,8 @@ ghost use Rattle.worker_pool.specs.Endings.{FollowsLog};
 ghost use Rattle.worker_pool.specs.Hands.{AreHandsOf};
 ghost use Rattle.worker_pool.specs.Pieces.{ReadsPiece, end_of};
 ghost use Rattle.worker_pool.specs.Policies.{ForEachPolicy};
-ghost use Rattle.worker_pool.specs.Texts.{standard, tally_of};
-ghost use Rattle.worker_pool.specs.Writing.{Begins, IsOver};
+ghost use Rattle.worker_pool.specs.Texts.{standard};
+ghost use Rattle.worker_pool.specs.Writing.{Begins};
 
 use crate::hands::WorkerHand;
 use crate::page::Page;
@@ -19,7 +19,7 @@ use crate::shop::Shop;
 use crate::stop::Stop;
 use crate::tally::Tally;
 use log_reader::LogReader;
-use mon_outside::{Gate, Inputs, Sink};
+use mon_outside::{Failed, Gate, Inputs, Sink};
 use rescale_core::Driver;
 use std::alloc::Global;
 use std::sync::Wait;
@@ -88,15 +88,22 @@ pub(crate) fn follow<R: Wait, I: Inputs, O: Sink, G: Gate>(
         (end_of result)) }
 {
     let mut page = Page::blank(shop.alloc);
-    for _ in shop.rt.forever() {
-        route_complete(shop, own, driver, &mut page, reader, out)?;
+    'pieces: for _ in shop.rt.forever() {
+        match route_complete(shop, own, driver, &mut page, reader, out) {
+            Ok(()) => {}
+            Err(stop) => return Err(stop),
+        }
         if reader.is_finished() {
             return Ok(page.tally);
         }
-        if out.flush().is_err() {
-            return Err(Stop::Sink);
+        match out.flush() {
+            Ok(()) => {}
+            Err(Failed) => return Err(Stop::Sink),
         }
-        read_piece(shop.alloc, inputs, buffer, reader, out)?;
+        match read_piece(shop.alloc, inputs, buffer, reader, out) {
+            Ok(()) => {}
+            Err(stop) => return Err(stop),
+        }
     }
     unreachable!()
 }

@@ -3,7 +3,7 @@ use rescale_core::Worker;
 use turn_hub::{Hand, Hub};
 
 /// A hub whose works are workers.
-pub(crate) type WorkerHub = Hub<Worker>;
+pub type WorkerHub = Hub<Worker>;
 
 /// A hand of such a hub.
-pub(crate) type WorkerHand = Hand<Worker>;
+pub type WorkerHand = Hand<Worker>;

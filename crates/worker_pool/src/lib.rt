@@ -1,10 +1,17 @@
 //! Monitors a log with a pool of threads: the layer above opens the log and says what the end means.
 #![tactic(auto)]
 
+mod bell;
+mod bells;
+mod crew;
+mod dealing;
 mod end;
+mod errand;
 mod following;
 mod hands;
+pub mod laws;
 mod monitoring;
+mod opening;
 mod page;
 mod plan;
 mod pump;

@@ -44,7 +44,8 @@ impl Page {
         ensures ok { OnOk result (Appends (O.written out.old) (O.written out.new) (line_of (seen verdict.now))) }
         ensures counts { OnOk result ((verdicts : List VerdictOf) → self.old.tally ≡ tally_of verdicts
             → self.new.tally ≡ tally_of (verdicts ++ seen verdict.now ∷ [])) }
-        ensures front { OnErr result (AppendsFront (O.written out.old) (O.written out.new) (line_of (seen verdict.now))) }
+        ensures front { OnErr result (AppendsFront (O.written out.old) (O.written out.new)
+            (line_of (seen verdict.now))) }
         ensures stop { IfErr result (λ stop. IsOutputStop (O.faults out.old) (O.faults out.new) stop) }
         ensures later { O.faults out.old ≤ O.faults out.new }
     {

@@ -1,8 +1,12 @@
 //! Main's turns: what is ready is handed over, collected and written.
 ghost use Rattle.std.specs.Prelude.{◌≡◌, ◌≤◌, IfErr, OnOk, OnErr};
+ghost use Rattle.rescale_core.specs.Moving.{IsDriverOf};
+ghost use Rattle.rescale_core.specs.Workers.{MayFollow};
+ghost use Rattle.rescale_core.specs.Worlds.{World, spot_in};
 ghost use Rattle.turn_hub.specs.Ends.{IsMainOf, cell_count};
 ghost use Rattle.worker_pool.specs.Hands.{AreHandsOf};
-ghost use Rattle.worker_pool.specs.Writing.{Adds, FallsShort, IsOutputStop, IsOver, Keeps, Runs, RunsTo};
+ghost use Rattle.worker_pool.specs.Writing.{Adds, FallsShort, IsOutputStop, IsOver, IsRoomy, Keeps};
+ghost use Rattle.worker_pool.specs.Writing.{ReadsIn, Runs, RunsTo};
 
 use crate::hands::WorkerHand;
 use crate::page::Page;
@@ -14,7 +18,6 @@ use mon_outside::{Gate, Sink};
 use rescale_core::{Driver, Turn};
 use std::alloc::{AllocError, Global};
 use std::sync::Wait;
-use std::thread;
 
 // Writes the line of each verdict that is ready.
 fn write_ready<R: Wait, O: Sink>(
@@ -42,13 +45,13 @@ fn write_ready<R: Wait, O: Sink>(
     unreachable!()
 }
 
-// Collects from each worker what it gave, and hands over what is ready for it.
+// Collects from each worker what it gave, and hands over what is ready for it. Answers whether there was any of it.
 fn turn_all<R, G, O: Sink>(
     shop: &Shop<'_, R, G>,
     driver: &mut Driver,
     page: &Page,
     out: &O,
-) -> Result<(), AllocError>
+) -> Result<bool, AllocError>
     requires runs { Runs driver.old (O.written out.now) page.now.tally }
     requires main { IsMainOf shop.now.hub.now driver.old.main }
     requires cells { shop.now.cells ≤ cell_count shop.now.hub.now }
@@ -56,23 +59,32 @@ fn turn_all<R, G, O: Sink>(
     ensures ok { OnOk result (Keeps driver.old (O.written out.now) page.now.tally
         driver.new (O.written out.now) page.now.tally) }
 {
+    let mut busy = false;
     for k in 0..shop.cells {
         let turn = driver.turn(shop.alloc, shop.hub, k)?;
-        if let Turn::Broken = turn {
-            return Err(AllocError);
+        match turn {
+            Turn::NotYet => {}
+            Turn::Broken => return Err(AllocError),
+            Turn::Moved(given, handed) => {
+                busy |= given != 0 || handed != 0;
+                if handed != 0 {
+                    shop.bells.ring(k);
+                }
+            }
         }
     }
-    Ok(())
+    Ok(busy)
 }
 
-// One turn of main's loop: each worker, main's own hands, and the lines that are ready.
+// One turn of main's loop: each worker, main's own hands, and the lines that are ready. Answers whether there was
+// something to do.
 fn round<R: Wait, O: Sink, G: Gate>(
     shop: &Shop<'_, R, G>,
     own: &mut Vec<WorkerHand>,
     driver: &mut Driver,
     page: &mut Page,
     out: &mut O,
-) -> Result<(), Stop>
+) -> Result<bool, Stop>
     requires runs { Runs driver.old (O.written out.old) page.old.tally }
     requires main { IsMainOf shop.now.hub.now driver.old.main }
     requires cells { shop.now.cells ≤ cell_count shop.now.hub.now }
@@ -85,9 +97,10 @@ fn round<R: Wait, O: Sink, G: Gate>(
     ensures stop { IfErr result (λ stop. IsOutputStop (O.faults out.old) (O.faults out.new) stop) }
     ensures later { O.faults out.old ≤ O.faults out.new }
 {
-    turn_all(shop, driver, page, out)?;
-    serve_each(shop.alloc, shop.hub, own, shop.gate);
-    write_ready(shop.rt, shop.alloc, driver, page, out)
+    let turned = turn_all(shop, driver, page, out)?;
+    let served = serve_each(shop.alloc, shop.hub, own, shop.gate);
+    write_ready(shop.rt, shop.alloc, driver, page, out)?;
+    Ok(turned || served)
 }
 
 /// Goes on until the lines of all settled positions are written.
@@ -111,28 +124,26 @@ pub(crate) fn drain<R: Wait, O: Sink, G: Gate>(
     ensures stop { IfErr result (λ stop. IsOutputStop (O.faults out.old) (O.faults out.new) stop) }
     ensures later { O.faults out.old ≤ O.faults out.new }
 {
+    let mut idle = 0u64;
     for _ in shop.rt.forever() {
-        round(shop, own, driver, page, out)?;
+        let heard = shop.bells.main.rings();
+        let busy = round(shop, own, driver, page, out)?;
         if driver.ended() {
             return Ok(());
         }
-        thread::yield_now();
+        idle = shop.rest(busy, heard, idle);
     }
     unreachable!()
 }
 
-// Whether each worker's queue has room.
-fn has_room(_driver: &Driver) -> bool {
-    true
-}
-
-// Goes on until each worker's queue has room for an item.
+// Goes on until each worker's queue has room for an item, at least for one turn where `turns` is told.
 fn make_room<R: Wait, O: Sink, G: Gate>(
     shop: &Shop<'_, R, G>,
     own: &mut Vec<WorkerHand>,
     driver: &mut Driver,
     page: &mut Page,
     out: &mut O,
+    mut turns: bool,
 ) -> Result<(), Stop>
     requires runs { Runs driver.old (O.written out.old) page.old.tally }
     requires main { IsMainOf shop.now.hub.now driver.old.main }
@@ -140,24 +151,37 @@ fn make_room<R: Wait, O: Sink, G: Gate>(
     requires hands { AreHandsOf shop.now.hub.now own.old.items }
     ensures hands { AreHandsOf shop.now.hub.now own.new.items }
     ensures main { OnOk result (IsMainOf shop.now.hub.now driver.new.main) }
+    ensures room { OnOk result (IsRoomy driver.new) }
     ensures ok { OnOk result (Keeps driver.old (O.written out.old) page.old.tally
         driver.new (O.written out.new) page.new.tally) }
     ensures err { OnErr result (FallsShort driver.old (O.written out.old) page.old.tally (O.written out.new)) }
     ensures stop { IfErr result (λ stop. IsOutputStop (O.faults out.old) (O.faults out.new) stop) }
     ensures later { O.faults out.old ≤ O.faults out.new }
 {
+    let mut idle = 0u64;
     for _ in shop.rt.forever() {
-        if has_room(driver) {
+        if !turns && driver.has_room() {
             return Ok(());
         }
-        round(shop, own, driver, page, out)?;
-        thread::yield_now();
+        let heard = shop.bells.main.rings();
+        let busy = round(shop, own, driver, page, out)?;
+        idle = shop.rest(busy, heard, idle);
+        turns = false;
     }
     unreachable!()
 }
 
-/// Reads a time-point, once there is room for it. At a time-point for which `turns` is told there is a turn of the loop
-/// before.
+// Reads a time-point. There is room for it.
+fn admit(alloc: Global, driver: &mut Driver, point: TimePoint) -> Result<(), AllocError>
+    requires room { IsRoomy driver.old }
+    requires may { (w : World) × IsDriverOf driver.old w × MayFollow (spot_in w).points point }
+    ensures reads { OnOk result (ReadsIn driver.old point driver.new) }
+    ensures main { OnOk result (driver.new.main ≡ driver.old.main) }
+{
+    driver.read_point(alloc, point)
+}
+
+/// Reads a time-point, once there is room for it; where `turns` is told, behind a turn of the loop.
 pub(crate) fn route<R: Wait, O: Sink, G: Gate>(
     shop: &Shop<'_, R, G>,
     own: &mut Vec<WorkerHand>,
@@ -179,10 +203,7 @@ pub(crate) fn route<R: Wait, O: Sink, G: Gate>(
     ensures stop { IfErr result (λ stop. IsOutputStop (O.faults out.old) (O.faults out.new) stop) }
     ensures later { O.faults out.old ≤ O.faults out.new }
 {
-    if turns {
-        round(shop, own, driver, page, out)?;
-    }
-    make_room(shop, own, driver, page, out)?;
-    driver.read_point(shop.alloc, point)?;
+    make_room(shop, own, driver, page, out, turns)?;
+    admit(shop.alloc, driver, point)?;
     Ok(())
 }

@@ -14,7 +14,7 @@ use crate::page::Page;
 use crate::pump::{drain, route};
 use crate::shop::Shop;
 use crate::stop::Stop;
-use log_reader::{LogFault, LogReader, Next};
+use log_reader::{LogReader, Next};
 use mon_outside::{Gate, Sink};
 use rescale_core::Driver;
 use std::sync::Wait;
@@ -52,7 +52,7 @@ pub(crate) fn route_complete<R: Wait, O: Sink, G: Gate>(
     ensures later { O.faults out.old ≤ O.faults out.new }
 {
     let mut number = 0u64;
-    for _ in shop.rt.forever() {
+    'points: for _ in shop.rt.forever() {
         match reader.next(shop.alloc) {
             Ok(Next::Point(point)) => {
                 number = number.wrapping_add(1);
@@ -60,10 +60,9 @@ pub(crate) fn route_complete<R: Wait, O: Sink, G: Gate>(
             }
             Ok(Next::More) => return drain(shop, own, driver, page, out),
             Ok(Next::End) => return drain(shop, own, driver, page, out),
-            Err(LogFault::Memory) => return Err(Stop::Memory),
             Err(fault) => {
                 drain(shop, own, driver, page, out)?;
-                return Err(Stop::Log(fault));
+                return Err(Stop::from(fault));
             }
         }
     }

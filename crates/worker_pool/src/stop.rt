@@ -25,3 +25,17 @@ impl From<AllocError> for Stop {
         Stop::Memory
     }
 }
+
+impl From<LogFault> for Stop {
+    ghost use Rattle.std.specs.Prelude.{◌≡◌};
+    ghost use Rattle.worker_pool.specs.Pieces.{stop_for};
+
+    ghost from_gives = { λ fault stop. stop ≡ stop_for fault };
+
+    fn from(fault: LogFault) -> Self {
+        match fault {
+            LogFault::Memory => Stop::Memory,
+            fault => Stop::Log(fault),
+        }
+    }
+}

@@ -6,8 +6,8 @@ use Rattle.worker_pool.specs.Writing.{Begins}
 use Rattle.worker_pool.proofs.PieceLemmas.{Course}
 use Rattle.worker_pool.proofs.following.follow.Given as goal
 
-abbrev pub invariant-loop : goal.invariant-loop
-invariant-loop g l = record {
+abbrev pub invariant-pieces : goal.invariant-pieces
+invariant-pieces g l = record {
   works : l.reader.is_broken ≡ false;
   main : IsMainOf l.shop.hub.now l.driver.main;
   hands : AreHandsOf l.shop.hub.now l.own.items;
@@ -19,6 +19,6 @@ invariant-loop g l = record {
   course : (core : CoreForm) → Begins core l.fn.driver → Course core l.fn.reader.sig
       (g.I.Inputs.rest l.fn.inputs) (g.I.Inputs.rest l.inputs) l.reader l.driver (g.O.Sink.written l.fn.out)
       (g.O.Sink.written l.out) l.page.tally;
-  can : (goal.iterator-loop g).can_next l.iterator';
-  finite : (goal.iterator-loop g).is_finite l.iterator';
+  can : (goal.iterator-pieces g).can_next l.iterator';
+  finite : (goal.iterator-pieces g).is_finite l.iterator';
 }

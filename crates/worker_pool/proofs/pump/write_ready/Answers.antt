@@ -2,7 +2,8 @@ use Rattle.std.proofs.Common.{◌≤◌, IfSome, IfNone, Option, length, subst, 
 use Rattle.rescale_core.specs.Moving.{IsDriverOf}
 use Rattle.rescale_core.specs.Worlds.{World, IsGathered}
 use Rattle.verdict_merge.specs.declared.rows.Verdict.{Verdict}
-use Rattle.worker_pool.proofs.WritingLemmas.{EmitsIn, cut_short, falls_on, keeps_on, on_err, same_keeps, stops, wrote_one}
+use Rattle.worker_pool.proofs.WritingLemmas.{EmitsIn, cut_short, falls_on, keeps_on, on_err, same_keeps, stops}
+use Rattle.worker_pool.proofs.WritingLemmas.{wrote_one}
 use Rattle.worker_pool.proofs.pump.write_ready.Goals as goal
 
 pub returns-in_err-ready-clause-err : goal.returns-in_err-ready-clause-err

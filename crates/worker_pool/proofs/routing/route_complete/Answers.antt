@@ -2,11 +2,12 @@ use Rattle.std.proofs.Common.{◌≡◌, ◌∙◌, ◌+◌, ◌≤◌, ◌<◌,
 use Rattle.log_reader.specs.Progress.{read}
 use Rattle.log_reader.specs.Readers.{Reader, progress}
 use Rattle.worker_pool.proofs.PointLemmas.{begins, ends_end, ends_more, follows, front, goes_on, one_more_given}
-use Rattle.worker_pool.proofs.PointLemmas.{output_stops, short, stops_by}
+use Rattle.worker_pool.proofs.PointLemmas.{short, stops_with}
+use Rattle.worker_pool.proofs.WritingLemmas.{falls_either, on_ok_both}
 use Rattle.worker_pool.proofs.routing.route_complete.Goals as goal
 
-pub loop-init : goal.loop-init
-loop-init g c = record {
+pub points-init : goal.points-init
+points-init g c = record {
   works = c.requires.works;
   reader = refl;
   later = omega arith;
@@ -22,46 +23,143 @@ loop-init g c = record {
 pub route-requires-clause-runs : goal.route-requires-clause-runs
 route-requires-clause-runs g c =
     let under = c.requires.under_way in
-    let here = c.loop.invariant.so_far under.core under.bytes under.start under.reads under.so_far in
+    let here = c.points.invariant.so_far under.core under.bytes under.start under.reads under.so_far in
     let gives = rw c.in-Ok-Point.field-0-is at (c.in-Ok-Point.ensures.answer under.bytes here.reads) in
     let after = rw c.in-Ok-Point.field-0-is at c.in-Ok-Point.ensures.after in
-    let given : c.next.new.self.given ≡ c.loop.reader.given + 1 = ap (λ (r : Reader). r.given) after in
-    let limits : c.next.new.self.limits.points ≡ c.args.reader.now.limits.points =
-    ap (λ (r : Reader). r.limits.points) after ∙ ap (λ (r : Reader). r.limits.points) c.loop.invariant.reader in
-    let few : c.next.new.self.given ≤ c.next.new.self.limits.points = c.in-Ok-Point.ensures.few in
+    let given : c.next-in-points.new.self.given ≡ c.points.reader.given + 1 = ap (λ (r : Reader). r.given) after in
+    let limits : c.next-in-points.new.self.limits.points ≡ c.args.reader.now.limits.points =
+    ap (λ (r : Reader). r.limits.points) after ∙ ap (λ (r : Reader). r.limits.points) c.points.invariant.reader in
+    let few : c.next-in-points.new.self.given ≤ c.next-in-points.new.self.limits.points = c.in-Ok-Point.ensures.few in
     let small : c.args.reader.now.limits.points < 2 ^ 63 = c.requires.few in
-    let room : c.loop.reader.given < 2 ^ 63 = omega (arith, given, limits, few, small) in
+    let room : c.points.reader.given < 2 ^ 63 = omega (arith, given, limits, few, small) in
     (
       under.core,
-      take c.loop.reader.given (read (progress c.args.reader.now under.bytes)).points,
+      take c.points.reader.given (read (progress c.args.reader.now under.bytes)).points,
       under.start,
       here.writes,
       follows _ _ _ _ _ _ _ here c.in-Ok-Point.point gives room,
     )
 
-pub loop-preserved : goal.loop-preserved
-loop-preserved g c =
+pub returns-in_err-route-in-Ok-Point-clause-front : goal.returns-in_err-route-in-Ok-Point-clause-front
+returns-in_err-route-in-Ok-Point-clause-front g c core bytes start reads so_far =
+    short _ _ _ _ _ _ _ (c.points.invariant.so_far core bytes start reads so_far) (g.O.Sink.written c.route.new.out)
+    c.in_err-route-in-Ok-Point.ensures.err
+
+pub drain-requires-clause-runs : goal.drain-requires-clause-runs
+drain-requires-clause-runs g c =
+    let under = c.requires.under_way in
+    let here = c.points.invariant.so_far under.core under.bytes under.start under.reads under.so_far in
+    (
+      under.core,
+      take c.points.reader.given (read (progress c.args.reader.now under.bytes)).points,
+      under.start,
+      here.writes,
+    )
+
+pub returns-in-Ok-More-clause-ok : goal.returns-in-Ok-More-clause-ok
+returns-in-Ok-More-clause-ok g c =
+    on_ok_both c.drain.result _ _ _
+    (λ keeps over core bytes start reads so_far.
+    let here = c.points.invariant.so_far core bytes start reads so_far in
+    ends_more _ _ _ _ _ _ _ here c.next-in-points.new.self (rw c.in-Ok-More.field-0-is at c.in-Ok-More.ensures.after)
+    (c.in-Ok-More.ensures.reads bytes here.reads)
+    (rw c.in-Ok-More.field-0-is at (c.in-Ok-More.ensures.answer bytes here.reads))
+    c.drain.new.driver (g.O.Sink.written c.drain.new.out) c.drain.new.page.tally keeps over)
+    c.drain.ensures.ok c.drain.ensures.over
+
+pub returns-in-Ok-More-clause-front : goal.returns-in-Ok-More-clause-front
+returns-in-Ok-More-clause-front g c core bytes start reads so_far =
+    short _ _ _ _ _ _ _ (c.points.invariant.so_far core bytes start reads so_far) (g.O.Sink.written c.drain.new.out)
+    (falls_either c.drain.result c.points.driver c.drain.new.driver (g.O.Sink.written c.points.out)
+    (g.O.Sink.written c.drain.new.out) c.points.page.tally c.drain.new.page.tally c.drain.ensures.ok
+    c.drain.ensures.err)
+
+pub drain-requires-in-Ok-End-clause-runs : goal.drain-requires-in-Ok-End-clause-runs
+drain-requires-in-Ok-End-clause-runs g c =
+    let under = c.requires.under_way in
+    let here = c.points.invariant.so_far under.core under.bytes under.start under.reads under.so_far in
+    (
+      under.core,
+      take c.points.reader.given (read (progress c.args.reader.now under.bytes)).points,
+      under.start,
+      here.writes,
+    )
+
+pub returns-in-Ok-End-clause-ok : goal.returns-in-Ok-End-clause-ok
+returns-in-Ok-End-clause-ok g c =
+    on_ok_both c.drain-in-Ok-End.result _ _ _
+    (λ keeps over core bytes start reads so_far.
+    let here = c.points.invariant.so_far core bytes start reads so_far in
+    ends_end _ _ _ _ _ _ _ here c.next-in-points.new.self (rw c.in-Ok-End.field-0-is at c.in-Ok-End.ensures.after)
+    (c.in-Ok-End.ensures.reads bytes here.reads)
+    (rw c.in-Ok-End.field-0-is at (c.in-Ok-End.ensures.answer bytes here.reads))
+    c.drain-in-Ok-End.new.driver (g.O.Sink.written c.drain-in-Ok-End.new.out) c.drain-in-Ok-End.new.page.tally keeps
+    over)
+    c.drain-in-Ok-End.ensures.ok c.drain-in-Ok-End.ensures.over
+
+pub returns-in-Ok-End-clause-front : goal.returns-in-Ok-End-clause-front
+returns-in-Ok-End-clause-front g c core bytes start reads so_far =
+    short _ _ _ _ _ _ _ (c.points.invariant.so_far core bytes start reads so_far)
+    (g.O.Sink.written c.drain-in-Ok-End.new.out)
+    (falls_either c.drain-in-Ok-End.result c.points.driver c.drain-in-Ok-End.new.driver
+    (g.O.Sink.written c.points.out) (g.O.Sink.written c.drain-in-Ok-End.new.out) c.points.page.tally
+    c.drain-in-Ok-End.new.page.tally c.drain-in-Ok-End.ensures.ok c.drain-in-Ok-End.ensures.err)
+
+pub points-preserved : goal.points-preserved
+points-preserved g c =
     let after = rw c.in-Ok-Point.field-0-is at c.in-Ok-Point.ensures.after in
     let reads_on = c.in-Ok-Point.ensures.reads in
-    let given : c.next.new.self.given ≡ c.loop.reader.given + 1 = ap (λ (r : Reader). r.given) after in
-    let limits : c.next.new.self.limits.points ≡ c.args.reader.now.limits.points =
-    ap (λ (r : Reader). r.limits.points) after ∙ ap (λ (r : Reader). r.limits.points) c.loop.invariant.reader in
-    let few : c.next.new.self.given ≤ c.next.new.self.limits.points = c.in-Ok-Point.ensures.few in
+    let given : c.next-in-points.new.self.given ≡ c.points.reader.given + 1 = ap (λ (r : Reader). r.given) after in
+    let limits : c.next-in-points.new.self.limits.points ≡ c.args.reader.now.limits.points =
+    ap (λ (r : Reader). r.limits.points) after ∙ ap (λ (r : Reader). r.limits.points) c.points.invariant.reader in
+    let few : c.next-in-points.new.self.given ≤ c.next-in-points.new.self.limits.points = c.in-Ok-Point.ensures.few in
     let small : c.args.reader.now.limits.points < 2 ^ 63 = c.requires.few in
-    let room : c.loop.reader.given < 2 ^ 63 = omega (arith, given, limits, few, small) in
+    let room : c.points.reader.given < 2 ^ 63 = omega (arith, given, limits, few, small) in
     record {
-      works = ap (λ (r : Reader). r.is_broken) after ∙ c.loop.invariant.works;
-      reader = one_more_given c.args.reader.now c.loop.reader c.next.new.self c.loop.invariant.reader after;
-      later = omega (arith, c.loop.invariant.later, c.route.ensures.later);
+      works = ap (λ (r : Reader). r.is_broken) after ∙ c.points.invariant.works;
+      reader = one_more_given c.args.reader.now c.points.reader c.next-in-points.new.self c.points.invariant.reader
+          after;
+      later = omega (arith, c.points.invariant.later, c.route.ensures.later);
       main = c.in_ok-route-in-Ok-Point.ensures.main;
       hands = c.route.ensures.hands;
       so_far = λ core bytes start reads so_far.
-          let here = c.loop.invariant.so_far core bytes start reads so_far in
+          let here = c.points.invariant.so_far core bytes start reads so_far in
           let gives = rw c.in-Ok-Point.field-0-is at (c.in-Ok-Point.ensures.answer bytes here.reads) in
-          goes_on core (progress c.args.reader.now bytes) c.loop.reader c.loop.driver start
-          (g.O.Sink.written c.loop.out) c.loop.page.tally here c.in-Ok-Point.point gives c.next.new.self after
-          (reads_on bytes here.reads) room c.route.new.driver (g.O.Sink.written c.route.new.out)
+          goes_on core (progress c.args.reader.now bytes) c.points.reader c.points.driver start
+          (g.O.Sink.written c.points.out) c.points.page.tally here c.in-Ok-Point.point gives c.next-in-points.new.self
+          after (reads_on bytes here.reads) room c.route.new.driver (g.O.Sink.written c.route.new.out)
           c.route.new.page.tally c.in_ok-route-in-Ok-Point.ensures.ok;
       can = tt;
       finite = tt;
     }
+
+pub returns-in-Err-clause-stops : goal.returns-in-Err-clause-stops
+returns-in-Err-clause-stops g c core bytes start reads so_far =
+    let here = c.points.invariant.so_far core bytes start reads so_far in
+    stops_with _ _ _ _ _ _ _ here c.in-Err.fault _ c.from.ensures (c.in-Err.ensures.answer bytes here.reads)
+    c.drain-in-Err.new.driver (g.O.Sink.written c.drain-in-Err.new.out) c.drain-in-Err.new.page.tally
+    c.in_ok-drain-in-Err.ensures.ok c.in_ok-drain-in-Err.ensures.over _ _
+
+pub drain-requires-in-Err-clause-runs : goal.drain-requires-in-Err-clause-runs
+drain-requires-in-Err-clause-runs g c =
+    let under = c.requires.under_way in
+    let here = c.points.invariant.so_far under.core under.bytes under.start under.reads under.so_far in
+    (
+      under.core,
+      take c.points.reader.given (read (progress c.args.reader.now under.bytes)).points,
+      under.start,
+      here.writes,
+    )
+
+pub returns-in_err-drain-in-Err-clause-front : goal.returns-in_err-drain-in-Err-clause-front
+returns-in_err-drain-in-Err-clause-front g c core bytes start reads so_far =
+    short _ _ _ _ _ _ _ (c.points.invariant.so_far core bytes start reads so_far)
+    (g.O.Sink.written c.drain-in-Err.new.out) c.in_err-drain-in-Err.ensures.err
+
+pub returns-in-Err-clause-front : goal.returns-in-Err-clause-front
+returns-in-Err-clause-front g c core bytes start reads so_far =
+    short _ _ _ _ _ _ _ (c.points.invariant.so_far core bytes start reads so_far)
+    (g.O.Sink.written c.drain-in-Err.new.out)
+    (falls_either c.drain-in-Err.result c.points.driver c.drain-in-Err.new.driver
+    (g.O.Sink.written c.points.out) (g.O.Sink.written c.drain-in-Err.new.out) c.points.page.tally
+    c.drain-in-Err.new.page.tally c.drain-in-Err.ensures.ok c.drain-in-Err.ensures.err)

@@ -6,8 +6,8 @@ use Rattle.worker_pool.specs.Pieces.{ForEachRun}
 use Rattle.worker_pool.proofs.PointLemmas.{Takes}
 use Rattle.worker_pool.proofs.routing.route_complete.Given as goal
 
-abbrev pub invariant-loop : goal.invariant-loop
-invariant-loop g l = record {
+abbrev pub invariant-points : goal.invariant-points
+invariant-points g l = record {
   works : l.reader.is_broken ≡ false;
   reader : l.reader ≡ record l.fn.reader { given = l.reader.given; kept = l.reader.kept };
   later : g.O.Sink.faults l.fn.out ≤ g.O.Sink.faults l.out;
@@ -16,6 +16,6 @@ invariant-loop g l = record {
   so_far : ForEachRun l.fn.reader l.fn.driver (g.O.Sink.written l.fn.out) l.fn.page.tally
       (λ core bytes start. Takes core (progress l.fn.reader bytes) l.reader l.driver start (g.O.Sink.written l.out)
       l.page.tally);
-  can : (goal.iterator-loop g).can_next l.iterator';
-  finite : (goal.iterator-loop g).is_finite l.iterator';
+  can : (goal.iterator-points g).can_next l.iterator';
+  finite : (goal.iterator-points g).is_finite l.iterator';
 }

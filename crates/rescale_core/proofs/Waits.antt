@@ -1,0 +1,185 @@
+-- How much waits for a worker, in its queue and in worlds.
+use Rattle.std.proofs.Common.{◌≡◌, ℕ, zero, suc, ◌+◌, ◌<◌, ◌≤◌, Bool, true, false, cond, ◌&&◌, nat_eq, nat_lt, List, []}
+use Rattle.std.proofs.Common.{◌∷◌, ◌++◌, length, map, drop, sym, refl, ap, ◌∙◌, subst, append-nil, arith, eq-eqb}
+use Rattle.std.proofs.Common.{eqb-true, length-append, lt-ltb, ltb-true, sum_by}
+use Rattle.std.proofs.lemmas.List.{drop-append-le, length-map}
+use Rattle.std.proofs.lemmas.List.Sums.{sum_by-append, sum_by-cons}
+use Rattle.std.specs.List.{list_all, range_with_len}
+use Rattle.mfotl_model.specs.Strategies.{workers_of}
+use Rattle.rescale_core.proofs.CellLemmas.{OnlySlices, line_only}
+use Rattle.rescale_core.proofs.Ending.{drop_only}
+use Rattle.rescale_core.proofs.Fitting.{and_left, and_right}
+use Rattle.rescale_core.proofs.WorldLemmas.{if_either, line_more, supplies_length}
+use Rattle.rescale_core.specs.Chances.Chance.{Sure}
+use Rattle.rescale_core.specs.Lines.{Due, Spot, Turn, first_spot, if_below, line, place, turn_at}
+use Rattle.rescale_core.specs.Lines.Due.{Slicing, Parting, Hole}
+use Rattle.rescale_core.specs.Queues.{length_of, queue_at, waiting}
+use Rattle.rescale_core.specs.Routing.{IsRouterOf}
+use Rattle.rescale_core.specs.Soundly.{IsSound}
+use Rattle.rescale_core.specs.Waiting.{HasRoom, added, full, is_short, waiting_in, weight}
+use Rattle.rescale_core.specs.Worlds.{World, Allowed, Move, Seat, after, all_collected, chance, fed_more, line_in}
+use Rattle.rescale_core.specs.Worlds.{queue_in, spot_in, took_one}
+use Rattle.rescale_core.specs.Worlds.Move.{Read, Feed, Take, Collect, Emit}
+use Rattle.rescale_core.specs.declared.item.Entry.{Entry}
+use Rattle.rescale_core.specs.declared.item.Entry.TheVariants.{Point, Change}
+use Rattle.rescale_core.specs.declared.item.Item.{Item}
+use Rattle.rescale_core.specs.declared.queue.Queue.{Queue}
+use Rattle.rescale_core.specs.declared.routes.Router.{Router}
+
+-- ---- queues
+
+one_more : (n : ℕ) → 1 + n ≡ suc n
+one_more n = omega arith
+
+slices_weigh : (ds : List Due) → OnlySlices ds → sum_by weight ds ≡ length ds
+slices_weigh [] o = refl
+slices_weigh (Slicing g s log p ∷ ds) o =
+    sum_by-cons weight (Slicing g s log p) ds ∙ ap (λ n. 1 + n) (slices_weigh ds o) ∙ one_more (length ds)
+slices_weigh (Parting t ∷ ds) o = absurd o
+slices_weigh (Hole t j ∷ ds) o = absurd o
+
+-- what stands in worker k's queue is what waits for it
+pub queue_waits : (r : Router) (w : World) → IsRouterOf r w → (k : ℕ)
+    → length (queue_at r.queues.items k) ≡ waiting_in w k
+queue_waits r w is k =
+    let n : ℕ = length (w.seats k).fed in
+    ap length (is.queues k) ∙ length-map (drop n (line_in w k)) (chance w.core k w.pieces)
+    ∙ sym (slices_weigh (drop n (line_in w k))
+    (drop_only n (line_in w k) (line_only k w.read (first_spot w.first) is.unchanged)))
+
+pub waiting_long : (queue : Queue) → length_of queue ≡ length (waiting queue)
+waiting_long queue = sym (length-map queue.items.items (λ i. Sure i))
+
+short_waits : (queue : Queue) → is_short queue ≡ true → length (waiting queue) < full
+short_waits queue h =
+    let e = waiting_long queue in
+    let l = ltb-true (length_of queue) full h in
+    omega arith
+
+waits_short : (queue : Queue) → length (waiting queue) < full → is_short queue ≡ true
+waits_short queue h = lt-ltb (length_of queue) full (let e = waiting_long queue in omega arith)
+
+pub all_wait : (xs : List Queue) → list_all is_short xs ≡ true → (k : ℕ) → length (queue_at xs k) < full
+all_wait [] h k = omega arith
+all_wait (x ∷ xs) h zero = short_waits x (and_left (is_short x) (list_all is_short xs) h)
+all_wait (x ∷ xs) h (suc k) = all_wait xs (and_right (is_short x) (list_all is_short xs) h) k
+
+pub wait_all : (xs : List Queue) → ((k : ℕ) → length (queue_at xs k) < full) → list_all is_short xs ≡ true
+wait_all [] h = refl
+wait_all (x ∷ xs) h =
+    ap (λ b. b && list_all is_short xs) (waits_short x (h 0)) ∙ wait_all xs (λ k. h (suc k))
+
+pub router_room : (r : Router) (w : World) → IsRouterOf r w → list_all is_short r.queues.items ≡ true → HasRoom w
+router_room r w is h k =
+    let e = queue_waits r w is k in
+    let l = all_wait r.queues.items h k in
+    omega arith
+
+pub room_router : (r : Router) (w : World) → IsRouterOf r w → HasRoom w → list_all is_short r.queues.items ≡ true
+room_router r w is h = wait_all r.queues.items (λ k. (let e = queue_waits r w is k in let l = h k in omega arith))
+
+-- ---- worlds
+
+abbrev holes : Turn → ℕ → ℕ → List Due
+holes t i m = map (λ j. Hole t j) (range_with_len i m)
+
+-- a place is one
+holes_weigh : (t : Turn) (m i : ℕ) → i + m ≡ workers_of t.old → sum_by weight (holes t i m) ≤ 1
+holes_weigh t zero i e = omega arith
+holes_weigh t (suc zero) i e =
+    let here = small (nat_eq (i + 1) (workers_of t.old)) in
+    let both = sum_by-cons weight (Hole t i) [] in
+    omega arith
+  where
+    small : (b : Bool) → cond b 1 0 ≤ 1
+    small true = omega arith
+    small false = omega arith
+holes_weigh t (suc (suc m)) i e =
+    let rest = holes_weigh t (suc m) (i + 1) (omega arith) in
+    let here = earlier (nat_eq (i + 1) (workers_of t.old)) refl in
+    let both = sum_by-cons weight (Hole t i) (holes t (i + 1) (suc m)) in
+    omega arith
+  where
+    earlier : (b : Bool) → nat_eq (i + 1) (workers_of t.old) ≡ b → cond b 1 0 ≤ 0
+    earlier true h = let l = eqb-true (i + 1) (workers_of t.old) h in absurd (omega arith)
+    earlier false h = omega arith
+
+dues_weigh : (k : ℕ) (a : Spot) (e : Entry) → sum_by weight (line k a (e ∷ [])) ≤ added (Read e)
+dues_weigh k a (Point p) =
+    let slice : List Due = Slicing a.generation a.strategy a.points p ∷ [] in
+    let h : sum_by weight (if_below k (workers_of a.strategy) slice) ≤ 1 =
+    if_either (λ ds. sum_by weight ds ≤ 1) (nat_lt k (workers_of a.strategy)) slice (omega arith) (omega arith) in
+    subst (λ ds. sum_by weight ds ≤ 1) (sym (append-nil (if_below k (workers_of a.strategy) slice))) h
+dues_weigh k a (Change s) =
+    let t : Turn = turn_at a s in
+    let part : List Due = if_below k (workers_of a.strategy) (Parting t ∷ []) in
+    let holes : List Due = if_below k (workers_of s) (place t) in
+    let h : sum_by weight part ≤ 1 =
+    if_either (λ ds. sum_by weight ds ≤ 1) (nat_lt k (workers_of a.strategy)) (Parting t ∷ []) (omega arith)
+    (omega arith) in
+    let g : sum_by weight holes ≤ 1 =
+    if_either (λ ds. sum_by weight ds ≤ 1) (nat_lt k (workers_of s)) (place t)
+    (holes_weigh t (workers_of t.old) 0 (omega arith)) (omega arith) in
+    let both = sum_by-append weight part holes in
+    subst (λ ds. sum_by weight ds ≤ 2) (sym (append-nil (part ++ holes))) (omega arith)
+
+more_dropped : (n : ℕ) (ds : List Due) → sum_by weight (drop (suc n) ds) ≤ sum_by weight (drop n ds)
+more_dropped zero [] = omega arith
+more_dropped zero (d ∷ ds) = let h = sum_by-cons weight d ds in omega arith
+more_dropped (suc n) [] = omega arith
+more_dropped (suc n) (d ∷ ds) = more_dropped n ds
+
+read_waits : (w : World) (e : Entry) (k : ℕ) → IsSound w
+    → waiting_in (after w (Read e)) k ≤ waiting_in w k + added (Read e)
+read_waits w e k sound =
+    let n : ℕ = length (w.seats k).fed in
+    let more : List Due = line k (spot_in w) (e ∷ []) in
+    let long = supplies_length w.core k w.pieces (line_in w k) (w.seats k).fed (sound.seated k).supplied in
+    let same : drop n (line_in (after w (Read e)) k) ≡ drop n (line_in w k) ++ more =
+    ap (drop n) (line_more k (first_spot w.first) w.read (e ∷ [])) ∙ drop-append-le n (line_in w k) more long in
+    let split : sum_by weight (drop n (line_in (after w (Read e)) k)) ≡ waiting_in w k + sum_by weight more =
+    ap (sum_by weight) same ∙ sum_by-append weight (drop n (line_in w k)) more in
+    let h = dues_weigh k (spot_in w) e in
+    omega arith
+
+fed_waits : (w : World) (q : ℕ) (i : Item) (k : ℕ) → waiting_in (after w (Feed q i)) k ≤ waiting_in w k
+fed_waits w q i k = at (nat_eq k q) refl
+  where
+    at : (b : Bool) → nat_eq k q ≡ b
+        → sum_by weight (drop (length (cond b (fed_more (w.seats q) i) (w.seats k)).fed) (line_in w k)) ≤ waiting_in w k
+    at true e =
+        let same : q ≡ k = sym (eqb-true k q e) in
+        let n : ℕ = length (w.seats k).fed in
+        let one = length-append (w.seats q).fed (i ∷ []) in
+        let there : length (w.seats q).fed ≡ n = ap (λ y. length (w.seats y).fed) same in
+        let long : length ((w.seats q).fed ++ i ∷ []) ≡ suc n = omega arith in
+        subst (λ m. sum_by weight (drop m (line_in w k)) ≤ waiting_in w k) (sym long)
+        (more_dropped n (line_in w k))
+    at false e = omega arith
+
+-- a seat with the same items handed over
+same_waits : (w : World) (q : ℕ) (s : Seat) (k : ℕ) → s.fed ≡ (w.seats q).fed
+    → sum_by weight (drop (length (cond (nat_eq k q) s (w.seats k)).fed) (line_in w k)) ≤ waiting_in w k
+same_waits w q s k fed = at (nat_eq k q) refl
+  where
+    at : (b : Bool) → nat_eq k q ≡ b
+        → sum_by weight (drop (length (cond b s (w.seats k)).fed) (line_in w k)) ≤ waiting_in w k
+    at true e =
+        let same : s.fed ≡ (w.seats k).fed = fed ∙ ap (λ y. (w.seats y).fed) (sym (eqb-true k q e)) in
+        subst (λ (is : List Item). sum_by weight (drop (length is) (line_in w k)) ≤ waiting_in w k) (sym same)
+        (omega arith)
+    at false e = omega arith
+
+pub waits_for : (w : World) (m : Move) (k : ℕ) → IsSound w → Allowed w m
+    → waiting_in (after w m) k ≤ waiting_in w k + added m
+waits_for w (Read e) k sound may = read_waits w e k sound
+waits_for w (Feed q i) k sound may = let h = fed_waits w q i k in omega arith
+waits_for w (Take q gave) k sound may =
+    let h : waiting_in (after w (Take q gave)) k ≤ waiting_in w k =
+    same_waits w q (took_one (w.seats q) gave) k refl in
+    omega arith
+waits_for w (Collect q) k sound may =
+    let h : waiting_in (after w (Collect q)) k ≤ waiting_in w k =
+    same_waits w q (all_collected (w.seats q)) k refl in
+    omega arith
+waits_for w (Emit v) k sound may = omega arith

@@ -1,0 +1,47 @@
+-- How much waits for a worker.
+use Rattle.std.specs.Prelude.{◌≡◌, ℕ, ◌+◌, ◌<◌, ◌≤◌, Bool, cond, nat_eq, nat_lt, length, drop, sum_by}
+use Rattle.mfotl_model.specs.Strategies.{workers_of}
+use Rattle.rescale_core.specs.Lines.{Due}
+use Rattle.rescale_core.specs.Lines.Due.{Slicing, Parting, Hole}
+use Rattle.rescale_core.specs.Queues.{length_of}
+use Rattle.rescale_core.specs.Soundly.{IsSound}
+use Rattle.rescale_core.specs.Worlds.{World, Move, Allowed, after, line_in}
+use Rattle.rescale_core.specs.Worlds.Move.{Read, Feed, Take, Collect, Emit}
+use Rattle.rescale_core.specs.declared.item.Entry.TheVariants.{Point, Change}
+use Rattle.rescale_core.specs.declared.queue.Queue.{Queue}
+
+-- how much it is that waits by a due: a place is one, until its last piece is handed over
+abbrev pub weight : Due → ℕ
+weight (Slicing g s log p) = 1
+weight (Parting t) = 1
+weight (Hole t j) = cond (nat_eq (j + 1) (workers_of t.old)) 1 0
+
+-- how many slices, parts and places wait for worker k
+abbrev pub waiting_in : World → ℕ → ℕ
+waiting_in w k = sum_by weight (drop (length (w.seats k).fed) (line_in w k))
+
+-- from so many on no more is read
+abbrev pub full : ℕ
+full = 1024
+
+-- no worker has so many waiting
+abbrev pub HasRoom : World → Type 0
+HasRoom w = (k : ℕ) → waiting_in w k < full
+
+-- whether fewer stand in a queue
+abbrev pub is_short : Queue → Bool
+is_short queue = nat_lt (length_of queue) full
+
+-- how many more a step may make wait for one worker
+abbrev pub added : Move → ℕ
+added (Read (Point p)) = 1
+added (Read (Change s)) = 2
+added (Feed k i) = 0
+added (Take k gave) = 0
+added (Collect k) = 0
+added (Emit v) = 0
+
+-- a time-point makes at most one more wait for a worker, a change two, and nothing else makes more wait
+abbrev pub WaitsFor : Type 0
+WaitsFor =
+    (w : World) (m : Move) (k : ℕ) → IsSound w → Allowed w m → waiting_in (after w m) k ≤ waiting_in w k + added m

@@ -1,0 +1,10 @@
+use Rattle.std.proofs.Common.{◌≡◌, length}
+use Rattle.worker_pool.specs.Hands.{AreGroupsOf, WorkerHub}
+use Rattle.worker_pool.proofs.dealing.empty_groups.Given as goal
+
+-- the groups so far are without hands
+abbrev pub invariant-loop : goal.invariant-loop
+invariant-loop l = record {
+  count : length l.groups.items ≡ l.counter;
+  hands : (hub : WorkerHub) → AreGroupsOf hub l.groups.items;
+}

@@ -1,0 +1,67 @@
+//! What main or a thread sleeps on while there is nothing to do.
+use std::sync::Wait;
+use std::sync::atomic::Ordering::SeqCst;
+use std::sync::atomic::{AtomicBool, AtomicU64};
+use std::thread;
+use std::time::Duration;
+
+/// So many rounds without work pass with yields alone.
+const PATIENCE: u64 = 100;
+
+/// The longest sleep.
+const NAP_MILLISECONDS: u64 = 10;
+
+/// Rings when there may be something to do. No result rests on it: whoever sleeps wakes after the longest sleep, too.
+#[derive(Drop)]
+pub struct Bell {
+    rings: AtomicU64,
+    sleeps: AtomicBool,
+    stopped: AtomicBool,
+}
+
+impl Bell {
+    pub fn new() -> Self {
+        Bell {
+            rings: AtomicU64::new(0),
+            sleeps: AtomicBool::new(false),
+            stopped: AtomicBool::new(false),
+        }
+    }
+
+    /// How often it rang, modulo 2^32.
+    pub fn rings(&self) -> u32 {
+        (self.rings.load(SeqCst) & 0xffff_ffff) as u32
+    }
+
+    /// Wakes who sleeps on it, and keeps awake who is about to.
+    pub fn ring(&self) {
+        self.rings.fetch_add(1, SeqCst);
+        if self.sleeps.load(SeqCst) {
+            self.rings.wake_one();
+        }
+    }
+
+    /// Passes a little time after a round without work, the `idle`-th in a row: yields, and from some number on
+    /// sleeps until it rings, unless it rang since `heard` was asked of `rings`.
+    pub fn rest<R: Wait>(&self, rt: &R, heard: u32, idle: u64) {
+        if idle < PATIENCE {
+            thread::yield_now();
+            return;
+        }
+        self.sleeps.store(true, SeqCst);
+        self.rings
+            .park_timeout(rt, heard, Duration::from_millis(NAP_MILLISECONDS));
+        self.sleeps.store(false, SeqCst);
+    }
+
+    /// Tells the thread to stop.
+    pub fn stop(&self) {
+        self.stopped.store(true, SeqCst);
+        self.ring();
+    }
+
+    /// Whether the thread was told to stop.
+    pub fn is_stopped(&self) -> bool {
+        self.stopped.load(SeqCst)
+    }
+}

@@ -1,0 +1,59 @@
+//! How hands are dealt to threads.
+ghost use Rattle.std.specs.Prelude.{◌≡◌, ◌<◌, ◌≤◌, IfOk, length};
+ghost use Rattle.worker_pool.specs.Hands.{AreGroupsOf, AreHandsOf, WorkerHub};
+
+use crate::hands::WorkerHand;
+use std::alloc::{AllocError, Global};
+
+// So many groups without hands.
+fn empty_groups(alloc: Global, count: usize) -> Result<Vec<Vec<WorkerHand>>, AllocError>
+    ensures count { IfOk result (λ groups. length groups.items ≡ count) }
+    ensures hands { IfOk result (λ groups. (hub : WorkerHub) → AreGroupsOf hub groups.items) }
+{
+    let mut groups = Vec::new(alloc);
+    for _ in 0..count {
+        groups.push(Vec::new(alloc))?;
+    }
+    Ok(groups)
+}
+
+// Deals the hands to so many groups, one after the other.
+fn deal_round(
+    alloc: Global,
+    hands: Vec<WorkerHand>,
+    count: usize,
+) -> Result<Vec<Vec<WorkerHand>>, AllocError>
+    requires { 0 < count }
+    ensures count { IfOk result (λ groups. length groups.items ≡ count) }
+    ensures hands { IfOk result (λ groups.
+        (hub : WorkerHub) → AreHandsOf hub hands.items → AreGroupsOf hub groups.items) }
+{
+    let total = hands.len();
+    let mut groups = empty_groups(alloc, count)?;
+    let mut left = hands.into_iter();
+    for k in 0..total {
+        let Some(hand) = left.next() else { break };
+        groups[k % count].push(hand)?;
+    }
+    Ok(groups)
+}
+
+/// The hands in groups for at most so many threads, and those that main serves: all of them where there is no thread.
+/// Thread t has the hands k with k mod threads = t, and none is without a hand.
+pub(crate) fn deal(
+    alloc: Global,
+    hands: Vec<WorkerHand>,
+    threads: u32,
+) -> Result<(Vec<Vec<WorkerHand>>, Vec<WorkerHand>), AllocError>
+    ensures count { IfOk result (λ r. length r.0.items ≤ threads) }
+    ensures groups { IfOk result (λ r.
+        (hub : WorkerHub) → AreHandsOf hub hands.items → AreGroupsOf hub r.0.items) }
+    ensures own { IfOk result (λ r. (hub : WorkerHub) → AreHandsOf hub hands.items → AreHandsOf hub r.1.items) }
+{
+    let count = hands.len().min(threads as usize);
+    if count == 0 {
+        return Ok((Vec::new(alloc), hands));
+    }
+    let groups = deal_round(alloc, hands, count)?;
+    Ok((groups, Vec::new(alloc)))
+}
