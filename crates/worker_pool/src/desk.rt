@@ -71,7 +71,7 @@ impl<'o, 's, R: Wait, G: Gate, I: Inputs, O: Sink> Errand for Desk<'o, 's, R, G,
         × (I.faults d.inputs.now ≤ I.faults e.inputs.now)
         × (O.faults d.out.now ≤ O.faults e.out.now)
         × ((core : CoreForm) → Begins core d.driver.now → ForEachPolicy core (λ policy. FollowsLog d.log.now.sig policy
-            (effect I.Inputs O.Sink d.inputs.now e.inputs.now d.out.now e.out.now) (end_of r))) };
+        (effect I.Inputs O.Sink d.inputs.now e.inputs.now d.out.now e.out.now) (end_of r))) };
 
     fn run(
         &mut self,
@@ -128,13 +128,6 @@ pub(crate) fn follow_beside<'o, 's, R: Threads + Wait + Sync, I: Inputs, O: Sink
         out,
     };
     beside(
-        shop.rt,
-        shop.alloc,
-        shop.hub,
-        shop.gate,
-        shop.bells,
-        groups,
-        own,
-        &mut desk,
+        shop.rt, shop.alloc, shop.hub, shop.gate, shop.bells, groups, own, &mut desk,
     )
 }

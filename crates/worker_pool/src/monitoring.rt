@@ -46,12 +46,7 @@ struct Prepared {
 }
 
 // Opens a cell for each worker, and deals the hands to threads.
-fn prepare(
-    alloc: Global,
-    plan: Plan,
-    cells: u32,
-    threads: u32,
-) -> Result<Prepared, AllocError>
+fn prepare(alloc: Global, plan: Plan, cells: u32, threads: u32) -> Result<Prepared, AllocError>
     requires suits { IsFor (core_form plan.core) plan.first }
     requires some { 0 < cells }
     ensures count { IfOk result (λ p. cells ≤ cell_count p.hub) }
