@@ -144,7 +144,7 @@ fn end_after(done: Result<Tally, Stop>) -> End
 
 /// Monitors the open log by the plan, with so many threads beside the caller's, and writes the line of each position
 /// as soon as it is settled. What is written is handed on before each read. However many threads there are and however
-/// they run, the lines and the end are the same.
+/// they run, this holds, and so do the clauses.
 pub fn monitor<R: Threads + Wait + Sync, I: Inputs, O: Sink, G: Gate + Sync>(
     rt: &R,
     alloc: Global,
