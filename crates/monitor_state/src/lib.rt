@@ -19,9 +19,11 @@ mod ordering;
 mod previous;
 mod since;
 mod stack;
+mod state;
 mod tables;
 mod until;
 mod window;
 
 pub use monitor::Monitor;
+pub use state::{NodeData, Piece, SinceKept, State, UntilKept, WindowData};
 pub use tables::Tables;
