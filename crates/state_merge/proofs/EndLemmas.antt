@@ -1,9 +1,13 @@
 -- Where nothing is left to unite, all is united.
-use Rattle.std.proofs.Common.{◌≡◌, List, [], ◌∷◌, ◌++◌, subst, append-nil}
+use Rattle.std.proofs.Common.{◌≡◌, ℕ, List, [], ◌∷◌, ◌++◌, length, subst, append-nil, refl, arith}
 use Rattle.mfotl_model.specs.Tables.{TableOf}
 use Rattle.monitor_state.specs.StateUnions.{ListsUnion, NodesUnion, TablesUnion}
 use Rattle.monitor_state.specs.declared.state.NodeData.{NodeData}
 use Rattle.state_merge.specs.Fits.{AllAlike, ListsFit, TablesFit}
+
+pub none_left : {X : Type 0} (xs : List X) (n : ℕ) → n ≡ length xs → n ≡ 0 → xs ≡ []
+none_left [] n size none = refl
+none_left (x ∷ xs) n size none = absurd (omega arith)
 
 pub tables_done : (a b xs ys out : List TableOf) → xs ≡ [] → TablesFit xs ys
     → ((zs : List TableOf) → TablesUnion xs ys zs → TablesUnion a b (out ++ zs)) → TablesUnion a b out

@@ -1,5 +1,5 @@
 -- What two states keep for a row, together: it answers each test as the one that may be asked, or as both.
-use Rattle.std.proofs.Common.{◌≡◌, ℕ, zero, suc, ◌-◌, ◌≤◌, ◌<◌, Bool, true, false, ◌&&◌, ◌||◌, cond, nat_le, nat_lt, nat_eq, List, [], ◌∷◌, length, Option, None, Some, refl, sym, ap, ap₂, ◌∙◌, arith, inl, inr}
+use Rattle.std.proofs.Common.{◌≡◌, ℕ, ◌-◌, ◌≤◌, Bool, true, false, ◌&&◌, ◌||◌, cond, nat_le, nat_lt, nat_eq, List, [], ◌∷◌, length, Option, None, Some, refl, sym, ap, ap₂, ◌∙◌, arith, inl, inr}
 use Rattle.std.proofs.lemmas.Bool.{cases_lt, eqb-true}
 use Rattle.std.proofs.lemmas.Bool.Decides.{nat_tests}
 use Rattle.std.specs.List.{list_any}
@@ -31,7 +31,8 @@ or_grouped true b c = refl
 or_grouped false b c = refl
 
 -- two tests that are right wherever they may be asked, and false elsewhere
-pub pooled_test : (r q ta tb truth : Bool) → (r ≡ true → ta ≡ truth) → (r ≡ false → ta ≡ false) → (q ≡ true → tb ≡ truth)
+pub pooled_test : (r q ta tb truth : Bool) → (r ≡ true → ta ≡ truth) → (r ≡ false → ta ≡ false) → (q ≡ true → tb
+    ≡ truth)
     → (q ≡ false → tb ≡ false) → (r || q) ≡ true → (ta || tb) ≡ truth
 pooled_test true true ta tb truth a lacks b none n = ap₂ (λ x y. x || y) (a refl) (b refl) ∙ or_self truth
 pooled_test true false ta tb truth a lacks b none n = ap₂ (λ x y. x || y) (a refl) (none refl) ∙ or_false truth
@@ -61,7 +62,8 @@ pub none_pooled : {X : Type 0} (both : X → X → X) (oa ob : Option X) → oa 
 none_pooled both oa ob a b = ap₂ (either both) a b
 
 -- what holds of all that either keeps, and of what is made of both, holds of what they keep together
-pub either_holds : {X : Type 0} (both : X → X → X) (P : X → Type 0) (oa ob : Option X) (z : X) → either both oa ob ≡ Some z
+pub either_holds : {X : Type 0} (both : X → X → X) (P : X → Type 0) (oa ob : Option X) (z : X) → either both oa ob
+    ≡ Some z
     → ((x : X) → oa ≡ Some x → P x) → ((y : X) → ob ≡ Some y → P y) → ((x y : X) → P x → P y → P (both x y)) → P z
 either_holds both P None ob z is a b join = b z is
 either_holds both P (Some x) None z is a b join = a z is
@@ -113,7 +115,8 @@ least_serves i z (x ∷ w ∷ xs) ys endless a b = absurd (omega arith)
 least_serves i z (x ∷ []) (y ∷ w ∷ ys) endless a b = absurd (omega arith)
 
 -- the times of both reach what either does
-pub times_right : (i : Interval) (z : ℕ) (xs ys : List ℕ) → (i.hi ≡ None → length xs ≤ 1) → (i.hi ≡ None → length ys ≤ 1)
+pub times_right : (i : Interval) (z : ℕ) (xs ys : List ℕ) → (i.hi ≡ None → length xs ≤ 1) → (i.hi ≡ None
+    → length ys ≤ 1)
     → reaches i (times_joined i.hi xs ys) z ≡ (reaches i xs z || reaches i ys z)
 times_right i z xs ys a b = by i.hi refl
   where
@@ -136,13 +139,15 @@ starts_right x y j truth a b =
 module _ (i : Interval) (t : List ℕ) (p : ℕ) where
   lesser_start : (place x y : ℕ)
       → mark_meets i t p (record { place = place; start = min x y })
-      ≡ (mark_meets i t p (record { place = place; start = x }) || mark_meets i t p (record { place = place; start = y }))
+      ≡ (mark_meets i t p (record { place = place; start = x }) || mark_meets i t p
+      (record { place = place; start = y }))
   lesser_start place x y =
       ap (λ c. c && nat_le p place && in_interval i (time_at t place - time_at t p)) (least x y)
       ∙ spread (nat_le x p) (nat_le y p) (nat_le p place) (in_interval i (time_at t place - time_at t p))
     where
       least : (x y : ℕ) → nat_le (min x y) p ≡ (nat_le x p || nat_le y p)
       least x y = grind (arith, nat_tests)
+
       spread : (a b c d : Bool) → ((a || b) && c && d) ≡ ((a && c && d) || (b && c && d))
       spread true true true true = refl
       spread true true true false = refl
@@ -161,6 +166,7 @@ module _ (i : Interval) (t : List ℕ) (p : ℕ) where
       same_place e =
           lesser_start n.place m.start n.start
           ∙ ap (λ q. mark_meets i t p (record { place = q; start = m.start }) || mark_meets i t p n) (sym e)
+
       by : (less same : Bool) → (same ≡ true → m.place ≡ n.place)
           → list_any (mark_meets i t p) (put_mark m ns) ≡ (mark_meets i t p m || list_any (mark_meets i t p) ns)
           → list_any (mark_meets i t p) (cond less (m ∷ n ∷ ns)

@@ -11,13 +11,13 @@ use Rattle.std.specs.Prelude.{min}
 use Rattle.std.specs.declared.cmp.Ordering.TheVariants.{Less, Equal, Greater}
 use Rattle.mfotl_model.specs.Values.{row_cmp}
 use Rattle.mfotl_model.specs.declared.value.Value.{Value}
-use Rattle.relations.specs.KeptRows.{RowsAscend, kept_for}
+use Rattle.relations.specs.KeptRows.{kept_for}
 use Rattle.relations.proofs.MapLemmas.{same_row}
 use Rattle.eval_since.proofs.DatedLemmas.{past_all}
 use Rattle.eval_since.specs.SinceData.{KeepsTimes}
 use Rattle.eval_since.specs.Times.{ArePast}
 use Rattle.eval_until.specs.declared.recalled.Mark.{Mark}
-use Rattle.monitor_state.specs.JoinedRows.{RowsUnion, either, least_time, marks_joined, put_mark, put_time, times_joined, times_united}
+use Rattle.monitor_state.specs.JoinedRows.{RowsUnion, least_time, marks_joined, put_mark, put_time, times_joined, times_united}
 use Rattle.state_merge.specs.Pairs.{MarksAscend}
 use Rattle.state_merge.proofs.JoinedLemmas.{either_holds}
 use Rattle.state_merge.proofs.PutLemmas.{Ascend, further, mark_keeps, place_of, same_times, time_keeps, turned_greater}
@@ -50,15 +50,18 @@ union_keeps Q both a b c union qa qb join u z is =
 
 -- ---- times
 
+past_first : (x t : ℕ) (ts : List ℕ) → nat_le t x ≡ true → ArePast x ts → ArePast x (t ∷ ts)
+past_first x t ts low past = by
+  where
+    by : ArePast x (t ∷ ts)
+    by zero l = grind (arith, nat_tests)
+    by (suc k) l = past k (omega arith)
+
 past_back : (x : ℕ) (ts : List ℕ) → list_all (λ t. nat_le t x) ts ≡ true → ArePast x ts
 past_back x [] all = λ k l. absurd (omega arith)
-past_back x (t ∷ ts) all = by
-  where
-    parts : (nat_le t x ≡ true) × (list_all (λ t. nat_le t x) ts ≡ true)
-    parts = and_parts (nat_le t x) (list_all (λ t. nat_le t x) ts) all
-    by : ArePast x (t ∷ ts)
-    by zero l = let low = parts.0 in let e : t ≤ x = grind (arith, nat_tests) in e
-    by (suc k) l = past_back x ts parts.1 k (omega arith)
+past_back x (t ∷ ts) all =
+    let parts = and_parts (nat_le t x) (list_all (λ t. nat_le t x) ts) all in
+    past_first x t ts parts.0 (past_back x ts parts.1)
 
 put_all : (p : ℕ → Bool) (x : ℕ) (ys : List ℕ) → p x ≡ true → list_all p ys ≡ true → list_all p (put_time x ys) ≡ true
 put_all p x [] one all = and_from (p x) true one refl
@@ -112,7 +115,8 @@ united_some (x ∷ xs) ys some = put_some x (times_united xs ys)
 
 behind_is : (x y : ℕ) → nat_lt x y ≡ false → nat_eq x y ≡ false → nat_cmp y x ≡ Less
 behind_is x y less same =
-    turned_greater x y (ap (λ b. cond b Less (cond (nat_eq x y) Equal Greater)) less ∙ ap (λ b. cond b Equal Greater) same)
+    turned_greater x y (ap (λ b. cond b Less (cond (nat_eq x y) Equal Greater)) less
+    ∙ ap (λ b. cond b Equal Greater) same)
 
 time_ascends : (x : ℕ) (ys : List ℕ) → Ascend (λ t. t) ys → Ascend (λ t. t) (put_time x ys)
 unfolding IsStrictlySortedBy
@@ -135,7 +139,8 @@ increasing_united : (xs ys : List ℕ) → IsStrictlyIncreasing ys → IsStrictl
 increasing_united xs ys ay =
     IsStrictlyIncreasing-from_sorted (times_united xs ys)
     (subst (IsStrictlySortedBy nat_cmp) (same_times (times_united xs ys))
-    (united_ascends xs ys (subst (IsStrictlySortedBy nat_cmp) (sym (same_times ys)) (sorted_from_strictly_increasing ys ay))))
+    (united_ascends xs ys (subst (IsStrictlySortedBy nat_cmp) (sym (same_times ys))
+    (sorted_from_strictly_increasing ys ay))))
 
 least_some : (xs ys : List ℕ) → 0 < length ys → 0 < length (least_time xs ys)
 least_some [] ys some = some
@@ -197,7 +202,8 @@ marks_ascend [] ns an = an
 marks_ascend (m ∷ ms) ns an = mark_ascends m (marks_joined ms ns) (marks_ascend ms ns an)
 
 module _ (p : Mark → Bool)
-    (lesser : (m n : Mark) → p m ≡ true → p n ≡ true → p (record { place = n.place; start = min m.start n.start }) ≡ true) where
+    (lesser : (m n : Mark) → p m ≡ true → p n ≡ true → p (record { place = n.place; start = min m.start n.start })
+    ≡ true) where
   mark_all : (m : Mark) (ns : List Mark) → p m ≡ true → list_all p ns ≡ true → list_all p (put_mark m ns) ≡ true
   mark_all m [] one all = and_from (p m) true one refl
   mark_all m (n ∷ ns) one all =
@@ -209,7 +215,8 @@ module _ (p : Mark → Bool)
           (record { place = n.place; start = min m.start n.start } ∷ ns) (n ∷ put_mark m ns))) ≡ true
       by first rest true same r = and_from (p m) (p n && list_all p ns) one all
       by first rest false true r =
-          and_from (p (record { place = n.place; start = min m.start n.start })) (list_all p ns) (lesser m n one first) rest
+          and_from (p (record { place = n.place; start = min m.start n.start })) (list_all p ns)
+          (lesser m n one first) rest
       by first rest false false r = and_from (p n) (list_all p (put_mark m ns)) first r
 
   pub marks_all : (ms ns : List Mark) → list_all p ms ≡ true → list_all p ns ≡ true

@@ -10,3 +10,5 @@ pub mod UntilUnited
 pub mod NodesUnited
 pub mod UnionLaw
 pub mod PartLaw
+pub mod MergeLaws
+pub mod FitLemmas

@@ -69,7 +69,8 @@ join_keeps f a b c ka u =
       rule = record {
         over = lists_over parts (kept_tables a) (kept_tables b) (kept_tables c) ka.rule.over u.tables;
         few = subst (λ p. FewFrom p (with_tables parts (kept_tables c))) (sym u.pulled)
-            (lists_few a.pulled parts (kept_tables a) (kept_tables b) (kept_tables c) ka.rule.over ka.rule.few u.tables);
+            (lists_few a.pulled parts (kept_tables a) (kept_tables b)
+            (kept_tables c) ka.rule.over ka.rule.few u.tables);
       };
     }
   where
@@ -94,9 +95,9 @@ module _ (view : View) (r q all : Region) (union : (vs : List ℕ) (v : Valuatio
       → JoinDataStands (seen_in view all) f c × AllByRecursion (TablesInside all) (kept_tables c)
   join_stands f a b c sa ia sb ib u =
       let both = lists_union view r q all union a.pulled (operands f) (kept_tables a) (kept_tables b) (kept_tables c)
-      sa.children ia (subst (λ p. TablesStand (seen_in view q) p (operands f) (kept_tables b)) (sb.pulled ∙ sym sa.pulled)
-      sb.children) ib u.tables in
-      (
+      sa.children ia (subst (λ p. TablesStand (seen_in view q) p (operands f) (kept_tables b)) (sb.pulled
+      ∙ sym sa.pulled)
+      sb.children) ib u.tables in (
         record {
           pulled = u.pulled ∙ sa.pulled;
           children = subst (λ p. TablesStand (seen_in view all) p (operands f) (kept_tables c)) (sym u.pulled) both.0;
@@ -125,8 +126,7 @@ module _ (view : View) (r q all : Region) (union : (vs : List ℕ) (v : Valuatio
       let rights = tables_at view r q all union (meaning g) a.pulled b.pulled c.pulled a.rights.items b.rights.items
       c.rights.items same u.pulled x.1.rights x.2.1 y.1.rights y.2.1 u.rights in
       let low = union_length a.lefts.items b.lefts.items c.lefts.items u.lefts in
-      let high = union_length a.rights.items b.rights.items c.rights.items u.rights in
-      (
+      let high = union_length a.rights.items b.rights.items c.rights.items u.rights in (
         record {
           few = subst₂ (λ m n. m + n ≤ 2 ^ 63) (sym u.pulled) (sym low) x.0.few;
           lefts = over_union (fv (meaning f)) a.lefts.items b.lefts.items c.lefts.items x.0.lefts u.lefts;
@@ -149,8 +149,7 @@ module _ (view : View) (r q all : Region) (union : (vs : List ℕ) (v : Valuatio
       let same : b.pulled ≡ a.pulled = y.1.pulled ∙ sym x.1.pulled in
       let tables = tables_at view r q all union (meaning f) (a.pulled - 1) (b.pulled - 1) (c.pulled - 1) a.tables.items
       b.tables.items c.tables.items (ap (λ n. n - 1) same) (ap (λ n. n - 1) u.pulled) x.1.tables x.2 y.1.tables y.2
-      u.tables in
-      (
+      u.tables in (
         record {
           few = subst (λ n. n + length (times_from k n) ≤ 2 ^ 63) (sym u.pulled) x.0.few;
           over = over_union (fv (meaning f)) a.tables.items b.tables.items c.tables.items x.0.over u.tables;
@@ -172,8 +171,7 @@ module _ (view : View) (r q all : Region) (union : (vs : List ℕ) (v : Valuatio
       let more = union_length a.tables.items b.tables.items c.tables.items u.tables in
       let tables = tables_at view r q all union (meaning f) (a.pulled + 1) (b.pulled + 1) (c.pulled + 1) a.tables.items
       b.tables.items c.tables.items (ap (λ n. n + 1) same) (ap (λ n. n + 1) u.pulled) x.1.tables x.2 y.1.tables y.2
-      u.tables in
-      (
+      u.tables in (
         record {
           few = subst (λ n. n + length (times_from k n) ≤ 2 ^ 63) (sym u.pulled) x.0.few;
           over = over_union (fv (meaning f)) a.tables.items b.tables.items c.tables.items x.0.over u.tables;
@@ -197,12 +195,11 @@ module _ (view : View) (r q all : Region) (union : (vs : List ℕ) (v : Valuatio
       → WindowInside q (window.Since b) → SinceUnion a b c
       → WindowKeeps k f (window.Since c) × WindowDataStands (seen_in view all) p f (window.Since c)
       × WindowInside all (window.Since c)
-  since_case p (Since i f g) a b c ka sa ia kb sb ib u =
-      (
-        since_keeps view r q all union k p i f g a b c ka sa ia kb sb ib u,
-        since_stands view r q all union k p i f g a b c ka sa ia kb sb ib u,
-        since_inside view r q all union k p i f g a b c ka sa ia kb sb ib u,
-      )
+  since_case p (Since i f g) a b c ka sa ia kb sb ib u = (
+    since_keeps view r q all union k p i f g a b c ka sa ia kb sb ib u,
+    since_stands view r q all union k p i f g a b c ka sa ia kb sb ib u,
+    since_inside view r q all union k p i f g a b c ka sa ia kb sb ib u,
+  )
   since_case p f a b c ka sa ia kb sb ib u = absurd ka
 
   until_case : (p : ℕ) (f : CoreForm) (a b c : UntilKept) → WindowKeeps k f (window.Until a)
@@ -211,12 +208,11 @@ module _ (view : View) (r q all : Region) (union : (vs : List ℕ) (v : Valuatio
       → WindowInside q (window.Until b) → UntilUnion a b c
       → WindowKeeps k f (window.Until c) × WindowDataStands (seen_in view all) p f (window.Until c)
       × WindowInside all (window.Until c)
-  until_case p (Until i f g) a b c ka sa ia kb sb ib u =
-      (
-        until_keeps view r q all union k p i f g a b c ka sa ia kb sb ib u,
-        until_stands view r q all union k p i f g a b c ka sa ia kb sb ib u,
-        until_inside view r q all union k p i f g a b c ka sa ia kb sb ib u,
-      )
+  until_case p (Until i f g) a b c ka sa ia kb sb ib u = (
+    until_keeps view r q all union k p i f g a b c ka sa ia kb sb ib u,
+    until_stands view r q all union k p i f g a b c ka sa ia kb sb ib u,
+    until_inside view r q all union k p i f g a b c ka sa ia kb sb ib u,
+  )
   until_case p f a b c ka sa ia kb sb ib u = absurd ka
 
   window_union : (p : ℕ) (f : CoreForm) (a b c : WindowData) → WindowKeeps k f a
@@ -244,8 +240,7 @@ module _ (view : View) (r q all : Region) (union : (vs : List ℕ) (v : Valuatio
       let behind = window_union (reached view (And f g)) (left_operand g) a b c x.0.2 x.1.behind x.2.1 y.0.2 y.1.behind
       y.2.1 w in
       let kept = tables_union view r q all union (meaning f) (reached view (And f g)) xs.items ys.items zs.items
-      x.1.exact x.2.0 y.1.exact y.2.0 tables in
-      (
+      x.1.exact x.2.0 y.1.exact y.2.0 tables in (
         (x.0.0, over_union (fv (meaning f)) xs.items ys.items zs.items x.0.1 tables, behind.0),
         record {
           pushed = ap (λ n. reached view (And f g) + n) (union_length xs.items ys.items zs.items tables) ∙ x.1.pushed;

@@ -14,7 +14,7 @@ use Rattle.itertools.specs.List.{by_ordering, merge_join_by}
 use Rattle.itertools.specs.declared.either_or_both.EitherOrBoth.{EitherOrBoth}
 use Rattle.itertools.specs.declared.either_or_both.EitherOrBoth.TheVariants.{Both, Left, Right}
 use Rattle.monitor_state.specs.JoinedRows.{either}
-use Rattle.state_merge.specs.Pairs.{InPair, all_joined, joined}
+use Rattle.state_merge.specs.Pairs.{InPair, all_joined}
 
 module _ {I K X : Type 0} {cmp : K → K → Ordering} (total : IsTotalOrder cmp) (exact : CmpEqualImpliesEq cmp)
     (key : I → K) (value : I → X) (both : X → X → X) where
@@ -91,8 +91,11 @@ module _ {I K X : Type 0} {cmp : K → K → Ordering} (total : IsTotalOrder cmp
           → Ascend (merged (x ∷ xs) ys) → Ascend (all_joined key value both
           (by_ordering o (Left x ∷ pairs xs (y ∷ ys)) (Both x y ∷ pairs xs ys) (Right y ∷ pairs (x ∷ xs) ys)))
       by Less e a b c = (merged_behind (key x) xs (y ∷ ys) ax.0 (e, further (key x) (key y) (entries ys) e ay.0), a)
-      by Equal e a b c = (merged_behind (key x) xs ys ax.0
-          (subst (λ k. Behind k (entries ys)) (sym (exact (key x) (key y) e)) ay.0), b)
+      by Equal e a b c = (
+        merged_behind (key x) xs ys ax.0
+            (subst (λ k. Behind k (entries ys)) (sym (exact (key x) (key y) e)) ay.0),
+        b,
+      )
       by Greater e a b c =
           let low : cmp (key y) (key x) ≡ Less = turned (key x) (key y) e in
           (merged_behind (key y) (x ∷ xs) ys (low, further (key y) (key x) (entries xs) low ax.0) ay.0, c)
@@ -117,6 +120,7 @@ module _ {I K X : Type 0} {cmp : K → K → Ordering} (total : IsTotalOrder cmp
           absent (key x) (entries (y ∷ ys)) (e, further (key x) (key y) (entries ys) e ay.0) in
           sym (ap (either both (Some (value x))) (ap (found (entries (y ∷ ys))) (tells_apart exact k (key x) t) ∙ none))
       first e false t h = h
+
       second : cmp (key y) (key x) ≡ Less → (b : Bool) → is_at (cmp k) (key y) ≡ b
           → found (merged (x ∷ xs) ys) k ≡ either both (found (entries (x ∷ xs)) k) (found (entries ys) k)
           → cond b (Some (value y)) (found (merged (x ∷ xs) ys) k)
@@ -127,11 +131,14 @@ module _ {I K X : Type 0} {cmp : K → K → Ordering} (total : IsTotalOrder cmp
           sym (ap (λ o. either both o (Some (value y)))
           (ap (found (entries (x ∷ xs))) (tells_apart exact k (key y) t) ∙ none))
       second e false t h = h
+
       same : (b : Bool) → found (merged xs ys) k ≡ either both (found (entries xs) k) (found (entries ys) k)
           → cond b (Some (both (value x) (value y))) (found (merged xs ys) k)
-          ≡ either both (cond b (Some (value x)) (found (entries xs) k)) (cond b (Some (value y)) (found (entries ys) k))
+          ≡ either both (cond b (Some (value x)) (found (entries xs) k)) (cond b (Some (value y)) (found
+          (entries ys) k))
       same true h = refl
       same false h = h
+
       by : (o : Ordering) → cmp (key x) (key y) ≡ o
           → found (merged xs (y ∷ ys)) k ≡ either both (found (entries xs) k) (found (entries (y ∷ ys)) k)
           → found (merged xs ys) k ≡ either both (found (entries xs) k) (found (entries ys) k)

@@ -1,10 +1,9 @@
 -- A state stands for each part of its region.
-use Rattle.std.proofs.Common.{◌≡◌, ℕ, ◌+◌, true, List, [], ◌∷◌}
+use Rattle.std.proofs.Common.{ℕ, ◌+◌, List, [], ◌∷◌}
 use Rattle.mfotl_model.specs.Exact.{AllExact, Exact, View}
 use Rattle.mfotl_model.specs.Formulas.{Form}
 use Rattle.mfotl_model.specs.FreeVariables.{fv}
 use Rattle.mfotl_model.specs.Regions.{Region}
-use Rattle.mfotl_model.specs.Satisfaction.{Valuation}
 use Rattle.mfotl_model.specs.Tables.{TableOf}
 use Rattle.mfotl_model.specs.declared.interval.Interval.{Interval}
 use Rattle.eval_since.specs.declared.recalled.SinceData.{SinceData}

@@ -109,11 +109,16 @@ module _ {I : Type 0} (key : I → ℕ) where
       where
         by : (o : Ordering) → nat_cmp (key x) (key y) ≡ o → map one (pairs xs (y ∷ ys)) ≡ all_put xs (y ∷ ys)
             → map one (pairs xs ys) ≡ all_put xs ys → map one (pairs (x ∷ xs) ys) ≡ all_put (x ∷ xs) ys
-            → map one (by_ordering o (Left x ∷ pairs xs (y ∷ ys)) (Both x y ∷ pairs xs ys) (Right y ∷ pairs (x ∷ xs) ys))
+            → map one (by_ordering o (Left x ∷ pairs xs (y ∷ ys)) (Both x y ∷ pairs xs ys) (Right y ∷ pairs
+            (x ∷ xs) ys))
             ≡ put x (all_put xs (y ∷ ys))
         by Less e a b c =
             ap (λ i. i ∷ map one (pairs xs (y ∷ ys))) (lefts x) ∙ ap (λ is. x ∷ is) a
-            ∙ sym (first x (all_put xs (y ∷ ys)) (all_keep (key x) xs (y ∷ ys) ax.0 (e, further (key x) (key y) ys e ay.0)))
+            ∙ sym (first x (all_put xs (y ∷ ys)) (all_keep (key x) xs (y ∷ ys) ax.0 (
+              e,
+              further (key x)
+                  (key y) ys e ay.0,
+            )))
         by Equal e a b c =
             let same : key x ≡ key y = exact_unsigned (key x) (key y) e in
             ap (λ is. one (Both x y) ∷ is) b ∙ sym (there x y (all_put xs ys) e)

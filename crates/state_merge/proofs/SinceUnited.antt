@@ -1,15 +1,15 @@
 -- The data of two SINCEs united stands for both regions, has nothing outside them, and keeps its rule.
-use Rattle.std.proofs.Common.{◌≡◌, ℕ, ◌+◌, ◌-◌, ◌≤◌, ◌<◌, ◌^◌, Bool, true, false, ◌||◌, cond, nat_eq, List, [], ◌∷◌, length, map, Option, None, Some, refl, sym, subst, ap, ap₂, ◌∙◌}
+use Rattle.std.proofs.Common.{◌≡◌, ℕ, ◌+◌, ◌-◌, ◌≤◌, ◌<◌, ◌^◌, Bool, true, ◌||◌, cond, nat_eq, List, [], ◌∷◌, length, map, Option, None, Some, refl, sym, subst, ap, ap₂, ◌∙◌}
 use Rattle.std.proofs.lemmas.Bool.{and_from, and_parts}
 use Rattle.std.specs.Cmp.{eq_by_cmp_equiv}
-use Rattle.std.specs.List.{AllByRecursion, list_all}
+use Rattle.std.specs.List.{AllByRecursion}
 use Rattle.std.specs.Option.{unwrap_or}
 use Rattle.mfotl_model.specs.Exact.{AllExact, Covers, View}
 use Rattle.mfotl_model.specs.FreeVariables.{fv}
 use Rattle.mfotl_model.specs.Regions.{Region}
 use Rattle.mfotl_model.specs.Satisfaction.{Valuation, time_at}
 use Rattle.mfotl_model.specs.Tables.{all_sized}
-use Rattle.mfotl_model.specs.Values.{row_cmp, row_total}
+use Rattle.mfotl_model.specs.Values.{row_total}
 use Rattle.mfotl_model.specs.declared.interval.Interval.{Interval}
 use Rattle.mfotl_model.specs.declared.value.Value.{Value}
 use Rattle.eval_since.specs.Recalled.{times_for, times_kept}
@@ -17,9 +17,8 @@ use Rattle.eval_since.specs.SinceBefore.{since_before}
 use Rattle.eval_since.specs.SinceData.{KeepsRule, KeepsTimes, SinceSetting}
 use Rattle.eval_since.specs.Times.{reaches}
 use Rattle.eval_since.specs.declared.recalled.KeptRow.{KeptRow}
-use Rattle.eval_since.specs.declared.recalled.SinceData.{SinceData}
 use Rattle.monitorable.specs.CoreForms.{CoreForm, meaning}
-use Rattle.relations.specs.KeptRows.{RowsAscend, kept_for}
+use Rattle.relations.specs.KeptRows.{kept_for}
 use Rattle.relations.proofs.KeptLemmas.{each_kept}
 use Rattle.monitor_state.specs.JoinedRows.{RowsUnion, either, times_joined}
 use Rattle.monitor_state.specs.Nodes.{left_operand}
@@ -59,7 +58,8 @@ module _ (n : ℕ) (hi : Option ℕ) (past : ℕ) where
       (times_kept rows) → all_sized n (map (λ (k : KeptRow). k.row) rows) ≡ true
   pairs_sized [] all = refl
   pairs_sized (k ∷ ks) all =
-      and_from (nat_eq (length k.row) n) (all_sized n (map (λ (k : KeptRow). k.row) ks)) all.0.sized (pairs_sized ks all.1)
+      and_from (nat_eq (length k.row) n) (all_sized n (map (λ (k : KeptRow). k.row) ks)) all.0.sized
+      (pairs_sized ks all.1)
 
   pairs_each : (rows : List KeptRow) → AllByRecursion (λ (e : List Value × List ℕ). TimesRow n hi past e.0 e.1)
       (times_kept rows) → AllByRecursion (λ (k : KeptRow). KeepsTimes hi past k.times.items) rows
@@ -76,7 +76,8 @@ module _ (n : ℕ) (hi : Option ℕ) (past : ℕ) where
     all_rows : AllByRecursion (λ (e : List Value × List ℕ). TimesRow n hi past e.0 e.1) (times_kept c)
     all_rows =
         each_kept (TimesRow n hi past) (times_kept c) u.ascend
-        (union_keeps (TimesRow n hi past) (times_joined hi) (times_kept a) (times_kept b) (times_kept c) u ka kb row_joined)
+        (union_keeps (TimesRow n hi past) (times_joined hi) (times_kept a) (times_kept b)
+        (times_kept c) u ka kb row_joined)
 
     pub united_sized : all_sized n (map (λ (k : KeptRow). k.row) c) ≡ true
     united_sized = pairs_sized c all_rows
@@ -90,7 +91,8 @@ pub none_united : (hi : Option ℕ) (a b c : List KeptRow) → a ≡ [] → b �
 none_united hi a b [] ea eb u = refl
 none_united hi a b (k ∷ ks) ea eb u =
     absurd (let none : kept_for (times_kept (k ∷ ks)) k.row ≡ None =
-    u.each k.row ∙ ap₂ (λ xs ys. either (times_joined hi) (kept_for (times_kept xs) k.row) (kept_for (times_kept ys) k.row))
+    u.each k.row ∙ ap₂ (λ xs ys. either (times_joined hi) (kept_for (times_kept xs) k.row) (kept_for
+    (times_kept ys) k.row))
     ea eb in
     let here : kept_for (times_kept (k ∷ ks)) k.row ≡ Some k.times.items =
     ap (λ b. cond b (Some k.times.items) (kept_for (times_kept ks) k.row)) ((eq_by_cmp_equiv row_total).refl k.row) in
@@ -102,8 +104,10 @@ one_at_most n hi past es u xs all is e = (all u xs is).keeps.alone e
 
 module _ (view : View) (r q all : Region) (union : (vs : List ℕ) (v : Valuation) → all vs v ≡ (r vs v || q vs v))
     (k : KeptTimes) (p : ℕ) (i : Interval) (f g : CoreForm) (a b c : SinceKept)
-    (ka : SinceKeeps k i f g a) (sa : SinceDataStands (seen_in view r) p i f g a.kept) (ia : WindowInside r (window.Since a))
-    (kb : SinceKeeps k i f g b) (sb : SinceDataStands (seen_in view q) p i f g b.kept) (ib : WindowInside q (window.Since b))
+    (ka : SinceKeeps k i f g a) (sa : SinceDataStands (seen_in view r) p i f g a.kept) (ia : WindowInside r
+    (window.Since a))
+    (kb : SinceKeeps k i f g b) (sb : SinceDataStands (seen_in view q) p i f g b.kept) (ib : WindowInside q
+    (window.Since b))
     (u : SinceUnion a b c) where
   abbrev setting : SinceSetting
   setting = since_setting i f g
@@ -127,7 +131,8 @@ module _ (view : View) (r q all : Region) (union : (vs : List ℕ) (v : Valuatio
 
   second_rows : AllKept (TimesRow (length columns) i.hi past) (times_kept b.kept.rows.items)
   second_rows = rows_keep (length columns) i.hi past b.kept.rows.items kb.rule.sized
-      (subst (λ n. AllByRecursion (λ (e : KeptRow). KeepsTimes i.hi (time_before k n) e.times.items) b.kept.rows.items) same
+      (subst (λ n. AllByRecursion (λ (e : KeptRow). KeepsTimes i.hi
+      (time_before k n) e.times.items) b.kept.rows.items) same
       kb.rule.each)
 
   rule_at : KeepsRule setting past (times_from k a.kept.pulled) c.kept
@@ -136,7 +141,8 @@ module _ (view : View) (r q all : Region) (union : (vs : List ℕ) (v : Valuatio
         few = subst (λ n. n + length (times_from k a.kept.pulled) ≤ 2 ^ 63) (sym u.pulled) ka.rule.few;
         climbs = ka.rule.climbs;
         lefts = over_union setting.left a.kept.lefts.items b.kept.lefts.items c.kept.lefts.items ka.rule.lefts u.lefts;
-        rights = over_union setting.right a.kept.rights.items b.kept.rights.items c.kept.rights.items ka.rule.rights u.rights;
+        rights = over_union setting.right a.kept.rights.items b.kept.rights.items c.kept.rights.items ka.rule.rights
+            u.rights;
         rows = u.rows.ascend;
         sized = united_sized (length columns) i.hi past a.kept.rows.items b.kept.rows.items c.kept.rows.items
             first_rows second_rows rows;
@@ -182,6 +188,7 @@ module _ (view : View) (r q all : Region) (union : (vs : List ℕ) (v : Valuatio
     where
       w : List Value
       w = map v columns
+
       at : (m : ℕ) (answer : Bool) → m ≡ c.kept.pulled
           → ((0 < m → time_at t (m - 1) ≤ x) → answer ≡ since_before i t la lb m x)
           → answer ≡ since_before i t la lb c.kept.pulled x
@@ -212,11 +219,10 @@ module _ (view : View) (r q all : Region) (union : (vs : List ℕ) (v : Valuatio
       }
 
   pub since_inside : WindowInside all (window.Since c)
-  since_inside =
-      (
-        lefts.1,
-        rights.1,
-        subst (λ cs. RowsInside all cs (times_kept c.kept.rows.items)) (sym (u.columns ∙ ka.columns))
+  since_inside = (
+    lefts.1,
+    rights.1,
+    subst (λ cs. RowsInside all cs (times_kept c.kept.rows.items)) (sym (u.columns ∙ ka.columns))
         (rows_inside view r q all union (times_joined i.hi) columns (times_kept a.kept.rows.items)
         (times_kept b.kept.rows.items) (times_kept c.kept.rows.items) first_inside second_inside rows),
-      )
+  )

@@ -1,5 +1,5 @@
 -- Tables united: they are exact for both regions, have nothing outside them, and keep their columns and number.
-use Rattle.std.proofs.Common.{◌≡◌, ℕ, suc, ◌+◌, ◌≤◌, ◌^◌, Bool, true, false, ◌||◌, List, [], ◌∷◌, length, map, Option, None, refl, sym, subst, ap, ap₂, ◌∙◌}
+use Rattle.std.proofs.Common.{◌≡◌, ℕ, suc, ◌+◌, ◌≤◌, ◌^◌, ◌||◌, List, [], ◌∷◌, length, map, refl, sym, subst, ap, ap₂, ◌∙◌}
 use Rattle.std.proofs.lemmas.Bool.{or_parts}
 use Rattle.std.specs.List.{AllByRecursion}
 use Rattle.mfotl_model.specs.Exact.{AllExact, Exact, View}
@@ -34,7 +34,8 @@ union_length [] [] [] u = refl
 union_length (x ∷ xs) (y ∷ ys) (z ∷ zs) u = ap suc (union_length xs ys zs u.1)
 union_length xs ys zs u = absurd u
 
-pub lists_over : (children : List ChildOf) (xs ys zs : List (List TableOf)) → TablesOver children xs → ListsUnion xs ys zs
+pub lists_over : (children : List ChildOf) (xs ys zs : List (List TableOf)) → TablesOver children xs
+    → ListsUnion xs ys zs
     → TablesOver children zs
 lists_over [] [] [] [] over u = tt
 lists_over (c ∷ children) (x ∷ xs) (y ∷ ys) (z ∷ zs) over u =
@@ -89,8 +90,7 @@ module _ (view : View) (r q all : Region) (union : (vs : List ℕ) (v : Valuatio
       → AllExact (seen_in view all) f i zs × TablesInside all zs
   tables_union f i [] [] [] ex ix ey iy u = (tt, tt)
   tables_union f i (x ∷ xs) (y ∷ ys) (z ∷ zs) ex ix ey iy u =
-      let rest = tables_union f (i + 1) xs ys zs ex.1 ix.1 ey.1 iy.1 u.1 in
-      (
+      let rest = tables_union f (i + 1) xs ys zs ex.1 ix.1 ey.1 iy.1 u.1 in (
         (exact_union f i x y z ex.0 ix.0 ey.0 iy.0 u.0, rest.0),
         (inside_union f i x y z ex.0 ix.0 ey.0 iy.0 u.0, rest.1),
       )

@@ -9,12 +9,11 @@ use Rattle.eval_until.specs.declared.recalled.NextData.{NextData}
 use Rattle.relations.specs.declared.table.Table.{Table}
 use Rattle.monitorable.specs.CoreForms.{CoreForm, And, Previous, Next, Since, Until}
 use Rattle.monitor_state.specs.Nodes.{left_operand, nodes_of}
-use Rattle.monitor_state.specs.StateInside.{StandsInside}
 use Rattle.monitor_state.specs.StateLaws.{UnionStands, seen_in}
 use Rattle.monitor_state.specs.StateRules.{NodesKeep}
 use Rattle.monitor_state.specs.StateStands.{NodeDataStands, NodesDataStand, WindowDataStands}
-use Rattle.monitor_state.specs.StateTimes.{KeptTimes, earliest, node_asks, times_of, window_asks}
-use Rattle.monitor_state.specs.StateUnions.{NodeUnion, NodesUnion, StateUnion, WindowUnion}
+use Rattle.monitor_state.specs.StateTimes.{earliest, node_asks, times_of, window_asks}
+use Rattle.monitor_state.specs.StateUnions.{NodeUnion, NodesUnion, WindowUnion}
 use Rattle.monitor_state.specs.Views.{reached}
 use Rattle.monitor_state.specs.declared.state.NodeData.{NodeData}
 use Rattle.monitor_state.specs.declared.state.NodeData.TheVariants as kept

@@ -1,5 +1,5 @@
 -- The rule of UNTIL's data, row by row, and from the rows to the rule.
-use Rattle.std.proofs.Common.{◌≡◌, ℕ, ◌+◌, ◌≤◌, ◌<◌, Bool, true, false, ◌&&◌, cond, nat_le, nat_lt, nat_eq, List, [], ◌∷◌, length, map, Option, None, Some, refl, sym, subst, ap, ◌∙◌, arith}
+use Rattle.std.proofs.Common.{◌≡◌, ℕ, ◌≤◌, ◌<◌, Bool, true, false, ◌&&◌, cond, nat_le, nat_lt, nat_eq, List, [], ◌∷◌, length, map, Option, None, Some, refl, sym, subst, ap, ◌∙◌, arith}
 use Rattle.std.proofs.lemmas.Bool.{and_from, and_parts}
 use Rattle.std.proofs.lemmas.Bool.Decides.{nat_tests}
 use Rattle.std.proofs.lemmas.List.{length-map}
@@ -18,7 +18,7 @@ use Rattle.relations.specs.KeptRows.{RowsAscend, kept_for}
 use Rattle.relations.proofs.KeptLemmas.{each_kept}
 use Rattle.eval_until.specs.Entries.{entries_of}
 use Rattle.eval_until.specs.Keeping.{Sized}
-use Rattle.eval_until.specs.Recalled.{entries_kept, entry_at, starts_kept}
+use Rattle.eval_until.specs.Recalled.{entries_kept, entry_at}
 use Rattle.eval_until.specs.Rules.{Ascending, PlacesAscend, StartsAbove, StartsBelow, Waiting}
 use Rattle.eval_until.specs.Starts.{kept_start}
 use Rattle.eval_until.specs.declared.entries.Entry.{Entry}
@@ -50,7 +50,8 @@ module _ (pulled : ℕ) (next : List ℕ) where
   entries_found (k ∷ ks) u = by (is_at (row_cmp u) k.row) (entries_found ks u)
     where
       by : (b : Bool) → entries_of (entries_kept pulled next ks) u ≡ map (entry_at pulled next) (marks_for ks u)
-          → unwrap_or (cond b (Some (map (entry_at pulled next) k.marks.items)) (kept_for (entries_kept pulled next ks) u)) []
+          → unwrap_or (cond b (Some (map (entry_at pulled next) k.marks.items)) (kept_for
+          (entries_kept pulled next ks) u)) []
           ≡ map (entry_at pulled next) (unwrap_or (cond b (Some k.marks.items) (kept_for (marks_kept ks) u)) [])
       by true rest = refl
       by false rest = rest
@@ -59,24 +60,33 @@ module _ (pulled : ℕ) (next : List ℕ) where
   entries_keys [] = refl
   entries_keys (k ∷ ks) = ap (λ rows. k.row ∷ rows) (entries_keys ks)
 
-  pub entries_ascend : (rows : List KeptMarks) → RowsAscend (marks_kept rows) → RowsAscend (entries_kept pulled next rows)
+  pub entries_ascend : (rows : List KeptMarks) → RowsAscend (marks_kept rows)
+      → RowsAscend (entries_kept pulled next rows)
   entries_ascend rows up = subst (IsStrictlySortedBy row_cmp) (sym (entries_keys rows)) up
 
-  pub marks_rows_ascend : (rows : List KeptMarks) → RowsAscend (entries_kept pulled next rows) → RowsAscend (marks_kept rows)
+  pub marks_rows_ascend : (rows : List KeptMarks) → RowsAscend (entries_kept pulled next rows)
+      → RowsAscend (marks_kept rows)
   marks_rows_ascend rows up = subst (IsStrictlySortedBy row_cmp) (entries_keys rows) up
 
   some_marks : (rows : List KeptMarks) → AllByRecursion (λ (r : List Value × List Entry). 0 < length r.1)
-      (entries_kept pulled next rows) → AllByRecursion (λ (r : List Value × List Mark). 0 < length r.1) (marks_kept rows)
+      (entries_kept pulled next rows) → AllByRecursion (λ (r : List Value
+      × List Mark). 0 < length r.1) (marks_kept rows)
   some_marks [] all = tt
-  some_marks (k ∷ ks) all = (subst (λ n. 0 < n) (length-map k.marks.items (entry_at pulled next)) all.0, some_marks ks all.1)
+  some_marks (k ∷ ks) all = (
+    subst (λ n. 0 < n) (length-map k.marks.items
+        (entry_at pulled next)) all.0,
+    some_marks ks all.1,
+  )
 
   some_entries : (rows : List KeptMarks) → AllByRecursion (λ (r : List Value × List Mark). 0 < length r.1)
-      (marks_kept rows) → AllByRecursion (λ (r : List Value × List Entry). 0 < length r.1) (entries_kept pulled next rows)
+      (marks_kept rows) → AllByRecursion (λ (r : List Value × List Entry). 0 < length r.1)
+      (entries_kept pulled next rows)
   some_entries [] all = tt
   some_entries (k ∷ ks) all =
       (subst (λ n. 0 < n) (sym (length-map k.marks.items (entry_at pulled next))) all.0, some_entries ks all.1)
 
-  behind_marks : (p : ℕ) (ms : List Mark) → list_all (λ (f : Entry). nat_lt p f.place) (map (entry_at pulled next) ms) ≡ true
+  behind_marks : (p : ℕ) (ms : List Mark) → list_all (λ (f : Entry). nat_lt p f.place) (map
+      (entry_at pulled next) ms) ≡ true
       → AllByRecursion (λ q. nat_cmp p q ≡ Less) (map (λ (m : Mark). m.place) ms)
   behind_marks p [] all = tt
   behind_marks p (m ∷ ms) all =
@@ -124,9 +134,11 @@ module _ (pulled : ℕ) (next : List ℕ) where
       record {
         sized = is_sized n u ms filled (λ other. sym here ∙ sized u other);
         some = filled;
-        waiting = sym (list_all-map (λ (e : Entry). nat_le pulled e.place && nat_lt e.place taken && nat_le e.start e.place)
+        waiting = sym (list_all-map (λ (e : Entry). nat_le pulled e.place && nat_lt e.place taken && nat_le e.start
+            e.place)
             (entry_at pulled next) ms)
-            ∙ ap (list_all (λ (e : Entry). nat_le pulled e.place && nat_lt e.place taken && nat_le e.start e.place)) (sym here)
+            ∙ ap (list_all (λ (e : Entry). nat_le pulled e.place && nat_lt e.place taken && nat_le e.start e.place))
+            (sym here)
             ∙ waiting u;
         ascend = marks_places ms (subst PlacesAscend here (ascend u));
       }
@@ -136,7 +148,8 @@ module _ (pulled : ℕ) (next : List ℕ) where
         → ((ms : List Mark) → MarksRow n pulled taken u ms → P ms) → P (marks_for rows u)
     found_or P u none some = by (kept_for (marks_kept rows) u) (all u)
       where
-        by : (o : Option (List Mark)) → ((ms : List Mark) → o ≡ Some ms → MarksRow n pulled taken u ms) → P (unwrap_or o [])
+        by : (o : Option (List Mark)) → ((ms : List Mark) → o ≡ Some ms → MarksRow n pulled taken u ms)
+            → P (unwrap_or o [])
         by None is = none
         by (Some ms) is = some ms (is ms refl)
 

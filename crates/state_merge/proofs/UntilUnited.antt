@@ -1,5 +1,5 @@
 -- The data of two UNTILs united stands for both regions, has nothing outside them, and keeps its rule.
-use Rattle.std.proofs.Common.{◌≡◌, ℕ, ◌+◌, ◌≤◌, ◌^◌, Bool, true, false, ◌||◌, cond, nat_le, List, [], ◌∷◌, length, map, Option, None, Some, refl, sym, subst, subst₂, ap, ap₂, ◌∙◌}
+use Rattle.std.proofs.Common.{◌≡◌, ℕ, ◌+◌, ◌≤◌, ◌^◌, Bool, true, ◌||◌, cond, nat_le, List, [], length, map, Option, sym, subst, subst₂, ap, ap₂, ◌∙◌}
 use Rattle.std.specs.List.{list_any}
 use Rattle.std.specs.Option.{unwrap_or}
 use Rattle.std.specs.Prelude.{min}
@@ -12,7 +12,7 @@ use Rattle.mfotl_model.specs.declared.value.Value.{Value}
 use Rattle.eval_until.specs.Recalled.{starts_kept}
 use Rattle.eval_until.specs.Starts.{start_of}
 use Rattle.eval_until.specs.UntilBefore.{start, until_before}
-use Rattle.eval_until.specs.UntilData.{UntilRule, UntilSetting, until_of}
+use Rattle.eval_until.specs.UntilData.{UntilSetting}
 use Rattle.eval_until.specs.declared.recalled.Mark.{Mark}
 use Rattle.monitorable.specs.CoreForms.{CoreForm, meaning}
 use Rattle.relations.specs.KeptRows.{kept_for}
@@ -34,8 +34,10 @@ use Rattle.state_merge.proofs.UntilRows.{MarksRow, StartRow, entries_ascend, mar
 
 module _ (view : View) (r q all : Region) (union : (vs : List ℕ) (v : Valuation) → all vs v ≡ (r vs v || q vs v))
     (k : KeptTimes) (p : ℕ) (i : Interval) (f g : CoreForm) (a b c : UntilKept)
-    (ka : UntilKeeps k i f g a) (sa : UntilDataStands (seen_in view r) p i f g a.kept) (ia : WindowInside r (window.Until a))
-    (kb : UntilKeeps k i f g b) (sb : UntilDataStands (seen_in view q) p i f g b.kept) (ib : WindowInside q (window.Until b))
+    (ka : UntilKeeps k i f g a) (sa : UntilDataStands (seen_in view r) p i f g a.kept) (ia : WindowInside r
+    (window.Until a))
+    (kb : UntilKeeps k i f g b) (sb : UntilDataStands (seen_in view q) p i f g b.kept) (ib : WindowInside q
+    (window.Until b))
     (u : UntilUnion a b c) where
   abbrev setting : UntilSetting
   setting = until_setting i f g
@@ -104,7 +106,8 @@ module _ (view : View) (r q all : Region) (union : (vs : List ℕ) (v : Valuatio
           high = subst₂ (λ m n. n ≤ m + length (times_from k m)) (sym u.pulled) (sym u.taken) ka.rule.high;
           few = subst (λ m. m + length (times_from k m) ≤ 2 ^ 63) (sym u.pulled) ka.rule.few;
           lefts = over_union lows a.kept.lefts.items b.kept.lefts.items c.kept.lefts.items ka.rule.lefts u.lefts;
-          rights = over_union columns a.kept.rights.items b.kept.rights.items c.kept.rights.items ka.rule.rights u.rights;
+          rights = over_union columns a.kept.rights.items b.kept.rights.items c.kept.rights.items ka.rule.rights
+              u.rights;
           starts = u.starts.ascend;
           wide = starts_wide negated (length lows) c.kept.pulled c.kept.taken (starts_kept c.kept.starts.items) begun_of
               u.starts.ascend;
@@ -113,8 +116,10 @@ module _ (view : View) (r q all : Region) (union : (vs : List ℕ) (v : Valuatio
           some = rows_some c.kept.pulled next (length columns) c.kept.taken c.kept.rows.items rows_of u.rows.ascend;
           waiting = rows_wait c.kept.pulled next (length columns) c.kept.taken c.kept.rows.items rows_of;
           ascend = rows_places c.kept.pulled next (length columns) c.kept.taken c.kept.rows.items rows_of;
-          below = starts_below negated (length lows) c.kept.pulled c.kept.taken (starts_kept c.kept.starts.items) begun_of;
-          above = starts_above negated (length lows) c.kept.pulled c.kept.taken (starts_kept c.kept.starts.items) begun_of;
+          below = starts_below negated (length lows) c.kept.pulled c.kept.taken
+              (starts_kept c.kept.starts.items) begun_of;
+          above = starts_above negated (length lows) c.kept.pulled c.kept.taken
+              (starts_kept c.kept.starts.items) begun_of;
         };
       }
 
@@ -137,22 +142,24 @@ module _ (view : View) (r q all : Region) (union : (vs : List ℕ) (v : Valuatio
   lefts = tables_at view r q all union (meaning (left_operand f)) a.kept.taken b.kept.taken c.kept.taken
       a.kept.lefts.items b.kept.lefts.items c.kept.lefts.items same_taken u.taken sa.lefts ia.0 sb.lefts ib.0 u.lefts
 
-  rights : AllExact (seen_in view all) (meaning g) c.kept.taken c.kept.rights.items × TablesInside all c.kept.rights.items
+  rights : AllExact (seen_in view all) (meaning g) c.kept.taken c.kept.rights.items
+      × TablesInside all c.kept.rights.items
   rights = tables_at view r q all union (meaning g) a.kept.taken b.kept.taken c.kept.taken
-      a.kept.rights.items b.kept.rights.items c.kept.rights.items same_taken u.taken sa.rights ia.1 sb.rights ib.1 u.rights
+      a.kept.rights.items b.kept.rights.items c.kept.rights.items same_taken u.taken sa.rights ia.1 sb.rights ib.1
+      u.rights
 
   pub until_inside : WindowInside all (window.Until c)
-  until_inside =
-      (
-        lefts.1,
-        rights.1,
-        subst (λ cs. RowsInside all cs (starts_kept c.kept.starts.items)) (sym (u.left ∙ ka.left))
+  until_inside = (
+    lefts.1,
+    rights.1,
+    subst (λ cs. RowsInside all cs (starts_kept c.kept.starts.items)) (sym (u.left ∙ ka.left))
         (rows_inside view r q all union min lows (starts_kept a.kept.starts.items) (starts_kept b.kept.starts.items)
         (starts_kept c.kept.starts.items) left_first left_second u.starts),
-        subst (λ cs. RowsInside all cs (marks_kept c.kept.rows.items)) (sym (u.right ∙ ka.right))
-        (rows_inside view r q all union marks_joined columns (marks_kept a.kept.rows.items) (marks_kept b.kept.rows.items)
+    subst (λ cs. RowsInside all cs (marks_kept c.kept.rows.items)) (sym (u.right ∙ ka.right))
+        (rows_inside view r q all union marks_joined columns (marks_kept a.kept.rows.items)
+        (marks_kept b.kept.rows.items)
         (marks_kept c.kept.rows.items) right_first right_second u.rows),
-      )
+  )
 
   -- ---- what it stands for
 
@@ -175,6 +182,7 @@ module _ (view : View) (r q all : Region) (union : (vs : List ℕ) (v : Valuatio
     where
       w : List Value
       w = map v lows
+
       at : (m taken : ℕ) (o : Option ℕ) → m ≡ c.kept.pulled → taken ≡ c.kept.taken
           → (m ≤ j → nat_le (unwrap_or o (cond negated 0 taken)) j ≡ nat_le (start la taken) j)
           → nat_le (unwrap_or o (cond negated 0 c.kept.taken)) j ≡ nat_le (start la c.kept.taken) j
@@ -184,7 +192,8 @@ module _ (view : View) (r q all : Region) (union : (vs : List ℕ) (v : Valuatio
 
   window_right : (dom : List Value) (v : Valuation) → Covers view dom → all columns v ≡ true → (t : List ℕ)
       (la lb : List Bool) → Dates view t → Tells view dom v f la → Tells view dom v g lb → (j : ℕ) → c.kept.pulled ≤ j
-      → list_any (mark_meets i t j) (marks_for c.kept.rows.items (map v columns)) ≡ until_before i t la lb c.kept.taken j
+      → list_any (mark_meets i t j) (marks_for c.kept.rows.items (map v columns))
+      ≡ until_before i t la lb c.kept.taken j
   window_right dom v covers n t la lb dates ta tb j low =
       ap (λ o. list_any (mark_meets i t j) (unwrap_or o [])) (u.rows.each w)
       ∙ pooled marks_joined (λ o. list_any (mark_meets i t j) (unwrap_or o [])) (r columns v) (q columns v)
@@ -192,7 +201,8 @@ module _ (view : View) (r q all : Region) (union : (vs : List ℕ) (v : Valuatio
       (kept_for (marks_kept b.kept.rows.items) w)
       (λ xs ys ea eb rx ry. marks_right i t j xs ys ∙ ap₂ (λ s t. s || t) rx ry
       ∙ or_self (until_before i t la lb c.kept.taken j))
-      (λ near. at a.kept.pulled a.kept.taken (list_any (mark_meets i t j) (marks_for a.kept.rows.items w)) (sym u.pulled)
+      (λ near. at a.kept.pulled a.kept.taken (list_any (mark_meets i t j) (marks_for a.kept.rows.items w))
+      (sym u.pulled)
       (sym u.taken) (λ l. sa.window dom v covers near t la lb dates ta tb j l))
       (λ far. right_first v far)
       (λ near. at b.kept.pulled b.kept.taken (list_any (mark_meets i t j) (marks_for b.kept.rows.items w))
@@ -201,6 +211,7 @@ module _ (view : View) (r q all : Region) (union : (vs : List ℕ) (v : Valuatio
     where
       w : List Value
       w = map v columns
+
       at : (m taken : ℕ) (answer : Bool) → m ≡ c.kept.pulled → taken ≡ c.kept.taken
           → (m ≤ j → answer ≡ until_before i t la lb taken j) → answer ≡ until_before i t la lb c.kept.taken j
       at m taken answer is were right =

@@ -1,2 +1,4 @@
 pub mod Pairs
 pub mod Fits
+pub mod Fitting
+pub mod MergingView

@@ -3,6 +3,7 @@
 
 pub mod laws;
 mod marks;
+mod merging;
 mod nodes;
 mod since_rows;
 mod states;
@@ -11,6 +12,7 @@ mod times;
 mod until_rows;
 mod windows;
 
+pub use merging::Merging;
 pub use since_rows::united_times;
 pub use states::united_states;
 pub use until_rows::{united_marks, united_starts};

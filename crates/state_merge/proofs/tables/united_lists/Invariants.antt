@@ -1,4 +1,4 @@
-use Rattle.std.proofs.Common.{List, Vec, ◌++◌, map}
+use Rattle.std.proofs.Common.{List, ◌++◌, map}
 use Rattle.mfotl_model.specs.Tables.{TableOf}
 use Rattle.monitor_state.specs.StateUnions.{ListsUnion}
 use Rattle.state_merge.specs.Fits.{ListsFit}
