@@ -1,18 +1,21 @@
 -- What is adopted, and what is merged of all pieces.
-use Rattle.std.proofs.Common.{◌≡◌, ◌≢◌, ℕ, ◌≤◌, ◌<◌, Bool, true, false, ◌&&◌, ◌||◌, List, [], ◌∷◌, length, None, Some, refl, sym, subst, ap, ◌∙◌, arith, inl, inr}
+use Rattle.std.proofs.Common.{◌≡◌, ◌≢◌, ℕ, ◌≤◌, ◌<◌, Bool, true, false, ◌&&◌, ◌||◌, List, [], ◌∷◌, length, Option, None, Some, refl, sym, subst, ap, ◌∙◌, arith, inl, inr}
 use Rattle.std.proofs.Math.Dec.{eqb}
 use Rattle.std.proofs.lemmas.Bool.{and_from, eqb-true, ne_eqb, or_cases, or_left, or_parts, or_right}
 use Rattle.std.proofs.lemmas.Map.Steps.{length-le_from_distinct_below}
 use Rattle.std.specs.List.{AllByRecursion, IsDistinct, list_any}
 use Rattle.mfotl_model.specs.Regions.{Region, in_both, near_of}
 use Rattle.mfotl_model.specs.Satisfaction.{Valuation}
-use Rattle.mfotl_model.specs.Strategies.{workers_of}
+use Rattle.mfotl_model.specs.Strategies.{Strategy, workers_of}
 use Rattle.mfotl_model.specs.declared.event.TimePoint.{TimePoint}
 use Rattle.monitorable.specs.CoreForms.{CoreForm}
-use Rattle.monitor_state.specs.Pieces.{Adopts, AllBelow, AllDiffer, PieceStands, near_some, view_of}
+use Rattle.monitor_state.specs.Pieces.{Adopts, AllBelow, AllDiffer, Merges, PieceStands, near_some, view_of}
 use Rattle.monitor_state.specs.StateInside.{StandsInside}
 use Rattle.monitor_state.specs.StateLaws.{AdoptMerges, AllMerged}
+use Rattle.monitor_state.specs.StateRules.{StateRule}
+use Rattle.monitor_state.specs.StateStands.{StateStands}
 use Rattle.monitor_state.specs.declared.state.State.{State}
+use Rattle.state_merge.specs.Finishing.{AllAdopted}
 use Rattle.state_merge.proofs.PartLaw.{part_stands}
 use Rattle.state_merge.proofs.UnionLaw.{union_stands}
 
@@ -114,3 +117,14 @@ all_merged core s s2 k2 log (j ∷ ks) merged covers some m differ below size = 
       (j ∷ ks) differ below size k.0 k.1)) n)
       m.2.stands,
 )
+
+-- what was merged of the pieces of all workers is the state that was looked for
+pub finished : (core : CoreForm) (s s2 : Strategy) (k2 : ℕ) (log : List TimePoint) (ks : List ℕ) (merged : Option State)
+    (state : State) → merged ≡ Some state → AllAdopted s ks → Merges core s s2 k2 log ks merged
+    → StateRule core state × StateStands (view_of core (near_of s2 k2) log) core state
+finished core s s2 k2 log ks merged state is all m =
+    let whole = all_merged core s s2 k2 log ks merged all.covers all.some m all.differ all.below all.size in
+    let same : whole.0 ≡ state = let e = whole.1 in cc in (
+      subst (StateRule core) same whole.2,
+      subst (StateStands (view_of core (near_of s2 k2) log) core) same whole.3,
+    )

@@ -1,10 +1,14 @@
 //! The merge of a worker's new state.
-ghost use Rattle.std.specs.Prelude.{◌≡◌, ◌+◌, ◌<◌, ◌∷◌, ◌==◌, List, None, Some, ℕ, IfOk, IfSome, OnOk};
+ghost use Rattle.std.specs.Prelude.{◌≡◌, ◌+◌, ◌<◌, ◌∷◌, ◌==◌, List, None, Some, ℕ, IfOk, IfSome, IsSome, OnOk};
+ghost use Rattle.mfotl_model.specs.Regions.{near_of};
 ghost use Rattle.mfotl_model.specs.Strategies.{Strategy};
 ghost use Rattle.mfotl_model.specs.declared.event.TimePoint.{TimePoint};
 ghost use Rattle.monitorable.specs.CoreForms.{CoreForm};
 ghost use Rattle.monitorable.specs.Cores.{core_form};
-ghost use Rattle.monitor_state.specs.Pieces.{Adopts, Merges, PieceStands};
+ghost use Rattle.monitor_state.specs.Pieces.{Adopts, Merges, PieceStands, view_of};
+ghost use Rattle.monitor_state.specs.StateRules.{StateRule};
+ghost use Rattle.monitor_state.specs.StateStands.{StateStands};
+ghost use Rattle.state_merge.specs.Finishing.{AllAdopted};
 ghost use Rattle.state_merge.specs.Fits.{Fits};
 ghost use Rattle.state_merge.specs.MergingView.{merging_of};
 
@@ -74,5 +78,21 @@ impl Merging {
         ensures { result ≡ ((merging_of self.now).adopted == (merging_of self.now).count) }
     {
         self.adopted == self.count
+    }
+
+    /// The core, and the state that the worker goes on from. It takes no memory.
+    pub fn into_state(self) -> (Core, State)
+        requires some { IsSome (merging_of self).merged }
+        ensures core { core_form result.0 ≡ (merging_of self).core }
+        ensures state { (merging_of self).merged ≡ Some result.1 }
+        ensures stands { (core : CoreForm) (s s2 : Strategy) (k2 : ℕ) (log : List TimePoint) (ks : List ℕ) →
+            AllAdopted s ks → Merges core s s2 k2 log ks (merging_of self).merged →
+            StateRule core result.1 × StateStands (view_of core (near_of s2 k2) log) core result.1 }
+    {
+        let Merging { core, merged, .. } = self;
+        let Some(state) = merged else {
+            unreachable!();
+        };
+        (core, state)
     }
 }
