@@ -1,5 +1,5 @@
 -- The nodes with which a monitor begins stand for the empty log.
-use Rattle.std.proofs.Common.{subst, ◌≡◌, ◌+◌, ◌-◌, ◌≤◌, Bool, true, false, ◌&&◌, cond, List, [], ◌∷◌, ◌++◌, length, map, drop, refl, sym, ap, ◌∙◌, arith, append_assoc, append-nil, inl, inr}
+use Rattle.std.proofs.Common.{subst, ◌≡◌, ◌+◌, ◌-◌, ◌≤◌, Bool, true, false, ◌&&◌, cond, List, [], ◌∷◌, ◌++◌, length, map, drop, refl, sym, ap, ap₂, ◌∙◌, arith, append_assoc, append-nil, inl, inr}
 use Rattle.mfotl_model.specs.Exact.{AllExact, View}
 use Rattle.mfotl_model.specs.FreeVariables.{fv}
 use Rattle.mfotl_model.specs.Log.{times}
@@ -32,6 +32,7 @@ use Rattle.monitor_state.specs.SinceNode.{IsSince, IsSinceState, SinceStands, Si
 use Rattle.monitor_state.specs.Views.{reached}
 use Rattle.monitor_state.specs.declared.node.Node.{Node}
 use Rattle.monitor_state.specs.declared.node.Node.TheVariants as node
+use Rattle.monitor_state.specs.Stamps.{stamps}
 
 pub adds_then : (fs gs : List CoreForm) (old mid new : List Node) → Adds fs old mid → Adds gs mid new
     → Adds (fs ++ gs) old new
@@ -108,6 +109,9 @@ since_begins_at i f g s begun view empty =
     record {
       pulled = pulled;
       timed = omega arith;
+      known =
+          ap (λ (x : SinceOf). stamps x.pulled x.window.last x.times) begun.begun
+          ∙ sym (ap₂ (λ n log. drop (n - 1) (times log)) pulled empty);
       left_pushed = omega arith;
       right_pushed = omega arith;
       lefts = subst (λ xs. AllExact view (meaning (left_operand f)) s.pulled xs) (sym (ap (λ (x : SinceOf). x.lefts) begun.begun)) tt;
@@ -292,6 +296,7 @@ or_is f g s begun =
     record {
       columns =
           ap (λ (x : OrOf). x.left) begun.begun ∙ sym (joined_within (fv (meaning f)) (fv (meaning g)) begun.within);
+      right = ap (λ (x : OrOf). x.right) begun.begun;
     }
 
 pub or_added : (f g : CoreForm) (s : OrOf) (old new : List Node) → OrBegun f g s → new ≡ old ++ node.Or s ∷ []
@@ -319,6 +324,9 @@ previous_begins i f s begun view empty =
     record {
       pulled = pulled ∙ none_reached view empty (Previous i f);
       timed = omega arith;
+      known =
+          ap (λ (x : PrevOf). stamps x.pulled x.last x.times) begun.begun
+          ∙ sym (ap₂ (λ n log. drop (n - 1) (times log)) pulled empty);
       pushed = omega arith;
       tables = subst (λ xs. AllExact view (meaning f) (s.pulled - 1) xs) (sym (ap (λ (x : PrevOf). x.tables) begun.begun)) tt;
       follows = λ dom v covers near t a dates tells. begun.follows t a v;
@@ -347,6 +355,8 @@ next_begins i f s begun view empty =
     record {
       pulled = pulled ∙ none_reached view empty (Next i f);
       timed = omega arith;
+      kept =
+          ap (λ (x : NextOf). x.times) begun.begun ∙ sym (ap₂ (λ n log. drop n (times log)) pulled empty);
       pushed = ap tables_pushed begun.begun ∙ none_reached view empty f;
       bare = λ h. (pulled, ap (λ (x : NextOf). length x.tables) begun.begun);
       tables = subst (λ xs. AllExact view (meaning f) (s.pulled + 1) xs) (sym (ap (λ (x : NextOf). x.tables) begun.begun)) tt;

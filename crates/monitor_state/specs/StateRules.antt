@@ -72,7 +72,7 @@ NodeKeeps k (Not f) (kept.Join s) = JoinKeeps (Not f) s
 NodeKeeps k (And f g) (kept.Join s) = JoinKeeps (And f g) s
 NodeKeeps k (And f g) (kept.Filter tables w) =
     (filters f g ≡ true) × AreOver (fv (meaning f)) tables.items × WindowKeeps k (left_operand g) w
-NodeKeeps k (Or f g) (kept.Or s) = OrRule (fv (meaning f)) (fv (meaning g)) s
+NodeKeeps k (Or f g) (kept.Or s) = OrRule (fv (meaning (Or f g))) (fv (meaning g)) s
 NodeKeeps k (Previous i f) (kept.Previous s) = PreviousRule (fv (meaning f)) (times_from k s.pulled) s
 NodeKeeps k (Next i f) (kept.Next s) = NextRule (fv (meaning f)) (times_from k s.pulled) s
 NodeKeeps k (Since i f g) (kept.Window w) = WindowKeeps k (Since i f g) w

@@ -78,8 +78,8 @@ pub record UntilDataStands (view : View) (p : ℕ) (i : Interval) (f g : CoreFor
       → nat_le (start_of (is_negated f) s.taken (starts_kept s.starts.items) (map v (fv (meaning (left_operand f))))) j
       ≡ nat_le (start a s.taken) j
   pub window : (dom : List Value) (v : Valuation) → Covers view dom → view.near (fv (meaning g)) v ≡ true
-      → (t : List ℕ) (a b : List Bool) → Dates view t → Tells view dom v f a → Tells view dom v g b
-      → (j : ℕ) → s.pulled ≤ j
+      → (t : List ℕ) (a b : List Bool) → Dates view t → length view.log ≤ length t → Tells view dom v f a
+      → Tells view dom v g b → (j : ℕ) → s.pulled ≤ j
       → list_any (mark_meets i t j) (marks_for s.rows.items (map v (fv (meaning g)))) ≡ until_before i t a b s.taken j
 
 -- the data of a window stands for the log with p positions pulled

@@ -1,7 +1,7 @@
 -- Where the timestamps of a state live: once for all nodes, from the earliest place on that one of them asks for.
 -- A SINCE or PREVIOUS with p positions pulled asks for the place p - 1 (its `last` when it is resumed) and those
 -- behind it (its `times`), an UNTIL or NEXT for those from p on; other nodes ask for none.
-use Rattle.std.specs.Prelude.{ℕ, ◌-◌, cond, min, nat_eq, List, [], ◌∷◌, length, drop, slice_index}
+use Rattle.std.specs.Prelude.{ℕ, zero, suc, ◌-◌, min, List, [], ◌∷◌, length, drop, slice_index}
 use Rattle.monitor_state.specs.declared.state.NodeData.{NodeData}
 use Rattle.monitor_state.specs.declared.state.NodeData.TheVariants as kept
 use Rattle.monitor_state.specs.declared.state.State.{State}
@@ -23,7 +23,8 @@ times_from k p = drop (p - k.first) k.stamps
 
 -- that of the place before; 0 before the first place
 abbrev pub time_before : KeptTimes → ℕ → ℕ
-time_before k p = cond (nat_eq p 0) 0 (slice_index k.stamps (p - 1 - k.first))
+time_before k zero = 0
+time_before k (suc p) = slice_index k.stamps (p - k.first)
 
 -- the earliest place that a window asks for
 abbrev pub window_asks : WindowData → ℕ
@@ -38,7 +39,7 @@ node_asks given (kept.Window w) = window_asks w
 node_asks given (kept.Filter tables w) = window_asks w
 node_asks given other = given
 
--- the earliest one of all, and of the place of the next table
+-- the earliest one of all, and of the given place
 abbrev pub earliest : ℕ → List NodeData → ℕ
 earliest given [] = given
-earliest given (n ∷ ns) = min (node_asks given n) (earliest given ns)
+earliest given (n ∷ ns) = earliest (min given (node_asks given n)) ns
