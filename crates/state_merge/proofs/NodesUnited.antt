@@ -56,7 +56,8 @@ node_same given a b c u = absurd u
 pub earliest_same : (given : ℕ) (xs ys zs : List NodeData) → NodesUnion xs ys zs → earliest given zs ≡ earliest given xs
 earliest_same given [] [] [] u = refl
 earliest_same given (x ∷ xs) (y ∷ ys) (z ∷ zs) u =
-    ap₂ min (node_same given x y z u.0) (earliest_same given xs ys zs u.1)
+    ap (λ n. earliest (min given n) zs) (node_same given x y z u.0)
+    ∙ earliest_same (min given (node_asks given x)) xs ys zs u.1
 earliest_same given xs ys zs u = absurd u
 
 -- ---- conjunctions
@@ -129,7 +130,7 @@ module _ (view : View) (r q all : Region) (union : (vs : List ℕ) (v : Valuatio
       let high = union_length a.rights.items b.rights.items c.rights.items u.rights in (
         record {
           few = subst₂ (λ m n. m + n ≤ 2 ^ 63) (sym u.pulled) (sym low) x.0.few;
-          lefts = over_union (fv (meaning f)) a.lefts.items b.lefts.items c.lefts.items x.0.lefts u.lefts;
+          lefts = over_union (fv (meaning (Or f g))) a.lefts.items b.lefts.items c.lefts.items x.0.lefts u.lefts;
           rights = over_union (fv (meaning g)) a.rights.items b.rights.items c.rights.items x.0.rights u.rights;
         },
         record {

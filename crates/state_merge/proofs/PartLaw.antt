@@ -57,8 +57,8 @@ module _ (view : View) (small : Region) (part : IsPart small view.near) where
         rights = all_part (meaning g) s.taken s.rights.items stands.rights;
         runs = λ dom v covers n a ta j low.
             stands.runs dom v covers (part (fv (meaning (left_operand f))) v n) a ta j low;
-        window = λ dom v covers n t a b dates ta tb j low.
-            stands.window dom v covers (part (fv (meaning g)) v n) t a b dates ta tb j low;
+        window = λ dom v covers n t a b dates long ta tb j low.
+            stands.window dom v covers (part (fv (meaning g)) v n) t a b dates long ta tb j low;
       }
 
   window_part : (p : ℕ) (f : CoreForm) (w : WindowData) → WindowDataStands view p f w

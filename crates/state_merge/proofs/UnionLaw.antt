@@ -79,7 +79,8 @@ module _ (view : View) (r q : Region) where
       → NodesDataStand (seen_in view q) fs ys → NodesUnion xs ys zs → earliest given ys ≡ earliest given xs
   earliest_alike given [] [] [] [] sx sy u = refl
   earliest_alike given (f ∷ fs) (x ∷ xs) (y ∷ ys) (z ∷ zs) sx sy u =
-      ap₂ min (node_alike given f x y z sx.0 sy.0 u.0) (earliest_alike given fs xs ys zs sx.1 sy.1 u.1)
+      ap (λ n. earliest (min given n) ys) (node_alike given f x y z sx.0 sy.0 u.0)
+      ∙ earliest_alike (min given (node_asks given x)) fs xs ys zs sx.1 sy.1 u.1
   earliest_alike given [] (x ∷ xs) ys zs sx sy u = absurd sx
   earliest_alike given (f ∷ fs) [] ys zs sx sy u = absurd sx
   earliest_alike given fs xs ys zs sx sy u = absurd u

@@ -191,10 +191,11 @@ module _ (view : View) (r q all : Region) (union : (vs : List ℕ) (v : Valuatio
           right low
 
   window_right : (dom : List Value) (v : Valuation) → Covers view dom → all columns v ≡ true → (t : List ℕ)
-      (la lb : List Bool) → Dates view t → Tells view dom v f la → Tells view dom v g lb → (j : ℕ) → c.kept.pulled ≤ j
+      (la lb : List Bool) → Dates view t → length view.log ≤ length t → Tells view dom v f la → Tells view dom v g lb
+      → (j : ℕ) → c.kept.pulled ≤ j
       → list_any (mark_meets i t j) (marks_for c.kept.rows.items (map v columns))
       ≡ until_before i t la lb c.kept.taken j
-  window_right dom v covers n t la lb dates ta tb j low =
+  window_right dom v covers n t la lb dates long ta tb j low =
       ap (λ o. list_any (mark_meets i t j) (unwrap_or o [])) (u.rows.each w)
       ∙ pooled marks_joined (λ o. list_any (mark_meets i t j) (unwrap_or o [])) (r columns v) (q columns v)
       (until_before i t la lb c.kept.taken j) (kept_for (marks_kept a.kept.rows.items) w)
@@ -203,10 +204,10 @@ module _ (view : View) (r q all : Region) (union : (vs : List ℕ) (v : Valuatio
       ∙ or_self (until_before i t la lb c.kept.taken j))
       (λ near. at a.kept.pulled a.kept.taken (list_any (mark_meets i t j) (marks_for a.kept.rows.items w))
       (sym u.pulled)
-      (sym u.taken) (λ l. sa.window dom v covers near t la lb dates ta tb j l))
+      (sym u.taken) (λ l. sa.window dom v covers near t la lb dates long ta tb j l))
       (λ far. right_first v far)
       (λ near. at b.kept.pulled b.kept.taken (list_any (mark_meets i t j) (marks_for b.kept.rows.items w))
-      (same ∙ sym u.pulled) (same_taken ∙ sym u.taken) (λ l. sb.window dom v covers near t la lb dates ta tb j l))
+      (same ∙ sym u.pulled) (same_taken ∙ sym u.taken) (λ l. sb.window dom v covers near t la lb dates long ta tb j l))
       (λ far. right_second v far) (sym (union columns v) ∙ n)
     where
       w : List Value
