@@ -82,6 +82,20 @@ impl JoinState {
         })
     }
 
+    /// The state of the same conjuncts of which `kept` is the data.
+    pub fn resumed(self, alloc: Global, kept: JoinData) -> Result<Self, AllocError>
+        requires rule { JoinRule self.children kept }
+        ensures { IfOk result (λ state. state ≡ join_of self kept) }
+    {
+        let children = refilled(alloc, self.children, kept.tables)?;
+        Ok(JoinState {
+            columns: self.columns,
+            tests: self.tests,
+            pulled: kept.pulled,
+            children,
+        })
+    }
+
     /// What the state keeps, as plain data.
     pub fn state(&self, alloc: Global) -> Result<JoinData, AllocError>
         ensures same { IfOk result (λ kept. join_of self.now kept ≡ self.now) }

@@ -95,6 +95,20 @@ impl OrState {
         })
     }
 
+    /// The state of the same operands of which `kept` is the data. It takes no memory.
+    pub fn resumed(self, kept: OrData) -> Self
+        requires rule { OrRule self.left self.right kept }
+        ensures { result ≡ or_of self.left self.right kept }
+    {
+        OrState {
+            left: self.left,
+            right: self.right,
+            pulled: kept.pulled,
+            lefts: VecDeque::from_vec(kept.lefts),
+            rights: VecDeque::from_vec(kept.rights),
+        }
+    }
+
     /// What the state keeps, as plain data.
     pub fn state(&self, alloc: Global) -> Result<OrData, AllocError>
         ensures same { IfOk result (λ kept. or_of self.now.left self.now.right kept ≡ self.now) }

@@ -1,5 +1,5 @@
 -- The state of PREVIOUS as contracts see it, and when it is right for a valuation.
-use Rattle.std.specs.Prelude.{◌≡◌, ℕ, ◌+◌, ◌-◌, ◌<◌, Bool, ◌&&◌, ◌||◌, cond, nat_eq, nat_lt, List, length, drop}
+use Rattle.std.specs.Prelude.{◌≡◌, ℕ, ◌+◌, ◌-◌, ◌<◌, Bool, ◌&&◌, ◌||◌, cond, nat_eq, nat_lt, List, ◌∷◌, length, drop}
 use Rattle.mfotl_model.specs.Satisfaction.{Valuation, time_at, truth_at}
 use Rattle.mfotl_model.specs.Settled.{previous_settled}
 use Rattle.mfotl_model.specs.Tables.{TableOf, has}
@@ -27,12 +27,13 @@ pub record FollowsPrevious (s : PrevOf) (t : List ℕ) (a : List Bool) (v : Valu
 abbrev pub previous_due : PrevOf → Bool
 previous_due s = nat_lt 0 (length s.times) && (nat_eq s.pulled 0 || nat_lt 0 (length s.tables))
 
--- one position was pulled; all but the first use up a table
+-- one position was pulled, and its time is the last one now; all but the first use up a table
 pub record AdvancesPrevious (old new : PrevOf) : Type 0 where
   pub interval : new.interval ≡ old.interval
   pub columns : new.columns ≡ old.columns
   pub pulled : new.pulled ≡ old.pulled + 1
   pub times : new.times ≡ drop 1 old.times
+  pub stamps : old.times ≡ new.last ∷ new.times
   pub tables : new.tables ≡ cond (nat_eq old.pulled 0) old.tables (drop 1 old.tables)
 
 -- the next position is due exactly where it is settled, for times of which as many were pushed, and an

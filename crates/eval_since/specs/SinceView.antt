@@ -45,7 +45,7 @@ abbrev pub Climbs : ℕ → List ℕ → ℕ → Type 0
 Climbs x [] y = x ≤ y
 Climbs x (t ∷ ts) y = (x ≤ t) × Climbs t ts y
 
--- one position was pulled
+-- one position was pulled, and its time is the last one now
 pub record Advances (old new : SinceOf) : Type 0 where
   pub pulled : new.pulled ≡ old.pulled + 1
   pub negated : new.negated ≡ old.negated
@@ -54,6 +54,7 @@ pub record Advances (old new : SinceOf) : Type 0 where
   pub left : new.window.left ≡ old.window.left
   pub right : new.window.right ≡ old.window.right
   pub times : new.times ≡ drop 1 old.times
+  pub stamps : old.times ≡ new.window.last ∷ new.times
   pub lefts : new.lefts ≡ drop 1 old.lefts
   pub rights : new.rights ≡ drop 1 old.rights
 

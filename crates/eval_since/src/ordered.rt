@@ -38,12 +38,7 @@ impl OrderedGroup {
     }
 
     /// Copies a row with its times, where it has some and isn't there yet.
-    pub fn pour_row(
-        &mut self,
-        alloc: Global,
-        row: &Row,
-        times: &Times,
-    ) -> Result<(), AllocError>
+    pub fn pour_row(&mut self, alloc: Global, row: &Row, times: &Times) -> Result<(), AllocError>
         ensures { OnOk result ((u : List Value) → kept_for self.new u
             ≡ option_or (kept_for self.old u) (cond (is_at (row_cmp u) row.now) (filled times.now) None)) }
     {

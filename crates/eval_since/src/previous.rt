@@ -1,5 +1,5 @@
 //! PREVIOUS over tables that are pushed position by position.
-ghost use Rattle.std.specs.Prelude.{◌≡◌, ◌+◌, ◌-◌, ◌<◌, ◌^◌, ◌∷◌, ◌++◌, ◌&&◌, [], Bool, IfOk, IfSome, IsTrue, List, MatchOption, OnOk, OnErr, is_some, length, ℕ};
+ghost use Rattle.std.specs.Prelude.{◌≡◌, ◌+◌, ◌-◌, ◌<◌, ◌^◌, ◌∷◌, ◌++◌, ◌&&◌, [], Bool, IfOk, IfSome, IsTrue, List, MatchOption, None, OnOk, OnErr, Some, cond, is_some, length, nat_eq, ℕ};
 ghost use Rattle.mfotl_model.specs.Satisfaction.{Valuation, previous, time_at, truth_at};
 ghost use Rattle.mfotl_model.specs.Tables.{all_apart, has};
 ghost use Rattle.eval_since.specs.PreviousData.{PreviousRule, previous_of};
@@ -97,6 +97,47 @@ impl PrevState {
             pulled: self.pulled,
             tables: copied_tables(alloc, &self.tables)?,
         })
+    }
+
+    /// The state of the same operand and interval of which `kept` is the data, where `last` is the time of
+    /// the position pulled last and `times` are those from the next one on.
+    pub fn resumed(
+        self,
+        alloc: Global,
+        last: u64,
+        times: &[u64],
+        kept: PrevData,
+    ) -> Result<Self, AllocError>
+        requires rule { PreviousRule self.columns times.now kept }
+        ensures { IfOk result (λ state. state ≡ previous_of self.interval self.columns last times.now kept) }
+    {
+        let state = PrevState::resume(
+            alloc,
+            &self.interval,
+            self.columns.as_slice(),
+            last,
+            times,
+            kept,
+        )?;
+        Ok(state)
+    }
+
+    /// The time of the position pulled last, if one was.
+    pub fn last(&self) -> Option<u64>
+        ensures { result ≡ cond (nat_eq self.now.pulled 0) None (Some self.now.last) }
+    {
+        if self.pulled == 0 {
+            None
+        } else {
+            Some(self.last)
+        }
+    }
+
+    /// The times of the positions from the next one on.
+    pub fn times(&self) -> &VecDeque<u64>
+        ensures { result.now.items ≡ self.now.times }
+    {
+        &self.times
     }
 
     /// Whether the table is over the operand's columns, as `push_right` asks.

@@ -1,5 +1,5 @@
 //! SINCE over tables that are pushed position by position.
-ghost use Rattle.std.specs.Prelude.{◌≡◌, ◌+◌, ◌-◌, ◌<◌, ◌≤◌, ◌^◌, ◌∷◌, ◌++◌, [], Bool, IfOk, IfSome, IsTrue, List, MatchOption, None, OnOk, ◌&&◌, ◌||◌, drop, is_some, length, map, ℕ};
+ghost use Rattle.std.specs.Prelude.{◌≡◌, ◌+◌, ◌-◌, ◌<◌, ◌≤◌, ◌^◌, ◌∷◌, ◌++◌, [], Bool, IfOk, IfSome, IsTrue, List, MatchOption, None, OnOk, Some, ◌&&◌, ◌||◌, cond, drop, is_some, length, map, nat_eq, ℕ};
 ghost use Rattle.mfotl_model.specs.Satisfaction.{Valuation, since, time_at, truth_at};
 ghost use Rattle.mfotl_model.specs.Tables.{all_among, all_apart, has, valuation};
 ghost use Rattle.mfotl_model.specs.declared.value.Value.{Value};
@@ -124,6 +124,70 @@ impl SinceState {
             lefts: VecDeque::from_vec(lefts),
             rights: VecDeque::from_vec(rights),
         })
+    }
+
+    /// The state of the same operands and interval of which `kept` is the data, where `last` is the time of
+    /// the position pulled last and `times` are those from the next one on.
+    pub fn resumed(
+        self,
+        alloc: Global,
+        last: u64,
+        times: &[u64],
+        kept: SinceData,
+    ) -> Result<Self, AllocError>
+        requires rule { KeepsRule (setting_of self) last times.now kept }
+        ensures setting { IfOk result (λ state. setting_of state ≡ setting_of self) }
+        ensures pulled { IfOk result (λ state. state.pulled ≡ kept.pulled) }
+        ensures last { IfOk result (λ state. state.window.last ≡ last) }
+        ensures times { IfOk result (λ state. state.times ≡ times.now) }
+        ensures lefts { IfOk result (λ state. state.lefts ≡ kept.lefts.items) }
+        ensures rights { IfOk result (λ state. state.rights ≡ kept.rights.items) }
+        ensures follows { IfOk result (λ state.
+            (t : List ℕ) (a b : List Bool) (v : Valuation) →
+            FollowsData (setting_of self) last times.now kept t a b v → Follows state t a b v) }
+    {
+        let state = SinceState::resume(
+            alloc,
+            self.window.interval(),
+            self.window.left(),
+            self.window.right(),
+            self.negated,
+            last,
+            times,
+            kept,
+        )?;
+        Ok(state)
+    }
+
+    pub fn interval(&self) -> &Interval
+        ensures { result.now ≡ self.now.window.interval }
+    {
+        self.window.interval()
+    }
+
+    /// The right operand's columns, those of the rows that are kept.
+    pub fn columns(&self) -> &[u32]
+        ensures { result.now ≡ self.now.window.right }
+    {
+        self.window.right()
+    }
+
+    /// The time of the position pulled last, if one was.
+    pub fn last(&self) -> Option<u64>
+        ensures { result ≡ cond (nat_eq self.now.pulled 0) None (Some self.now.window.last) }
+    {
+        if self.pulled == 0 {
+            None
+        } else {
+            Some(self.window.last())
+        }
+    }
+
+    /// The times of the positions from the next one on.
+    pub fn times(&self) -> &VecDeque<u64>
+        ensures { result.now.items ≡ self.now.times }
+    {
+        &self.times
     }
 
     /// Whether the table is over the left operand's columns, as `push_left` asks.

@@ -394,8 +394,15 @@ impl Window {
         Ok(rows)
     }
 
+    pub fn last(&self) -> u64
+        ensures { result ≡ self.now.last }
+    {
+        self.last
+    }
+
     pub fn right(&self) -> &[u32]
-        ensures { result.now ≡ self.now.right }
+        ensures right { result.now ≡ self.now.right }
+        ensures apart { IsTrue (all_apart self.now.right) }
     {
         self.right.as_slice()
     }

@@ -342,6 +342,12 @@ impl Ahead {
         &self.interval
     }
 
+    pub fn negated(&self) -> bool
+        ensures { result ≡ self.now.negated }
+    {
+        self.negated
+    }
+
     pub fn left(&self) -> &[u32]
         ensures { result.now ≡ self.now.left }
     {
@@ -349,7 +355,8 @@ impl Ahead {
     }
 
     pub fn right(&self) -> &[u32]
-        ensures { result.now ≡ self.now.right }
+        ensures right { result.now ≡ self.now.right }
+        ensures apart { IsTrue (all_apart self.now.right) }
     {
         self.right.as_slice()
     }

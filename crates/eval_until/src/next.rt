@@ -89,6 +89,23 @@ impl NextState {
         })
     }
 
+    /// The state of the same operand and interval of which `kept` is the data, where `times` are those from
+    /// the next position on.
+    pub fn resumed(self, alloc: Global, times: &[u64], kept: NextData) -> Result<Self, AllocError>
+        requires rule { NextRule self.columns times.now kept }
+        ensures { IfOk result (λ state. state ≡ next_of self.interval self.columns times.now kept) }
+    {
+        let state = NextState::resume(alloc, &self.interval, self.columns.as_slice(), times, kept)?;
+        Ok(state)
+    }
+
+    /// The times of the positions from the next one on.
+    pub fn times(&self) -> &VecDeque<u64>
+        ensures { result.now.items ≡ self.now.times }
+    {
+        &self.times
+    }
+
     /// What the state keeps, as plain data.
     pub fn state(&self, alloc: Global) -> Result<NextData, AllocError>
         ensures same { IfOk result (λ kept.

@@ -161,6 +161,55 @@ impl UntilState {
         })
     }
 
+    /// The state of the same operands and interval of which `kept` is the data, where `times` are those from
+    /// the next position on.
+    pub fn resumed(self, alloc: Global, times: &[u64], kept: UntilData) -> Result<Self, AllocError>
+        requires rule { UntilRule (until_of (setting_of self) times.now kept) }
+        ensures setting { IfOk result (λ state. setting_of state ≡ setting_of self) }
+        ensures pulled { IfOk result (λ state. state.ahead.pulled ≡ kept.pulled) }
+        ensures taken { IfOk result (λ state. state.ahead.taken ≡ kept.taken) }
+        ensures times { IfOk result (λ state. state.times ≡ times.now) }
+        ensures lefts { IfOk result (λ state. state.lefts ≡ kept.lefts.items) }
+        ensures rights { IfOk result (λ state. state.rights ≡ kept.rights.items) }
+        ensures left { IfOk result (λ state. (a : List Bool) (v : Valuation) →
+            FollowsLeft (until_of (setting_of self) times.now kept) a v → FollowsLeft state a v) }
+        ensures follows { IfOk result (λ state.
+            (t : List ℕ) (a b : List Bool) (v : Valuation) →
+            Follows (until_of (setting_of self) times.now kept) t a b v → Follows state t a b v) }
+    {
+        let state = UntilState::resume(
+            alloc,
+            self.ahead.interval(),
+            self.ahead.left(),
+            self.ahead.right(),
+            self.ahead.negated(),
+            times,
+            kept,
+        )?;
+        Ok(state)
+    }
+
+    /// The left operand's columns, those of the rows that starts are kept for.
+    pub fn left_columns(&self) -> &[u32]
+        ensures { result.now ≡ self.now.ahead.left }
+    {
+        self.ahead.left()
+    }
+
+    /// The right operand's columns, those of the rows that marks are kept for.
+    pub fn right_columns(&self) -> &[u32]
+        ensures { result.now ≡ self.now.ahead.right }
+    {
+        self.ahead.right()
+    }
+
+    /// The times of the positions from the next one on.
+    pub fn times(&self) -> &VecDeque<u64>
+        ensures { result.now.items ≡ self.now.times }
+    {
+        &self.times
+    }
+
     /// What the state keeps, as plain data.
     pub fn state(&self, alloc: Global) -> Result<UntilData, AllocError>
         ensures same { IfOk result (λ kept.

@@ -1,15 +1,10 @@
 pub mod WordsLemmas
-pub mod LogTimes
 pub mod VerdictLemmas
 pub mod ToldLemmas
 pub mod LoadLemmas
-pub mod SinkLemmas
-pub mod TableLemmas
-pub mod LineLemmas
-pub mod PointLemmas
-pub mod PieceLemmas
 pub mod RunLemmas
 pub mod DecideLemmas
+pub mod CommandLemmas
 pub mod ReportLemmas
 pub mod UsageLemmas
 pub mod AnswerLemmas

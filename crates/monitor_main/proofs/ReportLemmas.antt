@@ -2,8 +2,9 @@
 use Rattle.std.proofs.Common.{◌≡◌, inl, inr, refl, ℕ, List, Option}
 use Rattle.monitor_main.specs.declared.refusal.Refusal.{Refusal}
 use Rattle.monitor_main.specs.declared.refusal.Refusal.TheVariants.{Usage, LongSignature, Signature}
-use Rattle.monitor_main.specs.declared.refusal.Refusal.TheVariants.{LongPolicy, Policy, Fragment, Log}
-use Rattle.monitor_main.specs.declared.refusal.Refusal.TheVariants.{Read, Write, Memory}
+use Rattle.monitor_main.specs.declared.refusal.Refusal.TheVariants.{LongPolicy, Policy, Fragment}
+use Rattle.monitor_main.specs.declared.refusal.Refusal.TheVariants.{LongStrategy, Strategy}
+use Rattle.monitor_main.specs.declared.refusal.Refusal.TheVariants.{Log, Read, Write, Memory}
 use Rattle.monitor_main.specs.declared.status.Status.{Status}
 use Rattle.monitor_main.specs.declared.status.Status.TheVariants as status
 use Rattle.monitor_main.specs.Outcomes.{Reports, Tells, told_line}
@@ -16,6 +17,8 @@ told_under (Signature fault) = refl
 told_under LongPolicy = refl
 told_under (Policy fault) = refl
 told_under (Fragment fault) = refl
+told_under LongStrategy = refl
+told_under (Strategy fault) = refl
 told_under (Log fault) = refl
 told_under (Read name) = refl
 told_under Write = refl

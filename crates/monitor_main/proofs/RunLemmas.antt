@@ -1,9 +1,7 @@
 -- From the lines that were written to the answer on the log.
 use Rattle.std.proofs.Common.{◌≡◌, ◌∙◌, ap, arith, subst, sym, refl, ℕ, ◌≤◌, Bool, IfSome}
 use Rattle.std.proofs.Common.{true, false, List, [], ◌∷◌, ◌++◌, Option, Some, None, append-nil}
-use Rattle.std.proofs.KnownBytes.{Consumes-nil}
-use Rattle.std.proofs.lemmas.Result.{IfErr-weaker, IfOk-weaker}
-use Rattle.std.specs.Prelude.{Result, Err, IfOk, IfErr}
+use Rattle.std.specs.Prelude.{Result, Err, IfOk, IfErr, nat_lt}
 use Rattle.mon_outside.specs.Causes.{Rose}
 use Rattle.mon_outside.specs.Files.{ToldFiles, content}
 use Rattle.mon_outside.specs.Inputs.{Consumes, Name, Opens, asked_more}
@@ -15,39 +13,70 @@ use Rattle.mfotl_lex.specs.Scans.{log_scan}
 use Rattle.mfotl_sig.specs.Preds.{PredOf}
 use Rattle.log_reader.specs.Readings.{NoFault, Ending, Reading, Fault, accepted, reading, run, shown}
 use Rattle.log_reader.specs.declared.fault.LogFault.{LogFault}
-use Rattle.monitor_main.specs.declared.refusal.InputFile.{InputFile}
+use Rattle.log_reader.specs.declared.fault.LogFault.TheVariants as log
 use Rattle.monitor_main.specs.declared.refusal.InputFile.TheVariants as file
 use Rattle.monitor_main.specs.declared.refusal.Refusal.{Refusal}
-use Rattle.monitor_main.specs.declared.refusal.Refusal.TheVariants.{Log, Read, Write, Memory, Usage}
+use Rattle.monitor_main.specs.declared.refusal.Refusal.TheVariants.{Log, Read}
 use Rattle.mfotl_model.specs.Formulas.{Form}
 use Rattle.monitorable.specs.CoreForms.{CoreForm}
 use Rattle.monitor_main.specs.Answer.{CheckedPolicy, Task, task_on, ended, log_answer, reading_of, seen_of}
-use Rattle.monitor_main.specs.Answer.{standard, text_on, verdict_status, violated_on}
-use Rattle.monitor_main.specs.CheckedPolicies.{IsCoreOf}
-use Rattle.monitor_main.specs.Decisions.{ComesTo, Effect, Ends, FailsInLog, Finishes, HasCauses, MonitorsLog, Refuses}
+use Rattle.monitor_main.specs.Answer.{verdict_status}
+use Rattle.worker_pool.specs.Texts.{standard, tally_on, text_on, violated_on}
+use Rattle.worker_pool.specs.Policies.{IsCoreOf}
+use Rattle.worker_pool.specs.Endings.{EndsBy, WritesAll}
+use Rattle.worker_pool.specs.Effects.{Effect}
+use Rattle.worker_pool.specs.declared.end.End.{End}
+use Rattle.worker_pool.specs.declared.end.End.TheVariants.{Finished, LogEnds, ReadFailed, SinkFailed}
+use Rattle.worker_pool.specs.declared.end.End.TheVariants as end
+use Rattle.monitor_main.specs.Decisions.{ComesTo, Ends, FailsInLog, Finishes, HasCauses, MonitorsLog, Refuses}
 use Rattle.log_reader.specs.Growth.{Keeps}
-use Rattle.monitor_main.specs.LogRuns.{EndsClear, IsReadOf, StopsBytes}
+use Rattle.monitor_main.specs.LogRuns.{EndsAs, outcome_of}
 use Rattle.log_reader.proofs.GrowthLemmas.{front_stays}
-use Rattle.monitor_main.specs.Pieces.{FollowsLog}
 use Rattle.monitor_main.proofs.LoadLemmas.{rose_later}
-use Rattle.monitor_main.proofs.LogTimes.{read_never_falls}
-use Rattle.monitor_main.proofs.PointLemmas.{first_text}
-use Rattle.monitor_main.proofs.SinkLemmas.{appends_none, longer_front, no_front}
+use Rattle.worker_pool.proofs.LogTimes.{read_never_falls}
+use Rattle.worker_pool.proofs.TallyLemmas.{violations_counted}
+use Rattle.worker_pool.proofs.PointLemmas.{first_text}
+use Rattle.worker_pool.proofs.SinkLemmas.{appends_none, longer_front, no_front}
 use Rattle.monitor_main.proofs.ToldLemmas.{told_all, told_map}
+
+-- The bytes that were read of a log, and whether they are known to be all. What is left of the log is the rest of
+-- the open file, and nothing was read where it could not be opened.
+pub record IsReadOf (all : List ℕ) (after : InputsView) (bytes : List ℕ) (ended : Bool) : Type 0 where
+  pub left : List ℕ
+  pub all_is : all ≡ bytes ++ left
+  pub whole : ended ≡ true → left ≡ []
+  pub opened : after.is_open ≡ true → after.rest ≡ Some left
+  pub unopened : after.is_open ≡ false → bytes ≡ []
 
 -- the answer's output is the text in each case
 out_of_ended : (f : Form) (r : Reading) (ending : Ending) → (ended f r ending).out ≡ text_on f r
 out_of_ended f r NoFault = refl
 out_of_ended f r (Fault fault) = refl
 
-module _ (task : Task) (core : CoreForm) (is : IsCoreOf core task.policy.formula) (e : Effect)
-    (bytes : List ℕ) (is_ended : Bool) (is_read : IsReadOf task.log e.after bytes is_ended) where
+-- some line has a row where not none of them were counted
+counts_rows : (f : Form) (r : Reading) (settled violated rows : ℕ)
+    → tally_on f r ≡ record { settled = settled; violated = violated; rows = rows }
+    → nat_lt 0 violated ≡ violated_on f r
+counts_rows f r settled violated rows e =
+    let count : (tally_on f r).violated ≡ violated = rw e refl in
+    ap (nat_lt 0) (sym count) ∙ sym (violations_counted f r)
+
+module _ (task : Task) (core : CoreForm) (is : IsCoreOf core task.policy.formula)
+    (before opened after : InputsView) (old new : SinkView) (later : before.faults ≤ opened.faults)
+    (bytes : List ℕ) (is_ended : Bool) (is_read : IsReadOf task.log after bytes is_ended) where
   -- the log as it was read
   abbrev given : Reading
   given = reading task.sig standard bytes is_ended
 
   abbrev policy : Form
   policy = task.policy.formula
+
+  -- the monitoring, and with it the opening of the file
+  abbrev inner : Effect
+  inner = record { before = opened; after = after; old = old; new = new }
+
+  abbrev whole_effect : Effect
+  whole_effect = record { before = before; after = after; old = old; new = new }
 
   out_is : (log_answer task).out ≡ text_on policy (reading_of task)
   unfolding log_answer
@@ -70,49 +99,54 @@ module _ (task : Task) (core : CoreForm) (is : IsCoreOf core task.policy.formula
   }
   kept false cut = rw is_read.all_is (front_stays task.sig standard bytes is_read.left true)
 
-  keeps : Keeps (reading task.sig standard bytes is_ended) (reading_of task)
+  keeps : Keeps given (reading_of task)
   keeps = kept is_ended refl
 
-  finishes_by : (r : Reading) (ending : Ending) (old new : Option (List ℕ)) (violated : Bool) → ending ≡ NoFault
-      → Appends old new (text_on policy r) → violated ≡ violated_on policy r
-      → Finishes (ended policy r ending) old new violated
-  finishes_by r ending old new violated clear written some =
+  finishes_by : (r : Reading) (ending : Ending) (violated : Bool) → ending ≡ NoFault
+      → Appends old.written new.written (text_on policy r) → violated ≡ violated_on policy r
+      → Finishes (ended policy r ending) old.written new.written violated
+  finishes_by r ending violated clear written some =
       rw clear (record { status = ap verdict_status (sym some); err = refl; out = written })
 
   -- the log was read to its end
-  finishes : (old new : Option (List ℕ)) (violated : Bool) → is_ended ≡ true
-      → EndsClear policy (reading task.sig standard bytes is_ended) old new violated
-      → Finishes (log_answer task) old new violated
+  finishes : (violated : Bool) → is_ended ≡ true → WritesAll policy given NoFault inner
+      → violated ≡ violated_on policy given → Finishes (log_answer task) old.written new.written violated
   unfolding log_answer
-  finishes old new violated whole h =
-      let same : reading task.sig standard bytes is_ended ≡ reading_of task =
-      ap (λ b. reading task.sig standard bytes b) whole ∙ sym (all_read whole) in
-      let here : EndsClear policy (reading_of task) old new violated =
-      subst (λ r. EndsClear policy r old new violated) same h in
-      finishes_by (reading_of task) (reading_of task).ending old new violated here.clear here.written here.some
+  finishes violated whole h some =
+      let same : given ≡ reading_of task = ap (λ b. reading task.sig standard bytes b) whole ∙ sym (all_read whole) in
+      let here : WritesAll policy (reading_of task) NoFault inner =
+      subst (λ r. WritesAll policy r NoFault inner) same h in
+      finishes_by (reading_of task) (reading_of task).ending violated here.shows here.written
+      (some ∙ ap (violated_on policy) same)
 
-  refuses_by : (r : Reading) (ending : Ending) (fault : LogFault) (old new : Option (List ℕ)) → ending ≡ Fault fault
-      → Appends old new (text_on policy r) → Refuses (ended policy r ending) old new (Log fault)
-  refuses_by r ending fault old new stops written = rw stops (record { status = refl; err = refl; out = written })
+  refuses_by : (r : Reading) (ending : Ending) (fault : LogFault) → ending ≡ Fault fault
+      → Appends old.written new.written (text_on policy r)
+      → Refuses (ended policy r ending) old.written new.written (Log fault)
+  refuses_by r ending fault stops written = rw stops (record { status = refl; err = refl; out = written })
 
-  log_refused : (fault : LogFault) (old new : Option (List ℕ)) (r : Reading) → Keeps r (reading_of task)
-      → (r.ending ≡ Fault fault) × Appends old new (text_on policy r) → Refuses (log_answer task) old new (Log fault)
+  -- the log ends in a fault
+  log_refused : (fault : LogFault) (r : Reading) → Keeps r (reading_of task) → WritesAll policy r (Fault fault) inner
+      → Refuses (log_answer task) old.written new.written (Log fault)
   unfolding log_answer
-  log_refused fault old new r k h =
-      let same : r ≡ reading_of task = sym (k.stays fault h.0) in
-      refuses_by (reading_of task) (reading_of task).ending fault old new
-      (ap (λ (r : Reading). r.ending) (sym same) ∙ h.0) (subst (λ r. Appends old new (text_on policy r)) same h.1)
+  log_refused fault r k h =
+      let same : r ≡ reading_of task = sym (k.stays fault h.shows) in
+      refuses_by (reading_of task) (reading_of task).ending fault
+      (ap (λ (r : Reading). r.ending) (sym same) ∙ h.shows)
+      (subst (λ r. Appends old.written new.written (text_on policy r)) same h.written)
 
-  log_failed : (name : InputFile) → name ≡ file.Log → is_ended ≡ false
-      → (reading task.sig standard bytes is_ended).ending ≡ NoFault
-      → Appends e.old.written e.new.written (text_on policy (reading task.sig standard bytes is_ended))
-      → FailsInLog task e name
+  log_ends : (fault : LogFault) → WritesAll policy given (Fault fault) inner
+      → IfErr (outcome_of (LogEnds fault))
+      (Ends (log_answer task) (FailsInLog task whole_effect) old.written new.written)
+  log_ends log.Memory h = tt
+  log_ends fault h = log_refused fault given keeps h
+
+  -- the log could not be read on
+  log_failed : is_ended ≡ false → WritesAll policy given NoFault inner → FailsInLog task whole_effect file.Log
   unfolding seen_of
-  log_failed name named cut clear written =
-      let same : reading task.sig standard bytes is_ended ≡ shown task.sig standard bytes =
-      ap (λ b. reading task.sig standard bytes b) cut in
+  log_failed cut h =
+      let same : given ≡ shown task.sig standard bytes = ap (λ b. reading task.sig standard bytes b) cut in
       record {
-        named = named;
+        named = refl;
         stops = record {
           seen = bytes;
           left = is_read.left;
@@ -120,45 +154,42 @@ module _ (task : Task) (core : CoreForm) (is : IsCoreOf core task.policy.formula
           opened = is_read.opened;
           unopened = is_read.unopened;
         };
-        clear = ap (λ (r : Reading). r.ending) (sym same) ∙ clear;
-        written = subst (λ r. Appends e.old.written e.new.written (text_on policy r)) same written;
+        clear = ap (λ (r : Reading). r.ending) (sym same) ∙ h.shows;
+        written = subst (λ r. Appends old.written new.written (text_on policy r)) same h.written;
       }
 
-  -- the log was not read to its end, or has a fault
-  ends : (r : Refusal) (before now : ℕ)
-      → StopsBytes is_ended policy (reading task.sig standard bytes is_ended) e.old.written e.new.written before now r
-      → Ends (log_answer task) (FailsInLog task e) e.old.written e.new.written r
-  ends (Log fault) before now h = log_refused fault e.old.written e.new.written _ keeps h
-  ends (Read name) before now h = log_failed name h.0 h.1 h.2 h.3
-  ends Write before now h = tt
-  ends Memory before now h = tt
-  ends r before now h = absurd h
-
   -- what was written is a front of what is due
-  due_front : (old new : Option (List ℕ))
-      → AppendsFront old new (text_on policy (reading task.sig standard bytes is_ended))
-      → AppendsFront old new (log_answer task).out
+  due_front : AppendsFront old.written new.written (text_on policy given)
+      → AppendsFront old.written new.written (log_answer task).out
   unfolding reading_of text_on
-  due_front old new part =
+  due_front part =
       let k = keeps in
-      let r = reading task.sig standard bytes is_ended in
-      let more = first_text core policy is (reading_of task) r.points k.more k.points
+      let more = first_text core policy is (reading_of task) given.points k.more k.points
       (read_never_falls task.sig standard task.log true) in
-      rw (out_is ∙ more.1) (longer_front old new _ _ part)
+      rw (out_is ∙ more.1) (longer_front old.written new.written _ _ part)
+
+  ok_by : (end : End) → EndsBy is_ended policy given inner end
+      → IfOk (outcome_of end) (Finishes (log_answer task) old.written new.written)
+  ok_by (Finished settled violated rows) h =
+      finishes (nat_lt 0 violated) h.0 h.1 (counts_rows policy given settled violated rows h.2)
+  ok_by (LogEnds fault) h = tt
+  ok_by ReadFailed h = tt
+  ok_by SinkFailed h = tt
+  ok_by end.Memory h = tt
+
+  refused_by : (end : End) → EndsBy is_ended policy given inner end
+      → IfErr (outcome_of end) (Ends (log_answer task) (FailsInLog task whole_effect) old.written new.written)
+  refused_by (Finished settled violated rows) h = tt
+  refused_by (LogEnds fault) h = log_ends fault h
+  refused_by ReadFailed h = log_failed h.0 h.1
+  refused_by SinkFailed h = tt
+  refused_by end.Memory h = tt
 
   -- the log that was given comes to the task's answer
-  pub log_comes : (before now : ℕ) (result : Result Bool Refusal)
-      → IfOk result (λ violated. (is_ended ≡ true)
-      × EndsClear policy (reading task.sig standard bytes is_ended) e.old.written e.new.written violated)
-      → IfErr result (λ r. StopsBytes is_ended policy (reading task.sig standard bytes is_ended)
-      e.old.written e.new.written before now r)
-      → AppendsFront e.old.written e.new.written (text_on policy (reading task.sig standard bytes is_ended))
-      → ComesTo (log_answer task) (FailsInLog task e) e.old.written e.new.written result
-  log_comes before now result ok stops front = record {
-    ok = IfOk-weaker result _ _ (λ violated h. finishes e.old.written e.new.written violated h.0 h.1) ok;
-    refused = IfErr-weaker result _ _ (λ r h. ends r before now h) stops;
-    front = due_front e.old.written e.new.written front;
-  }
+  pub log_comes : (end : End) → EndsBy is_ended policy given inner end
+      → AppendsFront old.written new.written (text_on policy given)
+      → ComesTo (log_answer task) (FailsInLog task whole_effect) old.written new.written (outcome_of end)
+  log_comes end h front = record { ok = ok_by end h; refused = refused_by end h; front = due_front front }
 
 -- ---- the file
 
@@ -198,16 +229,6 @@ unopened_read all after closed = record {
   unopened = λ is. refl;
 }
 
--- a fault of the calls behind the opening is one of all the calls
-opened_causes : (before opened after : InputsView) (old new : SinkView) (r : Refusal) → before.faults ≤ opened.faults
-    → HasCauses ⊥ (record { before = opened; after = after; old = old; new = new }) r
-    → HasCauses ⊥ (record { before = before; after = after; old = old; new = new }) r
-opened_causes before opened after old new Usage later h = h
-opened_causes before opened after old new (Read name) later h =
-    rose_later before.faults opened.faults after.faults later h
-opened_causes before opened after old new Write later h = h
-opened_causes before opened after old new r later h = tt
-
 -- ---- the log of a policy
 
 -- no bytes show nothing
@@ -215,79 +236,80 @@ nothing_shown : (sig : List PredOf) → shown sig standard [] ≡ record { point
 unfolding reading run tokens tokens_within next_token log_scan blank_len
 nothing_shown sig = refl
 
-module _ (checked : CheckedPolicy) (log : Name) (e : Effect) (same : e.after.files ≡ e.before.files)
-    (later : e.before.faults ≤ e.after.faults) (later_out : e.old.faults ≤ e.new.faults)
-    (asked : e.after.asked ≡ asked_more e.before.asked (log ∷ [])) where
-  -- the log was read so far, and the bytes read of it were monitored
-  pub log_monitored : (core : CoreForm) → IsCoreOf core checked.policy.formula → (bytes : List ℕ) (is_ended : Bool)
-      → ToldFiles e.before.files (λ files. IsReadOf (content files log) e.after bytes is_ended)
-      → (result : Result Bool Refusal)
-      → IfOk result (λ violated. (is_ended ≡ true)
-      × EndsClear checked.policy.formula (reading checked.sig standard bytes is_ended) e.old.written e.new.written violated)
-      → IfErr result (StopsBytes is_ended checked.policy.formula (reading checked.sig standard bytes is_ended)
-      e.old.written e.new.written e.old.faults e.new.faults)
-      → AppendsFront e.old.written e.new.written (text_on checked.policy.formula (reading checked.sig standard bytes is_ended))
-      → IfErr result (HasCauses ⊥ e) → MonitorsLog checked log e result
-  log_monitored core is bytes is_ended is_read result ok stops front causes = record {
-    asked = asked;
-    decides = record {
-      files = same;
-      later = later;
-      later_out = later_out;
-      comes = told_map e.before.files _ _
-          (λ files g. log_comes (task_on checked (content files log)) core is e bytes is_ended g
-          e.old.faults e.new.faults result ok stops front)
-          is_read;
-      causes = causes;
-    };
-  }
-
--- memory was refused before anything was read
-pub nothing_read : (sig : List PredOf) (policy : Form) (inputs : InputsView) (out : SinkView)
-    → FollowsLog sig policy (record { before = inputs; after = inputs; old = out; new = out }) (Err Memory)
-nothing_read sig policy inputs out = record {
-  bytes = [];
-  ended = false;
-  taken = Consumes-nil inputs.rest;
-  whole = λ told. absurd cc;
-  ok = tt;
-  stops = tt;
-  front = no_front out.written _;
-  causes = tt;
-}
+-- a failed call shows in the count, counted from before the opening of the file
+log_causes : (before opened after : InputsView) (old new : SinkView) → before.faults ≤ opened.faults
+    → (ended : Bool) (f : Form) (r : Reading) (end : End)
+    → EndsBy ended f r (record { before = opened; after = after; old = old; new = new }) end
+    → IfErr (outcome_of end) (HasCauses ⊥ (record { before = before; after = after; old = old; new = new }))
+log_causes before opened after old new later ended f r (Finished settled violated rows) h = tt
+log_causes before opened after old new later ended f r (LogEnds log.Memory) h = tt
+log_causes before opened after old new later ended f r (LogEnds fault) h = tt
+log_causes before opened after old new later ended f r ReadFailed h =
+    rose_later before.faults opened.faults after.faults later h.2
+log_causes before opened after old new later ended f r SinkFailed h = h
+log_causes before opened after old new later ended f r end.Memory h = tt
 
 module _ (checked : CheckedPolicy) (log : Name) (core : CoreForm) (is : IsCoreOf core checked.policy.formula)
     (before opened : InputsView) (same : opened.files ≡ before.files)
     (asked : opened.asked ≡ asked_more before.asked (log ∷ [])) (later : before.faults ≤ opened.faults)
     (old : SinkView) where
+  -- the log was read so far, and the monitoring came to this end
+  log_monitored : (after : InputsView) (new : SinkView) → after.files ≡ opened.files → after.asked ≡ opened.asked
+      → opened.faults ≤ after.faults → old.faults ≤ new.faults → (bytes : List ℕ) (is_ended : Bool) (end : End)
+      → ToldFiles before.files (λ files. IsReadOf (content files log) after bytes is_ended)
+      → EndsBy is_ended checked.policy.formula (reading checked.sig standard bytes is_ended)
+      (record { before = opened; after = after; old = old; new = new }) end
+      → AppendsFront old.written new.written
+      (text_on checked.policy.formula (reading checked.sig standard bytes is_ended))
+      → MonitorsLog checked log (record { before = before; after = after; old = old; new = new }) (outcome_of end)
+  log_monitored after new files_same asks_nothing later_on later_out bytes is_ended end is_read ends front = record {
+    asked = asks_nothing ∙ asked;
+    decides = record {
+      files = files_same ∙ same;
+      later = omega (arith, later, later_on);
+      later_out = later_out;
+      comes = told_map before.files _ _
+          (λ files g. log_comes (task_on checked (content files log)) core is before opened after old new later bytes
+          is_ended g end ends front)
+          is_read;
+      causes = log_causes before opened after old new later is_ended checked.policy.formula _ end ends;
+    };
+  }
+
   -- the log could not be opened
   pub log_unopened : opened.is_open ≡ false → Rose before.faults opened.faults
       → MonitorsLog checked log (record { before = before; after = opened; old = old; new = old }) (Err (Read file.Log))
   unfolding text_on
-  log_unopened closed rose =
-      log_monitored checked log _ same later (omega arith) asked core is [] false
-      (told_all before.files _ (λ files. unopened_read (content files log) opened closed))
-      (Err (Read file.Log)) tt (
-        refl,
-        refl,
-        ap (λ (r : Reading). r.ending) (nothing_shown checked.sig),
-        rw (nothing_shown checked.sig) (appends_none old.written),
-      )
-      (no_front old.written _) rose
+  log_unopened closed rose = record {
+    asked = asked;
+    decides = record {
+      files = same;
+      later = later;
+      later_out = omega arith;
+      comes = told_all before.files _ (λ files. record {
+        ok = tt;
+        refused = log_failed (task_on checked (content files log)) core is before opened opened old old later [] false
+            (unopened_read (content files log) opened closed) refl (record {
+              shows = ap (λ (r : Reading). r.ending) (nothing_shown checked.sig);
+              written = rw (nothing_shown checked.sig) (appends_none old.written);
+            });
+        front = no_front old.written _;
+      });
+      causes = rose;
+    };
+  }
 
   -- the open file was monitored
   pub log_followed : opened.is_open ≡ true → Opens before.files log opened.rest → (after : InputsView) (new : SinkView)
       → after.files ≡ opened.files → after.is_open ≡ opened.is_open → after.asked ≡ opened.asked
       → opened.faults ≤ after.faults → old.faults ≤ new.faults → (result : Result Bool Refusal)
-      → FollowsLog checked.sig checked.policy.formula
-      (record { before = opened; after = after; old = old; new = new }) result
+      → EndsAs checked result (record { before = opened; after = after; old = old; new = new })
       → MonitorsLog checked log (record { before = before; after = after; old = old; new = new }) result
-  log_followed is_open opens after new files_same stays asks_nothing later_on later_out result f =
-      log_monitored checked log _ (files_same ∙ same) (omega (arith, later, later_on)) later_out (asks_nothing ∙ asked)
-      core is f.bytes f.ended
+  log_followed is_open opens after new files_same stays asks_nothing later_on later_out result a =
+      let f = a.follows in
+      rw a.is (log_monitored after new files_same asks_nothing later_on later_out f.bytes f.ended a.end
       (told_map before.files _ _
       (λ files rest_is. opened_read opened.rest (content files log) rest_is after (stays ∙ is_open) f.bytes f.ended
       f.taken f.whole)
       opens)
-      result f.ok f.stops f.front
-      (IfErr-weaker result _ _ (λ r h. opened_causes before opened after old new r later h) f.causes)
+      f.ends f.front)

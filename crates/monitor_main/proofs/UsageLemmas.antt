@@ -7,7 +7,8 @@ use Rattle.monitor_main.specs.declared.refusal.Refusal.TheVariants.{Usage}
 use Rattle.monitor_main.specs.declared.refusal.Refusal.TheVariants.{Write}
 use Rattle.monitor_main.specs.declared.status.Status.{Status}
 use Rattle.monitor_main.specs.declared.status.Status.TheVariants as status
-use Rattle.monitor_main.specs.Decisions.{Effect, HasCauses}
+use Rattle.monitor_main.specs.Decisions.{HasCauses}
+use Rattle.worker_pool.specs.Effects.{Effect}
 use Rattle.monitor_main.specs.Refusals.{status_of}
 use Rattle.monitor_main.specs.Words.{command_of}
 

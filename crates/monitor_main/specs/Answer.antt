@@ -1,21 +1,20 @@
 -- What a run answers, told by its words and the bytes of its files: the status, and the bytes that it
 -- writes to the output and to the errors.
-use Rattle.std.specs.Prelude.{ℕ, Bool, true, false, not, List, [], length, nat_lt}
+use Rattle.std.specs.Prelude.{ℕ, Bool, true, false, List, [], length, nat_lt}
 use Rattle.std.specs.Prelude.{Option, Some, None, Result, Ok, Err, if◌then◌else◌, option_map}
-use Rattle.std.specs.List.{list_any}
 use Rattle.clap.specs.Words.{Text}
 use Rattle.mon_outside.specs.Files.{Files, content}
 use Rattle.mfotl_model.specs.Formulas.{Form}
-use Rattle.mfotl_model.specs.Log.{Log}
-use Rattle.mfotl_model.specs.VerdictText.{text, verdicts}
+use Rattle.mfotl_model.specs.Strategies.{Strategy}
+use Rattle.mfotl_model.specs.declared.policy.Var.{Var}
 use Rattle.mfotl_sig.specs.Preds.{PredOf}
 use Rattle.mfotl_sig.specs.Reading.{reading as signature_read}
 use Rattle.mfotl_parse.specs.Reading.{PolicyOf, reading as policy_read}
 use Rattle.monitorable.specs.Fragment.{frag_fault, free_names}
 use Rattle.monitorable.specs.declared.fault.FragmentFault.{FragmentFault}
-use Rattle.log_reader.specs.Limits.{byte_limit, event_limit, point_limit}
+use Rattle.slice_strategy.specs.Reading.{reading as strategy_read}
 use Rattle.log_reader.specs.Readings.{Ending, NoFault, Reading, Fault, accepted, shown}
-use Rattle.log_reader.specs.declared.limits.Limits.{Limits}
+use Rattle.worker_pool.specs.Texts.{standard, text_on, violated_on}
 use Rattle.monitor_main.specs.declared.refusal.InputFile.{InputFile}
 use Rattle.monitor_main.specs.declared.refusal.InputFile.TheVariants as file
 use Rattle.monitor_main.specs.declared.refusal.Refusal.{Refusal}
@@ -25,8 +24,7 @@ use Rattle.monitor_main.specs.declared.status.Status.TheVariants as status
 use Rattle.monitor_main.specs.CheckLine.{monitorable_line}
 use Rattle.monitor_main.specs.Limits.{max_file}
 use Rattle.monitor_main.specs.Refusals.{line_of, status_of}
-use Rattle.monitor_main.specs.VerdictRows.{is_empty}
-use Rattle.monitor_main.specs.Words.{Sources, Command, Run, Check, command_of}
+use Rattle.monitor_main.specs.Words.{Sources, RunOptions, Command, Run, Check, command_of}
 
 -- a status, and the bytes written to the output and to the errors
 pub record Answer : Type 0 where
@@ -47,7 +45,7 @@ abbrev pub or_refuse_by : {A E : Type 0} → (E → Refusal) → Result A E → 
 or_refuse_by refuse (Ok x) = Ok x
 or_refuse_by refuse (Err fault) = Err (refuse fault)
 
--- whether a signature or a policy has more bytes than it may have
+-- whether a signature, a policy or a strategy's text has more bytes than it may have
 abbrev pub is_long : List ℕ → Bool
 is_long bytes = nat_lt max_file (length bytes)
 
@@ -88,6 +86,12 @@ policy_at sources files =
 
 -- ---- what `run` monitors
 
+-- the strategy of this text, over the policy's free variables: its length, then its text
+unfoldable pub strategy_in : List Var → List ℕ → Result Strategy Refusal
+strategy_in vars bytes =
+    if is_long bytes then Err refusal.LongStrategy
+    else or_refuse_by refusal.Strategy (strategy_read vars bytes)
+
 -- a policy over a signature, on a log
 pub record Task : Type 0 where
   pub sig : List PredOf
@@ -98,25 +102,16 @@ pub record Task : Type 0 where
 abbrev pub task_on : CheckedPolicy → List ℕ → Task
 task_on checked log = record { sig = checked.sig; policy = checked.policy; log = log }
 
--- the signature, then the policy, and the log in the file of this name
-unfoldable pub task_at : Sources → List ℕ → Files → Result Task Refusal
-task_at sources log files = policy_at sources files >>= λ checked. Ok (task_on checked (content files log))
+-- The task of a policy, where its strategy is accepted. The strategy itself is no part of it: by each one
+-- the same is answered.
+unfoldable pub task_by : RunOptions → Files → CheckedPolicy → Result Task Refusal
+task_by options files checked =
+    strategy_in checked.policy.vars options.strategy
+    >>= λ strategy. Ok (task_on checked (content files options.log))
 
--- how much a log may have
-abbrev pub standard : Limits
-standard = record { bytes = byte_limit; points = point_limit; events = event_limit }
-
--- the time-points that were read, behind which more could come
-abbrev pub log_in : Reading → Log
-log_in r = record { points = r.points; closed = false }
-
--- the text of the verdicts on what was read
-unfoldable pub text_on : Form → Reading → List ℕ
-text_on policy r = text (log_in r) policy
-
--- some verdict on what was read has a row
-unfoldable pub violated_on : Form → Reading → Bool
-violated_on policy r = list_any (λ v. not (is_empty v.rows)) (verdicts (log_in r) policy)
+-- the signature, then the policy, then the strategy, and the log in the file of its name
+unfoldable pub task_at : Sources → RunOptions → Files → Result Task Refusal
+task_at sources options files = policy_at sources files >>= task_by options files
 
 -- the status where the log was read to its end: whether a verdict has a row
 abbrev pub verdict_status : Bool → Status
@@ -157,7 +152,7 @@ check_answer (Err r) = refused r
 
 -- the answer of a command, by the bytes of the files
 unfoldable pub command_answer : Command → Files → Answer
-command_answer (Run sources log) files = run_answer (task_at sources log files)
+command_answer (Run sources options) files = run_answer (task_at sources options files)
 command_answer (Check sources) files = check_answer (policy_at sources files)
 
 -- the answer of a command, if the words give one
@@ -186,10 +181,10 @@ source_bytes sources files file.Log = None
 
 -- the bytes of a command's file, where all before it in the order is accepted
 unfoldable pub bytes_of : Command → Files → InputFile → Option (List ℕ)
-bytes_of (Run sources log) files file.Signature = source_bytes sources files file.Signature
-bytes_of (Run sources log) files file.Policy = source_bytes sources files file.Policy
-bytes_of (Run sources log) files file.Log =
-    option_map (λ task. task.log) (ok_value (task_at sources log files))
+bytes_of (Run sources options) files file.Signature = source_bytes sources files file.Signature
+bytes_of (Run sources options) files file.Policy = source_bytes sources files file.Policy
+bytes_of (Run sources options) files file.Log =
+    option_map (λ task. task.log) (ok_value (task_at sources options files))
 bytes_of (Check sources) files file = source_bytes sources files file
 
 -- the text that is due where the reading of the log failed, and `seen` was given of it before: that
@@ -212,6 +207,6 @@ text_of_seen (Err r) seen = None
 unfoldable pub text_at_failure : Command → Files → InputFile → List ℕ → Option (List ℕ)
 text_at_failure command files file.Signature seen = Some []
 text_at_failure command files file.Policy seen = Some []
-text_at_failure (Run sources log) files file.Log seen =
-    text_of_seen (task_at sources log files) seen
+text_at_failure (Run sources options) files file.Log seen =
+    text_of_seen (task_at sources options files) seen
 text_at_failure (Check sources) files file.Log seen = None

@@ -1,14 +1,10 @@
 -- A policy that can be monitored, and how it is made of a signature and a policy.
-use Rattle.std.specs.Prelude.{◌≡◌, ◌++◌, true, None, Result, Ok, Err}
-use Rattle.mfotl_model.specs.Formulas.{Form}
+use Rattle.std.specs.Prelude.{◌≡◌, List, length, Result, Ok, Err}
+use Rattle.std.specs.List.{range_with_len}
 use Rattle.mfotl_model.specs.FreeVariables.{fv}
-use Rattle.mfotl_model.specs.Tables.{all_apart}
+use Rattle.mfotl_model.specs.declared.policy.Var.{Var}
 use Rattle.mfotl_parse.specs.Views.{policy_of}
 use Rattle.monitorable.specs.CoreForms.{CoreForm, meaning}
-use Rattle.monitorable.specs.Fragment.{Fits, Names, frag_fault}
-use Rattle.monitorable.specs.Negation.{SettlesWith}
-use Rattle.monitorable.specs.Renaming.{binders}
-use Rattle.monitorable.specs.SatisfyingRows.{HasViolationsOf}
 use Rattle.monitor_main.specs.declared.checked_policy.CheckedPolicy.{CheckedPolicy as CheckedValue}
 use Rattle.monitor_main.specs.declared.refusal.Refusal.{Refusal}
 use Rattle.monitor_main.specs.declared.refusal.Refusal.TheVariants.{Usage, Read, Write, Memory}
@@ -18,18 +14,9 @@ use Rattle.monitor_main.specs.Answer.{CheckedPolicy}
 abbrev pub checked_in : CheckedValue → CheckedPolicy
 checked_in checked = record { sig = checked.sig; policy = policy_of checked.policy }
 
--- the core can be evaluated: the fragment accepts it, and no variable of it stands for two
-pub record IsEvaluable (core : CoreForm) : Type 0 where
-  pub fits : Fits core
-  pub apart : all_apart (fv (meaning core) ++ binders core) ≡ true
-
--- the policy can be monitored by this core: it is settled where the policy is, and its rows are the violations
-pub record IsCoreOf (core : CoreForm) (policy : Form) : Type 0 where
-  pub names : Names
-  pub accepted : frag_fault names policy ≡ None
-  pub settles : SettlesWith core policy
-  pub violations : HasViolationsOf core policy
-  pub evaluable : IsEvaluable core
+-- the core's free variables are the policy's, numbered from 0
+abbrev pub HasVariables : List Var → CoreForm → Type 0
+HasVariables vars core = fv (meaning core) ≡ range_with_len 0 (length vars)
 
 -- the refusal is the one due; want of memory may come at any time
 abbrev pub Fails : {Y : Type 0} → Refusal → Result Y Refusal → Type 0

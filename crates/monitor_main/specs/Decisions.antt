@@ -6,35 +6,19 @@ use Rattle.mon_outside.specs.Causes.{Rose}
 use Rattle.mon_outside.specs.Files.{Files, ToldFiles, content}
 use Rattle.mon_outside.specs.Inputs.{Name, StopsIn, asked_more}
 use Rattle.mon_outside.specs.Sink.{Appends, AppendsFront}
-use Rattle.mon_outside.specs.Views.{InputsView, SinkView, inputs_view, sink_view}
-use Rattle.mon_outside.specs.declared.inputs.Inputs.{Ghosts as InputsGhosts}
-use Rattle.mon_outside.specs.declared.sink.Sink.{Ghosts as SinkGhosts}
+use Rattle.mon_outside.specs.Views.{InputsView, SinkView}
 use Rattle.log_reader.specs.Readings.{NoFault}
+use Rattle.worker_pool.specs.Effects.{Effect}
+use Rattle.worker_pool.specs.Texts.{text_on}
 use Rattle.monitor_main.specs.declared.refusal.InputFile.{InputFile}
 use Rattle.monitor_main.specs.declared.refusal.InputFile.TheVariants as file
 use Rattle.monitor_main.specs.declared.refusal.Refusal.{Refusal}
 use Rattle.monitor_main.specs.declared.refusal.Refusal.TheVariants.{Usage, Read, Write, Memory}
 use Rattle.monitor_main.specs.Answer.{Answer, CheckedPolicy, Task, answer, bytes_of, command_answer, log_answer}
-use Rattle.monitor_main.specs.Answer.{seen_of, task_on, text_at_failure, text_on, verdict_status}
+use Rattle.monitor_main.specs.Answer.{seen_of, task_on, text_at_failure, verdict_status}
 use Rattle.monitor_main.specs.FilesAsked.{AsksInOrder, names_to}
 use Rattle.monitor_main.specs.Refusals.{line_of, status_of}
 use Rattle.monitor_main.specs.Words.{Command, command_of}
-
--- How the inputs and the output stood before a call, and how behind it.
-pub record Effect : Type 0 where
-  pub before : InputsView
-  pub after : InputsView
-  pub old : SinkView
-  pub new : SinkView
-
--- the effect of a call on these
-abbrev pub effect : {I O : Type 0} → InputsGhosts I → SinkGhosts O → I → I → O → O → Effect
-effect ins outs before after old new = record {
-  before = inputs_view ins before;
-  after = inputs_view ins after;
-  old = sink_view outs old;
-  new = sink_view outs new;
-}
 
 -- all was read to its end, and all lines are written
 pub record Finishes (a : Answer) (old new : Option (List ℕ)) (violated : Bool) : Type 0 where

@@ -15,6 +15,6 @@ file_text Log = codes "log"
 abbrev pub fault_line : List ℕ → List ℕ → List ℕ
 fault_line input fault = input ++ codes ": " ++ fault ++ codes "\n"
 
--- what is told of a signature or a policy that is too long
+-- what is told of a signature, a policy or a strategy's text that is too long
 unfoldable pub too_long : List ℕ
 too_long = codes "TooLong at " ++ decimal max_file

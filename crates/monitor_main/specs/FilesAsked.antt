@@ -16,8 +16,8 @@ source_names sources file.Log = sources.sig ∷ sources.policy ∷ []
 
 -- the names of a command's files in their order, up to this file
 abbrev pub names_to : Command → InputFile → List Name
-names_to (Run sources log) file.Log = sources.sig ∷ sources.policy ∷ log ∷ []
-names_to (Run sources log) name = source_names sources name
+names_to (Run sources options) file.Log = sources.sig ∷ sources.policy ∷ options.log ∷ []
+names_to (Run sources options) name = source_names sources name
 names_to (Check sources) name = source_names sources name
 
 -- the same up to the last that was asked for, if there was one

@@ -4,7 +4,6 @@ pub mod Words
 pub mod CommandViews
 pub mod Status
 pub mod Real
-pub mod VerdictRows
 pub mod Verdicts
 pub mod TextLaw
 pub mod FaultLines
@@ -17,6 +16,5 @@ pub mod CheckedPolicies
 pub mod Loading
 pub mod LogRuns
 pub mod Decisions
-pub mod Pieces
 pub mod Outcomes
 pub mod DemoLaws

@@ -1,6 +1,10 @@
--- How many bytes a file may have. A log's limits are log_reader's.
+-- How much the words and the files may ask for. A log's limits are log_reader's.
 use Rattle.std.specs.Prelude.{ℕ, ◌^◌}
 
--- the most bytes of a signature or a policy
+-- the most bytes of a signature, of a policy, and of a strategy's text
 abbrev pub max_file : ℕ
 max_file = 2 ^ 20
+
+-- the most threads beside the one that reads and writes
+abbrev pub max_threads : ℕ
+max_threads = 64

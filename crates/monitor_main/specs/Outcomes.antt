@@ -10,7 +10,8 @@ use Rattle.monitor_main.specs.declared.refusal.Refusal.TheVariants as refusal
 use Rattle.monitor_main.specs.declared.status.Status.{Status}
 use Rattle.monitor_main.specs.declared.status.Status.TheVariants.{Memory}
 use Rattle.monitor_main.specs.Answer.{Answer}
-use Rattle.monitor_main.specs.Decisions.{Effect, FailsAt}
+use Rattle.monitor_main.specs.Decisions.{FailsAt}
+use Rattle.worker_pool.specs.Effects.{Effect}
 use Rattle.monitor_main.specs.Refusals.{line_of, status_of}
 
 -- a line was told: a front of it, and the whole where no call failed

@@ -1,15 +1,18 @@
 -- The words of the command line: the commands, what they take, and the files that they name.
-use Rattle.std.specs.Prelude.{ℕ, Bool, true, List, [], ◌∷◌}
+use Rattle.std.specs.Prelude.{◌≡◌, ℕ, Bool, true, List, [], ◌∷◌, IfSome}
 use Rattle.std.specs.Prelude.{Option, Some, None, map, string_bytes, codes, count_by, nat_lt, unwrap_or}
 use Rattle.std.specs.Prelude.{if◌then◌else◌}
 use Rattle.std.specs.Str.{bytes_eq}
+use Rattle.std.specs.Str.Parse.{digits_value, without_leading_plus}
 use Rattle.std.specs.declared.string.String.{String}
 use Rattle.std.specs.declared.alloc.Global.{Global}
-use Rattle.clap.specs.Words.{App, Row, Rule, Shape, Text, first_of, new_app, new_rule}
-use Rattle.clap.specs.Words.{with_rule, with_subcommand, subcommand_of, fault_of, Kinds}
+use Rattle.clap.specs.Words.{App, IsUnsignedIn, Row, Rule, Shape, Text, first_of, new_app, new_rule}
+use Rattle.clap.specs.Words.{one_of, with_rule, with_subcommand, subcommand_of, fault_of, Kinds}
 use Rattle.clap.specs.Simple.{on_top}
 use Rattle.clap.specs.Walk.{is_empty}
 use Rattle.clap.specs.declared.builder.action.ArgAction.TheVariants.{Set}
+use Rattle.clap.specs.declared.builder.value_parser.ValueParser.TheVariants.{Unsigned}
+use Rattle.monitor_main.specs.Limits.{max_threads}
 
 -- the words as texts
 abbrev pub texts_of : List (String Global) → List Text
@@ -19,14 +22,31 @@ texts_of = map string_bytes
 abbrev pub file_rule : Text → Rule
 file_rule name = record (new_rule name) { long = Some name; action = Some Set; required = true }
 
+-- the option `--NAME`, of one value, by default this one
+abbrev pub option_rule : Text → Text → Rule
+option_rule name default =
+    record (new_rule name) { long = Some name; action = Some Set; defaults = default ∷ [] }
+
+-- the option `--strategy`, by default the empty text
+abbrev pub strategy_rule : Rule
+strategy_rule = option_rule (codes "strategy") []
+
+-- the option `--threads`, a number from 0 to 64, by default 4
+abbrev pub threads_rule : Rule
+threads_rule =
+    record (option_rule (codes "threads") (codes "4")) { parser = Some (Unsigned 0 max_threads) }
+
 -- `NAME --sig F --policy F`
 unfoldable pub sources_app : Text → App
 sources_app name =
     with_rule (with_rule (new_app name) (file_rule (codes "sig"))) (file_rule (codes "policy"))
 
--- `run --sig F --policy F --log F`
+-- `run --sig F --policy F --log F [--strategy S] [--threads T]`
 unfoldable pub run_app : App
-run_app = with_rule (sources_app (codes "run")) (file_rule (codes "log"))
+run_app =
+    with_rule
+    (with_rule (with_rule (sources_app (codes "run")) (file_rule (codes "log"))) strategy_rule)
+    threads_rule
 
 -- `check --sig F --policy F`
 unfoldable pub check_app : App
@@ -56,14 +76,19 @@ pub record Sources : Type 0 where
   pub sig : List ℕ
   pub policy : List ℕ
 
--- what is to be done, and with which files: `run` names a log too
+-- the text of the strategy, and the name of the log's file. What is answered knows of no number of threads.
+pub record RunOptions : Type 0 where
+  pub strategy : List ℕ
+  pub log : List ℕ
+
+-- what is to be done, and with which files
 pub data Command : Type 0 where
-  Run : Sources → List ℕ → Command
+  Run : Sources → RunOptions → Command
   Check : Sources → Command
 
 -- the signature's file and the policy's of a command
 abbrev pub command_sources : Command → Sources
-command_sources (Run sources log) = sources
+command_sources (Run sources options) = sources
 command_sources (Check sources) = sources
 
 -- the value of one option
@@ -75,11 +100,22 @@ abbrev pub sources_of : List Row → Sources
 sources_of options =
     record { sig = value_of (codes "sig") options; policy = value_of (codes "policy") options }
 
+-- the strategy's text and the log's file among the options
+abbrev pub run_options_of : List Row → RunOptions
+run_options_of options =
+    record { strategy = value_of (codes "strategy") options; log = value_of (codes "log") options }
+
+-- the number of threads is the one that the option's text writes, where that is a number from 0 to 64
+abbrev pub IsThreadCount : List Row → ℕ → Type 0
+IsThreadCount options threads =
+    IfSome (one_of (codes "threads") options) (λ text. IsUnsignedIn 0 max_threads text
+    → threads ≡ digits_value 10 (without_leading_plus text))
+
 -- the subcommand of this name with these options
 abbrev pub command_named : Text → List Row → Option Command
 command_named name options =
     if bytes_eq name (codes "run")
-    then Some (Run (sources_of options) (value_of (codes "log") options))
+    then Some (Run (sources_of options) (run_options_of options))
     else if bytes_eq name (codes "check") then Some (Check (sources_of options)) else None
 
 -- the command that was found, if there is one of this name
@@ -97,7 +133,7 @@ is_input name = bytes_eq name (codes "-")
 
 -- the files that a command names
 abbrev pub files_of : Command → List Text
-files_of (Run sources log) = sources.sig ∷ sources.policy ∷ log ∷ []
+files_of (Run sources options) = sources.sig ∷ sources.policy ∷ options.log ∷ []
 files_of (Check sources) = sources.sig ∷ sources.policy ∷ []
 
 -- standard input stands for more than one file

@@ -70,7 +70,7 @@ fn monitorable_line(alloc: Global, vars: &[Var]) -> Result<Vec<u8>, AllocError>
 }
 
 // Writes the line for a policy of these free variables.
-#[tactic(auto, using(crate::proofs::SinkLemmas::whole_front))]
+#[tactic(auto, using(worker_pool::proofs::SinkLemmas::whole_front))]
 fn write_line<O: Sink>(alloc: Global, vars: &[Var], out: &mut O) -> Result<(), Refusal>
     ensures ok { IfOk result (λ _. Appends (O.written out.old) (O.written out.new)
         (monitorable_line vars.now)) }

@@ -5,7 +5,8 @@ ghost use Rattle.mon_outside.specs.Inputs.{asked_more};
 ghost use Rattle.mon_outside.specs.Views.{inputs_view};
 ghost use Rattle.monitorable.specs.Cores.{core_form};
 ghost use Rattle.monitor_main.specs.Answer.{checked_over, signature_of};
-ghost use Rattle.monitor_main.specs.CheckedPolicies.{Gives, IsCoreOf, IsInside, checked_in};
+ghost use Rattle.monitor_main.specs.CheckedPolicies.{Gives, HasVariables, IsInside, checked_in};
+ghost use Rattle.worker_pool.specs.Policies.{IsCoreOf};
 ghost use Rattle.monitor_main.specs.CommandViews.{sources_in};
 ghost use Rattle.monitor_main.specs.Limits.{max_file};
 ghost use Rattle.monitor_main.specs.Loading.{IsRefused, LoadsSources, StopsInSources};
@@ -36,6 +37,17 @@ impl Drop for CheckedPolicy {
     }
 }
 
+impl CheckedPolicy {
+    /// What a log is monitored with.
+    pub fn into_parts(self) -> (Signature, Core)
+        ensures { result ≡ (self.sig, self.core) }
+    {
+        let CheckedPolicy { sig, policy, core } = self;
+        drop(policy);
+        (sig, core)
+    }
+}
+
 // The signature in a file that isn't too long.
 #[tactic(auto, unfolding(crate::specs::Answer::signature_of))]
 fn signature_in(alloc: Global, bytes: &[u8]) -> Result<Signature, Refusal>
@@ -53,6 +65,8 @@ fn check(alloc: Global, sig: Signature, bytes: &[u8]) -> Result<CheckedPolicy, R
     ensures gives { Gives checked_in result (checked_over sig bytes.now) }
     ensures core { IfOk result (λ checked. IsCoreOf (core_form checked.core)
         (checked_in checked).policy.formula) }
+    ensures variables { IfOk result (λ checked.
+        HasVariables checked.policy.vars (core_form checked.core)) }
     ensures inside { IfErr result IsInside }
 {
     let policy = read_policy(alloc, bytes, &sig)?;
@@ -98,6 +112,8 @@ fn load_policy<I: Inputs>(
         checked_over sig (content files name.now) ≡ Ok (checked_in checked))) }
     ensures core { IfOk result (λ checked. IsCoreOf (core_form checked.core)
         (checked_in checked).policy.formula) }
+    ensures variables { IfOk result (λ checked.
+        HasVariables checked.policy.vars (core_form checked.core)) }
     ensures refused { IfErr result (IsRefused InputFile.Policy name.now (checked_over sig)
         (inputs_view I.Inputs inputs.old) (inputs_view I.Inputs inputs.new)) }
 {
@@ -121,6 +137,8 @@ pub fn load_sources<I: Inputs>(
         (inputs_view I.Inputs inputs.old) (inputs_view I.Inputs inputs.new)) }
     ensures core { IfOk result (λ checked. IsCoreOf (core_form checked.core)
         (checked_in checked).policy.formula) }
+    ensures variables { IfOk result (λ checked.
+        HasVariables checked.policy.vars (core_form checked.core)) }
     ensures refused { IfErr result (StopsInSources (sources_in sources.now)
         (inputs_view I.Inputs inputs.old) (inputs_view I.Inputs inputs.new)) }
 {

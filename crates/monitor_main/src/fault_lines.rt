@@ -3,6 +3,7 @@ ghost use Rattle.std.specs.Prelude.{◌≡◌, ◌++◌, codes, IfOk};
 ghost use Rattle.mfotl_sig.specs.FaultTexts.{fault_text as sig_text};
 ghost use Rattle.mfotl_parse.specs.FaultTexts.{fault_text as policy_text};
 ghost use Rattle.monitorable.specs.FaultTexts.{fault_text as fragment_text};
+ghost use Rattle.slice_strategy.specs.FaultTexts.{fault_text as strategy_text};
 ghost use Rattle.log_reader.specs.FaultTexts.{fault_text as log_text};
 ghost use Rattle.monitor_main.specs.FaultLines.{fault_line, file_text, too_long};
 ghost use Rattle.monitor_main.specs.Refusals.{line_of};
@@ -13,6 +14,7 @@ use log_reader::LogFault;
 use mfotl_parse::PolicyFault;
 use mfotl_sig::SigFault;
 use monitorable::FragmentFault;
+use slice_strategy::StrategyFault;
 use std::alloc::{AllocError, Global};
 
 const USAGE: &[u8] =
@@ -28,7 +30,7 @@ fn file_text(file: InputFile) -> &'static str
     }
 }
 
-// The line of a signature or a policy that is too long.
+// The line of a signature, a policy or a strategy's text that is too long.
 #[tactic(auto, unfolding(crate::specs::FaultLines::too_long))]
 fn long_line(alloc: Global, input: &str) -> Result<Vec<u8>, AllocError>
     ensures { IfOk result (λ line. line.items ≡ fault_line input.now too_long) }
@@ -64,6 +66,14 @@ fn fragment_line(alloc: Global, fault: &FragmentFault) -> Result<Vec<u8>, AllocE
     Ok(line)
 }
 
+// The line of a strategy's fault.
+fn strategy_line(alloc: Global, fault: &StrategyFault) -> Result<Vec<u8>, AllocError>
+    ensures { IfOk result (λ line.
+        line.items ≡ fault_line (codes "strategy") (strategy_text fault.now)) }
+{
+    Ok(format!(in alloc; "strategy: {fault}\n")?.into_bytes())
+}
+
 // The line of a log's fault.
 fn log_line(alloc: Global, fault: &LogFault) -> Result<Vec<u8>, AllocError>
     ensures { IfOk result (λ line.
@@ -94,6 +104,8 @@ impl Refusal {
             Refusal::LongPolicy => long_line(alloc, "policy"),
             Refusal::Policy(fault) => policy_line(alloc, fault),
             Refusal::Fragment(fault) => fragment_line(alloc, fault),
+            Refusal::LongStrategy => long_line(alloc, "strategy"),
+            Refusal::Strategy(fault) => strategy_line(alloc, fault),
             Refusal::Log(fault) => log_line(alloc, fault),
             Refusal::Read(file) => read_line(alloc, *file),
             Refusal::Write => Vec::from_slice(alloc, b"write\n"),

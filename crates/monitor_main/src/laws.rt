@@ -1,10 +1,15 @@
 //! Laws of the definitions, each the contract of a function.
-ghost use Rattle.monitor_main.specs.AnswerLaws.{CheckAccepts};
+ghost use Rattle.monitor_main.specs.AnswerLaws.{CheckAccepts, StrategiesAgree};
 ghost use Rattle.monitor_main.specs.TextLaw.{VerdictsGrow};
 
 /// `check` accepts each policy that can be monitored, and tells its free variables.
 pub fn check_accepts()
     ensures { CheckAccepts }
+{}
+
+/// A run answers the same by each strategy that is accepted, however many workers it makes.
+pub fn strategies_agree()
+    ensures { StrategiesAgree }
 {}
 
 /// With one time-point more the verdicts stay, and those on the positions that it settles come behind them.

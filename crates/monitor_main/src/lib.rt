@@ -1,24 +1,23 @@
-//! The monitor's top call: words, signature, policy and log in; verdict lines, a fault line and a
-//! status out. The programs above make its inputs and its sinks.
+//! The monitor's top call: words, signature, policy, strategy and log in; verdict lines, a fault line
+//! and a status out. The programs above make its inputs and its sinks.
 #![tactic(auto)]
 
 mod check;
 mod checked_policy;
 pub mod demo_laws;
 mod fault_lines;
-mod following;
 pub mod laws;
 mod limits;
-mod log;
 mod monitoring;
 mod options;
 mod real_inputs;
 mod real_sink;
 mod refusal;
 mod retrying;
+mod run_options;
 mod running;
 mod status;
-mod verdict_lines;
+mod strategy_text;
 mod words;
 
 pub use real_inputs::RealInputs;

@@ -1,7 +1,10 @@
-//! How many bytes a file may have, and a piece of a log. A log's limits are log_reader's.
+//! How much the words and the files may ask for. A log's limits are log_reader's.
 
-/// The most bytes of a signature or a policy.
+/// The most bytes of a signature, of a policy, and of a strategy's text.
 pub const MAX_FILE: u64 = 1 << 20;
 
-/// The most bytes of a log that are read at once.
-pub const BUFFER: usize = 65_536;
+/// The most threads beside the one that reads and writes.
+pub const MAX_THREADS: u32 = 64;
+
+/// So many threads serve the workers where the words say nothing of it: the default of `--threads`.
+pub const DEFAULT_THREADS: u32 = 4;

@@ -3,20 +3,26 @@ ghost use Rattle.std.specs.Prelude.{◌≡◌, ◌≤◌, [], IsTrue};
 ghost use Rattle.log_reader.specs.Progress.{start};
 ghost use Rattle.log_reader.specs.Readers.{Reads, progress};
 ghost use Rattle.monitorable.specs.Cores.{core_form};
-ghost use Rattle.monitor_main.specs.Answer.{standard};
-ghost use Rattle.monitor_main.specs.CheckedPolicies.{IsCoreOf, checked_in};
-ghost use Rattle.monitor_main.specs.Decisions.{MonitorsLog, effect};
-ghost use Rattle.monitor_main.specs.Pieces.{FollowsLog};
+ghost use Rattle.rescale_core.specs.Workers.{IsFor};
+ghost use Rattle.worker_pool.specs.Effects.{effect};
+ghost use Rattle.worker_pool.specs.Policies.{IsCoreOf};
+ghost use Rattle.worker_pool.specs.Texts.{standard};
+ghost use Rattle.monitor_main.specs.CheckedPolicies.{checked_in};
+ghost use Rattle.monitor_main.specs.Decisions.{MonitorsLog};
+ghost use Rattle.monitor_main.specs.Limits.{max_threads};
+ghost use Rattle.monitor_main.specs.LogRuns.{EndsAs, outcome_of};
 
 use crate::checked_policy::CheckedPolicy;
-use crate::following::follow;
-use crate::limits::BUFFER;
 use crate::refusal::{InputFile, Refusal};
+use crate::run_options::RunOptions;
 use log_reader::{Limits, LogReader};
 use mfotl_sig::Signature;
-use mon_outside::{Inputs, Sink};
-use monitor_state::Monitor;
+use mon_outside::{Gate, Inputs, Sink};
+use slice_strategy::Strategy;
 use std::alloc::Global;
+use std::sync::Wait;
+use std::thread::Threads;
+use worker_pool::{End, Plan, monitor};
 
 // A reader of a log to which nothing was fed.
 fn reader_over<'a>(alloc: Global, sig: &'a Signature) -> LogReader<'a>
@@ -26,47 +32,77 @@ fn reader_over<'a>(alloc: Global, sig: &'a Signature) -> LogReader<'a>
     LogReader::new(alloc, sig, Limits::standard())
 }
 
+// Whether some line has a row, or why not all lines were written.
+fn outcome(end: End) -> Result<bool, Refusal>
+    ensures { result ≡ outcome_of end }
+{
+    match end {
+        End::Finished { violated, .. } => Ok(violated > 0),
+        End::LogEnds(fault) => Err(Refusal::from(fault)),
+        End::ReadFailed => Err(Refusal::Read(InputFile::Log)),
+        End::SinkFailed => Err(Refusal::Write),
+        End::Memory => Err(Refusal::Memory),
+    }
+}
+
 // Monitors the open file.
-fn monitor_open<I: Inputs, O: Sink>(
+fn monitor_open<R: Threads + Wait + Sync, I: Inputs, O: Sink, G: Gate + Sync>(
+    rt: &R,
     alloc: Global,
-    checked: &CheckedPolicy,
+    checked: CheckedPolicy,
+    first: Strategy,
+    threads: u32,
     inputs: &mut I,
     out: &mut O,
+    gate: &G,
 ) -> Result<bool, Refusal>
-    requires core { IsCoreOf (core_form checked.now.core) (checked_in checked.now).policy.formula }
+    requires core { IsCoreOf (core_form checked.core) (checked_in checked).policy.formula }
+    requires suits { IsFor (core_form checked.core) first }
+    requires few { threads ≤ max_threads }
     requires opened { IsTrue (I.is_open inputs.old) }
     ensures files { I.files inputs.new ≡ I.files inputs.old }
     ensures stays_open { I.is_open inputs.new ≡ I.is_open inputs.old }
     ensures asks_nothing { I.asked inputs.new ≡ I.asked inputs.old }
     ensures later { I.faults inputs.old ≤ I.faults inputs.new }
     ensures later_out { O.faults out.old ≤ O.faults out.new }
-    ensures follows { FollowsLog (checked_in checked.now).sig (checked_in checked.now).policy.formula
-        (effect I.Inputs O.Sink inputs.old inputs.new out.old out.new) result }
+    ensures ends { EndsAs (checked_in checked) result
+        (effect I.Inputs O.Sink inputs.old inputs.new out.old out.new) }
 {
-    let Ok(mut monitor) = Monitor::new(alloc, &checked.core) else {
-        return Err(Refusal::Memory);
-    };
-    let Ok(mut buffer) = vec![in alloc; 0u8; BUFFER] else {
-        return Err(Refusal::Memory);
-    };
-    let mut reader = reader_over(alloc, &checked.sig);
-    follow(alloc, inputs, &mut buffer, &mut reader, &mut monitor, out)
+    let (sig, core) = checked.into_parts();
+    let mut log = reader_over(alloc, &sig);
+    let plan = Plan { core, first };
+    let end = monitor(rt, alloc, plan, &mut log, inputs, out, threads, gate);
+    outcome(end)
 }
 
-/// Monitors the log of this name, and answers whether some line has a row.
-pub fn monitor_policy<I: Inputs, O: Sink>(
+/// Monitors the log that the options name, by this strategy and with so many threads, and answers whether some line
+/// has a row.
+pub fn monitor_policy<R: Threads + Wait + Sync, I: Inputs, O: Sink, G: Gate + Sync>(
+    rt: &R,
     alloc: Global,
-    checked: &CheckedPolicy,
-    log: &str,
+    checked: CheckedPolicy,
+    first: Strategy,
+    options: &RunOptions<'_>,
     inputs: &mut I,
     out: &mut O,
+    gate: &G,
 ) -> Result<bool, Refusal>
-    requires { IsCoreOf (core_form checked.now.core) (checked_in checked.now).policy.formula }
-    ensures { MonitorsLog (checked_in checked.now) log.now
+    requires core { IsCoreOf (core_form checked.core) (checked_in checked).policy.formula }
+    requires suits { IsFor (core_form checked.core) first }
+    ensures { MonitorsLog (checked_in checked) options.now.log.now
         (effect I.Inputs O.Sink inputs.old inputs.new out.old out.new) result }
 {
-    match inputs.open(log) {
-        Ok(()) => monitor_open(alloc, checked, inputs, out),
+    match inputs.open(options.log) {
+        Ok(()) => monitor_open(
+            rt,
+            alloc,
+            checked,
+            first,
+            options.threads,
+            inputs,
+            out,
+            gate,
+        ),
         Err(_) => Err(Refusal::Read(InputFile::Log)),
     }
 }

@@ -3,9 +3,11 @@ ghost use Rattle.std.specs.Prelude.{◌≡◌, IfOk, false};
 ghost use Rattle.clap.specs.Words.{app_of, rule_of, with_rule};
 ghost use Rattle.clap.specs.Simple.{on_top};
 ghost use Rattle.clap.specs.declared.builder.Command.TheViews.{out-Command as fields_of};
-ghost use Rattle.monitor_main.specs.Words.{check_app, file_rule, monitor_app, run_app, sources_app};
-ghost use Rattle.monitor_main.specs.Words.{strict};
+ghost use Rattle.monitor_main.specs.Words.{check_app, file_rule, monitor_app, option_rule, run_app};
+ghost use Rattle.monitor_main.specs.Words.{sources_app, strategy_rule, strict, threads_rule};
 
+use crate::limits::MAX_THREADS;
+use clap::builder::ValueParser;
 use clap::{Arg, ArgAction, Command};
 use std::alloc::{AllocError, Global};
 
@@ -18,6 +20,34 @@ fn file_option(alloc: Global, name: &str) -> Arg<'_>
         .long(name)
         .action(ArgAction::Set)
         .required(true)
+}
+
+// The option `--NAME`, of one value, by default this one.
+fn option_with_default<'a>(alloc: Global, name: &'a str, default: &'a str) -> Arg<'a>
+    ensures rule { rule_of result ≡ option_rule name.entry.now default.entry.now }
+    ensures local { result.global ≡ false }
+{
+    Arg::new(alloc, name)
+        .long(name)
+        .action(ArgAction::Set)
+        .default_value(default)
+}
+
+// The option `--strategy`.
+fn strategy_option<'a>(alloc: Global) -> Arg<'a>
+    ensures rule { rule_of result ≡ strategy_rule }
+    ensures local { result.global ≡ false }
+{
+    option_with_default(alloc, "strategy", "")
+}
+
+// The option `--threads`, a number in its range.
+fn threads_option<'a>(alloc: Global) -> Arg<'a>
+    ensures rule { rule_of result ≡ threads_rule }
+    ensures local { result.global ≡ false }
+{
+    let numbers = ValueParser::unsigned(0, u64::from(MAX_THREADS));
+    option_with_default(alloc, "threads", "4").value_parser(numbers)
 }
 
 // The command with one more file among its options.
@@ -51,7 +81,9 @@ fn run_command<'a>(alloc: Global) -> Result<Command<'a>, AllocError>
     ensures local { IfOk result (λ r. (fields_of r).has_globals ≡ false) }
 {
     let command = sources_command(alloc, "run")?;
-    with_file(alloc, command, "log")
+    let command = with_file(alloc, command, "log")?;
+    let command = command.arg(strategy_option(alloc))?;
+    command.arg(threads_option(alloc))
 }
 
 // The subcommand `check`.

@@ -8,6 +8,7 @@ use log_reader::LogFault;
 use mfotl_parse::PolicyFault;
 use mfotl_sig::SigFault;
 use monitorable::FragmentFault;
+use slice_strategy::StrategyFault;
 
 /// A file that a run reads.
 #[derive(Clone, Copy)]
@@ -32,6 +33,10 @@ pub enum Refusal {
     Policy(PolicyFault),
     /// The first reason why the policy can't be monitored.
     Fragment(FragmentFault),
+    /// The strategy's text has more bytes than it may have.
+    LongStrategy,
+    /// The first fault of the strategy.
+    Strategy(StrategyFault),
     /// The first fault of the log.
     Log(LogFault),
     /// The file could not be opened or read.
@@ -98,6 +103,20 @@ impl From<FragmentFault> for Refusal {
     }
 }
 
+impl From<StrategyFault> for Refusal {
+    ghost use Rattle.std.specs.Prelude.{◌≡◌};
+    ghost use Rattle.monitor_main.specs.Refusals.{strategy_refusal};
+
+    ghost from_gives = { λ fault refusal. refusal ≡ strategy_refusal fault };
+
+    fn from(fault: StrategyFault) -> Self {
+        match fault {
+            StrategyFault::Memory => Refusal::Memory,
+            fault => Refusal::Strategy(fault),
+        }
+    }
+}
+
 impl From<LogFault> for Refusal {
     ghost use Rattle.std.specs.Prelude.{◌≡◌};
     ghost use Rattle.monitor_main.specs.Refusals.{log_refusal};
@@ -124,6 +143,8 @@ impl Refusal {
             Refusal::LongPolicy => Status::Policy,
             Refusal::Policy(_) => Status::Policy,
             Refusal::Fragment(_) => Status::Policy,
+            Refusal::LongStrategy => Status::Strategy,
+            Refusal::Strategy(_) => Status::Strategy,
             Refusal::Log(_) => Status::Log,
             Refusal::Read(_) => Status::Read,
             Refusal::Write => Status::Write,

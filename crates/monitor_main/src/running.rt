@@ -6,7 +6,8 @@ ghost use Rattle.mon_outside.specs.Sink.{AppendsFront};
 ghost use Rattle.mon_outside.specs.Views.{inputs_view, sink_view};
 ghost use Rattle.monitor_main.specs.Answer.{answer};
 ghost use Rattle.monitor_main.specs.CommandViews.{command_in};
-ghost use Rattle.monitor_main.specs.Decisions.{AsksByWords, CarriesOut, HandsOn, Obeys, effect};
+ghost use Rattle.monitor_main.specs.Decisions.{AsksByWords, CarriesOut, HandsOn, Obeys};
+ghost use Rattle.worker_pool.specs.Effects.{effect};
 ghost use Rattle.monitor_main.specs.Outcomes.{FailsToRead, IsDecidedBy, IsGiven, Reports, Tells};
 ghost use Rattle.monitor_main.specs.Refusals.{line_of};
 ghost use Rattle.monitor_main.specs.Words.{command_of, texts_of};
@@ -16,6 +17,7 @@ use crate::checked_policy::load_sources;
 use crate::monitoring::monitor_policy;
 use crate::refusal::Refusal;
 use crate::status::Status;
+use crate::strategy_text::read_strategy;
 use crate::words::{Command, read_words};
 use mon_outside::{Failed, Gate, Inputs, Sink, write_whole};
 use std::alloc::Global;
@@ -23,34 +25,41 @@ use std::sync::Wait;
 use std::thread::Threads;
 
 // Does what the command says, and answers whether some line has a row.
-fn obey<I: Inputs, O: Sink>(
+fn obey<R: Threads + Wait + Sync, I: Inputs, O: Sink, G: Gate + Sync>(
+    rt: &R,
     alloc: Global,
     command: &Command<'_>,
     inputs: &mut I,
     out: &mut O,
+    gate: &G,
 ) -> Result<bool, Refusal>
     ensures { CarriesOut (command_in command.now)
         (effect I.Inputs O.Sink inputs.old inputs.new out.old out.new) result }
 {
     let checked = load_sources(alloc, command.sources(), inputs)?;
     match command {
-        Command::Run(_, log) => monitor_policy(alloc, &checked, log, inputs, out),
+        Command::Run(_, options) => {
+            let first = read_strategy(alloc, options.strategy, &checked.policy)?;
+            monitor_policy(rt, alloc, checked, first, options, inputs, out, gate)
+        }
         Command::Check(_) => accept(alloc, &checked, out),
     }
 }
 
 // What the words and the files come to: whether some line has a row, or why it is refused.
-fn decide<I: Inputs, O: Sink>(
+fn decide<R: Threads + Wait + Sync, I: Inputs, O: Sink, G: Gate + Sync>(
+    rt: &R,
     alloc: Global,
     words: &[String],
     inputs: &mut I,
     out: &mut O,
+    gate: &G,
 ) -> Result<bool, Refusal>
     ensures { Obeys (texts_of words.now)
         (effect I.Inputs O.Sink inputs.old inputs.new out.old out.new) result }
 {
     let command = read_words(alloc, words)?;
-    obey(alloc, &command, inputs, out)
+    obey(rt, alloc, &command, inputs, out, gate)
 }
 
 // Hands on what the output holds back behind a decision. Where that fails, so does the output.
@@ -66,22 +75,24 @@ fn hand_on<O: Sink>(decision: Result<bool, Refusal>, out: &mut O) -> Result<bool
 }
 
 // The same decision, with nothing held back.
-fn conclude<I: Inputs, O: Sink>(
+fn conclude<R: Threads + Wait + Sync, I: Inputs, O: Sink, G: Gate + Sync>(
+    rt: &R,
     alloc: Global,
     words: &[String],
     inputs: &mut I,
     out: &mut O,
+    gate: &G,
 ) -> Result<bool, Refusal>
     ensures obeys { Obeys (texts_of words.now)
         (effect I.Inputs O.Sink inputs.old inputs.new out.old out.new) result }
     ensures handed_on { result ≢ Err Refusal.Write → O.held out.new ≡ [] }
 {
-    let decision = decide(alloc, words, inputs, out);
+    let decision = decide(rt, alloc, words, inputs, out, gate);
     hand_on(decision, out)
 }
 
 // Writes a line, as far as that can be done.
-#[tactic(auto, using(crate::proofs::SinkLemmas::whole_front))]
+#[tactic(auto, using(worker_pool::proofs::SinkLemmas::whole_front))]
 fn tell<E: Sink>(line: &[u8], err: &mut E)
     ensures { Tells (E.written err.old) (E.written err.new)
         (E.faults err.old) (E.faults err.new) line.now }
@@ -170,7 +181,7 @@ pub fn run<R: Threads + Wait + Sync, I: Inputs, O: Sink, E: Sink, G: Gate + Sync
         (E.faults err.old) (E.faults err.new) (line_of Refusal.Memory) }
     ensures files { I.files inputs.new ≡ I.files inputs.old }
 {
-    match conclude(alloc, words.as_slice(), inputs, out) {
+    match conclude(rt, alloc, words.as_slice(), inputs, out, gate) {
         Ok(true) => Status::Violated,
         Ok(false) => Status::Clean,
         Err(refusal) => report(alloc, refusal, err),

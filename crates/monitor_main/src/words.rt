@@ -1,14 +1,18 @@
 //! The words of the command line, as one `clap` command takes them.
-ghost use Rattle.std.specs.Prelude.{◌≡◌, List, Some, None, Err, IfOk, option_map};
+ghost use Rattle.std.specs.Prelude.{◌≡◌, ◌≤◌, List, Some, None, Err, IfOk, IfSome, option_map};
 ghost use Rattle.clap.specs.Words.{Text, rows_of, found_of};
 ghost use Rattle.clap.specs.Words.{subcommand_of, subcommand_rows_of, FailsBy};
-ghost use Rattle.monitor_main.specs.CommandViews.{command_in, sources_in};
+ghost use Rattle.monitor_main.specs.CommandViews.{HasThreadsFound, HasThreadsOf, command_in};
+ghost use Rattle.monitor_main.specs.CommandViews.{options_in, sources_in};
+ghost use Rattle.monitor_main.specs.Limits.{max_threads};
 ghost use Rattle.monitor_main.specs.Words.{command_found, command_named, command_of};
-ghost use Rattle.monitor_main.specs.Words.{command_sources, sources_of};
+ghost use Rattle.monitor_main.specs.Words.{IsThreadCount, command_sources, run_options_of, sources_of};
 ghost use Rattle.monitor_main.specs.Words.{is_input, monitor_app, shares_input, texts_of, value_of};
 ghost use Rattle.monitor_main.specs.Words.{words_fault};
 
+use crate::limits::{DEFAULT_THREADS, MAX_THREADS};
 use crate::options::monitor_command;
+use crate::run_options::RunOptions;
 use clap::error::ErrorKind;
 use clap::{ArgMatches, Error};
 use std::alloc::Global;
@@ -23,8 +27,8 @@ pub struct Sources<'a> {
 /// What is to be done.
 #[derive(Clone, Copy)]
 pub enum Command<'a> {
-    /// To monitor the log of this name.
-    Run(Sources<'a>, &'a str),
+    /// To monitor a log.
+    Run(Sources<'a>, RunOptions<'a>),
     /// To tell whether the policy can be monitored.
     Check(Sources<'a>),
 }
@@ -69,14 +73,38 @@ fn sources_given<'a>(options: &ArgMatches<'a>) -> Sources<'a>
     }
 }
 
+// The number of threads.
+fn threads_given(options: &ArgMatches<'_>) -> u32
+    ensures few { result ≤ max_threads }
+    ensures given { IsThreadCount (rows_of (found_of options.now)) result }
+{
+    match options.get_one::<u32>("threads") {
+        Some(threads) if threads <= MAX_THREADS => threads,
+        _ => DEFAULT_THREADS,
+    }
+}
+
+// The strategy, the log and the number of threads among the options.
+fn run_options_given<'a>(options: &ArgMatches<'a>) -> RunOptions<'a>
+    ensures texts { options_in result ≡ run_options_of (rows_of (found_of options.now)) }
+    ensures threads { IsThreadCount (rows_of (found_of options.now)) result.threads }
+{
+    RunOptions {
+        strategy: value_in(options, "strategy"),
+        log: value_in(options, "log"),
+        threads: threads_given(options),
+    }
+}
+
 // The command of this name with these options.
 fn command_named<'a>(name: &str, options: &ArgMatches<'a>) -> Option<Command<'a>>
-    ensures { option_map command_in result
+    ensures command { option_map command_in result
         ≡ command_named name.now (rows_of (found_of options.now)) }
+    ensures threads { IfSome result (HasThreadsOf (rows_of (found_of options.now))) }
 {
     if name == "run" {
         let sources = sources_given(options);
-        return Some(Command::Run(sources, value_in(options, "log")));
+        return Some(Command::Run(sources, run_options_given(options)));
     }
     if name == "check" {
         return Some(Command::Check(sources_given(options)));
@@ -86,7 +114,8 @@ fn command_named<'a>(name: &str, options: &ArgMatches<'a>) -> Option<Command<'a>
 
 // The command that was given.
 fn command_given<'a>(matches: &ArgMatches<'a>) -> Option<Command<'a>>
-    ensures { option_map command_in result ≡ command_found (subcommand_rows_of matches.now) }
+    ensures command { option_map command_in result ≡ command_found (subcommand_rows_of matches.now) }
+    ensures threads { IfSome result (HasThreadsFound (subcommand_rows_of matches.now)) }
 {
     match matches.subcommand() {
         Some((name, options)) => command_named(name, options),
@@ -107,9 +136,9 @@ fn shares_input(command: &Command<'_>) -> bool
 {
     match command {
         Command::Check(sources) => is_input(sources.sig) && is_input(sources.policy),
-        Command::Run(sources, log) => {
+        Command::Run(sources, options) => {
             let policy = is_input(sources.policy);
-            let log = is_input(log);
+            let log = is_input(options.log);
             if is_input(sources.sig) {
                 policy || log
             } else {
@@ -134,6 +163,7 @@ fn matches_of<'a>(alloc: Global, words: &'a [String]) -> Result<ArgMatches<'a>, 
 #[tactic(auto, unfolding(crate::specs::Words::command_of, crate::specs::Words::command_given))]
 pub fn read_words<'a>(alloc: Global, words: &'a [String]) -> Result<Command<'a>, WordsFault>
     ensures given { IfOk result (λ r. command_of (texts_of words.now) ≡ Some (command_in r)) }
+    ensures threads { IfOk result (HasThreadsFound (subcommand_of monitor_app (texts_of words.now))) }
     ensures usage { result ≡ Err WordsFault.Usage → command_of (texts_of words.now) ≡ None }
 {
     match matches_of(alloc, words) {

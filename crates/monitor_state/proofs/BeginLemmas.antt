@@ -1,10 +1,11 @@
 -- The nodes with which a monitor begins stand for the empty log.
-use Rattle.std.proofs.Common.{subst, ◌≡◌, ◌+◌, ◌-◌, ◌≤◌, Bool, true, false, ◌&&◌, cond, List, [], ◌∷◌, ◌++◌, length, map, drop, refl, sym, ap, ◌∙◌, arith, append_assoc, append-nil, inl, inr}
+use Rattle.std.proofs.Common.{subst, ◌≡◌, ℕ, ◌+◌, ◌-◌, ◌≤◌, Bool, true, false, ◌&&◌, cond, List, [], ◌∷◌, ◌++◌, length, map, drop, refl, sym, ap, ap₂, ◌∙◌, arith, append_assoc, append-nil, inl, inr}
 use Rattle.mfotl_model.specs.Exact.{AllExact, View}
 use Rattle.mfotl_model.specs.FreeVariables.{fv}
 use Rattle.mfotl_model.specs.Log.{times}
 use Rattle.mfotl_model.specs.Satisfaction.{Valuation, sat}
 use Rattle.mfotl_model.specs.Tables.{TableOf, has}
+use Rattle.mfotl_model.specs.declared.event.TimePoint.{TimePoint}
 use Rattle.mfotl_model.specs.declared.formula.Bound.{Bound}
 use Rattle.mfotl_model.specs.declared.interval.Interval.{Interval}
 use Rattle.mfotl_model.specs.declared.term.Atom.{Atom as OneAtom}
@@ -32,6 +33,7 @@ use Rattle.monitor_state.specs.SinceNode.{IsSince, IsSinceState, SinceStands, Si
 use Rattle.monitor_state.specs.Views.{reached}
 use Rattle.monitor_state.specs.declared.node.Node.{Node}
 use Rattle.monitor_state.specs.declared.node.Node.TheVariants as node
+use Rattle.monitor_state.specs.Stamps.{stamps}
 
 pub adds_then : (fs gs : List CoreForm) (old mid new : List Node) → Adds fs old mid → Adds gs mid new
     → Adds (fs ++ gs) old new
@@ -99,7 +101,7 @@ pub since_begins_at : (i : Interval) (f g : CoreForm) (s : SinceOf) → SinceBeg
     → SinceStandsAt view 0 i f g s
 since_begins_at i f g s begun view empty =
     let pulled : s.pulled ≡ 0 = ap (λ (x : SinceOf). x.pulled) begun.begun in
-    let times : length s.times ≡ 0 = ap (λ (x : SinceOf). length x.times) begun.begun in
+    let none_kept : length s.times ≡ 0 = ap (λ (x : SinceOf). length x.times) begun.begun in
     let lefts : length s.lefts ≡ 0 = ap (λ (x : SinceOf). length x.lefts) begun.begun in
     let rights : length s.rights ≡ 0 = ap (λ (x : SinceOf). length x.rights) begun.begun in
     let size : length view.log ≡ 0 = ap length empty in
@@ -108,6 +110,9 @@ since_begins_at i f g s begun view empty =
     record {
       pulled = pulled;
       timed = omega arith;
+      known =
+          ap (λ (x : SinceOf). stamps x.pulled x.window.last x.times) begun.begun
+          ∙ sym (ap₂ (λ (n : ℕ) (log : List TimePoint). drop (n - 1) (times log)) pulled empty);
       left_pushed = omega arith;
       right_pushed = omega arith;
       lefts = subst (λ xs. AllExact view (meaning (left_operand f)) s.pulled xs) (sym (ap (λ (x : SinceOf). x.lefts) begun.begun)) tt;
@@ -292,6 +297,7 @@ or_is f g s begun =
     record {
       columns =
           ap (λ (x : OrOf). x.left) begun.begun ∙ sym (joined_within (fv (meaning f)) (fv (meaning g)) begun.within);
+      right = ap (λ (x : OrOf). x.right) begun.begun;
     }
 
 pub or_added : (f g : CoreForm) (s : OrOf) (old new : List Node) → OrBegun f g s → new ≡ old ++ node.Or s ∷ []
@@ -312,13 +318,16 @@ previous_begins : (i : Interval) (f : CoreForm) (s : PrevOf) → PreviousBegun i
     → PreviousStands view i f s
 previous_begins i f s begun view empty =
     let pulled : s.pulled ≡ 0 = ap (λ (x : PrevOf). x.pulled) begun.begun in
-    let times : length s.times ≡ 0 = ap (λ (x : PrevOf). length x.times) begun.begun in
+    let none_kept : length s.times ≡ 0 = ap (λ (x : PrevOf). length x.times) begun.begun in
     let tables : length s.tables ≡ 0 = ap (λ (x : PrevOf). length x.tables) begun.begun in
     let size : length view.log ≡ 0 = ap length empty in
     let none : 0 ≡ reached view f = none_reached view empty f in
     record {
       pulled = pulled ∙ none_reached view empty (Previous i f);
       timed = omega arith;
+      known =
+          ap (λ (x : PrevOf). stamps x.pulled x.last x.times) begun.begun
+          ∙ sym (ap₂ (λ (n : ℕ) (log : List TimePoint). drop (n - 1) (times log)) pulled empty);
       pushed = omega arith;
       tables = subst (λ xs. AllExact view (meaning f) (s.pulled - 1) xs) (sym (ap (λ (x : PrevOf). x.tables) begun.begun)) tt;
       follows = λ dom v covers near t a dates tells. begun.follows t a v;
@@ -342,11 +351,13 @@ next_begins : (i : Interval) (f : CoreForm) (s : NextOf) → NextBegun i f s →
     → NextStands view i f s
 next_begins i f s begun view empty =
     let pulled : s.pulled ≡ 0 = ap (λ (x : NextOf). x.pulled) begun.begun in
-    let times : length s.times ≡ 0 = ap (λ (x : NextOf). length x.times) begun.begun in
+    let none_kept : length s.times ≡ 0 = ap (λ (x : NextOf). length x.times) begun.begun in
     let size : length view.log ≡ 0 = ap length empty in
     record {
       pulled = pulled ∙ none_reached view empty (Next i f);
       timed = omega arith;
+      kept =
+          ap (λ (x : NextOf). x.times) begun.begun ∙ sym (ap₂ (λ (n : ℕ) (log : List TimePoint). drop n (times log)) pulled empty);
       pushed = ap tables_pushed begun.begun ∙ none_reached view empty f;
       bare = λ h. (pulled, ap (λ (x : NextOf). length x.tables) begun.begun);
       tables = subst (λ xs. AllExact view (meaning f) (s.pulled + 1) xs) (sym (ap (λ (x : NextOf). x.tables) begun.begun)) tt;

@@ -8,6 +8,9 @@ use Rattle.eval_since.specs.SinceView.{Advances, Follows, SinceOf, due}
 use Rattle.relations.proofs.PushedLemmas.{over_push, stand_push}
 use Rattle.relations.specs.Pushed.{StandFrom, left_holds}
 use Rattle.monitor_state.specs.Feeding.{LeftsPushed, RightsPushed, SincePulled}
+use Rattle.monitor_state.specs.PreviousFeeding.{tables_used}
+use Rattle.monitor_state.specs.Stamps.{stamps}
+use Rattle.monitor_state.proofs.StampLemmas.{stamps_more, stamps_pulled}
 
 -- what stands in front, and the one behind
 pub stand_split : {X : Type 0} (P : ℕ → X → Type 0) (p : ℕ) (xs : List X) (x : X) → StandFrom P p (xs ++ x ∷ [])
@@ -78,6 +81,7 @@ rights_more old s new front table before pushed follows =
 
 pub pulled_none : (columns : List ℕ) (s : SinceOf) → SincePulled columns s s []
 pulled_none columns s =
+    let none : 0 ≡ tables_used s.pulled 0 = omega arith in
     record {
       pulled = omega arith;
       negated = refl;
@@ -85,6 +89,7 @@ pulled_none columns s =
       left = refl;
       right = refl;
       times = refl;
+      known = ap (λ n. drop n (stamps s.pulled s.window.last s.times)) none;
       lefts = refl;
       rights = refl;
       in_times = omega arith;
@@ -134,6 +139,11 @@ pulled_more columns old s new tables table ordered before ready advances follows
       left = advances.left ∙ before.left;
       right = advances.right ∙ before.right;
       times = dropped_more (length tables) old.times s.times new.times before.times advances.times ∙ ap (λ k. drop k old.times) (sym n);
+      known =
+          stamps_more old.pulled (length tables) s.pulled (length (tables ++ ordered ∷ [])) s.window.last
+          (stamps old.pulled old.window.last old.times) (stamps s.pulled s.window.last s.times)
+          (stamps new.pulled new.window.last new.times) pulled before.known
+          (stamps_pulled s.pulled new.pulled s.window.last new.window.last s.times new.times next advances.stamps) n;
       lefts = dropped_more (length tables) old.lefts s.lefts new.lefts before.lefts advances.lefts ∙ ap (λ k. drop k old.lefts) (sym n);
       rights = dropped_more (length tables) old.rights s.rights new.rights before.rights advances.rights ∙ ap (λ k. drop k old.rights) (sym n);
       in_times = omega arith;

@@ -58,7 +58,7 @@ slice_is_enough view core given db passes has below =
     (subst (λ atoms. HasEach given (slice view.near atoms db)) (sym (append-nil (atoms_of core))) has)
 
 -- a database has its own events
-itself : (view : View) (f : CoreForm) (db : List Event) → SameNear view f db db
+pub itself : (view : View) (f : CoreForm) (db : List Event) → SameNear view f db db
 itself view True db = tt
 itself view False db = tt
 itself view (Atom a) db = λ v near. refl

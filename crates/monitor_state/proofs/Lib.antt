@@ -1,6 +1,7 @@
-pub mod FeedingLemmas
 pub mod CountLemmas
 pub mod ExactLemmas
+pub mod StampLemmas
+pub mod FeedingLemmas
 pub mod RegionLemmas
 pub mod OrderingLemmas
 pub mod SinceSteps
@@ -28,3 +29,10 @@ pub mod FilterSteps
 pub mod WholeLemmas
 pub mod FilterBegins
 pub mod SiftLemmas
+pub mod MarkLemmas
+pub mod RecordLemmas
+pub mod RecordRules
+pub mod RecordNodes
+pub mod RecordTimes
+pub mod RecordKeeps
+pub mod RecordState

@@ -1,7 +1,7 @@
 -- A NEXT's state over one step.
 use Rattle.std.proofs.Common.{subst, ◌≡◌, ℕ, ◌+◌, ◌-◌, ◌<◌, ◌≤◌, Bool, true, false, ◌&&◌, cond, nat_lt, List, [], ◌∷◌, ◌++◌, length, drop, refl, sym, ap, ap₂, ◌∙◌, arith, length-append, append-nil}
 use Rattle.std.proofs.lemmas.Bool.{and_from, lt-ltb}
-use Rattle.std.proofs.lemmas.List.{length-drop, length-map}
+use Rattle.std.proofs.lemmas.List.{drop-drop, length-drop, length-map}
 use Rattle.mfotl_model.specs.Exact.{View, Covers, AllExact}
 use Rattle.mfotl_model.specs.Formulas.{Form}
 use Rattle.mfotl_model.specs.FreeVariables.{fv}
@@ -22,6 +22,7 @@ use Rattle.monitor_state.specs.NextFeeding.{BeginsBare, NextTakes, next_fed, nex
 use Rattle.monitor_state.specs.Stands.{IsNext, NextStands}
 use Rattle.monitor_state.specs.Steps.{News, longer}
 use Rattle.monitor_state.specs.Views.{Dates, Tells, reached}
+use Rattle.monitor_state.proofs.StampLemmas.{from_more}
 
 -- the tables that are kept are exact from the position after the pulled ones on
 kept_exact : (view : View) (f : Form) (b : Bool) (p : ℕ) (xs tables : List TableOf) → (b ≡ false → (p ≡ 0) × (length xs ≡ 0))
@@ -142,6 +143,15 @@ module _ (view : View) (point : TimePoint) (i : Interval) (f : CoreForm)
       ap length takes.pulls.times ∙ length-drop (length tables) takes.fed.times in
       omega arith
 
+  new_times : new.times ≡ drop new.pulled (times (longer view point).log)
+  new_times =
+      let timed : old.pulled + length old.times ≡ length view.log = stands.timed in
+      let pulled : new.pulled ≡ old.pulled + length tables = pulled_is in
+      takes.pulls.times ∙ ap (λ (x : NextOf). drop (length tables) x.times) fed_is
+      ∙ ap (drop (length tables)) (from_more view point rising old.pulled ts old.times ts_is (omega arith) stands.kept)
+      ∙ drop-drop (length tables) old.pulled (times (longer view point).log)
+      ∙ ap (λ n. drop n (times (longer view point).log)) (sym pulled)
+
   new_pushed : tables_pushed new ≡ reached (longer view point) f
   new_pushed =
       let room : length tables ≤ length takes.fed.tables = takes.pulls.in_tables in
@@ -222,6 +232,7 @@ module _ (view : View) (point : TimePoint) (i : Interval) (f : CoreForm)
       record {
         pulled = all_pulled;
         timed = kept_times;
+        kept = new_times;
         pushed = new_pushed;
         bare = new_bare;
         tables =

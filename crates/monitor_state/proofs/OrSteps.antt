@@ -123,7 +123,11 @@ module _ (view : View) (point : TimePoint) (f g : CoreForm)
       (λ k table low high row. row ∙ row_means dom v covers near k (omega arith)) (takes.pulls.rows v)))
 
   pub or_is : IsOr f g new
-  or_is = record { columns = ap (λ (x : OrOf). x.left) takes.pulls.state ∙ is.columns }
+  or_is =
+      record {
+        columns = ap (λ (x : OrOf). x.left) takes.pulls.state ∙ is.columns;
+        right = ap (λ (x : OrOf). x.right) takes.pulls.state ∙ is.right;
+      }
 
   pub or_stands : OrStands (longer view point) f g new
   or_stands =

@@ -8,6 +8,8 @@ use Rattle.eval_since.specs.PreviousView.{AdvancesPrevious, FollowsPrevious, Pre
 use Rattle.relations.proofs.PushedLemmas.{over_push, stand_push}
 use Rattle.monitor_state.proofs.FeedingLemmas.{dropped_more, room_more, stand_split}
 use Rattle.monitor_state.specs.PreviousFeeding.{PreviousPulled, PreviousPushed, tables_used}
+use Rattle.monitor_state.specs.Stamps.{stamps}
+use Rattle.monitor_state.proofs.StampLemmas.{stamps_more, stamps_pulled}
 
 pub pushed_none : (s : PrevOf) → PreviousPushed s s []
 pushed_none s =
@@ -45,6 +47,7 @@ pulled_none s =
       columns = refl;
       pulled = omega arith;
       times = refl;
+      known = ap (λ n. drop n (stamps s.pulled s.last s.times)) none;
       kept = ap (λ n. drop n s.tables) none;
       in_times = omega arith;
       in_tables = omega arith;
@@ -93,6 +96,11 @@ pulled_more old s new tables table before ready advances follows rows over =
       columns = advances.columns ∙ before.columns;
       pulled = omega arith;
       times = dropped_more (length tables) old.times s.times new.times before.times advances.times ∙ ap (λ k. drop k old.times) (sym n);
+      known =
+          stamps_more old.pulled (length tables) s.pulled (length (tables ++ table ∷ [])) s.last
+          (stamps old.pulled old.last old.times) (stamps s.pulled s.last s.times)
+          (stamps new.pulled new.last new.times) pulled before.known
+          (stamps_pulled s.pulled new.pulled s.last new.last s.times new.times next advances.stamps) n;
       kept =
           advances.tables
           ∙ one_dropped (nat_eq s.pulled 0) (tables_used old.pulled (length tables))

@@ -20,6 +20,8 @@ use Rattle.monitor_state.specs.PreviousFeeding.{PreviousTakes, tables_used}
 use Rattle.monitor_state.specs.Stands.{IsPrevious, PreviousStands}
 use Rattle.monitor_state.specs.Steps.{News, longer}
 use Rattle.monitor_state.specs.Views.{Dates, Tells, reached}
+use Rattle.monitor_state.specs.Stamps.{stamps}
+use Rattle.monitor_state.proofs.StampLemmas.{known_more, stamps_moved, stamps_pushed}
 
 module _ (view : View) (point : TimePoint) (i : Interval) (f : CoreForm)
     (rising : NeverFalls (times (longer view point).log))
@@ -80,6 +82,20 @@ module _ (view : View) (point : TimePoint) (i : Interval) (f : CoreForm)
       ap length takes.pulls.times ∙ length-drop (length tables) takes.fed.times in
       omega arith
 
+  fed_known : stamps takes.fed.pulled takes.fed.last takes.fed.times ≡ drop (old.pulled - 1) (times (longer view point).log)
+  fed_known =
+      let timed : old.pulled + length old.times ≡ length view.log = stands.timed in
+      ap (λ (x : PrevOf). stamps x.pulled x.last x.times) fed_is
+      ∙ stamps_pushed old.pulled old.last ts old.times
+      ∙ known_more view point rising old.pulled ts (stamps old.pulled old.last old.times) ts_is (omega arith) stands.known
+
+  new_known : stamps new.pulled new.last new.times ≡ drop (new.pulled - 1) (times (longer view point).log)
+  new_known =
+      stamps_moved takes.fed.pulled (length tables) new.pulled (times (longer view point).log)
+      (stamps takes.fed.pulled takes.fed.last takes.fed.times) (stamps new.pulled new.last new.times)
+      takes.pulls.pulled
+      (fed_known ∙ ap (λ p. drop (p - 1) (times (longer view point).log)) (sym fed_pulled)) takes.pulls.known
+
   kept_tables : new.pulled - 1 + length new.tables ≡ reached (longer view point) f
   kept_tables =
       let pulled : new.pulled ≡ old.pulled + length tables = pulled_is in
@@ -137,6 +153,7 @@ module _ (view : View) (point : TimePoint) (i : Interval) (f : CoreForm)
       record {
         pulled = all_pulled;
         timed = kept_times;
+        known = new_known;
         pushed = kept_tables;
         tables =
             subst (λ xs. AllExact (longer view point) (meaning f) (new.pulled - 1) xs) (sym tables_are)

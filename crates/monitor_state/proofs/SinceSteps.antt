@@ -20,10 +20,13 @@ use Rattle.monitorable.specs.Soundness.{HasVariablesOf}
 use Rattle.relations.specs.Pushed.{StandFrom, left_holds}
 use Rattle.monitor_state.proofs.CountLemmas.{count_since}
 use Rattle.monitor_state.proofs.ExactLemmas.{all_stay, covers_before, dates_before, dates_new, exact_append, exact_drop, exact_tell, log_more, reached_within, stand_exact, tells_before, truths_tell}
+use Rattle.monitor_state.proofs.StampLemmas.{known_more, stamps_moved, stamps_pulled, stamps_pushed}
 use Rattle.monitor_state.proofs.RegionLemmas.{joined_inside, near_part, near_right, right_inside}
 use Rattle.monitor_state.specs.Feeding.{SinceFeeds, SincePulled, SinceTakes}
 use Rattle.monitor_state.specs.Nodes.{is_negated, left_operand}
 use Rattle.monitor_state.specs.SinceNode.{IsSince, IsSinceState, SinceStands, SinceStandsAt}
+use Rattle.monitor_state.specs.PreviousFeeding.{tables_used}
+use Rattle.monitor_state.specs.Stamps.{stamps}
 use Rattle.monitor_state.specs.Steps.{News, longer}
 use Rattle.monitor_state.specs.Views.{Dates, Tells, reached}
 
@@ -151,6 +154,14 @@ module _ (view : View) (point : TimePoint) (i : Interval) (f g : CoreForm)
         ap (λ (x : SinceOf). x.pulled + length x.times) fed_is
         ∙ (let sum : old.pulled + length (old.times ++ ts ∷ []) ≡ length (longer view point).log = omega arith in sum)
 
+    fed_known : stamps fed.pulled fed.window.last fed.times ≡ drop (fed.pulled - 1) (times (longer view point).log)
+    fed_known =
+        ap (λ (x : SinceOf). stamps x.pulled x.window.last x.times) fed_is
+        ∙ stamps_pushed old.pulled old.window.last ts old.times
+        ∙ known_more view point rising old.pulled ts (stamps old.pulled old.window.last old.times) ts_is
+        (let timed : old.pulled + length old.times ≡ length view.log = stands.timed in omega arith) stands.known
+        ∙ ap (λ (x : SinceOf). drop (x.pulled - 1) (times (longer view point).log)) (sym fed_is)
+
     fed_left_count : fed.pulled + length fed.lefts ≡ reached (longer view point) f
     fed_left_count =
         let pushed : old.pulled + length old.lefts ≡ reached view f = stands.left_pushed in
@@ -173,6 +184,7 @@ module _ (view : View) (point : TimePoint) (i : Interval) (f g : CoreForm)
         record {
           pulled = ap (λ (x : SinceOf). x.pulled) fed_is ∙ stands.pulled;
           timed = fed_times;
+          known = fed_known;
           left_pushed = fed_left_count;
           right_pushed = fed_right_count;
           lefts =
@@ -190,6 +202,8 @@ pub record SinceMoves (n : ℕ) (old new : SinceOf) : Type 0 where
   pub left : new.window.left ≡ old.window.left
   pub right : new.window.right ≡ old.window.right
   pub times : new.times ≡ drop n old.times
+  pub known : stamps new.pulled new.window.last new.times
+      ≡ drop (tables_used old.pulled n) (stamps old.pulled old.window.last old.times)
   pub lefts : new.lefts ≡ drop n old.lefts
   pub rights : new.rights ≡ drop n old.rights
   pub in_times : n ≤ length old.times
@@ -207,6 +221,7 @@ pulled_moves columns old new tables pulls =
       left = pulls.left;
       right = pulls.right;
       times = pulls.times;
+      known = pulls.known;
       lefts = pulls.lefts;
       rights = pulls.rights;
       in_times = pulls.in_times;
@@ -239,6 +254,9 @@ one_moves old new ready advances follows =
       left = advances.left;
       right = advances.right;
       times = advances.times;
+      known =
+          stamps_pulled old.pulled new.pulled old.window.last new.window.last old.times new.times advances.pulled
+          advances.stamps;
       lefts = advances.lefts;
       rights = advances.rights;
       in_times = omega arith;
@@ -273,6 +291,9 @@ module _ (view : View) (i : Interval) (f g : CoreForm) (n : ℕ) (old new : Sinc
       record {
         pulled = moves.pulled ∙ ap (λ q. q + n) stands.pulled;
         timed = omega arith;
+        known =
+            stamps_moved old.pulled n new.pulled (times view.log) (stamps old.pulled old.window.last old.times)
+            (stamps new.pulled new.window.last new.times) moves.pulled stands.known moves.known;
         left_pushed = omega arith;
         right_pushed = omega arith;
         lefts =

@@ -4,6 +4,8 @@ use Rattle.mfotl_model.specs.Satisfaction.{Valuation, since, time_at, truth_at}
 use Rattle.mfotl_model.specs.Tables.{TableOf, all_among, has}
 use Rattle.eval_since.specs.SinceView.{Follows, SinceOf, due}
 use Rattle.relations.specs.Pushed.{AreOver, StandFrom, left_holds}
+use Rattle.monitor_state.specs.PreviousFeeding.{tables_used}
+use Rattle.monitor_state.specs.Stamps.{stamps}
 
 -- the left operand's tables were pushed, and the state is right where it was, and they are
 pub record LeftsPushed (old new : SinceOf) (tables : List TableOf) : Type 0 where
@@ -28,6 +30,8 @@ pub record SincePulled (columns : List ℕ) (old new : SinceOf) (tables : List T
   pub left : new.window.left ≡ old.window.left
   pub right : new.window.right ≡ old.window.right
   pub times : new.times ≡ drop (length tables) old.times
+  pub known : stamps new.pulled new.window.last new.times
+      ≡ drop (tables_used old.pulled (length tables)) (stamps old.pulled old.window.last old.times)
   pub lefts : new.lefts ≡ drop (length tables) old.lefts
   pub rights : new.rights ≡ drop (length tables) old.rights
   pub in_times : length tables ≤ length old.times

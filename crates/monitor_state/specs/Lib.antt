@@ -20,3 +20,15 @@ pub mod Going
 pub mod Beginnings
 pub mod MonitorView
 pub mod Laws
+pub mod Stamps
+pub mod Recording
+pub mod StateTimes
+pub mod StateRules
+pub mod StateStands
+pub mod Resuming
+pub mod StateInside
+pub mod StateCuts
+pub mod JoinedRows
+pub mod StateUnions
+pub mod Pieces
+pub mod StateLaws

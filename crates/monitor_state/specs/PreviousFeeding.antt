@@ -4,6 +4,7 @@ use Rattle.mfotl_model.specs.Satisfaction.{Valuation, previous, time_at, truth_a
 use Rattle.mfotl_model.specs.Tables.{TableOf, has}
 use Rattle.eval_since.specs.PreviousView.{FollowsPrevious, PrevOf, previous_due}
 use Rattle.relations.specs.Pushed.{AreOver, StandFrom}
+use Rattle.monitor_state.specs.Stamps.{stamps}
 
 -- the operand's tables were pushed, and the state is right where it was, and they are
 pub record PreviousPushed (old new : PrevOf) (tables : List TableOf) : Type 0 where
@@ -22,6 +23,8 @@ pub record PreviousPulled (old new : PrevOf) (tables : List TableOf) : Type 0 wh
   pub columns : new.columns ≡ old.columns
   pub pulled : new.pulled ≡ old.pulled + length tables
   pub times : new.times ≡ drop (length tables) old.times
+  pub known : stamps new.pulled new.last new.times
+      ≡ drop (tables_used old.pulled (length tables)) (stamps old.pulled old.last old.times)
   pub kept : new.tables ≡ drop (tables_used old.pulled (length tables)) old.tables
   pub in_times : length tables ≤ length old.times
   pub in_tables : tables_used old.pulled (length tables) ≤ length old.tables

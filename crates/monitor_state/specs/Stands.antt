@@ -20,6 +20,7 @@ use Rattle.monitorable.specs.CoreForms.{Until}
 use Rattle.monitor_state.specs.Nodes.{children, nodes_of, operands}
 use Rattle.monitor_state.specs.FilterNode.{FilterStands, IsFilter}
 use Rattle.monitor_state.specs.SinceNode.{IsSince, SinceStands}
+use Rattle.monitor_state.specs.Stamps.{stamps}
 use Rattle.monitor_state.specs.UntilNode.{IsUntil, UntilStands}
 use Rattle.monitor_state.specs.Views.{Dates, Tells, reached}
 use Rattle.monitor_state.specs.declared.node.Node.{Node}
@@ -62,6 +63,7 @@ pub record IsJoin (f : CoreForm) (s : JoinOf) : Type 0 where
 -- the state is one of an OR of the cores f and g
 pub record IsOr (f g : CoreForm) (s : OrOf) : Type 0 where
   pub columns : s.left ≡ fv (meaning (Or f g))
+  pub right : s.right ≡ fv (meaning g)
 
 -- the node is one for the core
 abbrev pub IsFor : CoreForm → Node → Type 0
@@ -108,11 +110,13 @@ pub record OrStands (view : View) (f g : CoreForm) (s : OrOf) : Type 0 where
   pub lefts : AllExact view (meaning f) s.pulled s.lefts
   pub rights : AllExact view (meaning g) s.pulled s.rights
 
--- The state of a PREVIOUS stands for the log: it gave the tables of the settled positions, and keeps the
--- times and the operand's tables that were not used; these are exact, and it is right for each near row.
+-- The state of a PREVIOUS stands for the log: it gave the tables of the settled positions, knows the log's
+-- timestamps from the position pulled last on, and keeps the operand's tables that were not used; these are exact,
+-- and it is right for each near row.
 pub record PreviousStands (view : View) (i : Interval) (f : CoreForm) (s : PrevOf) : Type 0 where
   pub pulled : s.pulled ≡ reached view (Previous i f)
   pub timed : s.pulled + length s.times ≡ length view.log
+  pub known : stamps s.pulled s.last s.times ≡ drop (s.pulled - 1) (times view.log)
   pub pushed : s.pulled - 1 + length s.tables ≡ reached view f
   pub tables : AllExact view (meaning f) (s.pulled - 1) s.tables
   pub follows : (dom : List Value) (v : Valuation) → Covers view dom → view.near (fv (meaning f)) v ≡ true
@@ -124,6 +128,7 @@ pub record PreviousStands (view : View) (i : Interval) (f : CoreForm) (s : PrevO
 pub record NextStands (view : View) (i : Interval) (f : CoreForm) (s : NextOf) : Type 0 where
   pub pulled : s.pulled ≡ reached view (Next i f)
   pub timed : s.pulled + length s.times ≡ length view.log
+  pub kept : s.times ≡ drop s.pulled (times view.log)
   pub pushed : tables_pushed s ≡ reached view f
   pub bare : s.started ≡ false → (s.pulled ≡ 0) × (length s.tables ≡ 0)
   pub tables : AllExact view (meaning f) (s.pulled + 1) s.tables

@@ -17,11 +17,15 @@ mod operators;
 mod or;
 mod ordering;
 mod previous;
+mod recording;
 mod since;
 mod stack;
+mod stamps;
+mod state;
 mod tables;
 mod until;
 mod window;
 
 pub use monitor::Monitor;
+pub use state::{NodeData, Piece, SinceKept, State, UntilKept, WindowData};
 pub use tables::Tables;

@@ -1,14 +1,21 @@
 //! The monitor.
 ghost use Rattle.std.specs.Prelude.{◌≡◌, ◌^◌, ◌<◌, ◌≤◌, ◌+◌, ◌-◌, ◌++◌, ◌∷◌, [], IfOk, OnOk, drop, length, slice_index};
+ghost use Rattle.mfotl_model.specs.Exact.{View};
 ghost use Rattle.monitorable.specs.Cores.{core_form};
 ghost use Rattle.monitor_state.specs.Beginnings.{Begins};
 ghost use Rattle.monitor_state.specs.Going.{AllAdvance};
 ghost use Rattle.monitor_state.specs.MonitorView.{monitor_of};
+ghost use Rattle.monitor_state.specs.Stands.{Stands};
+ghost use Rattle.monitor_state.specs.StateRules.{StateRule};
+ghost use Rattle.monitor_state.specs.StateStands.{StateStands};
 ghost use Rattle.monitor_state.specs.Steps.{Steps};
 
 use crate::compile::add_nodes;
 use crate::node::Node;
+use crate::recording::nodes_data;
 use crate::stack::popped;
+use crate::stamps::{longest, times_behind};
+use crate::state::State;
 use crate::tables::Tables;
 use mfotl_model::TimePoint;
 use monitorable::{Core, Role};
@@ -66,6 +73,27 @@ impl Monitor {
         ensures { result ≡ slice_index (monitor_of self.now).state.times (place - (monitor_of self.now).state.first) }
     {
         self.times[(place - self.first) as usize]
+    }
+
+    /// What the monitor keeps, as plain data.
+    pub fn state(&self, alloc: Global) -> Result<State, AllocError>
+        ensures rule { IfOk result (λ state. (view : View) →
+            Stands view (monitor_of self.now).core (monitor_of self.now).state →
+            StateRule (monitor_of self.now).core state) }
+        ensures stands { IfOk result (λ state. (view : View) →
+            Stands view (monitor_of self.now).core (monitor_of self.now).state →
+            StateStands view (monitor_of self.now).core state) }
+    {
+        let nodes = nodes_data(alloc, self.nodes.as_slice())?;
+        let past = self.given.saturating_sub(self.first);
+        let own = times_behind(alloc, &self.times, past)?;
+        let times = longest(alloc, self.nodes.as_slice(), own)?;
+        Ok(State {
+            taken: self.taken,
+            given: self.given,
+            times,
+            nodes,
+        })
     }
 
     /// Takes a time-point, and gives the tables of the positions that are settled now and weren't

@@ -1,7 +1,7 @@
 //! Tables of positions that follow one another.
 ghost use Rattle.std.specs.Prelude.{◌≡◌, ◌++◌, ◌∷◌, [], IfNone, IfOk, OnOk, length, option_to_list};
 
-use relations::Table;
+use relations::{Table, copied_tables};
 use std::alloc::{AllocError, Global};
 use std::collections::VecDeque;
 use std::marker::Model;
@@ -53,6 +53,13 @@ impl Tables {
         ensures { result ≡ length self.now }
     {
         self.tables.len()
+    }
+
+    /// Copies of the tables.
+    pub fn copied(&self, alloc: Global) -> Result<Vec<Table>, AllocError>
+        ensures { IfOk result (λ copies. copies.items ≡ self.now) }
+    {
+        copied_tables(alloc, &self.tables)
     }
 
     /// Takes the first table.

@@ -24,7 +24,7 @@ use Rattle.worker_pool.specs.Effects.{Effect}
 use Rattle.worker_pool.specs.Endings.{EndsBy, FollowsLog}
 use Rattle.worker_pool.specs.Pieces.{Feeds, IsPieceStop, ReadsPiece, SoFar, StopsLines, TakesAll, end_of}
 use Rattle.worker_pool.specs.Policies.{IsCoreOf}
-use Rattle.worker_pool.specs.Texts.{lines, log_in, standard, tally_of, tally_on, text_on}
+use Rattle.worker_pool.specs.Texts.{lines, standard, tally_of, tally_on, text_on}
 use Rattle.worker_pool.specs.Writing.{Begins, Writes, all_verdicts}
 use Rattle.worker_pool.specs.declared.stop.Stop.{Stop}
 use Rattle.worker_pool.specs.declared.stop.Stop.TheVariants.{Log, Read, Sink, Memory}
@@ -310,8 +310,7 @@ module _ (core : CoreForm) (sig : List PredOf) where
             subst (λ b. (reading sig standard s.course.bytes b).ending ≡ NoFault) untold s.clear in
             let text : Appends e.old.written mid (text_on policy (shown sig standard s.course.bytes)) =
             subst (λ b. Appends e.old.written mid (text_on policy (reading sig standard s.course.bytes b))) untold
-            (settled_text _ _ reader driver _ _ t s) in
-            (
+            (settled_text _ _ reader driver _ _ t s) in (
               refl,
               rw bytes (record { shows = clear; written = rw same text }),
               rose_later e.before.faults before e.after.faults later h.1,

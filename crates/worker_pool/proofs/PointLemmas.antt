@@ -33,7 +33,7 @@ use Rattle.worker_pool.specs.declared.stop.Stop.{Stop}
 use Rattle.worker_pool.specs.declared.stop.Stop.TheVariants as stop
 use Rattle.worker_pool.specs.declared.tally.Tally.{Tally}
 use Rattle.worker_pool.proofs.LogTimes.{read_never_falls}
-use Rattle.worker_pool.proofs.SinkLemmas.{longer_front, whole_front}
+use Rattle.worker_pool.proofs.SinkLemmas.{longer_front}
 use Rattle.worker_pool.proofs.VerdictLemmas.{first_lines, policy_verdicts}
 use Rattle.worker_pool.proofs.WritingLemmas.{over_written, stops}
 
@@ -279,8 +279,7 @@ module _ (core : CoreForm) (start : Progress) (reader : Reader) (driver : Driver
   unfolding text_on
   stops_by fault e after new more keeps over policy is =
       let g = gives_fault start.is_ended (drop reader.given (read start).points) (read start).ending fault
-      (due_is (Err fault) e) in
-      (
+      (due_is (Err fault) e) in (
         g.ending_is,
         subst (λ vs. Appends old new (lines vs)) (policy_verdicts core policy is (read start).points)
             (all_written (Fault fault) g after new more keeps over).0,

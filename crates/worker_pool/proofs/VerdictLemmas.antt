@@ -1,7 +1,7 @@
 -- The verdicts of a world are those of each policy that its core is one of.
-use Rattle.std.proofs.Common.{◌≡◌, ◌∙◌, ap, ap₂, sym, refl, subst, arith, ℕ, zero, suc, ◌+◌, ◌-◌, ◌≤◌}
+use Rattle.std.proofs.Common.{◌≡◌, ◌∙◌, ap, ap₂, sym, refl, arith, ℕ, zero, suc, ◌+◌, ◌-◌, ◌≤◌}
 use Rattle.std.proofs.Common.{Bool, true, false, cond, List, [], ◌∷◌, ◌++◌, map, length, add-one}
-use Rattle.std.specs.List.{flat_map, range_with_len, take_while}
+use Rattle.std.specs.List.{range_with_len, take_while}
 use Rattle.std.proofs.lemmas.Grind.{flat_map-append}
 use Rattle.std.proofs.lemmas.List.{length-map, map-append}
 use Rattle.std.proofs.lemmas.List.Sums.{take_while-cons}
@@ -91,8 +91,7 @@ pub first_lines : (core : CoreForm) (points : List TimePoint) (n : ℕ) → n �
 first_lines core points n within =
     let m : ℕ = settled_in core points - n in
     let sum : settled_in core points ≡ n + m = omega arith in
-    let verdict : ℕ → VerdictOf = λ i. seen (verdict_on core points i) in
-    (
+    let verdict : ℕ → VerdictOf = λ i. seen (verdict_on core points i) in (
       lines (map verdict (range_with_len (0 + n) m)),
       ap (λ k. lines (map verdict (range_with_len 0 k))) sum
           ∙ ap (λ xs. lines (map verdict xs)) (range_more 0 n m)

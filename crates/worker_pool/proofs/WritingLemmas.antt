@@ -1,5 +1,5 @@
 -- What main has read and written stays true from turn to turn.
-use Rattle.std.proofs.Common.{◌≡◌, ◌∙◌, ℕ, ◌+◌, ◌≤◌, List, [], ◌∷◌, ◌++◌, map, length, Option}
+use Rattle.std.proofs.Common.{◌≡◌, ◌∙◌, ℕ, ◌≤◌, List, [], ◌∷◌, ◌++◌, map, length, Option}
 use Rattle.std.proofs.Common.{sym, refl, ap, ap₂, subst}
 use Rattle.std.proofs.Common.{append-nil, OnOk, OnErr, Ok, Err, Bool, true}
 use Rattle.std.specs.Prelude.{Result}
@@ -16,19 +16,18 @@ use Rattle.rescale_core.proofs.Verdicts.{first_verdicts as none_emitted}
 use Rattle.rescale_core.proofs.WorldLemmas.{spot_more}
 use Rattle.rescale_core.specs.Laws.{EmitsVerdicts}
 use Rattle.rescale_core.specs.Lines.{Spot, first_spot, spot_after}
-use Rattle.rescale_core.specs.Moving.{IsDriverOf, Reaches, TurnsTo}
+use Rattle.rescale_core.specs.Moving.{IsDriverOf, TurnsTo}
 use Rattle.rescale_core.specs.Moving.Kind.{Emits, Reads}
 use Rattle.rescale_core.specs.Routing.{HasEnded}
 use Rattle.rescale_core.specs.Workers.{MayFollow, settled_in}
 use Rattle.rescale_core.specs.Worlds.{World, Allowed, after, first_world, spot_in, verdict_on}
 use Rattle.rescale_core.specs.Worlds.Move.{Emit, Read}
-use Rattle.rescale_core.specs.declared.item.Entry.{Entry}
 use Rattle.rescale_core.specs.declared.item.Entry.TheVariants.{Point}
 use Rattle.rescale_core.specs.declared.turns.Driver.{Driver}
 use Rattle.rescale_core.specs.declared.turns.Turn.{Turn}
 use Rattle.verdict_merge.specs.declared.rows.Verdict.{Verdict}
 use Rattle.worker_pool.specs.Texts.{lines, tally_of}
-use Rattle.worker_pool.specs.Writing.{Adds, Begins, Falls, FallsShort, IsOver, Keeps, ReadsIn, Runs, RunsTo, Writes}
+use Rattle.worker_pool.specs.Writing.{Adds, Begins, FallsShort, IsOver, Keeps, ReadsIn, Runs, RunsTo, Writes}
 use Rattle.worker_pool.specs.Writing.{all_verdicts, first_verdicts, seen}
 use Rattle.worker_pool.specs.declared.tally.Tally.{Tally}
 use Rattle.worker_pool.proofs.SinkLemmas.{appends_more, appends_none, front_behind, whole_front}

@@ -1,5 +1,5 @@
 -- What main has read and written, by the world of its driver.
-use Rattle.std.specs.Prelude.{◌≡◌, ◌≤◌, ℕ, List, [], ◌∷◌, ◌++◌, Option, length, map}
+use Rattle.std.specs.Prelude.{◌≡◌, ◌≤◌, ℕ, List, [], ◌∷◌, ◌++◌, Option, map}
 use Rattle.std.specs.List.{range_with_len}
 use Rattle.mon_outside.specs.Causes.{Rose}
 use Rattle.mon_outside.specs.Sink.{Appends, AppendsFront}

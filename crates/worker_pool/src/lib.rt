@@ -5,6 +5,7 @@ mod bell;
 mod bells;
 mod crew;
 mod dealing;
+mod desk;
 mod end;
 mod errand;
 mod following;

@@ -1,25 +1,150 @@
 //! The whole run over a log.
-ghost use Rattle.std.specs.Prelude.{◌≡◌, ◌≤◌, [], IsTrue};
+ghost use Rattle.std.specs.Prelude.{◌≡◌, ◌<◌, ◌≤◌, [], IfOk, IsTrue, length};
 ghost use Rattle.log_reader.specs.Progress.{start};
 ghost use Rattle.log_reader.specs.Readers.{Reads, progress};
 ghost use Rattle.monitorable.specs.Cores.{core_form};
 ghost use Rattle.rescale_core.specs.Workers.{IsFor};
 ghost use Rattle.worker_pool.specs.Effects.{effect};
 ghost use Rattle.worker_pool.specs.Endings.{FollowsLog};
+ghost use Rattle.turn_hub.specs.Ends.{IsMainOf, cell_count};
+ghost use Rattle.worker_pool.specs.Hands.{AreGroupsOf, AreHandsOf};
+ghost use Rattle.worker_pool.specs.Pieces.{end_of};
 ghost use Rattle.worker_pool.specs.Policies.{ForEachPolicy};
 ghost use Rattle.worker_pool.specs.Texts.{standard};
+ghost use Rattle.worker_pool.specs.Writing.{Begins};
 
+use crate::bells::Bells;
+use crate::dealing::deal;
+use crate::desk::follow_beside;
 use crate::end::End;
+use crate::hands::{WorkerHand, WorkerHub};
+use crate::opening::open;
 use crate::plan::Plan;
+use crate::shop::Shop;
+use crate::stop::Stop;
+use crate::tally::Tally;
 use log_reader::LogReader;
 use mon_outside::{Gate, Inputs, Sink};
-use std::alloc::Global;
+use rescale_core::Driver;
+use slice_strategy::Slicer;
+use std::alloc::{AllocError, Global};
 use std::sync::Wait;
 use std::thread::Threads;
 
+// The most bytes that one read gives.
+const PIECE: usize = 65_536;
+
+// What main and the threads work with, before anything was read.
+#[derive(Drop)]
+struct Prepared {
+    hub: WorkerHub,
+    driver: Driver,
+    groups: Vec<Vec<WorkerHand>>,
+    own: Vec<WorkerHand>,
+    bells: Bells,
+    buffer: Vec<u8>,
+}
+
+// Opens a cell for each worker, and deals the hands to threads.
+fn prepare(alloc: Global, plan: Plan, cells: u32, threads: u32) -> Result<Prepared, AllocError>
+    requires suits { IsFor (core_form plan.core) plan.first }
+    requires some { 0 < cells }
+    ensures count { IfOk result (λ p. cells ≤ cell_count p.hub) }
+    ensures begins { IfOk result (λ p. Begins (core_form plan.core) p.driver) }
+    ensures main { IfOk result (λ p. IsMainOf p.hub p.driver.main) }
+    ensures groups { IfOk result (λ p. AreGroupsOf p.hub p.groups.items) }
+    ensures own { IfOk result (λ p. AreHandsOf p.hub p.own.items) }
+    ensures room { IfOk result (λ p. 0 < length p.buffer.items) }
+{
+    let (hub, driver, hands) = open(alloc, plan.core, plan.first, cells)?;
+    let (groups, own) = deal(alloc, hands, threads)?;
+    let bells = Bells::new(alloc, groups.len())?;
+    let buffer = Vec::from_elem(alloc, 0, PIECE)?;
+    Ok(Prepared {
+        hub,
+        driver,
+        groups,
+        own,
+        bells,
+        buffer,
+    })
+}
+
+// What was counted of all lines, or why main stopped.
+fn run_plan<R: Threads + Wait + Sync, I: Inputs, O: Sink, G: Gate + Sync>(
+    rt: &R,
+    alloc: Global,
+    plan: Plan,
+    log: &mut LogReader<'_>,
+    inputs: &mut I,
+    out: &mut O,
+    threads: u32,
+    gate: &G,
+) -> Result<Tally, Stop>
+    requires suits { IsFor (core_form plan.core) plan.first }
+    requires opened { IsTrue (I.is_open inputs.old) }
+    requires fresh { progress log.old [] ≡ start log.old.sig standard }
+    requires reads { Reads log.old [] }
+    ensures files { I.files inputs.new ≡ I.files inputs.old }
+    ensures stays_open { I.is_open inputs.new ≡ I.is_open inputs.old }
+    ensures asks_nothing { I.asked inputs.new ≡ I.asked inputs.old }
+    ensures later { I.faults inputs.old ≤ I.faults inputs.new }
+    ensures later_out { O.faults out.old ≤ O.faults out.new }
+    ensures follows { ForEachPolicy (core_form plan.core) (λ policy. FollowsLog log.old.sig policy
+        (effect I.Inputs O.Sink inputs.old inputs.new out.old out.new) (end_of result)) }
+{
+    let cells = plan.first.workers();
+    let Ok(prepared) = prepare(alloc, plan, cells, threads) else {
+        return Err(Stop::Memory);
+    };
+    let Prepared {
+        hub,
+        mut driver,
+        groups,
+        own,
+        bells,
+        mut buffer,
+    } = prepared;
+    let shop = Shop {
+        rt,
+        alloc,
+        hub: &hub,
+        gate,
+        bells: &bells,
+        cells,
+    };
+    follow_beside(
+        &shop,
+        groups,
+        own,
+        &mut driver,
+        &mut buffer,
+        log,
+        inputs,
+        out,
+    )
+}
+
+// The end of a run that counted all lines or stopped.
+fn end_after(done: Result<Tally, Stop>) -> End
+    ensures { result ≡ end_of done }
+{
+    match done {
+        Ok(tally) => End::Finished {
+            settled: tally.settled,
+            violated: tally.violated,
+            rows: tally.rows,
+        },
+        Err(Stop::Log(fault)) => End::LogEnds(fault),
+        Err(Stop::Read) => End::ReadFailed,
+        Err(Stop::Sink) => End::SinkFailed,
+        Err(Stop::Memory) => End::Memory,
+    }
+}
+
 /// Monitors the open log by the plan, with so many threads beside the caller's, and writes the line of each position
 /// as soon as it is settled. What is written is handed on before each read. However many threads there are and however
-/// they run, the lines and the end are the same.
+/// they run, this holds, and so do the clauses.
 pub fn monitor<R: Threads + Wait + Sync, I: Inputs, O: Sink, G: Gate + Sync>(
     rt: &R,
     alloc: Global,
@@ -43,6 +168,6 @@ pub fn monitor<R: Threads + Wait + Sync, I: Inputs, O: Sink, G: Gate + Sync>(
     ensures follows { ForEachPolicy (core_form plan.core) (λ policy. FollowsLog log.old.sig policy
         (effect I.Inputs O.Sink inputs.old inputs.new out.old out.new) result) }
 {
-    drop(plan);
-    End::Memory
+    let done = run_plan(rt, alloc, plan, log, inputs, out, threads, gate);
+    end_after(done)
 }

@@ -36,7 +36,12 @@ impl Page {
         ensures tally { self.new.tally ≡ self.old.tally }
     {
         self.line.clear();
-        push_verdict(&mut self.line, verdict.point, verdict.ts, verdict.rows.rows())
+        push_verdict(
+            &mut self.line,
+            verdict.point,
+            verdict.ts,
+            verdict.rows.rows(),
+        )
     }
 
     /// Writes the line of a verdict, and counts it.

@@ -1,5 +1,5 @@
 //! Main's turns: what is ready is handed over, collected and written.
-ghost use Rattle.std.specs.Prelude.{◌≡◌, ◌≤◌, IfErr, OnOk, OnErr};
+ghost use Rattle.std.specs.Prelude.{◌≡◌, ◌≤◌, IfErr, OnOk, OnErr, true};
 ghost use Rattle.rescale_core.specs.Moving.{IsDriverOf};
 ghost use Rattle.rescale_core.specs.Workers.{MayFollow};
 ghost use Rattle.rescale_core.specs.Worlds.{World, spot_in};
@@ -103,6 +103,13 @@ fn round<R: Wait, O: Sink, G: Gate>(
     Ok(turned || served)
 }
 
+// Whether all verdicts on what was read were emitted.
+fn is_drained(driver: &Driver) -> bool
+    ensures { result ≡ true → IsOver driver.now }
+{
+    driver.ended()
+}
+
 /// Goes on until the lines of all settled positions are written.
 pub(crate) fn drain<R: Wait, O: Sink, G: Gate>(
     shop: &Shop<'_, R, G>,
@@ -128,7 +135,7 @@ pub(crate) fn drain<R: Wait, O: Sink, G: Gate>(
     for _ in shop.rt.forever() {
         let heard = shop.bells.main.rings();
         let busy = round(shop, own, driver, page, out)?;
-        if driver.ended() {
+        if is_drained(driver) {
             return Ok(());
         }
         idle = shop.rest(busy, heard, idle);

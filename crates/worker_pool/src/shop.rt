@@ -5,6 +5,7 @@ use std::alloc::Global;
 use std::sync::Wait;
 
 /// The hub with the number of its cells, and what main needs to wait and to serve.
+#[derive(Drop)]
 pub(crate) struct Shop<'o, R, G> {
     pub(crate) rt: &'o R,
     pub(crate) alloc: Global,

@@ -3,7 +3,7 @@ use Rattle.std.specs.Prelude.{Err}
 use Rattle.std.proofs.lemmas.Result.{err_from_is_err_and}
 use Rattle.mon_outside.specs.Views.{inputs_view, sink_view}
 use Rattle.monitor_main.specs.CommandViews.{command_in}
-use Rattle.monitor_main.specs.Decisions.{effect}
+use Rattle.worker_pool.specs.Effects.{effect}
 use Rattle.monitor_main.specs.Words.{texts_of}
 use Rattle.monitor_main.proofs.DecideLemmas.{obeyed, words_refused}
 use Rattle.monitor_main.proofs.running.decide.Goals as goal

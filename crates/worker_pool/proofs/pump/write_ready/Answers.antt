@@ -1,4 +1,4 @@
-use Rattle.std.proofs.Common.{◌≤◌, IfSome, IfNone, Option, length, subst, ◌∙◌, arith}
+use Rattle.std.proofs.Common.{IfSome, IfNone, Option, length, subst, ◌∙◌, arith}
 use Rattle.rescale_core.specs.Moving.{IsDriverOf}
 use Rattle.rescale_core.specs.Worlds.{World, IsGathered}
 use Rattle.verdict_merge.specs.declared.rows.Verdict.{Verdict}

@@ -1,7 +1,7 @@
-use Rattle.std.proofs.Common.{◌≡◌, ◌∙◌, ◌+◌, ◌≤◌, ◌<◌, ◌^◌, ap, arith, refl, subst, take}
+use Rattle.std.proofs.Common.{◌≡◌, ◌∙◌, ◌+◌, ◌≤◌, ◌<◌, ◌^◌, ap, arith, refl, take}
 use Rattle.log_reader.specs.Progress.{read}
 use Rattle.log_reader.specs.Readers.{Reader, progress}
-use Rattle.worker_pool.proofs.PointLemmas.{begins, ends_end, ends_more, follows, front, goes_on, one_more_given}
+use Rattle.worker_pool.proofs.PointLemmas.{begins, ends_end, ends_more, follows, goes_on, one_more_given}
 use Rattle.worker_pool.proofs.PointLemmas.{short, stops_with}
 use Rattle.worker_pool.proofs.WritingLemmas.{falls_either, on_ok_both}
 use Rattle.worker_pool.proofs.routing.route_complete.Goals as goal
@@ -31,8 +31,7 @@ route-requires-clause-runs g c =
     ap (λ (r : Reader). r.limits.points) after ∙ ap (λ (r : Reader). r.limits.points) c.points.invariant.reader in
     let few : c.next-in-points.new.self.given ≤ c.next-in-points.new.self.limits.points = c.in-Ok-Point.ensures.few in
     let small : c.args.reader.now.limits.points < 2 ^ 63 = c.requires.few in
-    let room : c.points.reader.given < 2 ^ 63 = omega (arith, given, limits, few, small) in
-    (
+    let room : c.points.reader.given < 2 ^ 63 = omega (arith, given, limits, few, small) in (
       under.core,
       take c.points.reader.given (read (progress c.args.reader.now under.bytes)).points,
       under.start,
@@ -48,8 +47,7 @@ returns-in_err-route-in-Ok-Point-clause-front g c core bytes start reads so_far 
 pub drain-requires-clause-runs : goal.drain-requires-clause-runs
 drain-requires-clause-runs g c =
     let under = c.requires.under_way in
-    let here = c.points.invariant.so_far under.core under.bytes under.start under.reads under.so_far in
-    (
+    let here = c.points.invariant.so_far under.core under.bytes under.start under.reads under.so_far in (
       under.core,
       take c.points.reader.given (read (progress c.args.reader.now under.bytes)).points,
       under.start,
@@ -77,8 +75,7 @@ returns-in-Ok-More-clause-front g c core bytes start reads so_far =
 pub drain-requires-in-Ok-End-clause-runs : goal.drain-requires-in-Ok-End-clause-runs
 drain-requires-in-Ok-End-clause-runs g c =
     let under = c.requires.under_way in
-    let here = c.points.invariant.so_far under.core under.bytes under.start under.reads under.so_far in
-    (
+    let here = c.points.invariant.so_far under.core under.bytes under.start under.reads under.so_far in (
       under.core,
       take c.points.reader.given (read (progress c.args.reader.now under.bytes)).points,
       under.start,
@@ -143,8 +140,7 @@ returns-in-Err-clause-stops g c core bytes start reads so_far =
 pub drain-requires-in-Err-clause-runs : goal.drain-requires-in-Err-clause-runs
 drain-requires-in-Err-clause-runs g c =
     let under = c.requires.under_way in
-    let here = c.points.invariant.so_far under.core under.bytes under.start under.reads under.so_far in
-    (
+    let here = c.points.invariant.so_far under.core under.bytes under.start under.reads under.so_far in (
       under.core,
       take c.points.reader.given (read (progress c.args.reader.now under.bytes)).points,
       under.start,

@@ -22,4 +22,4 @@ returns c = rw (← c.self.view_is) (
     t a b (valuation c.args.columns.now c.args.row.now) c.in_ok-own.own
     c.first_pushed-now.ensures c.first_pushed-left.ensures c.first_pushed-right.ensures c.self.invariant.climbs
     (sym (c.in_ok-own.ensures ∙ (λ i. map (valuation c.args.columns.now (c.values.ensures i))
-    (c.right.ensures i)))) f))
+    (c.right.ensures.right i)))) f))

@@ -16,7 +16,7 @@ returns c =
     c.met.ensures
     ∙ ap (λ i. met s.ahead i c.first_pushed-now.result.now c.in_ok-own.own) c.pulled.ensures
     ∙ ap (met s.ahead s.ahead.pulled c.first_pushed-now.result.now) (c.in_ok-own.ensures
-    ∙ (λ i. map (valuation c.args.columns.now (c.values.ensures i)) (c.right.ensures i)))
+    ∙ (λ i. map (valuation c.args.columns.now (c.values.ensures i)) (c.right.ensures.right i)))
     ∙ met_next (record {
       ahead = s.ahead;
       times = s.times.items;

@@ -1,0 +1,190 @@
+-- The nodes' data, where the nodes stand for a log.
+use Rattle.std.proofs.Common.{◌≡◌, ℕ, ◌+◌, ◌-◌, ◌≤◌, Bool, true, min, List, [], ◌∷◌, ◌++◌, length, sym, subst, ap, ◌∙◌, arith}
+use Rattle.std.proofs.lemmas.Bool.{eqb-true}
+use Rattle.std.proofs.lemmas.List.{length-drop, length-map}
+use Rattle.mfotl_model.specs.Exact.{AllExact, View}
+use Rattle.mfotl_model.specs.Log.{times}
+use Rattle.mfotl_model.specs.Tables.{TableOf}
+use Rattle.mfotl_model.specs.declared.interval.Interval.{Interval}
+use Rattle.eval_bool.specs.BoolData.{JoinRule, TablesOver, join_of, kept_tables, with_tables}
+use Rattle.eval_bool.specs.JoinView.{ChildOf, JoinOf}
+use Rattle.eval_bool.specs.OrView.{OrOf}
+use Rattle.eval_bool.specs.declared.recalled.JoinData.{JoinData}
+use Rattle.eval_since.specs.PreviousView.{PrevOf}
+use Rattle.eval_since.specs.SinceView.{SinceOf}
+use Rattle.eval_until.specs.NextView.{NextOf, tables_pushed}
+use Rattle.eval_until.specs.UntilView.{UntilOf, to_take, took_all}
+use Rattle.monitorable.specs.CoreForms.{CoreForm, meaning, Not, And, Or, Previous, Next, Since, Until}
+use Rattle.monitor_state.proofs.ExactLemmas.{reached_within}
+use Rattle.monitor_state.proofs.RecordLemmas.{since_recorded, until_recorded}
+use Rattle.monitor_state.specs.FilterNode.{FilterStands, IsFilter}
+use Rattle.monitor_state.specs.Nodes.{left_operand, operands}
+use Rattle.monitor_state.specs.Recording.{NodeRecorded, NodesRecorded, WindowRecorded}
+use Rattle.monitor_state.specs.Stands.{ChildrenStand, IsFor, JoinStands, NodeStands, NodesStand}
+use Rattle.monitor_state.specs.StateStands.{JoinDataStands, NodeDataStands, NodesDataStand, TablesStand, WindowDataStands}
+use Rattle.monitor_state.specs.UntilNode.{IsUntilState, UntilStandsAt}
+use Rattle.monitor_state.specs.Views.{reached}
+use Rattle.monitor_state.specs.WindowNode.{IsWindow, WindowStands, window_took_all}
+use Rattle.monitor_state.specs.declared.filter.FilterState.{FilterState}
+use Rattle.monitor_state.specs.declared.node.Node.{Node}
+use Rattle.monitor_state.specs.declared.node.Node.TheVariants as node
+use Rattle.monitor_state.specs.declared.state.NodeData.{NodeData}
+use Rattle.monitor_state.specs.declared.state.NodeData.TheVariants as kept
+use Rattle.monitor_state.specs.declared.state.WindowData.{WindowData}
+use Rattle.monitor_state.specs.declared.state.WindowData.TheVariants as data_of
+use Rattle.monitor_state.specs.declared.window.Window.{Window}
+use Rattle.monitor_state.specs.declared.window.Window.TheVariants as window
+
+-- a state that took all that it can took the positions at which both operands are settled
+pub all_taken : (view : View) (p : ℕ) (i : Interval) (f g : CoreForm) (s : UntilOf) → UntilStandsAt view p i f g s
+    → took_all s ≡ true → p ≤ length view.log → s.ahead.taken ≡ min (reached view f) (reached view g)
+all_taken view p i f g s stands all inside =
+    let none : to_take s ≡ 0 = eqb-true (to_take s) 0 all in
+    let lefts : s.ahead.taken + length s.lefts ≡ reached view f = stands.left_pushed in
+    let rights : s.ahead.taken + length s.rights ≡ reached view g = stands.right_pushed in
+    let pulled : s.ahead.pulled ≡ p = stands.pulled in
+    let most : reached view f ≤ length view.log = reached_within view f in
+    let size : length s.times ≡ length (times view.log) - s.ahead.pulled =
+    ap length stands.kept ∙ length-drop s.ahead.pulled (times view.log) in
+    let logged : length (times view.log) ≡ length view.log = length-map view.log (λ p. p.ts) in
+    omega arith
+
+pub window_recorded : (view : View) (p : ℕ) (w : CoreForm) (s : Window) (k : WindowData) → p ≤ length view.log
+    → window_took_all s ≡ true → IsWindow w s → WindowStands view p w s → WindowRecorded s k → WindowDataStands view p w k
+window_recorded view p (Since i f g) (window.Since s) (data_of.Since k) inside all is stands rec =
+    since_recorded view p i f g s k is stands rec
+window_recorded view p (Until i f g) (window.Until s) (data_of.Until k) inside all is stands rec =
+    until_recorded view p i f g s k is stands (all_taken view p i f g s stands all inside) rec
+window_recorded view p (Since i f g) (window.Since s) (data_of.Until k) inside all is stands rec = absurd rec
+window_recorded view p (Until i f g) (window.Until s) (data_of.Since k) inside all is stands rec = absurd rec
+window_recorded view p w s k inside all is stands rec = absurd is
+
+-- the tables that the data has for the children stand as the children with them do
+pub tables_stand : (view : View) (p : ℕ) (fs : List CoreForm) (cs : List ChildOf) (tss : List (List TableOf))
+    → TablesOver cs tss → ChildrenStand view p fs (with_tables cs tss) → TablesStand view p fs tss
+tables_stand view p [] [] [] over stand = tt
+tables_stand view p (f ∷ fs) (c ∷ cs) (ts ∷ tss) over stand =
+    (stand.0.pushed, stand.0.exact, tables_stand view p fs cs tss over.1 stand.1)
+tables_stand view p (f ∷ fs) [] [] over stand = absurd stand
+tables_stand view p [] (c ∷ cs) (ts ∷ tss) over stand = absurd stand
+tables_stand view p fs [] (ts ∷ tss) over stand = absurd over
+tables_stand view p fs (c ∷ cs) [] over stand = absurd over
+
+join_recorded : (view : View) (f : CoreForm) (s : JoinOf) (k : JoinData) → JoinStands view f s → join_of s k ≡ s
+    → JoinRule s.children k → JoinDataStands view f k
+join_recorded view f s k stands same rule =
+    record {
+      pulled = ap (λ (x : JoinOf). x.pulled) same ∙ stands.pulled;
+      children =
+          tables_stand view k.pulled (operands f) s.children (kept_tables k) rule.over
+          (subst (λ (x : JoinOf). ChildrenStand view x.pulled (operands f) x.children) (sym same) stands.children);
+    }
+
+node_join : (view : View) (f : CoreForm) (s : JoinOf) (k : NodeData) → IsFor f (node.Join s)
+    → NodeStands view f (node.Join s) → NodeRecorded (node.Join s) k → NodeDataStands view f k
+node_join view (Not f) s (kept.Join k) is stands rec = join_recorded view (Not f) s k stands rec.0 rec.1
+node_join view (And f g) s (kept.Join k) is stands rec = join_recorded view (And f g) s k stands rec.0 rec.1
+node_join view (Not f) s k is stands rec = absurd rec
+node_join view (And f g) s k is stands rec = absurd rec
+node_join view f s k is stands rec = absurd is
+
+node_or : (view : View) (f : CoreForm) (s : OrOf) (k : NodeData) → IsFor f (node.Or s)
+    → NodeStands view f (node.Or s) → NodeRecorded (node.Or s) k → NodeDataStands view f k
+node_or view (Or f g) s (kept.Or k) is stands rec =
+    record {
+      pulled = ap (λ (x : OrOf). x.pulled) rec.0 ∙ stands.pulled;
+      left_pushed = ap (λ (x : OrOf). x.pulled + length x.lefts) rec.0 ∙ stands.left_pushed;
+      right_pushed = ap (λ (x : OrOf). x.pulled + length x.rights) rec.0 ∙ stands.right_pushed;
+      lefts = subst (λ (x : OrOf). AllExact view (meaning f) x.pulled x.lefts) (sym rec.0) stands.lefts;
+      rights = subst (λ (x : OrOf). AllExact view (meaning g) x.pulled x.rights) (sym rec.0) stands.rights;
+    }
+node_or view (Or f g) s k is stands rec = absurd rec
+node_or view f s k is stands rec = absurd is
+
+node_previous : (view : View) (f : CoreForm) (s : PrevOf) (k : NodeData) → IsFor f (node.Previous s)
+    → NodeStands view f (node.Previous s) → NodeRecorded (node.Previous s) k → NodeDataStands view f k
+node_previous view (Previous i f) s (kept.Previous k) is stands rec =
+    record {
+      pulled = ap (λ (x : PrevOf). x.pulled) rec.0 ∙ stands.pulled;
+      pushed = ap (λ (x : PrevOf). x.pulled - 1 + length x.tables) rec.0 ∙ stands.pushed;
+      tables = subst (λ (x : PrevOf). AllExact view (meaning f) (x.pulled - 1) x.tables) (sym rec.0) stands.tables;
+    }
+node_previous view (Previous i f) s k is stands rec = absurd rec
+node_previous view f s k is stands rec = absurd is
+
+node_next : (view : View) (f : CoreForm) (s : NextOf) (k : NodeData) → IsFor f (node.Next s)
+    → NodeStands view f (node.Next s) → NodeRecorded (node.Next s) k → NodeDataStands view f k
+node_next view (Next i f) s (kept.Next k) is stands rec =
+    record {
+      pulled = ap (λ (x : NextOf). x.pulled) rec.0 ∙ stands.pulled;
+      pushed = ap tables_pushed rec.0 ∙ stands.pushed;
+      bare = λ h.
+          let none = stands.bare (sym (ap (λ (x : NextOf). x.started) rec.0) ∙ h) in
+          (ap (λ (x : NextOf). x.pulled) rec.0 ∙ none.0, ap (λ (x : NextOf). length x.tables) rec.0 ∙ none.1);
+      tables = subst (λ (x : NextOf). AllExact view (meaning f) (x.pulled + 1) x.tables) (sym rec.0) stands.tables;
+    }
+node_next view (Next i f) s k is stands rec = absurd rec
+node_next view f s k is stands rec = absurd is
+
+node_since : (view : View) (f : CoreForm) (s : SinceOf) (order : TableOf) (k : NodeData) → IsFor f (node.Since s order)
+    → NodeStands view f (node.Since s order) → NodeRecorded (node.Since s order) k → NodeDataStands view f k
+node_since view (Since i f g) s order (kept.Window (data_of.Since k)) is stands rec =
+    since_recorded view (reached view (Since i f g)) i f g s k is.state stands rec
+node_since view (Since i f g) s order k is stands rec = absurd rec
+node_since view f s order k is stands rec = absurd is
+
+node_until : (view : View) (f : CoreForm) (s : UntilOf) (order : TableOf) (k : NodeData) → IsFor f (node.Until s order)
+    → NodeStands view f (node.Until s order) → NodeRecorded (node.Until s order) k → NodeDataStands view f k
+node_until view (Until i f g) s order (kept.Window (data_of.Until k)) is stands rec =
+    until_recorded view (reached view (Until i f g)) i f g s k is.state stands.at stands.taken rec
+node_until view (Until i f g) s order k is stands rec = absurd rec
+node_until view f s order k is stands rec = absurd is
+
+node_filter : (view : View) (f : CoreForm) (s : FilterState) (k : NodeData) → IsFor f (node.Filter s)
+    → NodeStands view f (node.Filter s) → NodeRecorded (node.Filter s) k → NodeDataStands view f k
+node_filter view (And f g) s (kept.Filter tables w) is stands rec =
+    record {
+      pushed = ap (λ ts. reached view (And f g) + length ts) rec.0 ∙ stands.pushed;
+      exact = subst (AllExact view (meaning f) (reached view (And f g))) (sym rec.0) stands.exact;
+      behind =
+          window_recorded view (reached view (And f g)) (left_operand g) s.window w (reached_within view (And f g))
+          stands.all is.asks stands.behind rec.1;
+    }
+node_filter view (And f g) s k is stands rec = absurd rec
+node_filter view f s k is stands rec = absurd is
+
+bare_stands : (view : View) (f : CoreForm) → NodeDataStands view f kept.Bare
+bare_stands view f = tt
+
+-- a node's data stands where the node does
+pub node_recorded : (view : View) (f : CoreForm) (n : Node) (k : NodeData) → IsFor f n → NodeStands view f n
+    → NodeRecorded n k → NodeDataStands view f k
+node_recorded view f (node.Join s) k is stands rec = node_join view f s k is stands rec
+node_recorded view f (node.Filter s) k is stands rec = node_filter view f s k is stands rec
+node_recorded view f (node.Or s) k is stands rec = node_or view f s k is stands rec
+node_recorded view f (node.Previous s) k is stands rec = node_previous view f s k is stands rec
+node_recorded view f (node.Next s) k is stands rec = node_next view f s k is stands rec
+node_recorded view f (node.Since s order) k is stands rec = node_since view f s order k is stands rec
+node_recorded view f (node.Until s order) k is stands rec = node_until view f s order k is stands rec
+node_recorded view f (node.Constant table) kept.Bare is stands rec = bare_stands view f
+node_recorded view f (node.Atom a) kept.Bare is stands rec = bare_stands view f
+node_recorded view f (node.Exists x) kept.Bare is stands rec = bare_stands view f
+node_recorded view f n k is stands rec = absurd rec
+
+pub nodes_recorded : (view : View) (fs : List CoreForm) (ns : List Node) (ks : List NodeData) → NodesStand view fs ns
+    → NodesRecorded ns ks → NodesDataStand view fs ks
+nodes_recorded view [] [] [] stand rec = tt
+nodes_recorded view (f ∷ fs) (n ∷ ns) (k ∷ ks) stand rec =
+    (node_recorded view f n k stand.0 stand.1 rec.0, nodes_recorded view fs ns ks stand.2 rec.1)
+nodes_recorded view [] (n ∷ ns) ks stand rec = absurd stand
+nodes_recorded view (f ∷ fs) [] ks stand rec = absurd stand
+nodes_recorded view [] [] (k ∷ ks) stand rec = absurd rec
+nodes_recorded view (f ∷ fs) (n ∷ ns) [] stand rec = absurd rec
+
+-- one node more was recorded
+pub recorded_more : (n : Node) (k : NodeData) (ns : List Node) (ks : List NodeData) → NodesRecorded ns ks
+    → NodeRecorded n k → NodesRecorded (ns ++ n ∷ []) (ks ++ k ∷ [])
+recorded_more n k [] [] all one = (one, tt)
+recorded_more n k (m ∷ ns) (j ∷ ks) all one = (all.0, recorded_more n k ns ks all.1 one)
+recorded_more n k [] (j ∷ ks) all one = absurd all
+recorded_more n k (m ∷ ns) [] all one = absurd all

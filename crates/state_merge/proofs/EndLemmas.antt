@@ -1,0 +1,28 @@
+-- Where nothing is left to unite, all is united.
+use Rattle.std.proofs.Common.{◌≡◌, ℕ, List, [], ◌∷◌, ◌++◌, length, subst, append-nil, refl, arith}
+use Rattle.mfotl_model.specs.Tables.{TableOf}
+use Rattle.monitor_state.specs.StateUnions.{ListsUnion, NodesUnion, TablesUnion}
+use Rattle.monitor_state.specs.declared.state.NodeData.{NodeData}
+use Rattle.state_merge.specs.Fits.{AllAlike, ListsFit, TablesFit}
+
+pub none_left : {X : Type 0} (xs : List X) (n : ℕ) → n ≡ length xs → n ≡ 0 → xs ≡ []
+none_left [] n size none = refl
+none_left (x ∷ xs) n size none = absurd (omega arith)
+
+pub tables_done : (a b xs ys out : List TableOf) → xs ≡ [] → TablesFit xs ys
+    → ((zs : List TableOf) → TablesUnion xs ys zs → TablesUnion a b (out ++ zs)) → TablesUnion a b out
+tables_done a b [] [] out e fit done = subst (TablesUnion a b) (append-nil out) (done [] tt)
+tables_done a b [] (y ∷ ys) out e fit done = absurd fit
+tables_done a b (x ∷ xs) ys out e fit done = absurd (cc)
+
+pub lists_done : (a b xs ys out : List (List TableOf)) → xs ≡ [] → ListsFit xs ys
+    → ((zs : List (List TableOf)) → ListsUnion xs ys zs → ListsUnion a b (out ++ zs)) → ListsUnion a b out
+lists_done a b [] [] out e fit done = subst (ListsUnion a b) (append-nil out) (done [] tt)
+lists_done a b [] (y ∷ ys) out e fit done = absurd fit
+lists_done a b (x ∷ xs) ys out e fit done = absurd (cc)
+
+pub nodes_done : (a b xs ys out : List NodeData) → xs ≡ [] → AllAlike xs ys
+    → ((zs : List NodeData) → NodesUnion xs ys zs → NodesUnion a b (out ++ zs)) → NodesUnion a b out
+nodes_done a b [] [] out e fit done = subst (NodesUnion a b) (append-nil out) (done [] tt)
+nodes_done a b [] (y ∷ ys) out e fit done = absurd fit
+nodes_done a b (x ∷ xs) ys out e fit done = absurd (cc)

@@ -1,0 +1,188 @@
+-- What two states keep for a row, together: it answers each test as the one that may be asked, or as both.
+use Rattle.std.proofs.Common.{◌≡◌, ℕ, ◌-◌, ◌≤◌, Bool, true, false, ◌&&◌, ◌||◌, cond, nat_le, nat_lt, nat_eq, List, [], ◌∷◌, length, Option, None, Some, refl, sym, ap, ap₂, ◌∙◌, arith, inl, inr}
+use Rattle.std.proofs.lemmas.Bool.{cases_lt, eqb-true}
+use Rattle.std.proofs.lemmas.Bool.Decides.{nat_tests}
+use Rattle.std.specs.List.{list_any}
+use Rattle.std.specs.Prelude.{min}
+use Rattle.mfotl_model.specs.Intervals.{in_interval, at_most}
+use Rattle.mfotl_model.specs.Satisfaction.{time_at}
+use Rattle.mfotl_model.specs.declared.interval.Interval.{Interval}
+use Rattle.eval_since.specs.Times.{reaches}
+use Rattle.eval_until.specs.declared.recalled.Mark.{Mark}
+use Rattle.monitor_state.specs.JoinedRows.{either, least_time, marks_joined, put_mark, put_time, times_joined, times_united}
+use Rattle.monitor_state.specs.StateStands.{mark_meets}
+
+or_false : (b : Bool) → (b || false) ≡ b
+or_false true = refl
+or_false false = refl
+
+pub or_self : (b : Bool) → (b || b) ≡ b
+or_self true = refl
+or_self false = refl
+
+or_swap : (a b c : Bool) → (a || (b || c)) ≡ (b || (a || c))
+or_swap true true c = refl
+or_swap true false c = refl
+or_swap false true c = refl
+or_swap false false c = refl
+
+or_grouped : (a b c : Bool) → ((a || b) || c) ≡ (a || (b || c))
+or_grouped true b c = refl
+or_grouped false b c = refl
+
+-- two tests that are right wherever they may be asked, and false elsewhere
+pub pooled_test : (r q ta tb truth : Bool) → (r ≡ true → ta ≡ truth) → (r ≡ false → ta ≡ false) → (q ≡ true → tb
+    ≡ truth)
+    → (q ≡ false → tb ≡ false) → (r || q) ≡ true → (ta || tb) ≡ truth
+pooled_test true true ta tb truth a lacks b none n = ap₂ (λ x y. x || y) (a refl) (b refl) ∙ or_self truth
+pooled_test true false ta tb truth a lacks b none n = ap₂ (λ x y. x || y) (a refl) (none refl) ∙ or_false truth
+pooled_test false true ta tb truth a lacks b none n = ap₂ (λ x y. x || y) (lacks refl) (b refl)
+pooled_test false false ta tb truth a lacks b none n = absurd (let e : false ≡ true = n in cc)
+
+-- the same of what is kept: where both keep something that answers rightly, so does what is made of both
+pub pooled : {X : Type 0} (both : X → X → X) (test : Option X → Bool) (r q truth : Bool) (oa ob : Option X)
+    → ((x y : X) → oa ≡ Some x → ob ≡ Some y → test (Some x) ≡ truth → test (Some y) ≡ truth
+    → test (Some (both x y)) ≡ truth)
+    → (r ≡ true → test oa ≡ truth) → (r ≡ false → oa ≡ None) → (q ≡ true → test ob ≡ truth) → (q ≡ false → ob ≡ None)
+    → (r || q) ≡ true → test (either both oa ob) ≡ truth
+pooled both test true true truth None ob join a lacks b none n = b refl
+pooled both test true true truth (Some x) None join a lacks b none n = a refl
+pooled both test true true truth (Some x) (Some y) join a lacks b none n = join x y refl refl (a refl) (b refl)
+pooled {X} both test true false truth oa ob join a lacks b none n =
+    ap (λ o. test (either both oa o)) (none refl) ∙ ap test (right oa) ∙ a refl
+  where
+    right : (o : Option X) → either both o None ≡ o
+    right None = refl
+    right (Some x) = refl
+pooled both test false true truth oa ob join a lacks b none n = ap (λ o. test (either both o ob)) (lacks refl) ∙ b refl
+pooled both test false false truth oa ob join a lacks b none n = absurd (let e : false ≡ true = n in cc)
+
+-- nothing is made of nothing
+pub none_pooled : {X : Type 0} (both : X → X → X) (oa ob : Option X) → oa ≡ None → ob ≡ None → either both oa ob ≡ None
+none_pooled both oa ob a b = ap₂ (either both) a b
+
+-- what holds of all that either keeps, and of what is made of both, holds of what they keep together
+pub either_holds : {X : Type 0} (both : X → X → X) (P : X → Type 0) (oa ob : Option X) (z : X) → either both oa ob
+    ≡ Some z
+    → ((x : X) → oa ≡ Some x → P x) → ((y : X) → ob ≡ Some y → P y) → ((x y : X) → P x → P y → P (both x y)) → P z
+either_holds both P None ob z is a b join = b z is
+either_holds both P (Some x) None z is a b join = a z is
+either_holds {X} both P (Some x) (Some y) z is a b join = by z is (join x y (a x refl) (b y refl))
+  where
+    by : (z : X) → Some (both x y) ≡ Some z → P (both x y) → P z
+    by z is p = let e : both x y ≡ z = cc in rw (← e) p
+
+-- ---- times
+
+any_put_time : (p : ℕ → Bool) (x : ℕ) (ys : List ℕ) → list_any p (put_time x ys) ≡ (p x || list_any p ys)
+any_put_time p x [] = refl
+any_put_time p x (y ∷ ys) = by (nat_lt x y) (nat_eq x y) (λ e. eqb-true x y e) (any_put_time p x ys)
+  where
+    by : (less same : Bool) → (same ≡ true → x ≡ y) → list_any p (put_time x ys) ≡ (p x || list_any p ys)
+        → list_any p (cond less (x ∷ y ∷ ys) (cond same (y ∷ ys) (y ∷ put_time x ys)))
+        ≡ (p x || (p y || list_any p ys))
+    by true same e h = refl
+    by false true e h =
+        sym (ap (λ z. p z || (p y || list_any p ys)) (e refl) ∙ sym (or_grouped (p y) (p y) (list_any p ys))
+        ∙ ap (λ b. b || list_any p ys) (or_self (p y)))
+    by false false e h = ap (λ b. p y || b) h ∙ or_swap (p y) (p x) (list_any p ys)
+
+any_times : (p : ℕ → Bool) (xs ys : List ℕ) → list_any p (times_united xs ys) ≡ (list_any p xs || list_any p ys)
+any_times p [] ys = refl
+any_times p (x ∷ xs) ys =
+    any_put_time p x (times_united xs ys) ∙ ap (λ b. p x || b) (any_times p xs ys)
+    ∙ sym (or_grouped (p x) (list_any p xs) (list_any p ys))
+
+-- without an upper end the lesser time serves
+lesser_serves : (lo z x y : ℕ) → nat_le lo (z - min x y) ≡ (nat_le lo (z - x) || nat_le lo (z - y))
+lesser_serves lo z x y = grind (arith, nat_tests)
+
+least_serves : (i : Interval) (z : ℕ) (xs ys : List ℕ) → i.hi ≡ None → length xs ≤ 1 → length ys ≤ 1
+    → reaches i (least_time xs ys) z ≡ (reaches i xs z || reaches i ys z)
+least_serves i z [] ys endless a b = refl
+least_serves i z (x ∷ xs) [] endless a b = sym (or_false (reaches i (x ∷ xs) z))
+least_serves i z (x ∷ []) (y ∷ []) endless a b =
+    let at : (d : ℕ) → in_interval i d ≡ nat_le i.lo d =
+    λ d. ap (λ o. nat_le i.lo d && at_most o d) endless ∙ and_true (nat_le i.lo d) in
+    or_false (in_interval i (z - min x y)) ∙ at (z - min x y) ∙ lesser_serves i.lo z x y
+    ∙ sym (ap₂ (λ b c. b || c) (or_false (in_interval i (z - x)) ∙ at (z - x))
+    (or_false (in_interval i (z - y)) ∙ at (z - y)))
+  where
+    and_true : (b : Bool) → (b && true) ≡ b
+    and_true true = refl
+    and_true false = refl
+least_serves i z (x ∷ w ∷ xs) ys endless a b = absurd (omega arith)
+least_serves i z (x ∷ []) (y ∷ w ∷ ys) endless a b = absurd (omega arith)
+
+-- the times of both reach what either does
+pub times_right : (i : Interval) (z : ℕ) (xs ys : List ℕ) → (i.hi ≡ None → length xs ≤ 1) → (i.hi ≡ None
+    → length ys ≤ 1)
+    → reaches i (times_joined i.hi xs ys) z ≡ (reaches i xs z || reaches i ys z)
+times_right i z xs ys a b = by i.hi refl
+  where
+    by : (h : Option ℕ) → i.hi ≡ h → reaches i (times_joined h xs ys) z ≡ (reaches i xs z || reaches i ys z)
+    by None e = least_serves i z xs ys e (a e) (b e)
+    by (Some hi) e = any_times (λ y. in_interval i (z - y)) xs ys
+
+-- ---- starts
+
+-- of two starts that answer rightly the lesser one does
+pub starts_right : (x y j : ℕ) (truth : Bool) → nat_le x j ≡ truth → nat_le y j ≡ truth → nat_le (min x y) j ≡ truth
+starts_right x y j truth a b =
+    elim (cases_lt x y) [
+      | inl less ↦ let e : min x y ≡ x = omega arith in ap (λ z. nat_le z j) e ∙ a
+      | inr not_less ↦ let e : min x y ≡ y = omega arith in ap (λ z. nat_le z j) e ∙ b
+    ]
+
+-- ---- marks
+
+module _ (i : Interval) (t : List ℕ) (p : ℕ) where
+  lesser_start : (place x y : ℕ)
+      → mark_meets i t p (record { place = place; start = min x y })
+      ≡ (mark_meets i t p (record { place = place; start = x }) || mark_meets i t p
+      (record { place = place; start = y }))
+  lesser_start place x y =
+      ap (λ c. c && nat_le p place && in_interval i (time_at t place - time_at t p)) (least x y)
+      ∙ spread (nat_le x p) (nat_le y p) (nat_le p place) (in_interval i (time_at t place - time_at t p))
+    where
+      least : (x y : ℕ) → nat_le (min x y) p ≡ (nat_le x p || nat_le y p)
+      least x y = grind (arith, nat_tests)
+
+      spread : (a b c d : Bool) → ((a || b) && c && d) ≡ ((a && c && d) || (b && c && d))
+      spread true true true true = refl
+      spread true true true false = refl
+      spread true true false d = refl
+      spread true false c d = sym (or_false (c && d))
+      spread false b c d = refl
+
+  any_put_mark : (m : Mark) (ns : List Mark)
+      → list_any (mark_meets i t p) (put_mark m ns) ≡ (mark_meets i t p m || list_any (mark_meets i t p) ns)
+  any_put_mark m [] = refl
+  any_put_mark m (n ∷ ns) =
+      by (nat_lt m.place n.place) (nat_eq m.place n.place) (λ e. eqb-true m.place n.place e) (any_put_mark m ns)
+    where
+      same_place : m.place ≡ n.place → mark_meets i t p (record { place = n.place; start = min m.start n.start })
+          ≡ (mark_meets i t p m || mark_meets i t p n)
+      same_place e =
+          lesser_start n.place m.start n.start
+          ∙ ap (λ q. mark_meets i t p (record { place = q; start = m.start }) || mark_meets i t p n) (sym e)
+
+      by : (less same : Bool) → (same ≡ true → m.place ≡ n.place)
+          → list_any (mark_meets i t p) (put_mark m ns) ≡ (mark_meets i t p m || list_any (mark_meets i t p) ns)
+          → list_any (mark_meets i t p) (cond less (m ∷ n ∷ ns)
+          (cond same (record { place = n.place; start = min m.start n.start } ∷ ns) (n ∷ put_mark m ns)))
+          ≡ (mark_meets i t p m || (mark_meets i t p n || list_any (mark_meets i t p) ns))
+      by true same e h = refl
+      by false true e h =
+          ap (λ b. b || list_any (mark_meets i t p) ns) (same_place (e refl))
+          ∙ or_grouped (mark_meets i t p m) (mark_meets i t p n) (list_any (mark_meets i t p) ns)
+      by false false e h = ap (λ b. mark_meets i t p n || b) h
+          ∙ or_swap (mark_meets i t p n) (mark_meets i t p m) (list_any (mark_meets i t p) ns)
+
+  -- the marks of both meet what either does
+  pub marks_right : (ms ns : List Mark) → list_any (mark_meets i t p) (marks_joined ms ns)
+      ≡ (list_any (mark_meets i t p) ms || list_any (mark_meets i t p) ns)
+  marks_right [] ns = refl
+  marks_right (m ∷ ms) ns =
+      any_put_mark m (marks_joined ms ns) ∙ ap (λ b. mark_meets i t p m || b) (marks_right ms ns)
+      ∙ sym (or_grouped (mark_meets i t p m) (list_any (mark_meets i t p) ms) (list_any (mark_meets i t p) ns))

@@ -1,0 +1,14 @@
+pub mod PairLemmas
+pub mod PutLemmas
+pub mod EndLemmas
+pub mod JoinedLemmas
+pub mod KeepingLemmas
+pub mod UntilRows
+pub mod TablesUnited
+pub mod SinceUnited
+pub mod UntilUnited
+pub mod NodesUnited
+pub mod UnionLaw
+pub mod PartLaw
+pub mod MergeLaws
+pub mod FitLemmas

@@ -1,0 +1,130 @@
+-- What is adopted, and what is merged of all pieces.
+use Rattle.std.proofs.Common.{◌≡◌, ◌≢◌, ℕ, ◌≤◌, ◌<◌, Bool, true, false, ◌&&◌, ◌||◌, List, [], ◌∷◌, length, Option, None, Some, refl, sym, subst, ap, ◌∙◌, arith, inl, inr}
+use Rattle.std.proofs.Math.Dec.{eqb}
+use Rattle.std.proofs.lemmas.Bool.{and_from, eqb-true, ne_eqb, or_cases, or_left, or_parts, or_right}
+use Rattle.std.proofs.lemmas.Map.Steps.{length-le_from_distinct_below}
+use Rattle.std.specs.List.{AllByRecursion, IsDistinct, list_any}
+use Rattle.mfotl_model.specs.Regions.{Region, in_both, near_of}
+use Rattle.mfotl_model.specs.Satisfaction.{Valuation}
+use Rattle.mfotl_model.specs.Strategies.{Strategy, workers_of}
+use Rattle.mfotl_model.specs.declared.event.TimePoint.{TimePoint}
+use Rattle.monitorable.specs.CoreForms.{CoreForm}
+use Rattle.monitor_state.specs.Pieces.{Adopts, AllBelow, AllDiffer, Merges, PieceStands, near_some, view_of}
+use Rattle.monitor_state.specs.StateInside.{StandsInside}
+use Rattle.monitor_state.specs.StateLaws.{AdoptMerges, AllMerged}
+use Rattle.monitor_state.specs.StateRules.{StateRule}
+use Rattle.monitor_state.specs.StateStands.{StateStands}
+use Rattle.monitor_state.specs.declared.state.State.{State}
+use Rattle.state_merge.specs.Finishing.{AllAdopted}
+use Rattle.state_merge.proofs.PartLaw.{part_stands}
+use Rattle.state_merge.proofs.UnionLaw.{union_stands}
+
+spread : (a b c : Bool) → ((a || b) && c) ≡ ((b && c) || (a && c))
+spread true true true = refl
+spread true true false = refl
+spread true false true = refl
+spread true false false = refl
+spread false true true = refl
+spread false true false = refl
+spread false false c = refl
+
+or_none : (a c : Bool) → (a && c) ≡ ((a || false) && c)
+or_none true c = refl
+or_none false c = refl
+
+same_region : (core : CoreForm) (log : List TimePoint) (r q : Region) (state : State)
+    → ((vs : List ℕ) (v : Valuation) → r vs v ≡ q vs v) → StandsInside (view_of core r log) core state
+    → StandsInside (view_of core q log) core state
+same_region core log r q state same stands =
+    let equal : r ≡ q = λ i vs v. same vs v i in
+    subst (λ near. StandsInside (view_of core near log) core state) equal stands
+
+pub adopt_merges : AdoptMerges
+unfolding PieceStands
+adopt_merges core s s2 k2 log [] k old new piece merged stands adopts =
+    let none : Adopts None piece.state new = subst (λ o. Adopts o piece.state new) merged adopts in (
+      piece.state,
+      none,
+      same_region core log (in_both (near_of s k) (near_of s2 k2)) (in_both (near_some s (k ∷ [])) (near_of s2 k2))
+          piece.state (λ vs v. or_none (near_of s k vs v) (near_of s2 k2 vs v)) stands,
+    )
+adopt_merges core s s2 k2 log (j ∷ ks) k old new piece merged stands adopts =
+    let some : Adopts (Some merged.0) piece.state new = subst (λ o. Adopts o piece.state new) merged.1 adopts in (
+      some.0,
+      some.1,
+      union_stands (view_of core (near_of s2 k2) log) core (in_both (near_some s (j ∷ ks)) (near_of s2 k2))
+          (in_both (near_of s k) (near_of s2 k2)) (in_both (near_some s (k ∷ j ∷ ks)) (near_of s2 k2))
+          merged.0 piece.state some.0
+          (λ vs v. spread (near_of s k vs v) (near_some s (j ∷ ks) vs v) (near_of s2 k2 vs v))
+          merged.2 stands some.2,
+    )
+
+-- ---- as many numbers as there are workers, none twice, are all of them
+
+apart : (k : ℕ) (ks : List ℕ) → AllByRecursion (λ j. k ≢ j) ks → AllByRecursion (λ j. eqb k j ≡ false) ks
+apart k [] all = tt
+apart k (j ∷ ks) all = (ne_eqb k j all.0, apart k ks all.1)
+
+distinct : (ks : List ℕ) → AllDiffer ks → IsDistinct eqb ks
+unfolding IsDistinct
+distinct [] all = tt
+distinct (k ∷ ks) all = (apart k ks all.0, distinct ks all.1)
+
+not_among : (k : ℕ) (ks : List ℕ) → list_any (eqb k) ks ≡ false → AllByRecursion (λ j. eqb k j ≡ false) ks
+not_among k [] none = tt
+not_among k (j ∷ ks) none =
+    let parts = or_parts (eqb k j) (list_any (eqb k) ks) none in (parts.0, not_among k ks parts.1)
+
+is_below : (n : ℕ) (ks : List ℕ) → AllBelow n ks → (q : ℕ) → list_any (eqb q) ks ≡ true → q < n
+is_below n [] all q there = absurd (let w : false ≡ true = there in cc)
+is_below n (k ∷ ks) all q there = elim (or_cases (eqb q k) (list_any (eqb q) ks) there) [
+  | inl here ↦ let same : q ≡ k = eqb-true q k here in let low = all.0 in omega arith
+  | inr more ↦ is_below n ks all.1 q more
+]
+
+every_there : (n : ℕ) (ks : List ℕ) → AllDiffer ks → AllBelow n ks → length ks ≡ n → (k : ℕ) → k < n
+    → list_any (eqb k) ks ≡ true
+unfolding IsDistinct
+every_there n ks differ below size k low = by (list_any (eqb k) ks) refl
+  where
+    by : (b : Bool) → list_any (eqb k) ks ≡ b → b ≡ true
+    by true e = refl
+    by false e =
+        let most : length (k ∷ ks) ≤ n =
+        length-le_from_distinct_below (k ∷ ks) n (not_among k ks e, distinct ks differ) (is_below n (k ∷ ks)
+        (low, below)) in
+        absurd (omega arith)
+
+-- what passes at a number passes at one of a list that has it
+found : (p : ℕ → Bool) (k : ℕ) (ks : List ℕ) → p k ≡ true → list_any (eqb k) ks ≡ true → list_any p ks ≡ true
+found p k [] h there = absurd (let w : false ≡ true = there in cc)
+found p k (j ∷ ks) h there = elim (or_cases (eqb k j) (list_any (eqb k) ks) there) [
+  | inl here ↦ or_left (p j) (list_any p ks) (ap p (sym (eqb-true k j here)) ∙ h)
+  | inr more ↦ or_right (p j) (list_any p ks) (found p k ks h more)
+]
+
+pub all_merged : AllMerged
+all_merged core s s2 k2 log [] merged covers some m differ below size = absurd (omega arith)
+all_merged core s s2 k2 log (j ∷ ks) merged covers some m differ below size = (
+  m.0,
+  m.1,
+  m.2.rule,
+  part_stands (view_of core (in_both (near_some s (j ∷ ks)) (near_of s2 k2)) log) core (near_of s2 k2) m.0
+      (λ vs v n.
+      let k = covers vs v in
+      and_from (near_some s (j ∷ ks) vs v) (near_of s2 k2 vs v)
+      (found (λ k. near_of s k vs v) k.0 (j ∷ ks) k.2 (every_there (workers_of s)
+      (j ∷ ks) differ below size k.0 k.1)) n)
+      m.2.stands,
+)
+
+-- what was merged of the pieces of all workers is the state that was looked for
+pub finished : (core : CoreForm) (s s2 : Strategy) (k2 : ℕ) (log : List TimePoint) (ks : List ℕ) (merged : Option State)
+    (state : State) → merged ≡ Some state → AllAdopted s ks → Merges core s s2 k2 log ks merged
+    → StateRule core state × StateStands (view_of core (near_of s2 k2) log) core state
+finished core s s2 k2 log ks merged state is all m =
+    let whole = all_merged core s s2 k2 log ks merged all.covers all.some m all.differ all.below all.size in
+    let same : whole.0 ≡ state = let e = whole.1 in cc in (
+      subst (StateRule core) same whole.2,
+      subst (StateStands (view_of core (near_of s2 k2) log) core) same whole.3,
+    )

@@ -1,0 +1,5 @@
+pub mod Pairs
+pub mod Fits
+pub mod Fitting
+pub mod MergingView
+pub mod Finishing
