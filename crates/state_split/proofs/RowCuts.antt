@@ -1,0 +1,175 @@
+-- Rows without those outside a region: what is kept for a row, and what holds of each.
+use Rattle.std.proofs.Common.{◌≡◌, ℕ, Bool, true, false, ◌&&◌, cond, nat_eq, List, [], ◌∷◌, map, Option, None, refl, sym, subst, ap, ◌∙◌, inl, inr}
+use Rattle.std.proofs.lemmas.Bool.{and_from, and_parts, cond-false, cond-true, cases_eq, eqb-true, ne_eqb, or_cases}
+use Rattle.std.proofs.lemmas.List.Kept.{IsStrictlySortedBy-filter}
+use Rattle.std.proofs.lemmas.Map.Entries.{lookup-filter-keys}
+use Rattle.std.proofs.lemmas.Map.Views.{any-filter_same, tells_apart}
+use Rattle.std.specs.BTreeMap.{is_at}
+use Rattle.std.specs.List.{AllByRecursion, filter, list_all}
+use Rattle.std.specs.List.Sorted.{IsStrictlySortedBy}
+use Rattle.std.specs.Map.{keys_of}
+use Rattle.std.specs.Ordering.{eq_by_cmp}
+use Rattle.mfotl_model.proofs.LogicLemmas.{same_number}
+use Rattle.mfotl_model.proofs.RowLemmas.{row_exact}
+use Rattle.mfotl_model.specs.FreeVariables.{among}
+use Rattle.mfotl_model.specs.Regions.{Passes, Region}
+use Rattle.mfotl_model.specs.Satisfaction.{Valuation}
+use Rattle.mfotl_model.specs.Tables.{TableOf, has, valuation}
+use Rattle.mfotl_model.specs.Values.{row_cmp}
+use Rattle.mfotl_model.specs.declared.value.Value.{Value}
+use Rattle.relations.proofs.MapLemmas.{same_row}
+use Rattle.relations.specs.KeptRows.{RowsAscend, kept_for}
+use Rattle.monitor_state.specs.StateCuts.{cut_rows, cut_table, lies}
+use Rattle.monitor_state.specs.StateInside.{RowsInside, TableInside}
+
+-- ---- filters
+
+pub all_filtered : {X : Type 0} (P : X → Type 0) (p : X → Bool) (xs : List X) → AllByRecursion P xs
+    → AllByRecursion P (filter p xs)
+all_filtered P p [] all = tt
+all_filtered {X} P p (x ∷ xs) all = by (p x) (all_filtered P p xs all.1)
+  where
+    by : (b : Bool) → AllByRecursion P (filter p xs) → AllByRecursion P (cond b (x ∷ filter p xs) (filter p xs))
+    by true rest = (all.0, rest)
+    by false rest = rest
+
+pub tests_filtered : {X : Type 0} (q p : X → Bool) (xs : List X) → list_all q xs ≡ true
+    → list_all q (filter p xs) ≡ true
+tests_filtered q p [] all = refl
+tests_filtered {X} q p (x ∷ xs) all =
+    let parts = and_parts (q x) (list_all q xs) all in by (p x) parts.0 (tests_filtered q p xs parts.1)
+  where
+    by : (b : Bool) → q x ≡ true → list_all q (filter p xs) ≡ true
+        → list_all q (cond b (x ∷ filter p xs) (filter p xs)) ≡ true
+    by true first rest = and_from (q x) (list_all q (filter p xs)) first rest
+    by false first rest = rest
+
+-- what holds of each element holds of each that is made of one, and back
+pub all_mapped : {X Y : Type 0} (P : Y → Type 0) (h : X → Y) (xs : List X) → AllByRecursion (λ x. P (h x)) xs
+    → AllByRecursion P (map h xs)
+all_mapped P h [] all = tt
+all_mapped P h (x ∷ xs) all = (all.0, all_mapped P h xs all.1)
+
+pub all_unmapped : {X Y : Type 0} (P : Y → Type 0) (h : X → Y) (xs : List X) → AllByRecursion P (map h xs)
+    → AllByRecursion (λ x. P (h x)) xs
+all_unmapped P h [] all = tt
+all_unmapped P h (x ∷ xs) all = (all.0, all_unmapped P h xs all.1)
+
+-- a list of which nothing is made has nothing
+pub none_mapped : {X Y : Type 0} (h : X → Y) (xs : List X) → map h xs ≡ [] → xs ≡ []
+none_mapped h [] e = refl
+none_mapped h (x ∷ xs) e = absurd (let w : h x ∷ map h xs ≡ [] = e in cc)
+
+-- a filter by the rows of pairs
+pub keys_filtered : {X : Type 0} (p : List Value → Bool) (es : List (List Value × X))
+    → keys_of (filter (λ e. p e.0) es) ≡ filter p (keys_of es)
+keys_filtered p [] = refl
+keys_filtered {X} p (e ∷ es) = by (p e.0) (keys_filtered p es)
+  where
+    by : (b : Bool) → keys_of (filter (λ e. p e.0) es) ≡ filter p (keys_of es)
+        → keys_of (cond b (e ∷ filter (λ e. p e.0) es) (filter (λ e. p e.0) es))
+        ≡ cond b (e.0 ∷ filter p (keys_of es)) (filter p (keys_of es))
+    by true rest = ap (λ ks. e.0 ∷ ks) rest
+    by false rest = rest
+
+pub ascend_filtered : {X : Type 0} (p : List Value → Bool) (es : List (List Value × X)) → RowsAscend es
+    → RowsAscend (filter (λ e. p e.0) es)
+ascend_filtered p es up =
+    subst (IsStrictlySortedBy row_cmp) (sym (keys_filtered p es)) (IsStrictlySortedBy-filter row_cmp p (keys_of es) up)
+
+-- a pair with another value for its row
+abbrev pub changed : {X Y : Type 0} → (X → Y) → List Value × X → List Value × Y
+changed h e = (e.0, h e.1)
+
+-- a change of what is kept for the rows, before or after
+pub filter_mapped : {X Y : Type 0} (p : List Value → Bool) (h : X → Y) (es : List (List Value × X))
+    → map (changed h) (filter (λ e. p e.0) es) ≡ filter (λ e. p e.0) (map (changed h) es)
+filter_mapped p h [] = refl
+filter_mapped {X} {Y} p h (e ∷ es) = by (p e.0) (filter_mapped p h es)
+  where
+    by : (b : Bool) → map (changed h) (filter (λ e. p e.0) es) ≡ filter (λ e. p e.0) (map (changed h) es)
+        → map (changed h) (cond b (e ∷ filter (λ e. p e.0) es) (filter (λ e. p e.0) es))
+        ≡ cond b (changed h e ∷ filter (λ e. p e.0) (map (changed h) es)) (filter (λ e. p e.0) (map (changed h) es))
+    by true rest = ap (λ rows. changed h e ∷ rows) rest
+    by false rest = rest
+
+-- ---- look-ups
+
+module _ {X : Type 0} (near : Region) (columns : List ℕ) (rows : List (List Value × X)) where
+  -- of each row there is what there was, or nothing
+  pub kept_cut : (u : List Value)
+      → kept_for (cut_rows near columns rows) u ≡ cond (lies near columns u) (kept_for rows u) None
+  kept_cut u =
+      lookup-filter-keys (is_at (row_cmp u)) (lies near columns) (lies near columns u)
+      (λ z is. ap (lies near columns) (sym (same_row u z is))) rows
+
+  -- what holds of nothing and of what there was holds of what there is
+  pub found_cut : (P : Option X → Type 0) (u : List Value) → P None → P (kept_for rows u)
+      → P (kept_for (cut_rows near columns rows) u)
+  found_cut P u none some = subst P (sym (kept_cut u)) (by (lies near columns u))
+    where
+      by : (b : Bool) → P (cond b (kept_for rows u) None)
+      by true = some
+      by false = none
+
+-- ---- rows of valuations
+
+-- what is read off a valuation's own row
+pub reads_back : (columns : List ℕ) (v : Valuation) (y : ℕ) → among y columns ≡ true
+    → valuation columns (map v columns) y ≡ v y
+reads_back [] v y m = cc
+reads_back (x ∷ columns) v y m = elim (cases_eq y x) [
+  | inl e ↦
+      cond-true (nat_eq y x) (v x) (valuation columns (map v columns) y) (ap (λ z. nat_eq z x) e ∙ same_number x)
+      ∙ ap v (sym e)
+  | inr ne ↦
+      cond-false (nat_eq y x) (v x) (valuation columns (map v columns) y) (ne_eqb y x ne)
+      ∙ reads_back columns v y (later ne m)
+]
+  where
+    later : (y ≡ x → ⊥) → among y (x ∷ columns) ≡ true → among y columns ≡ true
+    later ne m = elim (or_cases (nat_eq y x) (among y columns) m) [
+      | inl here ↦ absurd (ne (eqb-true y x here))
+      | inr there ↦ there
+    ]
+
+same_truth : (a b : Bool) → (a ≡ true → b ≡ true) → (b ≡ true → a ≡ true) → a ≡ b
+same_truth true b to from = sym (to refl)
+same_truth false true to from = from refl
+same_truth false false to from = refl
+
+module _ (free : List ℕ) (near : Region) (passes : Passes free near) where
+  -- a valuation's row lies in the region where it does
+  pub row_lies : (columns : List ℕ) (v : Valuation) → lies near columns (map v columns) ≡ near columns v
+  row_lies columns v =
+      let read : Valuation = valuation columns (map v columns) in
+      same_truth (near columns read) (near columns v)
+      (passes columns columns read v (λ y m f. (m, reads_back columns v y m)))
+      (passes columns columns v read (λ y m f. (m, sym (reads_back columns v y m))))
+
+  rows_cut : {X : Type 0} (columns : List ℕ) (rows : List (List Value × X)) (v : Valuation)
+      → kept_for (cut_rows near columns rows) (map v columns)
+      ≡ cond (near columns v) (kept_for rows (map v columns)) None
+  rows_cut columns rows v =
+      kept_cut near columns rows (map v columns)
+      ∙ ap (λ b. cond b (kept_for rows (map v columns)) None) (row_lies columns v)
+
+  -- for a near row there is what there was, for another one nothing
+  pub rows_near : {X : Type 0} (columns : List ℕ) (rows : List (List Value × X)) (v : Valuation) → near columns v ≡ true
+      → kept_for (cut_rows near columns rows) (map v columns) ≡ kept_for rows (map v columns)
+  rows_near columns rows v n = rows_cut columns rows v ∙ ap (λ b. cond b (kept_for rows (map v columns)) None) n
+
+  pub none_outside : {X : Type 0} (columns : List ℕ) (rows : List (List Value × X))
+      → RowsInside near columns (cut_rows near columns rows)
+  none_outside columns rows v n = rows_cut columns rows v ∙ ap (λ b. cond b (kept_for rows (map v columns)) None) n
+
+  pub has_cut : (table : TableOf) (v : Valuation) → has (cut_table near table) v ≡ (near table.columns v && has table v)
+  unfolding has
+  has_cut table v =
+      any-filter_same (eq_by_cmp row_cmp (map v table.columns)) (lies near table.columns) (near table.columns v)
+      (λ z is. ap (lies near table.columns) (sym (tells_apart row_exact (map v table.columns) z is))
+      ∙ row_lies table.columns v)
+      table.rows
+
+  pub table_inside : (table : TableOf) → TableInside near (cut_table near table)
+  table_inside table v n = has_cut table v ∙ ap (λ b. b && has table v) n

@@ -1,0 +1,4 @@
+pub mod Sieves
+pub mod Fits
+pub mod Splits
+pub mod Examples
