@@ -47,7 +47,7 @@ fn two_workers_overlap(rt: HostRuntime) -> Result<(), Fail> {
     assert_eq!(rt; status.code(), 1);
     assert!(rt;
         out.inner().written()
-            == b"@1 (time point 0):\n@3 (time point 1): (60)\n@9 (time point 2): (52)\n"
+            == b"@1 (time point 0):\n@3 (time point 1): (60)\n@9 (time point 2): (52)\n".as_slice()
     );
     assert!(rt; err.written().is_empty());
     assert!(rt; meeting.passes() == (3, 3));
