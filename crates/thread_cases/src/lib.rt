@@ -1,0 +1,13 @@
+//! Worked cases of threads: a run in which two workers have to be at work at the same time, and the turns of a hub.
+#![tactic(auto)]
+
+mod echo;
+mod meeting;
+mod watched_sink;
+
+pub use echo::Echo;
+pub use meeting::Meeting;
+pub use watched_sink::WatchedSink;
+
+#[cfg(test)]
+mod tests;
