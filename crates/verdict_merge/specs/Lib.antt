@@ -1,3 +1,4 @@
 pub mod Gathers
 pub mod Emitted
 pub mod Laws
+pub mod Places

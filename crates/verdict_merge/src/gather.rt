@@ -1,16 +1,15 @@
 //! Puts the Rows of all workers of a time-point together.
-ghost use Rattle.std.specs.Prelude.{◌≡◌, ◌++◌, ◌∷◌, [], ◌<◌, ◌≤◌, IfOk, IsFalse, length, option_copied};
-ghost use Rattle.std.specs.List.{find, flat_map, list_any};
+ghost use Rattle.std.specs.Prelude.{◌≡◌, ◌++◌, ◌∷◌, [], ◌<◌, ◌≤◌, IfOk, IsFalse, option_copied};
+ghost use Rattle.std.specs.List.{find, list_any};
 ghost use Rattle.std.specs.Option.{is_some};
-ghost use Rattle.verdict_merge.specs.Gathers.{all_rows, at_point, complete_ts, is_from, is_generation, rows_after, rows_at, workers_in};
+ghost use Rattle.verdict_merge.specs.Gathers.{complete_ts, is_from, is_generation, workers_in};
 ghost use Rattle.verdict_merge.specs.Emitted.{Emits};
 
 use crate::merge::merged;
 use crate::rows::{Begun, Rows, Verdict};
-use mfotl_model::Row;
+use crate::waiting::Waiting;
 use std::alloc::{AllocError, Global};
 use std::marker::Model;
-use std::mem;
 
 /// Gathers what the workers say of each time-point. Time-points are numbered from 0, and their verdicts come in
 /// this order.
@@ -18,7 +17,7 @@ use std::mem;
 pub struct Gather {
     begun: Vec<Begun>,
     next: u64,
-    added: Vec<Rows>,
+    added: Waiting,
 }
 
 impl Model for Gather {
@@ -26,7 +25,7 @@ impl Model for Gather {
 
     ghost Value = { GatherOf };
 
-    ghost view = { λ g. record { begun = g.begun.items; next = g.next; added = g.added.items } };
+    ghost view = { λ g. record { begun = g.begun.items; next = g.next; added = g.added } };
 }
 
 impl Gather {
@@ -37,7 +36,7 @@ impl Gather {
         Gather {
             begun: Vec::new(alloc),
             next: 0,
-            added: Vec::new(alloc),
+            added: Waiting::new(alloc),
         }
     }
 
@@ -83,7 +82,7 @@ impl Gather {
         };
         let point = self.next;
         let after = point.checked_add(1).ok_or(AllocError)?;
-        let lists = self.take_next(alloc)?;
+        let lists = self.added.take(alloc, point)?;
         let rows = merged(alloc, lists)?;
         self.next = after;
         Ok(Some(Verdict { point, ts, rows }))
@@ -94,22 +93,6 @@ impl Gather {
         ensures { result ≡ is_some (complete_ts self.now) }
     {
         self.complete_ts().is_some()
-    }
-
-    // The first Rows of the next time-point.
-    fn first(&self) -> Option<&Rows>
-        ensures { option_copied result ≡ find (at_point self.now.next) self.now.added }
-    {
-        let next = self.next;
-        self.added.iter().find(|rows| rows.point == next)
-    }
-
-    // How many Rows of the next time-point are there.
-    fn count(&self) -> usize
-        ensures { result ≡ length (rows_at self.now.next self.now.added) }
-    {
-        let next = self.next;
-        self.added.iter().filter(|rows| rows.point == next).count()
     }
 
     // The generation of this number, if it is begun.
@@ -133,35 +116,11 @@ impl Gather {
     fn complete_ts(&self) -> Option<u64>
         ensures { result ≡ complete_ts self.now }
     {
-        let first = self.first()?;
-        if self.count() == self.workers(first.generation) as usize {
+        let first = self.added.first(self.next)?;
+        if self.added.count(self.next) == self.workers(first.generation) as usize {
             Some(first.ts)
         } else {
             None
         }
-    }
-
-    // Takes the Rows of the next time-point out: the rows of each.
-    fn take_next(&mut self, alloc: Global) -> Result<Vec<Vec<Row>>, AllocError>
-        ensures rows { IfOk result (λ lists.
-            flat_map (λ list. list.items) lists.items ≡ all_rows (rows_at self.old.next self.old.added)) }
-        ensures left { IfOk result (λ _. self.new ≡ record {
-          begun = self.old.begun;
-          next = self.old.next;
-          added = rows_after self.old.next self.old.added;
-        }) }
-    {
-        let next = self.next;
-        let mut here = Vec::new(alloc);
-        let mut later = Vec::new(alloc);
-        for rows in mem::replace(&mut self.added, Vec::new(alloc)) {
-            if rows.point == next {
-                here.push(rows.rows.into_vec())?;
-            } else {
-                later.push(rows)?;
-            }
-        }
-        self.added = later;
-        Ok(here)
     }
 }

@@ -6,6 +6,7 @@ pub mod laws;
 mod merge;
 mod rows;
 mod text;
+mod waiting;
 
 pub use gather::Gather;
 pub use rows::{Rows, Verdict};
