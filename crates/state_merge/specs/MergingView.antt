@@ -12,5 +12,6 @@ pub record MergingOf : Type 0 where
   pub adopted : ℕ
   pub merged : Option State
 
+-- a merge, seen as this
 abbrev pub merging_of : Merging → MergingOf
 merging_of m = record { core = core_form m.core; count = m.count; adopted = m.adopted; merged = m.merged }

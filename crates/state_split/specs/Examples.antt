@@ -8,10 +8,11 @@ use Rattle.mfotl_model.specs.declared.value.Value.{Value}
 use Rattle.mfotl_model.specs.declared.value.Value.TheVariants.{Int}
 use Rattle.monitor_state.specs.StateCuts.{cut_table}
 
--- the variable x, numbered 0, is cut at 10, and at 2 from the next strategy on
+-- the variable x, numbered 0, is cut at 10
 abbrev pub present : Strategy
 present = Cut (pos 10 ∷ []) ∷ []
 
+-- and at 2 from the next strategy on
 abbrev pub next : Strategy
 next = Cut (pos 2 ∷ []) ∷ []
 
