@@ -36,3 +36,7 @@ pub mod RecordNodes
 pub mod RecordTimes
 pub mod RecordKeeps
 pub mod RecordState
+pub mod ResumeTimes
+pub mod ResumeWindows
+pub mod ResumeNodes
+pub mod ResumeState

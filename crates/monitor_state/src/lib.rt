@@ -18,6 +18,8 @@ mod or;
 mod ordering;
 mod previous;
 mod recording;
+mod resumed;
+mod resuming;
 mod since;
 mod stack;
 mod stamps;

@@ -5,6 +5,7 @@ ghost use Rattle.monitorable.specs.Cores.{core_form};
 ghost use Rattle.monitor_state.specs.Beginnings.{Begins};
 ghost use Rattle.monitor_state.specs.Going.{AllAdvance};
 ghost use Rattle.monitor_state.specs.MonitorView.{monitor_of};
+ghost use Rattle.monitor_state.specs.Resuming.{Resumes};
 ghost use Rattle.monitor_state.specs.Stands.{Stands};
 ghost use Rattle.monitor_state.specs.StateRules.{StateRule};
 ghost use Rattle.monitor_state.specs.StateStands.{StateStands};
@@ -13,6 +14,7 @@ ghost use Rattle.monitor_state.specs.Steps.{Steps};
 use crate::compile::add_nodes;
 use crate::node::Node;
 use crate::recording::nodes_data;
+use crate::resumed::nodes_resumed;
 use crate::stack::popped;
 use crate::stamps::{longest, times_behind};
 use crate::state::State;
@@ -92,6 +94,32 @@ impl Monitor {
             taken: self.taken,
             given: self.given,
             times,
+            nodes,
+        })
+    }
+
+    /// The monitor of a core that goes on from what another one kept.
+    pub fn resume(alloc: Global, core: Core, state: State) -> Result<Self, AllocError>
+        requires rule { StateRule (core_form core) state }
+        ensures core { IfOk result (λ monitor. (monitor_of monitor).core ≡ core_form core) }
+        ensures stands { IfOk result (λ monitor. Resumes (core_form core) state (monitor_of monitor).state) }
+    {
+        let mut fresh = Vec::new(alloc);
+        add_nodes(alloc, core.root(), Role::Whole, &mut fresh)?;
+        let State {
+            taken,
+            given,
+            times,
+            nodes,
+        } = state;
+        let first = taken.saturating_sub(times.len() as u64);
+        let nodes = nodes_resumed(alloc, fresh, first, times.as_slice(), nodes)?;
+        Ok(Monitor {
+            core,
+            taken,
+            given,
+            first,
+            times: VecDeque::from_vec(times),
             nodes,
         })
     }

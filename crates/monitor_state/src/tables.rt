@@ -55,6 +55,15 @@ impl Tables {
         self.tables.len()
     }
 
+    /// These tables.
+    pub fn from_vec(tables: Vec<Table>) -> Self
+        ensures { result ≡ tables.items }
+    {
+        Tables {
+            tables: VecDeque::from_vec(tables),
+        }
+    }
+
     /// Copies of the tables.
     pub fn copied(&self, alloc: Global) -> Result<Vec<Table>, AllocError>
         ensures { IfOk result (λ copies. copies.items ≡ self.now) }

@@ -1,25 +1,21 @@
 -- A machine's cells, one by one.
-use Rattle.std.proofs.Common.{◌≡◌, ◌≢◌, ◌⊎◌, ℕ, zero, suc, ◌+◌, ◌<◌, ◌≤◌, cond, nat_lt}
+use Rattle.std.proofs.Common.{◌≡◌, ◌≢◌, ◌⊎◌, ℕ, zero, suc, ◌+◌, ◌<◌, ◌≤◌, cond}
 use Rattle.std.proofs.Common.{Some}
 use Rattle.std.proofs.Common.{List, [], ◌∷◌, ◌++◌, length, take, get_or, set, sym, refl, ap, ◌∙◌}
 use Rattle.std.proofs.Common.{subst}
 use Rattle.std.proofs.Common.{inl, inr, append-nil, append_assoc, arith, eq-eqb, ne_eqb, length-append}
-use Rattle.std.specs.List.{AllByRecursion}
 use Rattle.mfotl_model.specs.Strategies.{workers_of}
-use Rattle.monitorable.specs.CoreForms.{CoreForm}
 use Rattle.turn_hub.specs.Work.{Leads}
 use Rattle.rescale_core.proofs.Leading.{has_front}
 use Rattle.rescale_core.proofs.Chains.{left_out}
 use Rattle.rescale_core.proofs.Soundness.{has_of}
-use Rattle.rescale_core.proofs.WorldLemmas.{if_either}
-use Rattle.rescale_core.specs.Cells.{IsCellAt, IsCellOf}
-use Rattle.rescale_core.specs.Lines.{Due, Spot, first_spot, line, moved}
-use Rattle.rescale_core.specs.Lines.Due.{Slicing, Parting, Hole}
-use Rattle.rescale_core.specs.Routing.{ArePoints}
+use Rattle.rescale_core.specs.Cells.{AreWithin, IsCellAt, IsCellOf}
+use Rattle.rescale_core.specs.Lines.{Spot, if_below, line, moved, place, turn_at}
+use Rattle.rescale_core.specs.Lines.Due.{Slicing, Parting}
 use Rattle.rescale_core.specs.Seeds.{SeedOf}
-use Rattle.rescale_core.specs.Soundly.{IsSound, Supplies}
+use Rattle.rescale_core.specs.Soundly.{IsSound}
 use Rattle.rescale_core.specs.Stages.{Answers}
-use Rattle.rescale_core.specs.Working.{Has, IsSlice, May, StandsFor, slices_front}
+use Rattle.rescale_core.specs.Working.{Has, May, StandsFor}
 use Rattle.rescale_core.specs.Worlds.{World, Allowed, Seat, after, all_collected, fed_more, line_in, nth}
 use Rattle.rescale_core.specs.Worlds.{set_seat, took_one}
 use Rattle.rescale_core.specs.Worlds.Move.{Feed, Take, Collect}
@@ -27,10 +23,8 @@ use Rattle.rescale_core.specs.declared.cells.Cell.{Cell}
 use Rattle.rescale_core.specs.declared.item.Entry.{Entry}
 use Rattle.rescale_core.specs.declared.item.Entry.TheVariants.{Point, Change}
 use Rattle.rescale_core.specs.declared.item.Item.{Item}
-use Rattle.rescale_core.specs.declared.item.Item.TheVariants.{Slice}
 use Rattle.rescale_core.specs.declared.item.Out.{Out}
 use Rattle.rescale_core.specs.declared.phase.Worker.{Worker}
-use Rattle.rescale_core.specs.declared.piece.Piece.{Piece}
 
 -- ---- places among cells
 
@@ -63,40 +57,28 @@ nth_last (y ∷ xs) v (suc k) x e = at (nth_last xs v k x e)
     at (inl h) = inl h
     at (inr h) = inr (ap suc h.0, h.1)
 
--- ---- no strategy changes
+-- ---- workers of no strategy
 
-abbrev pub OnlySlices : List Due → Type 0
-OnlySlices [] = Unit {0}
-OnlySlices (Slicing g s log p ∷ ds) = OnlySlices ds
-OnlySlices (Parting t ∷ ds) = ⊥
-OnlySlices (Hole t j ∷ ds) = ⊥
-
-pub line_only : (k : ℕ) (es : List Entry) (a : Spot) → ArePoints es → OnlySlices (line k a es)
-line_only k [] a h = tt
-line_only k (Change s ∷ es) a h = absurd h
-line_only k (Point p ∷ es) a h =
-    let rest = line_only k es (moved a (Point p)) h in
-    if_either (λ x. OnlySlices (x ++ line k (moved a (Point p)) es)) (nat_lt k (workers_of a.strategy))
-    (Slicing a.generation a.strategy a.points p ∷ []) rest rest
-
-pub only_slices : (c : CoreForm) (k : ℕ) (pieces : List Piece) (ds : List Due) (items : List Item) → OnlySlices ds
-    → Supplies c k pieces ds items → AllByRecursion IsSlice items
-only_slices c k pieces ds [] o s = tt
-only_slices c k pieces [] (i ∷ is) o s = absurd s
-only_slices c k pieces (Slicing g t log p ∷ ds) (i ∷ is) o s =
-    let e : Slice g (length log) (Rattle.rescale_core.specs.Workers.slice_for c t k p) ≡ i = cc in
-    (subst IsSlice e tt, only_slices c k pieces ds is o s.1)
-only_slices c k pieces (Parting t ∷ ds) (i ∷ is) o s = absurd o
-only_slices c k pieces (Hole t j ∷ ds) (i ∷ is) o s = absurd o
-
--- a worker that isn't one is due nothing
-pub line_none : (k : ℕ) (es : List Entry) (a : Spot) → ArePoints es → workers_of a.strategy ≤ k → line k a es ≡ []
-line_none k [] a h high = refl
-line_none k (Change s ∷ es) a h high = absurd h
-line_none k (Point p ∷ es) a h high =
+-- a worker that none of the strategies has is due nothing
+pub line_none : (k n : ℕ) (es : List Entry) (a : Spot) → AreWithin n es → workers_of a.strategy ≤ n → n ≤ k
+    → line k a es ≡ []
+line_none k n [] a h high low = refl
+line_none k n (Change s ∷ es) a h high low =
+    let new : workers_of s ≤ n = h.0 in
+    ap (λ x. (x ++ if_below k (workers_of s) (place (turn_at a s))) ++ line k (moved a (Change s)) es)
+    (left_out k (workers_of a.strategy) (Parting (turn_at a s) ∷ []) (omega arith))
+    ∙ ap (λ x. x ++ line k (moved a (Change s)) es)
+    (left_out k (workers_of s) (place (turn_at a s)) (omega arith))
+    ∙ line_none k n es (moved a (Change s)) h.1 new low
+line_none k n (Point p ∷ es) a h high low =
     ap (λ x. x ++ line k (moved a (Point p)) es)
-    (left_out k (workers_of a.strategy) (Slicing a.generation a.strategy a.points p ∷ []) high)
-    ∙ line_none k es (moved a (Point p)) h high
+    (left_out k (workers_of a.strategy) (Slicing a.generation a.strategy a.points p ∷ []) (omega arith))
+    ∙ line_none k n es (moved a (Point p)) h.1 high low
+
+-- what was read is within what all entries are
+pub within_front : (n : ℕ) (a b : List Entry) → AreWithin n (a ++ b) → AreWithin n a
+within_front n [] b h = tt
+within_front n (e ∷ a) b h = (h.0, within_front n a b h.1)
 
 -- ---- one cell
 
@@ -111,27 +93,24 @@ seat_else w k j s n = ap (λ b. cond b s (w.seats j)) (ne_eqb j k n)
 
 -- the items in a cell may be taken
 pub may_take : (w : World) (k : ℕ) (before : List Item) (item : Item) (rest : List Item) → IsSound w
-    → ArePoints w.read → (w.seats k).fed ≡ before ++ item ∷ rest
+    → (w.seats k).fed ≡ before ++ item ∷ rest
     → Has (seed_in w k) w.read (before ++ item ∷ []) × May (seed_in w k) (before ++ item ∷ [])
-may_take w k before item rest r points e =
+may_take w k before item rest r e =
     let cut : (w.seats k).fed ≡ (before ++ item ∷ []) ++ rest = e ∙ sym (append_assoc before (item ∷ []) rest) in
     let has = has_front (seed_in w k) (before ++ item ∷ []) rest w.read
     (subst (Has (seed_in w k) w.read) cut (has_of w k r)) in
-    let all = only_slices w.core k w.pieces (line_in w k) (w.seats k).fed
-    (line_only k w.read (first_spot w.first) points)
-    (r.seated k).supplied in
-    (has, ((w.read, has), slices_front (before ++ item ∷ []) rest (subst (AllByRecursion IsSlice) cut all)))
+    (has, (w.read, has))
 
 -- a cell whose worker takes its first item
-pub took : (w : World) (k : ℕ) (old new : Cell) (item : Item) (gave : List Out) → IsSound w → ArePoints w.read
+pub took : (w : World) (k : ℕ) (old new : Cell) (item : Item) (gave : List Out) → IsSound w
     → IsCellOf w k old → old.items.items ≡ item ∷ new.items.items → new.taken ≡ old.taken + 1
     → new.outs.items ≡ old.outs.items ++ gave → Leads StandsFor May old.worker (item ∷ []) new.worker gave
     → Allowed w (Take k gave) × IsCellOf (after w (Take k gave)) k new
-took w k old new item gave r points is first taken outs leads =
+took w k old new item gave r is first taken outs leads =
     let seat : Seat = w.seats k in
     let rest : List Item = new.items.items in
     let fed : seat.fed ≡ is.before ++ item ∷ rest = is.fed ∙ ap (λ x. is.before ++ x) first in
-    let may = may_take w k is.before item rest r points fed in
+    let may = may_take w k is.before item rest r fed in
     let stands = leads (seed_in w k) is.before seat.outs is.stands may.1 in
     let more : length (is.before ++ item ∷ []) ≡ length is.before + 1 = length-append is.before (item ∷ []) in
     let long : length seat.fed ≡ length is.before + length (item ∷ rest) =

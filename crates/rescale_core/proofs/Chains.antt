@@ -64,12 +64,13 @@ before_next t n j st from e here (no other) =
     (ne_eqb (j + 1) (workers_of t.old) other)))
     ((λ z. absurd (other (omega arith))), λ h. (omega arith, inr refl, λ _. refl))
 
-module _ (c : CoreForm) (k : ℕ) (t : Turn) (rest : List Due) (after : Chain c k (Live t.new t.before) rest) where
+module _ (c : CoreForm) (k : ℕ) (t : Turn) (rest : List Due) (after : Chain c k (Live t.new t.before) rest)
+    (f : IsFor c t.old) (f' : IsFor c t.new) where
   pub holes : (n j : ℕ) (st : Stage) → j + n ≡ workers_of t.old → Before t n j st
       → Chain c k st (map (λ i. Hole t i) (range_with_len j n) ++ rest)
   holes zero j st e b = subst (λ (x : Stage). Chain c k x rest) (sym (b.0 refl)) after
   holes (suc n) j st e b = let s = b.1 (omega arith) in (
-    (s.0, omega arith, s.1, s.2),
+    (s.0, omega arith, s.1, s.2, f, f'),
     λ i m. holes n (j + 1) (stage_after st (Hole t j) i) (omega arith)
         (before_next t n j st (from_of i) e s.0 (ℕ_discrete (j + 1) (workers_of t.old))),
   )
@@ -87,20 +88,20 @@ parted c k t st more live gone f f' rest = ⊎_elim
     (subst (λ (x : Stage). Chain c k x more) (sym (gone h)) rest))
     (below k (workers_of t.old))
 
+pub some_workers : (c : CoreForm) (s : Strategy) → IsFor c s → 0 < workers_of s
+some_workers c s f = f.workers.some
+
 -- and comes, where there is one
-filled : (c : CoreForm) (k : ℕ) (t : Turn) (more : List Due) → 0 < workers_of t.old
+filled : (c : CoreForm) (k : ℕ) (t : Turn) (more : List Due) → IsFor c t.old → IsFor c t.new
     → (k < workers_of t.new → Chain c k (Live t.new t.before) more) → (workers_of t.new ≤ k → Chain c k Gone more)
     → Chain c k Gone (if_below k (workers_of t.new) (place t) ++ more)
-filled c k t more some live gone = ⊎_elim
+filled c k t more f f' live gone = ⊎_elim
     (λ h. subst (λ (x : List Due). Chain c k Gone (x ++ more)) (sym (taken_if k (workers_of t.new) (place t) h))
-    (holes c k t more (live h) (workers_of t.old) 0 Gone (omega arith)
-    ((λ z. absurd (omega arith)), λ h. (refl, inl refl, λ z. absurd (z refl)))))
+    (holes c k t more (live h) f f' (workers_of t.old) 0 Gone (omega arith)
+    ((λ z. (let some = some_workers c t.old f in absurd (omega arith))), λ h. (refl, inl refl, λ z. absurd (z refl)))))
     (λ h. subst (λ (x : List Due). Chain c k Gone (x ++ more)) (sym (left_out k (workers_of t.new) (place t) h))
     (gone h))
     (below k (workers_of t.new))
-
-pub some_workers : (c : CoreForm) (s : Strategy) → IsFor c s → 0 < workers_of s
-some_workers c s f = f.workers.some
 
 module _ (c : CoreForm) (k : ℕ) where
   sliced : (a : Spot) (p : TimePoint) (st : Stage) (more : List Due) → Agrees k a st → MayFollow a.points p
@@ -127,7 +128,7 @@ module _ (c : CoreForm) (k : ℕ) where
       (sym (append_assoc (if_below k (workers_of a.strategy) (Parting t ∷ []))
       (if_below k (workers_of n) (place t)) more))
       (parted c k t st (if_below k (workers_of n) (place t) ++ more) g.live g.gone f s.0
-      (filled c k t more (some_workers c a.strategy f)
+      (filled c k t more f s.0
       (λ h. chained es (moved a (Change n)) (Live n a.points) s.0 s.1 (agrees_live k (moved a (Change n)) h))
       (λ h. chained es (moved a (Change n)) Gone s.0 s.1 (agrees_gone k (moved a (Change n)) h))))
 

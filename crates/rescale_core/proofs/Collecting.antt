@@ -30,7 +30,9 @@ use Rattle.verdict_merge.specs.declared.rows.Rows.{Rows}
 use Rattle.rescale_core.specs.Worlds.Move.{Collect}
 use Rattle.rescale_core.proofs.Pieces.{distinct_snoc, drop_front, answers_cut, last_more, rises_cut, rises_front}
 use Rattle.rescale_core.proofs.Pieces.{last_rises, turns_cut, turns_front, Came, answers_came, Lone, answers_lone}
-use Rattle.rescale_core.proofs.SeatLemmas.{at_seat, at_seat_else, by_worker, own_rows, other_rows}
+use Rattle.rescale_core.proofs.Pieces.{pieces_more}
+use Rattle.rescale_core.proofs.SeatLemmas.{at_seat, at_seat_else, by_from, by_worker, own_pieces, own_rows}
+use Rattle.rescale_core.proofs.SeatLemmas.{other_pieces, other_rows}
 
 -- ---- collecting
 
@@ -265,6 +267,13 @@ module _ (w : World) (k : ℕ) (r : IsSound w) where
       every_map (CameRow fr w.core k rlo (last_level w.core rlo seg)) (λ (r : Rows). r.worker ≡ k) rs
       (λ r h. h.worker) rcame
 
+  froms_are : AllByRecursion (λ (p : Piece). p.from ≡ k) ps
+  froms_are =
+      every_map (Came f w.core k lo (last_part lo seg)) (λ (p : Piece). p.from ≡ k) ps (λ p h. h.from) came
+
+  pieces_split : (q : ℕ) → by_from q (w.pieces ++ ps) ≡ by_from q w.pieces ++ by_from q ps
+  pieces_split q = filter-append (λ (p : Piece). nat_eq p.from q) w.pieces ps
+
   rows_split : (q : ℕ) → by_worker q (w.rows ++ rs) ≡ by_worker q w.rows ++ by_worker q rs
   rows_split q = filter-append (λ (r : Rows). nat_eq r.worker q) w.rows rs
 
@@ -278,6 +287,8 @@ module _ (w : World) (k : ℕ) (r : IsSound w) where
     more = s.more;
     rows = rows_split q ∙ ap (λ x. by_worker q w.rows ++ x) (other_rows k q rs other workers_are)
         ∙ append-nil (by_worker q w.rows) ∙ s.rows;
+    pieces = pieces_split q ∙ ap (λ x. by_from q w.pieces ++ x) (other_pieces k q ps other froms_are)
+        ∙ append-nil (by_from q w.pieces) ∙ s.pieces;
   }
 
   seated_collected : IsSeated (after w (Collect k)) k (all_collected st)
@@ -291,6 +302,9 @@ module _ (w : World) (k : ℕ) (r : IsSound w) where
     rows = rows_split k ∙ ap (λ x. by_worker k w.rows ++ x) (own_rows k rs workers_are)
         ∙ ap (λ x. x ++ rs) s.rows ∙ ap (λ x. rows_in st.back ++ rows_in x) rest_is
         ∙ sym (ap rows_in s.more.1 ∙ rows_more st.back more);
+    pieces = pieces_split k ∙ ap (λ x. by_from k w.pieces ++ x) (own_pieces k ps froms_are)
+        ∙ ap (λ x. x ++ ps) s.pieces ∙ ap (λ x. pieces_in st.back ++ pieces_in x) rest_is
+        ∙ sym (ap pieces_in s.more.1 ∙ pieces_more st.back more);
   }
 
   pub collect_sound : IsSound (after w (Collect k))

@@ -3,19 +3,16 @@ use Rattle.std.proofs.Common.{◌≡◌, ◌≢◌, ℕ, zero, suc, ◌+◌, ◌
 use Rattle.std.proofs.Common.{sym}
 use Rattle.std.proofs.Common.{refl, ap, ◌∙◌, subst, append-nil, arith, eq-eqb, take-add, slice_set, true, Option}
 use Rattle.std.proofs.Common.{Some, None, IfSome}
-use Rattle.mfotl_model.specs.declared.event.TimePoint.{TimePoint}
 use Rattle.verdict_merge.specs.declared.rows.Verdict.{Verdict}
 use mathlib.Core.Option.{some}
 use lib.ListN.{get_elem?}
 use native.Mathlib.Decide.{ℕ_discrete}
 use Rattle.turn_hub.specs.Answers.{MayHand}
 use Rattle.turn_hub.specs.Ends.{main_view}
-use Rattle.rescale_core.proofs.CellLemmas.{line_only, only_slices}
 use Rattle.rescale_core.proofs.Pieces.{answers_cut}
 use Rattle.rescale_core.proofs.Soundness.{has_of}
-use Rattle.rescale_core.specs.Lines.{first_spot}
 use Rattle.rescale_core.specs.Moving.{CellLine, IsDriverOf, IsLineOf, lines_of}
-use Rattle.rescale_core.specs.Routing.{ArePoints, HasEnded, IsRouterOf}
+use Rattle.rescale_core.specs.Routing.{HasEnded, IsRouterOf}
 use Rattle.rescale_core.specs.Seeds.{SeedOf}
 use Rattle.rescale_core.specs.Soundly.{IsSound}
 use Rattle.rescale_core.specs.Stages.{Answers}
@@ -23,7 +20,7 @@ use Rattle.rescale_core.specs.Working.{May, Told}
 use Rattle.rescale_core.specs.Works.{MayBy, ToldBy}
 use Rattle.rescale_core.specs.Worlds.{World, Allowed, Seat, after, line_in}
 use Rattle.rescale_core.specs.Worlds.Move.{Read, Emit}
-use Rattle.rescale_core.specs.declared.item.Entry.TheVariants.{Point}
+use Rattle.rescale_core.specs.declared.item.Entry.{Entry}
 use Rattle.rescale_core.specs.declared.item.Item.{Item}
 use Rattle.rescale_core.specs.declared.item.Out.{Out}
 use Rattle.rescale_core.specs.declared.turns.Driver.{Driver}
@@ -115,12 +112,8 @@ lines_set v v2 x k new e here others q y h = by_number (ℕ_discrete q k)
 -- ---- what may be handed over
 
 -- all that was handed over might be
-pub may_fed : (w : World) (k : ℕ) → IsSound w → ArePoints w.read → May (seed_in w k) (w.seats k).fed
-may_fed w k r points = (
-  (w.read, has_of w k r),
-  only_slices w.core k w.pieces (line_in w k) (w.seats k).fed (line_only k w.read (first_spot w.first) points)
-      (r.seated k).supplied,
-)
+pub may_fed : (w : World) (k : ℕ) → IsSound w → May (seed_in w k) (w.seats k).fed
+may_fed w k r = (w.read, has_of w k r)
 
 -- main may hand nothing over, where it stands for a world
 pub may_nothing : (d : Driver) (k : ℕ) (items : List Item) → items ≡ [] → k < length (lines_of d) → (w : World)
@@ -133,19 +126,19 @@ may_nothing d k items e near w is =
       subst (λ (s : SeedOf). May s (l.0.handed ++ items)) (sym il.seed)
           (subst (λ (is : List Item). May (seed_in w k) is)
           (sym (ap (λ z. l.0.handed ++ z) e ∙ append-nil l.0.handed ∙ il.handed))
-          (may_fed w k is.router.sound is.router.unchanged)),
+          (may_fed w k is.router.sound)),
     )
 
 -- ---- reading, emitting and the end
 
-pub driver_read : (d e : Driver) (w : World) (p : TimePoint) → IsDriverOf d w → e.main ≡ d.main
-    → IsRouterOf e.router (after w (Read (Point p))) → IsDriverOf e (after w (Read (Point p)))
-driver_read d e w p is same router =
+pub driver_read : (d e : Driver) (w : World) (x : Entry) → IsDriverOf d w → e.main ≡ d.main
+    → IsRouterOf e.router (after w (Read x)) → IsDriverOf e (after w (Read x))
+driver_read d e w x is same router =
     let m : lines_of e ≡ lines_of d = ap (λ z. (main_view z).lines) same in
     record {
       router = router;
       lines = λ k l at.
-          line_kept w (after w (Read (Point p))) k l refl refl refl
+          line_kept w (after w (Read x)) k l refl refl refl
           (is.lines k l (ap (λ z. get_elem? z k) (sym m) ∙ at));
       beyond = λ k high. is.beyond k (subst (λ (z : List CellLine). length z ≤ k) m high);
     }

@@ -14,12 +14,11 @@ use Rattle.rescale_core.proofs.Emitting.{DueRow, below_of, due_all}
 use Rattle.rescale_core.proofs.Fitting.{every_map}
 use Rattle.rescale_core.proofs.Given.{given_there, is_of, kept, on_line, settling, worker_there}
 use Rattle.rescale_core.proofs.LogLemmas.{settled_within}
-use Rattle.rescale_core.proofs.CellLemmas.{OnlySlices, line_only}
+use Rattle.rescale_core.proofs.Progress.{all_handed}
 use Rattle.rescale_core.specs.Cells.{Enabled, IsMachineOf}
 use Rattle.rescale_core.specs.Laws.{EmitsVerdicts}
 use Rattle.rescale_core.specs.Routing.{HasEnded}
 use Rattle.rescale_core.specs.Lines.{Due, first_spot}
-use Rattle.rescale_core.specs.Lines.Due.{Slicing, Parting, Hole}
 use Rattle.rescale_core.specs.Soundly.{IsSound}
 use Rattle.rescale_core.specs.Stages.{Answers}
 use Rattle.rescale_core.specs.Workers.{settled_in}
@@ -28,13 +27,6 @@ use Rattle.rescale_core.specs.declared.cells.Step.{Step}
 use Rattle.rescale_core.specs.declared.cells.Step.TheVariants as step
 use Rattle.rescale_core.specs.declared.item.Entry.{Entry}
 use Rattle.rescale_core.specs.declared.stage.Machine.{Machine}
-
-pub drop_only : (n : ℕ) (ds : List Due) → OnlySlices ds → OnlySlices (drop n ds)
-drop_only zero ds o = o
-drop_only (suc n) [] o = tt
-drop_only (suc n) (Slicing g s log p ∷ ds) o = drop_only n ds o
-drop_only (suc n) (Parting t ∷ ds) o = absurd o
-drop_only (suc n) (Hole t j ∷ ds) o = absurd o
 
 dropped_all : {A : Type 0} (n : ℕ) (xs : List A) → drop n xs ≡ [] → length xs ≤ n
 dropped_all zero [] e = omega arith
@@ -133,21 +125,6 @@ module _ (m : Machine) (entries : List Entry) (w : World) (is : IsMachineOf m en
   all_read =
       sym (append-nil w.read) ∙ sym (ap (λ (x : List Entry). w.read ++ x) nothing_left) ∙ is.entries_are
 
-  -- each worker was handed all that it is due
-  all_fed : (k : ℕ) → length (line_in w k) ≤ length (w.seats k).fed
-  all_fed k =
-      dropped_all (length (w.seats k).fed) (line_in w k)
-      (at (drop (length (w.seats k).fed) (line_in w k)) refl
-      (drop_only (length (w.seats k).fed) (line_in w k) (line_only k w.read (first_spot w.first) is.router.unchanged)))
-    where
-      at : (ds : List Due) → drop (length (w.seats k).fed) (line_in w k) ≡ ds
-          → OnlySlices (drop (length (w.seats k).fed) (line_in w k)) → drop (length (w.seats k).fed) (line_in w k) ≡ []
-      at [] e o = e
-      at (Slicing g s log p ∷ ds) e o =
-          absurd (none (step.Feed k) (_, (map (chance w.core k w.pieces) ds, ap (map (chance w.core k w.pieces)) e)))
-      at (Parting t ∷ ds) e o = absurd (subst OnlySlices e o)
-      at (Hole t j ∷ ds) e o = absurd (subst OnlySlices e o)
-
   all_collected : (k : ℕ) → length (w.seats k).fed ≤ (w.seats k).collected
   all_collected k =
       let taken : length (w.seats k).fed ≤ (w.seats k).taken =
@@ -155,6 +132,12 @@ module _ (m : Machine) (entries : List Entry) (w : World) (is : IsMachineOf m en
       let collected : (w.seats k).taken ≤ (w.seats k).collected =
       at_end (w.seats k).collected (w.seats k).taken (λ h. none (step.Collect k) h) in
       omega arith
+
+  -- each worker was handed all that it is due
+  all_fed : (k : ℕ) → length (line_in w k) ≤ length (w.seats k).fed
+  all_fed k =
+      dropped_all (length (w.seats k).fed) (line_in w k)
+      (all_handed w sound (λ q i may. none (step.Feed q) (i, may)) all_collected k)
 
   pub all_emitted : length w.emitted ≡ settled_in w.core (spot_in w).points
   all_emitted = all_out w sound all_fed all_collected is.verdicts (λ g. none step.Emit g)

@@ -7,7 +7,7 @@ use Rattle.std.proofs.lemmas.List.Elements.{filter-append}
 use Rattle.std.proofs.lemmas.Bool.Decides.{leb_tells}
 use Rattle.mfotl_model.specs.Strategies.{Strategy, workers_of}
 use Rattle.rescale_core.proofs.Chains.{below, some_workers}
-use Rattle.rescale_core.proofs.Fitting.{every_map}
+use Rattle.rescale_core.proofs.Fitting.{every_map, every_more}
 use Rattle.rescale_core.proofs.Collecting.{collect_sound}
 use Rattle.rescale_core.proofs.Emitting.{DueRow, complete_some, complete_with, due_all, merged_due}
 use Rattle.rescale_core.proofs.Emitting.{slice_strategy}
@@ -18,15 +18,17 @@ use Rattle.rescale_core.specs.Routing.{IsGatherIn, IsGatherOf, MayAdd}
 use Rattle.rescale_core.specs.Soundly.{IsSound, KnownRow}
 use Rattle.rescale_core.specs.Stages.{NotIn}
 use Rattle.rescale_core.specs.Worlds.{World, IsGathered, not_back, slice_at, spot_in, rows_in, Allowed, after}
-use Rattle.std.specs.List.{AllByRecursion, list_any}
+use Rattle.std.specs.List.{AllByRecursion, find, list_any}
 use Rattle.verdict_merge.specs.Emitted.{Emits}
-use Rattle.verdict_merge.specs.Gathers.{GatherOf, all_rows, complete_ts, is_from, rows_at, workers_in}
+use Rattle.verdict_merge.specs.Gathers.{GatherOf, all_rows, complete_ts, is_from, is_generation, rows_at}
+use Rattle.verdict_merge.specs.Gathers.{workers_found, workers_in}
 use Rattle.verdict_merge.specs.Laws.{Apart}
 use Rattle.mfotl_model.specs.Ascending.{ascending}
 use Rattle.mfotl_model.specs.Values.{row_cmp}
 use Rattle.mfotl_model.specs.declared.event.TimePoint.{TimePoint}
 use Rattle.rescale_core.specs.declared.item.Entry.{Entry}
 use Rattle.rescale_core.specs.declared.item.Entry.TheVariants.{Point, Change}
+use Rattle.verdict_merge.specs.declared.rows.Begun.{Begun}
 use Rattle.verdict_merge.specs.declared.rows.Rows.{Rows}
 use Rattle.verdict_merge.specs.declared.rows.Verdict.{Verdict}
 use Rattle.rescale_core.specs.Lines.Due.{Slicing}
@@ -58,7 +60,7 @@ one_point a q n d h = by_test (nat_eq n (length a.points)) h
     by_test true h = cc
     by_test false h = cc
 
-spot_up : (es : List Entry) (a : Spot) → a.generation ≤ (spot_after a es).generation
+pub spot_up : (es : List Entry) (a : Spot) → a.generation ≤ (spot_after a es).generation
 spot_up [] a = omega arith
 spot_up (Point p ∷ es) a = spot_up es (moved a (Point p))
 spot_up (Change x ∷ es) a = let h = spot_up es (moved a (Change x)) in omega arith
@@ -101,9 +103,74 @@ gather_point g w p r a is = let spot : spot_in (after w (Read (Point p))) ≡ mo
           ap (workers_in g.begun) hg ∙ is.present ∙ ap workers_of (sym hs))
           (slice_snoc w.read (Point p) (first_spot w.first) n (Slicing h s log q) at);
       present = subst (λ (b : Spot). workers_in g.begun b.generation ≡ workers_of b.strategy) (sym spot) is.present;
-      later = subst (λ (b : Spot). (h : ℕ) → b.generation < h → workers_in g.begun h ≡ 0) (sym spot) is.later;
+      later = subst (λ (b : Spot). AllByRecursion (λ (x : Begun). x.generation ≤ b.generation) g.begun) (sym spot)
+          is.later;
       gathered = step_gathered w (Read (Point p)) r a is.gathered;
     }
+
+-- ---- generations
+
+abbrev one_begun : ℕ → ℕ → Begun
+one_begun g n = record { generation = g; workers = n }
+
+-- one generation more changes nothing for the others
+found_more : (begun : List Begun) (g n h : ℕ) → h ≢ g → workers_in (begun ++ one_begun g n ∷ []) h ≡ workers_in begun h
+found_more [] g n h other =
+    ap (λ b. workers_found (cond b (Some (one_begun g n)) None)) (ne_eqb g h (λ e. other (sym e)))
+found_more (x ∷ begun) g n h other = at (nat_eq x.generation h) (found_more begun g n h other)
+  where
+    at : (b : Bool) → workers_in (begun ++ one_begun g n ∷ []) h ≡ workers_in begun h
+        → workers_found (cond b (Some x) (find (is_generation h) (begun ++ one_begun g n ∷ [])))
+        ≡ workers_found (cond b (Some x) (find (is_generation h) begun))
+    at true rest = refl
+    at false rest = rest
+
+-- where all are earlier, it is found
+found_last : (begun : List Begun) (g n m : ℕ) → AllByRecursion (λ (b : Begun). b.generation ≤ m) begun → m < g
+    → workers_in (begun ++ one_begun g n ∷ []) g ≡ n
+found_last [] g n m earlier low =
+    ap (λ b. workers_found (cond b (Some (one_begun g n)) None)) (eq-eqb g g refl)
+found_last (x ∷ begun) g n m earlier low =
+    ap (λ b. workers_found (cond b (Some x) (find (is_generation g) (begun ++ one_begun g n ∷ []))))
+    (ne_eqb x.generation g (λ e. (let l = earlier.0 in omega arith))) ∙ found_last begun g n m earlier.1 low
+
+-- a later one wasn't begun
+pub none_begun : (begun : List Begun) (g m : ℕ) → AllByRecursion (λ (b : Begun). b.generation ≤ m) begun → m < g
+    → workers_in begun g ≡ 0
+none_begun [] g m earlier low = refl
+none_begun (x ∷ begun) g m earlier low =
+    ap (λ b. workers_found (cond b (Some x) (find (is_generation g) begun)))
+    (ne_eqb x.generation g (λ e. (let l = earlier.0 in omega arith))) ∙ none_begun begun g m earlier.1 low
+
+pub gather_change : (g h : GatherOf) (w : World) (s : Strategy) → IsSound w → Allowed w (Read (Change s))
+    → h ≡ record {
+      begun = g.begun ++ one_begun ((spot_in w).generation + 1) (workers_of s) ∷ [];
+      next = g.next;
+      added = g.added;
+    } → IsGatherOf g w → IsGatherOf h (after w (Read (Change s)))
+gather_change g h w s r a e is =
+    let spot : spot_in (after w (Read (Change s))) ≡ moved (spot_in w) (Change s) =
+    spot_more (first_spot w.first) w.read (Change s ∷ []) in
+    let top : ℕ = (spot_in w).generation in
+    let begun : List Begun = g.begun ++ one_begun (top + 1) (workers_of s) ∷ [] in
+    subst (λ x. IsGatherOf x (after w (Read (Change s)))) (sym e) (record {
+      next = is.next;
+      added = is.added;
+      workers = λ n x t log q at. ⊎_elim
+          (λ old.
+          let l = slice_within w.read (first_spot w.first) n x t log q old in
+          found_more g.begun (top + 1) (workers_of s) x (λ same. (omega arith)) ∙ is.workers n x t log q old)
+          (λ new. cc)
+          (slice_snoc w.read (Change s) (first_spot w.first) n (Slicing x t log q) at);
+      present = subst (λ (b : Spot). workers_in begun b.generation ≡ workers_of b.strategy) (sym spot)
+          (found_last g.begun (top + 1) (workers_of s) top is.later (omega arith));
+      later = subst (λ (b : Spot). AllByRecursion (λ (x : Begun). x.generation ≤ b.generation) begun) (sym spot)
+          (every_more (λ (x : Begun). x.generation ≤ top + 1) g.begun (one_begun (top + 1) (workers_of s) ∷ [])
+          (every_map (λ (x : Begun). x.generation ≤ top) (λ (x : Begun). x.generation ≤ top + 1) g.begun
+          (λ x l. (omega arith)) is.later)
+          (omega arith, tt));
+      gathered = step_gathered w (Read (Change s)) r a is.gathered;
+    })
 
 -- ---- collecting
 

@@ -69,7 +69,7 @@ can_take_in s t g w i st es h = let r = turned_in s t i es st.first h in
     )
 
 pub can_take : (w : Worker) (i : Item) → Takes StandsFor May w (i ∷ []) → CanTake w i
-can_take w i t = can_take_in t.0 t.1 t.2 w i t.3 t.4.0.0 t.4.0.1
+can_take w i t = can_take_in t.0 t.1 t.2 w i t.3 t.4.0 t.4.1
 
 -- a step in the seed's own words
 steps_in : (s : SeedOf) (w : Worker) (i : Item) (x : Worker) (gave : List Out) → core_form w.core ≡ s.core

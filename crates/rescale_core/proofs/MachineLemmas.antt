@@ -7,15 +7,15 @@ use Rattle.std.proofs.Common.{append-nil, append_assoc, arith, eqb-true, length-
 use Rattle.std.proofs.Common.{length-set}
 use native.Mathlib.Decide.{ℕ_discrete}
 use Rattle.mfotl_model.specs.Strategies.{workers_of}
-use Rattle.mfotl_model.specs.declared.event.TimePoint.{TimePoint}
 use Rattle.verdict_merge.specs.declared.rows.Verdict.{Verdict}
 use Rattle.rescale_core.proofs.Soundness.{step_sound}
 use Rattle.rescale_core.proofs.Verdicts.{step_verdicts}
 use Rattle.rescale_core.proofs.WorldLemmas.{spot_more, supplies_length}
-use Rattle.rescale_core.specs.Cells.{Applies, IsCellAt, IsCellOf, IsMachineOf, Takes}
+use Rattle.rescale_core.specs.Cells.{Applies, AreWithin, IsCellAt, IsCellOf, IsMachineOf, Takes}
 use Rattle.rescale_core.specs.Chances.Chance.{Sure}
-use Rattle.rescale_core.specs.Lines.{AreSound, Due, Spot, first_spot, moved}
-use Rattle.rescale_core.specs.Routing.{ArePoints, HasTaken, IsRouterOf}
+use Rattle.rescale_core.specs.Lines.{AreSound, Due, MayRead, Spot, first_spot, moved}
+use Rattle.rescale_core.specs.Routing.{HasTaken, IsRouterOf}
+use Rattle.rescale_core.specs.Waiting.{weight}
 use Rattle.rescale_core.specs.Worlds.{World, Allowed, Seat, after, all_collected, chance, fed_more, line_in, nth}
 use Rattle.rescale_core.specs.Worlds.{queue_in, set_seat, spot_in, took_one}
 use Rattle.rescale_core.specs.Worlds.Move.{Read, Feed, Take, Collect, Emit}
@@ -24,13 +24,12 @@ use Rattle.rescale_core.specs.declared.cells.Applied.TheVariants.{Did, NotEnable
 use Rattle.rescale_core.specs.declared.cells.Cell.{Cell}
 use Rattle.rescale_core.specs.declared.cells.Step.TheVariants as step
 use Rattle.rescale_core.specs.declared.item.Entry.{Entry}
-use Rattle.rescale_core.specs.declared.item.Entry.TheVariants.{Point}
 use Rattle.rescale_core.specs.declared.item.Item.{Item}
 use Rattle.rescale_core.specs.declared.item.Out.{Out}
 use Rattle.rescale_core.specs.declared.routes.Router.{Router}
 use Rattle.rescale_core.specs.declared.stage.Machine.{Machine}
 use Rattle.rescale_core.proofs.CellLemmas.{nth_set, nth_else, line_none, seed_in, seat_here, seat_else, back_cell}
-use Rattle.rescale_core.proofs.CellLemmas.{same_cell}
+use Rattle.rescale_core.proofs.CellLemmas.{same_cell, within_front}
 
 -- ---- one seat's steps
 
@@ -41,6 +40,11 @@ module _ (m n : Machine) (entries : List Entry) (w : World) (is : IsMachineOf m 
   long = let l : length n.cells.items ≡ length m.cells.items = ap length cells ∙ length-set m.cells.items k new in
       let h = is.wide in
       omega arith
+
+  within_same : AreWithin (length n.cells.items) entries
+  within_same =
+      let l : length n.cells.items ≡ length m.cells.items = ap length cells ∙ length-set m.cells.items k new in
+      subst (λ j. AreWithin j entries) (sym l) is.within
 
   -- the cells, where one seat is another
   other_cells : (s : Seat) → IsCellAt (seed_in w k) s new → (j : ℕ) (cell : Cell) → nth n.cells.items j ≡ Some cell
@@ -67,7 +71,7 @@ module _ (m n : Machine) (entries : List Entry) (w : World) (is : IsMachineOf m 
   machine_fed item may cell router = record {
     entries_are = ap (λ x. w.read ++ x) left ∙ is.entries_are;
     left = subst (AreSound w.core (spot_in w)) (sym left) is.left;
-    unchanged = subst ArePoints (sym left) is.unchanged;
+    within = within_same;
     router = router;
     wide = long;
     cells = other_cells (fed_more (w.seats k) item) (at_seat_here (fed_more (w.seats k) item) cell);
@@ -80,7 +84,7 @@ module _ (m n : Machine) (entries : List Entry) (w : World) (is : IsMachineOf m 
   machine_took gave may cell router = record {
     entries_are = ap (λ x. w.read ++ x) left ∙ is.entries_are;
     left = subst (AreSound w.core (spot_in w)) (sym left) is.left;
-    unchanged = subst ArePoints (sym left) is.unchanged;
+    within = within_same;
     router = router;
     wide = long;
     cells = other_cells (took_one (w.seats k) gave) (at_seat_here (took_one (w.seats k) gave) cell);
@@ -93,7 +97,7 @@ module _ (m n : Machine) (entries : List Entry) (w : World) (is : IsMachineOf m 
   machine_collected may cell router = record {
     entries_are = ap (λ x. w.read ++ x) left ∙ is.entries_are;
     left = subst (AreSound w.core (spot_in w)) (sym left) is.left;
-    unchanged = subst ArePoints (sym left) is.unchanged;
+    within = within_same;
     router = router;
     wide = long;
     cells = other_cells (all_collected (w.seats k)) (at_seat_here (all_collected (w.seats k)) cell);
@@ -106,7 +110,7 @@ module _ (m n : Machine) (entries : List Entry) (w : World) (is : IsMachineOf m 
   machine_kept cell router = record {
     entries_are = ap (λ x. w.read ++ x) left ∙ is.entries_are;
     left = subst (AreSound w.core (spot_in w)) (sym left) is.left;
-    unchanged = subst ArePoints (sym left) is.unchanged;
+    within = within_same;
     router = router;
     wide = long;
     cells = λ j c e. at j c e (ℕ_discrete j k);
@@ -128,7 +132,6 @@ pub router_took : (r : Router) (w : World) (k : ℕ) (gave : List Out) → IsRou
     → IsRouterOf r (after w (Take k gave))
 router_took r w k gave is may =
     record {
-      unchanged = is.unchanged;
       core = is.core;
       generation = is.generation;
       strategy = is.strategy;
@@ -136,6 +139,9 @@ router_took r w k gave is may =
       wide = is.wide;
       queues = λ q. is.queues q
           ∙ sym (ap (λ (items : List Item). map (chance w.core q w.pieces) (drop (length items) (line_in w q)))
+          (same q (nat_eq q k) refl));
+      weights = λ q. is.weights q
+          ∙ sym (ap (λ (items : List Item). map weight (drop (length items) (line_in w q)))
           (same q (nat_eq q k) refl));
       counted = is.counted;
       outstanding = λ q. ap (λ n. n + get_or r.outstanding.items q 0) (back q (nat_eq q k) refl) ∙ is.outstanding q
@@ -158,7 +164,7 @@ pub machine_takes : (m n : Machine) (k : ℕ) (old new : Cell) (applied : Applie
     → n.cells.items ≡ set m.cells.items k new → n.left.items ≡ m.left.items → n.verdicts.items ≡ m.verdicts.items
     → n.router ≡ m.router → Takes old applied new → Applies m (step.Take k) applied n
 machine_takes m n k old new Did at cells left verdicts router t = λ entries w is.
-    let r = t w k is.router.sound is.router.unchanged (is.cells k old at) in (
+    let r = t w k is.router.sound (is.cells k old at) in (
       after w (Take k r.0),
       (r.0, r.1, refl),
       machine_took m n entries w is k new cells left verdicts r.0 r.1 r.2
@@ -222,30 +228,32 @@ machine_collects m n k old new taken outs at cells left verdicts some has given 
 
 -- ---- reading and emitting
 
-pub machine_read : (m n : Machine) (entries : List Entry) (w : World) (p : TimePoint) → IsMachineOf m entries w
-    → m.left.items ≡ Point p ∷ n.left.items → n.cells.items ≡ m.cells.items → n.verdicts.items ≡ m.verdicts.items
-    → (Rattle.rescale_core.specs.Workers.MayFollow (spot_in w).points p
-    → IsRouterOf n.router (after w (Read (Point p))))
-    → Allowed w (Read (Point p)) × IsMachineOf n entries (after w (Read (Point p)))
-machine_read m n entries w p is left cells verdicts router =
-    let sound : AreSound w.core (spot_in w) (Point p ∷ n.left.items) =
+pub machine_read : (m n : Machine) (entries : List Entry) (w : World) (e : Entry) → IsMachineOf m entries w
+    → m.left.items ≡ e ∷ n.left.items → n.cells.items ≡ m.cells.items → n.verdicts.items ≡ m.verdicts.items
+    → (MayRead w.core (spot_in w) e → IsRouterOf n.router (after w (Read e)))
+    → Allowed w (Read e) × IsMachineOf n entries (after w (Read e))
+machine_read m n entries w e is left cells verdicts router =
+    let sound : AreSound w.core (spot_in w) (e ∷ n.left.items) =
     subst (AreSound w.core (spot_in w)) left is.left in
-    let points : ArePoints (Point p ∷ n.left.items) = subst ArePoints left is.unchanged in
-    let spot : spot_in (after w (Read (Point p))) ≡ moved (spot_in w) (Point p) =
-    spot_more (first_spot w.first) w.read (Point p ∷ []) in (
+    let spot : spot_in (after w (Read e)) ≡ moved (spot_in w) e = spot_more (first_spot w.first) w.read (e ∷ []) in (
       sound.0,
       record {
-        entries_are = append_assoc w.read (Point p ∷ []) n.left.items ∙ ap (λ x. w.read ++ x) (sym left)
+        entries_are = append_assoc w.read (e ∷ []) n.left.items ∙ ap (λ x. w.read ++ x) (sym left)
             ∙ is.entries_are;
         left = subst (λ (a : Spot). AreSound w.core a n.left.items) (sym spot) sound.1;
-        unchanged = points;
+        within = subst (λ (x : List Cell). AreWithin (length x) entries) (sym cells) is.within;
         router = router sound.0;
         wide = subst (λ (x : List Cell). workers_of w.first ≤ length x) (sym cells) is.wide;
         cells = λ j c e. is.cells j c (ap (λ (x : List Cell). nth x j) (sym cells) ∙ e);
         emitted = is.emitted ∙ sym verdicts;
-        verdicts = step_verdicts w (Read (Point p)) is.router.sound sound.0 is.verdicts;
+        verdicts = step_verdicts w (Read e) is.router.sound sound.0 is.verdicts;
       },
     )
+
+-- the next entry may be read
+pub next_may : (m : Machine) (entries : List Entry) (w : World) (e : Entry) (rest : List Entry)
+    → IsMachineOf m entries w → m.left.items ≡ e ∷ rest → MayRead w.core (spot_in w) e
+next_may m entries w e rest is left = (subst (AreSound w.core (spot_in w)) left is.left).0
 
 pub machine_emitted : (m n : Machine) (entries : List Entry) (w : World) (v : Verdict) → IsMachineOf m entries w
     → n.left.items ≡ m.left.items → n.cells.items ≡ m.cells.items → n.verdicts.items ≡ m.verdicts.items ++ v ∷ []
@@ -254,7 +262,7 @@ machine_emitted m n entries w v is left cells verdicts may router =
     record {
       entries_are = ap (λ x. w.read ++ x) left ∙ is.entries_are;
       left = subst (AreSound w.core (spot_in w)) (sym left) is.left;
-      unchanged = subst ArePoints (sym left) is.unchanged;
+      within = subst (λ (x : List Cell). AreWithin (length x) entries) (sym cells) is.within;
       router = router;
       wide = subst (λ (x : List Cell). workers_of w.first ≤ length x) (sym cells) is.wide;
       cells = λ j c e. is.cells j c (ap (λ (x : List Cell). nth x j) (sym cells) ∙ e);
@@ -267,7 +275,10 @@ machine_emitted m n entries w v is left cells verdicts may router =
 module _ (m : Machine) (entries : List Entry) (w : World) (is : IsMachineOf m entries w) (k : ℕ)
     (beyond : length m.cells.items ≤ k) where
   none_due : line_in w k ≡ []
-  none_due = line_none k w.read (first_spot w.first) is.router.unchanged (let h = is.wide in omega arith)
+  none_due =
+      line_none k (length m.cells.items) w.read (first_spot w.first)
+      (within_front (length m.cells.items) w.read m.left.items
+      (subst (AreWithin (length m.cells.items)) (sym is.entries_are) is.within)) is.wide beyond
 
   none_fed : length (w.seats k).fed ≤ 0
   none_fed =

@@ -65,7 +65,7 @@ answers_cut c k (d ∷ ds) es a b x y = answers_cut c k ds es x.1 b x.4
 
 -- ---- the pieces in answers
 
-pieces_more : (a b : List Out) → pieces_in (a ++ b) ≡ pieces_in a ++ pieces_in b
+pub pieces_more : (a b : List Out) → pieces_in (a ++ b) ≡ pieces_in a ++ pieces_in b
 pieces_more [] b = refl
 pieces_more (OfRows r ∷ a) b = pieces_more a b
 pieces_more (OfPiece p ∷ a) b = ap (λ x. p ∷ x) (pieces_more a b)

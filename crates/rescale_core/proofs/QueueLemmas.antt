@@ -1,74 +1,158 @@
--- Places among queues.
-use Rattle.std.proofs.Common.{◌≡◌, ◌≢◌, ℕ, zero, suc, ◌+◌, ◌<◌, ◌≤◌, cond, nat_eq}
-use Rattle.std.proofs.Common.{List, [], ◌∷◌, ◌++◌, length, map, get_or, set}
-use Rattle.std.proofs.Common.{sym, refl, ap, ◌∙◌, append-nil, append_assoc, arith, eq-eqb}
-use Rattle.std.proofs.Common.{ne_eqb}
+-- Places among queues, and what is put there.
+use Rattle.std.proofs.Common.{◌≡◌, ◌≢◌, ◌⊎◌, ℕ, zero, suc, ◌+◌, ◌<◌, ◌≤◌, cond, nat_eq, nat_lt}
+use Rattle.std.proofs.Common.{List, [], ◌∷◌, ◌++◌, length, map, drop, get_or, set}
+use Rattle.std.proofs.Common.{sym, refl, ap, ◌∙◌, append-nil, append_assoc, arith, eq-eqb, inl, inr}
+use Rattle.std.proofs.Common.{get_or-set_other, get_or-set_same, lt-ltb, le-ltb, ne_eqb}
+use Rattle.std.proofs.lemmas.List.{length-map, map-append}
 use native.Mathlib.Decide.{ℕ_discrete}
 use Rattle.mfotl_model.specs.declared.event.TimePoint.{TimePoint}
+use Rattle.rescale_core.proofs.Chains.{below}
 use Rattle.rescale_core.specs.Chances.{sure_items}
 use Rattle.rescale_core.specs.Chances.Chance.{Sure}
-use Rattle.rescale_core.specs.Queues.{queue_at, waiting}
+use Rattle.rescale_core.specs.Queues.{all_put, chances, filled, queue_at}
 use Rattle.rescale_core.specs.Routing.{slices_for}
+use Rattle.rescale_core.specs.Slots.{chance_of, weight_of}
 use Rattle.rescale_core.specs.declared.item.Item.{Item}
 use Rattle.rescale_core.specs.declared.item.Item.TheVariants.{Slice}
-use Rattle.rescale_core.specs.declared.queue.Queue.{Queue}
+use Rattle.rescale_core.specs.declared.piece.Piece.{Piece}
+use Rattle.rescale_core.specs.declared.slot.Slot.{Slot}
+use Rattle.rescale_core.specs.declared.slot.Slot.TheVariants.{Ready}
+
+abbrev pub Queues : Type 0
+Queues = List (List Slot)
 
 -- ---- places among queues
 
-pub queue_here : (xs : List Queue) (k : ℕ) (v : Queue) → k < length xs → v ≡ get_or xs k v → queue_at xs k ≡ waiting v
+pub queue_here : (xs : Queues) (k : ℕ) (v : List Slot) → k < length xs → v ≡ get_or xs k v → queue_at xs k ≡ v
 queue_here [] k v h e = absurd (omega arith)
-queue_here (x ∷ xs) zero v h e = ap waiting (sym e)
+queue_here (x ∷ xs) zero v h e = sym e
 queue_here (x ∷ xs) (suc k) v h e = queue_here xs k v (omega arith) e
 
-pub queue_set : (xs : List Queue) (k : ℕ) (v : Queue) → k < length xs → queue_at (set xs k v) k ≡ waiting v
-queue_set [] k v h = absurd (omega arith)
-queue_set (x ∷ xs) zero v h = refl
-queue_set (x ∷ xs) (suc k) v h = queue_set xs k v (omega arith)
+pub queue_set : (xs : Queues) (k : ℕ) (v : List Slot) → k < length xs → queue_at (set xs k v) k ≡ v
+queue_set xs k v h = get_or-set_same xs k v [] h
 
-pub queue_else : (xs : List Queue) (k q : ℕ) (v : Queue) → q ≢ k → queue_at (set xs k v) q ≡ queue_at xs q
-queue_else [] k q v n = refl
-queue_else (x ∷ xs) zero zero v n = absurd (n refl)
-queue_else (x ∷ xs) zero (suc q) v n = refl
-queue_else (x ∷ xs) (suc k) zero v n = refl
-queue_else (x ∷ xs) (suc k) (suc q) v n = queue_else xs k q v (λ e. n (ap suc e))
+pub queue_else : (xs : Queues) (k q : ℕ) (v : List Slot) → q ≢ k → queue_at (set xs k v) q ≡ queue_at xs q
+queue_else xs k q v n = get_or-set_other xs k q v [] n
 
-pub queue_beyond : (xs : List Queue) (k : ℕ) → length xs ≤ k → queue_at xs k ≡ []
+pub queue_beyond : (xs : Queues) (k : ℕ) → length xs ≤ k → queue_at xs k ≡ []
 queue_beyond [] k h = refl
 queue_beyond (x ∷ xs) zero h = absurd (omega arith)
 queue_beyond (x ∷ xs) (suc k) h = queue_beyond xs k (omega arith)
 
-pub queue_empty : (xs : List Queue) (v : Queue) (q : ℕ) → queue_at xs q ≡ [] → waiting v ≡ []
-    → queue_at (xs ++ v ∷ []) q ≡ []
-queue_empty [] v zero h e = e
-queue_empty [] v (suc q) h e = refl
-queue_empty (x ∷ xs) v zero h e = h
-queue_empty (x ∷ xs) v (suc q) h e = queue_empty xs v q h e
+-- one empty queue more
+pub queue_empty : (xs : Queues) (v : List Slot) (q : ℕ) → v ≡ [] → queue_at (xs ++ v ∷ []) q ≡ queue_at xs q
+queue_empty [] v zero e = e
+queue_empty [] v (suc q) e = refl
+queue_empty (x ∷ xs) v zero e = refl
+queue_empty (x ∷ xs) v (suc q) e = queue_empty xs v q e
 
--- the queue k with an item more
-pub queue_pushed : (xs : List Queue) (k : ℕ) (old v : Queue) (i : Item) → k < length xs → old ≡ get_or xs k old
-    → waiting v ≡ waiting old ++ Sure i ∷ [] → (q : ℕ)
-    → queue_at (set xs k v) q ≡ queue_at xs q ++ cond (nat_eq q k) (Sure i ∷ []) []
-queue_pushed xs k old v i low here more q = at (ℕ_discrete q k)
+-- the queue k with more slots
+pub queue_pushed : (xs : Queues) (k : ℕ) (old v more : List Slot) → k < length xs → old ≡ get_or xs k old
+    → v ≡ old ++ more → (q : ℕ) → queue_at (set xs k v) q ≡ queue_at xs q ++ cond (nat_eq q k) more []
+queue_pushed xs k old v more low here pushed q = at (ℕ_discrete q k)
   where
-    at : Dec (q ≡ k) → queue_at (set xs k v) q ≡ queue_at xs q ++ cond (nat_eq q k) (Sure i ∷ []) []
+    at : Dec (q ≡ k) → queue_at (set xs k v) q ≡ queue_at xs q ++ cond (nat_eq q k) more []
     at (yes e) =
-        ap (queue_at (set xs k v)) e ∙ queue_set xs k v low ∙ more
-        ∙ ap (λ x. x ++ Sure i ∷ []) (sym (queue_here xs k old low here))
-        ∙ ap (λ n. queue_at xs n ++ Sure i ∷ []) (sym e)
-        ∙ ap (λ b. queue_at xs q ++ cond b (Sure i ∷ []) []) (sym (eq-eqb q k e))
+        ap (queue_at (set xs k v)) e ∙ queue_set xs k v low ∙ pushed
+        ∙ ap (λ x. x ++ more) (sym (queue_here xs k old low here))
+        ∙ ap (λ n. queue_at xs n ++ more) (sym e)
+        ∙ ap (λ b. queue_at xs q ++ cond b more []) (sym (eq-eqb q k e))
     at (no n) =
         queue_else xs k q v n ∙ sym (append-nil (queue_at xs q))
-        ∙ ap (λ b. queue_at xs q ++ cond b (Sure i ∷ []) []) (sym (ne_eqb q k n))
+        ∙ ap (λ b. queue_at xs q ++ cond b more []) (sym (ne_eqb q k n))
 
 -- the slices behind the first one are still to come
-pub slice_pushed : (g n k : ℕ) (p : TimePoint) (old rest : List TimePoint) (xs : List Queue) (first v : Queue) (q : ℕ)
-    → old ≡ p ∷ rest → k < length xs → first ≡ get_or xs k first → waiting v ≡ waiting first ++ Sure (Slice g n p) ∷ []
+pub slice_pushed : (g n k : ℕ) (p : TimePoint) (old rest : List TimePoint) (xs : Queues) (first v : List Slot) (q : ℕ)
+    → old ≡ p ∷ rest → k < length xs → first ≡ get_or xs k first → v ≡ first ++ Ready (Slice g n p) ∷ []
     → queue_at (set xs k v) q ++ slices_for g n (k + 1) rest q ≡ queue_at xs q ++ slices_for g n k old q
 slice_pushed g n k p old rest xs first v q e low here more =
-    ap (λ x. x ++ slices_for g n (k + 1) rest q) (queue_pushed xs k first v (Slice g n p) low here more q)
-    ∙ append_assoc (queue_at xs q) (cond (nat_eq q k) (Sure (Slice g n p) ∷ []) []) (slices_for g n (k + 1) rest q)
+    ap (λ x. x ++ slices_for g n (k + 1) rest q) (queue_pushed xs k first v (Ready (Slice g n p) ∷ []) low here more q)
+    ∙ append_assoc (queue_at xs q) (cond (nat_eq q k) (Ready (Slice g n p) ∷ []) []) (slices_for g n (k + 1) rest q)
     ∙ ap (λ (ps : List TimePoint). queue_at xs q ++ slices_for g n k ps q) (sym e)
+
+-- workers below k have more slots, and so has worker k then
+pub below_pushed : (more : List Slot) (xs ys : Queues) (k : ℕ) (first v : List Slot) (q : ℕ)
+    → queue_at ys q ≡ queue_at xs q ++ cond (nat_lt q k) more [] → k < length ys → first ≡ get_or ys k first
+    → v ≡ first ++ more → queue_at (set ys k v) q ≡ queue_at xs q ++ cond (nat_lt q (k + 1)) more []
+below_pushed more xs ys k first v q old low here pushed =
+    queue_pushed ys k first v more low here pushed q
+    ∙ ap (λ x. x ++ cond (nat_eq q k) more []) old
+    ∙ append_assoc (queue_at xs q) (cond (nat_lt q k) more []) (cond (nat_eq q k) more [])
+    ∙ ap (λ x. queue_at xs q ++ x) (at (ℕ_discrete q k) (below q k))
+  where
+    at : Dec (q ≡ k) → (q < k) ⊎ (k ≤ q)
+        → cond (nat_lt q k) more [] ++ cond (nat_eq q k) more [] ≡ cond (nat_lt q (k + 1)) more []
+    at (yes e) h =
+        ap (λ b. cond b more [] ++ cond (nat_eq q k) more []) (le-ltb q k (omega arith))
+        ∙ ap (λ b. cond b more []) (eq-eqb q k e)
+        ∙ ap (λ b. cond b more []) (sym (lt-ltb q (k + 1) (omega arith)))
+    at (no n) (inl h) =
+        ap (λ b. cond b more [] ++ cond (nat_eq q k) more []) (lt-ltb q k h)
+        ∙ ap (λ b. more ++ cond b more []) (ne_eqb q k n) ∙ append-nil more
+        ∙ ap (λ b. cond b more []) (sym (lt-ltb q (k + 1) (omega arith)))
+    at (no n) (inr h) =
+        let high : k + 1 ≤ q = beyond q k n h in
+        ap (λ b. cond b more [] ++ cond (nat_eq q k) more []) (le-ltb q k h)
+        ∙ ap (λ b. cond b more []) (ne_eqb q k n)
+        ∙ ap (λ b. cond b more []) (sym (le-ltb q (k + 1) high))
+      where
+        beyond : (q k : ℕ) → q ≢ k → k ≤ q → k + 1 ≤ q
+        beyond q k n h = omega (arith, n)
+
+-- a queue that gets its piece
+pub piece_put : (xs : Queues) (p : Piece) (old v : List Slot) → p.to < length xs → old ≡ get_or xs p.to old
+    → v ≡ filled p old → (q : ℕ) → queue_at (set xs p.to v) q ≡ all_put q (p ∷ []) (queue_at xs q)
+piece_put xs p old v low here put q = at (ℕ_discrete q p.to)
+  where
+    at : Dec (q ≡ p.to) → queue_at (set xs p.to v) q ≡ cond (nat_eq p.to q) (filled p (queue_at xs q)) (queue_at xs q)
+    at (yes e) =
+        ap (queue_at (set xs p.to v)) e ∙ queue_set xs p.to v low ∙ put
+        ∙ ap (filled p) (sym (queue_here xs p.to old low here) ∙ ap (queue_at xs) (sym e))
+        ∙ ap (λ b. cond b (filled p (queue_at xs q)) (queue_at xs q)) (sym (eq-eqb p.to q (sym e)))
+    at (no n) =
+        queue_else xs p.to q v n
+        ∙ ap (λ b. cond b (filled p (queue_at xs q)) (queue_at xs q)) (sym (ne_eqb p.to q (λ e. n (sym e))))
+
+-- a piece for a worker without a queue changes nothing
+pub none_put : (xs : Queues) (p : Piece) → length xs ≤ p.to → (q : ℕ)
+    → queue_at xs q ≡ all_put q (p ∷ []) (queue_at xs q)
+none_put xs p high q = at (ℕ_discrete q p.to)
+  where
+    at : Dec (q ≡ p.to) → queue_at xs q ≡ cond (nat_eq p.to q) (filled p (queue_at xs q)) (queue_at xs q)
+    at (yes e) =
+        let none : queue_at xs q ≡ [] = ap (queue_at xs) e ∙ queue_beyond xs p.to high in
+        none ∙ ap (filled p) (sym none) ∙ ap (λ b. cond b (filled p (queue_at xs q)) (queue_at xs q))
+        (sym (eq-eqb p.to q (sym e)))
+    at (no n) = ap (λ b. cond b (filled p (queue_at xs q)) (queue_at xs q)) (sym (ne_eqb p.to q (λ e. n (sym e))))
+
+-- ---- items in front
 
 pub sure_all : (xs : List Item) → sure_items (map (λ i. Sure i) xs) ≡ xs
 sure_all [] = refl
 sure_all (x ∷ xs) = ap (λ y. x ∷ y) (sure_all xs)
+
+-- one item more was taken out
+pub front_more : (front : List Slot) (x : Slot) (items : List Item) (i : Item)
+    → chances front ≡ map (λ i. Sure i) items → chance_of x ≡ Sure i
+    → chances (front ++ x ∷ []) ≡ map (λ i. Sure i) (items ++ i ∷ [])
+front_more front x items i e h =
+    map-append chance_of front (x ∷ []) ∙ ap (λ cs. cs ++ chance_of x ∷ []) e
+    ∙ ap (λ c. map (λ i. Sure i) items ++ c ∷ []) h ∙ sym (map-append (λ i. Sure i) items (i ∷ []))
+
+-- as many slots as items
+pub front_length : (front : List Slot) (items : List Item) → chances front ≡ map (λ i. Sure i) items
+    → length front ≡ length items
+front_length front items e =
+    sym (length-map front chance_of) ∙ ap length e ∙ length-map items (λ i. Sure i)
+
+dropped : {A : Type 0} (a b : List A) → drop (length a) (a ++ b) ≡ b
+dropped [] b = refl
+dropped (x ∷ a) b = dropped a b
+
+-- what counts behind the front
+pub front_weights : (front rest : List Slot)
+    → map weight_of rest ≡ drop (length front) (map weight_of (front ++ rest))
+front_weights front rest =
+    sym (dropped (map weight_of front) (map weight_of rest))
+    ∙ ap (λ n. drop n (map weight_of front ++ map weight_of rest)) (length-map front weight_of)
+    ∙ ap (drop (length front)) (sym (map-append weight_of front rest))

@@ -1,41 +1,35 @@
 -- A router tells where a world has ended.
 use Rattle.std.proofs.Common.{◌≡◌, ℕ, zero, suc, true, false, ◌&&◌, nat_eq, Option, Some, None, List, [], ◌∷◌}
-use Rattle.std.proofs.Common.{length, map, get_or, sym, refl, ap, ◌∙◌, arith, eqb-true}
+use Rattle.std.proofs.Common.{length, get_or, sym, refl, ap, ◌∙◌, arith, eqb-true}
 use Rattle.std.specs.List.{list_all}
 use Rattle.std.specs.Option.{is_some}
 use Rattle.verdict_merge.specs.Emitted.{after_emit, merged}
 use Rattle.verdict_merge.specs.Gathers.{complete_ts}
 use Rattle.rescale_core.proofs.Fitting.{and_left, and_right}
 use Rattle.rescale_core.proofs.GatherLemmas.{gather_emitted, none_emitted}
-use Rattle.rescale_core.specs.Chances.Chance.{Sure}
-use Rattle.rescale_core.specs.Queues.{is_clear, queue_at, waiting}
+use Rattle.rescale_core.specs.Queues.{chances, is_clear, queue_at}
 use Rattle.rescale_core.specs.Routing.{HasEnded, IsRouterOf}
 use Rattle.rescale_core.specs.Worlds.{World, IsGathered}
-use Rattle.rescale_core.specs.declared.item.Item.{Item}
-use Rattle.rescale_core.specs.declared.queue.Queue.{Queue}
+use Rattle.rescale_core.specs.declared.slot.Slot.{Slot}
 use Rattle.rescale_core.specs.declared.routes.Router.{Router}
 
-none_inside : (xs : List Item) → length xs ≡ 0 → xs ≡ []
+none_inside : (xs : List Slot) → length xs ≡ 0 → xs ≡ []
 none_inside [] e = refl
 none_inside (x ∷ xs) e = absurd (omega arith)
 
-clear_waits : (x : Queue) → is_clear x ≡ true → waiting x ≡ []
-clear_waits x e =
-    ap (map (λ i. Sure i)) (none_inside x.items.items (eqb-true (length x.items.items) 0 e))
-
-all_clear : (xs : List Queue) → list_all is_clear xs ≡ true → (k : ℕ) → queue_at xs k ≡ []
+all_clear : (xs : List (List Slot)) → list_all is_clear xs ≡ true → (k : ℕ) → queue_at xs k ≡ []
 all_clear [] h k = refl
-all_clear (x ∷ xs) h zero = clear_waits x (and_left (is_clear x) (list_all is_clear xs) h)
+all_clear (x ∷ xs) h zero = none_inside x (eqb-true (length x) 0 (and_left (is_clear x) (list_all is_clear xs) h))
 all_clear (x ∷ xs) h (suc k) = all_clear xs (and_right (is_clear x) (list_all is_clear xs) h) k
 
-clear_all : (xs : List Queue) → ((k : ℕ) → queue_at xs k ≡ []) → list_all is_clear xs ≡ true
+clear_all : (xs : List (List Slot)) → ((k : ℕ) → chances (queue_at xs k) ≡ []) → list_all is_clear xs ≡ true
 clear_all [] h = refl
 clear_all (x ∷ xs) h =
-    ap (λ b. b && list_all is_clear xs) (at x.items.items (h 0)) ∙ clear_all xs (λ k. h (suc k))
+    ap (λ b. b && list_all is_clear xs) (at x (h 0)) ∙ clear_all xs (λ k. h (suc k))
   where
-    at : (is : List Item) → map (λ i. Sure i) is ≡ [] → nat_eq (length is) 0 ≡ true
+    at : (slots : List Slot) → chances slots ≡ [] → nat_eq (length slots) 0 ≡ true
     at [] e = refl
-    at (i ∷ is) e = cc
+    at (s ∷ slots) e = cc
 
 all_zero : (xs : List ℕ) → list_all (nat_eq 0) xs ≡ true → (k : ℕ) → get_or xs k 0 ≡ 0
 all_zero [] h k = refl
@@ -51,7 +45,7 @@ pub router_ended : (r : Router) (w : World) → IsRouterOf r w → list_all is_c
     → list_all (nat_eq 0) r.outstanding.items ≡ true → is_some (complete_ts r.gather) ≡ false → HasEnded w
 router_ended r w is clear zeros unready =
     record {
-      none_wait = λ k. sym (is.queues k) ∙ all_clear r.queues.items clear k;
+      none_wait = λ k. sym (is.queues k) ∙ ap chances (all_clear r.queues.items clear k);
       all_back = λ k.
           let z = all_zero r.outstanding.items zeros k in
           let o = is.outstanding k in

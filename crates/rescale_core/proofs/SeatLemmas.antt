@@ -44,6 +44,7 @@ first_sound c s f = record {
     back = refl;
     more = ([], refl);
     rows = refl;
+    pieces = refl;
   };
   known = tt;
   distinct = λ g k. tt;
@@ -90,6 +91,26 @@ other_rows k q (r ∷ rs) other a =
     let f : true ≡ false = sym t ∙ other in cc)))
     ∙ other_rows k q rs other a.1
 
+abbrev pub by_from : ℕ → List Piece → List Piece
+by_from k ps = filter (λ (p : Piece). nat_eq p.from k) ps
+
+-- pieces of worker k alone are all its own
+pub own_pieces : (k : ℕ) (ps : List Piece) → AllByRecursion (λ (p : Piece). p.from ≡ k) ps → by_from k ps ≡ ps
+own_pieces k [] a = refl
+own_pieces k (p ∷ ps) a =
+    ap (λ b. cond b (p ∷ by_from k ps) (by_from k ps)) (eq-eqb p.from k a.0)
+    ∙ ap (λ x. p ∷ x) (own_pieces k ps a.1)
+
+-- and none another worker's
+pub other_pieces : (k q : ℕ) (ps : List Piece) → nat_eq q k ≡ false → AllByRecursion (λ (p : Piece). p.from ≡ k) ps
+    → by_from q ps ≡ []
+other_pieces k q [] other a = refl
+other_pieces k q (p ∷ ps) other a =
+    ap (λ b. cond b (p ∷ by_from q ps) (by_from q ps))
+    (ne_eqb p.from q (λ e. (let t : nat_eq q k ≡ true = eq-eqb q k (sym e ∙ a.0) in
+    let f : true ≡ false = sym t ∙ other in cc)))
+    ∙ other_pieces k q ps other a.1
+
 -- ---- reading
 
 module _ (w : World) (e : Entry) (r : IsSound w) (may : MayRead w.core (spot_in w) e) where
@@ -114,6 +135,7 @@ module _ (w : World) (e : Entry) (r : IsSound w) (may : MayRead w.core (spot_in 
         (sym (same_front k (w.seats k).collected (omega arith))) s.back;
     more = s.more;
     rows = s.rows;
+    pieces = s.pieces;
   }
 
   pub read_sound : IsSound (after w (Read e))
@@ -193,6 +215,7 @@ module _ (w : World) (k : ℕ) (i : Item) (r : IsSound w) (rest : List Chance)
         back = s.back;
         more = s.more;
         rows = s.rows;
+        pieces = s.pieces;
       }
 
   other_fed : (q : ℕ) → IsSeated (after w (Feed k i)) q (w.seats q)
@@ -205,6 +228,7 @@ module _ (w : World) (k : ℕ) (i : Item) (r : IsSound w) (rest : List Chance)
         back = s.back;
         more = s.more;
         rows = s.rows;
+        pieces = s.pieces;
       }
 
   pub feed_sound : IsSound (after w (Feed k i))
@@ -250,6 +274,7 @@ module _ (w : World) (k : ℕ) (gave : List Out) (r : IsSound w) (room : (w.seat
     back = s.back;
     more = (s.more.0 ++ gave, ap (λ x. x ++ gave) s.more.1 ∙ append_assoc (w.seats k).back s.more.0 gave);
     rows = s.rows;
+    pieces = s.pieces;
   }
 
   other_took : (q : ℕ) → IsSeated (after w (Take k gave)) q (w.seats q)
@@ -262,6 +287,7 @@ module _ (w : World) (k : ℕ) (gave : List Out) (r : IsSound w) (room : (w.seat
         back = s.back;
         more = s.more;
         rows = s.rows;
+        pieces = s.pieces;
       }
 
   pub take_sound : IsSound (after w (Take k gave))

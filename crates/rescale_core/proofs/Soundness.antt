@@ -35,6 +35,7 @@ emit_sound w v r =
             back = s.back;
             more = s.more;
             rows = s.rows;
+            pieces = s.pieces;
           });
       known = r.known;
       distinct = r.distinct;

@@ -12,9 +12,10 @@ use Rattle.rescale_core.proofs.WorldLemmas.{supplies_length}
 use Rattle.rescale_core.specs.Lines.{Spot, Due, first_spot, line, spot_after}
 use Rattle.rescale_core.specs.Moving.{CellLine, Kind, Moves, Reaches, lines_of}
 use Rattle.rescale_core.specs.Moving.Kind.{Takes}
-use Rattle.rescale_core.specs.Routing.{ArePoints, IsRouterOf}
+use Rattle.rescale_core.specs.Routing.{IsRouterOf}
 use Rattle.rescale_core.specs.Soundly.{IsSound}
 use Rattle.rescale_core.specs.Stages.{Answers}
+use Rattle.rescale_core.specs.Waiting.{weight}
 use Rattle.rescale_core.specs.Worlds.{World, Allowed, Seat, after, chance, line_in, spot_in, took_one}
 use Rattle.rescale_core.specs.Worlds.Move.{Take}
 use Rattle.rescale_core.specs.declared.item.Entry.{Entry}
@@ -184,7 +185,6 @@ unfolding spot_of
 took_router r w x k n outs t is =
     let spot : spot_in x ≡ spot_in w = ap (λ s. spot_of s x.read) t.first ∙ ap (spot_of w.first) t.read in
     record {
-      unchanged = subst ArePoints (sym t.read) is.unchanged;
       core = is.core ∙ sym t.core;
       generation = is.generation ∙ ap (λ (a : Spot). a.generation) (sym spot);
       strategy = is.strategy ∙ ap (λ (a : Spot). a.strategy) (sym spot);
@@ -198,6 +198,10 @@ took_router r w x k n outs t is =
           t.first
           ∙ ap (λ es. map (chance w.core q w.pieces) (drop (length (w.seats q).fed) (line q (first_spot w.first) es)))
           t.read);
+      weights = λ q. is.weights q
+          ∙ sym (ap (λ (is : List Item). map weight (drop (length is) (line_in x q))) (t.fed q)
+          ∙ ap (λ s. map weight (drop (length (w.seats q).fed) (line q (first_spot s) x.read))) t.first
+          ∙ ap (λ es. map weight (drop (length (w.seats q).fed) (line q (first_spot w.first) es))) t.read);
       counted = is.counted;
       outstanding = λ q. ap (λ n. n + get_or r.outstanding.items q 0) (t.collected q) ∙ is.outstanding q
           ∙ sym (ap (λ (items : List Item). length items) (t.fed q));

@@ -213,7 +213,7 @@ module _ (d : Driver) (router : Router) (k : ℕ) (items : List Item) (turn : Ha
         subst (λ (s : SeedOf). May s (turn.0.handed ++ items)) seed
             (subst (λ (is : List Item). May (seed_in x k) is)
             (h.fed ∙ ap (λ z. z ++ items) (sym il.handed))
-            (may_fed x k m.1.sound m.1.unchanged)),
+            (may_fed x k m.1.sound)),
       )
 
   module _ (e : Driver) (is_router : e.router ≡ router) (l : CellLine) (outs : List Out)

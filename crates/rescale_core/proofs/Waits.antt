@@ -1,73 +1,49 @@
 -- How much waits for a worker, in its queue and in worlds.
 use Rattle.std.proofs.Common.{◌≡◌, ℕ, zero, suc, ◌+◌, ◌<◌, ◌≤◌, Bool, true, false, cond, ◌&&◌, nat_eq, nat_lt, List, []}
-use Rattle.std.proofs.Common.{◌∷◌, ◌++◌, length, map, drop, sym, refl, ap, ◌∙◌, subst, append-nil, arith, eq-eqb}
-use Rattle.std.proofs.Common.{eqb-true, length-append, lt-ltb, ltb-true, sum_by}
-use Rattle.std.proofs.lemmas.List.{drop-append-le, length-map}
-use Rattle.std.proofs.lemmas.List.Sums.{sum_by-append, sum_by-cons}
+use Rattle.std.proofs.Common.{◌∷◌, ◌++◌, length, map, drop, sym, refl, ap, ◌∙◌, subst, append-nil, arith}
+use Rattle.std.proofs.Common.{eqb-true, length-append, lt-ltb, ltb-true, sum, sum_by}
+use Rattle.std.proofs.lemmas.List.{drop-append-le}
+use Rattle.std.proofs.lemmas.List.Sums.{sum-map, sum_by-append, sum_by-cons}
 use Rattle.std.specs.List.{list_all, range_with_len}
 use Rattle.mfotl_model.specs.Strategies.{workers_of}
-use Rattle.rescale_core.proofs.CellLemmas.{OnlySlices, line_only}
-use Rattle.rescale_core.proofs.Ending.{drop_only}
 use Rattle.rescale_core.proofs.Fitting.{and_left, and_right}
 use Rattle.rescale_core.proofs.WorldLemmas.{if_either, line_more, supplies_length}
-use Rattle.rescale_core.specs.Chances.Chance.{Sure}
 use Rattle.rescale_core.specs.Lines.{Due, Spot, Turn, first_spot, if_below, line, place, turn_at}
 use Rattle.rescale_core.specs.Lines.Due.{Slicing, Parting, Hole}
-use Rattle.rescale_core.specs.Queues.{length_of, queue_at, waiting}
+use Rattle.rescale_core.specs.Queues.{queue_at}
+use Rattle.rescale_core.specs.Slots.{weight_of}
 use Rattle.rescale_core.specs.Routing.{IsRouterOf}
 use Rattle.rescale_core.specs.Soundly.{IsSound}
 use Rattle.rescale_core.specs.Waiting.{HasRoom, added, full, is_short, waiting_in, weight}
-use Rattle.rescale_core.specs.Worlds.{World, Allowed, Move, Seat, after, all_collected, chance, fed_more, line_in}
-use Rattle.rescale_core.specs.Worlds.{queue_in, spot_in, took_one}
+use Rattle.rescale_core.specs.Worlds.{World, Allowed, Move, Seat, after, all_collected, fed_more, line_in}
+use Rattle.rescale_core.specs.Worlds.{spot_in, took_one}
 use Rattle.rescale_core.specs.Worlds.Move.{Read, Feed, Take, Collect, Emit}
 use Rattle.rescale_core.specs.declared.item.Entry.{Entry}
 use Rattle.rescale_core.specs.declared.item.Entry.TheVariants.{Point, Change}
 use Rattle.rescale_core.specs.declared.item.Item.{Item}
-use Rattle.rescale_core.specs.declared.queue.Queue.{Queue}
+use Rattle.rescale_core.specs.declared.slot.Slot.{Slot}
 use Rattle.rescale_core.specs.declared.routes.Router.{Router}
 
 -- ---- queues
 
-one_more : (n : ℕ) → 1 + n ≡ suc n
-one_more n = omega arith
-
-slices_weigh : (ds : List Due) → OnlySlices ds → sum_by weight ds ≡ length ds
-slices_weigh [] o = refl
-slices_weigh (Slicing g s log p ∷ ds) o =
-    sum_by-cons weight (Slicing g s log p) ds ∙ ap (λ n. 1 + n) (slices_weigh ds o) ∙ one_more (length ds)
-slices_weigh (Parting t ∷ ds) o = absurd o
-slices_weigh (Hole t j ∷ ds) o = absurd o
-
 -- what stands in worker k's queue is what waits for it
 pub queue_waits : (r : Router) (w : World) → IsRouterOf r w → (k : ℕ)
-    → length (queue_at r.queues.items k) ≡ waiting_in w k
+    → sum_by weight_of (queue_at r.queues.items k) ≡ waiting_in w k
 queue_waits r w is k =
-    let n : ℕ = length (w.seats k).fed in
-    ap length (is.queues k) ∙ length-map (drop n (line_in w k)) (chance w.core k w.pieces)
-    ∙ sym (slices_weigh (drop n (line_in w k))
-    (drop_only n (line_in w k) (line_only k w.read (first_spot w.first) is.unchanged)))
+    sym (sum-map weight_of (queue_at r.queues.items k)) ∙ ap sum (is.weights k)
+    ∙ sum-map weight (drop (length (w.seats k).fed) (line_in w k))
 
-pub waiting_long : (queue : Queue) → length_of queue ≡ length (waiting queue)
-waiting_long queue = sym (length-map queue.items.items (λ i. Sure i))
-
-short_waits : (queue : Queue) → is_short queue ≡ true → length (waiting queue) < full
-short_waits queue h =
-    let e = waiting_long queue in
-    let l = ltb-true (length_of queue) full h in
-    omega arith
-
-waits_short : (queue : Queue) → length (waiting queue) < full → is_short queue ≡ true
-waits_short queue h = lt-ltb (length_of queue) full (let e = waiting_long queue in omega arith)
-
-pub all_wait : (xs : List Queue) → list_all is_short xs ≡ true → (k : ℕ) → length (queue_at xs k) < full
+pub all_wait : (xs : List (List Slot)) → list_all is_short xs ≡ true → (k : ℕ)
+    → sum_by weight_of (queue_at xs k) < full
 all_wait [] h k = omega arith
-all_wait (x ∷ xs) h zero = short_waits x (and_left (is_short x) (list_all is_short xs) h)
+all_wait (x ∷ xs) h zero = ltb-true (sum_by weight_of x) full (and_left (is_short x) (list_all is_short xs) h)
 all_wait (x ∷ xs) h (suc k) = all_wait xs (and_right (is_short x) (list_all is_short xs) h) k
 
-pub wait_all : (xs : List Queue) → ((k : ℕ) → length (queue_at xs k) < full) → list_all is_short xs ≡ true
+pub wait_all : (xs : List (List Slot)) → ((k : ℕ) → sum_by weight_of (queue_at xs k) < full)
+    → list_all is_short xs ≡ true
 wait_all [] h = refl
 wait_all (x ∷ xs) h =
-    ap (λ b. b && list_all is_short xs) (waits_short x (h 0)) ∙ wait_all xs (λ k. h (suc k))
+    ap (λ b. b && list_all is_short xs) (lt-ltb (sum_by weight_of x) full (h 0)) ∙ wait_all xs (λ k. h (suc k))
 
 pub router_room : (r : Router) (w : World) → IsRouterOf r w → list_all is_short r.queues.items ≡ true → HasRoom w
 router_room r w is h k =

@@ -34,11 +34,10 @@ use Rattle.rescale_core.specs.Settlings.{HasWidth, IsKept, IsTabled, all_settled
 use Rattle.rescale_core.specs.Stages.{Stage, Follows, Gives, Meets, rows_for, stage_after}
 use Rattle.rescale_core.specs.Stages.Stage.{Live, Gone}
 use Rattle.rescale_core.specs.Workers.{IsFor, MayFollow, settled_in, slice_for}
-use Rattle.rescale_core.specs.Working.{CanTake, IsAt, IsSlice, Steps, first_stage}
+use Rattle.rescale_core.specs.Working.{CanTake, IsAt, Steps, first_stage}
 use Rattle.rescale_core.specs.declared.phase.Phase.{Phase}
 use Rattle.rescale_core.specs.declared.phase.Phase.TheVariants.{Active}
 use Rattle.rescale_core.specs.declared.phase.Worker.{Worker}
-use Rattle.rescale_core.specs.declared.item.Item.{Item}
 use Rattle.rescale_core.specs.declared.item.Item.TheVariants.{Slice}
 use Rattle.rescale_core.specs.declared.item.Out.{Out}
 use Rattle.rescale_core.specs.declared.settled.Settled.{Settled}
@@ -121,7 +120,7 @@ wide c s view st i (table ∷ tables) e exact = (
 -- ---- one step
 
 -- what a live stage means where a slice is due
-live_at : (c : CoreForm) (k : ℕ) (st : Stage) (s s' : Strategy) (log : List TimePoint) (m : Monitor) (phase : Phase)
+pub live_at : (c : CoreForm) (k : ℕ) (st : Stage) (s s' : Strategy) (log : List TimePoint) (m : Monitor) (phase : Phase)
     → st ≡ Live s' log → IsAt c k st phase → phase ≡ Active m s → (s' ≡ s) × IsMonitor c s k log m
 live_at c k st s s' log m phase e at is =
     let h : IsAt c k (Live s' log) phase = subst (λ (x : Stage). IsAt c k x phase) e at in
@@ -263,11 +262,6 @@ slice_kept w m m2 s g n p tables active mcore first steps can =
       kept c w.number m s g n p can.0 can.1 due m2 tables mcore first steps,
       widths c w.number m s g n p can.0 can.1 due m2 tables mcore first steps,
     )
-
--- the last of slices is one
-pub last_slice : (t : List Item) (i : Item) → AllByRecursion IsSlice (t ++ i ∷ []) → IsSlice i
-last_slice [] i h = h.0
-last_slice (j ∷ t) i h = last_slice t i h.1
 
 -- a monitor that begins is that of each worker
 pub first_live : (c : CoreForm) (s t : Strategy) (k : ℕ) (m : Monitor) → (monitor_of m).core ≡ c

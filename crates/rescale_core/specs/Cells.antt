@@ -1,9 +1,10 @@
 -- What a machine's cells stand for, and its steps.
 use Rattle.std.specs.Prelude.{◌≡◌, ℕ, ◌+◌, ◌<◌, ◌≤◌, List, [], ◌∷◌, ◌++◌, length, Some}
+use Rattle.std.specs.List.{AllByRecursion}
 use Rattle.mfotl_model.specs.Strategies.{workers_of}
 use Rattle.rescale_core.specs.Laws.{EmitsVerdicts}
 use Rattle.rescale_core.specs.Lines.{AreSound}
-use Rattle.rescale_core.specs.Routing.{ArePoints, IsRouterOf}
+use Rattle.rescale_core.specs.Routing.{IsRouterOf}
 use Rattle.rescale_core.specs.Seeds.{SeedOf}
 use Rattle.rescale_core.specs.Soundly.{IsSound}
 use Rattle.rescale_core.specs.Working.{StandsFor}
@@ -15,6 +16,7 @@ use Rattle.rescale_core.specs.declared.cells.Cell.{Cell}
 use Rattle.rescale_core.specs.declared.cells.Step.{Step}
 use Rattle.rescale_core.specs.declared.cells.Step.TheVariants as step
 use Rattle.rescale_core.specs.declared.item.Entry.{Entry}
+use Rattle.rescale_core.specs.declared.item.Entry.TheVariants.{Point, Change}
 use Rattle.rescale_core.specs.declared.item.Item.{Item}
 use Rattle.rescale_core.specs.declared.item.Out.{Out}
 use Rattle.verdict_merge.specs.declared.rows.Verdict.{Verdict}
@@ -34,24 +36,33 @@ pub record IsCellAt (seed : SeedOf) (seat : Seat) (cell : Cell) : Type 0 where
 abbrev pub IsCellOf : World → ℕ → Cell → Type 0
 IsCellOf w k cell = IsCellAt (record { core = w.core; first = w.first; k = k }) (w.seats k) cell
 
--- the cell is that of a worker in a world in which no strategy changes
+-- the cell is that of a worker in a world
 abbrev pub MayTake : Cell → Type 0
-MayTake cell = (w : World) × (k : ℕ) × IsSound w × ArePoints w.read × IsCellOf w k cell
+MayTake cell = (w : World) × (k : ℕ) × IsSound w × IsCellOf w k cell
 
 -- the cell's worker takes an item, or there is none
 abbrev pub Takes : Cell → Applied → Cell → Type 0
 Takes old Did new =
-    (w : World) (k : ℕ) → IsSound w → ArePoints w.read → IsCellOf w k old
+    (w : World) (k : ℕ) → IsSound w → IsCellOf w k old
     → (gave : List Out) × Allowed w (Take k gave) × IsCellOf (after w (Take k gave)) k new
 Takes old NotEnabled new =
     (old.items.items ≡ []) × ((w : World) (k : ℕ) → IsCellOf w k old → IsCellOf w k new)
 
+-- how many workers the strategy has that an entry changes to
+abbrev pub workers_for : Entry → ℕ
+workers_for (Point p) = 0
+workers_for (Change s) = workers_of s
+
+-- no entry changes to a strategy of more workers
+abbrev pub AreWithin : ℕ → List Entry → Type 0
+AreWithin n entries = AllByRecursion (λ e. workers_for e ≤ n) entries
+
 -- The machine stands for a world: what it read and what is left are the entries, which may be read, and its router,
--- cells and verdicts are the world's.
+-- cells and verdicts are the world's. It has a cell for each worker of every strategy.
 pub record IsMachineOf (m : Machine) (entries : List Entry) (w : World) : Type 0 where
   pub entries_are : w.read ++ m.left.items ≡ entries
   pub left : AreSound w.core (spot_in w) m.left.items
-  pub unchanged : ArePoints m.left.items
+  pub within : AreWithin (length m.cells.items) entries
   pub router : IsRouterOf m.router w
   pub wide : workers_of w.first ≤ length m.cells.items
   pub cells : (k : ℕ) (cell : Cell) → nth m.cells.items k ≡ Some cell → IsCellOf w k cell

@@ -1,5 +1,5 @@
 -- What may be handed over, or is still missing.
-use Rattle.std.specs.Prelude.{◌≡◌, ℕ, Option, Some, None, List, [], ◌∷◌}
+use Rattle.std.specs.Prelude.{ℕ, List, [], ◌∷◌}
 use Rattle.mfotl_model.specs.Strategies.{Strategy}
 use Rattle.rescale_core.specs.declared.item.Item.{Item}
 
@@ -14,12 +14,3 @@ abbrev pub sure_items : List Chance → List Item
 sure_items [] = []
 sure_items (Sure i ∷ cs) = i ∷ sure_items cs
 sure_items (Open g now ∷ cs) = []
-
--- the first item, if it isn't missing, and the rest
-abbrev pub Pops : List Chance → Option Item → List Chance → Type 0
-Pops [] (Some i) rest = ⊥
-Pops [] None rest = rest ≡ []
-Pops (Sure j ∷ cs) (Some i) rest = (i ≡ j) × (rest ≡ cs)
-Pops (Sure j ∷ cs) None rest = ⊥
-Pops (Open g now ∷ cs) (Some i) rest = ⊥
-Pops (Open g now ∷ cs) None rest = rest ≡ Open g now ∷ cs

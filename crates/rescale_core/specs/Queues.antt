@@ -1,23 +1,28 @@
--- A queue as contracts see it.
-use Rattle.std.specs.Prelude.{ℕ, zero, suc, Bool, nat_eq, List, [], ◌∷◌, length, map}
+-- Queues as contracts see them.
+use Rattle.std.specs.Prelude.{ℕ, Bool, cond, nat_eq, List, [], ◌∷◌, get_or, length, map}
 use Rattle.rescale_core.specs.Chances.{Chance}
-use Rattle.rescale_core.specs.Chances.Chance.{Sure}
-use Rattle.rescale_core.specs.declared.queue.Queue.{Queue}
+use Rattle.rescale_core.specs.Slots.{chance_of, lacks, put_in}
+use Rattle.rescale_core.specs.declared.piece.Piece.{Piece}
+use Rattle.rescale_core.specs.declared.slot.Slot.{Slot}
 
--- what stands in a queue
-abbrev pub waiting : Queue → List Chance
-waiting queue = map (λ i. Sure i) queue.items.items
+-- what may be handed over from a queue, or is missing there
+abbrev pub chances : List Slot → List Chance
+chances slots = map chance_of slots
 
--- how many stand in a queue
-abbrev pub length_of : Queue → ℕ
-length_of queue = length queue.items.items
+-- the queue with the piece where the first of its generation was missing
+abbrev pub filled : Piece → List Slot → List Slot
+filled p [] = []
+filled p (x ∷ xs) = cond (lacks p.generation x) (put_in p x ∷ xs) (x ∷ filled p xs)
+
+-- worker k's queue with those of the pieces that are for it, one by one
+abbrev pub all_put : ℕ → List Piece → List Slot → List Slot
+all_put k [] slots = slots
+all_put k (p ∷ ps) slots = all_put k ps (cond (nat_eq p.to k) (filled p slots) slots)
 
 -- whether nothing stands in a queue
-abbrev pub is_clear : Queue → Bool
-is_clear queue = nat_eq (length queue.items.items) 0
+abbrev pub is_clear : List Slot → Bool
+is_clear slots = nat_eq (length slots) 0
 
--- what stands in worker k's queue; a worker without a queue yet has an empty one
-abbrev pub queue_at : List Queue → ℕ → List Chance
-queue_at [] k = []
-queue_at (queue ∷ queues) zero = waiting queue
-queue_at (queue ∷ queues) (suc k) = queue_at queues k
+-- worker k's queue; a worker without one yet has an empty one
+abbrev pub queue_at : List (List Slot) → ℕ → List Slot
+queue_at queues k = get_or queues k []

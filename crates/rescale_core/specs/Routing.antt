@@ -1,43 +1,56 @@
 -- What a router's queues stand for.
-use Rattle.std.specs.Prelude.{◌≡◌, ◌⊎◌, ℕ, ◌+◌, ◌<◌, ◌≤◌, cond, nat_eq, nat_le, Some, filter}
+use Rattle.std.specs.Prelude.{◌≡◌, ◌⊎◌, ℕ, ◌+◌, ◌<◌, ◌≤◌, cond, nat_eq, nat_le, nat_lt, Some, filter}
 use Rattle.std.specs.Prelude.{List, [], ◌∷◌, ◌++◌, false, get_or, length, map}
-use Rattle.std.specs.List.{list_any, range_with_len}
+use Rattle.std.specs.List.{AllByRecursion, list_any, range_with_len}
 use Rattle.mfotl_model.specs.Strategies.{Strategy, workers_of}
 use Rattle.mfotl_model.specs.declared.event.TimePoint.{TimePoint}
 use Rattle.monitorable.specs.CoreForms.{CoreForm}
 use Rattle.monitorable.specs.Cores.{core_form}
 use Rattle.verdict_merge.specs.Gathers.{GatherOf, is_from, workers_in}
+use Rattle.verdict_merge.specs.declared.rows.Begun.{Begun}
 use Rattle.verdict_merge.specs.declared.rows.Rows.{Rows}
 use Rattle.verdict_merge.specs.declared.rows.Verdict.{Verdict}
 use Rattle.rescale_core.specs.Workers.{slice_for}
 use Rattle.rescale_core.specs.Lines.{spot_after, first_spot}
 use Rattle.rescale_core.specs.Lines.Due.{Slicing}
-use Rattle.rescale_core.specs.Chances.{Chance, sure_items}
+use Rattle.rescale_core.specs.Chances.{sure_items}
 use Rattle.rescale_core.specs.Chances.Chance.{Sure}
-use Rattle.rescale_core.specs.Queues.{queue_at}
+use Rattle.rescale_core.specs.Queues.{chances, queue_at}
+use Rattle.rescale_core.specs.Slots.{rooms, weight_of}
+use Rattle.rescale_core.specs.Waiting.{weights_in}
 use Rattle.rescale_core.specs.Worlds.{World, Move, spot_in, queue_in, slice_at, GatheredIn, IsGathered}
 use Rattle.rescale_core.specs.Worlds.Move.{Feed}
 use Rattle.rescale_core.specs.Soundly.{IsSound}
 use Rattle.rescale_core.specs.declared.item.Item.{Item}
 use Rattle.rescale_core.specs.declared.item.Entry.{Entry}
-use Rattle.rescale_core.specs.declared.item.Entry.TheVariants.{Point, Change}
-use Rattle.rescale_core.specs.declared.item.Item.TheVariants.{Slice}
+use Rattle.rescale_core.specs.declared.item.Item.TheVariants.{Slice, Part}
 use Rattle.rescale_core.specs.declared.item.Out.{Out}
 use Rattle.rescale_core.specs.declared.routes.Router.{Router}
+use Rattle.rescale_core.specs.declared.slot.Slot.{Slot}
+use Rattle.rescale_core.specs.declared.slot.Slot.TheVariants.{Ready}
 
 -- the slices, one for each worker from k on, as worker q gets them
-abbrev pub slices_for : ℕ → ℕ → ℕ → List TimePoint → ℕ → List Chance
+abbrev pub slices_for : ℕ → ℕ → ℕ → List TimePoint → ℕ → List Slot
 slices_for g n k [] q = []
-slices_for g n k (p ∷ ps) q = cond (nat_eq q k) (Sure (Slice g n p) ∷ []) [] ++ slices_for g n (k + 1) ps q
+slices_for g n k (p ∷ ps) q = cond (nat_eq q k) (Ready (Slice g n p) ∷ []) [] ++ slices_for g n (k + 1) ps q
+
+-- the part for worker q, if there are more than q workers
+abbrev pub part_below : ℕ → ℕ → ℕ → Strategy → Strategy → List Slot
+part_below q n generation old new = cond (nat_lt q n) (Ready (Part generation old new) ∷ []) []
+
+-- the place for so many pieces for worker q, if there are more than q workers
+abbrev pub place_below : ℕ → ℕ → ℕ → Strategy → ℕ → List Slot
+place_below q n generation now count = cond (nat_lt q n) (rooms generation now count) []
 
 -- the slices of a time-point for all workers
 abbrev pub all_slices : CoreForm → Strategy → TimePoint → List TimePoint
 all_slices core s p = map (λ k. slice_for core s k p) (range_with_len 0 (workers_of s))
 
 -- the first items were taken out, as many as wanted or all that are there
-abbrev pub TakesFront : List Chance → ℕ → List Item → List Chance → Type 0
+abbrev pub TakesFront : List Slot → ℕ → List Item → List Slot → Type 0
 TakesFront old most items new =
-    (old ≡ map (λ i. Sure i) items ++ new) × ((length items ≡ most) ⊎ (sure_items new ≡ [])) × (length items ≤ most)
+    (front : List Slot) × (old ≡ front ++ new) × (chances front ≡ map (λ i. Sure i) items)
+    × ((length items ≡ most) ⊎ (sure_items (chances new) ≡ [])) × (length items ≤ most)
 
 -- the Rows may be added one after the other: of a worker of their generation, not added before, and of a
 -- time-point without a verdict
@@ -56,18 +69,12 @@ pub record IsGatherIn (g : GatherOf) (core : CoreForm) (first : Strategy) (read 
       → slice_at (first_spot first) read n ≡ Some (Slicing h s log p) → workers_in g.begun h ≡ workers_of s
   pub present : workers_in g.begun (spot_after (first_spot first) read).generation
       ≡ workers_of (spot_after (first_spot first) read).strategy
-  pub later : (h : ℕ) → (spot_after (first_spot first) read).generation < h → workers_in g.begun h ≡ 0
+  pub later : AllByRecursion (λ (b : Begun). b.generation ≤ (spot_after (first_spot first) read).generation) g.begun
   pub gathered : (i : ℕ) → i < length emitted → GatheredIn core first read rows i
 
 -- the same in a world
 abbrev pub IsGatherOf : GatherOf → World → Type 0
 IsGatherOf g w = IsGatherIn g w.core w.first w.read w.rows w.emitted
-
--- no strategy changes
-abbrev pub ArePoints : List Entry → Type 0
-ArePoints [] = Unit {0}
-ArePoints (Point p ∷ es) = ArePoints es
-ArePoints (Change s ∷ es) = ⊥
 
 -- no item waits, all that was handed over was collected, and there is no verdict to emit
 pub record HasEnded (w : World) : Type 0 where
@@ -75,15 +82,15 @@ pub record HasEnded (w : World) : Type 0 where
   pub all_back : (k : ℕ) → (w.seats k).collected ≡ length (w.seats k).fed
   pub none_to_emit : IsGathered w (length w.emitted) → ⊥
 
--- the router's queues, counts and gathered Rows are the world's, in which as yet no strategy changes
+-- the router's queues, counts and gathered Rows are the world's
 pub record IsRouterOf (r : Router) (w : World) : Type 0 where
-  pub unchanged : ArePoints w.read
   pub core : core_form r.core ≡ w.core
   pub generation : r.generation ≡ (spot_in w).generation
   pub strategy : r.strategy ≡ (spot_in w).strategy
   pub points : r.points ≡ length (spot_in w).points
   pub wide : workers_of r.strategy ≤ length r.queues.items
-  pub queues : (k : ℕ) → queue_at r.queues.items k ≡ queue_in w k
+  pub queues : (k : ℕ) → chances (queue_at r.queues.items k) ≡ queue_in w k
+  pub weights : (k : ℕ) → map weight_of (queue_at r.queues.items k) ≡ weights_in w k
   pub counted : length r.outstanding.items ≡ length r.queues.items
   pub outstanding : (k : ℕ) → (w.seats k).collected + get_or r.outstanding.items k 0 ≡ length (w.seats k).fed
   pub sound : IsSound w

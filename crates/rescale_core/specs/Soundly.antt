@@ -12,7 +12,7 @@ use Rattle.rescale_core.specs.Workers.{IsFor, settled_in}
 use Rattle.rescale_core.specs.Lines.{Turn, Spot, Due, turn_at, moved, first_spot, AreSound}
 use Rattle.rescale_core.specs.Lines.Due.{Slicing, Parting, Hole}
 use Rattle.rescale_core.specs.Stages.{IsPieceFor, Answers, row_for}
-use Rattle.rescale_core.specs.Worlds.{for_place, item_of, World, Seat, line_in, rows_in, slice_at}
+use Rattle.rescale_core.specs.Worlds.{for_place, item_of, World, Seat, line_in, pieces_in, rows_in, slice_at}
 use Rattle.rescale_core.specs.declared.piece.Piece.{Piece}
 use Rattle.rescale_core.specs.declared.item.Entry.{Entry}
 use Rattle.rescale_core.specs.declared.item.Entry.TheVariants.{Point, Change}
@@ -73,6 +73,7 @@ pub record IsSeated (w : World) (k : ℕ) (s : Seat) : Type 0 where
   pub back : Answers w.core k (take s.collected (line_in w k)) s.back
   pub more : (more : List Out) × (s.outs ≡ s.back ++ more)
   pub rows : filter (λ (r : Rows). nat_eq r.worker k) w.rows ≡ rows_in s.back
+  pub pieces : filter (λ (p : Piece). nat_eq p.from k) w.pieces ≡ pieces_in s.back
 
 -- What holds of the world: what was read may be, each seat is right, and the pieces and Rows that were collected
 -- are asked for, each once, and no newer than what was collected of their worker.

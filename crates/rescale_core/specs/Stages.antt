@@ -82,6 +82,7 @@ Follows core k st (Parting t) =
 Follows core k st (Hole t j) =
     (j ≡ length (froms_of st)) × (j < workers_of t.old)
     × ((st ≡ Gone) ⊎ (st ≡ Filling t (froms_of st))) × (j ≢ 0 → st ≡ Filling t (froms_of st))
+    × IsFor core t.old × IsFor core t.new
 
 -- what a worker says of a position that the time-point settles: the violations that it owns
 abbrev pub row_for : CoreForm → ℕ → ℕ → Strategy → List TimePoint → TimePoint → ℕ → Rows

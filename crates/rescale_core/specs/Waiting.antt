@@ -1,14 +1,14 @@
 -- How much waits for a worker.
-use Rattle.std.specs.Prelude.{◌≡◌, ℕ, ◌+◌, ◌<◌, ◌≤◌, Bool, cond, nat_eq, nat_lt, length, drop, sum_by}
+use Rattle.std.specs.Prelude.{ℕ, ◌+◌, ◌<◌, ◌≤◌, Bool, cond, nat_eq, nat_lt, List, length, map, drop, sum_by}
 use Rattle.mfotl_model.specs.Strategies.{workers_of}
 use Rattle.rescale_core.specs.Lines.{Due}
 use Rattle.rescale_core.specs.Lines.Due.{Slicing, Parting, Hole}
-use Rattle.rescale_core.specs.Queues.{length_of}
+use Rattle.rescale_core.specs.Slots.{weight_of}
 use Rattle.rescale_core.specs.Soundly.{IsSound}
 use Rattle.rescale_core.specs.Worlds.{World, Move, Allowed, after, line_in}
 use Rattle.rescale_core.specs.Worlds.Move.{Read, Feed, Take, Collect, Emit}
 use Rattle.rescale_core.specs.declared.item.Entry.TheVariants.{Point, Change}
-use Rattle.rescale_core.specs.declared.queue.Queue.{Queue}
+use Rattle.rescale_core.specs.declared.slot.Slot.{Slot}
 
 -- how much it is that waits by a due: a place is one, until its last piece is handed over
 abbrev pub weight : Due → ℕ
@@ -20,6 +20,10 @@ weight (Hole t j) = cond (nat_eq (j + 1) (workers_of t.old)) 1 0
 abbrev pub waiting_in : World → ℕ → ℕ
 waiting_in w k = sum_by weight (drop (length (w.seats k).fed) (line_in w k))
 
+-- how much waits for worker k, due by due
+abbrev pub weights_in : World → ℕ → List ℕ
+weights_in w k = map weight (drop (length (w.seats k).fed) (line_in w k))
+
 -- from so many on no more is read
 abbrev pub full : ℕ
 full = 1024
@@ -29,8 +33,8 @@ abbrev pub HasRoom : World → Type 0
 HasRoom w = (k : ℕ) → waiting_in w k < full
 
 -- whether fewer stand in a queue
-abbrev pub is_short : Queue → Bool
-is_short queue = nat_lt (length_of queue) full
+abbrev pub is_short : List Slot → Bool
+is_short slots = nat_lt (sum_by weight_of slots) full
 
 -- how many more a step may make wait for one worker
 abbrev pub added : Move → ℕ

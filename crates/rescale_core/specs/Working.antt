@@ -1,29 +1,31 @@
 -- What a worker's state stands for.
-use Rattle.std.specs.Prelude.{◌≡◌, ℕ, cond, nat_lt, List, [], ◌∷◌, ◌++◌, length, take}
-use Rattle.std.specs.List.{AllByRecursion}
-use Rattle.mfotl_model.specs.Strategies.{workers_of}
+use Rattle.std.specs.Prelude.{◌≡◌, ◌≢◌, ℕ, ◌+◌, ◌-◌, ◌<◌, cond, nat_lt, List, [], ◌∷◌, ◌++◌, length, take}
+use Rattle.mfotl_model.specs.Strategies.{Strategy, workers_of}
 use Rattle.monitorable.specs.CoreForms.{CoreForm}
 use Rattle.monitorable.specs.Cores.{core_form}
 use Rattle.monitor_state.specs.declared.monitor.Monitor.{Monitor}
 use Rattle.rescale_core.specs.Workers.{IsFor}
 use Rattle.rescale_core.specs.Monitors.{IsMonitor}
+use Rattle.rescale_core.specs.States.{Adopted, Finishes, Merges, MergesNone}
 use Rattle.rescale_core.specs.Lines.{Due, first_spot, line, AreSound}
 use Rattle.rescale_core.specs.Stages.{Stage, Answers, Fits, Follows, Gives, Meets, stage, stage_after}
 use Rattle.rescale_core.specs.Stages.Stage.{Live, Gone, Filling}
 use Rattle.rescale_core.specs.Seeds.{SeedOf}
+use Rattle.rescale_core.specs.declared.merging.Merging.{Merging}
 use Rattle.rescale_core.specs.declared.phase.Phase.{Phase}
-use Rattle.rescale_core.specs.declared.phase.Phase.TheVariants.{Active, Vacant}
+use Rattle.rescale_core.specs.declared.phase.Phase.TheVariants.{Active, Vacant, Waiting}
 use Rattle.rescale_core.specs.declared.phase.Worker.{Worker}
 use Rattle.rescale_core.specs.declared.item.Entry.{Entry}
 use Rattle.rescale_core.specs.declared.item.Item.{Item}
-use Rattle.rescale_core.specs.declared.item.Item.TheVariants.{Slice, Part, Adopt}
 use Rattle.rescale_core.specs.declared.item.Out.{Out}
 
--- the worker is at this stage; none waits for pieces yet
+-- the worker is at this stage: it monitors, is idle, or merges the pieces that came, where some are missing
 abbrev pub IsAt : CoreForm → ℕ → Stage → Phase → Type 0
 IsAt core k (Live s log) phase = (m : Monitor) × (phase ≡ Active m s) × IsMonitor core s k log m
 IsAt core k Gone phase = phase ≡ Vacant
-IsAt core k (Filling t froms) phase = ⊥
+IsAt core k (Filling t froms) phase =
+    (m : Merging) × (missing : ℕ) × (phase ≡ Waiting m t.new missing) × Merges core t.old t.new k t.before froms m
+    × (missing + length froms ≡ workers_of t.old) × (0 < missing) × Adopted t.old froms
 
 -- what the worker began with
 abbrev pub seed_of : Worker → SeedOf
@@ -41,15 +43,9 @@ line_of s es = line s.k (first_spot s.first) es
 abbrev pub Has : SeedOf → List Entry → List Item → Type 0
 Has s es items = AreSound s.core (first_spot s.first) es × Fits s.core s.k (first_stage s) (line_of s es) items
 
--- the item is a slice
-abbrev pub IsSlice : Item → Type 0
-IsSlice (Slice generation number point) = Unit {0}
-IsSlice (Part generation old new) = ⊥
-IsSlice (Adopt piece now) = ⊥
-
--- the items may be handed over: some entries make them due, and as yet they are slices alone
+-- the items may be handed over: some entries make them due
 abbrev pub May : SeedOf → List Item → Type 0
-May s items = ((es : List Entry) × Has s es items) × AllByRecursion IsSlice items
+May s items = (es : List Entry) × Has s es items
 
 -- whatever entries make the items due, the outs answer them
 abbrev pub Told : SeedOf → List Item → List Out → Type 0
@@ -89,6 +85,26 @@ pub record Steps (w : Worker) (item : Item) (x : Worker) (gave : List Out) : Typ
 abbrev pub Gave : Worker → Item → Worker → List Out → List Out → Type 0
 Gave w item x old new = (gave : List Out) × (new ≡ old ++ gave) × Steps w item x gave
 
+-- ---- pieces
+
+-- the worker has no state of its own
+abbrev pub IsOpen : Phase → Type 0
+IsOpen (Active monitor strategy) = ⊥
+IsOpen Vacant = Unit {0}
+IsOpen (Waiting merging now missing) = Unit {0}
+
+-- the merge is the worker's, or a new one, which misses all pieces
+abbrev pub GoesOn : Phase → CoreForm → ℕ → Merging → ℕ → Type 0
+GoesOn (Active monitor strategy) core count merging missing = ⊥
+GoesOn Vacant core count merging missing = MergesNone core count merging × (missing ≡ count)
+GoesOn (Waiting own now left) core count merging missing = (merging ≡ own) × (missing ≡ left)
+
+-- the merge is finished with the last piece
+abbrev pub Settles : Merging → Strategy → ℕ → Phase → Type 0
+Settles merging now missing phase =
+    (missing ≡ 1 → (m : Monitor) × (phase ≡ Active m now) × Finishes merging m)
+    × (missing ≢ 1 → phase ≡ Waiting merging now (missing - 1))
+
 -- ---- laws
 
 -- what stands is told
@@ -97,7 +113,7 @@ tells s t g w h = h.told
 
 -- nothing may be handed over
 pub may_none : (s : SeedOf) → May s []
-may_none s = (([], (tt, tt)), tt)
+may_none s = ([], (tt, tt))
 
 fits_front : (core : CoreForm) (k : ℕ) (a b : List Item) (st : Stage) (ds : List Due) → Fits core k st ds (a ++ b)
     → Fits core k st ds a
@@ -105,14 +121,6 @@ fits_front core k [] b st ds f = tt
 fits_front core k (i ∷ a) b st [] f = f
 fits_front core k (i ∷ a) b st (d ∷ ds) f = (f.0, fits_front core k a b (stage_after st d i) ds f.1)
 
--- a front of slices is slices
-pub slices_front : (a b : List Item) → AllByRecursion IsSlice (a ++ b) → AllByRecursion IsSlice a
-slices_front [] b h = tt
-slices_front (i ∷ a) b h = (h.0, slices_front a b h.1)
-
 -- a front of what may be handed over may be
 pub may_less : (s : SeedOf) (a b : List Item) → May s (a ++ b) → May s a
-may_less s a b m = (
-  (m.0.0, (m.0.1.0, fits_front s.core s.k a b (first_stage s) (line_of s m.0.0) m.0.1.1)),
-  slices_front a b m.1,
-)
+may_less s a b m = (m.0, (m.1.0, fits_front s.core s.k a b (first_stage s) (line_of s m.0) m.1.1))

@@ -6,15 +6,16 @@ ghost use Rattle.turn_hub.specs.Ends.{AllMine, IsMainOf, cell_count, main_view};
 ghost use Rattle.rescale_core.specs.Moving.{HasTurn, IsDriverOf, IsOpened, Moves, Reaches, TakesBack, TurnsTo, NoneReady};
 ghost use Rattle.rescale_core.specs.Moving.Kind.{Feeds, Reads};
 ghost use Rattle.rescale_core.specs.Routing.{HasEnded, IsRouterOf};
-ghost use Rattle.rescale_core.specs.Workers.{MayFollow};
+ghost use Rattle.rescale_core.specs.Workers.{IsFor, MayFollow};
 ghost use Rattle.rescale_core.specs.Worlds.{World, Allowed, IsGathered, after, first_world, spot_in};
 ghost use Rattle.rescale_core.specs.Worlds.Move.{Emit};
-ghost use Rattle.rescale_core.specs.declared.item.Entry.TheVariants.{Point};
+ghost use Rattle.rescale_core.specs.declared.item.Entry.TheVariants.{Change, Point};
 
 use crate::phase::Worker;
 use crate::routes::Router;
 use crate::turns::{Driver, Turn};
 use mfotl_model::TimePoint;
+use slice_strategy::Strategy;
 use std::alloc::{AllocError, Global};
 use turn_hub::{Hub, Main, Swap};
 use verdict_merge::Verdict;
@@ -39,6 +40,18 @@ impl Driver {
         ensures main { IfOk result (λ _. self.new.main ≡ self.old.main) }
     {
         self.router.read_point(alloc, point)?;
+        Ok(())
+    }
+
+    /// Queues a part for each worker of the present strategy, and behind it a place for all their pieces for each
+    /// worker of the next one.
+    pub fn read_change(&mut self, alloc: Global, strategy: Strategy) -> Result<(), AllocError>
+        requires { (w : World) × IsDriverOf self.old w × IsFor w.core strategy }
+        ensures moves { IfOk result (λ _. (w : World) → IsFor w.core strategy → IsDriverOf self.old w
+            → (x : World) × Reaches w (Reads (Change strategy) ∷ []) x × IsDriverOf self.new x) }
+        ensures main { IfOk result (λ _. self.new.main ≡ self.old.main) }
+    {
+        self.router.read_change(alloc, strategy)?;
         Ok(())
     }
 

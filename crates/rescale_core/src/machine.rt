@@ -52,7 +52,10 @@ impl Machine {
                 self.router.read_point(alloc, point)?;
                 Ok(Applied::Did)
             }
-            Some(Entry::Change(_)) => unreachable!(),
+            Some(Entry::Change(strategy)) => {
+                self.router.read_change(alloc, strategy)?;
+                Ok(Applied::Did)
+            }
         }
     }
 

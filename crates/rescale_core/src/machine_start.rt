@@ -1,9 +1,9 @@
 //! How a machine begins.
-ghost use Rattle.std.specs.Prelude.{◌≡◌, IfOk, Some, length, ℕ};
+ghost use Rattle.std.specs.Prelude.{◌≡◌, ◌≤◌, IfOk, Some, length, ℕ};
 ghost use Rattle.monitorable.specs.Cores.{core_form};
-ghost use Rattle.rescale_core.specs.Cells.{IsCellOf, IsMachineOf};
+ghost use Rattle.rescale_core.specs.Cells.{AreWithin, IsCellOf, IsMachineOf, workers_for};
 ghost use Rattle.rescale_core.specs.Lines.{AreSound, first_spot};
-ghost use Rattle.rescale_core.specs.Routing.{ArePoints, IsRouterOf};
+ghost use Rattle.rescale_core.specs.Routing.{IsRouterOf};
 ghost use Rattle.rescale_core.specs.Workers.{IsFor};
 ghost use Rattle.rescale_core.specs.Worlds.{first_world, nth};
 ghost use Rattle.mfotl_model.specs.Strategies.{workers_of};
@@ -29,28 +29,29 @@ impl Machine {
     ) -> Result<Self, AllocError>
         requires fits { IsFor (core_form core) strategy }
         requires sound { AreSound (core_form core) (first_spot strategy) entries.items }
-        requires unchanged { ArePoints entries.items }
         ensures { IfOk result (λ machine.
             IsMachineOf machine entries.items (first_world (core_form core) strategy)) }
     {
-        let left = all_left(alloc, entries)?;
-        Machine::over(alloc, core, strategy, left)
+        let (left, workers) = all_left(alloc, entries, strategy.workers())?;
+        Machine::over(alloc, core, strategy, left, workers)
     }
 
-    // The machine that did nothing yet, for what is left.
+    // The machine that did nothing yet, for what is left, with so many cells.
     fn over(
         alloc: Global,
         core: Core,
         strategy: Strategy,
         left: VecDeque<Entry>,
+        workers: u32,
     ) -> Result<Self, AllocError>
         requires fits { IsFor (core_form core) strategy }
         requires sound { AreSound (core_form core) (first_spot strategy) left.items }
-        requires unchanged { ArePoints left.items }
+        requires wide { workers_of strategy ≤ workers }
+        requires within { AreWithin workers left.items }
         ensures { IfOk result (λ machine.
             IsMachineOf machine left.items (first_world (core_form core) strategy)) }
     {
-        let (router, cells) = first_parts(alloc, core, strategy)?;
+        let (router, cells) = first_parts(alloc, core, strategy, workers)?;
         Ok(Machine {
             router,
             cells,
@@ -60,19 +61,20 @@ impl Machine {
     }
 }
 
-// The router, and a cell for each worker.
+// The router, and a cell for each of so many workers.
 fn first_parts(
     alloc: Global,
     core: Core,
     strategy: Strategy,
+    workers: u32,
 ) -> Result<(Router, Vec<Cell>), AllocError>
     requires { IsFor (core_form core) strategy }
     ensures router { IfOk result (λ parts. IsRouterOf parts.0 (first_world (core_form core) strategy)) }
-    ensures len { IfOk result (λ parts. length parts.1.items ≡ workers_of strategy) }
+    ensures len { IfOk result (λ parts. length parts.1.items ≡ workers) }
     ensures cells { IfOk result (λ parts. (k : ℕ) (cell : OneCell) → nth parts.1.items k ≡ Some cell
         → IsCellOf (first_world (core_form core) strategy) k cell) }
 {
-    let cells = new_cells(alloc, &core, &strategy)?;
+    let cells = new_cells(alloc, &core, &strategy, workers)?;
     with_router(alloc, core, strategy, cells)
 }
 
@@ -91,15 +93,20 @@ fn with_router(
     Ok((router, cells))
 }
 
-// A cell for each worker.
-fn new_cells(alloc: Global, core: &Core, strategy: &Strategy) -> Result<Vec<Cell>, AllocError>
+// A cell for each of so many workers.
+fn new_cells(
+    alloc: Global,
+    core: &Core,
+    strategy: &Strategy,
+    workers: u32,
+) -> Result<Vec<Cell>, AllocError>
     requires { IsFor (core_form core.now) strategy.now }
-    ensures len { IfOk result (λ cells. length cells.items ≡ workers_of strategy.now) }
+    ensures len { IfOk result (λ cells. length cells.items ≡ workers) }
     ensures cells { IfOk result (λ cells. (k : ℕ) (cell : OneCell) → nth cells.items k ≡ Some cell
         → IsCellOf (first_world (core_form core.now) strategy.now) k cell) }
 {
     let mut cells = Vec::new(alloc);
-    for k in 0..strategy.workers() {
+    for k in 0..workers {
         let cell = new_cell(alloc, core, strategy, k)?;
         cells.push(cell)?;
     }
@@ -120,13 +127,38 @@ fn new_cell(alloc: Global, core: &Core, strategy: &Strategy, k: u32) -> Result<C
     })
 }
 
-// The entries, to be taken one by one.
-fn all_left(alloc: Global, entries: Vec<Entry>) -> Result<VecDeque<Entry>, AllocError>
-    ensures { IfOk result (λ left. left.items ≡ entries.items) }
+// The entries, to be taken one by one, and how many workers the strategies have at most.
+fn all_left(
+    alloc: Global,
+    entries: Vec<Entry>,
+    first: u32,
+) -> Result<(VecDeque<Entry>, u32), AllocError>
+    ensures left { IfOk result (λ parts. parts.0.items ≡ entries.items) }
+    ensures wide { IfOk result (λ parts. first ≤ parts.1) }
+    ensures within { IfOk result (λ parts. AreWithin parts.1 entries.items) }
 {
     let mut left = VecDeque::new(alloc);
+    let mut most = first;
     for entry in entries {
+        most = larger(most, workers_for(&entry));
         left.push_back(entry)?;
     }
-    Ok(left)
+    Ok((left, most))
+}
+
+fn larger(a: u32, b: u32) -> u32
+    ensures first { a ≤ result }
+    ensures second { b ≤ result }
+{
+    if a < b { b } else { a }
+}
+
+// How many workers the strategy has that the entry changes to.
+fn workers_for(entry: &Entry) -> u32
+    ensures { result ≡ workers_for entry.now }
+{
+    match entry {
+        Entry::Point(_) => 0,
+        Entry::Change(strategy) => strategy.workers(),
+    }
 }

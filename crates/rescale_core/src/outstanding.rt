@@ -4,6 +4,18 @@ ghost use Rattle.std.specs.List.{list_all};
 
 use std::alloc::AllocError;
 
+/// Adds counts of 0 until there are so many.
+pub(crate) fn grow_counts(counts: &mut Vec<u64>, len: usize) -> Result<(), AllocError>
+    requires { length counts.old.items ≤ len }
+    ensures len { IfOk result (λ _. length counts.new.items ≡ len) }
+    ensures same { IfOk result (λ _. (q : ℕ) → get_or counts.new.items q 0 ≡ get_or counts.old.items q 0) }
+{
+    for _ in counts.len()..len {
+        counts.push(0)?;
+    }
+    Ok(())
+}
+
 /// Counts so many more for worker `k`.
 pub(crate) fn raise(counts: &mut Vec<u64>, k: u32, more: u64) -> Result<(), AllocError>
     ensures len { IfOk result (λ _. length counts.new.items ≡ length counts.old.items) }

@@ -1,4 +1,5 @@
 //! What a worker keeps.
+use crate::merging::Merging;
 use monitor_state::Monitor;
 use monitorable::Core;
 use slice_strategy::Strategy;
@@ -12,6 +13,12 @@ pub(crate) enum Phase {
         strategy: Strategy,
     },
     Vacant,
+    /// It merges pieces, of which so many are missing. It will monitor under the strategy `now`.
+    Waiting {
+        merging: Merging,
+        now: Strategy,
+        missing: u32,
+    },
 }
 
 /// Takes items one by one, and gives what it finds in them.

@@ -1,5 +1,4 @@
 //! What one worker hands to another.
-use monitor_state::Monitor;
 
 /// What a worker keeps for the rows that are also another's under the next strategy. The generation is that of the
 /// next strategy, and `count` is how many workers the present one has.
@@ -9,5 +8,6 @@ pub struct Piece {
     pub from: u32,
     pub to: u32,
     pub count: u32,
-    pub state: Monitor,
+    // a state as data comes here
+    pub state: u64,
 }

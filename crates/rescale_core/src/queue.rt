@@ -1,71 +1,159 @@
 //! What waits for one worker.
-ghost use Rattle.std.specs.Prelude.{◌≡◌, ◌++◌, ◌∷◌, [], IfOk, length};
-ghost use Rattle.std.specs.List.{list_all};
-ghost use Rattle.rescale_core.specs.Chances.{Pops, sure_items};
-ghost use Rattle.rescale_core.specs.Chances.Chance.{Sure};
-ghost use Rattle.rescale_core.specs.Queues.{is_clear, length_of, waiting};
+ghost use Rattle.std.specs.Prelude.{◌≡◌, ◌++◌, ◌∷◌, [], IfOk, length, sum_by};
+ghost use Rattle.std.specs.List.{list_all, position, prefix_len};
+ghost use Rattle.rescale_core.specs.Chances.{sure_items};
+ghost use Rattle.rescale_core.specs.Queues.{chances, filled, is_clear};
+ghost use Rattle.rescale_core.specs.Slots.{TakesOut, is_there, lacks, rooms, weight_of};
 ghost use Rattle.rescale_core.specs.Waiting.{is_short};
+ghost use Rattle.rescale_core.specs.declared.slot.Slot.TheVariants.{Ready};
 
 use crate::item::Item;
+use crate::piece::Piece;
+use crate::slot::Slot;
+use slice_strategy::{Slicer, Strategy};
 use std::alloc::{AllocError, Global};
 use std::collections::VecDeque;
+use std::marker::Model;
 
-/// The items that were not handed over.
+/// The items that were not handed over, and room for pieces that are missing.
 #[derive(Drop)]
 pub(crate) struct Queue {
-    items: VecDeque<Item>,
+    slots: VecDeque<Slot>,
+    // how many slices, parts and places these are
+    waiting: u64,
+}
+
+impl Model for Queue {
+    ghost use Rattle.std.specs.Prelude.{◌≡◌, List, sum_by};
+    ghost use Rattle.rescale_core.specs.Slots.{weight_of};
+    ghost use Rattle.rescale_core.specs.declared.slot.Slot.{Slot};
+
+    ghost Value = { List Slot };
+
+    ghost view = { λ q. q.slots.items };
+
+    ghost invariant = { λ q. q.waiting ≡ sum_by weight_of q.slots.items };
 }
 
 impl Queue {
     pub(crate) fn new(alloc: Global) -> Self
-        ensures { waiting result ≡ [] }
+        ensures { result ≡ [] }
     {
         Queue {
-            items: VecDeque::new(alloc),
+            slots: VecDeque::new(alloc),
+            waiting: 0,
         }
     }
 
     pub(crate) fn push(&mut self, item: Item) -> Result<(), AllocError>
-        ensures { IfOk result (λ _. waiting self.new ≡ waiting self.old ++ Sure item ∷ []) }
+        ensures { IfOk result (λ _. self.new ≡ self.old ++ Ready item ∷ []) }
     {
-        self.items.push_back(item)?;
+        self.append(Slot::Ready(item))
+    }
+
+    /// Room for so many pieces of the generation, whose strategy is `now`.
+    pub(crate) fn push_place(
+        &mut self,
+        alloc: Global,
+        generation: u64,
+        now: &Strategy,
+        count: u32,
+    ) -> Result<(), AllocError>
+        ensures { IfOk result (λ _. self.new ≡ self.old ++ rooms generation now.now count) }
+    {
+        for j in 0..count {
+            let now = now.copy(alloc)?;
+            self.append(Slot::Room {
+                generation,
+                now,
+                last: j + 1 == count,
+                piece: None,
+            })?;
+        }
         Ok(())
     }
 
-    /// The first item.
-    pub(crate) fn pop(&mut self) -> Option<Item>
-        ensures { Pops (waiting self.old) result (waiting self.new) }
+    fn append(&mut self, slot: Slot) -> Result<(), AllocError>
+        ensures { IfOk result (λ _. self.new ≡ self.old ++ slot ∷ []) }
     {
-        self.items.pop_front()
+        let weight = slot.weight();
+        self.slots.push_back(slot)?;
+        self.waiting += weight;
+        Ok(())
+    }
+
+    /// The first item, unless it is a piece that is missing.
+    pub(crate) fn pop(&mut self) -> Option<Item>
+        ensures { TakesOut self.old result self.new }
+    {
+        let first = self.slots.front()?;
+        if !first.is_there() {
+            return None;
+        }
+        let slot = self.slots.pop_front()?;
+        self.waiting -= slot.weight();
+        slot.into_item()
+    }
+
+    /// Puts the piece where the first of its generation is missing.
+    pub(crate) fn fill(&mut self, piece: Piece)
+        ensures { self.new ≡ filled piece self.old }
+    {
+        let found = first_lacking(&self.slots, piece.generation);
+        let Some(at) = found else {
+            return;
+        };
+        let slot = &mut self.slots[at];
+        slot.put(piece);
     }
 
     /// How many items may be handed over.
     pub(crate) fn ready(&self) -> u64
-        ensures { result ≡ length (sure_items (waiting self.now)) }
+        ensures { result ≡ length (sure_items (chances self.now)) }
     {
-        self.items.len() as u64
+        there_len(&self.slots) as u64
     }
 
-    /// How many items are there.
-    pub(crate) fn len(&self) -> u64
-        ensures { result ≡ length_of self.now }
+    /// How many slices, parts and places wait.
+    pub(crate) fn waiting(&self) -> u64
+        ensures { result ≡ sum_by weight_of self.now }
     {
-        self.items.len() as u64
+        self.waiting
     }
 
     /// Whether there is room for more.
     pub(crate) fn is_short(&self) -> bool
         ensures { result ≡ is_short self.now }
     {
-        self.len() < FULL
+        self.waiting < FULL
     }
 
-    /// Whether no item is there.
+    /// Whether nothing is there.
     pub(crate) fn is_empty(&self) -> bool
         ensures { result ≡ is_clear self.now }
     {
-        self.items.is_empty()
+        self.slots.is_empty()
     }
+}
+
+// The place of the first missing piece of the generation.
+fn first_lacking(slots: &VecDeque<Slot>, generation: u64) -> Option<usize>
+    ensures { result ≡ position (lacks generation) slots.now.items }
+{
+    slots.iter().position(|slot| slot.lacks(generation))
+}
+
+// How many come before the first missing piece.
+fn there_len(slots: &VecDeque<Slot>) -> usize
+    ensures { result ≡ prefix_len is_there slots.now.items }
+{
+    for i in 0..slots.len() {
+        let slot = &slots[i];
+        if !slot.is_there() {
+            return i;
+        }
+    }
+    slots.len()
 }
 
 /// From so many on no more is read.

@@ -1,19 +1,22 @@
 //! The router: what is read is queued for each worker, until it is handed over.
-ghost use Rattle.std.specs.Prelude.{◌≡◌, ◌++◌, [], ◌<◌, ◌≤◌, ◌⊎◌, IfOk, IfSome, IfNone, length, true, ℕ};
+ghost use Rattle.std.specs.Prelude.{◌≡◌, ◌++◌, ◌∷◌, ◌+◌, [], ◌<◌, ◌≤◌, ◌⊎◌, IfOk, IfSome, IfNone, length, true, ℕ};
 ghost use Rattle.rescale_core.specs.Chances.{sure_items};
-ghost use Rattle.rescale_core.specs.Queues.{queue_at, waiting};
-ghost use Rattle.rescale_core.specs.Routing.{HasEnded, HasTaken, IsRouterOf, MayAdd, TakesFront, feeds, slices_for};
-ghost use Rattle.rescale_core.specs.Workers.{MayFollow};
+ghost use Rattle.rescale_core.specs.Queues.{all_put, queue_at};
+ghost use Rattle.rescale_core.specs.Routing.{HasEnded, HasTaken, IsRouterOf, MayAdd, TakesFront, feeds};
+ghost use Rattle.rescale_core.specs.Workers.{IsFor, MayFollow};
 ghost use Rattle.rescale_core.specs.Worlds.{World, Allowed, AreAllowed, IsGathered, after, pieces_in, queue_in, rows_in, run, spot_in};
 ghost use Rattle.rescale_core.specs.Worlds.Move.{Read, Collect, Emit};
-ghost use Rattle.rescale_core.specs.declared.item.Entry.TheVariants.{Point};
+ghost use Rattle.rescale_core.specs.declared.item.Entry.TheVariants.{Change, Point};
 
 use crate::item::{Item, Out};
-use crate::outstanding::{lower, none_outstanding, raise};
+use crate::outstanding::{grow_counts, lower, none_outstanding, raise};
+use crate::piece::Piece;
 use crate::queue::{Queue, none_wait};
+use crate::reading::{grow, push_parts, push_places, push_slices};
 use crate::routes::Router;
 use event_splitter::split;
 use mfotl_model::TimePoint;
+use slice_strategy::{Slicer, Strategy};
 use std::alloc::{AllocError, Global};
 use verdict_merge::{Gather, Verdict};
 
@@ -27,6 +30,32 @@ impl Router {
         let slices = split(alloc, &self.core, &self.strategy, &point)?;
         push_slices(&mut self.queues, self.generation, self.points, slices)?;
         self.points += 1;
+        Ok(())
+    }
+
+    /// Queues a part for each worker of the present strategy, and behind it a place for all their pieces for each
+    /// worker of the next one.
+    pub fn read_change(&mut self, alloc: Global, strategy: Strategy) -> Result<(), AllocError>
+        requires { (w : World) × IsRouterOf self.old w × IsFor w.core strategy }
+        ensures { IfOk result (λ _. (w : World) → IsRouterOf self.old w → IsFor w.core strategy
+            → IsRouterOf self.new (after w (Read (Change strategy)))) }
+    {
+        let generation = next(self.generation)?;
+        let count = self.strategy.workers();
+        let workers = strategy.workers();
+        self.gather.begin(generation, workers)?;
+        grow(alloc, &mut self.queues, workers)?;
+        grow_counts(&mut self.outstanding, self.queues.len())?;
+        push_parts(
+            alloc,
+            &mut self.queues,
+            generation,
+            &self.strategy,
+            &strategy,
+        )?;
+        push_places(alloc, &mut self.queues, generation, &strategy, count)?;
+        self.generation = generation;
+        self.strategy = strategy;
         Ok(())
     }
 
@@ -64,7 +93,7 @@ impl Router {
         ensures { IfOk result (λ _. (w : World) → IsRouterOf self.old w → HasTaken w k taken outs.items
             → IsRouterOf self.new (after w (Collect k))) }
     {
-        add_all(&mut self.gather, outs)?;
+        collect_all(&mut self.queues, &mut self.gather, outs)?;
         lower(&mut self.outstanding, k, taken);
         Ok(())
     }
@@ -95,34 +124,16 @@ impl Router {
     }
 }
 
-// Queues a slice for each worker.
-fn push_slices(
-    queues: &mut Vec<Queue>,
-    generation: u64,
-    number: u64,
-    slices: Vec<TimePoint>,
-) -> Result<(), AllocError>
-    requires { length slices.items ≤ length queues.old.items }
-    ensures len { IfOk result (λ _. length queues.new.items ≡ length queues.old.items) }
-    ensures queued { IfOk result (λ _. (q : ℕ) → queue_at queues.new.items q
-        ≡ queue_at queues.old.items q ++ slices_for generation number 0 slices.items q) }
+// The next generation's number.
+fn next(generation: u64) -> Result<u64, AllocError>
+    ensures { IfOk result (λ more. more ≡ generation + 1) }
 {
-    let mut k = 0;
-    for point in slices {
-        let queue = &mut queues[k];
-        queue.push(Item::Slice {
-            generation,
-            number,
-            point,
-        })?;
-        k += 1;
-    }
-    Ok(())
+    generation.checked_add(1).ok_or(AllocError)
 }
 
 // Takes out the first items, as many as wanted or all that are there.
 fn take_front(alloc: Global, queue: &mut Queue, most: u64) -> Result<Vec<Item>, AllocError>
-    ensures { IfOk result (λ items. TakesFront (waiting queue.old) most items.items (waiting queue.new)) }
+    ensures { IfOk result (λ items. TakesFront queue.old most items.items queue.new) }
 {
     let mut items = Vec::new(alloc);
     for _ in 0..most {
@@ -134,21 +145,39 @@ fn take_front(alloc: Global, queue: &mut Queue, most: u64) -> Result<Vec<Item>, 
     Ok(items)
 }
 
-// Adds what was given. Nothing but Rows is given where no strategy changes.
-fn add_all(gather: &mut Gather, outs: Vec<Out>) -> Result<(), AllocError>
-    requires rows { pieces_in outs.items ≡ [] }
-    requires may { MayAdd gather.old (rows_in outs.items) }
-    ensures { IfOk result (λ _. gather.new ≡ record {
+// The Rows are gathered, and each piece comes into its worker's queue.
+fn collect_all(
+    queues: &mut Vec<Queue>,
+    gather: &mut Gather,
+    outs: Vec<Out>,
+) -> Result<(), AllocError>
+    requires { MayAdd gather.old (rows_in outs.items) }
+    ensures gathered { IfOk result (λ _. gather.new ≡ record {
       begun = gather.old.begun;
       next = gather.old.next;
       added = gather.old.added ++ rows_in outs.items;
     }) }
+    ensures len { IfOk result (λ _. length queues.new.items ≡ length queues.old.items) }
+    ensures filled { IfOk result (λ _. (q : ℕ) → queue_at queues.new.items q
+        ≡ all_put q (pieces_in outs.items) (queue_at queues.old.items q)) }
 {
     for out in outs {
         match out {
             Out::Rows(rows) => gather.add(rows)?,
-            Out::Piece(_) => unreachable!(),
+            Out::Piece(piece) => put(queues, piece),
         }
     }
     Ok(())
+}
+
+// The piece comes into its worker's queue.
+fn put(queues: &mut Vec<Queue>, piece: Piece)
+    ensures len { length queues.new.items ≡ length queues.old.items }
+    ensures filled { (q : ℕ) → queue_at queues.new.items q ≡ all_put q (piece ∷ []) (queue_at queues.old.items q) }
+{
+    let to = piece.to as usize;
+    if to < queues.len() {
+        let queue = &mut queues[to];
+        queue.fill(piece);
+    }
 }

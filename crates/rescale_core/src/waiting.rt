@@ -18,7 +18,7 @@ impl Router {
         if k as usize >= self.queues.len() {
             return 0;
         }
-        self.queues[k as usize].len()
+        self.queues[k as usize].waiting()
     }
 
     /// Whether fewer than 1,024 wait for each worker.

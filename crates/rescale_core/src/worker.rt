@@ -2,7 +2,7 @@
 ghost use Rattle.std.specs.Prelude.{◌≡◌, [], IfOk};
 ghost use Rattle.monitorable.specs.Cores.{core_form};
 ghost use Rattle.rescale_core.specs.Workers.{IsFor};
-ghost use Rattle.rescale_core.specs.Working.{CanTake, Gave, IsAt, IsSlice, StandsFor, first_stage, seed_of};
+ghost use Rattle.rescale_core.specs.Working.{CanTake, Gave, IsAt, StandsFor, first_stage, seed_of};
 
 use crate::item::{Item, Out};
 use crate::phase::{Phase, Worker};
@@ -39,8 +39,7 @@ impl Worker {
     }
 
     fn take(&mut self, alloc: Global, item: Item, outs: &mut Vec<Out>) -> Result<(), AllocError>
-        requires due { CanTake self.old item }
-        requires slice { IsSlice item }
+        requires { CanTake self.old item }
         ensures { IfOk result (λ _. Gave self.old item self.new outs.old.items outs.new.items) }
     {
         match item {
@@ -49,8 +48,12 @@ impl Worker {
                 number,
                 point,
             } => self.take_slice(alloc, generation, number, point, outs),
-            Item::Part { .. } => unreachable!(),
-            Item::Adopt { .. } => unreachable!(),
+            Item::Part {
+                generation,
+                old,
+                new,
+            } => self.part(alloc, generation, old, new, outs),
+            Item::Adopt { piece, now } => self.adopt(alloc, piece, now),
         }
     }
 

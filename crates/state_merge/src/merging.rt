@@ -5,7 +5,10 @@ ghost use Rattle.mfotl_model.specs.Strategies.{Strategy};
 ghost use Rattle.mfotl_model.specs.declared.event.TimePoint.{TimePoint};
 ghost use Rattle.monitorable.specs.CoreForms.{CoreForm};
 ghost use Rattle.monitorable.specs.Cores.{core_form};
+ghost use Rattle.monitor_state.specs.MonitorView.{monitor_of};
 ghost use Rattle.monitor_state.specs.Pieces.{Adopts, Merges, PieceStands, view_of};
+ghost use Rattle.monitor_state.specs.Resuming.{SuitsWhole};
+ghost use Rattle.monitor_state.specs.Stands.{Stands};
 ghost use Rattle.monitor_state.specs.StateRules.{StateRule};
 ghost use Rattle.monitor_state.specs.StateStands.{StateStands};
 ghost use Rattle.state_merge.specs.Finishing.{AllAdopted};
@@ -13,7 +16,7 @@ ghost use Rattle.state_merge.specs.Fits.{Fits};
 ghost use Rattle.state_merge.specs.MergingView.{merging_of};
 
 use crate::states::united_states;
-use monitor_state::{Piece, State};
+use monitor_state::{Monitor, Piece, State};
 use monitorable::Core;
 use std::alloc::{AllocError, Global};
 
@@ -94,5 +97,21 @@ impl Merging {
             unreachable!();
         };
         (core, state)
+    }
+
+    /// The monitor that goes on from what was merged.
+    pub fn finish(self, alloc: Global) -> Result<Monitor, AllocError>
+        requires some { IsSome (merging_of self).merged }
+        requires rule { IfSome (merging_of self).merged (λ state. StateRule (merging_of self).core state) }
+        ensures core { IfOk result (λ monitor. (monitor_of monitor).core ≡ (merging_of self).core) }
+        ensures stands { IfOk result (λ monitor. (s s2 : Strategy) (k2 : ℕ) (log : List TimePoint) (ks : List ℕ) →
+            AllAdopted s ks → Merges (merging_of self).core s s2 k2 log ks (merging_of self).merged →
+            SuitsWhole (view_of (merging_of self).core (near_of s2 k2) log) (merging_of self).core →
+            Stands (view_of (merging_of self).core (near_of s2 k2) log) (merging_of self).core
+            (monitor_of monitor).state) }
+    {
+        let (core, state) = self.into_state();
+        let monitor = Monitor::resume(alloc, core, state)?;
+        Ok(monitor)
     }
 }

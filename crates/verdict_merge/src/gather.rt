@@ -57,7 +57,8 @@ impl Gather {
         Ok(())
     }
 
-    /// Adds what a worker says of a time-point that has no verdict yet.
+    /// Adds what a worker says of a time-point that has no verdict yet. Where memory runs out, Rows that wait may be
+    /// lost.
     pub fn add(&mut self, rows: Rows) -> Result<(), AllocError>
         requires worker { rows.worker < workers_in self.old.begun rows.generation }
         requires once { IsFalse (list_any (is_from rows) self.old.added) }
@@ -72,8 +73,8 @@ impl Gather {
         Ok(())
     }
 
-    /// The verdict on the next time-point, where the Rows of all workers are there. Where memory runs out, its Rows
-    /// are lost. The last time-point number counts as want of memory.
+    /// The verdict on the next time-point, where the Rows of all workers are there. Where memory runs out, Rows
+    /// that wait may be lost. The last time-point number counts as want of memory.
     pub fn emit(&mut self, alloc: Global) -> Result<Option<Verdict>, AllocError>
         ensures { IfOk result (λ verdict. Emits self.old verdict self.new) }
     {

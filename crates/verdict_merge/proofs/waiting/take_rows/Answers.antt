@@ -37,7 +37,8 @@ loop-place-preserved-in-Continue-1 c =
           (c.loop-place.invariant.taking point h)) in
           subst (λ ds. Taking point rest (flat_map (λ list. list.items) c.push.new.self.items) before ds)
           (sym c.remove.ensures.entries)
-          (subst (λ xs. Taking point rest xs before (remove_entry (is_at (nat_cmp c.in-Some.place)) now)) (sym pushed) t);
+          (subst (λ xs. Taking point rest xs before (remove_entry (is_at (nat_cmp c.in-Some.place)) now))
+          (sym pushed) t);
     }
 
 pub loop-place-preserved : goal.loop-place-preserved

@@ -18,14 +18,14 @@ pub work-requires : goal.work-requires
 work-requires c =
     let w = c.requires.0 in
     let k = c.requires.1 in
-    let is = c.requires.4 in
-    let may = may_take w k is.before c.in-Some.item c.pop_front.new.self.items c.requires.2 c.requires.3
+    let is = c.requires.3 in
+    let may = may_take w k is.before c.in-Some.item c.pop_front.new.self.items c.requires.2
     (is.fed ∙ ap (λ x. is.before ++ x) c.in-Some.ensures.items) in
     takes_by c.args.self.now.worker (c.in-Some.item ∷ []) (_, is.before, _, is.stands, may.1)
 
 pub returns : goal.returns
-returns c = λ w k sound points is.
+returns c = λ w k sound is.
     let g = c.in_ok-work.ensures in
-    let r = took w k c.args.self.now _ c.in-Some.item g.0 sound points is c.in-Some.ensures.items
+    let r = took w k c.args.self.now _ c.in-Some.item g.0 sound is c.in-Some.ensures.items
     c.in_ok-self.ensures g.1 (leads_seen c.args.self.now.worker (c.in-Some.item ∷ []) _ g.0 g.2) in
     (g.0, r.0, r.1)

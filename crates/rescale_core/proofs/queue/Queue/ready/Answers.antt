@@ -1,9 +1,8 @@
-use Rattle.std.proofs.Common.{◌≡◌, ap, sym, length, ◌∙◌}
-use Rattle.rescale_core.proofs.QueueLemmas.{sure_all}
+use Rattle.std.proofs.Common.{◌∙◌, ap, sym}
+use Rattle.rescale_core.specs.Slots.{is_there}
+use Rattle.std.specs.List.{prefix_len}
+use Rattle.rescale_core.proofs.SlotLemmas.{there_sure}
 use Rattle.rescale_core.proofs.queue.Queue.ready.Goals as goal
 
 pub returns : goal.returns
-returns c =
-    let q = c.args.self.now.items in
-    let len : q.len ≡ length q.items = q.ok.0 in
-    c.len.ensures ∙ len ∙ ap length (sym (sure_all q.items))
+returns c = c.there_len.ensures ∙ ap (prefix_len is_there) c.self.view_is ∙ sym (there_sure c.args.self.now)

@@ -14,7 +14,6 @@ take-requires c =
       c.requires.1,
       c.args.k,
       is.router.sound,
-      is.router.unchanged,
       is.cells c.args.k c.index_mut-cell.result.now
           (nth_here c.args.self.now.cells.items c.args.k c.index_mut-cell.result.now near
           c.index_mut-cell.ensures.value),

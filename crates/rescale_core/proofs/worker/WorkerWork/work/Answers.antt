@@ -1,14 +1,10 @@
 use Rattle.std.proofs.Common.{◌∷◌, []}
 use Rattle.rescale_core.proofs.Leading.{can_take, leads_by, leads_on, takes_seen}
-use Rattle.rescale_core.proofs.WorkerSteps.{last_slice}
 use Rattle.rescale_core.proofs.worker.WorkerWork.work.Goals as goal
 
-pub take-requires-clause-due : goal.take-requires-clause-due
-take-requires-clause-due c =
+pub take-requires : goal.take-requires
+take-requires c =
     can_take c.args.self.now c.args.item (takes_seen c.args.self.now (c.args.item ∷ []) c.requires)
-
-pub take-requires-clause-slice : goal.take-requires-clause-slice
-take-requires-clause-slice c = last_slice c.requires.1 c.args.item c.requires.4.1
 
 pub returns : goal.returns
 returns c =

@@ -1,11 +1,12 @@
 use Rattle.std.proofs.Common.{◌∙◌, ap, length}
-use Rattle.verdict_merge.proofs.WaitingLemmas.{counted}
+use Rattle.verdict_merge.proofs.KeptLemmas.{counted}
 use Rattle.verdict_merge.specs.Places.{places_found}
 use Rattle.verdict_merge.proofs.waiting.Waiting.count.Goals as goal
 
 pub returns-in-Some : goal.returns-in-Some
 returns-in-Some c =
-    rw (← c.self.view_is) (c.len.ensures ∙ c.in-Some.places.now.ok.0 ∙ ap (λ o. length (places_found o)) c.in-Some.ensures.value
+    rw (← c.self.view_is) (c.len.ensures ∙ c.in-Some.places.now.ok.0
+    ∙ ap (λ o. length (places_found o)) c.in-Some.ensures.value
     ∙ ap length (c.self.invariant.indexed c.args.point) ∙ counted c.args.point c.self.inside.arrived.entries)
 
 pub returns-in-None : goal.returns-in-None

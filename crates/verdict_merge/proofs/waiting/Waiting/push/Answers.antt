@@ -4,7 +4,7 @@ use Rattle.std.specs.BTreeMap.{is_at}
 use Rattle.std.specs.List.{AllByRecursion}
 use Rattle.std.specs.Map.{keys_of, values_of}
 use Rattle.std.specs.Ordering.{nat_cmp}
-use Rattle.verdict_merge.proofs.WaitingLemmas.{below_next, places_last, put_last, values_last}
+use Rattle.verdict_merge.proofs.PlaceLemmas.{below_next, places_last, put_last, values_last}
 use Rattle.verdict_merge.specs.Places.{arrived_at, places_of}
 use Rattle.verdict_merge.proofs.waiting.Waiting.push.Goals as goal
 

@@ -3,7 +3,8 @@ use Rattle.std.specs.BTreeMap.{is_at}
 use Rattle.std.specs.List.{AllByRecursion}
 use Rattle.std.specs.Map.{keys_of, values_of}
 use Rattle.std.specs.Ordering.{nat_cmp}
-use Rattle.verdict_merge.proofs.WaitingLemmas.{kept_rows, places_left, still_below}
+use Rattle.verdict_merge.proofs.KeptLemmas.{kept_rows}
+use Rattle.verdict_merge.proofs.PlaceLemmas.{places_left, still_below}
 use Rattle.verdict_merge.specs.Gathers.{rows_after}
 use Rattle.verdict_merge.specs.Places.{arrived_at, others}
 use Rattle.verdict_merge.proofs.waiting.Waiting.take.Goals as goal

@@ -1,7 +1,7 @@
 use Rattle.std.proofs.Common.{◌≡◌, ◌<◌, ℕ, List, length, ap, ◌∷◌, ◌∙◌, arith, length-set}
 use Rattle.mfotl_model.specs.declared.event.TimePoint.{TimePoint}
 use Rattle.rescale_core.proofs.QueueLemmas.{slice_pushed}
-use Rattle.rescale_core.proofs.router.push_slices.Goals as goal
+use Rattle.rescale_core.proofs.reading.push_slices.Goals as goal
 
 pub loop-point-preserved : goal.loop-point-preserved
 loop-point-preserved c =

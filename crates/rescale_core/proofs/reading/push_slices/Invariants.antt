@@ -1,7 +1,7 @@
 use Rattle.std.proofs.Common.{◌≡◌, ◌≤◌, ◌++◌, ◌+◌, ℕ, length}
 use Rattle.rescale_core.specs.Queues.{queue_at}
 use Rattle.rescale_core.specs.Routing.{slices_for}
-use Rattle.rescale_core.proofs.router.push_slices.Given as goal
+use Rattle.rescale_core.proofs.reading.push_slices.Given as goal
 
 abbrev pub invariant-loop-point : goal.invariant-loop-point
 invariant-loop-point l = record {

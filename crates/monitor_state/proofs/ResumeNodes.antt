@@ -1,0 +1,388 @@
+-- Nodes that are resumed with data that stands for a log do.
+use Rattle.std.proofs.Common.{◌≡◌, ℕ, ◌+◌, ◌-◌, ◌<◌, ◌≤◌, Bool, true, false, cond, List, [], ◌∷◌, length, map, refl, sym, subst, ap, ap₂, ◌∙◌, arith}
+use Rattle.std.specs.Global.{Vec}
+use Rattle.mfotl_model.specs.Exact.{AllExact, Covers, View}
+use Rattle.mfotl_model.specs.FreeVariables.{fv}
+use Rattle.mfotl_model.specs.Log.{times}
+use Rattle.mfotl_model.specs.Satisfaction.{Valuation, truth_at}
+use Rattle.mfotl_model.specs.Tables.{TableOf, has}
+use Rattle.mfotl_model.specs.declared.interval.Interval.{Interval}
+use Rattle.mfotl_model.specs.declared.term.Atom.{Atom as OneAtom}
+use Rattle.mfotl_model.specs.declared.value.Value.{Value}
+use Rattle.eval_bool.proofs.ChildLemmas.{Alike}
+use Rattle.eval_bool.proofs.RefillLemmas.{rule_alike}
+use Rattle.eval_bool.specs.BoolData.{JoinRule, OrRule, TablesOver, join_of, kept_tables, or_of, with_tables}
+use Rattle.eval_bool.specs.JoinView.{ChildOf, JoinOf, children_of}
+use Rattle.eval_bool.specs.OrView.{OrOf}
+use Rattle.eval_bool.specs.declared.recalled.JoinData.{JoinData}
+use Rattle.eval_bool.specs.declared.recalled.OrData.{OrData}
+use Rattle.eval_since.specs.PreviousData.{PreviousRule, previous_of}
+use Rattle.eval_since.specs.PreviousView.{FollowsPrevious, PrevOf}
+use Rattle.eval_since.specs.SinceData.{KeepsRule, setting_of}
+use Rattle.eval_since.specs.SinceView.{SinceOf}
+use Rattle.eval_since.specs.declared.recalled.PrevData.{PrevData}
+use Rattle.eval_until.specs.NextData.{NextRule, next_of}
+use Rattle.eval_until.specs.NextView.{FollowsNext, NextOf}
+use Rattle.eval_until.specs.UntilData.{UntilRule, setting_of as until_setting_of, until_of}
+use Rattle.eval_until.specs.UntilView.{UntilOf}
+use Rattle.eval_until.specs.declared.recalled.NextData.{NextData}
+use Rattle.monitorable.specs.Conjuncts.{conjuncts_of}
+use Rattle.monitorable.specs.CoreForms.{CoreForm, meaning, Not, And, Or, Previous, Next, Since, Until}
+use Rattle.relations.specs.Pushed.{StandFrom}
+use Rattle.monitor_state.proofs.ExactLemmas.{exact_tell, reached_within}
+use Rattle.monitor_state.proofs.RecordKeeps.{alike_parts}
+use Rattle.monitor_state.proofs.RecordRules.{setting_is, until_setting_is}
+use Rattle.monitor_state.proofs.ResumeTimes.{known_from, last_dates, rest_dates, rest_is, rest_size}
+use Rattle.monitor_state.proofs.ResumeWindows.{since_resumed_is, since_resumed_stands, until_resumed_all, until_resumed_is, until_resumed_stands, until_resumed_taken}
+use Rattle.monitor_state.specs.FilterNode.{FilterStands, IsFilter}
+use Rattle.monitor_state.specs.Nodes.{left_operand, operands}
+use Rattle.monitor_state.specs.Resuming.{NodeResumed, Reach, SinceResumed, Suits, UntilResumed, WindowResumed}
+use Rattle.monitor_state.specs.Stands.{ChildrenStand, IsFor, IsJoin, IsPrevious, JoinStands, NextStands, NodeStands, PreviousStands, bare, conjunct_as}
+use Rattle.monitor_state.specs.StateRules.{JoinKeeps, NodeKeeps, SinceKeeps, UntilKeeps, WindowKeeps}
+use Rattle.monitor_state.specs.StateStands.{JoinDataStands, NextDataStands, NodeDataStands, PreviousDataStands, TablesStand, WindowDataStands}
+use Rattle.monitor_state.specs.StateTimes.{KeptTimes, node_asks, time_before, times_from, window_asks}
+use Rattle.monitor_state.specs.SinceNode.{IsSinceState}
+use Rattle.monitor_state.specs.UntilNode.{IsUntilState}
+use Rattle.monitor_state.specs.Views.{Dates, Tells, reached}
+use Rattle.monitor_state.specs.WindowNode.{IsWindow, WindowStands, window_took_all}
+use Rattle.monitor_state.specs.declared.filter.FilterState.{FilterState}
+use Rattle.monitor_state.specs.declared.node.Node.{Node}
+use Rattle.monitor_state.specs.declared.node.Node.TheVariants as node
+use Rattle.monitor_state.specs.declared.state.NodeData.{NodeData}
+use Rattle.monitor_state.specs.declared.state.NodeData.TheVariants as kept
+use Rattle.monitor_state.specs.declared.state.SinceKept.{SinceKept}
+use Rattle.monitor_state.specs.declared.state.UntilKept.{UntilKept}
+use Rattle.monitor_state.specs.declared.state.WindowData.{WindowData}
+use Rattle.monitor_state.specs.declared.state.WindowData.TheVariants as data_of
+use Rattle.monitor_state.specs.declared.window.Window.{Window}
+use Rattle.monitor_state.specs.declared.window.Window.TheVariants as window
+
+-- ---- nodes that keep nothing
+
+constant_stands : (view : View) (f : CoreForm) (table : TableOf) → IsFor f (node.Constant table)
+    → NodeStands view f (node.Constant table)
+constant_stands view (Not f) table is = tt
+constant_stands view (And f g) table is = tt
+constant_stands view f table is = tt
+
+pub constant_resumed : (k : KeptTimes) (table : TableOf) → NodeResumed k (node.Constant table) kept.Bare (node.Constant table)
+constant_resumed k table f is keeps = (is, λ view whole suits reach stands. constant_stands view f table is)
+
+atom_stands : (view : View) (f : CoreForm) (a : OneAtom) → IsFor f (node.Atom a) → NodeStands view f (node.Atom a)
+atom_stands view (Not f) a is = tt
+atom_stands view (And f g) a is = tt
+atom_stands view f a is = tt
+
+pub atom_resumed : (k : KeptTimes) (a : OneAtom) → NodeResumed k (node.Atom a) kept.Bare (node.Atom a)
+atom_resumed k a f is keeps = (is, λ view whole suits reach stands. atom_stands view f a is)
+
+exists_stands : (view : View) (f : CoreForm) (x : ℕ) → IsFor f (node.Exists x) → NodeStands view f (node.Exists x)
+exists_stands view (Not f) x is = tt
+exists_stands view (And f g) x is = tt
+exists_stands view f x is = tt
+
+pub exists_resumed : (k : KeptTimes) (x : ℕ) → NodeResumed k (node.Exists x) kept.Bare (node.Exists x)
+exists_resumed k x f is keeps = (is, λ view whole suits reach stands. exists_stands view f x is)
+
+-- ---- conjunctions
+
+children_stand : (view : View) (p : ℕ) (fs : List CoreForm) (cs : List ChildOf) (tss : List (List TableOf))
+    → TablesOver cs tss → TablesStand view p fs tss → ChildrenStand view p fs (with_tables cs tss)
+children_stand view p [] [] [] over stand = tt
+children_stand view p (f ∷ fs) (c ∷ cs) (ts ∷ tss) over stand =
+    (record { pushed = stand.0; exact = stand.1 }, children_stand view p fs cs tss over.1 stand.2)
+children_stand view p (f ∷ fs) [] [] over stand = absurd stand
+children_stand view p [] (c ∷ cs) (ts ∷ tss) over stand = absurd stand
+children_stand view p fs [] (ts ∷ tss) over stand = absurd over
+children_stand view p fs (c ∷ cs) [] over stand = absurd over
+
+bare_with : (cs : List ChildOf) (tss : List (List TableOf)) → map bare (with_tables cs tss) ≡ map bare cs
+bare_with [] tss = refl
+bare_with (c ∷ cs) [] = refl
+bare_with (c ∷ cs) (ts ∷ tss) = ap (λ xs. bare c ∷ xs) (bare_with cs tss)
+
+alike_back : (xs ys : List ChildOf) → Alike xs ys → Alike ys xs
+alike_back [] [] same = tt
+alike_back (x ∷ xs) (y ∷ ys) same = (sym same.0, sym same.1, alike_back xs ys same.2)
+alike_back [] (y ∷ ys) same = absurd same
+alike_back (x ∷ xs) [] same = absurd same
+
+pub join_rule : (f : CoreForm) (s : JoinOf) (d : JoinData) → IsJoin f s → JoinKeeps f d → JoinRule s.children d
+join_rule f s d is keeps =
+    rule_alike (children_of (map conjunct_as (conjuncts_of f))) s.children d
+    (alike_back s.children (children_of (map conjunct_as (conjuncts_of f)))
+    (alike_parts s.children (children_of (map conjunct_as (conjuncts_of f))) is.parts)) keeps.rule
+
+join_is : (f : CoreForm) (s new : JoinOf) (d : JoinData) → IsJoin f s → new ≡ join_of s d → IsJoin f new
+join_is f s new d is made =
+    record {
+      columns = ap (λ (x : JoinOf). x.columns) made ∙ is.columns;
+      tests = ap (λ (x : JoinOf). x.tests) made ∙ is.tests;
+      parts = ap (λ (x : JoinOf). map bare x.children) made ∙ bare_with s.children (kept_tables d) ∙ is.parts;
+      some = is.some;
+      whole = is.whole;
+    }
+
+join_stands : (view : View) (f : CoreForm) (s new : JoinOf) (d : JoinData) → JoinRule s.children d → new ≡ join_of s d
+    → JoinDataStands view f d → JoinStands view f new
+join_stands view f s new d rule made stands =
+    record {
+      pulled = ap (λ (x : JoinOf). x.pulled) made ∙ stands.pulled;
+      children =
+          subst (λ (x : JoinOf). ChildrenStand view x.pulled (operands f) x.children) (sym made)
+          (children_stand view d.pulled (operands f) s.children (kept_tables d) rule.over stands.children);
+    }
+
+pub join_resumed : (k : KeptTimes) (s new : JoinOf) (d : JoinData) → new ≡ join_of s d
+    → NodeResumed k (node.Join s) (kept.Join d) (node.Join new)
+join_resumed k s new d made (Not f) is keeps = (
+  join_is (Not f) s new d is made,
+  λ view whole suits reach stands. join_stands view (Not f) s new d (join_rule (Not f) s d is keeps) made stands,
+)
+join_resumed k s new d made (And f g) is keeps = (
+  join_is (And f g) s new d is made,
+  λ view whole suits reach stands. join_stands view (And f g) s new d (join_rule (And f g) s d is keeps) made stands,
+)
+join_resumed k s new d made f is keeps = absurd is
+
+pub join_fits : (k : KeptTimes) (s : JoinOf) (d : JoinData) (f : CoreForm) → IsFor f (node.Join s)
+    → NodeKeeps k f (kept.Join d) → JoinRule s.children d
+join_fits k s d (Not f) is keeps = join_rule (Not f) s d is keeps
+join_fits k s d (And f g) is keeps = join_rule (And f g) s d is keeps
+join_fits k s d f is keeps = absurd is
+
+-- ---- OR
+
+pub or_fits : (k : KeptTimes) (s : OrOf) (d : OrData) (f : CoreForm) → IsFor f (node.Or s) → NodeKeeps k f (kept.Or d)
+    → OrRule s.left s.right d
+or_fits k s d (Or f g) is keeps =
+    subst (λ cols. OrRule cols s.right d) (sym is.columns)
+    (subst (λ cols. OrRule (fv (meaning (Or f g))) cols d) (sym is.right) keeps)
+or_fits k s d f is keeps = absurd is
+
+pub or_resumed : (k : KeptTimes) (s new : OrOf) (d : OrData) → new ≡ or_of s.left s.right d
+    → NodeResumed k (node.Or s) (kept.Or d) (node.Or new)
+or_resumed k s new d made (Or f g) is keeps = (
+  record {
+    columns = ap (λ (x : OrOf). x.left) made ∙ is.columns;
+    right = ap (λ (x : OrOf). x.right) made ∙ is.right;
+  },
+  λ view whole suits reach stands. record {
+    pulled = ap (λ (x : OrOf). x.pulled) made ∙ stands.pulled;
+    left_pushed = ap (λ (x : OrOf). x.pulled + length x.lefts) made ∙ stands.left_pushed;
+    right_pushed = ap (λ (x : OrOf). x.pulled + length x.rights) made ∙ stands.right_pushed;
+    lefts = subst (λ (x : OrOf). AllExact view (meaning f) x.pulled x.lefts) (sym made) stands.lefts;
+    rights = subst (λ (x : OrOf). AllExact view (meaning g) x.pulled x.rights) (sym made) stands.rights;
+  },
+)
+or_resumed k s new d made f is keeps = absurd is
+
+-- ---- PREVIOUS and NEXT
+
+pub previous_fits : (k : KeptTimes) (s : PrevOf) (d : PrevData) (f : CoreForm) → IsFor f (node.Previous s)
+    → NodeKeeps k f (kept.Previous d) → PreviousRule s.columns (times_from k d.pulled) d
+previous_fits k s d (Previous i f) is keeps = subst (λ cols. PreviousRule cols (times_from k d.pulled) d) (sym is.columns) keeps
+previous_fits k s d f is keeps = absurd is
+
+previous_stands : (k : KeptTimes) (i : Interval) (f : CoreForm) (s new : PrevOf) (d : PrevData) → IsPrevious i f s
+    → new ≡ previous_of s.interval s.columns (time_before k d.pulled) (times_from k d.pulled) d
+    → (view : View) → Reach view k (d.pulled - 1) → PreviousDataStands view i f d → PreviousStands view i f new
+previous_stands k i f s new d is made view reach stands =
+    subst (PreviousStands view i f) (sym made)
+    (let at : d.pulled ≡ reached view (Previous i f) = stands.pulled in
+    let inside : reached view (Previous i f) ≤ length view.log = reached_within view (Previous i f) in
+    let first : k.first ≤ d.pulled - 1 = reach.first in
+    let rest : length (times_from k d.pulled) ≡ length view.log - d.pulled =
+    rest_size view k d.pulled reach.stamps (omega arith) in
+    let pushed : d.pulled - 1 + length d.tables.items ≡ reached view f = stands.pushed in
+    record {
+      pulled = stands.pulled;
+      timed = omega arith;
+      known =
+          known_from view k d.pulled reach.stamps (time_before k d.pulled) (times_from k d.pulled) reach.first
+          (omega arith) refl refl;
+      pushed = stands.pushed;
+      tables = stands.tables;
+      follows = λ dom v covers near t a dates tells. record {
+        last = λ some. last_dates view k d.pulled reach.stamps reach.first (omega arith) t dates some;
+        times = rest_dates view k d.pulled reach.stamps (omega arith) t dates;
+        tables = exact_tell view f dom v a (d.pulled - 1) d.tables.items covers near tells (omega arith) stands.tables;
+      };
+    })
+
+pub previous_resumed : (k : KeptTimes) (s new : PrevOf) (d : PrevData)
+    → new ≡ previous_of s.interval s.columns (time_before k d.pulled) (times_from k d.pulled) d
+    → NodeResumed k (node.Previous s) (kept.Previous d) (node.Previous new)
+previous_resumed k s new d made (Previous i f) is keeps = (
+  record {
+    interval = ap (λ (x : PrevOf). x.interval) made ∙ is.interval;
+    columns = ap (λ (x : PrevOf). x.columns) made ∙ is.columns;
+  },
+  λ view whole suits reach stands. previous_stands k i f s new d is made view reach stands,
+)
+previous_resumed k s new d made f is keeps = absurd is
+
+pub next_fits : (k : KeptTimes) (s : NextOf) (d : NextData) (f : CoreForm) → IsFor f (node.Next s)
+    → NodeKeeps k f (kept.Next d) → NextRule s.columns (times_from k d.pulled) d
+next_fits k s d (Next i f) is keeps = subst (λ cols. NextRule cols (times_from k d.pulled) d) (sym is.columns) keeps
+next_fits k s d f is keeps = absurd is
+
+next_tells : (view : View) (f : CoreForm) (d : NextData) (dom : List Value) (v : Valuation) (a : List Bool)
+    → Covers view dom → view.near (fv (meaning f)) v ≡ true → Tells view dom v f a
+    → (b : Bool) → cond b (d.pulled + 1 + length d.tables.items) 0 ≡ reached view f
+    → (b ≡ false → (d.pulled ≡ 0) × (length d.tables.items ≡ 0))
+    → AllExact view (meaning f) (d.pulled + 1) d.tables.items
+    → StandFrom (λ i table. has table v ≡ truth_at a i) (d.pulled + 1) d.tables.items
+next_tells view f d dom v a covers near tells true pushed bare exact =
+    exact_tell view f dom v a (d.pulled + 1) d.tables.items covers near tells (omega arith) exact
+next_tells view f d dom v a covers near tells false pushed bare exact = none d.tables.items (bare refl).1
+  where
+    none : (xs : List TableOf) → length xs ≡ 0 → StandFrom (λ i table. has table v ≡ truth_at a i) (d.pulled + 1) xs
+    none [] size = tt
+    none (x ∷ xs) size = absurd (omega arith)
+
+next_stands : (k : KeptTimes) (i : Interval) (f : CoreForm) (s new : NextOf) (d : NextData)
+    → new ≡ next_of s.interval s.columns (times_from k d.pulled) d
+    → (view : View) → Reach view k d.pulled → NextDataStands view i f d → NextStands view i f new
+next_stands k i f s new d made view reach stands =
+    subst (NextStands view i f) (sym made)
+    (let at : d.pulled ≡ reached view (Next i f) = stands.pulled in
+    let inside : reached view (Next i f) ≤ length view.log = reached_within view (Next i f) in
+    let rest : length (times_from k d.pulled) ≡ length view.log - d.pulled =
+    rest_size view k d.pulled reach.stamps reach.first in
+    record {
+      pulled = stands.pulled;
+      timed = omega arith;
+      kept = rest_is view k d.pulled reach.stamps reach.first;
+      pushed = stands.pushed;
+      bare = stands.bare;
+      tables = stands.tables;
+      follows = λ dom v covers near t a dates long tells. record {
+        long = omega arith;
+        times = rest_dates view k d.pulled reach.stamps reach.first t dates;
+        tables = next_tells view f d dom v a covers near tells d.started stands.pushed stands.bare stands.tables;
+      };
+    })
+
+pub next_resumed : (k : KeptTimes) (s new : NextOf) (d : NextData)
+    → new ≡ next_of s.interval s.columns (times_from k d.pulled) d
+    → NodeResumed k (node.Next s) (kept.Next d) (node.Next new)
+next_resumed k s new d made (Next i f) is keeps = (
+  record {
+    interval = ap (λ (x : NextOf). x.interval) made ∙ is.interval;
+    columns = ap (λ (x : NextOf). x.columns) made ∙ is.columns;
+  },
+  λ view whole suits reach stands. next_stands k i f s new d made view reach stands,
+)
+next_resumed k s new d made f is keeps = absurd is
+
+-- ---- windows
+
+since_fits : (k : KeptTimes) (i : Interval) (f g : CoreForm) (s : SinceOf) (d : SinceKept) → IsSinceState i f g s
+    → SinceKeeps k i f g d → KeepsRule (setting_of s) (time_before k d.kept.pulled) (times_from k d.kept.pulled) d.kept
+since_fits k i f g s d is keeps =
+    subst (λ c. KeepsRule c (time_before k d.kept.pulled) (times_from k d.kept.pulled) d.kept) (sym (setting_is i f g s is))
+    keeps.rule
+
+until_fits : (k : KeptTimes) (i : Interval) (f g : CoreForm) (s : UntilOf) (d : UntilKept) → IsUntilState i f g s
+    → UntilKeeps k i f g d → UntilRule (until_of (until_setting_of s) (times_from k d.kept.pulled) d.kept)
+until_fits k i f g s d is keeps =
+    subst (λ c. UntilRule (until_of c (times_from k d.kept.pulled) d.kept)) (sym (until_setting_is i f g s is)) keeps.rule
+
+pub window_since_fits : (k : KeptTimes) (s : SinceOf) (d : SinceKept) (w : CoreForm) → IsWindow w (window.Since s)
+    → WindowKeeps k w (data_of.Since d)
+    → KeepsRule (setting_of s) (time_before k d.kept.pulled) (times_from k d.kept.pulled) d.kept
+window_since_fits k s d (Since i f g) is keeps = since_fits k i f g s d is keeps
+window_since_fits k s d w is keeps = absurd is
+
+pub window_until_fits : (k : KeptTimes) (s : UntilOf) (d : UntilKept) (w : CoreForm) → IsWindow w (window.Until s)
+    → WindowKeeps k w (data_of.Until d)
+    → UntilRule (until_of (until_setting_of s) (times_from k d.kept.pulled) d.kept)
+window_until_fits k s d (Until i f g) is keeps = until_fits k i f g s d is keeps
+window_until_fits k s d w is keeps = absurd is
+
+pub since_in_window : (k : KeptTimes) (s new : SinceOf) (d : SinceKept) → SinceResumed k s d.kept new
+    → WindowResumed k (window.Since s) (data_of.Since d) (window.Since new)
+since_in_window k s new d res (Since i f g) is keeps = (
+  since_resumed_is k i f g s new d is keeps res,
+  λ view whole p suits reach stands.
+      (since_resumed_stands k i f g s new d is keeps res view whole p suits reach stands, refl),
+)
+since_in_window k s new d res w is keeps = absurd is
+
+pub until_in_window : (k : KeptTimes) (s new : UntilOf) (d : UntilKept) → UntilResumed k s d.kept new
+    → WindowResumed k (window.Until s) (data_of.Until d) (window.Until new)
+until_in_window k s new d res (Until i f g) is keeps = (
+  until_resumed_is k i f g s new d is keeps res,
+  λ view whole p suits reach stands.
+      (until_resumed_stands k i f g s new d is keeps res view whole p suits reach stands,
+      until_resumed_all k i f g s new d is keeps res view whole p suits reach stands),
+)
+until_in_window k s new d res w is keeps = absurd is
+
+pub node_since_fits : (k : KeptTimes) (s : SinceOf) (order : TableOf) (d : SinceKept) (f : CoreForm)
+    → IsFor f (node.Since s order) → NodeKeeps k f (kept.Window (data_of.Since d))
+    → KeepsRule (setting_of s) (time_before k d.kept.pulled) (times_from k d.kept.pulled) d.kept
+node_since_fits k s order d (Since i f g) is keeps = since_fits k i f g s d is.state keeps
+node_since_fits k s order d f is keeps = absurd is
+
+pub node_until_fits : (k : KeptTimes) (s : UntilOf) (order : TableOf) (d : UntilKept) (f : CoreForm)
+    → IsFor f (node.Until s order) → NodeKeeps k f (kept.Window (data_of.Until d))
+    → UntilRule (until_of (until_setting_of s) (times_from k d.kept.pulled) d.kept)
+node_until_fits k s order d (Until i f g) is keeps = until_fits k i f g s d is.state keeps
+node_until_fits k s order d f is keeps = absurd is
+
+pub since_resumed_node : (k : KeptTimes) (s new : SinceOf) (order : TableOf) (d : SinceKept) → SinceResumed k s d.kept new
+    → NodeResumed k (node.Since s order) (kept.Window (data_of.Since d)) (node.Since new order)
+since_resumed_node k s new order d res (Since i f g) is keeps = (
+  record { state = since_resumed_is k i f g s new d is.state keeps res; ordered = is.ordered },
+  λ view whole suits reach stands.
+      since_resumed_stands k i f g s new d is.state keeps res view whole (reached view (Since i f g)) suits reach stands,
+)
+since_resumed_node k s new order d res f is keeps = absurd is
+
+pub until_resumed_node : (k : KeptTimes) (s new : UntilOf) (order : TableOf) (d : UntilKept) → UntilResumed k s d.kept new
+    → NodeResumed k (node.Until s order) (kept.Window (data_of.Until d)) (node.Until new order)
+until_resumed_node k s new order d res (Until i f g) is keeps = (
+  record { state = until_resumed_is k i f g s new d is.state keeps res; ordered = is.ordered },
+  λ view whole suits reach stands. record {
+    at =
+        until_resumed_stands k i f g s new d is.state keeps res view whole (reached view (Until i f g)) suits reach
+        stands;
+    taken =
+        until_resumed_taken k i f g s new d is.state keeps res view whole (reached view (Until i f g)) suits reach
+        stands;
+  },
+)
+until_resumed_node k s new order d res f is keeps = absurd is
+
+-- ---- conjunctions whose right side only filters
+
+pub filter_fits : (k : KeptTimes) (s : FilterState) (tables : Vec TableOf) (w : WindowData) (f : CoreForm)
+    → IsFor f (node.Filter s) → NodeKeeps k f (kept.Filter tables w)
+    → (g : CoreForm) × IsWindow g s.window × WindowKeeps k g w
+filter_fits k s tables w (And f g) is keeps = (left_operand g, is.asks, keeps.2)
+filter_fits k s tables w f is keeps = absurd is
+
+-- the window is one of the right side, which has all that evaluating it relies on
+suits_window : (view : View) (whole f g : CoreForm) → Suits view whole (And f g) → Suits view whole (left_operand g)
+suits_window view whole f (Not g) suits = record { passes = suits.passes; sound = suits.sound.1 }
+suits_window view whole f g suits = record { passes = suits.passes; sound = suits.sound.1 }
+
+pub filter_resumed : (k : KeptTimes) (s new : FilterState) (tables : Vec TableOf) (w : WindowData)
+    → new.tables ≡ tables.items → new.negated ≡ s.negated → WindowResumed k s.window w new.window
+    → NodeResumed k (node.Filter s) (kept.Filter tables w) (node.Filter new)
+filter_resumed k s new tables w tables_are turns res (And f g) is keeps =
+    let resumed = res (left_operand g) is.asks keeps.2 in (
+      record { only = is.only; turns = turns ∙ is.turns; asks = resumed.0 },
+      λ view whole suits reach stands.
+          let behind = resumed.1 view whole (reached view (And f g)) (suits_window view whole f g suits) reach
+          stands.behind in
+          record {
+            pushed = ap (λ ts. reached view (And f g) + length ts) tables_are ∙ stands.pushed;
+            exact = subst (AllExact view (meaning f) (reached view (And f g))) (sym tables_are) stands.exact;
+            behind = behind.0;
+            all = behind.1;
+          },
+    )
+filter_resumed k s new tables w tables_are turns res f is keeps = absurd is

@@ -1,0 +1,204 @@
+-- A monitor that is resumed with data that stands for a log does.
+use Rattle.std.proofs.Common.{◌≡◌, ℕ, zero, suc, ◌+◌, ◌-◌, ◌<◌, ◌≤◌, List, [], ◌∷◌, ◌++◌, length, drop, refl, sym, subst, ap, ap₂, ◌∙◌, arith, append_assoc, append-nil}
+use Rattle.std.proofs.lemmas.List.{length-drop, length-map}
+use Rattle.std.specs.List.{AllByRecursion}
+use Rattle.mfotl_model.specs.Exact.{View}
+use Rattle.mfotl_model.specs.FreeVariables.{fv}
+use Rattle.mfotl_model.specs.Log.{times}
+use Rattle.mfotl_model.specs.Regions.{Passes, everywhere}
+use Rattle.mfotl_model.specs.declared.event.TimePoint.{TimePoint}
+use Rattle.monitorable.specs.CoreForms.{CoreForm, meaning}
+use Rattle.monitorable.specs.declared.role.Role.TheVariants as role
+use Rattle.monitor_state.proofs.BeginLemmas.{begins}
+use Rattle.monitor_state.proofs.ExactLemmas.{reached_within}
+use Rattle.monitor_state.proofs.LawProofs.{itself}
+use Rattle.monitor_state.proofs.MonitorSteps.{premises_all}
+use Rattle.monitor_state.proofs.RecordKeeps.{earliest_least, earliest_reaches}
+use Rattle.monitor_state.proofs.ResumeTimes.{log_size}
+use Rattle.monitor_state.specs.Beginnings.{Adds}
+use Rattle.monitor_state.specs.Going.{AllPremises}
+use Rattle.monitor_state.specs.Nodes.{nodes_of}
+use Rattle.monitor_state.specs.Resuming.{AllMatch, HalfResumed, Matches, NodeResumed, NodesResumed, Reach, Suits, SuitsWhole}
+use Rattle.monitor_state.specs.Stands.{NodesStand, StateOf, Stands}
+use Rattle.monitor_state.specs.StateRules.{NodesKeep, StateRule}
+use Rattle.monitor_state.specs.StateStands.{NodesDataStand, StateStands}
+use Rattle.monitor_state.specs.StateTimes.{KeptTimes, earliest, node_asks, times_of}
+use Rattle.monitor_state.specs.Steps.{Premises}
+use Rattle.monitor_state.specs.Views.{reached}
+use Rattle.monitor_state.specs.declared.node.Node.{Node}
+use Rattle.monitor_state.specs.declared.state.NodeData.{NodeData}
+use Rattle.monitor_state.specs.declared.state.State.{State}
+use Rattle.mfotl_model.specs.Times.{NeverFalls}
+use Rattle.monitor_state.specs.Steps.{longer}
+
+-- nodes of the core and data of the core match
+pub all_match : (view : View) (k : KeptTimes) (fs : List CoreForm) (ns : List Node) (ds : List NodeData)
+    → NodesStand view fs ns → NodesKeep k fs ds → AllMatch k ns ds
+all_match view k [] [] [] stand keep = tt
+all_match view k (f ∷ fs) (n ∷ ns) (d ∷ ds) stand keep =
+    ((f, stand.0, keep.0), all_match view k fs ns ds stand.2 keep.1)
+all_match view k [] (n ∷ ns) ds stand keep = absurd stand
+all_match view k (f ∷ fs) [] ds stand keep = absurd stand
+all_match view k [] [] (d ∷ ds) stand keep = absurd keep
+all_match view k (f ∷ fs) (n ∷ ns) [] stand keep = absurd keep
+
+-- what is taken for granted of each of the cores
+abbrev pub AllSuit : View → CoreForm → List CoreForm → Type 0
+AllSuit view whole fs = AllByRecursion (Suits view whole) fs
+
+premises_suit : (view : View) (point given : TimePoint) (whole : CoreForm) (fs : List CoreForm)
+    → (seen : View) → seen.near ≡ view.near → seen.whole ≡ view.whole
+    → AllPremises seen point given whole fs → AllSuit view whole fs
+premises_suit view point given whole [] seen near same all = tt
+premises_suit view point given whole (f ∷ fs) seen near same all = (
+  record {
+    passes = subst (λ w. Passes (fv w) view.near) same
+        (subst (λ n. Passes (fv seen.whole) n) near all.0.passes);
+    sound = all.0.sound;
+  },
+  premises_suit view point given whole fs seen near same all.1,
+)
+
+-- of each of a core's nodes
+all_suit : (view : View) (core : CoreForm) → SuitsWhole view core → AllSuit view core (nodes_of core)
+all_suit view core suits =
+    premises_suit view start start core (nodes_of core) empty refl refl
+    (premises_all empty start start core role.Whole core
+    (record {
+      rising = one_never_falls;
+      passes = suits.suits.passes;
+      whole_is = suits.whole;
+      sound = suits.suits.sound;
+      ts = refl;
+      same = itself empty core start.db;
+    }))
+  where
+    start : TimePoint
+    start = record { ts = 0; db = [] }
+
+    empty : View
+    empty = record view { log = [] }
+
+    one_never_falls : NeverFalls (times (longer empty start).log)
+    one_never_falls zero zero low below = omega arith
+    one_never_falls zero (suc j) low below = absurd (let one : suc j < 1 = below in omega arith)
+    one_never_falls (suc i) j low below = absurd (let one : j < 1 = below in omega arith)
+
+nodes_stand : (view : View) (k : KeptTimes) (whole : CoreForm) (fs : List CoreForm) (old new : List Node) (ds : List NodeData)
+    → k.stamps ≡ drop k.first (times view.log) → AllByRecursion (λ d. k.first ≤ node_asks k.first d) ds
+    → AllSuit view whole fs → (seen : View) → NodesStand seen fs old → NodesKeep k fs ds → NodesResumed k old ds new
+    → NodesDataStand view fs ds → NodesStand view fs new
+nodes_stand view k whole [] [] [] [] are low suit seen stand keep res data_stand = tt
+nodes_stand view k whole (f ∷ fs) (o ∷ os) (n ∷ ns) (d ∷ ds) are low suit seen stand keep res data_stand =
+    let one = res.0 f stand.0 keep.0 in (
+      one.0,
+      one.1 view whole suit.0 (record { stamps = are; first = low.0 }) data_stand.0,
+      nodes_stand view k whole fs os ns ds are low.1 suit.1 seen stand.2 keep.1 res.1 data_stand.1,
+    )
+nodes_stand view k whole [] (o ∷ os) ns ds are low suit seen stand keep res data_stand = absurd stand
+nodes_stand view k whole (f ∷ fs) [] ns ds are low suit seen stand keep res data_stand = absurd stand
+nodes_stand view k whole [] [] ns (d ∷ ds) are low suit seen stand keep res data_stand = absurd keep
+nodes_stand view k whole (f ∷ fs) (o ∷ os) ns [] are low suit seen stand keep res data_stand = absurd keep
+nodes_stand view k whole [] [] (n ∷ ns) [] are low suit seen stand keep res data_stand = absurd res
+nodes_stand view k whole (f ∷ fs) (o ∷ os) [] (d ∷ ds) are low suit seen stand keep res data_stand = absurd res
+
+-- the view of the empty log
+abbrev pub empty_view : CoreForm → View
+empty_view core = record { near = everywhere; log = []; whole = meaning core }
+
+-- nodes that were just made stand for the empty log
+pub fresh_stand : (core : CoreForm) (fresh : List Node) → Adds (nodes_of core) [] fresh
+    → NodesStand (empty_view core) (nodes_of core) fresh
+fresh_stand core fresh adds =
+    (begins core (record { taken = 0; given = 0; first = 0; times = []; nodes = fresh }) refl refl refl refl adds
+    (empty_view core) refl).nodes
+
+-- the timestamps of a state, from a first place on
+pub times_are : (kept : State) (first : ℕ) (stamps : List ℕ) → first ≡ kept.taken - length kept.times.items
+    → stamps ≡ kept.times.items → times_of kept ≡ record { first = first; stamps = stamps }
+times_are kept first stamps first_is stamps_are =
+    ap₂ (λ n xs. record { first = n; stamps = xs }) (sym first_is) (sym stamps_are)
+
+-- the monitor stands for the log
+pub state_resumed : (core : CoreForm) (kept : State) (fresh : List Node) (new : StateOf)
+    → NodesStand (empty_view core) (nodes_of core) fresh → StateRule core kept
+    → NodesResumed (times_of kept) fresh kept.nodes.items new.nodes
+    → new.taken ≡ kept.taken → new.given ≡ kept.given → new.first ≡ (times_of kept).first → new.times ≡ kept.times.items
+    → (view : View) → SuitsWhole view core → StateStands view core kept → Stands view core new
+state_resumed core kept fresh new begun rule res taken given first stamps view suits stands =
+    let least : earliest kept.given kept.nodes.items ≤ kept.given = earliest_least kept.given kept.nodes.items in
+    let at : kept.given ≡ reached view core = stands.given in
+    let most : reached view core ≤ length view.log = reached_within view core in
+    let all : length (times view.log) ≡ length view.log = log_size view in
+    let took : kept.taken ≡ length view.log = stands.taken in
+    let rest : length kept.times.items ≡ length (times view.log) - earliest kept.given kept.nodes.items =
+    ap length stands.times ∙ length-drop (earliest kept.given kept.nodes.items) (times view.log) in
+    let first_is : (times_of kept).first ≡ earliest kept.given kept.nodes.items = omega arith in
+    let kept_from : kept.times.items ≡ drop (times_of kept).first (times view.log) =
+    stands.times ∙ ap (λ n. drop n (times view.log)) (sym first_is) in
+    let low : new.first ≤ new.given = omega arith in
+    record {
+      taken = taken ∙ stands.taken;
+      given = given ∙ stands.given;
+      first = low;
+      times = stamps ∙ kept_from ∙ ap (λ n. drop n (times view.log)) (sym first);
+      nodes =
+          nodes_stand view (times_of kept) core (nodes_of core) fresh new.nodes kept.nodes.items kept_from
+          (earliest_reaches (times_of kept).first kept.given kept.nodes.items first_is) (all_suit view core suits)
+          (empty_view core) begun rule res stands.nodes;
+    }
+
+-- ---- node by node
+
+pub half_begins : (k : KeptTimes) (nodes : List Node) (ds : List NodeData) → AllMatch k nodes ds
+    → HalfResumed k nodes ds nodes ds []
+half_begins k nodes ds match =
+    record { done = []; used = []; nodes_are = refl; kept_are = refl; resumed = tt; others = match }
+
+resumed_append : (k : KeptTimes) (o : Node) (d : NodeData) (n : Node) (os : List Node) (ds : List NodeData) (ns : List Node)
+    → NodesResumed k os ds ns → NodeResumed k o d n → NodesResumed k (os ++ o ∷ []) (ds ++ d ∷ []) (ns ++ n ∷ [])
+resumed_append k o d n [] [] [] all one = (one, tt)
+resumed_append k o d n (p ∷ os) (e ∷ ds) (m ∷ ns) all one = (all.0, resumed_append k o d n os ds ns all.1 one)
+resumed_append k o d n [] [] (m ∷ ns) all one = absurd all
+resumed_append k o d n [] (e ∷ ds) ns all one = absurd all
+resumed_append k o d n (p ∷ os) [] ns all one = absurd all
+resumed_append k o d n (p ∷ os) (e ∷ ds) [] all one = absurd all
+
+pub first_matches : (k : KeptTimes) (nodes : List Node) (ds : List NodeData) (n : Node) (rest : List Node) (d : NodeData)
+    (left : List NodeData) (old : List Node) (used : List NodeData) (made : List Node)
+    → HalfResumed k nodes ds old used made → old ≡ n ∷ rest → used ≡ d ∷ left → Matches k n d
+first_matches k nodes ds n rest d left old used made half front data_front =
+    (subst (λ xs. AllMatch k (n ∷ rest) xs) data_front (subst (λ xs. AllMatch k xs used) front half.others)).0
+
+pub half_goes : (k : KeptTimes) (nodes : List Node) (ds : List NodeData) (n : Node) (rest : List Node) (d : NodeData)
+    (left : List NodeData) (old : List Node) (used : List NodeData) (made more : List Node) (new : Node)
+    → HalfResumed k nodes ds old used made → old ≡ n ∷ rest → used ≡ d ∷ left → NodeResumed k n d new
+    → more ≡ made ++ new ∷ [] → HalfResumed k nodes ds rest left more
+half_goes k nodes ds n rest d left old used made more new half front data_front one is =
+    record {
+      done = half.done ++ n ∷ [];
+      used = half.used ++ d ∷ [];
+      nodes_are = half.nodes_are ∙ ap (λ xs. half.done ++ xs) front ∙ sym (append_assoc half.done (n ∷ []) rest);
+      kept_are = half.kept_are ∙ ap (λ xs. half.used ++ xs) data_front ∙ sym (append_assoc half.used (d ∷ []) left);
+      resumed =
+          subst (NodesResumed k (half.done ++ n ∷ []) (half.used ++ d ∷ [])) (sym is)
+          (resumed_append k n d new half.done half.used made half.resumed one);
+      others = (subst (λ xs. AllMatch k (n ∷ rest) xs) data_front (subst (λ xs. AllMatch k xs used) front half.others)).1;
+    }
+
+pub half_ends : (k : KeptTimes) (nodes : List Node) (ds : List NodeData) (old : List Node) (used : List NodeData)
+    (made : List Node) → HalfResumed k nodes ds old used made → old ≡ [] → NodesResumed k nodes ds made
+half_ends k nodes ds old used made half none =
+    subst (λ xs. NodesResumed k xs ds made) (sym (half.nodes_are ∙ ap (λ xs. half.done ++ xs) none ∙ append-nil half.done))
+    (subst (λ xs. NodesResumed k half.done xs made)
+    (sym (half.kept_are ∙ ap (λ xs. half.used ++ xs) (nothing_left used (subst (λ xs. AllMatch k xs used) none half.others))
+    ∙ append-nil half.used)) half.resumed)
+  where
+    nothing_left : (xs : List NodeData) → AllMatch k [] xs → xs ≡ []
+    nothing_left [] match = refl
+    nothing_left (x ∷ xs) match = absurd match
+
+-- a list that is its own rest is empty
+pub own_rest : (nodes : List Node) → nodes ≡ drop 1 nodes → nodes ≡ []
+own_rest [] is = refl
+own_rest (n ∷ nodes) is = absurd (let size : length (n ∷ nodes) ≡ length nodes = ap length is in omega arith)

@@ -1,0 +1,221 @@
+-- A SINCE or an UNTIL that is resumed with data that stands for a log does.
+use Rattle.std.proofs.Common.{◌≡◌, ℕ, ◌+◌, ◌-◌, ◌<◌, ◌≤◌, Bool, true, min, nat_eq, nat_le, List, length, map, drop, refl, sym, subst, ap, ap₂, ◌∙◌, arith, slice_index}
+use Rattle.std.proofs.lemmas.Bool.{eq-eqb}
+use Rattle.std.proofs.lemmas.List.{get_or-drop}
+use Rattle.mfotl_model.specs.Exact.{AllExact, Covers, View}
+use Rattle.mfotl_model.specs.FreeVariables.{fv}
+use Rattle.mfotl_model.specs.Log.{times}
+use Rattle.mfotl_model.specs.Satisfaction.{Valuation, time_at, truth_at}
+use Rattle.mfotl_model.specs.Tables.{has}
+use Rattle.mfotl_model.specs.declared.interval.Interval.{Interval}
+use Rattle.mfotl_model.specs.declared.value.Value.{Value}
+use Rattle.eval_since.proofs.RecalledLemmas.{recalls_is}
+use Rattle.eval_since.specs.Recalled.{recalls, times_for}
+use Rattle.eval_since.specs.SinceBefore.{since_before}
+use Rattle.eval_since.specs.SinceData.{FollowsData, SinceSetting, setting_of}
+use Rattle.eval_since.specs.SinceView.{Follows, SinceOf}
+use Rattle.eval_since.specs.Times.{reaches}
+use Rattle.eval_until.specs.Entries.{entries_of, met_by}
+use Rattle.eval_until.specs.Recalled.{entries_kept, starts_kept}
+use Rattle.eval_until.specs.Starts.{start_of}
+use Rattle.eval_until.specs.UntilBefore.{until_before}
+use Rattle.eval_until.specs.UntilData.{UntilSetting, setting_of as until_setting_of, until_of}
+use Rattle.eval_until.specs.UntilView.{Follows as FollowsUntil, FollowsLeft, UntilOf, to_take, took_all}
+use Rattle.monitorable.specs.CoreForms.{CoreForm, meaning, Since, Until}
+use Rattle.relations.specs.Pushed.{StandFrom, left_holds}
+use Rattle.monitor_state.proofs.ExactLemmas.{exact_tell, reached_within}
+use Rattle.monitor_state.proofs.MarkLemmas.{met_is}
+use Rattle.monitor_state.proofs.RegionLemmas.{near_part}
+use Rattle.monitor_state.proofs.ResumeTimes.{known_from, last_dates, log_size, rest_dates, rest_is, rest_size}
+use Rattle.monitor_state.proofs.SinceSteps.{free_operand, left_tell}
+use Rattle.monitor_state.specs.Nodes.{is_negated, left_operand}
+use Rattle.monitor_state.specs.Resuming.{Reach, SinceResumed, Suits, UntilResumed}
+use Rattle.monitor_state.specs.SinceNode.{IsSinceState, SinceStandsAt}
+use Rattle.monitor_state.specs.Stamps.{stamps}
+use Rattle.monitor_state.specs.StateRules.{SinceKeeps, UntilKeeps}
+use Rattle.monitor_state.specs.StateStands.{SinceDataStands, UntilDataStands, marks_for}
+use Rattle.monitor_state.specs.StateTimes.{KeptTimes, time_before, times_from}
+use Rattle.monitor_state.specs.UntilNode.{IsUntilState, UntilStandsAt}
+use Rattle.monitor_state.specs.Views.{Dates, Tells, reached}
+use Rattle.monitor_state.specs.declared.state.SinceKept.{SinceKept}
+use Rattle.monitor_state.specs.declared.state.UntilKept.{UntilKept}
+
+module _ (k : KeptTimes) (i : Interval) (f g : CoreForm) (old new : SinceOf) (d : SinceKept) (is : IsSinceState i f g old)
+    (keeps : SinceKeeps k i f g d) (res : SinceResumed k old d.kept new) where
+  pub since_resumed_is : IsSinceState i f g new
+  since_resumed_is =
+      record {
+        interval = ap (λ (c : SinceSetting). c.interval) res.setting ∙ is.interval;
+        negated = ap (λ (c : SinceSetting). c.negated) res.setting ∙ is.negated;
+        left = ap (λ (c : SinceSetting). c.left) res.setting ∙ is.left;
+        right = ap (λ (c : SinceSetting). c.right) res.setting ∙ is.right;
+      }
+
+  module _ (view : View) (whole : CoreForm) (p : ℕ) (suits : Suits view whole (Since i f g))
+      (reach : Reach view k (d.kept.pulled - 1)) (stands : SinceDataStands view p i f g d.kept) where
+    in_log : d.kept.pulled ≤ length view.log
+    in_log =
+        let lefts : d.kept.pulled + length d.kept.lefts.items ≡ reached view f = stands.left_pushed in
+        let most : reached view f ≤ length view.log = reached_within view f in
+        omega arith
+
+    from_first : k.first ≤ d.kept.pulled
+    from_first = let low : k.first ≤ d.kept.pulled - 1 = reach.first in omega arith
+
+    module _ (dom : List Value) (v : Valuation) (covers : Covers view dom)
+        (near : view.near (fv (meaning g)) v ≡ true) (t : List ℕ) (a b : List Bool) (dates : Dates view t)
+        (tells : Tells view dom v f a) (tells_right : Tells view dom v g b) where
+      recalled : (x : ℕ) → (0 < d.kept.pulled → time_before k d.kept.pulled ≤ x)
+          → recalls old.window.interval d.kept.rows.items x (map v old.window.right)
+          ≡ since_before old.window.interval t a b d.kept.pulled x
+      recalled x low =
+          recalls_is old.window.interval d.kept.rows.items x (map v old.window.right) keeps.rule.rows
+          ∙ ap₂ (λ c cols. reaches c (times_for d.kept.rows.items (map v cols)) x) is.interval is.right
+          ∙ stands.window dom v covers near t a b dates tells tells_right x (λ some.
+          subst (λ y. y ≤ x) (last_dates view k d.kept.pulled reach.stamps reach.first in_log t dates some) (low some))
+          ∙ ap (λ c. since_before c t a b d.kept.pulled x) (sym is.interval)
+
+      data_follows : FollowsData (setting_of old) (time_before k d.kept.pulled) (times_from k d.kept.pulled) d.kept t a b v
+      data_follows =
+          let lefts : d.kept.pulled + length d.kept.lefts.items ≡ reached view f = stands.left_pushed in
+          let rights : d.kept.pulled + length d.kept.rights.items ≡ reached view g = stands.right_pushed in
+          record {
+            last = λ some. last_dates view k d.kept.pulled reach.stamps reach.first in_log t dates some;
+            times = rest_dates view k d.kept.pulled reach.stamps from_first t dates;
+            lefts =
+                subst (λ n. StandFrom (λ j table. left_holds n table v ≡ truth_at a j) d.kept.pulled d.kept.lefts.items)
+                (sym is.negated)
+                (left_tell view f dom v a d.kept.pulled d.kept.lefts.items covers
+                (near_part (fv view.whole) view.near suits.passes (fv (meaning f)) (fv (meaning g)) suits.sound.0 v near)
+                tells (omega arith) stands.lefts);
+            rights =
+                exact_tell view g dom v b d.kept.pulled d.kept.rights.items covers near tells_right (omega arith) stands.rights;
+            window = recalled;
+          }
+
+    pub since_resumed_stands : SinceStandsAt view p i f g new
+    since_resumed_stands =
+        let low : k.first ≤ d.kept.pulled = from_first in
+        let inside : d.kept.pulled ≤ length view.log = in_log in
+        let pulled : new.pulled ≡ d.kept.pulled = res.pulled in
+        let rest : length new.times ≡ length view.log - d.kept.pulled =
+        ap length res.times ∙ rest_size view k d.kept.pulled reach.stamps low in
+        record {
+          pulled = res.pulled ∙ stands.pulled;
+          timed = omega arith;
+          known =
+              ap (λ n. stamps n new.window.last new.times) res.pulled
+              ∙ known_from view k d.kept.pulled reach.stamps new.window.last new.times reach.first in_log res.last res.times
+              ∙ ap (λ n. drop (n - 1) (times view.log)) (sym res.pulled);
+          left_pushed = ap₂ (λ n ts. n + length ts) res.pulled res.lefts ∙ stands.left_pushed;
+          right_pushed = ap₂ (λ n ts. n + length ts) res.pulled res.rights ∙ stands.right_pushed;
+          lefts = rw (res.pulled, res.lefts) stands.lefts;
+          rights = rw (res.pulled, res.rights) stands.rights;
+          follows = λ dom v covers near t a b dates tells tells_right.
+              res.follows t a b v (data_follows dom v covers near t a b dates tells tells_right);
+        }
+
+module _ (k : KeptTimes) (i : Interval) (f g : CoreForm) (old new : UntilOf) (d : UntilKept) (is : IsUntilState i f g old)
+    (keeps : UntilKeeps k i f g d) (res : UntilResumed k old d.kept new) where
+  pub until_resumed_is : IsUntilState i f g new
+  until_resumed_is =
+      record {
+        interval = ap (λ (c : UntilSetting). c.interval) res.setting ∙ is.interval;
+        negated = ap (λ (c : UntilSetting). c.negated) res.setting ∙ is.negated;
+        left = ap (λ (c : UntilSetting). c.left) res.setting ∙ is.left;
+        right = ap (λ (c : UntilSetting). c.right) res.setting ∙ is.right;
+      }
+
+  module _ (view : View) (whole : CoreForm) (p : ℕ) (suits : Suits view whole (Until i f g))
+      (reach : Reach view k d.kept.pulled) (stands : UntilDataStands view p i f g d.kept) where
+    abbrev described : UntilOf
+    described = until_of (until_setting_of old) (times_from k d.kept.pulled) d.kept
+
+    taken_in_log : d.kept.taken ≤ length view.log
+    taken_in_log =
+        let lefts : d.kept.taken + length d.kept.lefts.items ≡ reached view f = stands.left_pushed in
+        let most : reached view f ≤ length view.log = reached_within view f in
+        omega arith
+
+    until_in_log : d.kept.pulled ≤ length view.log
+    until_in_log =
+        let low : d.kept.pulled ≤ d.kept.taken = keeps.rule.low in
+        let most : d.kept.taken ≤ length view.log = taken_in_log in
+        omega arith
+
+    left_follows : (dom : List Value) (v : Valuation) → Covers view dom → view.near (fv (meaning f)) v ≡ true
+        → (a : List Bool) → Tells view dom v f a → FollowsLeft described a v
+    left_follows dom v covers near a tells =
+        let lefts : d.kept.taken + length d.kept.lefts.items ≡ reached view f = stands.left_pushed in
+        record {
+          lefts =
+              subst (λ n. StandFrom (λ j table. left_holds n table v ≡ truth_at a j) d.kept.taken d.kept.lefts.items)
+              (sym is.negated)
+              (left_tell view f dom v a d.kept.taken d.kept.lefts.items covers near tells (omega arith) stands.lefts);
+          runs = λ j low.
+              ap₂ (λ n cols. nat_le (start_of n d.kept.taken (starts_kept d.kept.starts.items) (map v cols)) j)
+              is.negated is.left
+              ∙ stands.runs dom v covers (ap (λ cols. view.near cols v) (free_operand f) ∙ near) a tells j low;
+        }
+
+    known : (t : List ℕ) → Dates view t → (q : ℕ) → d.kept.pulled ≤ q → q < d.kept.taken
+        → slice_index (times_from k d.kept.pulled) (q - d.kept.pulled) ≡ time_at t q
+    known t dates q behind below =
+        let most : d.kept.taken ≤ length view.log = taken_in_log in
+        let sum : d.kept.pulled + (q - d.kept.pulled) ≡ q = omega arith in
+        ap (λ xs. slice_index xs (q - d.kept.pulled)) (rest_is view k d.kept.pulled reach.stamps reach.first)
+        ∙ get_or-drop d.kept.pulled (times view.log) (q - d.kept.pulled) 0 ∙ ap (time_at (times view.log)) sum
+        ∙ sym (dates q (omega arith))
+
+    data_follows_until : (dom : List Value) (v : Valuation) → Covers view dom → view.near (fv (meaning g)) v ≡ true
+        → (t : List ℕ) (a b : List Bool) → Dates view t → length view.log ≤ length t → Tells view dom v f a
+        → Tells view dom v g b → FollowsUntil described t a b v
+    data_follows_until dom v covers near t a b dates long tells tells_right =
+        let rights : d.kept.taken + length d.kept.rights.items ≡ reached view g = stands.right_pushed in
+        let inside : d.kept.pulled ≤ length view.log = until_in_log in
+        let rest : length (times_from k d.kept.pulled) ≡ length view.log - d.kept.pulled =
+        rest_size view k d.kept.pulled reach.stamps reach.first in
+        record {
+          left =
+              left_follows dom v covers
+              (near_part (fv view.whole) view.near suits.passes (fv (meaning f)) (fv (meaning g)) suits.sound.0 v near)
+              a tells;
+          long = omega arith;
+          times = rest_dates view k d.kept.pulled reach.stamps reach.first t dates;
+          rights =
+              exact_tell view g dom v b d.kept.taken d.kept.rights.items covers near tells_right (omega arith) stands.rights;
+          window = λ j low.
+              ap₂ (λ c cols. met_by c j (time_at t j)
+              (entries_of (entries_kept d.kept.pulled (times_from k d.kept.pulled) d.kept.rows.items) (map v cols)))
+              is.interval is.right
+              ∙ met_is i j d.kept.pulled d.kept.taken t (times_from k d.kept.pulled) d.kept.rows.items
+              (map v (fv (meaning g))) (λ q behind below. known t dates q behind below) keeps.rule.waiting
+              ∙ stands.window dom v covers near t a b dates long tells tells_right j low
+              ∙ ap (λ c. until_before c t a b d.kept.taken j) (sym is.interval);
+        }
+
+    pub until_resumed_stands : UntilStandsAt view p i f g new
+    until_resumed_stands =
+        record {
+          pulled = res.pulled ∙ stands.pulled;
+          kept =
+              res.times ∙ rest_is view k d.kept.pulled reach.stamps reach.first
+              ∙ ap (λ n. drop n (times view.log)) (sym res.pulled);
+          left_pushed = ap₂ (λ n ts. n + length ts) res.taken res.lefts ∙ stands.left_pushed;
+          right_pushed = ap₂ (λ n ts. n + length ts) res.taken res.rights ∙ stands.right_pushed;
+          lefts = rw (res.taken, res.lefts) stands.lefts;
+          rights = rw (res.taken, res.rights) stands.rights;
+          left = λ dom v covers near a tells. res.left a v (left_follows dom v covers near a tells);
+          follows = λ dom v covers near t a b dates long tells tells_right.
+              res.follows t a b v (data_follows_until dom v covers near t a b dates long tells tells_right);
+        }
+
+    pub until_resumed_taken : new.ahead.taken ≡ min (reached view f) (reached view g)
+    until_resumed_taken = res.taken ∙ stands.taken
+
+    pub until_resumed_all : took_all new ≡ true
+    until_resumed_all =
+        let at : new.ahead.taken ≡ min (reached view f) (reached view g) = until_resumed_taken in
+        let lefts : new.ahead.taken + length new.lefts ≡ reached view f = until_resumed_stands.left_pushed in
+        let rights : new.ahead.taken + length new.rights ≡ reached view g = until_resumed_stands.right_pushed in
+        eq-eqb (to_take new) 0 (omega arith)

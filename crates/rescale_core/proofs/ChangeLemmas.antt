@@ -1,0 +1,218 @@
+-- What a router queues of a change is what the world makes due.
+use Rattle.std.proofs.Common.{◌≡◌, ℕ, zero, suc, ◌+◌, ◌<◌, ◌≤◌, Bool, true, false, cond, nat_eq, nat_lt, Option}
+use Rattle.std.proofs.Common.{Some, None, option_map, List, [], ◌∷◌, ◌++◌, length, map, get_or, sym, refl, ap, ◌∙◌}
+use Rattle.std.proofs.Common.{subst, append-nil, append_assoc, arith, ne_eqb}
+use Rattle.std.proofs.lemmas.List.{map-append}
+use Rattle.std.specs.List.{AllByRecursion, range_with_len}
+use native.Mathlib.Decide.{ℕ_discrete}
+use Rattle.mfotl_model.specs.Strategies.{Strategy, workers_of}
+use Rattle.monitorable.specs.CoreForms.{CoreForm}
+use Rattle.monitorable.specs.Cores.{core_form}
+use Rattle.verdict_merge.specs.Gathers.{workers_in}
+use Rattle.rescale_core.proofs.Chains.{some_workers}
+use Rattle.rescale_core.proofs.GatherLemmas.{gather_change, none_begun, spot_up}
+use Rattle.rescale_core.proofs.Pieces.{skips}
+use Rattle.rescale_core.proofs.ReadingLemmas.{reads_on}
+use Rattle.rescale_core.proofs.Soundness.{step_sound}
+use Rattle.rescale_core.proofs.WorldLemmas.{spot_more}
+use Rattle.rescale_core.specs.Chances.Chance.{Open}
+use Rattle.rescale_core.specs.Lines.{AreSound, Spot, Turn, dues, first_spot, if_below, moved, place, spot_after}
+use Rattle.rescale_core.specs.Lines.{turn_at}
+use Rattle.rescale_core.specs.Lines.Due.{Parting, Hole}
+use Rattle.rescale_core.specs.Queues.{chances, queue_at}
+use Rattle.rescale_core.specs.Routing.{IsRouterOf, part_below, place_below}
+use Rattle.rescale_core.specs.Slots.{chance_of, weight_of}
+use Rattle.rescale_core.specs.Soundly.{Known, turn_of}
+use Rattle.rescale_core.specs.Waiting.{weight, weights_in}
+use Rattle.rescale_core.specs.Workers.{IsFor}
+use Rattle.rescale_core.specs.Worlds.{World, after, chance, chance_from, for_place, nth, queue_in, spot_in}
+use Rattle.rescale_core.specs.Worlds.Move.{Read}
+use Rattle.rescale_core.specs.declared.item.Entry.{Entry}
+use Rattle.rescale_core.specs.declared.item.Entry.TheVariants.{Point, Change}
+use Rattle.rescale_core.specs.declared.item.Item.TheVariants.{Adopt, Part}
+use Rattle.rescale_core.specs.declared.piece.Piece.{Piece}
+use Rattle.rescale_core.specs.declared.routes.Router.{Router}
+use Rattle.rescale_core.specs.declared.slot.Slot.{Slot}
+use Rattle.rescale_core.specs.declared.slot.Slot.TheVariants.{Ready, Room}
+
+-- ---- where reading stands
+
+pub spot_for : (c : CoreForm) (es : List Entry) (a : Spot) → IsFor c a.strategy → AreSound c a es
+    → IsFor c (spot_after a es).strategy
+spot_for c [] a f s = f
+spot_for c (Point p ∷ es) a f s = spot_for c es (moved a (Point p)) f s.1
+spot_for c (Change x ∷ es) a f s = spot_for c es (moved a (Change x)) s.0 s.1
+
+-- the present strategy has a worker
+pub some_left : (r : Router) (w : World) → IsRouterOf r w → 0 < workers_of r.strategy
+some_left r w is =
+    subst (λ s. 0 < workers_of s) (sym is.strategy)
+    (some_workers w.core (spot_in w).strategy
+    (spot_for w.core w.read (first_spot w.first) is.sound.first is.sound.read))
+
+-- the next generation wasn't begun
+pub not_begun : (r : Router) (w : World) → IsRouterOf r w → workers_in r.gather.begun (r.generation + 1) ≡ 0
+not_begun r w is =
+    none_begun r.gather.begun (r.generation + 1) (spot_in w).generation is.gather.later
+    (let g = is.generation in omega arith)
+
+turn_within : (es : List Entry) (a : Spot) (g : ℕ) (t : Turn) → turn_of a es g ≡ Some t
+    → g ≤ (spot_after a es).generation
+turn_within [] a g t e = cc
+turn_within (Point p ∷ es) a g t e = turn_within es (moved a (Point p)) g t e
+turn_within (Change x ∷ es) a g t e =
+    here (ℕ_discrete g (a.generation + 1)) (turn_within es (moved a (Change x)) g t)
+  where
+    here : Dec (g ≡ a.generation + 1)
+        → (turn_of (moved a (Change x)) es g ≡ Some t → g ≤ (spot_after (moved a (Change x)) es).generation)
+        → g ≤ (spot_after (moved a (Change x)) es).generation
+    here (yes is) rest = let h = spot_up es (moved a (Change x)) in omega arith
+    here (no n) rest =
+        rest (ap (λ b. cond b (Some (turn_at a x)) (turn_of (moved a (Change x)) es g))
+        (sym (ne_eqb g (a.generation + 1) n)) ∙ e)
+
+-- no piece is of a later generation
+none_yet : (f : ℕ → Option Turn) (c : CoreForm) (g q top : ℕ) (pieces : List Piece)
+    → ((h : ℕ) (t : Turn) → f h ≡ Some t → h ≤ top) → top < g → AllByRecursion (Known f c) pieces
+    → for_place g q pieces ≡ []
+none_yet f c g q top [] b l k = refl
+none_yet f c g q top (p ∷ pieces) b l k =
+    skips g q p pieces (λ e. (let h : p.generation ≤ top = b p.generation k.0.turn k.0.is in omega arith))
+    ∙ none_yet f c g q top pieces b l k.1
+
+-- ---- parts and places
+
+if_map : {A B : Type 0} (f : A → B) (b : Bool) (xs : List A) → map f (cond b xs []) ≡ cond b (map f xs) []
+if_map f true xs = refl
+if_map f false xs = refl
+
+-- a place of which no piece came
+rooms_open : (c : CoreForm) (q : ℕ) (pieces : List Piece) (t : Turn) (count n j : ℕ)
+    → for_place t.generation q pieces ≡ []
+    → chances (map (λ i. Room t.generation t.new (nat_eq (i + 1) count) None) (range_with_len j n))
+    ≡ map (chance c q pieces) (map (λ i. Hole t i) (range_with_len j n))
+rooms_open c q pieces t count zero j e = refl
+rooms_open c q pieces t count (suc n) j e =
+    ap (λ cs. Open t.generation t.new ∷ cs) (rooms_open c q pieces t count n (j + 1) e)
+    ∙ ap (λ xs. chance_from (Hole t j) (option_map (λ p. Adopt p t.new) (nth xs j))
+    ∷ map (chance c q pieces) (map (λ i. Hole t i) (range_with_len (j + 1) n))) (sym e)
+
+rooms_weigh : (t : Turn) (n j : ℕ)
+    → map weight_of (map (λ i. Room t.generation t.new (nat_eq (i + 1) (workers_of t.old)) None) (range_with_len j n))
+    ≡ map weight (map (λ i. Hole t i) (range_with_len j n))
+rooms_weigh t zero j = refl
+rooms_weigh t (suc n) j =
+    ap (λ ns. cond (nat_eq (j + 1) (workers_of t.old)) 1 0 ∷ ns) (rooms_weigh t n (j + 1))
+
+-- what a change adds to worker q's queue
+abbrev pub changes_for : ℕ → Spot → Strategy → List Slot
+changes_for q a s =
+    part_below q (workers_of a.strategy) (a.generation + 1) a.strategy s
+    ++ place_below q (workers_of s) (a.generation + 1) s (workers_of a.strategy)
+
+change_chances : (c : CoreForm) (q : ℕ) (pieces : List Piece) (a : Spot) (s : Strategy)
+    → for_place (a.generation + 1) q pieces ≡ []
+    → chances (changes_for q a s) ≡ map (chance c q pieces) (dues q a (Change s) ++ [])
+change_chances c q pieces a s e =
+    let t : Turn = turn_at a s in
+    map-append chance_of (part_below q (workers_of a.strategy) (a.generation + 1) a.strategy s)
+    (place_below q (workers_of s) (a.generation + 1) s (workers_of a.strategy))
+    ∙ ap (λ x. x ++ chances (place_below q (workers_of s) (a.generation + 1) s (workers_of a.strategy)))
+    (if_map chance_of (nat_lt q (workers_of a.strategy)) (Ready (Part (a.generation + 1) a.strategy s) ∷ [])
+    ∙ sym (if_map (chance c q pieces) (nat_lt q (workers_of a.strategy)) (Parting t ∷ [])))
+    ∙ ap (λ x. map (chance c q pieces) (if_below q (workers_of a.strategy) (Parting t ∷ [])) ++ x)
+    (if_map chance_of (nat_lt q (workers_of s))
+    (map (λ i. Room (a.generation + 1) s (nat_eq (i + 1) (workers_of a.strategy)) None)
+    (range_with_len 0 (workers_of a.strategy)))
+    ∙ ap (λ x. cond (nat_lt q (workers_of s)) x [])
+    (rooms_open c q pieces t (workers_of a.strategy) (workers_of a.strategy) 0 e)
+    ∙ sym (if_map (chance c q pieces) (nat_lt q (workers_of s)) (place t)))
+    ∙ sym (map-append (chance c q pieces) (if_below q (workers_of a.strategy) (Parting t ∷ []))
+    (if_below q (workers_of s) (place t)))
+    ∙ ap (map (chance c q pieces)) (sym (append-nil (dues q a (Change s))))
+
+change_weights : (q : ℕ) (a : Spot) (s : Strategy)
+    → map weight_of (changes_for q a s) ≡ map weight (dues q a (Change s) ++ [])
+change_weights q a s =
+    let t : Turn = turn_at a s in
+    map-append weight_of (part_below q (workers_of a.strategy) (a.generation + 1) a.strategy s)
+    (place_below q (workers_of s) (a.generation + 1) s (workers_of a.strategy))
+    ∙ ap (λ x. x ++ map weight_of (place_below q (workers_of s) (a.generation + 1) s (workers_of a.strategy)))
+    (if_map weight_of (nat_lt q (workers_of a.strategy)) (Ready (Part (a.generation + 1) a.strategy s) ∷ [])
+    ∙ sym (if_map weight (nat_lt q (workers_of a.strategy)) (Parting t ∷ [])))
+    ∙ ap (λ x. map weight (if_below q (workers_of a.strategy) (Parting t ∷ [])) ++ x)
+    (if_map weight_of (nat_lt q (workers_of s))
+    (map (λ i. Room (a.generation + 1) s (nat_eq (i + 1) (workers_of a.strategy)) None)
+    (range_with_len 0 (workers_of a.strategy)))
+    ∙ ap (λ x. cond (nat_lt q (workers_of s)) x []) (rooms_weigh t (workers_of a.strategy) 0)
+    ∙ sym (if_map weight (nat_lt q (workers_of s)) (place t)))
+    ∙ sym (map-append weight (if_below q (workers_of a.strategy) (Parting t ∷ []))
+    (if_below q (workers_of s) (place t)))
+    ∙ ap (map weight) (sym (append-nil (dues q a (Change s))))
+
+-- ---- reading
+
+module _ (r x : Router) (w : World) (is : IsRouterOf r w) (s : Strategy) (may : IsFor w.core s)
+    (core : core_form x.core ≡ core_form r.core) (strategy : x.strategy ≡ s)
+    (generation : x.generation ≡ r.generation + 1) (points : x.points ≡ r.points)
+    (wide : workers_of s ≤ length x.queues.items)
+    (queued : (q : ℕ) → queue_at x.queues.items q
+    ≡ (queue_at r.queues.items q ++ part_below q (workers_of r.strategy) (r.generation + 1) r.strategy s)
+    ++ place_below q (workers_of s) (r.generation + 1) s (workers_of r.strategy))
+    (counted : length x.outstanding.items ≡ length x.queues.items)
+    (outstanding : (q : ℕ) → get_or x.outstanding.items q 0 ≡ get_or r.outstanding.items q 0)
+    (gather : x.gather ≡ record {
+      begun = r.gather.begun ++ record { generation = r.generation + 1; workers = workers_of s } ∷ [];
+      next = r.gather.next;
+      added = r.gather.added;
+    })
+  where
+    abbrev a : Spot
+    a = spot_in w
+
+    change_is : spot_in (after w (Read (Change s))) ≡ moved a (Change s)
+    change_is = spot_more (first_spot w.first) w.read (Change s ∷ [])
+
+    none_here : (q : ℕ) → for_place (a.generation + 1) q w.pieces ≡ []
+    none_here q =
+        none_yet (turn_of (first_spot w.first) w.read) w.core (a.generation + 1) q a.generation w.pieces
+        (turn_within w.read (first_spot w.first)) (omega arith) is.sound.known
+
+    -- the slots in the world's words
+    queued_in : (q : ℕ) → queue_at x.queues.items q ≡ queue_at r.queues.items q ++ changes_for q a s
+    queued_in q =
+        queued q
+        ∙ ap (λ y. (queue_at r.queues.items q ++ part_below q (workers_of y) (r.generation + 1) y s)
+        ++ place_below q (workers_of s) (r.generation + 1) s (workers_of y)) is.strategy
+        ∙ ap (λ y. (queue_at r.queues.items q ++ part_below q (workers_of a.strategy) (y + 1) a.strategy s)
+        ++ place_below q (workers_of s) (y + 1) s (workers_of a.strategy)) is.generation
+        ∙ append_assoc (queue_at r.queues.items q)
+        (part_below q (workers_of a.strategy) (a.generation + 1) a.strategy s)
+        (place_below q (workers_of s) (a.generation + 1) s (workers_of a.strategy))
+
+    queue_is : (q : ℕ) → (chances (queue_at x.queues.items q) ≡ queue_in (after w (Read (Change s))) q)
+        × (map weight_of (queue_at x.queues.items q) ≡ weights_in (after w (Read (Change s))) q)
+    queue_is q =
+        reads_on w (Change s) q (queue_at r.queues.items q) (changes_for q a s) (queue_at x.queues.items q) is.sound
+        (queued_in q) (is.queues q) (is.weights q) (change_chances w.core q w.pieces a s (none_here q))
+        (change_weights q a s)
+
+    pub change_read : IsRouterOf x (after w (Read (Change s)))
+    change_read = record {
+      core = core ∙ is.core;
+      generation = generation ∙ ap (λ n. n + 1) is.generation ∙ sym (ap (λ (b : Spot). b.generation) change_is);
+      strategy = strategy ∙ sym (ap (λ (b : Spot). b.strategy) change_is);
+      points = points ∙ is.points ∙ sym (ap (λ (b : Spot). length b.points) change_is);
+      wide = subst (λ y. workers_of y ≤ length x.queues.items) (sym strategy) wide;
+      queues = λ q. (queue_is q).0;
+      weights = λ q. (queue_is q).1;
+      counted = counted;
+      outstanding = λ k. ap (λ n. (w.seats k).collected + n) (outstanding k) ∙ is.outstanding k;
+      sound = step_sound w (Read (Change s)) is.sound may;
+      gather = gather_change r.gather x.gather w s is.sound may
+          (gather ∙ ap (λ n. record {
+            begun = r.gather.begun ++ record { generation = n + 1; workers = workers_of s } ∷ [];
+            next = r.gather.next;
+            added = r.gather.added;
+          }) is.generation) is.gather;
+    }

@@ -1,0 +1,312 @@
+-- What a worker does with a part and with a piece.
+use Rattle.std.proofs.Common.{◌≡◌, ◌≢◌, ℕ, ◌+◌, ◌-◌, ◌<◌, cond, nat_eq, ⊎_elim, eq-eqb, ne_eqb, List, [], ◌∷◌, length}
+use Rattle.std.proofs.Common.{map, sym, refl, ap, ◌∙◌, subst, arith}
+use Rattle.std.proofs.lemmas.List.{length-map}
+use native.Mathlib.Decide.{ℕ_discrete}
+use Rattle.mfotl_model.specs.Strategies.{Strategy, workers_of}
+use Rattle.monitorable.specs.CoreForms.{CoreForm}
+use Rattle.monitorable.specs.Cores.{core_form}
+use Rattle.monitor_state.specs.declared.monitor.Monitor.{Monitor}
+use Rattle.rescale_core.proofs.WorkerSteps.{live_at}
+use Rattle.rescale_core.specs.Lines.{Due, Turn}
+use Rattle.rescale_core.specs.Lines.Due.{Slicing, Parting, Hole}
+use Rattle.rescale_core.specs.Monitors.{PieceStands}
+use Rattle.rescale_core.specs.States.{Adopted, AreCuts, CanAdopt, IsFull, Merges, MergesMore, Splits}
+use Rattle.rescale_core.specs.Stages.{Follows, Gives, IsPieceFor, Meets, NotIn, Parts, Stage, froms_of, stage_after}
+use Rattle.rescale_core.specs.Stages.Stage.{Filling, Gone, Live}
+use Rattle.rescale_core.specs.Workers.{IsFor}
+use Rattle.rescale_core.specs.Working.{CanTake, GoesOn, IsAt, IsOpen, Settles, Steps}
+use Rattle.rescale_core.specs.declared.item.Item.TheVariants.{Adopt, Part}
+use Rattle.rescale_core.specs.declared.item.Out.TheVariants.{Piece as OfPiece}
+use Rattle.rescale_core.specs.declared.merging.Merging.{Merging}
+use Rattle.rescale_core.specs.declared.phase.Phase.{Phase}
+use Rattle.rescale_core.specs.declared.phase.Phase.TheVariants.{Active, Vacant, Waiting}
+use Rattle.rescale_core.specs.declared.phase.Worker.{Worker}
+use Rattle.rescale_core.specs.declared.piece.Piece.{Piece}
+
+-- ---- a part
+
+cut_pieces : (c : CoreForm) (k : ℕ) (t : Turn) (k2 : ℕ) (ps : List Piece) → k < workers_of t.old
+    → AreCuts c t.old k t.new t.before t.generation k2 ps → Parts c k t k2 (map (λ p. OfPiece p) ps)
+cut_pieces c k t k2 [] h a = tt
+cut_pieces c k t k2 (p ∷ ps) h a = (
+  (
+    p,
+    refl,
+    a.0.from,
+    record {
+      generation = a.0.generation;
+      to = a.0.to;
+      count = a.0.count;
+      near = let e : p.from ≡ k = a.0.from in omega arith;
+      stands = subst (λ (x : ℕ). PieceStands c t.old x t.new k2 t.before p) (sym a.0.from) a.0.stands;
+    },
+  ),
+  cut_pieces c k t (k2 + 1) ps h a.1,
+)
+
+module _ (w : Worker) (m : Monitor) (s : Strategy) (g : ℕ) (old new : Strategy) (active : w.phase ≡ Active m s)
+    (x : Worker) (pieces : List Piece) (core : core_form x.core ≡ core_form w.core) (number : x.number ≡ w.number)
+    (vacant : x.phase ≡ Vacant) (splits : Splits m s w.number new g pieces) where
+  abbrev c : CoreForm
+  c = core_form w.core
+
+  abbrev k : ℕ
+  k = w.number
+
+  parts_due : (st : Stage) (d : Due) → IsAt c k st w.phase → Follows c k st d → Meets c k st d (Part g old new)
+      → Gives c k d (map (λ p. OfPiece p) pieces) × IsAt c k (stage_after st d (Part g old new)) x.phase
+  parts_due st (Slicing g' s' log q) at f meets = cc
+  parts_due st (Parting t) at f meets =
+      let l = live_at c k st s t.old t.before m w.phase f.0 at active in
+      let to : new ≡ t.new = cc in
+      let by : g ≡ t.generation = cc in
+      let is_for : IsFor c s = subst (IsFor c) l.0 f.1 in
+      let is_for2 : IsFor c new = subst (IsFor c) (sym to) f.2 in
+      let a : AreCuts c s k new t.before g 0 pieces = splits.1 c t.before is_for is_for2 l.1 in
+      let b : AreCuts c t.old k new t.before g 0 pieces =
+      subst (λ (y : Strategy). AreCuts c y k new t.before g 0 pieces) (sym l.0) a in
+      let d : AreCuts c t.old k t.new t.before g 0 pieces =
+      subst (λ (y : Strategy). AreCuts c t.old k y t.before g 0 pieces) to b in
+      let e : AreCuts c t.old k t.new t.before t.generation 0 pieces =
+      subst (λ (y : ℕ). AreCuts c t.old k t.new t.before y 0 pieces) by d in
+      ((length-map pieces (λ p. OfPiece p) ∙ splits.0 ∙ ap workers_of to, cut_pieces c k t 0 pieces f.3 e), vacant)
+  parts_due st (Hole t j) at f meets = let e = meets.1 in cc
+
+  pub part_steps : Steps w (Part g old new) x (map (λ p. OfPiece p) pieces)
+  part_steps = record { core = core; number = number; step = parts_due }
+
+-- only a worker that monitors is due a part
+pub part_active : (w : Worker) (g : ℕ) (old new : Strategy) → CanTake w (Part g old new)
+    → (m : Monitor) × (w.phase ≡ Active m old)
+part_active w g old new can = by can.0 can.1 can.2 can.3 can.4
+  where
+    by : (st : Stage) (d : Due) → IsAt (core_form w.core) w.number st w.phase
+        → Follows (core_form w.core) w.number st d → Meets (core_form w.core) w.number st d (Part g old new)
+        → (m : Monitor) × (w.phase ≡ Active m old)
+    by st (Slicing g' s' log q) at f meets = cc
+    by st (Parting t) at f meets =
+        let h : IsAt (core_form w.core) w.number (Live t.old t.before) w.phase =
+        subst (λ (y : Stage). IsAt (core_form w.core) w.number y w.phase) f.0 at in
+        let from : old ≡ t.old = cc in
+        (h.0, h.1 ∙ ap (λ (y : Strategy). Active h.0 y) (sym from))
+    by st (Hole t j) at f meets = let e = meets.1 in cc
+
+-- ---- a piece
+
+-- the merge has just the pieces of these workers
+record Carries (c : CoreForm) (k : ℕ) (t : Turn) (froms : List ℕ) (merging : Merging) (missing : ℕ) : Type 0 where
+  merges : Merges c t.old t.new k t.before froms merging
+  left : missing + length froms ≡ workers_of t.old
+  some : 0 < missing
+  adopted : Adopted t.old froms
+
+carries_none : (c : CoreForm) (k : ℕ) (t : Turn) (st : Stage) (phase : Phase) (count : ℕ) (merging : Merging)
+    (missing : ℕ) → st ≡ Gone → 0 < workers_of t.old → IsAt c k st phase → count ≡ workers_of t.old
+    → GoesOn phase c count merging missing → Carries c k t (froms_of st) merging missing
+carries_none c k t st phase count merging missing gone few at counts on =
+    let vacant : phase ≡ Vacant = subst (λ (y : Stage). IsAt c k y phase) gone at in
+    let g : GoesOn Vacant c count merging missing =
+    subst (λ (y : Phase). GoesOn y c count merging missing) vacant on in
+    subst (λ (y : Stage). Carries c k t (froms_of y) merging missing) (sym gone) record {
+      merges = g.0 t.old t.new k t.before counts;
+      left = let e = g.1 in omega arith;
+      some = let e = g.1 in omega arith;
+      adopted = record { distinct = tt; near = tt };
+    }
+
+carries_some : (c : CoreForm) (k : ℕ) (t : Turn) (st : Stage) (froms : List ℕ) (phase : Phase) (count : ℕ)
+    (merging : Merging) (missing : ℕ) → st ≡ Filling t froms → IsAt c k st phase
+    → GoesOn phase c count merging missing → Carries c k t froms merging missing
+carries_some c k t st froms phase count merging missing filling at on =
+    let a : IsAt c k (Filling t froms) phase = subst (λ (y : Stage). IsAt c k y phase) filling at in
+    let g : GoesOn (Waiting a.0 t.new a.1) c count merging missing =
+    subst (λ (y : Phase). GoesOn y c count merging missing) a.2 on in
+    record {
+      merges = subst (λ (y : Merging). Merges c t.old t.new k t.before froms y) (sym g.0) a.3;
+      left = let e = g.1 in let l = a.4 in omega arith;
+      some = let e = g.1 in let l = a.5 in omega arith;
+      adopted = a.6;
+    }
+
+carries : (c : CoreForm) (k : ℕ) (t : Turn) (j : ℕ) (st : Stage) (phase : Phase) (count : ℕ) (merging : Merging)
+    (missing : ℕ) → Follows c k st (Hole t j) → IsAt c k st phase → count ≡ workers_of t.old
+    → GoesOn phase c count merging missing → Carries c k t (froms_of st) merging missing
+carries c k t j st phase count merging missing f at counts on = ⊎_elim
+    (λ gone. carries_none c k t st phase count merging missing gone (let h = f.1 in omega arith) at counts on)
+    (λ filling. carries_some c k t st (froms_of st) phase count merging missing filling at on)
+    f.2
+
+-- what is known of a piece that is due
+record DuePiece (w : Worker) (piece : Piece) (now : Strategy) (merging : Merging) (missing : ℕ) (t : Turn)
+    (froms : List ℕ) : Type 0 where
+  carried : Carries (core_form w.core) w.number t froms merging missing
+  piece_for : IsPieceFor (core_form w.core) t w.number piece
+  apart : NotIn piece.from froms
+  now_is : now ≡ t.new
+  old_for : IsFor (core_form w.core) t.old
+  new_for : IsFor (core_form w.core) t.new
+
+-- a worker that is due a piece has no state of its own
+pub adopt_open : (w : Worker) (piece : Piece) (now : Strategy) → CanTake w (Adopt piece now) → IsOpen w.phase
+adopt_open w piece now can = by can.0 can.1 can.2 can.3 can.4
+  where
+    by : (st : Stage) (d : Due) → IsAt (core_form w.core) w.number st w.phase
+        → Follows (core_form w.core) w.number st d → Meets (core_form w.core) w.number st d (Adopt piece now)
+        → IsOpen w.phase
+    by st (Slicing g s log q) at f meets = cc
+    by st (Parting t) at f meets = cc
+    by st (Hole t j) at f meets = ⊎_elim
+        (λ gone.
+        let h : w.phase ≡ Vacant = subst (λ (y : Stage). IsAt (core_form w.core) w.number y w.phase) gone at in
+        subst IsOpen (sym h) tt)
+        (λ filling.
+        let h : IsAt (core_form w.core) w.number (Filling t (froms_of st)) w.phase =
+        subst (λ (y : Stage). IsAt (core_form w.core) w.number y w.phase) filling at in
+        subst IsOpen (sym h.2) tt)
+        f.2
+
+module _ (w : Worker) (piece : Piece) (now : Strategy) (merging : Merging) (missing : ℕ)
+    (on : GoesOn w.phase (core_form w.core) piece.count merging missing) where
+  abbrev own : CoreForm
+  own = core_form w.core
+
+  abbrev number_of : ℕ
+  number_of = w.number
+
+  due_piece : (st : Stage) (t : Turn) (j : ℕ) → IsAt own number_of st w.phase → Follows own number_of st (Hole t j)
+      → Meets own number_of st (Hole t j) (Adopt piece now) → DuePiece w piece now merging missing t (froms_of st)
+  due_piece st t j at f meets =
+      let p : Piece = meets.0 in
+      let e : Adopt piece now ≡ Adopt p t.new = meets.1 in
+      let same : p ≡ piece = cc in
+      let is : IsPieceFor own t number_of piece = subst (λ (y : Piece). IsPieceFor own t number_of y) same meets.2 in
+      record {
+        carried = carries own number_of t j st w.phase piece.count merging missing f at is.count on;
+        piece_for = is;
+        apart = subst (λ (y : Piece). NotIn y.from (froms_of st)) same meets.3;
+        now_is = cc;
+        old_for = f.4;
+        new_for = f.5;
+      }
+
+  -- of which workers the pieces are then
+  with_piece : (t : Turn) (froms : List ℕ) → DuePiece w piece now merging missing t froms
+      → Adopted t.old (piece.from ∷ froms)
+  with_piece t froms d =
+      record {
+        distinct = (d.apart, d.carried.adopted.distinct);
+        near = (d.piece_for.near, d.carried.adopted.near);
+      }
+
+  adopts_due : (st : Stage) (d : Due) → IsAt own number_of st w.phase → Follows own number_of st d
+      → Meets own number_of st d (Adopt piece now)
+      → CanAdopt merging piece × (0 < missing)
+  adopts_due st (Slicing g s log q) at f meets = cc
+  adopts_due st (Parting t) at f meets = cc
+  adopts_due st (Hole t j) at f meets =
+      let d = due_piece st t j at f meets in (
+        (
+          own,
+          t.old,
+          t.new,
+          number_of,
+          t.before,
+          froms_of st,
+          d.old_for,
+          d.new_for,
+          d.carried.merges,
+          d.piece_for.stands,
+          with_piece t (froms_of st) d,
+          d.piece_for.count,
+        ),
+        d.carried.some,
+      )
+
+  pub adopt_allowed : CanTake w (Adopt piece now) → CanAdopt merging piece
+  adopt_allowed can = (adopts_due can.0 can.1 can.2 can.3 can.4).0
+
+  pub adopt_missing : CanTake w (Adopt piece now) → 0 < missing
+  adopt_missing can = (adopts_due can.0 can.1 can.2 can.3 can.4).1
+
+  module _ (merging2 : Merging) (more : MergesMore merging piece merging2) where
+    -- the merge with the piece
+    merges_piece : (t : Turn) (froms : List ℕ) → DuePiece w piece now merging missing t froms
+        → Merges own t.old t.new number_of t.before (piece.from ∷ froms) merging2
+    merges_piece t froms d =
+        more own t.old t.new number_of t.before froms d.old_for d.new_for d.carried.merges d.piece_for.stands
+
+    fills_due : (st : Stage) (d : Due) → IsAt own number_of st w.phase → Follows own number_of st d
+        → Meets own number_of st d (Adopt piece now)
+        → missing ≡ 1 → IsFull merging2
+    fills_due st (Slicing g s log q) at f meets one = cc
+    fills_due st (Parting t) at f meets one = cc
+    fills_due st (Hole t j) at f meets one =
+        let d = due_piece st t j at f meets in (
+          own,
+          t.old,
+          t.new,
+          number_of,
+          t.before,
+          piece.from ∷ froms_of st,
+          d.old_for,
+          d.new_for,
+          merges_piece t (froms_of st) d,
+          with_piece t (froms_of st) d,
+          (let l = d.carried.left in omega arith),
+        )
+
+    pub full_allowed : CanTake w (Adopt piece now) → missing ≡ 1 → IsFull merging2
+    full_allowed can one = fills_due can.0 can.1 can.2 can.3 can.4 one
+
+    module _ (x : Worker) (core : core_form x.core ≡ core_form w.core) (number : x.number ≡ w.number)
+        (settles : Settles merging2 now missing x.phase) where
+      at_last : (t : Turn) (froms : List ℕ) → DuePiece w piece now merging missing t froms → missing ≡ 1
+          → IsAt own number_of (Live t.new t.before) x.phase
+      at_last t froms d one =
+          let s = settles.0 one in (
+            s.0,
+            s.1 ∙ ap (λ (y : Strategy). Active s.0 y) d.now_is,
+            s.2 own t.old t.new number_of t.before (piece.from ∷ froms) d.old_for d.new_for (merges_piece t froms d)
+                (with_piece t froms d) (let l = d.carried.left in omega arith),
+          )
+
+      before_last : (t : Turn) (froms : List ℕ) → DuePiece w piece now merging missing t froms → missing ≢ 1
+          → IsAt own number_of (Filling t (piece.from ∷ froms)) x.phase
+      before_last t froms d other =
+          let some = d.carried.some in
+          let l = d.carried.left in (
+            merging2,
+            missing - 1,
+            settles.1 other ∙ ap (λ (y : Strategy). Waiting merging2 y (missing - 1)) d.now_is,
+            merges_piece t froms d,
+            omega arith,
+            omega (arith, other),
+            with_piece t froms d,
+          )
+
+      at_stage : (t : Turn) (j : ℕ) (froms : List ℕ) → DuePiece w piece now merging missing t froms
+          → j ≡ length froms → Dec (j + 1 ≡ workers_of t.old)
+          → IsAt own number_of
+          (cond (nat_eq (j + 1) (workers_of t.old)) (Live t.new t.before) (Filling t (piece.from ∷ froms))) x.phase
+      at_stage t j froms d here (yes is) =
+          let l = d.carried.left in
+          subst (λ (y : Stage). IsAt own number_of y x.phase)
+          (sym (ap (λ b. cond b (Live t.new t.before) (Filling t (piece.from ∷ froms)))
+          (eq-eqb (j + 1) (workers_of t.old) is))) (at_last t froms d (omega arith))
+      at_stage t j froms d here (no other) =
+          let l = d.carried.left in
+          subst (λ (y : Stage). IsAt own number_of y x.phase)
+          (sym (ap (λ b. cond b (Live t.new t.before) (Filling t (piece.from ∷ froms)))
+          (ne_eqb (j + 1) (workers_of t.old) other))) (before_last t froms d (λ one. other (omega arith)))
+
+      adopted_due : (st : Stage) (d : Due) → IsAt own number_of st w.phase → Follows own number_of st d
+          → Meets own number_of st d (Adopt piece now)
+          → Gives own number_of d [] × IsAt own number_of (stage_after st d (Adopt piece now)) x.phase
+      adopted_due st (Slicing g s log q) at f meets = cc
+      adopted_due st (Parting t) at f meets = cc
+      adopted_due st (Hole t j) at f meets =
+          (refl, at_stage t j (froms_of st) (due_piece st t j at f meets) f.0 (ℕ_discrete (j + 1) (workers_of t.old)))
+
+      pub adopt_steps : Steps w (Adopt piece now) x []
+      adopt_steps = record { core = core; number = number; step = adopted_due }

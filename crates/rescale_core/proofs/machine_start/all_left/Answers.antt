@@ -1,0 +1,27 @@
+use Rattle.std.proofs.Common.{◌≡◌, ◌≤◌, ◌∷◌, ◌++◌, [], List, ap, sym, append_assoc, subst, ◌∙◌, arith}
+use Rattle.rescale_core.specs.Cells.{AreWithin, workers_for}
+use Rattle.rescale_core.specs.declared.item.Entry.{Entry}
+use Rattle.rescale_core.proofs.Fitting.{every_map, every_more}
+use Rattle.rescale_core.proofs.machine_start.all_left.Goals as goal
+
+pub loop-entry-preserved : goal.loop-entry-preserved
+loop-entry-preserved c =
+    let i = c.loop-entry.invariant in
+    let done : List Entry = c.loop-entry.left.items in
+    let old : List Entry = c.loop-entry.entry-iterator.rest.items in
+    let rest : List Entry = c.next.new.self.rest.items in
+    let entry : Entry = c.in-Some.entry in
+    let e : old ≡ entry ∷ rest = c.in-Some.ensures.steps.0 in
+    let items : c.push_back.new.self.items ≡ done ++ entry ∷ [] = c.in_ok-push_back.ensures.items in
+    let first : c.loop-entry.most ≤ c.larger-most.result = c.larger-most.ensures.first in
+    let second : workers_for entry ≤ c.larger-most.result =
+    subst (λ n. n ≤ c.larger-most.result) c.workers_for.ensures c.larger-most.ensures.second in
+    record {
+      left = ap (λ x. x ++ rest) items ∙ append_assoc done (entry ∷ []) rest ∙ ap (λ x. done ++ x) (sym e) ∙ i.left;
+      wide = (let h = i.wide in omega arith);
+      within = subst (AreWithin c.larger-most.result) (sym items)
+          (every_more (λ (x : Entry). workers_for x ≤ c.larger-most.result) done (entry ∷ [])
+          (every_map (λ (x : Entry). workers_for x ≤ c.loop-entry.most)
+          (λ (x : Entry). workers_for x ≤ c.larger-most.result) done (λ x h. (omega arith)) i.within)
+          (second, tt));
+    }

@@ -1,0 +1,58 @@
+-- What stands in a worker's queue.
+use Rattle.std.specs.Prelude.{◌≡◌, ℕ, ◌+◌, Bool, true, false, cond, nat_eq, Option, Some, None, List, [], ◌∷◌, map}
+use Rattle.std.specs.List.{range_with_len}
+use Rattle.mfotl_model.specs.Strategies.{Strategy}
+use Rattle.rescale_core.specs.Chances.{Chance, sure_items}
+use Rattle.rescale_core.specs.Chances.Chance.{Sure, Open}
+use Rattle.rescale_core.specs.declared.item.Item.{Item}
+use Rattle.rescale_core.specs.declared.item.Item.TheVariants.{Adopt}
+use Rattle.rescale_core.specs.declared.piece.Piece.{Piece}
+use Rattle.rescale_core.specs.declared.slot.Slot.{Slot}
+use Rattle.rescale_core.specs.declared.slot.Slot.TheVariants.{Ready, Room}
+
+-- the item in a slot, if it is there
+abbrev pub item_in : Slot → Option Item
+item_in (Ready item) = Some item
+item_in (Room g now last None) = None
+item_in (Room g now last (Some p)) = Some (Adopt p now)
+
+-- what may be handed over from a slot, or is missing there
+abbrev pub chance_of : Slot → Chance
+chance_of (Ready item) = Sure item
+chance_of (Room g now last None) = Open g now
+chance_of (Room g now last (Some p)) = Sure (Adopt p now)
+
+-- whether a slot's item is there
+abbrev pub is_there : Slot → Bool
+is_there (Ready item) = true
+is_there (Room g now last None) = false
+is_there (Room g now last (Some p)) = true
+
+-- whether a piece of the generation is missing in a slot
+abbrev pub lacks : ℕ → Slot → Bool
+lacks h (Ready item) = false
+lacks h (Room g now last None) = nat_eq g h
+lacks h (Room g now last (Some p)) = false
+
+-- how much a slot counts as: of a place's slots the last one counts
+abbrev pub weight_of : Slot → ℕ
+weight_of (Ready item) = 1
+weight_of (Room g now last piece) = cond last 1 0
+
+-- the slot with the piece in its room
+abbrev pub put_in : Piece → Slot → Slot
+put_in p (Ready item) = Ready item
+put_in p (Room g now last piece) = Room g now last (Some p)
+
+-- the first item and the rest; or none, where there is no first one or it is missing
+abbrev pub TakesOut : List Slot → Option Item → List Slot → Type 0
+TakesOut old (Some i) new = (x : Slot) × (old ≡ x ∷ new) × (chance_of x ≡ Sure i)
+TakesOut old None new = (new ≡ old) × (sure_items (map chance_of old) ≡ [])
+
+-- the first slots of a place for so many pieces
+abbrev pub first_rooms : ℕ → Strategy → ℕ → ℕ → List Slot
+first_rooms g now count n = map (λ j. Room g now (nat_eq (j + 1) count) None) (range_with_len 0 n)
+
+-- a place for so many pieces
+abbrev pub rooms : ℕ → Strategy → ℕ → List Slot
+rooms g now count = first_rooms g now count count

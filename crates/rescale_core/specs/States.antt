@@ -1,0 +1,77 @@
+-- What splitting a worker's state gives, and what a merge of pieces stands for.
+use Rattle.std.specs.Prelude.{◌≡◌, ℕ, ◌+◌, ◌<◌, List, [], ◌∷◌, length}
+use Rattle.std.specs.List.{AllByRecursion}
+use Rattle.mfotl_model.specs.Regions.{near_of}
+use Rattle.mfotl_model.specs.Strategies.{Strategy, workers_of}
+use Rattle.mfotl_model.specs.declared.event.TimePoint.{TimePoint}
+use Rattle.monitorable.specs.CoreForms.{CoreForm}
+use Rattle.monitor_state.specs.declared.monitor.Monitor.{Monitor}
+use Rattle.verdict_merge.specs.Laws.{Apart}
+use Rattle.rescale_core.specs.Monitors.{IsMonitor, PieceStands, StandsIn}
+use Rattle.rescale_core.specs.Workers.{IsFor}
+use Rattle.rescale_core.specs.declared.merging.Merging.{Merging}
+use Rattle.rescale_core.specs.declared.piece.Piece.{Piece}
+
+-- the piece is what worker k hands to worker k2 of the next strategy, which has this generation
+pub record IsCutFor (core : CoreForm) (s : Strategy) (k : ℕ) (s2 : Strategy) (k2 : ℕ) (log : List TimePoint) (g : ℕ)
+    (piece : Piece) : Type 0 where
+  pub generation : piece.generation ≡ g
+  pub from : piece.from ≡ k
+  pub to : piece.to ≡ k2
+  pub count : piece.count ≡ workers_of s
+  pub stands : PieceStands core s k s2 k2 log piece
+
+-- a piece for each of the workers from k2 on, in order
+abbrev pub AreCuts : CoreForm → Strategy → ℕ → Strategy → List TimePoint → ℕ → ℕ → List Piece → Type 0
+AreCuts core s k s2 log g k2 [] = Unit {0}
+AreCuts core s k s2 log g k2 (p ∷ ps) =
+    IsCutFor core s k s2 k2 log g p × AreCuts core s k s2 log g (k2 + 1) ps
+
+-- the pieces are those of a worker's monitor, for all workers of the next strategy
+abbrev pub Splits : Monitor → Strategy → ℕ → Strategy → ℕ → List Piece → Type 0
+Splits monitor s from s2 generation pieces =
+    (length pieces ≡ workers_of s2)
+    × ((core : CoreForm) (log : List TimePoint) → IsFor core s → IsFor core s2 → IsMonitor core s from log monitor
+    → AreCuts core s from s2 log generation 0 pieces)
+
+-- pieces of these workers were adopted, each once
+pub record Adopted (s : Strategy) (froms : List ℕ) : Type 0 where
+  pub distinct : Apart froms
+  pub near : AllByRecursion (λ x. x < workers_of s) froms
+
+-- the merge has just the pieces of these workers for worker k2
+unfoldable pub Merges : CoreForm → Strategy → Strategy → ℕ → List TimePoint → List ℕ → Merging → Type 0
+Merges core s s2 k2 log froms merging = StandsIn core (near_of s2 k2) log merging.state
+
+-- nothing was adopted
+abbrev pub MergesNone : CoreForm → ℕ → Merging → Type 0
+MergesNone core count merging =
+    (s s2 : Strategy) (k2 : ℕ) (log : List TimePoint) → count ≡ workers_of s → Merges core s s2 k2 log [] merging
+
+-- the piece was adopted
+abbrev pub MergesMore : Merging → Piece → Merging → Type 0
+MergesMore old piece new =
+    (core : CoreForm) (s s2 : Strategy) (k2 : ℕ) (log : List TimePoint) (froms : List ℕ)
+    → IsFor core s → IsFor core s2 → Merges core s s2 k2 log froms old → PieceStands core s piece.from s2 k2 log piece
+    → Merges core s s2 k2 log (piece.from ∷ froms) new
+
+-- the piece may be adopted: it is of the same change, and none of its worker was
+abbrev pub CanAdopt : Merging → Piece → Type 0
+CanAdopt merging piece =
+    (core : CoreForm) × (s s2 : Strategy) × (k2 : ℕ) × (log : List TimePoint) × (froms : List ℕ)
+    × IsFor core s × IsFor core s2 × Merges core s s2 k2 log froms merging
+    × PieceStands core s piece.from s2 k2 log piece × Adopted s (piece.from ∷ froms) × (piece.count ≡ workers_of s)
+
+-- all pieces of a change were adopted
+abbrev pub IsFull : Merging → Type 0
+IsFull merging =
+    (core : CoreForm) × (s s2 : Strategy) × (k2 : ℕ) × (log : List TimePoint) × (froms : List ℕ)
+    × IsFor core s × IsFor core s2 × Merges core s s2 k2 log froms merging × Adopted s froms
+    × (length froms ≡ workers_of s)
+
+-- the monitor stands for what the merge of all pieces does
+abbrev pub Finishes : Merging → Monitor → Type 0
+Finishes merging monitor =
+    (core : CoreForm) (s s2 : Strategy) (k2 : ℕ) (log : List TimePoint) (froms : List ℕ)
+    → IsFor core s → IsFor core s2 → Merges core s s2 k2 log froms merging → Adopted s froms
+    → length froms ≡ workers_of s → IsMonitor core s2 k2 log monitor

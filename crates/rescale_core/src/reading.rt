@@ -1,0 +1,93 @@
+//! What reading an entry puts into the queues.
+ghost use Rattle.std.specs.Prelude.{◌≡◌, ◌++◌, ◌<◌, ◌≤◌, [], IfOk, length, ℕ};
+ghost use Rattle.mfotl_model.specs.Strategies.{workers_of};
+ghost use Rattle.rescale_core.specs.Queues.{queue_at};
+ghost use Rattle.rescale_core.specs.Routing.{part_below, place_below, slices_for};
+
+use crate::item::Item;
+use crate::queue::Queue;
+use mfotl_model::TimePoint;
+use slice_strategy::{Slicer, Strategy};
+use std::alloc::{AllocError, Global};
+
+/// Queues a slice for each worker.
+pub(crate) fn push_slices(
+    queues: &mut Vec<Queue>,
+    generation: u64,
+    number: u64,
+    slices: Vec<TimePoint>,
+) -> Result<(), AllocError>
+    requires { length slices.items ≤ length queues.old.items }
+    ensures len { IfOk result (λ _. length queues.new.items ≡ length queues.old.items) }
+    ensures queued { IfOk result (λ _. (q : ℕ) → queue_at queues.new.items q
+        ≡ queue_at queues.old.items q ++ slices_for generation number 0 slices.items q) }
+{
+    let mut k = 0;
+    for point in slices {
+        let queue = &mut queues[k];
+        queue.push(Item::Slice {
+            generation,
+            number,
+            point,
+        })?;
+        k += 1;
+    }
+    Ok(())
+}
+
+/// Queues a part for each worker that has a state.
+pub(crate) fn push_parts(
+    alloc: Global,
+    queues: &mut Vec<Queue>,
+    generation: u64,
+    old: &Strategy,
+    new: &Strategy,
+) -> Result<(), AllocError>
+    requires { workers_of old.now ≤ length queues.old.items }
+    ensures len { IfOk result (λ _. length queues.new.items ≡ length queues.old.items) }
+    ensures queued { IfOk result (λ _. (q : ℕ) → queue_at queues.new.items q
+        ≡ queue_at queues.old.items q ++ part_below q (workers_of old.now) generation old.now new.now) }
+{
+    for k in 0..old.workers() {
+        let item = Item::Part {
+            generation,
+            old: old.copy(alloc)?,
+            new: new.copy(alloc)?,
+        };
+        let queue = &mut queues[k as usize];
+        queue.push(item)?;
+    }
+    Ok(())
+}
+
+/// Queues a place for so many pieces for each worker that gets a state.
+pub(crate) fn push_places(
+    alloc: Global,
+    queues: &mut Vec<Queue>,
+    generation: u64,
+    now: &Strategy,
+    count: u32,
+) -> Result<(), AllocError>
+    requires { workers_of now.now ≤ length queues.old.items }
+    ensures len { IfOk result (λ _. length queues.new.items ≡ length queues.old.items) }
+    ensures queued { IfOk result (λ _. (q : ℕ) → queue_at queues.new.items q
+        ≡ queue_at queues.old.items q ++ place_below q (workers_of now.now) generation now.now count) }
+{
+    for k in 0..now.workers() {
+        let queue = &mut queues[k as usize];
+        queue.push_place(alloc, generation, now, count)?;
+    }
+    Ok(())
+}
+
+/// Adds empty queues until there is one for each of so many workers.
+pub(crate) fn grow(alloc: Global, queues: &mut Vec<Queue>, workers: u32) -> Result<(), AllocError>
+    ensures wide { IfOk result (λ _. workers ≤ length queues.new.items) }
+    ensures len { IfOk result (λ _. length queues.old.items ≤ length queues.new.items) }
+    ensures same { IfOk result (λ _. (q : ℕ) → queue_at queues.new.items q ≡ queue_at queues.old.items q) }
+{
+    for _ in queues.len()..workers as usize {
+        queues.push(Queue::new(alloc))?;
+    }
+    Ok(())
+}

@@ -1,0 +1,110 @@
+//! What a worker does at a change of strategy: it splits its state among the workers of the next one, and merges the
+//! pieces that it gets.
+ghost use Rattle.std.specs.Prelude.{◌≡◌, ◌++◌, [], ◌<◌, IfOk, map};
+ghost use Rattle.monitorable.specs.Cores.{core_form};
+ghost use Rattle.rescale_core.specs.States.{IsFull};
+ghost use Rattle.rescale_core.specs.Working.{CanTake, Gave, GoesOn, IsOpen, Settles, Steps};
+
+use crate::item::{Item, Out};
+use crate::merging::Merging;
+use crate::phase::{Phase, Worker};
+use crate::piece::Piece;
+use crate::states::split_state;
+use monitorable::Core;
+use slice_strategy::Strategy;
+use std::alloc::{AllocError, Global};
+use std::mem;
+
+impl Worker {
+    /// Gives a piece of its state for each worker of the new strategy, and is idle then.
+    pub(crate) fn part(
+        &mut self,
+        alloc: Global,
+        generation: u64,
+        old: Strategy,
+        new: Strategy,
+        outs: &mut Vec<Out>,
+    ) -> Result<(), AllocError>
+        requires { CanTake self.old (Item.Part generation old new) }
+        ensures { IfOk result (λ _.
+            Gave self.old (Item.Part generation old new) self.new outs.old.items outs.new.items) }
+    {
+        let Phase::Active { monitor, strategy } = &self.phase else {
+            unreachable!()
+        };
+        let pieces = split_state(alloc, monitor, strategy, self.number, &new, generation)?;
+        give_pieces(pieces, outs)?;
+        self.phase = Phase::Vacant;
+        Ok(())
+    }
+
+    /// Merges the piece with those that came before it. With the last one it monitors.
+    pub(crate) fn adopt(
+        &mut self,
+        alloc: Global,
+        piece: Piece,
+        now: Strategy,
+    ) -> Result<(), AllocError>
+        requires { CanTake self.old (Item.Adopt piece now) }
+        ensures { IfOk result (λ _. Steps self.old (Item.Adopt piece now) self.new []) }
+    {
+        let phase = mem::replace(&mut self.phase, Phase::Vacant);
+        let (mut merging, missing) = merging_for(alloc, &self.core, phase, piece.count)?;
+        merging.adopt(alloc, piece)?;
+        self.phase = settle(merging, now, missing);
+        Ok(())
+    }
+}
+
+// The phase behind a piece, where so many were missing before it.
+fn settle(merging: Merging, now: Strategy, missing: u32) -> Phase
+    requires full { missing ≡ 1 → IsFull merging }
+    requires some { 0 < missing }
+    ensures { Settles merging now missing result }
+{
+    if missing == 1 {
+        Phase::Active {
+            monitor: merging.finish(),
+            strategy: now,
+        }
+    } else {
+        Phase::Waiting {
+            merging,
+            now,
+            missing: missing - 1,
+        }
+    }
+}
+
+fn give_pieces(pieces: Vec<Piece>, outs: &mut Vec<Out>) -> Result<(), AllocError>
+    ensures { IfOk result (λ _. outs.new.items ≡ outs.old.items ++ map (λ p. Out.Piece p) pieces.items) }
+{
+    for piece in pieces {
+        outs.push(Out::Piece(piece))?;
+    }
+    Ok(())
+}
+
+// The merge that goes on, or a new one, and how many pieces it misses.
+fn merging_for(
+    alloc: Global,
+    core: &Core,
+    phase: Phase,
+    count: u32,
+) -> Result<(Merging, u32), AllocError>
+    requires { IsOpen phase }
+    ensures { IfOk result (λ parts. GoesOn phase (core_form core.now) count parts.0 parts.1) }
+{
+    match phase {
+        Phase::Vacant => {
+            let merging = Merging::new(alloc, core, count)?;
+            Ok((merging, count))
+        }
+        Phase::Waiting {
+            merging,
+            now: _,
+            missing,
+        } => Ok((merging, missing)),
+        Phase::Active { .. } => unreachable!(),
+    }
+}
