@@ -1,5 +1,6 @@
 -- The data of a state that stands for a log does.
-use Rattle.std.proofs.Common.{◌≡◌, ℕ, zero, suc, ◌+◌, ◌-◌, ◌<◌, ◌≤◌, Bool, true, false, min, nat_le, List, [], ◌∷◌, length, map, drop, refl, sym, subst, ap, ap₂, ◌∙◌, arith, slice_index}
+use Rattle.std.proofs.Common.{◌≡◌, ℕ, zero, suc, ◌+◌, ◌-◌, ◌<◌, ◌≤◌, Bool, true, false, min, nat_le, List, [], ◌∷◌}
+use Rattle.std.proofs.Common.{length, map, drop, refl, sym, subst, ap, ap₂, ◌∙◌, arith, slice_index}
 use Rattle.std.specs.Option.{unwrap_or}
 use Rattle.mfotl_model.specs.Exact.{AllExact, Covers, View}
 use Rattle.mfotl_model.specs.FreeVariables.{fv}
@@ -72,7 +73,8 @@ until_recorded view p i f g s k is stands taken rec =
       left_pushed = ap (λ (x : UntilOf). x.ahead.taken + length x.lefts) rec.same ∙ stands.left_pushed;
       right_pushed = ap (λ (x : UntilOf). x.ahead.taken + length x.rights) rec.same ∙ stands.right_pushed;
       lefts =
-          subst (λ (x : UntilOf). AllExact view (meaning (left_operand f)) x.ahead.taken x.lefts) (sym rec.same) stands.lefts;
+          subst (λ (x : UntilOf). AllExact view (meaning (left_operand f)) x.ahead.taken x.lefts) (sym rec.same)
+          stands.lefts;
       rights = subst (λ (x : UntilOf). AllExact view (meaning g) x.ahead.taken x.rights) (sym rec.same) stands.rights;
       runs = λ dom v covers near a tells j low.
           let follows : FollowsLeft described a v = subst (λ x. FollowsLeft x a v) (sym rec.same)

@@ -5,7 +5,8 @@ use Rattle.monitor_state.proofs.resumed.nodes_resumed.Given as goal
 
 abbrev pub invariant-loop-node : goal.invariant-loop-node
 invariant-loop-node l =
-    HalfResumed (record { first = l.first; stamps = l.times }) l.fn.fresh.items l.fn.kept.items l.rest.items l.left.items
+    HalfResumed (record { first = l.first; stamps = l.times }) l.fn.fresh.items l.fn.kept.items l.rest.items
+    l.left.items
     l.nodes.items
 
 abbrev pub decreases-loop-node : goal.decreases-loop-node
