@@ -1,7 +1,7 @@
 -- The marks of an UNTIL's data are the entries of its state, and timestamps by their places.
-use Rattle.std.proofs.Common.{◌≡◌, ℕ, zero, suc, ◌+◌, ◌-◌, ◌<◌, ◌≤◌, Bool, true, false, ◌&&◌, ◌||◌, cond, nat_le}
-use Rattle.std.proofs.Common.{nat_lt, List, [], ◌∷◌, map, drop, length, refl, sym, ap, ap₂, ◌∙◌, arith, Option, Some}
-use Rattle.std.proofs.Common.{None, slice_index}
+use Rattle.std.proofs.Common.{◌≡◌, ℕ, ◌+◌, ◌-◌, ◌<◌, ◌≤◌, Bool, true, false, ◌&&◌, ◌||◌, cond, nat_le}
+use Rattle.std.proofs.Common.{nat_lt, List, [], ◌∷◌, map, drop, refl, sym, ap, ap₂, ◌∙◌, arith, Some}
+use Rattle.std.proofs.Common.{slice_index}
 use Rattle.std.proofs.lemmas.Bool.{and_parts, leb-true, ltb-true}
 use Rattle.std.proofs.lemmas.List.{drop-drop, get_or-drop}
 use Rattle.std.specs.BTreeMap.{is_at}

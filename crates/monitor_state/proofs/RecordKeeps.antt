@@ -1,7 +1,6 @@
 -- The nodes' data keeps the rule, where the nodes stand for a log.
-use Rattle.std.proofs.Common.{◌≡◌, ℕ, ◌+◌, ◌-◌, ◌≤◌, Bool, true, min, List, [], ◌∷◌, length, map, drop, refl, sym}
-use Rattle.std.proofs.Common.{subst, ap, ap₂, ◌∙◌, arith}
-use Rattle.std.proofs.lemmas.List.{length-drop, length-map}
+use Rattle.std.proofs.Common.{◌≡◌, ℕ, ◌+◌, ◌-◌, ◌≤◌, Bool, true, min, List, [], ◌∷◌, length, map, drop, sym}
+use Rattle.std.proofs.Common.{subst, ap, ◌∙◌, arith}
 use Rattle.std.specs.List.{AllByRecursion}
 use Rattle.mfotl_model.specs.Exact.{AllExact, View}
 use Rattle.mfotl_model.specs.FreeVariables.{fv}
@@ -26,11 +25,10 @@ use Rattle.monitorable.specs.CoreForms.{CoreForm, meaning, True, False, Atom, Co
 use Rattle.monitorable.specs.CoreForms.{Next, Since}
 use Rattle.monitorable.specs.CoreForms.{Until}
 use Rattle.relations.specs.Pushed.{AreOver}
-use Rattle.monitor_state.proofs.ExactLemmas.{reached_within}
 use Rattle.monitor_state.proofs.MarkLemmas.{dropped_behind}
 use Rattle.monitor_state.proofs.RecordRules.{since_keeps, until_keeps}
 use Rattle.monitor_state.proofs.StampLemmas.{stamps_rest}
-use Rattle.monitor_state.specs.Nodes.{children, left_operand, operands}
+use Rattle.monitor_state.specs.Nodes.{left_operand}
 use Rattle.monitor_state.specs.Recording.{NodeRecorded, NodesRecorded, WindowRecorded}
 use Rattle.monitor_state.specs.Resuming.{Reach}
 use Rattle.monitor_state.specs.Stands.{IsFor, IsJoin, NodeStands, NodesStand, bare, conjunct_as}

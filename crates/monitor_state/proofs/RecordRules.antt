@@ -1,10 +1,9 @@
 -- The data of a state that stands for a log keeps the rule, with the log's timestamps.
 use Rattle.std.proofs.Common.{◌≡◌, ℕ, zero, suc, ◌+◌, ◌-◌, ◌≤◌, ◌^◌, List, [], ◌∷◌, length, drop, sym, subst, ap, ◌∙◌}
 use Rattle.std.proofs.Common.{arith, slice_index}
-use Rattle.std.proofs.lemmas.List.{drop-drop, get_or-drop}
+use Rattle.std.proofs.lemmas.List.{get_or-drop}
 use Rattle.std.specs.List.{AllByRecursion}
 use Rattle.mfotl_model.specs.Exact.{View}
-use Rattle.mfotl_model.specs.FreeVariables.{fv}
 use Rattle.mfotl_model.specs.Log.{times}
 use Rattle.mfotl_model.specs.declared.interval.Interval.{Interval}
 use Rattle.eval_since.specs.SinceData.{KeepsRule, KeepsTimes, SinceSetting, newest_of, setting_of}
@@ -13,10 +12,9 @@ use Rattle.eval_since.specs.declared.recalled.KeptRow.{KeptRow}
 use Rattle.eval_since.specs.declared.recalled.SinceData.{SinceData}
 use Rattle.eval_until.specs.UntilData.{UntilRule, setting_of as until_setting_of, until_of}
 use Rattle.eval_until.specs.UntilView.{UntilOf}
-use Rattle.monitorable.specs.CoreForms.{CoreForm, meaning}
+use Rattle.monitorable.specs.CoreForms.{CoreForm}
 use Rattle.monitor_state.proofs.MarkLemmas.{dropped_behind, found_behind}
 use Rattle.monitor_state.proofs.StampLemmas.{stamps_rest}
-use Rattle.monitor_state.specs.Nodes.{is_negated, left_operand}
 use Rattle.monitor_state.specs.Recording.{SinceRecorded, UntilRecorded}
 use Rattle.monitor_state.specs.SinceNode.{IsSinceState, SinceStandsAt}
 use Rattle.monitor_state.specs.Stamps.{stamps}

@@ -1,10 +1,9 @@
 -- Nodes that are resumed with data that stands for a log do.
-use Rattle.std.proofs.Common.{◌≡◌, ℕ, ◌+◌, ◌-◌, ◌<◌, ◌≤◌, Bool, true, false, cond, List, [], ◌∷◌, length, map, refl}
-use Rattle.std.proofs.Common.{sym, subst, ap, ap₂, ◌∙◌, arith}
+use Rattle.std.proofs.Common.{◌≡◌, ℕ, ◌+◌, ◌-◌, ◌≤◌, Bool, true, false, cond, List, [], ◌∷◌, length, map, refl}
+use Rattle.std.proofs.Common.{sym, subst, ap, ◌∙◌, arith}
 use Rattle.std.specs.Global.{Vec}
 use Rattle.mfotl_model.specs.Exact.{AllExact, Covers, View}
 use Rattle.mfotl_model.specs.FreeVariables.{fv}
-use Rattle.mfotl_model.specs.Log.{times}
 use Rattle.mfotl_model.specs.Satisfaction.{Valuation, truth_at}
 use Rattle.mfotl_model.specs.Tables.{TableOf, has}
 use Rattle.mfotl_model.specs.declared.interval.Interval.{Interval}
@@ -18,12 +17,12 @@ use Rattle.eval_bool.specs.OrView.{OrOf}
 use Rattle.eval_bool.specs.declared.recalled.JoinData.{JoinData}
 use Rattle.eval_bool.specs.declared.recalled.OrData.{OrData}
 use Rattle.eval_since.specs.PreviousData.{PreviousRule, previous_of}
-use Rattle.eval_since.specs.PreviousView.{FollowsPrevious, PrevOf}
+use Rattle.eval_since.specs.PreviousView.{PrevOf}
 use Rattle.eval_since.specs.SinceData.{KeepsRule, setting_of}
 use Rattle.eval_since.specs.SinceView.{SinceOf}
 use Rattle.eval_since.specs.declared.recalled.PrevData.{PrevData}
 use Rattle.eval_until.specs.NextData.{NextRule, next_of}
-use Rattle.eval_until.specs.NextView.{FollowsNext, NextOf}
+use Rattle.eval_until.specs.NextView.{NextOf}
 use Rattle.eval_until.specs.UntilData.{UntilRule, setting_of as until_setting_of, until_of}
 use Rattle.eval_until.specs.UntilView.{UntilOf}
 use Rattle.eval_until.specs.declared.recalled.NextData.{NextData}
@@ -36,29 +35,25 @@ use Rattle.monitor_state.proofs.RecordRules.{setting_is, until_setting_is}
 use Rattle.monitor_state.proofs.ResumeTimes.{known_from, last_dates, rest_dates, rest_is, rest_size}
 use Rattle.monitor_state.proofs.ResumeWindows.{since_resumed_is, since_resumed_stands, until_resumed_all}
 use Rattle.monitor_state.proofs.ResumeWindows.{until_resumed_is, until_resumed_stands, until_resumed_taken}
-use Rattle.monitor_state.specs.FilterNode.{FilterStands, IsFilter}
 use Rattle.monitor_state.specs.Nodes.{left_operand, operands}
 use Rattle.monitor_state.specs.Resuming.{NodeResumed, Reach, SinceResumed, Suits, UntilResumed, WindowResumed}
 use Rattle.monitor_state.specs.Stands.{ChildrenStand, IsFor, IsJoin, IsPrevious, JoinStands, NextStands, NodeStands}
 use Rattle.monitor_state.specs.Stands.{PreviousStands, bare, conjunct_as}
 use Rattle.monitor_state.specs.StateRules.{JoinKeeps, NodeKeeps, SinceKeeps, UntilKeeps, WindowKeeps}
-use Rattle.monitor_state.specs.StateStands.{JoinDataStands, NextDataStands, NodeDataStands, PreviousDataStands}
-use Rattle.monitor_state.specs.StateStands.{TablesStand, WindowDataStands}
-use Rattle.monitor_state.specs.StateTimes.{KeptTimes, node_asks, time_before, times_from, window_asks}
+use Rattle.monitor_state.specs.StateStands.{JoinDataStands, NextDataStands, PreviousDataStands}
+use Rattle.monitor_state.specs.StateStands.{TablesStand}
+use Rattle.monitor_state.specs.StateTimes.{KeptTimes, time_before, times_from}
 use Rattle.monitor_state.specs.SinceNode.{IsSinceState}
 use Rattle.monitor_state.specs.UntilNode.{IsUntilState}
-use Rattle.monitor_state.specs.Views.{Dates, Tells, reached}
-use Rattle.monitor_state.specs.WindowNode.{IsWindow, WindowStands, window_took_all}
+use Rattle.monitor_state.specs.Views.{Tells, reached}
+use Rattle.monitor_state.specs.WindowNode.{IsWindow}
 use Rattle.monitor_state.specs.declared.filter.FilterState.{FilterState}
-use Rattle.monitor_state.specs.declared.node.Node.{Node}
 use Rattle.monitor_state.specs.declared.node.Node.TheVariants as node
-use Rattle.monitor_state.specs.declared.state.NodeData.{NodeData}
 use Rattle.monitor_state.specs.declared.state.NodeData.TheVariants as kept
 use Rattle.monitor_state.specs.declared.state.SinceKept.{SinceKept}
 use Rattle.monitor_state.specs.declared.state.UntilKept.{UntilKept}
 use Rattle.monitor_state.specs.declared.state.WindowData.{WindowData}
 use Rattle.monitor_state.specs.declared.state.WindowData.TheVariants as data_of
-use Rattle.monitor_state.specs.declared.window.Window.{Window}
 use Rattle.monitor_state.specs.declared.window.Window.TheVariants as window
 
 -- ---- nodes that keep nothing

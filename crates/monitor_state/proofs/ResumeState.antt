@@ -1,7 +1,7 @@
 -- A monitor that is resumed with data that stands for a log does.
-use Rattle.std.proofs.Common.{◌≡◌, ℕ, zero, suc, ◌+◌, ◌-◌, ◌<◌, ◌≤◌, List, [], ◌∷◌, ◌++◌, length, drop, refl, sym}
+use Rattle.std.proofs.Common.{◌≡◌, ℕ, zero, suc, ◌-◌, ◌<◌, ◌≤◌, List, [], ◌∷◌, ◌++◌, length, drop, refl, sym}
 use Rattle.std.proofs.Common.{subst, ap, ap₂, ◌∙◌, arith, append_assoc, append-nil}
-use Rattle.std.proofs.lemmas.List.{length-drop, length-map}
+use Rattle.std.proofs.lemmas.List.{length-drop}
 use Rattle.std.specs.List.{AllByRecursion}
 use Rattle.mfotl_model.specs.Exact.{View}
 use Rattle.mfotl_model.specs.FreeVariables.{fv}
@@ -19,13 +19,12 @@ use Rattle.monitor_state.proofs.ResumeTimes.{log_size}
 use Rattle.monitor_state.specs.Beginnings.{Adds}
 use Rattle.monitor_state.specs.Going.{AllPremises}
 use Rattle.monitor_state.specs.Nodes.{nodes_of}
-use Rattle.monitor_state.specs.Resuming.{AllMatch, HalfResumed, Matches, NodeResumed, NodesResumed, Reach, Suits}
+use Rattle.monitor_state.specs.Resuming.{AllMatch, HalfResumed, Matches, NodeResumed, NodesResumed, Suits}
 use Rattle.monitor_state.specs.Resuming.{SuitsWhole}
 use Rattle.monitor_state.specs.Stands.{NodesStand, StateOf, Stands}
 use Rattle.monitor_state.specs.StateRules.{NodesKeep, StateRule}
 use Rattle.monitor_state.specs.StateStands.{NodesDataStand, StateStands}
 use Rattle.monitor_state.specs.StateTimes.{KeptTimes, earliest, node_asks, times_of}
-use Rattle.monitor_state.specs.Steps.{Premises}
 use Rattle.monitor_state.specs.Views.{reached}
 use Rattle.monitor_state.specs.declared.node.Node.{Node}
 use Rattle.monitor_state.specs.declared.state.NodeData.{NodeData}

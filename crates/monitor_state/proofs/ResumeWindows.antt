@@ -1,20 +1,19 @@
 -- A SINCE or an UNTIL that is resumed with data that stands for a log does.
-use Rattle.std.proofs.Common.{◌≡◌, ℕ, ◌+◌, ◌-◌, ◌<◌, ◌≤◌, Bool, true, min, nat_eq, nat_le, List, length, map, drop}
-use Rattle.std.proofs.Common.{refl, sym, subst, ap, ap₂, ◌∙◌, arith, slice_index}
+use Rattle.std.proofs.Common.{◌≡◌, ℕ, ◌+◌, ◌-◌, ◌<◌, ◌≤◌, Bool, true, min, nat_le, List, length, map, drop}
+use Rattle.std.proofs.Common.{sym, subst, ap, ap₂, ◌∙◌, arith, slice_index}
 use Rattle.std.proofs.lemmas.Bool.{eq-eqb}
 use Rattle.std.proofs.lemmas.List.{get_or-drop}
-use Rattle.mfotl_model.specs.Exact.{AllExact, Covers, View}
+use Rattle.mfotl_model.specs.Exact.{Covers, View}
 use Rattle.mfotl_model.specs.FreeVariables.{fv}
 use Rattle.mfotl_model.specs.Log.{times}
 use Rattle.mfotl_model.specs.Satisfaction.{Valuation, time_at, truth_at}
-use Rattle.mfotl_model.specs.Tables.{has}
 use Rattle.mfotl_model.specs.declared.interval.Interval.{Interval}
 use Rattle.mfotl_model.specs.declared.value.Value.{Value}
 use Rattle.eval_since.proofs.RecalledLemmas.{recalls_is}
 use Rattle.eval_since.specs.Recalled.{recalls, times_for}
 use Rattle.eval_since.specs.SinceBefore.{since_before}
 use Rattle.eval_since.specs.SinceData.{FollowsData, SinceSetting, setting_of}
-use Rattle.eval_since.specs.SinceView.{Follows, SinceOf}
+use Rattle.eval_since.specs.SinceView.{SinceOf}
 use Rattle.eval_since.specs.Times.{reaches}
 use Rattle.eval_until.specs.Entries.{entries_of, met_by}
 use Rattle.eval_until.specs.Recalled.{entries_kept, starts_kept}
@@ -27,14 +26,13 @@ use Rattle.relations.specs.Pushed.{StandFrom, left_holds}
 use Rattle.monitor_state.proofs.ExactLemmas.{exact_tell, reached_within}
 use Rattle.monitor_state.proofs.MarkLemmas.{met_is}
 use Rattle.monitor_state.proofs.RegionLemmas.{near_part}
-use Rattle.monitor_state.proofs.ResumeTimes.{known_from, last_dates, log_size, rest_dates, rest_is, rest_size}
+use Rattle.monitor_state.proofs.ResumeTimes.{known_from, last_dates, rest_dates, rest_is, rest_size}
 use Rattle.monitor_state.proofs.SinceSteps.{free_operand, left_tell}
-use Rattle.monitor_state.specs.Nodes.{is_negated, left_operand}
 use Rattle.monitor_state.specs.Resuming.{Reach, SinceResumed, Suits, UntilResumed}
 use Rattle.monitor_state.specs.SinceNode.{IsSinceState, SinceStandsAt}
 use Rattle.monitor_state.specs.Stamps.{stamps}
 use Rattle.monitor_state.specs.StateRules.{SinceKeeps, UntilKeeps}
-use Rattle.monitor_state.specs.StateStands.{SinceDataStands, UntilDataStands, marks_for}
+use Rattle.monitor_state.specs.StateStands.{SinceDataStands, UntilDataStands}
 use Rattle.monitor_state.specs.StateTimes.{KeptTimes, time_before, times_from}
 use Rattle.monitor_state.specs.UntilNode.{IsUntilState, UntilStandsAt}
 use Rattle.monitor_state.specs.Views.{Dates, Tells, reached}

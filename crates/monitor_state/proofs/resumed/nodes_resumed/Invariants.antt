@@ -1,6 +1,5 @@
 use Rattle.std.proofs.Common.{length}
 use Rattle.monitor_state.specs.Resuming.{HalfResumed}
-use Rattle.monitor_state.specs.StateTimes.{KeptTimes}
 use Rattle.monitor_state.proofs.resumed.nodes_resumed.Given as goal
 
 abbrev pub invariant-loop-node : goal.invariant-loop-node

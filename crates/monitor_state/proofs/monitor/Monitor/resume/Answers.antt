@@ -1,4 +1,4 @@
-use Rattle.std.proofs.Common.{◌≡◌, ◌-◌, [], subst, refl, sym, ap, ◌∙◌}
+use Rattle.std.proofs.Common.{◌-◌, [], subst, refl, sym, ap, ◌∙◌}
 use Rattle.monitorable.specs.Cores.{core_form}
 use Rattle.monitorable.specs.CoreForms.{node_form}
 use Rattle.monitorable.specs.Fragment.{fault_in}
@@ -7,7 +7,7 @@ use Rattle.monitor_state.proofs.ResumeState.{all_match, empty_view, fresh_stand,
 use Rattle.monitor_state.specs.Beginnings.{Adds}
 use Rattle.monitor_state.specs.Nodes.{nodes_of}
 use Rattle.monitor_state.specs.Resuming.{AllMatch, NodesResumed}
-use Rattle.monitor_state.specs.StateTimes.{KeptTimes, times_of}
+use Rattle.monitor_state.specs.StateTimes.{times_of}
 use Rattle.monitor_state.proofs.monitor.Monitor.resume.Goals as goal
 
 pub add_nodes-requires : goal.add_nodes-requires
