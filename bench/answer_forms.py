@@ -7,12 +7,12 @@ USAGE = ("usage: run --sig F --policy F --log F [--strategy S] [--changes F] [--
 LEX = "Lex (BadByte|OpenText|NumberRange|TextLong|BadUtf8)"
 FAULTS = {
     3: rf"signature: ({LEX}|Syntax|RepeatedName|UnknownSort|Arity|TooMany|TooLong) at \d+",
-    4: rf"policy: (({LEX}|Syntax|EmptyInterval|BoundRange|UnknownPredicate|WrongArity|SortClash|TooManyVariables|TooDeep"
-       r"|TooManyNodes|TooLong) at \d+|TooLarge|UnboundedFuture|Uneven|(Unguarded|LooseLeft|UnusedBound) \w+)",
-    5: r"(strategy|changes): (Syntax|UnknownVariable|RepeatedVariable|BadCount|CutSort|CutOrder|TooManyWorkers|TooLong) at \d+"
-       r"|changes: (FallingChange|TooManyChanges) at \d+",
-    6: rf"log: ({LEX}|Syntax|UnknownPredicate|WrongArity|WrongSort|IntRange|TimestampRange|FallingTime \d+ \d+|TooManyEvents"
-       r"|TooManyPoints|TooLong) at \d+",
+    4: rf"policy: (({LEX}|Syntax|EmptyInterval|BoundRange|UnknownPredicate|WrongArity|SortClash|TooManyVariables"
+       r"|TooDeep|TooManyNodes|TooLong) at \d+|TooLarge|UnboundedFuture|Uneven|(Unguarded|LooseLeft|UnusedBound) \w+)",
+    5: r"(strategy|changes): (Syntax|UnknownVariable|RepeatedVariable|BadCount|CutSort|CutOrder|TooManyWorkers"
+       r"|TooLong) at \d+|changes: (FallingChange|TooManyChanges) at \d+",
+    6: rf"log: ({LEX}|Syntax|UnknownPredicate|WrongArity|WrongSort|IntRange|TimestampRange|FallingTime \d+ \d+"
+       r"|TooManyEvents|TooManyPoints|TooLong) at \d+",
     7: "read: (signature|policy|changes|log)",
     8: "write",
     9: "memory",

@@ -16,7 +16,8 @@ NUMBERS = range(-2, 3)
 TEXTS = ("a", "b", "ab", "ä b")
 MOST_WORKERS = 64
 LINE = "\n"
-KINDS = ("atom", "and", "without", "compare", "or", "exists", "previous", "next", *("once", "eventually", "since", "until") * 2)
+KINDS = ("atom", "and", "without", "compare", "or", "exists", "previous", "next",
+         *("once", "eventually", "since", "until") * 2)
 
 
 @dataclass(frozen=True)
@@ -176,7 +177,8 @@ def log_text(draw, log):
         written = [f"{name}({','.join(map(meaning.spelled, values))})"
                    for name, values in sorted(events, key=repr) for _ in range(draw.choice((1, 1, 2)))]
         draw.shuffle(written)
-        lines.append(f"@{time} {' '.join(written)}{draw.choice(('', ';'))}{draw.choice((' ', LINE, ' # a note' + LINE))}")
+        end = draw.choice(("", ";")) + draw.choice((" ", LINE, " # a note" + LINE))
+        lines.append(f"@{time} {' '.join(written)}{end}")
     return "".join(lines)
 
 

@@ -63,7 +63,7 @@ class Meaning:
         self.known, self.free = {}, {}
 
     def holds(self, formula, row, at):
-        """Whether the formula holds at a position, under the values of its free variables. Nothing is worked out twice."""
+        """Whether the formula holds at a position, under the values of its free variables; no answer is found twice."""
         free = self.free.setdefault(formula, tuple(free_variables(formula)))
         key = formula, tuple(row[name] for name in free), at
         if key not in self.known:
@@ -146,14 +146,14 @@ class Meaning:
 
 # the operators whose names are words of Python
 setattr(Meaning, "not", lambda self, body, row, at: not self.holds(body, row, at))
-setattr(Meaning, "and", lambda self, left, right, row, at: self.holds(left, row, at) and self.holds(right, row, at))
-setattr(Meaning, "or", lambda self, left, right, row, at: self.holds(left, row, at) or self.holds(right, row, at))
-setattr(Meaning, "implies", lambda self, left, right, row, at: not self.holds(left, row, at) or self.holds(right, row, at))
-setattr(Meaning, "equiv", lambda self, left, right, row, at: self.holds(left, row, at) == self.holds(right, row, at))
+setattr(Meaning, "and", lambda self, left, right, *here: self.holds(left, *here) and self.holds(right, *here))
+setattr(Meaning, "or", lambda self, left, right, *here: self.holds(left, *here) or self.holds(right, *here))
+setattr(Meaning, "implies", lambda self, left, right, *here: not self.holds(left, *here) or self.holds(right, *here))
+setattr(Meaning, "equiv", lambda self, left, right, *here: self.holds(left, *here) == self.holds(right, *here))
 
 
 def verdicts(policy, log):
-    """For each settled time-point its timestamp, its number and the rows at which the policy doesn't hold, ascending."""
+    """For each settled time-point its timestamp, its number and the rows at which the policy doesn't hold, in order."""
     domain = constants(policy) | {value for _, events in log for _, values in events for value in values}
     meaning, columns = Meaning(log, domain), free_variables(policy)
     for at, (time, _) in enumerate(log):
