@@ -1,13 +1,19 @@
 """Runs drawn by chance: a policy that can be monitored, a log, a strategy and a script of changes, and the lines due.
 
-`bench/changed_runs.py SEED` prints the run of a seed. The lines are those of bench/meaning.py.
+    bench/changed_runs.py SEED                          prints the run of a seed
+    bench/changed_runs.py --cases FIRST COUNT FOLDER    writes the runs of so many seeds as cases for the program
+                                                        run_cases, to FOLDER/stdin, and their answers to FOLDER/stdout
+
+The lines are those of bench/meaning.py.
 """
 
+import pathlib
 import random
 import sys
 from dataclasses import dataclass
 
 import meaning
+from case_files import answer_text, case_text
 
 SIGNATURE = {"p": "i", "q": "i", "r": "ii", "s": "ti", "e": ""}
 SORTS = {"x": "i", "y": "i", "z": "i", "v": "t", "w": "t"}
@@ -213,7 +219,31 @@ def drawn(seed):
                draw_changes(draw, sorts, len(log)), meaning.text(policy, log))
 
 
+def case(seed, run):
+    """A run as a case of run_cases, and its answer. Each fourth has no changes, and each eighth no strategy either."""
+    draw = random.Random(f"case {seed}")
+    files = {"s": run.sig, "p": run.policy, "l": run.log}
+    words = ["run", "--sig", "s", "--policy", "p", "--log", "l"]
+    if seed % 8:
+        words.append(f"--strategy={run.strategy}")
+    if seed % 4:
+        words += ["--changes", "c"]
+        files["c"] = run.changes
+    words += ["--threads", draw.choice("01248")]
+    name = f"drawn-{seed}"
+    return case_text(name, words, files, draw.choice((1, 2, 7, 65536))), answer_text(name, run.status(), run.due, "")
+
+
+def write_cases(first, count, folder):
+    cases = [case(seed, drawn(seed)) for seed in range(first, first + count)]
+    for name, texts in zip(("stdin", "stdout"), zip(*cases)):
+        (pathlib.Path(folder) / name).write_bytes(b"".join(texts))
+
+
 def main():
+    if sys.argv[1] == "--cases":
+        write_cases(int(sys.argv[2]), int(sys.argv[3]), sys.argv[4])
+        return
     run = drawn(int(sys.argv[1]))
     for name in ("sig", "policy", "log", "strategy", "changes", "due"):
         print(f"---- {name}\n{getattr(run, name).rstrip()}")
