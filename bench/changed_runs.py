@@ -28,8 +28,9 @@ KINDS = ("atom", "and", "without", "compare", "or", "exists", "previous", "next"
 
 @dataclass(frozen=True)
 class Run:
-    """The texts of a run, and what is due."""
+    """The texts of a run, its policy as a tree, and what is due."""
 
+    formula: tuple
     sig: str
     policy: str
     log: str
@@ -215,7 +216,7 @@ def drawn(seed):
     policy, log = Drawing(draw).policy(), draw_log(draw)
     sorts = {name: SORTS[name[0]] for name in meaning.free_variables(policy)}
     sig = " ".join(f"{name}({','.join(NAMES[sort] for sort in sorts)})" for name, sorts in SIGNATURE.items())
-    return Run(sig + "\n", formula_text(policy) + "\n", log_text(draw, log), draw_strategy(draw, sorts),
+    return Run(policy, sig + "\n", formula_text(policy) + "\n", log_text(draw, log), draw_strategy(draw, sorts),
                draw_changes(draw, sorts, len(log)), meaning.text(policy, log))
 
 
