@@ -10,19 +10,19 @@ use Rattle.monitor_state.specs.declared.monitor.Monitor.{Monitor}
 use Rattle.rescale_core.proofs.WorkerSteps.{live_at}
 use Rattle.rescale_core.specs.Lines.{Due, Turn}
 use Rattle.rescale_core.specs.Lines.Due.{Slicing, Parting, Hole}
-use Rattle.rescale_core.specs.Monitors.{PieceStands}
-use Rattle.rescale_core.specs.States.{Adopted, AreCuts, CanAdopt, IsFull, Merges, MergesMore, Splits}
+use Rattle.monitor_state.specs.Pieces.{AreCuts, PieceStands}
+use Rattle.rescale_core.specs.States.{Adopted, CanAdopt, IsFull, Merges, MergesMore, Splits}
 use Rattle.rescale_core.specs.Stages.{Follows, Gives, IsPieceFor, Meets, NotIn, Parts, Stage, froms_of, stage_after}
 use Rattle.rescale_core.specs.Stages.Stage.{Filling, Gone, Live}
 use Rattle.rescale_core.specs.Workers.{IsFor}
 use Rattle.rescale_core.specs.Working.{CanTake, GoesOn, IsAt, IsOpen, Settles, Steps}
 use Rattle.rescale_core.specs.declared.item.Item.TheVariants.{Adopt, Part}
 use Rattle.rescale_core.specs.declared.item.Out.TheVariants.{Piece as OfPiece}
-use Rattle.rescale_core.specs.declared.merging.Merging.{Merging}
+use Rattle.state_merge.specs.declared.merging.Merging.{Merging}
 use Rattle.rescale_core.specs.declared.phase.Phase.{Phase}
 use Rattle.rescale_core.specs.declared.phase.Phase.TheVariants.{Active, Vacant, Waiting}
 use Rattle.rescale_core.specs.declared.phase.Worker.{Worker}
-use Rattle.rescale_core.specs.declared.piece.Piece.{Piece}
+use Rattle.monitor_state.specs.declared.state.Piece.{Piece}
 
 -- ---- a part
 

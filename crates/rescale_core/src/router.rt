@@ -10,12 +10,12 @@ ghost use Rattle.rescale_core.specs.declared.item.Entry.TheVariants.{Change, Poi
 
 use crate::item::{Item, Out};
 use crate::outstanding::{grow_counts, lower, none_outstanding, raise};
-use crate::piece::Piece;
 use crate::queue::{Queue, none_wait};
 use crate::reading::{grow, push_parts, push_places, push_slices};
 use crate::routes::Router;
 use event_splitter::split;
 use mfotl_model::TimePoint;
+use monitor_state::Piece;
 use slice_strategy::{Slicer, Strategy};
 use std::alloc::{AllocError, Global};
 use verdict_merge::{Gather, Verdict};
