@@ -314,9 +314,10 @@ pub until_in_window : (k : KeptTimes) (s new : UntilOf) (d : UntilKept) → Unti
     → WindowResumed k (window.Until s) (data_of.Until d) (window.Until new)
 until_in_window k s new d res (Until i f g) is keeps = (
   until_resumed_is k i f g s new d is keeps res,
-  λ view whole p suits reach stands.
-      (until_resumed_stands k i f g s new d is keeps res view whole p suits reach stands,
-      until_resumed_all k i f g s new d is keeps res view whole p suits reach stands),
+  λ view whole p suits reach stands. (
+    until_resumed_stands k i f g s new d is keeps res view whole p suits reach stands,
+    until_resumed_all k i f g s new d is keeps res view whole p suits reach stands,
+  ),
 )
 until_in_window k s new d res w is keeps = absurd is
 

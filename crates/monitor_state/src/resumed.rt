@@ -77,12 +77,7 @@ fn resumed_constant(
     }
 }
 
-fn resumed_atom(
-    atom: Atom,
-    first: u64,
-    times: &[u64],
-    kept: NodeData,
-) -> Result<Node, AllocError>
+fn resumed_atom(atom: Atom, first: u64, times: &[u64], kept: NodeData) -> Result<Node, AllocError>
     requires { Matches (record { first = first; stamps = times.now }) (Node.Atom atom) kept }
     ensures { IfOk result (NodeResumed (record { first = first; stamps = times.now }) (Node.Atom atom) kept) }
 {
@@ -92,12 +87,7 @@ fn resumed_atom(
     }
 }
 
-fn resumed_exists(
-    var: u32,
-    first: u64,
-    times: &[u64],
-    kept: NodeData,
-) -> Result<Node, AllocError>
+fn resumed_exists(var: u32, first: u64, times: &[u64], kept: NodeData) -> Result<Node, AllocError>
     requires { Matches (record { first = first; stamps = times.now }) (Node.Exists var) kept }
     ensures { IfOk result (NodeResumed (record { first = first; stamps = times.now }) (Node.Exists var) kept) }
 {
@@ -145,12 +135,7 @@ fn resumed_filter(
     }))
 }
 
-fn resumed_or(
-    state: OrState,
-    first: u64,
-    times: &[u64],
-    kept: NodeData,
-) -> Result<Node, AllocError>
+fn resumed_or(state: OrState, first: u64, times: &[u64], kept: NodeData) -> Result<Node, AllocError>
     requires { Matches (record { first = first; stamps = times.now }) (Node.Or state) kept }
     ensures { IfOk result (NodeResumed (record { first = first; stamps = times.now }) (Node.Or state) kept) }
 {

@@ -13,7 +13,7 @@ use crate::outstanding::{grow_counts, lower, none_outstanding, raise};
 use crate::queue::{Queue, none_wait};
 use crate::reading::{grow, push_parts, push_places, push_slices};
 use crate::routes::Router;
-use event_splitter::split;
+use event_splitter::split_owned;
 use mfotl_model::TimePoint;
 use monitor_state::Piece;
 use slice_strategy::{Slicer, Strategy};
@@ -27,7 +27,7 @@ impl Router {
         ensures { IfOk result (λ _. (w : World) → IsRouterOf self.old w → MayFollow (spot_in w).points point
             → IsRouterOf self.new (after w (Read (Point point)))) }
     {
-        let slices = split(alloc, &self.core, &self.strategy, &point)?;
+        let slices = split_owned(alloc, &self.core, &self.strategy, point)?;
         push_slices(&mut self.queues, self.generation, self.points, slices)?;
         self.points += 1;
         Ok(())

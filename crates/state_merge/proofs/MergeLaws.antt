@@ -15,8 +15,9 @@ use Rattle.monitor_state.specs.StateLaws.{AdoptMerges, AllMerged}
 use Rattle.monitor_state.specs.StateRules.{StateRule}
 use Rattle.monitor_state.specs.StateStands.{StateStands}
 use Rattle.monitor_state.specs.declared.state.State.{State}
-use Rattle.state_merge.specs.Finishing.{AllAdopted}
-use Rattle.state_merge.proofs.PartLaw.{part_stands}
+use Rattle.state_merge.specs.Finishing.{AllAdopted, IsWhole}
+use Rattle.state_merge.specs.MergingView.{MergingOf}
+use Rattle.monitor_state.proofs.PartLaw.{part_stands}
 use Rattle.state_merge.proofs.UnionLaw.{union_stands}
 
 spread : (a b c : Bool) → ((a || b) && c) ≡ ((b && c) || (a && c))
@@ -128,3 +129,15 @@ finished core s s2 k2 log ks merged state is all m =
       subst (StateRule core) same whole.2,
       subst (StateStands (view_of core (near_of s2 k2) log) core) same whole.3,
     )
+
+-- what was merged of all pieces keeps the rule of states
+pub whole_rule : (m : MergingOf) (state : State) → m.merged ≡ Some state → IsWhole m → StateRule m.core state
+whole_rule m state is (s, s2, k2, log, ks, all, merged) =
+    (finished m.core s s2 k2 log ks m.merged state is all merged).0
+
+-- there are pieces, so something was merged
+pub whole_some : (m : MergingOf) → m.merged ≡ None → IsWhole m → ⊥
+whole_some m none (s, s2, k2, log, ks, all, merged) =
+    let whole = all_merged m.core s s2 k2 log ks m.merged all.covers all.some merged all.differ all.below all.size in
+    let is = whole.1 in
+    absurd (cc)
