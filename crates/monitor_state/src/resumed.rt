@@ -24,7 +24,8 @@ pub fn nodes_resumed(
     kept: Vec<NodeData>,
 ) -> Result<Vec<Node>, AllocError>
     requires { AllMatch (record { first = first; stamps = times.now }) fresh.items kept.items }
-    ensures { IfOk result (λ nodes. NodesResumed (record { first = first; stamps = times.now }) fresh.items kept.items nodes.items) }
+    ensures { IfOk result (λ nodes. NodesResumed (record { first = first; stamps = times.now }) fresh.items kept.items
+        nodes.items) }
 {
     let mut nodes = Vec::with_capacity(alloc, fresh.len())?;
     let mut rest = VecDeque::from_vec(fresh);

@@ -1,5 +1,6 @@
 -- What is adopted, and what is merged of all pieces.
-use Rattle.std.proofs.Common.{◌≡◌, ◌≢◌, ℕ, ◌≤◌, ◌<◌, Bool, true, false, ◌&&◌, ◌||◌, List, [], ◌∷◌, length, Option, None, Some, refl, sym, subst, ap, ◌∙◌, arith, inl, inr}
+use Rattle.std.proofs.Common.{◌≡◌, ◌≢◌, ℕ, ◌≤◌, ◌<◌, Bool, true, false, ◌&&◌, ◌||◌, List, [], ◌∷◌, length, Option, None}
+use Rattle.std.proofs.Common.{Some, refl, sym, subst, ap, ◌∙◌, arith, inl, inr}
 use Rattle.std.proofs.Math.Dec.{eqb}
 use Rattle.std.proofs.lemmas.Bool.{and_from, eqb-true, ne_eqb, or_cases, or_left, or_parts, or_right}
 use Rattle.std.proofs.lemmas.Map.Steps.{length-le_from_distinct_below}
@@ -132,12 +133,11 @@ finished core s s2 k2 log ks merged state is all m =
 
 -- what was merged of all pieces keeps the rule of states
 pub whole_rule : (m : MergingOf) (state : State) → m.merged ≡ Some state → IsWhole m → StateRule m.core state
-whole_rule m state is (s, s2, k2, log, ks, all, merged) =
-    (finished m.core s s2 k2 log ks m.merged state is all merged).0
+whole_rule m state is w = (finished m.core w.0 w.1 w.2 w.3 w.4 m.merged state is w.5 w.6).0
 
 -- there are pieces, so something was merged
-pub whole_some : (m : MergingOf) → m.merged ≡ None → IsWhole m → ⊥
-whole_some m none (s, s2, k2, log, ks, all, merged) =
-    let whole = all_merged m.core s s2 k2 log ks m.merged all.covers all.some merged all.differ all.below all.size in
+pub whole_some : (m : MergingOf) → IsWhole m → m.merged ≢ None
+whole_some m w none =
+    let whole = all_merged m.core w.0 w.1 w.2 w.3 w.4 m.merged w.5.covers w.5.some w.6 w.5.differ w.5.below w.5.size in
     let is = whole.1 in
-    absurd (cc)
+    cc

@@ -3,8 +3,8 @@ use Rattle.std.specs.Prelude.{◌≡◌, ℕ, ◌<◌, true, List, length}
 use Rattle.mfotl_model.specs.Regions.{near_of}
 use Rattle.mfotl_model.specs.Satisfaction.{Valuation}
 use Rattle.mfotl_model.specs.Strategies.{Strategy, workers_of}
-use Rattle.monitor_state.specs.Pieces.{AllBelow, AllDiffer, Merges}
 use Rattle.mfotl_model.specs.declared.event.TimePoint.{TimePoint}
+use Rattle.monitor_state.specs.Pieces.{AllBelow, AllDiffer, Merges}
 use Rattle.state_merge.specs.MergingView.{MergingOf}
 
 -- there are as many of these workers as the strategy has, no two of them the same, and each row is near to one of the

@@ -45,7 +45,12 @@ fn with_piece(alloc: Global, merged: Option<State>, piece: State) -> Result<Stat
 impl Merging {
     /// The merge of so many pieces, of which none was adopted.
     pub fn new(alloc: Global, core: &Core, count: u32) -> Result<Self, AllocError>
-        ensures { IfOk result (λ merging. merging_of merging ≡ record { core = core_form core.now; count = count; adopted = 0; merged = None }) }
+        ensures { IfOk result (λ merging. merging_of merging ≡ record {
+          core = core_form core.now;
+          count = count;
+          adopted = 0;
+          merged = None;
+        }) }
     {
         Ok(Merging {
             core: core.copy(alloc)?,
