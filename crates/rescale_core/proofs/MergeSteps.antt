@@ -1,7 +1,6 @@
 -- What splitting, adopting and finishing do for a worker.
 use Rattle.std.proofs.Common.{◌≡◌, ℕ, ◌+◌, ◌<◌, ◌≤◌, Option, Some, None, IfSome, List, [], ◌∷◌, length}
 use Rattle.std.proofs.Common.{sym, refl, ap, ◌∙◌, subst, arith}
-use Rattle.std.specs.List.{AllByRecursion}
 use Rattle.mfotl_model.specs.FreeVariables.{fv, among}
 use Rattle.mfotl_model.specs.Regions.{near_of}
 use Rattle.mfotl_model.specs.Strategies.{Strategy, workers_of}
@@ -28,7 +27,7 @@ use Rattle.verdict_merge.proofs.CountLemmas.{at_most}
 use Rattle.verdict_merge.specs.Laws.{Apart}
 use Rattle.rescale_core.proofs.OwnedLemmas.{among_range}
 use Rattle.rescale_core.proofs.WorkerSteps.{region_passes}
-use Rattle.rescale_core.specs.States.{Adopted, CanAdopt, Finishes, IsFull, Merges, MergesMore, Splits}
+use Rattle.rescale_core.specs.States.{Adopted, CanAdopt, Finishes, IsFull, MergesMore, Splits}
 use Rattle.rescale_core.specs.Workers.{IsFor}
 
 -- ---- splitting

@@ -4,7 +4,8 @@ ghost use Rattle.rescale_core.specs.Chances.{sure_items};
 ghost use Rattle.rescale_core.specs.Queues.{all_put, queue_at};
 ghost use Rattle.rescale_core.specs.Routing.{HasEnded, HasTaken, IsRouterOf, MayAdd, TakesFront, feeds};
 ghost use Rattle.rescale_core.specs.Workers.{IsFor, MayFollow};
-ghost use Rattle.rescale_core.specs.Worlds.{World, Allowed, AreAllowed, IsGathered, after, pieces_in, queue_in, rows_in, run, spot_in};
+ghost use Rattle.rescale_core.specs.Worlds.{World, Allowed, AreAllowed, IsGathered, after, run, spot_in};
+ghost use Rattle.rescale_core.specs.Worlds.{pieces_in, queue_in, rows_in};
 ghost use Rattle.rescale_core.specs.Worlds.Move.{Read, Collect, Emit};
 ghost use Rattle.rescale_core.specs.declared.item.Entry.TheVariants.{Change, Point};
 

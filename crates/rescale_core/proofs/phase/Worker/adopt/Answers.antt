@@ -39,4 +39,4 @@ returns c =
     c.in_ok-merging.missing) c.replace-phase.ensures.value c.in_ok-merging.ensures)
     c.adopt.new.self
     (merges_more c.in_ok-merging.merging c.adopt.new.self c.args.piece e.core e.count e.adopted e.merges) _ refl refl
-    c.in_ok-settle.ensures
+    c.in_ok-self.ensures
