@@ -58,7 +58,7 @@ def what_is_wrong(status, out, err):
         return None if lines_have_form(out) else "lines out of form"
     if status == 2:
         return None if (out, err) == ("", USAGE) else "not the usage line"
-    if not re.fullmatch(FAULTS[status] + "\n", err):
+    if not re.fullmatch(rf"(?:{FAULTS[status]})\n", err):
         return f"status {status} with {err!r}"
     if status <= 5 and out:
         return f"status {status} with lines"
