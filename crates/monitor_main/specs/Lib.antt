@@ -9,12 +9,16 @@ pub mod TextLaw
 pub mod FaultLines
 pub mod Refusals
 pub mod CheckLine
+pub mod Tasks
 pub mod Answer
+pub mod Unread
 pub mod AnswerLaws
 pub mod FilesAsked
 pub mod CheckedPolicies
+pub mod ReadyTasks
 pub mod Loading
 pub mod LogRuns
 pub mod Decisions
 pub mod Outcomes
+pub mod DemoRuns
 pub mod DemoLaws

@@ -7,7 +7,7 @@ pub fn check_accepts()
     ensures { CheckAccepts }
 {}
 
-/// A run answers the same by each strategy that is accepted, however many workers it makes.
+/// A run answers the same by each strategy and each list of changes that are accepted, however many workers they make.
 pub fn strategies_agree()
     ensures { StrategiesAgree }
 {}
