@@ -110,7 +110,8 @@ policy_held : (sources : Sources) (files : Files) → content files sources.sig 
 unfolding policy_at checked_over
 policy_held sources files sig_is policy_is = rw (sig_is, policy_is, signature_accepted, policy_accepted) refl
 
-run_is : (sources : Sources) (options : RunOptions) (files : Files) (task : Task) → task_at sources options files ≡ Ok task
+run_is : (sources : Sources) (options : RunOptions) (files : Files) (task : Task)
+    → task_at sources options files ≡ Ok task
     → command_answer (Run sources options) files ≡ log_answer task
 unfolding command_answer
 run_is sources options files task is = ap run_answer is

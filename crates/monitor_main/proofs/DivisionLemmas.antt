@@ -42,12 +42,14 @@ pub all_divide : (vars : List Var) (bytes : List ℕ) (cs : List ChangeOf) → I
     → AllByRecursion (λ c. HasWorkers c.strategy) cs → AllByRecursion (λ c. Divides vars c.strategy) cs
 all_divide vars bytes cs v workers =
     pair_all vars cs
-    (subst (AllByRecursion (λ (c : ChangeOf). length c.strategy ≡ length vars)) (sym v.value) (all_sized vars v.written))
+    (subst (AllByRecursion (λ (c : ChangeOf). length c.strategy ≡ length vars)) (sym v.value)
+    (all_sized vars v.written))
     workers
 
 -- ---- they are for the core
 
-module _ (core : CoreForm) (policy : Form) (is : IsCoreOf core policy) (vars : List Var) (has : HasVariables vars core) where
+module _ (core : CoreForm) (policy : Form) (is : IsCoreOf core policy) (vars : List Var)
+    (has : HasVariables vars core) where
   pub first_for : (s : Strategy) → Divides vars s → IsFor core s
   first_for s d = record {
     fits = is.evaluable.fits;

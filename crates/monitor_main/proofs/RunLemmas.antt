@@ -227,7 +227,8 @@ is_read_of all after (Some left) e is_open bytes is_ended taken whole = record {
   unopened = λ closed. absurd cc;
 }
 
-pub opened_read : (first : Option (List ℕ)) (all : List ℕ) → first ≡ Some all → (after : InputsView) → after.is_open ≡ true
+pub opened_read : (first : Option (List ℕ)) (all : List ℕ) → first ≡ Some all → (after : InputsView)
+    → after.is_open ≡ true
     → (bytes : List ℕ) (is_ended : Bool) → Consumes first after.rest bytes
     → (is_ended ≡ true → IfSome first (λ whole. whole ≡ bytes)) → IsReadOf all after bytes is_ended
 opened_read None all e after is_open bytes is_ended taken whole = absurd cc

@@ -181,7 +181,8 @@ module _ (sources : Sources) where
 -- ---- the policy is checked
 
 -- then the policy was reached
-pub policy_reached : (sources : Sources) (files : Files) (checked : CheckedPolicy) → policy_at sources files ≡ Ok checked
+pub policy_reached : (sources : Sources) (files : Files) (checked : CheckedPolicy)
+    → policy_at sources files ≡ Ok checked
     → source_bytes sources files file.Policy ≡ Some (content files sources.policy)
 unfolding policy_at source_bytes
 policy_reached sources files checked e = by (signature_of (content files sources.sig)) e
@@ -201,7 +202,8 @@ module _ (sources : Sources) (options : RunOptions) (before mid : InputsView) (c
   inside_fault last r inside = tt
 
   strategy_refuses : (files : Files) (r : Refusal) → policy_at sources files ≡ Ok checked
-      → strategy_in checked.policy.vars options.strategy ≡ Err r → command_answer (Run sources options) files ≡ refused r
+      → strategy_in checked.policy.vars options.strategy ≡ Err r
+      → command_answer (Run sources options) files ≡ refused r
   unfolding command_answer task_at divided_at
   strategy_refuses files r e f = rw (e, f) refl
 

@@ -1,5 +1,6 @@
 -- What the words' reader rests on.
-use Rattle.std.proofs.Common.{◌≡◌, ◌<◌, ◌≤◌, ap, arith, List, [], ◌∷◌, ◌++◌, ℕ, Bool, true, false, refl, ◌&&◌, ◌||◌, codes}
+use Rattle.std.proofs.Common.{◌≡◌, ◌<◌, ◌≤◌, ap, arith, List, [], ◌∷◌, ◌++◌, ℕ, Bool, true, false, refl}
+use Rattle.std.proofs.Common.{◌&&◌, ◌||◌, codes}
 use Rattle.std.specs.List.{list_any}
 use Rattle.std.specs.Prelude.{Box, Option, Some, None, option_map, count_by, nat_lt, if◌then◌else◌}
 use Rattle.std.specs.Prelude.{IfSome, Result, Ok, Err}

@@ -1,6 +1,7 @@
 -- The definitions that the contracts cite, in reading order.
 pub mod Limits
 pub mod Words
+pub mod WordsLaw
 pub mod CommandViews
 pub mod Status
 pub mod Real
