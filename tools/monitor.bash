@@ -4,7 +4,7 @@ _monitor() {
   local current=${COMP_WORDS[COMP_CWORD]} before=${COMP_WORDS[COMP_CWORD-1]}
   COMPREPLY=()
   if [ "$COMP_CWORD" -eq 1 ]; then
-    mapfile -t COMPREPLY < <(compgen -W "run check" -- "$current")
+    mapfile -t COMPREPLY < <(compgen -W "run check demo" -- "$current")
     return
   fi
 
@@ -12,7 +12,7 @@ _monitor() {
   [ "$current" = "=" ] && current=""
   [ "$before" = "=" ] && before=${COMP_WORDS[COMP_CWORD-2]}
   case $before in
-    --sig | --policy | --log)
+    --sig | --policy | --log | --changes)
       compopt -o filenames 2>/dev/null
       mapfile -t COMPREPLY < <(compgen -f -- "$current")
       return ;;
@@ -22,7 +22,7 @@ _monitor() {
 
   local options option left=""
   case ${COMP_WORDS[1]} in
-    run) options="--sig --policy --log --strategy --threads" ;;
+    run) options="--sig --policy --log --strategy --changes --threads" ;;
     check) options="--sig --policy" ;;
     *) return ;;
   esac

@@ -28,7 +28,7 @@ use Rattle.event_splitter.specs.Parts.{given_to, with_event}
 use Rattle.event_splitter.specs.Readings.{is_near, reading_of, readings_of, some_near}
 
 -- events of a kind come out in order as those of the kind do
-ascending_filter : (p : Event → Bool) (xs : List Event)
+pub ascending_filter : (p : Event → Bool) (xs : List Event)
     → ascending event_cmp (filter p xs) ≡ filter p (ascending event_cmp xs)
 ascending_filter p xs =
     let left : BTreeSet Event = record { keys = ascending event_cmp (filter p xs) } in

@@ -1,11 +1,13 @@
 //! Time-points split among workers.
 ghost use Rattle.std.specs.Prelude.{◌≡◌, [], IfOk, replicate};
+ghost use Rattle.std.specs.List.{list_all};
 ghost use Rattle.monitorable.specs.Atoms.{atoms_of};
 ghost use Rattle.monitorable.specs.Cores.{core_form};
 ghost use Rattle.event_splitter.specs.Parts.{parts_for};
+ghost use Rattle.event_splitter.specs.Readings.{is_seen};
 
 use crate::spread::give_all;
-use mfotl_model::{Db, TimePoint};
+use mfotl_model::{Atom, Db, Event, TimePoint};
 use monitorable::Core;
 use slice_strategy::Slicer;
 use std::alloc::{AllocError, Global};
@@ -38,4 +40,37 @@ pub fn split<S: Slicer>(
     let parts = points.as_mut_slice();
     give_all(alloc, core.atoms(), slicer, point.db.inserted(), parts)?;
     Ok(points)
+}
+
+// Whether some atom stands for the event.
+fn is_seen(atoms: &[Atom], event: &Event) -> bool
+    ensures { result ≡ is_seen atoms.now event.now }
+{
+    atoms.iter().any(|atom| atom.is_match(event))
+}
+
+// Whether some atom stands for each of the events.
+fn all_seen(atoms: &[Atom], events: &[Event]) -> bool
+    ensures { result ≡ list_all (is_seen atoms.now) events.now }
+{
+    events.iter().all(|event| is_seen(atoms, event))
+}
+
+/// The same of a time-point that is given away. Where there is one worker and an atom stands for each event, the
+/// time-point is its part as it is, and no event is copied.
+pub fn split_owned<S: Slicer>(
+    alloc: Global,
+    core: &Core,
+    slicer: &S,
+    point: TimePoint,
+) -> Result<Vec<TimePoint>, AllocError>
+    ensures { IfOk result (λ points. points.items
+        ≡ parts_for (S.count slicer.now) (S.region slicer.now) (atoms_of (core_form core.now)) point) }
+{
+    if slicer.workers() == 1 && all_seen(core.atoms(), point.db.inserted()) {
+        let mut points = Vec::with_capacity(alloc, 1)?;
+        points.push(point)?;
+        return Ok(points);
+    }
+    split(alloc, core, slicer, &point)
 }

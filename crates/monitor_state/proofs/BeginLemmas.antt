@@ -1,5 +1,6 @@
 -- The nodes with which a monitor begins stand for the empty log.
-use Rattle.std.proofs.Common.{subst, ◌≡◌, ℕ, ◌+◌, ◌-◌, ◌≤◌, Bool, true, false, ◌&&◌, cond, List, [], ◌∷◌, ◌++◌, length, map, drop, refl, sym, ap, ap₂, ◌∙◌, arith, append_assoc, append-nil, inl, inr}
+use Rattle.std.proofs.Common.{subst, ◌≡◌, ℕ, ◌+◌, ◌-◌, ◌≤◌, Bool, true, false, ◌&&◌, cond, List, [], ◌∷◌, ◌++◌, length}
+use Rattle.std.proofs.Common.{map, drop, refl, sym, ap, ap₂, ◌∙◌, arith, append_assoc, append-nil, inl, inr}
 use Rattle.mfotl_model.specs.Exact.{AllExact, View}
 use Rattle.mfotl_model.specs.FreeVariables.{fv}
 use Rattle.mfotl_model.specs.Log.{times}
@@ -14,7 +15,8 @@ use Rattle.eval_bool.specs.OrView.{OrOf}
 use Rattle.eval_since.specs.PreviousView.{PrevOf}
 use Rattle.eval_since.specs.SinceView.{SinceOf}
 use Rattle.eval_until.specs.NextView.{NextOf, tables_pushed}
-use Rattle.monitorable.specs.CoreForms.{CoreForm, meaning, True, False, Atom, Compare, Not, And, Or, Exists, Previous, Next, Since}
+use Rattle.monitorable.specs.CoreForms.{CoreForm, meaning, True, False, Atom, Compare, Not, And, Or, Exists, Previous}
+use Rattle.monitorable.specs.CoreForms.{Next, Since}
 use Rattle.monitorable.specs.Conjuncts.{PartForm, conjuncts_of}
 use Rattle.monitorable.specs.Conjuncts.PartForm.{Child as ChildPart, Test as TestPart}
 use Rattle.monitorable.specs.Fragment.{binds, is_conjunction, judges_not, under_not}
@@ -25,10 +27,12 @@ use Rattle.monitor_state.proofs.ExactLemmas.{reached_within}
 use Rattle.monitor_state.proofs.MonitorSteps.{nodes_append}
 use Rattle.monitor_state.proofs.RegionLemmas.{joined_within}
 use Rattle.monitor_state.proofs.SinceSteps.{free_operand}
-use Rattle.monitor_state.specs.Beginnings.{Adds, AddsIf, Begins, BeginsJoin, BeginsNode, IsJoined, NextBegun, OrBegun, PreviousBegun, SinceBegun}
+use Rattle.monitor_state.specs.Beginnings.{Adds, AddsIf, Begins, BeginsJoin, BeginsNode, IsJoined, NextBegun, OrBegun}
+use Rattle.monitor_state.specs.Beginnings.{PreviousBegun, SinceBegun}
 use Rattle.monitor_state.specs.Constants.{stands_alone}
 use Rattle.monitor_state.specs.Nodes.{children, filters, left_operand, nodes_in, nodes_of, operands, without_last}
-use Rattle.monitor_state.specs.Stands.{ChildrenStand, IsConstant, IsFor, IsJoin, IsOr, JoinStands, NextStands, OrStands, PreviousStands, bare, conjunct_as, NodeStands, NodesStand, StateOf}
+use Rattle.monitor_state.specs.Stands.{ChildrenStand, IsConstant, IsFor, IsJoin, IsOr, JoinStands, NextStands, OrStands}
+use Rattle.monitor_state.specs.Stands.{PreviousStands, bare, conjunct_as, NodeStands, NodesStand, StateOf}
 use Rattle.monitor_state.specs.SinceNode.{IsSince, IsSinceState, SinceStands, SinceStandsAt}
 use Rattle.monitor_state.specs.Views.{reached}
 use Rattle.monitor_state.specs.declared.node.Node.{Node}
@@ -70,7 +74,8 @@ false_adds table old new columns rows is =
     adds_one False (node.Constant table) old new is
     (record { columns = columns; rows = λ log dom v i. rows v; alone = refl }) (λ view empty. tt)
 
-pub atom_adds : (a b : OneAtom) (old new : List Node) → b ≡ a → new ≡ old ++ node.Atom b ∷ [] → Adds (Atom a ∷ []) old new
+pub atom_adds : (a b : OneAtom) (old new : List Node) → b ≡ a → new ≡ old ++ node.Atom b ∷ []
+    → Adds (Atom a ∷ []) old new
 atom_adds a b old new same is = adds_one (Atom a) (node.Atom b) old new is same (λ view empty. tt)
 
 pub exists_adds : (r : Role) (h : CoreForm) (x : Bound) (f : CoreForm) (old mid new : List Node) → h ≡ Exists x f
@@ -115,15 +120,18 @@ since_begins_at i f g s begun view empty =
           ∙ sym (ap₂ (λ (n : ℕ) (log : List TimePoint). drop (n - 1) (times log)) pulled empty);
       left_pushed = omega arith;
       right_pushed = omega arith;
-      lefts = subst (λ xs. AllExact view (meaning (left_operand f)) s.pulled xs) (sym (ap (λ (x : SinceOf). x.lefts) begun.begun)) tt;
-      rights = subst (λ xs. AllExact view (meaning g) s.pulled xs) (sym (ap (λ (x : SinceOf). x.rights) begun.begun)) tt;
+      lefts = subst (λ xs. AllExact view (meaning (left_operand f)) s.pulled xs)
+          (sym (ap (λ (x : SinceOf). x.lefts) begun.begun)) tt;
+      rights = subst (λ xs. AllExact view (meaning g) s.pulled xs) (sym (ap (λ (x : SinceOf). x.rights) begun.begun))
+          tt;
       follows = λ dom v covers near t a b dates tells tells_right. begun.follows t a b v;
     }
 
 since_begins : (i : Interval) (f g : CoreForm) (s : SinceOf) → SinceBegun i f g s → (view : View) → view.log ≡ []
     → SinceStands view i f g s
 since_begins i f g s begun view empty =
-    subst (λ p. SinceStandsAt view p i f g s) (none_reached view empty (Since i f g)) (since_begins_at i f g s begun view empty)
+    subst (λ p. SinceStandsAt view p i f g s) (none_reached view empty (Since i f g))
+    (since_begins_at i f g s begun view empty)
 
 pub since_adds : (r : Role) (h : CoreForm) (i : Interval) (f g : CoreForm) (old more new : List Node) → h ≡ Since i f g
     → Adds (nodes_in role.Left f ++ nodes_in role.Whole g) old more
@@ -146,7 +154,8 @@ since_added h i f g s order old new begun columns is same =
     (λ view empty. since_begins i f g s begun view empty))
 
 -- a state of these nodes stands for the empty log
-pub begins : (core : CoreForm) (state : StateOf) → state.taken ≡ 0 → state.given ≡ 0 → state.first ≡ 0 → state.times ≡ []
+pub begins : (core : CoreForm) (state : StateOf) → state.taken ≡ 0 → state.given ≡ 0 → state.first ≡ 0
+    → state.times ≡ []
     → Adds (nodes_of core) [] state.nodes → Begins core state
 begins core state taken given first times_are adds view empty =
     let added = adds view empty in
@@ -159,11 +168,13 @@ begins core state taken given first times_are adds view empty =
     }
 
 -- a core without operands has one node
-pub true_at : (r : Role) (h : CoreForm) (old new : List Node) → h ≡ True → Adds (True ∷ []) old new → Adds (nodes_in r h) old new
+pub true_at : (r : Role) (h : CoreForm) (old new : List Node) → h ≡ True → Adds (True ∷ []) old new
+    → Adds (nodes_in r h) old new
 unfolding nodes_in
 true_at r h old new same adds = subst (λ k. Adds (nodes_in r k) old new) (sym same) adds
 
-pub false_at : (r : Role) (h : CoreForm) (old new : List Node) → h ≡ False → Adds (False ∷ []) old new → Adds (nodes_in r h) old new
+pub false_at : (r : Role) (h : CoreForm) (old new : List Node) → h ≡ False → Adds (False ∷ []) old new
+    → Adds (nodes_in r h) old new
 unfolding nodes_in
 false_at r h old new same adds = subst (λ k. Adds (nodes_in r k) old new) (sym same) adds
 
@@ -229,11 +240,14 @@ join_node h s (inr same) whole begins =
 -- the node of one that has none
 pub tests_node : (h : CoreForm) (table : TableOf) → IsJoined h → IsConstant h table → BeginsNode h (node.Constant table)
 tests_node h table (inl same) is =
-    subst (λ k. BeginsNode k (node.Constant table)) (sym same.2) (subst (λ k. IsConstant k table) same.2 is, λ view empty. tt)
+    subst (λ k. BeginsNode k (node.Constant table)) (sym same.2)
+    (subst (λ k. IsConstant k table) same.2 is, λ view empty. tt)
 tests_node h table (inr same) is =
-    subst (λ k. BeginsNode k (node.Constant table)) (sym same.1) (subst (λ k. IsConstant k table) same.1 is, λ view empty. tt)
+    subst (λ k. BeginsNode k (node.Constant table)) (sym same.1)
+    (subst (λ k. IsConstant k table) same.1 is, λ view empty. tt)
 
-pub and_adds : (r : Role) (h f g : CoreForm) (own : Bool) (old mid new : List Node) → h ≡ And f g → own ≡ is_conjunction r
+pub and_adds : (r : Role) (h f g : CoreForm) (own : Bool) (old mid new : List Node) → h ≡ And f g
+    → own ≡ is_conjunction r
     → (is_conjunction r && filters f g) ≡ false
     → Adds (nodes_in role.Part f ++ nodes_in role.Part g) old mid
     → AddsIf own h mid new → Adds (nodes_in r h) old new
@@ -242,7 +256,8 @@ and_adds r h f g own old mid new same is joins first last =
     subst (λ k. Adds (nodes_in r k) old new) (sym same)
     (subst (λ b. Adds (cond b (nodes_in role.Whole f ++ without_last (nodes_in role.Part g) ++ And f g ∷ [])
     (nodes_in role.Part f ++ nodes_in role.Part g ++ cond (is_conjunction r) (And f g ∷ []) [])) old new) (sym joins)
-    (adds_then (nodes_in role.Part f ++ nodes_in role.Part g) (cond (is_conjunction r) (And f g ∷ []) []) old mid new first
+    (adds_then (nodes_in role.Part f ++ nodes_in role.Part g) (cond (is_conjunction r) (And f g ∷ []) []) old mid new
+    first
     (subst (λ b. Adds (cond b (And f g ∷ []) []) mid new) is (subst (λ k. AddsIf own k mid new) same last))))
 
 pub filter_adds : (r : Role) (h f g : CoreForm) (old mid more new : List Node) → h ≡ And f g
@@ -257,7 +272,8 @@ filter_adds r h f g old mid more new same only first second own =
     (adds_then (nodes_in role.Whole f ++ without_last (nodes_in role.Part g)) (And f g ∷ []) old more new
     (adds_then (nodes_in role.Whole f) (without_last (nodes_in role.Part g)) old mid more first second) own))
 
-pub not_adds : (r s : Role) (h f : CoreForm) (own : Bool) (old mid new : List Node) → h ≡ Not f → own ≡ judges_not r → s ≡ under_not r
+pub not_adds : (r s : Role) (h f : CoreForm) (own : Bool) (old mid new : List Node) → h ≡ Not f → own ≡ judges_not r
+    → s ≡ under_not r
     → Adds (nodes_in s f) old mid → AddsIf own h mid new → Adds (nodes_in r h) old new
 unfolding nodes_in
 not_adds r s h f own old mid new same is under first last =
@@ -329,7 +345,8 @@ previous_begins i f s begun view empty =
           ap (λ (x : PrevOf). stamps x.pulled x.last x.times) begun.begun
           ∙ sym (ap₂ (λ (n : ℕ) (log : List TimePoint). drop (n - 1) (times log)) pulled empty);
       pushed = omega arith;
-      tables = subst (λ xs. AllExact view (meaning f) (s.pulled - 1) xs) (sym (ap (λ (x : PrevOf). x.tables) begun.begun)) tt;
+      tables = subst (λ xs. AllExact view (meaning f) (s.pulled - 1) xs)
+          (sym (ap (λ (x : PrevOf). x.tables) begun.begun)) tt;
       follows = λ dom v covers near t a dates tells. begun.follows t a v;
     }
 
@@ -337,7 +354,11 @@ pub previous_added : (i : Interval) (f : CoreForm) (s : PrevOf) (old new : List 
     → new ≡ old ++ node.Previous s ∷ [] → Adds (Previous i f ∷ []) old new
 previous_added i f s old new begun is =
     adds_one (Previous i f) (node.Previous s) old new is
-    (record { interval = ap (λ (x : PrevOf). x.interval) begun.begun; columns = ap (λ (x : PrevOf). x.columns) begun.begun })
+    (record {
+      interval = ap (λ (x : PrevOf). x.interval) begun.begun;
+      columns =
+          ap (λ (x : PrevOf). x.columns) begun.begun;
+    })
     (λ view empty. previous_begins i f s begun view empty)
 
 pub previous_adds : (r : Role) (h : CoreForm) (i : Interval) (f : CoreForm) (old mid new : List Node) → h ≡ Previous i f
@@ -357,10 +378,12 @@ next_begins i f s begun view empty =
       pulled = pulled ∙ none_reached view empty (Next i f);
       timed = omega arith;
       kept =
-          ap (λ (x : NextOf). x.times) begun.begun ∙ sym (ap₂ (λ (n : ℕ) (log : List TimePoint). drop n (times log)) pulled empty);
+          ap (λ (x : NextOf). x.times) begun.begun
+          ∙ sym (ap₂ (λ (n : ℕ) (log : List TimePoint). drop n (times log)) pulled empty);
       pushed = ap tables_pushed begun.begun ∙ none_reached view empty f;
       bare = λ h. (pulled, ap (λ (x : NextOf). length x.tables) begun.begun);
-      tables = subst (λ xs. AllExact view (meaning f) (s.pulled + 1) xs) (sym (ap (λ (x : NextOf). x.tables) begun.begun)) tt;
+      tables = subst (λ xs. AllExact view (meaning f) (s.pulled + 1) xs)
+          (sym (ap (λ (x : NextOf). x.tables) begun.begun)) tt;
       follows = λ dom v covers near t a dates long tells. begun.follows t a v;
     }
 
@@ -368,7 +391,11 @@ pub next_added : (i : Interval) (f : CoreForm) (s : NextOf) (old new : List Node
     → new ≡ old ++ node.Next s ∷ [] → Adds (Next i f ∷ []) old new
 next_added i f s old new begun is =
     adds_one (Next i f) (node.Next s) old new is
-    (record { interval = ap (λ (x : NextOf). x.interval) begun.begun; columns = ap (λ (x : NextOf). x.columns) begun.begun })
+    (record {
+      interval = ap (λ (x : NextOf). x.interval) begun.begun;
+      columns =
+          ap (λ (x : NextOf). x.columns) begun.begun;
+    })
     (λ view empty. next_begins i f s begun view empty)
 
 pub next_adds : (r : Role) (h : CoreForm) (i : Interval) (f : CoreForm) (old mid new : List Node) → h ≡ Next i f

@@ -1,6 +1,8 @@
 -- How many positions are settled.
-use Rattle.std.proofs.Common.{◌≡◌, ℕ, zero, suc, ◌+◌, ◌-◌, ◌<◌, ◌≤◌, Bool, true, false, ◌&&◌, ◌||◌, nat_lt, nat_eq, List, ◌++◌, length, refl, sym, ap, ◌∙◌, inl, inr, arith}
-use Rattle.std.proofs.lemmas.Bool.{and_parts, and_from, cases_lt, eqb-true, ltb-true, lt-ltb, or_cases, or_left, or_right}
+use Rattle.std.proofs.Common.{◌≡◌, ℕ, zero, suc, ◌+◌, ◌-◌, ◌<◌, ◌≤◌, Bool, true, false, ◌&&◌, ◌||◌, nat_lt, nat_eq}
+use Rattle.std.proofs.Common.{List, ◌++◌, length, refl, sym, ap, ◌∙◌, inl, inr, arith}
+use Rattle.std.proofs.lemmas.Bool.{and_parts, and_from, cases_lt, eqb-true, ltb-true, lt-ltb, or_cases, or_left}
+use Rattle.std.proofs.lemmas.Bool.{or_right}
 use Rattle.mfotl_model.proofs.CountLemmas.{counted_settled, next_unsettled}
 use Rattle.mfotl_model.proofs.LogicLemmas.{all_in, all_from}
 use Rattle.mfotl_model.specs.Counts.{settled_count}
@@ -74,7 +76,8 @@ count_since t rising interval f g n left right done =
     count_is t rising (Since interval f g) n
     (λ j low.
     all_from (λ k. settled t f k && settled t g k) 0 (j + 1)
-    (λ k least most. and_from (settled t f k) (settled t g k) (counted_settled t f k (omega arith)) (counted_settled t g k (omega arith))))
+    (λ k least most. and_from (settled t f k) (settled t g k) (counted_settled t f k (omega arith))
+    (counted_settled t g k (omega arith))))
     (λ h.
     let both = and_parts (settled t f n) (settled t g n)
     (all_in (λ k. settled t f k && settled t g k) 0 (n + 1) n h (omega arith) (omega arith)) in
@@ -87,7 +90,8 @@ pub count_or : (t : List ℕ) → NeverFalls t → (f g : Form) (n : ℕ) → n 
 unfolding settled
 count_or t rising f g n left right done =
     count_is t rising (Or f g) n
-    (λ j low. and_from (settled t f j) (settled t g j) (counted_settled t f j (omega arith)) (counted_settled t g j (omega arith)))
+    (λ j low. and_from (settled t f j) (settled t g j) (counted_settled t f j (omega arith))
+    (counted_settled t g j (omega arith)))
     (λ h.
     let both = and_parts (settled t f n) (settled t g n) h in
     done (count_below t rising f n both.0) (count_below t rising g n both.1))
@@ -99,7 +103,8 @@ pub count_and : (t : List ℕ) → NeverFalls t → (f g : Form) (n : ℕ) → n
 unfolding settled
 count_and t rising f g n left right done =
     count_is t rising (And f g) n
-    (λ j low. and_from (settled t f j) (settled t g j) (counted_settled t f j (omega arith)) (counted_settled t g j (omega arith)))
+    (λ j low. and_from (settled t f j) (settled t g j) (counted_settled t f j (omega arith))
+    (counted_settled t g j (omega arith)))
     (λ h.
     let both = and_parts (settled t f n) (settled t g n) h in
     done (count_below t rising f n both.0) (count_below t rising g n both.1))
@@ -129,7 +134,8 @@ since_counted t rising interval f g n = (
       (count_below t rising f n both.0, count_below t rising g n both.1),
   λ left right.
       all_from (λ k. settled t f k && settled t g k) 0 (n + 1)
-      (λ k least most. and_from (settled t f k) (settled t g k) (counted_settled t f k (omega arith)) (counted_settled t g k (omega arith))),
+      (λ k least most. and_from (settled t f k) (settled t g k) (counted_settled t f k (omega arith))
+      (counted_settled t g k (omega arith))),
 )
 
 -- the first position, or what holds of any later one

@@ -1,5 +1,6 @@
 -- Exact tables in a log that grows.
-use Rattle.std.proofs.Common.{subst, ◌≡◌, ℕ, zero, suc, ◌+◌, ◌<◌, ◌≤◌, Bool, true, List, [], ◌∷◌, ◌++◌, length, drop, sym, ap, ◌∙◌, arith, length-append}
+use Rattle.std.proofs.Common.{subst, ◌≡◌, ℕ, zero, suc, ◌+◌, ◌<◌, ◌≤◌, Bool, true, List, [], ◌∷◌, ◌++◌, length, drop}
+use Rattle.std.proofs.Common.{sym, ap, ◌∙◌, arith, length-append}
 use Rattle.std.proofs.lemmas.List.{get_or_append_left, length-map, map-append}
 use Rattle.std.proofs.Math.Seq.{get_or-append_seam}
 use Rattle.mfotl_model.proofs.CountLemmas.{counted_settled}
@@ -36,7 +37,8 @@ exact_drop view f i (suc n) (table ∷ tables) all =
 -- exact tables behind exact tables
 pub exact_append : (view : View) (f : Form) (i j : ℕ) (xs ys : List TableOf) → i + length xs ≡ j → AllExact view f i xs
     → AllExact view f j ys → AllExact view f i (xs ++ ys)
-exact_append view f i j [] ys at first second = let same : j ≡ i = omega arith in subst (λ k. AllExact view f k ys) same second
+exact_append view f i j [] ys at first second = let same : j ≡ i = omega arith in
+    subst (λ k. AllExact view f k ys) same second
 exact_append view f i j (x ∷ xs) ys at first second =
     (first.0, exact_append view f (i + 1) j xs ys (omega arith) first.1 second)
 
@@ -53,7 +55,8 @@ stand_exact view f columns i (table ∷ tables) is over stand = (
 )
 
 -- exact tables hold what a list tells
-pub exact_tell : (view : View) (f : CoreForm) (dom : List Value) (v : Valuation) (a : List Bool) (i : ℕ) (tables : List TableOf)
+pub exact_tell : (view : View) (f : CoreForm) (dom : List Value) (v : Valuation) (a : List Bool) (i : ℕ)
+    (tables : List TableOf)
     → Covers view dom → view.near (fv (meaning f)) v ≡ true → Tells view dom v f a → i + length tables ≤ reached view f
     → AllExact view (meaning f) i tables
     → StandFrom (λ k table. has table v ≡ truth_at a k) i tables
@@ -110,14 +113,17 @@ module _ (view : View) (point : TimePoint) (rising : NeverFalls (times (longer v
 
   pub log_more : length (longer view point).log ≡ length view.log + 1
   log_more =
-      let size : length (view.log ++ point ∷ []) ≡ length view.log + length (point ∷ []) = length-append view.log (point ∷ []) in
+      let size : length (view.log ++ point ∷ []) ≡ length view.log + length (point ∷ []) =
+      length-append view.log (point ∷ []) in
       let one : length (point ∷ []) ≡ 1 = omega arith in
       omega arith
 
   pub reached_grows : (f : CoreForm) → reached view f ≤ reached (longer view point) f
   reached_grows f =
-      let grows_to : reached view f ≤ settled_count_more = count_grows (times view.log) (point.ts ∷ []) rising_more (meaning f) in
-      let same : settled_count_more ≡ reached (longer view point) f = ap (λ t. settled_count t (meaning f)) (sym times_more) in
+      let grows_to : reached view f ≤ settled_count_more =
+      count_grows (times view.log) (point.ts ∷ []) rising_more (meaning f) in
+      let same : settled_count_more ≡ reached (longer view point) f =
+      ap (λ t. settled_count t (meaning f)) (sym times_more) in
       omega arith
     where
       settled_count_more : ℕ
@@ -145,12 +151,14 @@ module _ (view : View) (point : TimePoint) (rising : NeverFalls (times (longer v
       ∙ ap (λ u. time_at u j) times_more
       ∙ get_or_append_left (times view.log) (point.ts ∷ []) 0 j (omega arith)
 
-  pub tells_before : (dom : List Value) (v : Valuation) (f : CoreForm) (a : List Bool) → Tells (longer view point) dom v f a
+  pub tells_before : (dom : List Value) (v : Valuation) (f : CoreForm) (a : List Bool)
+      → Tells (longer view point) dom v f a
       → Tells view dom v f a
   tells_before dom v f a tells j low =
       let more : reached view f ≤ reached (longer view point) f = reached_grows f in
       tells j (omega arith)
-      ∙ sym (finality view.log (point ∷ []) dom (meaning f) v j rising (counted_settled (times view.log) (meaning f) j low))
+      ∙ sym (finality view.log (point ∷ []) dom (meaning f) v j rising
+      (counted_settled (times view.log) (meaning f) j low))
 
   -- an exact table of a settled position stays exact
   exact_stays : (f : Form) (i : ℕ) (table : TableOf) → settled (times view.log) f i ≡ true → Exact view f i table

@@ -1,5 +1,7 @@
 -- Tables pushed to a SINCE and pulled from it, one after the other.
-use Rattle.std.proofs.Common.{Option, Some, MatchOption, IfSome, is_some, subst, ◌≡◌, ℕ, ◌+◌, ◌-◌, ◌<◌, ◌≤◌, Bool, true, ◌&&◌, nat_lt, List, [], ◌∷◌, ◌++◌, length, drop, refl, sym, ap, ap₂, ◌∙◌, arith, length-append, append-nil, append_assoc}
+use Rattle.std.proofs.Common.{Option, Some, MatchOption, IfSome, is_some, subst, ◌≡◌, ℕ, ◌+◌, ◌-◌, ◌<◌, ◌≤◌, Bool, true}
+use Rattle.std.proofs.Common.{◌&&◌, nat_lt, List, [], ◌∷◌, ◌++◌, length, drop, refl, sym, ap, ap₂, ◌∙◌, arith}
+use Rattle.std.proofs.Common.{length-append, append-nil, append_assoc}
 use Rattle.std.proofs.lemmas.List.{drop-drop, length-drop}
 use Rattle.std.proofs.lemmas.Bool.{and_parts, ltb-true}
 use Rattle.mfotl_model.specs.Satisfaction.{Valuation, since, truth_at}
@@ -46,9 +48,11 @@ lefts_more old s new front table before pushed follows =
           ∙ ap (λ (x : SinceOf). record x { lefts = x.lefts ++ table ∷ [] }) before.pushed
           ∙ ap (λ (xs : List TableOf). record old { lefts = xs }) (append_assoc old.lefts front (table ∷ []));
       follows = λ t a b v h stand.
-          let parts = stand_split (λ i x. left_holds old.negated x v ≡ truth_at a i) (old.pulled + length old.lefts) front table stand in
+          let parts = stand_split (λ i x. left_holds old.negated x v ≡ truth_at a i) (old.pulled + length old.lefts)
+          front table stand in
           follows t a b v (before.follows t a b v h parts.0)
-          (ap (λ n. left_holds n table v) (ap (λ (x : SinceOf). x.negated) before.pushed) ∙ parts.1 ∙ ap (truth_at a) place);
+          (ap (λ n. left_holds n table v) (ap (λ (x : SinceOf). x.negated) before.pushed) ∙ parts.1
+          ∙ ap (truth_at a) place);
     }
 
 pub rights_none : (s : SinceOf) → RightsPushed s s []
@@ -109,7 +113,8 @@ due_parts s h =
 pub dropped_more : {X : Type 0} (n : ℕ) (xs ys zs : List X) → ys ≡ drop n xs → zs ≡ drop 1 ys → zs ≡ drop (n + 1) xs
 dropped_more n xs ys zs first second = second ∙ ap (drop 1) first ∙ drop-drop 1 n xs
 
-pub room_more : {X : Type 0} (n : ℕ) (xs ys : List X) → n ≤ length xs → ys ≡ drop n xs → 0 < length ys → n + 1 ≤ length xs
+pub room_more : {X : Type 0} (n : ℕ) (xs ys : List X) → n ≤ length xs → ys ≡ drop n xs → 0 < length ys
+    → n + 1 ≤ length xs
 room_more n xs ys low is some =
     let size : length ys ≡ length xs - n = ap length is ∙ length-drop n xs in omega arith
 
@@ -123,29 +128,36 @@ pub pulled_more : (columns : List ℕ) (old s new : SinceOf) (tables : List Tabl
     → (v : Valuation) → has ordered v ≡ has table v)
     → SincePulled columns old new (tables ++ ordered ∷ [])
 pulled_more columns old s new tables table ordered before ready advances follows rows over is same =
-    let size : length (tables ++ ordered ∷ []) ≡ length tables + length (ordered ∷ []) = length-append tables (ordered ∷ []) in
+    let size : length (tables ++ ordered ∷ []) ≡ length tables + length (ordered ∷ []) =
+    length-append tables (ordered ∷ []) in
     let one : length (ordered ∷ []) ≡ 1 = omega arith in
     let n : length (tables ++ ordered ∷ []) ≡ length tables + 1 = omega arith in
     let pulled : s.pulled ≡ old.pulled + length tables = before.pulled in
     let next : new.pulled ≡ s.pulled + 1 = advances.pulled in
     let parts = due_parts s ready in
-    let times : length tables + 1 ≤ length old.times = room_more (length tables) old.times s.times before.in_times before.times parts.0 in
-    let lefts : length tables + 1 ≤ length old.lefts = room_more (length tables) old.lefts s.lefts before.in_lefts before.lefts parts.1 in
-    let rights : length tables + 1 ≤ length old.rights = room_more (length tables) old.rights s.rights before.in_rights before.rights parts.2 in
+    let times : length tables + 1 ≤ length old.times =
+    room_more (length tables) old.times s.times before.in_times before.times parts.0 in
+    let lefts : length tables + 1 ≤ length old.lefts =
+    room_more (length tables) old.lefts s.lefts before.in_lefts before.lefts parts.1 in
+    let rights : length tables + 1 ≤ length old.rights =
+    room_more (length tables) old.rights s.rights before.in_rights before.rights parts.2 in
     record {
       pulled = omega arith;
       negated = advances.negated ∙ before.negated;
       interval = advances.interval ∙ before.interval;
       left = advances.left ∙ before.left;
       right = advances.right ∙ before.right;
-      times = dropped_more (length tables) old.times s.times new.times before.times advances.times ∙ ap (λ k. drop k old.times) (sym n);
+      times = dropped_more (length tables) old.times s.times new.times before.times advances.times
+          ∙ ap (λ k. drop k old.times) (sym n);
       known =
           stamps_more old.pulled (length tables) s.pulled (length (tables ++ ordered ∷ [])) s.window.last
           (stamps old.pulled old.window.last old.times) (stamps s.pulled s.window.last s.times)
           (stamps new.pulled new.window.last new.times) pulled before.known
           (stamps_pulled s.pulled new.pulled s.window.last new.window.last s.times new.times next advances.stamps) n;
-      lefts = dropped_more (length tables) old.lefts s.lefts new.lefts before.lefts advances.lefts ∙ ap (λ k. drop k old.lefts) (sym n);
-      rights = dropped_more (length tables) old.rights s.rights new.rights before.rights advances.rights ∙ ap (λ k. drop k old.rights) (sym n);
+      lefts = dropped_more (length tables) old.lefts s.lefts new.lefts before.lefts advances.lefts
+          ∙ ap (λ k. drop k old.lefts) (sym n);
+      rights = dropped_more (length tables) old.rights s.rights new.rights before.rights advances.rights
+          ∙ ap (λ k. drop k old.rights) (sym n);
       in_times = omega arith;
       in_lefts = omega arith;
       in_rights = omega arith;
@@ -154,13 +166,15 @@ pulled_more columns old s new tables table ordered before ready advances follows
       rows = λ t a b v h one other.
           stand_push (λ i x. has x v ≡ since old.window.interval t a b i) old.pulled tables ordered
           (before.rows t a b v h one other)
-          (same (ap (all_among columns) (over ∙ before.right) ∙ one) (ap (λ cs. all_among cs columns) (over ∙ before.right) ∙ other) v
+          (same (ap (all_among columns) (over ∙ before.right) ∙ one)
+          (ap (λ cs. all_among cs columns) (over ∙ before.right) ∙ other) v
           ∙ rows t a b v (before.follows t a b v h)
           ∙ ap₂ (λ i p. since i t a b p) before.interval pulled);
     }
 
 -- one turn of the loop that pulls
-pub pulled_turn : (columns : List ℕ) (old s new : SinceOf) (tables items : List TableOf) (answer : Option TableOf) (table ordered : TableOf)
+pub pulled_turn : (columns : List ℕ) (old s new : SinceOf) (tables items : List TableOf) (answer : Option TableOf)
+    (table ordered : TableOf)
     → SincePulled columns old s tables → answer ≡ Some table
     → is_some answer ≡ due s
     → MatchOption answer (new ≡ s) (λ x. Advances s new)
@@ -173,7 +187,8 @@ pub pulled_turn : (columns : List ℕ) (old s new : SinceOf) (tables items : Lis
     → (v : Valuation) → has ordered v ≡ has table v)
     → items ≡ tables ++ ordered ∷ []
     → SincePulled columns old new items
-pulled_turn columns old s new tables items answer table ordered before is ready state follows over rows is_columns same made =
+pulled_turn columns old s new tables items answer table ordered before is ready state follows over rows is_columns same
+    made =
     subst (SincePulled columns old new) (sym made)
     (pulled_more columns old s new tables table ordered before
     (sym ready ∙ ap is_some is)

@@ -1,5 +1,6 @@
 -- The node of a conjunction whose right side only filters, with which a monitor begins.
-use Rattle.std.proofs.Common.{subst, ◌≡◌, Bool, true, false, ◌&&◌, ◌++◌, List, [], ◌∷◌, length, refl, sym, ap, ◌∙◌, arith, append-nil}
+use Rattle.std.proofs.Common.{subst, ◌≡◌, Bool, true, false, ◌&&◌, ◌++◌, List, [], ◌∷◌, length, refl, sym, ap, ◌∙◌}
+use Rattle.std.proofs.Common.{arith, append-nil}
 use Rattle.std.proofs.lemmas.Bool.{and_parts}
 use Rattle.mfotl_model.specs.Exact.{AllExact, View}
 use Rattle.mfotl_model.specs.FreeVariables.{fv}
@@ -27,7 +28,8 @@ use Rattle.monitor_state.specs.declared.window.Window.TheVariants as window
 
 pub is_filter_window : (own : Bool) (f g : CoreForm) → (own && filters f g) ≡ true → is_window (left_operand g) ≡ true
 is_filter_window own f g only =
-    (and_parts (is_window (left_operand g)) (all_among (fv (meaning g)) (bound_by f)) (and_parts own (filters f g) only).1).0
+    (and_parts (is_window (left_operand g)) (all_among (fv (meaning g)) (bound_by f))
+    (and_parts own (filters f g) only).1).0
 
 pub is_filtered_window : (f g : CoreForm) → filters f g ≡ true → is_window (left_operand g) ≡ true
 is_filtered_window f g only = is_filter_window true f g only

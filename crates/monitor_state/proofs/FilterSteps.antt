@@ -1,5 +1,6 @@
 -- The state of a conjunction whose right side only filters, over one step.
-use Rattle.std.proofs.Common.{subst, ◌≡◌, ℕ, ◌+◌, ◌<◌, ◌≤◌, Bool, true, false, ◌&&◌, nat_eq, List, [], ◌∷◌, ◌++◌, length, map, refl, sym, ap, ap₂, ◌∙◌, inl, inr, arith, length-append}
+use Rattle.std.proofs.Common.{subst, ◌≡◌, ℕ, ◌+◌, ◌<◌, ◌≤◌, Bool, true, false, ◌&&◌, nat_eq, List, [], ◌∷◌, ◌++◌}
+use Rattle.std.proofs.Common.{length, map, refl, sym, ap, ap₂, ◌∙◌, inl, inr, arith, length-append}
 use Rattle.std.proofs.lemmas.Bool.{and_parts, cases_Bool, cond-false, cond-true, or_cases, or_left, or_right}
 use Rattle.std.proofs.lemmas.List.Folds.{list_any-append}
 use Rattle.mfotl_model.proofs.CountLemmas.{counted_settled}
@@ -166,7 +167,8 @@ module _ (view : View) (rising : NeverFalls (times view.log)) (passes : Passes (
   stops_stand : (p : ℕ) (old new : FilterState) → StandsAt view f g p old → FilterStops old new
       → StandsAt view f g p new
   stops_stand p old new stands stops =
-      let ready = window_settled view (left_operand g) old.window new.window p stands.asks stands.behind stops.settles in
+      let ready = window_settled view (left_operand g) old.window new.window p stands.asks stands.behind
+      stops.settles in
       record {
         turns = stops.turns ∙ stands.turns;
         pushed = ap (λ ts. p + length ts) stops.tables ∙ stands.pushed;
@@ -188,7 +190,8 @@ module _ (view : View) (rising : NeverFalls (times view.log)) (passes : Passes (
       let ready : settled (times view.log) (meaning (left_operand g)) p ≡ true =
       counted_settled (times view.log) (meaning (left_operand g)) p (omega arith) in
       let none : length s.tables ≡ 0 =
-      ap length (done (window_due_at view rising (left_operand g) s.window p (omega arith) stands.asks stands.behind ∙ ready)) in
+      ap length (done (window_due_at view rising (left_operand g) s.window p (omega arith) stands.asks stands.behind
+      ∙ ready)) in
       absurd (omega arith))
 
 module _ (view : View) (point : TimePoint) (whole : CoreForm) (f g : CoreForm)
@@ -200,7 +203,8 @@ module _ (view : View) (point : TimePoint) (whole : CoreForm) (f g : CoreForm)
     (new : FilterState) (tables : List TableOf) (takes : FilterTakes old ts fs ls rs new tables) where
   fed_stands : StandsAt (longer view point) f g (reached view (And f g)) takes.fed
   fed_stands =
-      let fed = window_fed view point whole (left_operand g) old.window takes.fed.window (reached view (And f g)) ts ls rs
+      let fed = window_fed view point whole (left_operand g) old.window takes.fed.window (reached view (And f g)) ts ls
+      rs
       rising passes sound (reached_within view (And f g)) ts_is is.asks stands.behind operands_news takes.feeds in
       let pushed : reached view (And f g) + length old.tables ≡ reached view f = stands.pushed in
       let more : reached view f + length fs ≡ reached (longer view point) f = news.count in

@@ -1,5 +1,7 @@
 -- Tables pushed to a conjunction and pulled from it, one after the other.
-use Rattle.std.proofs.Common.{Option, Some, MatchOption, IfSome, is_some, subst, ◌≡◌, ℕ, zero, suc, ◌+◌, ◌-◌, ◌<◌, ◌≤◌, true, nat_lt, nat_le, List, [], ◌∷◌, ◌++◌, length, drop, map, refl, sym, ap, ap₂, ◌∙◌, arith, length-append, append-nil, append_assoc}
+use Rattle.std.proofs.Common.{Option, Some, MatchOption, IfSome, is_some, subst, ◌≡◌, ℕ, zero, suc, ◌+◌, ◌-◌, ◌<◌, ◌≤◌}
+use Rattle.std.proofs.Common.{true, nat_lt, nat_le, List, [], ◌∷◌, ◌++◌, length, drop, map, refl, sym, ap, ap₂, ◌∙◌}
+use Rattle.std.proofs.Common.{arith, length-append, append-nil, append_assoc}
 use Rattle.std.proofs.lemmas.Bool.{and_parts, and_from, ltb-true, leb-true, le-leb}
 use Rattle.std.proofs.lemmas.List.{drop-drop, length-drop}
 use Rattle.std.specs.List.{list_all}
@@ -49,7 +51,8 @@ dropped_none : (cs : List ChildOf) → cs ≡ map (child_dropped 0) cs
 dropped_none [] = refl
 dropped_none (c ∷ cs) = ap (λ ds. c ∷ ds) (dropped_none cs)
 
-dropped_more : (n : ℕ) (cs : List ChildOf) → map child_advanced (map (child_dropped n) cs) ≡ map (child_dropped (n + 1)) cs
+dropped_more : (n : ℕ) (cs : List ChildOf)
+    → map child_advanced (map (child_dropped n) cs) ≡ map (child_dropped (n + 1)) cs
 dropped_more n [] = refl
 dropped_more n (c ∷ cs) =
     ap₂ (λ xs ds. record c { tables = xs } ∷ ds) (drop-drop 1 n c.tables) (dropped_more n cs)
@@ -72,7 +75,8 @@ room_more n (c ∷ cs) room ready =
 pub join_pulled_none : (s : JoinOf) → JoinPulled s s []
 join_pulled_none s =
     record {
-      state = ap₂ (λ n cs. record s { pulled = n; children = cs }) (let e : s.pulled ≡ s.pulled + 0 = omega arith in e) (dropped_none s.children);
+      state = ap₂ (λ n cs. record s { pulled = n; children = cs }) (let e : s.pulled ≡ s.pulled + 0 = omega arith in
+          e) (dropped_none s.children);
       room = all_room s.children;
       over = tt;
       rows = λ v. tt;
@@ -80,7 +84,8 @@ join_pulled_none s =
   where
     all_room : (cs : List ChildOf) → list_all (λ c. nat_le 0 (length c.tables)) cs ≡ true
     all_room [] = refl
-    all_room (c ∷ cs) = and_from (nat_le 0 (length c.tables)) (list_all (λ c. nat_le 0 (length c.tables)) cs) (le-leb 0 (length c.tables) (omega arith)) (all_room cs)
+    all_room (c ∷ cs) = and_from (nat_le 0 (length c.tables)) (list_all (λ c. nat_le 0 (length c.tables)) cs)
+        (le-leb 0 (length c.tables) (omega arith)) (all_room cs)
 
 pub join_pulled_more : (old s new : JoinOf) (tables items : List TableOf) (answer : Option TableOf) (table : TableOf)
     → JoinPulled old s tables → answer ≡ Some table
@@ -95,7 +100,9 @@ join_pulled_more old s new tables items answer table before is ready state over 
     (record {
       state =
           advanced ∙ ap join_advanced before.state
-          ∙ ap₂ (λ n cs. record old { pulled = n; children = cs }) (let e : old.pulled + length tables + 1 ≡ old.pulled + length (tables ++ table ∷ []) = omega (arith, size) in e)
+          ∙ ap₂ (λ n cs. record old { pulled = n; children = cs })
+          (let e : old.pulled + length tables + 1 ≡ old.pulled + length (tables ++ table ∷ []) = omega (arith, size) in
+          e)
           (dropped_more (length tables) old.children ∙ ap (λ n. map (child_dropped n) old.children) (sym size));
       room =
           ap (λ n. list_all (λ c. nat_le n (length c.tables)) old.children) size
@@ -104,7 +111,8 @@ join_pulled_more old s new tables items answer table before is ready state over 
       over = over_push old.columns tables table before.over (columns ∙ ap (λ (x : JoinOf). x.columns) before.state);
       rows = λ v.
           stand_push (λ k x. has x v ≡ joins (join_pulled k old) v) 0 tables table (before.rows v)
-          (joined_rows v ∙ ap (λ x. joins x v) (before.state ∙ ap (λ n. join_pulled n old) (let e : length tables ≡ 0 + length tables = omega arith in e)));
+          (joined_rows v ∙ ap (λ x. joins x v) (before.state
+          ∙ ap (λ n. join_pulled n old) (let e : length tables ≡ 0 + length tables = omega arith in e)));
     })
   where
     size_of : length (tables ++ table ∷ []) ≡ length tables + length (table ∷ [])
@@ -138,7 +146,8 @@ advanced_fewer (c ∷ cs) some ready =
     let size : length (drop 1 c.tables) ≡ length c.tables - 1 = length-drop 1 c.tables in
     (omega arith, omega arith)
 
-pub join_fewer : (s new : JoinOf) (answer : Option TableOf) (table : TableOf) → 0 < length s.children → answer ≡ Some table
+pub join_fewer : (s new : JoinOf) (answer : Option TableOf) (table : TableOf) → 0 < length s.children
+    → answer ≡ Some table
     → is_some answer ≡ join_due s
     → MatchOption answer (new ≡ s) (λ x. new ≡ join_advanced s)
     → (first_tables new.children < first_tables s.children) × (0 < length new.children)

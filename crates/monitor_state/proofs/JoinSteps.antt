@@ -1,5 +1,7 @@
 -- A conjunction's state over one step.
-use Rattle.std.proofs.Common.{subst, ◌≡◌, ℕ, ◌+◌, ◌-◌, ◌<◌, ◌≤◌, Bool, true, false, not, cond, ◌&&◌, nat_lt, nat_le, List, [], ◌∷◌, ◌++◌, length, drop, map, refl, sym, ap, ap₂, ◌∙◌, arith, length-append, append-nil}
+use Rattle.std.proofs.Common.{subst, ◌≡◌, ℕ, ◌+◌, ◌-◌, ◌<◌, ◌≤◌, Bool, true, false, not, cond, ◌&&◌, nat_lt, nat_le}
+use Rattle.std.proofs.Common.{List, [], ◌∷◌, ◌++◌, length, drop, map, refl, sym, ap, ap₂, ◌∙◌, arith, length-append}
+use Rattle.std.proofs.Common.{append-nil}
 use Rattle.std.proofs.Math.Bool.{beq}
 use Rattle.std.proofs.lemmas.Bool.{lt-ltb, ltb-true, leb-true, le-leb, and_parts, and_from}
 use Rattle.std.proofs.lemmas.List.{length-drop}
@@ -18,9 +20,11 @@ use Rattle.mfotl_model.specs.declared.event.TimePoint.{TimePoint}
 use Rattle.mfotl_model.specs.declared.term.Comparison.{Comparison}
 use Rattle.mfotl_model.specs.declared.value.Value.{Value}
 use Rattle.eval_bool.specs.Firsts.{first_has}
-use Rattle.eval_bool.specs.JoinView.{ChildOf, JoinOf, child_holds, children_of, conjunct_columns, join_due, joins, test_holds, tests_of}
+use Rattle.eval_bool.specs.JoinView.{ChildOf, JoinOf, child_holds, children_of, conjunct_columns, join_due, joins}
+use Rattle.eval_bool.specs.JoinView.{test_holds, tests_of}
 use Rattle.monitorable.proofs.ConjunctsLaw.{conjuncts_mean}
-use Rattle.monitorable.specs.CoreForms.{CoreForm, meaning, True, False, Atom, Compare, Not, And, Or, Exists, Previous, Next, Since, Until}
+use Rattle.monitorable.specs.CoreForms.{CoreForm, meaning, True, False, Atom, Compare, Not, And, Or, Exists, Previous}
+use Rattle.monitorable.specs.CoreForms.{Next, Since, Until}
 use Rattle.monitorable.specs.Conjuncts.{PartForm, conjuncts_of, negated_part, part_holds}
 use Rattle.monitorable.specs.Conjuncts.PartForm.{Child as ChildPart, Test as TestPart}
 use Rattle.monitorable.specs.Fragment.{binds}
@@ -37,14 +41,17 @@ use Rattle.monitor_state.specs.Views.{reached}
 
 -- the columns of conjuncts in a row
 columns_append : (ps qs : List PartForm)
-    → conjunct_columns (map conjunct_as (ps ++ qs)) ≡ joined (conjunct_columns (map conjunct_as ps)) (conjunct_columns (map conjunct_as qs))
+    → conjunct_columns (map conjunct_as (ps ++ qs)) ≡ joined (conjunct_columns (map conjunct_as ps))
+    (conjunct_columns (map conjunct_as qs))
 columns_append [] qs = sym (joined_none (conjunct_columns (map conjunct_as qs)))
 columns_append (ChildPart f negated ∷ ps) qs =
     ap (joined (fv (meaning f))) (columns_append ps qs)
-    ∙ sym (joined_assoc (fv (meaning f)) (conjunct_columns (map conjunct_as ps)) (conjunct_columns (map conjunct_as qs)))
+    ∙ sym (joined_assoc (fv (meaning f)) (conjunct_columns (map conjunct_as ps))
+    (conjunct_columns (map conjunct_as qs)))
 columns_append (TestPart c wanted ∷ ps) qs =
     ap (joined (variables_in (c.left ∷ c.right ∷ []))) (columns_append ps qs)
-    ∙ sym (joined_assoc (variables_in (c.left ∷ c.right ∷ [])) (conjunct_columns (map conjunct_as ps)) (conjunct_columns (map conjunct_as qs)))
+    ∙ sym (joined_assoc (variables_in (c.left ∷ c.right ∷ [])) (conjunct_columns (map conjunct_as ps))
+    (conjunct_columns (map conjunct_as qs)))
 
 joined_nothing : (xs : List ℕ) → joined xs [] ≡ xs
 joined_nothing xs = append-nil xs
@@ -55,7 +62,8 @@ negated_columns (Compare c) = joined_nothing (variables_in (c.left ∷ c.right �
 negated_columns f = joined_nothing (fv (meaning f))
 
 compared_columns : (c : Comparison) (b : Bool)
-    → conjunct_columns (map conjunct_as (cond b (ChildPart (Compare c) false) (TestPart c true) ∷ [])) ≡ variables_in (c.left ∷ c.right ∷ [])
+    → conjunct_columns (map conjunct_as (cond b (ChildPart (Compare c) false) (TestPart c true) ∷ [])) ≡ variables_in
+    (c.left ∷ c.right ∷ [])
 unfolding fv
 compared_columns c true = joined_nothing (variables_in (c.left ∷ c.right ∷ []))
 compared_columns c false = joined_nothing (variables_in (c.left ∷ c.right ∷ []))
@@ -74,7 +82,8 @@ head_same x y xs ys e = cc
 tail_same : {X : Type 0} (x y : X) (xs ys : List X) → (x ∷ xs) ≡ (y ∷ ys) → xs ≡ ys
 tail_same x y xs ys e = cc
 
-first_exact : (view : View) (f : CoreForm) (i : ℕ) (tables : List TableOf) (dom : List Value) (v : Valuation) → Covers view dom
+first_exact : (view : View) (f : CoreForm) (i : ℕ) (tables : List TableOf) (dom : List Value) (v : Valuation)
+    → Covers view dom
     → view.near (fv (meaning f)) v ≡ true → 0 < length tables → AllExact view (meaning f) i tables
     → first_has v tables ≡ sat view.log dom v i (meaning f)
 first_exact view f i [] dom v covers near some exact = absurd (omega arith)
@@ -112,7 +121,9 @@ module _ (view : View) (passes : Passes (fv view.whole) view.near) where
   joins_mean i (ChildPart f negated ∷ parts) (c ∷ cs) is stand ready dom v covers near =
       let readies = and_parts (nat_lt 0 (length c.tables)) (list_all (λ c. nat_lt 0 (length c.tables)) cs) ready in
       let own : c.negated ≡ negated =
-      ap (λ (x : ChildOf). x.negated) (head_same (bare c) (record { columns = fv (meaning f); negated = negated; tables = [] }) (map bare cs) (children_of (map conjunct_as parts)) is) in
+      ap (λ (x : ChildOf). x.negated) (head_same (bare c)
+      (record { columns = fv (meaning f); negated = negated; tables = [] }) (map bare cs)
+      (children_of (map conjunct_as parts)) is) in
       regroup_child (turned c.negated (first_has v c.tables)) (list_all (child_holds v) cs)
       (list_all (test_holds v) (tests_of (map conjunct_as parts)))
       ∙ ap₂ (λ b r. b && r)
@@ -121,7 +132,8 @@ module _ (view : View) (passes : Passes (fv view.whole) view.near) where
       (near_left (fv view.whole) view.near passes (fv (meaning f)) (conjunct_columns (map conjunct_as parts)) v near)
       (ltb-true 0 (length c.tables) readies.0) stand.0.exact))
       (joins_mean i parts cs
-      (tail_same (bare c) (record { columns = fv (meaning f); negated = negated; tables = [] }) (map bare cs) (children_of (map conjunct_as parts)) is)
+      (tail_same (bare c) (record { columns = fv (meaning f); negated = negated; tables = [] }) (map bare cs)
+      (children_of (map conjunct_as parts)) is)
       stand.1 readies.1 dom v covers
       (near_right (fv view.whole) view.near passes (fv (meaning f)) (conjunct_columns (map conjunct_as parts)) v near))
   joins_mean i (TestPart c wanted ∷ parts) cs is stand ready dom v covers near =
@@ -130,7 +142,8 @@ module _ (view : View) (passes : Passes (fv view.whole) view.near) where
       (list_all (test_holds v) (tests_of (map conjunct_as parts)))
       ∙ ap₂ (λ b r. b && r) (chosen_is wanted (compares c.sign (term_value v c.left) (term_value v c.right)))
       (joins_mean i parts cs is stand ready dom v covers
-      (near_right (fv view.whole) view.near passes (variables_in (c.left ∷ c.right ∷ [])) (conjunct_columns (map conjunct_as parts)) v near))
+      (near_right (fv view.whole) view.near passes (variables_in (c.left ∷ c.right ∷ []))
+      (conjunct_columns (map conjunct_as parts)) v near))
 
 bare_dropped : (n : ℕ) (cs : List ChildOf) → map bare (map (child_dropped n) cs) ≡ map bare cs
 bare_dropped n [] = refl
@@ -167,8 +180,10 @@ less_room k n (c ∷ cs) low room =
     let high : n ≤ length c.tables = leb-true n (length c.tables) parts.0 in
     let size : length (drop k c.tables) ≡ length c.tables - k = length-drop k c.tables in
     let rest = less_room k n cs low parts.1 in (
-      and_from (nat_le k (length c.tables)) (list_all (λ c. nat_le k (length c.tables)) cs) (le-leb k (length c.tables) (omega arith)) rest.0,
-      and_from (nat_lt 0 (length (drop k c.tables))) (list_all (λ c. nat_lt 0 (length c.tables)) (map (child_dropped k) cs))
+      and_from (nat_le k (length c.tables)) (list_all (λ c. nat_le k (length c.tables)) cs)
+          (le-leb k (length c.tables) (omega arith)) rest.0,
+      and_from (nat_lt 0 (length (drop k c.tables)))
+          (list_all (λ c. nat_lt 0 (length c.tables)) (map (child_dropped k) cs))
           (lt-ltb 0 (length (drop k c.tables)) (omega arith)) rest.1,
     )
 
@@ -193,7 +208,8 @@ module _ (t : List ℕ) (j : ℕ) where
   settled_both (ChildPart f n ∷ ps) qs first second = (first.0, settled_both ps qs first.1 second)
   settled_both (TestPart c w ∷ ps) qs first second = settled_both ps qs first second
 
-  negated_settled : (f : CoreForm) → nat_lt j (length t) ≡ true → AllSettled t (children (negated_part f ∷ [])) j → settled t (meaning f) j ≡ true
+  negated_settled : (f : CoreForm) → nat_lt j (length t) ≡ true → AllSettled t (children (negated_part f ∷ [])) j
+      → settled t (meaning f) j ≡ true
   unfolding AllSettled settled
   negated_settled (Compare c) inside all = inside
   negated_settled True inside all = all.0
@@ -220,11 +236,13 @@ module _ (t : List ℕ) (j : ℕ) where
   compared_settled c false h = tt
 
   -- a conjunction is settled where its children are
-  parts_settle : (f : CoreForm) → nat_lt j (length t) ≡ true → AllSettled t (children (conjuncts_of f)) j → settled t (meaning f) j ≡ true
+  parts_settle : (f : CoreForm) → nat_lt j (length t) ≡ true → AllSettled t (children (conjuncts_of f)) j
+      → settled t (meaning f) j ≡ true
   unfolding AllSettled settled conjuncts_of
   parts_settle (And f g) inside all =
       let both = settled_split (conjuncts_of f) (conjuncts_of g) all in
-      and_from (settled t (meaning f) j) (settled t (meaning g) j) (parts_settle f inside both.0) (parts_settle g inside both.1)
+      and_from (settled t (meaning f) j) (settled t (meaning g) j) (parts_settle f inside both.0)
+      (parts_settle g inside both.1)
   parts_settle (Not f) inside all = negated_settled f inside all
   parts_settle (Compare c) inside all = inside
   parts_settle True inside all = all.0
@@ -258,19 +276,22 @@ module _ (view : View) (rising : NeverFalls (times view.log)) where
   children_settled n j [] (c ∷ cs) low stand = absurd stand
   children_settled n j (f ∷ fs) [] low stand = absurd stand
 
-  all_due : (n : ℕ) (fs : List CoreForm) (cs : List ChildOf) → ChildrenStand view n fs cs → AllSettled (times view.log) fs n
+  all_due : (n : ℕ) (fs : List CoreForm) (cs : List ChildOf) → ChildrenStand view n fs cs
+      → AllSettled (times view.log) fs n
       → list_all (λ c. nat_lt 0 (length c.tables)) cs ≡ true
   unfolding AllSettled
   all_due n [] [] stand all = refl
   all_due n (f ∷ fs) (c ∷ cs) stand all =
       let pushed : n + length c.tables ≡ reached view f = stand.0.pushed in
       let low : n < reached view f = count_below (times view.log) rising (meaning f) n all.0 in
-      and_from (nat_lt 0 (length c.tables)) (list_all (λ c. nat_lt 0 (length c.tables)) cs) (lt-ltb 0 (length c.tables) (omega arith))
+      and_from (nat_lt 0 (length c.tables)) (list_all (λ c. nat_lt 0 (length c.tables)) cs)
+      (lt-ltb 0 (length c.tables) (omega arith))
       (all_due n fs cs stand.1 all.1)
   all_due n [] (c ∷ cs) stand all = absurd stand
   all_due n (f ∷ fs) [] stand all = absurd stand
 
-  in_log : (n j : ℕ) (fs : List CoreForm) (cs : List ChildOf) → 0 < length fs → j < n → ChildrenStand view n fs cs → j < length (times view.log)
+  in_log : (n j : ℕ) (fs : List CoreForm) (cs : List ChildOf) → 0 < length fs → j < n → ChildrenStand view n fs cs
+      → j < length (times view.log)
   in_log n j [] cs some low stand = absurd (omega arith)
   in_log n j (f ∷ fs) [] some low stand = absurd stand
   in_log n j (f ∷ fs) (c ∷ cs) some low stand =
@@ -278,7 +299,8 @@ module _ (view : View) (rising : NeverFalls (times view.log)) where
       let most : reached view f ≤ length (times view.log) = count_within (times view.log) (meaning f) in
       omega arith
 
-  join_count : (f : CoreForm) (s : JoinOf) → 0 < length (children (conjuncts_of f)) → ChildrenStand view s.pulled (children (conjuncts_of f)) s.children
+  join_count : (f : CoreForm) (s : JoinOf) → 0 < length (children (conjuncts_of f))
+      → ChildrenStand view s.pulled (children (conjuncts_of f)) s.children
       → join_due s ≡ false → s.pulled ≡ reached view f
   join_count f s some stand done =
       count_is (times view.log) rising (meaning f) s.pulled
@@ -288,13 +310,15 @@ module _ (view : View) (rising : NeverFalls (times view.log)) where
       (children_settled s.pulled j (children (conjuncts_of f)) s.children low stand))
       (λ h.
       let clash : true ≡ false =
-      sym (all_due s.pulled (children (conjuncts_of f)) s.children stand (settle_parts (times view.log) s.pulled f h)) ∙ done in
+      sym (all_due s.pulled (children (conjuncts_of f)) s.children stand (settle_parts (times view.log) s.pulled f h))
+      ∙ done in
       cc)
 
 module _ (view : View) (point : TimePoint) (rising : NeverFalls (times (longer view point).log))
     (passes : Passes (fv view.whole) view.near) where
   -- the children's tables were pushed
-  fed_stand : (i : ℕ) (fs : List CoreForm) (cs : List ChildOf) (lists : List (List TableOf)) → ChildrenStand view i fs cs
+  fed_stand : (i : ℕ) (fs : List CoreForm) (cs : List ChildOf) (lists : List (List TableOf))
+      → ChildrenStand view i fs cs
       → StackNews view point fs lists → ChildrenStand (longer view point) i fs (children_fed cs lists)
   fed_stand i [] [] [] stand news = tt
   fed_stand i (f ∷ fs) (c ∷ cs) (tables ∷ lists) stand news =
@@ -319,7 +343,8 @@ module _ (view : View) (point : TimePoint) (rising : NeverFalls (times (longer v
     fed : List ChildOf
     fed = children_fed old.children lists
 
-    stand_fed : ChildrenStand (longer view point) old.pulled (children (conjuncts_of f)) (children_fed old.children lists)
+    stand_fed : ChildrenStand (longer view point) old.pulled (children (conjuncts_of f))
+        (children_fed old.children lists)
     stand_fed =
         subst (λ fs. ChildrenStand (longer view point) old.pulled fs (children_fed old.children lists)) same
         (fed_stand old.pulled (operands f) old.children lists stands.children news)
@@ -336,29 +361,36 @@ module _ (view : View) (point : TimePoint) (rising : NeverFalls (times (longer v
     new_stand : ChildrenStand (longer view point) new.pulled (children (conjuncts_of f)) new.children
     new_stand =
         subst (λ cs. ChildrenStand (longer view point) new.pulled (children (conjuncts_of f)) cs) (sym new_children)
-        (subst (λ n. ChildrenStand (longer view point) n (children (conjuncts_of f)) (map (child_dropped (length tables)) (children_fed old.children lists)))
+        (subst (λ n. ChildrenStand (longer view point) n (children (conjuncts_of f))
+        (map (child_dropped (length tables)) (children_fed old.children lists)))
         (sym new_pulled)
-        (dropped_stand (longer view point) old.pulled (length tables) (children (conjuncts_of f)) (children_fed old.children lists) takes.pulls.room stand_fed))
+        (dropped_stand (longer view point) old.pulled (length tables) (children (conjuncts_of f))
+        (children_fed old.children lists) takes.pulls.room stand_fed))
 
     count : new.pulled ≡ reached (longer view point) f
     count = join_count (longer view point) rising f new is.some new_stand takes.ends
 
     -- what is pulled at each place is what the conjunction means there
-    row_means : (dom : List Value) (v : Valuation) → Covers (longer view point) dom → view.near (fv (meaning f)) v ≡ true
+    row_means : (dom : List Value) (v : Valuation) → Covers (longer view point) dom
+        → view.near (fv (meaning f)) v ≡ true
         → (k : ℕ) → k < length tables
         → joins (join_pulled k (join_fed old lists)) v ≡ sat (longer view point).log dom v (old.pulled + k) (meaning f)
     row_means dom v covers near k low =
         let room = less_room k (length tables) (children_fed old.children lists) low takes.pulls.room in
-        ap (λ ts. list_all (child_holds v) (map (child_dropped k) (children_fed old.children lists)) && list_all (test_holds v) ts) is.tests
-        ∙ joins_mean (longer view point) passes (old.pulled + k) (conjuncts_of f) (map (child_dropped k) (children_fed old.children lists))
+        ap (λ ts. list_all (child_holds v) (map (child_dropped k) (children_fed old.children lists)) && list_all
+        (test_holds v) ts) is.tests
+        ∙ joins_mean (longer view point) passes (old.pulled + k) (conjuncts_of f)
+        (map (child_dropped k) (children_fed old.children lists))
         (bare_dropped k (children_fed old.children lists) ∙ bare_is)
-        (dropped_stand (longer view point) old.pulled k (children (conjuncts_of f)) (children_fed old.children lists) room.0 stand_fed)
+        (dropped_stand (longer view point) old.pulled k (children (conjuncts_of f)) (children_fed old.children lists)
+        room.0 stand_fed)
         room.1 dom v covers (ap (λ cs. view.near cs v) (columns_are f) ∙ near)
         ∙ sym (conjuncts_mean (longer view point).log dom f v (old.pulled + k))
 
     join_exact : AllExact (longer view point) (meaning f) old.pulled tables
     join_exact =
-        stand_exact (longer view point) (meaning f) old.columns old.pulled tables (is.columns ∙ columns_are f) takes.pulls.over
+        stand_exact (longer view point) (meaning f) old.columns old.pulled tables (is.columns ∙ columns_are f)
+        takes.pulls.over
         (λ dom v covers near.
         let at : old.pulled + 0 ≡ old.pulled = omega arith in
         subst (λ j. StandFrom (λ k table. has table v ≡ sat (longer view point).log dom v k (meaning f)) j tables) at

@@ -12,45 +12,48 @@ use Rattle.monitorable.proofs.DomainLemmas.{same_truth}
 use Rattle.monitorable.proofs.SoundLaw.{parts_are_sound}
 use Rattle.monitorable.proofs.TableLaw.{tables_satisfy}
 use Rattle.monitorable.specs.Atoms.{atoms_of}
-use Rattle.monitorable.specs.CoreForms.{CoreForm, meaning, True, False, Atom, Compare, Not, And, Or, Exists, Previous, Next, Since, Until}
+use Rattle.monitorable.specs.CoreForms.{CoreForm, meaning, True, False, Atom, Compare, Not, And, Or, Exists, Previous}
+use Rattle.monitorable.specs.CoreForms.{Next, Since, Until}
 use Rattle.monitorable.specs.Laws.{whole_view}
 use Rattle.monitor_state.specs.Laws.{LoneWorkerSteps, SliceIsEnough, TablesAreViolations}
 use Rattle.monitor_state.specs.Steps.{SameNear}
 
-module _ (view : View) (given db : List Event) (passes : Passes (fv view.whole) view.near) (below : HasEach db given) where
-  -- the slice by the atoms, with others before and after them, is enough for the core
-  abbrev Enough : CoreForm → Type 0
-  Enough f = (before after : List OneAtom) → HasEach given (slice view.near (before ++ (atoms_of f ++ after)) db)
-      → SameNear view f given db
+module _ (view : View) (given db : List Event) (passes : Passes (fv view.whole) view.near) (below : HasEach db given)
+  where
+    -- the slice by the atoms, with others before and after them, is enough for the core
+    abbrev Enough : CoreForm → Type 0
+    Enough f = (before after : List OneAtom) → HasEach given (slice view.near (before ++ (atoms_of f ++ after)) db)
+        → SameNear view f given db
 
-  enough_both : (f g : CoreForm) → Enough f → Enough g → (before after : List OneAtom)
-      → HasEach given (slice view.near (before ++ ((atoms_of f ++ atoms_of g) ++ after)) db)
-      → SameNear view f given db × SameNear view g given db
-  enough_both f g first second before after has = (
-    first before (atoms_of g ++ after)
-        (subst (λ atoms. HasEach given (slice view.near (before ++ atoms) db)) (append_assoc (atoms_of f) (atoms_of g) after) has),
-    second (before ++ atoms_of f) after
-        (subst (λ atoms. HasEach given (slice view.near atoms db))
-        (ap (λ atoms. before ++ atoms) (append_assoc (atoms_of f) (atoms_of g) after)
-        ∙ sym (append_assoc before (atoms_of f) (atoms_of g ++ after))) has),
-  )
+    enough_both : (f g : CoreForm) → Enough f → Enough g → (before after : List OneAtom)
+        → HasEach given (slice view.near (before ++ ((atoms_of f ++ atoms_of g) ++ after)) db)
+        → SameNear view f given db × SameNear view g given db
+    enough_both f g first second before after has = (
+      first before (atoms_of g ++ after)
+          (subst (λ atoms. HasEach given (slice view.near (before ++ atoms) db))
+          (append_assoc (atoms_of f) (atoms_of g) after) has),
+      second (before ++ atoms_of f) after
+          (subst (λ atoms. HasEach given (slice view.near atoms db))
+          (ap (λ atoms. before ++ atoms) (append_assoc (atoms_of f) (atoms_of g) after)
+          ∙ sym (append_assoc before (atoms_of f) (atoms_of g ++ after))) has),
+    )
 
-  enough : (f : CoreForm) → Enough f
-  unfolding atoms_of
-  enough True before after has = tt
-  enough False before after has = tt
-  enough (Atom a) before after has = λ v near.
-      same_truth (has_event given (event_of v a)) (has_event db (event_of v a)) (below (event_of v a))
-      (λ h. has (event_of v a) (slice_has (fv view.whole) view.near passes a v before after db near ∙ h))
-  enough (Compare c) before after has = tt
-  enough (Not f) before after has = enough f before after has
-  enough (And f g) before after has = enough_both f g (enough f) (enough g) before after has
-  enough (Or f g) before after has = enough_both f g (enough f) (enough g) before after has
-  enough (Exists x f) before after has = enough f before after has
-  enough (Previous i f) before after has = enough f before after has
-  enough (Next i f) before after has = enough f before after has
-  enough (Since i f g) before after has = enough_both f g (enough f) (enough g) before after has
-  enough (Until i f g) before after has = enough_both f g (enough f) (enough g) before after has
+    enough : (f : CoreForm) → Enough f
+    unfolding atoms_of
+    enough True before after has = tt
+    enough False before after has = tt
+    enough (Atom a) before after has = λ v near.
+        same_truth (has_event given (event_of v a)) (has_event db (event_of v a)) (below (event_of v a))
+        (λ h. has (event_of v a) (slice_has (fv view.whole) view.near passes a v before after db near ∙ h))
+    enough (Compare c) before after has = tt
+    enough (Not f) before after has = enough f before after has
+    enough (And f g) before after has = enough_both f g (enough f) (enough g) before after has
+    enough (Or f g) before after has = enough_both f g (enough f) (enough g) before after has
+    enough (Exists x f) before after has = enough f before after has
+    enough (Previous i f) before after has = enough f before after has
+    enough (Next i f) before after has = enough f before after has
+    enough (Since i f g) before after has = enough_both f g (enough f) (enough g) before after has
+    enough (Until i f g) before after has = enough_both f g (enough f) (enough g) before after has
 
 pub slice_is_enough : SliceIsEnough
 slice_is_enough view core given db passes has below =

@@ -40,3 +40,4 @@ pub mod ResumeTimes
 pub mod ResumeWindows
 pub mod ResumeNodes
 pub mod ResumeState
+pub mod PartLaw

@@ -1,5 +1,7 @@
 -- The marks of an UNTIL's data are the entries of its state, and timestamps by their places.
-use Rattle.std.proofs.Common.{◌≡◌, ℕ, zero, suc, ◌+◌, ◌-◌, ◌<◌, ◌≤◌, Bool, true, false, ◌&&◌, ◌||◌, cond, nat_le, nat_lt, List, [], ◌∷◌, map, drop, length, refl, sym, ap, ap₂, ◌∙◌, arith, Option, Some, None, slice_index}
+use Rattle.std.proofs.Common.{◌≡◌, ℕ, ◌+◌, ◌-◌, ◌<◌, ◌≤◌, Bool, true, false, ◌&&◌, ◌||◌, cond, nat_le}
+use Rattle.std.proofs.Common.{nat_lt, List, [], ◌∷◌, map, drop, refl, sym, ap, ap₂, ◌∙◌, arith, Some}
+use Rattle.std.proofs.Common.{slice_index}
 use Rattle.std.proofs.lemmas.Bool.{and_parts, leb-true, ltb-true}
 use Rattle.std.proofs.lemmas.List.{drop-drop, get_or-drop}
 use Rattle.std.specs.BTreeMap.{is_at}
@@ -35,12 +37,14 @@ entries_are p next u (k ∷ ks) = by (is_at (row_cmp u) k.row) (entries_are p ne
 meets_alike : (i : Interval) (j p taken : ℕ) (t next : List ℕ)
     → ((q : ℕ) → p ≤ q → q < taken → slice_index next (q - p) ≡ time_at t q)
     → (ms : List Mark)
-    → list_all (λ (e : Entry). nat_le p e.place && nat_lt e.place taken && nat_le e.start e.place) (map (entry_at p next) ms) ≡ true
+    → list_all (λ (e : Entry). nat_le p e.place && nat_lt e.place taken && nat_le e.start e.place)
+    (map (entry_at p next) ms) ≡ true
     → list_any (meets i j (time_at t j)) (map (entry_at p next) ms) ≡ list_any (mark_meets i t j) ms
 meets_alike i j p taken t next known [] all = refl
 meets_alike i j p taken t next known (m ∷ ms) all =
     let here = and_parts (nat_le p m.place && nat_lt m.place taken && nat_le m.start m.place)
-    (list_all (λ (e : Entry). nat_le p e.place && nat_lt e.place taken && nat_le e.start e.place) (map (entry_at p next) ms)) all in
+    (list_all (λ (e : Entry). nat_le p e.place && nat_lt e.place taken && nat_le e.start e.place)
+    (map (entry_at p next) ms)) all in
     let outer = and_parts (nat_le p m.place && nat_lt m.place taken) (nat_le m.start m.place) here.0 in
     let inner = and_parts (nat_le p m.place) (nat_lt m.place taken) outer.0 in
     ap₂ (λ x b. (nat_le m.start j && nat_le j m.place && in_interval i (x - time_at t j)) || b)
@@ -50,7 +54,8 @@ meets_alike i j p taken t next known (m ∷ ms) all =
 pub met_is : (i : Interval) (j p taken : ℕ) (t next : List ℕ) (rows : List KeptMarks) (u : List Value)
     → ((q : ℕ) → p ≤ q → q < taken → slice_index next (q - p) ≡ time_at t q)
     → Waiting p taken (entries_kept p next rows)
-    → met_by i j (time_at t j) (entries_of (entries_kept p next rows) u) ≡ list_any (mark_meets i t j) (marks_for rows u)
+    → met_by i j (time_at t j) (entries_of (entries_kept p next rows) u) ≡ list_any (mark_meets i t j)
+    (marks_for rows u)
 met_is i j p taken t next rows u known waiting =
     ap (met_by i j (time_at t j)) (entries_are p next u rows)
     ∙ meets_alike i j p taken t next known (marks_for rows u)

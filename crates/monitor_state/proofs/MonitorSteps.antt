@@ -1,5 +1,7 @@
 -- The nodes of a monitor take a time-point one after the other.
-use Rattle.std.proofs.Common.{subst, ◌≡◌, ℕ, Bool, true, false, ◌&&◌, cond, suc, ◌+◌, ◌<◌, ◌≤◌, List, [], ◌∷◌, ◌++◌, length, take, drop, get_or, set, refl, sym, ap, ◌∙◌, inl, inr, arith, append_assoc, append-nil, add-one}
+use Rattle.std.proofs.Common.{subst, ◌≡◌, ℕ, Bool, true, false, ◌&&◌, cond, suc, ◌+◌, ◌<◌, ◌≤◌, List, [], ◌∷◌, ◌++◌}
+use Rattle.std.proofs.Common.{length, take, drop, get_or, set, refl, sym, ap, ◌∙◌, inl, inr, arith, append_assoc}
+use Rattle.std.proofs.Common.{append-nil, add-one}
 use Rattle.std.proofs.lemmas.Bool.{and_parts, cases_Bool}
 use Rattle.mfotl_model.specs.FreeVariables.{fv}
 use Rattle.mfotl_model.specs.Tables.{all_among}
@@ -9,7 +11,8 @@ use Rattle.mfotl_model.specs.Exact.{View}
 use Rattle.mfotl_model.specs.Tables.{TableOf}
 use Rattle.mfotl_model.specs.declared.event.TimePoint.{TimePoint}
 use Rattle.mfotl_model.specs.declared.term.Comparison.{Comparison}
-use Rattle.monitorable.specs.CoreForms.{CoreForm, meaning, True, False, Atom, Compare, Not, And, Or, Exists, Previous, Next, Since, Until}
+use Rattle.monitorable.specs.CoreForms.{CoreForm, meaning, True, False, Atom, Compare, Not, And, Or, Exists, Previous}
+use Rattle.monitorable.specs.CoreForms.{Next, Since, Until}
 use Rattle.monitorable.specs.Conjuncts.{PartForm, conjuncts_of, negated_part}
 use Rattle.monitorable.specs.Conjuncts.PartForm.{Child as ChildPart, Test as TestPart}
 use Rattle.monitorable.specs.Fragment.{binds, bound_by, is_conjunction, judges_not, under_not}
@@ -17,7 +20,8 @@ use Rattle.monitorable.specs.declared.role.Role.{Role}
 use Rattle.monitorable.specs.declared.role.Role.TheVariants as role
 use Rattle.monitor_state.specs.Constants.{stands_alone}
 use Rattle.monitor_state.specs.Going.{AllPremises, Going, Works}
-use Rattle.monitor_state.specs.Nodes.{children, filters, left_operand, nodes_in, nodes_of, operands, window_operands, without_last}
+use Rattle.monitor_state.specs.Nodes.{children, filters, left_operand, nodes_in, nodes_of, operands, window_operands}
+use Rattle.monitor_state.specs.Nodes.{without_last}
 use Rattle.monitor_state.specs.Stacks.{Pops}
 use Rattle.monitor_state.specs.Stands.{NodesStand}
 use Rattle.monitor_state.specs.Steps.{Advances, News, Premises, StackNews, longer}
@@ -56,7 +60,8 @@ module _ (goal : CoreForm) where
   works_nothing pending rest works = subst (λ fs. Works goal fs rest) (append-nil pending) works
 
   -- what the roots are of a core that is evaluated whole in each role
-  roots_whole : (r : Role) (f : CoreForm) → (roots role.Part f ≡ f ∷ []) → (roots role.Negated f ≡ f ∷ []) → left_operand f ≡ f
+  roots_whole : (r : Role) (f : CoreForm) → (roots role.Part f ≡ f ∷ []) → (roots role.Negated f ≡ f ∷ [])
+      → left_operand f ≡ f
       → roots r f ≡ f ∷ []
   roots_whole role.Whole f part negated left = refl
   roots_whole role.Part f part negated left = part
@@ -105,11 +110,13 @@ module _ (goal : CoreForm) where
   -- a conjunction whose conjuncts are all its node's operands
   and_work : (r : Role) (f g : CoreForm) (pending rest : List CoreForm)
       → Works goal (pending ++ roots r (And f g)) rest
-      → ((more : List CoreForm) → Works goal (pending ++ children (conjuncts_of f)) more → Works goal pending (nodes_in role.Part f ++ more))
+      → ((more : List CoreForm) → Works goal (pending ++ children (conjuncts_of f)) more
+      → Works goal pending (nodes_in role.Part f ++ more))
       → ((more : List CoreForm) → Works goal ((pending ++ children (conjuncts_of f)) ++ children (conjuncts_of g)) more
       → Works goal (pending ++ children (conjuncts_of f)) (nodes_in role.Part g ++ more))
       → (is_conjunction r && filters f g) ≡ false
-      → Works goal pending ((nodes_in role.Part f ++ nodes_in role.Part g ++ cond (is_conjunction r) (And f g ∷ []) []) ++ rest)
+      → Works goal pending ((nodes_in role.Part f ++ nodes_in role.Part g ++ cond (is_conjunction r) (And f g ∷ []) [])
+      ++ rest)
   unfolding conjuncts_of
   and_work r f g pending rest works first second joins =
       subst (Works goal pending)
@@ -137,33 +144,41 @@ module _ (goal : CoreForm) where
       last role.Left none w = whole none w
       last role.Part none w =
           subst (λ fs. Works goal fs rest)
-          (ap (λ fs. pending ++ fs) split ∙ sym (append_assoc pending (children (conjuncts_of f)) (children (conjuncts_of g)))) w
+          (ap (λ fs. pending ++ fs) split ∙ sym
+          (append_assoc pending (children (conjuncts_of f)) (children (conjuncts_of g)))) w
 
   joined_work : (r : Role) (f g : CoreForm) (pending rest : List CoreForm) → (is_conjunction r && filters f g) ≡ false
       → ((is_conjunction r && filters f g) ≡ false
-      → Works goal pending ((nodes_in role.Part f ++ nodes_in role.Part g ++ cond (is_conjunction r) (And f g ∷ []) []) ++ rest))
+      → Works goal pending ((nodes_in role.Part f ++ nodes_in role.Part g ++ cond (is_conjunction r) (And f g ∷ []) [])
+      ++ rest))
       → Works goal pending (nodes_in r (And f g) ++ rest)
   unfolding nodes_in
   joined_work r f g pending rest none works =
-      subst (λ b. Works goal pending (cond b (nodes_in role.Whole f ++ without_last (nodes_in role.Part g) ++ And f g ∷ [])
-      (nodes_in role.Part f ++ nodes_in role.Part g ++ cond (is_conjunction r) (And f g ∷ []) []) ++ rest)) (sym none) (works none)
+      subst (λ b. Works goal pending (cond b
+      (nodes_in role.Whole f ++ without_last (nodes_in role.Part g) ++ And f g ∷ [])
+      (nodes_in role.Part f ++ nodes_in role.Part g ++ cond (is_conjunction r) (And f g ∷ []) []) ++ rest)) (sym none)
+      (works none)
 
   -- a conjunction whose right side is a window or the NOT of one: either it only filters, or it doesn't
   window_work : (r : Role) (f g w : CoreForm) (ns ms : List CoreForm) (a b : CoreForm) (pending rest : List CoreForm)
       → nodes_in role.Part g ≡ ns ++ ms ++ w ∷ [] → window_operands (left_operand g) ≡ a ∷ b ∷ []
       → Works goal (pending ++ roots r (And f g)) rest
-      → ((more : List CoreForm) → Works goal (pending ++ f ∷ []) more → Works goal pending (nodes_in role.Whole f ++ more))
+      → ((more : List CoreForm) → Works goal (pending ++ f ∷ []) more
+      → Works goal pending (nodes_in role.Whole f ++ more))
       → ((below more : List CoreForm) → Works goal (below ++ a ∷ []) more → Works goal below (ns ++ more))
       → ((below more : List CoreForm) → Works goal (below ++ b ∷ []) more → Works goal below (ms ++ more))
       → ((is_conjunction r && filters f g) ≡ false
-      → Works goal pending ((nodes_in role.Part f ++ nodes_in role.Part g ++ cond (is_conjunction r) (And f g ∷ []) []) ++ rest))
+      → Works goal pending ((nodes_in role.Part f ++ nodes_in role.Part g ++ cond (is_conjunction r) (And f g ∷ []) [])
+      ++ rest))
       → Works goal pending (nodes_in r (And f g) ++ rest)
   unfolding nodes_in
   window_work r f g w ns ms a b pending rest nodes ops works first left right joins =
       elim (cases_Bool (is_conjunction r && filters f g)) [
         | inl only ↦
-            subst (λ b. Works goal pending (cond b (nodes_in role.Whole f ++ without_last (nodes_in role.Part g) ++ And f g ∷ [])
-            (nodes_in role.Part f ++ nodes_in role.Part g ++ cond (is_conjunction r) (And f g ∷ []) []) ++ rest)) (sym only)
+            subst (λ b. Works goal pending (cond b
+            (nodes_in role.Whole f ++ without_last (nodes_in role.Part g) ++ And f g ∷ [])
+            (nodes_in role.Part f ++ nodes_in role.Part g ++ cond (is_conjunction r) (And f g ∷ []) []) ++ rest))
+            (sym only)
             (subst (λ xs. Works goal pending ((nodes_in role.Whole f ++ xs ++ And f g ∷ []) ++ rest))
             (sym (ap without_last nodes ∙ last_off (ns ++ ms) w))
             (subst (Works goal pending)
@@ -183,7 +198,8 @@ module _ (goal : CoreForm) where
       own_root role.Left e h = h
       own_root role.Part e h = absurd (let clash : true ≡ false = sym e in cc)
 
-      taken : (is_conjunction r && filters f g) ≡ true → Works goal (((pending ++ f ∷ []) ++ a ∷ []) ++ b ∷ []) (And f g ∷ rest)
+      taken : (is_conjunction r && filters f g) ≡ true
+          → Works goal (((pending ++ f ∷ []) ++ a ∷ []) ++ b ∷ []) (And f g ∷ rest)
       taken only = (
         pending,
         append_assoc (pending ++ f ∷ []) (a ∷ []) (b ∷ [])
@@ -220,33 +236,41 @@ module _ (goal : CoreForm) where
       (nodes_work role.Whole f pending (nodes_in role.Whole g ++ (Or f g ∷ rest)))
       (nodes_work role.Whole g (pending ++ f ∷ []) (Or f g ∷ rest))
   nodes_work r (Since i f g) pending rest works =
-      work_both (Since i f g) (nodes_in role.Left f) (nodes_in role.Whole g) (left_operand f ∷ []) (g ∷ []) pending rest refl
+      work_both (Since i f g) (nodes_in role.Left f) (nodes_in role.Whole g) (left_operand f ∷ []) (g ∷ []) pending rest
+      refl
       (subst (λ fs. Works goal (pending ++ fs) rest) (roots_whole r (Since i f g) refl refl refl) works)
       (nodes_work role.Left f pending (nodes_in role.Whole g ++ (Since i f g ∷ rest)))
       (nodes_work role.Whole g (pending ++ left_operand f ∷ []) (Since i f g ∷ rest))
   nodes_work r (Until i f g) pending rest works =
-      work_both (Until i f g) (nodes_in role.Left f) (nodes_in role.Whole g) (left_operand f ∷ []) (g ∷ []) pending rest refl
+      work_both (Until i f g) (nodes_in role.Left f) (nodes_in role.Whole g) (left_operand f ∷ []) (g ∷ []) pending rest
+      refl
       (subst (λ fs. Works goal (pending ++ fs) rest) (roots_whole r (Until i f g) refl refl refl) works)
       (nodes_work role.Left f pending (nodes_in role.Whole g ++ (Until i f g ∷ rest)))
       (nodes_work role.Whole g (pending ++ left_operand f ∷ []) (Until i f g ∷ rest))
   nodes_work r (And f (Since i a b)) pending rest works =
-      window_work r f (Since i a b) (Since i a b) (nodes_in role.Left a) (nodes_in role.Whole b) (left_operand a) b pending rest
-      refl refl works (nodes_work role.Whole f pending) (λ below. nodes_work role.Left a below) (λ below. nodes_work role.Whole b below)
+      window_work r f (Since i a b) (Since i a b) (nodes_in role.Left a) (nodes_in role.Whole b) (left_operand a) b
+      pending rest
+      refl refl works (nodes_work role.Whole f pending) (λ below. nodes_work role.Left a below)
+      (λ below. nodes_work role.Whole b below)
       (and_work r f (Since i a b) pending rest works (nodes_work role.Part f pending)
       (nodes_work role.Part (Since i a b) (pending ++ children (conjuncts_of f))))
   nodes_work r (And f (Until i a b)) pending rest works =
-      window_work r f (Until i a b) (Until i a b) (nodes_in role.Left a) (nodes_in role.Whole b) (left_operand a) b pending rest
-      refl refl works (nodes_work role.Whole f pending) (λ below. nodes_work role.Left a below) (λ below. nodes_work role.Whole b below)
+      window_work r f (Until i a b) (Until i a b) (nodes_in role.Left a) (nodes_in role.Whole b) (left_operand a) b
+      pending rest
+      refl refl works (nodes_work role.Whole f pending) (λ below. nodes_work role.Left a below)
+      (λ below. nodes_work role.Whole b below)
       (and_work r f (Until i a b) pending rest works (nodes_work role.Part f pending)
       (nodes_work role.Part (Until i a b) (pending ++ children (conjuncts_of f))))
   nodes_work r (And f (Not (Since i a b))) pending rest works =
-      window_work r f (Not (Since i a b)) (Since i a b) (nodes_in role.Left a) (nodes_in role.Whole b) (left_operand a) b pending rest
+      window_work r f (Not (Since i a b)) (Since i a b) (nodes_in role.Left a) (nodes_in role.Whole b) (left_operand a)
+      b pending rest
       (append-nil (nodes_in role.Negated (Since i a b))) refl works (nodes_work role.Whole f pending)
       (λ below. nodes_work role.Left a below) (λ below. nodes_work role.Whole b below)
       (and_work r f (Not (Since i a b)) pending rest works (nodes_work role.Part f pending)
       (nodes_work role.Part (Not (Since i a b)) (pending ++ children (conjuncts_of f))))
   nodes_work r (And f (Not (Until i a b))) pending rest works =
-      window_work r f (Not (Until i a b)) (Until i a b) (nodes_in role.Left a) (nodes_in role.Whole b) (left_operand a) b pending rest
+      window_work r f (Not (Until i a b)) (Until i a b) (nodes_in role.Left a) (nodes_in role.Whole b) (left_operand a)
+      b pending rest
       (append-nil (nodes_in role.Negated (Until i a b))) refl works (nodes_work role.Whole f pending)
       (λ below. nodes_work role.Left a below) (λ below. nodes_work role.Whole b below)
       (and_work r f (Not (Until i a b)) pending rest works (nodes_work role.Part f pending)
@@ -273,97 +297,222 @@ module _ (goal : CoreForm) where
   nodes_work r (Atom a) pending rest works = work_alone r (Atom a) pending rest refl refl refl refl works
 
 module _ (view : View) (point given : TimePoint) (whole : CoreForm) where
-  premises_append : (fs gs : List CoreForm) → AllPremises view point given whole fs → AllPremises view point given whole gs
+  premises_append : (fs gs : List CoreForm) → AllPremises view point given whole fs
+      → AllPremises view point given whole gs
       → AllPremises view point given whole (fs ++ gs)
   premises_append [] gs first second = second
   premises_append (f ∷ fs) gs first second = (first.0, premises_append fs gs first.1 second)
 
-  premises_if : (b : Bool) (f : CoreForm) → Premises view point given whole f → AllPremises view point given whole (cond b (f ∷ []) [])
+  premises_if : (b : Bool) (f : CoreForm) → Premises view point given whole f
+      → AllPremises view point given whole (cond b (f ∷ []) [])
   premises_if true f p = (p, tt)
   premises_if false f p = tt
 
-  premises_two : (ns ms : List CoreForm) (h : CoreForm) → AllPremises view point given whole ns → AllPremises view point given whole ms
+  premises_two : (ns ms : List CoreForm) (h : CoreForm) → AllPremises view point given whole ns
+      → AllPremises view point given whole ms
       → AllPremises view point given whole (h ∷ []) → AllPremises view point given whole (ns ++ ms ++ h ∷ [])
   premises_two ns ms h first second own = premises_append (ns ++ ms) (h ∷ []) (premises_append ns ms first second) own
 
-  premises_either : (b : Bool) (fs gs : List CoreForm) → AllPremises view point given whole fs → AllPremises view point given whole gs
+  premises_either : (b : Bool) (fs gs : List CoreForm) → AllPremises view point given whole fs
+      → AllPremises view point given whole gs
       → AllPremises view point given whole (cond b fs gs)
   premises_either true fs gs first second = first
   premises_either false fs gs first second = second
 
-  premises_fewer : (fs : List CoreForm) → AllPremises view point given whole fs → AllPremises view point given whole (without_last fs)
+  premises_fewer : (fs : List CoreForm) → AllPremises view point given whole fs
+      → AllPremises view point given whole (without_last fs)
   premises_fewer [] all = tt
   premises_fewer (f ∷ []) all = tt
   premises_fewer (f ∷ g ∷ fs) all = (all.0, premises_fewer (g ∷ fs) all.1)
 
   -- what the step takes for granted of a core it does of each part
-  pub premises_all : (r : Role) (f : CoreForm) → Premises view point given whole f → AllPremises view point given whole (nodes_in r f)
+  pub premises_all : (r : Role) (f : CoreForm) → Premises view point given whole f
+      → AllPremises view point given whole (nodes_in r f)
   unfolding nodes_in
   premises_all r (Exists x f) p =
       premises_append (nodes_in role.Whole f) (Exists x f ∷ [])
-      (premises_all role.Whole f (record { rising = p.rising; passes = p.passes; whole_is = p.whole_is; sound = p.sound.4; ts = p.ts; same = p.same }))
+      (premises_all role.Whole f (record {
+        rising = p.rising;
+        passes = p.passes;
+        whole_is = p.whole_is;
+        sound =
+            p.sound.4;
+        ts = p.ts;
+        same = p.same;
+      }))
       (p, tt)
   premises_all r (Previous i f) p =
       premises_append (nodes_in role.Whole f) (Previous i f ∷ [])
-      (premises_all role.Whole f (record { rising = p.rising; passes = p.passes; whole_is = p.whole_is; sound = p.sound; ts = p.ts; same = p.same }))
+      (premises_all role.Whole f (record {
+        rising = p.rising;
+        passes = p.passes;
+        whole_is = p.whole_is;
+        sound =
+            p.sound;
+        ts = p.ts;
+        same = p.same;
+      }))
       (p, tt)
   premises_all r (Next i f) p =
       premises_append (nodes_in role.Whole f) (Next i f ∷ [])
-      (premises_all role.Whole f (record { rising = p.rising; passes = p.passes; whole_is = p.whole_is; sound = p.sound; ts = p.ts; same = p.same }))
+      (premises_all role.Whole f (record {
+        rising = p.rising;
+        passes = p.passes;
+        whole_is = p.whole_is;
+        sound =
+            p.sound;
+        ts = p.ts;
+        same = p.same;
+      }))
       (p, tt)
   premises_all r (And f g) p =
-      premises_either (is_conjunction r && filters f g) (nodes_in role.Whole f ++ without_last (nodes_in role.Part g) ++ And f g ∷ [])
+      premises_either (is_conjunction r && filters f g)
+      (nodes_in role.Whole f ++ without_last (nodes_in role.Part g) ++ And f g ∷ [])
       (nodes_in role.Part f ++ nodes_in role.Part g ++ cond (is_conjunction r) (And f g ∷ []) [])
       (premises_two (nodes_in role.Whole f) (without_last (nodes_in role.Part g)) (And f g)
-      (premises_all role.Whole f (record { rising = p.rising; passes = p.passes; whole_is = p.whole_is; sound = p.sound.0; ts = p.ts; same = p.same.0 }))
+      (premises_all role.Whole f (record {
+        rising = p.rising;
+        passes = p.passes;
+        whole_is = p.whole_is;
+        sound =
+            p.sound.0;
+        ts = p.ts;
+        same = p.same.0;
+      }))
       (premises_fewer (nodes_in role.Part g)
-      (premises_all role.Part g (record { rising = p.rising; passes = p.passes; whole_is = p.whole_is; sound = p.sound.1; ts = p.ts; same = p.same.1 })))
+      (premises_all role.Part g (record {
+        rising = p.rising;
+        passes = p.passes;
+        whole_is = p.whole_is;
+        sound =
+            p.sound.1;
+        ts = p.ts;
+        same = p.same.1;
+      })))
       (p, tt))
       (premises_append (nodes_in role.Part f ++ nodes_in role.Part g) (cond (is_conjunction r) (And f g ∷ []) [])
       (premises_append (nodes_in role.Part f) (nodes_in role.Part g)
-      (premises_all role.Part f (record { rising = p.rising; passes = p.passes; whole_is = p.whole_is; sound = p.sound.0; ts = p.ts; same = p.same.0 }))
-      (premises_all role.Part g (record { rising = p.rising; passes = p.passes; whole_is = p.whole_is; sound = p.sound.1; ts = p.ts; same = p.same.1 })))
+      (premises_all role.Part f (record {
+        rising = p.rising;
+        passes = p.passes;
+        whole_is = p.whole_is;
+        sound =
+            p.sound.0;
+        ts = p.ts;
+        same = p.same.0;
+      }))
+      (premises_all role.Part g (record {
+        rising = p.rising;
+        passes = p.passes;
+        whole_is = p.whole_is;
+        sound =
+            p.sound.1;
+        ts = p.ts;
+        same = p.same.1;
+      })))
       (premises_if (is_conjunction r) (And f g) p))
   premises_all r (Or f g) p =
       premises_two (nodes_in role.Whole f) (nodes_in role.Whole g) (Or f g)
-      (premises_all role.Whole f (record { rising = p.rising; passes = p.passes; whole_is = p.whole_is; sound = p.sound.2; ts = p.ts; same = p.same.0 }))
-      (premises_all role.Whole g (record { rising = p.rising; passes = p.passes; whole_is = p.whole_is; sound = p.sound.3; ts = p.ts; same = p.same.1 }))
+      (premises_all role.Whole f (record {
+        rising = p.rising;
+        passes = p.passes;
+        whole_is = p.whole_is;
+        sound =
+            p.sound.2;
+        ts = p.ts;
+        same = p.same.0;
+      }))
+      (premises_all role.Whole g (record {
+        rising = p.rising;
+        passes = p.passes;
+        whole_is = p.whole_is;
+        sound =
+            p.sound.3;
+        ts = p.ts;
+        same = p.same.1;
+      }))
       (p, tt)
   premises_all r (Not f) p =
       premises_append (nodes_in (under_not r) f) (cond (judges_not r) (Not f ∷ []) [])
-      (premises_all (under_not r) f (record { rising = p.rising; passes = p.passes; whole_is = p.whole_is; sound = p.sound; ts = p.ts; same = p.same }))
+      (premises_all (under_not r) f (record {
+        rising = p.rising;
+        passes = p.passes;
+        whole_is = p.whole_is;
+        sound =
+            p.sound;
+        ts = p.ts;
+        same = p.same;
+      }))
       (premises_if (judges_not r) (Not f) p)
   premises_all r (Since i f g) p =
       premises_two (nodes_in role.Left f) (nodes_in role.Whole g) (Since i f g)
-      (premises_all role.Left f (record { rising = p.rising; passes = p.passes; whole_is = p.whole_is; sound = p.sound.1; ts = p.ts; same = p.same.0 }))
-      (premises_all role.Whole g (record { rising = p.rising; passes = p.passes; whole_is = p.whole_is; sound = p.sound.2; ts = p.ts; same = p.same.1 }))
+      (premises_all role.Left f (record {
+        rising = p.rising;
+        passes = p.passes;
+        whole_is = p.whole_is;
+        sound =
+            p.sound.1;
+        ts = p.ts;
+        same = p.same.0;
+      }))
+      (premises_all role.Whole g (record {
+        rising = p.rising;
+        passes = p.passes;
+        whole_is = p.whole_is;
+        sound =
+            p.sound.2;
+        ts = p.ts;
+        same = p.same.1;
+      }))
       (p, tt)
   premises_all r (Until i f g) p =
       premises_two (nodes_in role.Left f) (nodes_in role.Whole g) (Until i f g)
-      (premises_all role.Left f (record { rising = p.rising; passes = p.passes; whole_is = p.whole_is; sound = p.sound.1; ts = p.ts; same = p.same.0 }))
-      (premises_all role.Whole g (record { rising = p.rising; passes = p.passes; whole_is = p.whole_is; sound = p.sound.2; ts = p.ts; same = p.same.1 }))
+      (premises_all role.Left f (record {
+        rising = p.rising;
+        passes = p.passes;
+        whole_is = p.whole_is;
+        sound =
+            p.sound.1;
+        ts = p.ts;
+        same = p.same.0;
+      }))
+      (premises_all role.Whole g (record {
+        rising = p.rising;
+        passes = p.passes;
+        whole_is = p.whole_is;
+        sound =
+            p.sound.2;
+        ts = p.ts;
+        same = p.same.1;
+      }))
       (p, tt)
   premises_all r (Compare c) p = premises_if (stands_alone r (binds c)) (Compare c) p
   premises_all r True p = (p, tt)
   premises_all r False p = (p, tt)
   premises_all r (Atom a) p = (p, tt)
 
-pub nodes_append : (view : View) (fs gs : List CoreForm) (ns ms : List Node) → NodesStand view fs ns → NodesStand view gs ms
+pub nodes_append : (view : View) (fs gs : List CoreForm) (ns ms : List Node) → NodesStand view fs ns
+    → NodesStand view gs ms
     → NodesStand view (fs ++ gs) (ns ++ ms)
 nodes_append view [] gs [] ms first second = second
-nodes_append view (f ∷ fs) gs (n ∷ ns) ms first second = (first.0, first.1, nodes_append view fs gs ns ms first.2 second)
+nodes_append view (f ∷ fs) gs (n ∷ ns) ms first second =
+    (first.0, first.1, nodes_append view fs gs ns ms first.2 second)
 nodes_append view [] gs (n ∷ ns) ms first second = absurd first
 nodes_append view (f ∷ fs) gs [] ms first second = absurd first
 
-stack_append : (view : View) (point : TimePoint) (fs : List CoreForm) (f : CoreForm) (stack : List (List TableOf)) (tables : List TableOf)
-    → StackNews view point fs stack → News view point f tables → StackNews view point (fs ++ f ∷ []) (stack ++ tables ∷ [])
+stack_append : (view : View) (point : TimePoint) (fs : List CoreForm) (f : CoreForm) (stack : List (List TableOf))
+    (tables : List TableOf)
+    → StackNews view point fs stack → News view point f tables
+    → StackNews view point (fs ++ f ∷ []) (stack ++ tables ∷ [])
 stack_append view point [] f [] tables first one = (one, tt)
-stack_append view point (g ∷ fs) f (ts ∷ stack) tables first one = (first.0, stack_append view point fs f stack tables first.1 one)
+stack_append view point (g ∷ fs) f (ts ∷ stack) tables first one =
+    (first.0, stack_append view point fs f stack tables first.1 one)
 stack_append view point [] f (ts ∷ stack) tables first one = absurd first
 stack_append view point (g ∷ fs) f [] tables first one = absurd first
 
 -- the step begins
-pub going_begins : (view : View) (point given : TimePoint) (whole : CoreForm) (nodes : List Node) → Premises view point given whole whole
+pub going_begins : (view : View) (point given : TimePoint) (whole : CoreForm) (nodes : List Node)
+    → Premises view point given whole whole
     → NodesStand view (nodes_of whole) nodes → Going view point given whole [] nodes []
 going_begins view point given whole nodes premises stand =
     record {
@@ -379,16 +528,19 @@ going_begins view point given whole nodes premises stand =
       news = tt;
     }
 
-turn : (view : View) (point given : TimePoint) (whole : CoreForm) (done todo : List Node) (stack rest items : List (List TableOf))
+turn : (view : View) (point given : TimePoint) (whole : CoreForm) (done todo : List Node)
+    (stack rest items : List (List TableOf))
     (tables : List TableOf)
     (node new : Node) (old next pending : List CoreForm) → nodes_of whole ≡ old ++ next
     → NodesStand (longer view point) old done → NodesStand view next (node ∷ todo)
     → Works whole pending next → AllPremises view point given whole next → StackNews view point pending stack
     → Advances node given stack new rest tables → items ≡ rest ++ tables ∷ []
     → Going view point given whole (done ++ new ∷ []) todo items
-turn view point given whole done todo stack rest items tables node new old [] pending all took take works premises news advances is =
+turn view point given whole done todo stack rest items tables node new old [] pending all took take works premises news
+    advances is =
     absurd take
-turn view point given whole done todo stack rest items tables node new old (f ∷ next) pending all took take works premises news advances is =
+turn view point given whole done todo stack rest items tables node new old (f ∷ next) pending all took take works
+    premises news advances is =
     let took_one = advances view point whole f works.0 premises.0 take.0 take.1
     (subst (λ fs. StackNews view point fs stack) works.1 news) in
     record {
@@ -406,7 +558,8 @@ turn view point given whole done todo stack rest items tables node new old (f �
     }
 
 -- one node more takes the time-point
-pub going_turns : (view : View) (point given : TimePoint) (whole : CoreForm) (nodes : List Node) (n : ℕ) (stack rest items : List (List TableOf))
+pub going_turns : (view : View) (point given : TimePoint) (whole : CoreForm) (nodes : List Node) (n : ℕ)
+    (stack rest items : List (List TableOf))
     (tables : List TableOf) (default new : Node) → n < length nodes
     → Going view point given whole (take n nodes) (drop n nodes) stack
     → Advances (get_or nodes n default) given stack new rest tables → items ≡ rest ++ tables ∷ []
@@ -432,7 +585,8 @@ top_only view point f (tables ∷ []) rest top news pops =
     subst (News view point f) (sym (pops [] tables refl).1) news.0
 top_only view point f (tables ∷ next ∷ more) rest top news pops = absurd news.1
 
-ended : (view : View) (point given : TimePoint) (whole : CoreForm) (done : List Node) (stack rest : List (List TableOf)) (top : List TableOf)
+ended : (view : View) (point given : TimePoint) (whole : CoreForm) (done : List Node) (stack rest : List (List TableOf))
+    (top : List TableOf)
     (old next pending : List CoreForm) → nodes_of whole ≡ old ++ next
     → NodesStand (longer view point) old done → NodesStand view next []
     → Works whole pending next → StackNews view point pending stack → Pops stack rest top
@@ -444,11 +598,14 @@ ended view point given whole done stack rest top old [] pending all took take wo
 )
 
 -- the step ends
-pub going_ends : (view : View) (point given : TimePoint) (whole : CoreForm) (nodes : List Node) (n : ℕ) (stack rest : List (List TableOf))
-    (top : List TableOf) → length nodes ≤ n → Going view point given whole (take n nodes) (drop n nodes) stack → Pops stack rest top
+pub going_ends : (view : View) (point given : TimePoint) (whole : CoreForm) (nodes : List Node) (n : ℕ)
+    (stack rest : List (List TableOf))
+    (top : List TableOf) → length nodes ≤ n → Going view point given whole (take n nodes) (drop n nodes) stack
+    → Pops stack rest top
     → NodesStand (longer view point) (nodes_of whole) nodes × News view point whole top
 going_ends view point given whole nodes n stack rest top all going pops =
     let is_whole : take n nodes ≡ nodes = take_all n nodes all in
-    let both = ended view point given whole (take n nodes) stack rest top going.old going.next going.pending going.all going.took
+    let both = ended view point given whole (take n nodes) stack rest top going.old going.next going.pending going.all
+    going.took
     (subst (NodesStand view going.next) (drop_all n nodes all) going.take) going.works going.news pops in
     (subst (NodesStand (longer view point) (nodes_of whole)) is_whole both.0, both.1)

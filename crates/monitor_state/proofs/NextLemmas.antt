@@ -1,5 +1,7 @@
 -- Tables pushed to a NEXT and pulled from it, one after the other.
-use Rattle.std.proofs.Common.{Option, Some, MatchOption, IfSome, is_some, subst, ◌≡◌, ℕ, ◌+◌, ◌-◌, ◌<◌, ◌≤◌, Bool, true, false, ◌&&◌, cond, nat_lt, List, [], ◌∷◌, ◌++◌, length, drop, refl, sym, ap, ap₂, ◌∙◌, arith, length-append, append-nil, append_assoc}
+use Rattle.std.proofs.Common.{Option, Some, MatchOption, IfSome, is_some, subst, ◌≡◌, ℕ, ◌+◌, ◌-◌, ◌<◌, ◌≤◌, Bool, true}
+use Rattle.std.proofs.Common.{false, ◌&&◌, cond, nat_lt, List, [], ◌∷◌, ◌++◌, length, drop, refl, sym, ap, ap₂, ◌∙◌}
+use Rattle.std.proofs.Common.{arith, length-append, append-nil, append_assoc}
 use Rattle.std.proofs.lemmas.Bool.{and_parts, ltb-true}
 use Rattle.std.proofs.lemmas.List.{length-drop}
 use Rattle.mfotl_model.specs.Satisfaction.{Valuation, next, truth_at}
@@ -20,7 +22,11 @@ pushed_none s = record { pushed = fed_none s s.started; follows = λ bare t a v 
 -- one table more
 fed_more : (s : NextOf) (b : Bool) (front : List TableOf) (table : TableOf)
     → with_table (record s { started = next_started b front; tables = s.tables ++ next_kept b front }) table
-    ≡ record s { started = next_started b (front ++ table ∷ []); tables = s.tables ++ next_kept b (front ++ table ∷ []) }
+    ≡ record s {
+      started = next_started b (front ++ table ∷ []);
+      tables =
+          s.tables ++ next_kept b (front ++ table ∷ []);
+    }
 fed_more s true front table =
     ap (λ (xs : List TableOf). record s { started = true; tables = xs }) (append_assoc s.tables front (table ∷ []))
 fed_more s false [] table = refl
@@ -90,21 +96,26 @@ pub pulled_more : (old s new : NextOf) (tables : List TableOf) (table : TableOf)
     → table.columns ≡ s.columns
     → NextPulled old new (tables ++ table ∷ [])
 pulled_more old s new tables table before ready advances follows rows over =
-    let size : length (tables ++ table ∷ []) ≡ length tables + length (table ∷ []) = length-append tables (table ∷ []) in
+    let size : length (tables ++ table ∷ []) ≡ length tables + length (table ∷ []) =
+    length-append tables (table ∷ []) in
     let one : length (table ∷ []) ≡ 1 = omega arith in
     let n : length (tables ++ table ∷ []) ≡ length tables + 1 = omega arith in
     let pulled : s.pulled ≡ old.pulled + length tables = before.pulled in
     let next_pulled : new.pulled ≡ s.pulled + 1 = advances.pulled in
     let parts = due_parts s ready in
-    let time_room : length tables + 1 ≤ length old.times = room_more (length tables) old.times s.times before.in_times before.times parts.0 in
-    let room : length tables + 1 ≤ length old.tables = room_more (length tables) old.tables s.tables before.in_tables before.kept parts.2 in
+    let time_room : length tables + 1 ≤ length old.times =
+    room_more (length tables) old.times s.times before.in_times before.times parts.0 in
+    let room : length tables + 1 ≤ length old.tables =
+    room_more (length tables) old.tables s.tables before.in_tables before.kept parts.2 in
     record {
       interval = advances.interval ∙ before.interval;
       columns = advances.columns ∙ before.columns;
       pulled = omega arith;
-      times = dropped_more (length tables) old.times s.times new.times before.times advances.times ∙ ap (λ k. drop k old.times) (sym n);
+      times = dropped_more (length tables) old.times s.times new.times before.times advances.times
+          ∙ ap (λ k. drop k old.times) (sym n);
       started = advances.started ∙ before.started;
-      kept = dropped_more (length tables) old.tables s.tables new.tables before.kept advances.tables ∙ ap (λ k. drop k old.tables) (sym n);
+      kept = dropped_more (length tables) old.tables s.tables new.tables before.kept advances.tables
+          ∙ ap (λ k. drop k old.tables) (sym n);
       in_times = omega arith;
       in_tables = omega arith;
       begun = λ some. sym before.started ∙ parts.1;

@@ -1,5 +1,6 @@
 -- A NEXT's state over one step.
-use Rattle.std.proofs.Common.{subst, ◌≡◌, ℕ, ◌+◌, ◌-◌, ◌<◌, ◌≤◌, Bool, true, false, ◌&&◌, cond, nat_lt, List, [], ◌∷◌, ◌++◌, length, drop, refl, sym, ap, ap₂, ◌∙◌, arith, length-append, append-nil}
+use Rattle.std.proofs.Common.{subst, ◌≡◌, ℕ, ◌+◌, ◌-◌, ◌<◌, ◌≤◌, Bool, true, false, ◌&&◌, cond, nat_lt, List, [], ◌∷◌}
+use Rattle.std.proofs.Common.{◌++◌, length, drop, refl, sym, ap, ap₂, ◌∙◌, arith, length-append, append-nil}
 use Rattle.std.proofs.lemmas.Bool.{and_from, lt-ltb}
 use Rattle.std.proofs.lemmas.List.{drop-drop, length-drop, length-map}
 use Rattle.mfotl_model.specs.Exact.{View, Covers, AllExact}
@@ -16,7 +17,8 @@ use Rattle.eval_until.specs.NextView.{FollowsNext, NextOf, tables_pushed}
 use Rattle.monitorable.specs.CoreForms.{CoreForm, meaning, Next}
 use Rattle.relations.specs.Pushed.{StandFrom}
 use Rattle.monitor_state.proofs.CountLemmas.{count_next}
-use Rattle.monitor_state.proofs.ExactLemmas.{all_stay, covers_before, dates_before, dates_new, exact_append, exact_drop, exact_tell, log_more, stand_exact, tells_before, truths_tell}
+use Rattle.monitor_state.proofs.ExactLemmas.{all_stay, covers_before, dates_before, dates_new, exact_append, exact_drop}
+use Rattle.monitor_state.proofs.ExactLemmas.{exact_tell, log_more, stand_exact, tells_before, truths_tell}
 use Rattle.monitor_state.proofs.NextLemmas.{fed_count}
 use Rattle.monitor_state.specs.NextFeeding.{BeginsBare, NextTakes, next_fed, next_kept, next_started}
 use Rattle.monitor_state.specs.Stands.{IsNext, NextStands}
@@ -25,7 +27,8 @@ use Rattle.monitor_state.specs.Views.{Dates, Tells, reached}
 use Rattle.monitor_state.proofs.StampLemmas.{from_more}
 
 -- the tables that are kept are exact from the position after the pulled ones on
-kept_exact : (view : View) (f : Form) (b : Bool) (p : ℕ) (xs tables : List TableOf) → (b ≡ false → (p ≡ 0) × (length xs ≡ 0))
+kept_exact : (view : View) (f : Form) (b : Bool) (p : ℕ) (xs tables : List TableOf)
+    → (b ≡ false → (p ≡ 0) × (length xs ≡ 0))
     → AllExact view f (p + 1) xs → AllExact view f (cond b (p + 1 + length xs) 0) tables
     → AllExact view f (p + 1) (xs ++ next_kept b tables)
 kept_exact view f true p xs tables bare first second =
@@ -35,9 +38,11 @@ kept_exact view f false p xs (table ∷ tables) bare first second =
     let none : p ≡ 0 = (bare refl).0 in
     let nothing : length xs ≡ 0 = (bare refl).1 in
     let at : 0 + 1 ≡ p + 1 + length xs = omega arith in
-    exact_append view f (p + 1) (p + 1 + length xs) xs tables refl first (subst (λ k. AllExact view f k tables) at second.1)
+    exact_append view f (p + 1) (p + 1 + length xs) xs tables refl first
+    (subst (λ k. AllExact view f k tables) at second.1)
 
-bare_after : (b : Bool) (tables : List TableOf) → next_started b tables ≡ false → (b ≡ false) × (next_kept b tables ≡ [])
+bare_after : (b : Bool) (tables : List TableOf) → next_started b tables ≡ false
+    → (b ≡ false) × (next_kept b tables ≡ [])
 bare_after true tables h = let clash : true ≡ false = h in cc
 bare_after false [] h = (refl, refl)
 bare_after false (table ∷ tables) h = let clash : true ≡ false = h in cc
@@ -135,8 +140,10 @@ module _ (view : View) (point : TimePoint) (i : Interval) (f : CoreForm)
       let pulled : new.pulled ≡ old.pulled + length tables = pulled_is in
       let timed : old.pulled + length old.times ≡ length view.log = stands.timed in
       let more : length (longer view point).log ≡ length view.log + 1 = log_more view point rising in
-      let size : length (old.times ++ ts ∷ []) ≡ length old.times + length (ts ∷ []) = length-append old.times (ts ∷ []) in
-      let fed_size : length takes.fed.times ≡ length (old.times ++ ts ∷ []) = ap (λ (x : NextOf). length x.times) fed_is in
+      let size : length (old.times ++ ts ∷ []) ≡ length old.times + length (ts ∷ []) =
+      length-append old.times (ts ∷ []) in
+      let fed_size : length takes.fed.times ≡ length (old.times ++ ts ∷ []) =
+      ap (λ (x : NextOf). length x.times) fed_is in
       let one : length (ts ∷ []) ≡ 1 = omega arith in
       let room : length tables ≤ length takes.fed.times = takes.pulls.in_times in
       let rest : length new.times ≡ length takes.fed.times - length tables =
@@ -190,9 +197,11 @@ module _ (view : View) (point : TimePoint) (i : Interval) (f : CoreForm)
       length-map (longer view point).log (λ p. p.ts) in
       let in_log : new.pulled + length new.times ≡ length (longer view point).log = kept_times in
       count_next (times (longer view point).log) rising i (meaning f) new.pulled
-      (λ some. let count : new.pulled + 1 + length new.tables ≡ reached (longer view point) f = later_count some in omega arith)
+      (λ some. let count : new.pulled + 1 + length new.tables ≡ reached (longer view point) f = later_count some in
+      omega arith)
       (λ low high.
-      let parts = started_count new.started (new.pulled + 1 + length new.tables) (reached (longer view point) f) (new.pulled + 1) new_pushed high in
+      let parts = started_count new.started (new.pulled + 1 + length new.tables) (reached (longer view point) f)
+      (new.pulled + 1) new_pushed high in
       let count : new.pulled + 1 + length new.tables ≡ reached (longer view point) f = parts.1 in
       let due : (nat_lt 1 (length new.times) && (new.started && nat_lt 0 (length new.tables))) ≡ true =
       and_from (nat_lt 1 (length new.times)) (new.started && nat_lt 0 (length new.tables))
@@ -208,7 +217,8 @@ module _ (view : View) (point : TimePoint) (i : Interval) (f : CoreForm)
       (ap (λ (x : NextOf). x.columns) fed_is ∙ is.columns) takes.pulls.over
       (λ dom v covers near.
       let t : List ℕ = times (longer view point).log in
-      let a : List Bool = truths (length (longer view point).log) (λ j. sat (longer view point).log dom v j (meaning f)) in
+      let a : List Bool = truths (length (longer view point).log)
+      (λ j. sat (longer view point).log dom v j (meaning f)) in
       let size : length (times (longer view point).log) ≡ length (longer view point).log =
       length-map (longer view point).log (λ p. p.ts) in
       let follows : FollowsNext takes.fed t a v =
@@ -237,8 +247,10 @@ module _ (view : View) (point : TimePoint) (i : Interval) (f : CoreForm)
         bare = new_bare;
         tables =
             subst (λ xs. AllExact (longer view point) (meaning f) (new.pulled + 1) xs) (sym tables_are)
-            (subst (λ k. AllExact (longer view point) (meaning f) k (drop (length tables) (old.tables ++ next_kept old.started operand))) at
-            (exact_drop (longer view point) (meaning f) (old.pulled + 1) (length tables) (old.tables ++ next_kept old.started operand) fed_exact));
+            (subst (λ k. AllExact (longer view point) (meaning f) k
+            (drop (length tables) (old.tables ++ next_kept old.started operand))) at
+            (exact_drop (longer view point) (meaning f) (old.pulled + 1) (length tables)
+            (old.tables ++ next_kept old.started operand) fed_exact));
         follows = λ dom v covers near t a dates long tells.
             takes.pulls.follows t a v (fed_follows dom v covers near t a dates long tells);
       }

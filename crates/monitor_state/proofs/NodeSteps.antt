@@ -1,5 +1,7 @@
 -- What one node does in a step.
-use Rattle.std.proofs.Common.{None, subst, ◌≡◌, ℕ, suc, ◌+◌, ◌<◌, Bool, true, false, not, ◌&&◌, cond, nat_eq, nat_lt, List, [], ◌∷◌, ◌++◌, length, map, get_or, refl, sym, ap, ap₂, ◌∙◌, arith, append_assoc, append-nil}
+use Rattle.std.proofs.Common.{None, subst, ◌≡◌, ℕ, suc, ◌+◌, ◌<◌, Bool, true, false, not, ◌&&◌, cond, nat_eq, nat_lt}
+use Rattle.std.proofs.Common.{List, [], ◌∷◌, ◌++◌, length, map, get_or, refl, sym, ap, ap₂, ◌∙◌, arith, append_assoc}
+use Rattle.std.proofs.Common.{append-nil}
 use Rattle.std.proofs.lemmas.Bool.{and_parts, lt-ltb, ltb-true, cond-true, cond-false, ne_eqb}
 use Rattle.std.proofs.lemmas.List.{length-map, map-append}
 use Rattle.std.proofs.Math.Seq.{get_or-append_seam}
@@ -27,7 +29,8 @@ use Rattle.eval_since.specs.SinceView.{SinceOf}
 use Rattle.monitorable.proofs.DomainLaw.{domain}
 use Rattle.monitorable.proofs.DomainLemmas.{any_with, any_witness, same_truth}
 use Rattle.monitorable.proofs.DomainRows.{has_constants, has_log}
-use Rattle.monitorable.specs.CoreForms.{CoreForm, meaning, True, False, Atom, Compare, Not, And, Or, Exists, Previous, Next, Since}
+use Rattle.monitorable.specs.CoreForms.{CoreForm, meaning, True, False, Atom, Compare, Not, And, Or, Exists, Previous}
+use Rattle.monitorable.specs.CoreForms.{Next, Since}
 use Rattle.monitorable.specs.Conjuncts.{PartForm, conjuncts_of, negated_part}
 use Rattle.monitorable.specs.Conjuncts.PartForm.{Child as ChildPart, Test as TestPart}
 use Rattle.eval_bool.specs.JoinView.{ChildOf, JoinOf}
@@ -63,8 +66,10 @@ use Rattle.monitor_state.specs.Views.{reached}
 use Rattle.monitor_state.specs.declared.node.Node.TheVariants as node
 
 module _ (view : View) (point : TimePoint) where
-  unstack : (below : List CoreForm) (f : CoreForm) (stack : List (List TableOf)) → StackNews view point (below ++ f ∷ []) stack
-      → (rest : List (List TableOf)) × (top : List TableOf) × (stack ≡ rest ++ top ∷ []) × StackNews view point below rest × News view point f top
+  unstack : (below : List CoreForm) (f : CoreForm) (stack : List (List TableOf))
+      → StackNews view point (below ++ f ∷ []) stack
+      → (rest : List (List TableOf)) × (top : List TableOf) × (stack ≡ rest ++ top ∷ []) × StackNews view point below
+      rest × News view point f top
   unstack [] f [] s = absurd s
   unstack [] f (top ∷ []) s = ([], top, refl, tt, s.0)
   unstack [] f (top ∷ next ∷ more) s = absurd s.1
@@ -92,10 +97,12 @@ module _ (view : View) (point : TimePoint) where
       (two.0, two.1, one.1)
 
 -- what is settled wherever the log is
-count_all : (t : List ℕ) → NeverFalls t → (f : Form) → ((i : ℕ) → settled t f i ≡ nat_lt i (length t)) → length t ≡ settled_count t f
+count_all : (t : List ℕ) → NeverFalls t → (f : Form) → ((i : ℕ) → settled t f i ≡ nat_lt i (length t))
+    → length t ≡ settled_count t f
 count_all t rising f is =
     count_is t rising f (length t) (λ j low. is j ∙ lt-ltb j (length t) low)
-    (λ h. let low : length t < length t = ltb-true (length t) (length t) (sym (is (length t)) ∙ h) in absurd (omega arith))
+    (λ h. let low : length t < length t = ltb-true (length t) (length t) (sym (is (length t)) ∙ h) in
+    absurd (omega arith))
 
 -- one position more is settled of what is settled wherever the log is
 module _ (view : View) (point : TimePoint) (rising : NeverFalls (times (longer view point).log)) (f : CoreForm)
@@ -115,7 +122,8 @@ module _ (view : View) (point : TimePoint) (rising : NeverFalls (times (longer v
       let more : length (longer view point).log ≡ length view.log + 1 = log_more view point rising in
       omega arith
 
-  one_new : (table : TableOf) → Exact (longer view point) (meaning f) (length view.log) table → News view point f (table ∷ [])
+  one_new : (table : TableOf) → Exact (longer view point) (meaning f) (length view.log) table
+      → News view point f (table ∷ [])
   one_new table exact =
       record {
         count = (let one : length (table ∷ []) ≡ 1 = omega arith in ap (λ n. reached view f + n) one) ∙ reached_more;
@@ -163,18 +171,21 @@ atom_all : (atom : OneAtom) (t : List ℕ) (i : ℕ) → settled t (meaning (Ato
 unfolding settled
 atom_all atom t i = refl
 
-constant_new : (view : View) (f : CoreForm) (i : ℕ) (table : TableOf) → IsConstant f table → Exact view (meaning f) i table
+constant_new : (view : View) (f : CoreForm) (i : ℕ) (table : TableOf) → IsConstant f table
+    → Exact view (meaning f) i table
 constant_new view f i table is =
     record { columns = is.columns; rows = λ dom v covers near. is.rows view.log dom v i }
 
 -- a conjunction without operands has no children
 alone_children : (f g : CoreForm) (b : Bool)
-    → cond b (f ∷ window_operands (left_operand g)) (children (conjuncts_of (And f g))) ≡ [] → children (conjuncts_of (And f g)) ≡ []
+    → cond b (f ∷ window_operands (left_operand g)) (children (conjuncts_of (And f g))) ≡ []
+    → children (conjuncts_of (And f g)) ≡ []
 alone_children f g true none = absurd (let e : (f ∷ window_operands (left_operand g)) ≡ [] = none in cc)
 alone_children f g false none = none
 
 constant_one : (view : View) (point given : TimePoint) (whole f : CoreForm) (below : List CoreForm) (table : TableOf)
-    (stack : List (List TableOf)) (tables : List TableOf) → tables ≡ table ∷ [] → Premises view point given whole f → IsConstant f table
+    (stack : List (List TableOf)) (tables : List TableOf) → tables ≡ table ∷ [] → Premises view point given whole f
+    → IsConstant f table
     → ((t : List ℕ) (i : ℕ) → settled t (meaning f) i ≡ nat_lt i (length t))
     → StackNews view point (below ++ operands f) stack
     → StackNews view point below stack × News view point f tables
@@ -193,13 +204,16 @@ constant_advances table given stack tables made view point whole False below pre
     let one = constant_one view point given whole False below table stack tables made premises is false_all stacked in
     (is, tt, one.0, one.1)
 constant_advances table given stack tables made view point whole (Compare c) below premises is stands stacked =
-    let one = constant_one view point given whole (Compare c) below table stack tables made premises is (compare_all c) stacked in
+    let one = constant_one view point given whole (Compare c) below table stack tables made premises is (compare_all c)
+    stacked in
     (is, tt, one.0, one.1)
 constant_advances table given stack tables made view point whole (Not f) below premises is stands stacked =
-    let one = constant_one view point given whole (Not f) below table stack tables made premises is (λ t i. tests_all t i (Not f) is.alone) stacked in
+    let one = constant_one view point given whole (Not f) below table stack tables made premises is
+    (λ t i. tests_all t i (Not f) is.alone) stacked in
     (is, tt, one.0, one.1)
 constant_advances table given stack tables made view point whole (And f g) below premises is stands stacked =
-    let one = constant_one view point given whole (And f g) below table stack tables made premises is (λ t i. tests_all t i (And f g) (alone_children f g (filters f g) is.alone)) stacked in
+    let one = constant_one view point given whole (And f g) below table stack tables made premises is
+    (λ t i. tests_all t i (And f g) (alone_children f g (filters f g) is.alone)) stacked in
     (is, tt, one.0, one.1)
 constant_advances table given stack tables made view point whole f below premises is stands stacked = absurd is
 
@@ -210,28 +224,31 @@ new_database log point =
     ∙ ap (λ n. get_or (map (λ (p : TimePoint). p.db) log ++ point.db ∷ []) n []) (sym (length-map log (λ p. p.db)))
     ∙ get_or-append_seam (map (λ (p : TimePoint). p.db) log) point.db [] []
 
-pub atom_advances : (atom : OneAtom) (given : TimePoint) (stack : List (List TableOf)) (table : TableOf) (tables : List TableOf)
+pub atom_advances : (atom : OneAtom) (given : TimePoint) (stack : List (List TableOf)) (table : TableOf)
+    (tables : List TableOf)
     → table.columns ≡ variables_in atom.args
     → ((v : Valuation) → has table v ≡ has_event given.db (event_of v atom))
     → tables ≡ table ∷ []
     → Advances (node.Atom atom) given stack (node.Atom atom) stack tables
 unfolding sat fv
-atom_advances atom given stack table tables columns rows made view point whole (Atom a) below premises is stands stacked = (
-  is,
-  tt,
-  subst (λ fs. StackNews view point fs stack) (append-nil below) stacked,
-  subst (News view point (Atom a)) (sym made)
-      (one_new view point premises.rising (Atom a) (atom_all a) table
-      (record {
-        columns = columns ∙ ap (λ (b : OneAtom). variables_in b.args) is;
-        rows = λ dom v covers near.
-            rows v
-            ∙ ap (λ b. has_event given.db (event_of v b)) is
-            ∙ premises.same v near
-            ∙ ap (λ db. has_event db (event_of v a)) (sym (new_database view.log point));
-      })),
-)
-atom_advances atom given stack table tables columns rows made view point whole f below premises is stands stacked = absurd is
+atom_advances atom given stack table tables columns rows made view point whole (Atom a) below premises is stands
+    stacked = (
+      is,
+      tt,
+      subst (λ fs. StackNews view point fs stack) (append-nil below) stacked,
+      subst (News view point (Atom a)) (sym made)
+          (one_new view point premises.rising (Atom a) (atom_all a) table
+          (record {
+            columns = columns ∙ ap (λ (b : OneAtom). variables_in b.args) is;
+            rows = λ dom v covers near.
+                rows v
+                ∙ ap (λ b. has_event given.db (event_of v b)) is
+                ∙ premises.same v near
+                ∙ ap (λ db. has_event db (event_of v a)) (sym (new_database view.log point));
+          })),
+    )
+atom_advances atom given stack table tables columns rows made view point whole f below premises is stands stacked =
+    absurd is
 
 module _ (view : View) (x : Bound) (f whole : CoreForm) (passes : Passes (fv view.whole) view.near)
     (whole_is : view.whole ≡ meaning whole)
@@ -266,7 +283,8 @@ module _ (view : View) (x : Bound) (f whole : CoreForm) (passes : Passes (fv vie
       dom x.number h used in
       ap (within dom) (sym (with_itself v a)) ∙ covers (with_value v x.number a x.number) own
 
-  exists_exact : (i : ℕ) (table quantified : TableOf) → IsWithout x.number table quantified → Exact view (meaning f) i table
+  exists_exact : (i : ℕ) (table quantified : TableOf) → IsWithout x.number table quantified
+      → Exact view (meaning f) i table
       → Exact view (meaning (Exists x f)) i quantified
   unfolding sat fv
   exists_exact i table quantified is exact =
@@ -278,7 +296,8 @@ module _ (view : View) (x : Bound) (f whole : CoreForm) (passes : Passes (fv vie
             let w = (is.rows v).0 h in
             let holds : sat view.log dom (with_value v x.number w.0) i (meaning f) ≡ true =
             sym (exact.rows dom (with_value v x.number w.0) covers (near_with v w.0 near)) ∙ w.1 in
-            any_with (λ a. sat view.log dom (with_value v x.number a) i (meaning f)) w.0 dom holds (ranges dom v i w.0 covers holds))
+            any_with (λ a. sat view.log dom (with_value v x.number a) i (meaning f)) w.0 dom holds
+            (ranges dom v i w.0 covers holds))
             (λ h.
             let w = any_witness (λ a. sat view.log dom (with_value v x.number a) i (meaning f)) dom h in
             (is.rows v).1 (w.0, exact.rows dom (with_value v x.number w.0) covers (near_with v w.0 near) ∙ w.1));
@@ -297,14 +316,16 @@ quantifies_length x (t ∷ tables) (r ∷ qs) q = ap suc (quantifies_length x ta
 quantifies_length x [] (r ∷ qs) q = absurd q
 quantifies_length x (t ∷ tables) [] q = absurd q
 
-pub quantifies_more : (x : ℕ) (tables qs : List TableOf) (table q : TableOf) → Quantifies x tables qs → IsWithout x table q
+pub quantifies_more : (x : ℕ) (tables qs : List TableOf) (table q : TableOf) → Quantifies x tables qs
+    → IsWithout x table q
     → Quantifies x (tables ++ table ∷ []) (qs ++ q ∷ [])
 quantifies_more x [] [] table q all one = (one, tt)
 quantifies_more x (t ∷ tables) (r ∷ qs) table q all one = (all.0, quantifies_more x tables qs table q all.1 one)
 quantifies_more x [] (r ∷ qs) table q all one = absurd all
 quantifies_more x (t ∷ tables) [] table q all one = absurd all
 
-exists_count : (t : List ℕ) (x : Bound) (f : CoreForm) → settled_count t (meaning (Exists x f)) ≡ settled_count t (meaning f)
+exists_count : (t : List ℕ) (x : Bound) (f : CoreForm)
+    → settled_count t (meaning (Exists x f)) ≡ settled_count t (meaning f)
 unfolding settled settled_count
 exists_count t x f = refl
 
@@ -324,8 +345,10 @@ exists_advances var given stack rest tables qs pops q view point whole (Exists x
             ap₂ (λ a b. a + b) (exists_count (times view.log) x f) (sym size) ∙ news.1.count
             ∙ sym (exists_count (times (longer view point).log) x f);
         exact =
-            subst (λ k. AllExact (longer view point) (meaning (Exists x f)) k qs) (sym (exists_count (times view.log) x f))
-            (exists_all (longer view point) x f whole premises.passes premises.whole_is sound.0 sound.1 sound.2.0 sound.2.1 sound.3
+            subst (λ k. AllExact (longer view point) (meaning (Exists x f)) k qs)
+            (sym (exists_count (times view.log) x f))
+            (exists_all (longer view point) x f whole premises.passes premises.whole_is sound.0 sound.1 sound.2.0
+            sound.2.1 sound.3
             (reached view f) tables qs qx news.1.exact);
       },
     )
@@ -335,14 +358,19 @@ pub since_advances : (old new : SinceOf) (order : TableOf) (given : TimePoint) (
     (ls rs tables : List TableOf)
     → Pops stack mid rs → Pops mid rest ls → SinceTakes order.columns old given.ts ls rs new tables
     → Advances (node.Since old order) given stack (node.Since new order) rest tables
-since_advances old new order given stack mid rest ls rs tables last first takes view point whole (Since i f g) below premises is stands stacked =
+since_advances old new order given stack mid rest ls rs tables last first takes view point whole (Since i f g) below
+    premises is stands stacked =
     let news = pops_two view point below (left_operand f) g stack mid rest ls rs stacked last first in (
-      since_is view point i f g premises.rising premises.passes premises.sound.0 old order is stands given.ts premises.ts ls rs news.1 news.2 new tables takes,
-      since_stands view point i f g premises.rising premises.passes premises.sound.0 old order is stands given.ts premises.ts ls rs news.1 news.2 new tables takes,
+      since_is view point i f g premises.rising premises.passes premises.sound.0 old order is stands given.ts
+          premises.ts ls rs news.1 news.2 new tables takes,
+      since_stands view point i f g premises.rising premises.passes premises.sound.0 old order is stands given.ts
+          premises.ts ls rs news.1 news.2 new tables takes,
       news.0,
-      since_news view point i f g premises.rising premises.passes premises.sound.0 old order is stands given.ts premises.ts ls rs news.1 news.2 new tables takes,
+      since_news view point i f g premises.rising premises.passes premises.sound.0 old order is stands given.ts
+          premises.ts ls rs news.1 news.2 new tables takes,
     )
-since_advances old new order given stack mid rest ls rs tables last first takes view point whole f below premises is stands stacked = absurd is
+since_advances old new order given stack mid rest ls rs tables last first takes view point whole f below premises is
+    stands stacked = absurd is
 
 pub until_advances : (old new : UntilOf) (order : TableOf) (given : TimePoint) (stack mid rest : List (List TableOf))
     (ls rs tables : List TableOf)
@@ -369,7 +397,8 @@ module _ (view : View) (point : TimePoint) where
       × StackNews view point below rest × StackNews view point fs tops
   split_news [] fs stack news = ([], stack, refl, news_length fs stack news, tt, news)
     where
-      news_length : (fs : List CoreForm) (stack : List (List TableOf)) → StackNews view point fs stack → length stack ≡ length fs
+      news_length : (fs : List CoreForm) (stack : List (List TableOf)) → StackNews view point fs stack
+          → length stack ≡ length fs
       news_length [] [] news = refl
       news_length (f ∷ fs) (tables ∷ stack) news = ap suc (news_length fs stack news.1)
       news_length [] (tables ∷ stack) news = absurd news
@@ -387,7 +416,8 @@ module _ (view : View) (point : TimePoint) where
       let same = pops r.0 r.1 r.2 (r.3 ∙ sym is) in
       (subst (StackNews view point below) (sym same.0) r.4, subst (StackNews view point fs) (sym same.1) r.5)
 
-children_length : (view : View) (i : ℕ) (fs : List CoreForm) (cs : List ChildOf) → ChildrenStand view i fs cs → length cs ≡ length fs
+children_length : (view : View) (i : ℕ) (fs : List CoreForm) (cs : List ChildOf) → ChildrenStand view i fs cs
+    → length cs ≡ length fs
 children_length view i [] [] stand = refl
 children_length view i (f ∷ fs) (c ∷ cs) stand = ap suc (children_length view i fs cs stand.1)
 children_length view i [] (c ∷ cs) stand = absurd stand
@@ -408,50 +438,65 @@ join_taken view point given whole f below old new stack rest lists tables same p
       join_news view point premises.rising premises.passes f old new lists tables is same stands news.1 takes,
     )
 
-pub join_advances : (old new : JoinOf) (given : TimePoint) (stack rest lists : List (List TableOf)) (tables : List TableOf)
+pub join_advances : (old new : JoinOf) (given : TimePoint) (stack rest lists : List (List TableOf))
+    (tables : List TableOf)
     → PopsMany (length old.children) stack rest lists → JoinTakes old lists new tables
     → Advances (node.Join old) given stack (node.Join new) rest tables
-join_advances old new given stack rest lists tables pops takes view point whole (And f g) below premises is stands stacked =
-    join_taken view point given whole (And f g) below old new stack rest lists tables is.whole premises is stands stacked pops takes
-join_advances old new given stack rest lists tables pops takes view point whole (Not f) below premises is stands stacked =
-    join_taken view point given whole (Not f) below old new stack rest lists tables is.whole premises is stands stacked pops takes
-join_advances old new given stack rest lists tables pops takes view point whole f below premises is stands stacked = absurd is
+join_advances old new given stack rest lists tables pops takes view point whole (And f g) below premises is stands
+    stacked =
+    join_taken view point given whole (And f g) below old new stack rest lists tables is.whole premises is stands
+    stacked pops takes
+join_advances old new given stack rest lists tables pops takes view point whole (Not f) below premises is stands
+    stacked =
+    join_taken view point given whole (Not f) below old new stack rest lists tables is.whole premises is stands stacked
+    pops takes
+join_advances old new given stack rest lists tables pops takes view point whole f below premises is stands stacked =
+    absurd is
 
-pub or_advances : (old new : OrOf) (given : TimePoint) (stack mid rest : List (List TableOf)) (ls rs tables : List TableOf)
+pub or_advances : (old new : OrOf) (given : TimePoint) (stack mid rest : List (List TableOf))
+    (ls rs tables : List TableOf)
     → Pops stack mid rs → Pops mid rest ls → OrTakes old ls rs new tables
     → Advances (node.Or old) given stack (node.Or new) rest tables
-or_advances old new given stack mid rest ls rs tables last first takes view point whole (Or f g) below premises is stands stacked =
+or_advances old new given stack mid rest ls rs tables last first takes view point whole (Or f g) below premises is
+    stands stacked =
     let news = pops_two view point below f g stack mid rest ls rs stacked last first in (
       or_is view point f g premises.rising premises.passes old new is stands ls rs news.1 news.2 tables takes,
       or_stands view point f g premises.rising premises.passes old new is stands ls rs news.1 news.2 tables takes,
       news.0,
       or_news view point f g premises.rising premises.passes old new is stands ls rs news.1 news.2 tables takes,
     )
-or_advances old new given stack mid rest ls rs tables last first takes view point whole f below premises is stands stacked = absurd is
+or_advances old new given stack mid rest ls rs tables last first takes view point whole f below premises is stands
+    stacked = absurd is
 
-pub previous_advances : (old new : PrevOf) (given : TimePoint) (stack rest : List (List TableOf)) (operand tables : List TableOf)
+pub previous_advances : (old new : PrevOf) (given : TimePoint) (stack rest : List (List TableOf))
+    (operand tables : List TableOf)
     → Pops stack rest operand → PreviousTakes old given.ts operand new tables
     → Advances (node.Previous old) given stack (node.Previous new) rest tables
-previous_advances old new given stack rest operand tables pops takes view point whole (Previous i f) below premises is stands stacked =
+previous_advances old new given stack rest operand tables pops takes view point whole (Previous i f) below premises is
+    stands stacked =
     let news = pops_top view point below f stack rest operand stacked pops in (
       previous_is view point i f premises.rising old new is stands given.ts premises.ts operand news.1 tables takes,
       previous_stands view point i f premises.rising old new is stands given.ts premises.ts operand news.1 tables takes,
       news.0,
       previous_news view point i f premises.rising old new is stands given.ts premises.ts operand news.1 tables takes,
     )
-previous_advances old new given stack rest operand tables pops takes view point whole f below premises is stands stacked = absurd is
+previous_advances old new given stack rest operand tables pops takes view point whole f below premises is stands
+    stacked = absurd is
 
-pub next_advances : (old new : NextOf) (given : TimePoint) (stack rest : List (List TableOf)) (operand tables : List TableOf)
+pub next_advances : (old new : NextOf) (given : TimePoint) (stack rest : List (List TableOf))
+    (operand tables : List TableOf)
     → Pops stack rest operand → NextTakes old given.ts operand new tables
     → Advances (node.Next old) given stack (node.Next new) rest tables
-next_advances old new given stack rest operand tables pops takes view point whole (Next i f) below premises is stands stacked =
+next_advances old new given stack rest operand tables pops takes view point whole (Next i f) below premises is stands
+    stacked =
     let news = pops_top view point below f stack rest operand stacked pops in (
       next_is view point i f premises.rising old new is stands given.ts premises.ts operand news.1 tables takes,
       next_stands view point i f premises.rising old new is stands given.ts premises.ts operand news.1 tables takes,
       news.0,
       next_news view point i f premises.rising old new is stands given.ts premises.ts operand news.1 tables takes,
     )
-next_advances old new given stack rest operand tables pops takes view point whole f below premises is stands stacked = absurd is
+next_advances old new given stack rest operand tables pops takes view point whole f below premises is stands stacked =
+    absurd is
 
 sound_operand : (whole g : CoreForm) → IsSound whole g → IsSound whole (left_operand g)
 sound_operand whole (Not f) sound = sound
@@ -460,16 +505,19 @@ sound_operand whole f sound = sound
 -- the three topmost are a filter's operands'
 pops_filtered : (view : View) (point : TimePoint) (below : List CoreForm) (f w : CoreForm)
     (stack high mid rest : List (List TableOf)) (fs ls rs : List TableOf) → is_window w ≡ true
-    → StackNews view point (below ++ (f ∷ window_operands w)) stack → Pops stack high rs → Pops high mid ls → Pops mid rest fs
+    → StackNews view point (below ++ (f ∷ window_operands w)) stack → Pops stack high rs → Pops high mid ls
+    → Pops mid rest fs
     → StackNews view point below rest × News view point f fs × StackNews view point (window_operands w) (ls ∷ rs ∷ [])
 pops_filtered view point below f (Since i a b) stack high mid rest fs ls rs is news last second first =
     let two = pops_two view point (below ++ f ∷ []) (left_operand a) b stack high mid ls rs
-    (subst (λ cs. StackNews view point cs stack) (sym (append_assoc below (f ∷ []) (left_operand a ∷ b ∷ []))) news) last second in
+    (subst (λ cs. StackNews view point cs stack) (sym (append_assoc below (f ∷ []) (left_operand a ∷ b ∷ []))) news)
+    last second in
     let one = pops_top view point below f mid rest fs two.0 first in
     (one.0, one.1, (two.1, (two.2, tt)))
 pops_filtered view point below f (Until i a b) stack high mid rest fs ls rs is news last second first =
     let two = pops_two view point (below ++ f ∷ []) (left_operand a) b stack high mid ls rs
-    (subst (λ cs. StackNews view point cs stack) (sym (append_assoc below (f ∷ []) (left_operand a ∷ b ∷ []))) news) last second in
+    (subst (λ cs. StackNews view point cs stack) (sym (append_assoc below (f ∷ []) (left_operand a ∷ b ∷ []))) news)
+    last second in
     let one = pops_top view point below f mid rest fs two.0 first in
     (one.0, one.1, (two.1, (two.2, tt)))
 pops_filtered view point below f w stack high mid rest fs ls rs is news last second first =
@@ -479,7 +527,8 @@ pub filter_advances : (old new : FilterState) (given : TimePoint) (stack high mi
     (fs ls rs tables : List TableOf)
     → Pops stack high rs → Pops high mid ls → Pops mid rest fs → FilterTakes old given.ts fs ls rs new tables
     → Advances (node.Filter old) given stack (node.Filter new) rest tables
-filter_advances old new given stack high mid rest fs ls rs tables last second first takes view point whole (And f g) below
+filter_advances old new given stack high mid rest fs ls rs tables last second first takes view point whole (And f g)
+    below
     premises is stands stacked =
     let sound = sound_operand whole g premises.sound.1 in
     let news = pops_filtered view point below f (left_operand g) stack high mid rest fs ls rs
@@ -489,11 +538,13 @@ filter_advances old new given stack high mid rest fs ls rs tables last second fi
     last second first in (
       filter_is view point whole f g premises.rising premises.passes sound old is stands given.ts premises.ts fs ls rs
           news.1 news.2 new tables takes,
-      filter_stands view point whole f g premises.rising premises.passes sound old is stands given.ts premises.ts fs ls rs
+      filter_stands view point whole f g premises.rising premises.passes sound old is stands given.ts premises.ts fs ls
+          rs
           news.1 news.2 new tables takes,
       news.0,
       filter_news view point whole f g premises.rising premises.passes sound old is stands given.ts premises.ts fs ls rs
           news.1 news.2 new tables takes,
     )
-filter_advances old new given stack high mid rest fs ls rs tables last second first takes view point whole f below premises is
+filter_advances old new given stack high mid rest fs ls rs tables last second first takes view point whole f below
+    premises is
     stands stacked = absurd is

@@ -1,5 +1,7 @@
 -- Tables pushed to an OR and pulled from it, one after the other.
-use Rattle.std.proofs.Common.{Option, Some, MatchOption, IfSome, is_some, subst, ◌≡◌, ℕ, ◌+◌, ◌-◌, ◌<◌, ◌≤◌, Bool, true, false, ◌||◌, cond, nat_eq, nat_lt, List, [], ◌∷◌, ◌++◌, length, drop, sym, ap, ap₂, ◌∙◌, arith, length-append, append-nil, append_assoc}
+use Rattle.std.proofs.Common.{Option, Some, MatchOption, IfSome, is_some, subst, ◌≡◌, ℕ, ◌+◌, ◌-◌, ◌<◌, ◌≤◌, Bool, true}
+use Rattle.std.proofs.Common.{false, ◌||◌, cond, nat_eq, nat_lt, List, [], ◌∷◌, ◌++◌, length, drop, sym, ap, ap₂, ◌∙◌}
+use Rattle.std.proofs.Common.{arith, length-append, append-nil, append_assoc}
 use Rattle.std.proofs.lemmas.Bool.{and_parts, ltb-true}
 use Rattle.std.proofs.lemmas.List.{drop-drop, length-drop}
 use Rattle.mfotl_model.specs.Satisfaction.{Valuation}
@@ -19,7 +21,8 @@ operand_none s n = fed_none_by s (nat_eq n 0)
 
 -- an operand, chosen by a truth value, has more tables
 abbrev chosen_fed : OrOf → Bool → List TableOf → OrOf
-chosen_fed s first tables = cond first (record s { lefts = s.lefts ++ tables }) (record s { rights = s.rights ++ tables })
+chosen_fed s first tables = cond first (record s { lefts = s.lefts ++ tables })
+    (record s { rights = s.rights ++ tables })
 
 fed_one_by : (s : OrOf) (first : Bool) (tables : List TableOf) (table : TableOf)
     → chosen_fed (chosen_fed s first tables) first (table ∷ []) ≡ chosen_fed s first (tables ++ table ∷ [])
@@ -66,17 +69,27 @@ or_pulled_more old s new tables items answer table before is ready state over ro
       state =
           advanced ∙ ap or_advanced before.state
           ∙ ap₂ (λ n xs. record old { pulled = n; lefts = xs; rights = drop 1 (drop (length tables) old.rights) })
-          (let e : old.pulled + length tables + 1 ≡ old.pulled + length (tables ++ table ∷ []) = omega (arith, size) in e)
+          (let e : old.pulled + length tables + 1 ≡ old.pulled + length (tables ++ table ∷ []) = omega (arith, size) in
+          e)
           (drop-drop 1 (length tables) old.lefts ∙ ap (λ n. drop n old.lefts) (sym size))
-          ∙ ap (λ (xs : List TableOf). record old { pulled = old.pulled + length (tables ++ table ∷ []); lefts = drop (length (tables ++ table ∷ [])) old.lefts; rights = xs })
+          ∙ ap (λ (xs : List TableOf). record old {
+            pulled = old.pulled + length (tables ++ table ∷ []);
+            lefts =
+                drop (length (tables ++ table ∷ [])) old.lefts;
+            rights = xs;
+          })
           (drop-drop 1 (length tables) old.rights ∙ ap (λ n. drop n old.rights) (sym size));
-      in_lefts = (let more : length tables + 1 ≤ length old.lefts = behind (length tables) old.lefts s.lefts lefts before.in_lefts some.0 in omega (arith, size));
-      in_rights = (let more : length tables + 1 ≤ length old.rights = behind (length tables) old.rights s.rights rights before.in_rights some.1 in omega (arith, size));
+      in_lefts = (let more : length tables + 1 ≤ length old.lefts =
+          behind (length tables) old.lefts s.lefts lefts before.in_lefts some.0 in omega (arith, size));
+      in_rights = (let more : length tables + 1 ≤ length old.rights =
+          behind (length tables) old.rights s.rights rights before.in_rights some.1 in omega (arith, size));
       over = over_push old.left tables table before.over (columns ∙ ap (λ (x : OrOf). x.left) before.state);
       rows = λ v.
-          stand_push (λ k x. has x v ≡ (first_has v (drop k old.lefts) || first_has v (drop k old.rights))) 0 tables table (before.rows v)
+          stand_push (λ k x. has x v ≡ (first_has v (drop k old.lefts) || first_has v (drop k old.rights))) 0 tables
+          table (before.rows v)
           (either v
-          ∙ ap₂ (λ (xs ys : List TableOf). first_has v xs || first_has v ys) (lefts ∙ ap (λ n. drop n old.lefts) place) (rights ∙ ap (λ n. drop n old.rights) place));
+          ∙ ap₂ (λ (xs ys : List TableOf). first_has v xs || first_has v ys) (lefts ∙ ap (λ n. drop n old.lefts) place)
+          (rights ∙ ap (λ n. drop n old.rights) place));
     })
   where
     size_of : length (tables ++ table ∷ []) ≡ length tables + length (table ∷ [])
@@ -98,7 +111,8 @@ or_pulled_more old s new tables items answer table before is ready state over ro
     columns = subst (λ o. IfSome o (λ x. x.columns ≡ s.left)) is over
 
     either : (v : Valuation) → has table v ≡ (first_has v s.lefts || first_has v s.rights)
-    either = subst (λ o. IfSome o (λ x. (v : Valuation) → has x v ≡ (first_has v s.lefts || first_has v s.rights))) is rows
+    either = subst (λ o. IfSome o (λ x. (v : Valuation) → has x v ≡ (first_has v s.lefts || first_has v s.rights))) is
+        rows
 
     some : (0 < length s.lefts) × (0 < length s.rights)
     some = or_due_parts s (sym ready ∙ ap is_some is)
@@ -118,5 +132,6 @@ or_fewer s new answer table is ready state =
     let advanced : new ≡ or_advanced s = subst (λ o. MatchOption o (new ≡ s) (λ x. new ≡ or_advanced s)) is state in
     let some = or_due_parts s (sym ready ∙ ap is_some is) in
     let many : 0 < length s.lefts = some.0 in
-    let size : length new.lefts ≡ length s.lefts - 1 = ap (λ (x : OrOf). length x.lefts) advanced ∙ length-drop 1 s.lefts in
+    let size : length new.lefts ≡ length s.lefts - 1 =
+    ap (λ (x : OrOf). length x.lefts) advanced ∙ length-drop 1 s.lefts in
     omega arith

@@ -1,5 +1,6 @@
 -- An OR's state over one step.
-use Rattle.std.proofs.Common.{subst, ◌≡◌, ℕ, ◌+◌, ◌-◌, ◌<◌, ◌≤◌, Bool, true, false, ◌&&◌, ◌||◌, nat_lt, List, [], ◌∷◌, ◌++◌, length, drop, sym, ap, ap₂, ◌∙◌, arith, length-append}
+use Rattle.std.proofs.Common.{subst, ◌≡◌, ℕ, ◌+◌, ◌-◌, ◌<◌, ◌≤◌, Bool, true, false, ◌&&◌, ◌||◌, nat_lt, List, [], ◌∷◌}
+use Rattle.std.proofs.Common.{◌++◌, length, drop, sym, ap, ap₂, ◌∙◌, arith, length-append}
 use Rattle.std.proofs.lemmas.Bool.{lt-ltb}
 use Rattle.std.proofs.lemmas.List.{length-drop}
 use Rattle.mfotl_model.specs.Exact.{View, Covers, AllExact}
@@ -25,8 +26,10 @@ use Rattle.monitor_state.specs.Steps.{News, longer}
 use Rattle.monitor_state.specs.Views.{reached}
 
 -- the first of exact tables
-first_exact : (view : View) (f : Form) (i : ℕ) (tables : List TableOf) (dom : List Value) (v : Valuation) → Covers view dom
-    → view.near (fv f) v ≡ true → 0 < length tables → AllExact view f i tables → first_has v tables ≡ sat view.log dom v i f
+first_exact : (view : View) (f : Form) (i : ℕ) (tables : List TableOf) (dom : List Value) (v : Valuation)
+    → Covers view dom
+    → view.near (fv f) v ≡ true → 0 < length tables → AllExact view f i tables
+    → first_has v tables ≡ sat view.log dom v i f
 first_exact view f i [] dom v covers near some all = absurd (omega arith)
 first_exact view f i (table ∷ tables) dom v covers near some all = all.0.rows dom v covers near
 
@@ -94,7 +97,8 @@ module _ (view : View) (point : TimePoint) (f g : CoreForm)
       (lt-ltb 0 (length new.lefts) (omega arith)) (lt-ltb 0 (length new.rights) (omega arith)) takes.ends)
 
   -- what is pulled at each place is what the OR means there
-  row_means : (dom : List Value) (v : Valuation) → Covers (longer view point) dom → view.near (fv (meaning (Or f g))) v ≡ true
+  row_means : (dom : List Value) (v : Valuation) → Covers (longer view point) dom
+      → view.near (fv (meaning (Or f g))) v ≡ true
       → (k : ℕ) → k < length tables
       → (first_has v (drop k (old.lefts ++ ls)) || first_has v (drop k (old.rights ++ rs)))
       ≡ sat (longer view point).log dom v (old.pulled + k) (meaning (Or f g))
@@ -102,8 +106,10 @@ module _ (view : View) (point : TimePoint) (f g : CoreForm)
   row_means dom v covers near k low =
       let in_lefts : length tables ≤ length (old.lefts ++ ls) = takes.pulls.in_lefts in
       let in_rights : length tables ≤ length (old.rights ++ rs) = takes.pulls.in_rights in
-      let left_size : length (drop k (old.lefts ++ ls)) ≡ length (old.lefts ++ ls) - k = length-drop k (old.lefts ++ ls) in
-      let right_size : length (drop k (old.rights ++ rs)) ≡ length (old.rights ++ rs) - k = length-drop k (old.rights ++ rs) in
+      let left_size : length (drop k (old.lefts ++ ls)) ≡ length (old.lefts ++ ls) - k =
+      length-drop k (old.lefts ++ ls) in
+      let right_size : length (drop k (old.rights ++ rs)) ≡ length (old.rights ++ rs) - k =
+      length-drop k (old.rights ++ rs) in
       ap₂ (λ x y. x || y)
       (first_exact (longer view point) (meaning f) (old.pulled + k) (drop k (old.lefts ++ ls)) dom v covers
       (near_left (fv view.whole) view.near passes (fv (meaning f)) (fv (meaning g)) v near) (omega arith)
@@ -117,8 +123,10 @@ module _ (view : View) (point : TimePoint) (f g : CoreForm)
       stand_exact (longer view point) (meaning (Or f g)) old.left old.pulled tables is.columns takes.pulls.over
       (λ dom v covers near.
       let at : old.pulled + 0 ≡ old.pulled = omega arith in
-      subst (λ j. StandFrom (λ k table. has table v ≡ sat (longer view point).log dom v k (meaning (Or f g))) j tables) at
-      (shifted (λ k table. has table v ≡ (first_has v (drop k (old.lefts ++ ls)) || first_has v (drop k (old.rights ++ rs))))
+      subst (λ j. StandFrom (λ k table. has table v ≡ sat (longer view point).log dom v k (meaning (Or f g))) j tables)
+      at
+      (shifted (λ k table. has table v ≡ (first_has v (drop k (old.lefts ++ ls)) || first_has v
+      (drop k (old.rights ++ rs))))
       (λ k table. has table v ≡ sat (longer view point).log dom v k (meaning (Or f g))) old.pulled 0 tables
       (λ k table low high row. row ∙ row_means dom v covers near k (omega arith)) (takes.pulls.rows v)))
 
@@ -137,11 +145,13 @@ module _ (view : View) (point : TimePoint) (f g : CoreForm)
         right_pushed = kept_rights;
         lefts =
             subst (λ xs. AllExact (longer view point) (meaning f) new.pulled xs) (sym lefts_are)
-            (subst (λ k. AllExact (longer view point) (meaning f) k (drop (length tables) (old.lefts ++ ls))) (sym pulled_is)
+            (subst (λ k. AllExact (longer view point) (meaning f) k (drop (length tables) (old.lefts ++ ls)))
+            (sym pulled_is)
             (exact_drop (longer view point) (meaning f) old.pulled (length tables) (old.lefts ++ ls) fed_lefts));
         rights =
             subst (λ xs. AllExact (longer view point) (meaning g) new.pulled xs) (sym rights_are)
-            (subst (λ k. AllExact (longer view point) (meaning g) k (drop (length tables) (old.rights ++ rs))) (sym pulled_is)
+            (subst (λ k. AllExact (longer view point) (meaning g) k (drop (length tables) (old.rights ++ rs)))
+            (sym pulled_is)
             (exact_drop (longer view point) (meaning g) old.pulled (length tables) (old.rights ++ rs) fed_rights));
       }
 

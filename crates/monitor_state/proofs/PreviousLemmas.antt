@@ -1,5 +1,7 @@
 -- Tables pushed to a PREVIOUS and pulled from it, one after the other.
-use Rattle.std.proofs.Common.{Option, Some, MatchOption, IfSome, is_some, subst, ◌≡◌, ℕ, ◌+◌, ◌-◌, ◌<◌, ◌≤◌, Bool, true, false, ◌||◌, cond, nat_eq, nat_lt, List, [], ◌∷◌, ◌++◌, length, drop, refl, sym, ap, ap₂, ◌∙◌, inl, inr, arith, length-append, append-nil, append_assoc}
+use Rattle.std.proofs.Common.{Option, Some, MatchOption, IfSome, is_some, subst, ◌≡◌, ℕ, ◌+◌, ◌-◌, ◌<◌, ◌≤◌, Bool, true}
+use Rattle.std.proofs.Common.{false, ◌||◌, cond, nat_eq, nat_lt, List, [], ◌∷◌, ◌++◌, length, drop, refl, sym, ap, ap₂}
+use Rattle.std.proofs.Common.{◌∙◌, inl, inr, arith, length-append, append-nil, append_assoc}
 use Rattle.std.proofs.lemmas.Bool.{and_parts, cases_lt, eqb-false, eqb-true, ltb-true, or_cases}
 use Rattle.std.proofs.lemmas.List.{drop-drop, length-drop}
 use Rattle.mfotl_model.specs.Satisfaction.{Valuation, previous, truth_at}
@@ -35,7 +37,8 @@ pushed_more old s new front table before pushed follows =
           ∙ ap (λ (x : PrevOf). record x { tables = x.tables ++ table ∷ [] }) before.pushed
           ∙ ap (λ (xs : List TableOf). record old { tables = xs }) (append_assoc old.tables front (table ∷ []));
       follows = λ t a v h stand.
-          let parts = stand_split (λ i x. has x v ≡ truth_at a i) (old.pulled - 1 + length old.tables) front table stand in
+          let parts = stand_split (λ i x. has x v ≡ truth_at a i) (old.pulled - 1 + length old.tables) front table
+          stand in
           follows t a v (before.follows t a v h parts.0) (parts.1 ∙ ap (truth_at a) place);
     }
 
@@ -80,14 +83,16 @@ pub pulled_more : (old s new : PrevOf) (tables : List TableOf) (table : TableOf)
     → table.columns ≡ s.columns
     → PreviousPulled old new (tables ++ table ∷ [])
 pulled_more old s new tables table before ready advances follows rows over =
-    let size : length (tables ++ table ∷ []) ≡ length tables + length (table ∷ []) = length-append tables (table ∷ []) in
+    let size : length (tables ++ table ∷ []) ≡ length tables + length (table ∷ []) =
+    length-append tables (table ∷ []) in
     let one : length (table ∷ []) ≡ 1 = omega arith in
     let n : length (tables ++ table ∷ []) ≡ length tables + 1 = omega arith in
     let pulled : s.pulled ≡ old.pulled + length tables = before.pulled in
     let next : new.pulled ≡ s.pulled + 1 = advances.pulled in
     let parts = due_parts s ready in
     let some : 0 < s.pulled → 0 < length s.tables = parts.1 in
-    let room : length tables + 1 ≤ length old.times = room_more (length tables) old.times s.times before.in_times before.times parts.0 in
+    let room : length tables + 1 ≤ length old.times =
+    room_more (length tables) old.times s.times before.in_times before.times parts.0 in
     let fits : tables_used old.pulled (length tables) ≤ length old.tables = before.in_tables in
     let rest : length s.tables ≡ length old.tables - tables_used old.pulled (length tables) =
     ap length before.kept ∙ length-drop (tables_used old.pulled (length tables)) old.tables in
@@ -95,7 +100,8 @@ pulled_more old s new tables table before ready advances follows rows over =
       interval = advances.interval ∙ before.interval;
       columns = advances.columns ∙ before.columns;
       pulled = omega arith;
-      times = dropped_more (length tables) old.times s.times new.times before.times advances.times ∙ ap (λ k. drop k old.times) (sym n);
+      times = dropped_more (length tables) old.times s.times new.times before.times advances.times
+          ∙ ap (λ k. drop k old.times) (sym n);
       known =
           stamps_more old.pulled (length tables) s.pulled (length (tables ++ table ∷ [])) s.last
           (stamps old.pulled old.last old.times) (stamps s.pulled s.last s.times)
@@ -146,7 +152,8 @@ pub pulled_fewer : (s new : PrevOf) (answer : Option TableOf) (table : TableOf) 
     → MatchOption answer (new ≡ s) (λ x. AdvancesPrevious s new)
     → length new.times < length s.times
 pulled_fewer s new answer table is ready state =
-    let advances : AdvancesPrevious s new = subst (λ o. MatchOption o (new ≡ s) (λ x. AdvancesPrevious s new)) is state in
+    let advances : AdvancesPrevious s new =
+    subst (λ o. MatchOption o (new ≡ s) (λ x. AdvancesPrevious s new)) is state in
     let some : 0 < length s.times = (due_parts s (sym ready ∙ ap is_some is)).0 in
     let size : length new.times ≡ length s.times - 1 = ap length advances.times ∙ length-drop 1 s.times in
     omega arith

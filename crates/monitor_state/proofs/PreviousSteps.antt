@@ -1,5 +1,6 @@
 -- A PREVIOUS's state over one step.
-use Rattle.std.proofs.Common.{subst, ◌≡◌, ℕ, ◌+◌, ◌-◌, ◌<◌, ◌≤◌, Bool, true, false, ◌&&◌, ◌||◌, nat_eq, nat_lt, List, [], ◌∷◌, ◌++◌, length, drop, refl, sym, ap, ◌∙◌, arith, length-append}
+use Rattle.std.proofs.Common.{subst, ◌≡◌, ℕ, ◌+◌, ◌-◌, ◌<◌, ◌≤◌, Bool, true, false, ◌&&◌, ◌||◌, nat_eq, nat_lt, List}
+use Rattle.std.proofs.Common.{[], ◌∷◌, ◌++◌, length, drop, refl, sym, ap, ◌∙◌, arith, length-append}
 use Rattle.std.proofs.lemmas.Bool.{and_from, lt-ltb}
 use Rattle.std.proofs.lemmas.List.{length-drop, length-map}
 use Rattle.mfotl_model.specs.Exact.{View, Covers, AllExact}
@@ -15,7 +16,8 @@ use Rattle.eval_since.specs.PreviousView.{FollowsPrevious, PrevOf}
 use Rattle.monitorable.specs.CoreForms.{CoreForm, meaning, Previous}
 use Rattle.relations.specs.Pushed.{StandFrom}
 use Rattle.monitor_state.proofs.CountLemmas.{count_previous, ready_or_first}
-use Rattle.monitor_state.proofs.ExactLemmas.{all_stay, covers_before, dates_before, dates_new, exact_append, exact_drop, exact_tell, log_more, stand_exact, tells_before, truths_tell}
+use Rattle.monitor_state.proofs.ExactLemmas.{all_stay, covers_before, dates_before, dates_new, exact_append, exact_drop}
+use Rattle.monitor_state.proofs.ExactLemmas.{exact_tell, log_more, stand_exact, tells_before, truths_tell}
 use Rattle.monitor_state.specs.PreviousFeeding.{PreviousTakes, tables_used}
 use Rattle.monitor_state.specs.Stands.{IsPrevious, PreviousStands}
 use Rattle.monitor_state.specs.Steps.{News, longer}
@@ -44,7 +46,8 @@ module _ (view : View) (point : TimePoint) (i : Interval) (f : CoreForm)
         (dates_before view point rising t dates) (tells_before view point rising dom v f a tells))
         (ts_is ∙ dates_new view point rising t dates ∙ ap (time_at t) (sym stands.timed))
 
-    operand_stands : StandFrom (λ k table. has table v ≡ truth_at a k) (takes.timed.pulled - 1 + length takes.timed.tables) operand
+    operand_stands : StandFrom (λ k table. has table v ≡ truth_at a k)
+        (takes.timed.pulled - 1 + length takes.timed.tables) operand
     operand_stands =
         let more : reached view f + length operand ≡ reached (longer view point) f = news.count in
         subst (λ p. StandFrom (λ k table. has table v ≡ truth_at a k) p operand) (sym place)
@@ -74,20 +77,24 @@ module _ (view : View) (point : TimePoint) (i : Interval) (f : CoreForm)
       let pulled : new.pulled ≡ old.pulled + length tables = pulled_is in
       let timed : old.pulled + length old.times ≡ length view.log = stands.timed in
       let more : length (longer view point).log ≡ length view.log + 1 = log_more view point rising in
-      let size : length (old.times ++ ts ∷ []) ≡ length old.times + length (ts ∷ []) = length-append old.times (ts ∷ []) in
-      let fed_size : length takes.fed.times ≡ length (old.times ++ ts ∷ []) = ap (λ (x : PrevOf). length x.times) fed_is in
+      let size : length (old.times ++ ts ∷ []) ≡ length old.times + length (ts ∷ []) =
+      length-append old.times (ts ∷ []) in
+      let fed_size : length takes.fed.times ≡ length (old.times ++ ts ∷ []) =
+      ap (λ (x : PrevOf). length x.times) fed_is in
       let one : length (ts ∷ []) ≡ 1 = omega arith in
       let room : length tables ≤ length takes.fed.times = takes.pulls.in_times in
       let rest : length new.times ≡ length takes.fed.times - length tables =
       ap length takes.pulls.times ∙ length-drop (length tables) takes.fed.times in
       omega arith
 
-  fed_known : stamps takes.fed.pulled takes.fed.last takes.fed.times ≡ drop (old.pulled - 1) (times (longer view point).log)
+  fed_known : stamps takes.fed.pulled takes.fed.last takes.fed.times ≡ drop (old.pulled - 1)
+      (times (longer view point).log)
   fed_known =
       let timed : old.pulled + length old.times ≡ length view.log = stands.timed in
       ap (λ (x : PrevOf). stamps x.pulled x.last x.times) fed_is
       ∙ stamps_pushed old.pulled old.last ts old.times
-      ∙ known_more view point rising old.pulled ts (stamps old.pulled old.last old.times) ts_is (omega arith) stands.known
+      ∙ known_more view point rising old.pulled ts (stamps old.pulled old.last old.times) ts_is (omega arith)
+      stands.known
 
   new_known : stamps new.pulled new.last new.times ≡ drop (new.pulled - 1) (times (longer view point).log)
   new_known =
@@ -101,7 +108,8 @@ module _ (view : View) (point : TimePoint) (i : Interval) (f : CoreForm)
       let pulled : new.pulled ≡ old.pulled + length tables = pulled_is in
       let pushed : old.pulled - 1 + length old.tables ≡ reached view f = stands.pushed in
       let more : reached view f + length operand ≡ reached (longer view point) f = news.count in
-      let size : length (old.tables ++ operand) ≡ length old.tables + length operand = length-append old.tables operand in
+      let size : length (old.tables ++ operand) ≡ length old.tables + length operand =
+      length-append old.tables operand in
       let room : tables_used old.pulled (length tables) ≤ length (old.tables ++ operand) =
       subst (λ (x : PrevOf). tables_used x.pulled (length tables) ≤ length x.tables) fed_is takes.pulls.in_tables in
       let rest : length new.tables ≡ length (old.tables ++ operand) - tables_used old.pulled (length tables) =
@@ -120,7 +128,8 @@ module _ (view : View) (point : TimePoint) (i : Interval) (f : CoreForm)
       and_from (nat_lt 0 (length new.times)) (nat_eq new.pulled 0 || nat_lt 0 (length new.tables))
       (lt-ltb 0 (length new.times) (omega arith))
       (ready_or_first new.pulled (nat_lt 0 (length new.tables))
-      (λ some. let below : new.pulled - 1 < reached (longer view point) f = high some in lt-ltb 0 (length new.tables) (omega arith))) in
+      (λ some. let below : new.pulled - 1 < reached (longer view point) f = high some in
+      lt-ltb 0 (length new.tables) (omega arith))) in
       let clash : true ≡ false = sym due ∙ takes.ends in
       cc)
 
@@ -131,7 +140,8 @@ module _ (view : View) (point : TimePoint) (i : Interval) (f : CoreForm)
       (ap (λ (x : PrevOf). x.columns) fed_is ∙ is.columns) takes.pulls.over
       (λ dom v covers near.
       let t : List ℕ = times (longer view point).log in
-      let a : List Bool = truths (length (longer view point).log) (λ j. sat (longer view point).log dom v j (meaning f)) in
+      let a : List Bool = truths (length (longer view point).log)
+      (λ j. sat (longer view point).log dom v j (meaning f)) in
       let follows : FollowsPrevious takes.fed t a v =
       fed_follows dom v covers near t a (λ j low. refl) (truths_tell (longer view point) dom v f) in
       subst (λ p. StandFrom (λ k table. has table v ≡ previous i t a k) p tables) fed_pulled
@@ -157,9 +167,12 @@ module _ (view : View) (point : TimePoint) (i : Interval) (f : CoreForm)
         pushed = kept_tables;
         tables =
             subst (λ xs. AllExact (longer view point) (meaning f) (new.pulled - 1) xs) (sym tables_are)
-            (subst (λ k. AllExact (longer view point) (meaning f) k (drop (tables_used old.pulled (length tables)) (old.tables ++ operand))) at
-            (exact_drop (longer view point) (meaning f) (old.pulled - 1) (tables_used old.pulled (length tables)) (old.tables ++ operand) fed_tables));
-        follows = λ dom v covers near t a dates tells. takes.pulls.follows t a v (fed_follows dom v covers near t a dates tells);
+            (subst (λ k. AllExact (longer view point) (meaning f) k
+            (drop (tables_used old.pulled (length tables)) (old.tables ++ operand))) at
+            (exact_drop (longer view point) (meaning f) (old.pulled - 1) (tables_used old.pulled (length tables))
+            (old.tables ++ operand) fed_tables));
+        follows = λ dom v covers near t a dates tells. takes.pulls.follows t a v
+            (fed_follows dom v covers near t a dates tells);
       }
 
   pub previous_news : News view point (Previous i f) tables

@@ -1,6 +1,6 @@
 -- The nodes' data keeps the rule, where the nodes stand for a log.
-use Rattle.std.proofs.Common.{◌≡◌, ℕ, ◌+◌, ◌-◌, ◌≤◌, Bool, true, min, List, [], ◌∷◌, length, map, drop, refl, sym, subst, ap, ap₂, ◌∙◌, arith}
-use Rattle.std.proofs.lemmas.List.{length-drop, length-map}
+use Rattle.std.proofs.Common.{◌≡◌, ℕ, ◌+◌, ◌-◌, ◌≤◌, Bool, true, min, List, [], ◌∷◌, length, map, drop, sym}
+use Rattle.std.proofs.Common.{subst, ap, ◌∙◌, arith}
 use Rattle.std.specs.List.{AllByRecursion}
 use Rattle.mfotl_model.specs.Exact.{AllExact, View}
 use Rattle.mfotl_model.specs.FreeVariables.{fv}
@@ -21,14 +21,14 @@ use Rattle.eval_until.specs.NextData.{NextRule}
 use Rattle.eval_until.specs.NextView.{NextOf}
 use Rattle.eval_until.specs.UntilView.{UntilOf}
 use Rattle.monitorable.specs.Conjuncts.{conjuncts_of}
-use Rattle.monitorable.specs.CoreForms.{CoreForm, meaning, True, False, Atom, Compare, Not, And, Or, Exists, Previous, Next, Since}
+use Rattle.monitorable.specs.CoreForms.{CoreForm, meaning, True, False, Atom, Compare, Not, And, Or, Exists, Previous}
+use Rattle.monitorable.specs.CoreForms.{Next, Since}
 use Rattle.monitorable.specs.CoreForms.{Until}
 use Rattle.relations.specs.Pushed.{AreOver}
-use Rattle.monitor_state.proofs.ExactLemmas.{reached_within}
 use Rattle.monitor_state.proofs.MarkLemmas.{dropped_behind}
 use Rattle.monitor_state.proofs.RecordRules.{since_keeps, until_keeps}
 use Rattle.monitor_state.proofs.StampLemmas.{stamps_rest}
-use Rattle.monitor_state.specs.Nodes.{children, left_operand, operands}
+use Rattle.monitor_state.specs.Nodes.{left_operand}
 use Rattle.monitor_state.specs.Recording.{NodeRecorded, NodesRecorded, WindowRecorded}
 use Rattle.monitor_state.specs.Resuming.{Reach}
 use Rattle.monitor_state.specs.Stands.{IsFor, IsJoin, NodeStands, NodesStand, bare, conjunct_as}
@@ -156,7 +156,8 @@ keeps_until view k (Until i f g) s order (kept.Window w) reach is stands rec =
 keeps_until view k (Until i f g) s order d reach is stands rec = absurd rec
 keeps_until view k f s order d reach is stands rec = absurd is
 
-keeps_constant : (k : KeptTimes) (f : CoreForm) (table : TableOf) → IsFor f (node.Constant table) → NodeKeeps k f kept.Bare
+keeps_constant : (k : KeptTimes) (f : CoreForm) (table : TableOf) → IsFor f (node.Constant table)
+    → NodeKeeps k f kept.Bare
 keeps_constant k True table is = tt
 keeps_constant k False table is = tt
 keeps_constant k (Compare c) table is = tt

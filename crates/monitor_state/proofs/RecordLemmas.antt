@@ -1,7 +1,8 @@
 -- The data of a state that stands for a log does.
-use Rattle.std.proofs.Common.{◌≡◌, ℕ, zero, suc, ◌+◌, ◌-◌, ◌<◌, ◌≤◌, Bool, true, false, min, nat_le, List, [], ◌∷◌, length, map, drop, refl, sym, subst, ap, ap₂, ◌∙◌, arith, slice_index}
+use Rattle.std.proofs.Common.{◌≡◌, ℕ, ◌+◌, ◌-◌, ◌<◌, ◌≤◌, Bool, min, nat_le, List, []}
+use Rattle.std.proofs.Common.{length, map, sym, subst, ap, ap₂, ◌∙◌, arith, slice_index}
 use Rattle.std.specs.Option.{unwrap_or}
-use Rattle.mfotl_model.specs.Exact.{AllExact, Covers, View}
+use Rattle.mfotl_model.specs.Exact.{AllExact, View}
 use Rattle.mfotl_model.specs.FreeVariables.{fv}
 use Rattle.mfotl_model.specs.Log.{times}
 use Rattle.mfotl_model.specs.Satisfaction.{Valuation, time_at}
@@ -24,12 +25,12 @@ use Rattle.relations.specs.KeptRows.{kept_for}
 use Rattle.monitor_state.proofs.ExactLemmas.{reached_within}
 use Rattle.monitor_state.proofs.MarkLemmas.{found_behind, met_is}
 use Rattle.monitor_state.proofs.SinceSteps.{free_operand}
-use Rattle.monitor_state.specs.Nodes.{is_negated, left_operand}
+use Rattle.monitor_state.specs.Nodes.{left_operand}
 use Rattle.monitor_state.specs.Recording.{SinceRecorded, UntilRecorded}
 use Rattle.monitor_state.specs.SinceNode.{IsSinceState, SinceStandsAt}
-use Rattle.monitor_state.specs.StateStands.{SinceDataStands, UntilDataStands, marks_for}
+use Rattle.monitor_state.specs.StateStands.{SinceDataStands, UntilDataStands}
 use Rattle.monitor_state.specs.UntilNode.{IsUntilState, UntilStandsAt}
-use Rattle.monitor_state.specs.Views.{Dates, Tells, reached}
+use Rattle.monitor_state.specs.Views.{Dates, reached}
 use Rattle.monitor_state.specs.declared.state.SinceKept.{SinceKept}
 use Rattle.monitor_state.specs.declared.state.UntilKept.{UntilKept}
 
@@ -72,7 +73,8 @@ until_recorded view p i f g s k is stands taken rec =
       left_pushed = ap (λ (x : UntilOf). x.ahead.taken + length x.lefts) rec.same ∙ stands.left_pushed;
       right_pushed = ap (λ (x : UntilOf). x.ahead.taken + length x.rights) rec.same ∙ stands.right_pushed;
       lefts =
-          subst (λ (x : UntilOf). AllExact view (meaning (left_operand f)) x.ahead.taken x.lefts) (sym rec.same) stands.lefts;
+          subst (λ (x : UntilOf). AllExact view (meaning (left_operand f)) x.ahead.taken x.lefts) (sym rec.same)
+          stands.lefts;
       rights = subst (λ (x : UntilOf). AllExact view (meaning g) x.ahead.taken x.rights) (sym rec.same) stands.rights;
       runs = λ dom v covers near a tells j low.
           let follows : FollowsLeft described a v = subst (λ x. FollowsLeft x a v) (sym rec.same)

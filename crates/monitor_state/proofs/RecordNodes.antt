@@ -1,5 +1,6 @@
 -- The nodes' data, where the nodes stand for a log.
-use Rattle.std.proofs.Common.{◌≡◌, ℕ, ◌+◌, ◌-◌, ◌≤◌, Bool, true, min, List, [], ◌∷◌, ◌++◌, length, sym, subst, ap, ◌∙◌, arith}
+use Rattle.std.proofs.Common.{◌≡◌, ℕ, ◌+◌, ◌-◌, ◌≤◌, true, min, List, [], ◌∷◌, ◌++◌, length, sym, subst, ap, ◌∙◌}
+use Rattle.std.proofs.Common.{arith}
 use Rattle.std.proofs.lemmas.Bool.{eqb-true}
 use Rattle.std.proofs.lemmas.List.{length-drop, length-map}
 use Rattle.mfotl_model.specs.Exact.{AllExact, View}
@@ -17,12 +18,12 @@ use Rattle.eval_until.specs.UntilView.{UntilOf, to_take, took_all}
 use Rattle.monitorable.specs.CoreForms.{CoreForm, meaning, Not, And, Or, Previous, Next, Since, Until}
 use Rattle.monitor_state.proofs.ExactLemmas.{reached_within}
 use Rattle.monitor_state.proofs.RecordLemmas.{since_recorded, until_recorded}
-use Rattle.monitor_state.specs.FilterNode.{FilterStands, IsFilter}
 use Rattle.monitor_state.specs.Nodes.{left_operand, operands}
 use Rattle.monitor_state.specs.Recording.{NodeRecorded, NodesRecorded, WindowRecorded}
 use Rattle.monitor_state.specs.Stands.{ChildrenStand, IsFor, JoinStands, NodeStands, NodesStand}
-use Rattle.monitor_state.specs.StateStands.{JoinDataStands, NodeDataStands, NodesDataStand, TablesStand, WindowDataStands}
-use Rattle.monitor_state.specs.UntilNode.{IsUntilState, UntilStandsAt}
+use Rattle.monitor_state.specs.StateStands.{JoinDataStands, NodeDataStands, NodesDataStand, TablesStand}
+use Rattle.monitor_state.specs.StateStands.{WindowDataStands}
+use Rattle.monitor_state.specs.UntilNode.{UntilStandsAt}
 use Rattle.monitor_state.specs.Views.{reached}
 use Rattle.monitor_state.specs.WindowNode.{IsWindow, WindowStands, window_took_all}
 use Rattle.monitor_state.specs.declared.filter.FilterState.{FilterState}
@@ -50,7 +51,8 @@ all_taken view p i f g s stands all inside =
     omega arith
 
 pub window_recorded : (view : View) (p : ℕ) (w : CoreForm) (s : Window) (k : WindowData) → p ≤ length view.log
-    → window_took_all s ≡ true → IsWindow w s → WindowStands view p w s → WindowRecorded s k → WindowDataStands view p w k
+    → window_took_all s ≡ true → IsWindow w s → WindowStands view p w s → WindowRecorded s k
+    → WindowDataStands view p w k
 window_recorded view p (Since i f g) (window.Since s) (data_of.Since k) inside all is stands rec =
     since_recorded view p i f g s k is stands rec
 window_recorded view p (Until i f g) (window.Until s) (data_of.Until k) inside all is stands rec =

@@ -1,9 +1,9 @@
 -- The data of a state that stands for a log keeps the rule, with the log's timestamps.
-use Rattle.std.proofs.Common.{◌≡◌, ℕ, zero, suc, ◌+◌, ◌-◌, ◌≤◌, ◌^◌, List, [], ◌∷◌, length, drop, sym, subst, ap, ◌∙◌, arith, slice_index}
-use Rattle.std.proofs.lemmas.List.{drop-drop, get_or-drop}
+use Rattle.std.proofs.Common.{◌≡◌, ℕ, zero, suc, ◌+◌, ◌-◌, ◌≤◌, ◌^◌, List, [], ◌∷◌, length, drop, sym, subst, ap, ◌∙◌}
+use Rattle.std.proofs.Common.{arith, slice_index}
+use Rattle.std.proofs.lemmas.List.{get_or-drop}
 use Rattle.std.specs.List.{AllByRecursion}
 use Rattle.mfotl_model.specs.Exact.{View}
-use Rattle.mfotl_model.specs.FreeVariables.{fv}
 use Rattle.mfotl_model.specs.Log.{times}
 use Rattle.mfotl_model.specs.declared.interval.Interval.{Interval}
 use Rattle.eval_since.specs.SinceData.{KeepsRule, KeepsTimes, SinceSetting, newest_of, setting_of}
@@ -12,10 +12,9 @@ use Rattle.eval_since.specs.declared.recalled.KeptRow.{KeptRow}
 use Rattle.eval_since.specs.declared.recalled.SinceData.{SinceData}
 use Rattle.eval_until.specs.UntilData.{UntilRule, setting_of as until_setting_of, until_of}
 use Rattle.eval_until.specs.UntilView.{UntilOf}
-use Rattle.monitorable.specs.CoreForms.{CoreForm, meaning}
+use Rattle.monitorable.specs.CoreForms.{CoreForm}
 use Rattle.monitor_state.proofs.MarkLemmas.{dropped_behind, found_behind}
 use Rattle.monitor_state.proofs.StampLemmas.{stamps_rest}
-use Rattle.monitor_state.specs.Nodes.{is_negated, left_operand}
 use Rattle.monitor_state.specs.Recording.{SinceRecorded, UntilRecorded}
 use Rattle.monitor_state.specs.SinceNode.{IsSinceState, SinceStandsAt}
 use Rattle.monitor_state.specs.Stamps.{stamps}
@@ -25,7 +24,8 @@ use Rattle.monitor_state.specs.UntilNode.{IsUntilState, UntilStandsAt}
 use Rattle.monitor_state.specs.declared.state.SinceKept.{SinceKept}
 use Rattle.monitor_state.specs.declared.state.UntilKept.{UntilKept}
 
-climbs_from : (past next : ℕ) (ts : List ℕ) → next ≤ past → Climbs past ts (newest_of past ts) → Climbs next ts (newest_of next ts)
+climbs_from : (past next : ℕ) (ts : List ℕ) → next ≤ past → Climbs past ts (newest_of past ts)
+    → Climbs next ts (newest_of next ts)
 climbs_from past next [] low climbs = omega arith
 climbs_from past next (t ∷ ts) low climbs =
     let first : past ≤ t = climbs.0 in (omega arith, climbs.1)
@@ -44,7 +44,8 @@ rule_with : (setting : SinceSetting) (k : KeptTimes) (all : List ℕ) (p last : 
     → KeepsRule setting last rest kept → KeepsRule setting (time_before k p) (times_from k p) kept
 rule_with setting k all zero last rest kept at is low known rule =
     let none_past : 0 - 1 ≡ 0 = omega arith in
-    let next : rest ≡ times_from k 0 = known ∙ ap (λ n. drop n all) none_past ∙ sym (dropped_behind k.first 0 all k.stamps is (omega arith)) in
+    let next : rest ≡ times_from k 0 = known ∙ ap (λ n. drop n all) none_past
+    ∙ sym (dropped_behind k.first 0 all k.stamps is (omega arith)) in
     let none : kept.rows.items ≡ [] = rule.begins at in
     record {
       few = subst (λ ts. kept.pulled + length ts ≤ 2 ^ 63) next rule.few;
@@ -67,8 +68,15 @@ rule_with setting k all (suc p) last rest kept at is low known rule =
     subst (λ ts. KeepsRule setting (time_before k (suc p)) ts kept) next
     (subst (λ l. KeepsRule setting l rest kept) before rule)
 
-pub setting_is : (i : Interval) (f g : CoreForm) (s : SinceOf) → IsSinceState i f g s → setting_of s ≡ since_setting i f g
-setting_is i f g s is = λ j. record { interval = is.interval j; left = is.left j; right = is.right j; negated = is.negated j }
+pub setting_is : (i : Interval) (f g : CoreForm) (s : SinceOf) → IsSinceState i f g s
+    → setting_of s ≡ since_setting i f g
+setting_is i f g s is = λ j. record {
+  interval = is.interval j;
+  left = is.left j;
+  right = is.right j;
+  negated =
+      is.negated j;
+}
 
 pub until_setting_is : (i : Interval) (f g : CoreForm) (s : UntilOf) → IsUntilState i f g s
     → until_setting_of s ≡ until_setting i f g

@@ -1,5 +1,6 @@
 -- The timestamps of a state's data are the log's from the earliest place on that a node asks for.
-use Rattle.std.proofs.Common.{◌≡◌, ℕ, zero, suc, ◌+◌, ◌-◌, ◌<◌, ◌≤◌, ◌⊎◌, inl, inr, Bool, true, false, cond, min, nat_lt, List, [], ◌∷◌, length, drop, refl, sym, subst, ap, ◌∙◌, arith}
+use Rattle.std.proofs.Common.{◌≡◌, ℕ, ◌-◌, ◌<◌, ◌≤◌, Bool, true, false, cond, min}
+use Rattle.std.proofs.Common.{nat_lt, List, [], ◌∷◌, length, drop, refl, sym, ap, ◌∙◌, arith}
 use Rattle.std.proofs.lemmas.Bool.{ltb-true, ltb-false}
 use Rattle.std.proofs.lemmas.List.{length-drop, length-map}
 use Rattle.mfotl_model.specs.Exact.{View}
@@ -12,7 +13,8 @@ use Rattle.mfotl_model.specs.Tables.{TableOf}
 use Rattle.monitorable.specs.CoreForms.{CoreForm, And, Previous, Next, Since, Until}
 use Rattle.monitor_state.proofs.ExactLemmas.{reached_within}
 use Rattle.monitor_state.specs.Nodes.{left_operand}
-use Rattle.monitor_state.specs.Recording.{NodeRecorded, NodesRecorded, WindowRecorded, longer_of, longest, node_stamps, window_stamps}
+use Rattle.monitor_state.specs.Recording.{NodeRecorded, NodesRecorded, WindowRecorded, longer_of, longest, node_stamps}
+use Rattle.monitor_state.specs.Recording.{window_stamps}
 use Rattle.monitor_state.specs.Stands.{IsFor, NodeStands, NodesStand}
 use Rattle.monitor_state.specs.StateTimes.{earliest, node_asks, window_asks}
 use Rattle.monitor_state.specs.Views.{reached}
@@ -119,7 +121,8 @@ filter_more view f s k place own inside is for stands rec = absurd for
 
 previous_more : (view : View) (f : CoreForm) (s : PrevOf) (k : NodeData) (place : ℕ) (own : List ℕ)
     → place ≤ length (times view.log) → own ≡ drop place (times view.log) → IsFor f (node.Previous s)
-    → NodeStands view f (node.Previous s) → NodeRecorded (node.Previous s) k → Lengthens view place (node.Previous s) k own
+    → NodeStands view f (node.Previous s) → NodeRecorded (node.Previous s) k
+    → Lengthens view place (node.Previous s) k own
 previous_more view (Previous i f) s (kept.Previous k) place own inside is for stands rec =
     let size : length (times view.log) ≡ length view.log = logged view in
     let pulled : k.pulled ≡ s.pulled = ap (λ (x : PrevOf). x.pulled) rec.0 in
@@ -171,11 +174,16 @@ until_more view f s order k place own inside is for stands rec = absurd for
 node_more : (view : View) (f : CoreForm) (n : Node) (k : NodeData) (place : ℕ) (own : List ℕ)
     → place ≤ length (times view.log) → own ≡ drop place (times view.log) → IsFor f n → NodeStands view f n
     → NodeRecorded n k → Lengthens view place n k own
-node_more view f (node.Filter s) k place own inside is for stands rec = filter_more view f s k place own inside is for stands rec
-node_more view f (node.Previous s) k place own inside is for stands rec = previous_more view f s k place own inside is for stands rec
-node_more view f (node.Next s) k place own inside is for stands rec = next_more view f s k place own inside is for stands rec
-node_more view f (node.Since s order) k place own inside is for stands rec = since_more view f s order k place own inside is for stands rec
-node_more view f (node.Until s order) k place own inside is for stands rec = until_more view f s order k place own inside is for stands rec
+node_more view f (node.Filter s) k place own inside is for stands rec =
+    filter_more view f s k place own inside is for stands rec
+node_more view f (node.Previous s) k place own inside is for stands rec =
+    previous_more view f s k place own inside is for stands rec
+node_more view f (node.Next s) k place own inside is for stands rec =
+    next_more view f s k place own inside is for stands rec
+node_more view f (node.Since s order) k place own inside is for stands rec =
+    since_more view f s order k place own inside is for stands rec
+node_more view f (node.Until s order) k place own inside is for stands rec =
+    until_more view f s order k place own inside is for stands rec
 node_more view f (node.Constant table) kept.Bare place own inside is for stands rec = nothing_more view place own is
 node_more view f (node.Atom a) kept.Bare place own inside is for stands rec = nothing_more view place own is
 node_more view f (node.Exists x) kept.Bare place own inside is for stands rec = nothing_more view place own is

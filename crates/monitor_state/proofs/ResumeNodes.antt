@@ -1,9 +1,9 @@
 -- Nodes that are resumed with data that stands for a log do.
-use Rattle.std.proofs.Common.{◌≡◌, ℕ, ◌+◌, ◌-◌, ◌<◌, ◌≤◌, Bool, true, false, cond, List, [], ◌∷◌, length, map, refl, sym, subst, ap, ap₂, ◌∙◌, arith}
+use Rattle.std.proofs.Common.{◌≡◌, ℕ, ◌+◌, ◌-◌, ◌≤◌, Bool, true, false, cond, List, [], ◌∷◌, length, map, refl}
+use Rattle.std.proofs.Common.{sym, subst, ap, ◌∙◌, arith}
 use Rattle.std.specs.Global.{Vec}
 use Rattle.mfotl_model.specs.Exact.{AllExact, Covers, View}
 use Rattle.mfotl_model.specs.FreeVariables.{fv}
-use Rattle.mfotl_model.specs.Log.{times}
 use Rattle.mfotl_model.specs.Satisfaction.{Valuation, truth_at}
 use Rattle.mfotl_model.specs.Tables.{TableOf, has}
 use Rattle.mfotl_model.specs.declared.interval.Interval.{Interval}
@@ -17,12 +17,12 @@ use Rattle.eval_bool.specs.OrView.{OrOf}
 use Rattle.eval_bool.specs.declared.recalled.JoinData.{JoinData}
 use Rattle.eval_bool.specs.declared.recalled.OrData.{OrData}
 use Rattle.eval_since.specs.PreviousData.{PreviousRule, previous_of}
-use Rattle.eval_since.specs.PreviousView.{FollowsPrevious, PrevOf}
+use Rattle.eval_since.specs.PreviousView.{PrevOf}
 use Rattle.eval_since.specs.SinceData.{KeepsRule, setting_of}
 use Rattle.eval_since.specs.SinceView.{SinceOf}
 use Rattle.eval_since.specs.declared.recalled.PrevData.{PrevData}
 use Rattle.eval_until.specs.NextData.{NextRule, next_of}
-use Rattle.eval_until.specs.NextView.{FollowsNext, NextOf}
+use Rattle.eval_until.specs.NextView.{NextOf}
 use Rattle.eval_until.specs.UntilData.{UntilRule, setting_of as until_setting_of, until_of}
 use Rattle.eval_until.specs.UntilView.{UntilOf}
 use Rattle.eval_until.specs.declared.recalled.NextData.{NextData}
@@ -33,28 +33,27 @@ use Rattle.monitor_state.proofs.ExactLemmas.{exact_tell, reached_within}
 use Rattle.monitor_state.proofs.RecordKeeps.{alike_parts}
 use Rattle.monitor_state.proofs.RecordRules.{setting_is, until_setting_is}
 use Rattle.monitor_state.proofs.ResumeTimes.{known_from, last_dates, rest_dates, rest_is, rest_size}
-use Rattle.monitor_state.proofs.ResumeWindows.{since_resumed_is, since_resumed_stands, until_resumed_all, until_resumed_is, until_resumed_stands, until_resumed_taken}
-use Rattle.monitor_state.specs.FilterNode.{FilterStands, IsFilter}
+use Rattle.monitor_state.proofs.ResumeWindows.{since_resumed_is, since_resumed_stands, until_resumed_all}
+use Rattle.monitor_state.proofs.ResumeWindows.{until_resumed_is, until_resumed_stands, until_resumed_taken}
 use Rattle.monitor_state.specs.Nodes.{left_operand, operands}
 use Rattle.monitor_state.specs.Resuming.{NodeResumed, Reach, SinceResumed, Suits, UntilResumed, WindowResumed}
-use Rattle.monitor_state.specs.Stands.{ChildrenStand, IsFor, IsJoin, IsPrevious, JoinStands, NextStands, NodeStands, PreviousStands, bare, conjunct_as}
+use Rattle.monitor_state.specs.Stands.{ChildrenStand, IsFor, IsJoin, IsPrevious, JoinStands, NextStands, NodeStands}
+use Rattle.monitor_state.specs.Stands.{PreviousStands, bare, conjunct_as}
 use Rattle.monitor_state.specs.StateRules.{JoinKeeps, NodeKeeps, SinceKeeps, UntilKeeps, WindowKeeps}
-use Rattle.monitor_state.specs.StateStands.{JoinDataStands, NextDataStands, NodeDataStands, PreviousDataStands, TablesStand, WindowDataStands}
-use Rattle.monitor_state.specs.StateTimes.{KeptTimes, node_asks, time_before, times_from, window_asks}
+use Rattle.monitor_state.specs.StateStands.{JoinDataStands, NextDataStands, PreviousDataStands}
+use Rattle.monitor_state.specs.StateStands.{TablesStand}
+use Rattle.monitor_state.specs.StateTimes.{KeptTimes, time_before, times_from}
 use Rattle.monitor_state.specs.SinceNode.{IsSinceState}
 use Rattle.monitor_state.specs.UntilNode.{IsUntilState}
-use Rattle.monitor_state.specs.Views.{Dates, Tells, reached}
-use Rattle.monitor_state.specs.WindowNode.{IsWindow, WindowStands, window_took_all}
+use Rattle.monitor_state.specs.Views.{Tells, reached}
+use Rattle.monitor_state.specs.WindowNode.{IsWindow}
 use Rattle.monitor_state.specs.declared.filter.FilterState.{FilterState}
-use Rattle.monitor_state.specs.declared.node.Node.{Node}
 use Rattle.monitor_state.specs.declared.node.Node.TheVariants as node
-use Rattle.monitor_state.specs.declared.state.NodeData.{NodeData}
 use Rattle.monitor_state.specs.declared.state.NodeData.TheVariants as kept
 use Rattle.monitor_state.specs.declared.state.SinceKept.{SinceKept}
 use Rattle.monitor_state.specs.declared.state.UntilKept.{UntilKept}
 use Rattle.monitor_state.specs.declared.state.WindowData.{WindowData}
 use Rattle.monitor_state.specs.declared.state.WindowData.TheVariants as data_of
-use Rattle.monitor_state.specs.declared.window.Window.{Window}
 use Rattle.monitor_state.specs.declared.window.Window.TheVariants as window
 
 -- ---- nodes that keep nothing
@@ -65,7 +64,8 @@ constant_stands view (Not f) table is = tt
 constant_stands view (And f g) table is = tt
 constant_stands view f table is = tt
 
-pub constant_resumed : (k : KeptTimes) (table : TableOf) → NodeResumed k (node.Constant table) kept.Bare (node.Constant table)
+pub constant_resumed : (k : KeptTimes) (table : TableOf)
+    → NodeResumed k (node.Constant table) kept.Bare (node.Constant table)
 constant_resumed k table f is keeps = (is, λ view whole suits reach stands. constant_stands view f table is)
 
 atom_stands : (view : View) (f : CoreForm) (a : OneAtom) → IsFor f (node.Atom a) → NodeStands view f (node.Atom a)
@@ -181,7 +181,8 @@ or_resumed k s new d made f is keeps = absurd is
 
 pub previous_fits : (k : KeptTimes) (s : PrevOf) (d : PrevData) (f : CoreForm) → IsFor f (node.Previous s)
     → NodeKeeps k f (kept.Previous d) → PreviousRule s.columns (times_from k d.pulled) d
-previous_fits k s d (Previous i f) is keeps = subst (λ cols. PreviousRule cols (times_from k d.pulled) d) (sym is.columns) keeps
+previous_fits k s d (Previous i f) is keeps =
+    subst (λ cols. PreviousRule cols (times_from k d.pulled) d) (sym is.columns) keeps
 previous_fits k s d f is keeps = absurd is
 
 previous_stands : (k : KeptTimes) (i : Interval) (f : CoreForm) (s new : PrevOf) (d : PrevData) → IsPrevious i f s
@@ -281,13 +282,15 @@ next_resumed k s new d made f is keeps = absurd is
 since_fits : (k : KeptTimes) (i : Interval) (f g : CoreForm) (s : SinceOf) (d : SinceKept) → IsSinceState i f g s
     → SinceKeeps k i f g d → KeepsRule (setting_of s) (time_before k d.kept.pulled) (times_from k d.kept.pulled) d.kept
 since_fits k i f g s d is keeps =
-    subst (λ c. KeepsRule c (time_before k d.kept.pulled) (times_from k d.kept.pulled) d.kept) (sym (setting_is i f g s is))
+    subst (λ c. KeepsRule c (time_before k d.kept.pulled) (times_from k d.kept.pulled) d.kept)
+    (sym (setting_is i f g s is))
     keeps.rule
 
 until_fits : (k : KeptTimes) (i : Interval) (f g : CoreForm) (s : UntilOf) (d : UntilKept) → IsUntilState i f g s
     → UntilKeeps k i f g d → UntilRule (until_of (until_setting_of s) (times_from k d.kept.pulled) d.kept)
 until_fits k i f g s d is keeps =
-    subst (λ c. UntilRule (until_of c (times_from k d.kept.pulled) d.kept)) (sym (until_setting_is i f g s is)) keeps.rule
+    subst (λ c. UntilRule (until_of c (times_from k d.kept.pulled) d.kept)) (sym (until_setting_is i f g s is))
+    keeps.rule
 
 pub window_since_fits : (k : KeptTimes) (s : SinceOf) (d : SinceKept) (w : CoreForm) → IsWindow w (window.Since s)
     → WindowKeeps k w (data_of.Since d)
@@ -314,9 +317,10 @@ pub until_in_window : (k : KeptTimes) (s new : UntilOf) (d : UntilKept) → Unti
     → WindowResumed k (window.Until s) (data_of.Until d) (window.Until new)
 until_in_window k s new d res (Until i f g) is keeps = (
   until_resumed_is k i f g s new d is keeps res,
-  λ view whole p suits reach stands.
-      (until_resumed_stands k i f g s new d is keeps res view whole p suits reach stands,
-      until_resumed_all k i f g s new d is keeps res view whole p suits reach stands),
+  λ view whole p suits reach stands. (
+    until_resumed_stands k i f g s new d is keeps res view whole p suits reach stands,
+    until_resumed_all k i f g s new d is keeps res view whole p suits reach stands,
+  ),
 )
 until_in_window k s new d res w is keeps = absurd is
 
@@ -332,16 +336,19 @@ pub node_until_fits : (k : KeptTimes) (s : UntilOf) (order : TableOf) (d : Until
 node_until_fits k s order d (Until i f g) is keeps = until_fits k i f g s d is.state keeps
 node_until_fits k s order d f is keeps = absurd is
 
-pub since_resumed_node : (k : KeptTimes) (s new : SinceOf) (order : TableOf) (d : SinceKept) → SinceResumed k s d.kept new
+pub since_resumed_node : (k : KeptTimes) (s new : SinceOf) (order : TableOf) (d : SinceKept)
+    → SinceResumed k s d.kept new
     → NodeResumed k (node.Since s order) (kept.Window (data_of.Since d)) (node.Since new order)
 since_resumed_node k s new order d res (Since i f g) is keeps = (
   record { state = since_resumed_is k i f g s new d is.state keeps res; ordered = is.ordered },
   λ view whole suits reach stands.
-      since_resumed_stands k i f g s new d is.state keeps res view whole (reached view (Since i f g)) suits reach stands,
+      since_resumed_stands k i f g s new d is.state keeps res view whole (reached view (Since i f g)) suits reach
+      stands,
 )
 since_resumed_node k s new order d res f is keeps = absurd is
 
-pub until_resumed_node : (k : KeptTimes) (s new : UntilOf) (order : TableOf) (d : UntilKept) → UntilResumed k s d.kept new
+pub until_resumed_node : (k : KeptTimes) (s new : UntilOf) (order : TableOf) (d : UntilKept)
+    → UntilResumed k s d.kept new
     → NodeResumed k (node.Until s order) (kept.Window (data_of.Until d)) (node.Until new order)
 until_resumed_node k s new order d res (Until i f g) is keeps = (
   record { state = until_resumed_is k i f g s new d is.state keeps res; ordered = is.ordered },

@@ -1,6 +1,7 @@
 -- A monitor that is resumed with data that stands for a log does.
-use Rattle.std.proofs.Common.{◌≡◌, ℕ, zero, suc, ◌+◌, ◌-◌, ◌<◌, ◌≤◌, List, [], ◌∷◌, ◌++◌, length, drop, refl, sym, subst, ap, ap₂, ◌∙◌, arith, append_assoc, append-nil}
-use Rattle.std.proofs.lemmas.List.{length-drop, length-map}
+use Rattle.std.proofs.Common.{◌≡◌, ℕ, zero, suc, ◌-◌, ◌<◌, ◌≤◌, List, [], ◌∷◌, ◌++◌, length, drop, refl, sym}
+use Rattle.std.proofs.Common.{subst, ap, ap₂, ◌∙◌, arith, append_assoc, append-nil}
+use Rattle.std.proofs.lemmas.List.{length-drop}
 use Rattle.std.specs.List.{AllByRecursion}
 use Rattle.mfotl_model.specs.Exact.{View}
 use Rattle.mfotl_model.specs.FreeVariables.{fv}
@@ -18,12 +19,12 @@ use Rattle.monitor_state.proofs.ResumeTimes.{log_size}
 use Rattle.monitor_state.specs.Beginnings.{Adds}
 use Rattle.monitor_state.specs.Going.{AllPremises}
 use Rattle.monitor_state.specs.Nodes.{nodes_of}
-use Rattle.monitor_state.specs.Resuming.{AllMatch, HalfResumed, Matches, NodeResumed, NodesResumed, Reach, Suits, SuitsWhole}
+use Rattle.monitor_state.specs.Resuming.{AllMatch, HalfResumed, Matches, NodeResumed, NodesResumed, Suits}
+use Rattle.monitor_state.specs.Resuming.{SuitsWhole}
 use Rattle.monitor_state.specs.Stands.{NodesStand, StateOf, Stands}
 use Rattle.monitor_state.specs.StateRules.{NodesKeep, StateRule}
 use Rattle.monitor_state.specs.StateStands.{NodesDataStand, StateStands}
 use Rattle.monitor_state.specs.StateTimes.{KeptTimes, earliest, node_asks, times_of}
-use Rattle.monitor_state.specs.Steps.{Premises}
 use Rattle.monitor_state.specs.Views.{reached}
 use Rattle.monitor_state.specs.declared.node.Node.{Node}
 use Rattle.monitor_state.specs.declared.state.NodeData.{NodeData}
@@ -84,7 +85,8 @@ all_suit view core suits =
     one_never_falls zero (suc j) low below = absurd (let one : suc j < 1 = below in omega arith)
     one_never_falls (suc i) j low below = absurd (let one : j < 1 = below in omega arith)
 
-nodes_stand : (view : View) (k : KeptTimes) (whole : CoreForm) (fs : List CoreForm) (old new : List Node) (ds : List NodeData)
+nodes_stand : (view : View) (k : KeptTimes) (whole : CoreForm) (fs : List CoreForm) (old new : List Node)
+    (ds : List NodeData)
     → k.stamps ≡ drop k.first (times view.log) → AllByRecursion (λ d. k.first ≤ node_asks k.first d) ds
     → AllSuit view whole fs → (seen : View) → NodesStand seen fs old → NodesKeep k fs ds → NodesResumed k old ds new
     → NodesDataStand view fs ds → NodesStand view fs new
@@ -155,7 +157,8 @@ pub half_begins : (k : KeptTimes) (nodes : List Node) (ds : List NodeData) → A
 half_begins k nodes ds match =
     record { done = []; used = []; nodes_are = refl; kept_are = refl; resumed = tt; others = match }
 
-resumed_append : (k : KeptTimes) (o : Node) (d : NodeData) (n : Node) (os : List Node) (ds : List NodeData) (ns : List Node)
+resumed_append : (k : KeptTimes) (o : Node) (d : NodeData) (n : Node) (os : List Node) (ds : List NodeData)
+    (ns : List Node)
     → NodesResumed k os ds ns → NodeResumed k o d n → NodesResumed k (os ++ o ∷ []) (ds ++ d ∷ []) (ns ++ n ∷ [])
 resumed_append k o d n [] [] [] all one = (one, tt)
 resumed_append k o d n (p ∷ os) (e ∷ ds) (m ∷ ns) all one = (all.0, resumed_append k o d n os ds ns all.1 one)
@@ -164,7 +167,8 @@ resumed_append k o d n [] (e ∷ ds) ns all one = absurd all
 resumed_append k o d n (p ∷ os) [] ns all one = absurd all
 resumed_append k o d n (p ∷ os) (e ∷ ds) [] all one = absurd all
 
-pub first_matches : (k : KeptTimes) (nodes : List Node) (ds : List NodeData) (n : Node) (rest : List Node) (d : NodeData)
+pub first_matches : (k : KeptTimes) (nodes : List Node) (ds : List NodeData) (n : Node) (rest : List Node)
+    (d : NodeData)
     (left : List NodeData) (old : List Node) (used : List NodeData) (made : List Node)
     → HalfResumed k nodes ds old used made → old ≡ n ∷ rest → used ≡ d ∷ left → Matches k n d
 first_matches k nodes ds n rest d left old used made half front data_front =
@@ -183,15 +187,18 @@ half_goes k nodes ds n rest d left old used made more new half front data_front 
       resumed =
           subst (NodesResumed k (half.done ++ n ∷ []) (half.used ++ d ∷ [])) (sym is)
           (resumed_append k n d new half.done half.used made half.resumed one);
-      others = (subst (λ xs. AllMatch k (n ∷ rest) xs) data_front (subst (λ xs. AllMatch k xs used) front half.others)).1;
+      others = (subst (λ xs. AllMatch k (n ∷ rest) xs) data_front
+          (subst (λ xs. AllMatch k xs used) front half.others)).1;
     }
 
 pub half_ends : (k : KeptTimes) (nodes : List Node) (ds : List NodeData) (old : List Node) (used : List NodeData)
     (made : List Node) → HalfResumed k nodes ds old used made → old ≡ [] → NodesResumed k nodes ds made
 half_ends k nodes ds old used made half none =
-    subst (λ xs. NodesResumed k xs ds made) (sym (half.nodes_are ∙ ap (λ xs. half.done ++ xs) none ∙ append-nil half.done))
+    subst (λ xs. NodesResumed k xs ds made)
+    (sym (half.nodes_are ∙ ap (λ xs. half.done ++ xs) none ∙ append-nil half.done))
     (subst (λ xs. NodesResumed k half.done xs made)
-    (sym (half.kept_are ∙ ap (λ xs. half.used ++ xs) (nothing_left used (subst (λ xs. AllMatch k xs used) none half.others))
+    (sym (half.kept_are ∙ ap (λ xs. half.used ++ xs)
+    (nothing_left used (subst (λ xs. AllMatch k xs used) none half.others))
     ∙ append-nil half.used)) half.resumed)
   where
     nothing_left : (xs : List NodeData) → AllMatch k [] xs → xs ≡ []

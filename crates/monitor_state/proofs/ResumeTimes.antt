@@ -1,12 +1,12 @@
 -- The timestamps with which a state is resumed are the log's.
-use Rattle.std.proofs.Common.{◌≡◌, ℕ, zero, suc, ◌+◌, ◌-◌, ◌<◌, ◌≤◌, List, [], ◌∷◌, length, drop, refl, sym, subst, ap, ap₂, ◌∙◌, arith, slice_index}
+use Rattle.std.proofs.Common.{◌≡◌, ℕ, zero, suc, ◌+◌, ◌-◌, ◌<◌, ◌≤◌, List, [], ◌∷◌, length, drop, refl, sym, ap}
+use Rattle.std.proofs.Common.{ap₂, ◌∙◌, arith, slice_index}
 use Rattle.std.proofs.lemmas.List.{drop_more, get_or-drop, length-drop, length-map}
 use Rattle.mfotl_model.specs.Exact.{View}
 use Rattle.mfotl_model.specs.Log.{times}
 use Rattle.mfotl_model.specs.Satisfaction.{time_at}
 use Rattle.relations.specs.Pushed.{StandFrom}
 use Rattle.monitor_state.proofs.MarkLemmas.{dropped_behind, found_behind}
-use Rattle.monitor_state.specs.Resuming.{Reach}
 use Rattle.monitor_state.specs.Stamps.{stamps}
 use Rattle.monitor_state.specs.StateTimes.{KeptTimes, time_before, times_from}
 use Rattle.monitor_state.specs.Views.{Dates}

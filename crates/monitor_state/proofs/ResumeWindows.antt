@@ -1,19 +1,19 @@
 -- A SINCE or an UNTIL that is resumed with data that stands for a log does.
-use Rattle.std.proofs.Common.{◌≡◌, ℕ, ◌+◌, ◌-◌, ◌<◌, ◌≤◌, Bool, true, min, nat_eq, nat_le, List, length, map, drop, refl, sym, subst, ap, ap₂, ◌∙◌, arith, slice_index}
+use Rattle.std.proofs.Common.{◌≡◌, ℕ, ◌+◌, ◌-◌, ◌<◌, ◌≤◌, Bool, true, min, nat_le, List, length, map, drop}
+use Rattle.std.proofs.Common.{sym, subst, ap, ap₂, ◌∙◌, arith, slice_index}
 use Rattle.std.proofs.lemmas.Bool.{eq-eqb}
 use Rattle.std.proofs.lemmas.List.{get_or-drop}
-use Rattle.mfotl_model.specs.Exact.{AllExact, Covers, View}
+use Rattle.mfotl_model.specs.Exact.{Covers, View}
 use Rattle.mfotl_model.specs.FreeVariables.{fv}
 use Rattle.mfotl_model.specs.Log.{times}
 use Rattle.mfotl_model.specs.Satisfaction.{Valuation, time_at, truth_at}
-use Rattle.mfotl_model.specs.Tables.{has}
 use Rattle.mfotl_model.specs.declared.interval.Interval.{Interval}
 use Rattle.mfotl_model.specs.declared.value.Value.{Value}
 use Rattle.eval_since.proofs.RecalledLemmas.{recalls_is}
 use Rattle.eval_since.specs.Recalled.{recalls, times_for}
 use Rattle.eval_since.specs.SinceBefore.{since_before}
 use Rattle.eval_since.specs.SinceData.{FollowsData, SinceSetting, setting_of}
-use Rattle.eval_since.specs.SinceView.{Follows, SinceOf}
+use Rattle.eval_since.specs.SinceView.{SinceOf}
 use Rattle.eval_since.specs.Times.{reaches}
 use Rattle.eval_until.specs.Entries.{entries_of, met_by}
 use Rattle.eval_until.specs.Recalled.{entries_kept, starts_kept}
@@ -26,21 +26,21 @@ use Rattle.relations.specs.Pushed.{StandFrom, left_holds}
 use Rattle.monitor_state.proofs.ExactLemmas.{exact_tell, reached_within}
 use Rattle.monitor_state.proofs.MarkLemmas.{met_is}
 use Rattle.monitor_state.proofs.RegionLemmas.{near_part}
-use Rattle.monitor_state.proofs.ResumeTimes.{known_from, last_dates, log_size, rest_dates, rest_is, rest_size}
+use Rattle.monitor_state.proofs.ResumeTimes.{known_from, last_dates, rest_dates, rest_is, rest_size}
 use Rattle.monitor_state.proofs.SinceSteps.{free_operand, left_tell}
-use Rattle.monitor_state.specs.Nodes.{is_negated, left_operand}
 use Rattle.monitor_state.specs.Resuming.{Reach, SinceResumed, Suits, UntilResumed}
 use Rattle.monitor_state.specs.SinceNode.{IsSinceState, SinceStandsAt}
 use Rattle.monitor_state.specs.Stamps.{stamps}
 use Rattle.monitor_state.specs.StateRules.{SinceKeeps, UntilKeeps}
-use Rattle.monitor_state.specs.StateStands.{SinceDataStands, UntilDataStands, marks_for}
+use Rattle.monitor_state.specs.StateStands.{SinceDataStands, UntilDataStands}
 use Rattle.monitor_state.specs.StateTimes.{KeptTimes, time_before, times_from}
 use Rattle.monitor_state.specs.UntilNode.{IsUntilState, UntilStandsAt}
 use Rattle.monitor_state.specs.Views.{Dates, Tells, reached}
 use Rattle.monitor_state.specs.declared.state.SinceKept.{SinceKept}
 use Rattle.monitor_state.specs.declared.state.UntilKept.{UntilKept}
 
-module _ (k : KeptTimes) (i : Interval) (f g : CoreForm) (old new : SinceOf) (d : SinceKept) (is : IsSinceState i f g old)
+module _ (k : KeptTimes) (i : Interval) (f g : CoreForm) (old new : SinceOf) (d : SinceKept)
+    (is : IsSinceState i f g old)
     (keeps : SinceKeeps k i f g d) (res : SinceResumed k old d.kept new) where
   pub since_resumed_is : IsSinceState i f g new
   since_resumed_is =
@@ -75,7 +75,8 @@ module _ (k : KeptTimes) (i : Interval) (f g : CoreForm) (old new : SinceOf) (d 
           subst (λ y. y ≤ x) (last_dates view k d.kept.pulled reach.stamps reach.first in_log t dates some) (low some))
           ∙ ap (λ c. since_before c t a b d.kept.pulled x) (sym is.interval)
 
-      data_follows : FollowsData (setting_of old) (time_before k d.kept.pulled) (times_from k d.kept.pulled) d.kept t a b v
+      data_follows : FollowsData (setting_of old) (time_before k d.kept.pulled) (times_from k d.kept.pulled) d.kept t a
+          b v
       data_follows =
           let lefts : d.kept.pulled + length d.kept.lefts.items ≡ reached view f = stands.left_pushed in
           let rights : d.kept.pulled + length d.kept.rights.items ≡ reached view g = stands.right_pushed in
@@ -86,10 +87,12 @@ module _ (k : KeptTimes) (i : Interval) (f g : CoreForm) (old new : SinceOf) (d 
                 subst (λ n. StandFrom (λ j table. left_holds n table v ≡ truth_at a j) d.kept.pulled d.kept.lefts.items)
                 (sym is.negated)
                 (left_tell view f dom v a d.kept.pulled d.kept.lefts.items covers
-                (near_part (fv view.whole) view.near suits.passes (fv (meaning f)) (fv (meaning g)) suits.sound.0 v near)
+                (near_part (fv view.whole) view.near suits.passes (fv (meaning f)) (fv (meaning g)) suits.sound.0 v
+                near)
                 tells (omega arith) stands.lefts);
             rights =
-                exact_tell view g dom v b d.kept.pulled d.kept.rights.items covers near tells_right (omega arith) stands.rights;
+                exact_tell view g dom v b d.kept.pulled d.kept.rights.items covers near tells_right (omega arith)
+                stands.rights;
             window = recalled;
           }
 
@@ -105,7 +108,8 @@ module _ (k : KeptTimes) (i : Interval) (f g : CoreForm) (old new : SinceOf) (d 
           timed = omega arith;
           known =
               ap (λ n. stamps n new.window.last new.times) res.pulled
-              ∙ known_from view k d.kept.pulled reach.stamps new.window.last new.times reach.first in_log res.last res.times
+              ∙ known_from view k d.kept.pulled reach.stamps new.window.last new.times reach.first in_log res.last
+              res.times
               ∙ ap (λ n. drop (n - 1) (times view.log)) (sym res.pulled);
           left_pushed = ap₂ (λ n ts. n + length ts) res.pulled res.lefts ∙ stands.left_pushed;
           right_pushed = ap₂ (λ n ts. n + length ts) res.pulled res.rights ∙ stands.right_pushed;
@@ -115,7 +119,8 @@ module _ (k : KeptTimes) (i : Interval) (f g : CoreForm) (old new : SinceOf) (d 
               res.follows t a b v (data_follows dom v covers near t a b dates tells tells_right);
         }
 
-module _ (k : KeptTimes) (i : Interval) (f g : CoreForm) (old new : UntilOf) (d : UntilKept) (is : IsUntilState i f g old)
+module _ (k : KeptTimes) (i : Interval) (f g : CoreForm) (old new : UntilOf) (d : UntilKept)
+    (is : IsUntilState i f g old)
     (keeps : UntilKeeps k i f g d) (res : UntilResumed k old d.kept new) where
   pub until_resumed_is : IsUntilState i f g new
   until_resumed_is =
@@ -183,7 +188,8 @@ module _ (k : KeptTimes) (i : Interval) (f g : CoreForm) (old new : UntilOf) (d 
           long = omega arith;
           times = rest_dates view k d.kept.pulled reach.stamps reach.first t dates;
           rights =
-              exact_tell view g dom v b d.kept.taken d.kept.rights.items covers near tells_right (omega arith) stands.rights;
+              exact_tell view g dom v b d.kept.taken d.kept.rights.items covers near tells_right (omega arith)
+              stands.rights;
           window = λ j low.
               ap₂ (λ c cols. met_by c j (time_at t j)
               (entries_of (entries_kept d.kept.pulled (times_from k d.kept.pulled) d.kept.rows.items) (map v cols)))

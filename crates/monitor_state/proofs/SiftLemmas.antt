@@ -1,5 +1,6 @@
 -- Rows that stay, and tables pulled, one after the other.
-use Rattle.std.proofs.Common.{subst, ◌≡◌, ℕ, ◌<◌, Bool, true, false, ◌&&◌, ◌||◌, nat_eq, List, [], ◌∷◌, ◌++◌, length, refl, sym, ap, ◌∙◌, arith, append_assoc, append-nil}
+use Rattle.std.proofs.Common.{subst, ◌≡◌, ℕ, ◌<◌, Bool, true, false, ◌&&◌, ◌||◌, nat_eq, List, [], ◌∷◌, ◌++◌, length}
+use Rattle.std.proofs.Common.{refl, sym, ap, ◌∙◌, arith, append_assoc, append-nil}
 use Rattle.std.proofs.lemmas.Bool.{and_from, and_parts}
 use Rattle.std.proofs.lemmas.List.Folds.{list_any-append}
 use Rattle.std.specs.List.Sorted.{IsStrictlySortedBy}
@@ -39,7 +40,11 @@ module _ {K : Type 0} (c : K → K → Ordering) where
   sorted_without : (xs ys : List K) (y : K) → IsStrictlySortedBy c (xs ++ y ∷ ys) → IsStrictlySortedBy c (xs ++ ys)
   unfolding IsStrictlySortedBy
   sorted_without [] ys y sorted = sorted.1
-  sorted_without (x ∷ xs) ys y sorted = (all_without (λ z. c x z ≡ Less) xs ys y sorted.0, sorted_without xs ys y sorted.1)
+  sorted_without (x ∷ xs) ys y sorted = (
+    all_without (λ z. c x z ≡ Less) xs ys y sorted.0,
+    sorted_without xs ys y
+        sorted.1,
+  )
 
 holds_without : {X : Type 0} (p : X → Bool) (xs ys : List X) (y : X) → list_all p (xs ++ y ∷ ys) ≡ true
     → list_all p (xs ++ ys) ≡ true
@@ -70,7 +75,8 @@ added : (d k e t s : Bool) → k ≡ (d && t) → (e ≡ true → s ≡ t)
     → (k || cond s (e || false) false) ≡ ((d || (e || false)) && t)
 added d k true t s before same = grown d k t s before (same refl)
   where
-    grown : (d k t s : Bool) → k ≡ (d && t) → s ≡ t → (k || cond s (true || false) false) ≡ ((d || (true || false)) && t)
+    grown : (d k t s : Bool) → k ≡ (d && t) → s ≡ t
+        → (k || cond s (true || false) false) ≡ ((d || (true || false)) && t)
     grown true true true true before same = refl
     grown true true true false before same = cc
     grown true true false s before same = cc
@@ -106,7 +112,8 @@ pub sift_none : (w : Window) (negated : Bool) (columns : List ℕ) (kept : List 
     → Sifts w negated columns [] kept
 sift_none w negated columns kept none row holds answers = ap (λ rows. has_row rows row) none
 
-pub sift_more : (w : Window) (negated answer stays : Bool) (columns : List ℕ) (done kept new : List (List Value)) (row : List Value)
+pub sift_more : (w : Window) (negated answer stays : Bool) (columns : List ℕ) (done kept new : List (List Value))
+    (row : List Value)
     → Sifts w negated columns done kept → Answers w (valuation columns row) answer → stays ≡ turned negated answer
     → new ≡ kept ++ cond stays (row ∷ []) []
     → Sifts w negated columns (done ++ row ∷ []) new
@@ -114,7 +121,8 @@ sift_more w negated answer stays columns done kept new row before told is same u
     ap (λ rows. has_row rows u) same
     ∙ list_any-append (eq_by_cmp row_cmp u) kept (cond stays (row ∷ []) [])
     ∙ ap (λ b. has_row kept u || b) (has_chosen stays row u)
-    ∙ added (has_row done u) (has_row kept u) (eq_by_cmp row_cmp u row) (turned negated holds) stays (before u holds answers)
+    ∙ added (has_row done u) (has_row kept u) (eq_by_cmp row_cmp u row) (turned negated holds) stays
+    (before u holds answers)
     (λ e.
     is
     ∙ ap (turned negated)

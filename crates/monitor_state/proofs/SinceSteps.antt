@@ -1,5 +1,6 @@
 -- A SINCE's state over one step.
-use Rattle.std.proofs.Common.{subst, ◌≡◌, ℕ, ◌+◌, ◌-◌, ◌<◌, ◌≤◌, Bool, true, false, not, ◌&&◌, nat_lt, List, [], ◌∷◌, ◌++◌, length, drop, refl, sym, ap, ap₂, ◌∙◌, arith, length-append}
+use Rattle.std.proofs.Common.{subst, ◌≡◌, ℕ, ◌+◌, ◌-◌, ◌<◌, ◌≤◌, Bool, true, false, not, ◌&&◌, nat_lt, List, [], ◌∷◌}
+use Rattle.std.proofs.Common.{◌++◌, length, drop, refl, sym, ap, ap₂, ◌∙◌, arith, length-append}
 use Rattle.std.proofs.lemmas.Bool.{and_parts, lt-ltb, ltb-true}
 use Rattle.std.proofs.lemmas.List.{length-drop}
 use Rattle.mfotl_model.specs.Counts.{settled_count}
@@ -19,7 +20,9 @@ use Rattle.monitorable.specs.CoreForms.{CoreForm, meaning, Not, Since}
 use Rattle.monitorable.specs.Soundness.{HasVariablesOf}
 use Rattle.relations.specs.Pushed.{StandFrom, left_holds}
 use Rattle.monitor_state.proofs.CountLemmas.{count_since}
-use Rattle.monitor_state.proofs.ExactLemmas.{all_stay, covers_before, dates_before, dates_new, exact_append, exact_drop, exact_tell, log_more, reached_within, stand_exact, tells_before, truths_tell}
+use Rattle.monitor_state.proofs.ExactLemmas.{all_stay, covers_before, dates_before, dates_new, exact_append, exact_drop}
+use Rattle.monitor_state.proofs.ExactLemmas.{exact_tell, log_more, reached_within, stand_exact, tells_before}
+use Rattle.monitor_state.proofs.ExactLemmas.{truths_tell}
 use Rattle.monitor_state.proofs.StampLemmas.{known_more, stamps_moved, stamps_pulled, stamps_pushed}
 use Rattle.monitor_state.proofs.RegionLemmas.{joined_inside, near_part, near_right, right_inside}
 use Rattle.monitor_state.specs.Feeding.{SinceFeeds, SincePulled, SinceTakes}
@@ -41,7 +44,8 @@ unfolding fv
 free_operand (Not f) = refl
 free_operand f = refl
 
-negated_tell : (view : View) (f : CoreForm) (dom : List Value) (v : Valuation) (a : List Bool) (i : ℕ) (tables : List TableOf)
+negated_tell : (view : View) (f : CoreForm) (dom : List Value) (v : Valuation) (a : List Bool) (i : ℕ)
+    (tables : List TableOf)
     → Covers view dom → view.near (fv (meaning (Not f))) v ≡ true → Tells view dom v (Not f) a
     → i + length tables ≤ reached view (Not f)
     → AllExact view (meaning f) i tables
@@ -54,12 +58,15 @@ negated_tell view f dom v a i (table ∷ tables) covers near tells most all = (
 )
 
 -- the left operand's tables hold what a list tells, turned round where it is negated
-pub left_tell : (view : View) (f : CoreForm) (dom : List Value) (v : Valuation) (a : List Bool) (i : ℕ) (tables : List TableOf)
+pub left_tell : (view : View) (f : CoreForm) (dom : List Value) (v : Valuation) (a : List Bool) (i : ℕ)
+    (tables : List TableOf)
     → Covers view dom → view.near (fv (meaning f)) v ≡ true → Tells view dom v f a → i + length tables ≤ reached view f
     → AllExact view (meaning (left_operand f)) i tables
     → StandFrom (λ k table. left_holds (is_negated f) table v ≡ truth_at a k) i tables
-left_tell view (Not f) dom v a i tables covers near tells most all = negated_tell view f dom v a i tables covers near tells most all
-left_tell view f dom v a i tables covers near tells most all = exact_tell view f dom v a i tables covers near tells most all
+left_tell view (Not f) dom v a i tables covers near tells most all =
+    negated_tell view f dom v a i tables covers near tells most all
+left_tell view f dom v a i tables covers near tells most all =
+    exact_tell view f dom v a i tables covers near tells most all
 
 module _ (view : View) (point : TimePoint) (i : Interval) (f g : CoreForm)
     (rising : NeverFalls (times (longer view point).log)) (passes : Passes (fv view.whole) view.near)
@@ -92,7 +99,8 @@ module _ (view : View) (point : TimePoint) (i : Interval) (f g : CoreForm)
     right_place = ap (λ (x : SinceOf). x.pulled + length x.rights) left_is ∙ stands.right_pushed
 
     module _ (dom : List Value) (v : Valuation) (covers : Covers (longer view point) dom)
-        (near : view.near (fv (meaning g)) v ≡ true) (t : List ℕ) (a b : List Bool) (dates : Dates (longer view point) t)
+        (near : view.near (fv (meaning g)) v ≡ true) (t : List ℕ) (a b : List Bool)
+        (dates : Dates (longer view point) t)
         (tells : Tells (longer view point) dom v f a) (tells_right : Tells (longer view point) dom v g b) where
       begun : Follows feeds.timed t a b v
       begun =
@@ -105,20 +113,24 @@ module _ (view : View) (point : TimePoint) (i : Interval) (f g : CoreForm)
       left_stand : StandFrom (λ k table. left_holds feeds.timed.negated table v ≡ truth_at a k)
           (feeds.timed.pulled + length feeds.timed.lefts) ls
       left_stand =
-          let negated : is_negated f ≡ feeds.timed.negated = sym (ap (λ (x : SinceOf). x.negated) timed_is ∙ is.negated) in
+          let negated : is_negated f ≡ feeds.timed.negated =
+          sym (ap (λ (x : SinceOf). x.negated) timed_is ∙ is.negated) in
           let more : reached view f + length ls ≡ reached (longer view point) f = left_count in
-          subst (λ n. StandFrom (λ k table. left_holds n table v ≡ truth_at a k) (feeds.timed.pulled + length feeds.timed.lefts) ls)
+          subst (λ n. StandFrom (λ k table. left_holds n table v ≡ truth_at a k)
+          (feeds.timed.pulled + length feeds.timed.lefts) ls)
           negated
           (subst (λ p. StandFrom (λ k table. left_holds (is_negated f) table v ≡ truth_at a k) p ls) (sym left_place)
           (left_tell (longer view point) f dom v a (reached view f) ls covers (near_operand v near) tells (omega arith)
-          (subst (λ p. AllExact (longer view point) (meaning (left_operand f)) p ls) (reached_operand view f) left.exact)))
+          (subst (λ p. AllExact (longer view point) (meaning (left_operand f)) p ls) (reached_operand view f)
+          left.exact)))
 
       right_stand : StandFrom (λ k table. has table v ≡ truth_at b k)
           (feeds.fed_left.pulled + length feeds.fed_left.rights) rs
       right_stand =
           let more : reached view g + length rs ≡ reached (longer view point) g = right.count in
           subst (λ p. StandFrom (λ k table. has table v ≡ truth_at b k) p rs) (sym right_place)
-          (exact_tell (longer view point) g dom v b (reached view g) rs covers near tells_right (omega arith) right.exact)
+          (exact_tell (longer view point) g dom v b (reached view g) rs covers near tells_right (omega arith)
+          right.exact)
 
       fed_follows : Follows fed t a b v
       fed_follows = feeds.rights.follows t a b v (feeds.lefts.follows t a b v begun left_stand) right_stand
@@ -127,7 +139,8 @@ module _ (view : View) (point : TimePoint) (i : Interval) (f g : CoreForm)
     fed_lefts =
         let pushed : old.pulled + length old.lefts ≡ reached view f = stands.left_pushed in
         let same : reached view (left_operand f) ≡ reached view f = reached_operand view f in
-        exact_append (longer view point) (meaning (left_operand f)) old.pulled (reached view (left_operand f)) old.lefts ls (omega arith)
+        exact_append (longer view point) (meaning (left_operand f)) old.pulled (reached view (left_operand f)) old.lefts
+        ls (omega arith)
         (all_stay view point rising (left_operand f) old.pulled old.lefts (omega arith) stands.lefts) left.exact
 
     fed_rights : AllExact (longer view point) (meaning g) old.pulled (old.rights ++ rs)
@@ -149,7 +162,8 @@ module _ (view : View) (point : TimePoint) (i : Interval) (f g : CoreForm)
     fed_times =
         let timed : old.pulled + length old.times ≡ length view.log = stands.timed in
         let more : length (longer view point).log ≡ length view.log + 1 = log_more view point rising in
-        let size : length (old.times ++ ts ∷ []) ≡ length old.times + length (ts ∷ []) = length-append old.times (ts ∷ []) in
+        let size : length (old.times ++ ts ∷ []) ≡ length old.times + length (ts ∷ []) =
+        length-append old.times (ts ∷ []) in
         let one : length (ts ∷ []) ≡ 1 = omega arith in
         ap (λ (x : SinceOf). x.pulled + length x.times) fed_is
         ∙ (let sum : old.pulled + length (old.times ++ ts ∷ []) ≡ length (longer view point).log = omega arith in sum)
@@ -188,8 +202,10 @@ module _ (view : View) (point : TimePoint) (i : Interval) (f g : CoreForm)
           left_pushed = fed_left_count;
           right_pushed = fed_right_count;
           lefts =
-              subst (λ (x : SinceOf). AllExact (longer view point) (meaning (left_operand f)) x.pulled x.lefts) (sym fed_is) fed_lefts;
-          rights = subst (λ (x : SinceOf). AllExact (longer view point) (meaning g) x.pulled x.rights) (sym fed_is) fed_rights;
+              subst (λ (x : SinceOf). AllExact (longer view point) (meaning (left_operand f)) x.pulled x.lefts)
+              (sym fed_is) fed_lefts;
+          rights = subst (λ (x : SinceOf). AllExact (longer view point) (meaning g) x.pulled x.rights) (sym fed_is)
+              fed_rights;
           follows = λ dom v covers near t a b dates tells tells_right.
               fed_follows dom v covers near t a b dates tells tells_right;
         }
@@ -241,7 +257,8 @@ since_due_parts s h =
 
 -- one position was pulled
 pub one_moves : (old new : SinceOf) → due old ≡ true → Advances old new
-    → ((t : List ℕ) (a b : List Bool) (v : Valuation) → Follows old t a b v → Follows new t a b v) → SinceMoves 1 old new
+    → ((t : List ℕ) (a b : List Bool) (v : Valuation) → Follows old t a b v → Follows new t a b v)
+    → SinceMoves 1 old new
 one_moves old new ready advances follows =
     let some = since_due_parts old ready in
     let times : 0 < length old.times = some.0 in
@@ -315,7 +332,8 @@ done_all true false d h k l e = cc
 done_all false c d h k l e = cc
 
 -- where nothing is due, a state has pulled each settled position
-pub since_all_pulled : (view : View) → NeverFalls (times view.log) → (i : Interval) (f g : CoreForm) (p : ℕ) (s : SinceOf)
+pub since_all_pulled : (view : View) → NeverFalls (times view.log)
+    → (i : Interval) (f g : CoreForm) (p : ℕ) (s : SinceOf)
     → SinceStandsAt view p i f g s → due s ≡ false → p ≡ reached view (Since i f g)
 since_all_pulled view rising i f g p s stands ends =
     let pulled : s.pulled ≡ p = stands.pulled in
@@ -336,7 +354,8 @@ pub since_right : (view : View) (i : Interval) (f g : CoreForm) (p : ℕ) (s : S
     (truths (length view.log) (λ j. sat view.log dom v j (meaning g))) v
 since_right view i f g p s stands dom v covers near =
     stands.follows dom v covers near (times view.log) (truths (length view.log) (λ j. sat view.log dom v j (meaning f)))
-    (truths (length view.log) (λ j. sat view.log dom v j (meaning g))) (λ j low. refl) (truths_tell view dom v f) (truths_tell view dom v g)
+    (truths (length view.log) (λ j. sat view.log dom v j (meaning g))) (λ j low. refl) (truths_tell view dom v f)
+    (truths_tell view dom v g)
 
 module _ (view : View) (point : TimePoint) (i : Interval) (f g : CoreForm)
     (rising : NeverFalls (times (longer view point).log)) (passes : Passes (fv view.whole) view.near)
@@ -347,12 +366,14 @@ module _ (view : View) (point : TimePoint) (i : Interval) (f g : CoreForm)
       (new : SinceOf) (tables : List TableOf) (takes : SinceTakes order.columns old ts ls rs new tables) where
     begun_is : IsSinceState i f g takes.fed
     begun_is =
-        since_fed_is view point i f g rising passes variables old is.state (reached view (Since i f g)) stands ts ts_is ls rs
+        since_fed_is view point i f g rising passes variables old is.state (reached view (Since i f g)) stands ts ts_is
+        ls rs
         left right takes.fed takes.feeds
 
     begun_stands : SinceStandsAt (longer view point) (reached view (Since i f g)) i f g takes.fed
     begun_stands =
-        since_fed view point i f g rising passes variables old is.state (reached view (Since i f g)) stands ts ts_is ls rs
+        since_fed view point i f g rising passes variables old is.state (reached view (Since i f g)) stands ts ts_is ls
+        rs
         left right takes.fed takes.feeds
 
     moves : SinceMoves (length tables) takes.fed new
@@ -360,11 +381,13 @@ module _ (view : View) (point : TimePoint) (i : Interval) (f g : CoreForm)
 
     new_stands : SinceStandsAt (longer view point) (reached view (Since i f g) + length tables) i f g new
     new_stands =
-        since_moved (longer view point) i f g (length tables) takes.fed new moves (reached view (Since i f g)) begun_stands
+        since_moved (longer view point) i f g (length tables) takes.fed new moves (reached view (Since i f g))
+        begun_stands
 
     count : reached view (Since i f g) + length tables ≡ reached (longer view point) (Since i f g)
     count =
-        since_all_pulled (longer view point) rising i f g (reached view (Since i f g) + length tables) new new_stands takes.ends
+        since_all_pulled (longer view point) rising i f g (reached view (Since i f g) + length tables) new new_stands
+        takes.ends
 
     -- the columns are the right operand's
     in_right : all_among order.columns takes.fed.window.right ≡ true
@@ -376,13 +399,16 @@ module _ (view : View) (point : TimePoint) (i : Interval) (f g : CoreForm)
     tables_exact : AllExact (longer view point) (meaning (Since i f g)) (reached view (Since i f g)) tables
     unfolding fv sat
     tables_exact =
-        stand_exact (longer view point) (meaning (Since i f g)) order.columns (reached view (Since i f g)) tables is.ordered takes.pulls.over
+        stand_exact (longer view point) (meaning (Since i f g)) order.columns (reached view (Since i f g)) tables
+        is.ordered takes.pulls.over
         (λ dom v covers near.
         let beside : view.near (fv (meaning g)) v ≡ true =
         near_right (fv view.whole) view.near passes (fv (meaning f)) (fv (meaning g)) v near in
         let t : List ℕ = times (longer view point).log in
-        let a : List Bool = truths (length (longer view point).log) (λ j. sat (longer view point).log dom v j (meaning f)) in
-        let b : List Bool = truths (length (longer view point).log) (λ j. sat (longer view point).log dom v j (meaning g)) in
+        let a : List Bool = truths (length (longer view point).log)
+        (λ j. sat (longer view point).log dom v j (meaning f)) in
+        let b : List Bool = truths (length (longer view point).log)
+        (λ j. sat (longer view point).log dom v j (meaning g)) in
         subst (λ p. StandFrom (λ k table. has table v ≡ since i t a b k) p tables) begun_stands.pulled
         (subst (λ j. StandFrom (λ k table. has table v ≡ since j t a b k) takes.fed.pulled tables) begun_is.interval
         (takes.pulls.rows t a b v

@@ -2,7 +2,8 @@
 use Rattle.std.proofs.Common.{◌≡◌, ◌+◌, ◌*◌, ◌<◌, ◌≤◌, refl, ap, arith}
 use Rattle.mfotl_model.specs.declared.formula.Bound.{Bound}
 use Rattle.mfotl_model.specs.declared.interval.Interval.{Interval}
-use Rattle.monitorable.specs.CoreForms.{CoreForm, True, False, Atom, Compare, Not, And, Or, Exists, Previous, Next, Since}
+use Rattle.monitorable.specs.CoreForms.{CoreForm, True, False, Atom, Compare, Not, And, Or, Exists, Previous, Next}
+use Rattle.monitorable.specs.CoreForms.{Since}
 use Rattle.monitorable.specs.CoreForms.{Until}
 use Rattle.monitorable.specs.NodeCount.{nodes}
 use Rattle.monitor_state.specs.Nodes.{left_operand}
@@ -27,11 +28,13 @@ pub or_both_smaller : (h : CoreForm) (f g : CoreForm) → h ≡ Or f g → 2 * (
 unfolding nodes
 or_both_smaller h f g same = let count : nodes h ≡ 1 + nodes f + nodes g = ap nodes same in omega arith
 
-pub since_both_smaller : (h : CoreForm) (i : Interval) (f g : CoreForm) → h ≡ Since i f g → 2 * (nodes f + nodes g) < 2 * nodes h
+pub since_both_smaller : (h : CoreForm) (i : Interval) (f g : CoreForm) → h ≡ Since i f g
+    → 2 * (nodes f + nodes g) < 2 * nodes h
 unfolding nodes
 since_both_smaller h i f g same = let count : nodes h ≡ 1 + nodes f + nodes g = ap nodes same in omega arith
 
-pub until_both_smaller : (h : CoreForm) (i : Interval) (f g : CoreForm) → h ≡ Until i f g → 2 * (nodes f + nodes g) < 2 * nodes h
+pub until_both_smaller : (h : CoreForm) (i : Interval) (f g : CoreForm) → h ≡ Until i f g
+    → 2 * (nodes f + nodes g) < 2 * nodes h
 unfolding nodes
 until_both_smaller h i f g same = let count : nodes h ≡ 1 + nodes f + nodes g = ap nodes same in omega arith
 

@@ -1,5 +1,6 @@
 -- What a state is after all its nodes took a time-point.
-use Rattle.std.proofs.Common.{◌≡◌, ℕ, ◌+◌, ◌-◌, ◌*◌, ◌^◌, ◌<◌, ◌≤◌, min, List, [], ◌∷◌, ◌++◌, length, drop, refl, sym, ap, ap₂, ◌∙◌, arith}
+use Rattle.std.proofs.Common.{◌≡◌, ℕ, ◌+◌, ◌-◌, ◌*◌, ◌^◌, ◌<◌, ◌≤◌, min, List, [], ◌∷◌, ◌++◌, length, drop, refl, sym}
+use Rattle.std.proofs.Common.{ap, ap₂, ◌∙◌, arith}
 use Rattle.std.proofs.lemmas.List.{drop-append-le, drop-drop, length-map}
 use Rattle.mfotl_model.specs.Log.{times}
 use Rattle.mfotl_model.specs.Tables.{TableOf}
@@ -23,7 +24,8 @@ steps core old new given tables advance few taken given_is first kept view point
     let more : length (longer view point).log ≡ length view.log + 1 = log_more view point premises.rising in
     let before : old.given ≡ reached view core = stands.given in
     let count : reached view core + length tables ≡ reached (longer view point) core = both.1.count in
-    let inside : reached (longer view point) core ≤ length (longer view point).log = reached_within (longer view point) core in
+    let inside : reached (longer view point) core ≤ length (longer view point).log =
+    reached_within (longer view point) core in
     let inside_before : reached view core ≤ length view.log = reached_within view core in
     let low : old.first ≤ old.given = stands.first in
     let limit : 2 ^ 64 ≡ 2 * 2 ^ 63 = refl in

@@ -1,5 +1,7 @@
 -- Tables pushed to an UNTIL and pulled from it, one after the other.
-use Rattle.std.proofs.Common.{Option, Some, None, MatchOption, IfSome, is_some, subst, ◌≡◌, ℕ, ◌+◌, ◌-◌, ◌<◌, ◌≤◌, Bool, true, false, nat_eq, min, List, [], ◌∷◌, ◌++◌, length, drop, slice_index, refl, sym, ap, ap₂, ◌∙◌, inl, inr, arith, length-append, append-nil, append_assoc}
+use Rattle.std.proofs.Common.{Option, Some, None, MatchOption, IfSome, is_some, subst, ◌≡◌, ℕ, ◌+◌, ◌-◌, ◌<◌, ◌≤◌, Bool}
+use Rattle.std.proofs.Common.{true, false, nat_eq, min, List, [], ◌∷◌, ◌++◌, length, drop, slice_index, refl, sym, ap}
+use Rattle.std.proofs.Common.{ap₂, ◌∙◌, inl, inr, arith, length-append, append-nil, append_assoc}
 use Rattle.std.proofs.lemmas.Bool.{cases_lt, ltb-true}
 use Rattle.std.proofs.lemmas.List.{drop-drop, length-drop}
 use Rattle.mfotl_model.specs.Satisfaction.{Valuation, truth_at, until}
@@ -7,7 +9,8 @@ use Rattle.mfotl_model.specs.Tables.{TableOf, all_among, has}
 use Rattle.mfotl_model.specs.Times.{NeverFalls}
 use Rattle.eval_until.proofs.DueLemmas.{nonempty}
 use Rattle.eval_until.proofs.TakingLemmas.{due_stays, left_over}
-use Rattle.eval_until.specs.UntilView.{Advances, Follows, FollowsLeft, Takes, UntilOf, due, past_bound, to_take, took_all}
+use Rattle.eval_until.specs.UntilView.{Advances, Follows, FollowsLeft, Takes, UntilOf, due, past_bound, to_take}
+use Rattle.eval_until.specs.UntilView.{took_all}
 use Rattle.relations.proofs.PushedLemmas.{over_push, stand_push}
 use Rattle.relations.specs.Pushed.{left_holds}
 use Rattle.monitor_state.proofs.FeedingLemmas.{dropped_more, room_more, stand_split}

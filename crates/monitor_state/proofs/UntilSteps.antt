@@ -1,5 +1,6 @@
 -- An UNTIL's state over one step.
-use Rattle.std.proofs.Common.{subst, ◌≡◌, ℕ, zero, suc, ◌+◌, ◌-◌, ◌<◌, ◌≤◌, min, Bool, true, false, ◌&&◌, nat_lt, List, [], ◌∷◌, ◌++◌, length, drop, refl, sym, ap, ap₂, ◌∙◌, inl, inr, arith, length-append}
+use Rattle.std.proofs.Common.{subst, ◌≡◌, ℕ, zero, suc, ◌+◌, ◌-◌, ◌<◌, ◌≤◌, min, Bool, true, false, ◌&&◌, nat_lt, List}
+use Rattle.std.proofs.Common.{[], ◌∷◌, ◌++◌, length, drop, refl, sym, ap, ap₂, ◌∙◌, inl, inr, arith, length-append}
 use Rattle.std.proofs.lemmas.Bool.{cases_lt, eqb-true}
 use Rattle.std.proofs.lemmas.List.{drop-append-le, drop-drop, length-drop, length-map}
 use Rattle.mfotl_model.proofs.CountLemmas.{counted_settled}
@@ -20,7 +21,9 @@ use Rattle.monitorable.specs.CoreForms.{CoreForm, meaning, Until}
 use Rattle.monitorable.specs.Soundness.{HasVariablesOf}
 use Rattle.relations.specs.Pushed.{StandFrom, left_holds}
 use Rattle.monitor_state.proofs.CountLemmas.{count_is, until_counted}
-use Rattle.monitor_state.proofs.ExactLemmas.{all_stay, covers_before, dates_before, dates_new, exact_append, exact_drop, exact_tell, log_more, reached_grows, reached_within, stand_exact, tells_before, times_more, truths_tell}
+use Rattle.monitor_state.proofs.ExactLemmas.{all_stay, covers_before, dates_before, dates_new, exact_append, exact_drop}
+use Rattle.monitor_state.proofs.ExactLemmas.{exact_tell, log_more, reached_grows, reached_within, stand_exact}
+use Rattle.monitor_state.proofs.ExactLemmas.{tells_before, times_more, truths_tell}
 use Rattle.monitor_state.proofs.RegionLemmas.{joined_inside, near_part, near_right, right_inside}
 use Rattle.monitor_state.proofs.SinceSteps.{left_tell, reached_operand}
 use Rattle.monitor_state.proofs.UntilLemmas.{due_on}
@@ -224,7 +227,8 @@ pub record UntilMoves (n seen : ℕ) (old new : UntilOf) : Type 0 where
   pub left : (a : List Bool) (v : Valuation) → FollowsLeft old a v → FollowsLeft new a v
   pub follows : (t : List ℕ) (a b : List Bool) (v : Valuation) → Follows old t a b v → Follows new t a b v
 
-pulled_moves : (columns : List ℕ) (old new : UntilOf) (tables : List TableOf) (pulls : UntilPulled columns old new tables)
+pulled_moves : (columns : List ℕ) (old new : UntilOf) (tables : List TableOf)
+    (pulls : UntilPulled columns old new tables)
     → UntilMoves (length tables) pulls.seen old new
 pulled_moves columns old new tables pulls =
     record {
@@ -262,7 +266,8 @@ module _ (view : View) (i : Interval) (f g : CoreForm) (n seen : ℕ) (old new :
       let rights : old.ahead.taken + length old.rights ≡ reached view g = stands.right_pushed in
       let in_lefts : seen ≤ length old.lefts = moves.in_lefts in
       let in_rights : seen ≤ length old.rights = moves.in_rights in
-      let rest_lefts : length new.lefts ≡ length old.lefts - seen = ap length moves.lefts ∙ length-drop seen old.lefts in
+      let rest_lefts : length new.lefts ≡ length old.lefts - seen =
+      ap length moves.lefts ∙ length-drop seen old.lefts in
       let rest_rights : length new.rights ≡ length old.rights - seen =
       ap length moves.rights ∙ length-drop seen old.rights in
       record {
@@ -427,7 +432,8 @@ module _ (view : View) (point : TimePoint) (i : Interval) (f g : CoreForm)
   tables_exact : AllExact (longer view point) (meaning (Until i f g)) (reached view (Until i f g)) tables
   unfolding fv sat
   tables_exact =
-      stand_exact (longer view point) (meaning (Until i f g)) order.columns (reached view (Until i f g)) tables is.ordered
+      stand_exact (longer view point) (meaning (Until i f g)) order.columns (reached view (Until i f g)) tables
+      is.ordered
       takes.pulls.over
       (λ dom v covers near.
       let beside : view.near (fv (meaning g)) v ≡ true =

@@ -1,5 +1,6 @@
 -- What the fragment gives a conjunct that binds all its conjunction's variables.
-use Rattle.std.proofs.Common.{Option, Some, None, ◌≡◌, ℕ, true, cond, nat_eq, List, [], ◌∷◌, ◌++◌, refl, sym, ap, ◌∙◌, inl, inr}
+use Rattle.std.proofs.Common.{Option, Some, None, ◌≡◌, ℕ, true, cond, nat_eq, List, [], ◌∷◌, ◌++◌, refl, sym, ap, ◌∙◌}
+use Rattle.std.proofs.Common.{inl, inr}
 use Rattle.std.proofs.lemmas.Bool.{or_cases, or_left, or_right}
 use Rattle.std.proofs.lemmas.List.Folds.{list_any-append}
 use Rattle.mfotl_model.proofs.LogicLemmas.{same_number}
@@ -7,7 +8,8 @@ use Rattle.mfotl_model.specs.FreeVariables.{among, fv}
 use Rattle.mfotl_model.specs.Tables.{all_among}
 use Rattle.monitorable.proofs.FragmentLemmas.{no_first, no_variable, none_first, none_outside}
 use Rattle.monitorable.specs.CoreForms.{CoreForm, meaning, Compare, Not, And}
-use Rattle.monitorable.specs.Fragment.{Names, at_variable, bound_by, fault_in, first, first_outside, guards, named, needed_by}
+use Rattle.monitorable.specs.Fragment.{Names, at_variable, bound_by, fault_in, first, first_outside, guards, named}
+use Rattle.monitorable.specs.Fragment.{needed_by}
 use Rattle.monitorable.specs.declared.fault.FragmentFault.{FragmentFault}
 use Rattle.monitorable.specs.declared.fault.FragmentFault.TheVariants.{Unguarded}
 use Rattle.monitorable.specs.declared.role.Role.TheVariants as role
@@ -22,7 +24,8 @@ at_none p q (Some y) e = absurd (let clash : Some (p y) ≡ None = e in cc)
 
 guards_named : (names other : Names) (f : CoreForm) → guards names f ≡ None → guards other f ≡ None
 guards_named names other f e =
-    at_none (λ y. Unguarded (named names y)) (λ y. Unguarded (named other y)) (first_outside (bound_by f) (needed_by f)) e
+    at_none (λ y. Unguarded (named names y)) (λ y. Unguarded (named other y)) (first_outside (bound_by f) (needed_by f))
+    e
 
 inside_all : (xs ys : List ℕ) → ((y : ℕ) → among y ys ≡ true → among y xs ≡ true) → first_outside xs ys ≡ None
 inside_all xs [] each = refl
@@ -41,8 +44,10 @@ guards_alone f g names inside guard =
     elim (or_cases (among y (bound_by f)) (among y (bound_by g))
     (sym (list_any-append (λ z. nat_eq y z) (bound_by f) (bound_by g))
     ∙ none_outside (bound_by f ++ bound_by g) (needed_by f ++ needed_by g) y
-    (no_variable (λ z. Unguarded (named names z)) (first_outside (bound_by f ++ bound_by g) (needed_by f ++ needed_by g)) guard)
-    (list_any-append (λ z. nat_eq y z) (needed_by f) (needed_by g) ∙ or_left (among y (needed_by f)) (among y (needed_by g)) m))) [
+    (no_variable (λ z. Unguarded (named names z))
+    (first_outside (bound_by f ++ bound_by g) (needed_by f ++ needed_by g)) guard)
+    (list_any-append (λ z. nat_eq y z) (needed_by f) (needed_by g)
+    ∙ or_left (among y (needed_by f)) (among y (needed_by g)) m))) [
       | inl own ↦ own
       | inr other ↦ member_of_all (λ z. among z (bound_by f)) (fv (meaning g)) y inside (bound_free g y other)
     ]))
@@ -55,14 +60,16 @@ part_whole (Compare c) g names inside guard a = (names, guards_alone (Compare c)
 part_whole (Not f) g names inside guard a = (
   a.0,
   none_first (fault_in a.0 role.Negated f) (guards a.0 (Not f))
-      (no_first (fault_in a.0 role.Negated f) None a.1).0 (guards_named names a.0 (Not f) (guards_alone (Not f) g names inside guard)),
+      (no_first (fault_in a.0 role.Negated f) None a.1).0
+      (guards_named names a.0 (Not f) (guards_alone (Not f) g names inside guard)),
 )
 part_whole (And f h) g names inside guard a = (
   a.0,
   none_first (fault_in a.0 role.Part f) (first (fault_in a.0 role.Part h) (guards a.0 (And f h)))
       (no_first (fault_in a.0 role.Part f) (first (fault_in a.0 role.Part h) None) a.1).0
       (none_first (fault_in a.0 role.Part h) (guards a.0 (And f h))
-      (no_first (fault_in a.0 role.Part h) None (no_first (fault_in a.0 role.Part f) (first (fault_in a.0 role.Part h) None) a.1).1).0
+      (no_first (fault_in a.0 role.Part h) None
+      (no_first (fault_in a.0 role.Part f) (first (fault_in a.0 role.Part h) None) a.1).1).0
       (guards_named names a.0 (And f h) (guards_alone (And f h) g names inside guard))),
 )
 part_whole f g names inside guard a = a

@@ -1,5 +1,6 @@
 -- A window's state over one step.
-use Rattle.std.proofs.Common.{subst, ◌≡◌, ℕ, ◌+◌, ◌<◌, ◌≤◌, Bool, true, ◌&&◌, nat_lt, List, [], ◌∷◌, length, sym, ap₂, ◌∙◌, arith}
+use Rattle.std.proofs.Common.{subst, ◌≡◌, ℕ, ◌+◌, ◌<◌, ◌≤◌, Bool, true, ◌&&◌, nat_lt, List, [], ◌∷◌, length, sym, ap₂}
+use Rattle.std.proofs.Common.{◌∙◌, arith}
 use Rattle.std.proofs.lemmas.Bool.{and_from, lt-ltb}
 use Rattle.mfotl_model.specs.Exact.{View, Covers}
 use Rattle.mfotl_model.specs.FreeVariables.{fv}
@@ -20,8 +21,10 @@ use Rattle.monitorable.specs.Soundness.{IsSound}
 use Rattle.monitor_state.proofs.CountLemmas.{since_counted}
 use Rattle.monitor_state.proofs.ExactLemmas.{reached_within}
 use Rattle.monitor_state.proofs.RegionLemmas.{near_right}
-use Rattle.monitor_state.proofs.SinceSteps.{one_moves, since_due_parts, since_fed, since_fed_is, since_moved, since_moved_is, since_right}
-use Rattle.monitor_state.proofs.UntilSteps.{UntilMoves, until_due_at, until_fed, until_fed_is, until_moved, until_moved_is, until_right}
+use Rattle.monitor_state.proofs.SinceSteps.{one_moves, since_due_parts, since_fed, since_fed_is, since_moved}
+use Rattle.monitor_state.proofs.SinceSteps.{since_moved_is, since_right}
+use Rattle.monitor_state.proofs.UntilSteps.{UntilMoves, until_due_at, until_fed, until_fed_is, until_moved}
+use Rattle.monitor_state.proofs.UntilSteps.{until_moved_is, until_right}
 use Rattle.monitor_state.specs.FilterFeeding.{UntilSettles, WindowFeeds, WindowGoes, WindowSettles}
 use Rattle.monitor_state.specs.Nodes.{window_operands}
 use Rattle.monitor_state.specs.SinceNode.{IsSinceState, SinceStandsAt}
@@ -33,24 +36,30 @@ use Rattle.monitor_state.specs.declared.window.Window.{Window}
 use Rattle.monitor_state.specs.declared.window.Window.TheVariants as window
 
 -- a time and the operands' tables were pushed
-pub window_fed : (view : View) (point : TimePoint) (whole w : CoreForm) (old fed : Window) (p ts : ℕ) (ls rs : List TableOf)
+pub window_fed : (view : View) (point : TimePoint) (whole w : CoreForm) (old fed : Window) (p ts : ℕ)
+    (ls rs : List TableOf)
     → NeverFalls (times (longer view point).log) → Passes (fv view.whole) view.near → IsSound whole w
     → p ≤ length view.log → ts ≡ point.ts
     → IsWindow w old → WindowStands view p w old → StackNews view point (window_operands w) (ls ∷ rs ∷ [])
     → WindowFeeds old ts ls rs fed → IsWindow w fed × WindowStands (longer view point) p w fed
-window_fed view point whole (Since i f g) (window.Since old) (window.Since fed) p ts ls rs rising passes sound inside same is
+window_fed view point whole (Since i f g) (window.Since old) (window.Since fed) p ts ls rs rising passes sound inside
+    same is
     stands news feeds = (
       since_fed_is view point i f g rising passes sound.0 old is p stands ts same ls rs news.0 news.1.0 fed feeds,
       since_fed view point i f g rising passes sound.0 old is p stands ts same ls rs news.0 news.1.0 fed feeds,
     )
-window_fed view point whole (Until i f g) (window.Until old) (window.Until fed) p ts ls rs rising passes sound inside same is
+window_fed view point whole (Until i f g) (window.Until old) (window.Until fed) p ts ls rs rising passes sound inside
+    same is
     stands news feeds = (
-      until_fed_is view point i f g rising passes sound.0 old is p stands inside ts same ls rs news.0 news.1.0 fed feeds,
+      until_fed_is view point i f g rising passes sound.0 old is p stands inside ts same ls rs news.0 news.1.0 fed
+          feeds,
       until_fed view point i f g rising passes sound.0 old is p stands inside ts same ls rs news.0 news.1.0 fed feeds,
     )
-window_fed view point whole (Since i f g) (window.Since old) (window.Until fed) p ts ls rs rising passes sound inside same is
+window_fed view point whole (Since i f g) (window.Since old) (window.Until fed) p ts ls rs rising passes sound inside
+    same is
     stands news feeds = absurd feeds
-window_fed view point whole (Until i f g) (window.Until old) (window.Since fed) p ts ls rs rising passes sound inside same is
+window_fed view point whole (Until i f g) (window.Until old) (window.Since fed) p ts ls rs rising passes sound inside
+    same is
     stands news feeds = absurd feeds
 window_fed view point whole w old fed p ts ls rs rising passes sound inside same is stands news feeds = absurd is
 
@@ -151,7 +160,8 @@ pub window_due_at : (view : View) → NeverFalls (times view.log) → (w : CoreF
     → p ≤ length view.log
     → IsWindow w s → WindowStands view p w s → window_due s ≡ settled (times view.log) (meaning w) p
 window_due_at view rising (Since i f g) (window.Since s) p inside is stands = since_due_at view rising i f g s p stands
-window_due_at view rising (Until i f g) (window.Until s) p inside is stands = until_due_at view rising i f g p s is stands inside
+window_due_at view rising (Until i f g) (window.Until s) p inside is stands =
+    until_due_at view rising i f g p s is stands inside
 window_due_at view rising w s p inside is stands = absurd is
 
 -- what the window answers of a near row is what it means

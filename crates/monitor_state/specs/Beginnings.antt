@@ -87,7 +87,15 @@ pub record PreviousBegun (i : Interval) (f : CoreForm) (s : PrevOf) : Type 0 whe
 
 -- a NEXT's state before the first position, which is right for every valuation
 pub record NextBegun (i : Interval) (f : CoreForm) (s : NextOf) : Type 0 where
-  pub begun : s ≡ record { interval = i; columns = fv (meaning f); pulled = 0; times = []; started = false; tables = [] }
+  pub begun : s ≡ record {
+    interval = i;
+    columns = fv (meaning f);
+    pulled = 0;
+    times = [];
+    started = false;
+    tables =
+        [];
+  }
   pub follows : (t : List ℕ) (a : List Bool) (v : Valuation) → FollowsNext s t a v
 
 -- an UNTIL's state before the first position, which is right for every valuation

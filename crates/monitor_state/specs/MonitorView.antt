@@ -13,5 +13,12 @@ abbrev pub monitor_of : Monitor → MonitorOf
 monitor_of m =
     record {
       core = core_form m.core;
-      state = record { taken = m.taken; given = m.given; first = m.first; times = m.times.items; nodes = m.nodes.items };
+      state = record {
+        taken = m.taken;
+        given = m.given;
+        first = m.first;
+        times = m.times.items;
+        nodes =
+            m.nodes.items;
+      };
     }

@@ -50,12 +50,14 @@ pub record NextPulled (old new : NextOf) (tables : List TableOf) : Type 0 where
       → StandFrom (λ i table. has table v ≡ next old.interval t a i) old.pulled tables
 
 -- a state takes a time and tables of the operand, and gives all tables that are due then
-pub record NextTakes (old : NextOf) (ts : ℕ) (operand : List TableOf) (new : NextOf) (tables : List TableOf) : Type 0 where
-  pub timed : NextOf
-  pub fed : NextOf
-  pub time : timed ≡ record old { times = old.times ++ ts ∷ [] }
-  pub time_follows : (t : List ℕ) (a : List Bool) (v : Valuation) → FollowsNext old t a v
-      → ts ≡ time_at t (old.pulled + length old.times) → old.pulled + length old.times < length t → FollowsNext timed t a v
-  pub pushes : NextPushed timed fed operand
-  pub pulls : NextPulled fed new tables
-  pub ends : next_due new ≡ false
+pub record NextTakes (old : NextOf) (ts : ℕ) (operand : List TableOf) (new : NextOf) (tables : List TableOf) : Type 0
+  where
+    pub timed : NextOf
+    pub fed : NextOf
+    pub time : timed ≡ record old { times = old.times ++ ts ∷ [] }
+    pub time_follows : (t : List ℕ) (a : List Bool) (v : Valuation) → FollowsNext old t a v
+        → ts ≡ time_at t (old.pulled + length old.times) → old.pulled + length old.times < length t
+        → FollowsNext timed t a v
+    pub pushes : NextPushed timed fed operand
+    pub pulls : NextPulled fed new tables
+    pub ends : next_due new ≡ false

@@ -26,7 +26,8 @@ pub record OrPulled (old new : OrOf) (tables : List TableOf) : Type 0 where
   pub in_rights : length tables ≤ length old.rights
   pub over : AreOver old.left tables
   pub rows : (v : Valuation)
-      → StandFrom (λ k table. has table v ≡ (first_has v (drop k old.lefts) || first_has v (drop k old.rights))) 0 tables
+      → StandFrom (λ k table. has table v ≡ (first_has v (drop k old.lefts) || first_has v (drop k old.rights))) 0
+      tables
 
 -- a state takes tables of both operands, and gives all tables that are due then
 pub record OrTakes (old : OrOf) (ls rs : List TableOf) (new : OrOf) (tables : List TableOf) : Type 0 where

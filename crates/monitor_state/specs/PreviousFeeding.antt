@@ -34,7 +34,8 @@ pub record PreviousPulled (old new : PrevOf) (tables : List TableOf) : Type 0 wh
       → StandFrom (λ i table. has table v ≡ previous old.interval t a i) old.pulled tables
 
 -- a state takes a time and tables of the operand, and gives all tables that are due then
-pub record PreviousTakes (old : PrevOf) (ts : ℕ) (operand : List TableOf) (new : PrevOf) (tables : List TableOf) : Type 0 where
+pub record PreviousTakes (old : PrevOf) (ts : ℕ) (operand : List TableOf) (new : PrevOf) (tables : List TableOf) : Type
+    0 where
   pub timed : PrevOf
   pub fed : PrevOf
   pub time : timed ≡ record old { times = old.times ++ ts ∷ [] }

@@ -11,7 +11,8 @@ use Rattle.eval_since.specs.SinceData.{KeepsRule, SinceSetting}
 use Rattle.eval_until.specs.NextData.{NextRule}
 use Rattle.eval_until.specs.UntilData.{UntilRule, UntilSetting, until_of}
 use Rattle.monitorable.specs.Conjuncts.{conjuncts_of}
-use Rattle.monitorable.specs.CoreForms.{CoreForm, meaning, True, False, Atom, Compare, Not, And, Or, Exists, Previous, Next, Since}
+use Rattle.monitorable.specs.CoreForms.{CoreForm, meaning, True, False, Atom, Compare, Not, And, Or, Exists, Previous}
+use Rattle.monitorable.specs.CoreForms.{Next, Since}
 use Rattle.monitorable.specs.CoreForms.{Until}
 use Rattle.relations.specs.Pushed.{AreOver}
 use Rattle.monitor_state.specs.Nodes.{children, filters, is_negated, left_operand, nodes_of, operands}

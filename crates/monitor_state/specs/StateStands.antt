@@ -1,6 +1,7 @@
 -- When a state as plain data stands for a log, in a region of rows. What is kept for a row is found by the row
 -- alone, and everything is said at the columns of the row: nothing here needs that near passes to parts of a row.
-use Rattle.std.specs.Prelude.{◌≡◌, ℕ, ◌+◌, ◌-◌, ◌<◌, ◌≤◌, Bool, true, false, ◌&&◌, cond, min, nat_le, List, [], ◌∷◌, length, map, drop}
+use Rattle.std.specs.Prelude.{◌≡◌, ℕ, ◌+◌, ◌-◌, ◌<◌, ◌≤◌, Bool, true, false, ◌&&◌, cond, min, nat_le, List, [], ◌∷◌}
+use Rattle.std.specs.Prelude.{length, map, drop}
 use Rattle.std.specs.List.{list_any}
 use Rattle.std.specs.Option.{unwrap_or}
 use Rattle.mfotl_model.specs.Exact.{AllExact, Covers, View}

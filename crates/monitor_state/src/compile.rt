@@ -109,7 +109,8 @@ fn add_and(
 #[cycle(add_nodes)]
 fn add_operands(alloc: Global, window: &Core, nodes: &mut Vec<Node>) -> Result<(), AllocError>
     requires { Accepted Role.Part (node_form window.now) }
-    ensures { OnOk result (Adds (without_last (nodes_in Role.Part (node_form window.now))) nodes.old.items nodes.new.items) }
+    ensures { OnOk result (Adds (without_last (nodes_in Role.Part (node_form window.now))) nodes.old.items
+        nodes.new.items) }
 {
     match window {
         Core::Since(_interval, left, right) => {

@@ -3,7 +3,8 @@ ghost use Rattle.std.specs.Prelude.{◌≡◌, ◌++◌, ◌∷◌, [], cond, If
 ghost use Rattle.mfotl_model.specs.Tables.{TableOf};
 ghost use Rattle.relations.specs.Pushed.{turned};
 ghost use Rattle.relations.specs.Tables.{IsTable};
-ghost use Rattle.monitor_state.specs.FilterFeeding.{FilterPulled, FilterStep, FilterStops, FilterTakes, RowSifted, Sifts};
+ghost use Rattle.monitor_state.specs.FilterFeeding.{FilterPulled, FilterStep, FilterStops, FilterTakes, RowSifted};
+ghost use Rattle.monitor_state.specs.FilterFeeding.{Sifts};
 ghost use Rattle.monitor_state.specs.WindowNode.{window_due, window_took_all};
 
 use crate::tables::Tables;
@@ -47,7 +48,8 @@ fn push_tables(kept: &mut Tables, mut tables: Tables) -> Result<(), AllocError>
 }
 
 fn pulled(alloc: Global, state: &mut FilterState) -> Result<Tables, AllocError>
-    ensures { IfOk result (λ tables. (last : FilterState) × FilterPulled state.old last tables × FilterStops last state.new) }
+    ensures { IfOk result (λ tables. (last : FilterState) × FilterPulled state.old last tables
+        × FilterStops last state.new) }
 {
     let mut tables = Tables::new(alloc);
     while let Some(table) = pull(alloc, state)? {

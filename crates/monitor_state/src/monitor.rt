@@ -131,7 +131,8 @@ impl Monitor {
         ensures core { OnOk result ((monitor_of self.new).core ≡ (monitor_of self.old).core) }
         ensures taken { OnOk result ((monitor_of self.new).state.taken ≡ (monitor_of self.old).state.taken + 1) }
         ensures first { OnOk result ((monitor_of self.new).state.first ≡ (monitor_of self.old).state.given) }
-        ensures steps { IfOk result (Steps (monitor_of self.old).core (monitor_of self.old).state point.now (monitor_of self.new).state) }
+        ensures steps { IfOk result (Steps (monitor_of self.old).core (monitor_of self.old).state point.now
+            (monitor_of self.new).state) }
     {
         let past = self.given.saturating_sub(self.first);
         keep_time(&mut self.times, past, point.ts)?;

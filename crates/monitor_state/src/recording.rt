@@ -1,7 +1,8 @@
 //! What nodes keep, as plain data.
 ghost use Rattle.std.specs.Prelude.{IfOk};
 ghost use Rattle.mfotl_model.specs.Tables.{TableOf};
-ghost use Rattle.monitor_state.specs.Recording.{NodeRecorded, NodesRecorded, SinceRecorded, UntilRecorded, WindowRecorded};
+ghost use Rattle.monitor_state.specs.Recording.{NodeRecorded, NodesRecorded, SinceRecorded, UntilRecorded};
+ghost use Rattle.monitor_state.specs.Recording.{WindowRecorded};
 
 use crate::filter::FilterState;
 use crate::node::Node;

@@ -24,7 +24,8 @@ pub fn nodes_resumed(
     kept: Vec<NodeData>,
 ) -> Result<Vec<Node>, AllocError>
     requires { AllMatch (record { first = first; stamps = times.now }) fresh.items kept.items }
-    ensures { IfOk result (λ nodes. NodesResumed (record { first = first; stamps = times.now }) fresh.items kept.items nodes.items) }
+    ensures { IfOk result (λ nodes. NodesResumed (record { first = first; stamps = times.now }) fresh.items kept.items
+        nodes.items) }
 {
     let mut nodes = Vec::with_capacity(alloc, fresh.len())?;
     let mut rest = VecDeque::from_vec(fresh);
@@ -77,12 +78,7 @@ fn resumed_constant(
     }
 }
 
-fn resumed_atom(
-    atom: Atom,
-    first: u64,
-    times: &[u64],
-    kept: NodeData,
-) -> Result<Node, AllocError>
+fn resumed_atom(atom: Atom, first: u64, times: &[u64], kept: NodeData) -> Result<Node, AllocError>
     requires { Matches (record { first = first; stamps = times.now }) (Node.Atom atom) kept }
     ensures { IfOk result (NodeResumed (record { first = first; stamps = times.now }) (Node.Atom atom) kept) }
 {
@@ -92,12 +88,7 @@ fn resumed_atom(
     }
 }
 
-fn resumed_exists(
-    var: u32,
-    first: u64,
-    times: &[u64],
-    kept: NodeData,
-) -> Result<Node, AllocError>
+fn resumed_exists(var: u32, first: u64, times: &[u64], kept: NodeData) -> Result<Node, AllocError>
     requires { Matches (record { first = first; stamps = times.now }) (Node.Exists var) kept }
     ensures { IfOk result (NodeResumed (record { first = first; stamps = times.now }) (Node.Exists var) kept) }
 {
@@ -145,12 +136,7 @@ fn resumed_filter(
     }))
 }
 
-fn resumed_or(
-    state: OrState,
-    first: u64,
-    times: &[u64],
-    kept: NodeData,
-) -> Result<Node, AllocError>
+fn resumed_or(state: OrState, first: u64, times: &[u64], kept: NodeData) -> Result<Node, AllocError>
     requires { Matches (record { first = first; stamps = times.now }) (Node.Or state) kept }
     ensures { IfOk result (NodeResumed (record { first = first; stamps = times.now }) (Node.Or state) kept) }
 {

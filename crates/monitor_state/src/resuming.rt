@@ -43,7 +43,8 @@ pub fn since_resumed(
     times: &[u64],
     kept: SinceKept,
 ) -> Result<SinceState, AllocError>
-    requires rule { KeepsRule (setting_of state) (time_before (record { first = first; stamps = times.now }) kept.kept.pulled)
+    requires rule { KeepsRule (setting_of state)
+        (time_before (record { first = first; stamps = times.now }) kept.kept.pulled)
         (times_from (record { first = first; stamps = times.now }) kept.kept.pulled) kept.kept }
     ensures { IfOk result (SinceResumed (record { first = first; stamps = times.now }) state kept.kept) }
 {
@@ -76,7 +77,8 @@ pub fn window_resumed(
     times: &[u64],
     kept: WindowData,
 ) -> Result<Window, AllocError>
-    requires fits { (w : CoreForm) × IsWindow w window × WindowKeeps (record { first = first; stamps = times.now }) w kept }
+    requires fits { (w : CoreForm) × IsWindow w window
+        × WindowKeeps (record { first = first; stamps = times.now }) w kept }
     ensures { IfOk result (WindowResumed (record { first = first; stamps = times.now }) window kept) }
 {
     match window {
@@ -92,7 +94,8 @@ fn window_since(
     times: &[u64],
     kept: WindowData,
 ) -> Result<Window, AllocError>
-    requires fits { (w : CoreForm) × IsWindow w (Window.Since state) × WindowKeeps (record { first = first; stamps = times.now }) w kept }
+    requires fits { (w : CoreForm) × IsWindow w (Window.Since state)
+        × WindowKeeps (record { first = first; stamps = times.now }) w kept }
     ensures { IfOk result (WindowResumed (record { first = first; stamps = times.now }) (Window.Since state) kept) }
 {
     let WindowData::Since(kept) = kept else {
@@ -109,7 +112,8 @@ fn window_until(
     times: &[u64],
     kept: WindowData,
 ) -> Result<Window, AllocError>
-    requires fits { (w : CoreForm) × IsWindow w (Window.Until state) × WindowKeeps (record { first = first; stamps = times.now }) w kept }
+    requires fits { (w : CoreForm) × IsWindow w (Window.Until state)
+        × WindowKeeps (record { first = first; stamps = times.now }) w kept }
     ensures { IfOk result (WindowResumed (record { first = first; stamps = times.now }) (Window.Until state) kept) }
 {
     let WindowData::Until(kept) = kept else {

@@ -1,7 +1,8 @@
 //! An UNTIL takes a time and its operands' tables.
 ghost use Rattle.std.specs.Prelude.{◌≡◌, false, true, IfOk, OnOk};
 ghost use Rattle.eval_until.specs.UntilView.{due, took_all};
-ghost use Rattle.monitor_state.specs.UntilFeeding.{UntilFeeds, UntilLeftsPushed, UntilPulled, UntilRightsPushed, UntilTakes};
+ghost use Rattle.monitor_state.specs.UntilFeeding.{UntilFeeds, UntilLeftsPushed, UntilPulled, UntilRightsPushed};
+ghost use Rattle.monitor_state.specs.UntilFeeding.{UntilTakes};
 
 use crate::ordering::in_order;
 use crate::tables::Tables;

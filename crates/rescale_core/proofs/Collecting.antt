@@ -24,7 +24,7 @@ use Rattle.rescale_core.specs.Worlds.{slice_at, rows_in}
 use Rattle.std.specs.List.{AllByRecursion}
 use Rattle.verdict_merge.specs.Gathers.{rows_at}
 use Rattle.verdict_merge.specs.Laws.{Apart}
-use Rattle.rescale_core.specs.declared.piece.Piece.{Piece}
+use Rattle.monitor_state.specs.declared.state.Piece.{Piece}
 use Rattle.rescale_core.specs.declared.item.Out.{Out}
 use Rattle.verdict_merge.specs.declared.rows.Rows.{Rows}
 use Rattle.rescale_core.specs.Worlds.Move.{Collect}

@@ -21,6 +21,7 @@ pub mod SlotLemmas
 pub mod Filling
 pub mod ChangeLemmas
 pub mod FeedLemmas
+pub mod MergeSteps
 pub mod PieceSteps
 pub mod RouterLemmas
 pub mod RouterEnds

@@ -31,7 +31,7 @@ use Rattle.monitorable.specs.CoreForms.{CoreForm, meaning}
 use Rattle.monitorable.specs.SatisfyingRows.{core_domain, satisfies, satisfying_rows}
 use Rattle.relations.specs.Tables.{IsTable}
 use Rattle.slice_strategy.specs.SlicerLemmas.{near_is_owner}
-use Rattle.rescale_core.specs.Monitors.{view_of}
+use Rattle.monitor_state.specs.Pieces.{view_of}
 use Rattle.rescale_core.specs.Workers.{IsFor, owned_by, owner, violations_at}
 
 -- whether a row is among those that pass

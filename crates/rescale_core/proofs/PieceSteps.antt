@@ -10,19 +10,20 @@ use Rattle.monitor_state.specs.declared.monitor.Monitor.{Monitor}
 use Rattle.rescale_core.proofs.WorkerSteps.{live_at}
 use Rattle.rescale_core.specs.Lines.{Due, Turn}
 use Rattle.rescale_core.specs.Lines.Due.{Slicing, Parting, Hole}
-use Rattle.rescale_core.specs.Monitors.{PieceStands}
-use Rattle.rescale_core.specs.States.{Adopted, AreCuts, CanAdopt, IsFull, Merges, MergesMore, Splits}
+use Rattle.monitor_state.specs.Pieces.{AreCuts, PieceStands}
+use Rattle.rescale_core.specs.States.{Adopted, CanAdopt, IsFull, Merges, MergesMore, Splits}
 use Rattle.rescale_core.specs.Stages.{Follows, Gives, IsPieceFor, Meets, NotIn, Parts, Stage, froms_of, stage_after}
 use Rattle.rescale_core.specs.Stages.Stage.{Filling, Gone, Live}
 use Rattle.rescale_core.specs.Workers.{IsFor}
 use Rattle.rescale_core.specs.Working.{CanTake, GoesOn, IsAt, IsOpen, Settles, Steps}
 use Rattle.rescale_core.specs.declared.item.Item.TheVariants.{Adopt, Part}
 use Rattle.rescale_core.specs.declared.item.Out.TheVariants.{Piece as OfPiece}
-use Rattle.rescale_core.specs.declared.merging.Merging.{Merging}
+use Rattle.state_merge.specs.MergingView.{MergingOf}
+use Rattle.state_merge.specs.declared.merging.Merging.{Merging}
 use Rattle.rescale_core.specs.declared.phase.Phase.{Phase}
 use Rattle.rescale_core.specs.declared.phase.Phase.TheVariants.{Active, Vacant, Waiting}
 use Rattle.rescale_core.specs.declared.phase.Worker.{Worker}
-use Rattle.rescale_core.specs.declared.piece.Piece.{Piece}
+use Rattle.monitor_state.specs.declared.state.Piece.{Piece}
 
 -- ---- a part
 
@@ -76,6 +77,20 @@ module _ (w : Worker) (m : Monitor) (s : Strategy) (g : ℕ) (old new : Strategy
   pub part_steps : Steps w (Part g old new) x (map (λ p. OfPiece p) pieces)
   part_steps = record { core = core; number = number; step = parts_due }
 
+-- it is one of its strategy's workers
+pub part_below : (w : Worker) (m : Monitor) (s : Strategy) (g : ℕ) (old new : Strategy) → w.phase ≡ Active m s
+    → CanTake w (Part g old new) → w.number < workers_of s
+part_below w m s g old new active can = by can.0 can.1 can.2 can.3 can.4
+  where
+    by : (st : Stage) (d : Due) → IsAt (core_form w.core) w.number st w.phase
+        → Follows (core_form w.core) w.number st d → Meets (core_form w.core) w.number st d (Part g old new)
+        → w.number < workers_of s
+    by st (Slicing g' s' log q) at f meets = cc
+    by st (Parting t) at f meets =
+        let l = live_at (core_form w.core) w.number st s t.old t.before m w.phase f.0 at active in
+        subst (λ (y : Strategy). w.number < workers_of y) l.0 f.3
+    by st (Hole t j) at f meets = let e = meets.1 in cc
+
 -- only a worker that monitors is due a part
 pub part_active : (w : Worker) (g : ℕ) (old new : Strategy) → CanTake w (Part g old new)
     → (m : Monitor) × (w.phase ≡ Active m old)
@@ -109,7 +124,12 @@ carries_none c k t st phase count merging missing gone few at counts on =
     let g : GoesOn Vacant c count merging missing =
     subst (λ (y : Phase). GoesOn y c count merging missing) vacant on in
     subst (λ (y : Stage). Carries c k t (froms_of y) merging missing) (sym gone) record {
-      merges = g.0 t.old t.new k t.before counts;
+      merges = record {
+        of = ap (λ (m : MergingOf). m.core) g.0;
+        count = ap (λ (m : MergingOf). m.count) g.0 ∙ counts;
+        adopted = ap (λ (m : MergingOf). m.adopted) g.0;
+        merged = ap (λ (m : MergingOf). m.merged) g.0;
+      };
       left = let e = g.1 in omega arith;
       some = let e = g.1 in omega arith;
       adopted = record { distinct = tt; near = tt };

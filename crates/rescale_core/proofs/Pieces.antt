@@ -17,7 +17,7 @@ use Rattle.rescale_core.specs.Worlds.{for_place, pieces_in}
 use Rattle.std.specs.List.{AllByRecursion}
 use Rattle.verdict_merge.specs.Laws.{Apart}
 use Rattle.monitorable.specs.CoreForms.{CoreForm}
-use Rattle.rescale_core.specs.declared.piece.Piece.{Piece}
+use Rattle.monitor_state.specs.declared.state.Piece.{Piece}
 use Rattle.rescale_core.specs.declared.item.Out.{Out}
 use Rattle.rescale_core.specs.declared.item.Out.TheVariants.{Rows as OfRows, Piece as OfPiece}
 use Rattle.rescale_core.specs.Lines.Due.{Slicing, Parting, Hole}

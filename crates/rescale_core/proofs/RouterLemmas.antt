@@ -27,7 +27,7 @@ use Rattle.rescale_core.specs.Worlds.{first_world, line_in, not_back, pieces_in,
 use Rattle.rescale_core.specs.Worlds.Move.{Collect, Emit}
 use Rattle.rescale_core.specs.declared.item.Item.{Item}
 use Rattle.rescale_core.specs.declared.item.Out.{Out}
-use Rattle.rescale_core.specs.declared.piece.Piece.{Piece}
+use Rattle.monitor_state.specs.declared.state.Piece.{Piece}
 use Rattle.rescale_core.specs.declared.routes.Router.{Router}
 
 -- ---- collecting

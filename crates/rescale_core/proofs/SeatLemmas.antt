@@ -21,7 +21,7 @@ use Rattle.rescale_core.specs.Worlds.{fed_more, took_one, after, chance, chance_
 use Rattle.rescale_core.specs.Worlds.{queue_in, slice_at}
 use Rattle.std.specs.List.{AllByRecursion}
 use Rattle.monitorable.specs.CoreForms.{CoreForm}
-use Rattle.rescale_core.specs.declared.piece.Piece.{Piece}
+use Rattle.monitor_state.specs.declared.state.Piece.{Piece}
 use Rattle.rescale_core.specs.declared.item.Item.{Item}
 use Rattle.rescale_core.specs.declared.item.Entry.{Entry}
 use Rattle.rescale_core.specs.declared.item.Out.{Out}

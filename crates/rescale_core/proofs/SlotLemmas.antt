@@ -12,7 +12,7 @@ use Rattle.rescale_core.specs.Chances.Chance.{Sure, Open}
 use Rattle.rescale_core.specs.Queues.{all_put, chances, filled}
 use Rattle.rescale_core.specs.Slots.{first_rooms, is_there, lacks, put_in, weight_of}
 use Rattle.rescale_core.specs.declared.item.Item.TheVariants.{Adopt}
-use Rattle.rescale_core.specs.declared.piece.Piece.{Piece}
+use Rattle.monitor_state.specs.declared.state.Piece.{Piece}
 use Rattle.rescale_core.specs.declared.slot.Slot.{Slot}
 use Rattle.rescale_core.specs.declared.slot.Slot.TheVariants.{Ready, Room}
 

@@ -29,7 +29,8 @@ use Rattle.rescale_core.proofs.LogLemmas.{settled_within}
 use Rattle.rescale_core.proofs.OwnedLemmas.{among_range, owned_same}
 use Rattle.rescale_core.specs.Lines.{Due}
 use Rattle.rescale_core.specs.Lines.Due.{Slicing, Parting, Hole}
-use Rattle.rescale_core.specs.Monitors.{IsMonitor, view_of}
+use Rattle.rescale_core.specs.Monitors.{IsMonitor}
+use Rattle.monitor_state.specs.Pieces.{view_of}
 use Rattle.rescale_core.specs.Settlings.{HasWidth, IsKept, IsTabled, all_settled, row_out}
 use Rattle.rescale_core.specs.Stages.{Stage, Follows, Gives, Meets, rows_for, stage_after}
 use Rattle.rescale_core.specs.Stages.Stage.{Live, Gone}

@@ -10,7 +10,7 @@ use Rattle.rescale_core.specs.Lines.{MayRead, AreSound}
 use Rattle.rescale_core.specs.Soundly.{Supplies, turn_of}
 use Rattle.rescale_core.specs.Worlds.{nth, for_place, item_of}
 use Rattle.monitorable.specs.CoreForms.{CoreForm}
-use Rattle.rescale_core.specs.declared.piece.Piece.{Piece}
+use Rattle.monitor_state.specs.declared.state.Piece.{Piece}
 use Rattle.rescale_core.specs.declared.item.Entry.{Entry}
 use Rattle.rescale_core.specs.declared.item.Entry.TheVariants.{Point, Change}
 use Rattle.rescale_core.specs.declared.item.Item.{Item}

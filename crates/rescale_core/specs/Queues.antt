@@ -2,7 +2,7 @@
 use Rattle.std.specs.Prelude.{ℕ, Bool, cond, nat_eq, List, [], ◌∷◌, get_or, length, map}
 use Rattle.rescale_core.specs.Chances.{Chance}
 use Rattle.rescale_core.specs.Slots.{chance_of, lacks, put_in}
-use Rattle.rescale_core.specs.declared.piece.Piece.{Piece}
+use Rattle.monitor_state.specs.declared.state.Piece.{Piece}
 use Rattle.rescale_core.specs.declared.slot.Slot.{Slot}
 
 -- what may be handed over from a queue, or is missing there

@@ -6,7 +6,7 @@ use Rattle.rescale_core.specs.Chances.{Chance, sure_items}
 use Rattle.rescale_core.specs.Chances.Chance.{Sure, Open}
 use Rattle.rescale_core.specs.declared.item.Item.{Item}
 use Rattle.rescale_core.specs.declared.item.Item.TheVariants.{Adopt}
-use Rattle.rescale_core.specs.declared.piece.Piece.{Piece}
+use Rattle.monitor_state.specs.declared.state.Piece.{Piece}
 use Rattle.rescale_core.specs.declared.slot.Slot.{Slot}
 use Rattle.rescale_core.specs.declared.slot.Slot.TheVariants.{Ready, Room}
 

@@ -1,31 +1,17 @@
 -- What splitting a worker's state gives, and what a merge of pieces stands for.
-use Rattle.std.specs.Prelude.{◌≡◌, ℕ, ◌+◌, ◌<◌, List, [], ◌∷◌, length}
+use Rattle.std.specs.Prelude.{◌≡◌, ℕ, ◌<◌, None, List, ◌∷◌, length}
 use Rattle.std.specs.List.{AllByRecursion}
-use Rattle.mfotl_model.specs.Regions.{near_of}
 use Rattle.mfotl_model.specs.Strategies.{Strategy, workers_of}
 use Rattle.mfotl_model.specs.declared.event.TimePoint.{TimePoint}
 use Rattle.monitorable.specs.CoreForms.{CoreForm}
+use Rattle.monitor_state.specs.Pieces.{AreCuts, PieceStands, Merges as HasMerged}
 use Rattle.monitor_state.specs.declared.monitor.Monitor.{Monitor}
+use Rattle.monitor_state.specs.declared.state.Piece.{Piece}
+use Rattle.state_merge.specs.MergingView.{merging_of}
+use Rattle.state_merge.specs.declared.merging.Merging.{Merging}
 use Rattle.verdict_merge.specs.Laws.{Apart}
-use Rattle.rescale_core.specs.Monitors.{IsMonitor, PieceStands, StandsIn}
+use Rattle.rescale_core.specs.Monitors.{IsMonitor}
 use Rattle.rescale_core.specs.Workers.{IsFor}
-use Rattle.rescale_core.specs.declared.merging.Merging.{Merging}
-use Rattle.rescale_core.specs.declared.piece.Piece.{Piece}
-
--- the piece is what worker k hands to worker k2 of the next strategy, which has this generation
-pub record IsCutFor (core : CoreForm) (s : Strategy) (k : ℕ) (s2 : Strategy) (k2 : ℕ) (log : List TimePoint) (g : ℕ)
-    (piece : Piece) : Type 0 where
-  pub generation : piece.generation ≡ g
-  pub from : piece.from ≡ k
-  pub to : piece.to ≡ k2
-  pub count : piece.count ≡ workers_of s
-  pub stands : PieceStands core s k s2 k2 log piece
-
--- a piece for each of the workers from k2 on, in order
-abbrev pub AreCuts : CoreForm → Strategy → ℕ → Strategy → List TimePoint → ℕ → ℕ → List Piece → Type 0
-AreCuts core s k s2 log g k2 [] = Unit {0}
-AreCuts core s k s2 log g k2 (p ∷ ps) =
-    IsCutFor core s k s2 k2 log g p × AreCuts core s k s2 log g (k2 + 1) ps
 
 -- the pieces are those of a worker's monitor, for all workers of the next strategy
 abbrev pub Splits : Monitor → Strategy → ℕ → Strategy → ℕ → List Piece → Type 0
@@ -40,13 +26,17 @@ pub record Adopted (s : Strategy) (froms : List ℕ) : Type 0 where
   pub near : AllByRecursion (λ x. x < workers_of s) froms
 
 -- the merge has just the pieces of these workers for worker k2
-unfoldable pub Merges : CoreForm → Strategy → Strategy → ℕ → List TimePoint → List ℕ → Merging → Type 0
-Merges core s s2 k2 log froms merging = StandsIn core (near_of s2 k2) log merging.state
+pub record Merges (core : CoreForm) (s s2 : Strategy) (k2 : ℕ) (log : List TimePoint) (froms : List ℕ)
+    (merging : Merging) : Type 0 where
+  pub of : (merging_of merging).core ≡ core
+  pub count : (merging_of merging).count ≡ workers_of s
+  pub adopted : (merging_of merging).adopted ≡ length froms
+  pub merged : HasMerged core s s2 k2 log froms (merging_of merging).merged
 
 -- nothing was adopted
 abbrev pub MergesNone : CoreForm → ℕ → Merging → Type 0
 MergesNone core count merging =
-    (s s2 : Strategy) (k2 : ℕ) (log : List TimePoint) → count ≡ workers_of s → Merges core s s2 k2 log [] merging
+    merging_of merging ≡ record { core = core; count = count; adopted = 0; merged = None }
 
 -- the piece was adopted
 abbrev pub MergesMore : Merging → Piece → Merging → Type 0

@@ -11,7 +11,7 @@ use Rattle.rescale_core.specs.Lines.{Due, first_spot, line, AreSound}
 use Rattle.rescale_core.specs.Stages.{Stage, Answers, Fits, Follows, Gives, Meets, stage, stage_after}
 use Rattle.rescale_core.specs.Stages.Stage.{Live, Gone, Filling}
 use Rattle.rescale_core.specs.Seeds.{SeedOf}
-use Rattle.rescale_core.specs.declared.merging.Merging.{Merging}
+use Rattle.state_merge.specs.declared.merging.Merging.{Merging}
 use Rattle.rescale_core.specs.declared.phase.Phase.{Phase}
 use Rattle.rescale_core.specs.declared.phase.Phase.TheVariants.{Active, Vacant, Waiting}
 use Rattle.rescale_core.specs.declared.phase.Worker.{Worker}

@@ -3,7 +3,8 @@ ghost use Rattle.std.specs.Prelude.{◌≡◌, ◌∷◌, [], ◌<◌, ℕ, true
 ghost use Rattle.mfotl_model.specs.Strategies.{Strategy as OneStrategy};
 ghost use Rattle.monitorable.specs.CoreForms.{CoreForm};
 ghost use Rattle.turn_hub.specs.Ends.{AllMine, IsMainOf, cell_count, main_view};
-ghost use Rattle.rescale_core.specs.Moving.{HasTurn, IsDriverOf, IsOpened, Moves, Reaches, TakesBack, TurnsTo, NoneReady};
+ghost use Rattle.rescale_core.specs.Moving.{HasTurn, IsDriverOf, IsOpened, Moves, NoneReady};
+ghost use Rattle.rescale_core.specs.Moving.{Reaches, TakesBack, TurnsTo};
 ghost use Rattle.rescale_core.specs.Moving.Kind.{Feeds, Reads};
 ghost use Rattle.rescale_core.specs.Routing.{HasEnded, IsRouterOf};
 ghost use Rattle.rescale_core.specs.Workers.{IsFor, MayFollow};
@@ -85,8 +86,8 @@ impl Driver {
         main
     }
 
-    /// Collects what the items that worker `k` had gave, and hands over all that are ready then. Where it is the worker's
-    /// turn, or the worker is broken, nothing happens.
+    /// Collects what the items that worker `k` had gave, and hands over all that are ready then. Where it is the
+    /// worker's turn, or the worker is broken, nothing happens.
     pub fn turn(&mut self, alloc: Global, hub: &Hub<Worker>, k: u32) -> Result<Turn, AllocError>
         requires stands { (w : World) × IsDriverOf self.old w }
         requires main { IsMainOf hub.now self.old.main × (k < cell_count hub.now) }

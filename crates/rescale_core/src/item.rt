@@ -1,6 +1,6 @@
 //! What workers are handed, and what they give.
-use crate::piece::Piece;
 use mfotl_model::TimePoint;
+use monitor_state::Piece;
 use slice_strategy::Strategy;
 use verdict_merge::Rows;
 

@@ -1,5 +1,6 @@
 //! Laws of worlds, as theorems on the definitions. Each call does nothing: its clause is the law.
-ghost use Rattle.rescale_core.specs.Ends.{DriverCore, DriverEnds, DriverWorlds, MachineEnds, MachineWorlds, OpenedWorkers, RowsPartition, TurnKeeps};
+ghost use Rattle.rescale_core.specs.Ends.{DriverCore, DriverEnds, DriverWorlds, MachineEnds, MachineWorlds};
+ghost use Rattle.rescale_core.specs.Ends.{OpenedWorkers, RowsPartition, TurnKeeps};
 ghost use Rattle.rescale_core.specs.Laws.{PolicyViolations, ReachedWorlds};
 ghost use Rattle.rescale_core.specs.Waiting.{WaitsFor};
 

@@ -1,4 +1,6 @@
-//! Router, workers and machine: what is read goes to workers, and their findings become verdicts.
+//! The router and the workers: what is read goes to workers, and their findings become verdicts. At a change of
+//! strategy the workers hand their states on in pieces, while reading goes on. A machine does all of it on one thread,
+//! step by step; a driver is main's part where workers run on threads.
 #![tactic(auto)]
 
 mod cell;
@@ -8,10 +10,8 @@ mod item;
 pub mod laws;
 mod machine;
 mod machine_start;
-mod merging;
 mod outstanding;
 mod phase;
-mod piece;
 mod queue;
 mod reading;
 mod rescaling;
@@ -23,7 +23,6 @@ mod settled;
 mod slot;
 mod slots;
 mod stage;
-mod states;
 mod turns;
 mod waiting;
 mod worker;
@@ -31,7 +30,6 @@ mod worker;
 pub use cells::{Applied, Step};
 pub use item::{Entry, Item, Out};
 pub use phase::Worker;
-pub use piece::Piece;
 pub use routes::Router;
 pub use seed::Seed;
 pub use stage::Machine;

@@ -1,8 +1,8 @@
 //! What a worker keeps.
-use crate::merging::Merging;
 use monitor_state::Monitor;
 use monitorable::Core;
 use slice_strategy::Strategy;
+use state_merge::Merging;
 use std::snapshot::Snapshot;
 
 /// Whether a worker monitors.

@@ -8,8 +8,8 @@ ghost use Rattle.rescale_core.specs.Waiting.{is_short};
 ghost use Rattle.rescale_core.specs.declared.slot.Slot.TheVariants.{Ready};
 
 use crate::item::Item;
-use crate::piece::Piece;
 use crate::slot::Slot;
+use monitor_state::Piece;
 use slice_strategy::{Slicer, Strategy};
 use std::alloc::{AllocError, Global};
 use std::collections::VecDeque;

@@ -6,12 +6,12 @@ ghost use Rattle.rescale_core.specs.States.{IsFull};
 ghost use Rattle.rescale_core.specs.Working.{CanTake, Gave, GoesOn, IsOpen, Settles, Steps};
 
 use crate::item::{Item, Out};
-use crate::merging::Merging;
 use crate::phase::{Phase, Worker};
-use crate::piece::Piece;
-use crate::states::split_state;
+use monitor_state::Piece;
 use monitorable::Core;
 use slice_strategy::Strategy;
+use state_merge::Merging;
+use state_split::split_state;
 use std::alloc::{AllocError, Global};
 use std::mem;
 
@@ -51,28 +51,29 @@ impl Worker {
         let phase = mem::replace(&mut self.phase, Phase::Vacant);
         let (mut merging, missing) = merging_for(alloc, &self.core, phase, piece.count)?;
         merging.adopt(alloc, piece)?;
-        self.phase = settle(merging, now, missing);
+        self.phase = settle(alloc, merging, now, missing)?;
         Ok(())
     }
 }
 
 // The phase behind a piece, where so many were missing before it.
-fn settle(merging: Merging, now: Strategy, missing: u32) -> Phase
+fn settle(alloc: Global, merging: Merging, now: Strategy, missing: u32) -> Result<Phase, AllocError>
     requires full { missing ≡ 1 → IsFull merging }
     requires some { 0 < missing }
-    ensures { Settles merging now missing result }
+    ensures { IfOk result (λ phase. Settles merging now missing phase) }
 {
     if missing == 1 {
-        Phase::Active {
-            monitor: merging.finish(),
+        let monitor = merging.finish(alloc)?;
+        Ok(Phase::Active {
+            monitor,
             strategy: now,
-        }
+        })
     } else {
-        Phase::Waiting {
+        Ok(Phase::Waiting {
             merging,
             now,
             missing: missing - 1,
-        }
+        })
     }
 }
 

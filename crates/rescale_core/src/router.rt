@@ -4,18 +4,19 @@ ghost use Rattle.rescale_core.specs.Chances.{sure_items};
 ghost use Rattle.rescale_core.specs.Queues.{all_put, queue_at};
 ghost use Rattle.rescale_core.specs.Routing.{HasEnded, HasTaken, IsRouterOf, MayAdd, TakesFront, feeds};
 ghost use Rattle.rescale_core.specs.Workers.{IsFor, MayFollow};
-ghost use Rattle.rescale_core.specs.Worlds.{World, Allowed, AreAllowed, IsGathered, after, pieces_in, queue_in, rows_in, run, spot_in};
+ghost use Rattle.rescale_core.specs.Worlds.{World, Allowed, AreAllowed, IsGathered, after, run, spot_in};
+ghost use Rattle.rescale_core.specs.Worlds.{pieces_in, queue_in, rows_in};
 ghost use Rattle.rescale_core.specs.Worlds.Move.{Read, Collect, Emit};
 ghost use Rattle.rescale_core.specs.declared.item.Entry.TheVariants.{Change, Point};
 
 use crate::item::{Item, Out};
 use crate::outstanding::{grow_counts, lower, none_outstanding, raise};
-use crate::piece::Piece;
 use crate::queue::{Queue, none_wait};
 use crate::reading::{grow, push_parts, push_places, push_slices};
 use crate::routes::Router;
-use event_splitter::split;
+use event_splitter::split_owned;
 use mfotl_model::TimePoint;
+use monitor_state::Piece;
 use slice_strategy::{Slicer, Strategy};
 use std::alloc::{AllocError, Global};
 use verdict_merge::{Gather, Verdict};
@@ -27,7 +28,7 @@ impl Router {
         ensures { IfOk result (λ _. (w : World) → IsRouterOf self.old w → MayFollow (spot_in w).points point
             → IsRouterOf self.new (after w (Read (Point point)))) }
     {
-        let slices = split(alloc, &self.core, &self.strategy, &point)?;
+        let slices = split_owned(alloc, &self.core, &self.strategy, point)?;
         push_slices(&mut self.queues, self.generation, self.points, slices)?;
         self.points += 1;
         Ok(())

@@ -1,6 +1,6 @@
 //! What stands in a queue.
 use crate::item::Item;
-use crate::piece::Piece;
+use monitor_state::Piece;
 use slice_strategy::Strategy;
 
 /// An item, or room for a piece.

@@ -3,8 +3,8 @@ ghost use Rattle.std.specs.Prelude.{◌≡◌};
 ghost use Rattle.rescale_core.specs.Slots.{is_there, item_in, lacks, put_in, weight_of};
 
 use crate::item::Item;
-use crate::piece::Piece;
 use crate::slot::Slot;
+use monitor_state::Piece;
 
 impl Slot {
     /// Whether its item is there.

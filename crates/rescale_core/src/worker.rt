@@ -25,7 +25,8 @@ impl Worker {
         k: u32,
     ) -> Result<Self, AllocError>
         requires { IsFor (core_form core.now) strategy.now }
-        ensures seed { IfOk result (λ w. seed_of w ≡ record { core = core_form core.now; first = strategy.now; k = k }) }
+        ensures seed { IfOk result (λ w.
+            seed_of w ≡ record { core = core_form core.now; first = strategy.now; k = k }) }
         ensures stands { IfOk result (λ w. StandsFor (seed_of w) [] [] w) }
     {
         let first = Snapshot::of(strategy);

@@ -1,5 +1,6 @@
 -- What two states keep for a row, together: it answers each test as the one that may be asked, or as both.
-use Rattle.std.proofs.Common.{◌≡◌, ℕ, ◌-◌, ◌≤◌, Bool, true, false, ◌&&◌, ◌||◌, cond, nat_le, nat_lt, nat_eq, List, [], ◌∷◌, length, Option, None, Some, refl, sym, ap, ap₂, ◌∙◌, arith, inl, inr}
+use Rattle.std.proofs.Common.{◌≡◌, ℕ, ◌-◌, ◌≤◌, Bool, true, false, ◌&&◌, ◌||◌, cond, nat_le, nat_lt, nat_eq, List, []}
+use Rattle.std.proofs.Common.{◌∷◌, length, Option, None, Some, refl, sym, ap, ap₂, ◌∙◌, arith, inl, inr}
 use Rattle.std.proofs.lemmas.Bool.{cases_lt, eqb-true}
 use Rattle.std.proofs.lemmas.Bool.Decides.{nat_tests}
 use Rattle.std.specs.List.{list_any}
@@ -9,7 +10,8 @@ use Rattle.mfotl_model.specs.Satisfaction.{time_at}
 use Rattle.mfotl_model.specs.declared.interval.Interval.{Interval}
 use Rattle.eval_since.specs.Times.{reaches}
 use Rattle.eval_until.specs.declared.recalled.Mark.{Mark}
-use Rattle.monitor_state.specs.JoinedRows.{either, least_time, marks_joined, put_mark, put_time, times_joined, times_united}
+use Rattle.monitor_state.specs.JoinedRows.{either, least_time, marks_joined, put_mark, put_time, times_joined}
+use Rattle.monitor_state.specs.JoinedRows.{times_united}
 use Rattle.monitor_state.specs.StateStands.{mark_meets}
 
 or_false : (b : Bool) → (b || false) ≡ b

@@ -1,5 +1,6 @@
 -- The rule of what is kept for rows stays where two states are united.
-use Rattle.std.proofs.Common.{◌≡◌, ℕ, zero, suc, ◌-◌, ◌≤◌, ◌<◌, Bool, true, false, ◌&&◌, cond, nat_le, nat_lt, nat_eq, List, [], ◌∷◌, length, Option, None, Some, refl, sym, subst, ap, ◌∙◌, arith, inl, inr}
+use Rattle.std.proofs.Common.{◌≡◌, ℕ, zero, suc, ◌-◌, ◌≤◌, ◌<◌, Bool, true, false, ◌&&◌, cond, nat_le, nat_lt, nat_eq}
+use Rattle.std.proofs.Common.{List, [], ◌∷◌, length, Option, None, Some, refl, sym, subst, ap, ◌∙◌, arith, inl, inr}
 use Rattle.std.proofs.lemmas.Bool.{and_from, and_parts, cases_lt}
 use Rattle.std.proofs.lemmas.Bool.Decides.{nat_tests}
 use Rattle.std.proofs.lemmas.Map.Keys.{IsStrictlyIncreasing-from_sorted, sorted_from_strictly_increasing}
@@ -17,7 +18,8 @@ use Rattle.eval_since.proofs.DatedLemmas.{past_all}
 use Rattle.eval_since.specs.SinceData.{KeepsTimes}
 use Rattle.eval_since.specs.Times.{ArePast}
 use Rattle.eval_until.specs.declared.recalled.Mark.{Mark}
-use Rattle.monitor_state.specs.JoinedRows.{RowsUnion, least_time, marks_joined, put_mark, put_time, times_joined, times_united}
+use Rattle.monitor_state.specs.JoinedRows.{RowsUnion, least_time, marks_joined, put_mark, put_time, times_joined}
+use Rattle.monitor_state.specs.JoinedRows.{times_united}
 use Rattle.state_merge.specs.Pairs.{MarksAscend}
 use Rattle.state_merge.proofs.JoinedLemmas.{either_holds}
 use Rattle.state_merge.proofs.PutLemmas.{Ascend, further, mark_keeps, place_of, same_times, time_keeps, turned_greater}

@@ -9,6 +9,5 @@ pub mod SinceUnited
 pub mod UntilUnited
 pub mod NodesUnited
 pub mod UnionLaw
-pub mod PartLaw
 pub mod MergeLaws
 pub mod FitLemmas

@@ -1,5 +1,6 @@
 -- What is adopted, and what is merged of all pieces.
-use Rattle.std.proofs.Common.{◌≡◌, ◌≢◌, ℕ, ◌≤◌, ◌<◌, Bool, true, false, ◌&&◌, ◌||◌, List, [], ◌∷◌, length, Option, None, Some, refl, sym, subst, ap, ◌∙◌, arith, inl, inr}
+use Rattle.std.proofs.Common.{◌≡◌, ◌≢◌, ℕ, ◌≤◌, ◌<◌, Bool, true, false, ◌&&◌, ◌||◌, List, [], ◌∷◌, length, Option, None}
+use Rattle.std.proofs.Common.{Some, refl, sym, subst, ap, ◌∙◌, arith, inl, inr}
 use Rattle.std.proofs.Math.Dec.{eqb}
 use Rattle.std.proofs.lemmas.Bool.{and_from, eqb-true, ne_eqb, or_cases, or_left, or_parts, or_right}
 use Rattle.std.proofs.lemmas.Map.Steps.{length-le_from_distinct_below}
@@ -15,8 +16,9 @@ use Rattle.monitor_state.specs.StateLaws.{AdoptMerges, AllMerged}
 use Rattle.monitor_state.specs.StateRules.{StateRule}
 use Rattle.monitor_state.specs.StateStands.{StateStands}
 use Rattle.monitor_state.specs.declared.state.State.{State}
-use Rattle.state_merge.specs.Finishing.{AllAdopted}
-use Rattle.state_merge.proofs.PartLaw.{part_stands}
+use Rattle.state_merge.specs.Finishing.{AllAdopted, IsWhole}
+use Rattle.state_merge.specs.MergingView.{MergingOf}
+use Rattle.monitor_state.proofs.PartLaw.{part_stands}
 use Rattle.state_merge.proofs.UnionLaw.{union_stands}
 
 spread : (a b c : Bool) → ((a || b) && c) ≡ ((b && c) || (a && c))
@@ -128,3 +130,14 @@ finished core s s2 k2 log ks merged state is all m =
       subst (StateRule core) same whole.2,
       subst (StateStands (view_of core (near_of s2 k2) log) core) same whole.3,
     )
+
+-- what was merged of all pieces keeps the rule of states
+pub whole_rule : (m : MergingOf) (state : State) → m.merged ≡ Some state → IsWhole m → StateRule m.core state
+whole_rule m state is w = (finished m.core w.0 w.1 w.2 w.3 w.4 m.merged state is w.5 w.6).0
+
+-- there are pieces, so something was merged
+pub whole_some : (m : MergingOf) → IsWhole m → m.merged ≢ None
+whole_some m w none =
+    let whole = all_merged m.core w.0 w.1 w.2 w.3 w.4 m.merged w.5.covers w.5.some w.6 w.5.differ w.5.below w.5.size in
+    let is = whole.1 in
+    cc

@@ -1,5 +1,6 @@
 -- The data of nodes united stands for both regions, has nothing outside them, and keeps its rule.
-use Rattle.std.proofs.Common.{◌≡◌, ℕ, ◌+◌, ◌-◌, ◌^◌, ◌≤◌, ◌||◌, cond, List, [], ◌∷◌, length, map, Vec, Global, refl, sym, subst, subst₂, ap, ap₂, ◌∙◌}
+use Rattle.std.proofs.Common.{◌≡◌, ℕ, ◌+◌, ◌-◌, ◌^◌, ◌≤◌, ◌||◌, cond, List, [], ◌∷◌, length, map, Vec, Global, refl}
+use Rattle.std.proofs.Common.{sym, subst, subst₂, ap, ap₂, ◌∙◌}
 use Rattle.std.specs.List.{AllByRecursion}
 use Rattle.std.specs.Prelude.{min}
 use Rattle.mfotl_model.specs.Exact.{View}
@@ -21,9 +22,11 @@ use Rattle.monitor_state.specs.Stands.{conjunct_as}
 use Rattle.monitor_state.specs.StateInside.{NodeInside, TablesInside, WindowInside}
 use Rattle.monitor_state.specs.StateLaws.{seen_in}
 use Rattle.monitor_state.specs.StateRules.{JoinKeeps, NodeKeeps, NodesKeep, WindowKeeps}
-use Rattle.monitor_state.specs.StateStands.{JoinDataStands, NodeDataStands, NodesDataStand, TablesStand, WindowDataStands}
+use Rattle.monitor_state.specs.StateStands.{JoinDataStands, NodeDataStands, NodesDataStand, TablesStand}
+use Rattle.monitor_state.specs.StateStands.{WindowDataStands}
 use Rattle.monitor_state.specs.StateTimes.{KeptTimes, earliest, node_asks, times_from, window_asks}
-use Rattle.monitor_state.specs.StateUnions.{JoinUnion, NextUnion, NodeUnion, NodesUnion, OrUnion, PreviousUnion, SinceUnion, TablesUnion, UntilUnion, WindowUnion}
+use Rattle.monitor_state.specs.StateUnions.{JoinUnion, NextUnion, NodeUnion, NodesUnion, OrUnion, PreviousUnion}
+use Rattle.monitor_state.specs.StateUnions.{SinceUnion, TablesUnion, UntilUnion, WindowUnion}
 use Rattle.monitor_state.specs.Views.{reached}
 use Rattle.monitor_state.specs.declared.state.NodeData.{NodeData}
 use Rattle.monitor_state.specs.declared.state.NodeData.TheVariants as kept
@@ -32,7 +35,8 @@ use Rattle.monitor_state.specs.declared.state.UntilKept.{UntilKept}
 use Rattle.monitor_state.specs.declared.state.WindowData.{WindowData}
 use Rattle.monitor_state.specs.declared.state.WindowData.TheVariants as window
 use Rattle.state_merge.proofs.SinceUnited.{since_inside, since_keeps, since_stands}
-use Rattle.state_merge.proofs.TablesUnited.{lists_few, lists_over, lists_union, over_union, tables_at, tables_union, union_length}
+use Rattle.state_merge.proofs.TablesUnited.{lists_few, lists_over, lists_union, over_union, tables_at, tables_union}
+use Rattle.state_merge.proofs.TablesUnited.{union_length}
 use Rattle.state_merge.proofs.UntilUnited.{until_inside, until_keeps, until_stands}
 
 -- ---- the places that are asked for

@@ -1,5 +1,6 @@
 -- The data of two UNTILs united stands for both regions, has nothing outside them, and keeps its rule.
-use Rattle.std.proofs.Common.{◌≡◌, ℕ, ◌+◌, ◌≤◌, ◌^◌, Bool, true, ◌||◌, cond, nat_le, List, [], length, map, Option, sym, subst, subst₂, ap, ap₂, ◌∙◌}
+use Rattle.std.proofs.Common.{◌≡◌, ℕ, ◌+◌, ◌≤◌, ◌^◌, Bool, true, ◌||◌, cond, nat_le, List, [], length, map, Option, sym}
+use Rattle.std.proofs.Common.{subst, subst₂, ap, ap₂, ◌∙◌}
 use Rattle.std.specs.List.{list_any}
 use Rattle.std.specs.Option.{unwrap_or}
 use Rattle.std.specs.Prelude.{min}
@@ -30,7 +31,9 @@ use Rattle.monitor_state.specs.declared.state.WindowData.TheVariants as window
 use Rattle.state_merge.proofs.JoinedLemmas.{marks_right, or_self, pooled, starts_right}
 use Rattle.state_merge.proofs.KeepingLemmas.{AllKept, union_keeps}
 use Rattle.state_merge.proofs.TablesUnited.{over_union, rows_inside, tables_at, union_length}
-use Rattle.state_merge.proofs.UntilRows.{MarksRow, StartRow, entries_ascend, marks_row_joined, marks_rows, rows_places, rows_sized, rows_some, rows_wait, start_row_joined, start_rows, starts_above, starts_below, starts_wide}
+use Rattle.state_merge.proofs.UntilRows.{MarksRow, StartRow, entries_ascend, marks_row_joined, marks_rows, rows_places}
+use Rattle.state_merge.proofs.UntilRows.{rows_sized, rows_some, rows_wait, start_row_joined, start_rows, starts_above}
+use Rattle.state_merge.proofs.UntilRows.{starts_below, starts_wide}
 
 module _ (view : View) (r q all : Region) (union : (vs : List ℕ) (v : Valuation) → all vs v ≡ (r vs v || q vs v))
     (k : KeptTimes) (p : ℕ) (i : Interval) (f g : CoreForm) (a b c : UntilKept)

@@ -1,11 +1,6 @@
 //! Laws of uniting and adopting, as theorems on the definitions. Each call does nothing: its clause is the law.
-ghost use Rattle.monitor_state.specs.StateLaws.{AdoptMerges, AllMerged, PartStands, UnionStands};
+ghost use Rattle.monitor_state.specs.StateLaws.{AdoptMerges, AllMerged, UnionStands};
 ghost use Rattle.state_merge.specs.Fitting.{PiecesFit, StatesFit};
-
-/// A state that stands for a log in a region stands for it in each part of that region.
-pub fn part_stands()
-    ensures { PartStands }
-{}
 
 /// Two states of one log, united, stand for it in both regions together, store nothing outside them, and keep
 /// the rule of states.

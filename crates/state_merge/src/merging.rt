@@ -1,5 +1,5 @@
 //! The merge of a worker's new state.
-ghost use Rattle.std.specs.Prelude.{◌≡◌, ◌+◌, ◌<◌, ◌∷◌, ◌==◌, List, None, Some, ℕ, IfOk, IfSome, IsSome, OnOk};
+ghost use Rattle.std.specs.Prelude.{◌≡◌, ◌+◌, ◌<◌, ◌∷◌, ◌==◌, List, None, Some, ℕ, IfOk, IfSome, OnOk};
 ghost use Rattle.mfotl_model.specs.Regions.{near_of};
 ghost use Rattle.mfotl_model.specs.Strategies.{Strategy};
 ghost use Rattle.mfotl_model.specs.declared.event.TimePoint.{TimePoint};
@@ -9,9 +9,7 @@ ghost use Rattle.monitor_state.specs.MonitorView.{monitor_of};
 ghost use Rattle.monitor_state.specs.Pieces.{Adopts, Merges, PieceStands, view_of};
 ghost use Rattle.monitor_state.specs.Resuming.{SuitsWhole};
 ghost use Rattle.monitor_state.specs.Stands.{Stands};
-ghost use Rattle.monitor_state.specs.StateRules.{StateRule};
-ghost use Rattle.monitor_state.specs.StateStands.{StateStands};
-ghost use Rattle.state_merge.specs.Finishing.{AllAdopted};
+ghost use Rattle.state_merge.specs.Finishing.{AllAdopted, IsWhole};
 ghost use Rattle.state_merge.specs.Fits.{Fits};
 ghost use Rattle.state_merge.specs.MergingView.{merging_of};
 
@@ -47,7 +45,12 @@ fn with_piece(alloc: Global, merged: Option<State>, piece: State) -> Result<Stat
 impl Merging {
     /// The merge of so many pieces, of which none was adopted.
     pub fn new(alloc: Global, core: &Core, count: u32) -> Result<Self, AllocError>
-        ensures { IfOk result (λ merging. merging_of merging ≡ record { core = core_form core.now; count = count; adopted = 0; merged = None }) }
+        ensures { IfOk result (λ merging. merging_of merging ≡ record {
+          core = core_form core.now;
+          count = count;
+          adopted = 0;
+          merged = None;
+        }) }
     {
         Ok(Merging {
             core: core.copy(alloc)?,
@@ -83,26 +86,9 @@ impl Merging {
         self.adopted == self.count
     }
 
-    /// The core, and the state that the worker goes on from. It takes no memory.
-    pub fn into_state(self) -> (Core, State)
-        requires some { IsSome (merging_of self).merged }
-        ensures core { core_form result.0 ≡ (merging_of self).core }
-        ensures state { (merging_of self).merged ≡ Some result.1 }
-        ensures stands { (core : CoreForm) (s s2 : Strategy) (k2 : ℕ) (log : List TimePoint) (ks : List ℕ) →
-            AllAdopted s ks → Merges core s s2 k2 log ks (merging_of self).merged →
-            StateRule core result.1 × StateStands (view_of core (near_of s2 k2) log) core result.1 }
-    {
-        let Merging { core, merged, .. } = self;
-        let Some(state) = merged else {
-            unreachable!();
-        };
-        (core, state)
-    }
-
-    /// The monitor that goes on from what was merged.
+    /// The monitor that goes on from the pieces, all of which were adopted: it stands for what they stand for together.
     pub fn finish(self, alloc: Global) -> Result<Monitor, AllocError>
-        requires some { IsSome (merging_of self).merged }
-        requires rule { IfSome (merging_of self).merged (λ state. StateRule (merging_of self).core state) }
+        requires whole { IsWhole (merging_of self) }
         ensures core { IfOk result (λ monitor. (monitor_of monitor).core ≡ (merging_of self).core) }
         ensures stands { IfOk result (λ monitor. (s s2 : Strategy) (k2 : ℕ) (log : List TimePoint) (ks : List ℕ) →
             AllAdopted s ks → Merges (merging_of self).core s s2 k2 log ks (merging_of self).merged →
@@ -110,7 +96,10 @@ impl Merging {
             Stands (view_of (merging_of self).core (near_of s2 k2) log) (merging_of self).core
             (monitor_of monitor).state) }
     {
-        let (core, state) = self.into_state();
+        let Merging { core, merged, .. } = self;
+        let Some(state) = merged else {
+            unreachable!();
+        };
         let monitor = Monitor::resume(alloc, core, state)?;
         Ok(monitor)
     }

@@ -25,7 +25,7 @@ use Rattle.monitor_state.specs.declared.state.State.{State}
 use Rattle.monitor_state.specs.declared.state.WindowData.{WindowData}
 use Rattle.monitor_state.specs.declared.state.WindowData.TheVariants as window
 use Rattle.state_split.proofs.NodeCuts.{nodes_inside, nodes_rule, nodes_stand}
-use Rattle.state_split.proofs.PartLaw.{part_stands}
+use Rattle.monitor_state.proofs.PartLaw.{part_stands}
 use Rattle.state_split.specs.Splits.{IsNumbered, StrategiesCut}
 
 -- ---- nodes ask for the same timestamps

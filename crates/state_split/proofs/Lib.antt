@@ -1,4 +1,3 @@
-pub mod PartLaw
 pub mod RowCuts
 pub mod TableCuts
 pub mod SinceCuts

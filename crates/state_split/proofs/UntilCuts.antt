@@ -1,5 +1,6 @@
 -- The data of an UNTIL cut to a region: it keeps its rule, stands for the region, and has nothing outside it.
-use Rattle.std.proofs.Common.{◌≡◌, ℕ, ◌+◌, ◌≤◌, ◌<◌, ◌^◌, Bool, true, cond, nat_le, nat_lt, ◌&&◌, List, [], ◌∷◌, length, map, refl, sym, subst, ap, ◌∙◌}
+use Rattle.std.proofs.Common.{◌≡◌, ℕ, ◌+◌, ◌≤◌, ◌<◌, ◌^◌, Bool, true, cond, nat_le, nat_lt, ◌&&◌, List, [], ◌∷◌, length}
+use Rattle.std.proofs.Common.{map, refl, sym, subst, ap, ◌∙◌}
 use Rattle.std.specs.List.{AllByRecursion, list_all, list_any}
 use Rattle.std.specs.Option.{IfSome, unwrap_or}
 use Rattle.mfotl_model.specs.Exact.{Covers, View}

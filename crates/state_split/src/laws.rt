@@ -1,11 +1,6 @@
 //! Laws of cutting, as theorems on the definitions. Each call does nothing: its clause is the law.
-ghost use Rattle.monitor_state.specs.StateLaws.{CutIsPiece, CutStands, PartStands};
+ghost use Rattle.monitor_state.specs.StateLaws.{CutIsPiece, CutStands};
 ghost use Rattle.state_split.specs.Splits.{StrategiesCut};
-
-/// A state that stands for a log in a region stands for it in each part of that region.
-pub fn part_stands()
-    ensures { PartStands }
-{}
 
 /// A state cut to a part of its region stands for that part, has nothing outside it, and keeps the rule of states.
 pub fn cut_stands()

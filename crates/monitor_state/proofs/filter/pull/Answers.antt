@@ -9,7 +9,8 @@ returns c =
     record {
       table = c.in-Some.table;
       ready = c.settle.new.window;
-      front = taken_one c.take.result c.in-Some.table c.args.state.now.tables c.take.new.self c.in-Some.is c.take.ensures.first;
+      front = taken_one c.take.result c.in-Some.table c.args.state.now.tables c.take.new.self c.in-Some.is
+          c.take.ensures.first;
       turns = refl;
       settles = c.in_ok-settle.ensures.settles;
       was_due = due;

@@ -8,13 +8,15 @@ loop-tables-preserved c =
     subst (FilterPulled c.args.state.now c.pull.new.state) (sym c.in_ok-push.ensures)
     (pulled_more c.args.state.now c.loop-tables.state c.pull.new.state c.loop-tables.tables c.in-Some.table
     c.loop-tables.invariant
-    (subst (λ o. MatchOption o (FilterStops c.loop-tables.state c.pull.new.state) (FilterStep c.loop-tables.state c.pull.new.state))
+    (subst (λ o. MatchOption o (FilterStops c.loop-tables.state c.pull.new.state)
+    (FilterStep c.loop-tables.state c.pull.new.state))
     c.in-Some.is c.in_ok-table.ensures))
 
 pub returns : goal.returns
 returns c = (
   c.loop-tables.state,
   c.loop-tables.invariant,
-  subst (λ o. MatchOption o (FilterStops c.loop-tables.state c.pull.new.state) (FilterStep c.loop-tables.state c.pull.new.state))
+  subst (λ o. MatchOption o (FilterStops c.loop-tables.state c.pull.new.state)
+      (FilterStep c.loop-tables.state c.pull.new.state))
       c.in_default.is c.in_ok-table.ensures,
 )

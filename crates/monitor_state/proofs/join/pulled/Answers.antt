@@ -6,7 +6,8 @@ use Rattle.monitor_state.proofs.join.pulled.Goals as goal
 pub loop-tables-init : goal.loop-tables-init
 loop-tables-init c = record {
   some = c.requires;
-  pulled = subst (JoinPulled c.args.state.now c.args.state.now) (sym c.new-tables.ensures) (join_pulled_none c.args.state.now);
+  pulled = subst (JoinPulled c.args.state.now c.args.state.now) (sym c.new-tables.ensures)
+      (join_pulled_none c.args.state.now);
 }
 
 pub loop-tables-smaller : goal.loop-tables-smaller
@@ -16,7 +17,8 @@ loop-tables-smaller c =
 
 pub loop-tables-preserved : goal.loop-tables-preserved
 loop-tables-preserved c = record {
-  some = (join_fewer c.loop-tables.state c.pull.new.self c.in_ok-table.field-0 c.in-Some.table c.loop-tables.invariant.some
+  some = (join_fewer c.loop-tables.state c.pull.new.self c.in_ok-table.field-0 c.in-Some.table
+      c.loop-tables.invariant.some
       c.in-Some.is c.in_ok-table.ensures.due c.in_ok-table.ensures.state).1;
   pulled = join_pulled_more c.args.state.now c.loop-tables.state c.pull.new.self c.loop-tables.tables c.push.new.self
       c.in_ok-table.field-0 c.in-Some.table c.loop-tables.invariant.pulled c.in-Some.is c.in_ok-table.ensures.due

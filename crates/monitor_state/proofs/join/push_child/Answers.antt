@@ -10,7 +10,8 @@ pub loop-table-init : goal.loop-table-init
 loop-table-init c = (
   [],
   refl,
-  ap (λ (cs : List ChildOf). record c.args.state.now { children = cs }) (fed_none c.args.state.now.children c.args.child),
+  ap (λ (cs : List ChildOf). record c.args.state.now { children = cs })
+      (fed_none c.args.state.now.children c.args.child),
 )
 
 pub loop-table-preserved : goal.loop-table-preserved
@@ -18,9 +19,11 @@ loop-table-preserved c =
     let front : List TableOf = c.loop-table.invariant.0 in (
       front ++ c.in-Some.table ∷ [],
       moved_one c.args.tables front c.loop-table.tables c.take.new.self c.in-Some.table c.loop-table.invariant.1
-          (taken_one c.take.result c.in-Some.table c.loop-table.tables c.take.new.self c.in-Some.is c.take.ensures.first),
+          (taken_one c.take.result c.in-Some.table c.loop-table.tables c.take.new.self c.in-Some.is
+          c.take.ensures.first),
       c.in_ok-push.ensures.pushed
-          ∙ ap (λ (x : JoinOf). record x { children = child_pushed x.children c.args.child c.in-Some.table }) c.loop-table.invariant.2
+          ∙ ap (λ (x : JoinOf). record x { children = child_pushed x.children c.args.child c.in-Some.table })
+          c.loop-table.invariant.2
           ∙ ap (λ (cs : List ChildOf). record c.args.state.now { children = cs })
           (fed_one c.args.state.now.children c.args.child front c.in-Some.table),
     )
@@ -28,5 +31,9 @@ loop-table-preserved c =
 pub returns : goal.returns
 returns c =
     c.loop-table.invariant.2
-    ∙ ap (λ (ts : List TableOf). record c.args.state.now { children = child_fed c.args.state.now.children c.args.child ts })
-    (sym (ended_at c.args.tables c.loop-table.invariant.0 c.loop-table.tables c.take.result c.take.new.self c.loop-table.invariant.1 c.in_default.is c.take.ensures.none))
+    ∙ ap (λ (ts : List TableOf). record c.args.state.now {
+      children =
+          child_fed c.args.state.now.children c.args.child ts;
+    })
+    (sym (ended_at c.args.tables c.loop-table.invariant.0 c.loop-table.tables c.take.result c.take.new.self
+    c.loop-table.invariant.1 c.in_default.is c.take.ensures.none))

@@ -6,11 +6,16 @@ use Rattle.monitor_state.proofs.join.push_children.Goals as goal
 
 pub loop-tables-init : goal.loop-tables-init
 loop-tables-init c =
-    record { number = refl; fed = ap (λ (cs : List ChildOf). record c.args.state.now { children = cs }) (fed_nothing c.args.state.now.children) }
+    record {
+      number = refl;
+      fed = ap (λ (cs : List ChildOf). record c.args.state.now { children = cs })
+          (fed_nothing c.args.state.now.children);
+    }
 
 pub loop-tables-preserved : goal.loop-tables-preserved
 loop-tables-preserved c =
-    let size : length (c.loop-tables.yielded ++ c.in-Some.tables ∷ []) ≡ length c.loop-tables.yielded + length (c.in-Some.tables ∷ []) =
+    let size : length (c.loop-tables.yielded ++ c.in-Some.tables ∷ []) ≡ length c.loop-tables.yielded + length
+    (c.in-Some.tables ∷ []) =
     length-append c.loop-tables.yielded (c.in-Some.tables ∷ []) in
     let one : length (c.in-Some.tables ∷ []) ≡ 1 = omega arith in
     let next : c.in_ok-child.child ≡ c.loop-tables.child + 1 = c.in_ok-child.ensures in
@@ -18,8 +23,10 @@ loop-tables-preserved c =
       number = omega arith;
       fed =
           c.in_ok-push_child.ensures
-          ∙ ap (λ (x : JoinOf). record x { children = child_fed x.children c.loop-tables.child c.in-Some.tables }) c.loop-tables.invariant.fed
+          ∙ ap (λ (x : JoinOf). record x { children = child_fed x.children c.loop-tables.child c.in-Some.tables })
+          c.loop-tables.invariant.fed
           ∙ ap (λ (cs : List ChildOf). record c.args.state.now { children = cs })
-          (ap (λ n. child_fed (children_fed c.args.state.now.children c.loop-tables.yielded) n c.in-Some.tables) c.loop-tables.invariant.number
+          (ap (λ n. child_fed (children_fed c.args.state.now.children c.loop-tables.yielded) n c.in-Some.tables)
+          c.loop-tables.invariant.number
           ∙ fed_next c.args.state.now.children c.loop-tables.yielded c.in-Some.tables);
     }

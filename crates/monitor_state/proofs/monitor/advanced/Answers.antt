@@ -23,7 +23,8 @@ loop-node-preserved c view point core premises stand =
 pub returns : goal.returns
 returns c view point core premises stands =
     let done : length c.loop-node.node-items ≤ c.loop-node.node-index = omega arith in
-    let ends = going_ends view point c.args.point.now core c.loop-node.node-items c.loop-node.node-index c.loop-node.stack.items
+    let ends = going_ends view point c.args.point.now core c.loop-node.node-items c.loop-node.node-index
+    c.loop-node.stack.items
     c.popped.new.stack.items c.popped.result done
     (c.loop-node.invariant view point core premises
     (subst (NodesStand view (nodes_of core)) (sym c.deref_mut-node-items.ensures.value) stands))

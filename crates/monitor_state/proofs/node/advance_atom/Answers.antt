@@ -9,7 +9,8 @@ use Rattle.monitor_state.proofs.node.advance_atom.Goals as goal
 pub returns-in-Ok : goal.returns-in-Ok
 returns-in-Ok c =
     ok_then c.one.result (λ (tables : List TableOf). tables ≡ c.in-Ok.table ∷ [])
-    (Advances (node.Atom c.args.atom.now) c.args.point.now c.args._stack.now.items (node.Atom c.args.atom.now) c.args._stack.now.items)
+    (Advances (node.Atom c.args.atom.now) c.args.point.now c.args._stack.now.items (node.Atom c.args.atom.now)
+    c.args._stack.now.items)
     (λ tables is.
     atom_advances c.args.atom.now c.args.point.now c.args._stack.now.items c.in-Ok.table tables
     c.in-Ok.ensures.columns c.in-Ok.ensures.has is)

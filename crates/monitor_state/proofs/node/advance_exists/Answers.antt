@@ -8,7 +8,8 @@ use Rattle.monitor_state.proofs.node.advance_exists.Goals as goal
 pub returns : goal.returns
 returns c =
     ok_then c.quantified.result (Quantifies c.args.var c.popped-tables.result)
-    (Advances (node.Exists c.args.var) c.args._point.now c.args.stack.now.items (node.Exists c.args.var) c.popped-tables.new.stack.items)
+    (Advances (node.Exists c.args.var) c.args._point.now c.args.stack.now.items (node.Exists c.args.var)
+    c.popped-tables.new.stack.items)
     (λ tables q.
     exists_advances c.args.var c.args._point.now c.args.stack.now.items c.popped-tables.new.stack.items
     c.popped-tables.result tables c.popped-tables.ensures q)

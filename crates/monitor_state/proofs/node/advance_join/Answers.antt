@@ -10,9 +10,11 @@ use Rattle.monitor_state.proofs.node.advance_join.Goals as goal
 pub returns : goal.returns
 returns c =
     ok_then c.take_join.result (JoinTakes c.args.state.now c.in_ok-lists.lists.items c.take_join.new.state)
-    (Advances (node.Join c.args.state.now) c.args._point.now c.args.stack.now.items (node.Join c.take_join.new.state) c.popped_many.new.stack.items)
+    (Advances (node.Join c.args.state.now) c.args._point.now c.args.stack.now.items (node.Join c.take_join.new.state)
+    c.popped_many.new.stack.items)
     (λ tables takes.
     join_advances c.args.state.now c.take_join.new.state c.args._point.now c.args.stack.now.items
     c.popped_many.new.stack.items c.in_ok-lists.lists.items tables
-    (subst (λ n. PopsMany n c.args.stack.now.items c.popped_many.new.stack.items c.in_ok-lists.lists.items) c.children-children.ensures c.in_ok-lists.ensures) takes)
+    (subst (λ n. PopsMany n c.args.stack.now.items c.popped_many.new.stack.items c.in_ok-lists.lists.items)
+    c.children-children.ensures c.in_ok-lists.ensures) takes)
     c.take_join.ensures

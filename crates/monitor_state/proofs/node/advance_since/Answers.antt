@@ -8,7 +8,8 @@ use Rattle.monitor_state.proofs.node.advance_since.Goals as goal
 pub returns : goal.returns
 returns c =
     ok_then c.take_since.result
-    (SinceTakes c.args.order.now.columns c.args.state.now c.args.point.now.ts c.popped-left.result c.popped-right.result c.take_since.new.state)
+    (SinceTakes c.args.order.now.columns c.args.state.now c.args.point.now.ts c.popped-left.result c.popped-right.result
+    c.take_since.new.state)
     (Advances (node.Since c.args.state.now c.args.order.now) c.args.point.now c.args.stack.now.items
     (node.Since c.take_since.new.state c.args.order.now) c.popped-left.new.stack.items)
     (λ tables takes.

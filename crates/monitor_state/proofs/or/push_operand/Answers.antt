@@ -14,7 +14,8 @@ loop-table-preserved c =
     let front : List TableOf = c.loop-table.invariant.0 in (
       front ++ c.in-Some.table ∷ [],
       moved_one c.args.tables front c.loop-table.tables c.take.new.self c.in-Some.table c.loop-table.invariant.1
-          (taken_one c.take.result c.in-Some.table c.loop-table.tables c.take.new.self c.in-Some.is c.take.ensures.first),
+          (taken_one c.take.result c.in-Some.table c.loop-table.tables c.take.new.self c.in-Some.is
+          c.take.ensures.first),
       c.in_ok-push.ensures.pushed
           ∙ ap (λ (x : OrOf). or_pushed x c.args.child c.in-Some.table) c.loop-table.invariant.2
           ∙ operand_one c.args.state.now c.args.child front c.in-Some.table,
@@ -24,4 +25,5 @@ pub returns : goal.returns
 returns c =
     c.loop-table.invariant.2
     ∙ ap (operand_fed c.args.state.now c.args.child)
-    (sym (ended_at c.args.tables c.loop-table.invariant.0 c.loop-table.tables c.take.result c.take.new.self c.loop-table.invariant.1 c.in_default.is c.take.ensures.none))
+    (sym (ended_at c.args.tables c.loop-table.invariant.0 c.loop-table.tables c.take.result c.take.new.self
+    c.loop-table.invariant.1 c.in_default.is c.take.ensures.none))

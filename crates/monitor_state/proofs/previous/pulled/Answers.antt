@@ -4,7 +4,8 @@ use Rattle.monitor_state.specs.PreviousFeeding.{PreviousPulled}
 use Rattle.monitor_state.proofs.previous.pulled.Goals as goal
 
 pub loop-tables-init : goal.loop-tables-init
-loop-tables-init c = subst (PreviousPulled c.args.state.now c.args.state.now) (sym c.new-tables.ensures) (pulled_none c.args.state.now)
+loop-tables-init c = subst (PreviousPulled c.args.state.now c.args.state.now) (sym c.new-tables.ensures)
+    (pulled_none c.args.state.now)
 
 pub loop-tables-smaller : goal.loop-tables-smaller
 loop-tables-smaller c =

@@ -1,11 +1,11 @@
 use Rattle.std.proofs.Common.{length}
 use Rattle.monitor_state.specs.Resuming.{HalfResumed}
-use Rattle.monitor_state.specs.StateTimes.{KeptTimes}
 use Rattle.monitor_state.proofs.resumed.nodes_resumed.Given as goal
 
 abbrev pub invariant-loop-node : goal.invariant-loop-node
 invariant-loop-node l =
-    HalfResumed (record { first = l.first; stamps = l.times }) l.fn.fresh.items l.fn.kept.items l.rest.items l.left.items
+    HalfResumed (record { first = l.first; stamps = l.times }) l.fn.fresh.items l.fn.kept.items l.rest.items
+    l.left.items
     l.nodes.items
 
 abbrev pub decreases-loop-node : goal.decreases-loop-node

@@ -18,4 +18,5 @@ returns c =
     let new : FilterState =
     record { tables = c.from_vec.result; window = c.in_ok-window.window; negated = c.args.state.negated } in
     subst (λ d. NodeResumed k (node.Filter c.args.state) d (node.Filter new)) (sym c.in-Filter.is)
-    (filter_resumed k c.args.state new c.in-Filter.tables c.in-Filter.window c.from_vec.ensures refl c.in_ok-window.ensures)
+    (filter_resumed k c.args.state new c.in-Filter.tables c.in-Filter.window c.from_vec.ensures refl
+    c.in_ok-window.ensures)

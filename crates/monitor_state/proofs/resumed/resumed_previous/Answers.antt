@@ -14,4 +14,5 @@ returns c =
     subst (λ d. NodeResumed k (node.Previous old) d (node.Previous c.in_ok-resumed.resumed)) (sym c.in-Previous.is)
     (previous_resumed k old c.in_ok-resumed.resumed data_of
     (c.in_ok-resumed.ensures
-    ∙ ap₂ (λ x xs. previous_of old.interval old.columns x xs data_of) c.before_place-last.ensures c.from_place-next.ensures))
+    ∙ ap₂ (λ x xs. previous_of old.interval old.columns x xs data_of) c.before_place-last.ensures
+    c.from_place-next.ensures))

@@ -9,5 +9,6 @@ returns c = record {
   times = c.in_ok-resumed.ensures.times ∙ c.from_place-next.ensures;
   lefts = c.in_ok-resumed.ensures.lefts;
   rights = c.in_ok-resumed.ensures.rights;
-  follows = λ t a b v f. c.in_ok-resumed.ensures.follows t a b v (rw (c.before_place-last.ensures, c.from_place-next.ensures) f);
+  follows = λ t a b v f. c.in_ok-resumed.ensures.follows t a b v
+      (rw (c.before_place-last.ensures, c.from_place-next.ensures) f);
 }

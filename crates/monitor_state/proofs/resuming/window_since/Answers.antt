@@ -8,5 +8,6 @@ use Rattle.monitor_state.proofs.resuming.window_since.Goals as goal
 pub returns : goal.returns
 returns c =
     let k : KeptTimes = record { first = c.args.first; stamps = c.args.times.now } in
-    subst (λ d. WindowResumed k (window.Since c.args.state) d (window.Since c.in_ok-resumed.resumed)) (sym c.in-Since.is)
+    subst (λ d. WindowResumed k (window.Since c.args.state) d (window.Since c.in_ok-resumed.resumed))
+    (sym c.in-Since.is)
     (since_in_window k c.args.state c.in_ok-resumed.resumed c.in-Since.kept c.in_ok-resumed.ensures)

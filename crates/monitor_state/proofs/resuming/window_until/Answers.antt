@@ -8,5 +8,6 @@ use Rattle.monitor_state.proofs.resuming.window_until.Goals as goal
 pub returns : goal.returns
 returns c =
     let k : KeptTimes = record { first = c.args.first; stamps = c.args.times.now } in
-    subst (λ d. WindowResumed k (window.Until c.args.state) d (window.Until c.in_ok-resumed.resumed)) (sym c.in-Until.is)
+    subst (λ d. WindowResumed k (window.Until c.args.state) d (window.Until c.in_ok-resumed.resumed))
+    (sym c.in-Until.is)
     (until_in_window k c.args.state c.in_ok-resumed.resumed c.in-Until.kept c.in_ok-resumed.ensures)

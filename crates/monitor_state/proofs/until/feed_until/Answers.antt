@@ -4,7 +4,8 @@ use Rattle.monitor_state.proofs.until.feed_until.Goals as goal
 
 pub returns : goal.returns
 returns c =
-    on_ok_then c.push_rights.result _ (UntilFeeds c.args.state.now c.args.ts c.args.left c.args.right c.push_rights.new.state)
+    on_ok_then c.push_rights.result _ (UntilFeeds c.args.state.now c.args.ts c.args.left c.args.right
+    c.push_rights.new.state)
     (λ rights.
     record {
       timed = c.push_time.new.self;

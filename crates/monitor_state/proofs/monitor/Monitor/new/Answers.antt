@@ -14,7 +14,8 @@ returns-clause-begins c =
     (record { taken = 0; given = 0; first = 0; times = c.new.result.items; nodes = c.add_nodes.new.nodes.items })
     refl refl refl c.new.ensures.items
     (subst (λ f. Adds (nodes_of f) [] c.add_nodes.new.nodes.items) c.root.ensures
-    (subst (λ ns. Adds (nodes_of (node_form c.root.result.now)) ns c.add_nodes.new.nodes.items) c.new-nodes.ensures.items
+    (subst (λ ns. Adds (nodes_of (node_form c.root.result.now)) ns c.add_nodes.new.nodes.items)
+    c.new-nodes.ensures.items
     c.in_ok-add_nodes.ensures))
 
 pub add_nodes-requires : goal.add_nodes-requires

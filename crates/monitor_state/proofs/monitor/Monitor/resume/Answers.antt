@@ -1,4 +1,4 @@
-use Rattle.std.proofs.Common.{◌≡◌, ◌-◌, [], subst, refl, sym, ap, ◌∙◌}
+use Rattle.std.proofs.Common.{◌-◌, [], subst, refl, sym, ap, ◌∙◌}
 use Rattle.monitorable.specs.Cores.{core_form}
 use Rattle.monitorable.specs.CoreForms.{node_form}
 use Rattle.monitorable.specs.Fragment.{fault_in}
@@ -7,7 +7,7 @@ use Rattle.monitor_state.proofs.ResumeState.{all_match, empty_view, fresh_stand,
 use Rattle.monitor_state.specs.Beginnings.{Adds}
 use Rattle.monitor_state.specs.Nodes.{nodes_of}
 use Rattle.monitor_state.specs.Resuming.{AllMatch, NodesResumed}
-use Rattle.monitor_state.specs.StateTimes.{KeptTimes, times_of}
+use Rattle.monitor_state.specs.StateTimes.{times_of}
 use Rattle.monitor_state.proofs.monitor.Monitor.resume.Goals as goal
 
 pub add_nodes-requires : goal.add_nodes-requires
@@ -20,12 +20,14 @@ nodes_resumed-requires c =
     let fresh = c.add_nodes.new.nodes.items in
     let kept = c.args.state in
     let same = times_are kept c.saturating_sub-first.result c.as_slice.result.now
-    (c.saturating_sub-first.ensures ∙ ap (λ n. kept.taken - n) (c.len.ensures ∙ kept.times.ok.0)) c.as_slice.ensures.value in
+    (c.saturating_sub-first.ensures ∙ ap (λ n. kept.taken - n) (c.len.ensures ∙ kept.times.ok.0))
+    c.as_slice.ensures.value in
     subst (λ k. AllMatch k fresh kept.nodes.items) same
     (all_match (empty_view core) (times_of kept) (nodes_of core) fresh kept.nodes.items
     (fresh_stand core fresh
     (subst (λ f. Adds (nodes_of f) [] fresh) c.root.ensures
-    (subst (λ ns. Adds (nodes_of (node_form c.root.result.now)) ns fresh) c.new-fresh.ensures.items c.in_ok-add_nodes.ensures)))
+    (subst (λ ns. Adds (nodes_of (node_form c.root.result.now)) ns fresh) c.new-fresh.ensures.items
+    c.in_ok-add_nodes.ensures)))
     c.requires.rule)
 
 pub returns-clause-stands : goal.returns-clause-stands
@@ -35,7 +37,8 @@ returns-clause-stands c view suits stands =
     let kept = c.args.state in
     let made = c.in_ok-nodes.nodes.items in
     let same = times_are kept c.saturating_sub-first.result c.as_slice.result.now
-    (c.saturating_sub-first.ensures ∙ ap (λ n. kept.taken - n) (c.len.ensures ∙ kept.times.ok.0)) c.as_slice.ensures.value in
+    (c.saturating_sub-first.ensures ∙ ap (λ n. kept.taken - n) (c.len.ensures ∙ kept.times.ok.0))
+    c.as_slice.ensures.value in
     state_resumed core kept fresh
     (record {
       taken = kept.taken;
@@ -46,7 +49,9 @@ returns-clause-stands c view suits stands =
     })
     (fresh_stand core fresh
     (subst (λ f. Adds (nodes_of f) [] fresh) c.root.ensures
-    (subst (λ ns. Adds (nodes_of (node_form c.root.result.now)) ns fresh) c.new-fresh.ensures.items c.in_ok-add_nodes.ensures)))
+    (subst (λ ns. Adds (nodes_of (node_form c.root.result.now)) ns fresh) c.new-fresh.ensures.items
+    c.in_ok-add_nodes.ensures)))
     c.requires.rule
     (subst (λ k. NodesResumed k fresh kept.nodes.items made) (sym same) c.in_ok-nodes.ensures)
-    refl refl (c.saturating_sub-first.ensures ∙ ap (λ n. kept.taken - n) (c.len.ensures ∙ kept.times.ok.0)) c.from_vec.ensures.items view suits stands
+    refl refl (c.saturating_sub-first.ensures ∙ ap (λ n. kept.taken - n) (c.len.ensures ∙ kept.times.ok.0))
+    c.from_vec.ensures.items view suits stands

@@ -21,7 +21,8 @@ returns-clause-steps c view point premises stands =
       nodes = c.advanced.new.nodes.items;
     })
     c.args.point.now c.in_ok-tables.tables c.in_ok-tables.ensures c.requires refl
-    (saturated c.args.self.now.given c.len.result c.saturating_add-self.result c.in_ok-tables.tables c.len.ensures c.saturating_add-self.ensures)
+    (saturated c.args.self.now.given c.len.result c.saturating_add-self.result c.in_ok-tables.tables c.len.ensures
+    c.saturating_add-self.ensures)
     refl
     (c.in_ok-keep_time.ensures
     ∙ ap (λ n. drop n c.args.self.now.times.items ++ c.args.point.now.ts ∷ []) c.saturating_sub-past.ensures)

@@ -11,7 +11,8 @@ use Rattle.eval_until.specs.declared.recalled.UntilData.{UntilData}
 use Rattle.monitorable.specs.CoreForms.{CoreForm, meaning, Not, And, Or, Previous, Next, Since, Until}
 use Rattle.monitor_state.specs.Nodes.{left_operand, nodes_of}
 use Rattle.monitor_state.specs.StateLaws.{IsPart, PartStands, seen_in}
-use Rattle.monitor_state.specs.StateStands.{NodeDataStands, NodesDataStand, SinceDataStands, TablesStand, UntilDataStands, WindowDataStands}
+use Rattle.monitor_state.specs.StateStands.{NodeDataStands, NodesDataStand, SinceDataStands, TablesStand}
+use Rattle.monitor_state.specs.StateStands.{UntilDataStands, WindowDataStands}
 use Rattle.monitor_state.specs.declared.state.NodeData.{NodeData}
 use Rattle.monitor_state.specs.declared.state.NodeData.TheVariants as kept
 use Rattle.monitor_state.specs.declared.state.WindowData.{WindowData}
