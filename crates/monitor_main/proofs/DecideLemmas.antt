@@ -53,7 +53,8 @@ pub refuses_at : (r : Refusal) (old : Option (List ℕ)) → Refuses (refused r)
 refuses_at r old = record { status = refl; err = refl; out = appends_none old }
 
 -- a refusal before anything was written
-pub comes_refused : (r : Refusal) (fails : InputFile → Type 0) (old : Option (List ℕ)) → Ends (refused r) fails old old r
+pub comes_refused : (r : Refusal) (fails : InputFile → Type 0) (old : Option (List ℕ))
+    → Ends (refused r) fails old old r
     → ComesTo (refused r) fails old old (Err r)
 comes_refused r fails old ends = record { ok = tt; refused = ends; front = no_front old [] }
 

@@ -4,7 +4,11 @@ pub mod ToldLemmas
 pub mod LoadLemmas
 pub mod RunLemmas
 pub mod DecideLemmas
+pub mod StopLemmas
 pub mod CommandLemmas
+pub mod DemoLemmas
+pub mod DemoTexts
+pub mod DivisionLemmas
 pub mod ReportLemmas
 pub mod UsageLemmas
 pub mod AnswerLemmas

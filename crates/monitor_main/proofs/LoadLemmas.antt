@@ -6,8 +6,8 @@ use Rattle.mon_outside.specs.Files.{Files, ToldFiles, content}
 use Rattle.mon_outside.specs.Inputs.{Name, asked_more}
 use Rattle.mon_outside.specs.Views.{InputsView}
 use Rattle.mfotl_sig.specs.Preds.{PredOf}
-use Rattle.monitor_main.specs.Answer.{CheckedPolicy, checked_over, policy_at, signature_of}
-use Rattle.monitor_main.specs.Answer.{source_bytes}
+use Rattle.monitor_main.specs.Tasks.{CheckedPolicy, checked_over, policy_at, signature_of}
+use Rattle.monitor_main.specs.Unread.{source_bytes}
 use Rattle.monitor_main.specs.FilesAsked.{source_names}
 use Rattle.monitor_main.specs.Loading.{HasNoPolicy, IsLoadFault, IsRefused, LoadsSources, NoPolicy, StopsInSources}
 use Rattle.monitor_main.specs.Words.{Sources}

@@ -4,6 +4,7 @@ use Rattle.monitor_main.specs.declared.refusal.Refusal.{Refusal}
 use Rattle.monitor_main.specs.declared.refusal.Refusal.TheVariants.{Usage, LongSignature, Signature}
 use Rattle.monitor_main.specs.declared.refusal.Refusal.TheVariants.{LongPolicy, Policy, Fragment}
 use Rattle.monitor_main.specs.declared.refusal.Refusal.TheVariants.{LongStrategy, Strategy}
+use Rattle.monitor_main.specs.declared.refusal.Refusal.TheVariants.{LongChanges, Changes}
 use Rattle.monitor_main.specs.declared.refusal.Refusal.TheVariants.{Log, Read, Write, Memory}
 use Rattle.monitor_main.specs.declared.status.Status.{Status}
 use Rattle.monitor_main.specs.declared.status.Status.TheVariants as status
@@ -19,6 +20,8 @@ told_under (Policy fault) = refl
 told_under (Fragment fault) = refl
 told_under LongStrategy = refl
 told_under (Strategy fault) = refl
+told_under LongChanges = refl
+told_under (Changes fault) = refl
 told_under (Log fault) = refl
 told_under (Read name) = refl
 told_under Write = refl

@@ -19,17 +19,20 @@ use Rattle.monitor_main.specs.declared.refusal.Refusal.{Refusal}
 use Rattle.monitor_main.specs.declared.refusal.Refusal.TheVariants.{Log, Read}
 use Rattle.mfotl_model.specs.Formulas.{Form}
 use Rattle.monitorable.specs.CoreForms.{CoreForm}
-use Rattle.monitor_main.specs.Answer.{CheckedPolicy, Task, task_on, ended, log_answer, reading_of, seen_of}
+use Rattle.monitor_main.specs.Answer.{ended, log_answer, reading_of}
+use Rattle.monitor_main.specs.Tasks.{CheckedPolicy, Task, task_on}
+use Rattle.monitor_main.specs.Unread.{seen_of}
 use Rattle.monitor_main.specs.Answer.{verdict_status}
 use Rattle.worker_pool.specs.Texts.{standard, tally_on, text_on, violated_on}
 use Rattle.worker_pool.specs.Policies.{IsCoreOf}
-use Rattle.worker_pool.specs.Endings.{EndsBy, WritesAll}
+use Rattle.worker_pool.specs.Endings.{EndsBy, FollowsLog, WritesAll}
 use Rattle.worker_pool.specs.Effects.{Effect}
 use Rattle.worker_pool.specs.declared.end.End.{End}
 use Rattle.worker_pool.specs.declared.end.End.TheVariants.{Finished, LogEnds, ReadFailed, SinkFailed}
 use Rattle.worker_pool.specs.declared.end.End.TheVariants as end
 use Rattle.monitor_main.specs.Decisions.{ComesTo, Ends, FailsInLog, Finishes, HasCauses, MonitorsLog, Refuses}
 use Rattle.log_reader.specs.Growth.{Keeps}
+use Rattle.monitor_main.specs.DemoRuns.{EndsOn}
 use Rattle.monitor_main.specs.LogRuns.{EndsAs, outcome_of}
 use Rattle.log_reader.proofs.GrowthLemmas.{front_stays}
 use Rattle.monitor_main.proofs.LoadLemmas.{rose_later}
@@ -191,6 +194,20 @@ module _ (task : Task) (core : CoreForm) (is : IsCoreOf core task.policy.formula
       → ComesTo (log_answer task) (FailsInLog task whole_effect) old.written new.written (outcome_of end)
   log_comes end h front = record { ok = ok_by end h; refused = refused_by end h; front = due_front front }
 
+  -- of inputs and an output that never fail only this is told
+  pub ends_on : (end : End) → (Rose opened.faults after.faults → ⊥) → (Rose old.faults new.faults → ⊥)
+      → EndsBy is_ended policy given inner end → EndsOn task end
+  ends_on (Finished settled violated rows) no_read no_write h =
+      let same : given ≡ reading_of task = ap (λ b. reading task.sig standard bytes b) h.0 ∙ sym (all_read h.0) in
+      (ap (λ (r : Reading). r.ending) (sym same) ∙ h.1.shows, ap (tally_on policy) (sym same) ∙ h.2)
+  ends_on (LogEnds log.Memory) no_read no_write h = tt
+  ends_on (LogEnds fault) no_read no_write h =
+      let k = keeps in
+      ap (λ (r : Reading). r.ending) (k.stays fault h.shows) ∙ h.shows
+  ends_on ReadFailed no_read no_write h = absurd (no_read h.2)
+  ends_on SinkFailed no_read no_write h = absurd (no_write h)
+  ends_on end.Memory no_read no_write h = tt
+
 -- ---- the file
 
 none_left : (xs ys : List ℕ) → xs ++ ys ≡ xs → ys ≡ []
@@ -210,7 +227,8 @@ is_read_of all after (Some left) e is_open bytes is_ended taken whole = record {
   unopened = λ closed. absurd cc;
 }
 
-opened_read : (first : Option (List ℕ)) (all : List ℕ) → first ≡ Some all → (after : InputsView) → after.is_open ≡ true
+pub opened_read : (first : Option (List ℕ)) (all : List ℕ) → first ≡ Some all → (after : InputsView)
+    → after.is_open ≡ true
     → (bytes : List ℕ) (is_ended : Bool) → Consumes first after.rest bytes
     → (is_ended ≡ true → IfSome first (λ whole. whole ≡ bytes)) → IsReadOf all after bytes is_ended
 opened_read None all e after is_open bytes is_ended taken whole = absurd cc
@@ -313,3 +331,12 @@ module _ (checked : CheckedPolicy) (log : Name) (core : CoreForm) (is : IsCoreOf
       f.taken f.whole)
       opens)
       f.ends f.front)
+
+-- a log of which no call fails was monitored to its end
+pub sure_ends : (task : Task) (core : CoreForm) → IsCoreOf core task.policy.formula → (e : Effect) (end : End)
+    → FollowsLog task.sig task.policy.formula e end → e.before.rest ≡ Some task.log → e.after.is_open ≡ true
+    → (Rose e.before.faults e.after.faults → ⊥) → (Rose e.old.faults e.new.faults → ⊥) → EndsOn task end
+sure_ends task core is e end f rest_is is_open no_read no_write =
+    ends_on task core is e.before e.before e.after e.old e.new (omega arith) f.bytes f.ended
+    (opened_read e.before.rest task.log rest_is e.after is_open f.bytes f.ended f.taken f.whole) end no_read no_write
+    f.ends

@@ -1,5 +1,6 @@
 -- How the verdicts grow with the log.
-use Rattle.std.proofs.Common.{◌≡◌, ◌∙◌, ap, ap₂, sym, refl, subst, arith, ℕ, zero, suc, ◌+◌, ◌-◌, ◌<◌, ◌≤◌, Bool, true, false}
+use Rattle.std.proofs.Common.{◌≡◌, ◌∙◌, ap, ap₂, sym, refl, subst, arith, ℕ, zero, suc, ◌+◌, ◌-◌, ◌<◌, ◌≤◌}
+use Rattle.std.proofs.Common.{Bool, true, false}
 use Rattle.std.proofs.Common.{cond, List, [], ◌∷◌, ◌++◌, map, length, None, add-one}
 use Rattle.std.specs.List.{range_with_len, take_while}
 use Rattle.std.proofs.lemmas.List.{length-map, map-append}
@@ -61,7 +62,8 @@ counted log policy =
     (taken (settled (times log) policy) 0 (length log)
     ∙ ap (λ n. range_with_len 0 (passing (settled (times log) policy) 0 n)) (sym (length-map log (λ p. p.ts))))
 
-module _ (log : List TimePoint) (point : TimePoint) (policy : Form) (rising : NeverFalls (times (log ++ point ∷ []))) where
+module _ (log : List TimePoint) (point : TimePoint) (policy : Form)
+    (rising : NeverFalls (times (log ++ point ∷ []))) where
   longer : List TimePoint
   longer = log ++ point ∷ []
 

@@ -1,8 +1,10 @@
 -- What the words' reader rests on.
-use Rattle.std.proofs.Common.{◌≡◌, ◌<◌, arith, List, [], ◌∷◌, ℕ, Bool, true, false, refl, ◌&&◌, ◌||◌, codes}
+use Rattle.std.proofs.Common.{◌≡◌, ◌<◌, ◌≤◌, ap, arith, List, [], ◌∷◌, ◌++◌, ℕ, Bool, true, false, refl}
+use Rattle.std.proofs.Common.{◌&&◌, ◌||◌, codes}
+use Rattle.std.specs.List.{list_any}
 use Rattle.std.specs.Prelude.{Box, Option, Some, None, option_map, count_by, nat_lt, if◌then◌else◌}
 use Rattle.std.specs.Prelude.{IfSome, Result, Ok, Err}
-use Rattle.std.specs.Str.Parse.{ParsesUnsigned}
+use Rattle.std.specs.Str.Parse.{ParsesUnsigned, digits_value, without_leading_plus}
 use Rattle.std.specs.Box.{box_value}
 use Rattle.clap.specs.Words.{ReadsOne, Row, Text, first_value, first_of, rows_of, subcommand_rows}
 use Rattle.clap.specs.Words.{IsUnsignedIn, one_of, one_text}
@@ -11,8 +13,12 @@ use Rattle.clap.specs.declared.parser.matches.SubCommand.{SubCommand}
 use Rattle.clap.specs.declared.parser.matches.Found.{Found}
 use Rattle.clap.specs.Words.{is_simple, is_simple_and_free}
 use Rattle.clap.proofs.OnLiterals.{clap_on_literals}
-use Rattle.monitor_main.specs.Limits.{max_threads}
-use Rattle.monitor_main.specs.Words.{IsThreadCount, check_app, monitor_app, run_app, sources_app}
+use Rattle.clap.proofs.ValueTestLemmas.{Accepts-accepts, accepts-Accepts}
+use Rattle.clap.specs.ValueTests.{is_unsigned_in}
+use Rattle.clap.specs.declared.builder.value_parser.ValueParser.TheVariants.{Unsigned}
+use Rattle.monitor_main.specs.Limits.{max_seed, max_threads}
+use Rattle.monitor_main.specs.Words.{IsThreadCount, check_app, demo_app, monitor_app, named, run_app, seed_by, seed_of}
+use Rattle.monitor_main.specs.Words.{sources_app}
 use Rattle.clap.proofs.WalkLemmas.{first_value-rows, one_text-rows}
 
 -- the first value of an option
@@ -67,13 +73,47 @@ module _ (E : Type 0) (gives : List ℕ → Result ℕ E → Type 0)
   threads_unread o other reads high =
       at_text _ (λ text e passed. absurd (unread o high text (reads text e) passed))
 
--- more than one of three
-pub two_of_three : (p : List ℕ → Bool) (a b c : List ℕ)
-    → nat_lt 1 (count_by p (a ∷ b ∷ c ∷ [])) ≡ (if p a then p b || p c else (p b && p c))
-two_of_three p a b c = go (p a) (p b) (p c) refl refl refl
+-- ---- the seed
+
+module _ (E : Type 0) (gives : List ℕ → Result ℕ E → Type 0)
+    (parses : (text : List ℕ) (r : Result ℕ E) → gives text r → ParsesUnsigned 64 10 text r) (f : Found) where
+  -- what is read of a text is the number that it writes, if it writes one that may be a seed
+  read_seed : (text : Text) (result : Option ℕ) → ReadsOne gives text result → result ≡ seed_by (Some text)
+  read_seed text (Some n) h =
+      let p = parses text (Ok n) h in
+      let most : digits_value 10 (without_leading_plus text) ≤ max_seed = let low = p.0.1 in omega (arith, low) in
+      let passes : is_unsigned_in 0 max_seed text ≡ true =
+      Accepts-accepts false (Unsigned 0 max_seed) text (p.0.0, p.0.1, omega arith, most) in
+      rw passes (ap Some p.1)
+  read_seed text None h = by (is_unsigned_in 0 max_seed text) refl
+    where
+      by : (b : Bool) → is_unsigned_in 0 max_seed text ≡ b
+          → None ≡ (if b then Some (digits_value 10 (without_leading_plus text)) else None)
+      by true e =
+          let a = accepts-Accepts false (Unsigned 0 max_seed) text e in
+          absurd (parses text (Err h.0) h.1 (a.0, a.1))
+      by false e = refl
+
+  -- the seed that was read is the one among the rows
+  pub seed_read : (result : Option ℕ) → (one_text f (codes "seed") ≡ None → result ≡ None)
+      → ((text : Text) → one_text f (codes "seed") ≡ Some text → ReadsOne gives text result)
+      → result ≡ seed_of (rows_of f)
+  seed_read result none some = by (one_of (codes "seed") (rows_of f)) (one_text-rows f (codes "seed"))
+    where
+      by : (o : Option Text) → one_text f (codes "seed") ≡ o → result ≡ seed_by o
+      by None e = none e
+      by (Some text) e = read_seed text result (some text e)
+
+-- more than one of a run's files: of two, of one that may be left out, and of another
+pub two_of_run : (p : List ℕ → Bool) (a b d : List ℕ) (o : Option (List ℕ))
+    → nat_lt 1 (count_by p (a ∷ b ∷ (named o ++ d ∷ [])))
+    ≡ (if p a then (p b || list_any p (named o)) || p d
+    else if p b then list_any p (named o) || p d else list_any p (named o) && p d)
+two_of_run p a b d None = go (p a) (p b) (p d) refl refl refl
   where
-    go : (x y z : Bool) → p a ≡ x → p b ≡ y → p c ≡ z
-        → nat_lt 1 (count_by p (a ∷ b ∷ c ∷ [])) ≡ (if p a then p b || p c else (p b && p c))
+    go : (x y w : Bool) → p a ≡ x → p b ≡ y → p d ≡ w
+        → nat_lt 1 (count_by p (a ∷ b ∷ d ∷ [])) ≡ (if p a then (p b || false) || p d
+        else if p b then false || p d else false && p d)
     go true true true e f g = rw (e, f, g) refl
     go true true false e f g = rw (e, f, g) refl
     go true false true e f g = rw (e, f, g) refl
@@ -82,6 +122,27 @@ two_of_three p a b c = go (p a) (p b) (p c) refl refl refl
     go false true false e f g = rw (e, f, g) refl
     go false false true e f g = rw (e, f, g) refl
     go false false false e f g = rw (e, f, g) refl
+two_of_run p a b d (Some c) = go (p a) (p b) (p c) (p d) refl refl refl refl
+  where
+    go : (x y z w : Bool) → p a ≡ x → p b ≡ y → p c ≡ z → p d ≡ w
+        → nat_lt 1 (count_by p (a ∷ b ∷ c ∷ d ∷ [])) ≡ (if p a then (p b || (p c || false)) || p d
+        else if p b then (p c || false) || p d else (p c || false) && p d)
+    go true true true true e f g h = rw (e, f, g, h) refl
+    go true true true false e f g h = rw (e, f, g, h) refl
+    go true true false true e f g h = rw (e, f, g, h) refl
+    go true true false false e f g h = rw (e, f, g, h) refl
+    go true false true true e f g h = rw (e, f, g, h) refl
+    go true false true false e f g h = rw (e, f, g, h) refl
+    go true false false true e f g h = rw (e, f, g, h) refl
+    go true false false false e f g h = rw (e, f, g, h) refl
+    go false true true true e f g h = rw (e, f, g, h) refl
+    go false true true false e f g h = rw (e, f, g, h) refl
+    go false true false true e f g h = rw (e, f, g, h) refl
+    go false true false false e f g h = rw (e, f, g, h) refl
+    go false false true true e f g h = rw (e, f, g, h) refl
+    go false false true false e f g h = rw (e, f, g, h) refl
+    go false false false true e f g h = rw (e, f, g, h) refl
+    go false false false false e f g h = rw (e, f, g, h) refl
 
 -- more than one of two
 pub two_of_two : (p : List ℕ → Bool) (a b : List ℕ) → nat_lt 1 (count_by p (a ∷ b ∷ [])) ≡ (p a && p b)
@@ -95,9 +156,9 @@ two_of_two p a b = go (p a) (p b) refl refl
 
 -- the matches and the faults of the command are given by its definition
 pub monitor_is_simple : is_simple monitor_app ≡ true
-unfolding monitor_app run_app check_app sources_app clap_on_literals
+unfolding monitor_app run_app check_app demo_app sources_app clap_on_literals
 monitor_is_simple = refl
 
 pub monitor_is_free : is_simple_and_free monitor_app ≡ true
-unfolding monitor_app run_app check_app sources_app clap_on_literals
+unfolding monitor_app run_app check_app demo_app sources_app clap_on_literals
 monitor_is_free = refl

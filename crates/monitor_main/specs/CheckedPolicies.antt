@@ -5,10 +5,12 @@ use Rattle.mfotl_model.specs.FreeVariables.{fv}
 use Rattle.mfotl_model.specs.declared.policy.Var.{Var}
 use Rattle.mfotl_parse.specs.Views.{policy_of}
 use Rattle.monitorable.specs.CoreForms.{CoreForm, meaning}
+use Rattle.slice_strategy.specs.Entries.{HasWorkers}
+use Rattle.mfotl_model.specs.Strategies.{Strategy}
 use Rattle.monitor_main.specs.declared.checked_policy.CheckedPolicy.{CheckedPolicy as CheckedValue}
 use Rattle.monitor_main.specs.declared.refusal.Refusal.{Refusal}
 use Rattle.monitor_main.specs.declared.refusal.Refusal.TheVariants.{Usage, Read, Write, Memory}
-use Rattle.monitor_main.specs.Answer.{CheckedPolicy}
+use Rattle.monitor_main.specs.Tasks.{CheckedPolicy}
 
 -- the policy that is seen, without its core
 abbrev pub checked_in : CheckedValue → CheckedPolicy
@@ -34,3 +36,7 @@ IsInside Usage = ⊥
 IsInside (Read name) = ⊥
 IsInside Write = ⊥
 IsInside r = Unit {0}
+
+-- the strategy has an entry for each of the variables, and there are as many workers as there may be
+abbrev pub Divides : List Var → Strategy → Type 0
+Divides vars strategy = (length strategy ≡ length vars) × HasWorkers strategy

@@ -1,6 +1,7 @@
 -- The definitions that the contracts cite, in reading order.
 pub mod Limits
 pub mod Words
+pub mod WordsLaw
 pub mod CommandViews
 pub mod Status
 pub mod Real
@@ -9,12 +10,16 @@ pub mod TextLaw
 pub mod FaultLines
 pub mod Refusals
 pub mod CheckLine
+pub mod Tasks
 pub mod Answer
+pub mod Unread
 pub mod AnswerLaws
 pub mod FilesAsked
 pub mod CheckedPolicies
+pub mod ReadyTasks
 pub mod Loading
 pub mod LogRuns
 pub mod Decisions
 pub mod Outcomes
+pub mod DemoRuns
 pub mod DemoLaws

@@ -1,5 +1,5 @@
--- How the loading of the signature and the policy may end.
-use Rattle.std.specs.Prelude.{◌≡◌, ℕ, List, Result, Ok, Err, Some}
+-- How the loading of the files before the log may end.
+use Rattle.std.specs.Prelude.{◌≡◌, ℕ, List, Option, Result, Ok, Err, Some, None}
 use Rattle.mon_outside.specs.Causes.{Rose}
 use Rattle.mon_outside.specs.Files.{Files, ToldFiles, content}
 use Rattle.mon_outside.specs.Inputs.{Name, StopsIn, asked_more}
@@ -8,9 +8,12 @@ use Rattle.monitor_main.specs.declared.refusal.InputFile.{InputFile}
 use Rattle.monitor_main.specs.declared.refusal.InputFile.TheVariants as file
 use Rattle.monitor_main.specs.declared.refusal.Refusal.{Refusal}
 use Rattle.monitor_main.specs.declared.refusal.Refusal.TheVariants.{Usage, Read, Write, Memory}
-use Rattle.monitor_main.specs.Answer.{CheckedPolicy, policy_at, source_bytes}
-use Rattle.monitor_main.specs.FilesAsked.{source_names}
-use Rattle.monitor_main.specs.Words.{Sources}
+use Rattle.mfotl_model.specs.declared.policy.Var.{Var}
+use Rattle.monitor_main.specs.Answer.{command_answer, refused}
+use Rattle.monitor_main.specs.FilesAsked.{names_before_log, names_to, source_names}
+use Rattle.monitor_main.specs.Tasks.{CheckedPolicy, changes_in, policy_at, task_at, task_on}
+use Rattle.monitor_main.specs.Unread.{bytes_of, source_bytes}
+use Rattle.monitor_main.specs.Words.{Command, RunOptions, Sources}
 
 -- The call for a file failed: this one is told, the count has risen, and what is left of the file is known.
 pub record ReadFails (file told : InputFile) (name : Name) (before after : InputsView) : Type 0 where
@@ -35,6 +38,7 @@ pub record LoadsSources (sources : Sources) (checked : CheckedPolicy) (before af
 
 -- the signature or the policy
 abbrev pub IsSource : InputFile → Type 0
+IsSource file.Changes = ⊥
 IsSource file.Log = ⊥
 IsSource name = Unit {0}
 
@@ -66,3 +70,45 @@ pub record StopsInSources (sources : Sources) (before after : InputsView) (r : R
   pub asked : after.asked ≡ asked_more before.asked (source_names sources last)
   pub fault : IsLoadFault last before after r
   pub refuses : ToldFiles before.files (λ files. NoPolicy sources files last after r)
+
+-- ---- a run's change script
+
+-- why the changes in the file of this name are refused; where there is no such file, none are
+abbrev pub AreRefused : List Var → Option Name → InputsView → InputsView → Refusal → Type 0
+AreRefused vars None before after r = ⊥
+AreRefused vars (Some name) before after r = IsRefused file.Changes name (changes_in vars) before after r
+
+-- ---- all before a command's log
+
+-- the files before the log were asked for, and the policy is monitored on it
+pub record LoadsTask (sources : Sources) (options : RunOptions) (checked : CheckedPolicy) (before after : InputsView)
+    : Type 0 where
+  pub asked : after.asked ≡ asked_more before.asked (names_before_log sources options)
+  pub is : ToldFiles before.files (λ files.
+      task_at sources options files ≡ Ok (task_on checked (content files options.log)))
+
+-- any file but the log
+abbrev pub IsBeforeLog : InputFile → Type 0
+IsBeforeLog file.Log = ⊥
+IsBeforeLog name = Unit {0}
+
+-- why a command goes no further, where all this was to be read of the last file
+abbrev pub IsStopped : Command → Files → List ℕ → InputsView → Refusal → Type 0
+IsStopped command files all after (Read told) = StopsIn after.is_open after.rest all
+IsStopped command files all after Memory = Unit {0}
+IsStopped command files all after r = command_answer command files ≡ refused r
+
+-- the same, where all before the last file is accepted
+pub record GoesNoFurther (command : Command) (files : Files) (last : InputFile) (after : InputsView) (r : Refusal)
+    : Type 0 where
+  pub all : List ℕ
+  pub reached : bytes_of command files last ≡ Some all
+  pub why : IsStopped command files all after r
+
+-- The loading for a command stopped at a file before its log, with this refusal: the files up to it were asked for.
+pub record StopsBeforeLog (command : Command) (before after : InputsView) (r : Refusal) : Type 0 where
+  pub last : InputFile
+  pub is_early : IsBeforeLog last
+  pub asked : after.asked ≡ asked_more before.asked (names_to command last)
+  pub fault : IsLoadFault last before after r
+  pub refuses : ToldFiles before.files (λ files. GoesNoFurther command files last after r)

@@ -8,7 +8,7 @@ use Rattle.worker_pool.specs.declared.end.End.TheVariants as end
 use Rattle.monitor_main.specs.declared.refusal.InputFile.TheVariants as file
 use Rattle.monitor_main.specs.declared.refusal.Refusal.{Refusal}
 use Rattle.monitor_main.specs.declared.refusal.Refusal.TheVariants.{Read, Write, Memory}
-use Rattle.monitor_main.specs.Answer.{CheckedPolicy}
+use Rattle.monitor_main.specs.Tasks.{CheckedPolicy}
 use Rattle.monitor_main.specs.Refusals.{log_refusal}
 
 -- the output failed, which shows in its count, or memory was refused

@@ -6,12 +6,13 @@ use Rattle.monitor_main.specs.declared.refusal.Refusal.{Refusal}
 use Rattle.monitor_main.specs.declared.refusal.Refusal.TheVariants.{Usage, LongSignature, Signature}
 use Rattle.monitor_main.specs.declared.refusal.Refusal.TheVariants.{LongPolicy, Policy, Fragment}
 use Rattle.monitor_main.specs.declared.refusal.Refusal.TheVariants.{LongStrategy, Strategy}
+use Rattle.monitor_main.specs.declared.refusal.Refusal.TheVariants.{LongChanges, Changes}
 use Rattle.monitor_main.specs.declared.refusal.Refusal.TheVariants.{Log, Read, Write, Memory}
 use Rattle.monitor_main.specs.FaultLines.{fault_line, file_text, too_long}
 use Rattle.mfotl_sig.specs.FaultTexts.{fault_text as sig_text}
 use Rattle.mfotl_parse.specs.FaultTexts.{fault_text as policy_text}
 use Rattle.monitorable.specs.FaultTexts.{fault_text as fragment_text}
-use Rattle.slice_strategy.specs.FaultTexts.{fault_text as strategy_text}
+use Rattle.slice_strategy.specs.FaultTexts.{change_fault_text as changes_text, fault_text as strategy_text}
 use Rattle.log_reader.specs.FaultTexts.{fault_text as log_text}
 use Rattle.mfotl_sig.specs.declared.fault.SigFault.{SigFault}
 use Rattle.mfotl_sig.specs.declared.fault.SigFault.TheVariants as sig
@@ -21,6 +22,8 @@ use Rattle.monitorable.specs.declared.fault.FragmentFault.{FragmentFault}
 use Rattle.monitorable.specs.declared.fault.FragmentFault.TheVariants as fragment
 use Rattle.slice_strategy.specs.declared.fault.StrategyFault.{StrategyFault}
 use Rattle.slice_strategy.specs.declared.fault.StrategyFault.TheVariants as strategy
+use Rattle.slice_strategy.specs.declared.change.ChangeFault.{ChangeFault}
+use Rattle.slice_strategy.specs.declared.change.ChangeFault.TheVariants as change
 use Rattle.log_reader.specs.declared.fault.LogFault.{LogFault}
 use Rattle.log_reader.specs.declared.fault.LogFault.TheVariants as log
 use Rattle.monitor_main.specs.declared.words.WordsFault.{WordsFault}
@@ -51,6 +54,11 @@ abbrev pub strategy_refusal : StrategyFault → Refusal
 strategy_refusal strategy.Memory = Memory
 strategy_refusal fault = Strategy fault
 
+-- the refusal for a change script's fault
+abbrev pub changes_refusal : ChangeFault → Refusal
+changes_refusal (change.Strategy strategy.Memory) = Memory
+changes_refusal fault = Changes fault
+
 -- the refusal for a log's fault
 abbrev pub log_refusal : LogFault → Refusal
 log_refusal log.Memory = Memory
@@ -66,6 +74,8 @@ status_of (Policy fault) = status.Policy
 status_of (Fragment fault) = status.Policy
 status_of LongStrategy = status.Strategy
 status_of (Strategy fault) = status.Strategy
+status_of LongChanges = status.Strategy
+status_of (Changes fault) = status.Strategy
 status_of (Log fault) = status.Log
 status_of (Read file) = status.Read
 status_of Write = status.Write
@@ -87,6 +97,8 @@ line_of (Policy fault) = fault_line (codes "policy") (policy_text fault)
 line_of (Fragment fault) = fault_line (codes "policy") (fragment_text fault)
 line_of LongStrategy = fault_line (codes "strategy") too_long
 line_of (Strategy fault) = fault_line (codes "strategy") (strategy_text fault)
+line_of LongChanges = fault_line (codes "changes") too_long
+line_of (Changes fault) = fault_line (codes "changes") (changes_text fault)
 line_of (Log fault) = fault_line (codes "log") (log_text fault)
 line_of (Read file) = codes "read: " ++ file_text file ++ codes "\n"
 line_of Write = codes "write\n"

@@ -9,9 +9,10 @@ ghost use Rattle.monitor_main.specs.Decisions.{Finishes};
 ghost use Rattle.monitor_main.specs.LogRuns.{IsOutputFault};
 
 use crate::checked_policy::CheckedPolicy;
+use crate::line::write_line;
 use crate::refusal::Refusal;
 use mfotl_model::{Sort, Var};
-use mon_outside::{Sink, write_whole};
+use mon_outside::Sink;
 use std::alloc::{AllocError, Global};
 
 fn sort_name(sort: Sort) -> &'static [u8]
@@ -70,8 +71,7 @@ fn monitorable_line(alloc: Global, vars: &[Var]) -> Result<Vec<u8>, AllocError>
 }
 
 // Writes the line for a policy of these free variables.
-#[tactic(auto, using(worker_pool::proofs::SinkLemmas::whole_front))]
-fn write_line<O: Sink>(alloc: Global, vars: &[Var], out: &mut O) -> Result<(), Refusal>
+fn write_columns<O: Sink>(alloc: Global, vars: &[Var], out: &mut O) -> Result<(), Refusal>
     ensures ok { IfOk result (λ _. Appends (O.written out.old) (O.written out.new)
         (monitorable_line vars.now)) }
     ensures fault { IfErr result (λ r.
@@ -83,10 +83,7 @@ fn write_line<O: Sink>(alloc: Global, vars: &[Var], out: &mut O) -> Result<(), R
     let Ok(line) = monitorable_line(alloc, vars) else {
         return Err(Refusal::Memory);
     };
-    match write_whole(out, line.as_slice()) {
-        Ok(()) => Ok(()),
-        Err(_) => Err(Refusal::Write),
-    }
+    write_line(line.as_slice(), out)
 }
 
 /// Tells the free variables of the policy. No line has a row.
@@ -99,7 +96,7 @@ pub fn accept<O: Sink>(alloc: Global, checked: &CheckedPolicy, out: &mut O) -> R
         (check_answer (Ok (checked_in checked.now))).out }
     ensures later { O.faults out.old ≤ O.faults out.new }
 {
-    match write_line(alloc, checked.policy.vars.as_slice(), out) {
+    match write_columns(alloc, checked.policy.vars.as_slice(), out) {
         Ok(()) => Ok(false),
         Err(refusal) => Err(refusal),
     }

@@ -4,16 +4,16 @@ ghost use Rattle.mon_outside.specs.Files.{ToldFiles, content};
 ghost use Rattle.mon_outside.specs.Inputs.{asked_more};
 ghost use Rattle.mon_outside.specs.Views.{inputs_view};
 ghost use Rattle.monitorable.specs.Cores.{core_form};
-ghost use Rattle.monitor_main.specs.Answer.{checked_over, signature_of};
+ghost use Rattle.monitor_main.specs.Tasks.{checked_over, policy_of_texts, signature_of};
 ghost use Rattle.monitor_main.specs.CheckedPolicies.{Gives, HasVariables, IsInside, checked_in};
 ghost use Rattle.worker_pool.specs.Policies.{IsCoreOf};
 ghost use Rattle.monitor_main.specs.CommandViews.{sources_in};
 ghost use Rattle.monitor_main.specs.Limits.{max_file};
 ghost use Rattle.monitor_main.specs.Loading.{IsRefused, LoadsSources, StopsInSources};
 
+use crate::command::Sources;
 use crate::limits::MAX_FILE;
 use crate::refusal::{InputFile, Refusal};
-use crate::words::Sources;
 use mfotl_model::Policy;
 use mfotl_parse::read_policy;
 use mfotl_sig::{Signature, read_signature};
@@ -49,7 +49,7 @@ impl CheckedPolicy {
 }
 
 // The signature in a file that isn't too long.
-#[tactic(auto, unfolding(crate::specs::Answer::signature_of))]
+#[tactic(auto, unfolding(crate::specs::Tasks::signature_of))]
 fn signature_in(alloc: Global, bytes: &[u8]) -> Result<Signature, Refusal>
     requires { length bytes.now ≤ max_file }
     ensures gives { Gives (λ sig. sig) result (signature_of bytes.now) }
@@ -59,7 +59,7 @@ fn signature_in(alloc: Global, bytes: &[u8]) -> Result<Signature, Refusal>
 }
 
 // The policy in a file that isn't too long, with its core.
-#[tactic(auto, unfolding(crate::specs::Answer::policy_in, crate::specs::Answer::checked_over))]
+#[tactic(auto, unfolding(crate::specs::Tasks::policy_in, crate::specs::Tasks::checked_over))]
 fn check(alloc: Global, sig: Signature, bytes: &[u8]) -> Result<CheckedPolicy, Refusal>
     requires { length bytes.now ≤ max_file }
     ensures gives { Gives checked_in result (checked_over sig bytes.now) }
@@ -74,8 +74,49 @@ fn check(alloc: Global, sig: Signature, bytes: &[u8]) -> Result<CheckedPolicy, R
     Ok(CheckedPolicy { sig, policy, core })
 }
 
+// The signature of a text.
+#[tactic(auto, unfolding(crate::specs::Tasks::signature_of))]
+fn signature_of(alloc: Global, bytes: &[u8]) -> Result<Signature, Refusal>
+    ensures gives { Gives (λ sig. sig) result (signature_of bytes.now) }
+    ensures inside { IfErr result IsInside }
+{
+    if bytes.len() as u64 > MAX_FILE {
+        return Err(Refusal::LongSignature);
+    }
+    signature_in(alloc, bytes)
+}
+
+// The policy of a text.
+#[tactic(auto, unfolding(crate::specs::Tasks::policy_in, crate::specs::Tasks::checked_over))]
+fn check_text(alloc: Global, sig: Signature, bytes: &[u8]) -> Result<CheckedPolicy, Refusal>
+    ensures gives { Gives checked_in result (checked_over sig bytes.now) }
+    ensures core { IfOk result (λ checked. IsCoreOf (core_form checked.core)
+        (checked_in checked).policy.formula) }
+    ensures variables { IfOk result (λ checked.
+        HasVariables checked.policy.vars (core_form checked.core)) }
+    ensures inside { IfErr result IsInside }
+{
+    if bytes.len() as u64 > MAX_FILE {
+        return Err(Refusal::LongPolicy);
+    }
+    check(alloc, sig, bytes)
+}
+
+/// The signature and the policy of these texts.
+pub fn check_texts(alloc: Global, sig: &[u8], policy: &[u8]) -> Result<CheckedPolicy, Refusal>
+    ensures gives { Gives checked_in result (policy_of_texts sig.now policy.now) }
+    ensures core { IfOk result (λ checked. IsCoreOf (core_form checked.core)
+        (checked_in checked).policy.formula) }
+    ensures variables { IfOk result (λ checked.
+        HasVariables checked.policy.vars (core_form checked.core)) }
+    ensures inside { IfErr result IsInside }
+{
+    let sig = signature_of(alloc, sig)?;
+    check_text(alloc, sig, policy)
+}
+
 // The signature in the file of this name.
-#[tactic(auto, unfolding(crate::specs::Answer::signature_of))]
+#[tactic(auto, unfolding(crate::specs::Tasks::signature_of))]
 fn load_signature<I: Inputs>(
     alloc: Global,
     inputs: &mut I,
@@ -98,7 +139,7 @@ fn load_signature<I: Inputs>(
 }
 
 // The policy in the file of this name.
-#[tactic(auto, unfolding(crate::specs::Answer::policy_in, crate::specs::Answer::checked_over))]
+#[tactic(auto, unfolding(crate::specs::Tasks::policy_in, crate::specs::Tasks::checked_over))]
 fn load_policy<I: Inputs>(
     alloc: Global,
     inputs: &mut I,

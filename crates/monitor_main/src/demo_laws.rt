@@ -1,6 +1,7 @@
-//! That the texts of a demo are accepted, beside its log, of which the log's reader tells.
+//! That the texts of a demo are accepted, beside its log, of which the log's reader tells, and what comes of them.
 
-ghost use Rattle.monitor_main.specs.DemoLaws.{DemoSignatureIsAccepted, DemoPolicyIsAccepted, DemoPolicyIsMonitorable, DemoChangesAreAccepted};
+ghost use Rattle.monitor_main.specs.DemoLaws.{DemoChangesAreAccepted, DemoIsAnswered, DemoIsDivided, DemoIsRun};
+ghost use Rattle.monitor_main.specs.DemoLaws.{DemoPolicyIsAccepted, DemoPolicyIsMonitorable, DemoSignatureIsAccepted};
 
 /// The signature of a demo is accepted, its policy over that signature, and its changes over the policy's variables.
 pub fn demo_texts_are_accepted()
@@ -8,4 +9,12 @@ pub fn demo_texts_are_accepted()
     ensures policy { DemoPolicyIsAccepted }
     ensures fragment { DemoPolicyIsMonitorable }
     ensures changes { DemoChangesAreAccepted }
+{}
+
+/// For each seed a demo tells the numbers of the verdicts on the time-points that are drawn. `run` on its texts writes
+/// the lines of these verdicts, with whatever strategy and changes.
+pub fn demo_is_answered()
+    ensures divided { DemoIsDivided }
+    ensures answered { DemoIsAnswered }
+    ensures run { DemoIsRun }
 {}

@@ -3,7 +3,7 @@ ghost use Rattle.std.specs.Prelude.{◌≡◌, ◌++◌, codes, IfOk};
 ghost use Rattle.mfotl_sig.specs.FaultTexts.{fault_text as sig_text};
 ghost use Rattle.mfotl_parse.specs.FaultTexts.{fault_text as policy_text};
 ghost use Rattle.monitorable.specs.FaultTexts.{fault_text as fragment_text};
-ghost use Rattle.slice_strategy.specs.FaultTexts.{fault_text as strategy_text};
+ghost use Rattle.slice_strategy.specs.FaultTexts.{change_fault_text as changes_text, fault_text as strategy_text};
 ghost use Rattle.log_reader.specs.FaultTexts.{fault_text as log_text};
 ghost use Rattle.monitor_main.specs.FaultLines.{fault_line, file_text, too_long};
 ghost use Rattle.monitor_main.specs.Refusals.{line_of};
@@ -14,7 +14,7 @@ use log_reader::LogFault;
 use mfotl_parse::PolicyFault;
 use mfotl_sig::SigFault;
 use monitorable::FragmentFault;
-use slice_strategy::StrategyFault;
+use slice_strategy::{ChangeFault, StrategyFault};
 use std::alloc::{AllocError, Global};
 
 const USAGE: &[u8] =
@@ -26,11 +26,12 @@ fn file_text(file: InputFile) -> &'static str
     match file {
         InputFile::Signature => "signature",
         InputFile::Policy => "policy",
+        InputFile::Changes => "changes",
         InputFile::Log => "log",
     }
 }
 
-// The line of a signature, a policy or a strategy's text that is too long.
+// The line of a signature, a policy, a strategy's text or a change script that is too long.
 #[tactic(auto, unfolding(crate::specs::FaultLines::too_long))]
 fn long_line(alloc: Global, input: &str) -> Result<Vec<u8>, AllocError>
     ensures { IfOk result (λ line. line.items ≡ fault_line input.now too_long) }
@@ -74,6 +75,14 @@ fn strategy_line(alloc: Global, fault: &StrategyFault) -> Result<Vec<u8>, AllocE
     Ok(format!(in alloc; "strategy: {fault}\n")?.into_bytes())
 }
 
+// The line of a change script's fault.
+fn changes_line(alloc: Global, fault: &ChangeFault) -> Result<Vec<u8>, AllocError>
+    ensures { IfOk result (λ line.
+        line.items ≡ fault_line (codes "changes") (changes_text fault.now)) }
+{
+    Ok(format!(in alloc; "changes: {fault}\n")?.into_bytes())
+}
+
 // The line of a log's fault.
 fn log_line(alloc: Global, fault: &LogFault) -> Result<Vec<u8>, AllocError>
     ensures { IfOk result (λ line.
@@ -106,6 +115,8 @@ impl Refusal {
             Refusal::Fragment(fault) => fragment_line(alloc, fault),
             Refusal::LongStrategy => long_line(alloc, "strategy"),
             Refusal::Strategy(fault) => strategy_line(alloc, fault),
+            Refusal::LongChanges => long_line(alloc, "changes"),
+            Refusal::Changes(fault) => changes_line(alloc, fault),
             Refusal::Log(fault) => log_line(alloc, fault),
             Refusal::Read(file) => read_line(alloc, *file),
             Refusal::Write => Vec::from_slice(alloc, b"write\n"),

@@ -1,13 +1,15 @@
 //! Laws of the definitions, each the contract of a function.
 ghost use Rattle.monitor_main.specs.AnswerLaws.{CheckAccepts, StrategiesAgree};
 ghost use Rattle.monitor_main.specs.TextLaw.{VerdictsGrow};
+ghost use Rattle.monitor_main.specs.WordsLaw.{CheckIsTaken, DemoIsTaken, InputIsNotShared, OptionsMayBeLeftOut};
+ghost use Rattle.monitor_main.specs.WordsLaw.{RunIsTaken, SeedsHaveAnEnd};
 
 /// `check` accepts each policy that can be monitored, and tells its free variables.
 pub fn check_accepts()
     ensures { CheckAccepts }
 {}
 
-/// A run answers the same by each strategy that is accepted, however many workers it makes.
+/// A run answers the same by each strategy and each list of changes that are accepted, however many workers they make.
 pub fn strategies_agree()
     ensures { StrategiesAgree }
 {}
@@ -15,4 +17,14 @@ pub fn strategies_agree()
 /// With one time-point more the verdicts stay, and those on the positions that it settles come behind them.
 pub fn verdicts_grow()
     ensures { VerdictsGrow }
+{}
+
+/// Words worked out by hand, and the commands that they give.
+pub fn worked_words()
+    ensures run { RunIsTaken }
+    ensures options { OptionsMayBeLeftOut }
+    ensures check { CheckIsTaken }
+    ensures demo { DemoIsTaken }
+    ensures seeds { SeedsHaveAnEnd }
+    ensures input { InputIsNotShared }
 {}

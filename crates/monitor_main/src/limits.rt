@@ -1,6 +1,6 @@
 //! How much the words and the files may ask for. A log's limits are log_reader's.
 
-/// The most bytes of a signature, of a policy, and of a strategy's text.
+/// The most bytes of a signature, of a policy, of a strategy's text, and of a change script.
 pub const MAX_FILE: u64 = 1 << 20;
 
 /// The most threads beside the one that reads and writes.
@@ -8,3 +8,6 @@ pub const MAX_THREADS: u32 = 64;
 
 /// So many threads serve the workers where the words say nothing of it: the default of `--threads`.
 pub const DEFAULT_THREADS: u32 = 4;
+
+/// The greatest seed of a demo.
+pub const MAX_SEED: u64 = u64::MAX;

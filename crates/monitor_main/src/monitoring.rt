@@ -1,24 +1,22 @@
-//! `run`: the log of a policy.
+//! The log of a policy.
 ghost use Rattle.std.specs.Prelude.{◌≡◌, ◌≤◌, [], IsTrue};
 ghost use Rattle.log_reader.specs.Progress.{start};
 ghost use Rattle.log_reader.specs.Readers.{Reads, progress};
-ghost use Rattle.monitorable.specs.Cores.{core_form};
-ghost use Rattle.rescale_core.specs.Workers.{IsFor};
 ghost use Rattle.worker_pool.specs.Effects.{effect};
-ghost use Rattle.worker_pool.specs.Policies.{IsCoreOf};
+ghost use Rattle.worker_pool.specs.Endings.{FollowsLog};
 ghost use Rattle.worker_pool.specs.Texts.{standard};
 ghost use Rattle.monitor_main.specs.CheckedPolicies.{checked_in};
 ghost use Rattle.monitor_main.specs.Decisions.{MonitorsLog};
 ghost use Rattle.monitor_main.specs.Limits.{max_threads};
 ghost use Rattle.monitor_main.specs.LogRuns.{EndsAs, outcome_of};
+ghost use Rattle.monitor_main.specs.ReadyTasks.{IsReady};
 
-use crate::checked_policy::CheckedPolicy;
 use crate::refusal::{InputFile, Refusal};
 use crate::run_options::RunOptions;
+use crate::task::Task;
 use log_reader::{Limits, LogReader};
 use mfotl_sig::Signature;
 use mon_outside::{Gate, Inputs, Sink};
-use slice_strategy::Strategy;
 use std::alloc::Global;
 use std::sync::Wait;
 use std::thread::Threads;
@@ -45,19 +43,17 @@ fn outcome(end: End) -> Result<bool, Refusal>
     }
 }
 
-// Monitors the open file.
-fn monitor_open<R: Threads + Wait + Sync, I: Inputs, O: Sink, G: Gate + Sync>(
+/// Monitors the open log by a task.
+pub fn follow<R: Threads + Wait + Sync, I: Inputs, O: Sink, G: Gate + Sync>(
     rt: &R,
     alloc: Global,
-    checked: CheckedPolicy,
-    first: Strategy,
+    task: Task,
     threads: u32,
     inputs: &mut I,
     out: &mut O,
     gate: &G,
-) -> Result<bool, Refusal>
-    requires core { IsCoreOf (core_form checked.core) (checked_in checked).policy.formula }
-    requires suits { IsFor (core_form checked.core) first }
+) -> End
+    requires ready { IsReady task }
     requires few { threads ≤ max_threads }
     requires opened { IsTrue (I.is_open inputs.old) }
     ensures files { I.files inputs.new ≡ I.files inputs.old }
@@ -65,44 +61,66 @@ fn monitor_open<R: Threads + Wait + Sync, I: Inputs, O: Sink, G: Gate + Sync>(
     ensures asks_nothing { I.asked inputs.new ≡ I.asked inputs.old }
     ensures later { I.faults inputs.old ≤ I.faults inputs.new }
     ensures later_out { O.faults out.old ≤ O.faults out.new }
-    ensures ends { EndsAs (checked_in checked) result
-        (effect I.Inputs O.Sink inputs.old inputs.new out.old out.new) }
+    ensures follows { FollowsLog task.checked.sig (checked_in task.checked).policy.formula
+        (effect I.Inputs O.Sink inputs.old inputs.new out.old out.new) result }
 {
+    let Task {
+        checked,
+        first,
+        changes,
+    } = task;
     let (sig, core) = checked.into_parts();
     let mut log = reader_over(alloc, &sig);
-    let plan = Plan { core, first };
-    let end = monitor(rt, alloc, plan, &mut log, inputs, out, threads, gate);
+    let plan = Plan {
+        core,
+        first,
+        changes,
+    };
+    monitor(rt, alloc, plan, &mut log, inputs, out, threads, gate)
+}
+
+// Monitors the open file, and says what its end means.
+fn monitor_open<R: Threads + Wait + Sync, I: Inputs, O: Sink, G: Gate + Sync>(
+    rt: &R,
+    alloc: Global,
+    task: Task,
+    threads: u32,
+    inputs: &mut I,
+    out: &mut O,
+    gate: &G,
+) -> Result<bool, Refusal>
+    requires ready { IsReady task }
+    requires few { threads ≤ max_threads }
+    requires opened { IsTrue (I.is_open inputs.old) }
+    ensures files { I.files inputs.new ≡ I.files inputs.old }
+    ensures stays_open { I.is_open inputs.new ≡ I.is_open inputs.old }
+    ensures asks_nothing { I.asked inputs.new ≡ I.asked inputs.old }
+    ensures later { I.faults inputs.old ≤ I.faults inputs.new }
+    ensures later_out { O.faults out.old ≤ O.faults out.new }
+    ensures ends { EndsAs (checked_in task.checked) result
+        (effect I.Inputs O.Sink inputs.old inputs.new out.old out.new) }
+{
+    let end = follow(rt, alloc, task, threads, inputs, out, gate);
     outcome(end)
 }
 
-/// Monitors the log that the options name, by this strategy and with so many threads, and answers whether some line
+/// Monitors the log that the options name by a task, with as many threads as they say, and answers whether some line
 /// has a row.
-pub fn monitor_policy<R: Threads + Wait + Sync, I: Inputs, O: Sink, G: Gate + Sync>(
+pub fn monitor_task<R: Threads + Wait + Sync, I: Inputs, O: Sink, G: Gate + Sync>(
     rt: &R,
     alloc: Global,
-    checked: CheckedPolicy,
-    first: Strategy,
+    task: Task,
     options: &RunOptions<'_>,
     inputs: &mut I,
     out: &mut O,
     gate: &G,
 ) -> Result<bool, Refusal>
-    requires core { IsCoreOf (core_form checked.core) (checked_in checked).policy.formula }
-    requires suits { IsFor (core_form checked.core) first }
-    ensures { MonitorsLog (checked_in checked) options.now.log.now
+    requires ready { IsReady task }
+    ensures { MonitorsLog (checked_in task.checked) options.now.log.now
         (effect I.Inputs O.Sink inputs.old inputs.new out.old out.new) result }
 {
     match inputs.open(options.log) {
-        Ok(()) => monitor_open(
-            rt,
-            alloc,
-            checked,
-            first,
-            options.threads,
-            inputs,
-            out,
-            gate,
-        ),
+        Ok(()) => monitor_open(rt, alloc, task, options.threads, inputs, out, gate),
         Err(_) => Err(Refusal::Read(InputFile::Log)),
     }
 }

@@ -3,10 +3,10 @@ ghost use Rattle.std.specs.Prelude.{◌≡◌, IfOk, false};
 ghost use Rattle.clap.specs.Words.{app_of, rule_of, with_rule};
 ghost use Rattle.clap.specs.Simple.{on_top};
 ghost use Rattle.clap.specs.declared.builder.Command.TheViews.{out-Command as fields_of};
-ghost use Rattle.monitor_main.specs.Words.{check_app, file_rule, monitor_app, option_rule, run_app};
-ghost use Rattle.monitor_main.specs.Words.{sources_app, strategy_rule, strict, threads_rule};
+ghost use Rattle.monitor_main.specs.Words.{changes_rule, check_app, demo_app, file_rule, monitor_app, option_rule};
+ghost use Rattle.monitor_main.specs.Words.{run_app, seed_rule, sources_app, strategy_rule, strict, threads_rule};
 
-use crate::limits::MAX_THREADS;
+use crate::limits::{MAX_SEED, MAX_THREADS};
 use clap::builder::ValueParser;
 use clap::{Arg, ArgAction, Command};
 use std::alloc::{AllocError, Global};
@@ -41,6 +41,16 @@ fn strategy_option<'a>(alloc: Global) -> Arg<'a>
     option_with_default(alloc, "strategy", "")
 }
 
+// The option `--changes`, of one value, which may be left out.
+fn changes_option<'a>(alloc: Global) -> Arg<'a>
+    ensures rule { rule_of result ≡ changes_rule }
+    ensures local { result.global ≡ false }
+{
+    Arg::new(alloc, "changes")
+        .long("changes")
+        .action(ArgAction::Set)
+}
+
 // The option `--threads`, a number in its range.
 fn threads_option<'a>(alloc: Global) -> Arg<'a>
     ensures rule { rule_of result ≡ threads_rule }
@@ -48,6 +58,18 @@ fn threads_option<'a>(alloc: Global) -> Arg<'a>
 {
     let numbers = ValueParser::unsigned(0, u64::from(MAX_THREADS));
     option_with_default(alloc, "threads", "4").value_parser(numbers)
+}
+
+// The word of `demo`, a number in its range.
+fn seed_argument<'a>(alloc: Global) -> Arg<'a>
+    ensures rule { rule_of result ≡ seed_rule }
+    ensures local { result.global ≡ false }
+{
+    let numbers = ValueParser::unsigned(0, MAX_SEED);
+    Arg::new(alloc, "seed")
+        .action(ArgAction::Set)
+        .required(true)
+        .value_parser(numbers)
 }
 
 // The command with one more file among its options.
@@ -83,6 +105,7 @@ fn run_command<'a>(alloc: Global) -> Result<Command<'a>, AllocError>
     let command = sources_command(alloc, "run")?;
     let command = with_file(alloc, command, "log")?;
     let command = command.arg(strategy_option(alloc))?;
+    let command = command.arg(changes_option(alloc))?;
     command.arg(threads_option(alloc))
 }
 
@@ -93,6 +116,15 @@ fn check_command<'a>(alloc: Global) -> Result<Command<'a>, AllocError>
     ensures local { IfOk result (λ r. (fields_of r).has_globals ≡ false) }
 {
     sources_command(alloc, "check")
+}
+
+// The subcommand `demo`.
+#[tactic(auto, unfolding(crate::specs::Words::demo_app))]
+fn demo_command<'a>(alloc: Global) -> Result<Command<'a>, AllocError>
+    ensures app { IfOk result (λ r. app_of r ≡ demo_app) }
+    ensures local { IfOk result (λ r. (fields_of r).has_globals ≡ false) }
+{
+    Command::new(alloc, "demo").arg(seed_argument(alloc))
 }
 
 // The command, one of whose subcommands is required, with neither help nor a version.
@@ -113,7 +145,9 @@ pub fn monitor_command<'a>(alloc: Global) -> Result<Command<'a>, AllocError>
 {
     let run = run_command(alloc)?;
     let check = check_command(alloc)?;
+    let demo = demo_command(alloc)?;
     let command = Command::new(alloc, "monitor").subcommand(run)?;
     let command = command.subcommand(check)?;
+    let command = command.subcommand(demo)?;
     Ok(strict(command))
 }

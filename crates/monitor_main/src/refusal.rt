@@ -8,13 +8,15 @@ use log_reader::LogFault;
 use mfotl_parse::PolicyFault;
 use mfotl_sig::SigFault;
 use monitorable::FragmentFault;
-use slice_strategy::StrategyFault;
+use slice_strategy::{ChangeFault, StrategyFault};
+use std::alloc::AllocError;
 
 /// A file that a run reads.
 #[derive(Clone, Copy)]
 pub enum InputFile {
     Signature,
     Policy,
+    Changes,
     Log,
 }
 
@@ -37,6 +39,10 @@ pub enum Refusal {
     LongStrategy,
     /// The first fault of the strategy.
     Strategy(StrategyFault),
+    /// The change script has more bytes than it may have.
+    LongChanges,
+    /// The first fault of the change script.
+    Changes(ChangeFault),
     /// The first fault of the log.
     Log(LogFault),
     /// The file could not be opened or read.
@@ -117,6 +123,20 @@ impl From<StrategyFault> for Refusal {
     }
 }
 
+impl From<ChangeFault> for Refusal {
+    ghost use Rattle.std.specs.Prelude.{◌≡◌};
+    ghost use Rattle.monitor_main.specs.Refusals.{changes_refusal};
+
+    ghost from_gives = { λ fault refusal. refusal ≡ changes_refusal fault };
+
+    fn from(fault: ChangeFault) -> Self {
+        match fault {
+            ChangeFault::Strategy(StrategyFault::Memory) => Refusal::Memory,
+            fault => Refusal::Changes(fault),
+        }
+    }
+}
+
 impl From<LogFault> for Refusal {
     ghost use Rattle.std.specs.Prelude.{◌≡◌};
     ghost use Rattle.monitor_main.specs.Refusals.{log_refusal};
@@ -128,6 +148,17 @@ impl From<LogFault> for Refusal {
             LogFault::Memory => Refusal::Memory,
             fault => Refusal::Log(fault),
         }
+    }
+}
+
+impl From<AllocError> for Refusal {
+    ghost use Rattle.std.specs.Prelude.{◌≡◌};
+    ghost use Rattle.monitor_main.specs.declared.refusal.Refusal.TheVariants.{Memory};
+
+    ghost from_gives = { λ _ refusal. refusal ≡ Memory };
+
+    fn from(_e: AllocError) -> Self {
+        Refusal::Memory
     }
 }
 
@@ -145,6 +176,8 @@ impl Refusal {
             Refusal::Fragment(_) => Status::Policy,
             Refusal::LongStrategy => Status::Strategy,
             Refusal::Strategy(_) => Status::Strategy,
+            Refusal::LongChanges => Status::Strategy,
+            Refusal::Changes(_) => Status::Strategy,
             Refusal::Log(_) => Status::Log,
             Refusal::Read(_) => Status::Read,
             Refusal::Write => Status::Write,

@@ -7,6 +7,8 @@ ghost use Rattle.monitor_main.specs.Limits.{max_threads};
 pub struct RunOptions<'a> {
     /// The strategy's text, which is empty for one worker.
     pub strategy: &'a str,
+    /// The name of the change script's file, where there is one.
+    pub changes: Option<&'a str>,
     /// The name of the log's file.
     pub log: &'a str,
     /// How many threads serve the workers, 0 to 64. With none the thread that reads and writes does.

@@ -5,46 +5,20 @@ ghost use Rattle.mon_outside.specs.Files.{ToldFiles};
 ghost use Rattle.mon_outside.specs.Sink.{AppendsFront};
 ghost use Rattle.mon_outside.specs.Views.{inputs_view, sink_view};
 ghost use Rattle.monitor_main.specs.Answer.{answer};
-ghost use Rattle.monitor_main.specs.CommandViews.{command_in};
-ghost use Rattle.monitor_main.specs.Decisions.{AsksByWords, CarriesOut, HandsOn, Obeys};
+ghost use Rattle.monitor_main.specs.Decisions.{AsksByWords, HandsOn, Obeys};
 ghost use Rattle.worker_pool.specs.Effects.{effect};
 ghost use Rattle.monitor_main.specs.Outcomes.{FailsToRead, IsDecidedBy, IsGiven, Reports, Tells};
 ghost use Rattle.monitor_main.specs.Refusals.{line_of};
 ghost use Rattle.monitor_main.specs.Words.{command_of, texts_of};
 
-use crate::check::accept;
-use crate::checked_policy::load_sources;
-use crate::monitoring::monitor_policy;
+use crate::commands::obey;
 use crate::refusal::Refusal;
 use crate::status::Status;
-use crate::strategy_text::read_strategy;
-use crate::words::{Command, read_words};
+use crate::words::read_words;
 use mon_outside::{Failed, Gate, Inputs, Sink, write_whole};
 use std::alloc::Global;
 use std::sync::Wait;
 use std::thread::Threads;
-
-// Does what the command says, and answers whether some line has a row.
-fn obey<R: Threads + Wait + Sync, I: Inputs, O: Sink, G: Gate + Sync>(
-    rt: &R,
-    alloc: Global,
-    command: &Command<'_>,
-    inputs: &mut I,
-    out: &mut O,
-    gate: &G,
-) -> Result<bool, Refusal>
-    ensures { CarriesOut (command_in command.now)
-        (effect I.Inputs O.Sink inputs.old inputs.new out.old out.new) result }
-{
-    let checked = load_sources(alloc, command.sources(), inputs)?;
-    match command {
-        Command::Run(_, options) => {
-            let first = read_strategy(alloc, options.strategy, &checked.policy)?;
-            monitor_policy(rt, alloc, checked, first, options, inputs, out, gate)
-        }
-        Command::Check(_) => accept(alloc, &checked, out),
-    }
-}
 
 // What the words and the files come to: whether some line has a row, or why it is refused.
 fn decide<R: Threads + Wait + Sync, I: Inputs, O: Sink, G: Gate + Sync>(

@@ -1,7 +1,7 @@
 //! The strategy that the words give.
 ghost use Rattle.std.specs.Prelude.{◌≡◌, length, IfOk, IfErr};
 ghost use Rattle.slice_strategy.specs.Entries.{HasWorkers};
-ghost use Rattle.monitor_main.specs.Answer.{strategy_in};
+ghost use Rattle.monitor_main.specs.Tasks.{strategy_in};
 ghost use Rattle.monitor_main.specs.CheckedPolicies.{Gives, IsInside};
 
 use crate::limits::MAX_FILE;
@@ -11,7 +11,7 @@ use slice_strategy::{Slicer, Strategy};
 use std::alloc::Global;
 
 /// The strategy of this text, over the policy's free variables.
-#[tactic(auto, unfolding(crate::specs::Answer::strategy_in))]
+#[tactic(auto, unfolding(crate::specs::Tasks::strategy_in))]
 pub fn read_strategy(alloc: Global, text: &str, policy: &Policy) -> Result<Strategy, Refusal>
     ensures gives { Gives (λ strategy. strategy) result (strategy_in policy.now.vars text.now) }
     ensures inside { IfErr result IsInside }

@@ -1,49 +1,21 @@
 //! The words of the command line, as one `clap` command takes them.
-ghost use Rattle.std.specs.Prelude.{◌≡◌, ◌≤◌, List, Some, None, Err, IfOk, IfSome, option_map};
-ghost use Rattle.clap.specs.Words.{Text, rows_of, found_of};
+ghost use Rattle.std.specs.Prelude.{◌≡◌, ◌≤◌, codes, List, Some, None, Err, IfOk, IfSome, option_map};
+ghost use Rattle.clap.specs.Words.{Text, first_of, rows_of, found_of};
 ghost use Rattle.clap.specs.Words.{subcommand_of, subcommand_rows_of, FailsBy};
 ghost use Rattle.monitor_main.specs.CommandViews.{HasThreadsFound, HasThreadsOf, command_in};
-ghost use Rattle.monitor_main.specs.CommandViews.{options_in, sources_in};
+ghost use Rattle.monitor_main.specs.CommandViews.{options_in, sources_in, text_in};
 ghost use Rattle.monitor_main.specs.Limits.{max_threads};
-ghost use Rattle.monitor_main.specs.Words.{command_found, command_named, command_of};
-ghost use Rattle.monitor_main.specs.Words.{IsThreadCount, command_sources, run_options_of, sources_of};
-ghost use Rattle.monitor_main.specs.Words.{is_input, monitor_app, shares_input, texts_of, value_of};
-ghost use Rattle.monitor_main.specs.Words.{words_fault};
+ghost use Rattle.monitor_main.specs.Words.{Demo, command_found, command_named, command_of};
+ghost use Rattle.monitor_main.specs.Words.{IsThreadCount, monitor_app, run_options_of, seed_of, sources_of};
+ghost use Rattle.monitor_main.specs.Words.{texts_of, value_of, words_fault};
 
+use crate::command::{Command, Sources};
 use crate::limits::{DEFAULT_THREADS, MAX_THREADS};
 use crate::options::monitor_command;
 use crate::run_options::RunOptions;
 use clap::error::ErrorKind;
 use clap::{ArgMatches, Error};
 use std::alloc::Global;
-
-/// The names of the files that each command has.
-#[derive(Clone, Copy)]
-pub struct Sources<'a> {
-    pub sig: &'a str,
-    pub policy: &'a str,
-}
-
-/// What is to be done.
-#[derive(Clone, Copy)]
-pub enum Command<'a> {
-    /// To monitor a log.
-    Run(Sources<'a>, RunOptions<'a>),
-    /// To tell whether the policy can be monitored.
-    Check(Sources<'a>),
-}
-
-impl<'a> Command<'a> {
-    /// The names of the signature's file and of the policy's, which each command has.
-    pub fn sources(&self) -> &Sources<'a>
-        ensures { sources_in result.now ≡ command_sources (command_in self.now) }
-    {
-        match self {
-            Command::Run(sources, _) => sources,
-            Command::Check(sources) => sources,
-        }
-    }
-}
 
 /// Why no command was read.
 #[derive(Clone, Copy)]
@@ -73,6 +45,21 @@ fn sources_given<'a>(options: &ArgMatches<'a>) -> Sources<'a>
     }
 }
 
+// The name of the change script's file, if the options give one.
+#[tactic(auto, using(crate::proofs::WordsLemmas::first_value_rows))]
+fn changes_given<'a>(options: &ArgMatches<'a>) -> Option<&'a str>
+    ensures { text_in result ≡ first_of (codes "changes") (rows_of (found_of options.now)) }
+{
+    options.get_str("changes")
+}
+
+// The seed of a demo.
+fn seed_given(options: &ArgMatches<'_>) -> Option<u64>
+    ensures { result ≡ seed_of (rows_of (found_of options.now)) }
+{
+    options.get_one::<u64>("seed")
+}
+
 // The number of threads.
 fn threads_given(options: &ArgMatches<'_>) -> u32
     ensures few { result ≤ max_threads }
@@ -84,16 +71,27 @@ fn threads_given(options: &ArgMatches<'_>) -> u32
     }
 }
 
-// The strategy, the log and the number of threads among the options.
+// The strategy, the changes, the log and the number of threads among the options.
 fn run_options_given<'a>(options: &ArgMatches<'a>) -> RunOptions<'a>
     ensures texts { options_in result ≡ run_options_of (rows_of (found_of options.now)) }
     ensures threads { IsThreadCount (rows_of (found_of options.now)) result.threads }
 {
     RunOptions {
         strategy: value_in(options, "strategy"),
+        changes: changes_given(options),
         log: value_in(options, "log"),
         threads: threads_given(options),
     }
+}
+
+// The demo of the seed among the options.
+fn demo_given<'a>(options: &ArgMatches<'_>) -> Option<Command<'a>>
+    ensures command { option_map command_in result
+        ≡ option_map Demo (seed_of (rows_of (found_of options.now))) }
+    ensures threads { IfSome result (HasThreadsOf (rows_of (found_of options.now))) }
+{
+    let seed = seed_given(options)?;
+    Some(Command::Demo(seed))
 }
 
 // The command of this name with these options.
@@ -109,6 +107,9 @@ fn command_named<'a>(name: &str, options: &ArgMatches<'a>) -> Option<Command<'a>
     if name == "check" {
         return Some(Command::Check(sources_given(options)));
     }
+    if name == "demo" {
+        return demo_given(options);
+    }
     None
 }
 
@@ -120,31 +121,6 @@ fn command_given<'a>(matches: &ArgMatches<'a>) -> Option<Command<'a>>
     match matches.subcommand() {
         Some((name, options)) => command_named(name, options),
         None => None,
-    }
-}
-
-fn is_input(name: &str) -> bool
-    ensures { result ≡ is_input name.now }
-{
-    name == "-"
-}
-
-// Whether standard input is named more than once.
-#[tactic(auto, using(crate::proofs::WordsLemmas::two_of_two, crate::proofs::WordsLemmas::two_of_three))]
-fn shares_input(command: &Command<'_>) -> bool
-    ensures { result ≡ shares_input (command_in command.now) }
-{
-    match command {
-        Command::Check(sources) => is_input(sources.sig) && is_input(sources.policy),
-        Command::Run(sources, options) => {
-            let policy = is_input(sources.policy);
-            let log = is_input(options.log);
-            if is_input(sources.sig) {
-                policy || log
-            } else {
-                policy && log
-            }
-        }
     }
 }
 
@@ -168,7 +144,7 @@ pub fn read_words<'a>(alloc: Global, words: &'a [String]) -> Result<Command<'a>,
 {
     match matches_of(alloc, words) {
         Ok(matches) => match command_given(&matches) {
-            Some(command) if !shares_input(&command) => Ok(command),
+            Some(command) if !command.shares_input() => Ok(command),
             _ => Err(WordsFault::Usage),
         },
         Err(e) => match e.kind() {

@@ -1,0 +1,8 @@
+use Rattle.std.proofs.Common.{rules}
+use Rattle.monitor_main.proofs.DivisionLemmas.{all_divide}
+use Rattle.monitor_main.proofs.changes_file.changes_in.Goals as goal
+
+pub returns-clause-divides : goal.returns-clause-divides
+returns-clause-divides c =
+    all_divide c.args.policy.now.vars c.args.bytes.now c.in_ok-changes.changes.items c.in_ok-changes.ensures.value
+    (search rules)

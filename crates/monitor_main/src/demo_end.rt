@@ -1,0 +1,94 @@
+//! The monitoring of a demo, whose files are in memory and whose lines are only counted.
+ghost use Rattle.std.specs.Prelude.{◌≡◌, IfOk, IfErr, string_bytes};
+ghost use Rattle.monitor_main.specs.CheckedPolicies.{Fails, Gives, IsInside, checked_in};
+ghost use Rattle.monitor_main.specs.DemoRuns.{EndsDemo, EndsOn};
+ghost use Rattle.monitor_main.specs.ReadyTasks.{IsReady};
+ghost use Rattle.monitor_main.specs.Tasks.{demo_task, divided_texts, task_on};
+
+use crate::changes_file::changes_of;
+use crate::checked_policy::check_texts;
+use crate::limits::DEFAULT_THREADS;
+use crate::monitoring::follow;
+use crate::refusal::Refusal;
+use crate::strategy_text::read_strategy;
+use crate::task::Task;
+use log_reader::{Demo, generate};
+use mon_outside::{Gate, Inputs, NamedFile, SureInputs, SureSink};
+use std::alloc::{AllocError, Global};
+use std::sync::Wait;
+use std::thread::Threads;
+use worker_pool::End;
+
+// The name of the log's file.
+const LOG: &str = "log";
+
+// The most bytes that a read gives.
+const PIECE: usize = 65_536;
+
+// The policy of these texts, whose work is divided by no strategy at first, and then by these changes.
+fn task_of(alloc: Global, sig: &[u8], policy: &[u8], changes: &[u8]) -> Result<Task, Refusal>
+    ensures gives { Gives (λ task. checked_in task.checked) result
+        (divided_texts sig.now policy.now changes.now) }
+    ensures ready { IfOk result IsReady }
+    ensures inside { IfErr result IsInside }
+{
+    let checked = check_texts(alloc, sig, policy)?;
+    let first = read_strategy(alloc, "", &checked.policy)?;
+    let changes = changes_of(alloc, changes, &checked.policy)?;
+    Ok(Task {
+        checked,
+        first,
+        changes,
+    })
+}
+
+// Monitors a log of which no call fails, and keeps none of its lines.
+fn follow_log<R: Threads + Wait + Sync, G: Gate + Sync>(
+    rt: &R,
+    alloc: Global,
+    task: Task,
+    log: String,
+    gate: &G,
+) -> Result<End, AllocError>
+    requires { IsReady task }
+    ensures ends { IfOk result (EndsOn (task_on (checked_in task.checked) (string_bytes log))) }
+{
+    let file = NamedFile {
+        name: String::from_str(alloc, LOG)?,
+        bytes: log.into_bytes(),
+    };
+    let files = vec![in alloc; file]?;
+    let mut inputs = SureInputs::new(files.as_slice(), PIECE);
+    let mut out = SureSink::new();
+    inputs.open(LOG).unwrap();
+    Ok(follow(
+        rt,
+        alloc,
+        task,
+        DEFAULT_THREADS,
+        &mut inputs,
+        &mut out,
+        gate,
+    ))
+}
+
+/// Monitors the demo of this seed.
+pub fn follow_demo<R: Threads + Wait + Sync, G: Gate + Sync>(
+    rt: &R,
+    alloc: Global,
+    seed: u64,
+    gate: &G,
+) -> Result<End, Refusal>
+    ensures ok { IfOk result (EndsDemo seed) }
+    ensures refused { IfErr result (λ r. Fails r (demo_task seed)) }
+    ensures inside { IfErr result IsInside }
+{
+    let Demo {
+        sig,
+        policy,
+        log,
+        changes,
+    } = generate(alloc, seed)?;
+    let task = task_of(alloc, sig.as_bytes(), policy.as_bytes(), changes.as_bytes())?;
+    Ok(follow_log(rt, alloc, task, log, gate)?)
+}
