@@ -44,7 +44,10 @@ impl Schedule {
         }
         match self.changes.pop_front() {
             Some(change) => {
-                let Change { before: _, strategy } = change;
+                let Change {
+                    before: _,
+                    strategy,
+                } = change;
                 Some(strategy)
             }
             None => None,

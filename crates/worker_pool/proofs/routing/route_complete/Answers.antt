@@ -84,9 +84,12 @@ returns-in-Ok-More-clause-suits g c =
     let under = c.requires.under_way in
     let here = c.points.invariant.so_far under.core under.bytes under.start under.reads under.so_far in
     suits_drained c.drain.result c.points.driver c.drain.new.driver (g.O.Sink.written c.points.out)
-    (g.O.Sink.written c.drain.new.out) c.points.page.tally c.drain.new.page.tally c.points.schedule
-    (under.core, take c.points.reader.given (read (progress c.args.reader.now under.bytes)).points, under.start,
-    here.writes) c.drain.ensures.ok c.points.invariant.suits
+    (g.O.Sink.written c.drain.new.out) c.points.page.tally c.drain.new.page.tally c.points.schedule (
+      under.core,
+      take c.points.reader.given (read (progress c.args.reader.now under.bytes)).points,
+      under.start,
+      here.writes,
+    ) c.drain.ensures.ok c.points.invariant.suits
 
 pub returns-in-Ok-More-clause-front : goal.returns-in-Ok-More-clause-front
 returns-in-Ok-More-clause-front g c core bytes start reads so_far =
@@ -122,9 +125,12 @@ returns-in-Ok-End-clause-suits g c =
     let under = c.requires.under_way in
     let here = c.points.invariant.so_far under.core under.bytes under.start under.reads under.so_far in
     suits_drained c.drain-in-Ok-End.result c.points.driver c.drain-in-Ok-End.new.driver (g.O.Sink.written c.points.out)
-    (g.O.Sink.written c.drain-in-Ok-End.new.out) c.points.page.tally c.drain-in-Ok-End.new.page.tally c.points.schedule
-    (under.core, take c.points.reader.given (read (progress c.args.reader.now under.bytes)).points, under.start,
-    here.writes) c.drain-in-Ok-End.ensures.ok c.points.invariant.suits
+    (g.O.Sink.written c.drain-in-Ok-End.new.out) c.points.page.tally c.drain-in-Ok-End.new.page.tally c.points.schedule (
+      under.core,
+      take c.points.reader.given (read (progress c.args.reader.now under.bytes)).points,
+      under.start,
+      here.writes,
+    ) c.drain-in-Ok-End.ensures.ok c.points.invariant.suits
 
 pub returns-in-Ok-End-clause-front : goal.returns-in-Ok-End-clause-front
 returns-in-Ok-End-clause-front g c core bytes start reads so_far =
