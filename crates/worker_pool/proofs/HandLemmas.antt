@@ -3,10 +3,11 @@ use Rattle.std.specs.Prelude.{ℕ, List, Vec, [], ◌∷◌, ◌++◌, All, slic
 use Rattle.std.specs.Global.{Global}
 use Rattle.std.proofs.lemmas.List.Elements.{All-nil, All-cons, All-head, All-tail, All-append, All-set}
 use Rattle.turn_hub.specs.Ends.{IsHandOf}
+use Rattle.turn_hub.specs.declared.hub.Hub.{Hub}
 use Rattle.worker_pool.specs.Hands.{AreGroupsOf, AreHandsOf, WorkerHand, WorkerHub}
 
 -- no hands are a hub's
-pub no_hands : (hub : WorkerHub) → AreHandsOf hub []
+pub no_hands : {W I O S : Type 0} (hub : Hub W I O S) → AreHandsOf hub []
 unfolding AreHandsOf
 no_hands hub = All-nil (λ h. IsHandOf hub h)
 

@@ -3,6 +3,8 @@ pub mod LogTimes
 pub mod VerdictLemmas
 pub mod TallyLemmas
 pub mod WritingLemmas
+pub mod ChangeLemmas
 pub mod PointLemmas
 pub mod PieceLemmas
 pub mod HandLemmas
+pub mod Sent

@@ -18,7 +18,7 @@ abbrev pub WorkerHand : Type 0
 WorkerHand = Hand Worker Item Out Seed
 
 -- each is a hand of the hub
-unfoldable pub AreHandsOf : WorkerHub → List WorkerHand → Type 0
+unfoldable pub AreHandsOf : {W I O S : Type 0} → Hub W I O S → List (Hand W I O S) → Type 0
 AreHandsOf hub hands = All (λ h. IsHandOf hub h) hands
 
 -- in each group are hands of the hub
@@ -26,9 +26,9 @@ abbrev pub AreGroupsOf : WorkerHub → List (Vec WorkerHand Global) → Type 0
 AreGroupsOf hub groups = All (λ g. AreHandsOf hub g.items) groups
 
 -- the cells that the hands serve
-abbrev pub cells_of : List WorkerHand → List ℕ
+abbrev pub cells_of : {W I O S : Type 0} → List (Hand W I O S) → List ℕ
 cells_of hands = map (λ h. hand_cell h) hands
 
 -- hands of this hub, of just these cells
-abbrev pub Serve : WorkerHub → List ℕ → List WorkerHand → Type 0
+abbrev pub Serve : {W I O S : Type 0} → Hub W I O S → List ℕ → List (Hand W I O S) → Type 0
 Serve hub cells hands = AreHandsOf hub hands × (cells_of hands ≡ cells)

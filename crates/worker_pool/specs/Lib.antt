@@ -5,6 +5,7 @@ pub mod Effects
 pub mod Endings
 pub mod Hands
 pub mod Opening
+pub mod Changes
 pub mod Writing
 pub mod Pieces
 pub mod Laws

@@ -4,8 +4,8 @@ ghost use Rattle.worker_pool.specs.Hands.{AreGroupsOf, AreHandsOf, WorkerHand};
 
 use crate::bells::Bells;
 use crate::errand::Errand;
-use crate::hands::{WorkerHand, WorkerHub};
-use crate::shift::{Thread, start};
+use crate::hands::{WorkerHand, WorkerHub, WorkerThread};
+use crate::shift::start;
 use mon_outside::Gate;
 use std::alloc::{AllocError, Global};
 use std::sync::Wait;
@@ -22,7 +22,7 @@ fn start_all<'s, E, R: Wait + Sync, G: Gate + Sync>(
     bells: &'s Bells,
     gate: &'s G,
     own: &mut Vec<WorkerHand>,
-    threads: &mut Vec<Thread>,
+    threads: &mut Vec<WorkerThread>,
 ) -> Result<(), AllocError>
     requires groups { AreGroupsOf hub.now groups.items }
     requires own { AreHandsOf hub.now own.old.items }
@@ -52,7 +52,7 @@ fn start_all<'s, E, R: Wait + Sync, G: Gate + Sync>(
 }
 
 // Waits for each thread. The hands that it gives back are let go.
-fn join_all<R: Threads>(rt: &R, threads: Vec<Thread>) {
+fn join_all<R: Threads>(rt: &R, threads: Vec<WorkerThread>) {
     for thread in threads {
         thread.join(rt);
     }

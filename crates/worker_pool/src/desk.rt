@@ -4,6 +4,7 @@ ghost use Rattle.log_reader.specs.Progress.{start};
 ghost use Rattle.log_reader.specs.Readers.{Reads, progress};
 ghost use Rattle.monitorable.specs.CoreForms.{CoreForm};
 ghost use Rattle.turn_hub.specs.Ends.{IsMainOf, cell_count};
+ghost use Rattle.worker_pool.specs.Changes.{Suits};
 ghost use Rattle.worker_pool.specs.Effects.{effect};
 ghost use Rattle.worker_pool.specs.Endings.{FollowsLog};
 ghost use Rattle.worker_pool.specs.Hands.{AreGroupsOf, AreHandsOf};
@@ -16,6 +17,7 @@ use crate::crew::beside;
 use crate::errand::Errand;
 use crate::following::follow;
 use crate::hands::WorkerHand;
+use crate::schedule::Schedule;
 use crate::shop::Shop;
 use crate::stop::Stop;
 use crate::tally::Tally;
@@ -31,6 +33,7 @@ use std::thread::Threads;
 struct Desk<'o, 's, R, G, I, O> {
     shop: &'o Shop<'o, R, G>,
     driver: &'o mut Driver,
+    schedule: &'o mut Schedule,
     buffer: &'o mut Vec<u8>,
     log: &'o mut LogReader<'s>,
     inputs: &'o mut I,
@@ -43,6 +46,7 @@ impl<'o, 's, R: Wait, G: Gate, I: Inputs, O: Sink> Errand for Desk<'o, 's, R, G,
     ghost use Rattle.log_reader.specs.Readers.{Reads, progress};
     ghost use Rattle.monitorable.specs.CoreForms.{CoreForm};
     ghost use Rattle.turn_hub.specs.Ends.{IsMainOf, cell_count};
+    ghost use Rattle.worker_pool.specs.Changes.{Suits};
     ghost use Rattle.worker_pool.specs.Effects.{effect};
     ghost use Rattle.worker_pool.specs.Endings.{FollowsLog};
     ghost use Rattle.worker_pool.specs.Hands.{AreHandsOf};
@@ -58,6 +62,8 @@ impl<'o, 's, R: Wait, G: Gate, I: Inputs, O: Sink> Errand for Desk<'o, 's, R, G,
         × (progress d.log.now [] ≡ start d.log.now.sig standard)
         × Reads d.log.now []
         × ((core : CoreForm) × Begins core d.driver.now)
+        × Suits d.driver.now d.schedule.now
+        × (d.schedule.now.routed ≡ 0)
         × IsMainOf d.shop.now.hub.now d.driver.now.main
         × (d.shop.now.cells ≤ cell_count d.shop.now.hub.now)
         × AreHandsOf d.shop.now.hub.now own };
@@ -83,6 +89,7 @@ impl<'o, 's, R: Wait, G: Gate, I: Inputs, O: Sink> Errand for Desk<'o, 's, R, G,
             self.shop,
             own,
             &mut *self.driver,
+            &mut *self.schedule,
             &mut *self.inputs,
             self.buffer.as_mut_slice(),
             &mut *self.log,
@@ -97,6 +104,7 @@ pub(crate) fn follow_beside<'o, 's, R: Threads + Wait + Sync, I: Inputs, O: Sink
     groups: Vec<Vec<WorkerHand>>,
     own: Vec<WorkerHand>,
     driver: &'o mut Driver,
+    schedule: &'o mut Schedule,
     buffer: &'o mut Vec<u8>,
     log: &'o mut LogReader<'s>,
     inputs: &'o mut I,
@@ -107,6 +115,8 @@ pub(crate) fn follow_beside<'o, 's, R: Threads + Wait + Sync, I: Inputs, O: Sink
     requires fresh { progress log.old [] ≡ start log.old.sig standard }
     requires reads { Reads log.old [] }
     requires begins { (core : CoreForm) × Begins core driver.old }
+    requires suits { Suits driver.old schedule.old }
+    requires unread { schedule.old.routed ≡ 0 }
     requires main { IsMainOf shop.now.hub.now driver.old.main }
     requires cells { shop.now.cells ≤ cell_count shop.now.hub.now }
     requires groups { AreGroupsOf shop.now.hub.now groups.items }
@@ -122,6 +132,7 @@ pub(crate) fn follow_beside<'o, 's, R: Threads + Wait + Sync, I: Inputs, O: Sink
     let mut desk = Desk {
         shop,
         driver,
+        schedule,
         buffer,
         log,
         inputs,

@@ -4,6 +4,7 @@ ghost use Rattle.log_reader.specs.Progress.{start};
 ghost use Rattle.log_reader.specs.Readers.{Reads, progress};
 ghost use Rattle.monitorable.specs.CoreForms.{CoreForm};
 ghost use Rattle.turn_hub.specs.Ends.{IsMainOf, cell_count};
+ghost use Rattle.worker_pool.specs.Changes.{Suits};
 ghost use Rattle.worker_pool.specs.Effects.{effect};
 ghost use Rattle.worker_pool.specs.Endings.{FollowsLog};
 ghost use Rattle.worker_pool.specs.Hands.{AreHandsOf};
@@ -15,6 +16,7 @@ ghost use Rattle.worker_pool.specs.Writing.{Begins};
 use crate::hands::WorkerHand;
 use crate::page::Page;
 use crate::routing::route_complete;
+use crate::schedule::Schedule;
 use crate::shop::Shop;
 use crate::stop::Stop;
 use crate::tally::Tally;
@@ -64,6 +66,7 @@ pub(crate) fn follow<R: Wait, I: Inputs, O: Sink, G: Gate>(
     shop: &Shop<'_, R, G>,
     own: &mut Vec<WorkerHand>,
     driver: &mut Driver,
+    schedule: &mut Schedule,
     inputs: &mut I,
     buffer: &mut [u8],
     reader: &mut LogReader<'_>,
@@ -74,6 +77,8 @@ pub(crate) fn follow<R: Wait, I: Inputs, O: Sink, G: Gate>(
     requires fresh { progress reader.old [] ≡ start reader.old.sig standard }
     requires reads { Reads reader.old [] }
     requires begins { (core : CoreForm) × Begins core driver.old }
+    requires suits { Suits driver.old schedule.old }
+    requires unread { schedule.old.routed ≡ 0 }
     requires main { IsMainOf shop.now.hub.now driver.old.main }
     requires cells { shop.now.cells ≤ cell_count shop.now.hub.now }
     requires hands { AreHandsOf shop.now.hub.now own.old.items }
@@ -89,7 +94,7 @@ pub(crate) fn follow<R: Wait, I: Inputs, O: Sink, G: Gate>(
 {
     let mut page = Page::blank(shop.alloc);
     'pieces: for _ in shop.rt.forever() {
-        match route_complete(shop, own, driver, &mut page, reader, out) {
+        match route_complete(shop, own, driver, schedule, &mut page, reader, out) {
             Ok(()) => {}
             Err(stop) => return Err(stop),
         }

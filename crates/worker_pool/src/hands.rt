@@ -1,4 +1,5 @@
 //! The hub of workers and its hands.
+use crate::shift::Thread;
 use rescale_core::Worker;
 use turn_hub::{Hand, Hub};
 
@@ -7,3 +8,6 @@ pub type WorkerHub = Hub<Worker>;
 
 /// A hand of such a hub.
 pub type WorkerHand = Hand<Worker>;
+
+/// A thread that serves such hands.
+pub(crate) type WorkerThread = Thread<Worker>;

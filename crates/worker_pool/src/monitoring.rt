@@ -1,9 +1,11 @@
 //! The whole run over a log.
 ghost use Rattle.std.specs.Prelude.{◌≡◌, ◌<◌, ◌≤◌, [], IfOk, IsTrue, length};
+ghost use Rattle.std.specs.List.{AllByRecursion};
 ghost use Rattle.log_reader.specs.Progress.{start};
 ghost use Rattle.log_reader.specs.Readers.{Reads, progress};
 ghost use Rattle.monitorable.specs.Cores.{core_form};
 ghost use Rattle.rescale_core.specs.Workers.{IsFor};
+ghost use Rattle.worker_pool.specs.Changes.{Suits};
 ghost use Rattle.worker_pool.specs.Effects.{effect};
 ghost use Rattle.worker_pool.specs.Endings.{FollowsLog};
 ghost use Rattle.turn_hub.specs.Ends.{IsMainOf, cell_count};
@@ -20,13 +22,13 @@ use crate::end::End;
 use crate::hands::{WorkerHand, WorkerHub};
 use crate::opening::open;
 use crate::plan::Plan;
+use crate::schedule::{Schedule, most_workers};
 use crate::shop::Shop;
 use crate::stop::Stop;
 use crate::tally::Tally;
 use log_reader::LogReader;
 use mon_outside::{Gate, Inputs, Sink};
 use rescale_core::Driver;
-use slice_strategy::Slicer;
 use std::alloc::{AllocError, Global};
 use std::sync::Wait;
 use std::thread::Threads;
@@ -39,30 +41,40 @@ const PIECE: usize = 65_536;
 struct Prepared {
     hub: WorkerHub,
     driver: Driver,
+    schedule: Schedule,
     groups: Vec<Vec<WorkerHand>>,
     own: Vec<WorkerHand>,
     bells: Bells,
     buffer: Vec<u8>,
 }
 
-// Opens a cell for each worker, and deals the hands to threads.
+// Opens so many cells, each for the worker of its number, and deals the hands to threads.
 fn prepare(alloc: Global, plan: Plan, cells: u32, threads: u32) -> Result<Prepared, AllocError>
     requires suits { IsFor (core_form plan.core) plan.first }
+    requires changes { AllByRecursion (λ c. IsFor (core_form plan.core) c.strategy) plan.changes.items }
     requires some { 0 < cells }
     ensures count { IfOk result (λ p. cells ≤ cell_count p.hub) }
     ensures begins { IfOk result (λ p. Begins (core_form plan.core) p.driver) }
+    ensures suits { IfOk result (λ p. Suits p.driver p.schedule) }
+    ensures unread { IfOk result (λ p. p.schedule.routed ≡ 0) }
     ensures main { IfOk result (λ p. IsMainOf p.hub p.driver.main) }
     ensures groups { IfOk result (λ p. AreGroupsOf p.hub p.groups.items) }
     ensures own { IfOk result (λ p. AreHandsOf p.hub p.own.items) }
     ensures room { IfOk result (λ p. 0 < length p.buffer.items) }
 {
-    let (hub, driver, hands) = open(alloc, plan.core, plan.first, cells)?;
+    let Plan {
+        core,
+        first,
+        changes,
+    } = plan;
+    let (hub, driver, hands) = open(alloc, core, first, cells)?;
     let (groups, own) = deal(alloc, hands, threads)?;
     let bells = Bells::new(alloc, groups.len())?;
     let buffer = Vec::from_elem(alloc, 0, PIECE)?;
     Ok(Prepared {
         hub,
         driver,
+        schedule: Schedule::new(changes),
         groups,
         own,
         bells,
@@ -82,6 +94,7 @@ fn run_plan<R: Threads + Wait + Sync, I: Inputs, O: Sink, G: Gate + Sync>(
     gate: &G,
 ) -> Result<Tally, Stop>
     requires suits { IsFor (core_form plan.core) plan.first }
+    requires changes { AllByRecursion (λ c. IsFor (core_form plan.core) c.strategy) plan.changes.items }
     requires opened { IsTrue (I.is_open inputs.old) }
     requires fresh { progress log.old [] ≡ start log.old.sig standard }
     requires reads { Reads log.old [] }
@@ -93,13 +106,14 @@ fn run_plan<R: Threads + Wait + Sync, I: Inputs, O: Sink, G: Gate + Sync>(
     ensures follows { ForEachPolicy (core_form plan.core) (λ policy. FollowsLog log.old.sig policy
         (effect I.Inputs O.Sink inputs.old inputs.new out.old out.new) (end_of result)) }
 {
-    let cells = plan.first.workers();
+    let cells = most_workers(&plan.first, plan.changes.as_slice());
     let Ok(prepared) = prepare(alloc, plan, cells, threads) else {
         return Err(Stop::Memory);
     };
     let Prepared {
         hub,
         mut driver,
+        mut schedule,
         groups,
         own,
         bells,
@@ -118,6 +132,7 @@ fn run_plan<R: Threads + Wait + Sync, I: Inputs, O: Sink, G: Gate + Sync>(
         groups,
         own,
         &mut driver,
+        &mut schedule,
         &mut buffer,
         log,
         inputs,
@@ -142,7 +157,7 @@ fn end_after(done: Result<Tally, Stop>) -> End
     }
 }
 
-/// Monitors the open log by the plan, with so many threads beside the caller's, and writes the line of each position
+/// Monitors the open log by the plan, which changes the strategy before the time-points that it says, with so many threads beside the caller's, and writes the line of each position
 /// as soon as it is settled. What is written is handed on before each read. However many threads there are and however
 /// they run, this holds, and so do the clauses.
 pub fn monitor<R: Threads + Wait + Sync, I: Inputs, O: Sink, G: Gate + Sync>(
@@ -156,6 +171,7 @@ pub fn monitor<R: Threads + Wait + Sync, I: Inputs, O: Sink, G: Gate + Sync>(
     gate: &G,
 ) -> End
     requires suits { IsFor (core_form plan.core) plan.first }
+    requires changes { AllByRecursion (λ c. IsFor (core_form plan.core) c.strategy) plan.changes.items }
     requires few { threads ≤ 64 }
     requires opened { IsTrue (I.is_open inputs.old) }
     requires fresh { progress log.old [] ≡ start log.old.sig standard }

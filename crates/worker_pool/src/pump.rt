@@ -1,19 +1,14 @@
 //! Main's turns: what is ready is handed over, collected and written.
 ghost use Rattle.std.specs.Prelude.{◌≡◌, ◌≤◌, IfErr, OnOk, OnErr, true};
-ghost use Rattle.rescale_core.specs.Moving.{IsDriverOf};
-ghost use Rattle.rescale_core.specs.Workers.{MayFollow};
-ghost use Rattle.rescale_core.specs.Worlds.{World, spot_in};
 ghost use Rattle.turn_hub.specs.Ends.{IsMainOf, cell_count};
 ghost use Rattle.worker_pool.specs.Hands.{AreHandsOf};
-ghost use Rattle.worker_pool.specs.Writing.{Adds, FallsShort, IsOutputStop, IsOver, IsRoomy, Keeps};
-ghost use Rattle.worker_pool.specs.Writing.{ReadsIn, Runs, RunsTo};
+ghost use Rattle.worker_pool.specs.Writing.{FallsShort, IsOutputStop, IsOver, IsRoomy, Keeps, Runs};
 
 use crate::hands::WorkerHand;
 use crate::page::Page;
 use crate::shift::serve_each;
 use crate::shop::Shop;
 use crate::stop::Stop;
-use mfotl_model::TimePoint;
 use mon_outside::{Gate, Sink};
 use rescale_core::{Driver, Turn};
 use std::alloc::{AllocError, Global};
@@ -143,8 +138,8 @@ pub(crate) fn drain<R: Wait, O: Sink, G: Gate>(
     unreachable!()
 }
 
-// Goes on until each worker's queue has room for an item, at least for one turn where `turns` is told.
-fn make_room<R: Wait, O: Sink, G: Gate>(
+/// Goes on until each worker's queue has room for an item, at least for one turn where `turns` is told.
+pub(crate) fn make_room<R: Wait, O: Sink, G: Gate>(
     shop: &Shop<'_, R, G>,
     own: &mut Vec<WorkerHand>,
     driver: &mut Driver,
@@ -176,41 +171,4 @@ fn make_room<R: Wait, O: Sink, G: Gate>(
         turns = false;
     }
     unreachable!()
-}
-
-// Reads a time-point. There is room for it.
-fn admit(alloc: Global, driver: &mut Driver, point: TimePoint) -> Result<(), AllocError>
-    requires room { IsRoomy driver.old }
-    requires may { (w : World) × IsDriverOf driver.old w × MayFollow (spot_in w).points point }
-    ensures reads { OnOk result (ReadsIn driver.old point driver.new) }
-    ensures main { OnOk result (driver.new.main ≡ driver.old.main) }
-{
-    driver.read_point(alloc, point)
-}
-
-/// Reads a time-point, once there is room for it; where `turns` is told, behind a turn of the loop.
-pub(crate) fn route<R: Wait, O: Sink, G: Gate>(
-    shop: &Shop<'_, R, G>,
-    own: &mut Vec<WorkerHand>,
-    driver: &mut Driver,
-    page: &mut Page,
-    out: &mut O,
-    turns: bool,
-    point: TimePoint,
-) -> Result<(), Stop>
-    requires runs { RunsTo driver.old (O.written out.old) page.old.tally point }
-    requires main { IsMainOf shop.now.hub.now driver.old.main }
-    requires cells { shop.now.cells ≤ cell_count shop.now.hub.now }
-    requires hands { AreHandsOf shop.now.hub.now own.old.items }
-    ensures hands { AreHandsOf shop.now.hub.now own.new.items }
-    ensures main { OnOk result (IsMainOf shop.now.hub.now driver.new.main) }
-    ensures ok { OnOk result (Adds driver.old (O.written out.old) page.old.tally point
-        driver.new (O.written out.new) page.new.tally) }
-    ensures err { OnErr result (FallsShort driver.old (O.written out.old) page.old.tally (O.written out.new)) }
-    ensures stop { IfErr result (λ stop. IsOutputStop (O.faults out.old) (O.faults out.new) stop) }
-    ensures later { O.faults out.old ≤ O.faults out.new }
-{
-    make_room(shop, own, driver, page, out, turns)?;
-    admit(shop.alloc, driver, point)?;
-    Ok(())
 }

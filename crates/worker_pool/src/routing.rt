@@ -4,14 +4,17 @@ ghost use Rattle.mon_outside.specs.Sink.{AppendsFront};
 ghost use Rattle.log_reader.specs.Progress.{read};
 ghost use Rattle.log_reader.specs.Readers.{progress};
 ghost use Rattle.turn_hub.specs.Ends.{IsMainOf, cell_count};
+ghost use Rattle.worker_pool.specs.Changes.{Suits};
 ghost use Rattle.worker_pool.specs.Hands.{AreHandsOf};
 ghost use Rattle.worker_pool.specs.Pieces.{ForEachRun, IsUnderWay, StopsLines, TakesAll};
 ghost use Rattle.worker_pool.specs.Policies.{ForEachPolicy};
 ghost use Rattle.worker_pool.specs.Texts.{text_on};
 
+use crate::entries::route;
 use crate::hands::WorkerHand;
 use crate::page::Page;
-use crate::pump::{drain, route};
+use crate::pump::drain;
+use crate::schedule::Schedule;
 use crate::shop::Shop;
 use crate::stop::Stop;
 use log_reader::{LogReader, Next};
@@ -20,25 +23,31 @@ use rescale_core::Driver;
 use std::sync::Wait;
 
 // After so many time-points main turns to the workers, so that they work while it reads on.
-const BATCH: u64 = 64;
+const BATCH: u64 = 256;
 
-/// Reads all time-points that are complete, and writes all lines that are due by then.
+/// Reads all time-points that are complete, each behind the changes that are to be made before it, and writes all
+/// lines that are due by then.
 pub(crate) fn route_complete<R: Wait, O: Sink, G: Gate>(
     shop: &Shop<'_, R, G>,
     own: &mut Vec<WorkerHand>,
     driver: &mut Driver,
+    schedule: &mut Schedule,
     page: &mut Page,
     reader: &mut LogReader<'_>,
     out: &mut O,
 ) -> Result<(), Stop>
     requires works { reader.old.is_broken ≡ false }
     requires few { reader.old.limits.points < 2 ^ 63 }
+    requires suits { Suits driver.old schedule.old }
+    requires routed { schedule.old.routed ≡ reader.old.given }
     requires under_way { IsUnderWay reader.old driver.old (O.written out.old) page.old.tally }
     requires main { IsMainOf shop.now.hub.now driver.old.main }
     requires cells { shop.now.cells ≤ cell_count shop.now.hub.now }
     requires hands { AreHandsOf shop.now.hub.now own.old.items }
     ensures hands { AreHandsOf shop.now.hub.now own.new.items }
     ensures main { OnOk result (IsMainOf shop.now.hub.now driver.new.main) }
+    ensures suits { OnOk result (Suits driver.new schedule.new) }
+    ensures routed { OnOk result (schedule.new.routed ≡ reader.new.given) }
     ensures reader { OnOk result (reader.new
         ≡ record reader.old { given = reader.new.given; kept = reader.new.kept }) }
     ensures ok { OnOk result (ForEachRun reader.old driver.old (O.written out.old) page.old.tally
@@ -51,12 +60,11 @@ pub(crate) fn route_complete<R: Wait, O: Sink, G: Gate>(
         start (O.written out.new) (text_on policy (read (progress reader.old bytes))))) }
     ensures later { O.faults out.old ≤ O.faults out.new }
 {
-    let mut number = 0u64;
     'points: for _ in shop.rt.forever() {
         match reader.next(shop.alloc) {
             Ok(Next::Point(point)) => {
-                number = number.wrapping_add(1);
-                route(shop, own, driver, page, out, number % BATCH == 0, point)?;
+                let turns = schedule.routed % BATCH == BATCH - 1;
+                route(shop, own, driver, schedule, page, out, turns, point)?;
             }
             Ok(Next::More) => return drain(shop, own, driver, page, out),
             Ok(Next::End) => return drain(shop, own, driver, page, out),

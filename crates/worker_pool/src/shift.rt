@@ -3,22 +3,21 @@ ghost use Rattle.std.specs.Prelude.{◌≡◌, ◌<◌, ◌≤◌, ◌+◌, vec_
 ghost use Rattle.worker_pool.specs.Hands.{AreHandsOf, Serve, cells_of};
 
 use crate::bell::Bell;
-use crate::hands::{WorkerHand, WorkerHub};
 use mon_outside::Gate;
 use std::alloc::Global;
 use std::sync::Wait;
 use std::thread::{JoinHandle, Scope};
-use turn_hub::Served;
+use turn_hub::{Hand, Hub, Served, Work};
 
 /// A thread that was started. It gives back the hands that it was given.
-pub(crate) type Thread = JoinHandle<Vec<WorkerHand>>;
+pub(crate) type Thread<W> = JoinHandle<Vec<Hand<W>>>;
 
 /// Serves each of the hands once, and says whether one of them had something to do.
 #[tactic(auto, unfolding(crate::specs::Hands::AreHandsOf))]
-pub(crate) fn serve_each<G: Gate>(
+pub(crate) fn serve_each<W: Work, G: Gate>(
     alloc: Global,
-    hub: &WorkerHub,
-    hands: &mut Vec<WorkerHand>,
+    hub: &Hub<W>,
+    hands: &mut Vec<Hand<W>>,
     gate: &G,
 ) -> bool
     requires { AreHandsOf hub.now hands.old.items }
@@ -35,15 +34,15 @@ pub(crate) fn serve_each<G: Gate>(
 }
 
 // Serves the hands in turn until the bell says to stop, and gives them back.
-fn serve_until<R: Wait, G: Gate>(
+fn serve_until<R: Wait, W: Work, G: Gate>(
     rt: &R,
     alloc: Global,
-    hub: &WorkerHub,
-    mut hands: Vec<WorkerHand>,
+    hub: &Hub<W>,
+    mut hands: Vec<Hand<W>>,
     bell: &Bell,
     main: &Bell,
     gate: &G,
-) -> Vec<WorkerHand>
+) -> Vec<Hand<W>>
     requires { AreHandsOf hub.now hands.items }
     ensures { Serve hub.now (cells_of hands.items) result.items }
 {
@@ -65,17 +64,20 @@ fn serve_until<R: Wait, G: Gate>(
 }
 
 /// Starts a thread for these hands. If that is refused, the hands come back, for main to serve.
-pub(crate) fn start<'s, E, R: Wait + Sync, G: Gate + Sync>(
+pub(crate) fn start<'s, E, R: Wait + Sync, W: Work + Send, G: Gate + Sync>(
     rt: &'s R,
     alloc: Global,
     scope: &Scope<'s, E>,
-    hub: &'s WorkerHub,
-    hands: Vec<WorkerHand>,
+    hub: &'s Hub<W>,
+    hands: Vec<Hand<W>>,
     bell: &'s Bell,
     main: &'s Bell,
     gate: &'s G,
-    threads: &mut Vec<Thread>,
-) -> Vec<WorkerHand>
+    threads: &mut Vec<Thread<W>>,
+) -> Vec<Hand<W>>
+where
+    W::Item: Send,
+    W::Out: Send,
     requires hands { AreHandsOf hub.now hands.items }
     requires room { vec_len threads.old < vec_capacity threads.old }
     ensures hands { AreHandsOf hub.now result.items }

@@ -2,6 +2,7 @@ use Rattle.std.proofs.Common.{rules, All, sym, subst}
 use Rattle.std.proofs.lemmas.List.Elements.{All-head, All-tail}
 use Rattle.worker_pool.specs.Hands.{AreHandsOf}
 use Rattle.worker_pool.proofs.HandLemmas.{more_hands}
+use Rattle.worker_pool.proofs.Sent.{base, core_send, merging_send, monitor_send, point_send, rows_send, state_send, strategy_send}
 use Rattle.worker_pool.proofs.crew.start_all.Goals as goal
 
 -- the next group's hands are the hub's
@@ -20,3 +21,15 @@ loop-t-preserved g c = record {
       c.start-refused.ensures.hands);
   room = search rules;
 }
+
+-- workers, and what they are handed and give, may cross over to a thread
+pub start-refused-requires-send-W : goal.start-refused-requires-send-W
+start-refused-requires-send-W g c κs within =
+    search (monitor_send, merging_send, core_send, strategy_send, base) depth 30
+
+pub start-refused-requires-send-W-Item : goal.start-refused-requires-send-W-Item
+start-refused-requires-send-W-Item g c κs within =
+    search (state_send, strategy_send, point_send, base) depth 30
+
+pub start-refused-requires-send-W-Out : goal.start-refused-requires-send-W-Out
+start-refused-requires-send-W-Out g c κs within = search (state_send, rows_send, base) depth 30

@@ -13,6 +13,8 @@ pieces-init g c = record {
   works = ap (λ (p : Progress). p.is_broken) c.requires.fresh;
   main = c.requires.main;
   hands = c.requires.hands;
+  suits = c.requires.suits;
+  routed = c.requires.unread ∙ sym (ap (λ (p : Progress). p.given) c.requires.fresh);
   files = refl;
   stays_open = refl;
   asks_nothing = refl;
@@ -104,6 +106,8 @@ pieces-preserved g c =
           ∙ ap (λ (r : Reader). r.is_broken) c.in-Ok.ensures.reader ∙ inv.works;
       main = c.in-Ok.ensures.main;
       hands = c.route_complete.ensures.hands;
+      suits = c.in-Ok.ensures.suits;
+      routed = c.in-Ok.ensures.routed ∙ sym (ap (λ (r : Reader). r.given) piece.ok.same);
       files = c.read_piece.ensures.files ∙ inv.files;
       stays_open = c.read_piece.ensures.stays_open ∙ inv.stays_open;
       asks_nothing = c.read_piece.ensures.asks_nothing ∙ inv.asks_nothing;

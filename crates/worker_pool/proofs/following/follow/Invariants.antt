@@ -1,6 +1,7 @@
 use Rattle.std.proofs.Common.{◌≡◌, ◌≤◌, false}
 use Rattle.monitorable.specs.CoreForms.{CoreForm}
 use Rattle.turn_hub.specs.Ends.{IsMainOf}
+use Rattle.worker_pool.specs.Changes.{Suits}
 use Rattle.worker_pool.specs.Hands.{AreHandsOf}
 use Rattle.worker_pool.specs.Writing.{Begins}
 use Rattle.worker_pool.proofs.PieceLemmas.{Course}
@@ -11,6 +12,8 @@ invariant-pieces g l = record {
   works : l.reader.is_broken ≡ false;
   main : IsMainOf l.shop.hub.now l.driver.main;
   hands : AreHandsOf l.shop.hub.now l.own.items;
+  suits : Suits l.driver l.schedule;
+  routed : l.schedule.routed ≡ l.reader.given;
   files : g.I.Inputs.files l.inputs ≡ g.I.Inputs.files l.fn.inputs;
   stays_open : g.I.Inputs.is_open l.inputs ≡ g.I.Inputs.is_open l.fn.inputs;
   asks_nothing : g.I.Inputs.asked l.inputs ≡ g.I.Inputs.asked l.fn.inputs;

@@ -1,6 +1,7 @@
-use Rattle.std.proofs.Common.{◌≡◌, ◌∙◌, ◌+◌, ◌≤◌, ◌<◌, ◌^◌, ap, arith, refl, take}
+use Rattle.std.proofs.Common.{◌≡◌, ◌∙◌, ◌+◌, ◌≤◌, ◌<◌, ◌^◌, ap, arith, refl, sym, take}
 use Rattle.log_reader.specs.Progress.{read}
 use Rattle.log_reader.specs.Readers.{Reader, progress}
+use Rattle.worker_pool.proofs.ChangeLemmas.{suits_drained}
 use Rattle.worker_pool.proofs.PointLemmas.{begins, ends_end, ends_more, follows, goes_on, one_more_given}
 use Rattle.worker_pool.proofs.PointLemmas.{short, stops_with}
 use Rattle.worker_pool.proofs.WritingLemmas.{falls_either, on_ok_both}
@@ -13,6 +14,8 @@ points-init g c = record {
   later = omega arith;
   main = c.requires.main;
   hands = c.requires.hands;
+  suits = c.requires.suits;
+  routed = c.requires.routed;
   so_far = λ core bytes start reads so_far.
       begins core c.args.reader.now bytes c.args.driver.now start (g.O.Sink.written c.args.out.now)
       c.args.page.now.tally reads so_far;
@@ -39,6 +42,17 @@ route-requires-clause-runs g c =
       follows _ _ _ _ _ _ _ here c.in-Ok-Point.point gives room,
     )
 
+pub route-requires-clause-few : goal.route-requires-clause-few
+route-requires-clause-few g c =
+    let after = rw c.in-Ok-Point.field-0-is at c.in-Ok-Point.ensures.after in
+    let given : c.next-in-points.new.self.given ≡ c.points.reader.given + 1 = ap (λ (r : Reader). r.given) after in
+    let limits : c.next-in-points.new.self.limits.points ≡ c.args.reader.now.limits.points =
+    ap (λ (r : Reader). r.limits.points) after ∙ ap (λ (r : Reader). r.limits.points) c.points.invariant.reader in
+    let few : c.next-in-points.new.self.given ≤ c.next-in-points.new.self.limits.points = c.in-Ok-Point.ensures.few in
+    let small : c.args.reader.now.limits.points < 2 ^ 63 = c.requires.few in
+    let routed : c.points.schedule.routed ≡ c.points.reader.given = c.points.invariant.routed in
+    omega (arith, given, limits, few, small, routed)
+
 pub returns-in_err-route-in-Ok-Point-clause-front : goal.returns-in_err-route-in-Ok-Point-clause-front
 returns-in_err-route-in-Ok-Point-clause-front g c core bytes start reads so_far =
     short _ _ _ _ _ _ _ (c.points.invariant.so_far core bytes start reads so_far) (g.O.Sink.written c.route.new.out)
@@ -64,6 +78,15 @@ returns-in-Ok-More-clause-ok g c =
     (rw c.in-Ok-More.field-0-is at (c.in-Ok-More.ensures.answer bytes here.reads))
     c.drain.new.driver (g.O.Sink.written c.drain.new.out) c.drain.new.page.tally keeps over)
     c.drain.ensures.ok c.drain.ensures.over
+
+pub returns-in-Ok-More-clause-suits : goal.returns-in-Ok-More-clause-suits
+returns-in-Ok-More-clause-suits g c =
+    let under = c.requires.under_way in
+    let here = c.points.invariant.so_far under.core under.bytes under.start under.reads under.so_far in
+    suits_drained c.drain.result c.points.driver c.drain.new.driver (g.O.Sink.written c.points.out)
+    (g.O.Sink.written c.drain.new.out) c.points.page.tally c.drain.new.page.tally c.points.schedule
+    (under.core, take c.points.reader.given (read (progress c.args.reader.now under.bytes)).points, under.start,
+    here.writes) c.drain.ensures.ok c.points.invariant.suits
 
 pub returns-in-Ok-More-clause-front : goal.returns-in-Ok-More-clause-front
 returns-in-Ok-More-clause-front g c core bytes start reads so_far =
@@ -94,6 +117,15 @@ returns-in-Ok-End-clause-ok g c =
     over)
     c.drain-in-Ok-End.ensures.ok c.drain-in-Ok-End.ensures.over
 
+pub returns-in-Ok-End-clause-suits : goal.returns-in-Ok-End-clause-suits
+returns-in-Ok-End-clause-suits g c =
+    let under = c.requires.under_way in
+    let here = c.points.invariant.so_far under.core under.bytes under.start under.reads under.so_far in
+    suits_drained c.drain-in-Ok-End.result c.points.driver c.drain-in-Ok-End.new.driver (g.O.Sink.written c.points.out)
+    (g.O.Sink.written c.drain-in-Ok-End.new.out) c.points.page.tally c.drain-in-Ok-End.new.page.tally c.points.schedule
+    (under.core, take c.points.reader.given (read (progress c.args.reader.now under.bytes)).points, under.start,
+    here.writes) c.drain-in-Ok-End.ensures.ok c.points.invariant.suits
+
 pub returns-in-Ok-End-clause-front : goal.returns-in-Ok-End-clause-front
 returns-in-Ok-End-clause-front g c core bytes start reads so_far =
     short _ _ _ _ _ _ _ (c.points.invariant.so_far core bytes start reads so_far)
@@ -119,6 +151,8 @@ points-preserved g c =
       later = omega (arith, c.points.invariant.later, c.route.ensures.later);
       main = c.in_ok-route-in-Ok-Point.ensures.main;
       hands = c.route.ensures.hands;
+      suits = c.in_ok-route-in-Ok-Point.ensures.suits;
+      routed = c.in_ok-route-in-Ok-Point.ensures.routed ∙ ap (λ n. n + 1) c.points.invariant.routed ∙ sym given;
       so_far = λ core bytes start reads so_far.
           let here = c.points.invariant.so_far core bytes start reads so_far in
           let gives = rw c.in-Ok-Point.field-0-is at (c.in-Ok-Point.ensures.answer bytes here.reads) in

@@ -1,0 +1,136 @@
+-- Changes of the strategy keep what was read and written.
+use Rattle.std.proofs.Common.{◌≡◌, ◌∙◌, ℕ, List, [], ◌∷◌, ◌++◌, Option, Some, OnOk, Ok, Err, map, ap, sym, subst}
+use Rattle.std.specs.Prelude.{Result}
+use Rattle.std.specs.declared.collections.VecDeque.{VecDeque}
+use Rattle.std.specs.Global.{Global}
+use Rattle.std.specs.Option.{option_to_list}
+use Rattle.monitorable.specs.CoreForms.{CoreForm}
+use Rattle.mfotl_model.specs.Strategies.{Strategy}
+use Rattle.mfotl_model.specs.declared.event.TimePoint.{TimePoint}
+use Rattle.rescale_core.proofs.Keeping.{by_steps}
+use Rattle.rescale_core.proofs.WorldLemmas.{spot_more}
+use Rattle.rescale_core.specs.Lines.{Spot, first_spot}
+use Rattle.rescale_core.specs.Moving.{IsDriverOf, core_of}
+use Rattle.rescale_core.specs.Moving.Kind.{Reads}
+use Rattle.rescale_core.specs.Workers.{IsFor}
+use Rattle.rescale_core.specs.Worlds.{World, after, spot_in}
+use Rattle.rescale_core.specs.Worlds.Move.{Read}
+use Rattle.rescale_core.specs.declared.item.Entry.TheVariants.{Change as ToStrategy}
+use Rattle.rescale_core.specs.declared.turns.Driver.{Driver}
+use Rattle.mon_outside.specs.Sink.{Appends}
+use Rattle.slice_strategy.specs.declared.change.Change.{Change}
+use Rattle.worker_pool.specs.Changes.{AllSuit, ChangesIn, IsDue, Suits, TakesDue}
+use Rattle.worker_pool.specs.Texts.{lines, tally_of}
+use Rattle.worker_pool.specs.Writing.{Adds, Begins, Keeps, Runs, RunsTo, seen}
+use Rattle.worker_pool.specs.declared.schedule.Schedule.{Schedule}
+use Rattle.worker_pool.specs.declared.tally.Tally.{Tally}
+use Rattle.worker_pool.proofs.WritingLemmas.{runs_of}
+
+-- ---- the core stays
+
+core_same : (d : Driver) (w : World) → IsDriverOf d w → core_of d ≡ w.core
+core_same d w is = is.router.core
+
+-- nothing was read since
+core_kept : (d e : Driver) (a b : Option (List ℕ)) (t u : Tally) → Runs d a t → Keeps d a t e b u
+    → core_of e ≡ core_of d
+core_kept d e a b t u r k =
+    let w = r.3 in
+    let x = k r.0 r.1 r.2 r.3 in
+    core_same e x.world x.stands ∙ x.core_is ∙ sym w.core_is ∙ sym (core_same d w.world w.stands)
+
+-- a time-point was read
+core_added : (d e : Driver) (a b : Option (List ℕ)) (t u : Tally) (p : TimePoint) → RunsTo d a t p
+    → Adds d a t p e b u → core_of e ≡ core_of d
+core_added d e a b t u p r k =
+    let w = r.3 in
+    let x = k r.0 r.1 r.2 r.4 r.3 in
+    core_same e x.world x.stands ∙ x.core_is ∙ sym w.core_is ∙ sym (core_same d w.world w.stands)
+
+-- ---- what is to come suits the driver
+
+suits_by : (d e : Driver) (s : Schedule) → core_of e ≡ core_of d → Suits d s → Suits e s
+suits_by d e s same suits = subst (λ core. AllSuit core s.changes.items) (sym same) suits
+
+pub suits_kept : (d e : Driver) (a b : Option (List ℕ)) (t u : Tally) (s : Schedule) → Runs d a t
+    → Keeps d a t e b u → Suits d s → Suits e s
+suits_kept d e a b t u s r k suits = suits_by d e s (core_kept d e a b t u r k) suits
+
+-- a driver that read nothing has the core that it began with
+pub suits_first : (core : CoreForm) (d : Driver) (s : Schedule) → Begins core d → AllSuit core s.changes.items
+    → Suits d s
+suits_first core d s begins suits =
+    subst (λ c. AllSuit c s.changes.items) (sym (core_same d _ begins.stands)) suits
+
+-- the first change is to a strategy for the core, and so are those behind it
+both_suit : (d : Driver) (old new : Schedule) (s : Strategy) (due : TakesDue old (Some s) new) → Suits d old
+    → AllSuit (core_of d) (due.0.change ∷ due.0.rest)
+both_suit d old new s due suits = subst (λ cs. AllSuit (core_of d) cs) due.0.first suits
+
+pub suits_now : (d : Driver) (old new : Schedule) (s : Strategy) → TakesDue old (Some s) new → Suits d old
+    → IsFor (core_of d) s
+suits_now d old new s due suits =
+    subst (λ x. IsFor (core_of d) x) (sym due.1) (both_suit d old new s due suits).0
+
+pub suits_later : (d : Driver) (old new : Schedule) (s : Strategy) → TakesDue old (Some s) new → Suits d old
+    → Suits d new
+suits_later d old new s due suits =
+    subst (λ cs. AllSuit (core_of d) cs) (sym due.2) (both_suit d old new s due suits).1
+
+-- whether it went well or not
+pub suits_drained : {T E : Type 0} (r : Result T E) (d e : Driver) (a b : Option (List ℕ)) (t u : Tally)
+    (s : Schedule) → Runs d a t → OnOk r (Keeps d a t e b u) → Suits d s → OnOk r (Suits e s)
+suits_drained (Ok x) d e a b t u s r k suits = suits_kept d e a b t u s r k suits
+suits_drained (Err x) d e a b t u s r k suits = tt
+
+-- what suited before room was made does so behind the time-point
+pub suits_routed : (d e f : Driver) (a b c : Option (List ℕ)) (t u v : Tally) (p : TimePoint) (s s2 : Schedule)
+    → RunsTo d a t p → Keeps d a t e b u → Adds d a t p f c v → s2.changes ≡ s.changes → Suits e s → Suits f s2
+suits_routed d e f a b c t u v p s s2 r k adds same suits =
+    subst (λ (cs : VecDeque Change Global). AllSuit (core_of f) cs.items) (sym same)
+    (suits_by e f s
+    (core_added d f a c t v p r adds ∙ sym (core_kept d e a b t u (runs_of d a t p r) k)) suits)
+
+-- the changes, of which the first one was taken out
+pub taken : (old : List Change) (front : Option Change) (new : List Change) (c : Change)
+    → old ≡ option_to_list front ++ new → front ≡ Some c → old ≡ c ∷ new
+taken old front new c items is = items ∙ ap (λ o. option_to_list o ++ new) is
+
+-- the first of these is the change that is due
+pub first_is : (s : Schedule) (due : IsDue s) (c : Change) (rest : List Change) → s.changes.items ≡ c ∷ rest
+    → (c ≡ due.change) × (rest ≡ due.rest)
+first_is s due c rest e = let both : c ∷ rest ≡ due.change ∷ due.rest = sym e ∙ due.first in (cc, cc)
+
+-- ---- a change
+
+-- it may be read where nothing was read since the strategy was for the core
+pub may_change : (d e : Driver) (a b : Option (List ℕ)) (t u : Tally) (s : Strategy) → Keeps d a t e b u → Runs d a t
+    → IsFor (core_of d) s → (w : World) × IsDriverOf e w × IsFor w.core s
+may_change d e a b t u s k r is =
+    let w = k r.0 r.1 r.2 r.3 in (
+      w.world,
+      w.stands,
+      subst (λ c. IsFor c s) (sym (core_kept d e a b t u r k) ∙ core_same e w.world w.stands) is,
+    )
+
+-- it reads no time-point
+points_same : (w : World) (s : Strategy) → (spot_in (after w (Read (ToStrategy s)))).points ≡ (spot_in w).points
+points_same w s = ap (λ (a : Spot). a.points) (spot_more (first_spot w.first) w.read (ToStrategy s ∷ []))
+
+pub change_keeps : (d e f : Driver) (a b : Option (List ℕ)) (t u : Tally) (s : Strategy) → Keeps d a t e b u
+    → IsFor (core_of d) s → ChangesIn e s f → Keeps d a t f b u
+change_keeps d e f a b t u s k is_for changes core points start w0 =
+    let w = k core points start w0 in
+    let same : core_of d ≡ w.world.core = core_same d w0.world w0.stands ∙ w0.core_is ∙ sym w.core_is in
+    let r = changes w.world (subst (λ c. IsFor c s) same is_for) w.stands in
+    let x : World = r.0 in
+    let is : x ≡ after w.world (Read (ToStrategy s)) = sym r.1.2 ∙ r.1.1.1 in
+    record {
+      world = x;
+      stands = r.2;
+      core_is = ap (λ (y : World). y.core) is ∙ w.core_is;
+      points_are = ap (λ (y : World). (spot_in y).points) is ∙ points_same w.world s ∙ w.points_are;
+      verdicts = (by_steps (Reads (ToStrategy s) ∷ []) w.world x w.stands.router.sound w.verdicts r.1).1;
+      text = subst (λ vs. Appends start b (lines (map seen vs))) (sym (ap (λ (y : World). y.emitted) is)) w.text;
+      counts = w.counts ∙ ap (λ vs. tally_of (map seen vs)) (sym (ap (λ (y : World). y.emitted) is));
+    }

@@ -1,0 +1,144 @@
+//! What main reads: changes of the strategy, and time-points.
+ghost use Rattle.std.specs.Prelude.{◌≡◌, ◌+◌, ◌≤◌, ◌<◌, ◌^◌, IfErr, OnOk, OnErr};
+ghost use Rattle.rescale_core.specs.Moving.{IsDriverOf, core_of};
+ghost use Rattle.rescale_core.specs.Workers.{IsFor, MayFollow};
+ghost use Rattle.rescale_core.specs.Worlds.{World, spot_in};
+ghost use Rattle.turn_hub.specs.Ends.{IsMainOf, cell_count};
+ghost use Rattle.worker_pool.specs.Changes.{ChangesIn, NoneDue, Suits};
+ghost use Rattle.worker_pool.specs.Hands.{AreHandsOf};
+ghost use Rattle.worker_pool.specs.Writing.{Adds, FallsShort, IsOutputStop, IsRoomy, Keeps, ReadsIn, Runs, RunsTo};
+
+use crate::hands::WorkerHand;
+use crate::page::Page;
+use crate::pump::make_room;
+use crate::schedule::Schedule;
+use crate::shop::Shop;
+use crate::stop::Stop;
+use mfotl_model::TimePoint;
+use mon_outside::{Gate, Sink};
+use rescale_core::Driver;
+use slice_strategy::Strategy;
+use std::alloc::{AllocError, Global};
+use std::sync::Wait;
+
+// Reads a time-point. There is room for it, and no change is to be made before it.
+fn admit(
+    alloc: Global,
+    driver: &mut Driver,
+    _schedule: &Schedule,
+    point: TimePoint,
+) -> Result<(), AllocError>
+    requires room { IsRoomy driver.old }
+    requires made { NoneDue _schedule.now }
+    requires may { (w : World) × IsDriverOf driver.old w × MayFollow (spot_in w).points point }
+    ensures reads { OnOk result (ReadsIn driver.old point driver.new) }
+    ensures main { OnOk result (driver.new.main ≡ driver.old.main) }
+{
+    driver.read_point(alloc, point)
+}
+
+// Reads a change to another strategy. There is room for it.
+fn alter(alloc: Global, driver: &mut Driver, strategy: Strategy) -> Result<(), AllocError>
+    requires room { IsRoomy driver.old }
+    requires may { (w : World) × IsDriverOf driver.old w × IsFor w.core strategy }
+    ensures changes { OnOk result (ChangesIn driver.old strategy driver.new) }
+    ensures main { OnOk result (driver.new.main ≡ driver.old.main) }
+{
+    driver.read_change(alloc, strategy)
+}
+
+// Reads a change to another strategy, once there is room for it.
+fn change<R: Wait, O: Sink, G: Gate>(
+    shop: &Shop<'_, R, G>,
+    own: &mut Vec<WorkerHand>,
+    driver: &mut Driver,
+    page: &mut Page,
+    out: &mut O,
+    strategy: Strategy,
+) -> Result<(), Stop>
+    requires runs { Runs driver.old (O.written out.old) page.old.tally }
+    requires suits { IsFor (core_of driver.old) strategy }
+    requires main { IsMainOf shop.now.hub.now driver.old.main }
+    requires cells { shop.now.cells ≤ cell_count shop.now.hub.now }
+    requires hands { AreHandsOf shop.now.hub.now own.old.items }
+    ensures hands { AreHandsOf shop.now.hub.now own.new.items }
+    ensures main { OnOk result (IsMainOf shop.now.hub.now driver.new.main) }
+    ensures ok { OnOk result (Keeps driver.old (O.written out.old) page.old.tally
+        driver.new (O.written out.new) page.new.tally) }
+    ensures err { OnErr result (FallsShort driver.old (O.written out.old) page.old.tally (O.written out.new)) }
+    ensures stop { IfErr result (λ stop. IsOutputStop (O.faults out.old) (O.faults out.new) stop) }
+    ensures later { O.faults out.old ≤ O.faults out.new }
+{
+    make_room(shop, own, driver, page, out, false)?;
+    alter(shop.alloc, driver, strategy)?;
+    Ok(())
+}
+
+// Reads each change that is to be made before the next time-point, in order.
+fn make_changes<R: Wait, O: Sink, G: Gate>(
+    shop: &Shop<'_, R, G>,
+    own: &mut Vec<WorkerHand>,
+    driver: &mut Driver,
+    schedule: &mut Schedule,
+    page: &mut Page,
+    out: &mut O,
+) -> Result<(), Stop>
+    requires runs { Runs driver.old (O.written out.old) page.old.tally }
+    requires suits { Suits driver.old schedule.old }
+    requires main { IsMainOf shop.now.hub.now driver.old.main }
+    requires cells { shop.now.cells ≤ cell_count shop.now.hub.now }
+    requires hands { AreHandsOf shop.now.hub.now own.old.items }
+    ensures hands { AreHandsOf shop.now.hub.now own.new.items }
+    ensures main { OnOk result (IsMainOf shop.now.hub.now driver.new.main) }
+    ensures suits { OnOk result (Suits driver.new schedule.new) }
+    ensures all { OnOk result (NoneDue schedule.new) }
+    ensures routed { schedule.new.routed ≡ schedule.old.routed }
+    ensures ok { OnOk result (Keeps driver.old (O.written out.old) page.old.tally
+        driver.new (O.written out.new) page.new.tally) }
+    ensures err { OnErr result (FallsShort driver.old (O.written out.old) page.old.tally (O.written out.new)) }
+    ensures stop { IfErr result (λ stop. IsOutputStop (O.faults out.old) (O.faults out.new) stop) }
+    ensures later { O.faults out.old ≤ O.faults out.new }
+{
+    for _ in shop.rt.forever() {
+        match schedule.next_due() {
+            None => return Ok(()),
+            Some(strategy) => change(shop, own, driver, page, out, strategy)?,
+        }
+    }
+    unreachable!()
+}
+
+/// Reads a time-point, once the changes before it are made and there is room for it; where `turns` is told, behind a
+/// turn of the loop.
+pub(crate) fn route<R: Wait, O: Sink, G: Gate>(
+    shop: &Shop<'_, R, G>,
+    own: &mut Vec<WorkerHand>,
+    driver: &mut Driver,
+    schedule: &mut Schedule,
+    page: &mut Page,
+    out: &mut O,
+    turns: bool,
+    point: TimePoint,
+) -> Result<(), Stop>
+    requires runs { RunsTo driver.old (O.written out.old) page.old.tally point }
+    requires suits { Suits driver.old schedule.old }
+    requires few { schedule.old.routed < 2 ^ 63 }
+    requires main { IsMainOf shop.now.hub.now driver.old.main }
+    requires cells { shop.now.cells ≤ cell_count shop.now.hub.now }
+    requires hands { AreHandsOf shop.now.hub.now own.old.items }
+    ensures hands { AreHandsOf shop.now.hub.now own.new.items }
+    ensures main { OnOk result (IsMainOf shop.now.hub.now driver.new.main) }
+    ensures suits { OnOk result (Suits driver.new schedule.new) }
+    ensures routed { OnOk result (schedule.new.routed ≡ schedule.old.routed + 1) }
+    ensures ok { OnOk result (Adds driver.old (O.written out.old) page.old.tally point
+        driver.new (O.written out.new) page.new.tally) }
+    ensures err { OnErr result (FallsShort driver.old (O.written out.old) page.old.tally (O.written out.new)) }
+    ensures stop { IfErr result (λ stop. IsOutputStop (O.faults out.old) (O.faults out.new) stop) }
+    ensures later { O.faults out.old ≤ O.faults out.new }
+{
+    make_changes(shop, own, driver, schedule, page, out)?;
+    make_room(shop, own, driver, page, out, turns)?;
+    admit(shop.alloc, driver, schedule, point)?;
+    schedule.count();
+    Ok(())
+}
