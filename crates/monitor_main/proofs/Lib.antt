@@ -8,6 +8,7 @@ pub mod StopLemmas
 pub mod CommandLemmas
 pub mod DemoLemmas
 pub mod DemoTexts
+pub mod DemoWords
 pub mod DivisionLemmas
 pub mod ReportLemmas
 pub mod UsageLemmas

@@ -1,5 +1,9 @@
 -- Words worked out by hand, and the commands that they give.
-use Rattle.std.specs.Prelude.{◌≡◌, ◌∷◌, [], codes, Some, None}
+use Rattle.std.specs.Prelude.{◌≡◌, ℕ, ◌+◌, ◌<◌, List, ◌∷◌, [], codes, true, Some, None}
+use Rattle.std.specs.Str.Parse.{digits_value}
+use Rattle.clap.specs.ValueTests.{is_unsigned_in}
+use Rattle.clap.specs.Words.{Text}
+use Rattle.monitor_main.specs.Limits.{max_seed}
 use Rattle.monitor_main.specs.Words.{Run, Check, Demo, command_of}
 
 -- `run` with all of its options
@@ -26,9 +30,21 @@ CheckIsTaken =
     command_of (codes "monitor" ∷ codes "check" ∷ codes "--sig" ∷ codes "s" ∷ codes "--policy" ∷ codes "p" ∷ [])
     ≡ Some (Check (record { sig = codes "s"; policy = codes "p" }))
 
--- `demo`, with the greatest seed
+-- the text that begins with a digit from 0 to 9
+abbrev pub digit_text : ℕ → List ℕ → Text
+digit_text digit rest = (48 + digit) ∷ rest
+
+-- `demo`, with whatever digits write a number from 0 to 2^64 - 1
 abbrev pub DemoIsTaken : Type 0
 DemoIsTaken =
+    (program : Text) (digit : ℕ) (rest : List ℕ) → digit < 10
+    → is_unsigned_in 0 max_seed (digit_text digit rest) ≡ true
+    → command_of (program ∷ codes "demo" ∷ digit_text digit rest ∷ [])
+    ≡ Some (Demo (digits_value 10 (digit_text digit rest)))
+
+-- with the greatest
+abbrev pub GreatestSeedIsTaken : Type 0
+GreatestSeedIsTaken =
     command_of (codes "monitor" ∷ codes "demo" ∷ codes "18446744073709551615" ∷ [])
     ≡ Some (Demo 18446744073709551615)
 

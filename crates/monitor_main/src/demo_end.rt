@@ -1,5 +1,5 @@
 //! The monitoring of a demo, whose files are in memory and whose lines are only counted.
-ghost use Rattle.std.specs.Prelude.{◌≡◌, IfOk, IfErr, string_bytes};
+ghost use Rattle.std.specs.Prelude.{IfOk, IfErr, string_bytes};
 ghost use Rattle.monitor_main.specs.CheckedPolicies.{Fails, Gives, IsInside, checked_in};
 ghost use Rattle.monitor_main.specs.DemoRuns.{EndsDemo, EndsOn};
 ghost use Rattle.monitor_main.specs.ReadyTasks.{IsReady};

@@ -1,8 +1,8 @@
 //! Laws of the definitions, each the contract of a function.
 ghost use Rattle.monitor_main.specs.AnswerLaws.{CheckAccepts, StrategiesAgree};
 ghost use Rattle.monitor_main.specs.TextLaw.{VerdictsGrow};
-ghost use Rattle.monitor_main.specs.WordsLaw.{CheckIsTaken, DemoIsTaken, InputIsNotShared, OptionsMayBeLeftOut};
-ghost use Rattle.monitor_main.specs.WordsLaw.{RunIsTaken, SeedsHaveAnEnd};
+ghost use Rattle.monitor_main.specs.WordsLaw.{CheckIsTaken, DemoIsTaken, GreatestSeedIsTaken, InputIsNotShared};
+ghost use Rattle.monitor_main.specs.WordsLaw.{OptionsMayBeLeftOut, RunIsTaken, SeedsHaveAnEnd};
 
 /// `check` accepts each policy that can be monitored, and tells its free variables.
 pub fn check_accepts()
@@ -25,6 +25,7 @@ pub fn worked_words()
     ensures options { OptionsMayBeLeftOut }
     ensures check { CheckIsTaken }
     ensures demo { DemoIsTaken }
+    ensures greatest { GreatestSeedIsTaken }
     ensures seeds { SeedsHaveAnEnd }
     ensures input { InputIsNotShared }
 {}

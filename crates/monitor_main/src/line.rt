@@ -1,5 +1,5 @@
 //! Writing a line.
-ghost use Rattle.std.specs.Prelude.{◌≡◌, ◌≤◌, IfOk, IfErr};
+ghost use Rattle.std.specs.Prelude.{◌≤◌, IfOk, IfErr};
 ghost use Rattle.mon_outside.specs.Sink.{Appends, AppendsFront};
 ghost use Rattle.monitor_main.specs.LogRuns.{IsOutputFault};
 

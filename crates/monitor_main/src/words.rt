@@ -1,6 +1,6 @@
 //! The words of the command line, as one `clap` command takes them.
-ghost use Rattle.std.specs.Prelude.{◌≡◌, ◌≤◌, codes, List, Some, None, Err, IfOk, IfSome, option_map};
-ghost use Rattle.clap.specs.Words.{Text, first_of, rows_of, found_of};
+ghost use Rattle.std.specs.Prelude.{◌≡◌, ◌≤◌, codes, Some, None, Err, IfOk, IfSome, option_map};
+ghost use Rattle.clap.specs.Words.{first_of, rows_of, found_of};
 ghost use Rattle.clap.specs.Words.{subcommand_of, subcommand_rows_of, FailsBy};
 ghost use Rattle.monitor_main.specs.CommandViews.{HasThreadsFound, HasThreadsOf, command_in};
 ghost use Rattle.monitor_main.specs.CommandViews.{options_in, sources_in, text_in};
