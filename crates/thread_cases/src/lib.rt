@@ -10,4 +10,6 @@ pub use meeting::Meeting;
 pub use watched_sink::WatchedSink;
 
 #[cfg(test)]
+mod refusal;
+#[cfg(test)]
 mod tests;

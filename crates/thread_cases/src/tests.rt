@@ -66,8 +66,8 @@ fn numbers(alloc: Global, all: &[u32]) -> Result<Vec<u32>, AllocError> {
 fn turns_of_two_cells(rt: HostRuntime) -> Result<(), Fail> {
     let alloc = rt.alloc();
     let mut works = Vec::new(alloc);
-    works.push(Echo { name: 7 })?;
-    works.push(Echo { name: 8 })?;
+    works.push(Echo { name: 7, room: 2 })?;
+    works.push(Echo { name: 8, room: 2 })?;
     let (hub, mut main, mut hands) = Hub::open(alloc, works)?;
     assert!(rt; matches!(hub.serve(alloc, &mut hands[0], &OpenGate), Served::NotGiven));
     let first = hub.swap(&mut main, 0, numbers(alloc, &[3, 4])?);
