@@ -118,7 +118,7 @@ class Drawing:
         if kind in meaning.UNARY:
             return kind, self.interval(kind in meaning.FUTURE), self.positive(names, depth - 1)
         left = self.positive(self.some(names), depth - 1)
-        left = self.draw.choice((left, ("not", left), ("true",)))
+        left = self.draw.choice((left, negated(left), ("true",)))
         return kind, self.interval(kind in meaning.FUTURE), left, self.positive(names, depth - 1)
 
     def comparison(self, names):
@@ -136,6 +136,12 @@ class Drawing:
             return "implies", self.positive(names, depth), self.positive(self.some(names), depth)
         inner = "implies", self.positive([*names, "z0"], depth), self.positive(self.some([*names, "z0"]), depth)
         return "implies", self.positive(names, depth), ("forall", "z0", inner)
+
+
+def negated(formula):
+    """The formula's negation as it may stand to the left of SINCE or UNTIL. That of an OR with free variables may not:
+    its normal form is an AND of two NOTs, in which nothing gives them their values. So the OR stays as it is."""
+    return formula if formula[0] == "or" and meaning.free_variables(formula) else ("not", formula)
 
 
 def term_text(term):
