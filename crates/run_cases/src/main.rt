@@ -13,7 +13,11 @@ use std::io;
 use std::io::{BufWriter, Read, Write};
 use std::process::ExitCode;
 use std::sync::Wait;
-use std::thread::Threads;
+use std::thread::{Builder, Threads};
+
+// The bytes of the stack on which cases are answered: some of their policies nest as deeply as a policy may, and code
+// that isn't optimised takes many bytes a level.
+const STACK: usize = 1 << 26;
 
 // Prints bytes under a heading, with their number.
 fn print_bytes<W: Write>(out: &mut W, heading: &str, bytes: &[u8]) -> io::Result<()> {
@@ -72,11 +76,12 @@ fn answer_all<R: Threads + Wait + Sync, W: Write>(
     Ok(None)
 }
 
-fn main(rt: HostRuntime) -> io::Result<ExitCode> {
+// Answers standard input.
+fn answer_input<R: Threads + Wait + Sync>(threads: &R, rt: HostRuntime) -> io::Result<ExitCode> {
     let mut cases = Vec::new(rt.alloc());
     rt.stdin().read_to_end(&mut cases)?;
     let mut out = BufWriter::new(rt.alloc(), rt.stdout())?;
-    let malformed = answer_all(&rt, rt.alloc(), cases.as_slice(), &mut out);
+    let malformed = answer_all(threads, rt.alloc(), cases.as_slice(), &mut out);
     out.flush()?;
     match malformed? {
         Some(line) => {
@@ -85,4 +90,11 @@ fn main(rt: HostRuntime) -> io::Result<ExitCode> {
         }
         None => Ok(ExitCode::SUCCESS),
     }
+}
+
+fn main(rt: HostRuntime) -> io::Result<ExitCode> {
+    let answers = Builder::new()
+        .stack_size(STACK)
+        .spawn(&rt, move || answer_input(&rt, rt))?;
+    answers.join(&rt)
 }
