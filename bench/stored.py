@@ -11,6 +11,8 @@ PROGRAM = os.path.join(TOP, "crates", "monitor", "out", "monitor")
 MOST_THREADS = 64
 # the longest name that a file is given
 MOST_NAME = 200
+# the longest word that Linux hands to a program
+MOST_WORD = 131_071
 
 
 def own_threads(words):
@@ -42,6 +44,8 @@ def left_out(case):
         return "a file can't be made"
     if any(b"\0" in word for word in case["words"]):
         return "a word has a zero"
+    if any(len(word) > MOST_WORD for word in case["words"]):
+        return "a word is too long for the system"
     if len(values) > 1 or not all(value.isdigit() and int(value) <= MOST_THREADS for value in values):
         return "its word for threads is none"
     return None
