@@ -1,11 +1,12 @@
-//! The normal form of a formula, and that of its negation.
+//! The normal form of a formula, and that of its negation. A chain may be hundreds of operands deep: no operator's code
+//! stands within the function that goes down, so that a level takes little of the stack.
 ghost use Rattle.std.specs.Prelude.{◌≡◌, IfOk};
 ghost use Rattle.mfotl_model.specs.Formulas.{form};
-ghost use Rattle.monitorable.specs.CoreForms.{And, Exists, Not, Or, Since, True, Until, node_form};
+ghost use Rattle.monitorable.specs.CoreForms.{And, Exists, Next, Not, Or, Previous, Since, True, Until, node_form};
 ghost use Rattle.monitorable.specs.NormalForm.{negative, positive};
 
 use crate::node::Node;
-use mfotl_model::{Bound, Formula, Interval};
+use mfotl_model::{Atom, Bound, Comparison, Formula, Interval};
 use std::alloc::{AllocError, Global};
 
 /// The normal form of a formula.
@@ -17,47 +18,23 @@ pub fn normal_form(alloc: Global, formula: &Formula) -> Result<Node, AllocError>
     match formula {
         Formula::True => Ok(Node::True),
         Formula::False => Ok(Node::False),
-        Formula::Atom(atom) => atom.copy(alloc).map(Node::Atom),
-        Formula::Compare(comparison) => comparison.copy(alloc).map(Node::Compare),
+        Formula::Atom(atom) => copied_atom(alloc, atom),
+        Formula::Compare(comparison) => copied_comparison(alloc, comparison),
         Formula::Not(inner) => negated_normal_form(alloc, inner),
-        Formula::And(left, right) => {
-            both(alloc, left, right).map(|(left, right)| Node::And(left, right))
-        }
-        Formula::Or(left, right) => {
-            both(alloc, left, right).map(|(left, right)| Node::Or(left, right))
-        }
+        Formula::And(left, right) => conjunction(alloc, left, right),
+        Formula::Or(left, right) => disjunction(alloc, left, right),
         Formula::Implies(left, right) => implication(alloc, left, right),
         Formula::Equiv(left, right) => equivalence(alloc, left, right),
-        Formula::Exists(bound, inner) => {
-            boxed(alloc, inner).and_then(|inner| exists(alloc, bound, inner))
-        }
-        Formula::Forall(bound, inner) => {
-            exists_negated(alloc, bound, inner).and_then(|node| not(alloc, node))
-        }
-        Formula::Previous(interval, inner) => {
-            boxed(alloc, inner).map(|inner| Node::Previous(*interval, inner))
-        }
-        Formula::Next(interval, inner) => {
-            boxed(alloc, inner).map(|inner| Node::Next(*interval, inner))
-        }
-        Formula::Once(interval, inner) => {
-            boxed(alloc, inner).and_then(|inner| once(alloc, *interval, inner))
-        }
-        Formula::Historically(interval, inner) => {
-            once_negated(alloc, *interval, inner).and_then(|node| not(alloc, node))
-        }
-        Formula::Eventually(interval, inner) => {
-            boxed(alloc, inner).and_then(|inner| eventually(alloc, *interval, inner))
-        }
-        Formula::Always(interval, inner) => {
-            eventually_negated(alloc, *interval, inner).and_then(|node| not(alloc, node))
-        }
-        Formula::Since(interval, left, right) => {
-            both(alloc, left, right).map(|(left, right)| Node::Since(*interval, left, right))
-        }
-        Formula::Until(interval, left, right) => {
-            both(alloc, left, right).map(|(left, right)| Node::Until(*interval, left, right))
-        }
+        Formula::Exists(bound, inner) => exists_positive(alloc, bound, inner),
+        Formula::Forall(bound, inner) => forall(alloc, bound, inner),
+        Formula::Previous(interval, inner) => previous(alloc, *interval, inner),
+        Formula::Next(interval, inner) => next(alloc, *interval, inner),
+        Formula::Once(interval, inner) => once_positive(alloc, *interval, inner),
+        Formula::Historically(interval, inner) => historically(alloc, *interval, inner),
+        Formula::Eventually(interval, inner) => eventually_positive(alloc, *interval, inner),
+        Formula::Always(interval, inner) => always(alloc, *interval, inner),
+        Formula::Since(interval, left, right) => since(alloc, *interval, left, right),
+        Formula::Until(interval, left, right) => until(alloc, *interval, left, right),
     }
 }
 
@@ -91,6 +68,7 @@ pub fn negated_normal_form(alloc: Global, formula: &Formula) -> Result<Node, All
 }
 
 #[cycle(normal_form)]
+#[inline(never)]
 fn boxed(alloc: Global, formula: &Formula) -> Result<Box<Node>, AllocError>
     ensures { IfOk result (λ node. node_form node.value ≡ positive (form formula.now)) }
 {
@@ -98,6 +76,7 @@ fn boxed(alloc: Global, formula: &Formula) -> Result<Box<Node>, AllocError>
 }
 
 #[cycle(normal_form)]
+#[inline(never)]
 fn boxed_negated(alloc: Global, formula: &Formula) -> Result<Box<Node>, AllocError>
     ensures { IfOk result (λ node. node_form node.value ≡ negative (form formula.now)) }
 {
@@ -105,19 +84,23 @@ fn boxed_negated(alloc: Global, formula: &Formula) -> Result<Box<Node>, AllocErr
 }
 
 #[cycle(normal_form)]
-fn both(
-    alloc: Global,
-    left: &Formula,
-    right: &Formula,
-) -> Result<(Box<Node>, Box<Node>), AllocError>
-    ensures left { IfOk result (λ nodes. node_form nodes.0.value ≡ positive (form left.now)) }
-    ensures right { IfOk result (λ nodes. node_form nodes.1.value ≡ positive (form right.now)) }
+#[inline(never)]
+fn conjunction(alloc: Global, left: &Formula, right: &Formula) -> Result<Node, AllocError>
+    ensures { IfOk result (λ node. node_form node ≡ And (positive (form left.now)) (positive (form right.now))) }
 {
-    let left = boxed(alloc, left)?;
-    Ok((left, boxed(alloc, right)?))
+    Ok(Node::And(boxed(alloc, left)?, boxed(alloc, right)?))
 }
 
 #[cycle(normal_form)]
+#[inline(never)]
+fn disjunction(alloc: Global, left: &Formula, right: &Formula) -> Result<Node, AllocError>
+    ensures { IfOk result (λ node. node_form node ≡ Or (positive (form left.now)) (positive (form right.now))) }
+{
+    Ok(Node::Or(boxed(alloc, left)?, boxed(alloc, right)?))
+}
+
+#[cycle(normal_form)]
+#[inline(never)]
 fn implication(alloc: Global, left: &Formula, right: &Formula) -> Result<Node, AllocError>
     ensures { IfOk result (λ node. node_form node
         ≡ Or (negative (form left.now)) (positive (form right.now))) }
@@ -126,6 +109,7 @@ fn implication(alloc: Global, left: &Formula, right: &Formula) -> Result<Node, A
 }
 
 #[cycle(normal_form)]
+#[inline(never)]
 fn equivalence(alloc: Global, left: &Formula, right: &Formula) -> Result<Node, AllocError>
     ensures { IfOk result (λ node. node_form node
         ≡ And (Or (negative (form left.now)) (positive (form right.now)))
@@ -137,6 +121,7 @@ fn equivalence(alloc: Global, left: &Formula, right: &Formula) -> Result<Node, A
 }
 
 #[cycle(normal_form)]
+#[inline(never)]
 fn neither(alloc: Global, left: &Formula, right: &Formula) -> Result<Node, AllocError>
     ensures { IfOk result (λ node. node_form node
         ≡ And (negative (form left.now)) (negative (form right.now))) }
@@ -145,6 +130,7 @@ fn neither(alloc: Global, left: &Formula, right: &Formula) -> Result<Node, Alloc
 }
 
 #[cycle(normal_form)]
+#[inline(never)]
 fn left_alone(alloc: Global, left: &Formula, right: &Formula) -> Result<Node, AllocError>
     ensures { IfOk result (λ node. node_form node
         ≡ And (positive (form left.now)) (negative (form right.now))) }
@@ -153,6 +139,7 @@ fn left_alone(alloc: Global, left: &Formula, right: &Formula) -> Result<Node, Al
 }
 
 #[cycle(normal_form)]
+#[inline(never)]
 fn exists_negated(alloc: Global, bound: &Bound, inner: &Formula) -> Result<Node, AllocError>
     ensures { IfOk result (λ node. node_form node ≡ Exists bound.now (negative (form inner.now))) }
 {
@@ -160,6 +147,7 @@ fn exists_negated(alloc: Global, bound: &Bound, inner: &Formula) -> Result<Node,
 }
 
 #[cycle(normal_form)]
+#[inline(never)]
 fn once_negated(alloc: Global, interval: Interval, inner: &Formula) -> Result<Node, AllocError>
     ensures { IfOk result (λ node. node_form node
         ≡ Since interval True (negative (form inner.now))) }
@@ -168,6 +156,7 @@ fn once_negated(alloc: Global, interval: Interval, inner: &Formula) -> Result<No
 }
 
 #[cycle(normal_form)]
+#[inline(never)]
 fn eventually_negated(
     alloc: Global,
     interval: Interval,
@@ -179,12 +168,124 @@ fn eventually_negated(
     eventually(alloc, interval, boxed_negated(alloc, inner)?)
 }
 
+#[cycle(normal_form)]
+#[inline(never)]
+fn exists_positive(alloc: Global, bound: &Bound, inner: &Formula) -> Result<Node, AllocError>
+    ensures { IfOk result (λ node. node_form node ≡ Exists bound.now (positive (form inner.now))) }
+{
+    exists(alloc, bound, boxed(alloc, inner)?)
+}
+
+#[cycle(normal_form)]
+#[inline(never)]
+fn forall(alloc: Global, bound: &Bound, inner: &Formula) -> Result<Node, AllocError>
+    ensures { IfOk result (λ node. node_form node ≡ Not (Exists bound.now (negative (form inner.now)))) }
+{
+    not(alloc, exists_negated(alloc, bound, inner)?)
+}
+
+#[cycle(normal_form)]
+#[inline(never)]
+fn previous(alloc: Global, interval: Interval, inner: &Formula) -> Result<Node, AllocError>
+    ensures { IfOk result (λ node. node_form node ≡ Previous interval (positive (form inner.now))) }
+{
+    Ok(Node::Previous(interval, boxed(alloc, inner)?))
+}
+
+#[cycle(normal_form)]
+#[inline(never)]
+fn next(alloc: Global, interval: Interval, inner: &Formula) -> Result<Node, AllocError>
+    ensures { IfOk result (λ node. node_form node ≡ Next interval (positive (form inner.now))) }
+{
+    Ok(Node::Next(interval, boxed(alloc, inner)?))
+}
+
+#[cycle(normal_form)]
+#[inline(never)]
+fn once_positive(alloc: Global, interval: Interval, inner: &Formula) -> Result<Node, AllocError>
+    ensures { IfOk result (λ node. node_form node ≡ Since interval True (positive (form inner.now))) }
+{
+    once(alloc, interval, boxed(alloc, inner)?)
+}
+
+#[cycle(normal_form)]
+#[inline(never)]
+fn historically(alloc: Global, interval: Interval, inner: &Formula) -> Result<Node, AllocError>
+    ensures { IfOk result (λ node. node_form node ≡ Not (Since interval True (negative (form inner.now)))) }
+{
+    not(alloc, once_negated(alloc, interval, inner)?)
+}
+
+#[cycle(normal_form)]
+#[inline(never)]
+fn eventually_positive(
+    alloc: Global,
+    interval: Interval,
+    inner: &Formula,
+) -> Result<Node, AllocError>
+    ensures { IfOk result (λ node. node_form node ≡ Until interval True (positive (form inner.now))) }
+{
+    eventually(alloc, interval, boxed(alloc, inner)?)
+}
+
+#[cycle(normal_form)]
+#[inline(never)]
+fn always(alloc: Global, interval: Interval, inner: &Formula) -> Result<Node, AllocError>
+    ensures { IfOk result (λ node. node_form node ≡ Not (Until interval True (negative (form inner.now)))) }
+{
+    not(alloc, eventually_negated(alloc, interval, inner)?)
+}
+
+#[cycle(normal_form)]
+#[inline(never)]
+fn since(
+    alloc: Global,
+    interval: Interval,
+    left: &Formula,
+    right: &Formula,
+) -> Result<Node, AllocError>
+    ensures { IfOk result (λ node. node_form node
+        ≡ Since interval (positive (form left.now)) (positive (form right.now))) }
+{
+    Ok(Node::Since(interval, boxed(alloc, left)?, boxed(alloc, right)?))
+}
+
+#[cycle(normal_form)]
+#[inline(never)]
+fn until(
+    alloc: Global,
+    interval: Interval,
+    left: &Formula,
+    right: &Formula,
+) -> Result<Node, AllocError>
+    ensures { IfOk result (λ node. node_form node
+        ≡ Until interval (positive (form left.now)) (positive (form right.now))) }
+{
+    Ok(Node::Until(interval, boxed(alloc, left)?, boxed(alloc, right)?))
+}
+
+#[inline(never)]
+fn copied_atom(alloc: Global, atom: &Atom) -> Result<Node, AllocError>
+    ensures { IfOk result (λ node. node ≡ Node.Atom atom.now) }
+{
+    Ok(Node::Atom(atom.copy(alloc)?))
+}
+
+#[inline(never)]
+fn copied_comparison(alloc: Global, comparison: &Comparison) -> Result<Node, AllocError>
+    ensures { IfOk result (λ node. node ≡ Node.Compare comparison.now) }
+{
+    Ok(Node::Compare(comparison.copy(alloc)?))
+}
+
+#[inline(never)]
 fn not(alloc: Global, inner: Node) -> Result<Node, AllocError>
     ensures { IfOk result (λ node. node_form node ≡ Not (node_form inner)) }
 {
     Ok(Node::Not(Box::new(alloc, inner)?))
 }
 
+#[inline(never)]
 fn exists(alloc: Global, bound: &Bound, inner: Box<Node>) -> Result<Node, AllocError>
     ensures { IfOk result (λ node. node_form node ≡ Exists bound.now (node_form inner.value)) }
 {
@@ -192,6 +293,7 @@ fn exists(alloc: Global, bound: &Bound, inner: Box<Node>) -> Result<Node, AllocE
 }
 
 // ONCE, as the SINCE that it stands for.
+#[inline(never)]
 fn once(alloc: Global, interval: Interval, inner: Box<Node>) -> Result<Node, AllocError>
     ensures { IfOk result (λ node. node_form node ≡ Since interval True (node_form inner.value)) }
 {
@@ -199,6 +301,7 @@ fn once(alloc: Global, interval: Interval, inner: Box<Node>) -> Result<Node, All
 }
 
 // EVENTUALLY, as the UNTIL that it stands for.
+#[inline(never)]
 fn eventually(alloc: Global, interval: Interval, inner: Box<Node>) -> Result<Node, AllocError>
     ensures { IfOk result (λ node. node_form node ≡ Until interval True (node_form inner.value)) }
 {

@@ -16,9 +16,6 @@ decreases-negated_normal_form l = 6 * size-Formula l.formula.now + 2
 abbrev pub decreases-boxed_negated : goal.decreases-boxed_negated
 decreases-boxed_negated l = 6 * size-Formula l.formula.now + 3
 
-abbrev pub decreases-both : goal.decreases-both
-decreases-both l = 6 * max (size-Formula l.left.now) (size-Formula l.right.now) + 2
-
 abbrev pub decreases-implication : goal.decreases-implication
 decreases-implication l = 6 * max (size-Formula l.left.now) (size-Formula l.right.now) + 4
 
@@ -39,3 +36,39 @@ decreases-neither l = 6 * max (size-Formula l.left.now) (size-Formula l.right.no
 
 abbrev pub decreases-left_alone : goal.decreases-left_alone
 decreases-left_alone l = 6 * max (size-Formula l.left.now) (size-Formula l.right.now) + 4
+
+abbrev pub decreases-conjunction : goal.decreases-conjunction
+decreases-conjunction l = 6 * max (size-Formula l.left.now) (size-Formula l.right.now) + 2
+
+abbrev pub decreases-disjunction : goal.decreases-disjunction
+decreases-disjunction l = 6 * max (size-Formula l.left.now) (size-Formula l.right.now) + 2
+
+abbrev pub decreases-since : goal.decreases-since
+decreases-since l = 6 * max (size-Formula l.left.now) (size-Formula l.right.now) + 2
+
+abbrev pub decreases-until : goal.decreases-until
+decreases-until l = 6 * max (size-Formula l.left.now) (size-Formula l.right.now) + 2
+
+abbrev pub decreases-exists_positive : goal.decreases-exists_positive
+decreases-exists_positive l = 6 * size-Formula l.inner.now + 5
+
+abbrev pub decreases-forall : goal.decreases-forall
+decreases-forall l = 6 * size-Formula l.inner.now + 5
+
+abbrev pub decreases-previous : goal.decreases-previous
+decreases-previous l = 6 * size-Formula l.inner.now + 5
+
+abbrev pub decreases-next : goal.decreases-next
+decreases-next l = 6 * size-Formula l.inner.now + 5
+
+abbrev pub decreases-once_positive : goal.decreases-once_positive
+decreases-once_positive l = 6 * size-Formula l.inner.now + 5
+
+abbrev pub decreases-historically : goal.decreases-historically
+decreases-historically l = 6 * size-Formula l.inner.now + 5
+
+abbrev pub decreases-eventually_positive : goal.decreases-eventually_positive
+decreases-eventually_positive l = 6 * size-Formula l.inner.now + 5
+
+abbrev pub decreases-always : goal.decreases-always
+decreases-always l = 6 * size-Formula l.inner.now + 5
