@@ -45,7 +45,7 @@ each_kept {X} Q (e ∷ es) up found = (
         let none : kept_for es u ≡ None = none_behind u e es (ascending_differ (e ∷ es) up) at in
         let w : None ≡ Some x = sym none ∙ is in
         cc
-    )
+        )
     behind u x false at is = is
 
 -- what holds of each row holds of all that look-ups find
