@@ -1,7 +1,7 @@
 //! A queue that keeps one item in place, and takes memory only for more.
 #![tactic(auto)]
 
-ghost use Rattle.std.specs.Prelude.{◌≡◌, ◌==◌, ◌-◌, ◌<◌, ◌∷◌, ◌++◌, [], IfOk, OnOk, MatchOption, drop, length, slice_index_or};
+ghost use Rattle.std.specs.Prelude.{◌≡◌, ◌==◌, ◌-◌, ◌<◌, ◌∷◌, ◌++◌, [], IfOk, OnErr, OnOk, MatchOption, drop, length, slice_index_or};
 
 use std::alloc::{AllocError, Global};
 use std::collections::VecDeque;
@@ -98,6 +98,7 @@ impl<T: Copy + Drop> ShortQueue<T> {
     /// One item more, behind the others.
     pub fn push_back(&mut self, item: T) -> Result<(), AllocError>
         ensures items { OnOk result (self.new ≡ self.old ++ item ∷ []) }
+        ensures err { OnErr result (self.new ≡ self.old) }
     {
         if self.is_empty() {
             self.first = Some(item);
