@@ -4,5 +4,6 @@ pub mod OwnerLemmas
 pub mod MergedLists
 pub mod KeptLemmas
 pub mod WaitingLemmas
+pub mod IndexLemmas
 pub mod PlaceLemmas
 pub mod TakingLemmas

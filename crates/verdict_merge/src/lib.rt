@@ -4,6 +4,7 @@
 mod gather;
 pub mod laws;
 mod merge;
+mod places;
 mod rows;
 mod text;
 mod waiting;

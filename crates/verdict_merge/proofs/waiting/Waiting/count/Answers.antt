@@ -5,7 +5,7 @@ use Rattle.verdict_merge.proofs.waiting.Waiting.count.Goals as goal
 
 pub returns-in-Some : goal.returns-in-Some
 returns-in-Some c =
-    rw (← c.self.view_is) (c.len.ensures ∙ c.in-Some.places.now.ok.0
+    rw (← c.self.view_is) (c.len.ensures
     ∙ ap (λ o. length (places_found o)) c.in-Some.ensures.value
     ∙ ap length (c.self.invariant.indexed c.args.point) ∙ counted c.args.point c.self.inside.arrived.entries)
 

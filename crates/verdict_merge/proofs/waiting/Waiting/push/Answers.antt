@@ -1,9 +1,7 @@
-use Rattle.std.proofs.Common.{◌≡◌, ◌∙◌, ◌++◌, ◌∷◌, [], suc, ◌<◌, cond, sym, ap, subst, arith}
+use Rattle.std.proofs.Common.{◌≡◌, ◌∙◌, ◌++◌, ◌∷◌, [], suc, ◌<◌, cond, nat_eq, sym, ap, subst, arith}
 use Rattle.std.proofs.lemmas.Grind.{common_steps}
-use Rattle.std.specs.BTreeMap.{is_at}
 use Rattle.std.specs.List.{AllByRecursion}
 use Rattle.std.specs.Map.{keys_of, values_of}
-use Rattle.std.specs.Ordering.{nat_cmp}
 use Rattle.verdict_merge.proofs.PlaceLemmas.{below_next, places_last, put_last, values_last}
 use Rattle.verdict_merge.specs.Places.{arrived_at, places_of}
 use Rattle.verdict_merge.proofs.waiting.Waiting.push.Goals as goal
@@ -19,9 +17,9 @@ invariant_of-self-2 c =
     record {
       indexed = λ p.
           c.in-Ok-add_place.ensures p
-          ∙ ap (λ ks. cond (is_at (nat_cmp rows.point) p) (ks ++ place ∷ []) (places_of p c.self.inside.index.entries))
+          ∙ ap (λ ks. cond (nat_eq rows.point p) (ks ++ place ∷ []) (places_of p c.self.inside.index.entries))
           (c.self.invariant.indexed rows.point)
-          ∙ ap (λ ks. cond (is_at (nat_cmp rows.point) p) (arrived_at rows.point before ++ place ∷ []) ks)
+          ∙ ap (λ ks. cond (nat_eq rows.point p) (arrived_at rows.point before ++ place ∷ []) ks)
           (c.self.invariant.indexed p)
           ∙ sym (ap (arrived_at p) grown ∙ places_last place p rows before);
       ordered = c.insert.ensures.ordered;

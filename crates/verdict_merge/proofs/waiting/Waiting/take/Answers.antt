@@ -1,8 +1,6 @@
-use Rattle.std.proofs.Common.{◌≡◌, ◌∙◌, ◌<◌, cond, [], sym, ap, subst}
-use Rattle.std.specs.BTreeMap.{is_at}
+use Rattle.std.proofs.Common.{◌≡◌, ◌∙◌, ◌<◌, cond, nat_eq, [], sym, ap, subst}
 use Rattle.std.specs.List.{AllByRecursion}
 use Rattle.std.specs.Map.{keys_of, values_of}
-use Rattle.std.specs.Ordering.{nat_cmp}
 use Rattle.verdict_merge.proofs.KeptLemmas.{kept_rows}
 use Rattle.verdict_merge.proofs.PlaceLemmas.{places_left, still_below}
 use Rattle.verdict_merge.specs.Gathers.{rows_after}
@@ -18,7 +16,7 @@ invariant_of-self c =
     record {
       indexed = λ p.
           c.take_places-places.ensures.left p
-          ∙ ap (cond (is_at (nat_cmp point) p) []) (c.self.invariant.indexed p)
+          ∙ ap (cond (nat_eq point p) []) (c.self.invariant.indexed p)
           ∙ sym (ap (arrived_at p) left ∙ places_left point p before);
       ordered = c.in-Ok.ensures.ordered;
       below = subst (λ ds. AllByRecursion (λ k. k < c.self.inside.next) (keys_of ds)) (sym left)
