@@ -1,15 +1,10 @@
 -- The places of time-points, as Rows come and go.
-use Rattle.std.proofs.Common.{◌≡◌, ◌∙◌, ℕ, suc, ◌<◌, Bool, true, false, cond, nat_eq, not, List, [], ◌∷◌, ◌++◌, filter}
-use Rattle.std.proofs.Common.{refl, sym, ap, subst, arith, eq-eqb, ne_eqb}
+use Rattle.std.proofs.Common.{◌≡◌, ◌∙◌, ℕ, Bool, true, false, cond, nat_eq, not, List, [], ◌∷◌, ◌++◌, filter}
+use Rattle.std.proofs.Common.{refl, sym, ap, subst, eq-eqb, ne_eqb}
 use Rattle.std.proofs.lemmas.List.Elements.{filter-append}
-use Rattle.std.specs.BTreeMap.{insert_entry}
-use Rattle.std.specs.Cmp.{nat_cmp_is}
-use Rattle.std.specs.List.{AllByRecursion}
 use Rattle.std.specs.Map.{keys_of, values_of}
-use Rattle.std.specs.Ordering.{match_ordering, nat_cmp}
-use Rattle.std.specs.declared.cmp.Ordering.TheVariants.{Greater}
 use native.Mathlib.Decide.{ℕ_discrete}
-use Rattle.verdict_merge.proofs.KeptLemmas.{filter_no, filter_yes, keys_kept}
+use Rattle.verdict_merge.proofs.KeptLemmas.{filter_no, filter_yes}
 use Rattle.verdict_merge.specs.declared.rows.Rows.{Rows}
 use Rattle.verdict_merge.specs.Gathers.{at_point}
 use Rattle.verdict_merge.specs.Places.{arrived_at, others}
@@ -58,24 +53,6 @@ places_left p q es = by_points (ℕ_discrete p q)
         (same es ∙ sym (ap (λ b. cond b [] (arrived_at p es)) (eq-eqb p p refl)))
     by_points (no n) =
         apart n es ∙ sym (ap (λ b. cond b [] (arrived_at q es)) (ne_eqb p q n))
-
-pub still_below : (n p : ℕ) (es : List (ℕ × Rows)) → AllByRecursion (λ k. k < n) (keys_of es)
-    → AllByRecursion (λ k. k < n) (keys_of (others p es))
-still_below n p es h = keys_kept (λ k. k < n) (λ e. not (at_point p e.1)) es h
-
--- at a place above all others
-pub put_last : (n : ℕ) (r : Rows) (es : List (ℕ × Rows)) → AllByRecursion (λ k. k < n) (keys_of es)
-    → insert_entry nat_cmp es n r ≡ es ++ (n, r) ∷ []
-put_last n r [] h = refl
-put_last n r (e ∷ es) h =
-    ap (λ o. match_ordering o ((n, r) ∷ e ∷ es) ((e.0, r) ∷ es) (e ∷ insert_entry nat_cmp es n r))
-    (sym (nat_cmp_is n e.0 Greater h.0))
-    ∙ ap (λ ds. e ∷ ds) (put_last n r es h.1)
-
-pub below_next : (n : ℕ) (r : Rows) (es : List (ℕ × Rows)) → AllByRecursion (λ k. k < n) (keys_of es)
-    → AllByRecursion (λ k. k < suc n) (keys_of (es ++ (n, r) ∷ []))
-below_next n r [] h = ((omega arith), tt)
-below_next n r (e ∷ es) h = let low = h.0 in ((omega arith), below_next n r es h.1)
 
 pub values_last : (n : ℕ) (r : Rows) (es : List (ℕ × Rows)) → values_of (es ++ (n, r) ∷ []) ≡ values_of es ++ r ∷ []
 values_last n r [] = refl

@@ -1,9 +1,6 @@
 -- The places of Rows in the order in which they came.
-use Rattle.std.specs.Prelude.{◌≡◌, ℕ, ◌<◌, nat_eq, not, List, [], ◌∷◌, filter, Option, Some, None}
-use Rattle.std.specs.List.{AllByRecursion}
-use Rattle.std.specs.List.Sorted.{IsStrictlySortedBy}
+use Rattle.std.specs.Prelude.{◌≡◌, ℕ, ◌+◌, nat_eq, not, List, [], ◌∷◌, filter, Option, Some, None}
 use Rattle.std.specs.Map.{keys_of, lookup}
-use Rattle.std.specs.Ordering.{nat_cmp}
 use Rattle.mfotl_model.specs.declared.value.Value.{Value}
 use Rattle.verdict_merge.specs.declared.rows.Rows.{Rows}
 use Rattle.verdict_merge.specs.Gathers.{at_point}
@@ -27,6 +24,16 @@ abbrev pub rows_found : Option Rows → List (List Value)
 rows_found None = []
 rows_found (Some given) = given.rows
 
+-- a slot's Rows, where it has some, before those at later places
+abbrev pub at_slot : ℕ → Option Rows → List (ℕ × Rows) → List (ℕ × Rows)
+at_slot place None later = later
+at_slot place (Some rows) later = (place, rows) ∷ later
+
+-- the Rows of slots, with their places: the first slot's is given, and each other's is one more than that before it
+abbrev pub placed : ℕ → List (Option Rows) → List (ℕ × Rows)
+placed start [] = []
+placed start (slot ∷ slots) = at_slot start slot (placed (start + 1) slots)
+
 -- the places at which the Rows of a time-point are
 abbrev pub arrived_at : ℕ → List (ℕ × Rows) → List ℕ
 arrived_at point arrived = keys_of (filter (λ e. at_point point e.1) arrived)
@@ -35,8 +42,6 @@ arrived_at point arrived = keys_of (filter (λ e. at_point point e.1) arrived)
 abbrev pub others : ℕ → List (ℕ × Rows) → List (ℕ × Rows)
 others point arrived = filter (λ e. not (at_point point e.1)) arrived
 
--- Rows stand at ascending places below the next one, and an index gives the places of each time-point
-pub record AreIndexed (arrived : List (ℕ × Rows)) (index : List (ℕ × List ℕ)) (next : ℕ) : Type 0 where
-  pub indexed : (point : ℕ) → places_of point index ≡ arrived_at point arrived
-  pub ordered : IsStrictlySortedBy nat_cmp (keys_of arrived)
-  pub below : AllByRecursion (λ place. place < next) (keys_of arrived)
+-- an index gives the places of each time-point
+abbrev pub AreIndexed : List (ℕ × Rows) → List (ℕ × List ℕ) → Type 0
+AreIndexed arrived index = (point : ℕ) → places_of point index ≡ arrived_at point arrived

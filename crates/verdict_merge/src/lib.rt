@@ -6,6 +6,7 @@ pub mod laws;
 mod merge;
 mod places;
 mod rows;
+mod slots;
 mod text;
 mod waiting;
 
