@@ -10,7 +10,8 @@ returns-in-Some c = λ p.
     let point = c.args.point in
     let now = c.get_mut.follows.lender c.push.new.self in
     let is : Some c.in-Some.places.now ≡ lookup (nat_eq point) old.entries = c.in-Some.ensures.value in
-    index_changed point p old.entries now.entries (Some c.push.new.self) (places_of point old.entries ++ c.args.place ∷ [])
+    index_changed point p old.entries now.entries (Some c.push.new.self)
+    (places_of point old.entries ++ c.args.place ∷ [])
     (put_through point p old now c.push.new.self c.in-Some.places.now (c.get_mut.follows.holds c.push.new.self) is)
     (c.in_ok-push.ensures ∙ ap (λ o. places_found o ++ c.args.place ∷ []) is)
 

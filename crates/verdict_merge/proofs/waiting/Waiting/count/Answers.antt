@@ -7,9 +7,11 @@ pub returns-in-Some : goal.returns-in-Some
 returns-in-Some c =
     rw (← c.self.view_is) (c.len.ensures
     ∙ ap (λ o. length (places_found o)) c.in-Some.ensures.value
-    ∙ ap length (c.self.invariant c.args.point) ∙ counted c.args.point (placed c.self.inside.start c.self.inside.arrived.items))
+    ∙ ap length (c.self.invariant c.args.point) ∙ counted c.args.point
+    (placed c.self.inside.start c.self.inside.arrived.items))
 
 pub returns-in-None : goal.returns-in-None
 returns-in-None c =
     rw (← c.self.view_is) (ap (λ o. length (places_found o)) c.in-None.ensures.value
-    ∙ ap length (c.self.invariant c.args.point) ∙ counted c.args.point (placed c.self.inside.start c.self.inside.arrived.items))
+    ∙ ap length (c.self.invariant c.args.point) ∙ counted c.args.point
+    (placed c.self.inside.start c.self.inside.arrived.items))
