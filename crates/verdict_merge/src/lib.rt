@@ -4,7 +4,9 @@
 mod gather;
 pub mod laws;
 mod merge;
+mod places;
 mod rows;
+mod slots;
 mod text;
 mod waiting;
 
