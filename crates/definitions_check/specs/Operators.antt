@@ -3,7 +3,10 @@ use Rattle.std.specs.Prelude.{ℕ, List, codes}
 use Rattle.mfotl_model.specs.declared.term.Sign.{Sign}
 use Rattle.mfotl_model.specs.declared.term.Sign.TheVariants as sign
 use Rattle.definitions_check.specs.declared.operator.Operator.{Operator}
-use Rattle.definitions_check.specs.declared.operator.Operator.TheVariants.{True, False, Atom, Compare, Not, And, Or, Implies, Equiv, Exists, Forall, Previous, Next, Once, Historically, Eventually, Always, Since, Until}
+use Rattle.definitions_check.specs.declared.operator.Operator.TheVariants.{True, False, Atom, Compare, Not, And, Or}
+use Rattle.definitions_check.specs.declared.operator.Operator.TheVariants.{Implies, Equiv, Exists, Forall, Previous}
+use Rattle.definitions_check.specs.declared.operator.Operator.TheVariants.{Next, Once, Historically, Eventually}
+use Rattle.definitions_check.specs.declared.operator.Operator.TheVariants.{Always, Since, Until}
 
 -- the word that a formula of this operator begins with
 abbrev pub word_of : Operator → List ℕ

@@ -1,5 +1,6 @@
 -- Children whose tables alone change: which columns they bind, and that what holds of a conjunction stays.
-use Rattle.std.proofs.Common.{◌≡◌, ℕ, zero, suc, ◌+◌, ◌<◌, ◌≤◌, ◌^◌, Bool, true, cond, ◌&&◌, List, [], ◌∷◌, ◌++◌, length, map, get_or, slice_set, drop, refl, sym, subst, ap, ◌∙◌, arith}
+use Rattle.std.proofs.Common.{◌≡◌, ℕ, zero, suc, ◌+◌, ◌<◌, ◌≤◌, ◌^◌, Bool, true, cond, ◌&&◌, List, [], ◌∷◌, ◌++◌}
+use Rattle.std.proofs.Common.{length, map, get_or, slice_set, drop, refl, sym, subst, ap, ◌∙◌, arith}
 use Rattle.std.proofs.lemmas.Bool.{and_parts}
 use Rattle.std.proofs.lemmas.List.{length-append}
 use Rattle.std.specs.List.{list_all}
@@ -8,7 +9,8 @@ use Rattle.mfotl_model.specs.Tables.{TableOf, all_among}
 use Rattle.std.specs.Prelude.{nat_lt}
 use Rattle.eval_bool.specs.Heads.{advanced_to}
 use Rattle.eval_bool.specs.IsJoin.{FewFrom, IsJoin}
-use Rattle.eval_bool.specs.JoinView.{ChildOf, TestOf, all_children, bound_columns, child_advanced, child_columns, child_pushed, child_tables, compared, is_guarded}
+use Rattle.eval_bool.specs.JoinView.{ChildOf, TestOf, all_children, bound_columns, child_advanced, child_columns}
+use Rattle.eval_bool.specs.JoinView.{child_pushed, child_tables, compared, is_guarded}
 
 -- the same children but for their tables
 abbrev pub Alike : List ChildOf → List ChildOf → Type 0

@@ -1,5 +1,6 @@
 -- The columns of conjuncts, and that what holds of a conjunction holds before the first position.
-use Rattle.std.proofs.Common.{◌≡◌, ℕ, ◌+◌, ◌<◌, true, false, List, [], ◌∷◌, length, get_or, map, drop, drop-cons, add-one, suc, refl, sym, subst, ap, ◌∙◌, inl, inr, arith}
+use Rattle.std.proofs.Common.{◌≡◌, ℕ, ◌+◌, ◌<◌, true, false, List, [], ◌∷◌, length, get_or, map, drop, drop-cons}
+use Rattle.std.proofs.Common.{add-one, suc, refl, sym, subst, ap, ◌∙◌, inl, inr, arith}
 use Rattle.std.specs.Prelude.{nat_eq}
 use Rattle.std.proofs.lemmas.Bool.{and_parts, or_cases, or_left, or_right}
 use Rattle.std.proofs.lemmas.List.Folds.{list_any-append}
@@ -12,7 +13,8 @@ use Rattle.relations.proofs.ColumnLemmas.{apart_joined}
 use Rattle.relations.proofs.JoinLemmas.{all_members, member_of_all, same_truth}
 use Rattle.eval_bool.proofs.AtomRows.{variables_apart}
 use Rattle.eval_bool.specs.IsJoin.{FewFrom, IsJoin}
-use Rattle.eval_bool.specs.JoinView.{ChildOf, ConjunctOf, TestOf, all_children, bound_columns, children_of, compared, conjunct_columns, conjunct_of, is_guarded, own_columns, tests_of}
+use Rattle.eval_bool.specs.JoinView.{ChildOf, ConjunctOf, TestOf, all_children, bound_columns, children_of}
+use Rattle.eval_bool.specs.JoinView.{compared, conjunct_columns, conjunct_of, is_guarded, own_columns, tests_of}
 use Rattle.eval_bool.specs.JoinView.ConjunctOf.{Child, Test}
 use Rattle.eval_bool.specs.declared.conjunct.Conjunct.{Conjunct}
 

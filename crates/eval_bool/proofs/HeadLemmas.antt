@@ -1,5 +1,7 @@
 -- The first tables of the children, taken one after another.
-use Rattle.std.proofs.Common.{◌≡◌, ℕ, zero, suc, ◌+◌, ◌<◌, ◌≤◌, Bool, true, false, not, cond, ◌&&◌, ◌||◌, List, [], ◌∷◌, ◌++◌, length, map, get_or, slice_set, drop, take, drop-cons, add-one, append_assoc, refl, sym, subst, ap, ap₂, ◌∙◌, arith}
+use Rattle.std.proofs.Common.{◌≡◌, ℕ, zero, suc, ◌+◌, ◌<◌, ◌≤◌, Bool, true, false, not, cond, ◌&&◌, ◌||◌, List, []}
+use Rattle.std.proofs.Common.{◌∷◌, ◌++◌, length, map, get_or, slice_set, drop, take, drop-cons, add-one}
+use Rattle.std.proofs.Common.{append_assoc, refl, sym, subst, ap, ap₂, ◌∙◌, arith}
 use Rattle.std.proofs.lemmas.Bool.{and_parts, and_from}
 use Rattle.std.specs.List.{list_all}
 use Rattle.std.specs.Prelude.{nat_lt}
@@ -14,8 +16,10 @@ use Rattle.mfotl_model.specs.Tables.{all_among}
 use Rattle.eval_bool.proofs.ConjunctLemmas.{same_among}
 use Rattle.eval_bool.specs.IsJoin.{IsJoin}
 use Rattle.eval_bool.specs.Firsts.{first_has}
-use Rattle.eval_bool.specs.Heads.{AreHeads, FirstsOver, advanced_to, all_have, heads_of, all_inside, in_columns, none_has}
-use Rattle.eval_bool.specs.JoinView.{ChildOf, JoinOf, all_children, bound_columns, child_advanced, child_holds, compared, join_due}
+use Rattle.eval_bool.specs.Heads.{AreHeads, FirstsOver, advanced_to, all_have, heads_of, all_inside, in_columns}
+use Rattle.eval_bool.specs.Heads.{none_has}
+use Rattle.eval_bool.specs.JoinView.{ChildOf, JoinOf, all_children, bound_columns, child_advanced, child_holds}
+use Rattle.eval_bool.specs.JoinView.{compared, join_due}
 
 at_same : (xs : List ChildOf) (i : ℕ) (d : ChildOf) → get_or (advanced_to i xs) i d ≡ get_or xs i d
 at_same [] zero d = refl

@@ -1,5 +1,6 @@
 -- The tables of the next position, apart: those of the children to be joined, and those to be taken away.
-use Rattle.std.specs.Prelude.{◌≡◌, ℕ, zero, suc, Bool, true, not, cond, ◌&&◌, Option, Some, None, List, [], ◌∷◌, ◌++◌, take}
+use Rattle.std.specs.Prelude.{◌≡◌, ℕ, zero, suc, Bool, true, not, cond, ◌&&◌, Option, Some, None, List, [], ◌∷◌}
+use Rattle.std.specs.Prelude.{◌++◌, take}
 use Rattle.std.specs.List.{list_all, list_any}
 use Rattle.mfotl_model.specs.FreeVariables.{among}
 use Rattle.mfotl_model.specs.Satisfaction.{Valuation}

@@ -1,6 +1,7 @@
 -- How an atom is matched against an event: the values that its variables read off the event, and the
 -- rows that they give.
-use Rattle.std.specs.Prelude.{ℕ, Bool, false, nat_eq, List, map, pos, Option, option_and_then, position, slice_get, unwrap_or}
+use Rattle.std.specs.Prelude.{ℕ, Bool, false, nat_eq, List, map, pos, Option, option_and_then, position, slice_get}
+use Rattle.std.specs.Prelude.{unwrap_or}
 use Rattle.std.specs.List.{filter}
 use Rattle.std.specs.Ordering.{eq_by_cmp}
 use Rattle.mfotl_model.specs.Events.{event_cmp}

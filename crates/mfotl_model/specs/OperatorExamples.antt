@@ -2,7 +2,8 @@
 use Rattle.std.specs.Prelude.{◌≡◌, ℕ, Bool, true, false, List, [], ◌∷◌, map}
 use Rattle.std.proofs.Common.{lit≤}
 use Rattle.mfotl_model.specs.Formulas.{Form}
-use Rattle.mfotl_model.specs.Formulas.Form.{True, False, Compare, Not, And, Or, Implies, Equiv, Exists, Forall, Previous, Next, Once, Historically, Eventually, Always, Since, Until}
+use Rattle.mfotl_model.specs.Formulas.Form.{True, False, Compare, Not, And, Or, Implies, Equiv, Exists, Forall}
+use Rattle.mfotl_model.specs.Formulas.Form.{Previous, Next, Once, Historically, Eventually, Always, Since, Until}
 use Rattle.mfotl_model.specs.Samples.{at, at_x, at_x_y, bound, event, from, int, interval, of, point}
 use Rattle.mfotl_model.specs.Satisfaction.{sat}
 use Rattle.mfotl_model.specs.Settled.{settled}

@@ -7,7 +7,8 @@ use Rattle.mfotl_model.specs.declared.copying.Unary.{Unary}
 use Rattle.mfotl_model.specs.declared.copying.Unary.TheVariants as unary
 use Rattle.mfotl_model.specs.declared.formula.Bound.{Bound}
 use Rattle.mfotl_model.specs.Formulas.{Form}
-use Rattle.mfotl_model.specs.Formulas.Form.{Not, And, Or, Implies, Equiv, Exists, Forall, Previous, Next, Once, Historically, Eventually, Always, Since, Until}
+use Rattle.mfotl_model.specs.Formulas.Form.{Not, And, Or, Implies, Equiv, Exists, Forall, Previous, Next, Once}
+use Rattle.mfotl_model.specs.Formulas.Form.{Historically, Eventually, Always, Since, Until}
 
 -- the formula that an operator makes of one operand
 abbrev pub unary_form : Unary → Form → Form

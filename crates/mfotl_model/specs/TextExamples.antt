@@ -2,7 +2,8 @@
 use Rattle.std.specs.Prelude.{◌≡◌, ℕ, ◌-◌, ◌^◌, false, List, [], ◌∷◌, codes, negsuc}
 use Rattle.std.proofs.Common.{lit≤}
 use Rattle.mfotl_model.specs.Formulas.{Form}
-use Rattle.mfotl_model.specs.Formulas.Form.{False, And, Compare, Implies, Not, Once, Eventually, Previous, Next, Since, Until}
+use Rattle.mfotl_model.specs.Formulas.Form.{False, And, Compare, Implies, Not, Once, Eventually, Previous, Next}
+use Rattle.mfotl_model.specs.Formulas.Form.{Since, Until}
 use Rattle.mfotl_model.specs.Samples.{at, at_x, at_x_y, event, from, int, interval, of, point}
 use Rattle.mfotl_model.specs.VerdictText.{text}
 use Rattle.mfotl_model.specs.declared.event.TimePoint.{TimePoint}

@@ -2,7 +2,8 @@
 use Rattle.std.specs.Prelude.{◌≡◌, List, [], ◌∷◌, map, codes}
 use Rattle.mfotl_model.specs.ActiveDomain.{adom, constants}
 use Rattle.mfotl_model.specs.Formulas.{Form}
-use Rattle.mfotl_model.specs.Formulas.Form.{True, False, Compare, Not, And, Or, Implies, Equiv, Exists, Forall, Previous, Next, Once, Historically, Eventually, Always, Since, Until}
+use Rattle.mfotl_model.specs.Formulas.Form.{True, False, Compare, Not, And, Or, Implies, Equiv, Exists, Forall}
+use Rattle.mfotl_model.specs.Formulas.Form.{Previous, Next, Once, Historically, Eventually, Always, Since, Until}
 use Rattle.mfotl_model.specs.FreeVariables.{fv}
 use Rattle.mfotl_model.specs.Samples.{at, bound, event, from, int, of, point}
 use Rattle.mfotl_model.specs.declared.term.Sign.TheVariants.{Less}

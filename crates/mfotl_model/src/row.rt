@@ -5,7 +5,7 @@ ghost use Rattle.std.specs.Ordering.{as_partial_cmp, eq_by_cmp};
 ghost use Rattle.mfotl_model.specs.Ascending.{ascending};
 ghost use Rattle.mfotl_model.specs.Hashes.{row_writes, rows_alike};
 ghost use Rattle.mfotl_model.specs.HeldValues.{held_values};
-ghost use Rattle.mfotl_model.specs.Values.{row_cmp, row_total};
+ghost use Rattle.mfotl_model.specs.Values.{row_cmp, row_total, value_cmp};
 
 use crate::value::Value;
 use std::alloc::{AllocError, Global};
@@ -172,6 +172,16 @@ fn copied(alloc: Global, values: &[Value]) -> Result<Vec<Value>, AllocError>
     Ok(copies)
 }
 
+// The order of two values. Integers, which most are, are compared where it is called.
+fn compared(left: &Value, right: &Value) -> Ordering
+    ensures { result ≡ value_cmp left.now right.now }
+{
+    match (left, right) {
+        (Value::Int(left), Value::Int(right)) => left.cmp(right),
+        _ => left.cmp(right),
+    }
+}
+
 impl PartialEq for Row {
     ghost eq = { eq_by_cmp row_cmp };
 
@@ -205,8 +215,16 @@ impl Ord for Row {
 
     ghost matches_eq = { λ x y. refl };
 
+    // Most rows have one value or two, and are compared often: then no list is walked.
     fn cmp(&self, other: &Row) -> Ordering {
-        self.values().cmp(other.values())
+        match (&self.held, &other.held) {
+            (Held::One([left]), Held::One([right])) => compared(left, right),
+            (Held::Two([left, last]), Held::Two([right, end])) => match compared(left, right) {
+                Ordering::Equal => compared(last, end),
+                unequal => unequal,
+            },
+            _ => self.values().cmp(other.values()),
+        }
     }
 }
 

@@ -1,5 +1,6 @@
 -- The lines of a log, one after another.
-use Rattle.std.proofs.Common.{◌≡◌, ℕ, ◌+◌, ◌-◌, ◌<◌, ◌≤◌, Bool, true, false, append-nil, List, ◌∷◌, ◌++◌, length, map, take, suc, arith, cond, ap, sym, ◌∙◌, append_assoc}
+use Rattle.std.proofs.Common.{◌≡◌, ℕ, ◌+◌, ◌-◌, ◌<◌, ◌≤◌, Bool, true, false, append-nil, List, ◌∷◌, ◌++◌, length}
+use Rattle.std.proofs.Common.{map, take, suc, arith, cond, ap, sym, ◌∙◌, append_assoc}
 use Rattle.std.specs.List.{flat_map, prefix_len, range_with_len, take_while}
 use Rattle.mfotl_model.specs.declared.event.TimePoint.{TimePoint}
 use Rattle.mfotl_model.specs.Formulas.{Form}

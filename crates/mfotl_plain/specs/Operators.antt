@@ -8,7 +8,8 @@ use Rattle.mfotl_model.specs.declared.interval.Interval.{Interval}
 use Rattle.mfotl_plain.specs.declared.satisfaction.Connective.{Connective}
 use Rattle.mfotl_plain.specs.declared.satisfaction.Connective.TheVariants.{And, Or, Implies, Equiv}
 use Rattle.mfotl_plain.specs.declared.temporal.Modality.{Modality}
-use Rattle.mfotl_plain.specs.declared.temporal.Modality.TheVariants.{Previous, Next, Once, Historically, Eventually, Always}
+use Rattle.mfotl_plain.specs.declared.temporal.Modality.TheVariants.{Previous, Next, Once, Historically, Eventually}
+use Rattle.mfotl_plain.specs.declared.temporal.Modality.TheVariants.{Always}
 use Rattle.mfotl_plain.specs.declared.temporal.Span.{Span}
 use Rattle.mfotl_plain.specs.declared.temporal.Span.TheVariants.{Since, Until}
 

@@ -1,5 +1,6 @@
 -- What is kept for rows that differ: by look-ups, and one after another.
-use Rattle.std.proofs.Common.{◌≡◌, ◌<◌, Bool, true, false, cond, nat_eq, List, [], ◌∷◌, length, Option, Some, None, refl, sym, ap, ◌∙◌, arith}
+use Rattle.std.proofs.Common.{◌≡◌, ◌<◌, Bool, true, false, cond, nat_eq, List, [], ◌∷◌, length, Option, Some, None}
+use Rattle.std.proofs.Common.{refl, sym, ap, ◌∙◌, arith}
 use Rattle.std.proofs.lemmas.Bool.{eqb-true}
 use Rattle.std.proofs.lemmas.Map.{lookup-none}
 use Rattle.std.proofs.lemmas.Map.Entries.{none_past_head}
@@ -40,7 +41,11 @@ each_kept {X} Q (e ∷ es) up found = (
   where
     behind : (u : List Value) (x : X) (b : Bool) → is_at (row_cmp u) e.0 ≡ b → kept_for es u ≡ Some x
         → cond b (Some e.1) (kept_for es u) ≡ Some x
-    behind u x true at is = absurd (let w : None ≡ Some x = sym (none_behind u e es (ascending_differ (e ∷ es) up) at) ∙ is in cc)
+    behind u x true at is = absurd (
+        let none : kept_for es u ≡ None = none_behind u e es (ascending_differ (e ∷ es) up) at in
+        let w : None ≡ Some x = sym none ∙ is in
+        cc
+        )
     behind u x false at is = is
 
 -- what holds of each row holds of all that look-ups find

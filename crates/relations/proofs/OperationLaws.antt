@@ -1,5 +1,7 @@
 -- What the lists of the operations are to valuations, and that they make tables.
-use Rattle.std.proofs.Common.{subst, ◌≡◌, ◌↔◌, ℕ, ◌+◌, Bool, true, false, not, ◌&&◌, ◌||◌, cond, nat_eq, List, [], ◌∷◌, ◌++◌, length, map, Result, Ok, Err, OnOk, OnErr, refl, sym, ap, ap₂, ◌∙◌, inl, inr}
+use Rattle.std.proofs.Common.{subst, ◌≡◌, ◌↔◌, ℕ, ◌+◌, Bool, true, false, not, ◌&&◌, ◌||◌, cond, nat_eq, List, []}
+use Rattle.std.proofs.Common.{◌∷◌, ◌++◌, length, map, Result, Ok, Err, OnOk, OnErr, refl, sym, ap, ap₂, ◌∙◌, inl}
+use Rattle.std.proofs.Common.{inr}
 use Rattle.std.proofs.lemmas.Bool.{and_parts, and_from, or_cases, or_left, or_right, eqb-true, eq-eqb}
 use Rattle.std.proofs.lemmas.List.{length-append}
 use Rattle.std.proofs.lemmas.List.Folds.{list_any-append, list_all-append}
@@ -23,10 +25,12 @@ use Rattle.mfotl_model.specs.declared.term.Term.{Term}
 use Rattle.mfotl_model.specs.declared.term.Term.TheVariants.{Var, Const}
 use Rattle.mfotl_model.specs.declared.value.Value.{Value}
 use Rattle.mfotl_model.specs.Tables.{TableOf, all_among, all_apart, all_sized, has, has_row, part, valuation}
-use Rattle.relations.specs.Operations.{agree, binds, chosen, chosen_rows, combined, joined_rows, others, pairs, pairs_of, unmatched_rows}
+use Rattle.relations.specs.Operations.{agree, binds, chosen, chosen_rows, combined, joined_rows, others, pairs}
+use Rattle.relations.specs.Operations.{pairs_of, unmatched_rows}
 use Rattle.relations.specs.Tables.{IsTable}
 use Rattle.relations.proofs.AscendingRows.{has_ascending, sized_ascending, sized_inserted}
-use Rattle.relations.proofs.JoinLemmas.{join_has, read_own, member_of_all, map_same_on, same_each, row_itself, row_kept, length_map}
+use Rattle.relations.proofs.JoinLemmas.{join_has, read_own, member_of_all, map_same_on, same_each, row_itself}
+use Rattle.relations.proofs.JoinLemmas.{row_kept, length_map}
 
 -- rows of as many values as columns
 

@@ -1,5 +1,6 @@
 -- Tables without a column; and rows of which some were let go.
-use Rattle.std.proofs.Common.{subst, ◌≡◌, ◌↔◌, ℕ, Bool, true, false, not, nat_eq, List, [], ◌∷◌, length, map, refl, sym, ap, ◌∙◌}
+use Rattle.std.proofs.Common.{subst, ◌≡◌, ◌↔◌, ℕ, Bool, true, false, not, nat_eq, List, [], ◌∷◌, length, map, refl}
+use Rattle.std.proofs.Common.{sym, ap, ◌∙◌}
 use Rattle.std.proofs.lemmas.Bool.{and_parts, and_from, cond-true, cond-false, not-true, eqb-true}
 use Rattle.std.specs.List.{items_where_true, AllByRecursion}
 use Rattle.std.specs.List.Sorted.{IsStrictlySortedBy}

@@ -1,6 +1,7 @@
 use Rattle.std.proofs.Common.{ap}
 use Rattle.mfotl_model.specs.Formulas.{form}
-use Rattle.mfotl_plain.proofs.PlainLemmas.{always_answers, exists_answers, forall_answers, historically_answers, since_answers, truths_pushed, until_answers}
+use Rattle.mfotl_plain.proofs.PlainLemmas.{always_answers, exists_answers, forall_answers, historically_answers}
+use Rattle.mfotl_plain.proofs.PlainLemmas.{since_answers, truths_pushed, until_answers}
 use Rattle.mfotl_plain.proofs.satisfaction.Interpretation.+satisfaction.Goals as goal
 
 pub holds-returns-in-Exists : goal.holds-returns-in-Exists
