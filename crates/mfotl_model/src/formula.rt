@@ -26,7 +26,6 @@ impl Bound {
 
 /// A formula of metric first-order temporal logic. Its contracts speak of it through `form`, the same
 /// tree without its boxes.
-#[derive(Drop)]
 pub enum Formula {
     True,
     False,
@@ -47,4 +46,33 @@ pub enum Formula {
     Always(Interval, Box<Formula>),
     Since(Interval, Box<Formula>, Box<Formula>),
     Until(Interval, Box<Formula>, Box<Formula>),
+}
+
+// A chain may be thousands of operands deep, and grows on its left side: that side is dropped in a loop.
+impl Drop for Formula {
+    fn drop(mut self) {
+        loop {
+            match self {
+                Formula::True | Formula::False => return,
+                Formula::Atom(_atom) => return,
+                Formula::Compare(_comparison) => return,
+                Formula::Not(inner)
+                | Formula::Previous(_, inner)
+                | Formula::Next(_, inner)
+                | Formula::Once(_, inner)
+                | Formula::Historically(_, inner)
+                | Formula::Eventually(_, inner)
+                | Formula::Always(_, inner) => self = Box::into_inner(inner),
+                Formula::Exists(_bound, inner) | Formula::Forall(_bound, inner) => {
+                    self = Box::into_inner(inner)
+                }
+                Formula::And(left, _right)
+                | Formula::Or(left, _right)
+                | Formula::Implies(left, _right)
+                | Formula::Equiv(left, _right)
+                | Formula::Since(_, left, _right)
+                | Formula::Until(_, left, _right) => self = Box::into_inner(left),
+            }
+        }
+    }
 }
