@@ -223,6 +223,7 @@ fn advance_until(
 }
 
 /// Adds a node behind the others.
+#[inline(never)]
 pub fn add(node: Node, nodes: &mut Vec<Node>) -> Result<(), AllocError>
     ensures { OnOk result (nodes.new.items ≡ nodes.old.items ++ node ∷ []) }
 {
