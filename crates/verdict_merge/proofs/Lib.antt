@@ -6,3 +6,4 @@ pub mod KeptLemmas
 pub mod WaitingLemmas
 pub mod PlaceLemmas
 pub mod TakingLemmas
+pub mod EmitLemmas
