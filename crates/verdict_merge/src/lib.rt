@@ -5,7 +5,9 @@ pub mod examples;
 mod gather;
 pub mod laws;
 mod merge;
+mod places;
 mod rows;
+mod slots;
 mod text;
 mod waiting;
 
