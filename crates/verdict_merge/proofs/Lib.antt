@@ -8,3 +8,4 @@ pub mod SlotLemmas
 pub mod IndexLemmas
 pub mod PlaceLemmas
 pub mod TakingLemmas
+pub mod EmitLemmas

@@ -1,6 +1,7 @@
 //! The verdicts of many workers put together: one for each time-point, in order.
 #![tactic(auto)]
 
+pub mod examples;
 mod gather;
 pub mod laws;
 mod merge;
