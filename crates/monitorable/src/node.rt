@@ -7,7 +7,6 @@ use std::alloc::{AllocError, Global};
 
 /// A core, with just the operators that a normal form has. Contracts speak of it through `node_form`,
 /// the same tree without its boxes.
-#[derive(Drop)]
 pub enum Node {
     True,
     False,
@@ -21,6 +20,27 @@ pub enum Node {
     Next(Interval, Box<Node>),
     Since(Interval, Box<Node>, Box<Node>),
     Until(Interval, Box<Node>, Box<Node>),
+}
+
+// A chain may be hundreds of nodes deep, and grows on its left side: that side is dropped in a loop.
+impl Drop for Node {
+    fn drop(mut self) {
+        loop {
+            match self {
+                Node::True | Node::False => return,
+                Node::Atom(_atom) => return,
+                Node::Compare(_comparison) => return,
+                Node::Not(inner) | Node::Previous(_, inner) | Node::Next(_, inner) => {
+                    self = Box::into_inner(inner)
+                }
+                Node::Exists(_bound, inner) => self = Box::into_inner(inner),
+                Node::And(left, _right)
+                | Node::Or(left, _right)
+                | Node::Since(_, left, _right)
+                | Node::Until(_, left, _right) => self = Box::into_inner(left),
+            }
+        }
+    }
 }
 
 impl Node {
