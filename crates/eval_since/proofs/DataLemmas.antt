@@ -1,5 +1,6 @@
 -- The plain data of a state is right where the state is, and the state that is resumed from it where the data is.
-use Rattle.std.proofs.Common.{◌≡◌, ℕ, suc, ◌+◌, ◌-◌, ◌≤◌, Bool, true, List, [], ◌∷◌, length, map, Some, sym, subst, ap, ◌∙◌, slice_get, arith}
+use Rattle.std.proofs.Common.{◌≡◌, ℕ, suc, ◌+◌, ◌-◌, ◌≤◌, Bool, true, List, [], ◌∷◌, length, map, Some, sym, subst}
+use Rattle.std.proofs.Common.{ap, ◌∙◌, slice_get, arith}
 use Rattle.mfotl_model.specs.Satisfaction.{Valuation, truth_at}
 use Rattle.mfotl_model.specs.Tables.{TableOf, all_among, has, has_row, part}
 use Rattle.mfotl_model.specs.declared.interval.Interval.{Interval}

@@ -1,13 +1,15 @@
 -- What a change at one row leaves at each row.
-use Rattle.std.proofs.Common.{◌≡◌, ℕ, ◌+◌, ◌<◌, ◌≤◌, Bool, true, false, cond, nat_eq, ◌&&◌, ◌||◌, List, [], ◌∷◌, length, get_or, take, Option, Some, None, refl, sym, ap, ◌∙◌, arith}
+use Rattle.std.proofs.Common.{◌≡◌, ℕ, ◌+◌, ◌<◌, ◌≤◌, Bool, true, false, cond, nat_eq, ◌&&◌, ◌||◌, List, [], ◌∷◌}
+use Rattle.std.proofs.Common.{length, get_or, take, Option, Some, None, refl, sym, ap, ◌∙◌, arith}
 use Rattle.std.specs.BTreeMap.{is_at}
-use Rattle.std.specs.List.{list_any}
+use Rattle.std.specs.List.{list_any, filter}
 use Rattle.std.specs.Map.{lookup}
 use Rattle.std.specs.Option.{unwrap_or}
 use Rattle.mfotl_model.specs.Values.{row_cmp, row_total}
 use Rattle.mfotl_model.specs.declared.value.Value.{Value}
 use Rattle.std.proofs.lemmas.Bool.{eqb-true}
 use Rattle.std.proofs.lemmas.List.{take_all}
+use Rattle.std.proofs.lemmas.Map.Entries.{lookup-filter-keys}
 use Rattle.std.specs.Cmp.{eq_by_cmp_equiv}
 use Rattle.mfotl_model.specs.declared.interval.Interval.{Interval}
 use Rattle.mfotl_model.specs.Tables.{has_row}
@@ -138,6 +140,21 @@ pub kept_all : (parts : List (List Value)) (i : ℕ) (old new : List (List Value
 kept_all parts i old new q v l kept =
     ap (λ o. times_in (unwrap_or o []) v) (kept q)
     ∙ ap (λ b. times_in (unwrap_or (cond b (lookup (is_at (row_cmp q)) old) None) []) v) (has_all parts i q l)
+    ∙ by (has_row parts q)
+  where
+    by : (b : Bool) → times_in (unwrap_or (cond b (lookup (is_at (row_cmp q)) old) None) []) v
+        ≡ cond b (times_at old q v) []
+    by true = refl
+    by false = refl
+
+-- where the groups of other parts are left out
+pub kept_where : (parts : List (List Value)) (old new : List (List Value × List (List Value × List ℕ)))
+    (q v : List Value) → new ≡ filter (λ e. has_row parts e.0) old
+    → times_at new q v ≡ cond (has_row parts q) (times_at old q v) []
+kept_where parts old new q v e =
+    ap (λ es. times_at es q v) e
+    ∙ ap (λ o. times_in (unwrap_or o []) v) (lookup-filter-keys (is_at (row_cmp q)) (has_row parts) (has_row parts q)
+    (λ k at. ap (has_row parts) (sym (same_row q k at))) old)
     ∙ by (has_row parts q)
   where
     by : (b : Bool) → times_in (unwrap_or (cond b (lookup (is_at (row_cmp q)) old) None) []) v

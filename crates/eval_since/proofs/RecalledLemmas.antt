@@ -1,5 +1,6 @@
 -- The rows of plain data: what the groups give for them, and what is put into groups.
-use Rattle.std.proofs.Common.{◌≡◌, ℕ, Bool, true, false, cond, nat_eq, ◌&&◌, ◌||◌, ◌<◌, List, [], ◌∷◌, length, map, Option, Some, None, refl, sym, subst, ap, ◌∙◌, arith}
+use Rattle.std.proofs.Common.{◌≡◌, ℕ, Bool, true, false, cond, nat_eq, ◌&&◌, ◌||◌, ◌<◌, List, [], ◌∷◌, length, map}
+use Rattle.std.proofs.Common.{Option, Some, None, refl, sym, subst, ap, ◌∙◌, arith}
 use Rattle.std.proofs.lemmas.Bool.{and_from, and_parts}
 use Rattle.std.proofs.lemmas.Map.Keys.{sorted_tail}
 use Rattle.std.specs.BTreeMap.{is_at}
@@ -13,7 +14,8 @@ use Rattle.mfotl_model.specs.Values.{row_cmp, row_total}
 use Rattle.mfotl_model.specs.declared.interval.Interval.{Interval}
 use Rattle.mfotl_model.specs.declared.value.Value.{Value}
 use Rattle.relations.specs.KeptRows.{RowsAscend, RowsDiffer, filled, kept_for}
-use Rattle.relations.proofs.KeptLemmas.{ascending_differ, differ_tail, each_kept, filled_back, filled_is, none_behind, or_none}
+use Rattle.relations.proofs.KeptLemmas.{ascending_differ, differ_tail, each_kept, filled_back, filled_is}
+use Rattle.relations.proofs.KeptLemmas.{none_behind, or_none}
 use Rattle.relations.proofs.MapLemmas.{same_row}
 use Rattle.eval_since.specs.Groups.{hit, times_at, times_in}
 use Rattle.eval_since.specs.Recalled.{first_times, put_times, recalls, times_for, times_kept}

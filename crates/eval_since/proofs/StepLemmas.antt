@@ -1,5 +1,6 @@
 -- One position more: the left operand's table, the right operand's, and the old times forgotten.
-use Rattle.std.proofs.Common.{◌≡◌, ℕ, ◌-◌, ◌≤◌, Bool, true, false, cond, nat_eq, ◌&&◌, ◌||◌, List, [], ◌∷◌, ◌++◌, Option, Some, None, length, refl, sym, subst, ap, ◌∙◌, arith}
+use Rattle.std.proofs.Common.{◌≡◌, ℕ, ◌-◌, ◌≤◌, Bool, true, false, cond, nat_eq, ◌&&◌, ◌||◌, List, [], ◌∷◌, ◌++◌}
+use Rattle.std.proofs.Common.{Option, Some, None, length, refl, sym, subst, ap, ◌∙◌, arith}
 use Rattle.std.specs.BTreeMap.{is_at}
 use Rattle.std.specs.Option.{is_some}
 use Rattle.mfotl_model.specs.Intervals.{in_interval}
@@ -11,8 +12,10 @@ use Rattle.eval_since.specs.Groups.{times_at}
 use Rattle.mfotl_model.specs.Tables.{all_sized, has_row, part}
 use Rattle.eval_since.specs.LeftOperand.{left_has}
 use Rattle.eval_since.specs.Times.{reaches, added}
-use Rattle.eval_since.specs.Windows.{Alone, Ascending, Sized, Placed, Past, IsThinned, Covered, Rising, NotAfter, Fresh, Finds, Keeps}
-use Rattle.eval_since.proofs.ExpireLemmas.{past_held, past_joined, placed_joined, past_thinned, placed_thinned, covered_push, rising_push, not_after_later, not_after_push}
+use Rattle.eval_since.specs.Windows.{Alone, Ascending, Sized, Placed, Past, IsThinned, Covered, Rising, NotAfter}
+use Rattle.eval_since.specs.Windows.{Fresh, Finds, Keeps}
+use Rattle.eval_since.proofs.ExpireLemmas.{past_held, past_joined, placed_joined, past_thinned, placed_thinned}
+use Rattle.eval_since.proofs.ExpireLemmas.{covered_push, rising_push, not_after_later, not_after_push}
 use Rattle.std.specs.List.Sorted.{IsStrictlyIncreasing}
 use Rattle.eval_since.proofs.RuleLemmas.{increasing_more, increasing_none, increasing_thinned, one_more}
 use Rattle.relations.proofs.TableRows.{all_rows, lacks_other}

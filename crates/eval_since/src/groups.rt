@@ -16,6 +16,7 @@ use crate::group::Group;
 use crate::ordered::OrderedGroup;
 use crate::times::Times;
 use mfotl_model::{Interval, Row};
+use relations::Table;
 use std::alloc::{AllocError, Global};
 use std::collections::HashMap;
 use std::marker::Model;
@@ -82,8 +83,16 @@ impl Groups {
         }
     }
 
-    /// Keeps the groups of these parts alone.
-    pub fn keep(&mut self, alloc: Global, parts: &[Row]) -> Result<(), AllocError>
+    // drops the groups of other parts where they stand
+    fn drop_others(&mut self, parts: &Table)
+        ensures { (q v : List Value) → times_at self.new q v
+            ≡ cond (has_row parts.now.rows q) (times_at self.old q v) [] }
+    {
+        self.groups.retain(|key, _| parts.contains(key));
+    }
+
+    // moves the groups of these parts into a map of their own
+    fn move_groups(&mut self, alloc: Global, parts: &[Row]) -> Result<(), AllocError>
         ensures { OnOk result ((q v : List Value) → times_at self.new q v
             ≡ cond (has_row parts.now q) (times_at self.old q v) []) }
     {
@@ -94,6 +103,19 @@ impl Groups {
             }
         }
         self.groups = kept;
+        Ok(())
+    }
+
+    /// Keeps the groups of a table's rows alone. Out of few the others are dropped, which takes no memory;
+    /// of many those that stay are found by their hashes, and take no more room than they need.
+    pub fn keep(&mut self, alloc: Global, parts: &Table) -> Result<(), AllocError>
+        ensures { OnOk result ((q v : List Value) → times_at self.new q v
+            ≡ cond (has_row parts.now.rows q) (times_at self.old q v) []) }
+    {
+        if self.groups.capacity() > 64 {
+            return self.move_groups(alloc, parts.rows());
+        }
+        self.drop_others(parts);
         Ok(())
     }
 

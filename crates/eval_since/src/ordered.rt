@@ -61,7 +61,7 @@ impl OrderedGroup {
         for (row, times) in self.rows {
             kept.push(KeptRow {
                 row,
-                times: times.into_vec(),
+                times: times.into_vec(alloc)?,
             })?;
         }
         Ok(kept)

@@ -1,16 +1,16 @@
 //! The times that are kept for one row, strictly ascending.
-ghost use Rattle.std.specs.Prelude.{◌≡◌, ◌==◌, ◌∷◌, [], IfOk, OnOk, MatchOption, drop, length};
+ghost use Rattle.std.specs.Prelude.{◌≡◌, ◌==◌, [], IfOk, OnOk, length};
 ghost use Rattle.std.specs.List.Sorted.{IsStrictlyIncreasing};
 ghost use Rattle.eval_since.specs.Times.{ArePast, added, is_new, reaches, recent};
 
 use mfotl_model::Interval;
+use short_queue::ShortQueue;
 use std::alloc::{AllocError, Global};
-use std::collections::VecDeque;
 use std::marker::Model;
 
 #[derive(Drop)]
 pub struct Times {
-    list: VecDeque<u64>,
+    list: ShortQueue<u64>,
 }
 
 impl Model for Times {
@@ -19,36 +19,18 @@ impl Model for Times {
 
     ghost Value = { List ℕ };
 
-    ghost view = { λ t. t.list.items };
+    ghost view = { λ t. t.list };
 
-    ghost invariant = { λ t. IsStrictlyIncreasing t.list.items };
+    ghost invariant = { λ t. IsStrictlyIncreasing t.list };
 }
 
-/// The first time, if there is one.
-#[tactic(auto, using(relations::proofs::PushedLemmas::first_is))]
-fn oldest(list: &VecDeque<u64>) -> Option<u64>
-    ensures { MatchOption result (list.now.items ≡ []) (λ y. list.now.items ≡ y ∷ drop 1 list.now.items) }
-{
-    list.front().copied()
-}
-
-fn is_new(list: &VecDeque<u64>, x: u64, bounded: bool) -> bool
-    ensures { result ≡ is_new bounded list.now.items x }
+fn is_new(list: &ShortQueue<u64>, x: u64, bounded: bool) -> bool
+    ensures { result ≡ is_new bounded list.now x }
 {
     match list.back() {
         None => true,
-        Some(last) => bounded && *last != x,
+        Some(last) => bounded && last != x,
     }
-}
-
-fn copied(alloc: Global, list: &VecDeque<u64>) -> Result<Vec<u64>, AllocError>
-    ensures { IfOk result (λ copy. copy.items ≡ list.now.items) }
-{
-    let mut copy = Vec::with_capacity(alloc, list.len())?;
-    for i in 0..list.len() {
-        copy.push(list[i])?;
-    }
-    Ok(copy)
 }
 
 impl Times {
@@ -56,7 +38,7 @@ impl Times {
         ensures { result ≡ [] }
     {
         Times {
-            list: VecDeque::new(alloc),
+            list: ShortQueue::new(alloc),
         }
     }
 
@@ -81,7 +63,7 @@ impl Times {
     pub fn forget(&mut self, hi: u64, now: u64)
         ensures { self.new ≡ recent hi now self.old }
     {
-        while let Some(first) = oldest(&self.list) {
+        while let Some(first) = self.list.front() {
             if now.saturating_sub(first) <= hi {
                 return;
             }
@@ -94,7 +76,7 @@ impl Times {
         ensures { result ≡ reaches interval.now self.now x }
     {
         for i in 0..self.list.len() {
-            let distance = x.saturating_sub(self.list[i]);
+            let distance = x.saturating_sub(self.list.get(i));
             if interval.contains(distance) {
                 return true;
             }
@@ -112,22 +94,22 @@ impl Times {
         ensures { result ≡ times.items }
     {
         Times {
-            list: VecDeque::from_vec(times),
+            list: ShortQueue::from_vec(times),
         }
     }
 
-    pub fn into_vec(self) -> Vec<u64>
-        ensures { result.items ≡ self }
+    pub fn into_vec(self, alloc: Global) -> Result<Vec<u64>, AllocError>
+        ensures { IfOk result (λ times. times.items ≡ self) }
     {
-        self.list.into_vec()
+        self.list.to_vec(alloc)
     }
 
     pub fn copy(&self, alloc: Global) -> Result<Self, AllocError>
         ensures { IfOk result (λ copy. copy ≡ self.now) }
     {
-        let times = copied(alloc, &self.list)?;
+        let times = self.list.to_vec(alloc)?;
         Ok(Times {
-            list: VecDeque::from_vec(times),
+            list: ShortQueue::from_vec(times),
         })
     }
 }

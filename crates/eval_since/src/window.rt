@@ -48,7 +48,7 @@ fn apply_left(
         groups.drop_groups(lefts.rows());
         Ok(())
     } else {
-        groups.keep(alloc, lefts.rows())
+        groups.keep(alloc, lefts)
     }
 }
 

@@ -1,5 +1,7 @@
 -- When the next position of UNTIL is due.
-use Rattle.std.proofs.Common.{◌≡◌, ℕ, zero, suc, ◌+◌, ◌-◌, ◌<◌, ◌≤◌, Bool, true, false, ◌&&◌, ◌||◌, nat_lt, min, List, [], ◌∷◌, Option, Some, None, length, slice_index, refl, ap, ◌∙◌, arith, inl, inr, lt-ltb}
+use Rattle.std.proofs.Common.{◌≡◌, ℕ, zero, suc, ◌+◌, ◌-◌, ◌<◌, ◌≤◌, Bool, true, false, ◌&&◌, ◌||◌, nat_lt, min}
+use Rattle.std.proofs.Common.{List, [], ◌∷◌, Option, Some, None, length, slice_index, refl, ap, ◌∙◌, arith, inl}
+use Rattle.std.proofs.Common.{inr, lt-ltb}
 use borrow.Author.Tests.{ltb-true}
 use Rattle.std.proofs.lemmas.Bool.{cases_lt, and_parts, and_from, or_cases, or_left, or_right}
 use Rattle.std.specs.Cmp.{both_ways}

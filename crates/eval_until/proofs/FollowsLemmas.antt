@@ -1,5 +1,7 @@
 -- The state of UNTIL: what a push, a position that is taken, and one that is pulled keep, and what it answers.
-use Rattle.std.proofs.Common.{◌≡◌, ℕ, zero, suc, ◌+◌, ◌-◌, ◌<◌, ◌≤◌, Bool, true, false, cond, ◌&&◌, ◌||◌, nat_le, nat_lt, min, List, [], ◌∷◌, ◌++◌, Option, Some, None, length, map, get_or, slice_index, refl, sym, subst, ap, ap₂, ◌∙◌, arith, inl, inr}
+use Rattle.std.proofs.Common.{◌≡◌, ℕ, zero, suc, ◌+◌, ◌-◌, ◌<◌, ◌≤◌, Bool, true, false, cond, ◌&&◌, ◌||◌, nat_le}
+use Rattle.std.proofs.Common.{nat_lt, min, List, [], ◌∷◌, ◌++◌, Option, Some, None, length, map, get_or}
+use Rattle.std.proofs.Common.{slice_index, refl, sym, subst, ap, ap₂, ◌∙◌, arith, inl, inr}
 use borrow.Author.Tests.{ltb-true}
 use Rattle.std.proofs.lemmas.Bool.{cases_lt, eqb-true}
 use Rattle.std.proofs.lemmas.Bool.Decides.{nat_tests}

@@ -1,5 +1,6 @@
 -- How many positions were taken, and how many can be.
-use Rattle.std.proofs.Common.{◌≡◌, ℕ, zero, suc, ◌+◌, ◌-◌, ◌<◌, ◌≤◌, true, not, nat_eq, min, List, [], ◌∷◌, Option, length, drop, refl, ap, ap₂, ◌∙◌, arith}
+use Rattle.std.proofs.Common.{◌≡◌, ℕ, zero, suc, ◌+◌, ◌-◌, ◌<◌, ◌≤◌, true, not, nat_eq, min, List, [], ◌∷◌, Option}
+use Rattle.std.proofs.Common.{length, drop, refl, ap, ap₂, ◌∙◌, arith}
 use Rattle.std.proofs.lemmas.List.{length-drop}
 use Rattle.eval_until.specs.UntilView.{Takes, UntilOf, due, past_bound, to_take, took_all}
 

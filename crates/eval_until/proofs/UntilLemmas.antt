@@ -1,5 +1,6 @@
 -- The recursive laws of UNTIL.
-use Rattle.std.proofs.Common.{◌≡◌, ℕ, zero, suc, ◌+◌, ◌-◌, ◌<◌, ◌≤◌, Bool, true, false, cond, ◌&&◌, ◌||◌, nat_le, List, [], ◌∷◌, Some, refl, sym, ap, ◌∙◌, arith, inl, inr, add-one}
+use Rattle.std.proofs.Common.{◌≡◌, ℕ, zero, suc, ◌+◌, ◌-◌, ◌<◌, ◌≤◌, Bool, true, false, cond, ◌&&◌, ◌||◌, nat_le}
+use Rattle.std.proofs.Common.{List, [], ◌∷◌, Some, refl, sym, ap, ◌∙◌, arith, inl, inr, add-one}
 use Rattle.std.proofs.lemmas.Bool.{cases_lt}
 use Rattle.std.proofs.lemmas.Bool.Decides.{nat_tests}
 use Rattle.std.proofs.lemmas.List.Folds.{list_any-append, list_all-append}
@@ -9,7 +10,8 @@ use Rattle.mfotl_model.specs.Satisfaction.{time_at, truth_at, until}
 use Rattle.mfotl_model.specs.declared.interval.Interval.{Interval}
 use Rattle.mfotl_model.proofs.LogicLemmas.{range_suc}
 use Rattle.eval_until.specs.UntilBefore.{until_before, start}
-use Rattle.eval_until.specs.UntilLaws.{UntilIs, NoneYet, OneMore, StartMore, StartIs, StartLow, StartRises, PastTheBound}
+use Rattle.eval_until.specs.UntilLaws.{UntilIs, NoneYet, OneMore, StartMore, StartIs, StartLow, StartRises}
+use Rattle.eval_until.specs.UntilLaws.{PastTheBound}
 
 and_true : (b : Bool) → (b && true) ≡ b
 and_true true = refl

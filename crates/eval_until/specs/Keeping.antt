@@ -1,5 +1,6 @@
 -- What holds of all that UNTIL keeps: starts of runs, entries of rows, and the queue that finds them.
-use Rattle.std.specs.Prelude.{◌≡◌, ℕ, ◌+◌, Bool, true, false, ◌&&◌, ◌⊎◌, nat_eq, nat_le, nat_lt, Option, List, [], ◌∷◌, length}
+use Rattle.std.specs.Prelude.{◌≡◌, ℕ, ◌+◌, Bool, true, false, ◌&&◌, ◌⊎◌, nat_eq, nat_le, nat_lt, Option, List, []}
+use Rattle.std.specs.Prelude.{◌∷◌, length}
 use Rattle.std.specs.List.{list_any, list_all}
 use Rattle.std.specs.Option.{IfSome}
 use Rattle.mfotl_model.specs.Tables.{all_apart, has_row}

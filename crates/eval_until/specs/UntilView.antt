@@ -1,5 +1,6 @@
 -- The state of UNTIL as contracts see it, and when it is right for a valuation.
-use Rattle.std.specs.Prelude.{◌≡◌, ℕ, ◌+◌, ◌-◌, ◌≤◌, Bool, false, ◌&&◌, nat_eq, nat_le, nat_lt, min, Option, Some, None, List, length, drop, map, slice_index}
+use Rattle.std.specs.Prelude.{◌≡◌, ℕ, ◌+◌, ◌-◌, ◌≤◌, Bool, false, ◌&&◌, nat_eq, nat_le, nat_lt, min, Option, Some}
+use Rattle.std.specs.Prelude.{None, List, length, drop, map, slice_index}
 use Rattle.mfotl_model.specs.Satisfaction.{Valuation, time_at, truth_at}
 use Rattle.mfotl_model.specs.Settled.{until_settled}
 use Rattle.mfotl_model.specs.Tables.{TableOf, has}

@@ -9,6 +9,7 @@ pub record MonitorOf : Type 0 where
   pub core : CoreForm
   pub state : StateOf
 
+-- what contracts see of a monitor
 abbrev pub monitor_of : Monitor → MonitorOf
 monitor_of m =
     record {
@@ -18,7 +19,6 @@ monitor_of m =
         given = m.given;
         first = m.first;
         times = m.times.items;
-        nodes =
-            m.nodes.items;
+        nodes = m.nodes.items;
       };
     }

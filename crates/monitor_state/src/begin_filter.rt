@@ -50,6 +50,7 @@ pub fn is_filtered(alloc: Global, own: bool, left: &Core, right: &Core) -> Resul
 }
 
 /// Adds the node of a conjunction of these sides.
+#[inline(never)]
 pub fn add_filter(
     alloc: Global,
     left: &Core,

@@ -14,6 +14,7 @@ use relations::Table;
 use std::alloc::{AllocError, Global};
 
 /// Adds the node of `whole`, an UNTIL of these operands.
+#[inline(never)]
 pub fn add_until(
     alloc: Global,
     whole: &Core,

@@ -1,8 +1,10 @@
-//! The nodes of a core.
+//! The nodes of a core. What makes a node is a function of its own that isn't inlined, so that a chain of hundreds of
+//! operands takes little of the stack.
 ghost use Rattle.std.specs.Prelude.{◌≡◌, ◌++◌, ◌∷◌, [], OnOk};
 ghost use Rattle.monitorable.specs.CoreForms.{node_form, And, Atom};
 ghost use Rattle.monitor_state.specs.Beginnings.{Accepted, Adds};
 ghost use Rattle.monitor_state.specs.Nodes.{nodes_in, without_last};
+ghost use Rattle.monitor_state.specs.declared.node.Node.TheVariants.{Exists};
 
 use crate::begin_filter::{add_filter, is_filtered, without_not};
 use crate::begin_until::add_until;
@@ -32,7 +34,7 @@ pub fn add_nodes(
         Core::Compare(comparison) => add_comparison(alloc, role, comparison, nodes),
         Core::Exists(bound, inner) => {
             add_nodes(alloc, inner, Role::Whole, nodes)?;
-            add(Node::Exists(bound.number), nodes)
+            add_exists(bound.number, nodes)
         }
         Core::Not(inner) => {
             add_nodes(alloc, inner, role.under_not(), nodes)?;
@@ -64,6 +66,7 @@ pub fn add_nodes(
 
 // The nodes of both operands.
 #[cycle(add_nodes)]
+#[inline(never)]
 fn add_both(
     alloc: Global,
     left: &Core,
@@ -83,6 +86,7 @@ fn add_both(
 
 // The nodes of a conjunction of these sides.
 #[cycle(add_nodes)]
+#[inline(never)]
 fn add_and(
     alloc: Global,
     core: &Core,
@@ -107,6 +111,7 @@ fn add_and(
 
 // The nodes of a window's operands. The window has none.
 #[cycle(add_nodes)]
+#[inline(never)]
 fn add_operands(alloc: Global, window: &Core, nodes: &mut Vec<Node>) -> Result<(), AllocError>
     requires { Accepted Role.Part (node_form window.now) }
     ensures { OnOk result (Adds (without_last (nodes_in Role.Part (node_form window.now))) nodes.old.items
@@ -123,6 +128,14 @@ fn add_operands(alloc: Global, window: &Core, nodes: &mut Vec<Node>) -> Result<(
     }
 }
 
+#[inline(never)]
+fn add_exists(variable: u32, nodes: &mut Vec<Node>) -> Result<(), AllocError>
+    ensures { OnOk result (nodes.new.items ≡ nodes.old.items ++ Exists variable ∷ []) }
+{
+    add(Node::Exists(variable), nodes)
+}
+
+#[inline(never)]
 fn add_atom(alloc: Global, atom: &OneAtom, nodes: &mut Vec<Node>) -> Result<(), AllocError>
     ensures { OnOk result (Adds (Atom atom.now ∷ []) nodes.old.items nodes.new.items) }
 {

@@ -15,6 +15,7 @@ use monitorable::{Node as Core, Part, conjuncts};
 use std::alloc::{AllocError, Global};
 
 /// Adds the node of a conjunction, where it is its own.
+#[inline(never)]
 pub fn add_join(
     alloc: Global,
     own: bool,

@@ -18,6 +18,7 @@ use monitorable::{Part, Role, binds};
 use relations::Table;
 use std::alloc::{AllocError, Global};
 
+#[inline(never)]
 pub fn add_true(alloc: Global, nodes: &mut Vec<Node>) -> Result<(), AllocError>
     ensures { OnOk result (Adds (True ∷ []) nodes.old.items nodes.new.items) }
 {
@@ -25,6 +26,7 @@ pub fn add_true(alloc: Global, nodes: &mut Vec<Node>) -> Result<(), AllocError>
     add(Node::Constant(table), nodes)
 }
 
+#[inline(never)]
 pub fn add_false(alloc: Global, nodes: &mut Vec<Node>) -> Result<(), AllocError>
     ensures { OnOk result (Adds (False ∷ []) nodes.old.items nodes.new.items) }
 {
@@ -33,6 +35,7 @@ pub fn add_false(alloc: Global, nodes: &mut Vec<Node>) -> Result<(), AllocError>
 }
 
 /// Adds the node of a comparison, where it is one by itself: else it is a test among other conjuncts.
+#[inline(never)]
 pub fn add_comparison(
     alloc: Global,
     role: Role,

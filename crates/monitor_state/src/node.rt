@@ -77,7 +77,7 @@ fn advance_constant(
         (Node.Constant table.now) _stack.now.items tables) }
 {
     match table.copy(alloc) {
-        Ok(copy) => Tables::one(alloc, copy),
+        Ok(copy) => Ok(Tables::one(alloc, copy)),
         Err(error) => Err(error),
     }
 }
@@ -92,7 +92,7 @@ fn advance_atom(
         (Node.Atom atom.now) _stack.now.items tables) }
 {
     match eval_atom(alloc, point, atom) {
-        Ok(table) => Tables::one(alloc, table),
+        Ok(table) => Ok(Tables::one(alloc, table)),
         Err(error) => Err(error),
     }
 }
@@ -223,6 +223,7 @@ fn advance_until(
 }
 
 /// Adds a node behind the others.
+#[inline(never)]
 pub fn add(node: Node, nodes: &mut Vec<Node>) -> Result<(), AllocError>
     ensures { OnOk result (nodes.new.items ≡ nodes.old.items ++ node ∷ []) }
 {

@@ -27,6 +27,7 @@ pub fn is_negated(core: &Core) -> bool
 }
 
 // The node of `whole`, a SINCE of these operands.
+#[inline(never)]
 pub fn add_since(
     alloc: Global,
     whole: &Core,
@@ -64,6 +65,7 @@ pub fn since_state(
     )
 }
 
+#[inline(never)]
 pub fn add_or(
     alloc: Global,
     left: &Core,
@@ -86,6 +88,7 @@ fn or_state(alloc: Global, left: &Core, right: &Core) -> Result<OrState, AllocEr
     OrState::new(alloc, left_columns.as_slice(), right_columns.as_slice())
 }
 
+#[inline(never)]
 pub fn add_previous(
     alloc: Global,
     interval: &Interval,
@@ -109,6 +112,7 @@ fn previous_state(
     PrevState::new(alloc, interval, columns.as_slice())
 }
 
+#[inline(never)]
 pub fn add_next(
     alloc: Global,
     interval: &Interval,

@@ -6,19 +6,22 @@ use std::alloc::{AllocError, Global};
 use std::collections::VecDeque;
 use std::marker::Model;
 
-/// Tables of positions that follow one another, in their order.
+/// Tables of positions that follow one another, in their order. Mostly it is one, which takes no memory of its own.
 #[derive(Drop)]
 pub struct Tables {
-    tables: VecDeque<Table>,
+    first: Option<Table>,
+    more: VecDeque<Table>,
 }
 
 impl Model for Tables {
-    ghost use Rattle.std.specs.Prelude.{List};
+    ghost use Rattle.std.specs.Prelude.{◌≡◌, ◌++◌, [], IfNone, List, option_to_list};
     ghost use Rattle.mfotl_model.specs.Tables.{TableOf};
 
     ghost Value = { List TableOf };
 
-    ghost view = { λ t. t.tables.items };
+    ghost view = { λ t. option_to_list t.first ++ t.more.items };
+
+    ghost invariant = { λ t. IfNone t.first (t.more.items ≡ []) };
 }
 
 impl Tables {
@@ -27,24 +30,30 @@ impl Tables {
         ensures { result ≡ [] }
     {
         Tables {
-            tables: VecDeque::new(alloc),
+            first: None,
+            more: VecDeque::new(alloc),
         }
     }
 
     /// One table.
-    pub fn one(alloc: Global, table: Table) -> Result<Self, AllocError>
-        ensures { IfOk result (λ tables. tables ≡ table ∷ []) }
+    pub fn one(alloc: Global, table: Table) -> Self
+        ensures { result ≡ table ∷ [] }
     {
-        let mut tables = Tables::new(alloc);
-        tables.push(table)?;
-        Ok(tables)
+        Tables {
+            first: Some(table),
+            more: VecDeque::new(alloc),
+        }
     }
 
     /// Adds the table of the next position.
     pub fn push(&mut self, table: Table) -> Result<(), AllocError>
         ensures { OnOk result (self.new ≡ self.old ++ table ∷ []) }
     {
-        self.tables.push_back(table)?;
+        if self.first.is_none() {
+            self.first = Some(table);
+            return Ok(());
+        }
+        self.more.push_back(table)?;
         Ok(())
     }
 
@@ -52,23 +61,32 @@ impl Tables {
     pub fn len(&self) -> usize
         ensures { result ≡ length self.now }
     {
-        self.tables.len()
+        match &self.first {
+            Some(_) => 1 + self.more.len(),
+            None => 0,
+        }
     }
 
     /// These tables.
     pub fn from_vec(tables: Vec<Table>) -> Self
         ensures { result ≡ tables.items }
     {
-        Tables {
-            tables: VecDeque::from_vec(tables),
-        }
+        let mut more = VecDeque::from_vec(tables);
+        let first = more.pop_front();
+        Tables { first, more }
     }
 
     /// Copies of the tables.
     pub fn copied(&self, alloc: Global) -> Result<Vec<Table>, AllocError>
         ensures { IfOk result (λ copies. copies.items ≡ self.now) }
     {
-        copied_tables(alloc, &self.tables)
+        let mut copies = Vec::new(alloc);
+        if let Some(first) = &self.first {
+            copies.push(first.copy(alloc)?)?;
+        }
+        let mut more = copied_tables(alloc, &self.more)?;
+        copies.append(&mut more)?;
+        Ok(copies)
     }
 
     /// Takes the first table.
@@ -76,6 +94,8 @@ impl Tables {
         ensures first { self.old ≡ option_to_list result ++ self.new }
         ensures none { IfNone result (self.old ≡ []) }
     {
-        self.tables.pop_front()
+        let first = self.first.take();
+        self.first = self.more.pop_front();
+        first
     }
 }

@@ -6,3 +6,4 @@ pub mod Swaps
 pub mod Closes
 pub mod Joined
 pub mod WorkLemmas
+pub mod TurnLemmas

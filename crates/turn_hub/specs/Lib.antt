@@ -6,3 +6,4 @@ pub mod Rule
 pub mod Steps
 pub mod Ends
 pub mod Answers
+pub mod Turns

@@ -4,5 +4,8 @@ pub mod OwnerLemmas
 pub mod MergedLists
 pub mod KeptLemmas
 pub mod WaitingLemmas
+pub mod SlotLemmas
+pub mod IndexLemmas
 pub mod PlaceLemmas
 pub mod TakingLemmas
+pub mod EmitLemmas

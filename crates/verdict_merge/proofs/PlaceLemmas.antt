@@ -1,22 +1,17 @@
 -- The places of time-points, as Rows come and go.
-use Rattle.std.proofs.Common.{◌≡◌, ◌∙◌, ℕ, suc, ◌<◌, Bool, true, false, cond, not, List, [], ◌∷◌, ◌++◌, filter}
-use Rattle.std.proofs.Common.{refl, sym, ap, subst, arith, eq-eqb, ne_eqb}
+use Rattle.std.proofs.Common.{◌≡◌, ◌∙◌, ℕ, Bool, true, false, cond, nat_eq, not, List, [], ◌∷◌, ◌++◌, filter}
+use Rattle.std.proofs.Common.{refl, sym, ap, subst, eq-eqb, ne_eqb}
 use Rattle.std.proofs.lemmas.List.Elements.{filter-append}
-use Rattle.std.specs.BTreeMap.{insert_entry}
-use Rattle.std.specs.Cmp.{nat_cmp_is, unsigned_tied}
-use Rattle.std.specs.List.{AllByRecursion}
 use Rattle.std.specs.Map.{keys_of, values_of}
-use Rattle.std.specs.Ordering.{is_eq, match_ordering, nat_cmp}
-use Rattle.std.specs.declared.cmp.Ordering.TheVariants.{Greater}
 use native.Mathlib.Decide.{ℕ_discrete}
-use Rattle.verdict_merge.proofs.KeptLemmas.{filter_no, filter_yes, hit, keys_kept}
+use Rattle.verdict_merge.proofs.KeptLemmas.{filter_no, filter_yes}
 use Rattle.verdict_merge.specs.declared.rows.Rows.{Rows}
 use Rattle.verdict_merge.specs.Gathers.{at_point}
 use Rattle.verdict_merge.specs.Places.{arrived_at, others}
 
 -- the places of a time-point after those of another are taken
 pub places_left : (p q : ℕ) (es : List (ℕ × Rows))
-    → arrived_at q (others p es) ≡ cond (is_eq (nat_cmp p q)) [] (arrived_at q es)
+    → arrived_at q (others p es) ≡ cond (nat_eq p q) [] (arrived_at q es)
 places_left p q es = by_points (ℕ_discrete p q)
   where
     same : (ds : List (ℕ × Rows)) → arrived_at p (others p ds) ≡ []
@@ -52,30 +47,12 @@ places_left p q es = by_points (ℕ_discrete p q)
             (filter_yes (λ c. not (at_point p c.1)) d ds (ap not (ne_eqb d.1.point p m)))
             ∙ on (at_point q d.1) h
 
-    by_points : Dec (p ≡ q) → arrived_at q (others p es) ≡ cond (is_eq (nat_cmp p q)) [] (arrived_at q es)
+    by_points : Dec (p ≡ q) → arrived_at q (others p es) ≡ cond (nat_eq p q) [] (arrived_at q es)
     by_points (yes e) =
-        subst (λ j. arrived_at j (others p es) ≡ cond (is_eq (nat_cmp p j)) [] (arrived_at j es)) e
-        (same es ∙ sym (ap (λ b. cond b [] (arrived_at p es)) (hit p p refl)))
+        subst (λ j. arrived_at j (others p es) ≡ cond (nat_eq p j) [] (arrived_at j es)) e
+        (same es ∙ sym (ap (λ b. cond b [] (arrived_at p es)) (eq-eqb p p refl)))
     by_points (no n) =
-        apart n es ∙ sym (ap (λ b. cond b [] (arrived_at q es)) (unsigned_tied p q ∙ ne_eqb p q n))
-
-pub still_below : (n p : ℕ) (es : List (ℕ × Rows)) → AllByRecursion (λ k. k < n) (keys_of es)
-    → AllByRecursion (λ k. k < n) (keys_of (others p es))
-still_below n p es h = keys_kept (λ k. k < n) (λ e. not (at_point p e.1)) es h
-
--- at a place above all others
-pub put_last : (n : ℕ) (r : Rows) (es : List (ℕ × Rows)) → AllByRecursion (λ k. k < n) (keys_of es)
-    → insert_entry nat_cmp es n r ≡ es ++ (n, r) ∷ []
-put_last n r [] h = refl
-put_last n r (e ∷ es) h =
-    ap (λ o. match_ordering o ((n, r) ∷ e ∷ es) ((e.0, r) ∷ es) (e ∷ insert_entry nat_cmp es n r))
-    (sym (nat_cmp_is n e.0 Greater h.0))
-    ∙ ap (λ ds. e ∷ ds) (put_last n r es h.1)
-
-pub below_next : (n : ℕ) (r : Rows) (es : List (ℕ × Rows)) → AllByRecursion (λ k. k < n) (keys_of es)
-    → AllByRecursion (λ k. k < suc n) (keys_of (es ++ (n, r) ∷ []))
-below_next n r [] h = ((omega arith), tt)
-below_next n r (e ∷ es) h = let low = h.0 in ((omega arith), below_next n r es h.1)
+        apart n es ∙ sym (ap (λ b. cond b [] (arrived_at q es)) (ne_eqb p q n))
 
 pub values_last : (n : ℕ) (r : Rows) (es : List (ℕ × Rows)) → values_of (es ++ (n, r) ∷ []) ≡ values_of es ++ r ∷ []
 values_last n r [] = refl
@@ -87,7 +64,7 @@ keys_last n r (e ∷ es) = ap (λ ks. e.0 ∷ ks) (keys_last n r es)
 
 -- the places of a time-point once Rows came
 pub places_last : (n p : ℕ) (r : Rows) (es : List (ℕ × Rows)) → arrived_at p (es ++ (n, r) ∷ [])
-    ≡ cond (is_eq (nat_cmp r.point p)) (arrived_at r.point es ++ n ∷ []) (arrived_at p es)
+    ≡ cond (nat_eq r.point p) (arrived_at r.point es ++ n ∷ []) (arrived_at p es)
 places_last n p r es = by_points (ℕ_discrete r.point p)
   where
     split : arrived_at p (es ++ (n, r) ∷ [])
@@ -95,21 +72,21 @@ places_last n p r es = by_points (ℕ_discrete r.point p)
     split = ap keys_of (filter-append (λ e. at_point p e.1) es ((n, r) ∷ []))
 
     by_points : Dec (r.point ≡ p) → arrived_at p (es ++ (n, r) ∷ [])
-        ≡ cond (is_eq (nat_cmp r.point p)) (arrived_at r.point es ++ n ∷ []) (arrived_at p es)
+        ≡ cond (nat_eq r.point p) (arrived_at r.point es ++ n ∷ []) (arrived_at p es)
     by_points (yes e) =
         split
         ∙ ap (λ ds. keys_of (filter (λ e. at_point p e.1) es ++ ds))
         (filter_yes (λ e. at_point p e.1) (n, r) [] (eq-eqb r.point p e))
         ∙ keys_last n r (filter (λ e. at_point p e.1) es)
         ∙ ap (λ j. arrived_at j es ++ n ∷ []) (sym e)
-        ∙ sym (ap (λ b. cond b (arrived_at r.point es ++ n ∷ []) (arrived_at p es)) (hit r.point p e))
+        ∙ sym (ap (λ b. cond b (arrived_at r.point es ++ n ∷ []) (arrived_at p es)) (eq-eqb r.point p e))
     by_points (no m) =
         split
         ∙ ap (λ ds. keys_of (filter (λ e. at_point p e.1) es ++ ds))
         (filter_no (λ e. at_point p e.1) (n, r) [] (ne_eqb r.point p m))
         ∙ ap keys_of (plain (filter (λ e. at_point p e.1) es))
         ∙ sym (ap (λ b. cond b (arrived_at r.point es ++ n ∷ []) (arrived_at p es))
-        (unsigned_tied r.point p ∙ ne_eqb r.point p m))
+        (ne_eqb r.point p m))
       where
         plain : (ds : List (ℕ × Rows)) → ds ++ [] ≡ ds
         plain [] = refl

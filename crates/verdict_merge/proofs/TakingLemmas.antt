@@ -1,14 +1,14 @@
 -- The Rows of a time-point are taken out one by one.
-use Rattle.std.proofs.Common.{◌≡◌, ◌∙◌, ℕ, List, [], ◌∷◌, ◌++◌, Some, None, length, refl, sym, ap, arith}
+use Rattle.std.proofs.Common.{◌≡◌, ◌∙◌, ℕ, List, [], ◌∷◌, ◌++◌, length, refl, sym, ap, arith}
 use Rattle.std.specs.BTreeMap.{is_at}
 use Rattle.std.specs.List.Sorted.{IsStrictlySortedBy}
 use Rattle.std.specs.Map.{keys_of, lookup, remove_entry, values_of}
 use Rattle.std.specs.Ordering.{nat_cmp}
 use Rattle.mfotl_model.specs.declared.value.Value.{Value}
-use Rattle.verdict_merge.proofs.WaitingLemmas.{all_taken, some_is, taken}
+use Rattle.verdict_merge.proofs.WaitingLemmas.{all_taken, taken}
 use Rattle.verdict_merge.specs.declared.rows.Rows.{Rows}
 use Rattle.verdict_merge.specs.Gathers.{all_rows, rows_at}
-use Rattle.verdict_merge.specs.Places.{arrived_at, others}
+use Rattle.verdict_merge.specs.Places.{arrived_at, others, rows_found}
 
 -- some Rows of a time-point are taken, and those at these places are left
 pub record Taking (p : ℕ) (rest : List ℕ) (rows : List (List Value)) (before now : List (ℕ × Rows)) : Type 0 where
@@ -24,30 +24,24 @@ pub plain : {X : Type 0} (xs : List X) → xs ++ [] ≡ xs
 plain [] = refl
 plain (x ∷ xs) = ap (λ us. x ∷ us) (plain xs)
 
-pub take_one : (p s : ℕ) (rest : List ℕ) (rows : List (List Value)) (before now : List (ℕ × Rows)) (r : Rows)
-    → IsStrictlySortedBy nat_cmp (keys_of now) → lookup (is_at (nat_cmp s)) now ≡ Some r
-    → Taking p (s ∷ rest) rows before now
-    → Taking p rest (rows ++ r.rows) before (remove_entry (is_at (nat_cmp s)) now)
-take_one p s rest rows before now r sorted found t =
+-- the Rows at the next place are taken
+pub take_next : (p s : ℕ) (rest : List ℕ) (rows more : List (List Value)) (before now left : List (ℕ × Rows))
+    → IsStrictlySortedBy nat_cmp (keys_of now) → Taking p (s ∷ rest) rows before now
+    → more ≡ rows ++ rows_found (lookup (is_at (nat_cmp s)) now) → left ≡ remove_entry (is_at (nat_cmp s)) now
+    → Taking p rest more before left
+take_next p s rest rows more before now left sorted t grown gone =
     let one = taken p s rest now sorted t.places in
-    let same : one.rows ≡ r = some_is one.rows r (sym one.found ∙ found) in
     let after = values_of (remove_entry (is_at (nat_cmp s)) now) in
+    let is : more ≡ rows ++ one.rows.rows = grown ∙ ap (λ o. rows ++ rows_found o) one.found in
     record {
-      places = one.places;
-      left = one.left ∙ t.left;
-      all = joined rows r.rows (all_rows (rows_at p after))
-          ∙ ap (λ x. rows ++ (x.rows ++ all_rows (rows_at p after))) (sym same)
+      places = ap (arrived_at p) gone ∙ one.places;
+      left = ap (others p) gone ∙ one.left ∙ t.left;
+      all = ap (λ xs. xs ++ all_rows (rows_at p (values_of left))) is
+          ∙ ap (λ es. (rows ++ one.rows.rows) ++ all_rows (rows_at p (values_of es))) gone
+          ∙ joined rows one.rows.rows (all_rows (rows_at p after))
           ∙ ap (λ xs. rows ++ all_rows xs) (sym one.first)
           ∙ t.all;
     }
-
--- each place has its Rows
-pub take_none : {Y : Type 0} (p s : ℕ) (rest : List ℕ) (rows : List (List Value)) (before now : List (ℕ × Rows))
-    → IsStrictlySortedBy nat_cmp (keys_of now) → lookup (is_at (nat_cmp s)) now ≡ None
-    → Taking p (s ∷ rest) rows before now → Y
-take_none p s rest rows before now sorted none t =
-    let one = taken p s rest now sorted t.places in
-    absurd (let bad = sym one.found ∙ none in cc)
 
 pub take_ends : (p : ℕ) (rows : List (List Value)) (before now : List (ℕ × Rows)) → Taking p [] rows before now
     → (rows ≡ all_rows (rows_at p (values_of before))) × (now ≡ others p before)

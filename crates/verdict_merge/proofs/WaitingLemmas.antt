@@ -9,7 +9,8 @@ use Rattle.std.specs.List.Sorted.{IsStrictlySortedBy}
 use Rattle.std.specs.Map.{keys_of, lookup, remove_entry, values_of}
 use Rattle.std.specs.Ordering.{nat_cmp}
 use Rattle.std.specs.declared.cmp.Ordering.TheVariants.{Less}
-use Rattle.verdict_merge.proofs.KeptLemmas.{counted, filter_no, filter_yes, hit, keys_kept, miss, remove_head, remove_tail}
+use Rattle.verdict_merge.proofs.KeptLemmas.{counted, filter_no, filter_yes, hit, keys_kept, miss, remove_head}
+use Rattle.verdict_merge.proofs.KeptLemmas.{remove_tail}
 use Rattle.verdict_merge.specs.declared.rows.Rows.{Rows}
 use Rattle.verdict_merge.specs.Gathers.{at_point, rows_at}
 use Rattle.verdict_merge.specs.Places.{arrived_at, first_of, others}

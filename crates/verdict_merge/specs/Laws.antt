@@ -1,12 +1,14 @@
 -- Laws of merged rows.
-use Rattle.std.specs.Prelude.{◌≡◌, ◌≢◌, ℕ, ◌<◌, ⊤, true, nat_eq, List, [], ◌∷◌, length, map, filter}
+use Rattle.std.specs.Prelude.{◌≡◌, ◌≢◌, ℕ, ◌<◌, ⊤, true, nat_eq, List, [], ◌∷◌, length, map, filter, Option}
 use Rattle.std.specs.List.{AllByRecursion, list_any}
 use Rattle.std.specs.List.Sorted.{IsPermutation, IsStrictlySortedBy}
 use Rattle.mfotl_model.specs.Ascending.{ascending}
 use Rattle.mfotl_model.specs.Values.{row_cmp}
 use Rattle.mfotl_model.specs.declared.value.Value.{Value}
 use Rattle.verdict_merge.specs.declared.rows.Rows.{Rows}
-use Rattle.verdict_merge.specs.Gathers.{all_rows}
+use Rattle.verdict_merge.specs.declared.rows.Verdict.{Verdict}
+use Rattle.verdict_merge.specs.Emitted.{Emits}
+use Rattle.verdict_merge.specs.Gathers.{GatherOf, all_rows}
 
 -- where the Rows are a partition of an ascending list, the merged rows are that list
 abbrev pub PartitionMerges : Type 0
@@ -39,3 +41,9 @@ abbrev pub EveryWorker : Type 0
 EveryWorker =
     (count : ℕ) (workers : List ℕ) → Apart workers → AllByRecursion (λ k. k < count) workers
     → length workers ≡ count → (k : ℕ) → k < count → list_any (nat_eq k) workers ≡ true
+
+-- what was gathered settles what comes out, and what is gathered then
+abbrev pub EmitsOne : Type 0
+EmitsOne =
+    (old new other : GatherOf) (given found : Option Verdict) → Emits old given new → Emits old found other
+    → (given ≡ found) × (new ≡ other)

@@ -2,3 +2,4 @@ pub mod Gathers
 pub mod Emitted
 pub mod Laws
 pub mod Places
+pub mod Examples

@@ -1,10 +1,7 @@
 -- The places of Rows in the order in which they came.
-use Rattle.std.specs.Prelude.{◌≡◌, ℕ, ◌<◌, not, List, [], ◌∷◌, filter, Option, Some, None, Vec}
-use Rattle.std.specs.BTreeMap.{is_at}
-use Rattle.std.specs.List.{AllByRecursion}
-use Rattle.std.specs.List.Sorted.{IsStrictlySortedBy}
+use Rattle.std.specs.Prelude.{◌≡◌, ℕ, ◌+◌, nat_eq, not, List, [], ◌∷◌, filter, Option, Some, None}
 use Rattle.std.specs.Map.{keys_of, lookup}
-use Rattle.std.specs.Ordering.{nat_cmp}
+use Rattle.mfotl_model.specs.declared.value.Value.{Value}
 use Rattle.verdict_merge.specs.declared.rows.Rows.{Rows}
 use Rattle.verdict_merge.specs.Gathers.{at_point}
 
@@ -14,13 +11,28 @@ first_of [] = None
 first_of (x ∷ xs) = Some x
 
 -- the places that were found, none where nothing was
-abbrev pub places_found : {Z : Type 0} → Option (Vec ℕ Z) → List ℕ
+abbrev pub places_found : Option (List ℕ) → List ℕ
 places_found None = []
-places_found (Some places) = places.items
+places_found (Some places) = places
 
 -- the places that an index gives for a time-point
-abbrev pub places_of : {Z : Type 0} → ℕ → List (ℕ × Vec ℕ Z) → List ℕ
-places_of point index = places_found (lookup (is_at (nat_cmp point)) index)
+abbrev pub places_of : ℕ → List (ℕ × List ℕ) → List ℕ
+places_of point index = places_found (lookup (nat_eq point) index)
+
+-- the rows of the Rows that were found, none where nothing was
+abbrev pub rows_found : Option Rows → List (List Value)
+rows_found None = []
+rows_found (Some given) = given.rows
+
+-- a slot's Rows, where it has some, before those at later places
+abbrev pub at_slot : ℕ → Option Rows → List (ℕ × Rows) → List (ℕ × Rows)
+at_slot place None later = later
+at_slot place (Some rows) later = (place, rows) ∷ later
+
+-- the Rows of slots, with their places: the first slot's is given, and each other's is one more than that before it
+abbrev pub placed : ℕ → List (Option Rows) → List (ℕ × Rows)
+placed start [] = []
+placed start (slot ∷ slots) = at_slot start slot (placed (start + 1) slots)
 
 -- the places at which the Rows of a time-point are
 abbrev pub arrived_at : ℕ → List (ℕ × Rows) → List ℕ
@@ -30,8 +42,6 @@ arrived_at point arrived = keys_of (filter (λ e. at_point point e.1) arrived)
 abbrev pub others : ℕ → List (ℕ × Rows) → List (ℕ × Rows)
 others point arrived = filter (λ e. not (at_point point e.1)) arrived
 
--- Rows stand at ascending places below the next one, and an index gives the places of each time-point
-pub record AreIndexed {Z : Type 0} (arrived : List (ℕ × Rows)) (index : List (ℕ × Vec ℕ Z)) (next : ℕ) : Type 0 where
-  pub indexed : (point : ℕ) → places_of point index ≡ arrived_at point arrived
-  pub ordered : IsStrictlySortedBy nat_cmp (keys_of arrived)
-  pub below : AllByRecursion (λ place. place < next) (keys_of arrived)
+-- an index gives the places of each time-point
+abbrev pub AreIndexed : List (ℕ × Rows) → List (ℕ × List ℕ) → Type 0
+AreIndexed arrived index = (point : ℕ) → places_of point index ≡ arrived_at point arrived

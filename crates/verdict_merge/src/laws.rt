@@ -1,5 +1,5 @@
 //! Laws of merged rows, as theorems on the definitions. Each call does nothing: its clause is the law.
-ghost use Rattle.verdict_merge.specs.Laws.{EveryWorker, OwnersMerge, PartitionMerges};
+ghost use Rattle.verdict_merge.specs.Laws.{EmitsOne, EveryWorker, OwnersMerge, PartitionMerges};
 
 /// Where what the workers say is a partition of an ascending list, the merged rows are that list.
 pub fn partition_merges()
@@ -14,4 +14,9 @@ pub fn owners_merge()
 /// As many Rows as there are workers, no worker's twice, are the Rows of every worker.
 pub fn every_worker()
     ensures { EveryWorker }
+{}
+
+/// What was gathered settles what comes out.
+pub fn emits_one()
+    ensures { EmitsOne }
 {}

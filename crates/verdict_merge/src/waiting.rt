@@ -1,39 +1,40 @@
 //! The Rows that wait, in the order in which they came. Those of a time-point are found without a search.
-ghost use Rattle.std.specs.Prelude.{◌≡◌, ◌++◌, ◌∷◌, [], ℕ, IfOk, OnOk, cond, length, option_copied};
+ghost use Rattle.std.specs.Prelude.{◌≡◌, ◌++◌, ◌∷◌, [], ℕ, IfOk, OnOk, length, option_copied};
 ghost use Rattle.std.specs.List.{find, flat_map};
-ghost use Rattle.std.specs.List.Sorted.{IsStrictlySortedBy};
 ghost use Rattle.std.specs.BTreeMap.{is_at};
-ghost use Rattle.std.specs.Map.{keys_of, values_of};
+ghost use Rattle.std.specs.Map.{lookup, remove_entry, values_of};
 ghost use Rattle.std.specs.Ordering.{nat_cmp};
 ghost use Rattle.verdict_merge.specs.Gathers.{all_rows, at_point, rows_after, rows_at};
-ghost use Rattle.verdict_merge.specs.Places.{arrived_at, first_of, others, places_of};
+ghost use Rattle.verdict_merge.specs.Places.{arrived_at, others, placed, places_found, rows_found};
 
+use crate::places::{Places, add_place, first_place, take_places};
 use crate::rows::Rows;
+use crate::slots::{get_at, take_at, trimmed};
 use mfotl_model::Row;
 use std::alloc::{AllocError, Global};
-use std::collections::BTreeMap;
+use std::collections::{HashMap, VecDeque};
 use std::marker::Model;
 
 // Each Rows has a place in the order, and an index gives the places of each time-point.
 #[derive(Drop)]
 pub(crate) struct Waiting {
     alloc: Global,
-    next: u64,
-    arrived: BTreeMap<u64, Rows>,
-    index: BTreeMap<u64, Vec<u64>>,
+    start: u64,
+    arrived: VecDeque<Option<Rows>>,
+    index: HashMap<u64, Places>,
 }
 
 impl Model for Waiting {
     ghost use Rattle.std.specs.Prelude.{List};
     ghost use Rattle.std.specs.Map.{values_of};
     ghost use Rattle.verdict_merge.specs.declared.rows.Rows.{Rows as Given};
-    ghost use Rattle.verdict_merge.specs.Places.{AreIndexed};
+    ghost use Rattle.verdict_merge.specs.Places.{AreIndexed, placed};
 
     ghost Value = { List Given };
 
-    ghost view = { λ w. values_of w.arrived.entries };
+    ghost view = { λ w. values_of (placed w.start w.arrived.items) };
 
-    ghost invariant = { λ w. AreIndexed w.arrived.entries w.index.entries w.next };
+    ghost invariant = { λ w. AreIndexed (placed w.start w.arrived.items) w.index.entries };
 }
 
 impl Waiting {
@@ -42,9 +43,9 @@ impl Waiting {
     {
         Waiting {
             alloc,
-            next: 0,
-            arrived: BTreeMap::new(alloc),
-            index: BTreeMap::new(alloc),
+            start: 0,
+            arrived: VecDeque::new(alloc),
+            index: HashMap::new(alloc),
         }
     }
 
@@ -52,10 +53,12 @@ impl Waiting {
     pub(crate) fn push(&mut self, rows: Rows) -> Result<(), AllocError>
         ensures { IfOk result (λ _. self.new ≡ self.old ++ rows ∷ []) }
     {
-        let place = self.next;
+        let place = self
+            .start
+            .checked_add(self.arrived.len() as u64)
+            .ok_or(AllocError)?;
         let point = rows.point;
-        let after = place.checked_add(1).ok_or(AllocError)?;
-        let Ok(_) = self.arrived.insert(place, rows) else {
+        let Ok(()) = self.arrived.push_back(Some(rows)) else {
             return Err(AllocError);
         };
         let Ok(()) = add_place(&mut self.index, self.alloc, point, place) else {
@@ -63,7 +66,6 @@ impl Waiting {
             self.index.clear();
             return Err(AllocError);
         };
-        self.next = after;
         Ok(())
     }
 
@@ -72,7 +74,7 @@ impl Waiting {
         ensures { option_copied result ≡ find (at_point point) self.now }
     {
         let place = first_place(&self.index, point)?;
-        self.arrived.get(&place)
+        get_at(self.start, &self.arrived, place)
     }
 
     // How many Rows of a time-point wait.
@@ -91,72 +93,55 @@ impl Waiting {
             flat_map (λ list. list.items) lists.items ≡ all_rows (rows_at point self.old)) }
         ensures left { IfOk result (λ _. self.new ≡ rows_after point self.old) }
     {
-        let places = take_places(&mut self.index, alloc, point);
-        let Ok(lists) = take_rows(&mut self.arrived, alloc, places) else {
+        let places = take_places(&mut self.index, point);
+        let Ok(lists) = take_rows(self.start, &mut self.arrived, alloc, places) else {
             self.arrived.clear();
             self.index.clear();
             return Err(AllocError);
         };
+        self.start = trimmed(self.start, &mut self.arrived);
         Ok(lists)
     }
 }
 
-// Puts a place after those of its time-point.
-fn add_place(
-    index: &mut BTreeMap<u64, Vec<u64>>,
-    alloc: Global,
-    point: u64,
+// Takes the Rows at a place out, and keeps their rows.
+fn take_list(
+    start: u64,
+    arrived: &mut VecDeque<Option<Rows>>,
+    lists: &mut Vec<Vec<Row>>,
     place: u64,
 ) -> Result<(), AllocError>
-    ensures { OnOk result ((p : ℕ) → places_of p index.new.entries
-        ≡ cond (is_at (nat_cmp point) p) (places_of point index.old.entries ++ place ∷ [])
-        (places_of p index.old.entries)) }
+    ensures rows { OnOk result (flat_map (λ list. list.items) lists.new.items
+        ≡ flat_map (λ list. list.items) lists.old.items
+        ++ rows_found (lookup (is_at (nat_cmp place)) (placed start arrived.old.items))) }
+    ensures left { placed start arrived.new.items ≡ remove_entry (is_at (nat_cmp place)) (placed start arrived.old.items) }
 {
-    let mut places = take_places(index, alloc, point);
-    places.push(place)?;
-    let Ok(_) = index.insert(point, places) else {
-        return Err(AllocError);
-    };
-    Ok(())
-}
-
-// Takes the places of a time-point out.
-fn take_places(index: &mut BTreeMap<u64, Vec<u64>>, alloc: Global, point: u64) -> Vec<u64>
-    ensures places { result.items ≡ places_of point index.old.entries }
-    ensures left { (p : ℕ) → places_of p index.new.entries
-        ≡ cond (is_at (nat_cmp point) p) [] (places_of p index.old.entries) }
-{
-    match index.remove(&point) {
-        Some(places) => places,
-        None => Vec::new(alloc),
+    if let Some(rows) = take_at(start, arrived, place) {
+        lists.push(rows.rows.into_vec())?;
     }
-}
-
-// The first place of a time-point.
-fn first_place(index: &BTreeMap<u64, Vec<u64>>, point: u64) -> Option<u64>
-    ensures { result ≡ first_of (places_of point index.now.entries) }
-{
-    index.get(&point)?.first().copied()
+    Ok(())
 }
 
 // Takes the Rows at all places of a time-point out: the rows of each.
 fn take_rows(
-    arrived: &mut BTreeMap<u64, Rows>,
+    start: u64,
+    arrived: &mut VecDeque<Option<Rows>>,
     alloc: Global,
-    places: Vec<u64>,
+    places: Option<Places>,
 ) -> Result<Vec<Vec<Row>>, AllocError>
-    requires { IsStrictlySortedBy nat_cmp (keys_of arrived.old.entries) }
-    ensures rows { IfOk result (λ lists. (point : ℕ) → arrived_at point arrived.old.entries ≡ places.items
-        → flat_map (λ list. list.items) lists.items ≡ all_rows (rows_at point (values_of arrived.old.entries))) }
-    ensures left { OnOk result ((point : ℕ) → arrived_at point arrived.old.entries ≡ places.items
-        → arrived.new.entries ≡ others point arrived.old.entries) }
-    ensures ordered { OnOk result (IsStrictlySortedBy nat_cmp (keys_of arrived.new.entries)) }
+    ensures rows { IfOk result (λ lists. (point : ℕ) → arrived_at point (placed start arrived.old.items) ≡ places_found places
+        → flat_map (λ list. list.items) lists.items ≡ all_rows (rows_at point (values_of (placed start arrived.old.items)))) }
+    ensures left { OnOk result ((point : ℕ) → arrived_at point (placed start arrived.old.items) ≡ places_found places
+        → placed start arrived.new.items ≡ others point (placed start arrived.old.items)) }
 {
     let mut lists = Vec::new(alloc);
-    for place in places {
-        if let Some(rows) = arrived.remove(&place) {
-            lists.push(rows.rows.into_vec())?;
-        }
+    let Some(places) = places else {
+        return Ok(lists);
+    };
+    let (first, more) = places.into_parts();
+    take_list(start, arrived, &mut lists, first)?;
+    for place in more {
+        take_list(start, arrived, &mut lists, place)?;
     }
     Ok(lists)
 }

@@ -287,7 +287,8 @@ module _ (core : CoreForm) (start : Progress) (reader : Reader) (driver : Driver
 
   -- the fault stops the lines
   pub stops_with : (fault : LogFault) (why : Stop) → why ≡ stop_for fault
-      → Fails fault (due (progress reader start.bytes)) → (after : Driver) (new : Option (List ℕ)) (more : Tally) → Keeps driver mid tally after new more → IsOver after
+      → Fails fault (due (progress reader start.bytes)) → (after : Driver) (new : Option (List ℕ)) (more : Tally)
+      → Keeps driver mid tally after new more → IsOver after
       → (before now : ℕ) → ForEachPolicy core (λ policy. StopsLines policy (read start) old new before now why)
   stops_with log.Memory why is e after new more keeps over before now policy core_is = rw is tt
   stops_with fault why is e after new more keeps over before now policy core_is =

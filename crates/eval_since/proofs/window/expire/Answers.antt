@@ -5,7 +5,8 @@ use Rattle.eval_since.specs.declared.window.Dated.{Dated}
 use Rattle.eval_since.specs.Groups.{times_at}
 use Rattle.mfotl_model.specs.Tables.{has_row, part}
 use Rattle.eval_since.specs.Windows.{Covered, NotAfter, Rising}
-use Rattle.eval_since.proofs.ExpireLemmas.{thin_more, nothing_thinned, covered_more, fresh_front, front_far, not_after_tail}
+use Rattle.eval_since.proofs.ExpireLemmas.{thin_more, nothing_thinned, covered_more, fresh_front, front_far}
+use Rattle.eval_since.proofs.ExpireLemmas.{not_after_tail}
 use Rattle.eval_since.proofs.window.expire.Goals as goal
 
 pub returns-then-saturating_sub-hi-clause-fresh : goal.returns-then-saturating_sub-hi-clause-fresh

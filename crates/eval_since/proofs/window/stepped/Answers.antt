@@ -1,4 +1,5 @@
-use Rattle.eval_since.proofs.StepLemmas.{Joined, past_before, kept_unbounded, within_after, covered_after, rising_after, placed_after, kept_bounded, within_bounded}
+use Rattle.eval_since.proofs.StepLemmas.{Joined, past_before, kept_unbounded, within_after, covered_after}
+use Rattle.eval_since.proofs.StepLemmas.{rising_after, placed_after, kept_bounded, within_bounded}
 use Rattle.eval_since.proofs.window.stepped.Goals as goal
 
 pub add_rows-requires : goal.add_rows-requires

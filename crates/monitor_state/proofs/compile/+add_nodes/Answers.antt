@@ -53,12 +53,12 @@ add_nodes-returns-in-Compare t c =
 
 pub add_nodes-returns-in_ok-add_nodes-in-Exists : goal.add_nodes-returns-in_ok-add_nodes-in-Exists
 add_nodes-returns-in_ok-add_nodes-in-Exists t c =
-    on_ok_then c.add.result _ _
+    on_ok_then c.add_exists.result _ _
     (exists_adds c.args.role (node_form c.args.core.now) c.in-Exists.bound (node_form c.in-Exists.inner.value)
-    c.args.nodes.now.items c.add_nodes.new.nodes.items c.add.new.nodes.items (ap node_form c.in-Exists.is)
+    c.args.nodes.now.items c.add_nodes.new.nodes.items c.add_exists.new.nodes.items (ap node_form c.in-Exists.is)
     (subst (λ n. Adds (nodes_in role.Whole (node_form n)) c.args.nodes.now.items c.add_nodes.new.nodes.items)
     c.deref.ensures c.in_ok-add_nodes-in-Exists.ensures))
-    c.add.ensures
+    c.add_exists.ensures
 
 pub add_nodes-returns-in_ok-add_nodes-in-Not : goal.add_nodes-returns-in_ok-add_nodes-in-Not
 add_nodes-returns-in_ok-add_nodes-in-Not t c =

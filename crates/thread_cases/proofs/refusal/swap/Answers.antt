@@ -7,5 +7,6 @@ use Rattle.thread_cases.proofs.refusal.swap.Goals as goal
 pub swap-requires-clause-may : goal.swap-requires-clause-may
 swap-requires-clause-may c =
     let lines = c.args.main.now.seat.me.0.lines in
-    let l = there Stands May lines c.args.number (subst (λ n. c.args.number < n) (sym c.requires.main.4) c.requires.near) in
+    let near = subst (λ n. c.args.number < n) (sym c.requires.main.4) c.requires.near in
+    let l = there Stands May lines c.args.number near in
     (l.0, l.1, tt)

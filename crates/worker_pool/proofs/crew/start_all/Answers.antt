@@ -2,7 +2,8 @@ use Rattle.std.proofs.Common.{rules, All, sym, subst}
 use Rattle.std.proofs.lemmas.List.Elements.{All-head, All-tail}
 use Rattle.worker_pool.specs.Hands.{AreHandsOf}
 use Rattle.worker_pool.proofs.HandLemmas.{more_hands}
-use Rattle.worker_pool.proofs.Sent.{base, core_send, merging_send, monitor_send, point_send, rows_send, state_send, strategy_send}
+use Rattle.worker_pool.proofs.Sent.{base, core_send, merging_send, monitor_send, point_send}
+use Rattle.worker_pool.proofs.Sent.{rows_send, state_send, strategy_send}
 use Rattle.worker_pool.proofs.crew.start_all.Goals as goal
 
 -- the next group's hands are the hub's

@@ -125,7 +125,8 @@ returns-in-Ok-End-clause-suits g c =
     let under = c.requires.under_way in
     let here = c.points.invariant.so_far under.core under.bytes under.start under.reads under.so_far in
     suits_drained c.drain-in-Ok-End.result c.points.driver c.drain-in-Ok-End.new.driver (g.O.Sink.written c.points.out)
-    (g.O.Sink.written c.drain-in-Ok-End.new.out) c.points.page.tally c.drain-in-Ok-End.new.page.tally c.points.schedule (
+    (g.O.Sink.written c.drain-in-Ok-End.new.out) c.points.page.tally c.drain-in-Ok-End.new.page.tally
+    c.points.schedule (
       under.core,
       take c.points.reader.given (read (progress c.args.reader.now under.bytes)).points,
       under.start,

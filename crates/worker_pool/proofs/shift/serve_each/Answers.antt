@@ -11,7 +11,8 @@ pub loop-k-preserved : goal.loop-k-preserved
 unfolding AreHandsOf
 loop-k-preserved g c =
     let hands = c.loop-k.hands.items in
-    let cell : (Hand g.row.W.Denot g.row.W-Item.Denot g.row.W-Out.Denot g.row.W-Seed.Denot → ℕ) = (λ h. hand_cell h) in (
+    let cell : (Hand g.row.W.Denot g.row.W-Item.Denot g.row.W-Out.Denot g.row.W-Seed.Denot → ℕ) =
+    (λ h. hand_cell h) in (
       (
         All-set (λ h. IsHandOf c.args.hub.now h) hands c.loop-k.k c.serve.new.hand c.serve.ensures.hand.0
             c.loop-k.invariant.0.0,

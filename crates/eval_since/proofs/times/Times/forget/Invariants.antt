@@ -5,9 +5,9 @@ use Rattle.eval_since.proofs.times.Times.forget.Given as goal
 
 abbrev pub invariant-loop-first : goal.invariant-loop-first
 invariant-loop-first l = record {
-  ascends : IsStrictlyIncreasing l.self-inside.list.items;
-  same : recent l.hi l.now l.self-inside.list.items ≡ recent l.hi l.now l.fn.self;
+  ascends : IsStrictlyIncreasing l.self-inside.list;
+  same : recent l.hi l.now l.self-inside.list ≡ recent l.hi l.now l.fn.self;
 }
 
 abbrev pub decreases-loop-first : goal.decreases-loop-first
-decreases-loop-first l = length l.self-inside.list.items
+decreases-loop-first l = length l.self-inside.list

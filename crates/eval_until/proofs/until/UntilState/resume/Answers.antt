@@ -2,7 +2,8 @@ use Rattle.std.proofs.Common.{ℕ, ◌<◌, ◌≤◌, List, length, nat_eq, sym
 use Rattle.relations.specs.KeptRows.{kept_for}
 use Rattle.eval_until.specs.AheadView.{AheadOf}
 use Rattle.eval_until.specs.Recalled.{entries_kept, starts_kept}
-use Rattle.eval_until.proofs.ResumeLemmas.{ascend_as, each_ascends, filled_map, follows_alike, left_alike, shape_of, sized_as, starts_as, waiting_as}
+use Rattle.eval_until.proofs.ResumeLemmas.{ascend_as, each_ascends, filled_map, follows_alike, left_alike, shape_of}
+use Rattle.eval_until.proofs.ResumeLemmas.{sized_as, starts_as, waiting_as}
 use Rattle.eval_until.proofs.until.UntilState.resume.Goals as goal
 
 pub rows_map-requires : goal.rows_map-requires

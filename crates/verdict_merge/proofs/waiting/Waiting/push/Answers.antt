@@ -1,39 +1,34 @@
-use Rattle.std.proofs.Common.{◌≡◌, ◌∙◌, ◌++◌, ◌∷◌, [], suc, ◌<◌, cond, sym, ap, subst, arith}
+use Rattle.std.proofs.Common.{◌≡◌, ◌∙◌, ◌+◌, ◌++◌, ◌∷◌, [], Some, cond, length, nat_eq, sym, ap, arith}
 use Rattle.std.proofs.lemmas.Grind.{common_steps}
-use Rattle.std.specs.BTreeMap.{is_at}
-use Rattle.std.specs.List.{AllByRecursion}
-use Rattle.std.specs.Map.{keys_of, values_of}
-use Rattle.std.specs.Ordering.{nat_cmp}
-use Rattle.verdict_merge.proofs.PlaceLemmas.{below_next, places_last, put_last, values_last}
-use Rattle.verdict_merge.specs.Places.{arrived_at, places_of}
+use Rattle.std.specs.Map.{values_of}
+use Rattle.verdict_merge.proofs.PlaceLemmas.{places_last, values_last}
+use Rattle.verdict_merge.proofs.SlotLemmas.{placed_last}
+use Rattle.verdict_merge.specs.Places.{arrived_at, placed, places_of}
 use Rattle.verdict_merge.proofs.waiting.Waiting.push.Goals as goal
 
-pub invariant_of-self-2 : goal.invariant_of-self-2
-invariant_of-self-2 c =
-    let before = c.self.inside.arrived.entries in
-    let place = c.self.inside.next in
+pub invariant_of-self-in-Ok-add_place : goal.invariant_of-self-in-Ok-add_place
+invariant_of-self-in-Ok-add_place c = λ p.
+    let start = c.self.inside.start in
+    let items = c.self.inside.arrived.items in
+    let before = placed start items in
+    let place = c.in_ok-place.place in
     let rows = c.args.rows in
-    let grown : c.insert.new.self.entries ≡ before ++ (place, rows) ∷ [] =
-    c.in-Ok.ensures.entries ∙ put_last place rows before c.self.invariant.below in
-    let after : c.in_ok-after.after ≡ suc place = grind (arith, common_steps) in
-    record {
-      indexed = λ p.
-          c.in-Ok-add_place.ensures p
-          ∙ ap (λ ks. cond (is_at (nat_cmp rows.point) p) (ks ++ place ∷ []) (places_of p c.self.inside.index.entries))
-          (c.self.invariant.indexed rows.point)
-          ∙ ap (λ ks. cond (is_at (nat_cmp rows.point) p) (arrived_at rows.point before ++ place ∷ []) ks)
-          (c.self.invariant.indexed p)
-          ∙ sym (ap (arrived_at p) grown ∙ places_last place p rows before);
-      ordered = c.insert.ensures.ordered;
-      below = subst (λ ds. AllByRecursion (λ k. k < c.in_ok-after.after) (keys_of ds)) (sym grown)
-          (subst (λ m. AllByRecursion (λ k. k < m) (keys_of (before ++ (place, rows) ∷ []))) (sym after)
-          (below_next place rows before c.self.invariant.below));
-    }
+    let is : start + length items ≡ place = grind (arith, common_steps) in
+    let grown : placed start (items ++ Some rows ∷ []) ≡ before ++ (place, rows) ∷ [] =
+    placed_last start rows items ∙ ap (λ k. before ++ (k, rows) ∷ []) is in
+    c.in-Ok-add_place.ensures p
+    ∙ ap (λ ks. cond (nat_eq rows.point p) (ks ++ place ∷ []) (places_of p c.self.inside.index.entries))
+    (c.self.invariant rows.point)
+    ∙ ap (λ ks. cond (nat_eq rows.point p) (arrived_at rows.point before ++ place ∷ []) ks) (c.self.invariant p)
+    ∙ sym (ap (λ slots. arrived_at p (placed start slots)) c.in-Ok.ensures.items
+    ∙ ap (arrived_at p) grown ∙ places_last place p rows before)
 
 pub returns : goal.returns
 returns c =
-    let before = c.self.inside.arrived.entries in
-    let place = c.self.inside.next in
+    let start = c.self.inside.start in
+    let items = c.self.inside.arrived.items in
+    let before = placed start items in
     let rows = c.args.rows in
-    ap values_of (c.in-Ok.ensures.entries ∙ put_last place rows before c.self.invariant.below)
-    ∙ values_last place rows before ∙ ap (λ given. given ++ rows ∷ []) c.self.view_is
+    ap (λ slots. values_of (placed start slots)) c.in-Ok.ensures.items
+    ∙ ap values_of (placed_last start rows items) ∙ values_last (start + length items) rows before
+    ∙ ap (λ given. given ++ rows ∷ []) c.self.view_is

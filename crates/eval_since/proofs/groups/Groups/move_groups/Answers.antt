@@ -1,7 +1,8 @@
 use Rattle.std.proofs.Common.{arith}
 use Rattle.eval_since.proofs.GroupLemmas.{gone_more, kept_none, kept_some}
-use Rattle.eval_since.proofs.groups.Groups.keep.Goals as goal
-use Rattle.eval_since.proofs.groups.Groups.keep.Goals.{in-Some+in_ok-insert+in-Some-1, in-Some+in_ok-insert+in-None-1, in_default}
+use Rattle.eval_since.proofs.groups.Groups.move_groups.Goals as goal
+use Rattle.eval_since.proofs.groups.Groups.move_groups.Goals.{in-Some+in_ok-insert+in-Some-1}
+use Rattle.eval_since.proofs.groups.Groups.move_groups.Goals.{in-Some+in_ok-insert+in-None-1, in_default}
 
 pub loop-part-preserved : goal.loop-part-preserved
 loop-part-preserved c =

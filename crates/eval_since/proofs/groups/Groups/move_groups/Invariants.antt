@@ -1,6 +1,6 @@
 use Rattle.std.proofs.Common.{take}
 use Rattle.eval_since.proofs.GroupLemmas.{AreGone, AreKept}
-use Rattle.eval_since.proofs.groups.Groups.keep.Given as goal
+use Rattle.eval_since.proofs.groups.Groups.move_groups.Given as goal
 
 abbrev pub invariant-loop-part : goal.invariant-loop-part
 invariant-loop-part l = record {

@@ -1,0 +1,43 @@
+-- What one side leaves is what the other side finds.
+use Rattle.std.specs.Prelude.{◌≡◌, ◌≢◌, ℕ, List}
+use Rattle.turn_hub.specs.declared.view.View.{View}
+use Rattle.turn_hub.specs.declared.hub.Swap.{Swap}
+use Rattle.turn_hub.specs.declared.hub.Swap.TheVariants.{Back, NotYet, Broken}
+use Rattle.turn_hub.specs.declared.hub.Served.TheVariants.{Worked, Memory}
+use Rattle.turn_hub.specs.Answers.{ServedAs, Swapped}
+use Rattle.turn_hub.specs.Words.{main_turn, hand_turn, broken}
+
+-- the answer is that the cell is broken
+abbrev pub IsBroken : {I O : Type 0} → Swap I O → Type 0
+IsBroken (Broken same) = Unit {0}
+IsBroken other = ⊥
+
+-- the answer is that it is the hand's turn
+abbrev pub IsNotYet : {I O : Type 0} → Swap I O → Type 0
+IsNotYet (NotYet same) = Unit {0}
+IsNotYet other = ⊥
+
+-- the answer has what came back
+abbrev pub IsBack : {I O : Type 0} → Swap I O → Type 0
+IsBack (Back n outs) = Unit {0}
+IsBack other = ⊥
+
+-- whose turn it is, and that a cell is broken, are three different words
+abbrev pub WordsDiffer : Type 0
+WordsDiffer = (main_turn ≢ hand_turn) × (main_turn ≢ broken) × (hand_turn ≢ broken)
+
+module _ {W S I O : Type 0} (stands : S → List I → List O → W → Type 0) (told : S → List I → List O → Type 0) where
+  -- a swap finds a cell broken by the word that a hand left which had no memory
+  abbrev pub BrokenIsLeft : Type 0
+  BrokenIsLeft = (v w x y : View W S I O) (j k : ℕ) (items : List I) (answer : Swap I O)
+      → ServedAs v j Memory w → Swapped told k items x answer y → IsBroken answer → y.word ≡ w.left
+
+  -- it takes back by the word that a hand left which worked all
+  abbrev pub BackIsLeft : Type 0
+  BackIsLeft = (v w x y : View W S I O) (j k n : ℕ) (items : List I) (answer : Swap I O)
+      → ServedAs v j (Worked n) w → Swapped told k items x answer y → IsBack answer → y.word ≡ w.left
+
+  -- and it is not yet its turn by the word at which a hand works
+  abbrev pub NotYetIsWorked : Type 0
+  NotYetIsWorked = (v w x y : View W S I O) (j k n : ℕ) (items : List I) (answer : Swap I O)
+      → ServedAs v j (Worked n) w → Swapped told k items x answer y → IsNotYet answer → y.word ≡ w.word
