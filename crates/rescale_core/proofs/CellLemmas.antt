@@ -16,7 +16,8 @@ use Rattle.rescale_core.specs.Seeds.{SeedOf}
 use Rattle.rescale_core.specs.Soundly.{IsSound}
 use Rattle.rescale_core.specs.Stages.{Answers}
 use Rattle.rescale_core.specs.Working.{Has, May, StandsFor}
-use Rattle.rescale_core.specs.Worlds.{World, Allowed, Seat, after, all_collected, fed_more, line_in, nth}
+use Rattle.rescale_core.specs.Handing.{nth}
+use Rattle.rescale_core.specs.Worlds.{World, Allowed, Seat, after, all_collected, fed_more, line_in}
 use Rattle.rescale_core.specs.Worlds.{set_seat, took_one}
 use Rattle.rescale_core.specs.Worlds.Move.{Feed, Take, Collect}
 use Rattle.rescale_core.specs.declared.cells.Cell.{Cell}

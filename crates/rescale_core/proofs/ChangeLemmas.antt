@@ -16,16 +16,17 @@ use Rattle.rescale_core.proofs.ReadingLemmas.{reads_on}
 use Rattle.rescale_core.proofs.Soundness.{step_sound}
 use Rattle.rescale_core.proofs.WorldLemmas.{spot_more}
 use Rattle.rescale_core.specs.Chances.Chance.{Open}
+use Rattle.rescale_core.specs.Chances.Standing.{Last, Within}
 use Rattle.rescale_core.specs.Lines.{AreSound, Spot, Turn, dues, first_spot, if_below, moved, place, spot_after}
 use Rattle.rescale_core.specs.Lines.{turn_at}
 use Rattle.rescale_core.specs.Lines.Due.{Parting, Hole}
 use Rattle.rescale_core.specs.Queues.{chances, queue_at}
 use Rattle.rescale_core.specs.Routing.{IsRouterOf, part_below, place_below}
-use Rattle.rescale_core.specs.Slots.{chance_of, weight_of}
+use Rattle.rescale_core.specs.Slots.{chance_of, standing_of}
 use Rattle.rescale_core.specs.Soundly.{Known, turn_of}
-use Rattle.rescale_core.specs.Waiting.{weight, weights_in}
+use Rattle.rescale_core.specs.Handing.{chance, chance_from, for_place, nth, standing}
 use Rattle.rescale_core.specs.Workers.{IsFor}
-use Rattle.rescale_core.specs.Worlds.{World, after, chance, chance_from, for_place, nth, queue_in, spot_in}
+use Rattle.rescale_core.specs.Worlds.{World, after, queue_in, spot_in, standings_in}
 use Rattle.rescale_core.specs.Worlds.Move.{Read}
 use Rattle.rescale_core.specs.declared.item.Entry.{Entry}
 use Rattle.rescale_core.specs.declared.item.Entry.TheVariants.{Point, Change}
@@ -97,12 +98,12 @@ rooms_open c q pieces t count (suc n) j e =
     ∙ ap (λ xs. chance_from (Hole t j) (option_map (λ p. Adopt p t.new) (nth xs j))
     ∷ map (chance c q pieces) (map (λ i. Hole t i) (range_with_len (j + 1) n))) (sym e)
 
-rooms_weigh : (t : Turn) (n j : ℕ)
-    → map weight_of (map (λ i. Room t.generation t.new (nat_eq (i + 1) (workers_of t.old)) None) (range_with_len j n))
-    ≡ map weight (map (λ i. Hole t i) (range_with_len j n))
-rooms_weigh t zero j = refl
-rooms_weigh t (suc n) j =
-    ap (λ ns. cond (nat_eq (j + 1) (workers_of t.old)) 1 0 ∷ ns) (rooms_weigh t n (j + 1))
+rooms_stand : (t : Turn) (n j : ℕ)
+    → map standing_of (map (λ i. Room t.generation t.new (nat_eq (i + 1) (workers_of t.old)) None) (range_with_len j n))
+    ≡ map standing (map (λ i. Hole t i) (range_with_len j n))
+rooms_stand t zero j = refl
+rooms_stand t (suc n) j =
+    ap (λ ns. cond (nat_eq (j + 1) (workers_of t.old)) Last Within ∷ ns) (rooms_stand t n (j + 1))
 
 -- what a change adds to worker q's queue
 abbrev pub changes_for : ℕ → Spot → Strategy → List Slot
@@ -131,24 +132,24 @@ change_chances c q pieces a s e =
     (if_below q (workers_of s) (place t)))
     ∙ ap (map (chance c q pieces)) (sym (append-nil (dues q a (Change s))))
 
-change_weights : (q : ℕ) (a : Spot) (s : Strategy)
-    → map weight_of (changes_for q a s) ≡ map weight (dues q a (Change s) ++ [])
-change_weights q a s =
+change_standings : (q : ℕ) (a : Spot) (s : Strategy)
+    → map standing_of (changes_for q a s) ≡ map standing (dues q a (Change s) ++ [])
+change_standings q a s =
     let t : Turn = turn_at a s in
-    map-append weight_of (part_below q (workers_of a.strategy) (a.generation + 1) a.strategy s)
+    map-append standing_of (part_below q (workers_of a.strategy) (a.generation + 1) a.strategy s)
     (place_below q (workers_of s) (a.generation + 1) s (workers_of a.strategy))
-    ∙ ap (λ x. x ++ map weight_of (place_below q (workers_of s) (a.generation + 1) s (workers_of a.strategy)))
-    (if_map weight_of (nat_lt q (workers_of a.strategy)) (Ready (Part (a.generation + 1) a.strategy s) ∷ [])
-    ∙ sym (if_map weight (nat_lt q (workers_of a.strategy)) (Parting t ∷ [])))
-    ∙ ap (λ x. map weight (if_below q (workers_of a.strategy) (Parting t ∷ [])) ++ x)
-    (if_map weight_of (nat_lt q (workers_of s))
+    ∙ ap (λ x. x ++ map standing_of (place_below q (workers_of s) (a.generation + 1) s (workers_of a.strategy)))
+    (if_map standing_of (nat_lt q (workers_of a.strategy)) (Ready (Part (a.generation + 1) a.strategy s) ∷ [])
+    ∙ sym (if_map standing (nat_lt q (workers_of a.strategy)) (Parting t ∷ [])))
+    ∙ ap (λ x. map standing (if_below q (workers_of a.strategy) (Parting t ∷ [])) ++ x)
+    (if_map standing_of (nat_lt q (workers_of s))
     (map (λ i. Room (a.generation + 1) s (nat_eq (i + 1) (workers_of a.strategy)) None)
     (range_with_len 0 (workers_of a.strategy)))
-    ∙ ap (λ x. cond (nat_lt q (workers_of s)) x []) (rooms_weigh t (workers_of a.strategy) 0)
-    ∙ sym (if_map weight (nat_lt q (workers_of s)) (place t)))
-    ∙ sym (map-append weight (if_below q (workers_of a.strategy) (Parting t ∷ []))
+    ∙ ap (λ x. cond (nat_lt q (workers_of s)) x []) (rooms_stand t (workers_of a.strategy) 0)
+    ∙ sym (if_map standing (nat_lt q (workers_of s)) (place t)))
+    ∙ sym (map-append standing (if_below q (workers_of a.strategy) (Parting t ∷ []))
     (if_below q (workers_of s) (place t)))
-    ∙ ap (map weight) (sym (append-nil (dues q a (Change s))))
+    ∙ ap (map standing) (sym (append-nil (dues q a (Change s))))
 
 -- ---- reading
 
@@ -191,11 +192,11 @@ module _ (r x : Router) (w : World) (is : IsRouterOf r w) (s : Strategy) (may : 
         (place_below q (workers_of s) (a.generation + 1) s (workers_of a.strategy))
 
     queue_is : (q : ℕ) → (chances (queue_at x.queues.items q) ≡ queue_in (after w (Read (Change s))) q)
-        × (map weight_of (queue_at x.queues.items q) ≡ weights_in (after w (Read (Change s))) q)
+        × (map standing_of (queue_at x.queues.items q) ≡ standings_in (after w (Read (Change s))) q)
     queue_is q =
         reads_on w (Change s) q (queue_at r.queues.items q) (changes_for q a s) (queue_at x.queues.items q) is.sound
-        (queued_in q) (is.queues q) (is.weights q) (change_chances w.core q w.pieces a s (none_here q))
-        (change_weights q a s)
+        (queued_in q) (is.queues q) (is.standings q) (change_chances w.core q w.pieces a s (none_here q))
+        (change_standings q a s)
 
     pub change_read : IsRouterOf x (after w (Read (Change s)))
     change_read = record {
@@ -205,7 +206,7 @@ module _ (r x : Router) (w : World) (is : IsRouterOf r w) (s : Strategy) (may : 
       points = points ∙ is.points ∙ sym (ap (λ (b : Spot). length b.points) change_is);
       wide = subst (λ y. workers_of y ≤ length x.queues.items) (sym strategy) wide;
       queues = λ q. (queue_is q).0;
-      weights = λ q. (queue_is q).1;
+      standings = λ q. (queue_is q).1;
       counted = counted;
       outstanding = λ k. ap (λ n. (w.seats k).collected + n) (outstanding k) ∙ is.outstanding k;
       sound = step_sound w (Read (Change s)) is.sound may;

@@ -17,7 +17,8 @@ use Rattle.rescale_core.specs.Lines.{Turn, Due, first_spot}
 use Rattle.rescale_core.specs.Soundly.{Known, turn_of, last_part, KnownRow, last_level, IsSeated, IsSound}
 use Rattle.rescale_core.specs.Stages.{NotIn, Answers}
 use Rattle.rescale_core.specs.Workers.{settled_in}
-use Rattle.rescale_core.specs.Worlds.{for_place, pieces_in, World, Seat, line_in}
+use Rattle.rescale_core.specs.Handing.{for_place}
+use Rattle.rescale_core.specs.Worlds.{pieces_in, World, Seat, line_in}
 use Rattle.rescale_core.specs.Worlds.{set_seat}
 use Rattle.rescale_core.specs.Worlds.{all_collected, after}
 use Rattle.rescale_core.specs.Worlds.{slice_at, rows_in}

@@ -22,7 +22,8 @@ use Rattle.rescale_core.specs.Lines.{Due, first_spot}
 use Rattle.rescale_core.specs.Soundly.{IsSound}
 use Rattle.rescale_core.specs.Stages.{Answers}
 use Rattle.rescale_core.specs.Workers.{settled_in}
-use Rattle.rescale_core.specs.Worlds.{World, IsGathered, chance, line_in, spot_in}
+use Rattle.rescale_core.specs.Handing.{chance}
+use Rattle.rescale_core.specs.Worlds.{World, IsGathered, line_in, spot_in}
 use Rattle.rescale_core.specs.declared.cells.Step.{Step}
 use Rattle.rescale_core.specs.declared.cells.Step.TheVariants as step
 use Rattle.rescale_core.specs.declared.item.Entry.{Entry}

@@ -10,19 +10,20 @@ use Rattle.mfotl_model.specs.Strategies.{Strategy, workers_of}
 use Rattle.monitorable.specs.CoreForms.{CoreForm}
 use Rattle.monitorable.specs.Cores.{core_form}
 use Rattle.rescale_core.proofs.GatherLemmas.{gather_kept}
-use Rattle.rescale_core.proofs.QueueLemmas.{front_length, front_weights}
+use Rattle.rescale_core.proofs.QueueLemmas.{front_length, front_standings}
+use Rattle.rescale_core.proofs.ReadyLemmas.{queue_ready}
 use Rattle.rescale_core.proofs.Soundness.{step_sound}
 use Rattle.rescale_core.specs.Chances.{Chance}
 use Rattle.rescale_core.specs.Chances.Chance.{Sure}
 use Rattle.rescale_core.specs.Lines.{Spot, Due, first_spot, line}
 use Rattle.rescale_core.specs.Queues.{chances, queue_at}
 use Rattle.rescale_core.specs.Routing.{IsGatherOf, IsRouterOf, feeds}
-use Rattle.rescale_core.specs.Slots.{chance_of, weight_of}
+use Rattle.rescale_core.specs.Slots.{chance_of, standing_of}
 use Rattle.rescale_core.specs.Soundly.{IsSound}
-use Rattle.rescale_core.specs.Waiting.{weight, weights_in}
-use Rattle.rescale_core.specs.Worlds.{World, Allowed, AreAllowed, Seat, after, chance}
+use Rattle.rescale_core.specs.Handing.{chance, standing}
+use Rattle.rescale_core.specs.Worlds.{World, Allowed, AreAllowed, Seat, after}
 use Rattle.rescale_core.specs.Worlds.{fed_more, line_in, queue_in, run}
-use Rattle.rescale_core.specs.Worlds.{set_seat, spot_in}
+use Rattle.rescale_core.specs.Worlds.{set_seat, spot_in, standings_in}
 use Rattle.rescale_core.specs.Worlds.Move.{Feed}
 use Rattle.rescale_core.specs.declared.item.Entry.{Entry}
 use Rattle.rescale_core.specs.declared.item.Item.{Item}
@@ -104,7 +105,8 @@ fed_all [] w k rest r e = (
   },
 )
 fed_all (i ∷ items) w k rest r e = let more : List Chance = map (λ i. Sure i) items ++ rest in
-    let a : Allowed w (Feed k i) = (more, e) in
+    let a : Allowed w (Feed k i) =
+    queue_ready w.core k w.pieces (drop (length (w.seats k).fed) (line_in w k)) i more e in
     let h = fed_all items (after w (Feed k i)) k rest (step_sound w (Feed k i) r a) (queue_fed w k i more e) in (
       (a, h.0),
       record {
@@ -124,14 +126,14 @@ fed_all (i ∷ items) w k rest r e = let more : List Chance = map (λ i. Sure i)
     )
 
 -- what counts where so many more were handed over
-weights_left : (w x : World) (q m : ℕ) → x.first ≡ w.first → x.read ≡ w.read
-    → length (x.seats q).fed ≡ length (w.seats q).fed + m → weights_in x q ≡ drop m (weights_in w q)
-weights_left w x q m first read longer =
-    ap (λ (s : Strategy). map weight (drop (length (x.seats q).fed) (line q (first_spot s) x.read))) first
-    ∙ ap (λ (es : List Entry). map weight (drop (length (x.seats q).fed) (line q (first_spot w.first) es))) read
-    ∙ ap (λ n. map weight (drop n (line_in w q))) longer
-    ∙ ap (map weight) (sym (drop-drop m (length (w.seats q).fed) (line_in w q)))
-    ∙ sym (drop-map weight m (drop (length (w.seats q).fed) (line_in w q)))
+standings_left : (w x : World) (q m : ℕ) → x.first ≡ w.first → x.read ≡ w.read
+    → length (x.seats q).fed ≡ length (w.seats q).fed + m → standings_in x q ≡ drop m (standings_in w q)
+standings_left w x q m first read longer =
+    ap (λ (s : Strategy). map standing (drop (length (x.seats q).fed) (line q (first_spot s) x.read))) first
+    ∙ ap (λ (es : List Entry). map standing (drop (length (x.seats q).fed) (line q (first_spot w.first) es))) read
+    ∙ ap (λ n. map standing (drop n (line_in w q))) longer
+    ∙ ap (map standing) (sym (drop-drop m (length (w.seats q).fed) (line_in w q)))
+    ∙ sym (drop-map standing m (drop (length (w.seats q).fed) (line_in w q)))
 
 module _ (r x : Router) (w : World) (is : IsRouterOf r w) (k : ℕ) (items : List Item) (front rest : List Slot)
     (core : core_form x.core ≡ core_form r.core) (strategy : x.strategy ≡ r.strategy)
@@ -161,18 +163,18 @@ module _ (r x : Router) (w : World) (is : IsRouterOf r w) (k : ℕ) (items : Lis
       (ap chances now ∙ sym all_fed.1.here)
   queue_now q (no n) = ap chances (others q n) ∙ is.queues q ∙ sym (all_fed.1.others q n)
 
-  weights_now : (q : ℕ) → Dec (q ≡ k) → map weight_of (queue_at x.queues.items q) ≡ weights_in y q
-  weights_now q (yes e) =
-      ap (λ z. map weight_of (queue_at x.queues.items z)) e ∙ ap (map weight_of) now
-      ∙ front_weights front rest
-      ∙ ap (drop (length front)) (ap (map weight_of) (sym here) ∙ is.weights k)
-      ∙ ap (λ n. drop n (weights_in w k)) (front_length front items sure)
-      ∙ sym (weights_left w y k (length items) all_fed.1.first all_fed.1.read
+  standings_now : (q : ℕ) → Dec (q ≡ k) → map standing_of (queue_at x.queues.items q) ≡ standings_in y q
+  standings_now q (yes e) =
+      ap (λ z. map standing_of (queue_at x.queues.items z)) e ∙ ap (map standing_of) now
+      ∙ front_standings front rest
+      ∙ ap (drop (length front)) (ap (map standing_of) (sym here) ∙ is.standings k)
+      ∙ ap (λ n. drop n (standings_in w k)) (front_length front items sure)
+      ∙ sym (standings_left w y k (length items) all_fed.1.first all_fed.1.read
       (all_fed.1.longer k ∙ ap (λ b. length (w.seats k).fed + cond b (length items) 0) (eq-eqb k k refl)))
-      ∙ ap (weights_in y) (sym e)
-  weights_now q (no n) =
-      ap (map weight_of) (others q n) ∙ is.weights q
-      ∙ sym (weights_left w y q 0 all_fed.1.first all_fed.1.read
+      ∙ ap (standings_in y) (sym e)
+  standings_now q (no n) =
+      ap (map standing_of) (others q n) ∙ is.standings q
+      ∙ sym (standings_left w y q 0 all_fed.1.first all_fed.1.read
       (all_fed.1.longer q ∙ ap (λ b. length (w.seats q).fed + cond b (length items) 0) (ne_eqb q k n)))
 
   pub items_taken : AreAllowed w (feeds k items) × IsRouterOf x (run w (feeds k items))
@@ -185,7 +187,7 @@ module _ (r x : Router) (w : World) (is : IsRouterOf r w) (k : ℕ) (items : Lis
       points = points ∙ is.points ∙ sym (ap (λ (a : Spot). length a.points) all_fed.1.spot);
       wide = subst (λ s. workers_of s ≤ length x.queues.items) (sym strategy) (let h = is.wide in omega arith);
       queues = λ q. queue_now q (ℕ_discrete q k);
-      weights = λ q. weights_now q (ℕ_discrete q k);
+      standings = λ q. standings_now q (ℕ_discrete q k);
       counted = counted ∙ is.counted ∙ sym len;
       outstanding = λ q.
           let a = all_fed.1.collected q in

@@ -16,7 +16,8 @@ use Rattle.rescale_core.specs.Lines.{Turn, Spot, Due, turn_at, moved, first_spot
 use Rattle.rescale_core.specs.Lines.Due.{Slicing, Parting, Hole}
 use Rattle.rescale_core.specs.Soundly.{Supplies, IsSound}
 use Rattle.rescale_core.specs.Workers.{slice_for}
-use Rattle.rescale_core.specs.Worlds.{nth, for_place, item_of, chance, chance_from, World, line_in}
+use Rattle.rescale_core.specs.Handing.{nth, for_place, item_of, chance, chance_from}
+use Rattle.rescale_core.specs.Worlds.{World, line_in}
 use Rattle.rescale_core.specs.declared.item.Entry.{Entry}
 use Rattle.rescale_core.specs.declared.item.Entry.TheVariants.{Point, Change}
 use Rattle.rescale_core.specs.declared.item.Item.{Item}

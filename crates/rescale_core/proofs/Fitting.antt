@@ -7,7 +7,7 @@ use Rattle.rescale_core.proofs.WorldLemmas.{mapped, AreTurns}
 use Rattle.rescale_core.specs.Lines.{Turn, Due}
 use Rattle.rescale_core.specs.Soundly.{Supplies, Known}
 use Rattle.rescale_core.specs.Stages.{NotIn, Stage, froms_of, IsPieceFor, Meets, stage_after, Fits, Follows}
-use Rattle.rescale_core.specs.Worlds.{nth, for_place, item_of}
+use Rattle.rescale_core.specs.Handing.{nth, for_place, item_of}
 use Rattle.std.specs.List.{AllByRecursion}
 use Rattle.verdict_merge.specs.Laws.{Apart}
 use Rattle.monitorable.specs.CoreForms.{CoreForm}

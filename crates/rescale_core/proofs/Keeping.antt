@@ -11,6 +11,7 @@ use Rattle.rescale_core.specs.declared.turns.Driver.{Driver}
 use Rattle.rescale_core.specs.declared.turns.Turn.{Turn}
 use Rattle.rescale_core.specs.declared.turns.Turn.TheVariants.{Moved, NotYet, Broken}
 use Rattle.rescale_core.proofs.Soundness.{step_sound}
+use Rattle.rescale_core.proofs.Taking.{reaches_on}
 use Rattle.rescale_core.proofs.Verdicts.{step_verdicts}
 use Rattle.rescale_core.proofs.Waits.{waits_for}
 use Rattle.rescale_core.specs.Waiting.{added, waiting_in}
@@ -115,14 +116,14 @@ inner_collects k (suc n) = (tt, tt)
 pub turn_moves : (d e : Driver) (k : ℕ) (turn : Turn) (w : World) → TurnsTo d k turn e → IsDriverOf d w
     → (steps : List Kind) × AllByRecursion IsInner steps × (x : World) × Reaches w steps x × IsDriverOf e x
 turn_moves d e k (Moved n m) w t is =
-    let r = t.0 w is in (
+    let r = t w is in (
       (replicate n (Takes k) ++ collects k n) ++ replicate m (Feeds k),
       inner_more (replicate n (Takes k) ++ collects k n) (replicate m (Feeds k))
           (inner_more (replicate n (Takes k)) (collects k n) (inner_times n (Takes k) tt) (inner_collects k n))
           (inner_times m (Feeds k) tt),
-      r.0,
-      r.1,
-      r.2,
+      r.2.1,
+      reaches_on (replicate n (Takes k) ++ collects k n) (replicate m (Feeds k)) w r.0 r.2.1 r.1 r.2.2,
+      r.2.3,
     )
 turn_moves d e k NotYet w t is = let r = t.0 w is in ([], tt, r.0, r.1, r.2)
 turn_moves d e k Broken w t is = let r = t.0 w is in ([], tt, r.0, r.1, r.2)

@@ -7,6 +7,7 @@ pub mod Settling
 pub mod Rowing
 pub mod Leading
 pub mod Pieces
+pub mod ReadyLemmas
 pub mod SeatLemmas
 pub mod Collecting
 pub mod Soundness
@@ -18,6 +19,7 @@ pub mod GatherLemmas
 pub mod ReadingLemmas
 pub mod QueueLemmas
 pub mod SlotLemmas
+pub mod ReadyQueues
 pub mod Filling
 pub mod ChangeLemmas
 pub mod FeedLemmas

@@ -12,12 +12,11 @@ use Rattle.rescale_core.proofs.Soundness.{step_sound}
 use Rattle.rescale_core.proofs.Verdicts.{step_verdicts}
 use Rattle.rescale_core.proofs.WorldLemmas.{spot_more, supplies_length}
 use Rattle.rescale_core.specs.Cells.{Applies, AreWithin, IsCellAt, IsCellOf, IsMachineOf, Takes}
-use Rattle.rescale_core.specs.Chances.Chance.{Sure}
 use Rattle.rescale_core.specs.Lines.{AreSound, Due, MayRead, Spot, first_spot, moved}
 use Rattle.rescale_core.specs.Routing.{HasTaken, IsRouterOf}
-use Rattle.rescale_core.specs.Waiting.{weight}
-use Rattle.rescale_core.specs.Worlds.{World, Allowed, Seat, after, all_collected, chance, fed_more, line_in, nth}
-use Rattle.rescale_core.specs.Worlds.{queue_in, set_seat, spot_in, took_one}
+use Rattle.rescale_core.specs.Handing.{chance, nth, ready_items, standing}
+use Rattle.rescale_core.specs.Worlds.{World, Allowed, Seat, after, all_collected, fed_more, line_in}
+use Rattle.rescale_core.specs.Worlds.{ready_in, set_seat, spot_in, took_one}
 use Rattle.rescale_core.specs.Worlds.Move.{Read, Feed, Take, Collect, Emit}
 use Rattle.rescale_core.specs.declared.cells.Applied.{Applied}
 use Rattle.rescale_core.specs.declared.cells.Applied.TheVariants.{Did, NotEnabled}
@@ -140,8 +139,8 @@ router_took r w k gave is may =
       queues = λ q. is.queues q
           ∙ sym (ap (λ (items : List Item). map (chance w.core q w.pieces) (drop (length items) (line_in w q)))
           (same q (nat_eq q k) refl));
-      weights = λ q. is.weights q
-          ∙ sym (ap (λ (items : List Item). map weight (drop (length items) (line_in w q)))
+      standings = λ q. is.standings q
+          ∙ sym (ap (λ (items : List Item). map standing (drop (length items) (line_in w q)))
           (same q (nat_eq q k) refl));
       counted = is.counted;
       outstanding = λ q. ap (λ n. n + get_or r.outstanding.items q 0) (back q (nat_eq q k) refl) ∙ is.outstanding q
@@ -288,11 +287,11 @@ module _ (m : Machine) (entries : List Entry) (w : World) (is : IsMachineOf m en
 
   pub no_feed : (item : Item) → Allowed w (Feed k item) → ⊥
   no_feed item may =
-      let e : queue_in w k ≡ map (chance w.core k w.pieces) (drop (length (w.seats k).fed) []) =
-      ap (λ (ds : List Due). map (chance w.core k w.pieces) (drop (length (w.seats k).fed) ds)) none_due in
+      let e : ready_in w k ≡ ready_items w.core k w.pieces (drop (length (w.seats k).fed) []) =
+      ap (λ (ds : List Due). ready_items w.core k w.pieces (drop (length (w.seats k).fed) ds)) none_due in
       let z : length (w.seats k).fed ≡ 0 = (let h = none_fed in omega arith) in
-      let f : queue_in w k ≡ [] = e ∙ ap (λ n. map (chance w.core k w.pieces) (drop n [])) z in
-      let clash : [] ≡ Sure item ∷ may.0 = sym f ∙ may.1 in
+      let f : ready_in w k ≡ [] = e ∙ ap (λ n. ready_items w.core k w.pieces (drop n [])) z in
+      let clash : [] ≡ item ∷ may.0 = sym f ∙ may.1 in
       cc
 
   pub no_take : (w.seats k).taken < length (w.seats k).fed → ⊥

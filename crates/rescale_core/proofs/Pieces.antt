@@ -13,7 +13,8 @@ use Rattle.rescale_core.specs.Lines.{Turn, Due}
 use Rattle.rescale_core.specs.Soundly.{Known, last_part}
 use Rattle.rescale_core.specs.Stages.{NotIn, IsPieceFor, Gives, Parts, Answers, rows_for}
 use Rattle.rescale_core.specs.Workers.{newly}
-use Rattle.rescale_core.specs.Worlds.{for_place, pieces_in}
+use Rattle.rescale_core.specs.Handing.{for_place}
+use Rattle.rescale_core.specs.Worlds.{pieces_in}
 use Rattle.std.specs.List.{AllByRecursion}
 use Rattle.verdict_merge.specs.Laws.{Apart}
 use Rattle.monitorable.specs.CoreForms.{CoreForm}

@@ -13,13 +13,15 @@ use Rattle.monitorable.specs.CoreForms.{CoreForm}
 use Rattle.rescale_core.proofs.Chains.{below, left_out, taken_if}
 use Rattle.rescale_core.proofs.Counting.{at_least}
 use Rattle.rescale_core.proofs.Pieces.{pieces_more}
+use Rattle.rescale_core.proofs.ReadyLemmas.{ready_first}
 use Rattle.rescale_core.proofs.WorldLemmas.{AreTurns, if_either, line_turns}
 use Rattle.rescale_core.specs.Lines.{Due, Spot, Turn, dues, first_spot, if_below, line, moved, place, turn_at}
 use Rattle.rescale_core.specs.Lines.Due.{Slicing, Parting, Hole}
 use Rattle.rescale_core.specs.Soundly.{IsSound, turn_of}
 use Rattle.rescale_core.specs.Stages.{Answers, Parts}
 use Rattle.rescale_core.specs.Workers.{slice_for}
-use Rattle.rescale_core.specs.Worlds.{World, Allowed, chance, chance_from, for_place, item_of, line_in, nth, pieces_in}
+use Rattle.rescale_core.specs.Handing.{for_place, item_of, nth, ready_items}
+use Rattle.rescale_core.specs.Worlds.{World, Allowed, line_in, pieces_in}
 use Rattle.rescale_core.specs.Worlds.Move.{Feed}
 use Rattle.rescale_core.specs.declared.item.Entry.{Entry}
 use Rattle.rescale_core.specs.declared.item.Entry.TheVariants.{Point, Change}
@@ -323,11 +325,8 @@ module _ (w : World) (sound : IsSound w) (idle : (k : ℕ) (i : Item) → Allowe
   not_there : (k : ℕ) (d : Due) (rest : List Due) (i : Item)
       → drop (length (w.seats k).fed) (line_in w k) ≡ d ∷ rest → item_of w.core k w.pieces d ≡ Some i → ⊥
   not_there k d rest i e is =
-      idle k i (
-        map (chance w.core k w.pieces) rest,
-        ap (map (chance w.core k w.pieces)) e
-            ∙ ap (λ o. chance_from d o ∷ map (chance w.core k w.pieces) rest) is,
-      )
+      let r = ready_first w.core k w.pieces d rest i is in
+      idle k i (r.0, ap (ready_items w.core k w.pieces) e ∙ r.1)
 
   abbrev Stuck : ℕ → Type 0
   Stuck n = (k : ℕ) (t : Turn) (j : ℕ) (rest : List Due)

@@ -1,17 +1,16 @@
 -- Places among queues, and what is put there.
 use Rattle.std.proofs.Common.{◌≡◌, ◌≢◌, ◌⊎◌, ℕ, zero, suc, ◌+◌, ◌<◌, ◌≤◌, cond, nat_eq, nat_lt}
-use Rattle.std.proofs.Common.{List, [], ◌∷◌, ◌++◌, length, map, drop, get_or, set}
+use Rattle.std.proofs.Common.{List, [], ◌∷◌, ◌++◌, length, map, drop, get_or, min, set, take}
 use Rattle.std.proofs.Common.{sym, refl, ap, ◌∙◌, append-nil, append_assoc, arith, eq-eqb, inl, inr}
 use Rattle.std.proofs.Common.{get_or-set_other, get_or-set_same, lt-ltb, le-ltb, ne_eqb}
-use Rattle.std.proofs.lemmas.List.{length-map, map-append}
+use Rattle.std.proofs.lemmas.List.{length-map, length-take, map-append, take_all}
 use native.Mathlib.Decide.{ℕ_discrete}
 use Rattle.mfotl_model.specs.declared.event.TimePoint.{TimePoint}
 use Rattle.rescale_core.proofs.Chains.{below}
-use Rattle.rescale_core.specs.Chances.{sure_items}
 use Rattle.rescale_core.specs.Chances.Chance.{Sure}
 use Rattle.rescale_core.specs.Queues.{all_put, chances, filled, queue_at}
 use Rattle.rescale_core.specs.Routing.{slices_for}
-use Rattle.rescale_core.specs.Slots.{chance_of, weight_of}
+use Rattle.rescale_core.specs.Slots.{chance_of, standing_of}
 use Rattle.rescale_core.specs.declared.item.Item.{Item}
 use Rattle.rescale_core.specs.declared.item.Item.TheVariants.{Slice}
 use Rattle.monitor_state.specs.declared.state.Piece.{Piece}
@@ -127,9 +126,11 @@ none_put xs p high q = at (ℕ_discrete q p.to)
 
 -- ---- items in front
 
-pub sure_all : (xs : List Item) → sure_items (map (λ i. Sure i) xs) ≡ xs
-sure_all [] = refl
-sure_all (x ∷ xs) = ap (λ y. x ∷ y) (sure_all xs)
+-- fewer than were wanted are all
+pub all_taken : (most : ℕ) (items all : List Item) → items ≡ take most all → length items < most → items ≡ all
+all_taken most items all e few =
+    let l : length items ≡ min most (length all) = ap length e ∙ length-take most all in
+    e ∙ take_all most all (omega arith)
 
 -- one item more was taken out
 pub front_more : (front : List Slot) (x : Slot) (items : List Item) (i : Item)
@@ -150,9 +151,9 @@ dropped [] b = refl
 dropped (x ∷ a) b = dropped a b
 
 -- what counts behind the front
-pub front_weights : (front rest : List Slot)
-    → map weight_of rest ≡ drop (length front) (map weight_of (front ++ rest))
-front_weights front rest =
-    sym (dropped (map weight_of front) (map weight_of rest))
-    ∙ ap (λ n. drop n (map weight_of front ++ map weight_of rest)) (length-map front weight_of)
-    ∙ ap (drop (length front)) (sym (map-append weight_of front rest))
+pub front_standings : (front rest : List Slot)
+    → map standing_of rest ≡ drop (length front) (map standing_of (front ++ rest))
+front_standings front rest =
+    sym (dropped (map standing_of front) (map standing_of rest))
+    ∙ ap (λ n. drop n (map standing_of front ++ map standing_of rest)) (length-map front standing_of)
+    ∙ ap (drop (length front)) (sym (map-append standing_of front rest))

@@ -20,11 +20,11 @@ use Rattle.rescale_core.specs.Lines.{Spot, dues, first_spot, if_below, line, mov
 use Rattle.rescale_core.specs.Lines.Due.{Slicing}
 use Rattle.rescale_core.specs.Queues.{chances, queue_at}
 use Rattle.rescale_core.specs.Routing.{IsGatherOf, IsRouterOf, all_slices, slices_for}
-use Rattle.rescale_core.specs.Slots.{chance_of, weight_of}
+use Rattle.rescale_core.specs.Slots.{chance_of, standing_of}
 use Rattle.rescale_core.specs.Soundly.{IsSound}
-use Rattle.rescale_core.specs.Waiting.{weight, weights_in}
+use Rattle.rescale_core.specs.Handing.{chance, standing}
 use Rattle.rescale_core.specs.Workers.{MayFollow, slice_for}
-use Rattle.rescale_core.specs.Worlds.{World, after, chance, line_in, queue_in, spot_in}
+use Rattle.rescale_core.specs.Worlds.{World, after, line_in, queue_in, spot_in, standings_in}
 use Rattle.rescale_core.specs.Worlds.Move.{Read}
 use Rattle.rescale_core.specs.declared.item.Entry.{Entry}
 use Rattle.rescale_core.specs.declared.item.Entry.TheVariants.{Point}
@@ -86,13 +86,13 @@ slice_chances c g n s log p pieces q e = ap chances (slices_are c g n s p q) ∙
     at true = ap (λ m. chances (Ready (Slice g m (slice_for c s q p)) ∷ [])) e
     at false = refl
 
-slice_weights : (c : CoreForm) (g n : ℕ) (s : Strategy) (log : List TimePoint) (p : TimePoint) (q h : ℕ)
-    → map weight_of (slices_for g n 0 (all_slices c s p) q)
-    ≡ map weight (if_below q (workers_of s) (Slicing h s log p ∷ []) ++ [])
-slice_weights c g n s log p q h = ap (map weight_of) (slices_are c g n s p q) ∙ at (nat_lt q (workers_of s))
+slice_standings : (c : CoreForm) (g n : ℕ) (s : Strategy) (log : List TimePoint) (p : TimePoint) (q h : ℕ)
+    → map standing_of (slices_for g n 0 (all_slices c s p) q)
+    ≡ map standing (if_below q (workers_of s) (Slicing h s log p ∷ []) ++ [])
+slice_standings c g n s log p q h = ap (map standing_of) (slices_are c g n s p q) ∙ at (nat_lt q (workers_of s))
   where
-    at : (b : Bool) → map weight_of (cond b (Ready (Slice g n (slice_for c s q p)) ∷ []) [])
-        ≡ map weight (cond b (Slicing h s log p ∷ []) [] ++ [])
+    at : (b : Bool) → map standing_of (cond b (Ready (Slice g n (slice_for c s q p)) ∷ []) [])
+        ≡ map standing (cond b (Slicing h s log p ∷ []) [] ++ [])
     at true = refl
     at false = refl
 
@@ -120,22 +120,23 @@ module _ (w : World) (r : IsSound w) (e : Entry) (k : ℕ) where
       ∙ map-append (chance w.core k w.pieces) (drop (length (w.seats k).fed) (line_in w k))
       (dues k (spot_in w) e ++ [])
 
-  pub weights_longer : weights_in (after w (Read e)) k ≡ weights_in w k ++ map weight (dues k (spot_in w) e ++ [])
-  weights_longer =
-      ap (map weight) line_longer
-      ∙ map-append weight (drop (length (w.seats k).fed) (line_in w k)) (dues k (spot_in w) e ++ [])
+  pub standings_longer : standings_in (after w (Read e)) k
+      ≡ standings_in w k ++ map standing (dues k (spot_in w) e ++ [])
+  standings_longer =
+      ap (map standing) line_longer
+      ∙ map-append standing (drop (length (w.seats k).fed) (line_in w k)) (dues k (spot_in w) e ++ [])
 
 -- a queue that gets what the entry makes due is the world's
 pub reads_on : (w : World) (e : Entry) (k : ℕ) (old more new : List Slot) → IsSound w → new ≡ old ++ more
-    → chances old ≡ queue_in w k → map weight_of old ≡ weights_in w k
+    → chances old ≡ queue_in w k → map standing_of old ≡ standings_in w k
     → chances more ≡ map (chance w.core k w.pieces) (dues k (spot_in w) e ++ [])
-    → map weight_of more ≡ map weight (dues k (spot_in w) e ++ [])
-    → (chances new ≡ queue_in (after w (Read e)) k) × (map weight_of new ≡ weights_in (after w (Read e)) k)
-reads_on w e k old more new r pushed queue weights due counts = (
+    → map standing_of more ≡ map standing (dues k (spot_in w) e ++ [])
+    → (chances new ≡ queue_in (after w (Read e)) k) × (map standing_of new ≡ standings_in (after w (Read e)) k)
+reads_on w e k old more new r pushed queue standings due counts = (
   ap chances pushed ∙ map-append chance_of old more ∙ ap (λ x. x ++ chances more) queue
       ∙ ap (λ x. queue_in w k ++ x) due ∙ sym (queue_longer w r e k),
-  ap (map weight_of) pushed ∙ map-append weight_of old more ∙ ap (λ x. x ++ map weight_of more) weights
-      ∙ ap (λ x. weights_in w k ++ x) counts ∙ sym (weights_longer w r e k),
+  ap (map standing_of) pushed ∙ map-append standing_of old more ∙ ap (λ x. x ++ map standing_of more) standings
+      ∙ ap (λ x. standings_in w k ++ x) counts ∙ sym (standings_longer w r e k),
 )
 
 module _ (r x : Router) (w : World) (is : IsRouterOf r w) (p : TimePoint) (may : MayFollow (spot_in w).points p)
@@ -159,15 +160,15 @@ module _ (r x : Router) (w : World) (is : IsRouterOf r w) (p : TimePoint) (may :
       ∙ ap (λ y. slices_for (spot_in w).generation r.points 0 (all_slices w.core y p) q) is.strategy
 
   queue_is : (q : ℕ) → (chances (queue_at x.queues.items q) ≡ queue_in (after w (Read (Point p))) q)
-      × (map weight_of (queue_at x.queues.items q) ≡ weights_in (after w (Read (Point p))) q)
+      × (map standing_of (queue_at x.queues.items q) ≡ standings_in (after w (Read (Point p))) q)
   queue_is q =
       let a : Spot = spot_in w in
       reads_on w (Point p) q (queue_at r.queues.items q) (slices_for r.generation r.points 0 slices q)
-      (queue_at x.queues.items q) is.sound (queued q) (is.queues q) (is.weights q)
+      (queue_at x.queues.items q) is.sound (queued q) (is.queues q) (is.standings q)
       (ap chances (slices_in q)
       ∙ slice_chances w.core a.generation r.points a.strategy a.points p w.pieces q is.points)
-      (ap (map weight_of) (slices_in q)
-      ∙ slice_weights w.core a.generation r.points a.strategy a.points p q a.generation)
+      (ap (map standing_of) (slices_in q)
+      ∙ slice_standings w.core a.generation r.points a.strategy a.points p q a.generation)
 
   pub point_read : IsRouterOf x (after w (Read (Point p)))
   point_read = record {
@@ -178,7 +179,7 @@ module _ (r x : Router) (w : World) (is : IsRouterOf r w) (p : TimePoint) (may :
         ∙ sym (ap (λ (a : Spot). length a.points) spot_is ∙ length-append (spot_in w).points (p ∷ []));
     wide = subst (λ s. workers_of s ≤ length x.queues.items) (sym strategy) (let h = is.wide in omega arith);
     queues = λ q. (queue_is q).0;
-    weights = λ q. (queue_is q).1;
+    standings = λ q. (queue_is q).1;
     counted = ap (λ v. length v.items) outstanding ∙ is.counted ∙ sym len;
     outstanding = λ k. ap (λ v. (w.seats k).collected + get_or v.items k 0) outstanding ∙ is.outstanding k;
     sound = step_sound w (Read (Point p)) is.sound may;

@@ -12,18 +12,18 @@ use Rattle.rescale_core.proofs.GatherLemmas.{gather_collected, gather_emitted}
 use Rattle.rescale_core.proofs.GatherLemmas.{none_emitted, rows_may_add}
 use Rattle.rescale_core.proofs.Filling.{all_filled, are_next}
 use Rattle.rescale_core.proofs.SeatLemmas.{first_sound}
-use Rattle.rescale_core.proofs.SlotLemmas.{fillings, put_chances, put_weights}
+use Rattle.rescale_core.proofs.SlotLemmas.{fillings, put_chances, put_standings}
 use Rattle.rescale_core.proofs.Soundness.{step_sound}
 use Rattle.rescale_core.proofs.Collecting.{collect_sound}
 use Rattle.rescale_core.proofs.Pieces.{drop_front}
 use Rattle.rescale_core.specs.Lines.Due.{Slicing}
 use Rattle.rescale_core.specs.Queues.{all_put, chances, queue_at}
 use Rattle.rescale_core.specs.Routing.{HasTaken, IsGatherOf, IsRouterOf, MayAdd}
-use Rattle.rescale_core.specs.Slots.{weight_of}
-use Rattle.rescale_core.specs.Waiting.{weight, weights_in}
+use Rattle.rescale_core.specs.Slots.{standing_of}
+use Rattle.rescale_core.specs.Handing.{chance, standing}
 use Rattle.rescale_core.specs.Workers.{IsFor}
-use Rattle.rescale_core.specs.Worlds.{World, Allowed, IsGathered, after, all_collected, chance}
-use Rattle.rescale_core.specs.Worlds.{first_world, line_in, not_back, pieces_in, queue_in, rows_in}
+use Rattle.rescale_core.specs.Worlds.{World, Allowed, IsGathered, after, all_collected}
+use Rattle.rescale_core.specs.Worlds.{first_world, line_in, not_back, pieces_in, queue_in, rows_in, standings_in}
 use Rattle.rescale_core.specs.Worlds.Move.{Collect, Emit}
 use Rattle.rescale_core.specs.declared.item.Item.{Item}
 use Rattle.rescale_core.specs.declared.item.Out.{Out}
@@ -74,10 +74,10 @@ module _ (r x : Router) (w : World) (is : IsRouterOf r w) (k n : ℕ) (outs : Li
         ap chances (filled q ∙ ap (λ y. all_put q y (queue_at r.queues.items q)) ps_are)
         ∙ put_chances q ps (queue_at r.queues.items q) ∙ ap (fillings q ps) (is.queues q) ∙ sym (queue_collected q)
 
-    weights_are : (q : ℕ) → map weight_of (queue_at x.queues.items q) ≡ weights_in (after w (Collect k)) q
-    weights_are q =
-        ap (map weight_of) (filled q) ∙ put_weights q (pieces_in outs) (queue_at r.queues.items q) ∙ is.weights q
-        ∙ sym (ap (λ (is : List Item). map weight (drop (length is) (line_in w q))) (fed_same q (nat_eq q k) refl))
+    standings_are : (q : ℕ) → map standing_of (queue_at x.queues.items q) ≡ standings_in (after w (Collect k)) q
+    standings_are q =
+        ap (map standing_of) (filled q) ∙ put_standings q (pieces_in outs) (queue_at r.queues.items q) ∙ is.standings q
+        ∙ sym (ap (λ (is : List Item). map standing (drop (length is) (line_in w q))) (fed_same q (nat_eq q k) refl))
 
     -- fewer items are outstanding of worker k
     now_outstanding : (q y : ℕ) (b : Bool) → nat_eq q k ≡ b → y + cond b n 0 ≡ get_or r.outstanding.items q 0
@@ -102,7 +102,7 @@ module _ (r x : Router) (w : World) (is : IsRouterOf r w) (k n : ℕ) (outs : Li
       points = points ∙ is.points;
       wide = subst (λ s. workers_of s ≤ length x.queues.items) (sym strategy) (let h = is.wide in omega arith);
       queues = queue_is;
-      weights = weights_are;
+      standings = standings_are;
       counted = counted ∙ is.counted ∙ sym len;
       outstanding = λ q. now_outstanding q (get_or x.outstanding.items q 0) (nat_eq q k) refl (less q);
       sound = collect_sound w k is.sound;
@@ -158,7 +158,7 @@ verdict_emitted r x w v is core strategy generation points queues outstanding e 
         wide = subst (λ s. workers_of s ≤ length x.queues.items) (sym strategy)
             (subst (λ qs. workers_of r.strategy ≤ length qs.items) (sym queues) is.wide);
         queues = λ q. ap (λ qs. chances (queue_at qs.items q)) queues ∙ is.queues q;
-        weights = λ q. ap (λ qs. map weight_of (queue_at qs.items q)) queues ∙ is.weights q;
+        standings = λ q. ap (λ qs. map standing_of (queue_at qs.items q)) queues ∙ is.standings q;
         counted = ap (λ v. length v.items) outstanding ∙ is.counted ∙ sym (ap (λ qs. length qs.items) queues);
         outstanding = λ k. ap (λ v. (w.seats k).collected + get_or v.items k 0) outstanding ∙ is.outstanding k;
         sound = step_sound w (Emit v) is.sound g.0;
@@ -188,7 +188,7 @@ unemitted_if r x None core strategy generation points queues outstanding h = λ 
     wide = subst (λ s. workers_of s ≤ length x.queues.items) (sym strategy)
         (subst (λ qs. workers_of r.strategy ≤ length qs.items) (sym queues) is.wide);
     queues = λ q. ap (λ qs. chances (queue_at qs.items q)) queues ∙ is.queues q;
-    weights = λ q. ap (λ qs. map weight_of (queue_at qs.items q)) queues ∙ is.weights q;
+    standings = λ q. ap (λ qs. map standing_of (queue_at qs.items q)) queues ∙ is.standings q;
     counted = ap (λ v. length v.items) outstanding ∙ is.counted ∙ sym (ap (λ qs. length qs.items) queues);
     outstanding = λ k. ap (λ v. (w.seats k).collected + get_or v.items k 0) outstanding ∙ is.outstanding k;
     sound = is.sound;
@@ -212,7 +212,7 @@ router_begins r c s is core strategy generation points wide empty counted nothin
       points = points;
       wide = subst (λ t. workers_of t ≤ length r.queues.items) (sym strategy) wide;
       queues = λ q. ap chances (empty q);
-      weights = λ q. ap (map weight_of) (empty q);
+      standings = λ q. ap (map standing_of) (empty q);
       counted = counted;
       outstanding = λ q. (let n = nothing q in omega arith);
       sound = first_sound c s is;

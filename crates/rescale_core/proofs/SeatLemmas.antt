@@ -7,18 +7,18 @@ use Rattle.std.proofs.Common.{length-append}
 use Rattle.std.proofs.lemmas.List.{take-append-le}
 use Rattle.mfotl_model.specs.Strategies.{Strategy}
 use Rattle.rescale_core.proofs.Fitting.{every_map}
+use Rattle.rescale_core.proofs.ReadyLemmas.{first_due}
 use Rattle.rescale_core.proofs.Settling.{slice_more}
 use Rattle.rescale_core.proofs.WorldLemmas.{line_more, sound_more, supplies_line, supplies_length}
 use Rattle.rescale_core.proofs.WorldLemmas.{supplies_next, turn_more}
-use Rattle.rescale_core.specs.Chances.{Chance}
 use Rattle.rescale_core.specs.Lines.{Due, first_spot, line, MayRead}
 use Rattle.rescale_core.specs.Soundly.{Supplies, Known, turn_of, last_part, KnownRow, last_level, IsSeated, IsSound}
 use Rattle.rescale_core.specs.Stages.{Answers}
 use Rattle.rescale_core.specs.Workers.{IsFor}
-use Rattle.rescale_core.specs.Worlds.{first_world, item_of, World, Seat, line_in}
+use Rattle.rescale_core.specs.Worlds.{first_world, World, Seat, line_in}
 use Rattle.rescale_core.specs.Worlds.{spot_in, set_seat}
-use Rattle.rescale_core.specs.Worlds.{fed_more, took_one, after, chance, chance_from}
-use Rattle.rescale_core.specs.Worlds.{queue_in, slice_at}
+use Rattle.rescale_core.specs.Worlds.{fed_more, took_one, after}
+use Rattle.rescale_core.specs.Worlds.{ready_in, slice_at}
 use Rattle.std.specs.List.{AllByRecursion}
 use Rattle.monitorable.specs.CoreForms.{CoreForm}
 use Rattle.monitor_state.specs.declared.state.Piece.{Piece}
@@ -28,7 +28,6 @@ use Rattle.rescale_core.specs.declared.item.Out.{Out}
 use Rattle.verdict_merge.specs.declared.rows.Rows.{Rows}
 use Rattle.rescale_core.specs.Lines.Due.{Slicing, Parting, Hole}
 use Rattle.rescale_core.specs.Worlds.Move.{Read, Feed, Take}
-use Rattle.rescale_core.specs.Chances.Chance.{Sure}
 
 -- ---- worlds
 
@@ -184,27 +183,7 @@ module _ (w : World) (e : Entry) (r : IsSound w) (may : MayRead w.core (spot_in 
 
 -- ---- handing over
 
-sure_due : (c : CoreForm) (k : ℕ) (pieces : List Piece) (d : Due) (i : Item) → chance c k pieces d ≡ Sure i
-    → item_of c k pieces d ≡ Some i
-sure_due c k pieces d i e = by_item (item_of c k pieces d) e
-  where
-    by_item : (o : Option Item) → chance_from d o ≡ Sure i → o ≡ Some i
-    by_item (Some j) e = let h : j ≡ i = cc in ap Some h
-    by_item None e = never d e
-      where
-        never : (d : Due) → chance_from d None ≡ Sure i → None ≡ Some i
-        never (Slicing g s log p) e = cc
-        never (Parting t) e = cc
-        never (Hole t j) e = cc
-
-first_due : (c : CoreForm) (k : ℕ) (pieces : List Piece) (ds : List Due) (i : Item) (rest : List Chance)
-    → map (chance c k pieces) ds ≡ Sure i ∷ rest → (d : Due) × (es : List Due) × (ds ≡ d ∷ es)
-    × (item_of c k pieces d ≡ Some i)
-first_due c k pieces [] i rest e = cc
-first_due c k pieces (d ∷ ds) i rest e = (d, ds, refl, sure_due c k pieces d i cc)
-
-module _ (w : World) (k : ℕ) (i : Item) (r : IsSound w) (rest : List Chance)
-    (next : queue_in w k ≡ Sure i ∷ rest) where
+module _ (w : World) (k : ℕ) (i : Item) (r : IsSound w) (rest : List Item) (next : ready_in w k ≡ i ∷ rest) where
   seated_fed : IsSeated (after w (Feed k i)) k (fed_more (w.seats k) i)
   seated_fed = let s = r.seated k in
       let d = first_due w.core k w.pieces (drop (length (w.seats k).fed) (line_in w k)) i rest next in record {

@@ -1,16 +1,22 @@
 -- What a queue's slots are to their queue and to worlds.
 use Rattle.std.proofs.Common.{◌≡◌, ℕ, zero, suc, ◌+◌, ◌<◌, ◌≤◌, Bool, true, false, cond, not, nat_eq, nat_lt, Some}
 use Rattle.std.proofs.Common.{None}
-use Rattle.std.proofs.Common.{List, [], ◌∷◌, ◌++◌, length, map, get_or, set, sym, refl, ap, ◌∙◌, append_assoc, arith}
-use Rattle.std.proofs.Common.{subst, sum_by, ltb-true, ltb-false}
+use Rattle.std.proofs.Common.{List, [], ◌∷◌, ◌++◌, length, map, drop, take, get_or, set, sym, refl, ap, ◌∙◌}
+use Rattle.std.proofs.Common.{append_assoc, arith}
+use Rattle.std.proofs.Common.{sum_by, ltb-true, ltb-false}
+use Rattle.std.proofs.Math.Seq.{take-append_seam}
+use Rattle.std.proofs.lemmas.List.{drop_more, take_all}
 use Rattle.std.proofs.lemmas.List.FromFn.{map-range_with_len_more}
 use Rattle.std.proofs.lemmas.List.Sums.{sum_by-cons}
-use Rattle.std.specs.List.{position, position_or_len, prefix_len}
+use Rattle.std.specs.List.{position, position_or_len}
 use Rattle.mfotl_model.specs.Strategies.{Strategy}
-use Rattle.rescale_core.specs.Chances.{Chance, sure_items}
+use Rattle.rescale_core.specs.Chances.{Chance}
 use Rattle.rescale_core.specs.Chances.Chance.{Sure, Open}
+use Rattle.rescale_core.specs.Chances.Standing.{Last, Outside, Within}
 use Rattle.rescale_core.specs.Queues.{all_put, chances, filled}
-use Rattle.rescale_core.specs.Slots.{first_rooms, is_there, lacks, put_in, weight_of}
+use Rattle.rescale_core.specs.Slots.{chance_of, ends_place, first_ends, first_rooms, is_there, lacks, put_in, ready_of}
+use Rattle.rescale_core.specs.Slots.{standing_of, weight_of}
+use Rattle.rescale_core.specs.declared.item.Item.{Item}
 use Rattle.rescale_core.specs.declared.item.Item.TheVariants.{Adopt}
 use Rattle.monitor_state.specs.declared.state.Piece.{Piece}
 use Rattle.rescale_core.specs.declared.slot.Slot.{Slot}
@@ -34,46 +40,107 @@ few_weigh (x ∷ xs) =
 one_more : (n : ℕ) → suc n ≡ 1 + n
 one_more n = omega arith
 
-pub there_sure : (xs : List Slot) → length (sure_items (chances xs)) ≡ prefix_len is_there xs
-there_sure [] = refl
-there_sure (Ready i ∷ xs) = ap suc (there_sure xs) ∙ one_more (prefix_len is_there xs)
-there_sure (Room g now last None ∷ xs) = refl
-there_sure (Room g now last (Some p) ∷ xs) = ap suc (there_sure xs) ∙ one_more (prefix_len is_there xs)
+-- ---- what is ready
 
--- where so many are there, the count goes on behind them
-pub there_more : (xs : List Slot) (i : ℕ) (d : Slot) → i < length xs → i ≤ prefix_len is_there xs
-    → is_there (get_or xs i d) ≡ true → i + 1 ≤ prefix_len is_there xs
-there_more [] i d low h t = absurd (omega arith)
-there_more (x ∷ xs) zero d low h t =
-    subst (λ b. 1 ≤ cond b (1 + prefix_len is_there xs) 0) (sym t) (omega arith)
-there_more (x ∷ xs) (suc i) d low h t = at (is_there x) h (λ l. there_more xs i d (omega arith) l t)
-  where
-    at : (b : Bool) → suc i ≤ cond b (1 + prefix_len is_there xs) 0
-        → (i ≤ prefix_len is_there xs → i + 1 ≤ prefix_len is_there xs)
-        → suc i + 1 ≤ cond b (1 + prefix_len is_there xs) 0
-    at true h next = let l = next (omega arith) in omega arith
-    at false h next = absurd (omega arith)
+-- behind an item that is there, and doesn't end a place, the count goes on
+one_ready : (x : Slot) (xs : List Slot) → is_there x ≡ true → ends_place x ≡ false
+    → length (ready_of (x ∷ xs)) ≡ 1 + length (ready_of xs)
+one_ready (Ready i) xs t e = one_more (length (ready_of xs))
+one_ready (Room g now last None) xs t e = cc
+one_ready (Room g now true (Some p)) xs t e = cc
+one_ready (Room g now false (Some p)) xs t e = one_more (length (ready_of xs))
 
--- and ends at the first that isn't
-pub there_ends : (xs : List Slot) (i : ℕ) (d : Slot) → i < length xs → i ≤ prefix_len is_there xs
-    → is_there (get_or xs i d) ≡ false → i ≡ prefix_len is_there xs
-there_ends [] i d low h t = absurd (omega arith)
-there_ends (x ∷ xs) zero d low h t = sym (ap (λ b. cond b (1 + prefix_len is_there xs) 0) t)
-there_ends (x ∷ xs) (suc i) d low h t = at (is_there x) h (λ l. there_ends xs i d (omega arith) l t)
-  where
-    at : (b : Bool) → suc i ≤ cond b (1 + prefix_len is_there xs) 0
-        → (i ≤ prefix_len is_there xs → i ≡ prefix_len is_there xs)
-        → suc i ≡ cond b (1 + prefix_len is_there xs) 0
-    at true h next = let e = next (omega arith) in omega arith
-    at false h next = absurd (omega arith)
+last_ready : (x : Slot) (xs : List Slot) → is_there x ≡ true → ends_place x ≡ true → length (ready_of (x ∷ xs)) ≡ 1
+last_ready (Ready i) xs t e = cc
+last_ready (Room g now last None) xs t e = cc
+last_ready (Room g now true (Some p)) xs t e = refl
+last_ready (Room g now false (Some p)) xs t e = cc
 
-pub there_most : (xs : List Slot) → prefix_len is_there xs ≤ length xs
-there_most [] = omega arith
-there_most (x ∷ xs) = at (is_there x) (there_most xs)
-  where
-    at : (b : Bool) → prefix_len is_there xs ≤ length xs → cond b (1 + prefix_len is_there xs) 0 ≤ suc (length xs)
-    at true h = omega arith
-    at false h = omega arith
+none_ready : (x : Slot) (xs : List Slot) → is_there x ≡ false → ready_of (x ∷ xs) ≡ []
+none_ready (Ready i) xs t = cc
+none_ready (Room g now last None) xs t = refl
+none_ready (Room g now last (Some p)) xs t = cc
+
+-- where so many are ready and more may be, the count goes on behind them
+pub ready_more : (xs : List Slot) (i : ℕ) (d : Slot) → i < length xs
+    → length (ready_of xs) ≡ i + length (ready_of (drop i xs)) → is_there (get_or xs i d) ≡ true
+    → ends_place (get_or xs i d) ≡ false → length (ready_of xs) ≡ (i + 1) + length (ready_of (drop (i + 1) xs))
+ready_more xs i d low h t e =
+    let a : length (ready_of (drop i xs)) ≡ length (ready_of (get_or xs i d ∷ drop (i + 1) xs)) =
+    ap (λ ys. length (ready_of ys)) (drop_more xs i d low) in
+    let b = one_ready (get_or xs i d) (drop (i + 1) xs) t e in
+    omega arith
+
+-- ends behind the last one of a place
+pub ready_last : (xs : List Slot) (i : ℕ) (d : Slot) → i < length xs
+    → length (ready_of xs) ≡ i + length (ready_of (drop i xs)) → is_there (get_or xs i d) ≡ true
+    → ends_place (get_or xs i d) ≡ true → i + 1 ≡ length (ready_of xs)
+ready_last xs i d low h t e =
+    let a : length (ready_of (drop i xs)) ≡ length (ready_of (get_or xs i d ∷ drop (i + 1) xs)) =
+    ap (λ ys. length (ready_of ys)) (drop_more xs i d low) in
+    let b = last_ready (get_or xs i d) (drop (i + 1) xs) t e in
+    omega arith
+
+-- and before one that isn't there
+pub ready_ends : (xs : List Slot) (i : ℕ) (d : Slot) → i < length xs
+    → length (ready_of xs) ≡ i + length (ready_of (drop i xs)) → is_there (get_or xs i d) ≡ false
+    → i ≡ length (ready_of xs)
+ready_ends xs i d low h t =
+    let a : length (ready_of (drop i xs)) ≡ length (ready_of (get_or xs i d ∷ drop (i + 1) xs)) =
+    ap (λ ys. length (ready_of ys)) (drop_more xs i d low) in
+    let b = ap length (none_ready (get_or xs i d) (drop (i + 1) xs) t) in
+    omega arith
+
+pub ready_most : (xs : List Slot) → length (ready_of xs) ≤ length xs
+ready_most [] = omega arith
+ready_most (Ready i ∷ xs) = let h = ready_most xs in omega arith
+ready_most (Room g now last None ∷ xs) = omega arith
+ready_most (Room g now true (Some p) ∷ xs) = omega arith
+ready_most (Room g now false (Some p) ∷ xs) = let h = ready_most xs in omega arith
+
+-- the item of a first slot is ready first, with what is ready behind it
+pub took_on : (x : Slot) (xs : List Slot) (i : Item) → chance_of x ≡ Sure i → ends_place x ≡ false
+    → ready_of (x ∷ xs) ≡ i ∷ ready_of xs
+took_on (Ready j) xs i h e = let same : j ≡ i = cc in ap (λ y. y ∷ ready_of xs) same
+took_on (Room g now last None) xs i h e = cc
+took_on (Room g now true (Some p)) xs i h e = cc
+took_on (Room g now false (Some p)) xs i h e = let same : Adopt p now ≡ i = cc in ap (λ y. y ∷ ready_of xs) same
+
+-- or alone, where it ends a place
+pub took_last : (x : Slot) (xs : List Slot) (i : Item) → chance_of x ≡ Sure i → ends_place x ≡ true
+    → ready_of (x ∷ xs) ≡ i ∷ []
+took_last (Ready j) xs i h e = cc
+took_last (Room g now last None) xs i h e = cc
+took_last (Room g now true (Some p)) xs i h e = let same : Adopt p now ≡ i = cc in ap (λ y. y ∷ []) same
+took_last (Room g now false (Some p)) xs i h e = cc
+
+-- one item more was taken out of what is ready
+pub taken_on : (old new : List Slot) (x : Slot) (i : Item) (items all : List Item) → old ≡ x ∷ new
+    → chance_of x ≡ Sure i → first_ends old ≡ false → all ≡ items ++ ready_of old
+    → all ≡ (items ++ i ∷ []) ++ ready_of new
+taken_on old new x i items all e h ends ready =
+    ready ∙ ap (λ xs. items ++ ready_of xs) e
+    ∙ ap (λ is. items ++ is) (took_on x new i h (ap first_ends (sym e) ∙ ends))
+    ∙ sym (append_assoc items (i ∷ []) (ready_of new))
+
+-- and was the last of it
+pub taken_last : (old new : List Slot) (x : Slot) (i : Item) (items all : List Item) → old ≡ x ∷ new
+    → chance_of x ≡ Sure i → first_ends old ≡ true → all ≡ items ++ ready_of old → all ≡ items ++ i ∷ []
+taken_last old new x i items all e h ends ready =
+    ready ∙ ap (λ xs. items ++ ready_of xs) e
+    ∙ ap (λ is. items ++ is) (took_last x new i h (ap first_ends (sym e) ∙ ends))
+
+-- all items are the first of them, where they are no more than were wanted
+pub all_first : (most : ℕ) (items all : List Item) → all ≡ items → length items ≤ most → items ≡ take most all
+all_first most items all e few = sym (take_all most items few) ∙ ap (take most) (sym e)
+
+-- and so are as many as were wanted
+pub most_first : (most : ℕ) (items rest all : List Item) → all ≡ items ++ rest → length items ≡ most
+    → items ≡ take most all
+most_first most items rest all e same =
+    sym (take-append_seam items rest) ∙ ap (λ n. take n (items ++ rest)) same ∙ ap (take most) (sym e)
+
+-- ---- where a piece goes
 
 -- the first place of a piece
 abbrev place : Piece → List Slot → ℕ
@@ -168,17 +235,17 @@ filled_chances p (Room g now last None ∷ xs) = at (nat_eq g p.generation) (fil
     at true rest = refl
     at false rest = ap (λ cs. Open g now ∷ cs) rest
 
-filled_weights : (p : Piece) (xs : List Slot) → map weight_of (filled p xs) ≡ map weight_of xs
-filled_weights p [] = refl
-filled_weights p (Ready i ∷ xs) = ap (λ ns. 1 ∷ ns) (filled_weights p xs)
-filled_weights p (Room g now last (Some q) ∷ xs) = ap (λ ns. cond last 1 0 ∷ ns) (filled_weights p xs)
-filled_weights p (Room g now last None ∷ xs) = at (nat_eq g p.generation) (filled_weights p xs)
+filled_standings : (p : Piece) (xs : List Slot) → map standing_of (filled p xs) ≡ map standing_of xs
+filled_standings p [] = refl
+filled_standings p (Ready i ∷ xs) = ap (λ ss. Outside ∷ ss) (filled_standings p xs)
+filled_standings p (Room g now last (Some q) ∷ xs) = ap (λ ss. cond last Last Within ∷ ss) (filled_standings p xs)
+filled_standings p (Room g now last None ∷ xs) = at (nat_eq g p.generation) (filled_standings p xs)
   where
-    at : (b : Bool) → map weight_of (filled p xs) ≡ map weight_of xs
-        → map weight_of (cond b (Room g now last (Some p) ∷ xs) (Room g now last None ∷ filled p xs))
-        ≡ cond last 1 0 ∷ map weight_of xs
+    at : (b : Bool) → map standing_of (filled p xs) ≡ map standing_of xs
+        → map standing_of (cond b (Room g now last (Some p) ∷ xs) (Room g now last None ∷ filled p xs))
+        ≡ cond last Last Within ∷ map standing_of xs
     at true rest = refl
-    at false rest = ap (λ ns. cond last 1 0 ∷ ns) rest
+    at false rest = ap (λ ss. cond last Last Within ∷ ss) rest
 
 pub put_chances : (q : ℕ) (ps : List Piece) (xs : List Slot) → chances (all_put q ps xs) ≡ fillings q ps (chances xs)
 put_chances q [] xs = refl
@@ -189,11 +256,12 @@ put_chances q (p ∷ ps) xs =
     at true = filled_chances p xs
     at false = refl
 
-pub put_weights : (q : ℕ) (ps : List Piece) (xs : List Slot) → map weight_of (all_put q ps xs) ≡ map weight_of xs
-put_weights q [] xs = refl
-put_weights q (p ∷ ps) xs =
-    put_weights q ps (cond (nat_eq p.to q) (filled p xs) xs) ∙ at (nat_eq p.to q)
+pub put_standings : (q : ℕ) (ps : List Piece) (xs : List Slot)
+    → map standing_of (all_put q ps xs) ≡ map standing_of xs
+put_standings q [] xs = refl
+put_standings q (p ∷ ps) xs =
+    put_standings q ps (cond (nat_eq p.to q) (filled p xs) xs) ∙ at (nat_eq p.to q)
   where
-    at : (b : Bool) → map weight_of (cond b (filled p xs) xs) ≡ map weight_of xs
-    at true = filled_weights p xs
+    at : (b : Bool) → map standing_of (cond b (filled p xs) xs) ≡ map standing_of xs
+    at true = filled_standings p xs
     at false = refl

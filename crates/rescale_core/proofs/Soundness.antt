@@ -11,7 +11,8 @@ use Rattle.rescale_core.specs.Lines.{Turn, first_spot}
 use Rattle.rescale_core.specs.Seeds.{SeedOf}
 use Rattle.rescale_core.specs.Soundly.{turn_of, IsSound}
 use Rattle.rescale_core.specs.Working.{Has, first_stage}
-use Rattle.rescale_core.specs.Worlds.{for_place, World, Move, line_in}
+use Rattle.rescale_core.specs.Handing.{for_place}
+use Rattle.rescale_core.specs.Worlds.{World, Move, line_in}
 use Rattle.rescale_core.specs.Worlds.{after, Allowed}
 use Rattle.rescale_core.specs.Worlds.{run, AreAllowed}
 use Rattle.rescale_core.specs.Worlds.Move.{Read, Feed, Take, Collect, Emit}

@@ -15,8 +15,8 @@ use Rattle.rescale_core.specs.Moving.Kind.{Takes}
 use Rattle.rescale_core.specs.Routing.{IsRouterOf}
 use Rattle.rescale_core.specs.Soundly.{IsSound}
 use Rattle.rescale_core.specs.Stages.{Answers}
-use Rattle.rescale_core.specs.Waiting.{weight}
-use Rattle.rescale_core.specs.Worlds.{World, Allowed, Seat, after, chance, line_in, spot_in, took_one}
+use Rattle.rescale_core.specs.Handing.{chance, standing}
+use Rattle.rescale_core.specs.Worlds.{World, Allowed, Seat, after, line_in, spot_in, took_one}
 use Rattle.rescale_core.specs.Worlds.Move.{Take}
 use Rattle.rescale_core.specs.declared.item.Entry.{Entry}
 use Rattle.rescale_core.specs.declared.item.Item.{Item}
@@ -29,12 +29,6 @@ use Rattle.rescale_core.specs.declared.turns.Driver.{Driver}
 pub reaches_on : (a b : List Kind) (w x y : World) → Reaches w a x → Reaches x b y → Reaches w (a ++ b) y
 reaches_on [] b w x y r s = subst (λ z. Reaches z b y) (sym r) s
 reaches_on (k ∷ a) b w x y r s = (r.0, r.1, reaches_on a b r.0 x y r.2 s)
-
-pub moves_on : (d e f : Driver) (a b : List Kind) → Moves d a e → Moves e b f → Moves d (a ++ b) f
-moves_on d e f a b m n = λ w is.
-    let x = m w is in
-    let y = n x.0 x.2 in
-    (y.0, reaches_on a b w x.0 y.0 x.1 y.1, y.2)
 
 pub moves_none : (d e : Driver) → e.router ≡ d.router → lines_of e ≡ lines_of d → Moves d [] e
 moves_none d e r m = λ w is. (
@@ -198,10 +192,10 @@ took_router r w x k n outs t is =
           t.first
           ∙ ap (λ es. map (chance w.core q w.pieces) (drop (length (w.seats q).fed) (line q (first_spot w.first) es)))
           t.read);
-      weights = λ q. is.weights q
-          ∙ sym (ap (λ (is : List Item). map weight (drop (length is) (line_in x q))) (t.fed q)
-          ∙ ap (λ s. map weight (drop (length (w.seats q).fed) (line q (first_spot s) x.read))) t.first
-          ∙ ap (λ es. map weight (drop (length (w.seats q).fed) (line q (first_spot w.first) es))) t.read);
+      standings = λ q. is.standings q
+          ∙ sym (ap (λ (is : List Item). map standing (drop (length is) (line_in x q))) (t.fed q)
+          ∙ ap (λ s. map standing (drop (length (w.seats q).fed) (line q (first_spot s) x.read))) t.first
+          ∙ ap (λ es. map standing (drop (length (w.seats q).fed) (line q (first_spot w.first) es))) t.read);
       counted = is.counted;
       outstanding = λ q. ap (λ n. n + get_or r.outstanding.items q 0) (t.collected q) ∙ is.outstanding q
           ∙ sym (ap (λ (items : List Item). length items) (t.fed q));

@@ -1,9 +1,9 @@
 -- How much waits for a worker, in its queue and in worlds.
 use Rattle.std.proofs.Common.{◌≡◌, ℕ, zero, suc, ◌+◌, ◌<◌, ◌≤◌, Bool, true, false, cond, ◌&&◌, nat_eq, nat_lt, List, []}
 use Rattle.std.proofs.Common.{◌∷◌, ◌++◌, length, map, drop, sym, refl, ap, ◌∙◌, subst, append-nil, arith}
-use Rattle.std.proofs.Common.{eqb-true, length-append, lt-ltb, ltb-true, sum, sum_by}
+use Rattle.std.proofs.Common.{eqb-true, length-append, lt-ltb, ltb-true, sum_by}
 use Rattle.std.proofs.lemmas.List.{drop-append-le}
-use Rattle.std.proofs.lemmas.List.Sums.{sum-map, sum_by-append, sum_by-cons}
+use Rattle.std.proofs.lemmas.List.Sums.{sum_by-append, sum_by-cons}
 use Rattle.std.specs.List.{list_all, range_with_len}
 use Rattle.mfotl_model.specs.Strategies.{workers_of}
 use Rattle.rescale_core.proofs.Fitting.{and_left, and_right}
@@ -11,7 +11,10 @@ use Rattle.rescale_core.proofs.WorldLemmas.{if_either, line_more, supplies_lengt
 use Rattle.rescale_core.specs.Lines.{Due, Spot, Turn, first_spot, if_below, line, place, turn_at}
 use Rattle.rescale_core.specs.Lines.Due.{Slicing, Parting, Hole}
 use Rattle.rescale_core.specs.Queues.{queue_at}
-use Rattle.rescale_core.specs.Slots.{weight_of}
+use Rattle.rescale_core.specs.Chances.{Standing}
+use Rattle.rescale_core.specs.Chances.Standing.{Last, Outside, Within}
+use Rattle.rescale_core.specs.Handing.{standing}
+use Rattle.rescale_core.specs.Slots.{standing_of, weight_of}
 use Rattle.rescale_core.specs.Routing.{IsRouterOf}
 use Rattle.rescale_core.specs.Soundly.{IsSound}
 use Rattle.rescale_core.specs.Waiting.{HasRoom, added, full, is_short, waiting_in, weight}
@@ -22,16 +25,51 @@ use Rattle.rescale_core.specs.declared.item.Entry.{Entry}
 use Rattle.rescale_core.specs.declared.item.Entry.TheVariants.{Point, Change}
 use Rattle.rescale_core.specs.declared.item.Item.{Item}
 use Rattle.rescale_core.specs.declared.slot.Slot.{Slot}
+use Rattle.rescale_core.specs.declared.slot.Slot.TheVariants.{Ready, Room}
 use Rattle.rescale_core.specs.declared.routes.Router.{Router}
 
 -- ---- queues
+
+-- how much something counts as that stands so
+abbrev counts : Standing → ℕ
+counts Outside = 1
+counts Within = 0
+counts Last = 1
+
+slots_stand : (xs : List Slot) → sum_by weight_of xs ≡ sum_by counts (map standing_of xs)
+slots_stand [] = refl
+slots_stand (x ∷ xs) =
+    sum_by-cons weight_of x xs ∙ ap (λ n. n + sum_by weight_of xs) (at x)
+    ∙ ap (λ n. counts (standing_of x) + n) (slots_stand xs)
+    ∙ sym (sum_by-cons counts (standing_of x) (map standing_of xs))
+  where
+    at : (x : Slot) → weight_of x ≡ counts (standing_of x)
+    at (Ready i) = refl
+    at (Room g now true piece) = refl
+    at (Room g now false piece) = refl
+
+dues_stand : (ds : List Due) → sum_by weight ds ≡ sum_by counts (map standing ds)
+dues_stand [] = refl
+dues_stand (d ∷ ds) =
+    sum_by-cons weight d ds ∙ ap (λ n. n + sum_by weight ds) (at d)
+    ∙ ap (λ n. counts (standing d) + n) (dues_stand ds)
+    ∙ sym (sum_by-cons counts (standing d) (map standing ds))
+  where
+    by : (b : Bool) → cond b 1 0 ≡ counts (cond b Last Within)
+    by true = refl
+    by false = refl
+
+    at : (d : Due) → weight d ≡ counts (standing d)
+    at (Slicing g s log p) = refl
+    at (Parting t) = refl
+    at (Hole t j) = by (nat_eq (j + 1) (workers_of t.old))
 
 -- what stands in worker k's queue is what waits for it
 pub queue_waits : (r : Router) (w : World) → IsRouterOf r w → (k : ℕ)
     → sum_by weight_of (queue_at r.queues.items k) ≡ waiting_in w k
 queue_waits r w is k =
-    sym (sum-map weight_of (queue_at r.queues.items k)) ∙ ap sum (is.weights k)
-    ∙ sum-map weight (drop (length (w.seats k).fed) (line_in w k))
+    slots_stand (queue_at r.queues.items k) ∙ ap (sum_by counts) (is.standings k)
+    ∙ sym (dues_stand (drop (length (w.seats k).fed) (line_in w k)))
 
 pub all_wait : (xs : List (List Slot)) → list_all is_short xs ≡ true → (k : ℕ)
     → sum_by weight_of (queue_at xs k) < full

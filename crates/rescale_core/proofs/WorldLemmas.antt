@@ -8,7 +8,7 @@ use Rattle.mfotl_model.specs.Strategies.{Strategy, workers_of}
 use Rattle.rescale_core.specs.Lines.{Turn, Spot, Due, turn_at, moved, spot_after, line, dues, place, if_below}
 use Rattle.rescale_core.specs.Lines.{MayRead, AreSound}
 use Rattle.rescale_core.specs.Soundly.{Supplies, turn_of}
-use Rattle.rescale_core.specs.Worlds.{nth, for_place, item_of}
+use Rattle.rescale_core.specs.Handing.{nth, for_place, item_of}
 use Rattle.monitorable.specs.CoreForms.{CoreForm}
 use Rattle.monitor_state.specs.declared.state.Piece.{Piece}
 use Rattle.rescale_core.specs.declared.item.Entry.{Entry}

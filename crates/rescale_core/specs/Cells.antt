@@ -8,7 +8,8 @@ use Rattle.rescale_core.specs.Routing.{IsRouterOf}
 use Rattle.rescale_core.specs.Seeds.{SeedOf}
 use Rattle.rescale_core.specs.Soundly.{IsSound}
 use Rattle.rescale_core.specs.Working.{StandsFor}
-use Rattle.rescale_core.specs.Worlds.{World, Allowed, IsGathered, Seat, after, nth, spot_in}
+use Rattle.rescale_core.specs.Handing.{nth}
+use Rattle.rescale_core.specs.Worlds.{World, Allowed, IsGathered, Seat, after, spot_in}
 use Rattle.rescale_core.specs.Worlds.Move.{Read, Feed, Take, Collect, Emit}
 use Rattle.rescale_core.specs.declared.cells.Applied.{Applied}
 use Rattle.rescale_core.specs.declared.cells.Applied.TheVariants.{Did, NotEnabled}

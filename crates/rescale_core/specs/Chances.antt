@@ -1,5 +1,5 @@
 -- What may be handed over, or is still missing.
-use Rattle.std.specs.Prelude.{ℕ, List, [], ◌∷◌}
+use Rattle.std.specs.Prelude.{ℕ}
 use Rattle.mfotl_model.specs.Strategies.{Strategy}
 use Rattle.rescale_core.specs.declared.item.Item.{Item}
 
@@ -9,8 +9,8 @@ pub data Chance : Type 0 where
   Sure : Item → Chance
   Open : (generation : ℕ) → (now : Strategy) → Chance
 
--- the items before the first missing piece
-abbrev pub sure_items : List Chance → List Item
-sure_items [] = []
-sure_items (Sure i ∷ cs) = i ∷ sure_items cs
-sure_items (Open g now ∷ cs) = []
+-- how something in a worker's queue stands to the places for pieces: outside of them, in one, or as the last in one
+pub data Standing : Type 0 where
+  Outside : Standing
+  Within : Standing
+  Last : Standing

@@ -5,6 +5,7 @@ pub mod Stages
 pub mod Chances
 pub mod States
 pub mod Slots
+pub mod Handing
 pub mod Worlds
 pub mod Seeds
 pub mod Settlings
@@ -18,3 +19,4 @@ pub mod Moving
 pub mod Laws
 pub mod Cells
 pub mod Ends
+pub mod Examples

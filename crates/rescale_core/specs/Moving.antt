@@ -11,10 +11,9 @@ use Rattle.turn_hub.specs.Words.{broken, hand_turn}
 use Rattle.turn_hub.specs.declared.hub.Main.{Main}
 use Rattle.turn_hub.specs.declared.view.Line.{Line}
 use Rattle.verdict_merge.specs.declared.rows.Verdict.{Verdict}
-use Rattle.rescale_core.specs.Chances.{sure_items}
 use Rattle.rescale_core.specs.Routing.{IsRouterOf}
 use Rattle.rescale_core.specs.Works.{seen}
-use Rattle.rescale_core.specs.Worlds.{World, Allowed, after, first_seat, queue_in}
+use Rattle.rescale_core.specs.Worlds.{World, Allowed, after, first_seat, ready_in}
 use Rattle.rescale_core.specs.Worlds.Move.{Read, Feed, Take, Collect, Emit}
 use Rattle.rescale_core.specs.declared.item.Entry.{Entry}
 use Rattle.rescale_core.specs.declared.item.Item.{Item}
@@ -93,15 +92,17 @@ abbrev pub collects : ℕ → ℕ → List Kind
 collects k zero = []
 collects k (suc n) = Collects k ∷ []
 
--- nothing is ready for worker k
-abbrev pub NoneReady : Driver → ℕ → Type 0
-NoneReady d k = (w : World) → IsDriverOf d w → sure_items (queue_in w k) ≡ []
+-- in this world m items are ready for worker k, and handing it all of them leads to one for which the driver stands
+abbrev pub HandsOver : World → ℕ → ℕ → Driver → Type 0
+HandsOver w k m e =
+    (m ≡ length (ready_in w k)) × (x : World) × Reaches w (replicate m (Feeds k)) x × IsDriverOf e x
 
--- The worker took the n items that it had, which was collected, and was handed m, all that were ready; or nothing
--- happened, as this call found the worker's turn, or a broken cell.
+-- The worker took the n items that it had, which was collected, and was handed the m items that were ready then; or
+-- nothing happened, as this call found the worker's turn, or a broken cell.
 abbrev pub TurnsTo : Driver → ℕ → Turn → Driver → Type 0
 TurnsTo d k (Moved n m) e =
-    Moves d ((replicate n (Takes k) ++ collects k n) ++ replicate m (Feeds k)) e × NoneReady e k
+    (w : World) → IsDriverOf d w
+    → (x : World) × Reaches w (replicate n (Takes k) ++ collects k n) x × HandsOver x k m e
 TurnsTo d k NotYet e = Moves d [] e × LooksOnce (main_view d.main) k hand_turn (main_view e.main)
 TurnsTo d k Broken e = Moves d [] e × LooksOnce (main_view d.main) k broken (main_view e.main)
 

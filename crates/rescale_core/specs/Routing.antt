@@ -1,6 +1,6 @@
 -- What a router's queues stand for.
-use Rattle.std.specs.Prelude.{◌≡◌, ◌⊎◌, ℕ, ◌+◌, ◌<◌, ◌≤◌, cond, nat_eq, nat_le, nat_lt, Some, filter}
-use Rattle.std.specs.Prelude.{List, [], ◌∷◌, ◌++◌, false, get_or, length, map}
+use Rattle.std.specs.Prelude.{◌≡◌, ℕ, ◌+◌, ◌<◌, ◌≤◌, cond, nat_eq, nat_le, nat_lt, Some, filter}
+use Rattle.std.specs.Prelude.{List, [], ◌∷◌, ◌++◌, false, get_or, length, map, take}
 use Rattle.std.specs.List.{AllByRecursion, list_any, range_with_len}
 use Rattle.mfotl_model.specs.Strategies.{Strategy, workers_of}
 use Rattle.mfotl_model.specs.declared.event.TimePoint.{TimePoint}
@@ -13,12 +13,10 @@ use Rattle.verdict_merge.specs.declared.rows.Verdict.{Verdict}
 use Rattle.rescale_core.specs.Workers.{slice_for}
 use Rattle.rescale_core.specs.Lines.{spot_after, first_spot}
 use Rattle.rescale_core.specs.Lines.Due.{Slicing}
-use Rattle.rescale_core.specs.Chances.{sure_items}
 use Rattle.rescale_core.specs.Chances.Chance.{Sure}
 use Rattle.rescale_core.specs.Queues.{chances, queue_at}
-use Rattle.rescale_core.specs.Slots.{rooms, weight_of}
-use Rattle.rescale_core.specs.Waiting.{weights_in}
-use Rattle.rescale_core.specs.Worlds.{World, Move, spot_in, queue_in, slice_at, GatheredIn, IsGathered}
+use Rattle.rescale_core.specs.Slots.{ready_of, rooms, standing_of}
+use Rattle.rescale_core.specs.Worlds.{World, Move, spot_in, queue_in, slice_at, standings_in, GatheredIn, IsGathered}
 use Rattle.rescale_core.specs.Worlds.Move.{Feed}
 use Rattle.rescale_core.specs.Soundly.{IsSound}
 use Rattle.rescale_core.specs.declared.item.Item.{Item}
@@ -46,11 +44,11 @@ place_below q n generation now count = cond (nat_lt q n) (rooms generation now c
 abbrev pub all_slices : CoreForm → Strategy → TimePoint → List TimePoint
 all_slices core s p = map (λ k. slice_for core s k p) (range_with_len 0 (workers_of s))
 
--- the first items were taken out, as many as wanted or all that are there
+-- the first items were taken out, as many as wanted or all that are ready
 abbrev pub TakesFront : List Slot → ℕ → List Item → List Slot → Type 0
 TakesFront old most items new =
     (front : List Slot) × (old ≡ front ++ new) × (chances front ≡ map (λ i. Sure i) items)
-    × ((length items ≡ most) ⊎ (sure_items (chances new) ≡ [])) × (length items ≤ most)
+    × (items ≡ take most (ready_of old)) × (length items ≤ most)
 
 -- the Rows may be added one after the other: of a worker of their generation, not added before, and of a
 -- time-point without a verdict
@@ -90,7 +88,7 @@ pub record IsRouterOf (r : Router) (w : World) : Type 0 where
   pub points : r.points ≡ length (spot_in w).points
   pub wide : workers_of r.strategy ≤ length r.queues.items
   pub queues : (k : ℕ) → chances (queue_at r.queues.items k) ≡ queue_in w k
-  pub weights : (k : ℕ) → map weight_of (queue_at r.queues.items k) ≡ weights_in w k
+  pub standings : (k : ℕ) → map standing_of (queue_at r.queues.items k) ≡ standings_in w k
   pub counted : length r.outstanding.items ≡ length r.queues.items
   pub outstanding : (k : ℕ) → (w.seats k).collected + get_or r.outstanding.items k 0 ≡ length (w.seats k).fed
   pub sound : IsSound w

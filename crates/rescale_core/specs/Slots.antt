@@ -2,8 +2,9 @@
 use Rattle.std.specs.Prelude.{◌≡◌, ℕ, ◌+◌, Bool, true, false, cond, nat_eq, Option, Some, None, List, [], ◌∷◌, map}
 use Rattle.std.specs.List.{range_with_len}
 use Rattle.mfotl_model.specs.Strategies.{Strategy}
-use Rattle.rescale_core.specs.Chances.{Chance, sure_items}
+use Rattle.rescale_core.specs.Chances.{Chance, Standing}
 use Rattle.rescale_core.specs.Chances.Chance.{Sure, Open}
+use Rattle.rescale_core.specs.Chances.Standing.{Outside, Within, Last}
 use Rattle.rescale_core.specs.declared.item.Item.{Item}
 use Rattle.rescale_core.specs.declared.item.Item.TheVariants.{Adopt}
 use Rattle.monitor_state.specs.declared.state.Piece.{Piece}
@@ -39,6 +40,28 @@ abbrev pub weight_of : Slot → ℕ
 weight_of (Ready item) = 1
 weight_of (Room g now last piece) = cond last 1 0
 
+-- how a slot stands to the places for pieces
+abbrev pub standing_of : Slot → Standing
+standing_of (Ready item) = Outside
+standing_of (Room g now last piece) = cond last Last Within
+
+-- whether a slot is the last of a place
+abbrev pub ends_place : Slot → Bool
+ends_place (Ready item) = false
+ends_place (Room g now last piece) = last
+
+-- whether the first slot is the last of a place
+abbrev pub first_ends : List Slot → Bool
+first_ends [] = false
+first_ends (x ∷ xs) = ends_place x
+
+-- the items that may be handed over: those before the first missing piece, and none behind the first place
+abbrev pub ready_of : List Slot → List Item
+ready_of [] = []
+ready_of (Ready item ∷ xs) = item ∷ ready_of xs
+ready_of (Room g now last None ∷ xs) = []
+ready_of (Room g now last (Some p) ∷ xs) = Adopt p now ∷ cond last [] (ready_of xs)
+
 -- the slot with the piece in its room
 abbrev pub put_in : Piece → Slot → Slot
 put_in p (Ready item) = Ready item
@@ -47,7 +70,7 @@ put_in p (Room g now last piece) = Room g now last (Some p)
 -- the first item and the rest; or none, where there is no first one or it is missing
 abbrev pub TakesOut : List Slot → Option Item → List Slot → Type 0
 TakesOut old (Some i) new = (x : Slot) × (old ≡ x ∷ new) × (chance_of x ≡ Sure i)
-TakesOut old None new = (new ≡ old) × (sure_items (map chance_of old) ≡ [])
+TakesOut old None new = (new ≡ old) × (ready_of old ≡ [])
 
 -- the first slots of a place for so many pieces
 abbrev pub first_rooms : ℕ → Strategy → ℕ → ℕ → List Slot

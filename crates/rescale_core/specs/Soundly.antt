@@ -12,7 +12,8 @@ use Rattle.rescale_core.specs.Workers.{IsFor, settled_in}
 use Rattle.rescale_core.specs.Lines.{Turn, Spot, Due, turn_at, moved, first_spot, AreSound}
 use Rattle.rescale_core.specs.Lines.Due.{Slicing, Parting, Hole}
 use Rattle.rescale_core.specs.Stages.{IsPieceFor, Answers, row_for}
-use Rattle.rescale_core.specs.Worlds.{for_place, item_of, World, Seat, line_in, pieces_in, rows_in, slice_at}
+use Rattle.rescale_core.specs.Handing.{for_place, item_of}
+use Rattle.rescale_core.specs.Worlds.{World, Seat, line_in, pieces_in, rows_in, slice_at}
 use Rattle.monitor_state.specs.declared.state.Piece.{Piece}
 use Rattle.rescale_core.specs.declared.item.Entry.{Entry}
 use Rattle.rescale_core.specs.declared.item.Entry.TheVariants.{Point, Change}

@@ -1,5 +1,5 @@
 -- How much waits for a worker.
-use Rattle.std.specs.Prelude.{ℕ, ◌+◌, ◌<◌, ◌≤◌, Bool, cond, nat_eq, nat_lt, List, length, map, drop, sum_by}
+use Rattle.std.specs.Prelude.{ℕ, ◌+◌, ◌<◌, ◌≤◌, Bool, cond, nat_eq, nat_lt, List, length, drop, sum_by}
 use Rattle.mfotl_model.specs.Strategies.{workers_of}
 use Rattle.rescale_core.specs.Lines.{Due}
 use Rattle.rescale_core.specs.Lines.Due.{Slicing, Parting, Hole}
@@ -19,10 +19,6 @@ weight (Hole t j) = cond (nat_eq (j + 1) (workers_of t.old)) 1 0
 -- how many slices, parts and places wait for worker k
 abbrev pub waiting_in : World → ℕ → ℕ
 waiting_in w k = sum_by weight (drop (length (w.seats k).fed) (line_in w k))
-
--- how much waits for worker k, due by due
-abbrev pub weights_in : World → ℕ → List ℕ
-weights_in w k = map weight (drop (length (w.seats k).fed) (line_in w k))
 
 -- from so many on no more is read
 abbrev pub full : ℕ

@@ -1,6 +1,6 @@
 -- All that happened: what was read, handed over, taken, given, collected and emitted.
-use Rattle.std.specs.Prelude.{◌≡◌, ℕ, zero, suc, ◌+◌, ◌<◌, ◌≤◌, cond, ◌&&◌, nat_eq, Option, Some, None, option_map}
-use Rattle.std.specs.Prelude.{List, [], ◌∷◌, ◌++◌, length, map, take, drop, filter}
+use Rattle.std.specs.Prelude.{◌≡◌, ℕ, ◌+◌, ◌<◌, ◌≤◌, cond, nat_eq, Option, Some, None}
+use Rattle.std.specs.Prelude.{List, [], ◌∷◌, ◌++◌, length, map, take, drop}
 use Rattle.mfotl_model.specs.Log.{times}
 use Rattle.mfotl_model.specs.Satisfaction.{time_at}
 use Rattle.mfotl_model.specs.Strategies.{Strategy, workers_of}
@@ -9,25 +9,18 @@ use Rattle.monitorable.specs.CoreForms.{CoreForm}
 use Rattle.verdict_merge.specs.Gathers.{rows_at}
 use Rattle.verdict_merge.specs.declared.rows.Rows.{Rows}
 use Rattle.verdict_merge.specs.declared.rows.Verdict.{Verdict}
-use Rattle.rescale_core.specs.Workers.{settled_in, slice_for, violations_at}
+use Rattle.rescale_core.specs.Workers.{settled_in, violations_at}
 use Rattle.rescale_core.specs.Lines.{Spot, Due, moved, spot_after, first_spot, line, MayRead}
-use Rattle.rescale_core.specs.Lines.Due.{Slicing, Parting, Hole}
+use Rattle.rescale_core.specs.Lines.Due.{Slicing}
 use Rattle.rescale_core.specs.Stages.{Answers}
-use Rattle.rescale_core.specs.Chances.{Chance}
-use Rattle.rescale_core.specs.Chances.Chance.{Sure, Open}
+use Rattle.rescale_core.specs.Chances.{Chance, Standing}
+use Rattle.rescale_core.specs.Handing.{chance, ready_items, standing}
 use Rattle.monitor_state.specs.declared.state.Piece.{Piece}
 use Rattle.rescale_core.specs.declared.item.Entry.{Entry}
 use Rattle.rescale_core.specs.declared.item.Entry.TheVariants.{Point, Change}
 use Rattle.rescale_core.specs.declared.item.Item.{Item}
-use Rattle.rescale_core.specs.declared.item.Item.TheVariants.{Slice, Part, Adopt}
 use Rattle.rescale_core.specs.declared.item.Out.{Out}
 use Rattle.rescale_core.specs.declared.item.Out.TheVariants.{Rows as OfRows, Piece as OfPiece}
-
--- the member at a place, if there is one
-abbrev pub nth : {A : Type 0} → List A → ℕ → Option A
-nth [] n = None
-nth (x ∷ xs) zero = Some x
-nth (x ∷ xs) (suc n) = nth xs n
 
 -- the slice of the n-th time-point
 abbrev pub slice_at : Spot → List Entry → ℕ → Option Due
@@ -36,29 +29,6 @@ slice_at a (Point p ∷ es) n =
     cond (nat_eq n (length a.points)) (Some (Slicing a.generation a.strategy a.points p))
     (slice_at (moved a (Point p)) es n)
 slice_at a (Change s ∷ es) n = slice_at (moved a (Change s)) es n
-
--- ---- what may be handed over
-
--- the pieces for a worker's place, in the order in which they were collected
-abbrev pub for_place : ℕ → ℕ → List Piece → List Piece
-for_place g k pieces = filter (λ p. nat_eq p.generation g && nat_eq p.to k) pieces
-
--- the item that is due, if it is there
-abbrev pub item_of : CoreForm → ℕ → List Piece → Due → Option Item
-item_of core k pieces (Slicing g s log p) = Some (Slice g (length log) (slice_for core s k p))
-item_of core k pieces (Parting t) = Some (Part t.generation t.old t.new)
-item_of core k pieces (Hole t j) = option_map (λ p. Adopt p t.new) (nth (for_place t.generation k pieces) j)
-
--- the item, or what is missing
-abbrev pub chance_from : Due → Option Item → Chance
-chance_from d (Some i) = Sure i
-chance_from (Slicing g s log p) None = Open g s
-chance_from (Parting t) None = Open t.generation t.new
-chance_from (Hole t j) None = Open t.generation t.new
-
--- what is due, as it stands in the worker's queue
-abbrev pub chance : CoreForm → ℕ → List Piece → Due → Chance
-chance core k pieces d = chance_from d (item_of core k pieces d)
 
 -- the Rows among outs
 abbrev pub rows_in : List Out → List Rows
@@ -71,8 +41,6 @@ abbrev pub pieces_in : List Out → List Piece
 pieces_in [] = []
 pieces_in (OfRows r ∷ os) = pieces_in os
 pieces_in (OfPiece p ∷ os) = p ∷ pieces_in os
-
--- ---- worlds
 
 -- What a worker was handed, how many of it it took, and what it gave; how many of the items were collected,
 -- with what it gave for them.
@@ -122,6 +90,14 @@ spot_in w = spot_after (first_spot w.first) w.read
 -- worker k's queue: what is due and wasn't handed over
 abbrev pub queue_in : World → ℕ → List Chance
 queue_in w k = map (chance w.core k w.pieces) (drop (length (w.seats k).fed) (line_in w k))
+
+-- how that stands to the places for pieces
+abbrev pub standings_in : World → ℕ → List Standing
+standings_in w k = map standing (drop (length (w.seats k).fed) (line_in w k))
+
+-- what may be handed to worker k now
+abbrev pub ready_in : World → ℕ → List Item
+ready_in w k = ready_items w.core k w.pieces (drop (length (w.seats k).fed) (line_in w k))
 
 -- the seats, where worker k has another one
 abbrev pub set_seat : (ℕ → Seat) → ℕ → Seat → ℕ → Seat
@@ -186,7 +162,7 @@ IsGathered w i = GatheredIn w.core w.first w.read w.rows i
 -- the step may come
 abbrev pub Allowed : World → Move → Type 0
 Allowed w (Read e) = MayRead w.core (spot_in w) e
-Allowed w (Feed k i) = (rest : List Chance) × (queue_in w k ≡ Sure i ∷ rest)
+Allowed w (Feed k i) = (rest : List Item) × (ready_in w k ≡ i ∷ rest)
 Allowed w (Take k gave) =
     ((w.seats k).taken < length (w.seats k).fed)
     × Answers w.core k (take ((w.seats k).taken + 1) (line_in w k)) ((w.seats k).outs ++ gave)

@@ -1,11 +1,11 @@
 //! Main's part: it reads, hands over, collects and emits.
-ghost use Rattle.std.specs.Prelude.{◌≡◌, ◌∷◌, [], ◌<◌, ℕ, true, replicate, IfOk, IfSome, IfNone, length};
+ghost use Rattle.std.specs.Prelude.{◌≡◌, ◌∷◌, [], ◌<◌, ℕ, true, IfOk, IfSome, IfNone, length};
 ghost use Rattle.mfotl_model.specs.Strategies.{Strategy as OneStrategy};
 ghost use Rattle.monitorable.specs.CoreForms.{CoreForm};
 ghost use Rattle.turn_hub.specs.Ends.{AllMine, IsMainOf, cell_count, main_view};
-ghost use Rattle.rescale_core.specs.Moving.{HasTurn, IsDriverOf, IsOpened, Moves, NoneReady};
+ghost use Rattle.rescale_core.specs.Moving.{HandsOver, HasTurn, IsDriverOf, IsOpened};
 ghost use Rattle.rescale_core.specs.Moving.{Reaches, TakesBack, TurnsTo};
-ghost use Rattle.rescale_core.specs.Moving.Kind.{Feeds, Reads};
+ghost use Rattle.rescale_core.specs.Moving.Kind.{Reads};
 ghost use Rattle.rescale_core.specs.Routing.{HasEnded, IsRouterOf};
 ghost use Rattle.rescale_core.specs.Workers.{IsFor, MayFollow};
 ghost use Rattle.rescale_core.specs.Worlds.{World, Allowed, IsGathered, after, first_world, spot_in};
@@ -126,8 +126,7 @@ impl Driver {
         requires stands { (w : World) × IsDriverOf self.old w }
         requires main { IsMainOf hub.now self.old.main × (k < cell_count hub.now) }
         requires mine { HasTurn (main_view self.old.main).lines k }
-        ensures did { IfOk result (λ m. Moves self.old (replicate m (Feeds k)) self.new) }
-        ensures all { IfOk result (λ _. NoneReady self.new k) }
+        ensures did { IfOk result (λ m. (w : World) → IsDriverOf self.old w → HandsOver w k m self.new) }
         ensures main { IfOk result (λ _. IsMainOf hub.now self.new.main) }
     {
         let items = self.router.take_ready(alloc, k, u64::MAX)?;

@@ -6,6 +6,7 @@
 mod cell;
 mod cells;
 mod driver;
+pub mod examples;
 mod item;
 pub mod laws;
 mod machine;

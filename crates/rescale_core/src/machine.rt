@@ -1,8 +1,7 @@
 //! The machine: one step after the other, in any order.
 ghost use Rattle.std.specs.Prelude.{◌≡◌, IfOk, List, Some, length};
 ghost use Rattle.rescale_core.specs.Cells.{Applies, IsMachineOf};
-ghost use Rattle.rescale_core.specs.Chances.{sure_items};
-ghost use Rattle.rescale_core.specs.Worlds.{World, queue_in};
+ghost use Rattle.rescale_core.specs.Worlds.{World, ready_in};
 ghost use Rattle.rescale_core.specs.declared.item.Entry.{Entry as OneEntry};
 
 use crate::cells::{Applied, Step};
@@ -16,7 +15,7 @@ impl Machine {
     /// How many items may be handed to worker `k` now.
     pub fn ready(&self, k: u32) -> u64
         ensures { (entries : List OneEntry) (w : World) → IsMachineOf self.now entries w
-            → result ≡ length (sure_items (queue_in w k)) }
+            → result ≡ length (ready_in w k) }
     {
         self.router.ready(k)
     }

@@ -5,7 +5,8 @@ ghost use Rattle.rescale_core.specs.Cells.{AreWithin, IsCellOf, IsMachineOf, wor
 ghost use Rattle.rescale_core.specs.Lines.{AreSound, first_spot};
 ghost use Rattle.rescale_core.specs.Routing.{IsRouterOf};
 ghost use Rattle.rescale_core.specs.Workers.{IsFor};
-ghost use Rattle.rescale_core.specs.Worlds.{first_world, nth};
+ghost use Rattle.rescale_core.specs.Handing.{nth};
+ghost use Rattle.rescale_core.specs.Worlds.{first_world};
 ghost use Rattle.mfotl_model.specs.Strategies.{workers_of};
 ghost use Rattle.rescale_core.specs.declared.cells.Cell.{Cell as OneCell};
 

@@ -1,9 +1,8 @@
 //! What waits for one worker.
 ghost use Rattle.std.specs.Prelude.{◌≡◌, ◌++◌, ◌∷◌, [], IfOk, length, sum_by};
-ghost use Rattle.std.specs.List.{list_all, position, prefix_len};
-ghost use Rattle.rescale_core.specs.Chances.{sure_items};
-ghost use Rattle.rescale_core.specs.Queues.{chances, filled, is_clear};
-ghost use Rattle.rescale_core.specs.Slots.{TakesOut, is_there, lacks, rooms, weight_of};
+ghost use Rattle.std.specs.List.{list_all, position};
+ghost use Rattle.rescale_core.specs.Queues.{filled, is_clear};
+ghost use Rattle.rescale_core.specs.Slots.{TakesOut, first_ends, lacks, ready_of, rooms, weight_of};
 ghost use Rattle.rescale_core.specs.Waiting.{is_short};
 ghost use Rattle.rescale_core.specs.declared.slot.Slot.TheVariants.{Ready};
 
@@ -107,11 +106,21 @@ impl Queue {
         slot.put(piece);
     }
 
+    /// Whether the first one is the last of a place.
+    pub(crate) fn first_ends(&self) -> bool
+        ensures { result ≡ first_ends self.now }
+    {
+        match self.slots.front() {
+            Some(slot) => slot.ends_place(),
+            None => false,
+        }
+    }
+
     /// How many items may be handed over.
     pub(crate) fn ready(&self) -> u64
-        ensures { result ≡ length (sure_items (chances self.now)) }
+        ensures { result ≡ length (ready_of self.now) }
     {
-        there_len(&self.slots) as u64
+        ready_len(&self.slots) as u64
     }
 
     /// How many slices, parts and places wait.
@@ -143,14 +152,17 @@ fn first_lacking(slots: &VecDeque<Slot>, generation: u64) -> Option<usize>
     slots.iter().position(|slot| slot.lacks(generation))
 }
 
-// How many come before the first missing piece.
-fn there_len(slots: &VecDeque<Slot>) -> usize
-    ensures { result ≡ prefix_len is_there slots.now.items }
+// How many come before the first missing piece, and no further than to the end of the first place.
+fn ready_len(slots: &VecDeque<Slot>) -> usize
+    ensures { result ≡ length (ready_of slots.now.items) }
 {
     for i in 0..slots.len() {
         let slot = &slots[i];
         if !slot.is_there() {
             return i;
+        }
+        if slot.ends_place() {
+            return i + 1;
         }
     }
     slots.len()

@@ -1,11 +1,10 @@
 //! The router: what is read is queued for each worker, until it is handed over.
-ghost use Rattle.std.specs.Prelude.{◌≡◌, ◌++◌, ◌∷◌, ◌+◌, [], ◌<◌, ◌≤◌, ◌⊎◌, IfOk, IfSome, IfNone, length, true, ℕ};
-ghost use Rattle.rescale_core.specs.Chances.{sure_items};
+ghost use Rattle.std.specs.Prelude.{◌≡◌, ◌++◌, ◌∷◌, ◌+◌, [], ◌<◌, ◌≤◌, IfOk, IfSome, IfNone, length, take, true, ℕ};
 ghost use Rattle.rescale_core.specs.Queues.{all_put, queue_at};
 ghost use Rattle.rescale_core.specs.Routing.{HasEnded, HasTaken, IsRouterOf, MayAdd, TakesFront, feeds};
 ghost use Rattle.rescale_core.specs.Workers.{IsFor, MayFollow};
 ghost use Rattle.rescale_core.specs.Worlds.{World, Allowed, AreAllowed, IsGathered, after, run, spot_in};
-ghost use Rattle.rescale_core.specs.Worlds.{pieces_in, queue_in, rows_in};
+ghost use Rattle.rescale_core.specs.Worlds.{pieces_in, ready_in, rows_in};
 ghost use Rattle.rescale_core.specs.Worlds.Move.{Read, Collect, Emit};
 ghost use Rattle.rescale_core.specs.declared.item.Entry.TheVariants.{Change, Point};
 
@@ -60,9 +59,10 @@ impl Router {
         Ok(())
     }
 
-    /// How many items may be handed to worker `k` now.
+    /// How many items may be handed to worker `k` now: those before the first place whose pieces were not all handed
+    /// over, and at that place the pieces that were collected.
     pub fn ready(&self, k: u32) -> u64
-        ensures { (w : World) → IsRouterOf self.now w → result ≡ length (sure_items (queue_in w k)) }
+        ensures { (w : World) → IsRouterOf self.now w → result ≡ length (ready_in w k) }
     {
         if k as usize >= self.queues.len() {
             return 0;
@@ -75,8 +75,8 @@ impl Router {
         ensures moves { IfOk result (λ items. (w : World) → IsRouterOf self.old w
             → AreAllowed w (feeds k items.items) × IsRouterOf self.new (run w (feeds k items.items))) }
         ensures few { IfOk result (λ items. length items.items ≤ most) }
-        ensures all { IfOk result (λ items. (w : World) → IsRouterOf self.old w
-            → (length items.items ≡ most) ⊎ (sure_items (queue_in (run w (feeds k items.items)) k) ≡ [])) }
+        ensures first { IfOk result (λ items. (w : World) → IsRouterOf self.old w
+            → items.items ≡ take most (ready_in w k)) }
     {
         if k as usize >= self.queues.len() {
             return Ok(Vec::new(alloc));
@@ -132,15 +132,19 @@ fn next(generation: u64) -> Result<u64, AllocError>
     generation.checked_add(1).ok_or(AllocError)
 }
 
-// Takes out the first items, as many as wanted or all that are there.
+// Takes out the first items, as many as wanted or all that are ready.
 fn take_front(alloc: Global, queue: &mut Queue, most: u64) -> Result<Vec<Item>, AllocError>
     ensures { IfOk result (λ items. TakesFront queue.old most items.items queue.new) }
 {
     let mut items = Vec::new(alloc);
     for _ in 0..most {
+        let last = queue.first_ends();
         match queue.pop() {
             None => return Ok(items),
             Some(item) => items.push(item)?,
+        }
+        if last {
+            return Ok(items);
         }
     }
     Ok(items)

@@ -1,6 +1,6 @@
 //! What is asked of a slot.
 ghost use Rattle.std.specs.Prelude.{◌≡◌};
-ghost use Rattle.rescale_core.specs.Slots.{is_there, item_in, lacks, put_in, weight_of};
+ghost use Rattle.rescale_core.specs.Slots.{ends_place, is_there, item_in, lacks, put_in, weight_of};
 
 use crate::item::Item;
 use crate::slot::Slot;
@@ -14,6 +14,16 @@ impl Slot {
         match self {
             Slot::Ready(_) => true,
             Slot::Room { piece, .. } => piece.is_some(),
+        }
+    }
+
+    /// Whether it is the last one of a place.
+    pub(crate) fn ends_place(&self) -> bool
+        ensures { result ≡ ends_place self.now }
+    {
+        match self {
+            Slot::Ready(_) => false,
+            Slot::Room { last, .. } => *last,
         }
     }
 

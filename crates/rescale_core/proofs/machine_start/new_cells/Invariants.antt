@@ -1,7 +1,8 @@
 use Rattle.std.proofs.Common.{◌≡◌, ℕ, Some, length}
 use Rattle.monitorable.specs.Cores.{core_form}
 use Rattle.rescale_core.specs.Cells.{IsCellOf}
-use Rattle.rescale_core.specs.Worlds.{first_world, nth}
+use Rattle.rescale_core.specs.Handing.{nth}
+use Rattle.rescale_core.specs.Worlds.{first_world}
 use Rattle.rescale_core.specs.declared.cells.Cell.{Cell}
 use Rattle.rescale_core.proofs.machine_start.new_cells.Given as goal
 

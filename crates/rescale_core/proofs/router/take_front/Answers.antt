@@ -1,9 +1,50 @@
-use Rattle.std.proofs.Common.{◌≡◌, ◌+◌, ◌∷◌, ◌++◌, [], List, ap, sym, append_assoc, length, length-append, map, ◌∙◌}
+use Rattle.std.proofs.Common.{◌≡◌, ◌≤◌, ◌+◌, ◌∷◌, ◌++◌, [], List, ap, sym, append_assoc, append-nil, arith, length}
+use Rattle.std.proofs.Common.{length-append, map, ◌∙◌}
 use Rattle.rescale_core.specs.Chances.Chance.{Sure}
+use Rattle.rescale_core.specs.Slots.{ready_of}
 use Rattle.rescale_core.specs.declared.item.Item.{Item}
 use Rattle.rescale_core.specs.declared.slot.Slot.{Slot}
 use Rattle.rescale_core.proofs.QueueLemmas.{front_more}
+use Rattle.rescale_core.proofs.SlotLemmas.{all_first, most_first, taken_last, taken_on}
 use Rattle.rescale_core.proofs.router.take_front.Goals as goal
+
+-- nothing more is there
+pub returns-in-None : goal.returns-in-None
+returns-in-None c =
+    let t = c.loop.invariant.taken in
+    let same = c.in-None.ensures.0 in
+    let few : length c.loop.items.items ≤ c.args.most =
+    omega (arith, c.loop.invariant.count, c.loop-test.true) in (
+      t.0,
+      t.1 ∙ ap (λ y. t.0 ++ y) (sym same),
+      t.2,
+      all_first c.args.most c.loop.items.items _
+          (c.loop.invariant.ready ∙ ap (λ is. c.loop.items.items ++ is) c.in-None.ensures.1
+          ∙ append-nil c.loop.items.items) few,
+      few,
+    )
+
+-- the item that was taken out ends a place
+pub returns-then-last : goal.returns-then-last
+returns-then-last c =
+    let t = c.loop.invariant.taken in
+    let front : List Slot = t.0 in
+    let p = c.in-Some.ensures in
+    let x : Slot = p.0 in
+    let items : c.push.new.self.items ≡ c.loop.items.items ++ c.in-Some.item ∷ [] =
+    c.in_ok-push-in-Some.ensures.items in
+    let len = ap length items ∙ length-append c.loop.items.items (c.in-Some.item ∷ []) in
+    let few : length c.push.new.self.items ≤ c.args.most =
+    omega (arith, len, c.loop.invariant.count, c.loop-test.true) in (
+      front ++ x ∷ [],
+      t.1 ∙ ap (λ y. front ++ y) p.1 ∙ sym (append_assoc front (x ∷ []) c.pop.new.self),
+      front_more front x c.loop.items.items c.in-Some.item t.2 p.2
+          ∙ ap (λ (is : List Item). map (λ i. Sure i) is) (sym items),
+      all_first c.args.most c.push.new.self.items _
+          (taken_last _ _ x c.in-Some.item c.loop.items.items _ p.1 p.2
+          (sym c.first_ends-last.ensures ∙ c.if-last.true) c.loop.invariant.ready ∙ sym items) few,
+      few,
+    )
 
 pub loop-preserved : goal.loop-preserved
 loop-preserved c =
@@ -22,4 +63,20 @@ loop-preserved c =
       );
       count = ap length items ∙ length-append c.loop.items.items (c.in-Some.item ∷ [])
           ∙ ap (λ n. n + 1) c.loop.invariant.count;
+      ready = taken_on _ _ x c.in-Some.item c.loop.items.items _ p.1 p.2
+          (sym c.first_ends-last.ensures ∙ c.if-last.false) c.loop.invariant.ready
+          ∙ ap (λ is. is ++ ready_of c.pop.new.self) (sym items);
     }
+
+-- as many as were wanted
+pub returns : goal.returns
+returns c =
+    let t = c.loop.invariant.taken in
+    let len : length c.loop.items.items ≡ c.args.most =
+    omega (arith, c.loop.invariant.count, c.loop-test.false) in (
+      t.0,
+      t.1,
+      t.2,
+      most_first c.args.most c.loop.items.items _ _ c.loop.invariant.ready len,
+      (omega (arith, len)),
+    )

@@ -1,26 +1,24 @@
-use Rattle.std.proofs.Common.{◌≡◌, ◌⊎◌, ◌<◌, ℕ, List, [], subst, ◌++◌, refl, length, map, ap, ◌∙◌, sym, arith}
-use Rattle.std.proofs.Common.{length-set, ⊎_elim, inl, inr, ◌+◌, cond, get_or, nat_eq}
-use Rattle.std.proofs.lemmas.List.{map-append}
-use Rattle.rescale_core.specs.Chances.{sure_items}
-use Rattle.rescale_core.specs.Chances.Chance.{Sure}
-use Rattle.rescale_core.specs.Queues.{chances, queue_at}
-use Rattle.rescale_core.specs.Routing.{feeds}
-use Rattle.rescale_core.specs.Slots.{chance_of}
-use Rattle.rescale_core.specs.Worlds.{queue_in, run}
-use Rattle.rescale_core.specs.declared.item.Item.{Item}
-use Rattle.rescale_core.proofs.FeedLemmas.{fed_all, items_taken}
+use Rattle.std.proofs.Common.{◌≡◌, ◌<◌, ℕ, [], ◌++◌, refl, length, take, ap, ◌∙◌, sym, arith}
+use Rattle.std.proofs.Common.{length-set, ◌+◌, cond, get_or, nat_eq}
+use Rattle.std.proofs.lemmas.List.{take_all}
+use Rattle.rescale_core.specs.Queues.{queue_at}
+use Rattle.rescale_core.specs.Slots.{ready_of}
+use Rattle.rescale_core.proofs.FeedLemmas.{items_taken}
 use Rattle.rescale_core.proofs.QueueLemmas.{queue_beyond, queue_else, queue_here, queue_set}
+use Rattle.rescale_core.proofs.ReadyQueues.{router_ready}
 use Rattle.rescale_core.proofs.routes.Router.take_ready.Goals as goal
 
 near : (c : goal.In_ok-raise) → c.args.k < length c.args.self.now.queues.items
 near c = omega (arith, c.len.ensures)
 
-here : (c : goal.In_ok-raise) → queue_at c.args.self.now.queues.items c.args.k
-    ≡ c.in_ok-items.ensures.0 ++ c.take_front.new.queue
-here c =
+same : (c : goal.In_ok-raise) → queue_at c.args.self.now.queues.items c.args.k ≡ c.index_mut-queue.result.now
+same c =
     queue_here c.args.self.now.queues.items c.args.k c.index_mut-queue.result.now (near c)
     c.index_mut-queue.ensures.value
-    ∙ c.in_ok-items.ensures.1
+
+here : (c : goal.In_ok-raise) → queue_at c.args.self.now.queues.items c.args.k
+    ≡ c.in_ok-items.ensures.0 ++ c.take_front.new.queue
+here c = same c ∙ c.in_ok-items.ensures.1
 
 -- so many items more are outstanding
 items_more : (c : goal.In_ok-raise) (q : ℕ) → get_or c.raise.new.counts.items q 0
@@ -31,14 +29,14 @@ items_more c q =
     ∙ ap (λ n. get_or c.args.self.now.outstanding.items q 0 + cond (nat_eq q c.args.k) n 0)
     (c.len-2.ensures ∙ c.in_ok-items.items.ok.0)
 
-pub returns-then-k-len-clause-all : goal.returns-then-k-len-clause-all
-returns-then-k-len-clause-all c = λ w is.
+pub returns-then-k-len-clause-first : goal.returns-then-k-len-clause-first
+returns-then-k-len-clause-first c = λ w is.
     let k : ℕ = c.args.k in
-    subst (λ (items : List Item). (length items ≡ c.args.most)
-    ⊎ (sure_items (queue_in (run w (feeds k items)) k) ≡ []))
-    (sym c.new.ensures.items)
-    (inr (ap sure_items (sym (is.queues k)
-    ∙ ap chances (queue_beyond c.args.self.now.queues.items k (omega (arith, c.len.ensures))))))
+    c.new.ensures.items
+    ∙ sym (take_all c.args.most [] (omega arith))
+    ∙ ap (λ q. take c.args.most (ready_of q))
+    (sym (queue_beyond c.args.self.now.queues.items k (omega (arith, c.len.ensures))))
+    ∙ ap (take c.args.most) (router_ready c.args.self.now w is k)
 
 pub returns-clause-moves : goal.returns-clause-moves
 returns-clause-moves c = λ w is.
@@ -50,15 +48,7 @@ returns-clause-moves c = λ w is.
     (λ q n. queue_else r.queues.items k q c.take_front.new.queue n) c.in_ok-raise.ensures.len
     (items_more c) refl
 
-pub returns-clause-all : goal.returns-clause-all
-returns-clause-all c = λ w is.
-    let k : ℕ = c.args.k in
-    let front = c.in_ok-items.ensures.0 in
-    let rest = c.take_front.new.queue in
-    let items : List Item = c.in_ok-items.items.items in
-    let queue : queue_in w k ≡ map (λ i. Sure i) items ++ chances rest =
-    sym (is.queues k) ∙ ap chances (here c) ∙ map-append chance_of front rest
-    ∙ ap (λ cs. cs ++ chances rest) c.in_ok-items.ensures.2 in
-    ⊎_elim inl
-    (λ none. inr (ap sure_items (fed_all items w k (chances rest) is.sound queue).1.here ∙ none))
-    c.in_ok-items.ensures.3
+pub returns-clause-first : goal.returns-clause-first
+returns-clause-first c = λ w is.
+    c.in_ok-items.ensures.3 ∙ ap (λ q. take c.args.most (ready_of q)) (sym (same c))
+    ∙ ap (take c.args.most) (router_ready c.args.self.now w is c.args.k)
