@@ -6,5 +6,7 @@ use Rattle.rescale_core.specs.declared.item.Entry.{Entry}
 use Rattle.rescale_core.specs.declared.stage.Machine.{Machine}
 
 -- the machine stands for some world
-abbrev pub IsMachine : Machine → Type 0
-IsMachine m = (entries : List Entry) × (w : World) × IsMachineOf m entries w
+pub record IsMachine (m : Machine) : Type 0 where
+  pub entries : List Entry
+  pub world : World
+  pub stands : IsMachineOf m entries world

@@ -26,7 +26,7 @@ fn answer(alloc: Global, text: &str) -> Result<Vec<u8>, Stop> {
         "owners" => owners(alloc, &setting, &case),
         "slices" => slices(alloc, &setting, &case),
         "pieces" => pieces(alloc, &setting, &case),
-        "machine" => machine(alloc, &setting, &case),
+        "machine" => machine(alloc, setting, &case),
         _ => Err(Stop::Malformed),
     }
 }

@@ -28,7 +28,10 @@ pub fn pieces(alloc: Global, setting: &Setting, case: &Case<'_>) -> Result<Vec<u
     put(&mut told, "keeps")?;
     put_state(&mut told, &state)?;
     for piece in &split_state(alloc, &monitor, &strategy, worker, &next, 1)? {
-        put(&mut told, format!(in alloc; "; piece {}:", piece.to)?.as_str())?;
+        put(
+            &mut told,
+            format!(in alloc; "; piece {}:", piece.to)?.as_str(),
+        )?;
         put_state(&mut told, &piece.state)?;
     }
     Ok(told)

@@ -23,8 +23,8 @@ pub fn entries_of(alloc: Global, setting: &Setting, text: &str) -> Result<Vec<En
 {
     let mut entries = Vec::new(alloc);
     let mut last = 0;
-    for text in text.split("; ") {
-        last = put_entry(alloc, setting, &mut entries, last, text)?;
+    for entry in text.split("; ") {
+        last = put_entry(alloc, setting, &mut entries, last, entry)?;
     }
     Ok(entries)
 }

@@ -25,6 +25,7 @@ pub struct Setting {
 }
 
 /// What the texts of a signature and of a policy say, or the first fault.
+#[tactic(auto, using(crate::proofs::SettingLemmas::columns))]
 pub fn setting_of(alloc: Global, signature: &str, policy: &str) -> Result<Setting, Stop> {
     let signature = match read_signature(alloc, signature.as_bytes()) {
         Ok(signature) => signature,
@@ -46,6 +47,7 @@ pub fn setting_of(alloc: Global, signature: &str, policy: &str) -> Result<Settin
 
 impl Setting {
     /// The strategy of a text over the policy's free variables, or its fault.
+    #[tactic(auto, using(crate::proofs::SettingLemmas::strategy_fits))]
     pub fn strategy(&self, alloc: Global, text: &str) -> Result<Strategy, Stop>
         ensures fits { IfOk result (λ strategy. IsFor (core_form self.now.core) strategy) }
         ensures sized { IfOk result (λ strategy. length strategy ≡ length self.now.policy.vars) }

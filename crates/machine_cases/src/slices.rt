@@ -58,7 +58,10 @@ pub fn slices(alloc: Global, setting: &Setting, case: &Case<'_>) -> Result<Vec<u
     let mut told = Vec::new(alloc);
     for (worker, slice) in slices.iter().enumerate() {
         let between = if worker == 0 { "" } else { "; " };
-        put(&mut told, format!(in alloc; "{between}worker {worker}:")?.as_str())?;
+        put(
+            &mut told,
+            format!(in alloc; "{between}worker {worker}:")?.as_str(),
+        )?;
         for event in slice.db.inserted() {
             put(&mut told, format!(in alloc; " {}", event.pred)?.as_str())?;
             push_rows(&mut told, slice::from_ref(&event.args))?;

@@ -10,12 +10,11 @@ use std::alloc::{AllocError, Global};
 use verdict_merge::line;
 
 /// What a machine answers to each of the steps.
-pub fn machine(alloc: Global, setting: &Setting, case: &Case<'_>) -> Result<Vec<u8>, Stop> {
+pub fn machine(alloc: Global, setting: Setting, case: &Case<'_>) -> Result<Vec<u8>, Stop> {
     let (entries, steps) = halves(case.rest)?;
     let strategy = setting.strategy(alloc, case.strategy)?;
-    let entries = entries_of(alloc, setting, entries)?;
-    let core = setting.core.copy(alloc)?;
-    let machine = Machine::start(alloc, core, strategy, entries)?;
+    let entries = entries_of(alloc, &setting, entries)?;
+    let machine = Machine::start(alloc, setting.core, strategy, entries)?;
     steps_told(alloc, machine, steps)
 }
 
