@@ -1,5 +1,5 @@
 -- A machine stays one that stands for a world.
-use Rattle.std.proofs.Common.{List}
+use Rattle.std.proofs.Common.{List, Result, Ok, Err, IfOk, OnOk}
 use Rattle.rescale_core.specs.Cells.{Applies, IsMachineOf}
 use Rattle.rescale_core.specs.Worlds.{World}
 use Rattle.rescale_core.specs.declared.cells.Applied.{Applied}
@@ -21,3 +21,9 @@ stays old step Did new applies is =
     machine_stands new is.entries r.0 r.2
 stays old step NotEnabled new applies is =
     machine_stands new is.entries is.world (applies is.entries is.world is.stands).1
+
+-- and where no answer came, nothing is said of it
+pub answered : {E : Type 0} (old : Machine) (step : Step) (r : Result Applied E) (new : Machine)
+    → IfOk r (λ applied. Applies old step applied new) → IsMachine old → OnOk r (IsMachine new)
+answered old step (Ok applied) new applies is = stays old step applied new applies is
+answered old step (Err e) new applies is = tt

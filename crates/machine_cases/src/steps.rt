@@ -23,11 +23,11 @@ fn steps_told(alloc: Global, machine: Machine, steps: &str) -> Result<Vec<u8>, S
 {
     let mut machine = machine;
     let mut told = Vec::new(alloc);
-    let mut between = "";
     for step in steps.split("; ") {
-        put(&mut told, between)?;
+        if !told.is_empty() {
+            put(&mut told, "; ")?;
+        }
         put_step(alloc, &mut machine, step, &mut told)?;
-        between = "; ";
     }
     Ok(told)
 }
