@@ -1,0 +1,118 @@
+//! What a worker keeps, and the pieces that its state is split into.
+
+use crate::setting::Setting;
+use crate::texts::{Case, Stop, halves, number, put};
+use event_splitter::split;
+use mfotl_model::{TimePoint, push_rows};
+use monitor_state::{Monitor, NodeData, State, WindowData};
+use relations::Table;
+use slice_strategy::{Slicer, Strategy};
+use state_split::split_state;
+use std::alloc::{AllocError, Global};
+use std::slice;
+
+/// The rows that a worker keeps behind a time-point, and those of the pieces for the workers of a next strategy.
+pub fn pieces(alloc: Global, setting: &Setting, case: &Case<'_>) -> Result<Vec<u8>, Stop> {
+    let strategy = setting.strategy(alloc, case.strategy)?;
+    let (next, rest) = halves(case.rest)?;
+    let next = setting.strategy(alloc, next)?;
+    let (worker, point) = halves(rest)?;
+    let worker = number(worker)?;
+    if worker >= strategy.workers() {
+        return Err(Stop::Malformed);
+    }
+    let point = setting.point(alloc, point)?;
+    let monitor = monitor_behind(alloc, setting, &strategy, worker, &point)?;
+    let state = monitor.state(alloc)?;
+    let mut told = Vec::new(alloc);
+    put(&mut told, "keeps")?;
+    put_state(&mut told, &state)?;
+    for piece in &split_state(alloc, &monitor, &strategy, worker, &next, 1)? {
+        put(
+            &mut told,
+            format!(in alloc; "; piece {}:", piece.to)?.as_str(),
+        )?;
+        put_state(&mut told, &piece.state)?;
+    }
+    Ok(told)
+}
+
+// The monitor of a worker behind its slice of a time-point.
+fn monitor_behind(
+    alloc: Global,
+    setting: &Setting,
+    strategy: &Strategy,
+    worker: u32,
+    point: &TimePoint,
+) -> Result<Monitor, Stop> {
+    let slices = split(alloc, &setting.core, strategy, point)?;
+    let mut monitor = Monitor::new(alloc, &setting.core)?;
+    match slices.get(worker as usize) {
+        Some(slice) if monitor.taken() == 0 => {
+            let _tables = monitor.step(alloc, slice)?;
+            Ok(monitor)
+        }
+        _ => Err(Stop::Malformed),
+    }
+}
+
+// Puts all rows of a state.
+fn put_state(told: &mut Vec<u8>, state: &State) -> Result<(), AllocError> {
+    for node in &state.nodes {
+        put_node(told, node)?;
+    }
+    Ok(())
+}
+
+fn put_node(told: &mut Vec<u8>, node: &NodeData) -> Result<(), AllocError> {
+    match node {
+        NodeData::Bare => Ok(()),
+        NodeData::Join(join) => {
+            for tables in &join.tables {
+                put_tables(told, tables)?;
+            }
+            Ok(())
+        }
+        NodeData::Or(or) => {
+            put_tables(told, &or.lefts)?;
+            put_tables(told, &or.rights)
+        }
+        NodeData::Previous(previous) => put_tables(told, &previous.tables),
+        NodeData::Next(next) => put_tables(told, &next.tables),
+        NodeData::Window(window) => put_window(told, window),
+        NodeData::Filter(tables, window) => {
+            put_tables(told, tables)?;
+            put_window(told, window)
+        }
+    }
+}
+
+fn put_window(told: &mut Vec<u8>, window: &WindowData) -> Result<(), AllocError> {
+    match window {
+        WindowData::Since(since) => {
+            put_tables(told, &since.kept.lefts)?;
+            put_tables(told, &since.kept.rights)?;
+            for kept in &since.kept.rows {
+                push_rows(told, slice::from_ref(&kept.row))?;
+            }
+        }
+        WindowData::Until(until) => {
+            put_tables(told, &until.kept.lefts)?;
+            put_tables(told, &until.kept.rights)?;
+            for kept in &until.kept.starts {
+                push_rows(told, slice::from_ref(&kept.row))?;
+            }
+            for kept in &until.kept.rows {
+                push_rows(told, slice::from_ref(&kept.row))?;
+            }
+        }
+    }
+    Ok(())
+}
+
+fn put_tables(told: &mut Vec<u8>, tables: &[Table]) -> Result<(), AllocError> {
+    for table in tables {
+        push_rows(told, table.rows())?;
+    }
+    Ok(())
+}
