@@ -11,6 +11,7 @@ use Rattle.mfotl_lex.specs.Blanks.{blank_len}
 use Rattle.mfotl_lex.specs.Lexemes.{next_token, tokens, tokens_within}
 use Rattle.mfotl_lex.specs.Scans.{log_scan}
 use Rattle.mfotl_sig.specs.Preds.{PredOf}
+use Rattle.log_reader.specs.Limits.{standard}
 use Rattle.log_reader.specs.Readings.{NoFault, Ending, Reading, Fault, accepted, reading, run, shown}
 use Rattle.log_reader.specs.declared.fault.LogFault.{LogFault}
 use Rattle.log_reader.specs.declared.fault.LogFault.TheVariants as log
@@ -23,7 +24,7 @@ use Rattle.monitor_main.specs.Answer.{ended, log_answer, reading_of}
 use Rattle.monitor_main.specs.Tasks.{CheckedPolicy, Task, task_on}
 use Rattle.monitor_main.specs.Unread.{seen_of}
 use Rattle.monitor_main.specs.Answer.{verdict_status}
-use Rattle.worker_pool.specs.Texts.{standard, tally_on, text_on, violated_on}
+use Rattle.worker_pool.specs.Texts.{tally_on, text_on, violated_on}
 use Rattle.worker_pool.specs.Policies.{IsCoreOf}
 use Rattle.worker_pool.specs.Endings.{EndsBy, FollowsLog, WritesAll}
 use Rattle.worker_pool.specs.Effects.{Effect}

@@ -3,8 +3,9 @@ use Rattle.std.specs.Prelude.{ℕ, List, [], Option, Some, None, Result, Ok, Err
 use Rattle.mon_outside.specs.Files.{Files, content}
 use Rattle.mfotl_model.specs.Formulas.{Form}
 use Rattle.mfotl_model.specs.Strategies.{Strategy}
+use Rattle.log_reader.specs.Limits.{standard}
 use Rattle.log_reader.specs.Readings.{Ending, NoFault, Reading, Fault, shown}
-use Rattle.worker_pool.specs.Texts.{standard, text_on}
+use Rattle.worker_pool.specs.Texts.{text_on}
 use Rattle.monitor_main.specs.declared.refusal.InputFile.{InputFile}
 use Rattle.monitor_main.specs.declared.refusal.InputFile.TheVariants as file
 use Rattle.monitor_main.specs.declared.refusal.Refusal.{Refusal}

@@ -1,10 +1,10 @@
 //! The log of a policy.
 ghost use Rattle.std.specs.Prelude.{◌≡◌, ◌≤◌, [], IsTrue};
+ghost use Rattle.log_reader.specs.Limits.{standard};
 ghost use Rattle.log_reader.specs.Progress.{start};
 ghost use Rattle.log_reader.specs.Readers.{Reads, progress};
 ghost use Rattle.worker_pool.specs.Effects.{effect};
 ghost use Rattle.worker_pool.specs.Endings.{FollowsLog};
-ghost use Rattle.worker_pool.specs.Texts.{standard};
 ghost use Rattle.monitor_main.specs.CheckedPolicies.{checked_in};
 ghost use Rattle.monitor_main.specs.Decisions.{MonitorsLog};
 ghost use Rattle.monitor_main.specs.Limits.{max_threads};

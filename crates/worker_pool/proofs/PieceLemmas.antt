@@ -13,6 +13,7 @@ use Rattle.mfotl_model.specs.declared.event.TimePoint.{TimePoint}
 use Rattle.mfotl_sig.specs.Preds.{PredOf}
 use Rattle.log_reader.proofs.GrowthLemmas.{front_stays}
 use Rattle.log_reader.specs.Growth.{Keeps}
+use Rattle.log_reader.specs.Limits.{standard}
 use Rattle.log_reader.specs.Progress.{Progress, read, start}
 use Rattle.log_reader.specs.Readers.{ForEach, Reader, Reads, progress}
 use Rattle.log_reader.specs.Readings.{NoFault, Reading, reading, shown}
@@ -24,7 +25,7 @@ use Rattle.worker_pool.specs.Effects.{Effect}
 use Rattle.worker_pool.specs.Endings.{EndsBy, FollowsLog}
 use Rattle.worker_pool.specs.Pieces.{Feeds, IsPieceStop, ReadsPiece, SoFar, StopsLines, TakesAll, end_of}
 use Rattle.worker_pool.specs.Policies.{IsCoreOf}
-use Rattle.worker_pool.specs.Texts.{lines, standard, tally_of, tally_on, text_on}
+use Rattle.worker_pool.specs.Texts.{lines, tally_of, tally_on, text_on}
 use Rattle.worker_pool.specs.Writing.{Begins, Writes, all_verdicts}
 use Rattle.worker_pool.specs.declared.stop.Stop.{Stop}
 use Rattle.worker_pool.specs.declared.stop.Stop.TheVariants.{Log, Read, Sink, Memory}

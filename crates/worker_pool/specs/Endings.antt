@@ -5,11 +5,12 @@ use Rattle.mon_outside.specs.Inputs.{Consumes}
 use Rattle.mon_outside.specs.Sink.{Appends, AppendsFront}
 use Rattle.mfotl_model.specs.Formulas.{Form}
 use Rattle.mfotl_sig.specs.Preds.{PredOf}
+use Rattle.log_reader.specs.Limits.{standard}
 use Rattle.log_reader.specs.Readings.{Ending, Fault, NoFault, Reading, reading}
 use Rattle.worker_pool.specs.declared.end.End.{End}
 use Rattle.worker_pool.specs.declared.end.End.TheVariants.{Finished, LogEnds, ReadFailed, SinkFailed, Memory}
 use Rattle.worker_pool.specs.Effects.{Effect}
-use Rattle.worker_pool.specs.Texts.{standard, tally_on, text_on}
+use Rattle.worker_pool.specs.Texts.{tally_on, text_on}
 
 -- what was read shows this ending, and all its lines were written
 pub record WritesAll (policy : Form) (r : Reading) (ending : Ending) (e : Effect) : Type 0 where

@@ -4,9 +4,7 @@ use Rattle.std.specs.List.{count_by, flat_map, list_any}
 use Rattle.mfotl_model.specs.Formulas.{Form}
 use Rattle.mfotl_model.specs.Log.{Log}
 use Rattle.mfotl_model.specs.VerdictText.{VerdictOf, line_of, text, verdicts}
-use Rattle.log_reader.specs.Limits.{byte_limit, event_limit, point_limit}
 use Rattle.log_reader.specs.Readings.{Reading}
-use Rattle.log_reader.specs.declared.limits.Limits.{Limits}
 use Rattle.worker_pool.specs.declared.tally.Tally.{Tally}
 
 -- whether a list has no member
@@ -33,10 +31,6 @@ tally_of verdicts = record {
   violated = count_by has_row verdicts;
   rows = sum_by (λ v. length v.rows) verdicts;
 }
-
--- how much a log may have
-abbrev pub standard : Limits
-standard = record { bytes = byte_limit; points = point_limit; events = event_limit }
 
 -- the time-points that were read, behind which more could come
 abbrev pub log_in : Reading → Log

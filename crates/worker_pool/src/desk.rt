@@ -1,5 +1,6 @@
 //! Main's loop as what main does beside the threads.
 ghost use Rattle.std.specs.Prelude.{◌≡◌, ◌≤◌, ◌<◌, [], IsTrue, length};
+ghost use Rattle.log_reader.specs.Limits.{standard};
 ghost use Rattle.log_reader.specs.Progress.{start};
 ghost use Rattle.log_reader.specs.Readers.{Reads, progress};
 ghost use Rattle.monitorable.specs.CoreForms.{CoreForm};
@@ -10,7 +11,6 @@ ghost use Rattle.worker_pool.specs.Endings.{FollowsLog};
 ghost use Rattle.worker_pool.specs.Hands.{AreGroupsOf, AreHandsOf};
 ghost use Rattle.worker_pool.specs.Pieces.{end_of};
 ghost use Rattle.worker_pool.specs.Policies.{ForEachPolicy};
-ghost use Rattle.worker_pool.specs.Texts.{standard};
 ghost use Rattle.worker_pool.specs.Writing.{Begins};
 
 use crate::crew::beside;
@@ -52,7 +52,7 @@ impl<'o, 's, R: Wait, G: Gate, I: Inputs, O: Sink> Errand for Desk<'o, 's, R, G,
     ghost use Rattle.worker_pool.specs.Hands.{AreHandsOf};
     ghost use Rattle.worker_pool.specs.Pieces.{end_of};
     ghost use Rattle.worker_pool.specs.Policies.{ForEachPolicy};
-    ghost use Rattle.worker_pool.specs.Texts.{standard};
+    ghost use Rattle.log_reader.specs.Limits.{standard};
     ghost use Rattle.worker_pool.specs.Writing.{Begins};
 
     type Answer = Result<Tally, Stop>;

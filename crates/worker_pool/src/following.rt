@@ -1,5 +1,6 @@
 //! The log in pieces: all lines of a piece are written and handed on before the next piece is read.
 ghost use Rattle.std.specs.Prelude.{◌≡◌, ◌<◌, ◌≤◌, IsTrue, length, [], false};
+ghost use Rattle.log_reader.specs.Limits.{standard};
 ghost use Rattle.log_reader.specs.Progress.{start};
 ghost use Rattle.log_reader.specs.Readers.{Reads, progress};
 ghost use Rattle.monitorable.specs.CoreForms.{CoreForm};
@@ -10,7 +11,6 @@ ghost use Rattle.worker_pool.specs.Endings.{FollowsLog};
 ghost use Rattle.worker_pool.specs.Hands.{AreHandsOf};
 ghost use Rattle.worker_pool.specs.Pieces.{ReadsPiece, end_of};
 ghost use Rattle.worker_pool.specs.Policies.{ForEachPolicy};
-ghost use Rattle.worker_pool.specs.Texts.{standard};
 ghost use Rattle.worker_pool.specs.Writing.{Begins};
 
 use crate::hands::WorkerHand;

@@ -1,6 +1,7 @@
 //! The whole run over a log.
 ghost use Rattle.std.specs.Prelude.{◌≡◌, ◌<◌, ◌≤◌, [], IfOk, IsTrue, length};
 ghost use Rattle.std.specs.List.{AllByRecursion};
+ghost use Rattle.log_reader.specs.Limits.{standard};
 ghost use Rattle.log_reader.specs.Progress.{start};
 ghost use Rattle.log_reader.specs.Readers.{Reads, progress};
 ghost use Rattle.monitorable.specs.Cores.{core_form};
@@ -12,7 +13,6 @@ ghost use Rattle.turn_hub.specs.Ends.{IsMainOf, cell_count};
 ghost use Rattle.worker_pool.specs.Hands.{AreGroupsOf, AreHandsOf};
 ghost use Rattle.worker_pool.specs.Pieces.{end_of};
 ghost use Rattle.worker_pool.specs.Policies.{ForEachPolicy};
-ghost use Rattle.worker_pool.specs.Texts.{standard};
 ghost use Rattle.worker_pool.specs.Writing.{Begins};
 
 use crate::bells::Bells;
