@@ -5,6 +5,7 @@ ghost use Rattle.mfotl_model.specs.FreeVariables.{among};
 ghost use Rattle.mfotl_model.specs.Satisfaction.{Valuation};
 ghost use Rattle.mfotl_model.specs.Tables.{all_among, all_apart, has};
 ghost use Rattle.eval_bool.specs.Heads.{all_have, all_inside, in_columns, joined_columns, joined_has, none_has};
+ghost use Rattle.eval_bool.specs.JoinedSoFar.{all_joined, is_joined};
 ghost use Rattle.eval_bool.specs.JoinView.{compared, test_holds};
 
 use crate::conjunct::Test;
@@ -23,9 +24,80 @@ fn joined_with(alloc: Global, before: Option<Table>, table: Table) -> Result<Tab
     match before {
         None => Ok(table),
         Some(before) => {
-            let joined = before.join(alloc, &table)?;
+            let joined = before.joined(alloc, &table)?;
             Ok(joined)
         }
+    }
+}
+
+// What was joined of the tables so far, and the last of them where it waits for the next: two are joined
+// at once, since the second may leave few of the rows.
+#[derive(Drop)]
+struct Joined {
+    table: Option<Table>,
+    waiting: Option<Table>,
+}
+
+// joins the two to what was joined before
+fn both_joined(
+    alloc: Global,
+    before: Option<Table>,
+    second: Table,
+    third: Table,
+) -> Result<Joined, AllocError>
+    ensures columns { IfOk result (λ joined. (y : ℕ) → is_joined y joined
+        ≡ ((among y (joined_columns before) || among y second.columns) || among y third.columns)) }
+    ensures has { IfOk result (λ joined. (v : Valuation) → all_joined v joined
+        ≡ ((joined_has v before && has second v) && has third v)) }
+{
+    match before {
+        None => Ok(Joined {
+            table: Some(second),
+            waiting: Some(third),
+        }),
+        Some(before) => {
+            let table = before.joined_twice(alloc, &second, &third)?;
+            Ok(Joined {
+                table: Some(table),
+                waiting: None,
+            })
+        }
+    }
+}
+
+fn one_more(alloc: Global, joined: Joined, table: Table) -> Result<Joined, AllocError>
+    ensures columns { IfOk result (λ more. (y : ℕ) →
+        is_joined y more ≡ (is_joined y joined || among y table.columns)) }
+    ensures has { IfOk result (λ more. (v : Valuation) →
+        all_joined v more ≡ (all_joined v joined && has table v)) }
+{
+    let Joined {
+        table: before,
+        waiting,
+    } = joined;
+    match waiting {
+        None => Ok(Joined {
+            table: before,
+            waiting: Some(table),
+        }),
+        Some(second) => both_joined(alloc, before, second, table),
+    }
+}
+
+// joins the table that waits
+fn last_joined(alloc: Global, joined: Joined) -> Result<Option<Table>, AllocError>
+    ensures columns { IfOk result (λ table. (y : ℕ) →
+        among y (joined_columns table) ≡ is_joined y joined) }
+    ensures has { IfOk result (λ table. (v : Valuation) →
+        joined_has v table ≡ all_joined v joined) }
+{
+    let Joined {
+        table: before,
+        waiting,
+    } = joined;
+    match waiting {
+        None => Ok(before),
+        Some(table) => Ok(Some(joined_with(alloc, before, table)?)),
     }
 }
 
@@ -35,11 +107,15 @@ fn all_joined(alloc: Global, tables: Vec<Table>) -> Result<Option<Table>, AllocE
     ensures has { IfOk result (λ joined. (v : Valuation) →
         joined_has v joined ≡ all_have v tables.items) }
 {
-    let mut joined = None;
+    let mut joined = Joined {
+        table: None,
+        waiting: None,
+    };
     for table in tables {
-        joined = Some(joined_with(alloc, joined, table)?);
+        joined = one_more(alloc, joined, table)?;
     }
-    Ok(joined)
+    let table = last_joined(alloc, joined)?;
+    Ok(table)
 }
 
 fn or_unit(alloc: Global, joined: Option<Table>) -> Result<Table, AllocError>

@@ -102,7 +102,7 @@ value_itself a = ap is_eq (tied_itself value_total a)
 pub row_itself : (r : List Value) → eq_by_cmp row_cmp r r ≡ true
 row_itself r = ap is_eq (tied_itself row_total r)
 
-among_others : (ca cb : List ℕ) (y : ℕ) → among y ca ≡ false → among y cb ≡ true → among y (others ca cb) ≡ true
+pub among_others : (ca cb : List ℕ) (y : ℕ) → among y ca ≡ false → among y cb ≡ true → among y (others ca cb) ≡ true
 among_others ca cb y out m =
     any-filter_same (nat_eq y) (λ z. not (among z ca)) true
     (λ z e. ap (λ w. not (among w ca)) (sym (eqb-true y z e)) ∙ ap not out) cb
@@ -117,7 +117,7 @@ kept_by y z rest ys true more k =
     ]
 kept_by y z rest ys false more k = or_right (nat_eq y z) (among y ys) (more k)
 
-kept_among : (y : ℕ) (ca cb : List ℕ) → among y (others ca cb) ≡ true → among y cb ≡ true
+pub kept_among : (y : ℕ) (ca cb : List ℕ) → among y (others ca cb) ≡ true → among y cb ≡ true
 kept_among y ca [] m = m
 kept_among y ca (z ∷ cb) m = kept_by y z (others ca cb) cb (not (among z ca)) (kept_among y ca cb) m
 

@@ -78,7 +78,7 @@ pub sized_both : (n : ℕ) (xs ys : List (List Value)) → all_sized n xs ≡ tr
 sized_both n xs ys first second =
     list_all-append (λ row. nat_eq (length row) n) xs ys ∙ and_from (all_sized n xs) (all_sized n ys) first second
 
-sized_filtered : (n : ℕ) (p : List Value → Bool) (rows : List (List Value)) → all_sized n rows ≡ true
+pub sized_filtered : (n : ℕ) (p : List Value → Bool) (rows : List (List Value)) → all_sized n rows ≡ true
     → all_sized n (filter p rows) ≡ true
 sized_filtered n p [] sized = refl
 sized_filtered n p (row ∷ rows) sized =
@@ -103,7 +103,7 @@ some_is columns p rows is =
 
 -- valuations
 
-filtered_has : (q : List Value) (p : List Value → Bool) (rows : List (List Value))
+pub filtered_has : (q : List Value) (p : List Value → Bool) (rows : List (List Value))
     → has_row (filter p rows) q ≡ (has_row rows q && p q)
 filtered_has q p rows =
     any-filter_same (eq_by_cmp row_cmp q) p (p q) (λ z e. ap p (sym (tells_apart row_exact q z e))) rows

@@ -196,7 +196,7 @@ any_swapped f (a ∷ rows) bs =
     any_either (f a) (λ b. list_any (λ x. f x b) rows) bs ∙ ap (λ t. list_any (f a) bs || t) (any_swapped f rows bs)
 
 module _ (ca cb : List ℕ) (q : List Value) where
-  makes : List Value → List Value → Bool
+  unfoldable pub makes : List Value → List Value → Bool
   makes ra rb = agree ca cb ra rb && eq_by_cmp row_cmp q (combined ca cb ra rb)
 
   with_has : (rows : List (List Value)) (rb : List Value)
@@ -206,7 +206,7 @@ module _ (ca cb : List ℕ) (q : List Value) where
       any_map (eq_by_cmp row_cmp q) (λ ra. combined ca cb ra rb) (filter (λ ra. agree ca cb ra rb) rows)
       ∙ any_filter (λ ra. eq_by_cmp row_cmp q (combined ca cb ra rb)) (λ ra. agree ca cb ra rb) rows
 
-  all_has : (rows bs : List (List Value)) → has_row (pairs ca cb rows bs) q
+  pub all_has : (rows bs : List (List Value)) → has_row (pairs ca cb rows bs) q
       ≡ list_any (λ ra. list_any (makes ra) bs) rows
   unfolding pairs makes
   all_has [] bs = refl

@@ -4,7 +4,7 @@ use Rattle.std.specs.List.{list_all, filter, flat_map}
 use Rattle.std.specs.Ordering.{eq_by_cmp}
 use Rattle.std.proofs.Math.Bool.{beq}
 use Rattle.mfotl_model.specs.Ascending.{ascending}
-use Rattle.mfotl_model.specs.FreeVariables.{among}
+use Rattle.mfotl_model.specs.FreeVariables.{among, joined}
 use Rattle.mfotl_model.specs.Satisfaction.{Valuation, compares, term_value}
 use Rattle.mfotl_model.specs.Tables.{TableOf, has_row, part, valuation}
 use Rattle.mfotl_model.specs.Values.{row_cmp, value_cmp}
@@ -50,6 +50,14 @@ turned_pairs first second rows bs = flat_map (pairs_with first second rows) bs
 -- the rows of a join
 abbrev pub joined_rows : TableOf → TableOf → List (List Value)
 joined_rows a b = ascending row_cmp (pairs a.columns b.columns a.rows b.rows)
+
+-- the join as a table
+abbrev pub joined_table : TableOf → TableOf → TableOf
+joined_table a b = record { columns = joined a.columns b.columns; rows = joined_rows a b }
+
+-- whether a table has the part of a row over these columns
+abbrev pub has_part : TableOf → List ℕ → List Value → Bool
+has_part t columns row = has_row t.rows (part columns t.columns row)
 
 -- the first's rows whose part at the second's columns is no row of the second
 abbrev pub unmatched_rows : TableOf → TableOf → List (List Value)

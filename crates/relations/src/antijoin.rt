@@ -18,7 +18,7 @@ use mfotl_model::Row;
 use std::alloc::{AllocError, Global};
 use std::sync::ledger::Ledger;
 
-fn has_part(
+pub(crate) fn has_part(
     alloc: Global,
     columns: &[u32],
     wanted: &[u32],

@@ -85,7 +85,8 @@ fn join_within<L: Ledger>(
         has table v ≡ (has first.now v && has second.now v)) }
 {
     let columns = both_columns(alloc, first.columns(), second.columns())?;
-    let by_first = first.rows().len() < second.rows().len();
+    // pairs by an index of the first come in the order of the second's rows, and have to be sorted
+    let by_first = first.rows().len() < second.rows().len() / 8;
     let mut steps = Steps::<L>::new(blank);
     let rows = pairs(alloc, first, second, by_first, &mut steps)?;
     Ok(Table::from_rows(columns, rows))

@@ -13,7 +13,7 @@ use std::sync::ledger::Ledger;
 
 /// The row of both: the first, then what the second has in the columns `more`.
 #[tactic(auto, unfolding(mfotl_model::specs::Tables::part))]
-fn combined(
+pub(crate) fn combined(
     alloc: Global,
     columns: &[u32],
     more: &[u32],

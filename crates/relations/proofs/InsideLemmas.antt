@@ -1,0 +1,94 @@
+-- The join with a table that has no columns of its own is the rows of the first of which the second has a part.
+use Rattle.std.proofs.Common.{◌≡◌, ℕ, Bool, true, false, not, ◌&&◌, ◌||◌, cond, nat_eq, List, [], ◌∷◌, ◌++◌, map, length}
+use Rattle.std.proofs.Common.{refl, sym, ap, ap₂, ◌∙◌}
+use Rattle.std.proofs.lemmas.Bool.{and_parts, cond-true, cond-false, eqb-true}
+use Rattle.std.proofs.lemmas.List.{append-nil}
+use Rattle.std.proofs.lemmas.List.Kept.{IsStrictlySortedBy-filter}
+use Rattle.std.proofs.lemmas.Map.Lookups.{btree_set_from_contains}
+use Rattle.std.specs.BTreeSet.{BTreeSet}
+use Rattle.std.specs.List.{list_any, list_all, filter}
+use Rattle.std.specs.Ordering.{eq_by_cmp}
+use Rattle.mfotl_model.proofs.RowLemmas.{row_exact}
+use Rattle.mfotl_model.specs.FreeVariables.{among, joined}
+use Rattle.mfotl_model.specs.Tables.{TableOf, all_among, all_apart, all_sized, has_row, part, valuation}
+use Rattle.mfotl_model.specs.Values.{row_cmp, row_total}
+use Rattle.mfotl_model.specs.declared.value.Value.{Value}
+use Rattle.relations.specs.Operations.{agree, combined, joined_rows, others, pairs}
+use Rattle.relations.specs.Tables.{IsTable}
+use Rattle.relations.proofs.AscendingRows.{has_ascending, rows_ascend}
+use Rattle.relations.proofs.JoinLemmas.{row_kept}
+use Rattle.relations.proofs.PairLemmas.{agree_is, all_has, makes}
+use Rattle.relations.proofs.RowLists.{any_filter}
+
+all_kept : (p : ℕ → Bool) (ys : List ℕ) → list_all p ys ≡ true → filter p ys ≡ ys
+all_kept p [] all = refl
+all_kept p (y ∷ ys) all =
+    let parts = and_parts (p y) (list_all p ys) all in
+    cond-true (p y) (y ∷ filter p ys) (filter p ys) parts.0 ∙ ap (λ r. y ∷ r) (all_kept p ys parts.1)
+
+none_kept : (p : ℕ → Bool) (ys : List ℕ) → list_all p ys ≡ true → filter (λ y. not (p y)) ys ≡ []
+none_kept p [] all = refl
+none_kept p (y ∷ ys) all =
+    let parts = and_parts (p y) (list_all p ys) all in
+    cond-false (not (p y)) (y ∷ filter (λ z. not (p z)) ys) (filter (λ z. not (p z)) ys) (ap not parts.0)
+    ∙ none_kept p ys parts.1
+
+pub joined_inside : (ca cb : List ℕ) → all_among cb ca ≡ true → joined ca cb ≡ ca
+joined_inside ca cb inside = ap (λ k. ca ++ k) (none_kept (λ y. among y ca) cb inside) ∙ append-nil ca
+
+module _ (ca cb : List ℕ) (q ra : List Value) (apart : all_apart cb ≡ true) (inside : all_among cb ca ≡ true) where
+  agrees : (rb : List Value) → length rb ≡ length cb → agree ca cb ra rb ≡ eq_by_cmp row_cmp (part ca cb ra) rb
+  unfolding part
+  agrees rb size =
+      sym (agree_is ca cb ra rb)
+      ∙ ap (λ k. eq_by_cmp row_cmp (map (valuation ca ra) k) (map (valuation cb rb) k))
+      (all_kept (λ y. among y ca) cb inside)
+      ∙ ap (eq_by_cmp row_cmp (part ca cb ra)) (row_kept cb rb apart size)
+
+  alone : (rb : List Value) → combined ca cb ra rb ≡ ra
+  unfolding combined part
+  alone rb = ap (λ k. ra ++ map (valuation cb rb) k) (none_kept (λ y. among y ca) cb inside) ∙ append-nil ra
+
+  any_makes : (bs : List (List Value)) → all_sized (length cb) bs ≡ true
+      → list_any (makes ca cb q ra) bs ≡ (has_row bs (part ca cb ra) && eq_by_cmp row_cmp q ra)
+  unfolding makes
+  any_makes [] sized = refl
+  any_makes (rb ∷ bs) sized =
+      let parts = and_parts (nat_eq (length rb) (length cb)) (all_sized (length cb) bs) sized in
+      ap₂ (λ a b. a || b)
+      (ap₂ (λ a r. a && eq_by_cmp row_cmp q r) (agrees rb (eqb-true (length rb) (length cb) parts.0)) (alone rb))
+      (any_makes bs parts.1)
+      ∙ either (eq_by_cmp row_cmp (part ca cb ra) rb) (has_row bs (part ca cb ra)) (eq_by_cmp row_cmp q ra)
+    where
+      either : (a b c : Bool) → ((a && c) || (b && c)) ≡ ((a || b) && c)
+      either true true true = refl
+      either true true false = refl
+      either true false true = refl
+      either true false false = refl
+      either false b c = refl
+
+has_matched : (ca cb : List ℕ) (q : List Value) (rows bs : List (List Value)) → all_apart cb ≡ true
+    → all_sized (length cb) bs ≡ true → all_among cb ca ≡ true
+    → has_row (filter (λ row. has_row bs (part ca cb row)) rows) q ≡ has_row (pairs ca cb rows bs) q
+has_matched ca cb q rows bs apart sized inside =
+    any_filter (eq_by_cmp row_cmp q) (λ row. has_row bs (part ca cb row)) rows
+    ∙ sym (each rows) ∙ sym (all_has ca cb q rows bs)
+  where
+    each : (rows : List (List Value)) → list_any (λ ra. list_any (makes ca cb q ra) bs) rows
+        ≡ list_any (λ row. has_row bs (part ca cb row) && eq_by_cmp row_cmp q row) rows
+    each [] = refl
+    each (ra ∷ rows) = ap₂ (λ a b. a || b) (any_makes ca cb q ra apart inside bs sized) (each rows)
+
+-- the rows that stay are those of the join
+pub matched_is : (a b : TableOf) → IsTable a.columns a.rows → IsTable b.columns b.rows
+    → all_among b.columns a.columns ≡ true
+    → filter (λ row. has_row b.rows (part a.columns b.columns row)) a.rows ≡ joined_rows a b
+matched_is a b first second inside =
+    let p : List Value → Bool = λ row. has_row b.rows (part a.columns b.columns row) in
+    let left : BTreeSet (List Value) = record { keys = filter p a.rows } in
+    let right : BTreeSet (List Value) = record { keys = joined_rows a b } in
+    btree_set_from_contains row_total left right (IsStrictlySortedBy-filter row_cmp p a.rows first.sorted)
+    (rows_ascend (pairs a.columns b.columns a.rows b.rows))
+    (λ q. has_matched a.columns b.columns q a.rows b.rows second.apart second.sized inside
+    ∙ sym (has_ascending (pairs a.columns b.columns a.rows b.rows) q))
+    row_exact

@@ -1,0 +1,54 @@
+use Rattle.std.proofs.Common.{◌≡◌, length, ap, ◌∙◌}
+use Rattle.std.specs.List.{filter, flat_map}
+use Rattle.mfotl_model.specs.Ascending.{ascending}
+use Rattle.mfotl_model.specs.FreeVariables.{joined}
+use Rattle.mfotl_model.specs.Tables.{all_among, all_apart, all_sized}
+use Rattle.mfotl_model.specs.Values.{row_cmp}
+use Rattle.relations.specs.Operations.{common, has_part, pairs, pairs_of}
+use Rattle.relations.proofs.ColumnLemmas.{apart_joined, common_in_second}
+use Rattle.relations.proofs.OperationLaws.{sized_filtered, sized_pairs}
+use Rattle.relations.proofs.TwiceLemmas.{kept_each, kept_of_join}
+use Rattle.relations.proofs.joined.join_kept.Goals as goal
+
+pub index-requires : goal.index-requires
+index-requires g c = record {
+  inside = ap (λ k. all_among k c.args.second.now.columns)
+      (c.in_ok-key.ensures ∙ (λ i. common (c.columns-3.ensures.columns i) (c.columns-4.ensures.columns i)))
+      ∙ common_in_second c.args.first.now.columns c.args.second.now.columns;
+}
+
+pub from_rows-requires-clause-apart : goal.from_rows-requires-clause-apart
+from_rows-requires-clause-apart g c =
+    ap all_apart (c.in_ok-columns.ensures ∙ (λ i. joined (c.columns.ensures.columns i)
+    (c.columns-2.ensures.columns i)))
+    ∙ apart_joined c.args.first.now.columns c.args.second.now.columns c.columns.ensures.apart c.columns-2.ensures.apart
+
+pub from_rows-requires-clause-sized : goal.from_rows-requires-clause-sized
+from_rows-requires-clause-sized g c =
+    let a = c.args.first.now in
+    let b = c.args.second.now in
+    let moved = c.in_ok-index.index.rows in
+    let p = has_part c.args.third.now (joined a.columns b.columns) in
+    let rows : c.in_ok-rows.rows.items ≡ filter p (pairs a.columns b.columns a.rows moved) =
+    c.in_ok-rows.ensures ∙ (λ i. flat_map (λ row. filter (has_part c.args.third.now
+    (joined (c.columns-5.ensures.columns i) (c.in_ok-index.ensures.columns i)))
+    (pairs_of (c.columns-5.ensures.columns i) (c.in_ok-index.ensures.columns i) moved row))
+    (c.rows.ensures.rows i)) ∙ kept_each p a.columns b.columns a.rows moved in
+    ap (λ cs. all_sized (length cs) c.in_ok-rows.rows.items)
+    (c.in_ok-columns.ensures ∙ (λ i. joined (c.columns.ensures.columns i) (c.columns-2.ensures.columns i)))
+    ∙ ap (all_sized (length (joined a.columns b.columns))) rows
+    ∙ sized_filtered (length (joined a.columns b.columns)) p (pairs a.columns b.columns a.rows moved)
+    (sized_pairs a.columns b.columns a.rows moved c.rows.ensures.is_table.sized)
+
+pub returns-clause-rows : goal.returns-clause-rows
+returns-clause-rows g c =
+    let a = c.args.first.now in
+    let b = c.args.second.now in
+    let moved = c.in_ok-index.index.rows in
+    let p = has_part c.args.third.now (joined a.columns b.columns) in
+    c.from_rows.ensures.rows
+    ∙ ap (ascending row_cmp) (c.in_ok-rows.ensures ∙ (λ i. flat_map (λ row. filter (has_part c.args.third.now
+    (joined (c.columns-5.ensures.columns i) (c.in_ok-index.ensures.columns i)))
+    (pairs_of (c.columns-5.ensures.columns i) (c.in_ok-index.ensures.columns i) moved row))
+    (c.rows.ensures.rows i)) ∙ kept_each p a.columns b.columns a.rows moved)
+    ∙ kept_of_join a b p moved c.in_ok-index.ensures.moved
