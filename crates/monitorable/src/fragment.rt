@@ -1,4 +1,5 @@
-//! Whether a normal form can be monitored.
+//! Whether a normal form can be monitored. Each operator's code is a call that isn't inlined, so that a level of a chain
+//! takes little of the stack.
 ghost use Rattle.std.specs.Prelude.{◌≡◌};
 ghost use Rattle.monitorable.specs.CoreForms.{node_form};
 ghost use Rattle.monitorable.specs.Fragment.{asked, covers, evens, fault_in, first, guards, is_conjunction, judges_not, looks_within, under_not, uses, with_name};
@@ -34,6 +35,7 @@ pub fn judge(alloc: Global, node: &Node, role: Role, scope: &Scope) -> Result<()
 }
 
 #[cycle(judging)]
+#[inline(never)]
 fn judge_not(
     alloc: Global,
     inner: &Node,
@@ -49,6 +51,7 @@ fn judge_not(
 }
 
 #[cycle(judging)]
+#[inline(never)]
 fn judge_and(
     alloc: Global,
     left: &Node,
@@ -67,6 +70,7 @@ fn judge_and(
 }
 
 #[cycle(judging)]
+#[inline(never)]
 fn judge_or(alloc: Global, left: &Node, right: &Node, scope: &Scope) -> Result<(), FragmentFault>
     ensures { Judges result (first (fault_in (scope_names scope.now) Whole (node_form left.now))
         (first (fault_in (scope_names scope.now) Whole (node_form right.now))
@@ -78,6 +82,7 @@ fn judge_or(alloc: Global, left: &Node, right: &Node, scope: &Scope) -> Result<(
 }
 
 #[cycle(judging)]
+#[inline(never)]
 fn judge_exists(
     alloc: Global,
     bound: &Bound,
@@ -93,6 +98,7 @@ fn judge_exists(
 }
 
 #[cycle(judging)]
+#[inline(never)]
 fn judge_since(alloc: Global, left: &Node, right: &Node, scope: &Scope) -> Result<(), FragmentFault>
     ensures { Judges result (first (fault_in (scope_names scope.now) Left (node_form left.now))
         (first (fault_in (scope_names scope.now) Whole (node_form right.now))
@@ -104,6 +110,7 @@ fn judge_since(alloc: Global, left: &Node, right: &Node, scope: &Scope) -> Resul
 }
 
 #[cycle(judging)]
+#[inline(never)]
 fn judge_until(
     alloc: Global,
     interval: &Interval,
