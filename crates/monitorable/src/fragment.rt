@@ -130,6 +130,7 @@ fn judge_until(
 }
 
 // Where it is asked for: each variable of a conjunct that binds none is bound by another conjunct.
+#[inline(never)]
 fn guard(alloc: Global, wanted: bool, node: &Node, scope: &Scope) -> Result<(), FragmentFault>
     ensures { Judges result (asked wanted (guards (scope_names scope.now) (node_form node.now))) }
 {
@@ -144,6 +145,7 @@ fn guard(alloc: Global, wanted: bool, node: &Node, scope: &Scope) -> Result<(), 
     }
 }
 
+#[inline(never)]
 fn even(alloc: Global, left: &Node, right: &Node) -> Result<(), FragmentFault>
     ensures { Judges result (evens (node_form left.now) (node_form right.now)) }
 {
@@ -155,6 +157,7 @@ fn even(alloc: Global, left: &Node, right: &Node) -> Result<(), FragmentFault>
     Ok(())
 }
 
+#[inline(never)]
 fn used(alloc: Global, bound: &Bound, inner: &Node) -> Result<(), FragmentFault>
     ensures { Judges result (uses bound.now (node_form inner.now)) }
 {
@@ -168,6 +171,7 @@ fn used(alloc: Global, bound: &Bound, inner: &Node) -> Result<(), FragmentFault>
     }
 }
 
+#[inline(never)]
 fn covered(alloc: Global, left: &Node, right: &Node, scope: &Scope) -> Result<(), FragmentFault>
     ensures { Judges result (covers (scope_names scope.now) (node_form left.now) (node_form right.now)) }
 {
