@@ -1,12 +1,13 @@
 //! A core whose quantifiers bind different variables.
 ghost use Rattle.std.specs.Prelude.{◌≡◌, ◌+◌, IfOk, OnOk};
 ghost use Rattle.monitorable.specs.CoreForms.{Exists, node_form};
-ghost use Rattle.monitorable.specs.Renaming.{above, apart_form, binder_count, renamed, with_number};
+ghost use Rattle.monitorable.specs.Renaming.{above, apart_form, binder_count, renamed, renamed_atom, renamed_comparison, with_number};
 ghost use Rattle.monitorable.specs.RenamingScope.{numbers_of};
 
+use crate::boxes;
 use crate::node::Node;
 use crate::renaming::Renaming;
-use mfotl_model::Bound;
+use mfotl_model::{Atom, Bound, Comparison};
 use std::alloc::{AllocError, Global};
 
 /// The core with its quantifiers numbered one after the other, above its free variables.
@@ -14,7 +15,7 @@ pub fn apart(alloc: Global, node: &Node) -> Result<Node, AllocError>
     ensures { IfOk result (λ node'. node_form node' ≡ apart_form (node_form node.now)) }
 {
     let mut next = above(&node.free_vars(alloc)?)?;
-    renamed(alloc, node, &Renaming::Same, &mut next)
+    Ok(Box::into_inner(renamed(alloc, node, &Renaming::Same, &mut next)?))
 }
 
 /// The core in new numbers. `next` is the number of the next quantifier; where there is none left,
@@ -26,87 +27,56 @@ fn renamed(
     node: &Node,
     renaming: &Renaming,
     next: &mut u32,
-) -> Result<Node, AllocError>
-    ensures renamed { IfOk result (λ node'. node_form node'
-        ≡ renamed (numbers_of renaming.now) next.old (node_form node.now)) }
-    ensures next { OnOk result (next.new ≡ next.old + binder_count (node_form node.now)) }
-{
-    match node {
-        Node::True => Ok(Node::True),
-        Node::False => Ok(Node::False),
-        Node::Atom(atom) => renaming.atom(alloc, atom).map(Node::Atom),
-        Node::Compare(comparison) => renaming.comparison(alloc, comparison).map(Node::Compare),
-        Node::Not(inner) => boxed(alloc, inner, renaming, next).map(Node::Not),
-        Node::And(left, right) => {
-            both(alloc, left, right, renaming, next).map(|(left, right)| Node::And(left, right))
-        }
-        Node::Or(left, right) => {
-            both(alloc, left, right, renaming, next).map(|(left, right)| Node::Or(left, right))
-        }
-        Node::Exists(bound, inner) => quantified(alloc, bound, inner, renaming, next),
-        Node::Previous(interval, inner) => {
-            boxed(alloc, inner, renaming, next).map(|inner| Node::Previous(*interval, inner))
-        }
-        Node::Next(interval, inner) => {
-            boxed(alloc, inner, renaming, next).map(|inner| Node::Next(*interval, inner))
-        }
-        Node::Since(interval, left, right) => {
-            both(alloc, left, right, renaming, next).map(|(left, right)| Node::Since(
-                *interval, left, right,
-            ))
-        }
-        Node::Until(interval, left, right) => {
-            both(alloc, left, right, renaming, next).map(|(left, right)| Node::Until(
-                *interval, left, right,
-            ))
-        }
-    }
-}
-
-#[cycle(renaming)]
-fn boxed(
-    alloc: Global,
-    node: &Node,
-    renaming: &Renaming,
-    next: &mut u32,
 ) -> Result<Box<Node>, AllocError>
     ensures renamed { IfOk result (λ node'. node_form node'.value
         ≡ renamed (numbers_of renaming.now) next.old (node_form node.now)) }
     ensures next { OnOk result (next.new ≡ next.old + binder_count (node_form node.now)) }
 {
-    Ok(Box::new(alloc, renamed(alloc, node, &*renaming, next)?)?)
-}
-
-#[cycle(renaming)]
-fn both(
-    alloc: Global,
-    left: &Node,
-    right: &Node,
-    renaming: &Renaming,
-    next: &mut u32,
-) -> Result<(Box<Node>, Box<Node>), AllocError>
-    ensures left { IfOk result (λ nodes. node_form nodes.0.value
-        ≡ renamed (numbers_of renaming.now) next.old (node_form left.now)) }
-    ensures right { IfOk result (λ nodes. node_form nodes.1.value
-        ≡ renamed (numbers_of renaming.now) (next.old + binder_count (node_form left.now))
-        (node_form right.now)) }
-    ensures next { OnOk result (next.new
-        ≡ next.old + (binder_count (node_form left.now) + binder_count (node_form right.now))) }
-{
-    let left = boxed(alloc, left, renaming, next)?;
-    Ok((left, boxed(alloc, right, renaming, next)?))
+    match node {
+        Node::True => boxes::boxed(alloc, Node::True),
+        Node::False => boxes::boxed(alloc, Node::False),
+        Node::Atom(atom) => renamed_atom(alloc, atom, renaming),
+        Node::Compare(comparison) => renamed_comparison(alloc, comparison, renaming),
+        Node::Not(inner) => boxes::not(alloc, renamed(alloc, inner, renaming, next)?),
+        Node::And(left, right) => {
+            let left = renamed(alloc, left, renaming, next)?;
+            boxes::and(alloc, left, renamed(alloc, right, renaming, next)?)
+        }
+        Node::Or(left, right) => {
+            let left = renamed(alloc, left, renaming, next)?;
+            boxes::or(alloc, left, renamed(alloc, right, renaming, next)?)
+        }
+        Node::Exists(bound, inner) => quantified(alloc, bound, inner, renaming, next),
+        Node::Previous(interval, inner) => {
+            boxes::previous(alloc, interval, renamed(alloc, inner, renaming, next)?)
+        }
+        Node::Next(interval, inner) => {
+            boxes::next(alloc, interval, renamed(alloc, inner, renaming, next)?)
+        }
+        Node::Since(interval, left, right) => {
+            let left = renamed(alloc, left, renaming, next)?;
+            let right = renamed(alloc, right, renaming, next)?;
+            boxes::since(alloc, interval, left, right)
+        }
+        Node::Until(interval, left, right) => {
+            let left = renamed(alloc, left, renaming, next)?;
+            let right = renamed(alloc, right, renaming, next)?;
+            boxes::until(alloc, interval, left, right)
+        }
+    }
 }
 
 // EXISTS, whose variable has the next number.
 #[cycle(renaming)]
+#[inline(never)]
 fn quantified(
     alloc: Global,
     bound: &Bound,
     inner: &Node,
     renaming: &Renaming,
     next: &mut u32,
-) -> Result<Node, AllocError>
-    ensures renamed { IfOk result (λ node. node_form node
+) -> Result<Box<Node>, AllocError>
+    ensures renamed { IfOk result (λ node. node_form node.value
         ≡ Exists (record { number = next.old; name = bound.now.name })
         (renamed (with_number (numbers_of renaming.now) bound.now.number next.old) (next.old + 1)
         (node_form inner.now))) }
@@ -114,8 +84,30 @@ fn quantified(
 {
     let number = take(next)?;
     let renaming = Renaming::To(bound.number, number, &*renaming);
-    let inner = boxed(alloc, inner, &renaming, next)?;
-    Ok(Node::Exists(renumbered(alloc, bound, number)?, inner))
+    let inner = renamed(alloc, inner, &renaming, next)?;
+    numbered(alloc, bound, number, inner)
+}
+
+#[inline(never)]
+fn renamed_atom(alloc: Global, atom: &Atom, renaming: &Renaming) -> Result<Box<Node>, AllocError>
+    ensures { IfOk result (λ node. node.value ≡ Node.Atom (renamed_atom (numbers_of renaming.now) atom.now)) }
+{
+    Ok(Box::new(alloc, Node::Atom(renaming.atom(alloc, atom)?))?)
+}
+
+#[inline(never)]
+fn renamed_comparison(
+    alloc: Global,
+    comparison: &Comparison,
+    renaming: &Renaming,
+) -> Result<Box<Node>, AllocError>
+    ensures { IfOk result (λ node. node.value
+        ≡ Node.Compare (renamed_comparison (numbers_of renaming.now) comparison.now)) }
+{
+    Ok(Box::new(
+        alloc,
+        Node::Compare(renaming.comparison(alloc, comparison)?),
+    )?)
 }
 
 // The next number.
@@ -133,14 +125,19 @@ fn take(next: &mut u32) -> Result<u32, AllocError>
     }
 }
 
-fn renumbered(alloc: Global, bound: &Bound, number: u32) -> Result<Bound, AllocError>
-    ensures number { IfOk result (λ renumbered. renumbered.number ≡ number) }
-    ensures name { IfOk result (λ renumbered. renumbered.name ≡ bound.now.name) }
+// EXISTS under another number.
+#[inline(never)]
+fn numbered(
+    alloc: Global,
+    bound: &Bound,
+    number: u32,
+    inner: Box<Node>,
+) -> Result<Box<Node>, AllocError>
+    ensures { IfOk result (λ node. node_form node.value
+        ≡ Exists (record { number = number; name = bound.now.name }) (node_form inner.value)) }
 {
-    Ok(Bound {
-        number,
-        name: bound.name.copy(alloc)?,
-    })
+    let name = bound.name.copy(alloc)?;
+    Ok(Box::new(alloc, Node::Exists(Bound { number, name }, inner))?)
 }
 
 // The least number above all of these.

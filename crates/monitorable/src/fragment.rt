@@ -1,4 +1,5 @@
-//! Whether a normal form can be monitored.
+//! Whether a normal form can be monitored. Each operator's code is a call that isn't inlined, so that a level of a chain
+//! takes little of the stack.
 ghost use Rattle.std.specs.Prelude.{◌≡◌};
 ghost use Rattle.monitorable.specs.CoreForms.{node_form};
 ghost use Rattle.monitorable.specs.Fragment.{asked, covers, evens, fault_in, first, guards, is_conjunction, judges_not, looks_within, under_not, uses, with_name};
@@ -34,6 +35,7 @@ pub fn judge(alloc: Global, node: &Node, role: Role, scope: &Scope) -> Result<()
 }
 
 #[cycle(judging)]
+#[inline(never)]
 fn judge_not(
     alloc: Global,
     inner: &Node,
@@ -49,6 +51,7 @@ fn judge_not(
 }
 
 #[cycle(judging)]
+#[inline(never)]
 fn judge_and(
     alloc: Global,
     left: &Node,
@@ -67,6 +70,7 @@ fn judge_and(
 }
 
 #[cycle(judging)]
+#[inline(never)]
 fn judge_or(alloc: Global, left: &Node, right: &Node, scope: &Scope) -> Result<(), FragmentFault>
     ensures { Judges result (first (fault_in (scope_names scope.now) Whole (node_form left.now))
         (first (fault_in (scope_names scope.now) Whole (node_form right.now))
@@ -78,6 +82,7 @@ fn judge_or(alloc: Global, left: &Node, right: &Node, scope: &Scope) -> Result<(
 }
 
 #[cycle(judging)]
+#[inline(never)]
 fn judge_exists(
     alloc: Global,
     bound: &Bound,
@@ -93,6 +98,7 @@ fn judge_exists(
 }
 
 #[cycle(judging)]
+#[inline(never)]
 fn judge_since(alloc: Global, left: &Node, right: &Node, scope: &Scope) -> Result<(), FragmentFault>
     ensures { Judges result (first (fault_in (scope_names scope.now) Left (node_form left.now))
         (first (fault_in (scope_names scope.now) Whole (node_form right.now))
@@ -104,6 +110,7 @@ fn judge_since(alloc: Global, left: &Node, right: &Node, scope: &Scope) -> Resul
 }
 
 #[cycle(judging)]
+#[inline(never)]
 fn judge_until(
     alloc: Global,
     interval: &Interval,
@@ -123,6 +130,7 @@ fn judge_until(
 }
 
 // Where it is asked for: each variable of a conjunct that binds none is bound by another conjunct.
+#[inline(never)]
 fn guard(alloc: Global, wanted: bool, node: &Node, scope: &Scope) -> Result<(), FragmentFault>
     ensures { Judges result (asked wanted (guards (scope_names scope.now) (node_form node.now))) }
 {
@@ -137,6 +145,7 @@ fn guard(alloc: Global, wanted: bool, node: &Node, scope: &Scope) -> Result<(), 
     }
 }
 
+#[inline(never)]
 fn even(alloc: Global, left: &Node, right: &Node) -> Result<(), FragmentFault>
     ensures { Judges result (evens (node_form left.now) (node_form right.now)) }
 {
@@ -148,6 +157,7 @@ fn even(alloc: Global, left: &Node, right: &Node) -> Result<(), FragmentFault>
     Ok(())
 }
 
+#[inline(never)]
 fn used(alloc: Global, bound: &Bound, inner: &Node) -> Result<(), FragmentFault>
     ensures { Judges result (uses bound.now (node_form inner.now)) }
 {
@@ -161,6 +171,7 @@ fn used(alloc: Global, bound: &Bound, inner: &Node) -> Result<(), FragmentFault>
     }
 }
 
+#[inline(never)]
 fn covered(alloc: Global, left: &Node, right: &Node, scope: &Scope) -> Result<(), FragmentFault>
     ensures { Judges result (covers (scope_names scope.now) (node_form left.now) (node_form right.now)) }
 {

@@ -52,7 +52,7 @@ fn judged_negation(alloc: Global, policy: &Policy) -> Result<Node, FragmentFault
     if pay_for_negated(&policy.formula, Some(NODE_LIMIT)).is_none() {
         return Err(FragmentFault::TooLarge);
     }
-    let negation = negated_normal_form(alloc, &policy.formula)?;
+    let negation = Box::into_inner(negated_normal_form(alloc, &policy.formula)?);
     let scope = Scope::Free(policy.vars.as_slice());
     judge(alloc, &negation, Role::Whole, &scope)?;
     Ok(negation)

@@ -4,6 +4,7 @@
 
 mod apart;
 mod atoms;
+mod boxes;
 mod count;
 mod fault;
 mod fragment;

@@ -1,7 +1,8 @@
 //! The tree that the monitor evaluates.
 ghost use Rattle.std.specs.Prelude.{◌≡◌, IfOk};
-ghost use Rattle.monitorable.specs.CoreForms.{Exists, node_form};
+ghost use Rattle.monitorable.specs.CoreForms.{node_form};
 
+use crate::boxes;
 use mfotl_model::{Atom, Bound, Comparison, Interval};
 use std::alloc::{AllocError, Global};
 
@@ -44,61 +45,42 @@ impl Drop for Node {
 }
 
 impl Node {
-    #[cycle(copies)]
     pub fn copy(&self, alloc: Global) -> Result<Self, AllocError>
         ensures { IfOk result (λ node. node_form node ≡ node_form self.now) }
     {
-        match self {
-            Node::True => Ok(Node::True),
-            Node::False => Ok(Node::False),
-            Node::Atom(atom) => atom.copy(alloc).map(Node::Atom),
-            Node::Compare(comparison) => comparison.copy(alloc).map(Node::Compare),
-            Node::Not(inner) => inner.boxed(alloc).map(Node::Not),
-            Node::And(left, right) => {
-                both(alloc, left, right).map(|(left, right)| Node::And(left, right))
-            }
-            Node::Or(left, right) => {
-                both(alloc, left, right).map(|(left, right)| Node::Or(left, right))
-            }
-            Node::Exists(bound, inner) => inner.quantified(alloc, bound),
-            Node::Previous(interval, inner) => {
-                inner
-                    .boxed(alloc)
-                    .map(|inner| Node::Previous(*interval, inner))
-            }
-            Node::Next(interval, inner) => {
-                inner.boxed(alloc).map(|inner| Node::Next(*interval, inner))
-            }
-            Node::Since(interval, left, right) => {
-                both(alloc, left, right).map(|(left, right)| Node::Since(*interval, left, right))
-            }
-            Node::Until(interval, left, right) => {
-                both(alloc, left, right).map(|(left, right)| Node::Until(*interval, left, right))
-            }
-        }
+        Ok(Box::into_inner(self.boxed(alloc)?))
     }
 
-    #[cycle(copies)]
     fn boxed(&self, alloc: Global) -> Result<Box<Self>, AllocError>
         ensures { IfOk result (λ node. node_form node.value ≡ node_form self.now) }
     {
-        Ok(Box::new(alloc, self.copy(alloc)?)?)
+        match self {
+            Node::True => boxes::boxed(alloc, Node::True),
+            Node::False => boxes::boxed(alloc, Node::False),
+            Node::Atom(atom) => boxes::atom(alloc, atom),
+            Node::Compare(comparison) => boxes::comparison(alloc, comparison),
+            Node::Not(inner) => boxes::not(alloc, inner.boxed(alloc)?),
+            Node::And(left, right) => {
+                let left = left.boxed(alloc)?;
+                boxes::and(alloc, left, right.boxed(alloc)?)
+            }
+            Node::Or(left, right) => {
+                let left = left.boxed(alloc)?;
+                boxes::or(alloc, left, right.boxed(alloc)?)
+            }
+            Node::Exists(bound, inner) => boxes::exists(alloc, bound, inner.boxed(alloc)?),
+            Node::Previous(interval, inner) => {
+                boxes::previous(alloc, interval, inner.boxed(alloc)?)
+            }
+            Node::Next(interval, inner) => boxes::next(alloc, interval, inner.boxed(alloc)?),
+            Node::Since(interval, left, right) => {
+                let left = left.boxed(alloc)?;
+                boxes::since(alloc, interval, left, right.boxed(alloc)?)
+            }
+            Node::Until(interval, left, right) => {
+                let left = left.boxed(alloc)?;
+                boxes::until(alloc, interval, left, right.boxed(alloc)?)
+            }
+        }
     }
-
-    // A copy under EXISTS.
-    #[cycle(copies)]
-    fn quantified(&self, alloc: Global, bound: &Bound) -> Result<Self, AllocError>
-        ensures { IfOk result (λ node. node_form node ≡ Exists bound.now (node_form self.now)) }
-    {
-        Ok(Node::Exists(bound.copy(alloc)?, self.boxed(alloc)?))
-    }
-}
-
-#[cycle(copies)]
-fn both(alloc: Global, left: &Node, right: &Node) -> Result<(Box<Node>, Box<Node>), AllocError>
-    ensures left { IfOk result (λ nodes. node_form nodes.0.value ≡ node_form left.now) }
-    ensures right { IfOk result (λ nodes. node_form nodes.1.value ≡ node_form right.now) }
-{
-    let left = left.boxed(alloc)?;
-    Ok((left, right.boxed(alloc)?))
 }
