@@ -10,6 +10,7 @@ ghost use Rattle.relations.specs.Operations.{has_part, joined_rows, joined_table
 
 use crate::antijoin::has_part;
 use crate::columns::{both_columns, common};
+use crate::hashed::hashed;
 use crate::pairs::kept_pairs;
 use crate::steps::Steps;
 use crate::table::Table;
@@ -81,12 +82,14 @@ fn join_kept<L: Ledger>(
     let key = common(alloc, first.columns(), second.columns())?;
     let index = second.index(alloc, key)?;
     let mut steps = Steps::<L>::new(blank);
+    let set = hashed(alloc, third.rows())?;
     let rows = kept_pairs(
         alloc,
         first.columns(),
         first.rows(),
         &index,
-        third,
+        third.columns(),
+        &set,
         &mut steps,
     )?;
     Ok(Table::from_rows(columns, rows))
