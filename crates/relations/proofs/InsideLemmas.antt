@@ -13,7 +13,7 @@ use Rattle.mfotl_model.specs.FreeVariables.{among, joined}
 use Rattle.mfotl_model.specs.Tables.{TableOf, all_among, all_apart, all_sized, has_row, part, valuation}
 use Rattle.mfotl_model.specs.Values.{row_cmp, row_total}
 use Rattle.mfotl_model.specs.declared.value.Value.{Value}
-use Rattle.relations.specs.Operations.{agree, combined, joined_rows, others, pairs}
+use Rattle.relations.specs.Operations.{agree, combined, joined_rows, pairs}
 use Rattle.relations.specs.Tables.{IsTable}
 use Rattle.relations.proofs.AscendingRows.{has_ascending, rows_ascend}
 use Rattle.relations.proofs.JoinLemmas.{row_kept}

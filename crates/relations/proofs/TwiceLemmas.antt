@@ -1,7 +1,6 @@
 -- Two joins, one after the other, the second with a table that has no columns of its own.
-use Rattle.std.proofs.Common.{◌≡◌, ℕ, suc, Bool, true, false, not, ◌&&◌, ◌||◌, cond, nat_eq, List, [], ◌∷◌, ◌++◌}
-use Rattle.std.proofs.Common.{length, map, pos, refl, sym, ap, ap₂, ◌∙◌, arith}
-use Rattle.std.proofs.lemmas.Bool.{cond-true, cond-false, or_left, or_right}
+use Rattle.std.proofs.Common.{◌≡◌, ℕ, Bool, true, false, ◌&&◌, ◌||◌, cond, nat_eq, List, [], ◌∷◌, ◌++◌}
+use Rattle.std.proofs.Common.{length, map, pos, refl, sym, ap, ◌∙◌, arith}
 use Rattle.std.proofs.lemmas.List.Elements.{filter-append}
 use Rattle.std.proofs.lemmas.List.Kept.{IsStrictlySortedBy-filter}
 use Rattle.std.proofs.lemmas.Map.Lookups.{btree_set_from_contains}
@@ -24,7 +23,6 @@ use Rattle.relations.proofs.InsideLemmas.{matched_is}
 use Rattle.relations.proofs.JoinLemmas.{among_others, kept_among, read_own}
 use Rattle.relations.proofs.OperationLaws.{filtered_has, has_joined, sized_pairs}
 use Rattle.relations.proofs.PairLemmas.{filter_alike, join_moved}
-use Rattle.relations.proofs.RowLists.{valuation_none}
 
 -- what a row has at a column that it lacks
 absent : (columns : List ℕ) (row : List Value) (x : ℕ) → among x columns ≡ false

@@ -117,6 +117,11 @@ fn both_kept(
     Ok(table)
 }
 
+// Whether an index or a set of the other's rows pays.
+fn is_long(first: &Table, other: &Table) -> bool {
+    first.rows().len() >= 16 && first.rows().len() >= other.rows().len() / 8
+}
+
 // Whether it pays to join the first with an index of the second before the third is looked at.
 fn is_narrowed(
     alloc: Global,
@@ -129,7 +134,7 @@ fn is_narrowed(
 {
     let columns = both_columns(alloc, first.columns(), second.columns())?;
     let own = !are_among(second.columns(), first.columns());
-    let long = first.rows().len() >= second.rows().len() / 8;
+    let long = is_long(first, second) && is_long(first, third);
     Ok(are_among(third.columns(), columns.as_slice()) && own && long)
 }
 

@@ -1,4 +1,4 @@
-use Rattle.std.proofs.Common.{◌++◌, ap, ◌∙◌}
+use Rattle.std.proofs.Common.{ap, ◌∙◌}
 use Rattle.mfotl_model.specs.Tables.{has_row}
 use Rattle.relations.proofs.pairs.is_kept.Goals as goal
 
