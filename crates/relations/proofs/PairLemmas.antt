@@ -52,7 +52,7 @@ module _ (ca cb : List ℕ) (ra rb : List Value) where
   unfolding part agree
   agree_is = by_key cb
 
-filter_alike : (p q : List Value → Bool) (rows : List (List Value)) → ((row : List Value) → p row ≡ q row)
+pub filter_alike : (p q : List Value → Bool) (rows : List (List Value)) → ((row : List Value) → p row ≡ q row)
     → filter p rows ≡ filter q rows
 filter_alike p q [] same = refl
 filter_alike p q (row ∷ rows) same = λ i. cond (same row i) (row ∷ filter_alike p q rows same i)

@@ -1,7 +1,6 @@
 -- Two joins, one after the other, the second with a table that has no columns of its own.
-use Rattle.std.proofs.Common.{◌≡◌, ℕ, suc, Bool, true, false, not, ◌&&◌, ◌||◌, cond, nat_eq, List, [], ◌∷◌, ◌++◌}
-use Rattle.std.proofs.Common.{length, map, pos, refl, sym, ap, ap₂, ◌∙◌, arith}
-use Rattle.std.proofs.lemmas.Bool.{cond-true, cond-false, or_left, or_right}
+use Rattle.std.proofs.Common.{◌≡◌, ℕ, Bool, true, false, ◌&&◌, ◌||◌, cond, nat_eq, List, [], ◌∷◌, ◌++◌}
+use Rattle.std.proofs.Common.{length, map, pos, refl, sym, ap, ◌∙◌, arith}
 use Rattle.std.proofs.lemmas.List.Elements.{filter-append}
 use Rattle.std.proofs.lemmas.List.Kept.{IsStrictlySortedBy-filter}
 use Rattle.std.proofs.lemmas.Map.Lookups.{btree_set_from_contains}
@@ -16,15 +15,14 @@ use Rattle.mfotl_model.specs.Tables.{TableOf, all_among, has, has_row, part, val
 use Rattle.mfotl_model.specs.Values.{row_cmp, row_total}
 use Rattle.mfotl_model.specs.declared.value.Value.{Value}
 use Rattle.mfotl_model.specs.declared.value.Value.TheVariants.{Int}
-use Rattle.relations.specs.Operations.{has_part, joined_rows, joined_table, others, pairs, pairs_of}
+use Rattle.relations.specs.Operations.{has_part, joined_rows, joined_table, others, pairs, pairs_of, table_of_rows}
 use Rattle.relations.specs.Tables.{IsTable}
 use Rattle.relations.proofs.AscendingRows.{has_ascending, made_is, rows_ascend}
 use Rattle.relations.proofs.ColumnLemmas.{apart_joined}
 use Rattle.relations.proofs.InsideLemmas.{matched_is}
 use Rattle.relations.proofs.JoinLemmas.{among_others, kept_among, read_own}
 use Rattle.relations.proofs.OperationLaws.{filtered_has, has_joined, sized_pairs}
-use Rattle.relations.proofs.PairLemmas.{join_moved}
-use Rattle.relations.proofs.RowLists.{valuation_none}
+use Rattle.relations.proofs.PairLemmas.{filter_alike, join_moved}
 
 -- what a row has at a column that it lacks
 absent : (columns : List ℕ) (row : List Value) (x : ℕ) → among x columns ≡ false
@@ -93,6 +91,14 @@ kept_each p ca cb [] bs = refl
 kept_each p ca cb (ra ∷ rows) bs =
     ap (λ rest. filter p (pairs_of ca cb bs ra) ++ rest) (kept_each p ca cb rows bs)
     ∙ sym (filter-append p (pairs_of ca cb bs ra) (pairs ca cb rows bs))
+
+-- a table is asked by its rows alone
+pub kept_alike : (c : TableOf) (rows : List (List Value)) → ((q : List Value) → has_row rows q ≡ has_row c.rows q)
+    → (columns : List ℕ) (xs : List (List Value))
+    → filter (has_part (table_of_rows c.columns rows) columns) xs ≡ filter (has_part c columns) xs
+kept_alike c rows same columns xs =
+    filter_alike (has_part (table_of_rows c.columns rows) columns) (has_part c columns) xs
+    (λ row. same (part columns c.columns row))
 
 -- in order, before or after some are left out
 ordered_kept : (p : List Value → Bool) (xs : List (List Value))

@@ -55,6 +55,10 @@ joined_rows a b = ascending row_cmp (pairs a.columns b.columns a.rows b.rows)
 abbrev pub joined_table : TableOf → TableOf → TableOf
 joined_table a b = record { columns = joined a.columns b.columns; rows = joined_rows a b }
 
+-- these rows over these columns as a table
+abbrev pub table_of_rows : List ℕ → List (List Value) → TableOf
+table_of_rows columns rows = record { columns = columns; rows = rows }
+
 -- whether a table has the part of a row over these columns
 abbrev pub has_part : TableOf → List ℕ → List Value → Bool
 has_part t columns row = has_row t.rows (part columns t.columns row)

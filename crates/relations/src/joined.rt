@@ -10,6 +10,7 @@ ghost use Rattle.relations.specs.Operations.{has_part, joined_rows, joined_table
 
 use crate::antijoin::has_part;
 use crate::columns::{both_columns, common};
+use crate::hashed::hashed;
 use crate::pairs::kept_pairs;
 use crate::steps::Steps;
 use crate::table::Table;
@@ -81,12 +82,14 @@ fn join_kept<L: Ledger>(
     let key = common(alloc, first.columns(), second.columns())?;
     let index = second.index(alloc, key)?;
     let mut steps = Steps::<L>::new(blank);
+    let set = hashed(alloc, third.rows())?;
     let rows = kept_pairs(
         alloc,
         first.columns(),
         first.rows(),
         &index,
-        third,
+        third.columns(),
+        &set,
         &mut steps,
     )?;
     Ok(Table::from_rows(columns, rows))
@@ -114,6 +117,11 @@ fn both_kept(
     Ok(table)
 }
 
+// Whether an index or a set of the other's rows pays.
+fn is_long(first: &Table, other: &Table) -> bool {
+    first.rows().len() >= 16 && first.rows().len() >= other.rows().len() / 8
+}
+
 // Whether it pays to join the first with an index of the second before the third is looked at.
 fn is_narrowed(
     alloc: Global,
@@ -126,7 +134,7 @@ fn is_narrowed(
 {
     let columns = both_columns(alloc, first.columns(), second.columns())?;
     let own = !are_among(second.columns(), first.columns());
-    let long = first.rows().len() >= second.rows().len() / 8;
+    let long = is_long(first, second) && is_long(first, third);
     Ok(are_among(third.columns(), columns.as_slice()) && own && long)
 }
 

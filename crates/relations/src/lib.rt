@@ -7,6 +7,7 @@ mod choosing;
 mod columns;
 mod entry;
 pub mod examples;
+mod hashed;
 mod index;
 mod join;
 mod joined;

@@ -2,16 +2,16 @@
 ghost use Rattle.std.specs.Prelude.{◌≡◌, ◌++◌, IfOk, OnOk, length, map, true};
 ghost use Rattle.std.specs.List.{filter, flat_map};
 ghost use Rattle.mfotl_model.specs.FreeVariables.{joined};
-ghost use Rattle.mfotl_model.specs.Tables.{TableOf, all_sized, has_row, part, valuation};
-ghost use Rattle.relations.specs.Operations.{common, has_part, others, pairs_of};
+ghost use Rattle.mfotl_model.specs.Tables.{all_sized, has_row, part, valuation};
+ghost use Rattle.relations.specs.Operations.{common, has_part, others, pairs_of, table_of_rows};
 
 use crate::columns::{part_of, value_of};
 use crate::index::Index;
 use crate::matched::combined;
 use crate::steps::Steps;
-use crate::table::Table;
 use mfotl_model::{Row, Value, is_among, others};
 use std::alloc::{AllocError, Global};
+use std::collections::HashSet;
 use std::sync::ledger::Ledger;
 
 /// What the row of both has at a column: `more` are the second's columns that the first lacks.
@@ -69,14 +69,15 @@ fn is_kept(
     other: &[u32],
     more: &[u32],
     second: &Row,
-    third: &Table,
+    wanted: &[u32],
+    third: &HashSet<Row>,
 ) -> Result<bool, AllocError>
     requires more { more.now ≡ others columns.now other.now }
     requires sized { length first.now ≡ length columns.now }
-    ensures { IfOk result (λ yes. yes ≡ has_part third.now (columns.now ++ more.now)
+    ensures { IfOk result (λ yes. yes ≡ has_part (table_of_rows wanted.now third.now.keys) (columns.now ++ more.now)
         (first.now ++ part other.now more.now second.now)) }
 {
-    let key = part_of_pair(alloc, columns, first, other, more, second, third.columns())?;
+    let key = part_of_pair(alloc, columns, first, other, more, second, wanted)?;
     Ok(third.contains(&key))
 }
 
@@ -87,17 +88,18 @@ fn push_kept(
     other: &[u32],
     more: &[u32],
     seconds: &[Row],
-    third: &Table,
+    wanted: &[u32],
+    third: &HashSet<Row>,
     rows: &mut Vec<Row>,
 ) -> Result<(), AllocError>
     requires more { more.now ≡ others columns.now other.now }
     requires sized { length first.now ≡ length columns.now }
     ensures { OnOk result (rows.new.items ≡ rows.old.items
-        ++ filter (has_part third.now (columns.now ++ more.now))
+        ++ filter (has_part (table_of_rows wanted.now third.now.keys) (columns.now ++ more.now))
         (map (λ second. first.now ++ part other.now more.now second) seconds.now)) }
 {
     for second in seconds {
-        if is_kept(alloc, columns, first, other, more, second, third)? {
+        if is_kept(alloc, columns, first, other, more, second, wanted, third)? {
             rows.push(combined(alloc, other, more, first, second)?)?;
         }
     }
@@ -111,7 +113,8 @@ fn push_agreeing_kept<L: Ledger>(
     more: &[u32],
     row: &Row,
     index: &Index,
-    third: &Table,
+    wanted: &[u32],
+    third: &HashSet<Row>,
     steps: &mut Steps<L>,
     rows: &mut Vec<Row>,
 ) -> Result<(), AllocError>
@@ -119,7 +122,7 @@ fn push_agreeing_kept<L: Ledger>(
     requires more { more.now ≡ others columns.now index.now.columns }
     requires sized { length row.now ≡ length columns.now }
     ensures { OnOk result (rows.new.items ≡ rows.old.items
-        ++ filter (has_part third.now (joined columns.now index.now.columns))
+        ++ filter (has_part (table_of_rows wanted.now third.now.keys) (joined columns.now index.now.columns))
         (pairs_of columns.now index.now.columns index.now.rows row.now)) }
 {
     let key = part_of(alloc, columns, index.key_columns(), row.values())?;
@@ -131,6 +134,7 @@ fn push_agreeing_kept<L: Ledger>(
         index.columns(),
         more,
         seconds,
+        wanted,
         third,
         rows,
     )?;
@@ -144,13 +148,14 @@ pub(crate) fn kept_pairs<L: Ledger>(
     columns: &[u32],
     rows: &[Row],
     index: &Index,
-    third: &Table,
+    wanted: &[u32],
+    third: &HashSet<Row>,
     steps: &mut Steps<L>,
 ) -> Result<Vec<Row>, AllocError>
     requires key { index.now.key_columns ≡ common columns.now index.now.columns }
     requires sized { all_sized (length columns.now) rows.now ≡ true }
     ensures { IfOk result (λ all. all.items ≡
-        flat_map (λ row. filter (has_part third.now (joined columns.now index.now.columns))
+        flat_map (λ row. filter (has_part (table_of_rows wanted.now third.now.keys) (joined columns.now index.now.columns))
         (pairs_of columns.now index.now.columns index.now.rows row)) rows.now) }
 {
     let more = others(alloc, columns, index.columns())?;
@@ -162,6 +167,7 @@ pub(crate) fn kept_pairs<L: Ledger>(
             more.as_slice(),
             row,
             index,
+            wanted,
             third,
             steps,
             &mut all,

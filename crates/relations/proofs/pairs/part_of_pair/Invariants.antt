@@ -4,4 +4,5 @@ use Rattle.relations.proofs.pairs.part_of_pair.Given as goal
 
 abbrev pub invariant-loop-x : goal.invariant-loop-x
 invariant-loop-x l =
-    l.narrow ≡ map (valuation (l.columns ++ l.more) (l.first ++ part l.other l.more l.second)) (take l.x-index l.wanted)
+    l.narrow ≡ map (valuation (l.columns ++ l.more) (l.first ++ part l.other l.more l.second))
+    (take l.x-index l.wanted)
