@@ -9,6 +9,7 @@ pub mod Causes
 pub mod Reading
 pub mod Laws
 pub mod WorkedTexts
+pub mod WorkedParts
 pub mod Answers
 pub mod FaultTexts
 pub mod ChangeGrammar

@@ -3,6 +3,7 @@
 ghost use Rattle.slice_strategy.specs.Laws.{ReadIsSpelled, SpelledIsRead, OneAnswer, ExactFaults, ExactSoundness, StaysShown};
 ghost use Rattle.slice_strategy.specs.ChangeLaws as changes;
 ghost use Rattle.slice_strategy.specs.ChangeTexts.{WorkedChanges, WorkedChangeFaults};
+ghost use Rattle.slice_strategy.specs.WorkedParts.{WorkedParts};
 ghost use Rattle.slice_strategy.specs.WorkedTexts.{WorkedValues, WorkedFaults};
 
 /// A text that is read spells its strategy, and keeps the rules.
@@ -41,6 +42,11 @@ pub fn stays_shown()
 pub fn worked_texts()
     ensures values { WorkedValues }
     ensures faults { WorkedFaults }
+{}
+
+/// Texts worked out by hand, and the parts that they are in.
+pub fn worked_parts()
+    ensures { WorkedParts }
 {}
 
 /// A change script has exactly one of a list of changes, which it spells, and a first fault.

@@ -1,10 +1,13 @@
 -- What one side leaves is what the other side finds.
-use Rattle.std.specs.Prelude.{◌≡◌, ◌≢◌, ℕ, List}
+use Rattle.std.specs.Prelude.{◌≡◌, ◌≢◌, ℕ, List, length, Option, Some}
+use Rattle.atomic_table.specs.Table.{Step}
+use Rattle.turn_hub.specs.declared.view.Cell.{Cell}
 use Rattle.turn_hub.specs.declared.view.View.{View}
 use Rattle.turn_hub.specs.declared.hub.Swap.{Swap}
 use Rattle.turn_hub.specs.declared.hub.Swap.TheVariants.{Back, NotYet, Broken}
 use Rattle.turn_hub.specs.declared.hub.Served.TheVariants.{Worked, Memory}
 use Rattle.turn_hub.specs.Answers.{ServedAs, Swapped}
+use Rattle.turn_hub.specs.Steps.{Seated, gives_back}
 use Rattle.turn_hub.specs.Words.{main_turn, hand_turn, broken}
 
 -- the answer is that the cell is broken
@@ -41,3 +44,9 @@ module _ {W S I O : Type 0} (stands : S → List I → List O → W → Type 0) 
   abbrev pub NotYetIsWorked : Type 0
   NotYetIsWorked = (v w x y : View W S I O) (j k n : ℕ) (items : List I) (answer : Swap I O)
       → ServedAs v j (Worked n) w → Swapped told k items x answer y → IsNotYet answer → y.word ≡ w.word
+
+  -- a hand that gives its cell back tells as many items as it had found there
+  abbrev pub WorkedIsFound : Type 0
+  WorkedIsFound = (st : Step (Option (Cell W I O))) (m m' : Seated W S I O) (v : View W S I O) (found : Cell W I O)
+      (j n word : ℕ) → m.0.has ≡ Some found → gives_back st m word m' → ServedAs v j (Worked n) m'.0
+      → n ≡ length found.items.items

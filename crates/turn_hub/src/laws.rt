@@ -1,7 +1,7 @@
 //! Laws of works, stated by the contract of a function that does nothing.
 
 ghost use Rattle.turn_hub.specs.Laws.{StandsTakes, StandsOn, LeadsNone, LeadsOn, TakesLess, TakesOn};
-ghost use Rattle.turn_hub.specs.Turns.{WordsDiffer, BrokenIsLeft, BackIsLeft, NotYetIsWorked};
+ghost use Rattle.turn_hub.specs.Turns.{WordsDiffer, BrokenIsLeft, BackIsLeft, NotYetIsWorked, WorkedIsFound};
 
 use crate::work::Work;
 
@@ -21,4 +21,5 @@ pub fn turns_agree<W: Work>()
     ensures broken { BrokenIsLeft W.stands W.told }
     ensures back { BackIsLeft W.stands W.told }
     ensures not_yet { NotYetIsWorked W.stands W.told }
+    ensures worked { WorkedIsFound W.stands W.told }
 {}
