@@ -26,7 +26,7 @@ use Rattle.monitor_state.specs.declared.state.WindowData.{WindowData}
 use Rattle.monitor_state.specs.declared.state.WindowData.TheVariants as window
 use Rattle.state_split.proofs.NodeCuts.{nodes_inside, nodes_rule, nodes_stand}
 use Rattle.monitor_state.proofs.PartLaw.{part_stands}
-use Rattle.state_split.specs.Splits.{IsNumbered, StrategiesCut}
+use Rattle.state_split.specs.Splits.{IsNumbered, SplitsStand, StrategiesCut}
 
 -- ---- nodes ask for the same timestamps
 
@@ -130,3 +130,9 @@ stand_each core near next log state to (p ∷ ps) first second rule stands cuts 
   cut_to_both core near (next to) log state p.state first (second to) rule stands cuts.0,
   stand_each core near next log state (to + 1) ps first second rule stands cuts.1,
 )
+
+pub splits_stand : SplitsStand
+splits_stand monitor near next log pieces first second is stands =
+    let seen : View = view_of monitor.core near log in
+    let rule = is.kept.rule seen stands in
+    stand_each monitor.core near next log is.state 0 pieces first second rule (is.kept.stands seen stands) (is.cut rule)

@@ -1,10 +1,11 @@
 -- The pieces of a worker's state, one for each worker of the next strategy.
 use Rattle.std.specs.Prelude.{◌≡◌, ℕ, List}
 use Rattle.mfotl_model.specs.Exact.{View}
-use Rattle.mfotl_model.specs.Regions.{Region, in_both, near_of}
+use Rattle.mfotl_model.specs.FreeVariables.{fv}
+use Rattle.mfotl_model.specs.Regions.{Passes, Region, in_both, near_of}
 use Rattle.mfotl_model.specs.Strategies.{Strategy, workers_of}
 use Rattle.mfotl_model.specs.declared.event.TimePoint.{TimePoint}
-use Rattle.monitorable.specs.CoreForms.{CoreForm}
+use Rattle.monitorable.specs.CoreForms.{CoreForm, meaning}
 use Rattle.relations.specs.Pushed.{StandFrom}
 use Rattle.monitor_state.specs.MonitorView.{MonitorOf}
 use Rattle.monitor_state.specs.Pieces.{AreCuts, view_of}
@@ -54,3 +55,11 @@ StrategiesCut =
     (core : CoreForm) (s : Strategy) (k : ℕ) (s2 : Strategy) (log : List TimePoint) (generation : ℕ)
     (pieces : List Piece) → AreNumbered generation k (workers_of s) pieces
     → StandEach core (near_of s k) (near_of s2) log pieces → AreCuts core s k s2 log generation 0 pieces
+
+-- the pieces of what a monitor keeps stand each for the log that the monitor stands for
+abbrev pub SplitsStand : Type 0
+SplitsStand =
+    (monitor : MonitorOf) (near : Region) (next : ℕ → Region) (log : List TimePoint) (pieces : List Piece)
+    → Passes (fv (meaning monitor.core)) near → ((k : ℕ) → Passes (fv (meaning monitor.core)) (next k))
+    → IsSplit monitor near next pieces → Stands (view_of monitor.core near log) monitor.core monitor.state
+    → StandEach monitor.core near next log pieces

@@ -1,8 +1,7 @@
 use Rattle.monitor_state.specs.MonitorView.{monitor_of}
 use Rattle.monitor_state.specs.Nodes.{nodes_of}
-use Rattle.monitor_state.specs.Pieces.{view_of}
 use Rattle.monitor_state.specs.StateTimes.{times_of}
-use Rattle.state_split.proofs.CutLaw.{stand_each}
+use Rattle.state_split.proofs.CutLaw.{splits_stand}
 use Rattle.state_split.proofs.FitLemmas.{nodes_fit}
 use Rattle.state_split.proofs.split.split_state.Goals as goal
 
@@ -20,10 +19,6 @@ pub returns-clause-stands : goal.returns-clause-stands
 returns-clause-stands g c log first second stands =
     let core = (monitor_of c.args.monitor.now).core in
     let near = g.S.Slicer.region c.args.strategy.now c.args.from in
-    let state = c.in_ok-state.state in
-    let rule = c.in_ok-state.ensures.rule (view_of core near log) stands in
-    stand_each core near (g.S2.Slicer.region c.args.next.now) log state 0 c.in_ok-pieces.pieces.items
-    (g.met.S.Slicer.passes c.args.strategy.now _ c.args.from first)
-    (λ k. g.met.S2.Slicer.passes c.args.next.now _ k second) rule
-    (c.in_ok-state.ensures.stands (view_of core near log) stands)
-    (c.in_ok-pieces.ensures.cuts (nodes_fit (times_of state) (nodes_of core) state.nodes.items rule))
+    splits_stand (monitor_of c.args.monitor.now) near (g.S2.Slicer.region c.args.next.now) log
+    c.in_ok-pieces.pieces.items (g.met.S.Slicer.passes c.args.strategy.now _ c.args.from first)
+    (λ k. g.met.S2.Slicer.passes c.args.next.now _ k second) (returns-clause-cuts g c) stands
