@@ -170,12 +170,12 @@ module _ (interval : Interval) (right left : List ℕ) (negated : Bool) (lefts :
 -- the rows that times are kept for have as many values as columns
 pub sized_reached : (interval : Interval) (x : ℕ) (right left : List ℕ)
     (groups : List (List Value × List (List Value × List ℕ))) (rows : List (List Value))
-    → Sized (length right) groups → ((u : List Value)
-    → has_row rows u ≡ reaches interval (times_at groups (part right left u) u) x)
+    → Sized (length right) groups → ((u : List Value) → has_row rows u ≡ true
+    → reaches interval (times_at groups (part right left u) u) x ≡ true)
     → all_sized (length right) rows ≡ true
 sized_reached interval x right left groups rows sized reached =
     all_rows (λ row. nat_eq (length row) (length right)) rows
-    (λ row there. by row (nat_eq (length row) (length right)) refl (sym (reached row) ∙ there))
+    (λ row there. by row (nat_eq (length row) (length right)) refl (reached row there))
   where
     by : (row : List Value) (b : Bool) → nat_eq (length row) (length right) ≡ b
         → reaches interval (times_at groups (part right left row) row) x ≡ true

@@ -298,6 +298,20 @@ impl SinceState {
         Ok(table)
     }
 
+    /// Of the table of the position that was pulled last the rows whose part at the columns of `keys` is
+    /// one of its rows. No other row is copied.
+    pub fn table_of(&self, alloc: Global, keys: &Table) -> Result<Table, AllocError>
+        requires inside { IsTrue (all_among keys.now.columns self.now.window.right) }
+        ensures columns { IfOk result (λ table. table.columns ≡ self.now.window.right) }
+        ensures rows { IfOk result (λ table. (t : List ℕ) (a b : List Bool) (v : Valuation) →
+            Follows self.now t a b v → 0 < self.now.pulled →
+            has table v ≡ (since self.now.window.interval t a b (self.now.pulled - 1)
+            && has keys.now v)) }
+    {
+        let table = self.window.table_of(alloc, keys)?;
+        Ok(table)
+    }
+
     /// The table of the next position, `None` while it is not due.
     pub fn pull(&mut self, alloc: Global) -> Result<Option<Table>, AllocError>
         ensures due { IfOk result (λ answer. is_some answer ≡ due self.old) }

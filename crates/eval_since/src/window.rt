@@ -372,6 +372,34 @@ impl Window {
         Ok(Table::from_rows(columns, rows))
     }
 
+    /// Those of these rows whose part at the columns of `keys` is one of its rows.
+    pub fn table_of(&self, alloc: Global, keys: &Table) -> Result<Table, AllocError>
+        ensures columns { IfOk result (λ table. table.columns ≡ self.now.right) }
+        ensures rows { IfOk result (λ table. (u : List Value) →
+            has_row table.rows u ≡ (within self.now self.now.last u
+            && has_row keys.now.rows (part self.now.right keys.now.columns u))) }
+    {
+        let mut rows = Vec::new(alloc);
+        self.push_table_of(alloc, &mut rows, keys)?;
+        let columns = Vec::from_slice(alloc, self.right.as_slice())?;
+        Ok(Table::from_rows(columns, rows))
+    }
+
+    fn push_table_of(
+        &self,
+        alloc: Global,
+        out: &mut Vec<Row>,
+        keys: &Table,
+    ) -> Result<(), AllocError>
+        ensures { OnOk result ((u : List Value) → has_row out.new.items u
+            ≡ (has_row out.old.items u || (within self.now self.now.last u
+            && has_row keys.now.rows (part self.now.right keys.now.columns u)))) }
+    {
+        let right = self.right.as_slice();
+        let groups = &self.contents.groups;
+        groups.push_matching(alloc, out, &self.interval, self.last, right, keys)
+    }
+
     pub fn left(&self) -> &[u32]
         ensures { result.now ≡ self.now.left }
     {

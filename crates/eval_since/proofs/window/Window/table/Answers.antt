@@ -1,4 +1,4 @@
-use Rattle.std.proofs.Common.{◌||◌, ℕ, List, length, ap, ◌∙◌}
+use Rattle.std.proofs.Common.{◌||◌, ℕ, List, length, sym, ap, ◌∙◌}
 use Rattle.std.specs.List.{list_any}
 use Rattle.mfotl_model.specs.Tables.{all_apart, all_sized, has_row, part}
 use Rattle.relations.proofs.AscendingRows.{has_ascending}
@@ -19,11 +19,11 @@ from_rows-requires-clause-sized c =
     (c.in_ok-columns.ensures.items ∙ c.as_slice.ensures.value)
     ∙ sized_reached k.interval k.last k.right.items k.left.items k.contents.groups c.push_reaching.new.out.items
     c.self.invariant.sized
-    (λ u. c.in_ok-push_reaching.ensures.rows u
+    (λ u there. sym (c.in_ok-push_reaching.ensures.rows u
     ∙ ap (λ rows. has_row rows u || list_any (λ e. reaches k.interval (times_in e.1 u) k.last) k.contents.groups)
     c.new-rows.ensures.items
     ∙ group_is k.interval k.last (part k.right.items k.left.items u) u k.contents.groups c.push_reaching.ensures.differ
-    (λ q. c.self.invariant.placed q u))
+    (λ q. c.self.invariant.placed q u)) ∙ there)
 
 pub returns-clause-rows : goal.returns-clause-rows
 returns-clause-rows c = rw (← c.self.view_is) (
