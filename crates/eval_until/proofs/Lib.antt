@@ -3,6 +3,7 @@ pub mod NextLemmas
 pub mod DueLemmas
 pub mod EntriesLemmas
 pub mod RowsLemmas
+pub mod KeyLemmas
 pub mod OrderLemmas
 pub mod QueueLemmas
 pub mod KeepingLemmas

@@ -4,6 +4,7 @@
 mod ahead;
 mod entries;
 mod expiry;
+mod keys;
 pub mod laws;
 mod meeting;
 mod next;

@@ -1,0 +1,38 @@
+use Rattle.std.proofs.Common.{◌||◌, ◌&&◌, ℕ, List, length, sym, ap, ◌∙◌}
+use Rattle.std.proofs.lemmas.Bool.{and_parts}
+use Rattle.mfotl_model.specs.Tables.{all_apart, all_sized, has_row, part}
+use Rattle.relations.proofs.AscendingRows.{has_ascending}
+use Rattle.eval_until.specs.AheadView.{met}
+use Rattle.eval_until.specs.Entries.{met_by}
+use Rattle.eval_until.proofs.KeepingLemmas.{sized_met}
+use Rattle.eval_until.proofs.OrderLemmas.{entries_in_order}
+use Rattle.eval_until.proofs.ahead.Ahead.table_of.Goals as goal
+
+pub from_rows-requires-clause-apart : goal.from_rows-requires-clause-apart
+from_rows-requires-clause-apart c = ap all_apart (c.in_ok-columns.ensures.items ∙ c.as_slice.ensures.value)
+    ∙ c.self.invariant.apart
+
+pub from_rows-requires-clause-sized : goal.from_rows-requires-clause-sized
+from_rows-requires-clause-sized c =
+    let k = c.self.inside in
+    ap (λ (columns : List ℕ). all_sized (length columns) c.push_table_of.new.out.items)
+    (c.in_ok-columns.ensures.items ∙ c.as_slice.ensures.value)
+    ∙ sized_met k.interval c.args.i c.args.x (length k.right.items) k.contents.rows.entries
+    c.push_table_of.new.out.items
+    c.self.invariant.sized
+    (λ u there. sym (ap (met_by k.interval c.args.i c.args.x) (entries_in_order k.contents.rows.entries u))
+    ∙ (rw (← c.self.view_is) at
+    ((and_parts (met c.args.self.now c.args.i c.args.x u)
+    (has_row c.args.keys.now.rows (part c.args.self.now.right c.args.keys.now.columns u))
+    (sym (c.in_ok-push_table_of.ensures u
+    ∙ ap (λ rows. has_row rows u || (met c.args.self.now c.args.i c.args.x u
+    && has_row c.args.keys.now.rows (part c.args.self.now.right c.args.keys.now.columns u))) c.new-rows.ensures.items)
+    ∙ there)).0)))
+
+pub returns-clause-rows : goal.returns-clause-rows
+returns-clause-rows c = λ u.
+    ap (λ rows. has_row rows u) c.from_rows.ensures.rows
+    ∙ has_ascending c.push_table_of.new.out.items u
+    ∙ c.in_ok-push_table_of.ensures u
+    ∙ ap (λ rows. has_row rows u || (met c.args.self.now c.args.i c.args.x u
+    && has_row c.args.keys.now.rows (part c.args.self.now.right c.args.keys.now.columns u))) c.new-rows.ensures.items
