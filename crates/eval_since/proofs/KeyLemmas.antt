@@ -1,13 +1,15 @@
 -- Rows that are looked for by a part of them.
-use Rattle.std.proofs.Common.{◌≡◌, ℕ, Bool, true, false, ◌&&◌, ◌||◌, List, [], ◌∷◌, refl, sym, ap, ap₂, ◌∙◌}
+use Rattle.std.proofs.Common.{◌≡◌, ℕ, Bool, true, false, ◌&&◌, ◌||◌, cond, nat_eq, length, List, [], ◌∷◌, refl, sym, ap, ap₂, ◌∙◌}
 use Rattle.std.specs.BTreeMap.{is_at}
 use Rattle.std.specs.List.{list_any}
+use Rattle.mfotl_model.specs.Tables.{has_row, part}
 use Rattle.mfotl_model.specs.Values.{row_cmp}
 use Rattle.mfotl_model.specs.declared.interval.Interval.{Interval}
 use Rattle.mfotl_model.specs.declared.value.Value.{Value}
 use Rattle.relations.proofs.MapLemmas.{same_row}
 use Rattle.relations.specs.KeptRows.{RowsDiffer}
-use Rattle.eval_since.proofs.GroupLemmas.{StandsIn, group_is, hit_is}
+use Rattle.eval_since.proofs.GroupLemmas.{StandsIn, empty_list, group_is, hit_is}
+use Rattle.eval_since.specs.LeftOperand.{grouping, lead}
 use Rattle.eval_since.specs.Groups.{hit, times_at, times_in}
 use Rattle.eval_since.specs.Times.{reaches}
 
@@ -51,3 +53,39 @@ pub matches_at : (interval : Interval) (x : ℕ) (k u : List Value) (wanted : Bo
 matches_at interval x k u wanted es differ stands =
     any_and (λ (e : List Value × List (List Value × List ℕ)). reaches interval (times_in e.1 u) x) wanted es
     ∙ ap (λ b. b && wanted) (group_is interval x k u es differ stands)
+
+-- what is looked up in the groups of keys is found where the row's own group is one of them
+pub found_at : (interval : Interval) (x : ℕ) (k u : List Value) (keys : List (List Value))
+    (es : List (List Value × List (List Value × List ℕ))) → StandsIn es k u
+    → list_any (λ q. reaches interval (times_at es q u) x) keys
+    ≡ (reaches interval (times_at es k u) x && has_row keys k)
+found_at interval x k u [] es stands = sym (none (reaches interval (times_at es k u) x))
+  where
+    none : (b : Bool) → (b && false) ≡ false
+    none true = refl
+    none false = refl
+found_at interval x k u (q ∷ keys) es stands =
+    by (is_at (row_cmp k) q) refl (reaches interval (times_at es k u) x) refl (found_at interval x k u keys es stands)
+  where
+    more : (r rest : Bool) → (r || (r && rest)) ≡ (r && true)
+    more true rest = refl
+    more false rest = refl
+    by : (b : Bool) → is_at (row_cmp k) q ≡ b → (r : Bool) → reaches interval (times_at es k u) x ≡ r
+        → list_any (λ p. reaches interval (times_at es p u) x) keys ≡ (r && has_row keys k)
+        → (reaches interval (times_at es q u) x || list_any (λ p. reaches interval (times_at es p u) x) keys)
+        ≡ (r && (b || has_row keys k))
+    by true at r is rest =
+        ap₂ (λ c d. c || d) (ap (λ p. reaches interval (times_at es p u) x) (sym (same_row k q at)) ∙ is) rest
+        ∙ more r (has_row keys k)
+    by false apart r is rest = ap (λ ts. reaches interval ts x
+        || list_any (λ p. reaches interval (times_at es p u) x) keys) (stands q apart) ∙ rest
+
+-- what the left operand speaks of, read off a group's values
+pub lead_is : (left keys right : List ℕ) (u : List Value)
+    → lead (nat_eq (length left) 0) (part right (grouping left keys) u) ≡ part right left u
+unfolding part
+lead_is left keys right u = by (nat_eq (length left) 0) refl
+  where
+    by : (b : Bool) → nat_eq (length left) 0 ≡ b → lead b (part right (cond b keys left) u) ≡ part right left u
+    by true none = ap (λ columns. part right columns u) (empty_list left none)
+    by false some = refl

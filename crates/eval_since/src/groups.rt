@@ -179,6 +179,42 @@ impl Groups {
         Ok(())
     }
 
+    /// Appends the rows of the groups of these keys whose times reach.
+    pub fn push_found(
+        &self,
+        alloc: Global,
+        out: &mut Vec<Row>,
+        interval: &Interval,
+        x: u64,
+        keys: &[Row],
+    ) -> Result<(), AllocError>
+        ensures { OnOk result ((u : List Value) → has_row out.new.items u
+            ≡ (has_row out.old.items u
+            || list_any (λ k. reaches interval.now (times_at self.now k u) x) keys.now)) }
+    {
+        for key in keys {
+            self.push_group(alloc, out, interval, x, key)?;
+        }
+        Ok(())
+    }
+
+    fn push_group(
+        &self,
+        alloc: Global,
+        out: &mut Vec<Row>,
+        interval: &Interval,
+        x: u64,
+        key: &Row,
+    ) -> Result<(), AllocError>
+        ensures { OnOk result ((u : List Value) → has_row out.new.items u
+            ≡ (has_row out.old.items u || reaches interval.now (times_at self.now key.now u) x)) }
+    {
+        match self.groups.get(key) {
+            Some(group) => group.push_reaching(alloc, out, interval, x),
+            None => Ok(()),
+        }
+    }
+
     /// Puts the times of a row into a group, in the place of those that it has there.
     pub fn put(&mut self, alloc: Global, key: Row, row: Row, times: Times) -> Result<(), AllocError>
         ensures { OnOk result ((q v : List Value) → times_at self.new q v

@@ -1,5 +1,6 @@
-//! Rows whose part is one of a table's rows.
+//! Parts of rows: those by which they are grouped, and those that a table has.
 ghost use Rattle.std.specs.Prelude.{◌≡◌, IfOk};
+ghost use Rattle.eval_since.specs.LeftOperand.{grouping, left_has};
 ghost use Rattle.mfotl_model.specs.Tables.{has_row, part};
 
 use mfotl_model::Row;
@@ -13,4 +14,22 @@ pub fn has_part(alloc: Global, columns: &[u32], row: &Row, keys: &Table) -> Resu
 {
     let key = part_of(alloc, columns, keys.columns(), row.values())?;
     Ok(keys.contains(&key))
+}
+
+/// The columns whose values rows are grouped by: the left operand's, or where it has none these.
+pub fn grouping<'a>(left: &'a [u32], keys: &'a [u32]) -> &'a [u32]
+    ensures { result.now ≡ grouping left.now keys.now }
+{
+    if left.is_empty() { keys } else { left }
+}
+
+/// Whether the left operand with this table holds of a row.
+pub fn holds_on(negated: bool, table: &Table, row: &Row) -> bool
+    ensures { result ≡ left_has negated table.now.rows row.now }
+{
+    if negated {
+        !table.contains(row)
+    } else {
+        table.contains(row)
+    }
 }

@@ -3,6 +3,7 @@ use Rattle.std.proofs.lemmas.Bool.{and_parts}
 use Rattle.mfotl_model.specs.Tables.{all_apart, all_sized, has_row, part}
 use Rattle.mfotl_model.specs.declared.value.Value.{Value}
 use Rattle.relations.proofs.AscendingRows.{has_ascending}
+use Rattle.eval_since.specs.LeftOperand.{grouping}
 use Rattle.eval_since.specs.WindowView.{within}
 use Rattle.eval_since.proofs.StepLemmas.{sized_reached}
 use Rattle.eval_since.proofs.window.Window.table_of.Goals as goal
@@ -24,7 +25,7 @@ from_rows-requires-clause-sized c =
     let k = c.self.inside in
     ap (λ (columns : List ℕ). all_sized (length columns) c.push_table_of.new.out.items)
     (c.in_ok-columns.ensures.items ∙ c.as_slice.ensures.value)
-    ∙ sized_reached k.interval k.last k.right.items k.left.items k.contents.groups c.push_table_of.new.out.items
+    ∙ sized_reached k.interval k.last k.right.items (grouping k.left.items k.keys.items) k.contents.groups c.push_table_of.new.out.items
     c.self.invariant.sized
     (λ u there. rw (← c.self.view_is) at
     ((and_parts (within c.args.self.now c.args.self.now.last u)
