@@ -40,6 +40,7 @@ matches_are interval x u wanted es differ = each es ∙ any_and (hit interval x 
         → ((b && reaches interval e.1 x) && wanted e.0) ≡ ((b && reaches interval e.1 x) && wanted u)
     here e true at = ap (λ v. reaches interval e.1 x && wanted v) (sym (same_row u e.0 at))
     here e false at = refl
+
     each : (xs : List (List Value × List ℕ))
         → list_any (λ e. hit interval x u e && wanted e.0) xs ≡ list_any (λ e. hit interval x u e && wanted u) xs
     each [] = refl
@@ -70,6 +71,7 @@ found_at interval x k u (q ∷ keys) es stands =
     more : (r rest : Bool) → (r || (r && rest)) ≡ (r && true)
     more true rest = refl
     more false rest = refl
+
     by : (b : Bool) → is_at (row_cmp k) q ≡ b → (r : Bool) → reaches interval (times_at es k u) x ≡ r
         → list_any (λ p. reaches interval (times_at es p u) x) keys ≡ (r && has_row keys k)
         → (reaches interval (times_at es q u) x || list_any (λ p. reaches interval (times_at es p u) x) keys)

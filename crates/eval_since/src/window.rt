@@ -293,12 +293,7 @@ impl Window {
 
     /// The window over the same columns with these rows, after some positions, the last of which has the
     /// time `last`.
-    pub fn resumed(
-        self,
-        alloc: Global,
-        last: u64,
-        rows: Vec<KeptRow>,
-    ) -> Result<Self, AllocError>
+    pub fn resumed(self, alloc: Global, last: u64, rows: Vec<KeptRow>) -> Result<Self, AllocError>
         requires rows { RowsAscend (times_kept rows.items) }
         requires sized { IsTrue (all_sized (length self.right) (map (λ k. k.row) rows.items)) }
         requires kept { AllByRecursion (λ k. KeepsTimes self.interval.hi last k.times.items) rows.items }
@@ -403,12 +398,7 @@ impl Window {
     pub fn key(&self, alloc: Global, row: &Row) -> Result<Row, AllocError>
         ensures { IfOk result (λ key. key ≡ part self.now.right self.now.keys row.now) }
     {
-        part_of(
-            alloc,
-            self.right.as_slice(),
-            self.keys(),
-            row.values(),
-        )
+        part_of(alloc, self.right.as_slice(), self.keys(), row.values())
     }
 
     /// Whether some kept time of a row lies in the interval, seen from `x`.
@@ -464,12 +454,7 @@ impl Window {
     }
 
     // Looks up the group of each key.
-    fn push_found(
-        &self,
-        alloc: Global,
-        out: &mut Vec<Row>,
-        keys: &Table,
-    ) -> Result<(), AllocError>
+    fn push_found(&self, alloc: Global, out: &mut Vec<Row>, keys: &Table) -> Result<(), AllocError>
         requires same { keys.now.columns ≡ self.now.keys }
         ensures { OnOk result ((u : List Value) → has_row out.new.items u
             ≡ (has_row out.old.items u || (within self.now self.now.last u
