@@ -3,7 +3,6 @@ pub mod NextLemmas
 pub mod DueLemmas
 pub mod EntriesLemmas
 pub mod RowsLemmas
-pub mod KeyLemmas
 pub mod OrderLemmas
 pub mod QueueLemmas
 pub mod KeepingLemmas

@@ -20,7 +20,7 @@ use crate::expiry::expire;
 use crate::ordered::{hashed_rows, hashed_starts, ordered_rows, ordered_starts};
 use crate::rebuild::{kept_marks, kept_starts, queue_of};
 use crate::recalled::{KeptMarks, KeptStart};
-use crate::rows::{add_rows, push_matching, push_met, row_met};
+use crate::rows::{add_rows, push_met, row_met};
 use crate::starts::apply_left;
 use mfotl_model::{Interval, Row};
 use relations::Table;
@@ -322,42 +322,6 @@ impl Ahead {
         push_met(alloc, &self.contents.rows, &mut rows, &self.interval, i, x)?;
         let columns = Vec::from_slice(alloc, self.right.as_slice())?;
         Ok(Table::from_rows(columns, rows))
-    }
-
-    /// Those of these rows whose part at the columns of `keys` is one of its rows.
-    pub fn table_of(
-        &self,
-        alloc: Global,
-        i: u64,
-        x: u64,
-        keys: &Table,
-    ) -> Result<Table, AllocError>
-        ensures columns { IfOk result (λ table. table.columns ≡ self.now.right) }
-        ensures rows { IfOk result (λ table. (u : List Value) →
-            has_row table.rows u ≡ (met self.now i x u
-            && has_row keys.now.rows (part self.now.right keys.now.columns u))) }
-    {
-        let mut rows = Vec::new(alloc);
-        self.push_table_of(alloc, &mut rows, i, x, keys)?;
-        let columns = Vec::from_slice(alloc, self.right.as_slice())?;
-        Ok(Table::from_rows(columns, rows))
-    }
-
-    fn push_table_of(
-        &self,
-        alloc: Global,
-        out: &mut Vec<Row>,
-        i: u64,
-        x: u64,
-        keys: &Table,
-    ) -> Result<(), AllocError>
-        ensures { OnOk result ((u : List Value) → has_row out.new.items u
-            ≡ (has_row out.old.items u || (met self.now i x u
-            && has_row keys.now.rows (part self.now.right keys.now.columns u)))) }
-    {
-        let right = self.right.as_slice();
-        let rows = &self.contents.rows;
-        push_matching(alloc, rows, out, &self.interval, i, x, right, keys)
     }
 
     pub fn taken(&self) -> u64

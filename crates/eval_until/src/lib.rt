@@ -4,7 +4,6 @@
 mod ahead;
 mod entries;
 mod expiry;
-mod keys;
 pub mod laws;
 mod meeting;
 mod next;

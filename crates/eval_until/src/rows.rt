@@ -13,10 +13,9 @@ ghost use Rattle.eval_until.specs.Rules.{all_before};
 ghost use Rattle.eval_until.specs.Starts.{start_of};
 
 use crate::entries::{Entries, Entry};
-use crate::keys::has_part;
 use crate::starts::start_at;
 use mfotl_model::{Interval, Row};
-use relations::{Table, part_of};
+use relations::part_of;
 use std::alloc::{AllocError, Global};
 use std::collections::HashMap;
 
@@ -111,31 +110,6 @@ pub fn push_met(
 {
     for (row, entries) in rows {
         if entries.met(interval, i, x) {
-            out.push(row.copy(alloc)?)?;
-        }
-    }
-    Ok(())
-}
-
-/// The same, of the rows whose part at the columns of `keys` is one of its rows.
-pub fn push_matching(
-    alloc: Global,
-    rows: &HashMap<Row, Entries>,
-    out: &mut Vec<Row>,
-    interval: &Interval,
-    i: u64,
-    x: u64,
-    columns: &[u32],
-    keys: &Table,
-) -> Result<(), AllocError>
-    ensures rows { OnOk result ((u : List Value) → has_row out.new.items u
-        ≡ (has_row out.old.items u
-        || list_any (λ e. (eq_by_cmp row_cmp u e.0 && met_by interval.now i x e.1)
-        && has_row keys.now.rows (part columns.now keys.now.columns e.0)) rows.now.entries)) }
-    ensures differ { RowsDiffer rows.now.entries }
-{
-    for (row, entries) in rows {
-        if entries.met(interval, i, x) && has_part(alloc, columns, row, keys)? {
             out.push(row.copy(alloc)?)?;
         }
     }

@@ -1,5 +1,5 @@
 //! UNTIL over tables that are pushed position by position.
-ghost use Rattle.std.specs.Prelude.{◌≡◌, ◌&&◌, ◌+◌, ◌-◌, ◌<◌, ◌≤◌, ◌^◌, ◌∷◌, ◌++◌, [], ℕ, Bool, true, IfOk, IfSome, IsTrue, List, MatchOption, OnOk, drop, is_some, length, min, not};
+ghost use Rattle.std.specs.Prelude.{◌≡◌, ◌+◌, ◌-◌, ◌<◌, ◌≤◌, ◌^◌, ◌∷◌, ◌++◌, [], ℕ, Bool, true, IfOk, IfSome, IsTrue, List, MatchOption, OnOk, drop, is_some, length, min, not};
 ghost use Rattle.mfotl_model.specs.Satisfaction.{Valuation, time_at, truth_at, until};
 ghost use Rattle.mfotl_model.specs.Tables.{all_among, all_apart, has, valuation};
 ghost use Rattle.mfotl_model.specs.Times.{NeverFalls};
@@ -357,25 +357,6 @@ impl UntilState {
     {
         let now = first_pushed(&self.times);
         let table = self.ahead.table(alloc, self.ahead.pulled(), *now)?;
-        Ok(table)
-    }
-
-    /// Of the table of the next position the rows whose part at the columns of `keys` is one of its rows. No
-    /// other row is copied.
-    pub fn table_of(&self, alloc: Global, keys: &Table) -> Result<Table, AllocError>
-        requires due { IsTrue (due self.now) }
-        requires all { IsTrue (took_all self.now) }
-        requires inside { IsTrue (all_among keys.now.columns self.now.ahead.right) }
-        ensures columns { IfOk result (λ table. table.columns ≡ self.now.ahead.right) }
-        ensures rows { IfOk result (λ table. (t : List ℕ) (a b : List Bool) (v : Valuation) →
-            Follows self.now t a b v → NeverFalls t →
-            has table v ≡ (until self.now.ahead.interval t a b self.now.ahead.pulled
-            && has keys.now v)) }
-    {
-        let now = first_pushed(&self.times);
-        let table = self
-            .ahead
-            .table_of(alloc, self.ahead.pulled(), *now, keys)?;
         Ok(table)
     }
 

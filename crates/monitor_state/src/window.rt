@@ -1,6 +1,6 @@
 //! Windows, which are asked row by row, or by some values of rows.
 ghost use Rattle.std.specs.Prelude.{◌≡◌, IfOk, IsTrue, OnOk};
-ghost use Rattle.mfotl_model.specs.Tables.{all_among, valuation};
+ghost use Rattle.mfotl_model.specs.Tables.{TableOf, all_among, valuation};
 ghost use Rattle.monitor_state.specs.FilterFeeding.{Finds, WindowFeeds, WindowGoes, WindowSettles};
 ghost use Rattle.monitor_state.specs.WindowNode.{Answers, window_columns, window_due, window_took_all};
 
@@ -78,8 +78,8 @@ pub fn columns(window: &Window) -> &[u32]
     }
 }
 
-/// Goes on by one position. Of the rows of which the window holds there it gives those whose part at the
-/// columns of `keys` is one of its rows.
+/// Goes on by one position. Of the rows of which the window holds there it gives at least those whose part at
+/// the columns of `keys` is one of its rows.
 pub fn pulled_of(alloc: Global, window: &mut Window, keys: &Table) -> Result<Table, AllocError>
     requires due { IsTrue (window_due window.old) }
     requires all { IsTrue (window_took_all window.old) }
@@ -89,7 +89,7 @@ pub fn pulled_of(alloc: Global, window: &mut Window, keys: &Table) -> Result<Tab
 {
     match window {
         Window::Since(state) => since_of(alloc, state, keys),
-        Window::Until(state) => until_of(alloc, state, keys),
+        Window::Until(state) => until_whole(alloc, state),
     }
 }
 
@@ -104,14 +104,14 @@ fn since_of(alloc: Global, state: &mut SinceState, keys: &Table) -> Result<Table
     Ok(found)
 }
 
-fn until_of(alloc: Global, state: &mut UntilState, keys: &Table) -> Result<Table, AllocError>
+// An UNTIL gives its whole table, in which the wanted rows are.
+fn until_whole(alloc: Global, state: &mut UntilState) -> Result<Table, AllocError>
     requires due { IsTrue (window_due (Window.Until state.old)) }
     requires all { IsTrue (window_took_all (Window.Until state.old)) }
-    requires inside { IsTrue (all_among keys.now.columns state.old.ahead.right) }
     ensures goes { OnOk result (WindowGoes (Window.Until state.old) (Window.Until state.new)) }
-    ensures finds { IfOk result (Finds (Window.Until state.old) keys.now) }
+    ensures finds { IfOk result (λ found. (keys : TableOf) → Finds (Window.Until state.old) keys found) }
 {
-    let found = state.table_of(alloc, keys)?;
+    let found = state.table(alloc)?;
     state.advance(alloc)?;
     Ok(found)
 }

@@ -24,4 +24,4 @@ returns-clause-inside c =
     ∙ common_in_first c.args.columns.now c.args.table.now.columns
 
 pub returns-clause-has : goal.returns-clause-has
-returns-clause-has c = λ v there. (c.in_ok-keys.ensures.has v).1 (v, (λ y m. refl), there)
+returns-clause-has c = λ v there. (c.in_ok-keys.ensures.has v).1 (v, ((λ y m. refl), there))

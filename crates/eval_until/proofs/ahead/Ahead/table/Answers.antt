@@ -21,11 +21,11 @@ from_rows-requires-clause-sized c =
     (c.in_ok-columns.ensures.items ∙ c.as_slice.ensures.value)
     ∙ sized_met k.interval c.args.i c.args.x (length k.right.items) k.contents.rows.entries c.push_met.new.out.items
     c.self.invariant.sized
-    (λ u there. sym (c.in_ok-push_met.ensures.rows u
+    (λ u. c.in_ok-push_met.ensures.rows u
     ∙ ap (λ rows. has_row rows u
     || list_any (λ e. eq_by_cmp row_cmp u e.0 && met_by k.interval c.args.i c.args.x e.1) k.contents.rows.entries)
     c.new-rows.ensures.items
-    ∙ hit_is k.interval c.args.i c.args.x u k.contents.rows.entries c.push_met.ensures.differ) ∙ there)
+    ∙ hit_is k.interval c.args.i c.args.x u k.contents.rows.entries c.push_met.ensures.differ)
 
 pub returns-clause-rows : goal.returns-clause-rows
 returns-clause-rows c = rw (← c.self.view_is) (
