@@ -306,13 +306,14 @@ next_popped k negated p newest t0 tts ts l lls ls r rrs rs t a b u et el er clim
       rights = rrs;
     }) t a b u) et f)))
 
-pub nothing_yet : (interval : Interval) (left right : List ℕ) (negated : Bool) (t : List ℕ) (a b : List Bool)
+pub nothing_yet : (interval : Interval) (left right keys : List ℕ) (negated : Bool) (t : List ℕ) (a b : List Bool)
     (u : List Value)
     → FollowsRow (record {
       window = record {
         interval = interval;
         left = left;
         right = right;
+        keys = keys;
         last = 0;
         groups = [];
       };
@@ -323,7 +324,7 @@ pub nothing_yet : (interval : Interval) (left right : List ℕ) (negated : Bool)
       lefts = [];
       rights = [];
     }) t a b u
-nothing_yet interval left right negated t a b u = record {
+nothing_yet interval left right keys negated t a b u = record {
   last = λ n. absurd
       (omega arith);
   times = tt;

@@ -10,7 +10,6 @@ use Rattle.mfotl_model.specs.declared.value.Value.{Value}
 use Rattle.eval_since.specs.declared.window.Dated.{Dated}
 use Rattle.eval_since.specs.Groups.{times_at}
 use Rattle.mfotl_model.specs.Tables.{all_sized, has_row, part}
-use Rattle.eval_since.specs.LeftOperand.{left_has}
 use Rattle.eval_since.specs.Times.{reaches, added}
 use Rattle.eval_since.specs.Windows.{Alone, Ascending, Sized, Placed, Past, IsThinned, Covered, Rising, NotAfter}
 use Rattle.eval_since.specs.Windows.{Fresh, Finds, Keeps}
@@ -30,22 +29,22 @@ nothing_joined true false old more held list none first second = second ∙ firs
 nothing_joined false true old more held list none first second = second ∙ first ∙ none
 nothing_joined false false old more held list none first second = second ∙ first
 
-module _ (interval : Interval) (right left : List ℕ) (negated : Bool) (lefts : List (List Value)) (d : Dated)
+module _ (interval : Interval) (right left : List ℕ) (goes : List Value → Bool) (d : Dated)
     (last : ℕ) (old held new : List (List Value × List (List Value × List ℕ))) (queue : List Dated) where
   -- the left operand's table was applied, and the right operand's rows were added
   pub record Joined : Type 0 where
     pub rises : last ≤ d.ts
     pub sized : all_sized (length right) d.rows.items ≡ true
     pub kept : Keeps interval.hi right left last old queue
-    pub first : (q v : List Value) → times_at held q v ≡ cond (left_has negated lefts q) (times_at old q v) []
+    pub first : (q v : List Value) → times_at held q v ≡ cond (goes q) (times_at old q v) []
     pub second : (q v : List Value) → times_at new q v
         ≡ cond (is_at (row_cmp (part right left v)) q && has_row d.rows.items v)
         (added (is_some interval.hi) (times_at held q v) d.ts) (times_at held q v)
 
   pub past_before : last ≤ d.ts → Keeps interval.hi right left last old queue
-      → ((q v : List Value) → times_at held q v ≡ cond (left_has negated lefts q) (times_at old q v) [])
+      → ((q v : List Value) → times_at held q v ≡ cond (goes q) (times_at old q v) [])
       → Past d.ts held
-  past_before rises kept first = λ q v. past_held last d.ts (left_has negated lefts q) (times_at old q v)
+  past_before rises kept first = λ q v. past_held last d.ts (goes q) (times_at old q v)
       (times_at held q v) rises (kept.past q v) (first q v)
 
   pub past_after : Joined → Past d.ts new
@@ -56,7 +55,7 @@ module _ (interval : Interval) (right left : List ℕ) (negated : Bool) (lefts :
 
   pub placed_after : Joined → Placed right left new
   placed_after j = λ q v apart.
-      placed_joined d.ts (is_some interval.hi) (left_has negated lefts q) (has_row d.rows.items v)
+      placed_joined d.ts (is_some interval.hi) (goes q) (has_row d.rows.items v)
       (times_at old q v) (times_at held q v) (times_at new q v)
       (j.kept.placed q v apart) (j.first q v)
       (j.second q v ∙ ap (λ b. cond (b && has_row d.rows.items v)
@@ -64,7 +63,7 @@ module _ (interval : Interval) (right left : List ℕ) (negated : Bool) (lefts :
 
   ascend_held : Joined → Ascending held
   ascend_held j = λ q v.
-      either_list IsStrictlyIncreasing (left_has negated lefts q) (times_at old q v) [] (times_at held q v)
+      either_list IsStrictlyIncreasing (goes q) (times_at old q v) [] (times_at held q v)
       (j.first q v)
       (j.kept.ascend q v) increasing_none
 
@@ -78,7 +77,7 @@ module _ (interval : Interval) (right left : List ℕ) (negated : Bool) (lefts :
 
   alone_held : interval.hi ≡ None → Joined → Alone held
   alone_held e j = λ q v.
-      either_list (λ ys. length ys ≤ 1) (left_has negated lefts q) (times_at old q v) [] (times_at held q v)
+      either_list (λ ys. length ys ≤ 1) (goes q) (times_at old q v) [] (times_at held q v)
       (j.first q v)
       (j.kept.alone e q v) (omega arith)
 
@@ -91,7 +90,7 @@ module _ (interval : Interval) (right left : List ℕ) (negated : Bool) (lefts :
 
   pub sized_after : Joined → Sized (length right) new
   sized_after j = λ q v apart.
-      nothing_joined (is_at (row_cmp (part right left v)) q) (left_has negated lefts q) (times_at old q v)
+      nothing_joined (is_at (row_cmp (part right left v)) q) (goes q) (times_at old q v)
       (added (is_some interval.hi) (times_at held q v) d.ts) (times_at held q v) (times_at new q v)
       (j.kept.sized q v apart) (j.first q v)
       (j.second q v ∙ ap (λ b. cond (is_at (row_cmp (part right left v)) q && b)
@@ -99,9 +98,9 @@ module _ (interval : Interval) (right left : List ℕ) (negated : Bool) (lefts :
       (lacks_other (length right) d.rows.items v j.sized apart))
 
   pub within_after : Joined → (x : ℕ) (u : List Value) → reaches interval (times_at new (part right left u) u) x
-      ≡ ((reaches interval (times_at old (part right left u) u) x && left_has negated lefts (part right left u))
+      ≡ ((reaches interval (times_at old (part right left u) u) x && goes (part right left u))
       || (in_interval interval (x - d.ts) && has_row d.rows.items u))
-  within_after j x u = reaches_step interval right left negated lefts d.rows.items u d.ts x old held new
+  within_after j x u = reaches_step interval right left goes d.rows.items u d.ts x old held new
       (past_before j.rises j.kept j.first) j.first j.second
 
   -- without an upper end that is all
@@ -124,7 +123,7 @@ module _ (interval : Interval) (right left : List ℕ) (negated : Bool) (lefts :
 
   pub covered_after : (hi : ℕ) → interval.hi ≡ Some hi → Joined → Covered (queue ++ d ∷ []) new
   covered_after hi e j = λ q v.
-      covered_push queue d v (is_some interval.hi) (left_has negated lefts q) (is_at (row_cmp (part right left v)) q)
+      covered_push queue d v (is_some interval.hi) (goes q) (is_at (row_cmp (part right left v)) q)
       (times_at old q v) (times_at held q v) (times_at new q v) ((finds_before hi e j).0 q v) (j.first q v)
       (j.second q v)
 
@@ -160,7 +159,7 @@ module _ (interval : Interval) (right left : List ℕ) (negated : Bool) (lefts :
       → Joined
       → ((q v : List Value) → IsThinned hi d.ts (times_at new q v) (times_at thin q v))
       → (x : ℕ) (u : List Value) → d.ts ≤ x → reaches interval (times_at thin (part right left u) u) x
-      ≡ ((reaches interval (times_at old (part right left u) u) x && left_has negated lefts (part right left u))
+      ≡ ((reaches interval (times_at old (part right left u) u) x && goes (part right left u))
       || (in_interval interval (x - d.ts) && has_row d.rows.items u))
   within_bounded hi thin e j thins x u l =
       reaches_thinned interval hi d.ts x (times_at new (part right left u) u)
@@ -170,12 +169,12 @@ module _ (interval : Interval) (right left : List ℕ) (negated : Bool) (lefts :
 -- the rows that times are kept for have as many values as columns
 pub sized_reached : (interval : Interval) (x : ℕ) (right left : List ℕ)
     (groups : List (List Value × List (List Value × List ℕ))) (rows : List (List Value))
-    → Sized (length right) groups → ((u : List Value)
-    → has_row rows u ≡ reaches interval (times_at groups (part right left u) u) x)
+    → Sized (length right) groups → ((u : List Value) → has_row rows u ≡ true
+    → reaches interval (times_at groups (part right left u) u) x ≡ true)
     → all_sized (length right) rows ≡ true
 sized_reached interval x right left groups rows sized reached =
     all_rows (λ row. nat_eq (length row) (length right)) rows
-    (λ row there. by row (nat_eq (length row) (length right)) refl (sym (reached row) ∙ there))
+    (λ row there. by row (nat_eq (length row) (length right)) refl (reached row there))
   where
     by : (row : List Value) (b : Bool) → nat_eq (length row) (length right) ≡ b
         → reaches interval (times_at groups (part right left row) row) x ≡ true

@@ -15,7 +15,6 @@ use Rattle.mfotl_model.specs.declared.interval.Interval.{Interval}
 use Rattle.mfotl_model.specs.declared.value.Value.{Value}
 use Rattle.eval_since.specs.Groups.{times_at}
 use Rattle.mfotl_model.specs.Tables.{has_row, part}
-use Rattle.eval_since.specs.LeftOperand.{left_has}
 use Rattle.eval_since.specs.Times.{reaches, ArePast, is_new, added, recent}
 use Rattle.eval_since.specs.Windows.{Past, IsThinned}
 
@@ -123,19 +122,19 @@ reaches_joined interval ys zs now x false past e = ap (λ r. reaches interval r 
     ∙ or_false (reaches interval ys x))
 
 -- both, at a row's own group
-pub reaches_step : (interval : Interval) (right left : List ℕ) (negated : Bool) (lefts rights : List (List Value))
+pub reaches_step : (interval : Interval) (right left : List ℕ) (goes : List Value → Bool) (rights : List (List Value))
     (u : List Value) (now x : ℕ) (old held new : List (List Value × List (List Value × List ℕ)))
     → Past now held
-    → ((q v : List Value) → times_at held q v ≡ cond (left_has negated lefts q) (times_at old q v) [])
+    → ((q v : List Value) → times_at held q v ≡ cond (goes q) (times_at old q v) [])
     → ((q v : List Value) → times_at new q v ≡ cond (is_at (row_cmp (part right left v)) q && has_row rights v)
     (added (is_some interval.hi) (times_at held q v) now) (times_at held q v))
     → reaches interval (times_at new (part right left u) u) x
-    ≡ ((reaches interval (times_at old (part right left u) u) x && left_has negated lefts (part right left u))
+    ≡ ((reaches interval (times_at old (part right left u) u) x && goes (part right left u))
     || (in_interval interval (x - now) && has_row rights u))
-reaches_step interval right left negated lefts rights u now x old held new past first second =
+reaches_step interval right left goes rights u now x old held new past first second =
     let k = part right left u in
     reaches_joined interval (times_at held k u) (times_at new k u) now x (has_row rights u) (past k u)
     (second k u ∙ ap (λ b. cond (b && has_row rights u) (added (is_some interval.hi) (times_at held k u) now)
     (times_at held k u)) ((eq_by_cmp_equiv row_total).refl k))
     ∙ ap (λ b. b || (in_interval interval (x - now) && has_row rights u))
-    (reaches_held interval (times_at old k u) (times_at held k u) x (left_has negated lefts k) (first k u))
+    (reaches_held interval (times_at old k u) (times_at held k u) x (goes k) (first k u))

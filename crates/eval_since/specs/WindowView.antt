@@ -6,18 +6,19 @@ use Rattle.eval_since.specs.Groups.{times_at}
 use Rattle.mfotl_model.specs.Tables.{part}
 use Rattle.eval_since.specs.Times.{reaches}
 
--- the columns of the operands, the last position's time, and for each row the times at which the right
--- operand held of it and from which the left one has held on, in groups by the rows' left parts
+-- the columns of the operands and those by which rows are grouped, the last position's time, and for each row the
+-- times at which the right operand held of it and from which the left one has held on
 pub record WindowOf : Type 0 where
   pub interval : Interval
   pub left : List ℕ
   pub right : List ℕ
+  pub keys : List ℕ
   pub last : ℕ
   pub groups : List (List Value × List (List Value × List ℕ))
 
 -- the times kept for a row
 abbrev pub kept_times : WindowOf → List Value → List ℕ
-kept_times kept u = times_at kept.groups (part kept.right kept.left u) u
+kept_times kept u = times_at kept.groups (part kept.right kept.keys u) u
 
 -- whether some kept time of a row lies in the interval, seen from x
 abbrev pub within : WindowOf → ℕ → List Value → Bool

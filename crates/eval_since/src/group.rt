@@ -1,19 +1,21 @@
 //! Rows with the times kept for them, each found by its hash.
-ghost use Rattle.std.specs.Prelude.{◌≡◌, ◌||◌, ◌==◌, [], List, OnOk, cond, length};
+ghost use Rattle.std.specs.Prelude.{◌≡◌, ◌||◌, ◌&&◌, ◌==◌, [], List, OnOk, cond, length};
 ghost use Rattle.std.specs.BTreeMap.{is_at};
 ghost use Rattle.mfotl_model.specs.Values.{row_cmp};
 ghost use Rattle.mfotl_model.specs.declared.value.Value.{Value};
 ghost use Rattle.eval_since.specs.Groups.{times_in, hit};
-ghost use Rattle.mfotl_model.specs.Tables.{has_row};
+ghost use Rattle.mfotl_model.specs.Tables.{has_row, part};
 ghost use Rattle.eval_since.specs.Times.{ArePast, added, reaches, recent};
 ghost use Rattle.std.specs.List.{list_any};
 ghost use Rattle.std.specs.Option.{option_or};
 ghost use Rattle.mfotl_model.specs.declared.interval.Interval.{Interval};
 ghost use Rattle.relations.specs.KeptRows.{RowsDiffer, filled, first_filled, kept_for};
 
+use crate::keys::has_part;
 use crate::ordered::OrderedGroup;
 use crate::times::Times;
 use mfotl_model::{Interval, Row};
+use relations::Table;
 use std::alloc::{AllocError, Global};
 use std::collections::HashMap;
 use std::marker::Model;
@@ -116,6 +118,45 @@ impl Group {
     {
         for (row, times) in &self.rows {
             if times.reaches(interval, x) {
+                out.push(row.copy(alloc)?)?;
+            }
+        }
+        Ok(())
+    }
+
+    /// Appends the rows whose times reach, of those whose part at the columns of `keys` is one of its rows.
+    pub fn push_matching(
+        &self,
+        alloc: Global,
+        out: &mut Vec<Row>,
+        interval: &Interval,
+        x: u64,
+        columns: &[u32],
+        keys: &Table,
+    ) -> Result<(), AllocError>
+        ensures { OnOk result ((u : List Value) → has_row out.new.items u
+            ≡ (has_row out.old.items u || (reaches interval.now (times_in self.now u) x
+            && has_row keys.now.rows (part columns.now keys.now.columns u)))) }
+    {
+        self.push_matches(alloc, out, interval, x, columns, keys)
+    }
+
+    fn push_matches(
+        &self,
+        alloc: Global,
+        out: &mut Vec<Row>,
+        interval: &Interval,
+        x: u64,
+        columns: &[u32],
+        keys: &Table,
+    ) -> Result<(), AllocError>
+        ensures rows { OnOk result ((u : List Value) → has_row out.new.items u
+            ≡ (has_row out.old.items u || list_any (λ e. hit interval.now x u e
+            && has_row keys.now.rows (part columns.now keys.now.columns e.0)) self.now)) }
+        ensures differ { RowsDiffer self.now }
+    {
+        for (row, times) in &self.rows {
+            if times.reaches(interval, x) && has_part(alloc, columns, row, keys)? {
                 out.push(row.copy(alloc)?)?;
             }
         }

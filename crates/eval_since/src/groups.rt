@@ -9,7 +9,7 @@ ghost use Rattle.eval_since.specs.Recalled.{first_times};
 ghost use Rattle.mfotl_model.specs.Values.{row_cmp};
 ghost use Rattle.mfotl_model.specs.declared.value.Value.{Value};
 ghost use Rattle.eval_since.specs.Groups.{times_at, times_in};
-ghost use Rattle.mfotl_model.specs.Tables.{has_row};
+ghost use Rattle.mfotl_model.specs.Tables.{has_row, part};
 ghost use Rattle.eval_since.specs.Times.{ArePast, added, reaches, recent};
 
 use crate::group::Group;
@@ -156,6 +156,63 @@ impl Groups {
             group.push_reaching(alloc, out, interval, x)?;
         }
         Ok(())
+    }
+
+    /// Appends the rows whose times reach, of those whose part at the columns of `keys` is one of its rows.
+    pub fn push_matching(
+        &self,
+        alloc: Global,
+        out: &mut Vec<Row>,
+        interval: &Interval,
+        x: u64,
+        columns: &[u32],
+        keys: &Table,
+    ) -> Result<(), AllocError>
+        ensures rows { OnOk result ((u : List Value) → has_row out.new.items u
+            ≡ (has_row out.old.items u || list_any (λ e. reaches interval.now (times_in e.1 u) x
+            && has_row keys.now.rows (part columns.now keys.now.columns u)) self.now)) }
+        ensures differ { RowsDiffer self.now }
+    {
+        for (_, group) in &self.groups {
+            group.push_matching(alloc, out, interval, x, columns, keys)?;
+        }
+        Ok(())
+    }
+
+    /// Appends the rows of the groups of these keys whose times reach.
+    pub fn push_found(
+        &self,
+        alloc: Global,
+        out: &mut Vec<Row>,
+        interval: &Interval,
+        x: u64,
+        keys: &[Row],
+    ) -> Result<(), AllocError>
+        ensures { OnOk result ((u : List Value) → has_row out.new.items u
+            ≡ (has_row out.old.items u
+            || list_any (λ k. reaches interval.now (times_at self.now k u) x) keys.now)) }
+    {
+        for key in keys {
+            self.push_group(alloc, out, interval, x, key)?;
+        }
+        Ok(())
+    }
+
+    fn push_group(
+        &self,
+        alloc: Global,
+        out: &mut Vec<Row>,
+        interval: &Interval,
+        x: u64,
+        key: &Row,
+    ) -> Result<(), AllocError>
+        ensures { OnOk result ((u : List Value) → has_row out.new.items u
+            ≡ (has_row out.old.items u || reaches interval.now (times_at self.now key.now u) x)) }
+    {
+        match self.groups.get(key) {
+            Some(group) => group.push_reaching(alloc, out, interval, x),
+            None => Ok(()),
+        }
     }
 
     /// Puts the times of a row into a group, in the place of those that it has there.

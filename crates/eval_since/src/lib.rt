@@ -4,6 +4,7 @@
 mod group;
 mod groups;
 mod kept;
+mod keys;
 pub mod laws;
 mod ordered;
 mod previous;

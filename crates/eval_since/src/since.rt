@@ -3,7 +3,7 @@ ghost use Rattle.std.specs.Prelude.{◌≡◌, ◌+◌, ◌-◌, ◌<◌, ◌≤
 ghost use Rattle.mfotl_model.specs.Satisfaction.{Valuation, since, time_at, truth_at};
 ghost use Rattle.mfotl_model.specs.Tables.{all_among, all_apart, has, valuation};
 ghost use Rattle.mfotl_model.specs.declared.value.Value.{Value};
-ghost use Rattle.eval_since.specs.LeftOperand.{left_has};
+ghost use Rattle.eval_since.specs.LeftOperand.{grouping};
 ghost use Rattle.relations.specs.Pushed.{left_holds};
 ghost use Rattle.relations.specs.KeptRows.{filled, kept_for};
 ghost use Rattle.eval_since.specs.Recalled.{recalls, times_for, times_kept};
@@ -13,6 +13,7 @@ ghost use Rattle.eval_since.specs.Windows.{Alone, Ascending, Bounded, Past, Plac
 ghost use Rattle.eval_since.specs.SinceView.{Advances, Climbs, Follows, SinceOf, due};
 
 use crate::kept::latest;
+use crate::keys::holds_on;
 use crate::recalled::SinceData;
 use crate::window::Window;
 use mfotl_model::{Interval, Row};
@@ -59,14 +60,35 @@ impl SinceState {
     ) -> Result<Self, AllocError>
         requires apart { IsTrue (all_apart right.now) }
         requires inside { IsTrue (all_among left.now right.now) }
-        ensures state { IfOk result (λ state. state ≡ record { window = record { interval = interval.now; left = left.now; right = right.now; last = 0; groups = [] }; negated = negated; pulled = 0; newest = 0; times = []; lefts = []; rights = [] }) }
+        ensures state { IfOk result (λ state. state ≡ record { window = record { interval = interval.now; left = left.now; right = right.now; keys = grouping left.now []; last = 0; groups = [] }; negated = negated; pulled = 0; newest = 0; times = []; lefts = []; rights = [] }) }
+        ensures follows { IfOk result (λ state.
+            (t : List ℕ) (a b : List Bool) (v : Valuation) → Follows state t a b v) }
+    {
+        let state = SinceState::keyed(alloc, interval, left, right, negated, &[])?;
+        Ok(state)
+    }
+
+    /// The same, which finds rows by their values in the columns of `keys` at once where the left operand
+    /// is closed.
+    pub fn keyed(
+        alloc: Global,
+        interval: &Interval,
+        left: &[u32],
+        right: &[u32],
+        negated: bool,
+        keys: &[u32],
+    ) -> Result<Self, AllocError>
+        requires apart { IsTrue (all_apart right.now) }
+        requires inside { IsTrue (all_among left.now right.now) }
+        ensures state { IfOk result (λ state. state ≡ record { window = record { interval = interval.now; left = left.now; right = right.now; keys = grouping left.now keys.now; last = 0; groups = [] }; negated = negated; pulled = 0; newest = 0; times = []; lefts = []; rights = [] }) }
         ensures follows { IfOk result (λ state.
             (t : List ℕ) (a b : List Bool) (v : Valuation) → Follows state t a b v) }
     {
         let left = Vec::from_slice(alloc, left)?;
         let right = Vec::from_slice(alloc, right)?;
+        let keys = Vec::from_slice(alloc, keys)?;
         Ok(SinceState {
-            window: Window::new(alloc, *interval, left, right),
+            window: Window::new(alloc, *interval, left, right, keys),
             negated,
             pulled: 0,
             newest: 0,
@@ -105,25 +127,9 @@ impl SinceState {
             FollowsData (record { interval = interval.now; left = left.now; right = right.now; negated = negated }) last times.now kept t a b v →
             Follows state t a b v) }
     {
-        let SinceData {
-            pulled,
-            lefts,
-            rights,
-            rows,
-        } = kept;
-        let newest = latest(times, last);
-        let times = Vec::from_slice(alloc, times)?;
-        let left = Vec::from_slice(alloc, left)?;
-        let right = Vec::from_slice(alloc, right)?;
-        Ok(SinceState {
-            window: Window::resume(alloc, *interval, left, right, last, rows)?,
-            negated,
-            pulled,
-            newest,
-            times: VecDeque::from_vec(times),
-            lefts: VecDeque::from_vec(lefts),
-            rights: VecDeque::from_vec(rights),
-        })
+        let fresh = SinceState::new(alloc, interval, left, right, negated)?;
+        let state = fresh.resumed(alloc, last, times, kept)?;
+        Ok(state)
     }
 
     /// The state of the same operands and interval of which `kept` is the data, where `last` is the time of
@@ -139,24 +145,33 @@ impl SinceState {
         ensures setting { IfOk result (λ state. setting_of state ≡ setting_of self) }
         ensures pulled { IfOk result (λ state. state.pulled ≡ kept.pulled) }
         ensures last { IfOk result (λ state. state.window.last ≡ last) }
+        ensures newest { IfOk result (λ state. state.newest ≡ newest_of last times.now) }
         ensures times { IfOk result (λ state. state.times ≡ times.now) }
         ensures lefts { IfOk result (λ state. state.lefts ≡ kept.lefts.items) }
         ensures rights { IfOk result (λ state. state.rights ≡ kept.rights.items) }
+        ensures kept { IfOk result (λ state. (u : List Value) →
+            kept_times state.window u ≡ times_for kept.rows.items u) }
         ensures follows { IfOk result (λ state.
             (t : List ℕ) (a b : List Bool) (v : Valuation) →
             FollowsData (setting_of self) last times.now kept t a b v → Follows state t a b v) }
     {
-        let state = SinceState::resume(
-            alloc,
-            self.window.interval(),
-            self.window.left(),
-            self.window.right(),
-            self.negated,
-            last,
-            times,
-            kept,
-        )?;
-        Ok(state)
+        let SinceData {
+            pulled,
+            lefts,
+            rights,
+            rows,
+        } = kept;
+        let newest = latest(times, last);
+        let times = Vec::from_slice(alloc, times)?;
+        Ok(SinceState {
+            window: self.window.resumed(alloc, last, rows)?,
+            negated: self.negated,
+            pulled,
+            newest,
+            times: VecDeque::from_vec(times),
+            lefts: VecDeque::from_vec(lefts),
+            rights: VecDeque::from_vec(rights),
+        })
     }
 
     pub fn interval(&self) -> &Interval
@@ -298,6 +313,20 @@ impl SinceState {
         Ok(table)
     }
 
+    /// Of the table of the position that was pulled last the rows whose part at the columns of `keys` is
+    /// one of its rows. No other row is copied.
+    pub fn table_of(&self, alloc: Global, keys: &Table) -> Result<Table, AllocError>
+        requires inside { IsTrue (all_among keys.now.columns self.now.window.right) }
+        ensures columns { IfOk result (λ table. table.columns ≡ self.now.window.right) }
+        ensures rows { IfOk result (λ table. (t : List ℕ) (a b : List Bool) (v : Valuation) →
+            Follows self.now t a b v → 0 < self.now.pulled →
+            has table v ≡ (since self.now.window.interval t a b (self.now.pulled - 1)
+            && has keys.now v)) }
+    {
+        let table = self.window.table_of(alloc, keys)?;
+        Ok(table)
+    }
+
     /// The table of the next position, `None` while it is not due.
     pub fn pull(&mut self, alloc: Global) -> Result<Option<Table>, AllocError>
         ensures due { IfOk result (λ answer. is_some answer ≡ due self.old) }
@@ -327,7 +356,7 @@ impl SinceState {
         ensures past { Past self.now.window.last self.now.window.groups }
         ensures ascend { Ascending self.now.window.groups }
         ensures alone { self.now.window.interval.hi ≡ None → Alone self.now.window.groups }
-        ensures placed { Placed self.now.window.right self.now.window.left self.now.window.groups }
+        ensures placed { Placed self.now.window.right self.now.window.keys self.now.window.groups }
     {
         self.window.is_bounded();
     }
@@ -369,19 +398,10 @@ impl SinceState {
         let own = part_of(alloc, columns, self.window.right(), row.values())?;
         let key = self.window.key(alloc, &own)?;
         let kept = self.window.within(&key, &own, *now);
-        let held = holds_on(self.negated, left, &key);
+        let lead = self.window.left_part(alloc, &own)?;
+        let held = holds_on(self.negated, left, &lead);
         let reached = self.window.interval().contains(0);
         Ok(in_either(kept, held, reached, right.contains(&own)))
-    }
-}
-
-fn holds_on(negated: bool, table: &Table, key: &Row) -> bool
-    ensures { result ≡ left_has negated table.now.rows key.now }
-{
-    if negated {
-        !table.contains(key)
-    } else {
-        table.contains(key)
     }
 }
 

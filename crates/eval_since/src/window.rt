@@ -8,7 +8,7 @@ ghost use Rattle.mfotl_model.specs.Tables.{all_apart, all_sized, has_row, part};
 ghost use Rattle.mfotl_model.specs.Values.{row_cmp};
 ghost use Rattle.mfotl_model.specs.declared.value.Value.{Value};
 ghost use Rattle.eval_since.specs.Groups.{times_at};
-ghost use Rattle.eval_since.specs.LeftOperand.{left_has};
+ghost use Rattle.eval_since.specs.LeftOperand.{grouping, lead, left_has};
 ghost use Rattle.relations.specs.KeptRows.{RowsAscend, filled, kept_for};
 ghost use Rattle.eval_since.specs.Recalled.{times_for, times_kept};
 ghost use Rattle.eval_since.specs.SinceData.{KeepsTimes};
@@ -17,6 +17,7 @@ ghost use Rattle.eval_since.specs.WindowView.{WindowOf, kept_times, within};
 ghost use Rattle.eval_since.specs.Windows.{Alone, Ascending, Bounded, Covered, Fresh, IsBlank, IsThinned, Keeps, NotAfter, Past, Placed, Rising};
 
 use crate::groups::Groups;
+use crate::keys::{grouping, holds_on};
 use crate::ordered::OrderedGroup;
 use crate::rebuild::{dated_rows, grouped};
 use crate::recalled::KeptRow;
@@ -36,6 +37,34 @@ pub struct Dated {
 
 // rows go on where the left operand holds at the new position
 fn apply_left(
+    alloc: Global,
+    groups: &mut Groups,
+    closed: bool,
+    negated: bool,
+    lefts: &Table,
+) -> Result<(), AllocError>
+    ensures { OnOk result ((q v : List Value) → times_at groups.new q v
+        ≡ cond (left_has negated lefts.now.rows (lead closed q)) (times_at groups.old q v) []) }
+{
+    if closed {
+        apply_closed(alloc, groups, holds_on(negated, lefts, &Row::empty()));
+        Ok(())
+    } else {
+        apply_rows(alloc, groups, negated, lefts)
+    }
+}
+
+// all rows go on, or none
+fn apply_closed(alloc: Global, groups: &mut Groups, held: bool)
+    ensures { (q v : List Value) → times_at groups.new q v ≡ cond held (times_at groups.old q v) [] }
+{
+    if !held {
+        *groups = Groups::new(alloc);
+    }
+}
+
+// those of each group go on of whose values the left operand holds
+fn apply_rows(
     alloc: Global,
     groups: &mut Groups,
     negated: bool,
@@ -140,35 +169,36 @@ fn stepped(
     contents: Contents,
     interval: &Interval,
     right: &[u32],
-    left: &[u32],
+    keys: &[u32],
+    closed: bool,
     negated: bool,
     lefts: &Table,
     rights: Vec<Row>,
     last: u64,
     now: u64,
 ) -> Result<Contents, AllocError>
-    requires kept { Keeps interval.now.hi right.now left.now last contents.groups contents.dated.items }
+    requires kept { Keeps interval.now.hi right.now keys.now last contents.groups contents.dated.items }
     requires sized { IsTrue (all_sized (length right.now) rights.items) }
     requires rises { last ≤ now }
     ensures within { IfOk result (λ next. (x : ℕ) (u : List Value) → now ≤ x →
-        reaches interval.now (times_at next.groups (part right.now left.now u) u) x
-        ≡ ((reaches interval.now (times_at contents.groups (part right.now left.now u) u) x
-        && left_has negated lefts.now.rows (part right.now left.now u))
+        reaches interval.now (times_at next.groups (part right.now keys.now u) u) x
+        ≡ ((reaches interval.now (times_at contents.groups (part right.now keys.now u) u) x
+        && left_has negated lefts.now.rows (lead closed (part right.now keys.now u)))
         || (in_interval interval.now (x - now) && has_row rights.items u))) }
     ensures kept { IfOk result (λ next.
-        Keeps interval.now.hi right.now left.now now next.groups next.dated.items) }
+        Keeps interval.now.hi right.now keys.now now next.groups next.dated.items) }
 {
     let Contents {
         mut groups,
         mut dated,
     } = contents;
-    apply_left(alloc, &mut groups, negated, lefts)?;
+    apply_left(alloc, &mut groups, closed, negated, lefts)?;
     let rows = rights.as_slice();
     add_rows(
         alloc,
         &mut groups,
         right,
-        left,
+        keys,
         rows,
         now,
         interval.hi.is_some(),
@@ -180,7 +210,7 @@ fn stepped(
         ts: now,
         rows: rights,
     })?;
-    expire(alloc, &mut groups, &mut dated, right, left, now, hi)?;
+    expire(alloc, &mut groups, &mut dated, right, keys, now, hi)?;
     Ok(Contents { groups, dated })
 }
 
@@ -218,6 +248,7 @@ pub struct Window {
     interval: Interval,
     left: Vec<u32>,
     right: Vec<u32>,
+    keys: Vec<u32>,
     last: u64,
     contents: Contents,
 }
@@ -227,23 +258,31 @@ impl Model for Window {
 
     ghost Value = { WindowOf };
 
+    ghost use Rattle.eval_since.specs.LeftOperand.{grouping};
     ghost use Rattle.eval_since.specs.Windows.{Keeps};
 
-    ghost view = { λ k. record { interval = k.interval; left = k.left.items; right = k.right.items; last = k.last; groups = k.contents.groups } };
+    ghost view = { λ k. record { interval = k.interval; left = k.left.items; right = k.right.items; keys = grouping k.left.items k.keys.items; last = k.last; groups = k.contents.groups } };
 
-    ghost invariant = { λ k. Keeps k.interval.hi k.right.items k.left.items k.last k.contents.groups k.contents.dated.items };
+    ghost invariant = { λ k. Keeps k.interval.hi k.right.items (grouping k.left.items k.keys.items) k.last k.contents.groups k.contents.dated.items };
 }
 
 impl Window {
     /// The window before the first position.
-    pub fn new(alloc: Global, interval: Interval, left: Vec<u32>, right: Vec<u32>) -> Self
+    pub fn new(
+        alloc: Global,
+        interval: Interval,
+        left: Vec<u32>,
+        right: Vec<u32>,
+        keys: Vec<u32>,
+    ) -> Self
         requires apart { IsTrue (all_apart right.items) }
-        ensures state { result ≡ record { interval = interval; left = left.items; right = right.items; last = 0; groups = [] } }
+        ensures state { result ≡ record { interval = interval; left = left.items; right = right.items; keys = grouping left.items keys.items; last = 0; groups = [] } }
     {
         Window {
             interval,
             left,
             right,
+            keys,
             last: 0,
             contents: Contents {
                 groups: Groups::new(alloc),
@@ -252,32 +291,33 @@ impl Window {
         }
     }
 
-    /// The window with these rows, after some positions, the last of which has the time `last`.
-    pub fn resume(
-        alloc: Global,
-        interval: Interval,
-        left: Vec<u32>,
-        right: Vec<u32>,
-        last: u64,
-        rows: Vec<KeptRow>,
-    ) -> Result<Self, AllocError>
-        requires apart { IsTrue (all_apart right.items) }
+    /// The window over the same columns with these rows, after some positions, the last of which has the
+    /// time `last`.
+    pub fn resumed(self, alloc: Global, last: u64, rows: Vec<KeptRow>) -> Result<Self, AllocError>
         requires rows { RowsAscend (times_kept rows.items) }
-        requires sized { IsTrue (all_sized (length right.items) (map (λ k. k.row) rows.items)) }
-        requires kept { AllByRecursion (λ k. KeepsTimes interval.hi last k.times.items) rows.items }
-        ensures interval { IfOk result (λ window. window.interval ≡ interval) }
-        ensures left { IfOk result (λ window. window.left ≡ left.items) }
-        ensures right { IfOk result (λ window. window.right ≡ right.items) }
+        requires sized { IsTrue (all_sized (length self.right) (map (λ k. k.row) rows.items)) }
+        requires kept { AllByRecursion (λ k. KeepsTimes self.interval.hi last k.times.items) rows.items }
+        ensures interval { IfOk result (λ window. window.interval ≡ self.interval) }
+        ensures left { IfOk result (λ window. window.left ≡ self.left) }
+        ensures right { IfOk result (λ window. window.right ≡ self.right) }
         ensures last { IfOk result (λ window. window.last ≡ last) }
         ensures kept { IfOk result (λ window. (u : List Value) →
             kept_times window u ≡ times_for rows.items u) }
         ensures blank { IfOk result (λ window. rows.items ≡ [] → IsBlank window.groups) }
     {
+        let Window {
+            interval,
+            left,
+            right,
+            keys,
+            last: _,
+            contents: _,
+        } = self;
         let contents = restored(
             alloc,
             &interval,
             right.as_slice(),
-            left.as_slice(),
+            grouping(left.as_slice(), keys.as_slice()),
             last,
             rows,
         )?;
@@ -285,6 +325,7 @@ impl Window {
             interval,
             left,
             right,
+            keys,
             last,
             contents,
         })
@@ -310,6 +351,7 @@ impl Window {
         ensures interval { self.new.interval ≡ self.old.interval }
         ensures left { self.new.left ≡ self.old.left }
         ensures right { self.new.right ≡ self.old.right }
+        ensures keys { self.new.keys ≡ self.old.keys }
     {
         let contents = mem::replace(
             &mut self.contents,
@@ -321,13 +363,15 @@ impl Window {
         let last = self.last;
         let right = self.right.as_slice();
         let left = self.left.as_slice();
+        let keys = grouping(left, self.keys.as_slice());
         let rows = rights.into_rows();
         self.contents = stepped(
             alloc,
             contents,
             &self.interval,
             right,
-            left,
+            keys,
+            left.is_empty(),
             negated,
             lefts,
             rows,
@@ -339,8 +383,8 @@ impl Window {
     }
 
     /// The part of a row that the left operand speaks of.
-    pub fn key(&self, alloc: Global, row: &Row) -> Result<Row, AllocError>
-        ensures { IfOk result (λ key. key ≡ part self.now.right self.now.left row.now) }
+    pub fn left_part(&self, alloc: Global, row: &Row) -> Result<Row, AllocError>
+        ensures { IfOk result (λ left. left ≡ part self.now.right self.now.left row.now) }
     {
         part_of(
             alloc,
@@ -350,9 +394,16 @@ impl Window {
         )
     }
 
+    /// The part of a row that it is grouped by.
+    pub fn key(&self, alloc: Global, row: &Row) -> Result<Row, AllocError>
+        ensures { IfOk result (λ key. key ≡ part self.now.right self.now.keys row.now) }
+    {
+        part_of(alloc, self.right.as_slice(), self.keys(), row.values())
+    }
+
     /// Whether some kept time of a row lies in the interval, seen from `x`.
     pub fn within(&self, key: &Row, row: &Row, x: u64) -> bool
-        requires { key.now ≡ part self.now.right self.now.left row.now }
+        requires { key.now ≡ part self.now.right self.now.keys row.now }
         ensures { result ≡ within self.now x row.now }
     {
         self.contents.groups.reaches(key, row, &self.interval, x)
@@ -370,6 +421,70 @@ impl Window {
             .push_reaching(alloc, &mut rows, &self.interval, self.last)?;
         let columns = Vec::from_slice(alloc, self.right.as_slice())?;
         Ok(Table::from_rows(columns, rows))
+    }
+
+    /// Those of these rows whose part at the columns of `keys` is one of its rows.
+    pub fn table_of(&self, alloc: Global, keys: &Table) -> Result<Table, AllocError>
+        ensures columns { IfOk result (λ table. table.columns ≡ self.now.right) }
+        ensures rows { IfOk result (λ table. (u : List Value) →
+            has_row table.rows u ≡ (within self.now self.now.last u
+            && has_row keys.now.rows (part self.now.right keys.now.columns u))) }
+    {
+        let mut rows = Vec::new(alloc);
+        self.push_table_of(alloc, &mut rows, keys)?;
+        let columns = Vec::from_slice(alloc, self.right.as_slice())?;
+        Ok(Table::from_rows(columns, rows))
+    }
+
+    fn push_table_of(
+        &self,
+        alloc: Global,
+        out: &mut Vec<Row>,
+        keys: &Table,
+    ) -> Result<(), AllocError>
+        ensures { OnOk result ((u : List Value) → has_row out.new.items u
+            ≡ (has_row out.old.items u || (within self.now self.now.last u
+            && has_row keys.now.rows (part self.now.right keys.now.columns u)))) }
+    {
+        if keys.columns() == self.keys() {
+            self.push_found(alloc, out, keys)
+        } else {
+            self.push_matching(alloc, out, keys)
+        }
+    }
+
+    // Looks up the group of each key.
+    fn push_found(&self, alloc: Global, out: &mut Vec<Row>, keys: &Table) -> Result<(), AllocError>
+        requires same { keys.now.columns ≡ self.now.keys }
+        ensures { OnOk result ((u : List Value) → has_row out.new.items u
+            ≡ (has_row out.old.items u || (within self.now self.now.last u
+            && has_row keys.now.rows (part self.now.right keys.now.columns u)))) }
+    {
+        let groups = &self.contents.groups;
+        groups.push_found(alloc, out, &self.interval, self.last, keys.rows())
+    }
+
+    // Looks at all rows.
+    fn push_matching(
+        &self,
+        alloc: Global,
+        out: &mut Vec<Row>,
+        keys: &Table,
+    ) -> Result<(), AllocError>
+        ensures { OnOk result ((u : List Value) → has_row out.new.items u
+            ≡ (has_row out.old.items u || (within self.now self.now.last u
+            && has_row keys.now.rows (part self.now.right keys.now.columns u)))) }
+    {
+        let right = self.right.as_slice();
+        let groups = &self.contents.groups;
+        groups.push_matching(alloc, out, &self.interval, self.last, right, keys)
+    }
+
+    /// The columns by which rows are grouped.
+    pub fn keys(&self) -> &[u32]
+        ensures { result.now ≡ self.now.keys }
+    {
+        grouping(self.left.as_slice(), self.keys.as_slice())
     }
 
     pub fn left(&self) -> &[u32]
@@ -420,7 +535,7 @@ impl Window {
         ensures past { Past self.now.last self.now.groups }
         ensures ascend { Ascending self.now.groups }
         ensures alone { self.now.interval.hi ≡ None → Alone self.now.groups }
-        ensures placed { Placed self.now.right self.now.left self.now.groups }
+        ensures placed { Placed self.now.right self.now.keys self.now.groups }
     {
         let _ = &self.last;
     }

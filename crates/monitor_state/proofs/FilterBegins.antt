@@ -1,9 +1,10 @@
--- The node of a conjunction whose right side only filters, with which a monitor begins.
-use Rattle.std.proofs.Common.{subst, ◌≡◌, Bool, true, false, ◌&&◌, ◌++◌, List, [], ◌∷◌, length, refl, sym, ap, ◌∙◌}
-use Rattle.std.proofs.Common.{arith, append-nil}
-use Rattle.std.proofs.lemmas.Bool.{and_parts}
+-- The node of a conjunction whose right side is asked for the left one's rows, with which a monitor begins.
+use Rattle.std.proofs.Common.{subst, ◌≡◌, Bool, true, false, not, ◌&&◌, ◌||◌, ◌++◌, List, [], ◌∷◌, length, refl, sym, ap, ◌∙◌}
+use Rattle.std.proofs.Common.{arith, append-nil, inl, inr}
+use Rattle.std.proofs.lemmas.Bool.{and_parts, not-true, or_cases}
+use Rattle.std.specs.List.{list_any}
 use Rattle.mfotl_model.specs.Exact.{AllExact, View}
-use Rattle.mfotl_model.specs.FreeVariables.{fv}
+use Rattle.mfotl_model.specs.FreeVariables.{among, fv}
 use Rattle.mfotl_model.specs.Tables.{all_among}
 use Rattle.eval_until.specs.UntilView.{took_all}
 use Rattle.mfotl_model.specs.declared.interval.Interval.{Interval}
@@ -13,11 +14,12 @@ use Rattle.monitorable.specs.declared.role.Role.{Role}
 use Rattle.monitorable.specs.declared.role.Role.TheVariants as role
 use Rattle.monitor_state.proofs.BeginLemmas.{adds_one, none_reached, since_begins_at, since_state_is}
 use Rattle.monitor_state.proofs.GuardLemmas.{and_left, and_own, not_under}
-use Rattle.monitor_state.proofs.WholeLemmas.{part_whole}
+use Rattle.monitor_state.proofs.WholeLemmas.{asker_guarded, part_whole}
 use Rattle.monitor_state.proofs.MonitorSteps.{last_off}
 use Rattle.monitor_state.proofs.UntilBegins.{until_begins_at, until_state_is}
 use Rattle.monitor_state.specs.Beginnings.{Accepted, Adds, WindowBegun}
-use Rattle.monitor_state.specs.Nodes.{filters, is_negated, is_window, left_operand, nodes_in, without_last}
+use Rattle.monitor_state.specs.FilterNode.{GivenAs}
+use Rattle.monitor_state.specs.Nodes.{adds_none, filters, is_keyed, is_negated, is_window, left_operand, nodes_in, without_last}
 use Rattle.monitor_state.specs.Views.{reached}
 use Rattle.monitor_state.specs.WindowNode.{IsWindow, WindowStands, window_took_all}
 use Rattle.monitor_state.specs.declared.filter.FilterState.{FilterState}
@@ -28,8 +30,7 @@ use Rattle.monitor_state.specs.declared.window.Window.TheVariants as window
 
 pub is_filter_window : (own : Bool) (f g : CoreForm) → (own && filters f g) ≡ true → is_window (left_operand g) ≡ true
 is_filter_window own f g only =
-    (and_parts (is_window (left_operand g)) (all_among (fv (meaning g)) (bound_by f))
-    (and_parts own (filters f g) only).1).0
+    (and_parts (is_window (left_operand g)) (adds_none f g || is_keyed f g) (and_parts own (filters f g) only).1).0
 
 pub is_filtered_window : (f g : CoreForm) → filters f g ≡ true → is_window (left_operand g) ≡ true
 is_filtered_window f g only = is_filter_window true f g only
@@ -40,9 +41,19 @@ pub filtered_whole : (r : Role) (f g : CoreForm) (own : Bool) → own ≡ is_con
 filtered_whole r f g own is only accepted =
     let both = and_parts own (filters f g) only in
     let guard = and_own r f g accepted (sym is ∙ both.0) in
-    part_whole f g guard.0
-    (and_parts (is_window (left_operand g)) (all_among (fv (meaning g)) (bound_by f)) both.1).1 guard.1
-    (and_left r f g accepted)
+    part_whole f guard.0 (asker_guarded f g guard.0 both.1 guard.1) (and_left r f g accepted)
+
+-- a side that has more variables is no NOT
+pub keyed_plain : (f g : CoreForm) → filters f g ≡ true → adds_none f g ≡ false → is_negated g ≡ false
+keyed_plain f g only more =
+    elim (or_cases (adds_none f g) (is_keyed f g)
+    (and_parts (is_window (left_operand g)) (adds_none f g || is_keyed f g) only).1) [
+      | inl none ↦ absurd (let clash : true ≡ false = sym none ∙ more in cc)
+      | inr keyed ↦
+          not-true (is_negated g)
+          (and_parts (not (is_negated g))
+          (all_among (fv (meaning f)) (bound_by f) && list_any (λ y. among y (bound_by f)) (fv (meaning g))) keyed).0
+    ]
 
 -- so is the window without its NOT, as a conjunct
 pub operand_accepted : (g : CoreForm) → is_window (left_operand g) ≡ true → Accepted role.Part g
@@ -89,11 +100,11 @@ window_begins (Until i f g) (window.Until s) begun view empty =
 window_begins w s begun view empty = absurd begun
 
 pub filter_added : (f g : CoreForm) (s : FilterState) (old new : List Node) → filters f g ≡ true
-    → s.negated ≡ is_negated g → s.tables ≡ [] → WindowBegun (left_operand g) s.window
+    → s.negated ≡ is_negated g → GivenAs f g s.order → s.tables ≡ [] → WindowBegun (left_operand g) s.window
     → new ≡ old ++ node.Filter s ∷ [] → Adds (And f g ∷ []) old new
-filter_added f g s old new only turns none begun is =
+filter_added f g s old new only turns gives none begun is =
     adds_one (And f g) (node.Filter s) old new is
-    (record { only = only; turns = turns; asks = window_is (left_operand g) s.window begun })
+    (record { only = only; turns = turns; asks = window_is (left_operand g) s.window begun; gives = gives })
     (λ view empty.
     let begins = window_begins (left_operand g) s.window begun view empty in
     let here : 0 ≡ reached view (And f g) = none_reached view empty (And f g) in

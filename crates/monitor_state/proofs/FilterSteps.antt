@@ -1,5 +1,5 @@
--- The state of a conjunction whose right side only filters, over one step.
-use Rattle.std.proofs.Common.{subst, ◌≡◌, ℕ, ◌+◌, ◌<◌, ◌≤◌, Bool, true, false, ◌&&◌, nat_eq, List, [], ◌∷◌, ◌++◌}
+-- The state of a conjunction whose right side is asked for the left one's rows, over one step.
+use Rattle.std.proofs.Common.{subst, ◌≡◌, ℕ, ◌+◌, ◌<◌, ◌≤◌, Bool, true, false, ◌&&◌, nat_eq, Option, Some, None, List, [], ◌∷◌, ◌++◌}
 use Rattle.std.proofs.Common.{length, map, refl, sym, ap, ap₂, ◌∙◌, inl, inr, arith, length-append}
 use Rattle.std.proofs.lemmas.Bool.{and_parts, cases_Bool, cond-false, cond-true, or_cases, or_left, or_right}
 use Rattle.std.proofs.lemmas.List.Folds.{list_any-append}
@@ -16,24 +16,27 @@ use Rattle.mfotl_model.specs.Times.{NeverFalls}
 use Rattle.mfotl_model.specs.declared.event.TimePoint.{TimePoint}
 use Rattle.mfotl_model.specs.declared.value.Value.{Value}
 use Rattle.monitorable.proofs.Coincidence.{coincidence}
-use Rattle.monitorable.specs.CoreForms.{CoreForm, meaning, Compare, Not, And}
+use Rattle.monitorable.specs.CoreForms.{CoreForm, meaning, Compare, Not, And, Since, Until}
 use Rattle.monitorable.specs.Fragment.{binds, bound_by}
 use Rattle.monitorable.specs.Soundness.{IsSound}
 use Rattle.relations.proofs.JoinLemmas.{member_of_all, read_own}
 use Rattle.relations.specs.Pushed.{turned}
 use Rattle.monitor_state.proofs.CountLemmas.{and_below, count_and, count_below}
 use Rattle.monitor_state.proofs.ExactLemmas.{all_stay, exact_append, reached_grows, reached_within, rising_before}
-use Rattle.monitor_state.proofs.RegionLemmas.{all_from_each, joined_within}
+use Rattle.monitor_state.proofs.RegionLemmas.{all_from_each, joined_inside, joined_within, near_left, near_right}
+use Rattle.monitor_state.proofs.RegionLemmas.{right_inside}
 use Rattle.monitor_state.proofs.SinceSteps.{free_operand, reached_operand}
 use Rattle.monitor_state.proofs.WindowSteps.{window_due_at, window_fed, window_gone, window_means, window_settled}
-use Rattle.monitor_state.specs.FilterFeeding.{FilterPulled, FilterStep, FilterStops, FilterTakes, Sifts}
-use Rattle.monitor_state.specs.FilterNode.{FilterStands, IsFilter}
-use Rattle.monitor_state.specs.Nodes.{filters, is_negated, is_window, left_operand, window_operands}
+use Rattle.monitor_state.specs.FilterFeeding.{FilterPulled, FilterStep, FilterStops, FilterTakes, Gives, Joins}
+use Rattle.monitor_state.specs.FilterFeeding.{Sifts}
+use Rattle.monitor_state.specs.FilterNode.{FilterStands, GivenAs, IsFilter}
+use Rattle.monitor_state.specs.Nodes.{adds_none, is_negated, left_operand, window_operands}
 use Rattle.monitor_state.specs.Steps.{News, StackNews, longer}
 use Rattle.monitor_state.specs.Views.{reached}
-use Rattle.monitor_state.specs.WindowNode.{IsWindow, WindowStands, window_due}
+use Rattle.monitor_state.specs.WindowNode.{IsWindow, WindowStands, window_columns, window_due}
 use Rattle.monitor_state.specs.declared.filter.FilterState.{FilterState}
 use Rattle.monitor_state.specs.declared.window.Window.{Window}
+use Rattle.monitor_state.specs.declared.window.Window.TheVariants as window
 
 -- what a core binds is free in it
 pub bound_free : (f : CoreForm) (y : ℕ) → among y (bound_by f) ≡ true → among y (fv (meaning f)) ≡ true
@@ -56,12 +59,42 @@ bound_free (And f g) y h =
 bound_free f y h = h
 
 -- the variables of what only filters are the other side's
-pub filter_free : (f g : CoreForm) → filters f g ≡ true → (y : ℕ) → among y (fv (meaning g)) ≡ true
+filter_free : (f g : CoreForm) → adds_none f g ≡ true → (y : ℕ) → among y (fv (meaning g)) ≡ true
     → among y (fv (meaning f)) ≡ true
-filter_free f g only y m =
-    bound_free f y
-    (member_of_all (λ z. among z (bound_by f)) (fv (meaning g)) y
-    (and_parts (is_window (left_operand g)) (all_among (fv (meaning g)) (bound_by f)) only).1 m)
+filter_free f g none y m =
+    bound_free f y (member_of_all (λ z. among z (bound_by f)) (fv (meaning g)) y none m)
+
+plain_operand : (g : CoreForm) → is_negated g ≡ false → left_operand g ≡ g
+plain_operand (Not f) plain = absurd (let clash : true ≡ false = plain in cc)
+plain_operand f plain = refl
+
+-- the columns of a window's rows are its variables
+columns_within : (whole w : CoreForm) (s : Window) → IsSound whole w → IsWindow w s
+    → (all_among (window_columns s) (fv (meaning w)) ≡ true) × (all_among (fv (meaning w)) (window_columns s) ≡ true)
+unfolding fv
+columns_within whole (Since i f g) (window.Since s) sound is = (
+  ap (λ cs. all_among cs (joined (fv (meaning f)) (fv (meaning g)))) is.right
+      ∙ right_inside (fv (meaning f)) (fv (meaning g)),
+  ap (all_among (joined (fv (meaning f)) (fv (meaning g)))) is.right
+      ∙ joined_inside (fv (meaning f)) (fv (meaning g)) sound.0,
+)
+columns_within whole (Until i f g) (window.Until s) sound is = (
+  ap (λ cs. all_among cs (joined (fv (meaning f)) (fv (meaning g)))) is.right
+      ∙ right_inside (fv (meaning f)) (fv (meaning g)),
+  ap (all_among (joined (fv (meaning f)) (fv (meaning g)))) is.right
+      ∙ joined_inside (fv (meaning f)) (fv (meaning g)) sound.0,
+)
+columns_within whole w s sound is = absurd is
+
+joined_among : (xs ys zs : List ℕ) → all_among ys zs ≡ true → all_among (joined xs ys) (joined xs zs) ≡ true
+joined_among xs ys zs all =
+    all_from_each (joined xs ys) (joined xs zs)
+    (λ y m.
+    among_joined y xs zs
+    ∙ elim (or_cases (among y xs) (among y ys) (sym (among_joined y xs ys) ∙ m)) [
+      | inl first ↦ or_left (among y xs) (among y zs) first
+      | inr second ↦ or_right (among y xs) (among y zs) (member_of_all (λ z. among z zs) ys y all second)
+    ])
 
 turned_sat : (view : View) (dom : List Value) (v : Valuation) (p : ℕ) (g : CoreForm)
     → turned (is_negated g) (sat view.log dom v p (meaning (left_operand g))) ≡ sat view.log dom v p (meaning g)
@@ -77,6 +110,7 @@ has_is table columns v same = ap (λ cs. has_row table.rows (map v cs)) same
 -- a state that stands with p positions pulled
 record StandsAt (view : View) (f g : CoreForm) (p : ℕ) (s : FilterState) : Type 0 where
   turns : s.negated ≡ is_negated g
+  gives : GivenAs f g s.order
   pushed : p + length s.tables ≡ reached view f
   inside : p ≤ reached view g
   exact : AllExact view (meaning f) p s.tables
@@ -84,25 +118,25 @@ record StandsAt (view : View) (f g : CoreForm) (p : ℕ) (s : FilterState) : Typ
   behind : WindowStands view p (left_operand g) s.window
 
 module _ (view : View) (rising : NeverFalls (times view.log)) (passes : Passes (fv view.whole) view.near)
-    (f g : CoreForm) (only : filters f g ≡ true) where
+    (whole f g : CoreForm) (sound : IsSound whole (left_operand g)) where
   -- a table without what the window filters out is exact for the conjunction
-  sifted_exact : (p : ℕ) (s : Window) (negated : Bool) (table kept : TableOf) → negated ≡ is_negated g
-      → IsWindow (left_operand g) s → WindowStands view p (left_operand g) s → Exact view (meaning f) p table
+  sifted_exact : (p : ℕ) (s : Window) (negated : Bool) (table kept : TableOf) → adds_none f g ≡ true
+      → negated ≡ is_negated g → IsWindow (left_operand g) s → WindowStands view p (left_operand g) s → Exact view (meaning f) p table
       → kept.columns ≡ table.columns → Sifts s negated table.columns table.rows kept.rows
       → Exact view (meaning (And f g)) p kept
   unfolding fv sat
-  sifted_exact p s negated table kept turns is stands exact over sifts =
+  sifted_exact p s negated table kept none turns is stands exact over sifts =
       record {
         columns =
             over ∙ exact.columns
             ∙ sym (joined_within (fv (meaning f)) (fv (meaning g))
-            (all_from_each (fv (meaning g)) (fv (meaning f)) (λ y m. filter_free f g only y m)));
+            (all_from_each (fv (meaning g)) (fv (meaning f)) (λ y m. filter_free f g none y m)));
         rows = λ dom v covers near.
             let own : Valuation = valuation table.columns (map v table.columns) in
             let agree : (y : ℕ) → among y (fv (meaning (left_operand g))) ≡ true
             → (among y (fv (meaning f)) ≡ true) × (own y ≡ v y) = λ y m.
             let inner : among y (fv (meaning f)) ≡ true =
-            filter_free f g only y (ap (among y) (sym (free_operand g)) ∙ m) in
+            filter_free f g none y (ap (among y) (sym (free_operand g)) ∙ m) in
             (inner, read_own v table.columns y (ap (among y) exact.columns ∙ inner)) in
             has_is kept table.columns v over
             ∙ sifts (map v table.columns) (sat view.log dom v p (meaning (left_operand g)))
@@ -127,6 +161,45 @@ module _ (view : View) (rising : NeverFalls (times view.log)) (passes : Passes (
             (ap (λ n. turned n (sat view.log dom v p (meaning (left_operand g)))) turns ∙ turned_sat view dom v p g);
       }
 
+  -- so is a table that was joined with the window's rows
+  joined_exact : (p : ℕ) (s : Window) (order table kept : TableOf) → is_negated g ≡ false
+      → order.columns ≡ fv (meaning (And f g)) → IsWindow (left_operand g) s → WindowStands view p (left_operand g) s
+      → Exact view (meaning f) p table → Joins s order table kept → Exact view (meaning (And f g)) p kept
+  unfolding fv sat
+  joined_exact p s order table kept plain ordered is stands exact joins =
+      let own : left_operand g ≡ g = plain_operand g plain in
+      let within = columns_within whole (left_operand g) s sound is in
+      let both : joined table.columns (window_columns s) ≡ joined (fv (meaning f)) (window_columns s) =
+      ap (λ cs. joined cs (window_columns s)) exact.columns in
+      record {
+        columns = joins.over ∙ ordered;
+        rows = λ dom v covers near.
+            joins.rows
+            (ap₂ all_among ordered both
+            ∙ joined_among (fv (meaning f)) (fv (meaning g)) (window_columns s)
+            (subst (λ w. all_among (fv (meaning w)) (window_columns s) ≡ true) own within.1))
+            (ap₂ all_among both ordered
+            ∙ joined_among (fv (meaning f)) (window_columns s) (fv (meaning g))
+            (subst (λ w. all_among (window_columns s) (fv (meaning w)) ≡ true) own within.0))
+            v (sat view.log dom v p (meaning (left_operand g)))
+            (window_means view rising passes (left_operand g) s p is stands dom v covers
+            (subst (λ w. view.near (fv (meaning w)) v ≡ true) (sym own)
+            (near_right (fv view.whole) view.near passes (fv (meaning f)) (fv (meaning g)) v near)))
+            ∙ ap₂ (λ a b. a && b)
+            (exact.rows dom v covers
+            (near_left (fv view.whole) view.near passes (fv (meaning f)) (fv (meaning g)) v near))
+            (ap (λ w. sat view.log dom v p (meaning w)) own);
+      }
+
+  given_exact : (p : ℕ) (s : Window) (negated : Bool) (order : Option TableOf) (table kept : TableOf)
+      → negated ≡ is_negated g → GivenAs f g order → IsWindow (left_operand g) s
+      → WindowStands view p (left_operand g) s → Exact view (meaning f) p table → Gives s negated order table kept
+      → Exact view (meaning (And f g)) p kept
+  given_exact p s negated None table kept turns none is stands exact gives =
+      sifted_exact p s negated table kept none turns is stands exact gives.0 gives.1
+  given_exact p s negated (Some order) table kept turns as_ is stands exact gives =
+      joined_exact p s order table kept as_.0 as_.1 is stands exact gives
+
   step_stands : (p : ℕ) (old new : FilterState) (kept : TableOf) → StandsAt view f g p old → FilterStep old new kept
       → StandsAt view f g (p + 1) new × Exact view (meaning (And f g)) p kept
   step_stands p old new kept stands step =
@@ -143,13 +216,15 @@ module _ (view : View) (rising : NeverFalls (times view.log)) (passes : Passes (
       let exact = subst (AllExact view (meaning f) p) step.front stands.exact in (
         record {
           turns = step.turns ∙ stands.turns;
+          gives = subst (GivenAs f g) (sym step.orders) stands.gives;
           pushed = omega arith;
           inside = omega arith;
           exact = exact.1;
           asks = gone.0;
           behind = gone.1;
         },
-        sifted_exact p step.ready old.negated step.table kept stands.turns ready.0 ready.1 exact.0 step.over step.sifts,
+        given_exact p step.ready old.negated old.order step.table kept stands.turns stands.gives ready.0 ready.1 exact.0
+            step.gives,
       )
 
   steps_stand : (p : ℕ) (old new : FilterState) (tables : List TableOf) → StandsAt view f g p old
@@ -171,6 +246,7 @@ module _ (view : View) (rising : NeverFalls (times view.log)) (passes : Passes (
       stops.settles in
       record {
         turns = stops.turns ∙ stands.turns;
+        gives = subst (GivenAs f g) (sym stops.orders) stands.gives;
         pushed = ap (λ ts. p + length ts) stops.tables ∙ stands.pushed;
         inside = stands.inside;
         exact = subst (AllExact view (meaning f) p) (sym stops.tables) stands.exact;
@@ -215,6 +291,7 @@ module _ (view : View) (point : TimePoint) (whole : CoreForm) (f g : CoreForm)
       and_below (times view.log) (rising_before view point rising) (meaning f) (meaning g) in
       record {
         turns = takes.turns ∙ is.turns;
+        gives = subst (GivenAs f g) (sym takes.orders) is.gives;
         pushed = omega arith;
         inside = omega arith;
         exact =
@@ -229,21 +306,21 @@ module _ (view : View) (point : TimePoint) (whole : CoreForm) (f g : CoreForm)
   last_stands : StandsAt (longer view point) f g (reached view (And f g) + length tables) takes.last
       × AllExact (longer view point) (meaning (And f g)) (reached view (And f g)) tables
   last_stands =
-      steps_stand (longer view point) rising passes f g is.only (reached view (And f g)) takes.fed takes.last tables
+      steps_stand (longer view point) rising passes whole f g sound (reached view (And f g)) takes.fed takes.last tables
       fed_stands takes.pulls
 
   new_stands : StandsAt (longer view point) f g (reached view (And f g) + length tables) new
   new_stands =
-      stops_stand (longer view point) rising passes f g is.only (reached view (And f g) + length tables) takes.last new
+      stops_stand (longer view point) rising passes whole f g sound (reached view (And f g) + length tables) takes.last new
       last_stands.0 takes.stops
 
   count : reached view (And f g) + length tables ≡ reached (longer view point) (And f g)
   count =
-      all_pulled (longer view point) rising passes f g is.only (reached view (And f g) + length tables) new new_stands
+      all_pulled (longer view point) rising passes whole f g sound (reached view (And f g) + length tables) new new_stands
       takes.stops.done
 
   pub filter_is : IsFilter f g new
-  filter_is = record { only = is.only; turns = new_stands.turns; asks = new_stands.asks }
+  filter_is = record { only = is.only; turns = new_stands.turns; asks = new_stands.asks; gives = new_stands.gives }
 
   pub filter_stands : FilterStands (longer view point) f g new
   filter_stands =

@@ -28,6 +28,7 @@ pub mod WindowSteps
 pub mod FilterSteps
 pub mod WholeLemmas
 pub mod FilterBegins
+pub mod LookupLemmas
 pub mod SiftLemmas
 pub mod MarkLemmas
 pub mod RecordLemmas

@@ -53,7 +53,7 @@ use Rattle.eval_until.specs.UntilView.{UntilOf}
 use Rattle.monitorable.specs.CoreForms.{Until}
 use Rattle.monitor_state.proofs.UntilSteps.{until_is, until_news, until_stands}
 use Rattle.monitor_state.specs.UntilFeeding.{UntilTakes}
-use Rattle.monitor_state.specs.Nodes.{children, filters, is_window, left_operand, operands, window_operands}
+use Rattle.monitor_state.specs.Nodes.{adds_none, is_keyed, children, filters, is_window, left_operand, operands, window_operands}
 use Rattle.monitor_state.proofs.FilterSteps.{filter_is, filter_news, filter_stands}
 use Rattle.monitor_state.specs.FilterFeeding.{FilterTakes}
 use Rattle.monitor_state.specs.declared.filter.FilterState.{FilterState}
@@ -532,7 +532,7 @@ filter_advances old new given stack high mid rest fs ls rs tables last second fi
     premises is stands stacked =
     let sound = sound_operand whole g premises.sound.1 in
     let news = pops_filtered view point below f (left_operand g) stack high mid rest fs ls rs
-    (and_parts (is_window (left_operand g)) (all_among (fv (meaning g)) (bound_by f)) is.only).0
+    (and_parts (is_window (left_operand g)) (adds_none f g || is_keyed f g) is.only).0
     (subst (λ cs. StackNews view point (below ++ cs) stack)
     (ap (λ b. cond b (f ∷ window_operands (left_operand g)) (children (conjuncts_of (And f g)))) is.only) stacked)
     last second first in (

@@ -35,6 +35,7 @@ use Rattle.monitor_state.proofs.RecordRules.{setting_is, until_setting_is}
 use Rattle.monitor_state.proofs.ResumeTimes.{known_from, last_dates, rest_dates, rest_is, rest_size}
 use Rattle.monitor_state.proofs.ResumeWindows.{since_resumed_is, since_resumed_stands, until_resumed_all}
 use Rattle.monitor_state.proofs.ResumeWindows.{until_resumed_is, until_resumed_stands, until_resumed_taken}
+use Rattle.monitor_state.specs.FilterNode.{GivenAs}
 use Rattle.monitor_state.specs.Nodes.{left_operand, operands}
 use Rattle.monitor_state.specs.Resuming.{NodeResumed, Reach, SinceResumed, Suits, UntilResumed, WindowResumed}
 use Rattle.monitor_state.specs.Stands.{ChildrenStand, IsFor, IsJoin, IsPrevious, JoinStands, NextStands, NodeStands}
@@ -363,7 +364,7 @@ until_resumed_node k s new order d res (Until i f g) is keeps = (
 )
 until_resumed_node k s new order d res f is keeps = absurd is
 
--- ---- conjunctions whose right side only filters
+-- ---- conjunctions whose right side is asked for the left one's rows
 
 pub filter_fits : (k : KeptTimes) (s : FilterState) (tables : Vec TableOf) (w : WindowData) (f : CoreForm)
     → IsFor f (node.Filter s) → NodeKeeps k f (kept.Filter tables w)
@@ -377,11 +378,12 @@ suits_window view whole f (Not g) suits = record { passes = suits.passes; sound 
 suits_window view whole f g suits = record { passes = suits.passes; sound = suits.sound.1 }
 
 pub filter_resumed : (k : KeptTimes) (s new : FilterState) (tables : Vec TableOf) (w : WindowData)
-    → new.tables ≡ tables.items → new.negated ≡ s.negated → WindowResumed k s.window w new.window
+    → new.tables ≡ tables.items → new.negated ≡ s.negated → new.order ≡ s.order
+    → WindowResumed k s.window w new.window
     → NodeResumed k (node.Filter s) (kept.Filter tables w) (node.Filter new)
-filter_resumed k s new tables w tables_are turns res (And f g) is keeps =
+filter_resumed k s new tables w tables_are turns orders res (And f g) is keeps =
     let resumed = res (left_operand g) is.asks keeps.2 in (
-      record { only = is.only; turns = turns ∙ is.turns; asks = resumed.0 },
+      record { only = is.only; turns = turns ∙ is.turns; asks = resumed.0; gives = subst (GivenAs f g) (sym orders) is.gives },
       λ view whole suits reach stands.
           let behind = resumed.1 view whole (reached view (And f g)) (suits_window view whole f g suits) reach
           stands.behind in
@@ -392,4 +394,4 @@ filter_resumed k s new tables w tables_are turns res (And f g) is keeps =
             all = behind.1;
           },
     )
-filter_resumed k s new tables w tables_are turns res f is keeps = absurd is
+filter_resumed k s new tables w tables_are turns orders res f is keeps = absurd is

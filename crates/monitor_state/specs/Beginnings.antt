@@ -57,10 +57,19 @@ WholeIf own h = own ≡ true → operands h ≡ children (conjuncts_of h)
 abbrev pub AddsIf : Bool → CoreForm → List Node → List Node → Type 0
 AddsIf own f old new = Adds (cond own (f ∷ []) []) old new
 
--- a SINCE's state before the first position, which is right for every valuation
+-- a SINCE's state before the first position, which is right for every valuation, whatever columns its rows are
+-- grouped by
 pub record SinceBegun (i : Interval) (f g : CoreForm) (s : SinceOf) : Type 0 where
+  pub keys : List ℕ
   pub begun : s ≡ record {
-    window = record { interval = i; left = fv (meaning f); right = fv (meaning g); last = 0; groups = [] };
+    window = record {
+      interval = i;
+      left = fv (meaning f);
+      right = fv (meaning g);
+      keys = keys;
+      last = 0;
+      groups = [];
+    };
     negated = is_negated f;
     pulled = 0;
     newest = 0;

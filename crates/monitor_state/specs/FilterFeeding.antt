@@ -1,7 +1,9 @@
--- What happens to the state of a conjunction whose right side only filters as tables are pushed and pulled.
-use Rattle.std.specs.Prelude.{◌≡◌, ℕ, Bool, ◌&&◌, true, cond, List, [], ◌∷◌, ◌++◌}
+-- What happens to the state of a conjunction whose right side is asked for the left one's rows as tables are pushed and
+-- pulled.
+use Rattle.std.specs.Prelude.{◌≡◌, ℕ, Bool, ◌&&◌, true, cond, Option, Some, None, List, [], ◌∷◌, ◌++◌}
+use Rattle.mfotl_model.specs.FreeVariables.{joined}
 use Rattle.mfotl_model.specs.Satisfaction.{Valuation}
-use Rattle.mfotl_model.specs.Tables.{TableOf, has_row, valuation}
+use Rattle.mfotl_model.specs.Tables.{TableOf, all_among, has, has_row, valuation}
 use Rattle.mfotl_model.specs.declared.value.Value.{Value}
 use Rattle.eval_since.specs.SinceView.{Advances, Follows}
 use Rattle.eval_until.specs.UntilView.{Advances as AdvancesUntil, Follows as FollowsUntil, FollowsLeft, Takes, UntilOf}
@@ -9,7 +11,7 @@ use Rattle.eval_until.specs.UntilView.{to_take, took_all}
 use Rattle.relations.specs.Pushed.{turned}
 use Rattle.monitor_state.specs.Feeding.{SinceFeeds}
 use Rattle.monitor_state.specs.UntilFeeding.{UntilFeeds}
-use Rattle.monitor_state.specs.WindowNode.{Answers, window_due, window_took_all}
+use Rattle.monitor_state.specs.WindowNode.{Answers, window_columns, window_due, window_took_all}
 use Rattle.monitor_state.specs.declared.filter.FilterState.{FilterState}
 use Rattle.monitor_state.specs.declared.window.Window.{Window}
 use Rattle.monitor_state.specs.declared.window.Window.TheVariants as window
@@ -55,16 +57,35 @@ RowSifted w negated columns row old new =
     (answer : Bool) × Answers w (valuation columns row) answer
     × (new ≡ old ++ cond (turned negated answer) (row ∷ []) [])
 
--- one table was pulled: the left side's first one, without the rows that the window filters out
+-- of a window's rows these were given: of those whose part is one of the keys all of which the window holds
+pub record Finds (w : Window) (keys found : TableOf) : Type 0 where
+  pub over : found.columns ≡ window_columns w
+  pub rows : (v : Valuation) → has keys v ≡ true → Answers w v (has found v)
+
+-- a table's rows were joined with those of which the window holds, where the columns of both are those of `order`
+pub record Joins (w : Window) (order table kept : TableOf) : Type 0 where
+  pub over : kept.columns ≡ order.columns
+  pub rows : all_among order.columns (joined table.columns (window_columns w)) ≡ true
+      → all_among (joined table.columns (window_columns w)) order.columns ≡ true
+      → (v : Valuation) (holds : Bool) → ((answer : Bool) → Answers w v answer → answer ≡ holds)
+      → has kept v ≡ (has table v && holds)
+
+-- the rows of a table were filtered, or joined with more columns
+abbrev pub Gives : Window → Bool → Option TableOf → TableOf → TableOf → Type 0
+Gives w negated None table kept =
+    (kept.columns ≡ table.columns) × Sifts w negated table.columns table.rows kept.rows
+Gives w negated (Some order) table kept = Joins w order table kept
+
+-- one table was pulled: the rows of the left side's first one of which the window holds
 pub record FilterStep (old new : FilterState) (kept : TableOf) : Type 0 where
   pub table : TableOf
   pub ready : Window
   pub front : old.tables ≡ table ∷ new.tables
   pub turns : new.negated ≡ old.negated
+  pub orders : new.order ≡ old.order
   pub settles : WindowSettles old.window ready
   pub was_due : window_due ready ≡ true
-  pub over : kept.columns ≡ table.columns
-  pub sifts : Sifts ready old.negated table.columns table.rows kept.rows
+  pub gives : Gives ready old.negated old.order table kept
   pub goes : WindowGoes ready new.window
 
 -- tables were pulled, one after the other
@@ -76,6 +97,7 @@ FilterPulled old new (kept ∷ tables) = (mid : FilterState) × FilterStep old m
 pub record FilterStops (old new : FilterState) : Type 0 where
   pub tables : new.tables ≡ old.tables
   pub turns : new.negated ≡ old.negated
+  pub orders : new.order ≡ old.order
   pub settles : WindowSettles old.window new.window
   pub done : window_due new.window ≡ true → new.tables ≡ []
   pub all : window_took_all new.window ≡ true
@@ -87,6 +109,7 @@ pub record FilterTakes (old : FilterState) (ts : ℕ) (fs ls rs : List TableOf) 
   pub last : FilterState
   pub pushed : fed.tables ≡ old.tables ++ fs
   pub turns : fed.negated ≡ old.negated
+  pub orders : fed.order ≡ old.order
   pub feeds : WindowFeeds old.window ts ls rs fed.window
   pub pulls : FilterPulled fed last tables
   pub stops : FilterStops last new

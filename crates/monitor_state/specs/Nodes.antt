@@ -1,8 +1,9 @@
 -- The nodes of a monitor: one for each part of the core that is evaluated by itself, operands first. A
--- conjunction is one node with all its conjuncts; but where its right side is a window that only filters the
--- rows of its left side, the node has the left side and the window's operands.
-use Rattle.std.specs.Prelude.{Bool, true, false, ◌&&◌, cond, List, [], ◌∷◌, ◌++◌}
-use Rattle.mfotl_model.specs.FreeVariables.{fv}
+-- conjunction is one node with all its conjuncts; but where its right side is a window that is asked for the rows of
+-- its left side alone, the node has the left side and the window's operands.
+use Rattle.std.specs.Prelude.{Bool, true, false, not, ◌&&◌, ◌||◌, cond, List, [], ◌∷◌, ◌++◌}
+use Rattle.std.specs.List.{list_any}
+use Rattle.mfotl_model.specs.FreeVariables.{among, fv}
 use Rattle.mfotl_model.specs.Tables.{all_among}
 use Rattle.monitorable.specs.Conjuncts.{PartForm, conjuncts_of}
 use Rattle.monitorable.specs.Conjuncts.PartForm.{Child, Test}
@@ -19,7 +20,7 @@ children [] = []
 children (Child f negated ∷ parts) = f ∷ children parts
 children (Test c wanted ∷ parts) = children parts
 
--- the left operand of SINCE or UNTIL, or a window that filters, without its NOT
+-- the left operand of SINCE or UNTIL, or a window that is asked for rows, without its NOT
 abbrev pub left_operand : CoreForm → CoreForm
 left_operand (Not f) = f
 left_operand f = f
@@ -41,10 +42,21 @@ window_operands (Since i f g) = left_operand f ∷ g ∷ []
 window_operands (Until i f g) = left_operand f ∷ g ∷ []
 window_operands f = []
 
--- whether of a conjunction of f and g the second one only filters the first one's rows: it is a window, or
--- the NOT of one, and the first one binds all its variables
+-- whether g has no variables but those that f binds
+abbrev pub adds_none : CoreForm → CoreForm → Bool
+adds_none f g = all_among (fv (meaning g)) (bound_by f)
+
+-- whether g, no NOT, can be asked for the values that f, which binds all its variables, has of some of its
+-- variables
+abbrev pub is_keyed : CoreForm → CoreForm → Bool
+is_keyed f g =
+    not (is_negated g)
+    && (all_among (fv (meaning f)) (bound_by f) && list_any (λ y. among y (bound_by f)) (fv (meaning g)))
+
+-- whether of a conjunction of f and g the second one is asked for the first one's rows alone: it is a window, or
+-- the NOT of one, that only filters these rows, or it is a window that can be asked by some of their values
 abbrev pub filters : CoreForm → CoreForm → Bool
-filters f g = is_window (left_operand g) && all_among (fv (meaning g)) (bound_by f)
+filters f g = is_window (left_operand g) && (adds_none f g || is_keyed f g)
 
 -- cores without the last one
 abbrev pub without_last : List CoreForm → List CoreForm
@@ -65,8 +77,8 @@ operands (Since i f g) = left_operand f ∷ g ∷ []
 operands (Until i f g) = left_operand f ∷ g ∷ []
 operands f = []
 
--- the cores of the nodes of a core in its role, each behind its operands; a window that filters has no node of
--- its own
+-- the cores of the nodes of a core in its role, each behind its operands; a window that is asked for
+-- rows has no node of its own
 unfoldable pub nodes_in : Role → CoreForm → List CoreForm
 nodes_in role (Compare c) = cond (stands_alone role (binds c)) (Compare c ∷ []) []
 nodes_in role (Not f) = nodes_in (under_not role) f ++ cond (judges_not role) (Not f ∷ []) []

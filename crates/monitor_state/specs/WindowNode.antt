@@ -23,6 +23,11 @@ WindowStands view p (Since i f g) (window.Since s) = SinceStandsAt view p i f g 
 WindowStands view p (Until i f g) (window.Until s) = UntilStandsAt view p i f g s
 WindowStands view p f other = ⊥
 
+-- the columns of its rows
+abbrev pub window_columns : Window → List ℕ
+window_columns (window.Since s) = s.window.right
+window_columns (window.Until s) = s.ahead.right
+
 -- whether the next position can be asked for and pulled
 abbrev pub window_due : Window → Bool
 window_due (window.Since s) = due s

@@ -1,23 +1,28 @@
-//! The node of a conjunction whose right side only filters.
-ghost use Rattle.std.specs.Prelude.{◌≡◌, ◌&&◌, ◌∷◌, [], IfOk, IsTrue, OnOk};
+//! The node of a conjunction whose right side is asked for the left one's rows.
+ghost use Rattle.std.specs.Prelude.{◌≡◌, ◌&&◌, ◌∷◌, [], cond, IfOk, IsTrue, OnOk};
+ghost use Rattle.std.specs.List.{list_any};
+ghost use Rattle.relations.specs.Operations.{common};
 ghost use Rattle.monitorable.specs.CoreForms.{node_form, meaning, And, Since, Until};
-ghost use Rattle.mfotl_model.specs.FreeVariables.{fv};
+ghost use Rattle.mfotl_model.specs.FreeVariables.{among, fv};
 ghost use Rattle.mfotl_model.specs.Tables.{all_among};
 ghost use Rattle.monitor_state.specs.Beginnings.{Accepted, Adds, WindowBegun};
-ghost use Rattle.monitor_state.specs.Nodes.{filters, is_window, left_operand};
+ghost use Rattle.monitor_state.specs.FilterNode.{GivenAs};
+ghost use Rattle.monitor_state.specs.Nodes.{adds_none, filters, is_keyed, is_window, left_operand};
 
 use crate::begin_until::until_state;
 use crate::filter::FilterState;
+use crate::lookup::common;
 use crate::node::{Node, add};
 use crate::operators::{is_negated, since_state};
 use crate::ordering::all_among;
 use crate::tables::Tables;
 use crate::window::Window;
-use mfotl_model::Interval;
+use mfotl_model::{Interval, is_among};
 use monitorable::{Node as Core, Role, bound_by};
+use relations::Table;
 use std::alloc::{AllocError, Global};
 
-/// A window that filters, without its NOT.
+/// A window that is asked for rows, without its NOT.
 pub fn without_not(core: &Core) -> &Core
     ensures { node_form result.now ≡ left_operand (node_form core.now) }
 {
@@ -27,7 +32,8 @@ pub fn without_not(core: &Core) -> &Core
     }
 }
 
-fn is_window(core: &Core) -> bool
+/// Whether a core is a window.
+pub fn is_window(core: &Core) -> bool
     ensures { result ≡ is_window (node_form core.now) }
 {
     match core {
@@ -37,45 +43,114 @@ fn is_window(core: &Core) -> bool
     }
 }
 
-/// Whether a conjunction that is its own has a right side that only filters.
+/// Whether a conjunction that is its own has a right side that is asked for the left one's rows.
 pub fn is_filtered(alloc: Global, own: bool, left: &Core, right: &Core) -> Result<bool, AllocError>
     ensures { IfOk result (λ yes. yes ≡ (own && filters (node_form left.now) (node_form right.now))) }
 {
     if !own || !is_window(without_not(right)) {
         return Ok(false);
     }
+    let none = adds_none(alloc, left, right)?;
+    let keyed = is_keyed(alloc, left, right)?;
+    Ok(none || keyed)
+}
+
+// Whether the right side has no variables but those that the left one binds.
+fn adds_none(alloc: Global, left: &Core, right: &Core) -> Result<bool, AllocError>
+    ensures { IfOk result (λ yes. yes ≡ adds_none (node_form left.now) (node_form right.now)) }
+{
     let columns = right.free_vars(alloc)?;
     let bound = bound_by(alloc, left)?;
     Ok(all_among(columns.as_slice(), bound.as_slice()))
 }
 
-/// Adds the node of a conjunction of these sides.
+// Whether the right side can be asked by some values of the left one's rows.
+fn is_keyed(alloc: Global, left: &Core, right: &Core) -> Result<bool, AllocError>
+    ensures { IfOk result (λ yes. yes ≡ is_keyed (node_form left.now) (node_form right.now)) }
+{
+    let columns = right.free_vars(alloc)?;
+    let own = left.free_vars(alloc)?;
+    let bound = bound_by(alloc, left)?;
+    let bound = bound.as_slice();
+    let plain = !is_negated(right);
+    Ok(plain && all_among(own.as_slice(), bound) && some_among(columns.as_slice(), bound))
+}
+
+/// Whether one of the wanted is among the columns.
+pub fn some_among(wanted: &[u32], columns: &[u32]) -> bool
+    ensures { result ≡ list_any (λ x. among x columns.now) wanted.now }
+{
+    wanted.iter().any(|x| is_among(*x, columns))
+}
+
+// Nothing where the right side only filters; else a table with the columns of both in their order.
+fn order_of(
+    alloc: Global,
+    core: &Core,
+    left: &Core,
+    right: &Core,
+) -> Result<Option<Table>, AllocError>
+    requires sides { node_form core.now ≡ And (node_form left.now) (node_form right.now) }
+    requires only { IsTrue (filters (node_form left.now) (node_form right.now)) }
+    ensures { IfOk result (GivenAs (node_form left.now) (node_form right.now)) }
+{
+    if adds_none(alloc, left, right)? {
+        return Ok(None);
+    }
+    let columns = core.free_vars(alloc)?;
+    Ok(Some(Table::empty(alloc, columns)))
+}
+
+/// Adds the node of the core, a conjunction of these sides.
 #[inline(never)]
 pub fn add_filter(
     alloc: Global,
+    core: &Core,
     left: &Core,
     right: &Core,
     nodes: &mut Vec<Node>,
 ) -> Result<(), AllocError>
+    requires sides { node_form core.now ≡ And (node_form left.now) (node_form right.now) }
     requires only { IsTrue (filters (node_form left.now) (node_form right.now)) }
     requires accepted { Accepted Role.Part (node_form right.now) }
     ensures { OnOk result (Adds (And (node_form left.now) (node_form right.now) ∷ []) nodes.old.items nodes.new.items) }
 {
-    let window = begun_window(alloc, without_not(right))?;
+    let order = order_of(alloc, core, left, right)?;
+    let keys = keys_of(alloc, order.is_some(), left, right)?;
+    let window = begun_window(alloc, without_not(right), keys.as_slice())?;
     let state = FilterState {
         tables: Tables::new(alloc),
         window,
         negated: is_negated(right),
+        order,
     };
     add(Node::Filter(state), nodes)
 }
 
-fn begun_window(alloc: Global, core: &Core) -> Result<Window, AllocError>
+// The columns by which the right side is asked: none where it only filters.
+fn keys_of(
+    alloc: Global,
+    keyed: bool,
+    left: &Core,
+    right: &Core,
+) -> Result<Vec<u32>, AllocError>
+    ensures { IfOk result (λ keys. keys.items
+        ≡ cond keyed (common (fv (meaning (node_form right.now))) (fv (meaning (node_form left.now)))) []) }
+{
+    if !keyed {
+        return Ok(Vec::new(alloc));
+    }
+    let columns = right.free_vars(alloc)?;
+    let own = left.free_vars(alloc)?;
+    common(alloc, columns.as_slice(), own.as_slice())
+}
+
+fn begun_window(alloc: Global, core: &Core, keys: &[u32]) -> Result<Window, AllocError>
     requires { Accepted Role.Part (node_form core.now) }
     ensures { IfOk result (WindowBegun (node_form core.now)) }
 {
     match core {
-        Core::Since(interval, left, right) => begun_since(alloc, interval, left, right),
+        Core::Since(interval, left, right) => begun_since(alloc, interval, left, right, keys),
         Core::Until(interval, left, right) => begun_until(alloc, interval, left, right),
         _ => Err(AllocError),
     }
@@ -86,11 +161,12 @@ fn begun_since(
     interval: &Interval,
     left: &Core,
     right: &Core,
+    keys: &[u32],
 ) -> Result<Window, AllocError>
     requires { IsTrue (all_among (fv (meaning (node_form left.now))) (fv (meaning (node_form right.now)))) }
     ensures { IfOk result (WindowBegun (Since interval.now (node_form left.now) (node_form right.now))) }
 {
-    let state = since_state(alloc, interval, left, right)?;
+    let state = since_state(alloc, interval, left, right, keys)?;
     Ok(Window::Since(state))
 }
 

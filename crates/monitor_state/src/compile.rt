@@ -103,7 +103,7 @@ fn add_and(
     if is_filtered(alloc, own, left, right)? {
         add_nodes(alloc, left, Role::Whole, nodes)?;
         add_operands(alloc, without_not(right), nodes)?;
-        return add_filter(alloc, left, right, nodes);
+        return add_filter(alloc, core, left, right, nodes);
     }
     add_both(alloc, left, Role::Part, right, Role::Part, nodes)?;
     add_join(alloc, own, core, nodes)

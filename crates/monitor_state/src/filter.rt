@@ -1,25 +1,28 @@
-//! A conjunction whose right side only filters takes a time and its operands' tables.
-ghost use Rattle.std.specs.Prelude.{◌≡◌, ◌++◌, ◌∷◌, [], cond, IfOk, IsTrue, MatchOption, OnOk};
+//! A conjunction whose right side is asked for the left one's rows takes a time and its operands' tables.
+ghost use Rattle.std.specs.Prelude.{◌≡◌, ◌++◌, ◌∷◌, [], cond, IfOk, IsTrue, MatchOption, None, OnOk};
 ghost use Rattle.mfotl_model.specs.Tables.{TableOf};
 ghost use Rattle.relations.specs.Pushed.{turned};
 ghost use Rattle.relations.specs.Tables.{IsTable};
 ghost use Rattle.monitor_state.specs.FilterFeeding.{FilterPulled, FilterStep, FilterStops, FilterTakes, RowSifted};
-ghost use Rattle.monitor_state.specs.FilterFeeding.{Sifts};
+ghost use Rattle.monitor_state.specs.FilterFeeding.{Gives, Sifts, WindowGoes};
 ghost use Rattle.monitor_state.specs.WindowNode.{window_due, window_took_all};
 
+use crate::lookup::joined;
 use crate::tables::Tables;
 use crate::window::{Window, feed_window, go_on, holds, is_due, settle};
 use mfotl_model::Row;
 use relations::Table;
 use std::alloc::{AllocError, Global};
 
-/// The state of a conjunction whose right side, a window or the NOT of one, only filters the rows of the
-/// left one: the left side's tables that were not used, and the window, which stays behind with them.
+/// The state of a conjunction whose right side, a window or the NOT of one, is asked for the rows of the
+/// left one alone: the left side's tables that were not used, and the window, which stays behind with
+/// them. Where the window has more columns than the left side, a table has the order of those of both.
 #[derive(Drop)]
 pub struct FilterState {
     pub tables: Tables,
     pub window: Window,
     pub negated: bool,
+    pub order: Option<Table>,
 }
 
 /// Pushes the operands' tables, and pulls all tables that are due then.
@@ -70,9 +73,49 @@ fn pull(alloc: Global, state: &mut FilterState) -> Result<Option<Table>, AllocEr
     let Some(table) = state.tables.take() else {
         return Ok(None);
     };
-    let kept = sifted(alloc, &state.window, state.negated, table)?;
-    go_on(alloc, &mut state.window)?;
+    let kept = given(
+        alloc,
+        &mut state.window,
+        state.negated,
+        &state.order,
+        table,
+    )?;
     Ok(Some(kept))
+}
+
+// Goes on by one position: the rows of which the window holds, or doesn't where it is negated.
+fn given(
+    alloc: Global,
+    window: &mut Window,
+    negated: bool,
+    order: &Option<Table>,
+    table: Table,
+) -> Result<Table, AllocError>
+    requires due { IsTrue (window_due window.old) }
+    requires all { IsTrue (window_took_all window.old) }
+    ensures goes { OnOk result (WindowGoes window.old window.new) }
+    ensures gives { IfOk result (Gives window.old negated order.now table) }
+{
+    match order {
+        None => filtered(alloc, window, negated, table),
+        Some(order) => joined(alloc, window, order, table),
+    }
+}
+
+fn filtered(
+    alloc: Global,
+    window: &mut Window,
+    negated: bool,
+    table: Table,
+) -> Result<Table, AllocError>
+    requires due { IsTrue (window_due window.old) }
+    requires all { IsTrue (window_took_all window.old) }
+    ensures goes { OnOk result (WindowGoes window.old window.new) }
+    ensures gives { IfOk result (Gives window.old negated None table) }
+{
+    let kept = sifted(alloc, window, negated, table)?;
+    go_on(alloc, window)?;
+    Ok(kept)
 }
 
 // The rows of which the window holds, or doesn't where it is negated. No row is copied.

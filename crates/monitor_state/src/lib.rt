@@ -10,6 +10,7 @@ mod constant;
 mod filter;
 mod join;
 pub mod laws;
+mod lookup;
 mod monitor;
 mod next;
 mod node;

@@ -29,7 +29,7 @@ pub enum Node {
     Exists(u32),
     /// A conjunction with a child.
     Join(JoinState),
-    /// A conjunction whose right side only filters.
+    /// A conjunction whose right side is asked for the left one's rows.
     Filter(FilterState),
     /// OR of operands with the same variables.
     Or(OrState),

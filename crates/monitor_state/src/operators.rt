@@ -40,29 +40,34 @@ pub fn add_since(
     ensures { OnOk result (node_form whole.now ≡ Since interval.now (node_form left.now) (node_form right.now)
         → Adds (node_form whole.now ∷ []) nodes.old.items nodes.new.items) }
 {
-    let state = since_state(alloc, interval, left, right)?;
+    let state = since_state(alloc, interval, left, right, &[])?;
     let columns = whole.free_vars(alloc)?;
     add(Node::Since(state, Table::empty(alloc, columns)), nodes)
 }
 
+/// The state of a SINCE of these operands, which finds rows by the columns of `keys` at once where the left
+/// one is closed.
 pub fn since_state(
     alloc: Global,
     interval: &Interval,
     left: &Core,
     right: &Core,
+    keys: &[u32],
 ) -> Result<SinceState, AllocError>
     requires { IsTrue (all_among (fv (meaning (node_form left.now))) (fv (meaning (node_form right.now)))) }
     ensures { IfOk result (SinceBegun interval.now (node_form left.now) (node_form right.now)) }
 {
     let left_columns = left.free_vars(alloc)?;
     let right_columns = right.free_vars(alloc)?;
-    SinceState::new(
+    let state = SinceState::keyed(
         alloc,
         interval,
         left_columns.as_slice(),
         right_columns.as_slice(),
         is_negated(left),
-    )
+        keys,
+    )?;
+    Ok(state)
 }
 
 #[inline(never)]

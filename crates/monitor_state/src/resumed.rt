@@ -133,6 +133,7 @@ fn resumed_filter(
         tables: Tables::from_vec(tables),
         window,
         negated: state.negated,
+        order: state.order,
     }))
 }
 

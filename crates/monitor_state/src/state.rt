@@ -27,7 +27,8 @@ pub enum NodeData {
     Next(NextData),
     /// A SINCE or an UNTIL.
     Window(WindowData),
-    /// A conjunction whose right side only filters: the left side's tables that were not used, and the window.
+    /// A conjunction whose right side is asked for the left one's rows: the left side's tables that were not used, and
+    /// the window.
     Filter(Vec<Table>, WindowData),
 }
 

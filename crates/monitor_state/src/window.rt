@@ -1,8 +1,8 @@
-//! Windows, which are asked row by row.
+//! Windows, which are asked row by row, or by some values of rows.
 ghost use Rattle.std.specs.Prelude.{◌≡◌, IfOk, IsTrue, OnOk};
-ghost use Rattle.mfotl_model.specs.Tables.{valuation};
-ghost use Rattle.monitor_state.specs.FilterFeeding.{WindowFeeds, WindowGoes, WindowSettles};
-ghost use Rattle.monitor_state.specs.WindowNode.{Answers, window_due, window_took_all};
+ghost use Rattle.mfotl_model.specs.Tables.{TableOf, all_among, valuation};
+ghost use Rattle.monitor_state.specs.FilterFeeding.{Finds, WindowFeeds, WindowGoes, WindowSettles};
+ghost use Rattle.monitor_state.specs.WindowNode.{Answers, window_columns, window_due, window_took_all};
 
 use crate::since::feed_since;
 use crate::tables::Tables;
@@ -10,9 +10,10 @@ use crate::until::feed_until;
 use eval_since::SinceState;
 use eval_until::UntilState;
 use mfotl_model::Row;
+use relations::Table;
 use std::alloc::{AllocError, Global};
 
-/// A SINCE or an UNTIL that is asked row by row: no table of it is made.
+/// A SINCE or an UNTIL that is asked for rows: no table of all of its is made.
 #[derive(Drop)]
 pub enum Window {
     Since(SinceState),
@@ -65,6 +66,54 @@ pub fn holds(alloc: Global, window: &Window, columns: &[u32], row: &Row) -> Resu
         Window::Since(state) => state.holds(alloc, columns, row),
         Window::Until(state) => state.holds(alloc, columns, row),
     }
+}
+
+/// The columns of the window's rows.
+pub fn columns(window: &Window) -> &[u32]
+    ensures { result.now ≡ window_columns window.now }
+{
+    match window {
+        Window::Since(state) => state.columns(),
+        Window::Until(state) => state.right_columns(),
+    }
+}
+
+/// Goes on by one position. Of the rows of which the window holds there it gives at least those whose part at
+/// the columns of `keys` is one of its rows.
+pub fn pulled_of(alloc: Global, window: &mut Window, keys: &Table) -> Result<Table, AllocError>
+    requires due { IsTrue (window_due window.old) }
+    requires all { IsTrue (window_took_all window.old) }
+    requires inside { IsTrue (all_among keys.now.columns (window_columns window.old)) }
+    ensures goes { OnOk result (WindowGoes window.old window.new) }
+    ensures finds { IfOk result (Finds window.old keys.now) }
+{
+    match window {
+        Window::Since(state) => since_of(alloc, state, keys),
+        Window::Until(state) => until_whole(alloc, state),
+    }
+}
+
+fn since_of(alloc: Global, state: &mut SinceState, keys: &Table) -> Result<Table, AllocError>
+    requires due { IsTrue (window_due (Window.Since state.old)) }
+    requires inside { IsTrue (all_among keys.now.columns state.old.window.right) }
+    ensures goes { OnOk result (WindowGoes (Window.Since state.old) (Window.Since state.new)) }
+    ensures finds { IfOk result (Finds (Window.Since state.old) keys.now) }
+{
+    state.advance(alloc)?;
+    let found = state.table_of(alloc, keys)?;
+    Ok(found)
+}
+
+// An UNTIL gives its whole table, in which the wanted rows are.
+fn until_whole(alloc: Global, state: &mut UntilState) -> Result<Table, AllocError>
+    requires due { IsTrue (window_due (Window.Until state.old)) }
+    requires all { IsTrue (window_took_all (Window.Until state.old)) }
+    ensures goes { OnOk result (WindowGoes (Window.Until state.old) (Window.Until state.new)) }
+    ensures finds { IfOk result (λ found. (keys : TableOf) → Finds (Window.Until state.old) keys found) }
+{
+    let found = state.table(alloc)?;
+    state.advance(alloc)?;
+    Ok(found)
 }
 
 /// Goes on by one position.

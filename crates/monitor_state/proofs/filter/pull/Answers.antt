@@ -12,9 +12,9 @@ returns c =
       front = taken_one c.take.result c.in-Some.table c.args.state.now.tables c.take.new.self c.in-Some.is
           c.take.ensures.first;
       turns = refl;
+      orders = refl;
       settles = c.in_ok-settle.ensures.settles;
       was_due = due;
-      over = c.in_ok-kept.ensures.over;
-      sifts = c.in_ok-kept.ensures.sifts;
-      goes = c.in_ok-go_on.ensures;
+      gives = c.in_ok-kept.ensures.gives;
+      goes = c.in_ok-kept.ensures.goes;
     }

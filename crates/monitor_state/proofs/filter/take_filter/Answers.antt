@@ -8,7 +8,12 @@ use Rattle.monitor_state.proofs.filter.take_filter.Goals as goal
 pub returns : goal.returns
 returns c =
     let fed : FilterState =
-    record { tables = c.push_tables.new.kept; window = c.feed_window.new.window; negated = c.args.state.now.negated } in
+    record {
+      tables = c.push_tables.new.kept;
+      window = c.feed_window.new.window;
+      negated = c.args.state.now.negated;
+      order = c.args.state.now.order;
+    } in
     let Pulled : List TableOf → Type 0 =
     λ tables. (last : FilterState) × FilterPulled fed last tables × FilterStops last c.pulled.new.state in
     ok_then c.pulled.result Pulled
@@ -19,6 +24,7 @@ returns c =
       last = pulled.0;
       pushed = c.in_ok-push_tables.ensures;
       turns = refl;
+      orders = refl;
       feeds = c.in_ok-feed_window.ensures;
       pulls = pulled.1;
       stops = pulled.2;

@@ -16,7 +16,12 @@ pub returns : goal.returns
 returns c =
     let k : KeptTimes = record { first = c.args.first; stamps = c.args.times.now } in
     let new : FilterState =
-    record { tables = c.from_vec.result; window = c.in_ok-window.window; negated = c.args.state.negated } in
+    record {
+      tables = c.from_vec.result;
+      window = c.in_ok-window.window;
+      negated = c.args.state.negated;
+      order = c.args.state.order;
+    } in
     subst (λ d. NodeResumed k (node.Filter c.args.state) d (node.Filter new)) (sym c.in-Filter.is)
-    (filter_resumed k c.args.state new c.in-Filter.tables c.in-Filter.window c.from_vec.ensures refl
+    (filter_resumed k c.args.state new c.in-Filter.tables c.in-Filter.window c.from_vec.ensures refl refl
     c.in_ok-window.ensures)

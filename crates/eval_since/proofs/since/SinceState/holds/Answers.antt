@@ -11,7 +11,7 @@ returns c = rw (← c.self.view_is) (
       c.in_either.ensures,
       c.within-kept.ensures,
       c.holds_on-held.ensures,
-      c.in_ok-key.ensures,
+      c.in_ok-lead.ensures,
       c.contains-reached.ensures,
       c.interval.ensures,
       c.contains.ensures,

@@ -28,7 +28,7 @@ returns-clause-rule c = rw (← c.self.view_is) (
       sized = c.in_ok-kept.ensures.sized;
       each = c.in_ok-kept.ensures.each;
       begins = λ none. no_rows c.in_ok-kept.field-0.items (λ u. c.in_ok-kept.ensures.kept u
-          ∙ ap filled (c.self.invariant.begins none (part s.window.right s.window.left u) u));
+          ∙ ap filled (c.self.invariant.begins none (part s.window.right s.window.keys u) u));
     })
 
 pub returns-clause-follows : goal.returns-clause-follows

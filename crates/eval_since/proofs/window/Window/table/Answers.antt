@@ -1,7 +1,8 @@
-use Rattle.std.proofs.Common.{◌||◌, ℕ, List, length, ap, ◌∙◌}
+use Rattle.std.proofs.Common.{◌||◌, ℕ, List, length, sym, ap, ◌∙◌}
 use Rattle.std.specs.List.{list_any}
 use Rattle.mfotl_model.specs.Tables.{all_apart, all_sized, has_row, part}
 use Rattle.relations.proofs.AscendingRows.{has_ascending}
+use Rattle.eval_since.specs.LeftOperand.{grouping}
 use Rattle.eval_since.specs.Groups.{times_in}
 use Rattle.eval_since.specs.Times.{reaches}
 use Rattle.eval_since.proofs.GroupLemmas.{group_is}
@@ -17,13 +18,13 @@ from_rows-requires-clause-sized c =
     let k = c.self.inside in
     ap (λ (columns : List ℕ). all_sized (length columns) c.push_reaching.new.out.items)
     (c.in_ok-columns.ensures.items ∙ c.as_slice.ensures.value)
-    ∙ sized_reached k.interval k.last k.right.items k.left.items k.contents.groups c.push_reaching.new.out.items
+    ∙ sized_reached k.interval k.last k.right.items (grouping k.left.items k.keys.items) k.contents.groups c.push_reaching.new.out.items
     c.self.invariant.sized
-    (λ u. c.in_ok-push_reaching.ensures.rows u
+    (λ u there. sym (c.in_ok-push_reaching.ensures.rows u
     ∙ ap (λ rows. has_row rows u || list_any (λ e. reaches k.interval (times_in e.1 u) k.last) k.contents.groups)
     c.new-rows.ensures.items
-    ∙ group_is k.interval k.last (part k.right.items k.left.items u) u k.contents.groups c.push_reaching.ensures.differ
-    (λ q. c.self.invariant.placed q u))
+    ∙ group_is k.interval k.last (part k.right.items (grouping k.left.items k.keys.items) u) u k.contents.groups c.push_reaching.ensures.differ
+    (λ q. c.self.invariant.placed q u)) ∙ there)
 
 pub returns-clause-rows : goal.returns-clause-rows
 returns-clause-rows c = rw (← c.self.view_is) (
@@ -33,6 +34,6 @@ returns-clause-rows c = rw (← c.self.view_is) (
     ∙ c.in_ok-push_reaching.ensures.rows u
     ∙ ap (λ rows. has_row rows u || list_any (λ e. reaches k.interval (times_in e.1 u) k.last) k.contents.groups)
     c.new-rows.ensures.items
-    ∙ group_is k.interval k.last (part k.right.items k.left.items u) u k.contents.groups
+    ∙ group_is k.interval k.last (part k.right.items (grouping k.left.items k.keys.items) u) u k.contents.groups
     c.push_reaching.ensures.differ
     (λ q. c.self.invariant.placed q u))

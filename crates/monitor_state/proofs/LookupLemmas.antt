@@ -1,0 +1,72 @@
+-- A window that is asked by the values that a table has of some of its columns.
+use Rattle.std.proofs.Common.{subst, ◌≡◌, ◌↔◌, ℕ, ◌+◌, ◌-◌, ◌<◌, Bool, true, false, ◌&&◌, List, refl, sym, ap, ap₂, ◌∙◌}
+use Rattle.std.proofs.Common.{arith}
+use Rattle.mfotl_model.specs.FreeVariables.{among, joined}
+use Rattle.mfotl_model.specs.Satisfaction.{Valuation, since, until}
+use Rattle.mfotl_model.specs.Tables.{TableOf, all_among, has}
+use Rattle.mfotl_model.specs.Times.{NeverFalls}
+use Rattle.eval_since.specs.SinceView.{Advances, Follows, SinceOf}
+use Rattle.eval_until.specs.UntilView.{Follows as FollowsUntil, UntilOf}
+use Rattle.monitor_state.specs.FilterFeeding.{Finds, Joins}
+use Rattle.monitor_state.specs.WindowNode.{Answers, window_columns}
+use Rattle.monitor_state.specs.declared.window.Window.{Window}
+use Rattle.monitor_state.specs.declared.window.Window.TheVariants as window
+
+both_true : (b c : Bool) → c ≡ true → (b && c) ≡ b
+both_true true true e = refl
+both_true false true e = refl
+both_true true false e = absurd (cc)
+both_true false false e = refl
+
+pub since_finds : (old new : SinceOf) (keys found : TableOf) → Advances old new
+    → ((t : List ℕ) (a b : List Bool) (v : Valuation) → Follows old t a b v → Follows new t a b v)
+    → found.columns ≡ new.window.right
+    → ((t : List ℕ) (a b : List Bool) (v : Valuation) → Follows new t a b v → 0 < new.pulled
+    → has found v ≡ (since new.window.interval t a b (new.pulled - 1) && has keys v))
+    → Finds (window.Since old) keys found
+since_finds old new keys found moves follows over rows =
+    let one : new.pulled ≡ old.pulled + 1 = moves.pulled in
+    let last : new.pulled - 1 ≡ old.pulled = omega arith in
+    record {
+      over = over ∙ moves.right;
+      rows = λ v key t a b f.
+          rows t a b v (follows t a b v f) (omega arith)
+          ∙ both_true (since new.window.interval t a b (new.pulled - 1)) (has keys v) key
+          ∙ ap₂ (λ i p. since i t a b p) moves.interval last;
+    }
+
+pub until_finds : (s : UntilOf) (found : TableOf) → found.columns ≡ s.ahead.right
+    → ((t : List ℕ) (a b : List Bool) (v : Valuation) → FollowsUntil s t a b v → NeverFalls t
+    → has found v ≡ until s.ahead.interval t a b s.ahead.pulled)
+    → (keys : TableOf) → Finds (window.Until s) keys found
+until_finds s found over rows keys =
+    record {
+      over = over;
+      rows = λ v key t a b f never. rows t a b v f never;
+    }
+
+pub found_joins : (w : Window) (order table keys found both kept : TableOf)
+    → ((v : Valuation) → has table v ≡ true → has keys v ≡ true) → Finds w keys found
+    → both.columns ≡ joined table.columns found.columns
+    → ((v : Valuation) → has both v ≡ (has table v && has found v))
+    → kept.columns ≡ order.columns
+    → (all_among order.columns both.columns ≡ true → all_among both.columns order.columns ≡ true
+    → (v : Valuation) → has kept v ≡ has both v)
+    → Joins w order table kept
+found_joins w order table keys found both kept asked finds over rows ordered same =
+    let columns : both.columns ≡ joined table.columns (window_columns w) =
+    over ∙ ap (joined table.columns) finds.over in
+    record {
+      over = ordered;
+      rows = λ inside outside v holds answers.
+          same (ap (all_among order.columns) columns ∙ inside)
+          (ap (λ cs. all_among cs order.columns) columns ∙ outside) v
+          ∙ rows v
+          ∙ by (has table v) v refl holds answers;
+    }
+  where
+    by : (b : Bool) (v : Valuation) → has table v ≡ b → (holds : Bool)
+        → ((answer : Bool) → Answers w v answer → answer ≡ holds)
+        → (b && has found v) ≡ (b && holds)
+    by true v there holds answers = answers (has found v) (finds.rows v (asked v there))
+    by false v there holds answers = refl
