@@ -1,4 +1,5 @@
 -- What one node does in a step.
+use Rattle.std.proofs.Common.{◌||◌}
 use Rattle.std.proofs.Common.{None, subst, ◌≡◌, ℕ, suc, ◌+◌, ◌<◌, Bool, true, false, not, ◌&&◌, cond, nat_eq, nat_lt}
 use Rattle.std.proofs.Common.{List, [], ◌∷◌, ◌++◌, length, map, get_or, refl, sym, ap, ap₂, ◌∙◌, arith, append_assoc}
 use Rattle.std.proofs.Common.{append-nil}
@@ -53,7 +54,8 @@ use Rattle.eval_until.specs.UntilView.{UntilOf}
 use Rattle.monitorable.specs.CoreForms.{Until}
 use Rattle.monitor_state.proofs.UntilSteps.{until_is, until_news, until_stands}
 use Rattle.monitor_state.specs.UntilFeeding.{UntilTakes}
-use Rattle.monitor_state.specs.Nodes.{adds_none, is_keyed, children, filters, is_window, left_operand, operands, window_operands}
+use Rattle.monitor_state.specs.Nodes.{adds_none, is_keyed, children, filters, is_window, left_operand, operands}
+use Rattle.monitor_state.specs.Nodes.{window_operands}
 use Rattle.monitor_state.proofs.FilterSteps.{filter_is, filter_news, filter_stands}
 use Rattle.monitor_state.specs.FilterFeeding.{FilterTakes}
 use Rattle.monitor_state.specs.declared.filter.FilterState.{FilterState}
