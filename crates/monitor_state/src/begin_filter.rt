@@ -128,12 +128,7 @@ pub fn add_filter(
 }
 
 // The columns by which the right side is asked: none where it only filters.
-fn keys_of(
-    alloc: Global,
-    keyed: bool,
-    left: &Core,
-    right: &Core,
-) -> Result<Vec<u32>, AllocError>
+fn keys_of(alloc: Global, keyed: bool, left: &Core, right: &Core) -> Result<Vec<u32>, AllocError>
     ensures { IfOk result (λ keys. keys.items
         ≡ cond keyed (common (fv (meaning (node_form right.now))) (fv (meaning (node_form left.now)))) []) }
 {

@@ -73,13 +73,7 @@ fn pull(alloc: Global, state: &mut FilterState) -> Result<Option<Table>, AllocEr
     let Some(table) = state.tables.take() else {
         return Ok(None);
     };
-    let kept = given(
-        alloc,
-        &mut state.window,
-        state.negated,
-        &state.order,
-        table,
-    )?;
+    let kept = given(alloc, &mut state.window, state.negated, &state.order, table)?;
     Ok(Some(kept))
 }
 
