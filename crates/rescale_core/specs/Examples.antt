@@ -1,11 +1,12 @@
--- Worked examples: what is ready at a change of strategy.
-use Rattle.std.specs.Prelude.{◌≡◌, ℕ, List, [], ◌∷◌, ◌++◌}
+-- Worked examples: what is ready at a change of strategy, and up to where there is room.
+use Rattle.std.specs.Prelude.{◌≡◌, ℕ, true, false, List, [], ◌∷◌, ◌++◌, replicate}
 use Rattle.mfotl_model.specs.Strategies.{Strategy}
 use Rattle.mfotl_model.specs.Strategies.Entry.{Hash}
 use Rattle.mfotl_model.specs.declared.event.TimePoint.{TimePoint}
 use Rattle.monitorable.specs.CoreForms.{CoreForm}
 use Rattle.monitor_state.specs.declared.state.Piece.{Piece}
 use Rattle.monitor_state.specs.declared.state.State.{State}
+use Rattle.rescale_core.specs.Waiting.{is_short}
 use Rattle.rescale_core.specs.Workers.{slice_for}
 use Rattle.rescale_core.specs.Worlds.{Move, first_world, ready_in, run}
 use Rattle.rescale_core.specs.Worlds.Move.{Collect, Feed, Read, Take}
@@ -13,6 +14,7 @@ use Rattle.rescale_core.specs.declared.item.Entry.TheVariants.{Change, Point}
 use Rattle.rescale_core.specs.declared.item.Item.{Item}
 use Rattle.rescale_core.specs.declared.item.Item.TheVariants.{Adopt, Part, Slice}
 use Rattle.rescale_core.specs.declared.item.Out.TheVariants.{Piece as OfPiece}
+use Rattle.rescale_core.specs.declared.slot.Slot.TheVariants.{Ready}
 
 -- two workers, by the variable x, numbered 0
 abbrev pub two : Strategy
@@ -57,3 +59,9 @@ ReadyAtAChange =
     ≡ Slice 1 1 (slice_for core one 0 b) ∷ [])
     × (ready_behind core a b 0 (parts core a 1 t ++ parts core a 0 s)
     ≡ Adopt (piece_of 1 t) one ∷ Adopt (piece_of 0 s) one ∷ [])
+
+-- a queue in which 1,023 items stand has room for one more, and none behind that
+abbrev pub RoomForThousand : Type 0
+RoomForThousand =
+    (item : Item)
+    → (is_short (replicate 1023 (Ready item)) ≡ true) × (is_short (replicate 1024 (Ready item)) ≡ false)
