@@ -1,4 +1,4 @@
-"""The policies and logs by which the monitor is measured: fourteen shapes that stress it in different places.
+"""The policies and logs by which the monitor is measured: fifteen shapes that stress it in different places.
 
 `write(name, events, folder)` writes a signature, a policy and a log of about so many events. The same name and
 number give the same bytes.
@@ -201,6 +201,12 @@ def links_that_are_up(draw, events):
         yield now, here
 
 
+def approvals_with_approvers(draw, events):
+    for size, now in zip(batches(events, 10), clock(draw, 3)):
+        yield now, [event("approve", draw.randrange(5000), draw.randrange(100)) if draw.randrange(2)
+                    else event("publish", draw.randrange(5000)) for _ in range(size)]
+
+
 def bursts(draw, events):
     now = 0
     kinds = ["request"] * 10 + ["grant"] * 9 + ["drop"]
@@ -258,6 +264,8 @@ WORKLOADS = {
     "links": Workload("alarm(int) link(int,int) up(int)",
                       "alarm(x) IMPLIES EXISTS y. (ONCE[0,500] link(x,y) AND ONCE[0,500] up(y))",
                       "two windows joined", links_that_are_up),
+    "approvers": Workload("publish(int) approve(int,int)", "NOT (publish(x) AND ONCE[0,500] approve(x,y))",
+                          "a window that is asked by key", approvals_with_approvers),
     "bursts": Workload("request(int) grant(int) drop(int)",
                        "(request(x) AND NOT ONCE[0,20] drop(x)) IMPLIES EVENTUALLY[0,5] grant(x)",
                        "1,000 time-points to a timestamp, jumps that empty all windows", bursts),
