@@ -105,7 +105,8 @@ pub follows_resumed : (w : WindowOf) (interval : Interval) (left right : List �
     → all_among left right ≡ true → AreOver left kept.lefts.items → AreOver right kept.rights.items
     → RowsAscend (times_kept kept.rows.items)
     → ((u : List Value) → kept_times w u ≡ times_for kept.rows.items u)
-    → FollowsData (record { interval = interval; left = left; right = right; negated = negated }) past next kept t a b v
+    → FollowsData (record { interval = interval; left = left; right = right; negated = negated })
+    past next kept t a b v
     → Follows (record {
       window = w;
       negated = negated;

@@ -195,7 +195,7 @@ none_recent hi x row v = by (is_at (row_cmp row) v)
     by true = sym (recent_none hi x)
     by false = refl
 
-or_false : (b : Bool) → (b || false) ≡ b
+pub or_false : (b : Bool) → (b || false) ≡ b
 or_false true = refl
 or_false false = refl
 

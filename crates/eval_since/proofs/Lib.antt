@@ -2,6 +2,7 @@ pub mod PreviousLemmas
 pub mod SinceLemmas
 pub mod TimesLemmas
 pub mod GroupLemmas
+pub mod OneRowLemmas
 pub mod KeyLemmas
 pub mod WindowLemmas
 pub mod ExpireLemmas

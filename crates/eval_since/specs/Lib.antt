@@ -3,6 +3,7 @@ pub mod LeftOperand
 pub mod SinceBefore
 pub mod SinceLaws
 pub mod Times
+pub mod HeldTimes
 pub mod Groups
 pub mod Windows
 pub mod WindowView

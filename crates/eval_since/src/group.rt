@@ -1,52 +1,218 @@
-//! Rows with the times kept for them, each found by its hash.
-ghost use Rattle.std.specs.Prelude.{◌≡◌, ◌||◌, ◌&&◌, ◌==◌, [], List, OnOk, cond, length};
+//! Rows with the times kept for them. Where there is one row alone, it stands in the group itself.
+ghost use Rattle.std.specs.Prelude.{◌≡◌, ◌||◌, ◌&&◌, ◌==◌, ◌∷◌, [], IfOk, List, OnOk, cond, length};
 ghost use Rattle.std.specs.BTreeMap.{is_at};
 ghost use Rattle.mfotl_model.specs.Values.{row_cmp};
 ghost use Rattle.mfotl_model.specs.declared.value.Value.{Value};
-ghost use Rattle.eval_since.specs.Groups.{times_in, hit};
+ghost use Rattle.eval_since.specs.Groups.{times_in};
+ghost use Rattle.eval_since.specs.HeldTimes.{held_times};
 ghost use Rattle.mfotl_model.specs.Tables.{has_row, part};
 ghost use Rattle.eval_since.specs.Times.{ArePast, added, reaches, recent};
-ghost use Rattle.std.specs.List.{list_any};
 ghost use Rattle.std.specs.Option.{option_or};
 ghost use Rattle.mfotl_model.specs.declared.interval.Interval.{Interval};
-ghost use Rattle.relations.specs.KeptRows.{RowsDiffer, filled, first_filled, kept_for};
+ghost use Rattle.relations.specs.KeptRows.{filled, kept_for};
 
+use crate::hashed::Hashed;
 use crate::keys::has_part;
 use crate::ordered::OrderedGroup;
 use crate::times::Times;
 use mfotl_model::{Interval, Row};
 use relations::Table;
 use std::alloc::{AllocError, Global};
-use std::collections::HashMap;
 use std::marker::Model;
+use std::mem;
+
+// Most groups by a key have one row, and a map takes much more memory than that.
+#[derive(Drop)]
+enum Held {
+    Zero,
+    One(Row, Times),
+    Many(Hashed),
+}
 
 #[derive(Drop)]
 pub struct Group {
-    rows: HashMap<Row, Times>,
+    held: Held,
 }
 
 impl Model for Group {
     ghost use Rattle.std.specs.Prelude.{List, ℕ};
     ghost use Rattle.mfotl_model.specs.declared.value.Value.{Value as OneValue};
+    ghost use Rattle.eval_since.specs.HeldTimes.{held_times};
 
     ghost Value = { List (List OneValue × List ℕ) };
 
-    ghost view = { λ g. g.rows.entries };
+    ghost view = { λ g. held_times g.held };
+}
+
+// A map of one row.
+fn hashed(alloc: Global, row: Row, times: Times) -> Result<Hashed, AllocError>
+    ensures { IfOk result (λ rows. (v : List Value) → times_in rows v
+        ≡ times_in ((row, times) ∷ []) v) }
+{
+    let mut rows = Hashed::new(alloc);
+    rows.put(row, times)?;
+    Ok(rows)
+}
+
+fn first_time(alloc: Global, row: Row, x: u64, bounded: bool) -> Result<Held, AllocError>
+    ensures { IfOk result (λ held. (v : List Value) → times_in (held_times held) v
+        ≡ cond (is_at (row_cmp row) v) (added bounded [] x) []) }
+{
+    let mut times = Times::new(alloc);
+    times.add(x, bounded)?;
+    Ok(Held::One(row, times))
+}
+
+fn other_time(
+    alloc: Global,
+    first: Row,
+    times: Times,
+    row: Row,
+    x: u64,
+    bounded: bool,
+) -> Result<Held, AllocError>
+    requires { ArePast x (times_in ((first, times) ∷ []) row) }
+    ensures { IfOk result (λ held. (v : List Value) → times_in (held_times held) v
+        ≡ cond (is_at (row_cmp row) v)
+        (added bounded (times_in ((first, times) ∷ []) v) x) (times_in ((first, times) ∷ []) v)) }
+{
+    let mut rows = hashed(alloc, first, times)?;
+    rows.add(alloc, row, x, bounded)?;
+    Ok(Held::Many(rows))
+}
+
+fn next_time(
+    alloc: Global,
+    first: Row,
+    mut times: Times,
+    row: Row,
+    x: u64,
+    bounded: bool,
+) -> Result<Held, AllocError>
+    requires { ArePast x (times_in ((first, times) ∷ []) row) }
+    ensures { IfOk result (λ held. (v : List Value) → times_in (held_times held) v
+        ≡ cond (is_at (row_cmp row) v)
+        (added bounded (times_in ((first, times) ∷ []) v) x) (times_in ((first, times) ∷ []) v)) }
+{
+    if first == row {
+        times.add(x, bounded)?;
+        return Ok(Held::One(first, times));
+    }
+    other_time(alloc, first, times, row, x, bounded)
+}
+
+fn with_time(alloc: Global, held: Held, row: Row, x: u64, bounded: bool) -> Result<Held, AllocError>
+    requires { ArePast x (times_in (held_times held) row) }
+    ensures { IfOk result (λ more. (v : List Value) → times_in (held_times more) v
+        ≡ cond (is_at (row_cmp row) v)
+        (added bounded (times_in (held_times held) v) x) (times_in (held_times held) v)) }
+{
+    match held {
+        Held::Zero => first_time(alloc, row, x, bounded),
+        Held::One(first, times) => next_time(alloc, first, times, row, x, bounded),
+        Held::Many(mut rows) => {
+            rows.add(alloc, row, x, bounded)?;
+            Ok(Held::Many(rows))
+        }
+    }
+}
+
+fn same_recent(first: Row, mut times: Times, hi: u64, now: u64) -> Held
+    ensures { (v : List Value) → times_in (held_times result) v
+        ≡ times_in ((first, recent hi now times) ∷ []) v }
+{
+    times.forget(hi, now);
+    if times.is_empty() {
+        return Held::Zero;
+    }
+    Held::One(first, times)
+}
+
+fn one_recent(first: Row, times: Times, row: &Row, hi: u64, now: u64) -> Held
+    ensures { (v : List Value) → times_in (held_times result) v
+        ≡ cond (is_at (row_cmp row.now) v)
+        (recent hi now (times_in ((first, times) ∷ []) v)) (times_in ((first, times) ∷ []) v) }
+{
+    if first == *row {
+        return same_recent(first, times, hi, now);
+    }
+    Held::One(first, times)
+}
+
+fn with_recent(held: Held, row: &Row, hi: u64, now: u64) -> Held
+    ensures { (v : List Value) → times_in (held_times result) v
+        ≡ cond (is_at (row_cmp row.now) v)
+        (recent hi now (times_in (held_times held) v)) (times_in (held_times held) v) }
+{
+    match held {
+        Held::Zero => Held::Zero,
+        Held::One(first, times) => one_recent(first, times, row, hi, now),
+        Held::Many(mut rows) => {
+            rows.forget(row, hi, now);
+            Held::Many(rows)
+        }
+    }
+}
+
+fn with_times(alloc: Global, held: Held, row: Row, times: Times) -> Result<Held, AllocError>
+    ensures { IfOk result (λ more. (v : List Value) → times_in (held_times more) v
+        ≡ cond (is_at (row_cmp row) v) times (times_in (held_times held) v)) }
+{
+    match held {
+        Held::Zero => Ok(Held::One(row, times)),
+        Held::One(first, kept) => {
+            let mut rows = hashed(alloc, first, kept)?;
+            rows.put(row, times)?;
+            Ok(Held::Many(rows))
+        }
+        Held::Many(mut rows) => {
+            rows.put(row, times)?;
+            Ok(Held::Many(rows))
+        }
+    }
+}
+
+fn row_reaches(first: &Row, times: &Times, row: &Row, interval: &Interval, x: u64) -> bool
+    ensures { result ≡ reaches interval.now (times_in ((first.now, times.now) ∷ []) row.now) x }
+{
+    if *first == *row {
+        return times.reaches(interval, x);
+    }
+    false
+}
+
+fn push_row(
+    alloc: Global,
+    out: &mut Vec<Row>,
+    row: &Row,
+    times: &Times,
+    interval: &Interval,
+    x: u64,
+) -> Result<(), AllocError>
+    ensures { OnOk result ((u : List Value) → has_row out.new.items u
+        ≡ (has_row out.old.items u || reaches interval.now (times_in ((row.now, times.now) ∷ []) u) x)) }
+{
+    if times.reaches(interval, x) {
+        out.push(row.copy(alloc)?)?;
+    }
+    Ok(())
 }
 
 impl Group {
-    pub fn new(alloc: Global) -> Self
+    pub fn new() -> Self
         ensures { result ≡ [] }
     {
-        Group {
-            rows: HashMap::new(alloc),
-        }
+        Group { held: Held::Zero }
     }
 
     pub fn is_empty(&self) -> bool
         ensures { result ≡ (length self.now == 0) }
     {
-        self.rows.len() == 0
+        match &self.held {
+            Held::Zero => true,
+            Held::One(_, _) => false,
+            Held::Many(rows) => rows.is_empty(),
+        }
     }
 
     /// The times of a row, with one more.
@@ -56,13 +222,8 @@ impl Group {
             ≡ cond (is_at (row_cmp row) v)
             (added bounded (times_in self.old v) x) (times_in self.old v)) }
     {
-        if let Some(times) = self.rows.get_mut(&row) {
-            times.add(x, bounded)?;
-            return Ok(());
-        }
-        let mut times = Times::new(alloc);
-        times.add(x, bounded)?;
-        self.rows.insert(row, times)?;
+        let held = mem::replace(&mut self.held, Held::Zero);
+        self.held = with_time(alloc, held, row, x, bounded)?;
         Ok(())
     }
 
@@ -72,22 +233,18 @@ impl Group {
             ≡ cond (is_at (row_cmp row.now) v)
             (recent hi now (times_in self.old v)) (times_in self.old v) }
     {
-        let Some(times) = self.rows.get_mut(row) else {
-            return;
-        };
-        times.forget(hi, now);
-        if times.is_empty() {
-            self.rows.remove(row);
-        }
+        let held = mem::replace(&mut self.held, Held::Zero);
+        self.held = with_recent(held, row, hi, now);
     }
 
     /// Whether the times of a row reach.
     pub fn reaches(&self, row: &Row, interval: &Interval, x: u64) -> bool
         ensures { result ≡ reaches interval.now (times_in self.now row.now) x }
     {
-        match self.rows.get(row) {
-            Some(times) => times.reaches(interval, x),
-            None => false,
+        match &self.held {
+            Held::Zero => false,
+            Held::One(first, times) => row_reaches(first, times, row, interval, x),
+            Held::Many(rows) => rows.reaches(row, interval, x),
         }
     }
 
@@ -102,26 +259,11 @@ impl Group {
         ensures { OnOk result ((u : List Value) → has_row out.new.items u
             ≡ (has_row out.old.items u || reaches interval.now (times_in self.now u) x)) }
     {
-        self.push_hits(alloc, out, interval, x)
-    }
-
-    fn push_hits(
-        &self,
-        alloc: Global,
-        out: &mut Vec<Row>,
-        interval: &Interval,
-        x: u64,
-    ) -> Result<(), AllocError>
-        ensures rows { OnOk result ((u : List Value) → has_row out.new.items u
-            ≡ (has_row out.old.items u || list_any (hit interval.now x u) self.now)) }
-        ensures differ { RowsDiffer self.now }
-    {
-        for (row, times) in &self.rows {
-            if times.reaches(interval, x) {
-                out.push(row.copy(alloc)?)?;
-            }
+        match &self.held {
+            Held::Zero => Ok(()),
+            Held::One(row, times) => push_row(alloc, out, row, times, interval, x),
+            Held::Many(rows) => rows.push_reaching(alloc, out, interval, x),
         }
-        Ok(())
     }
 
     /// Appends the rows whose times reach, of those whose part at the columns of `keys` is one of its rows.
@@ -138,48 +280,25 @@ impl Group {
             ≡ (has_row out.old.items u || (reaches interval.now (times_in self.now u) x
             && has_row keys.now.rows (part columns.now keys.now.columns u)))) }
     {
-        self.push_matches(alloc, out, interval, x, columns, keys)
-    }
-
-    fn push_matches(
-        &self,
-        alloc: Global,
-        out: &mut Vec<Row>,
-        interval: &Interval,
-        x: u64,
-        columns: &[u32],
-        keys: &Table,
-    ) -> Result<(), AllocError>
-        ensures rows { OnOk result ((u : List Value) → has_row out.new.items u
-            ≡ (has_row out.old.items u || list_any (λ e. hit interval.now x u e
-            && has_row keys.now.rows (part columns.now keys.now.columns e.0)) self.now)) }
-        ensures differ { RowsDiffer self.now }
-    {
-        for (row, times) in &self.rows {
-            if times.reaches(interval, x) && has_part(alloc, columns, row, keys)? {
-                out.push(row.copy(alloc)?)?;
+        match &self.held {
+            Held::Zero => Ok(()),
+            Held::One(row, times) => {
+                if times.reaches(interval, x) && has_part(alloc, columns, row, keys)? {
+                    out.push(row.copy(alloc)?)?;
+                }
+                Ok(())
             }
+            Held::Many(rows) => rows.push_matching(alloc, out, interval, x, columns, keys),
         }
-        Ok(())
     }
 
     /// Puts the times of a row in the place of those that it has.
-    pub fn put(&mut self, row: Row, times: Times) -> Result<(), AllocError>
+    pub fn put(&mut self, alloc: Global, row: Row, times: Times) -> Result<(), AllocError>
         ensures { OnOk result ((v : List Value) → times_in self.new v
             ≡ cond (is_at (row_cmp row) v) times (times_in self.old v)) }
     {
-        self.rows.insert(row, times)?;
-        Ok(())
-    }
-
-    fn pour_rows(&self, alloc: Global, out: &mut OrderedGroup) -> Result<(), AllocError>
-        ensures rows { OnOk result ((u : List Value) → kept_for out.new u
-            ≡ option_or (kept_for out.old u) (first_filled self.now u)) }
-        ensures differ { RowsDiffer self.now }
-    {
-        for (row, times) in &self.rows {
-            out.pour_row(alloc, row, times)?;
-        }
+        let held = mem::replace(&mut self.held, Held::Zero);
+        self.held = with_times(alloc, held, row, times)?;
         Ok(())
     }
 
@@ -188,6 +307,10 @@ impl Group {
         ensures { OnOk result ((u : List Value) → kept_for out.new u
             ≡ option_or (kept_for out.old u) (filled (times_in self.now u))) }
     {
-        self.pour_rows(alloc, out)
+        match &self.held {
+            Held::Zero => Ok(()),
+            Held::One(row, times) => out.pour_row(alloc, row, times),
+            Held::Many(rows) => rows.pour(alloc, out),
+        }
     }
 }

@@ -1,7 +1,8 @@
 //! Rows with the times kept for them, in groups by the part that the left operand speaks of.
-ghost use Rattle.std.specs.Prelude.{◌≡◌, ◌||◌, ◌&&◌, ◌==◌, [], List, ℕ, OnOk, cond, length, not};
+ghost use Rattle.std.specs.Prelude.{◌≡◌, ◌||◌, ◌&&◌, ◌==◌, [], List, ℕ, OnOk, None, Some, cond, length, not};
 ghost use Rattle.std.specs.BTreeMap.{is_at};
 ghost use Rattle.std.specs.List.{list_any};
+ghost use Rattle.std.specs.Map.{lookup};
 ghost use Rattle.std.specs.Option.{option_or};
 ghost use Rattle.mfotl_model.specs.declared.interval.Interval.{Interval};
 ghost use Rattle.relations.specs.KeptRows.{RowsDiffer, kept_for};
@@ -35,6 +36,21 @@ impl Model for Groups {
     ghost view = { λ w. w.groups.entries };
 }
 
+fn keep_group(kept: &mut HashMap<Row, Group>, key: Row, group: Group) -> Result<(), AllocError>
+    ensures { OnOk result ((q : List Value) → lookup (is_at (row_cmp q)) kept.new.entries
+        ≡ cond (is_at (row_cmp key) q) (Some group) (lookup (is_at (row_cmp q)) kept.old.entries)) }
+{
+    kept.insert(key, group)?;
+    Ok(())
+}
+
+fn drop_group(groups: &mut HashMap<Row, Group>, key: &Row)
+    ensures { (q : List Value) → lookup (is_at (row_cmp q)) groups.new.entries
+        ≡ cond (is_at (row_cmp key.now) q) None (lookup (is_at (row_cmp q)) groups.old.entries) }
+{
+    groups.remove(key);
+}
+
 impl Groups {
     pub fn new(alloc: Global) -> Self
         ensures { result ≡ [] }
@@ -62,7 +78,7 @@ impl Groups {
             group.add(alloc, row, x, bounded)?;
             return Ok(());
         }
-        let mut group = Group::new(alloc);
+        let mut group = Group::new();
         group.add(alloc, row, x, bounded)?;
         self.groups.insert(key, group)?;
         Ok(())
@@ -79,7 +95,7 @@ impl Groups {
         };
         group.forget(row, hi, now);
         if group.is_empty() {
-            self.groups.remove(key);
+            drop_group(&mut self.groups, key);
         }
     }
 
@@ -99,7 +115,7 @@ impl Groups {
         let mut kept = HashMap::new(alloc);
         for part in parts {
             if let Some((key, group)) = self.groups.remove_entry(part) {
-                kept.insert(key, group)?;
+                keep_group(&mut kept, key, group)?;
             }
         }
         self.groups = kept;
@@ -221,11 +237,11 @@ impl Groups {
             ≡ cond (is_at (row_cmp key) q && is_at (row_cmp row) v) times (times_at self.old q v)) }
     {
         if let Some(group) = self.groups.get_mut(&key) {
-            group.put(row, times)?;
+            group.put(alloc, row, times)?;
             return Ok(());
         }
-        let mut group = Group::new(alloc);
-        group.put(row, times)?;
+        let mut group = Group::new();
+        group.put(alloc, row, times)?;
         self.groups.insert(key, group)?;
         Ok(())
     }

@@ -3,6 +3,7 @@
 
 mod group;
 mod groups;
+mod hashed;
 mod kept;
 mod keys;
 pub mod laws;

@@ -11,6 +11,7 @@ invariant-loop-ts l = record {
   names : (v : List Value) (y : ℕ) → (names l.out.items v y
       || list_any (λ t. nat_eq t y && has_row (l.row ∷ []) v) (drop l.ts-index l.times))
       ≡ (names l.fn.out.items v y || list_any (λ t. nat_eq t y && has_row (l.row ∷ []) v) l.times);
-  all : (test : ℕ → Bool) → (list_all (λ (d : Dated). test d.ts) l.out.items && list_all test (drop l.ts-index l.times))
+  all : (test : ℕ → Bool)
+      → (list_all (λ (d : Dated). test d.ts) l.out.items && list_all test (drop l.ts-index l.times))
       ≡ (list_all (λ (d : Dated). test d.ts) l.fn.out.items && list_all test l.times);
 }

@@ -5,14 +5,16 @@ use Rattle.eval_since.proofs.window.stepped.Goals as goal
 
 pub add_rows-requires : goal.add_rows-requires
 add_rows-requires c =
-    past_before c.args.interval.now c.args.right.now c.args.keys.now (λ q. left_has c.args.negated c.args.lefts.now.rows (lead c.args.closed q))
+    past_before c.args.interval.now c.args.right.now c.args.keys.now
+    (λ q. left_has c.args.negated c.args.lefts.now.rows (lead c.args.closed q))
     (record { ts = c.args.now; rows = c.args.rights }) c.args.last
     c.args.contents.groups c.apply_left.new.groups c.apply_left.new.groups c.args.contents.dated.items
     c.requires.rises c.requires.kept c.in_ok-apply_left.ensures
 
 pub returns-in_default-clause-within : goal.returns-in_default-clause-within
 returns-in_default-clause-within c = λ x u _.
-    within_after c.args.interval.now c.args.right.now c.args.keys.now (λ q. left_has c.args.negated c.args.lefts.now.rows (lead c.args.closed q))
+    within_after c.args.interval.now c.args.right.now c.args.keys.now
+    (λ q. left_has c.args.negated c.args.lefts.now.rows (lead c.args.closed q))
     (record { ts = c.args.now; rows = c.args.rights }) c.args.last
     c.args.contents.groups c.apply_left.new.groups c.add_rows.new.groups c.args.contents.dated.items
     (record {
@@ -27,7 +29,8 @@ returns-in_default-clause-within c = λ x u _.
 
 pub returns-in_default-clause-kept : goal.returns-in_default-clause-kept
 returns-in_default-clause-kept c =
-    kept_unbounded c.args.interval.now c.args.right.now c.args.keys.now (λ q. left_has c.args.negated c.args.lefts.now.rows (lead c.args.closed q))
+    kept_unbounded c.args.interval.now c.args.right.now c.args.keys.now
+    (λ q. left_has c.args.negated c.args.lefts.now.rows (lead c.args.closed q))
     (record { ts = c.args.now; rows = c.args.rights }) c.args.last
     c.args.contents.groups c.apply_left.new.groups c.add_rows.new.groups c.args.contents.dated.items c.in_default.is
     (record {
@@ -42,7 +45,8 @@ returns-in_default-clause-kept c =
 
 pub expire-requires : goal.expire-requires
 expire-requires c =
-    let j : Joined c.args.interval.now c.args.right.now c.args.keys.now (λ q. left_has c.args.negated c.args.lefts.now.rows (lead c.args.closed q))
+    let j : Joined c.args.interval.now c.args.right.now c.args.keys.now
+    (λ q. left_has c.args.negated c.args.lefts.now.rows (lead c.args.closed q))
     (record { ts = c.args.now; rows = c.args.rights }) c.args.last
     c.args.contents.groups c.apply_left.new.groups c.add_rows.new.groups c.args.contents.dated.items =
     record {
@@ -55,7 +59,9 @@ expire-requires c =
           c.in_ok-add_rows.ensures;
     } in
     record {
-      placed = placed_after c.args.interval.now c.args.right.now c.args.keys.now (λ q. left_has c.args.negated c.args.lefts.now.rows (lead c.args.closed q)) (record { ts = c.args.now; rows = c.args.rights }) c.args.last
+      placed = placed_after c.args.interval.now c.args.right.now c.args.keys.now
+          (λ q. left_has c.args.negated c.args.lefts.now.rows (lead c.args.closed q))
+          (record { ts = c.args.now; rows = c.args.rights }) c.args.last
           c.args.contents.groups c.apply_left.new.groups c.add_rows.new.groups c.args.contents.dated.items j;
       covered = rw c.in_ok-push_back.ensures.items (covered_after c.args.interval.now c.args.right.now
           c.args.keys.now (λ q. left_has c.args.negated c.args.lefts.now.rows (lead c.args.closed q))
@@ -63,14 +69,16 @@ expire-requires c =
           c.args.contents.groups c.apply_left.new.groups c.add_rows.new.groups c.args.contents.dated.items
           c.in-Some.hi c.in-Some.is j);
       rising = rw c.in_ok-push_back.ensures.items (rising_after c.args.interval.now c.args.right.now c.args.keys.now
-          (λ q. left_has c.args.negated c.args.lefts.now.rows (lead c.args.closed q)) (record { ts = c.args.now; rows = c.args.rights }) c.args.last
+          (λ q. left_has c.args.negated c.args.lefts.now.rows (lead c.args.closed q))
+          (record { ts = c.args.now; rows = c.args.rights }) c.args.last
           c.args.contents.groups c.apply_left.new.groups c.add_rows.new.groups c.args.contents.dated.items
           c.in-Some.hi c.in-Some.is j);
     }
 
 pub returns-clause-within : goal.returns-clause-within
 returns-clause-within c =
-    within_bounded c.args.interval.now c.args.right.now c.args.keys.now (λ q. left_has c.args.negated c.args.lefts.now.rows (lead c.args.closed q))
+    within_bounded c.args.interval.now c.args.right.now c.args.keys.now
+    (λ q. left_has c.args.negated c.args.lefts.now.rows (lead c.args.closed q))
     (record { ts = c.args.now; rows = c.args.rights }) c.args.last
     c.args.contents.groups c.apply_left.new.groups c.add_rows.new.groups c.args.contents.dated.items c.in-Some.hi
     c.expire.new.groups c.in-Some.is
@@ -87,7 +95,8 @@ returns-clause-within c =
 
 pub returns-clause-kept : goal.returns-clause-kept
 returns-clause-kept c =
-    kept_bounded c.args.interval.now c.args.right.now c.args.keys.now (λ q. left_has c.args.negated c.args.lefts.now.rows (lead c.args.closed q))
+    kept_bounded c.args.interval.now c.args.right.now c.args.keys.now
+    (λ q. left_has c.args.negated c.args.lefts.now.rows (lead c.args.closed q))
     (record { ts = c.args.now; rows = c.args.rights }) c.args.last
     c.args.contents.groups c.apply_left.new.groups c.add_rows.new.groups c.args.contents.dated.items c.in-Some.hi
     c.expire.new.groups c.expire.new.dated.items c.in-Some.is

@@ -8,7 +8,6 @@ use Rattle.eval_since.specs.Times.{recent}
 use Rattle.relations.proofs.MapLemmas.{put_through, taken_out, nothing_there}
 use Rattle.eval_since.proofs.GroupLemmas.{regrouped, empty_list, none_recent}
 use Rattle.eval_since.proofs.groups.Groups.forget.Goals as goal
-use Rattle.eval_since.proofs.groups.Groups.forget.Goals.{in-Some-1, in-None-1}
 
 pub returns-in_default : goal.returns-in_default
 returns-in_default c = λ q v.
@@ -28,16 +27,14 @@ returns-then-is_empty c = λ q v.
     let old = c.self.inside.groups in
     let is : Some c.in-Some.group.now ≡ lookup (is_at (row_cmp c.args.key.now)) old.entries =
     c.in-Some.ensures.value in
-    let same : c.match-remove.self ≡ c.remove.new.self.entries = elim c.match-remove.branch
-    [ in-Some-1 w ↦ w.self-is | in-None-1 w ↦ w.self-is ] in
-    rw (same, ← c.self.view_is) (regrouped (recent c.args.hi c.args.now) c.args.key.now c.args.row.now q v
-    old.entries c.remove.new.self.entries
+    rw (← c.self.view_is) (regrouped (recent c.args.hi c.args.now) c.args.key.now c.args.row.now q v
+    old.entries c.drop_group.new.groups.entries
     c.forget.new.self c.in-Some.group.now None
     (taken_out c.args.key.now q old.entries (c.get_mut.follows.lender c.forget.new.self).entries
-    c.remove.new.self.entries c.forget.new.self
-    (put_through c.args.key.now q old (c.get_mut.follows.lender c.forget.new.self) c.forget.new.self c.in-Some.group.now
-    (c.get_mut.follows.holds c.forget.new.self) is)
-    (c.remove.ensures.updates.0 q))
+    c.drop_group.new.groups.entries c.forget.new.self
+    (put_through c.args.key.now q old (c.get_mut.follows.lender c.forget.new.self) c.forget.new.self
+    c.in-Some.group.now (c.get_mut.follows.holds c.forget.new.self) is)
+    (c.drop_group.ensures q))
     (empty_list c.forget.new.self (sym c.is_empty.ensures ∙ c.if-is_empty.true))
     (ap (λ o. unwrap_or o []) is)
     (c.forget.ensures v))
@@ -50,8 +47,8 @@ returns-else-is_empty c = λ q v.
     rw (← c.self.view_is) (regrouped (recent c.args.hi c.args.now) c.args.key.now c.args.row.now q v old.entries
     (c.get_mut.follows.lender c.forget.new.self).entries
     c.forget.new.self c.in-Some.group.now (Some c.forget.new.self)
-    (put_through c.args.key.now q old (c.get_mut.follows.lender c.forget.new.self) c.forget.new.self c.in-Some.group.now
-    (c.get_mut.follows.holds c.forget.new.self) is)
+    (put_through c.args.key.now q old (c.get_mut.follows.lender c.forget.new.self) c.forget.new.self
+    c.in-Some.group.now (c.get_mut.follows.holds c.forget.new.self) is)
     refl
     (ap (λ o. unwrap_or o []) is)
     (c.forget.ensures v))

@@ -1,8 +1,7 @@
 use Rattle.std.proofs.Common.{arith}
 use Rattle.eval_since.proofs.GroupLemmas.{gone_more, kept_none, kept_some}
 use Rattle.eval_since.proofs.groups.Groups.move_groups.Goals as goal
-use Rattle.eval_since.proofs.groups.Groups.move_groups.Goals.{in-Some+in_ok-insert+in-Some-1}
-use Rattle.eval_since.proofs.groups.Groups.move_groups.Goals.{in-Some+in_ok-insert+in-None-1, in_default}
+use Rattle.eval_since.proofs.groups.Groups.move_groups.Goals.{in-Some+in_ok-keep_group, in_default}
 
 pub loop-part-preserved : goal.loop-part-preserved
 loop-part-preserved c =
@@ -13,16 +12,11 @@ loop-part-preserved c =
       gone = gone_more c.args.parts.now i x c.args.self.now cur c.remove_entry.new.self.entries
           (omega arith) c.part-item.is c.loop-part.invariant.gone c.remove_entry.ensures.updates.0;
       kept = elim c.match-remove_entry.branch [
-        | in-Some+in_ok-insert+in-Some-1 w ↦
+        | in-Some+in_ok-keep_group w ↦
             rw w.kept-is (kept_some c.args.parts.now i x w.in-Some.key c.args.self.now cur c.loop-part.kept.entries
-            w.insert.new.self.entries w.in-Some.group
+            w.keep_group.new.kept.entries w.in-Some.group
             (omega arith) c.part-item.is c.loop-part.invariant.gone c.loop-part.invariant.kept
-            w.in-Some.ensures.value w.in-Some.ensures.same_key w.in_ok-insert.ensures.updates.0)
-        | in-Some+in_ok-insert+in-None-1 w ↦
-            rw w.kept-is (kept_some c.args.parts.now i x w.in-Some.key c.args.self.now cur c.loop-part.kept.entries
-            w.insert.new.self.entries w.in-Some.group
-            (omega arith) c.part-item.is c.loop-part.invariant.gone c.loop-part.invariant.kept
-            w.in-Some.ensures.value w.in-Some.ensures.same_key w.in_ok-insert.ensures.updates.0)
+            w.in-Some.ensures.value w.in-Some.ensures.same_key w.in_ok-keep_group.ensures)
         | in_default w ↦
             rw w.kept-is (kept_none c.args.parts.now i x c.args.self.now cur c.loop-part.kept.entries
             (omega arith) c.part-item.is c.loop-part.invariant.gone c.loop-part.invariant.kept

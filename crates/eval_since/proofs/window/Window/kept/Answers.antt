@@ -22,13 +22,15 @@ pub returns-clause-sized : goal.returns-clause-sized
 returns-clause-sized c = rw (← c.self.view_is) (
     let k = c.self.inside in
     rows_sized (length k.right.items) c.in_ok-rows.rows.items
-    (λ u. times_at k.contents.groups (part k.right.items (grouping k.left.items k.keys.items) u) u) c.in_ok-rows.ensures.ascend
+    (λ u. times_at k.contents.groups (part k.right.items (grouping k.left.items k.keys.items) u) u)
+    c.in_ok-rows.ensures.ascend
     (rw (← c.self.view_is) at (returns-clause-kept c))
     (λ u other. c.self.invariant.sized (part k.right.items (grouping k.left.items k.keys.items) u) u other))
 
 pub returns-clause-each : goal.returns-clause-each
 returns-clause-each c = rw (← c.self.view_is) (
     let k = c.self.inside in
-    window_keeps k.interval.hi k.right.items (grouping k.left.items k.keys.items) k.last k.contents.groups k.contents.dated.items
+    window_keeps k.interval.hi k.right.items (grouping k.left.items k.keys.items) k.last k.contents.groups
+    k.contents.dated.items
     c.in_ok-rows.rows.items c.self.invariant c.in_ok-rows.ensures.ascend
     (rw (← c.self.view_is) at (returns-clause-kept c)))

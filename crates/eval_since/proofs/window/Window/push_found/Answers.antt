@@ -17,6 +17,7 @@ returns c =
     (found_at k.interval k.last (part k.right.items (grouping k.left.items k.keys.items) u) u c.rows.result.now
     k.contents.groups (λ q. c.self.invariant.placed q u)
     ∙ ap₂ (λ (rows : List (List Value)) (columns : List ℕ).
-    reaches k.interval (times_at k.contents.groups (part k.right.items (grouping k.left.items k.keys.items) u) u) k.last
+    reaches k.interval
+    (times_at k.contents.groups (part k.right.items (grouping k.left.items k.keys.items) u) u) k.last
     && has_row rows (part k.right.items columns u)) c.rows.ensures.rows (sym same)))
     c.push_found.ensures)

@@ -18,12 +18,14 @@ from_rows-requires-clause-sized c =
     let k = c.self.inside in
     ap (λ (columns : List ℕ). all_sized (length columns) c.push_reaching.new.out.items)
     (c.in_ok-columns.ensures.items ∙ c.as_slice.ensures.value)
-    ∙ sized_reached k.interval k.last k.right.items (grouping k.left.items k.keys.items) k.contents.groups c.push_reaching.new.out.items
+    ∙ sized_reached k.interval k.last k.right.items (grouping k.left.items k.keys.items) k.contents.groups
+    c.push_reaching.new.out.items
     c.self.invariant.sized
     (λ u there. sym (c.in_ok-push_reaching.ensures.rows u
     ∙ ap (λ rows. has_row rows u || list_any (λ e. reaches k.interval (times_in e.1 u) k.last) k.contents.groups)
     c.new-rows.ensures.items
-    ∙ group_is k.interval k.last (part k.right.items (grouping k.left.items k.keys.items) u) u k.contents.groups c.push_reaching.ensures.differ
+    ∙ group_is k.interval k.last (part k.right.items (grouping k.left.items k.keys.items) u) u k.contents.groups
+    c.push_reaching.ensures.differ
     (λ q. c.self.invariant.placed q u)) ∙ there)
 
 pub returns-clause-rows : goal.returns-clause-rows

@@ -25,7 +25,8 @@ from_rows-requires-clause-sized c =
     let k = c.self.inside in
     ap (λ (columns : List ℕ). all_sized (length columns) c.push_table_of.new.out.items)
     (c.in_ok-columns.ensures.items ∙ c.as_slice.ensures.value)
-    ∙ sized_reached k.interval k.last k.right.items (grouping k.left.items k.keys.items) k.contents.groups c.push_table_of.new.out.items
+    ∙ sized_reached k.interval k.last k.right.items (grouping k.left.items k.keys.items) k.contents.groups
+    c.push_table_of.new.out.items
     c.self.invariant.sized
     (λ u there. rw (← c.self.view_is) at
     ((and_parts (within c.args.self.now c.args.self.now.last u)

@@ -2,7 +2,7 @@ use Rattle.std.proofs.Common.{◌≡◌, List}
 use Rattle.std.specs.Option.{option_or}
 use Rattle.mfotl_model.specs.declared.value.Value.{Value}
 use Rattle.relations.specs.KeptRows.{first_filled, kept_for}
-use Rattle.eval_since.proofs.group.Group.pour_rows.Given as goal
+use Rattle.eval_since.proofs.hashed.Hashed.pour_rows.Given as goal
 
 abbrev pub invariant-loop-row : goal.invariant-loop-row
 invariant-loop-row l = (u : List Value) →

@@ -7,8 +7,8 @@ use Rattle.mfotl_model.specs.Values.{row_cmp}
 use Rattle.eval_since.specs.Times.{recent}
 use Rattle.relations.proofs.MapLemmas.{changed, nothing_there, put_through, taken_out}
 use Rattle.eval_since.proofs.GroupLemmas.{recent_none, empty_list}
-use Rattle.eval_since.proofs.group.Group.forget.Goals as goal
-use Rattle.eval_since.proofs.group.Group.forget.Goals.{in-Some-1, in-None-1}
+use Rattle.eval_since.proofs.hashed.Hashed.forget.Goals as goal
+use Rattle.eval_since.proofs.hashed.Hashed.forget.Goals.{in-Some-1, in-None-1}
 
 pub returns-in_default : goal.returns-in_default
 returns-in_default c = λ v.
@@ -31,8 +31,8 @@ returns-then-is_empty c = λ v.
     c.remove.new.self.entries None
     (taken_out c.args.row.now v old.entries (c.get_mut.follows.lender c.forget.new.self).entries
     c.remove.new.self.entries c.forget.new.self
-    (put_through c.args.row.now v old (c.get_mut.follows.lender c.forget.new.self) c.forget.new.self c.in-Some.times.now
-    (c.get_mut.follows.holds c.forget.new.self) is)
+    (put_through c.args.row.now v old (c.get_mut.follows.lender c.forget.new.self) c.forget.new.self
+    c.in-Some.times.now (c.get_mut.follows.holds c.forget.new.self) is)
     (c.remove.ensures.updates.0 v))
     (empty_list c.forget.new.self (sym c.is_empty.ensures ∙ c.if-is_empty.true) ∙ c.forget.ensures
     ∙ ap (λ o. recent c.args.hi c.args.now (unwrap_or o [])) is))
@@ -44,6 +44,6 @@ returns-else-is_empty c = λ v.
     c.in-Some.ensures.value in
     rw (← c.self.view_is) (changed [] (recent c.args.hi c.args.now) c.args.row.now v old.entries
     (c.get_mut.follows.lender c.forget.new.self).entries (Some c.forget.new.self)
-    (put_through c.args.row.now v old (c.get_mut.follows.lender c.forget.new.self) c.forget.new.self c.in-Some.times.now
-    (c.get_mut.follows.holds c.forget.new.self) is)
+    (put_through c.args.row.now v old (c.get_mut.follows.lender c.forget.new.self) c.forget.new.self
+    c.in-Some.times.now (c.get_mut.follows.holds c.forget.new.self) is)
     (c.forget.ensures ∙ ap (λ o. recent c.args.hi c.args.now (unwrap_or o [])) is))

@@ -5,7 +5,7 @@ use Rattle.std.specs.BTreeMap.{is_at}
 use Rattle.mfotl_model.specs.Values.{row_cmp}
 use Rattle.eval_since.specs.Times.{added}
 use Rattle.relations.proofs.MapLemmas.{changed, put_through}
-use Rattle.eval_since.proofs.group.Group.add.Goals as goal
+use Rattle.eval_since.proofs.hashed.Hashed.add.Goals as goal
 
 pub returns-in-Some : goal.returns-in-Some
 returns-in-Some c = λ v.

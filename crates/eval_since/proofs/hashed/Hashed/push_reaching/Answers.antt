@@ -2,7 +2,7 @@ use Rattle.std.proofs.Common.{ap, ◌∙◌, ◌||◌}
 use Rattle.std.proofs.lemmas.Result.{on_ok_weaker}
 use Rattle.mfotl_model.specs.Tables.{has_row}
 use Rattle.eval_since.proofs.GroupLemmas.{hit_is}
-use Rattle.eval_since.proofs.group.Group.push_reaching.Goals as goal
+use Rattle.eval_since.proofs.hashed.Hashed.push_reaching.Goals as goal
 
 pub returns : goal.returns
 returns c =

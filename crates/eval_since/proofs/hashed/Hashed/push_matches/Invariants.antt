@@ -3,7 +3,7 @@ use Rattle.std.specs.List.{list_any}
 use Rattle.mfotl_model.specs.Tables.{has_row, part}
 use Rattle.mfotl_model.specs.declared.value.Value.{Value}
 use Rattle.eval_since.specs.Groups.{hit}
-use Rattle.eval_since.proofs.group.Group.push_matches.Given as goal
+use Rattle.eval_since.proofs.hashed.Hashed.push_matches.Given as goal
 
 -- what was found and what is left to look through
 abbrev pub invariant-loop-row : goal.invariant-loop-row

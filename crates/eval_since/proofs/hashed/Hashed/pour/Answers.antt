@@ -3,7 +3,7 @@ use Rattle.std.proofs.lemmas.Result.{on_ok_weaker}
 use Rattle.std.specs.Option.{option_or}
 use Rattle.relations.specs.KeptRows.{kept_for}
 use Rattle.relations.proofs.KeptLemmas.{first_is_only}
-use Rattle.eval_since.proofs.group.Group.pour.Goals as goal
+use Rattle.eval_since.proofs.hashed.Hashed.pour.Goals as goal
 
 pub returns : goal.returns
 returns c =

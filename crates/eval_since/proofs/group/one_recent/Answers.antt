@@ -1,0 +1,16 @@
+use Rattle.std.proofs.Common.{refl, sym, ◌∙◌}
+use Rattle.eval_since.specs.Times.{recent}
+use Rattle.eval_since.proofs.GroupLemmas.{recent_none}
+use Rattle.eval_since.proofs.OneRowLemmas.{one_apart, one_changed}
+use Rattle.eval_since.proofs.group.one_recent.Goals as goal
+
+pub returns-then-eq : goal.returns-then-eq
+returns-then-eq c = λ v.
+    c.same_recent.ensures v
+    ∙ one_changed c.args.first (recent c.args.hi c.args.now) c.args.row.now c.args.times
+    (recent c.args.hi c.args.now c.args.times) (sym c.eq.ensures ∙ c.if-eq.true) refl v
+
+pub returns : goal.returns
+returns c =
+    one_apart c.args.first (recent c.args.hi c.args.now) c.args.row.now c.args.times
+    (recent_none c.args.hi c.args.now) (sym c.eq.ensures ∙ c.if-eq.false)

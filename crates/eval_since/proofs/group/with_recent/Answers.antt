@@ -1,0 +1,15 @@
+use Rattle.std.proofs.Common.{cond, sym, ◌∙◌}
+use Rattle.std.specs.BTreeMap.{is_at}
+use Rattle.mfotl_model.specs.Values.{row_cmp}
+use Rattle.eval_since.specs.Groups.{times_in}
+use Rattle.eval_since.specs.HeldTimes.{held_times}
+use Rattle.eval_since.specs.Times.{recent}
+use Rattle.eval_since.proofs.GroupLemmas.{none_recent}
+use Rattle.eval_since.proofs.group.with_recent.Goals as goal
+
+pub returns-in-Zero : goal.returns-in-Zero
+returns-in-Zero c = λ v.
+    none_recent c.args.hi c.args.now c.args.row.now v
+    ∙ (λ i. cond (is_at (row_cmp c.args.row.now) v)
+    (recent c.args.hi c.args.now (times_in (held_times (sym c.in-Zero.is i)) v))
+    (times_in (held_times (sym c.in-Zero.is i)) v))
