@@ -1,4 +1,4 @@
-use Rattle.std.proofs.Common.{◌≡◌, ◌&&◌, List, Bool, sym, ap, ap₂, ◌∙◌}
+use Rattle.std.proofs.Common.{◌&&◌, List, Bool, sym, ap, ap₂, ◌∙◌}
 use Rattle.mfotl_model.specs.declared.value.Value.{Value}
 use Rattle.mfotl_model.specs.Tables.{has_row, part}
 use Rattle.eval_since.proofs.OneRowLemmas.{no_match, one_match}

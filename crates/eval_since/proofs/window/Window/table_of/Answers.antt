@@ -1,7 +1,6 @@
-use Rattle.std.proofs.Common.{◌||◌, ◌&&◌, ◌≡◌, Bool, false, ℕ, List, length, refl, sym, ap, ◌∙◌}
+use Rattle.std.proofs.Common.{◌||◌, ◌&&◌, ℕ, List, length, sym, ap, ◌∙◌}
 use Rattle.std.proofs.lemmas.Bool.{and_parts}
 use Rattle.mfotl_model.specs.Tables.{all_apart, all_sized, has_row, part}
-use Rattle.mfotl_model.specs.declared.value.Value.{Value}
 use Rattle.relations.proofs.AscendingRows.{has_ascending}
 use Rattle.eval_since.specs.LeftOperand.{grouping}
 use Rattle.eval_since.specs.WindowView.{within}
