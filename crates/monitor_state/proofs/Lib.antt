@@ -27,6 +27,9 @@ pub mod LawProofs
 pub mod WindowSteps
 pub mod FilterSteps
 pub mod WholeLemmas
+pub mod PosedLemmas
+pub mod PosedBegins
+pub mod PosedSteps
 pub mod FilterBegins
 pub mod LookupLemmas
 pub mod SiftLemmas

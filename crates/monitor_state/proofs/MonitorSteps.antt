@@ -18,10 +18,11 @@ use Rattle.monitorable.specs.Conjuncts.PartForm.{Child as ChildPart, Test as Tes
 use Rattle.monitorable.specs.Fragment.{binds, bound_by, is_conjunction, judges_not, under_not}
 use Rattle.monitorable.specs.declared.role.Role.{Role}
 use Rattle.monitorable.specs.declared.role.Role.TheVariants as role
+use Rattle.monitor_state.proofs.PosedSteps.{news_posed, premises_posed}
 use Rattle.monitor_state.specs.Constants.{stands_alone}
 use Rattle.monitor_state.specs.Going.{AllPremises, Going, Works}
 use Rattle.monitor_state.specs.Nodes.{children, filters, left_operand, nodes_in, nodes_of, operands, window_operands}
-use Rattle.monitor_state.specs.Nodes.{without_last}
+use Rattle.monitor_state.specs.Nodes.{posed, without_last}
 use Rattle.monitor_state.specs.Stacks.{Pops}
 use Rattle.monitor_state.specs.Stands.{NodesStand}
 use Rattle.monitor_state.specs.Steps.{Advances, News, Premises, StackNews, longer}
@@ -523,8 +524,10 @@ going_begins view point given whole nodes premises stand =
       took = tt;
       take = stand;
       works =
-          subst (Works whole []) (append-nil (nodes_of whole)) (nodes_work whole role.Whole whole [] [] refl);
-      premises = premises_all view point given whole role.Whole whole premises;
+          subst (Works (posed whole) []) (append-nil (nodes_of whole))
+          (nodes_work (posed whole) role.Whole (posed whole) [] [] refl);
+      premises =
+          premises_all view point given whole role.Whole (posed whole) (premises_posed view point given whole premises);
       news = tt;
     }
 
@@ -533,7 +536,7 @@ turn : (view : View) (point given : TimePoint) (whole : CoreForm) (done todo : L
     (tables : List TableOf)
     (node new : Node) (old next pending : List CoreForm) → nodes_of whole ≡ old ++ next
     → NodesStand (longer view point) old done → NodesStand view next (node ∷ todo)
-    → Works whole pending next → AllPremises view point given whole next → StackNews view point pending stack
+    → Works (posed whole) pending next → AllPremises view point given whole next → StackNews view point pending stack
     → Advances node given stack new rest tables → items ≡ rest ++ tables ∷ []
     → Going view point given whole (done ++ new ∷ []) todo items
 turn view point given whole done todo stack rest items tables node new old [] pending all took take works premises news
@@ -589,12 +592,13 @@ ended : (view : View) (point given : TimePoint) (whole : CoreForm) (done : List 
     (top : List TableOf)
     (old next pending : List CoreForm) → nodes_of whole ≡ old ++ next
     → NodesStand (longer view point) old done → NodesStand view next []
-    → Works whole pending next → StackNews view point pending stack → Pops stack rest top
+    → Works (posed whole) pending next → StackNews view point pending stack → Pops stack rest top
     → NodesStand (longer view point) (nodes_of whole) done × News view point whole top
 ended view point given whole done stack rest top old (f ∷ next) pending all took take works news pops = absurd take
 ended view point given whole done stack rest top old [] pending all took take works news pops = (
   subst (λ fs. NodesStand (longer view point) fs done) (sym (all ∙ append-nil old)) took,
-  top_only view point whole stack rest top (subst (λ fs. StackNews view point fs stack) works news) pops,
+  news_posed view point whole top
+      (top_only view point (posed whole) stack rest top (subst (λ fs. StackNews view point fs stack) works news) pops),
 )
 
 -- the step ends

@@ -14,11 +14,12 @@ use Rattle.monitor_state.proofs.BeginLemmas.{begins}
 use Rattle.monitor_state.proofs.ExactLemmas.{reached_within}
 use Rattle.monitor_state.proofs.LawProofs.{itself}
 use Rattle.monitor_state.proofs.MonitorSteps.{premises_all}
+use Rattle.monitor_state.proofs.PosedSteps.{premises_posed}
 use Rattle.monitor_state.proofs.RecordKeeps.{earliest_least, earliest_reaches}
 use Rattle.monitor_state.proofs.ResumeTimes.{log_size}
 use Rattle.monitor_state.specs.Beginnings.{Adds}
 use Rattle.monitor_state.specs.Going.{AllPremises}
-use Rattle.monitor_state.specs.Nodes.{nodes_of}
+use Rattle.monitor_state.specs.Nodes.{nodes_of, posed}
 use Rattle.monitor_state.specs.Resuming.{AllMatch, HalfResumed, Matches, NodeResumed, NodesResumed, Suits}
 use Rattle.monitor_state.specs.Resuming.{SuitsWhole}
 use Rattle.monitor_state.specs.Stands.{NodesStand, StateOf, Stands}
@@ -64,7 +65,8 @@ premises_suit view point given whole (f ∷ fs) seen near same all = (
 all_suit : (view : View) (core : CoreForm) → SuitsWhole view core → AllSuit view core (nodes_of core)
 all_suit view core suits =
     premises_suit view start start core (nodes_of core) empty refl refl
-    (premises_all empty start start core role.Whole core
+    (premises_all empty start start core role.Whole (posed core)
+    (premises_posed empty start start core
     (record {
       rising = one_never_falls;
       passes = suits.suits.passes;
@@ -72,7 +74,7 @@ all_suit view core suits =
       sound = suits.suits.sound;
       ts = refl;
       same = itself empty core start.db;
-    }))
+    })))
   where
     start : TimePoint
     start = record { ts = 0; db = [] }

@@ -4,7 +4,7 @@ use Rattle.mfotl_model.specs.Exact.{View}
 use Rattle.mfotl_model.specs.Tables.{TableOf}
 use Rattle.mfotl_model.specs.declared.event.TimePoint.{TimePoint}
 use Rattle.monitorable.specs.CoreForms.{CoreForm}
-use Rattle.monitor_state.specs.Nodes.{nodes_of, operands}
+use Rattle.monitor_state.specs.Nodes.{nodes_of, operands, posed}
 use Rattle.monitor_state.specs.Stands.{NodesStand}
 use Rattle.monitor_state.specs.Steps.{News, Premises, StackNews, longer}
 use Rattle.monitor_state.specs.declared.node.Node.{Node}
@@ -30,7 +30,7 @@ pub record Going (view : View) (point given : TimePoint) (whole : CoreForm) (don
   pub all : nodes_of whole ≡ old ++ next
   pub took : NodesStand (longer view point) old done
   pub take : NodesStand view next todo
-  pub works : Works whole pending next
+  pub works : Works (posed whole) pending next
   pub premises : AllPremises view point given whole next
   pub news : StackNews view point pending stack
 

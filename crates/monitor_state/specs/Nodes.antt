@@ -1,13 +1,13 @@
 -- The nodes of a monitor: one for each part of the core that is evaluated by itself, operands first. A
 -- conjunction is one node with all its conjuncts; but where its right side is a window that is asked for the rows of
 -- its left side alone, the node has the left side and the window's operands.
-use Rattle.std.specs.Prelude.{Bool, true, false, not, ◌&&◌, ◌||◌, cond, List, [], ◌∷◌, ◌++◌}
+use Rattle.std.specs.Prelude.{ℕ, Bool, true, false, not, ◌&&◌, ◌||◌, cond, List, [], ◌∷◌, ◌++◌}
 use Rattle.std.specs.List.{list_any}
 use Rattle.mfotl_model.specs.FreeVariables.{among, fv}
 use Rattle.mfotl_model.specs.Tables.{all_among}
 use Rattle.monitorable.specs.Conjuncts.{PartForm, conjuncts_of}
 use Rattle.monitorable.specs.Conjuncts.PartForm.{Child, Test}
-use Rattle.monitorable.specs.CoreForms.{CoreForm, meaning, Compare, Not, And, Or, Exists, Previous}
+use Rattle.monitorable.specs.CoreForms.{CoreForm, meaning, Atom, Compare, Not, And, Or, Exists, Previous}
 use Rattle.monitorable.specs.CoreForms.{Next, Since, Until}
 use Rattle.monitorable.specs.Fragment.{binds, bound_by, is_conjunction, judges_not, under_not}
 use Rattle.monitorable.specs.declared.role.Role.{Role}
@@ -94,6 +94,38 @@ nodes_in role (Since i f g) = nodes_in Left f ++ nodes_in Whole g ++ Since i f g
 nodes_in role (Until i f g) = nodes_in Left f ++ nodes_in Whole g ++ Until i f g ∷ []
 nodes_in role f = f ∷ []
 
--- the cores of a core's nodes, the core itself last
+-- whether a core is an atom
+abbrev pub is_atom : CoreForm → Bool
+is_atom (Atom atom) = true
+is_atom f = false
+
+-- the first conjunct of a core
+abbrev pub first_conjunct : CoreForm → CoreForm
+first_conjunct (And f g) = first_conjunct f
+first_conjunct f = f
+
+-- a core with one more conjunct, which stands before its own
+abbrev pub led : CoreForm → CoreForm → CoreForm
+led a (And g h) = And (led a g) h
+led a g = And a g
+
+-- whether the first conjunct of g is a window that shares variables with a
+abbrev pub shares_window : CoreForm → CoreForm → Bool
+shares_window a g =
+    is_window (first_conjunct g) && list_any (λ y. among y (fv (meaning a))) (fv (meaning (first_conjunct g)))
+
+-- whether EXISTS of x over g is better asked for the rows of a alone: a is an atom, x none of its variables, and g
+-- begins with a window that shares some with it
+abbrev pub leads : CoreForm → ℕ → CoreForm → Bool
+leads a x g = is_atom a && (not (among x (fv (meaning a))) && shares_window a g)
+
+-- a core as it is evaluated: where a conjunction denies an EXISTS, its first conjunct may stand under that too, which
+-- changes nothing of what it means
+abbrev pub posed : CoreForm → CoreForm
+posed (And f (Not (Exists x g))) =
+    And f (Not (Exists x (cond (leads (first_conjunct f) x.number g) (led (first_conjunct f) g) g)))
+posed f = f
+
+-- the cores of a core's nodes, the core itself last, as it is evaluated
 abbrev pub nodes_of : CoreForm → List CoreForm
-nodes_of f = nodes_in Whole f
+nodes_of f = nodes_in Whole (posed f)

@@ -1,9 +1,9 @@
 //! The nodes of a core. What makes a node is a function of its own that isn't inlined, so that a chain of hundreds of
 //! operands takes little of the stack.
-ghost use Rattle.std.specs.Prelude.{◌≡◌, ◌++◌, ◌∷◌, [], OnOk};
+ghost use Rattle.std.specs.Prelude.{◌≡◌, ◌++◌, ◌∷◌, [], IfOk, OnOk};
 ghost use Rattle.monitorable.specs.CoreForms.{node_form, And, Atom};
 ghost use Rattle.monitor_state.specs.Beginnings.{Accepted, Adds};
-ghost use Rattle.monitor_state.specs.Nodes.{nodes_in, without_last};
+ghost use Rattle.monitor_state.specs.Nodes.{nodes_in, nodes_of, without_last};
 ghost use Rattle.monitor_state.specs.declared.node.Node.TheVariants.{Exists};
 
 use crate::begin_filter::{add_filter, is_filtered, without_not};
@@ -12,13 +12,25 @@ use crate::conjunction::add_join;
 use crate::constant::{add_comparison, add_false, add_true};
 use crate::node::{Node, add};
 use crate::operators::{add_next, add_or, add_previous, add_since};
+use crate::posing::posed;
 use mfotl_model::Atom as OneAtom;
 use monitorable::{Node as Core, Role};
 use std::alloc::{AllocError, Global};
 
-/// Adds the nodes of a core, each behind its operands.
+/// The nodes of a core.
+pub fn begun_nodes(alloc: Global, core: &Core) -> Result<Vec<Node>, AllocError>
+    requires { Accepted Role.Whole (node_form core.now) }
+    ensures { IfOk result (λ nodes. Adds (nodes_of (node_form core.now)) [] nodes.items) }
+{
+    let own = posed(alloc, core)?;
+    let mut nodes = Vec::new(alloc);
+    add_nodes(alloc, &own, Role::Whole, &mut nodes)?;
+    Ok(nodes)
+}
+
+// Adds the nodes of a core, each behind its operands.
 #[cycle(add_nodes)]
-pub fn add_nodes(
+fn add_nodes(
     alloc: Global,
     core: &Core,
     role: Role,

@@ -17,6 +17,7 @@ mod node;
 mod operators;
 mod or;
 mod ordering;
+mod posing;
 mod previous;
 mod recording;
 mod resumed;

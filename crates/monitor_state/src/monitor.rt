@@ -11,7 +11,7 @@ ghost use Rattle.monitor_state.specs.StateRules.{StateRule};
 ghost use Rattle.monitor_state.specs.StateStands.{StateStands};
 ghost use Rattle.monitor_state.specs.Steps.{Steps};
 
-use crate::compile::add_nodes;
+use crate::compile::begun_nodes;
 use crate::node::Node;
 use crate::recording::nodes_data;
 use crate::resumed::nodes_resumed;
@@ -20,7 +20,7 @@ use crate::stamps::{longest, times_behind};
 use crate::state::State;
 use crate::tables::Tables;
 use mfotl_model::TimePoint;
-use monitorable::{Core, Role};
+use monitorable::Core;
 use std::alloc::{AllocError, Global};
 use std::collections::VecDeque;
 
@@ -41,8 +41,7 @@ impl Monitor {
         ensures core { IfOk result (λ monitor. (monitor_of monitor).core ≡ core_form core.now) }
         ensures begins { IfOk result (λ monitor. Begins (core_form core.now) (monitor_of monitor).state) }
     {
-        let mut nodes = Vec::new(alloc);
-        add_nodes(alloc, core.root(), Role::Whole, &mut nodes)?;
+        let nodes = begun_nodes(alloc, core.root())?;
         let core = core.copy(alloc)?;
         Ok(Monitor {
             core,
@@ -104,8 +103,7 @@ impl Monitor {
         ensures core { IfOk result (λ monitor. (monitor_of monitor).core ≡ core_form core) }
         ensures stands { IfOk result (λ monitor. Resumes (core_form core) state (monitor_of monitor).state) }
     {
-        let mut fresh = Vec::new(alloc);
-        add_nodes(alloc, core.root(), Role::Whole, &mut fresh)?;
+        let fresh = begun_nodes(alloc, core.root())?;
         let State {
             taken,
             given,

@@ -1,6 +1,5 @@
 use Rattle.std.proofs.Common.{◌-◌, [], subst, refl, sym, ap, ◌∙◌}
 use Rattle.monitorable.specs.Cores.{core_form}
-use Rattle.monitorable.specs.CoreForms.{node_form}
 use Rattle.monitorable.specs.Fragment.{fault_in}
 use Rattle.monitorable.specs.declared.role.Role.TheVariants as role
 use Rattle.monitor_state.proofs.ResumeState.{all_match, empty_view, fresh_stand, state_resumed, times_are}
@@ -10,14 +9,14 @@ use Rattle.monitor_state.specs.Resuming.{AllMatch, NodesResumed}
 use Rattle.monitor_state.specs.StateTimes.{times_of}
 use Rattle.monitor_state.proofs.monitor.Monitor.resume.Goals as goal
 
-pub add_nodes-requires : goal.add_nodes-requires
-add_nodes-requires c =
+pub begun_nodes-requires : goal.begun_nodes-requires
+begun_nodes-requires c =
     ((λ y. []), ap (λ f. fault_in (λ y. []) role.Whole f) c.root.ensures ∙ c.args.core.in_fragment (λ y. []))
 
 pub nodes_resumed-requires : goal.nodes_resumed-requires
 nodes_resumed-requires c =
     let core = core_form c.args.core in
-    let fresh = c.add_nodes.new.nodes.items in
+    let fresh = c.in_ok-fresh.fresh.items in
     let kept = c.args.state in
     let same = times_are kept c.saturating_sub-first.result c.as_slice.result.now
     (c.saturating_sub-first.ensures ∙ ap (λ n. kept.taken - n) (c.len.ensures ∙ kept.times.ok.0))
@@ -25,15 +24,13 @@ nodes_resumed-requires c =
     subst (λ k. AllMatch k fresh kept.nodes.items) same
     (all_match (empty_view core) (times_of kept) (nodes_of core) fresh kept.nodes.items
     (fresh_stand core fresh
-    (subst (λ f. Adds (nodes_of f) [] fresh) c.root.ensures
-    (subst (λ ns. Adds (nodes_of (node_form c.root.result.now)) ns fresh) c.new-fresh.ensures.items
-    c.in_ok-add_nodes.ensures)))
+    (subst (λ f. Adds (nodes_of f) [] fresh) c.root.ensures c.in_ok-fresh.ensures))
     c.requires.rule)
 
 pub returns-clause-stands : goal.returns-clause-stands
 returns-clause-stands c view suits stands =
     let core = core_form c.args.core in
-    let fresh = c.add_nodes.new.nodes.items in
+    let fresh = c.in_ok-fresh.fresh.items in
     let kept = c.args.state in
     let made = c.in_ok-nodes.nodes.items in
     let same = times_are kept c.saturating_sub-first.result c.as_slice.result.now
@@ -48,9 +45,7 @@ returns-clause-stands c view suits stands =
       nodes = made;
     })
     (fresh_stand core fresh
-    (subst (λ f. Adds (nodes_of f) [] fresh) c.root.ensures
-    (subst (λ ns. Adds (nodes_of (node_form c.root.result.now)) ns fresh) c.new-fresh.ensures.items
-    c.in_ok-add_nodes.ensures)))
+    (subst (λ f. Adds (nodes_of f) [] fresh) c.root.ensures c.in_ok-fresh.ensures))
     c.requires.rule
     (subst (λ k. NodesResumed k fresh kept.nodes.items made) (sym same) c.in_ok-nodes.ensures)
     refl refl (c.saturating_sub-first.ensures ∙ ap (λ n. kept.taken - n) (c.len.ensures ∙ kept.times.ok.0))

@@ -1,0 +1,326 @@
+-- What the fragment gives a core it gives the core as it is evaluated.
+use Rattle.std.proofs.Common.{subst, ◌≡◌, ℕ, true, false, not, None, ◌&&◌, ◌||◌, nat_eq, List, [], ◌∷◌, ◌++◌}
+use Rattle.std.proofs.Common.{refl, sym, ap, ◌∙◌, inl, inr}
+use Rattle.std.proofs.lemmas.Bool.{and_from, and_parts, cases_Bool, cond-false, cond-true, eqb-true, or_cases}
+use Rattle.std.proofs.lemmas.Bool.{or_left, or_right}
+use Rattle.std.proofs.lemmas.List.Folds.{list_any-append}
+use Rattle.std.specs.List.{list_any}
+use Rattle.std.specs.Ordering.{eq_by_cmp}
+use Rattle.mfotl_model.proofs.LogicLemmas.{among_without, same_number}
+use Rattle.mfotl_model.specs.ActiveDomain.{constants}
+use Rattle.mfotl_model.specs.Domains.{Includes, within}
+use Rattle.mfotl_model.specs.Exact.{View}
+use Rattle.mfotl_model.specs.FreeVariables.{among, fv, without}
+use Rattle.mfotl_model.specs.Values.{value_cmp}
+use Rattle.mfotl_model.specs.declared.event.Event.{Event}
+use Rattle.mfotl_model.specs.declared.formula.Bound.{Bound}
+use Rattle.mfotl_model.specs.declared.value.Value.{Value}
+use Rattle.monitorable.proofs.FragmentLemmas.{no_first, no_variable, none_first, none_outside}
+use Rattle.monitorable.specs.CoreForms.{CoreForm, meaning, Atom, And, Exists, Not, Since, Until}
+use Rattle.monitorable.specs.Fragment.{Names, at_variable, bound_by, fault_in, first, first_outside, guards, needed_by}
+use Rattle.monitorable.specs.Fragment.{named, uses, with_name}
+use Rattle.monitorable.specs.Soundness.{IsSound}
+use Rattle.monitorable.specs.declared.fault.FragmentFault.TheVariants.{UnusedBound, Unguarded}
+use Rattle.monitorable.specs.declared.role.Role.TheVariants as role
+use Rattle.monitor_state.proofs.PosedLemmas.{among_led}
+use Rattle.monitor_state.proofs.WholeLemmas.{guarded, inside_all}
+use Rattle.monitor_state.specs.Beginnings.{Accepted}
+use Rattle.monitor_state.specs.Nodes.{first_conjunct, is_atom, is_window, leads, led, posed, shares_window}
+use Rattle.monitor_state.specs.Steps.{SameNear}
+
+-- ---- a conjunction with one more conjunct before the others
+
+among_both : (y : ℕ) (xs ys : List ℕ) → among y (xs ++ ys) ≡ (among y xs || among y ys)
+among_both y xs ys = list_any-append (λ z. nat_eq y z) xs ys
+
+-- it binds no less
+bound_led : (a g : CoreForm) (y : ℕ) → among y (bound_by g) ≡ true → among y (bound_by (led a g)) ≡ true
+unfolding bound_by
+bound_led a (And g h) y m =
+    among_both y (bound_by (led a g)) (bound_by h)
+    ∙ elim (or_cases (among y (bound_by g)) (among y (bound_by h))
+    (sym (among_both y (bound_by g) (bound_by h)) ∙ m)) [
+      | inl left ↦ or_left (among y (bound_by (led a g))) (among y (bound_by h)) (bound_led a g y left)
+      | inr right ↦ or_right (among y (bound_by (led a g))) (among y (bound_by h)) right
+    ]
+bound_led a g y m = among_both y (bound_by a) (bound_by g) ∙ or_right (among y (bound_by a)) (among y (bound_by g)) m
+
+-- and needs no more, where the new one is an atom
+needed_led : (a g : CoreForm) → is_atom a ≡ true → needed_by (led a g) ≡ needed_by g
+unfolding needed_by
+needed_led (Atom a) (And g h) is = ap (λ ys. ys ++ needed_by h) (needed_led (Atom a) g is)
+needed_led (Atom a) g is = refl
+needed_led a g is = absurd (let clash : false ≡ true = is in cc)
+
+atom_part : (names : Names) (a : CoreForm) → is_atom a ≡ true → fault_in names role.Part a ≡ None
+unfolding fault_in
+atom_part names (Atom a) is = refl
+atom_part names a is = absurd (let clash : false ≡ true = is in cc)
+
+led_part : (names : Names) (a g : CoreForm) → is_atom a ≡ true → fault_in names role.Part g ≡ None
+    → fault_in names role.Part (led a g) ≡ None
+unfolding fault_in
+led_part names a (And g h) is e =
+    let left = no_first (fault_in names role.Part g) (first (fault_in names role.Part h) None) e in
+    none_first (fault_in names role.Part (led a g)) (first (fault_in names role.Part h) None)
+    (led_part names a g is left.0) left.1
+led_part names a g is e =
+    none_first (fault_in names role.Part a) (first (fault_in names role.Part g) None) (atom_part names a is)
+    (none_first (fault_in names role.Part g) None e refl)
+
+led_guarded : (names : Names) (a g : CoreForm) → is_atom a ≡ true → guards names g ≡ None
+    → guards names (led a g) ≡ None
+led_guarded names a g is guard =
+    guarded (led a g) names
+    (λ y m.
+    bound_led a g y
+    (none_outside (bound_by g) (needed_by g) y
+    (no_variable (λ z. Unguarded (named names z)) (first_outside (bound_by g) (needed_by g)) guard)
+    (ap (among y) (sym (needed_led a g is)) ∙ m)))
+
+-- a window alone needs nothing
+led_whole : (names : Names) (a g : CoreForm) → is_atom a ≡ true → is_window (first_conjunct g) ≡ true
+    → fault_in names role.Whole g ≡ None → fault_in names role.Whole (led a g) ≡ None
+unfolding fault_in needed_by
+led_whole names a (And g h) is asks e =
+    let left = no_first (fault_in names role.Part g) (first (fault_in names role.Part h) (guards names (And g h))) e in
+    let right = no_first (fault_in names role.Part h) (guards names (And g h)) left.1 in
+    none_first (fault_in names role.Part (led a g))
+    (first (fault_in names role.Part h) (guards names (And (led a g) h)))
+    (led_part names a g is left.0)
+    (none_first (fault_in names role.Part h) (guards names (And (led a g) h)) right.0
+    (led_guarded names a (And g h) is right.1))
+led_whole names a (Since i f g) is asks e =
+    none_first (fault_in names role.Part a)
+    (first (fault_in names role.Part (Since i f g)) (guards names (And a (Since i f g)))) (atom_part names a is)
+    (none_first (fault_in names role.Part (Since i f g)) (guards names (And a (Since i f g))) e
+    (led_guarded names a (Since i f g) is refl))
+led_whole names a (Until i f g) is asks e =
+    none_first (fault_in names role.Part a)
+    (first (fault_in names role.Part (Until i f g)) (guards names (And a (Until i f g)))) (atom_part names a is)
+    (none_first (fault_in names role.Part (Until i f g)) (guards names (And a (Until i f g))) e
+    (led_guarded names a (Until i f g) is refl))
+led_whole names a g is asks e = absurd (let clash : false ≡ true = asks in cc)
+
+led_uses : (a : CoreForm) (x : Bound) (g : CoreForm) → among x.number (fv (meaning g)) ≡ true
+    → uses x (led a g) ≡ None
+led_uses a x g m =
+    ap (at_variable (λ y. UnusedBound (record { number = y; name = x.name })))
+    (inside_all (fv (meaning (led a g))) (x.number ∷ [])
+    (λ y here.
+    among_led a g y
+    ∙ or_right (among y (fv (meaning a))) (among y (fv (meaning g)))
+    (elim (or_cases (nat_eq y x.number) false here) [
+      | inl same ↦ ap (λ z. among z (fv (meaning g))) (eqb-true y x.number same) ∙ m
+      | inr none ↦ absurd (let clash : false ≡ true = none in cc)
+    ])))
+
+used : (x : Bound) (g : CoreForm) → uses x g ≡ None → among x.number (fv (meaning g)) ≡ true
+used x g e =
+    none_outside (fv (meaning g)) (x.number ∷ []) x.number
+    (no_variable (λ y. UnusedBound (record { number = y; name = x.name }))
+    (first_outside (fv (meaning g)) (x.number ∷ [])) e)
+    (or_left (nat_eq x.number x.number) false (same_number x.number))
+
+within_both : (b : Value) (xs ys : List Value) → within (xs ++ ys) b ≡ (within xs b || within ys b)
+within_both b xs ys = list_any-append (eq_by_cmp value_cmp b) xs ys
+
+constants_led : (a g : CoreForm) (b : Value) → within (constants (meaning (led a g))) b ≡ true
+    → (within (constants (meaning a)) b || within (constants (meaning g)) b) ≡ true
+unfolding constants
+constants_led a (And g h) b m =
+    elim (or_cases (within (constants (meaning (led a g))) b) (within (constants (meaning h)) b)
+    (sym (within_both b (constants (meaning (led a g))) (constants (meaning h))) ∙ m)) [
+      | inl left ↦
+          elim (or_cases (within (constants (meaning a)) b) (within (constants (meaning g)) b)
+          (constants_led a g b left)) [
+            | inl one ↦
+                or_left (within (constants (meaning a)) b) (within (constants (meaning g) ++ constants (meaning h)) b)
+                one
+            | inr two ↦
+                or_right (within (constants (meaning a)) b) (within (constants (meaning g) ++ constants (meaning h)) b)
+                (within_both b (constants (meaning g)) (constants (meaning h))
+                ∙ or_left (within (constants (meaning g)) b) (within (constants (meaning h)) b) two)
+          ]
+      | inr right ↦
+          or_right (within (constants (meaning a)) b) (within (constants (meaning g) ++ constants (meaning h)) b)
+          (within_both b (constants (meaning g)) (constants (meaning h))
+          ∙ or_right (within (constants (meaning g)) b) (within (constants (meaning h)) b) right)
+    ]
+constants_led a g b m = sym (within_both b (constants (meaning a)) (constants (meaning g))) ∙ m
+
+first_constants : (f : CoreForm) → Includes (constants (meaning f)) (constants (meaning (first_conjunct f)))
+unfolding constants
+first_constants (And f g) b m =
+    within_both b (constants (meaning f)) (constants (meaning g))
+    ∙ or_left (within (constants (meaning f)) b) (within (constants (meaning g)) b) (first_constants f b m)
+first_constants f b m = m
+
+led_constants : (f g : CoreForm)
+    → Includes (constants (meaning f) ++ constants (meaning g)) (constants (meaning (led (first_conjunct f) g)))
+led_constants f g b m =
+    within_both b (constants (meaning f)) (constants (meaning g))
+    ∙ elim (or_cases (within (constants (meaning (first_conjunct f))) b) (within (constants (meaning g)) b)
+    (constants_led (first_conjunct f) g b m)) [
+      | inl one ↦
+          or_left (within (constants (meaning f)) b) (within (constants (meaning g)) b) (first_constants f b one)
+      | inr two ↦ or_right (within (constants (meaning f)) b) (within (constants (meaning g)) b) two
+    ]
+
+led_sound : (whole a g : CoreForm) → IsSound whole a → IsSound whole g → IsSound whole (led a g)
+led_sound whole a (And g h) first second = (led_sound whole a g first second.0, second.1)
+led_sound whole a g first second = (first, second)
+
+first_sound : (whole f : CoreForm) → IsSound whole f → IsSound whole (first_conjunct f)
+first_sound whole (And f g) sound = first_sound whole f sound.0
+first_sound whole f sound = sound
+
+led_same : (view : View) (a g : CoreForm) (given db : List Event) → SameNear view a given db → SameNear view g given db
+    → SameNear view (led a g) given db
+led_same view a (And g h) given db first second = (led_same view a g given db first second.0, second.1)
+led_same view a g given db first second = (first, second)
+
+first_same : (view : View) (f : CoreForm) (given db : List Event) → SameNear view f given db
+    → SameNear view (first_conjunct f) given db
+first_same view (And f g) given db same = first_same view f given db same.0
+first_same view f given db same = same
+
+leads_parts : (a : CoreForm) (x : ℕ) (g : CoreForm) → leads a x g ≡ true
+    → (is_atom a ≡ true) × (is_window (first_conjunct g) ≡ true)
+leads_parts a x g on =
+    let one = and_parts (is_atom a) (not (among x (fv (meaning a))) && shares_window a g) on in
+    let two = and_parts (not (among x (fv (meaning a)))) (shares_window a g) one.1 in
+    let three = and_parts (is_window (first_conjunct g))
+    (list_any (λ y. among y (fv (meaning a))) (fv (meaning (first_conjunct g)))) two.1 in (
+      one.0,
+      three.0,
+    )
+
+-- ---- the core
+
+pub same_posed : (view : View) (f : CoreForm) (given db : List Event) → SameNear view f given db
+    → SameNear view (posed f) given db
+same_posed view (And f (Not (Exists x g))) given db same =
+    elim (cases_Bool (leads (first_conjunct f) x.number g)) [
+      | inl on ↦
+          subst (λ h. SameNear view (And f (Not (Exists x h))) given db)
+          (sym (cond-true (leads (first_conjunct f) x.number g) (led (first_conjunct f) g) g on))
+          (same.0, led_same view (first_conjunct f) g given db (first_same view f given db same.0) same.1)
+      | inr off ↦
+          subst (λ h. SameNear view (And f (Not (Exists x h))) given db)
+          (sym (cond-false (leads (first_conjunct f) x.number g) (led (first_conjunct f) g) g off)) same
+    ]
+same_posed view f given db same = same
+
+pub sound_posed : (f : CoreForm) → IsSound f f → IsSound f (posed f)
+unfolding constants fault_in
+sound_posed (And f (Not (Exists x g))) sound =
+    let whole : CoreForm = And f (Not (Exists x g)) in
+    elim (cases_Bool (leads (first_conjunct f) x.number g)) [
+      | inl on ↦
+          let asks = leads_parts (first_conjunct f) x.number g on in
+          subst (λ h. IsSound whole (And f (Not (Exists x h))))
+          (sym (cond-true (leads (first_conjunct f) x.number g) (led (first_conjunct f) g) g on)) (
+            sound.0,
+            (
+              sound.1.0,
+              among_led (first_conjunct f) g x.number
+                  ∙ or_right (among x.number (fv (meaning (first_conjunct f)))) (among x.number (fv (meaning g)))
+                  sound.1.1,
+              (sound.1.2.0, led_whole sound.1.2.0 (first_conjunct f) g asks.0 asks.1 sound.1.2.1),
+              led_constants f g,
+              led_sound whole (first_conjunct f) g (first_sound whole f sound.0) sound.1.4,
+            ),
+          )
+      | inr off ↦
+          subst (λ h. IsSound whole (And f (Not (Exists x h))))
+          (sym (cond-false (leads (first_conjunct f) x.number g) (led (first_conjunct f) g) g off)) sound
+    ]
+sound_posed f sound = sound
+
+first_bound : (f : CoreForm) (y : ℕ) → is_atom (first_conjunct f) ≡ true
+    → among y (fv (meaning (first_conjunct f))) ≡ true → among y (bound_by f) ≡ true
+unfolding bound_by
+first_bound (And f g) y is m =
+    among_both y (bound_by f) (bound_by g)
+    ∙ or_left (among y (bound_by f)) (among y (bound_by g)) (first_bound f y is m)
+first_bound (Atom a) y is m = m
+first_bound f y is m = absurd (let clash : false ≡ true = is in cc)
+
+-- what is denied needs no variables but those of what was, and of the first conjunct
+asked_guarded : (names : Names) (f : CoreForm) (x : Bound) (g : CoreForm) → is_atom (first_conjunct f) ≡ true
+    → guards names (And f (Not (Exists x g))) ≡ None
+    → guards names (And f (Not (Exists x (led (first_conjunct f) g)))) ≡ None
+unfolding bound_by needed_by fv
+asked_guarded names f x g is guard =
+    guarded (And f (Not (Exists x (led (first_conjunct f) g)))) names
+    (λ y m.
+    elim (or_cases (among y (needed_by f)) (among y (without x.number (fv (meaning (led (first_conjunct f) g)))))
+    (sym (among_both y (needed_by f) (without x.number (fv (meaning (led (first_conjunct f) g))))) ∙ m)) [
+      | inl own ↦
+          inside y (among_both y (needed_by f) (without x.number (fv (meaning g)))
+          ∙ or_left (among y (needed_by f)) (among y (without x.number (fv (meaning g)))) own)
+      | inr denied ↦
+          let parts = and_parts (not (nat_eq y x.number)) (among y (fv (meaning (led (first_conjunct f) g))))
+          (sym (among_without y x.number (fv (meaning (led (first_conjunct f) g)))) ∙ denied) in
+          elim (or_cases (among y (fv (meaning (first_conjunct f)))) (among y (fv (meaning g)))
+          (sym (among_led (first_conjunct f) g y) ∙ parts.1)) [
+            | inl one ↦
+                among_both y (bound_by f) []
+                ∙ or_left (among y (bound_by f)) false (first_bound f y is one)
+            | inr two ↦
+                inside y (among_both y (needed_by f) (without x.number (fv (meaning g)))
+                ∙ or_right (among y (needed_by f)) (among y (without x.number (fv (meaning g))))
+                (among_without y x.number (fv (meaning g))
+                ∙ and_from (not (nat_eq y x.number)) (among y (fv (meaning g))) parts.0 two))
+          ]
+    ])
+  where
+    inside : (y : ℕ) → among y (needed_by f ++ without x.number (fv (meaning g))) ≡ true
+        → among y (bound_by f ++ []) ≡ true
+    inside y m =
+        none_outside (bound_by f ++ []) (needed_by f ++ without x.number (fv (meaning g))) y
+        (no_variable (λ z. Unguarded (named names z))
+        (first_outside (bound_by f ++ []) (needed_by f ++ without x.number (fv (meaning g)))) guard) m
+
+asked_accepted : (f : CoreForm) (x : Bound) (g : CoreForm) → leads (first_conjunct f) x.number g ≡ true
+    → Accepted role.Whole (And f (Not (Exists x g)))
+    → Accepted role.Whole (And f (Not (Exists x (led (first_conjunct f) g))))
+unfolding bound_by fault_in needed_by fv
+asked_accepted f x g on a =
+    let names = a.0 in
+    let asks = leads_parts (first_conjunct f) x.number g on in
+    let inner = with_name names x in
+    let left = no_first (fault_in names role.Part f)
+    (first (first (first (fault_in inner role.Whole g) (uses x g)) None) (guards names (And f (Not (Exists x g)))))
+    a.1 in
+    let rest = no_first (first (first (fault_in inner role.Whole g) (uses x g)) None)
+    (guards names (And f (Not (Exists x g)))) left.1 in
+    let quantified = no_first (first (fault_in inner role.Whole g) (uses x g)) None rest.0 in
+    let parts = no_first (fault_in inner role.Whole g) (uses x g) quantified.0 in
+    let under : CoreForm = led (first_conjunct f) g in (
+      names,
+      none_first (fault_in names role.Part f)
+          (first (first (first (fault_in inner role.Whole under) (uses x under)) None)
+          (guards names (And f (Not (Exists x under))))) left.0
+          (none_first (first (first (fault_in inner role.Whole under) (uses x under)) None)
+          (guards names (And f (Not (Exists x under))))
+          (none_first (first (fault_in inner role.Whole under) (uses x under)) None
+          (none_first (fault_in inner role.Whole under) (uses x under)
+          (led_whole inner (first_conjunct f) g asks.0 asks.1 parts.0)
+          (led_uses (first_conjunct f) x g (used x g parts.1))) refl)
+          (asked_guarded names f x g asks.0 rest.1)),
+    )
+
+pub posed_accepted : (f : CoreForm) → Accepted role.Whole f → Accepted role.Whole (posed f)
+posed_accepted (And f (Not (Exists x g))) a =
+    elim (cases_Bool (leads (first_conjunct f) x.number g)) [
+      | inl on ↦
+          subst (λ h. Accepted role.Whole (And f (Not (Exists x h))))
+          (sym (cond-true (leads (first_conjunct f) x.number g) (led (first_conjunct f) g) g on))
+          (asked_accepted f x g on a)
+      | inr off ↦
+          subst (λ h. Accepted role.Whole (And f (Not (Exists x h))))
+          (sym (cond-false (leads (first_conjunct f) x.number g) (led (first_conjunct f) g) g off)) a
+    ]
+posed_accepted f a = a

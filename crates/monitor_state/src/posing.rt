@@ -1,0 +1,131 @@
+//! A core as it is evaluated.
+ghost use Rattle.std.specs.Prelude.{◌≡◌, ◌&&◌, cond, IfOk, not};
+ghost use Rattle.std.specs.List.{list_any};
+ghost use Rattle.mfotl_model.specs.FreeVariables.{among, fv};
+ghost use Rattle.monitorable.specs.CoreForms.{meaning, node_form, And, Not};
+ghost use Rattle.monitor_state.specs.Nodes.{first_conjunct, is_atom, is_window, leads, led, posed};
+
+use crate::begin_filter::{is_window, some_among};
+use mfotl_model::is_among;
+use monitorable::Node as Core;
+use std::alloc::{AllocError, Global};
+
+/// A core as it is evaluated: where a conjunction denies an EXISTS, its first conjunct may stand under that too.
+pub fn posed(alloc: Global, core: &Core) -> Result<Core, AllocError>
+    ensures { IfOk result (λ own. node_form own ≡ posed (node_form core.now)) }
+{
+    match core {
+        Core::And(left, right) => posed_and(alloc, left, right),
+        _ => core.copy(alloc),
+    }
+}
+
+// A conjunction of these sides as it is evaluated.
+fn posed_and(alloc: Global, left: &Core, right: &Core) -> Result<Core, AllocError>
+    ensures { IfOk result (λ own. node_form own ≡ posed (And (node_form left.now) (node_form right.now))) }
+{
+    match right {
+        Core::Not(inner) => posed_denial(alloc, left, inner),
+        _ => Ok(Core::And(boxed(alloc, left)?, boxed(alloc, right)?)),
+    }
+}
+
+// A conjunction that denies `inner`, as it is evaluated.
+fn posed_denial(alloc: Global, left: &Core, inner: &Core) -> Result<Core, AllocError>
+    ensures { IfOk result (λ own.
+        node_form own ≡ posed (And (node_form left.now) (Not (node_form inner.now)))) }
+{
+    match inner {
+        Core::Exists(bound, body) => {
+            let body = asked(alloc, first_conjunct(left), bound.number, body)?;
+            denied(alloc, left, Core::Exists(bound.copy(alloc)?, body))
+        }
+        _ => denied(alloc, left, inner.copy(alloc)?),
+    }
+}
+
+// A conjunction that denies `inner`.
+fn denied(alloc: Global, left: &Core, inner: Core) -> Result<Core, AllocError>
+    ensures { IfOk result (λ own. node_form own ≡ And (node_form left.now) (Not (node_form inner))) }
+{
+    let inner = Core::Not(Box::new(alloc, inner)?);
+    Ok(Core::And(boxed(alloc, left)?, Box::new(alloc, inner)?))
+}
+
+// The body of EXISTS of `x`, with the first conjunct before its own where that leads it.
+fn asked(alloc: Global, first: &Core, x: u32, body: &Core) -> Result<Box<Core>, AllocError>
+    ensures { IfOk result (λ own. node_form own.value
+        ≡ cond (leads (node_form first.now) x (node_form body.now))
+        (led (node_form first.now) (node_form body.now)) (node_form body.now)) }
+{
+    if leads(alloc, first, x, body)? {
+        led(alloc, first, body)
+    } else {
+        boxed(alloc, body)
+    }
+}
+
+// Whether EXISTS of `x` over the body is better asked for the first conjunct's rows alone.
+fn leads(alloc: Global, first: &Core, x: u32, body: &Core) -> Result<bool, AllocError>
+    ensures { IfOk result (λ yes. yes ≡ leads (node_form first.now) x (node_form body.now)) }
+{
+    let own = first.free_vars(alloc)?;
+    let own = own.as_slice();
+    let asked = first_conjunct(body);
+    let columns = asked.free_vars(alloc)?;
+    let shares = is_window(asked) && some_among(columns.as_slice(), own);
+    Ok(is_atom(first) && !is_among(x, own) && shares)
+}
+
+// Whether a core is an atom.
+fn is_atom(core: &Core) -> bool
+    ensures { result ≡ is_atom (node_form core.now) }
+{
+    match core {
+        Core::Atom(_) => true,
+        _ => false,
+    }
+}
+
+// The first conjunct of a core.
+fn first_conjunct(core: &Core) -> &Core
+    ensures { node_form result.now ≡ first_conjunct (node_form core.now) }
+{
+    match core {
+        Core::And(left, _) => first_conjunct(left),
+        _ => core,
+    }
+}
+
+// A core with one more conjunct, which stands before its own. What a call keeps on the stack is a box, since a chain may
+// be thousands of conjuncts long.
+fn led(alloc: Global, first: &Core, body: &Core) -> Result<Box<Core>, AllocError>
+    ensures { IfOk result (λ own. node_form own.value ≡ led (node_form first.now) (node_form body.now)) }
+{
+    match body {
+        Core::And(left, right) => {
+            let left = led(alloc, first, left)?;
+            beside(alloc, left, right)
+        }
+        _ => {
+            let first = boxed(alloc, first)?;
+            beside(alloc, first, body)
+        }
+    }
+}
+
+// The conjunction of a core and a copy of another one.
+#[inline(never)]
+fn beside(alloc: Global, left: Box<Core>, right: &Core) -> Result<Box<Core>, AllocError>
+    ensures { IfOk result (λ own. node_form own.value ≡ And (node_form left.value) (node_form right.now)) }
+{
+    let right = boxed(alloc, right)?;
+    Ok(Box::new(alloc, Core::And(left, right))?)
+}
+
+#[inline(never)]
+fn boxed(alloc: Global, core: &Core) -> Result<Box<Core>, AllocError>
+    ensures { IfOk result (λ own. node_form own.value ≡ node_form core.now) }
+{
+    Ok(Box::new(alloc, core.copy(alloc)?)?)
+}
