@@ -1,7 +1,7 @@
 -- A window that is asked by the values that a table has of some of its columns.
-use Rattle.std.proofs.Common.{subst, ◌≡◌, ◌↔◌, ℕ, ◌+◌, ◌-◌, ◌<◌, Bool, true, false, ◌&&◌, List, refl, sym, ap, ap₂, ◌∙◌}
+use Rattle.std.proofs.Common.{◌≡◌, ℕ, ◌+◌, ◌-◌, ◌<◌, Bool, true, false, ◌&&◌, List, refl, ap, ap₂, ◌∙◌}
 use Rattle.std.proofs.Common.{arith}
-use Rattle.mfotl_model.specs.FreeVariables.{among, joined}
+use Rattle.mfotl_model.specs.FreeVariables.{joined}
 use Rattle.mfotl_model.specs.Satisfaction.{Valuation, since, until}
 use Rattle.mfotl_model.specs.Tables.{TableOf, all_among, has}
 use Rattle.mfotl_model.specs.Times.{NeverFalls}

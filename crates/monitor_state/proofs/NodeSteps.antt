@@ -18,7 +18,7 @@ use Rattle.mfotl_model.specs.Log.{times}
 use Rattle.mfotl_model.specs.Regions.{Passes}
 use Rattle.mfotl_model.specs.Satisfaction.{Valuation, sat, with_value, event_of, has_event, database_at}
 use Rattle.mfotl_model.specs.Settled.{settled}
-use Rattle.mfotl_model.specs.Tables.{TableOf, all_among, has}
+use Rattle.mfotl_model.specs.Tables.{TableOf, has}
 use Rattle.mfotl_model.specs.Times.{NeverFalls}
 use Rattle.mfotl_model.specs.declared.event.TimePoint.{TimePoint}
 use Rattle.mfotl_model.specs.declared.formula.Bound.{Bound}
@@ -40,7 +40,7 @@ use Rattle.monitor_state.proofs.OrSteps.{or_is, or_news, or_stands}
 use Rattle.monitor_state.specs.OrFeeding.{OrTakes}
 use Rattle.monitor_state.proofs.JoinSteps.{join_is, join_news, join_stands}
 use Rattle.monitor_state.specs.JoinFeeding.{JoinTakes}
-use Rattle.monitorable.specs.Fragment.{Names, bound_by, frag}
+use Rattle.monitorable.specs.Fragment.{Names, frag}
 use Rattle.monitor_state.proofs.CountLemmas.{count_is}
 use Rattle.monitor_state.proofs.ExactLemmas.{log_more, rising_before}
 use Rattle.monitor_state.proofs.SinceSteps.{since_is, since_news, since_stands}
