@@ -1,5 +1,7 @@
 -- Each step keeps the rule.
-use Rattle.std.proofs.Common.{◌≡◌, ◌≢◌, ◌⊎◌, ℕ, suc, zero, ◌<◌, ◌==◌, Bool, true, false, List, [], ◌∷◌, ◌++◌, length, set, sym, refl, ap, ◌∙◌, subst, inl, inr, ⊎_elim, arith, Option, Some, None, length-set, get_or-set_same, get_or-set_other, eqb-true, append-nil}
+use Rattle.std.proofs.Common.{◌≡◌, ◌≢◌, ◌⊎◌, ℕ, suc, zero, ◌<◌, ◌==◌, Bool, true, false, List, [], ◌∷◌, ◌++◌}
+use Rattle.std.proofs.Common.{length, set, sym, refl, ap, ◌∙◌, subst, inl, inr, ⊎_elim, arith, Option, Some}
+use Rattle.std.proofs.Common.{None, length-set, get_or-set_same, get_or-set_other, eqb-true, append-nil}
 use mathlib.Core.Logic.{dite}
 use mathlib.Core.Option.{some, none, some-injective, some-ne-none}
 use mathlib.Core.Option as maybe
@@ -7,7 +9,8 @@ use native.Mathlib.Decide.{ℕ_discrete}
 use lib.ListN.{get_elem?}
 use Rattle.std.specs.Prelude.{slice_index}
 use Rattle.std.proofs.lemmas.Option.{none-some}
-use Rattle.atomic_table.specs.Table.{State, Act, keeps, takes, gives, Allows, Valid, step, rest, put_back, homes_after, carried_after}
+use Rattle.atomic_table.specs.Table.{State, Act, keeps, takes, gives, Allows, Valid, step, rest, put_back}
+use Rattle.atomic_table.specs.Table.{homes_after, carried_after}
 use Rattle.atomic_table.proofs.Lists.{at_set, set_here, set_else, set_again}
 use Rattle.turn_hub.specs.declared.view.Cell.{Cell}
 use Rattle.turn_hub.specs.declared.view.Line.{Line}
@@ -430,7 +433,8 @@ module _ {W S I O : Type 0} (stands : S → List I → List O → W → Type 0) 
       → may l.seed (l.handed ++ c'.items.items)
       → ((new ≡ 0) × (c'.items.items ≡ [])) ⊎ ((new ≡ 1) × (c'.items.items ≢ []))
       → Allows R n id me k (λ _. new) (λ _ m'. hands_over (step n k new 0 none) me new m')
-  main_stores n id k me more l c c' new is_first near holds line has cell work outs count allowed turn s r wide at small =
+  main_stores n id k me more l c c' new is_first near holds line has cell work outs count allowed turn s r wide
+        at small =
       let at' : get_elem? s.views 0 ≡ some me.0 = ap (λ (i : ℕ). get_elem? s.views i) (sym is_first)
       ∙ at in let near' : k < length s.homes = omega arith in
       let w : V = with_line me.0 k (handed_over l c c' new) in

@@ -60,7 +60,8 @@ returns-clause-rows g c =
     let same : (q : List Value) → has_row c.in_ok-set.set.keys q ≡ has_row d.rows q =
     λ q. c.in_ok-set.ensures q ∙ ap (λ rs. has_row rs q) c.rows.ensures.rows in
     c.from_rows.ensures.rows
-    ∙ ap (ascending row_cmp) (c.in_ok-rows.ensures ∙ (λ i. flat_map (λ row. filter (has_part (table_of_rows (c.columns-6.ensures.columns i)
+    ∙ ap (ascending row_cmp)
+          (c.in_ok-rows.ensures ∙ (λ i. flat_map (λ row. filter (has_part (table_of_rows (c.columns-6.ensures.columns i)
     c.in_ok-set.set.keys)
     (joined (c.columns-5.ensures.columns i) (c.in_ok-index.ensures.columns i)))
     (pairs_of (c.columns-5.ensures.columns i) (c.in_ok-index.ensures.columns i) moved row))

@@ -1,4 +1,5 @@
-use Rattle.std.proofs.Common.{◌≡◌, ◌++◌, ◌+◌, [], ◌∷◌, ℕ, List, length, ap, sym, ◌∙◌, subst, refl, arith, append-nil, append_assoc, length-append, Option, Some, ⊎_elim}
+use Rattle.std.proofs.Common.{◌≡◌, ◌++◌, ◌+◌, [], ◌∷◌, ℕ, List, length, ap, sym, ◌∙◌, subst, refl, arith}
+use Rattle.std.proofs.Common.{append-nil, append_assoc, length-append, Option, Some, ⊎_elim}
 use mathlib.Core.Option.{some, some-ne-none}
 use lib.ListN.{get_elem?}
 use Rattle.atomic_table.proofs.Lists.{at_longer, at_last}
@@ -48,7 +49,8 @@ loop-work-preserved g c = let steps = (c.in-Some.ensures {u = tt}).steps in let 
       ap length p ∙ length-append c.loop-work.slots.items (Some cell ∷ []) ∙ ap (λ (n : ℕ). n + 1) i.1
           ∙ sym (length-append c.loop-work.yielded (c.in-Some.work ∷ [])),
       λ k w e. subst (λ xs. IsFresh xs k w) (sym p)
-          (more_fresh c.loop-work.yielded c.loop-work.slots.items c.in-Some.work cell i.1 refl refl c.new-in-loop-work.ensures.items i.2 k w e),
+          (more_fresh c.loop-work.yielded c.loop-work.slots.items c.in-Some.work cell i.1 refl refl
+                c.new-in-loop-work.ensures.items i.2 k w e),
     )
 
 pub returns : goal.returns

@@ -1,4 +1,5 @@
-use Rattle.std.proofs.Common.{◌≡◌, ◌++◌, [], ◌∷◌, ap, sym, ◌∙◌, subst, append-nil, append_assoc, ℕ, List, length, refl, arith}
+use Rattle.std.proofs.Common.{◌≡◌, ◌++◌, [], ◌∷◌, ap, sym, ◌∙◌, subst, append-nil, append_assoc, ℕ, List}
+use Rattle.std.proofs.Common.{length, refl, arith}
 use Rattle.turn_hub.specs.Work.{Takes, Leads}
 use Rattle.turn_hub.proofs.WorkLemmas.{leads_none, leads_on, takes_less, takes_on}
 use Rattle.turn_hub.proofs.serve.work_all.Goals as goal
@@ -39,7 +40,8 @@ loop-item-preserved g c =
       (
         before.0 ++ did.0,
         did.1 ∙ ap (λ xs. xs ++ did.0) before.1 ∙ append_assoc c.args.cell.now.outs.items before.0 did.0,
-        leads_on g.W.Work.stands g.W.Work.may g.met.W.Work.may_less c.args.cell.now.work done work before.0 item c.work.new.self did.0 before.2 did.2,
+        leads_on g.W.Work.stands g.W.Work.may g.met.W.Work.may_less c.args.cell.now.work done work before.0 item
+              c.work.new.self did.0 before.2 did.2,
       ),
     )
 
@@ -55,4 +57,6 @@ returns-clause-did g c =
     let none = none_left rest.items rest.len rest.ok.0 (c.in-None.ensures {u = tt}).steps.0 in
     let all : c.args.cell.now.items.items ≡ c.loop-item.yielded = i.0 ∙ ap (λ xs. c.loop-item.yielded ++ xs) none
     ∙ append-nil c.loop-item.yielded in
-    (gave.0, gave.1, subst (λ xs. Leads g.W.Work.stands g.W.Work.may c.args.cell.now.work xs c.loop-item.cell.work gave.0) (sym all) gave.2)
+    (gave.0, gave.1, subst
+          (λ xs. Leads g.W.Work.stands g.W.Work.may c.args.cell.now.work xs c.loop-item.cell.work gave.0)
+          (sym all) gave.2)

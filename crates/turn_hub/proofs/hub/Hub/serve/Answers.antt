@@ -18,7 +18,8 @@ exchange-requires g c = let l = c.load-found.ensures in let p = l.2.0 c.if-found
     (l.0 ∙ c.requires.hand.0, can_take c.args.hand.now.cell _ _ _ c.load-found.new.seat.me p.1)
 
 pub work_all-done-requires : goal.work_all-done-requires
-work_all-done-requires g c = let l = c.load-found.ensures in let p = l.2.0 c.if-found-ne-HAND_TURN.false in let cf = p.0 in
+work_all-done-requires g c = let l = c.load-found.ensures in let p = l.2.0 c.if-found-ne-HAND_TURN.false in
+      let cf = p.0 in
     let out = c.exchange.ensures in
     let x : c.exchange.result ≡ Some cf = taken_out c.args.hand.now.cell _ _ _ _ c.load-found.new.seat.me p.1 out.2 in
     let same : c.in-Some.cell ≡ cf = some_inj _ _ (sym c.in-Some.is ∙ x) in
@@ -42,9 +43,11 @@ store-requires g c =
     let did = ok.did in (
       back.0 ∙ out.0 ∙ l.0 ∙ m.0,
       (let w : k < c.args.self.now.table.shared.table_id.words = omega arith in w),
-      hand_stores g.W.Work.stands g.W.Work.may _ _ k c.exchange-2.new.seat.me _ c.in-Some.cell c.work_all-done.new.cell 0
+      hand_stores g.W.Work.stands g.W.Work.may _ _ k c.exchange-2.new.seat.me _ c.in-Some.cell
+            c.work_all-done.new.cell 0
           (ap (λ y. y.0.number) left ∙ m.3) near (ap (λ y. y.1) left) (ap (λ y. y.0.has) left ∙ ap Some (sym same))
-          (inl (refl, due_ready g.W.Work.stands g.W.Work.may c.in-Some.cell c.work_all-done.new.cell did.0 did.1 did.2 ok.count)),
+          (inl (refl, due_ready g.W.Work.stands g.W.Work.may c.in-Some.cell c.work_all-done.new.cell did.0 did.1
+                did.2 ok.count)),
     )
 
 pub store-requires-in-Err : goal.store-requires-in-Err
@@ -63,7 +66,8 @@ store-requires-in-Err g c =
     let left = put_in k _ _ _ _ c.exchange.new.seat.me c.exchange-2.new.seat.me gone back.3 in (
       back.0 ∙ out.0 ∙ l.0 ∙ m.0,
       (let w : k < c.args.self.now.table.shared.table_id.words = omega arith in w),
-      hand_stores g.W.Work.stands g.W.Work.may _ _ k c.exchange-2.new.seat.me _ c.in-Some.cell c.work_all-done.new.cell 2
+      hand_stores g.W.Work.stands g.W.Work.may _ _ k c.exchange-2.new.seat.me _ c.in-Some.cell
+            c.work_all-done.new.cell 2
           (ap (λ y. y.0.number) left ∙ m.3) near (ap (λ y. y.1) left) (ap (λ y. y.0.has) left ∙ ap Some (sym same))
           (inr refl),
     )
