@@ -1,7 +1,8 @@
 -- The node of a conjunction whose right side is asked for the left one's rows, with which a monitor begins.
-use Rattle.std.proofs.Common.{subst, ◌≡◌, Bool, true, false, not, ◌&&◌, ◌||◌, ◌++◌, List, [], ◌∷◌, length, refl, sym, ap, ◌∙◌}
-use Rattle.std.proofs.Common.{arith, append-nil, inl, inr}
-use Rattle.std.proofs.lemmas.Bool.{and_parts, not-true, or_cases}
+use Rattle.std.proofs.Common.{subst, ◌≡◌, Bool, true, false, not, ◌&&◌, ◌||◌, ◌++◌, List, [], ◌∷◌, length, refl}
+use Rattle.std.proofs.Common.{sym, ap, ◌∙◌}
+use Rattle.std.proofs.Common.{arith, append-nil, inl, inr, ℕ}
+use Rattle.std.proofs.lemmas.Bool.{and_parts, not-true, or_cases, or_right}
 use Rattle.std.specs.List.{list_any}
 use Rattle.mfotl_model.specs.Exact.{AllExact, View}
 use Rattle.mfotl_model.specs.FreeVariables.{among, fv}
@@ -16,10 +17,12 @@ use Rattle.monitor_state.proofs.BeginLemmas.{adds_one, none_reached, since_begin
 use Rattle.monitor_state.proofs.GuardLemmas.{and_left, and_own, not_under}
 use Rattle.monitor_state.proofs.WholeLemmas.{asker_guarded, part_whole}
 use Rattle.monitor_state.proofs.MonitorSteps.{last_off}
+use Rattle.monitor_state.proofs.PosedBegins.{among_both}
 use Rattle.monitor_state.proofs.UntilBegins.{until_begins_at, until_state_is}
 use Rattle.monitor_state.specs.Beginnings.{Accepted, Adds, WindowBegun}
 use Rattle.monitor_state.specs.FilterNode.{GivenAs}
-use Rattle.monitor_state.specs.Nodes.{adds_none, filters, is_keyed, is_negated, is_window, left_operand, nodes_in, without_last}
+use Rattle.monitor_state.specs.Nodes.{adds_none, filters, is_keyed, is_negated, is_window, left_operand}
+use Rattle.monitor_state.specs.Nodes.{nodes_in, without_last}
 use Rattle.monitor_state.specs.Views.{reached}
 use Rattle.monitor_state.specs.WindowNode.{IsWindow, WindowStands, window_took_all}
 use Rattle.monitor_state.specs.declared.filter.FilterState.{FilterState}
@@ -116,3 +119,20 @@ filter_added f g s old new only turns gives none begun is =
       behind = subst (λ p. WindowStands view p (left_operand g) s.window) here begins.0;
       all = begins.1;
     })
+
+-- ---- what a conjunction binds
+
+pub bound_by_right : (y : ℕ) (f g : CoreForm) → among y (bound_by g) ≡ true → among y (bound_by (And f g)) ≡ true
+unfolding bound_by
+bound_by_right y f g m =
+    among_both y (bound_by f) (bound_by g) ∙ or_right (among y (bound_by f)) (among y (bound_by g)) m
+
+or_nothing : (b : Bool) → (b || false) ≡ b
+or_nothing true = refl
+or_nothing false = refl
+
+pub bound_by_left : (y : ℕ) (f g : CoreForm) → among y (bound_by g) ≡ false
+    → among y (bound_by (And f g)) ≡ among y (bound_by f)
+unfolding bound_by
+bound_by_left y f g m = among_both y (bound_by f) (bound_by g)
+    ∙ ap (λ b. among y (bound_by f) || b) m ∙ or_nothing (among y (bound_by f))

@@ -1,5 +1,6 @@
 -- The state of a conjunction whose right side is asked for the left one's rows, over one step.
-use Rattle.std.proofs.Common.{subst, ◌≡◌, ℕ, ◌+◌, ◌<◌, ◌≤◌, Bool, true, false, ◌&&◌, nat_eq, Option, Some, None, List, [], ◌∷◌, ◌++◌}
+use Rattle.std.proofs.Common.{subst, ◌≡◌, ℕ, ◌+◌, ◌<◌, ◌≤◌, Bool, true, false, ◌&&◌, nat_eq, Option, Some, None}
+use Rattle.std.proofs.Common.{List, [], ◌∷◌, ◌++◌}
 use Rattle.std.proofs.Common.{length, map, refl, sym, ap, ap₂, ◌∙◌, inl, inr, arith, length-append}
 use Rattle.std.proofs.lemmas.Bool.{cases_Bool, cond-false, cond-true, or_cases, or_left, or_right}
 use Rattle.std.proofs.lemmas.List.Folds.{list_any-append}
@@ -121,7 +122,8 @@ module _ (view : View) (rising : NeverFalls (times view.log)) (passes : Passes (
     (whole f g : CoreForm) (sound : IsSound whole (left_operand g)) where
   -- a table without what the window filters out is exact for the conjunction
   sifted_exact : (p : ℕ) (s : Window) (negated : Bool) (table kept : TableOf) → adds_none f g ≡ true
-      → negated ≡ is_negated g → IsWindow (left_operand g) s → WindowStands view p (left_operand g) s → Exact view (meaning f) p table
+      → negated ≡ is_negated g → IsWindow (left_operand g) s → WindowStands view p (left_operand g) s
+      → Exact view (meaning f) p table
       → kept.columns ≡ table.columns → Sifts s negated table.columns table.rows kept.rows
       → Exact view (meaning (And f g)) p kept
   unfolding fv sat
@@ -311,12 +313,14 @@ module _ (view : View) (point : TimePoint) (whole : CoreForm) (f g : CoreForm)
 
   new_stands : StandsAt (longer view point) f g (reached view (And f g) + length tables) new
   new_stands =
-      stops_stand (longer view point) rising passes whole f g sound (reached view (And f g) + length tables) takes.last new
+      stops_stand (longer view point) rising passes whole f g sound (reached view (And f g) + length tables)
+            takes.last new
       last_stands.0 takes.stops
 
   count : reached view (And f g) + length tables ≡ reached (longer view point) (And f g)
   count =
-      all_pulled (longer view point) rising passes whole f g sound (reached view (And f g) + length tables) new new_stands
+      all_pulled (longer view point) rising passes whole f g sound (reached view (And f g) + length tables) new
+            new_stands
       takes.stops.done
 
   pub filter_is : IsFilter f g new

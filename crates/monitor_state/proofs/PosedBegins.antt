@@ -30,7 +30,7 @@ use Rattle.monitor_state.specs.Steps.{SameNear}
 
 -- ---- a conjunction with one more conjunct before the others
 
-among_both : (y : ℕ) (xs ys : List ℕ) → among y (xs ++ ys) ≡ (among y xs || among y ys)
+pub among_both : (y : ℕ) (xs ys : List ℕ) → among y (xs ++ ys) ≡ (among y xs || among y ys)
 among_both y xs ys = list_any-append (λ z. nat_eq y z) xs ys
 
 -- it binds no less

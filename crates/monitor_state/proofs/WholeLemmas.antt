@@ -1,5 +1,6 @@
 -- What the fragment gives a conjunct that binds all its conjunction's variables, or all its own.
-use Rattle.std.proofs.Common.{Option, Some, None, ◌≡◌, ℕ, true, false, not, ◌&&◌, ◌||◌, cond, nat_eq, List, [], ◌∷◌, ◌++◌, refl, sym, ap}
+use Rattle.std.proofs.Common.{Option, Some, None, ◌≡◌, ℕ, true, false, not, ◌&&◌, ◌||◌, cond, nat_eq, List, []}
+use Rattle.std.proofs.Common.{◌∷◌, ◌++◌, refl, sym, ap}
 use Rattle.std.proofs.Common.{◌∙◌, inl, inr}
 use Rattle.std.proofs.lemmas.Bool.{and_parts, cases_Bool, cond-false, cond-true, or_cases, or_left, or_right}
 use Rattle.std.proofs.lemmas.List.Folds.{list_any-append}
@@ -9,7 +10,8 @@ use Rattle.mfotl_model.specs.FreeVariables.{among, fv}
 use Rattle.mfotl_model.specs.Tables.{all_among}
 use Rattle.monitorable.proofs.FragmentLemmas.{no_first, no_variable, none_first, none_outside}
 use Rattle.monitorable.specs.CoreForms.{CoreForm, meaning, Compare, Not, And}
-use Rattle.monitorable.specs.Fragment.{Names, at_variable, binds, bound_by, fault_in, first, first_outside, guards, named}
+use Rattle.monitorable.specs.Fragment.{Names, at_variable, binds, bound_by, fault_in, first, first_outside}
+use Rattle.monitorable.specs.Fragment.{guards, named}
 use Rattle.monitorable.specs.Fragment.{needed_by}
 use Rattle.monitorable.specs.declared.fault.FragmentFault.{FragmentFault}
 use Rattle.monitorable.specs.declared.fault.FragmentFault.TheVariants.{Unguarded}

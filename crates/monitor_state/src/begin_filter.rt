@@ -3,6 +3,7 @@ ghost use Rattle.std.specs.Prelude.{◌≡◌, ◌&&◌, ◌∷◌, [], cond, If
 ghost use Rattle.std.specs.List.{list_any};
 ghost use Rattle.relations.specs.Operations.{common};
 ghost use Rattle.monitorable.specs.CoreForms.{node_form, meaning, And, Since, Until};
+ghost use Rattle.monitorable.specs.Fragment.{bound_by};
 ghost use Rattle.mfotl_model.specs.FreeVariables.{among, fv};
 ghost use Rattle.mfotl_model.specs.Tables.{all_among};
 ghost use Rattle.monitor_state.specs.Beginnings.{Accepted, Adds, WindowBegun};
@@ -50,9 +51,7 @@ pub fn is_filtered(alloc: Global, own: bool, left: &Core, right: &Core) -> Resul
     if !own || !is_window(without_not(right)) {
         return Ok(false);
     }
-    let none = adds_none(alloc, left, right)?;
-    let keyed = is_keyed(alloc, left, right)?;
-    Ok(none || keyed)
+    Ok(adds_none(alloc, left, right)? || is_keyed(alloc, left, right)?)
 }
 
 // Whether the right side has no variables but those that the left one binds.
@@ -60,20 +59,43 @@ fn adds_none(alloc: Global, left: &Core, right: &Core) -> Result<bool, AllocErro
     ensures { IfOk result (λ yes. yes ≡ adds_none (node_form left.now) (node_form right.now)) }
 {
     let columns = right.free_vars(alloc)?;
-    let bound = bound_by(alloc, left)?;
-    Ok(all_among(columns.as_slice(), bound.as_slice()))
+    binds_all(alloc, left, columns.as_slice())
 }
 
 // Whether the right side can be asked by some values of the left one's rows.
 fn is_keyed(alloc: Global, left: &Core, right: &Core) -> Result<bool, AllocError>
     ensures { IfOk result (λ yes. yes ≡ is_keyed (node_form left.now) (node_form right.now)) }
 {
+    if is_negated(right) {
+        return Ok(false);
+    }
     let columns = right.free_vars(alloc)?;
     let own = left.free_vars(alloc)?;
     let bound = bound_by(alloc, left)?;
     let bound = bound.as_slice();
-    let plain = !is_negated(right);
-    Ok(plain && all_among(own.as_slice(), bound) && some_among(columns.as_slice(), bound))
+    Ok(all_among(own.as_slice(), bound) && some_among(columns.as_slice(), bound))
+}
+
+// Whether a core binds all of these variables.
+fn binds_all(alloc: Global, core: &Core, wanted: &[u32]) -> Result<bool, AllocError>
+    ensures { IfOk result (λ yes. yes ≡ all_among wanted.now (bound_by (node_form core.now))) }
+{
+    for x in wanted {
+        if !binds(alloc, core, *x)? {
+            return Ok(false);
+        }
+    }
+    Ok(true)
+}
+
+// Whether a core binds a variable. Of a chain the last conjuncts are looked at first: mostly they have it.
+fn binds(alloc: Global, core: &Core, x: u32) -> Result<bool, AllocError>
+    ensures { IfOk result (λ yes. yes ≡ among x (bound_by (node_form core.now))) }
+{
+    match core {
+        Core::And(left, right) => Ok(binds(alloc, right, x)? || binds(alloc, left, x)?),
+        _ => Ok(is_among(x, bound_by(alloc, core)?.as_slice())),
+    }
 }
 
 /// Whether one of the wanted is among the columns.
@@ -94,7 +116,7 @@ fn order_of(
     requires only { IsTrue (filters (node_form left.now) (node_form right.now)) }
     ensures { IfOk result (GivenAs (node_form left.now) (node_form right.now)) }
 {
-    if adds_none(alloc, left, right)? {
+    if is_negated(right) || adds_none(alloc, left, right)? {
         return Ok(None);
     }
     let columns = core.free_vars(alloc)?;
