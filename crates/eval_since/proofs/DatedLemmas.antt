@@ -17,7 +17,7 @@ use Rattle.eval_since.specs.Recalled.{named, times_for, times_kept}
 use Rattle.eval_since.specs.Times.{ArePast}
 use Rattle.eval_since.specs.Windows.{Rising}
 use Rattle.eval_since.specs.declared.recalled.KeptRow.{KeptRow}
-use Rattle.eval_since.specs.declared.window.Dated.{Dated}
+use Rattle.eval_since.specs.declared.contents.Dated.{Dated}
 
 -- each of the numbers is among them
 all_own : (p : ℕ → Bool) (ts : List ℕ) → ((y : ℕ) → list_any (λ t. nat_eq t y) ts ≡ true → p y ≡ true)

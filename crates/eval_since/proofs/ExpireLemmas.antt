@@ -9,7 +9,7 @@ use Rattle.std.specs.BTreeMap.{is_at}
 use Rattle.std.specs.List.{list_all, filter}
 use Rattle.mfotl_model.specs.Values.{row_cmp}
 use Rattle.mfotl_model.specs.declared.value.Value.{Value}
-use Rattle.eval_since.specs.declared.window.Dated.{Dated}
+use Rattle.eval_since.specs.declared.contents.Dated.{Dated}
 use Rattle.eval_since.specs.Groups.{times_at}
 use Rattle.mfotl_model.specs.Tables.{has_row, part}
 use Rattle.eval_since.specs.Times.{ArePast, is_new, added, recent}

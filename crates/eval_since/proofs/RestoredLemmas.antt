@@ -15,7 +15,7 @@ use Rattle.eval_since.specs.SinceData.{KeepsTimes}
 use Rattle.eval_since.specs.Times.{ArePast}
 use Rattle.eval_since.specs.Windows.{Finds, Keeps, Rising, names}
 use Rattle.eval_since.specs.declared.recalled.KeptRow.{KeptRow}
-use Rattle.eval_since.specs.declared.window.Dated.{Dated}
+use Rattle.eval_since.specs.declared.contents.Dated.{Dated}
 use Rattle.relations.proofs.TestLemmas.{all_weaker}
 use Rattle.eval_since.proofs.DatedLemmas.{all_each, names_own, past_all}
 use Rattle.eval_since.proofs.ExpireLemmas.{bounded_is}

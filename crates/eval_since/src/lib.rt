@@ -1,6 +1,7 @@
 //! PREVIOUS and SINCE over the tables of their operands, which are pushed position by position.
 #![tactic(auto)]
 
+mod contents;
 mod group;
 mod groups;
 mod hashed;

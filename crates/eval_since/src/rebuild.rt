@@ -8,10 +8,10 @@ ghost use Rattle.eval_since.specs.Groups.{times_at};
 ghost use Rattle.eval_since.specs.Recalled.{named, put_times, times_kept};
 ghost use Rattle.eval_since.specs.Windows.{Rising, names};
 
+use crate::contents::Dated;
 use crate::groups::Groups;
 use crate::recalled::KeptRow;
 use crate::times::Times;
-use crate::window::Dated;
 use mfotl_model::Row;
 use relations::part_of;
 use std::alloc::{AllocError, Global};

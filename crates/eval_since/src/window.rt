@@ -1,25 +1,21 @@
 //! The window of SINCE: for each row the times at which the right operand held of it and from which
 //! the left one has held on.
-ghost use Rattle.std.specs.Prelude.{◌≡◌, ◌||◌, ◌&&◌, ◌-◌, ◌≤◌, [], ℕ, Bool, if◌then◌else◌, is_ok, IfOk, IfSome, IsTrue, List, None, OnErr, OnOk, cond, length, map};
-ghost use Rattle.std.specs.BTreeMap.{is_at};
+ghost use Rattle.std.specs.Prelude.{◌≡◌, ◌||◌, ◌&&◌, ◌-◌, ◌≤◌, [], ℕ, if◌then◌else◌, is_ok, IfOk, IfSome, IsTrue, List, None, OnErr, OnOk, length, map};
 ghost use Rattle.std.specs.List.{AllByRecursion};
 ghost use Rattle.mfotl_model.specs.Intervals.{in_interval};
 ghost use Rattle.mfotl_model.specs.Tables.{all_apart, all_sized, has_row, part};
-ghost use Rattle.mfotl_model.specs.Values.{row_cmp};
 ghost use Rattle.mfotl_model.specs.declared.value.Value.{Value};
-ghost use Rattle.eval_since.specs.Groups.{times_at};
-ghost use Rattle.eval_since.specs.LeftOperand.{grouping, lead, left_has};
+ghost use Rattle.eval_since.specs.LeftOperand.{grouping, left_has};
 ghost use Rattle.relations.specs.KeptRows.{RowsAscend, filled, kept_for};
 ghost use Rattle.eval_since.specs.Recalled.{times_for, times_kept};
 ghost use Rattle.eval_since.specs.SinceData.{KeepsTimes};
-ghost use Rattle.eval_since.specs.Times.{added, reaches, recent};
-ghost use Rattle.eval_since.specs.WindowView.{WindowOf, kept_times, within};
-ghost use Rattle.eval_since.specs.Windows.{Alone, Ascending, Bounded, Covered, Fresh, IsBlank, IsThinned, Keeps, NotAfter, Past, Placed, Rising};
+ghost use Rattle.eval_since.specs.WindowView.{kept_times, within};
+ghost use Rattle.eval_since.specs.Windows.{Alone, Ascending, Bounded, IsBlank, Past, Placed};
 
+use crate::contents::{Contents, restored, stepped};
 use crate::groups::Groups;
-use crate::keys::{grouping, holds_on};
+use crate::keys::grouping;
 use crate::ordered::OrderedGroup;
-use crate::rebuild::{dated_rows, grouped};
 use crate::recalled::KeptRow;
 use mfotl_model::{Interval, Row};
 use relations::{Table, part_of};
@@ -27,220 +23,6 @@ use std::alloc::{AllocError, Global};
 use std::collections::VecDeque;
 use std::marker::Model;
 use std::mem;
-
-/// The rows of one table of the right operand, with its time.
-#[derive(Drop)]
-pub struct Dated {
-    pub ts: u64,
-    pub rows: Vec<Row>,
-}
-
-// rows go on where the left operand holds at the new position
-fn apply_left(
-    alloc: Global,
-    groups: &mut Groups,
-    closed: bool,
-    negated: bool,
-    lefts: &Table,
-) -> Result<(), AllocError>
-    ensures { OnOk result ((q v : List Value) → times_at groups.new q v
-        ≡ cond (left_has negated lefts.now.rows (lead closed q)) (times_at groups.old q v) []) }
-{
-    if closed {
-        apply_closed(alloc, groups, holds_on(negated, lefts, &Row::empty()));
-        Ok(())
-    } else {
-        apply_rows(alloc, groups, negated, lefts)
-    }
-}
-
-// all rows go on, or none
-fn apply_closed(alloc: Global, groups: &mut Groups, held: bool)
-    ensures { (q v : List Value) → times_at groups.new q v ≡ cond held (times_at groups.old q v) [] }
-{
-    if !held {
-        *groups = Groups::new(alloc);
-    }
-}
-
-// those of each group go on of whose values the left operand holds
-fn apply_rows(
-    alloc: Global,
-    groups: &mut Groups,
-    negated: bool,
-    lefts: &Table,
-) -> Result<(), AllocError>
-    ensures { OnOk result ((q v : List Value) → times_at groups.new q v
-        ≡ cond (left_has negated lefts.now.rows q) (times_at groups.old q v) []) }
-{
-    if negated {
-        groups.drop_groups(lefts.rows());
-        Ok(())
-    } else {
-        groups.keep(alloc, lefts)
-    }
-}
-
-// rows begin where the right operand holds at the new position
-fn add_rows(
-    alloc: Global,
-    groups: &mut Groups,
-    right: &[u32],
-    left: &[u32],
-    rows: &[Row],
-    now: u64,
-    bounded: bool,
-) -> Result<(), AllocError>
-    requires { Past now groups.old }
-    ensures { OnOk result ((q v : List Value) → times_at groups.new q v
-        ≡ cond (is_at (row_cmp (part right.now left.now v)) q && has_row rows.now v)
-        (added bounded (times_at groups.old q v) now) (times_at groups.old q v)) }
-{
-    for row in rows {
-        let key = part_of(alloc, right, left, row.values())?;
-        groups.add(alloc, key, row.copy(alloc)?, now, bounded)?;
-    }
-    Ok(())
-}
-
-fn forget_rows(
-    alloc: Global,
-    groups: &mut Groups,
-    right: &[u32],
-    left: &[u32],
-    rows: &[Row],
-    now: u64,
-    hi: u64,
-) -> Result<(), AllocError>
-    ensures { OnOk result ((q v : List Value) → times_at groups.new q v
-        ≡ cond (is_at (row_cmp (part right.now left.now v)) q && has_row rows.now v)
-        (recent hi now (times_at groups.old q v)) (times_at groups.old q v)) }
-{
-    for row in rows {
-        groups.forget(&part_of(alloc, right, left, row.values())?, row, hi, now);
-    }
-    Ok(())
-}
-
-/// Forgets the times that lie further back than `hi`, by the rows that came with them.
-fn expire(
-    alloc: Global,
-    groups: &mut Groups,
-    dated: &mut VecDeque<Dated>,
-    right: &[u32],
-    left: &[u32],
-    now: u64,
-    hi: u64,
-) -> Result<(), AllocError>
-    requires placed { Placed right.now left.now groups.old }
-    requires covered { Covered dated.old.items groups.old }
-    requires rising { Rising dated.old.items }
-    ensures thin { OnOk result ((q v : List Value) →
-        IsThinned hi now (times_at groups.old q v) (times_at groups.new q v)) }
-    ensures covered { OnOk result (Covered dated.new.items groups.new) }
-    ensures rising { OnOk result (Rising dated.new.items) }
-    ensures fresh { OnOk result (Fresh hi now dated.new.items) }
-    ensures after { OnOk result ((x : ℕ) →
-        NotAfter x dated.old.items → NotAfter x dated.new.items) }
-{
-    while let Some(front) = dated.front() {
-        if now.saturating_sub(front.ts) <= hi {
-            return Ok(());
-        }
-        let Some(old) = dated.pop_front() else {
-            return Ok(());
-        };
-        forget_rows(alloc, groups, right, left, old.rows.as_slice(), now, hi)?;
-    }
-    Ok(())
-}
-
-/// What a window keeps, and the rows that its times came with, oldest first, so that old times are
-/// found. Without an upper end nothing gets old, and no rows are kept for that.
-#[derive(Drop)]
-struct Contents {
-    groups: Groups,
-    dated: VecDeque<Dated>,
-}
-
-/// One position more: the left operand's table, then the right operand's rows.
-fn stepped(
-    alloc: Global,
-    contents: Contents,
-    interval: &Interval,
-    right: &[u32],
-    keys: &[u32],
-    closed: bool,
-    negated: bool,
-    lefts: &Table,
-    rights: Vec<Row>,
-    last: u64,
-    now: u64,
-) -> Result<Contents, AllocError>
-    requires kept { Keeps interval.now.hi right.now keys.now last contents.groups contents.dated.items }
-    requires sized { IsTrue (all_sized (length right.now) rights.items) }
-    requires rises { last ≤ now }
-    ensures within { IfOk result (λ next. (x : ℕ) (u : List Value) → now ≤ x →
-        reaches interval.now (times_at next.groups (part right.now keys.now u) u) x
-        ≡ ((reaches interval.now (times_at contents.groups (part right.now keys.now u) u) x
-        && left_has negated lefts.now.rows (lead closed (part right.now keys.now u)))
-        || (in_interval interval.now (x - now) && has_row rights.items u))) }
-    ensures kept { IfOk result (λ next.
-        Keeps interval.now.hi right.now keys.now now next.groups next.dated.items) }
-{
-    let Contents {
-        mut groups,
-        mut dated,
-    } = contents;
-    apply_left(alloc, &mut groups, closed, negated, lefts)?;
-    let rows = rights.as_slice();
-    add_rows(
-        alloc,
-        &mut groups,
-        right,
-        keys,
-        rows,
-        now,
-        interval.hi.is_some(),
-    )?;
-    let Some(hi) = interval.hi else {
-        return Ok(Contents { groups, dated });
-    };
-    dated.push_back(Dated {
-        ts: now,
-        rows: rights,
-    })?;
-    expire(alloc, &mut groups, &mut dated, right, keys, now, hi)?;
-    Ok(Contents { groups, dated })
-}
-
-/// What a window keeps with these rows.
-fn restored(
-    alloc: Global,
-    interval: &Interval,
-    right: &[u32],
-    left: &[u32],
-    last: u64,
-    rows: Vec<KeptRow>,
-) -> Result<Contents, AllocError>
-    requires apart { IsTrue (all_apart right.now) }
-    requires rows { RowsAscend (times_kept rows.items) }
-    requires sized { IsTrue (all_sized (length right.now) (map (λ k. k.row) rows.items)) }
-    requires kept { AllByRecursion (λ k. KeepsTimes interval.now.hi last k.times.items) rows.items }
-    ensures kept { IfOk result (λ contents.
-        Keeps interval.now.hi right.now left.now last contents.groups contents.dated.items) }
-    ensures times { IfOk result (λ contents. (q v : List Value) → times_at contents.groups q v
-        ≡ cond (is_at (row_cmp (part right.now left.now v)) q) (times_for rows.items v) []) }
-{
-    if interval.hi.is_none() {
-        let groups = grouped(alloc, right, left, rows)?;
-        let dated = VecDeque::new(alloc);
-        return Ok(Contents { groups, dated });
-    }
-    let dated = dated_rows(alloc, rows.as_slice())?;
-    let groups = grouped(alloc, right, left, rows)?;
-    Ok(Contents { groups, dated })
-}
 
 /// The window of SINCE after some positions.
 #[derive(Drop)]

@@ -2,7 +2,7 @@ use Rattle.std.proofs.Common.{◌≡◌, ◌&&◌, [], drop, sym, ap, ◌∙◌,
 use Rattle.std.proofs.lemmas.List.{drop_all}
 use Rattle.std.specs.List.{list_all}
 use Rattle.eval_since.specs.declared.recalled.KeptRow.{KeptRow}
-use Rattle.eval_since.specs.declared.window.Dated.{Dated}
+use Rattle.eval_since.specs.declared.contents.Dated.{Dated}
 use Rattle.relations.proofs.TestLemmas.{and_true}
 use Rattle.eval_since.proofs.rebuild.dated_list.Goals as goal
 

@@ -4,7 +4,7 @@ use Rattle.mfotl_model.specs.declared.value.Value.{Value}
 use Rattle.eval_since.specs.Recalled.{named}
 use Rattle.eval_since.specs.Windows.{names}
 use Rattle.eval_since.specs.declared.recalled.KeptRow.{KeptRow}
-use Rattle.eval_since.specs.declared.window.Dated.{Dated}
+use Rattle.eval_since.specs.declared.contents.Dated.{Dated}
 use Rattle.eval_since.proofs.rebuild.dated_list.Given as goal
 
 abbrev pub invariant-loop-kept : goal.invariant-loop-kept

@@ -3,7 +3,7 @@ use Rattle.std.proofs.lemmas.List.Sorted.{IsNonDecreasingBy-from_sort_by_key, li
 use Rattle.std.specs.List.{list_all}
 use Rattle.mfotl_model.specs.Tables.{has_row}
 use Rattle.eval_since.specs.Windows.{Rising, names}
-use Rattle.eval_since.specs.declared.window.Dated.{Dated}
+use Rattle.eval_since.specs.declared.contents.Dated.{Dated}
 use Rattle.relations.proofs.TestLemmas.{all_moved}
 use Rattle.eval_since.proofs.DatedLemmas.{rising_from}
 use Rattle.eval_since.proofs.rebuild.dated_rows.Goals as goal

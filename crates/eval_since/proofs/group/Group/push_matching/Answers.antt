@@ -4,7 +4,9 @@ use Rattle.mfotl_model.specs.Tables.{has_row, part}
 use Rattle.eval_since.proofs.OneRowLemmas.{no_match, one_match}
 use Rattle.eval_since.proofs.group.Group.push_matching.Goals as goal
 use Rattle.eval_since.proofs.group.Group.push_matching.Goals.{else-reaches-via-else-reaches}
-use Rattle.eval_since.proofs.group.Group.push_matching.Goals.{else-reaches-via-then-reaches+in_ok-has_part-in-One+else-branch}
+use Rattle.eval_since.proofs.group.Group.push_matching.Goals.{
+  else-reaches-via-then-reaches+in_ok-has_part-in-One+else-branch,
+}
 
 pub returns-in_ok-push-in-One : goal.returns-in_ok-push-in-One
 returns-in_ok-push-in-One c = λ u.

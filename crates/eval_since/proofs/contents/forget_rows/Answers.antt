@@ -2,7 +2,7 @@ use Rattle.std.proofs.Common.{ap, arith, ◌∙◌}
 use Rattle.mfotl_model.specs.Tables.{part}
 use Rattle.eval_since.specs.Times.{recent}
 use Rattle.eval_since.proofs.WindowLemmas.{rows_more, recent_twice}
-use Rattle.eval_since.proofs.window.forget_rows.Goals as goal
+use Rattle.eval_since.proofs.contents.forget_rows.Goals as goal
 
 pub loop-row-preserved : goal.loop-row-preserved
 loop-row-preserved c = λ q v.

@@ -1,6 +1,6 @@
 use Rattle.std.proofs.Common.{not, ap, ◌∙◌}
 use Rattle.eval_since.proofs.RestoredLemmas.{each_ascends, finds_none, finds_rows, keeps_restored, put_at}
-use Rattle.eval_since.proofs.window.restored.Goals as goal
+use Rattle.eval_since.proofs.contents.restored.Goals as goal
 
 pub grouped-requires : goal.grouped-requires
 grouped-requires c = each_ascends c.args.interval.now.hi c.args.last c.args.rows.items c.requires.kept

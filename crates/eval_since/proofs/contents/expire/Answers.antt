@@ -1,13 +1,13 @@
 use Rattle.std.proofs.Common.{◌≡◌, ◌&&◌, ◌∷◌, List, subst, arith}
 use Rattle.std.specs.BTreeMap.{is_at}
 use Rattle.mfotl_model.specs.Values.{row_cmp}
-use Rattle.eval_since.specs.declared.window.Dated.{Dated}
+use Rattle.eval_since.specs.declared.contents.Dated.{Dated}
 use Rattle.eval_since.specs.Groups.{times_at}
 use Rattle.mfotl_model.specs.Tables.{has_row, part}
 use Rattle.eval_since.specs.Windows.{Covered, NotAfter, Rising}
 use Rattle.eval_since.proofs.ExpireLemmas.{thin_more, nothing_thinned, covered_more, fresh_front, front_far}
 use Rattle.eval_since.proofs.ExpireLemmas.{not_after_tail}
-use Rattle.eval_since.proofs.window.expire.Goals as goal
+use Rattle.eval_since.proofs.contents.expire.Goals as goal
 
 pub returns-then-saturating_sub-hi-clause-fresh : goal.returns-then-saturating_sub-hi-clause-fresh
 returns-then-saturating_sub-hi-clause-fresh c =

@@ -1,7 +1,7 @@
 use Rattle.eval_since.proofs.StepLemmas.{Joined, past_before, kept_unbounded, within_after, covered_after}
 use Rattle.eval_since.proofs.StepLemmas.{rising_after, placed_after, kept_bounded, within_bounded}
 use Rattle.eval_since.specs.LeftOperand.{lead, left_has}
-use Rattle.eval_since.proofs.window.stepped.Goals as goal
+use Rattle.eval_since.proofs.contents.stepped.Goals as goal
 
 pub add_rows-requires : goal.add_rows-requires
 add_rows-requires c =

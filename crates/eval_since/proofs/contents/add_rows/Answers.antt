@@ -5,7 +5,7 @@ use Rattle.eval_since.specs.Groups.{times_at}
 use Rattle.mfotl_model.specs.Tables.{has_row, part}
 use Rattle.eval_since.specs.Times.{added, ArePast}
 use Rattle.eval_since.proofs.WindowLemmas.{rows_more, added_twice, past_added, either_list}
-use Rattle.eval_since.proofs.window.add_rows.Goals as goal
+use Rattle.eval_since.proofs.contents.add_rows.Goals as goal
 
 pub add-requires : goal.add-requires
 add-requires c =
