@@ -1,7 +1,9 @@
 use Rattle.std.proofs.Common.{arith, sym}
 use Rattle.mfotl_plain.proofs.SettlingLemmas.{all_after}
 use Rattle.mfotl_plain.proofs.settling.+settling.Goals as goal
-use Rattle.mfotl_plain.proofs.settling.+settling.Goals.{is_settled_within-else-not-is_past-via-then-not-is_past+else-not-is_settled}
+use Rattle.mfotl_plain.proofs.settling.+settling.Goals.{
+  is_settled_within-else-not-is_past-via-then-not-is_past+else-not-is_settled,
+}
 use Rattle.mfotl_plain.proofs.settling.+settling.Goals.{is_settled_within-else-not-is_past-via-else-not-is_past}
 
 pub is_settled_before-loop-j-preserved : goal.is_settled_before-loop-j-preserved
