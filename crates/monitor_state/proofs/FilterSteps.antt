@@ -314,13 +314,13 @@ module _ (view : View) (point : TimePoint) (whole : CoreForm) (f g : CoreForm)
   new_stands : StandsAt (longer view point) f g (reached view (And f g) + length tables) new
   new_stands =
       stops_stand (longer view point) rising passes whole f g sound (reached view (And f g) + length tables)
-            takes.last new
+      takes.last new
       last_stands.0 takes.stops
 
   count : reached view (And f g) + length tables ≡ reached (longer view point) (And f g)
   count =
       all_pulled (longer view point) rising passes whole f g sound (reached view (And f g) + length tables) new
-            new_stands
+      new_stands
       takes.stops.done
 
   pub filter_is : IsFilter f g new

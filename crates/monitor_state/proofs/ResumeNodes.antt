@@ -383,8 +383,12 @@ pub filter_resumed : (k : KeptTimes) (s new : FilterState) (tables : Vec TableOf
     → NodeResumed k (node.Filter s) (kept.Filter tables w) (node.Filter new)
 filter_resumed k s new tables w tables_are turns orders res (And f g) is keeps =
     let resumed = res (left_operand g) is.asks keeps.2 in (
-      record { only = is.only; turns = turns ∙ is.turns; asks = resumed.0;
-        gives = subst (GivenAs f g) (sym orders) is.gives },
+      record {
+        only = is.only;
+        turns = turns ∙ is.turns;
+        asks = resumed.0;
+        gives = subst (GivenAs f g) (sym orders) is.gives;
+      },
       λ view whole suits reach stands.
           let behind = resumed.1 view whole (reached view (And f g)) (suits_window view whole f g suits) reach
           stands.behind in

@@ -434,7 +434,7 @@ module _ {W S I O : Type 0} (stands : S → List I → List O → W → Type 0) 
       → ((new ≡ 0) × (c'.items.items ≡ [])) ⊎ ((new ≡ 1) × (c'.items.items ≢ []))
       → Allows R n id me k (λ _. new) (λ _ m'. hands_over (step n k new 0 none) me new m')
   main_stores n id k me more l c c' new is_first near holds line has cell work outs count allowed turn s r wide
-        at small =
+      at small =
       let at' : get_elem? s.views 0 ≡ some me.0 = ap (λ (i : ℕ). get_elem? s.views i) (sym is_first)
       ∙ at in let near' : k < length s.homes = omega arith in
       let w : V = with_line me.0 k (handed_over l c c' new) in

@@ -16,9 +16,13 @@ pub returns : goal.returns
 returns c =
     on_ok_then c.add.result _ _
     (filter_added (node_form c.args.left.now) (node_form c.args.right.now)
-    (record { tables = c.new.result; window = c.in_ok-window.window; negated = c.is_negated.result;
-      order = c.in_ok-order.order })
+    (record {
+      tables = c.new.result;
+      window = c.in_ok-window.window;
+      negated = c.is_negated.result;
+      order = c.in_ok-order.order;
+    })
     c.args.nodes.now.items c.add.new.nodes.items c.requires.only c.is_negated.ensures c.in_ok-order.ensures
-          c.new.ensures
+    c.new.ensures
     (subst (λ w. WindowBegun w c.in_ok-window.window) c.without_not.ensures c.in_ok-window.ensures))
     c.add.ensures

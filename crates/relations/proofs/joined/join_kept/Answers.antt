@@ -61,7 +61,7 @@ returns-clause-rows g c =
     λ q. c.in_ok-set.ensures q ∙ ap (λ rs. has_row rs q) c.rows.ensures.rows in
     c.from_rows.ensures.rows
     ∙ ap (ascending row_cmp)
-          (c.in_ok-rows.ensures ∙ (λ i. flat_map (λ row. filter (has_part (table_of_rows (c.columns-6.ensures.columns i)
+    (c.in_ok-rows.ensures ∙ (λ i. flat_map (λ row. filter (has_part (table_of_rows (c.columns-6.ensures.columns i)
     c.in_ok-set.set.keys)
     (joined (c.columns-5.ensures.columns i) (c.in_ok-index.ensures.columns i)))
     (pairs_of (c.columns-5.ensures.columns i) (c.in_ok-index.ensures.columns i) moved row))

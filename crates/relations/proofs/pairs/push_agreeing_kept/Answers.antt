@@ -16,10 +16,10 @@ returns g c =
     c.in_ok-key.ensures ∙ (λ i. part ca ((c.key_columns.ensures ∙ c.requires.key) i) (c.values.ensures i)) in
     c.in_ok-push_kept.ensures
     ∙ (λ i. c.args.rows.now.items ++ filter
-          (has_part (table_of_rows c.args.wanted.now c.args.third.now.keys) (ca ++ c.requires.more i))
+    (has_part (table_of_rows c.args.wanted.now c.args.third.now.keys) (ca ++ c.requires.more i))
     (map (λ second. c.args.row.now ++ part (c.columns.ensures.columns i) (c.requires.more i) second)
     ((c.matches-seconds.ensures.rows
     ∙ (λ j. filter (λ row. eq_by_cmp row_cmp (key j) (part cb (c.requires.key j) row)) c.args.index.now.rows)) i)))
     ∙ ap (λ pairs. c.args.rows.now.items ++ filter
-          (has_part (table_of_rows c.args.wanted.now c.args.third.now.keys) (joined ca cb)) pairs)
+    (has_part (table_of_rows c.args.wanted.now c.args.third.now.keys) (joined ca cb)) pairs)
     (pairs_by_key ca cb c.args.index.now.rows c.args.row.now)

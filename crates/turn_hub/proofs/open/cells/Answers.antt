@@ -50,7 +50,7 @@ loop-work-preserved g c = let steps = (c.in-Some.ensures {u = tt}).steps in let 
           ∙ sym (length-append c.loop-work.yielded (c.in-Some.work ∷ [])),
       λ k w e. subst (λ xs. IsFresh xs k w) (sym p)
           (more_fresh c.loop-work.yielded c.loop-work.slots.items c.in-Some.work cell i.1 refl refl
-                c.new-in-loop-work.ensures.items i.2 k w e),
+          c.new-in-loop-work.ensures.items i.2 k w e),
     )
 
 pub returns : goal.returns

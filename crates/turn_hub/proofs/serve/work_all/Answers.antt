@@ -41,7 +41,7 @@ loop-item-preserved g c =
         before.0 ++ did.0,
         did.1 ∙ ap (λ xs. xs ++ did.0) before.1 ∙ append_assoc c.args.cell.now.outs.items before.0 did.0,
         leads_on g.W.Work.stands g.W.Work.may g.met.W.Work.may_less c.args.cell.now.work done work before.0 item
-              c.work.new.self did.0 before.2 did.2,
+            c.work.new.self did.0 before.2 did.2,
       ),
     )
 
@@ -56,7 +56,10 @@ returns-clause-did g c =
     let rest = c.loop-item.item-iterator.rest in
     let none = none_left rest.items rest.len rest.ok.0 (c.in-None.ensures {u = tt}).steps.0 in
     let all : c.args.cell.now.items.items ≡ c.loop-item.yielded = i.0 ∙ ap (λ xs. c.loop-item.yielded ++ xs) none
-    ∙ append-nil c.loop-item.yielded in
-    (gave.0, gave.1, subst
+    ∙ append-nil c.loop-item.yielded in (
+      gave.0,
+      gave.1,
+      subst
           (λ xs. Leads g.W.Work.stands g.W.Work.may c.args.cell.now.work xs c.loop-item.cell.work gave.0)
-          (sym all) gave.2)
+          (sym all) gave.2,
+    )

@@ -25,7 +25,7 @@ returns-clause-did c = λ w is.
     (omega (arith, ok.0, ok.1)) in
     let moved = moves_over d c.take_ready.new.self k items c.requires.mine c.in_ok-items.ensures.moves
     record { router = c.take_ready.new.self; main = c.swap.new.main } refl s.0 c.in-Back.field-1.items s.1 s.3
-          s.4 w is in (
+    s.4 w is in (
       sym e ∙ ap length all,
       moved.0,
       subst (λ (m : ℕ). Reaches w (replicate m (Feeds k)) moved.0) e moved.1,

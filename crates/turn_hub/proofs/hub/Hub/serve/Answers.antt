@@ -19,7 +19,7 @@ exchange-requires g c = let l = c.load-found.ensures in let p = l.2.0 c.if-found
 
 pub work_all-done-requires : goal.work_all-done-requires
 work_all-done-requires g c = let l = c.load-found.ensures in let p = l.2.0 c.if-found-ne-HAND_TURN.false in
-      let cf = p.0 in
+    let cf = p.0 in
     let out = c.exchange.ensures in
     let x : c.exchange.result ≡ Some cf = taken_out c.args.hand.now.cell _ _ _ _ c.load-found.new.seat.me p.1 out.2 in
     let same : c.in-Some.cell ≡ cf = some_inj _ _ (sym c.in-Some.is ∙ x) in
@@ -44,10 +44,13 @@ store-requires g c =
       back.0 ∙ out.0 ∙ l.0 ∙ m.0,
       (let w : k < c.args.self.now.table.shared.table_id.words = omega arith in w),
       hand_stores g.W.Work.stands g.W.Work.may _ _ k c.exchange-2.new.seat.me _ c.in-Some.cell
-            c.work_all-done.new.cell 0
+          c.work_all-done.new.cell 0
           (ap (λ y. y.0.number) left ∙ m.3) near (ap (λ y. y.1) left) (ap (λ y. y.0.has) left ∙ ap Some (sym same))
-          (inl (refl, due_ready g.W.Work.stands g.W.Work.may c.in-Some.cell c.work_all-done.new.cell did.0 did.1
-                did.2 ok.count)),
+          (inl (
+            refl,
+            due_ready g.W.Work.stands g.W.Work.may c.in-Some.cell c.work_all-done.new.cell did.0 did.1
+                did.2 ok.count,
+          )),
     )
 
 pub store-requires-in-Err : goal.store-requires-in-Err
@@ -67,7 +70,7 @@ store-requires-in-Err g c =
       back.0 ∙ out.0 ∙ l.0 ∙ m.0,
       (let w : k < c.args.self.now.table.shared.table_id.words = omega arith in w),
       hand_stores g.W.Work.stands g.W.Work.may _ _ k c.exchange-2.new.seat.me _ c.in-Some.cell
-            c.work_all-done.new.cell 2
+          c.work_all-done.new.cell 2
           (ap (λ y. y.0.number) left ∙ m.3) near (ap (λ y. y.1) left) (ap (λ y. y.0.has) left ∙ ap Some (sym same))
           (inr refl),
     )

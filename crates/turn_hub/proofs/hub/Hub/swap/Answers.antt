@@ -40,7 +40,7 @@ store-requires g c =
       back.0 ∙ out.0 ∙ l.0 ∙ m.0.0,
       (let w : k < c.args.self.now.table.shared.table_id.words = omega arith in w),
       main_stores g.W.Work.stands g.W.Work.may _ _ k c.exchange-2.new.seat.me _ may.0 p.0
-            c.refill-count.new.cell c.turn_after-turn.result
+          c.refill-count.new.cell c.turn_after-turn.result
           (back.1 ∙ out.1 ∙ l.1 ∙ m.0.1) near (ap (λ y. y.1) left) (ap (λ y. get_elem? y.0.lines k) left ∙ may.1)
           (ap (λ y. y.0.has) left) (ap (λ y. y.0.cell) left) (new.0 ∙ ap (λ y. y.work) same)
           (ap (λ v. v.items) new.2 ∙ c.new.ensures.items) (new.3 ∙ ap length (sym laid))
@@ -70,9 +70,9 @@ returns-clause-did g c =
       (k, Some c.refill-count.new.cell) ∷ c.args.main.now.seat.me.1,
     )) in
     swaps g.W.Work.stands g.W.Work.told g.met.W.Work.tells c.args.self.now.table.shared.table_id.slots k
-          c.turn_after-turn.result
+    c.turn_after-turn.result
     c.args.main.now.seat.me c.exchange-2.new.seat.me c.store.new.seat.me p.0 c.refill-count.new.cell whole
-          c.store.ensures.2 p.2
+    c.store.ensures.2 p.2
     c.refill-count.result.0 c.refill-count.result.1.items items.items
     (ap (λ r. r.0) new.result ∙ ap (λ y. y.count) same)
     (ap (λ r. r.1.items) new.result ∙ ap (λ y. y.outs.items) same) laid
@@ -85,8 +85,8 @@ returns-then-found-eq-HAND_TURN-clause-did g c =
     let l = c.load-found.ensures in
     let one : c.load-found.result ≡ 1 = c.if-found-eq-HAND_TURN.true in
     let seen = looks_once g.W.Work.stands g.W.Work.told g.met.W.Work.tells
-          c.args.self.now.table.shared.table_id.slots c.args.number c.load-found.result 1
-          c.args.main.now.seat.me c.load-found.new.seat.me one (λ z. omega arith) l.2 in
+    c.args.self.now.table.shared.table_id.slots c.args.number c.load-found.result 1
+    c.args.main.now.seat.me c.load-found.new.seat.me one (λ z. omega arith) l.2 in
     (seen.0, refl, seen.1, seen.2)
 
 pub returns-then-found-ne-MAIN_TURN-clause-did : goal.returns-then-found-ne-MAIN_TURN-clause-did
@@ -96,6 +96,6 @@ returns-then-found-ne-MAIN_TURN-clause-did g c =
     let not_one = c.if-found-eq-HAND_TURN.false in
     let not_zero = c.if-found-ne-MAIN_TURN.true in
     let seen = looks_once g.W.Work.stands g.W.Work.told g.met.W.Work.tells
-          c.args.self.now.table.shared.table_id.slots c.args.number c.load-found.result 2
-          c.args.main.now.seat.me c.load-found.new.seat.me (omega arith) not_zero l.2 in
+    c.args.self.now.table.shared.table_id.slots c.args.number c.load-found.result 2
+    c.args.main.now.seat.me c.load-found.new.seat.me (omega arith) not_zero l.2 in
     (seen.0, refl, seen.1, seen.2)

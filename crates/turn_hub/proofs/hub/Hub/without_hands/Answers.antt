@@ -9,7 +9,7 @@ use Rattle.turn_hub.proofs.hub.Hub.without_hands.Goals as goal
 
 pub over-requires-clause-rule : goal.over-requires-clause-rule
 over-requires-clause-rule g c = let about = c.of-about.ensures in let cells = c.in_ok-slots.ensures {u = tt} in
-      let words =
+    let words =
     c.in_ok-words.ensures {u = tt} in let row = c.as_slice.ensures in
     let n : ℕ = c.len.result in let long : n ≡ length c.args.works.items = c.len.ensures
     ∙ c.args.works.ok.0 in let zeros : c.as_slice.result.now ≡ replicate n 0 = row.value
@@ -17,7 +17,7 @@ over-requires-clause-rule g c = let about = c.of-about.ensures in let cells = c.
     subst (λ v. Ruled g.W.Work.stands g.W.Work.may
     (opening c.as_slice.result.now c.in_ok-slots.slots.items (first_view g.W.Work.seed v.items))) (sym about)
     (opens g.W.Work.stands g.W.Work.may g.W.Work.seed c.args.works.items c.as_slice.result.now
-          c.in_ok-slots.slots.items g.met.W.Work.may_none c.requires.starts
-          (ap length zeros ∙ length-replicate n 0 ∙ long)
+    c.in_ok-slots.slots.items g.met.W.Work.may_none c.requires.starts
+    (ap length zeros ∙ length-replicate n 0 ∙ long)
     (λ k near. ap (λ ws. get_or ws k 0) zeros
     ∙ get_or-replicate n k 0 0 (let e = ap length zeros ∙ length-replicate n 0 in omega arith)) cells.0 cells.1)
