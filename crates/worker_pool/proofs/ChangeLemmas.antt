@@ -1,11 +1,12 @@
 -- Changes of the strategy keep what was read and written.
-use Rattle.std.proofs.Common.{◌≡◌, ◌∙◌, ℕ, List, [], ◌∷◌, ◌++◌, Option, Some, OnOk, Ok, Err, map, ap, sym, subst}
+use Rattle.std.proofs.Common.{◌≡◌, ◌≤◌, ◌<◌, ◌∙◌, arith, ℕ, List, [], ◌∷◌, ◌++◌, Option, Some, OnOk, Ok, Err, map}
+use Rattle.std.proofs.Common.{ap, sym, subst, suc, All}
 use Rattle.std.specs.Prelude.{Result}
 use Rattle.std.specs.declared.collections.VecDeque.{VecDeque}
 use Rattle.std.specs.Global.{Global}
 use Rattle.std.specs.Option.{option_to_list}
 use Rattle.monitorable.specs.CoreForms.{CoreForm}
-use Rattle.mfotl_model.specs.Strategies.{Strategy}
+use Rattle.mfotl_model.specs.Strategies.{Strategy, workers_of}
 use Rattle.mfotl_model.specs.declared.event.TimePoint.{TimePoint}
 use Rattle.rescale_core.proofs.Keeping.{by_steps}
 use Rattle.rescale_core.proofs.WorldLemmas.{spot_more}
@@ -19,7 +20,8 @@ use Rattle.rescale_core.specs.declared.item.Entry.TheVariants.{Change as ToStrat
 use Rattle.rescale_core.specs.declared.turns.Driver.{Driver}
 use Rattle.mon_outside.specs.Sink.{Appends}
 use Rattle.slice_strategy.specs.declared.change.Change.{Change}
-use Rattle.worker_pool.specs.Changes.{AllSuit, ChangesIn, IsDue, Suits, TakesDue}
+use Rattle.worker_pool.specs.Changes.{AllSuit, ChangesIn, HaveCells, IsDue, Suits, TakesDue}
+use Rattle.worker_pool.specs.Laws.{DueAtItsNumber}
 use Rattle.worker_pool.specs.Texts.{lines, tally_of}
 use Rattle.worker_pool.specs.Writing.{Adds, Begins, Keeps, Runs, RunsTo, seen}
 use Rattle.worker_pool.specs.declared.schedule.Schedule.{Schedule}
@@ -96,10 +98,53 @@ pub taken : (old : List Change) (front : Option Change) (new : List Change) (c :
     → old ≡ option_to_list front ++ new → front ≡ Some c → old ≡ c ∷ new
 taken old front new c items is = items ∙ ap (λ o. option_to_list o ++ new) is
 
+-- ---- there are cells for what is to come
+
+-- for the first change and for those behind it
+both_seated : (cells : ℕ) (old new : Schedule) (s : Strategy) (due : TakesDue old (Some s) new) → HaveCells cells old
+    → All (λ (c : Change). workers_of c.strategy ≤ cells) (due.0.change ∷ due.0.rest)
+both_seated cells old new s due have =
+    subst (λ (cs : List Change). All (λ (c : Change). workers_of c.strategy ≤ cells) cs) due.0.first have
+
+pub seated_now : (cells : ℕ) (old new : Schedule) (s : Strategy) → TakesDue old (Some s) new → HaveCells cells old
+    → workers_of s ≤ cells
+seated_now cells old new s due have =
+    let first : workers_of due.0.change.strategy ≤ cells = both_seated cells old new s due have 0 due.0.change
+    (omega arith) in
+    subst (λ (x : Strategy). workers_of x ≤ cells) (sym due.1) first
+
+pub seated_later : (cells : ℕ) (old new : Schedule) (s : Strategy) → TakesDue old (Some s) new → HaveCells cells old
+    → HaveCells cells new
+seated_later cells old new s due have =
+    subst (λ (cs : List Change). All (λ (c : Change). workers_of c.strategy ≤ cells) cs) (sym due.2)
+    (λ k d high. both_seated cells old new s due have (suc k) d (omega (arith, high)))
+
+pub seated_routed : (cells : ℕ) (old new : Schedule) → new.changes ≡ old.changes → HaveCells cells old
+    → HaveCells cells new
+seated_routed cells old new same have =
+    subst (λ (cs : VecDeque Change Global). All (λ (c : Change). workers_of c.strategy ≤ cells) cs.items) (sym same)
+    have
+
 -- the first of these is the change that is due
 pub first_is : (s : Schedule) (due : IsDue s) (c : Change) (rest : List Change) → s.changes.items ≡ c ∷ rest
     → (c ≡ due.change) × (rest ≡ due.rest)
 first_is s due c rest e = let both : c ∷ rest ≡ due.change ∷ due.rest = sym e ∙ due.first in (cc, cc)
+
+-- the next change is due at its number, and not one time-point before
+pub due_at_its_number : DueAtItsNumber
+due_at_its_number = record {
+  due = λ s c rest e same. record {
+    change = c;
+    rest = rest;
+    first = e;
+    reached = (let low : c.before ≤ s.routed = omega arith in low);
+  };
+  early = λ s c rest e same d more f.
+      let both : c ∷ rest ≡ d ∷ more = sym e ∙ f in
+      let one : c ≡ d = cc in
+      let low : s.routed < c.before = omega arith in
+      subst (λ (x : Change). s.routed < x.before) one low;
+}
 
 -- ---- a change
 

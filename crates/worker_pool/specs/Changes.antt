@@ -1,7 +1,7 @@
 -- Changes of the strategy while the log is read.
-use Rattle.std.specs.Prelude.{◌≡◌, ◌≤◌, ◌<◌, Bool, true, false, List, [], ◌∷◌, Option, Some, None}
+use Rattle.std.specs.Prelude.{◌≡◌, ◌≤◌, ◌<◌, ℕ, Bool, true, false, List, [], ◌∷◌, Option, Some, None, All}
 use Rattle.std.specs.List.{AllByRecursion}
-use Rattle.mfotl_model.specs.Strategies.{Strategy}
+use Rattle.mfotl_model.specs.Strategies.{Strategy, workers_of}
 use Rattle.monitorable.specs.CoreForms.{CoreForm}
 use Rattle.slice_strategy.specs.declared.change.Change.{Change}
 use Rattle.rescale_core.specs.Moving.{IsDriverOf, Reaches, core_of}
@@ -19,6 +19,10 @@ AllSuit core changes = AllByRecursion (λ c. IsFor core c.strategy) changes
 -- each change that is to come is to a strategy for the driver's core
 abbrev pub Suits : Driver → Schedule → Type 0
 Suits d schedule = AllSuit (core_of d) schedule.changes.items
+
+-- there is a cell for each worker of each strategy that is to come
+abbrev pub HaveCells : ℕ → Schedule → Type 0
+HaveCells cells schedule = All (λ (c : Change). workers_of c.strategy ≤ cells) schedule.changes.items
 
 -- from each world for which the strategy is, the driver comes to one in which the change to it was read
 abbrev pub ChangesIn : Driver → Strategy → Driver → Type 0

@@ -5,7 +5,7 @@ ghost use Rattle.log_reader.specs.Progress.{start};
 ghost use Rattle.log_reader.specs.Readers.{Reads, progress};
 ghost use Rattle.monitorable.specs.CoreForms.{CoreForm};
 ghost use Rattle.turn_hub.specs.Ends.{IsMainOf, cell_count};
-ghost use Rattle.worker_pool.specs.Changes.{Suits};
+ghost use Rattle.worker_pool.specs.Changes.{HaveCells, Suits};
 ghost use Rattle.worker_pool.specs.Effects.{effect};
 ghost use Rattle.worker_pool.specs.Endings.{FollowsLog};
 ghost use Rattle.worker_pool.specs.Hands.{AreGroupsOf, AreHandsOf};
@@ -46,7 +46,7 @@ impl<'o, 's, R: Wait, G: Gate, I: Inputs, O: Sink> Errand for Desk<'o, 's, R, G,
     ghost use Rattle.log_reader.specs.Readers.{Reads, progress};
     ghost use Rattle.monitorable.specs.CoreForms.{CoreForm};
     ghost use Rattle.turn_hub.specs.Ends.{IsMainOf, cell_count};
-    ghost use Rattle.worker_pool.specs.Changes.{Suits};
+    ghost use Rattle.worker_pool.specs.Changes.{HaveCells, Suits};
     ghost use Rattle.worker_pool.specs.Effects.{effect};
     ghost use Rattle.worker_pool.specs.Endings.{FollowsLog};
     ghost use Rattle.worker_pool.specs.Hands.{AreHandsOf};
@@ -63,6 +63,7 @@ impl<'o, 's, R: Wait, G: Gate, I: Inputs, O: Sink> Errand for Desk<'o, 's, R, G,
         × Reads d.log.now []
         × ((core : CoreForm) × Begins core d.driver.now)
         × Suits d.driver.now d.schedule.now
+        × HaveCells d.shop.now.cells d.schedule.now
         × (d.schedule.now.routed ≡ 0)
         × IsMainOf d.shop.now.hub.now d.driver.now.main
         × (d.shop.now.cells ≤ cell_count d.shop.now.hub.now)
@@ -116,6 +117,7 @@ pub(crate) fn follow_beside<'o, 's, R: Threads + Wait + Sync, I: Inputs, O: Sink
     requires reads { Reads log.old [] }
     requires begins { (core : CoreForm) × Begins core driver.old }
     requires suits { Suits driver.old schedule.old }
+    requires seated { HaveCells shop.now.cells schedule.old }
     requires unread { schedule.old.routed ≡ 0 }
     requires main { IsMainOf shop.now.hub.now driver.old.main }
     requires cells { shop.now.cells ≤ cell_count shop.now.hub.now }

@@ -1,10 +1,11 @@
 //! What main reads: changes of the strategy, and time-points.
 ghost use Rattle.std.specs.Prelude.{◌≡◌, ◌+◌, ◌≤◌, ◌<◌, ◌^◌, IfErr, OnOk, OnErr};
+ghost use Rattle.mfotl_model.specs.Strategies.{workers_of};
 ghost use Rattle.rescale_core.specs.Moving.{IsDriverOf, core_of};
 ghost use Rattle.rescale_core.specs.Workers.{IsFor, MayFollow};
 ghost use Rattle.rescale_core.specs.Worlds.{World, spot_in};
 ghost use Rattle.turn_hub.specs.Ends.{IsMainOf, cell_count};
-ghost use Rattle.worker_pool.specs.Changes.{ChangesIn, NoneDue, Suits};
+ghost use Rattle.worker_pool.specs.Changes.{ChangesIn, HaveCells, NoneDue, Suits};
 ghost use Rattle.worker_pool.specs.Hands.{AreHandsOf};
 ghost use Rattle.worker_pool.specs.Writing.{Adds, FallsShort, IsOutputStop, IsRoomy, Keeps, ReadsIn, Runs, RunsTo};
 
@@ -58,6 +59,7 @@ fn change<R: Wait, O: Sink, G: Gate>(
 ) -> Result<(), Stop>
     requires runs { Runs driver.old (O.written out.old) page.old.tally }
     requires suits { IsFor (core_of driver.old) strategy }
+    requires seated { workers_of strategy ≤ shop.now.cells }
     requires main { IsMainOf shop.now.hub.now driver.old.main }
     requires cells { shop.now.cells ≤ cell_count shop.now.hub.now }
     requires hands { AreHandsOf shop.now.hub.now own.old.items }
@@ -85,12 +87,14 @@ fn make_changes<R: Wait, O: Sink, G: Gate>(
 ) -> Result<(), Stop>
     requires runs { Runs driver.old (O.written out.old) page.old.tally }
     requires suits { Suits driver.old schedule.old }
+    requires seated { HaveCells shop.now.cells schedule.old }
     requires main { IsMainOf shop.now.hub.now driver.old.main }
     requires cells { shop.now.cells ≤ cell_count shop.now.hub.now }
     requires hands { AreHandsOf shop.now.hub.now own.old.items }
     ensures hands { AreHandsOf shop.now.hub.now own.new.items }
     ensures main { OnOk result (IsMainOf shop.now.hub.now driver.new.main) }
     ensures suits { OnOk result (Suits driver.new schedule.new) }
+    ensures seated { OnOk result (HaveCells shop.now.cells schedule.new) }
     ensures all { OnOk result (NoneDue schedule.new) }
     ensures routed { schedule.new.routed ≡ schedule.old.routed }
     ensures ok { OnOk result (Keeps driver.old (O.written out.old) page.old.tally
@@ -122,6 +126,7 @@ pub(crate) fn route<R: Wait, O: Sink, G: Gate>(
 ) -> Result<(), Stop>
     requires runs { RunsTo driver.old (O.written out.old) page.old.tally point }
     requires suits { Suits driver.old schedule.old }
+    requires seated { HaveCells shop.now.cells schedule.old }
     requires few { schedule.old.routed < 2 ^ 63 }
     requires main { IsMainOf shop.now.hub.now driver.old.main }
     requires cells { shop.now.cells ≤ cell_count shop.now.hub.now }
@@ -129,6 +134,7 @@ pub(crate) fn route<R: Wait, O: Sink, G: Gate>(
     ensures hands { AreHandsOf shop.now.hub.now own.new.items }
     ensures main { OnOk result (IsMainOf shop.now.hub.now driver.new.main) }
     ensures suits { OnOk result (Suits driver.new schedule.new) }
+    ensures seated { OnOk result (HaveCells shop.now.cells schedule.new) }
     ensures routed { OnOk result (schedule.new.routed ≡ schedule.old.routed + 1) }
     ensures ok { OnOk result (Adds driver.old (O.written out.old) page.old.tally point
         driver.new (O.written out.new) page.new.tally) }

@@ -5,7 +5,7 @@ ghost use Rattle.log_reader.specs.Progress.{start};
 ghost use Rattle.log_reader.specs.Readers.{Reads, progress};
 ghost use Rattle.monitorable.specs.CoreForms.{CoreForm};
 ghost use Rattle.turn_hub.specs.Ends.{IsMainOf, cell_count};
-ghost use Rattle.worker_pool.specs.Changes.{Suits};
+ghost use Rattle.worker_pool.specs.Changes.{HaveCells, Suits};
 ghost use Rattle.worker_pool.specs.Effects.{effect};
 ghost use Rattle.worker_pool.specs.Endings.{FollowsLog};
 ghost use Rattle.worker_pool.specs.Hands.{AreHandsOf};
@@ -78,6 +78,7 @@ pub(crate) fn follow<R: Wait, I: Inputs, O: Sink, G: Gate>(
     requires reads { Reads reader.old [] }
     requires begins { (core : CoreForm) × Begins core driver.old }
     requires suits { Suits driver.old schedule.old }
+    requires seated { HaveCells shop.now.cells schedule.old }
     requires unread { schedule.old.routed ≡ 0 }
     requires main { IsMainOf shop.now.hub.now driver.old.main }
     requires cells { shop.now.cells ≤ cell_count shop.now.hub.now }

@@ -1,7 +1,18 @@
 //! Laws of the definitions, each the contract of a function.
-ghost use Rattle.worker_pool.specs.Laws.{ViolationsCounted};
+ghost use Rattle.worker_pool.specs.Laws.{DueAtItsNumber, LimitsInFull, TallyOfThree, ViolationsCounted};
 
 /// Some verdict on what was read has a row exactly where the number of those that have one isn't 0.
 pub fn violations_counted()
     ensures { ViolationsCounted }
+{}
+
+/// What is counted of three verdicts, and how much a log may have.
+pub fn worked_numbers()
+    ensures tally { TallyOfThree }
+    ensures limits { LimitsInFull }
+{}
+
+/// A change is due just before the time-point of its number is read.
+pub fn due_at_its_number()
+    ensures { DueAtItsNumber }
 {}

@@ -1,12 +1,13 @@
 //! The whole run over a log.
-ghost use Rattle.std.specs.Prelude.{◌≡◌, ◌<◌, ◌≤◌, [], IfOk, IsTrue, length};
+ghost use Rattle.std.specs.Prelude.{◌≡◌, ◌<◌, ◌≤◌, [], All, IfOk, IsTrue, length};
 ghost use Rattle.std.specs.List.{AllByRecursion};
 ghost use Rattle.log_reader.specs.Limits.{standard};
 ghost use Rattle.log_reader.specs.Progress.{start};
 ghost use Rattle.log_reader.specs.Readers.{Reads, progress};
+ghost use Rattle.mfotl_model.specs.Strategies.{workers_of};
 ghost use Rattle.monitorable.specs.Cores.{core_form};
 ghost use Rattle.rescale_core.specs.Workers.{IsFor};
-ghost use Rattle.worker_pool.specs.Changes.{Suits};
+ghost use Rattle.worker_pool.specs.Changes.{HaveCells, Suits};
 ghost use Rattle.worker_pool.specs.Effects.{effect};
 ghost use Rattle.worker_pool.specs.Endings.{FollowsLog};
 ghost use Rattle.turn_hub.specs.Ends.{IsMainOf, cell_count};
@@ -53,9 +54,11 @@ fn prepare(alloc: Global, plan: Plan, cells: u32, threads: u32) -> Result<Prepar
     requires suits { IsFor (core_form plan.core) plan.first }
     requires changes { AllByRecursion (λ c. IsFor (core_form plan.core) c.strategy) plan.changes.items }
     requires some { 0 < cells }
+    requires wide { All (λ c. workers_of c.strategy ≤ cells) plan.changes.items }
     ensures count { IfOk result (λ p. cells ≤ cell_count p.hub) }
     ensures begins { IfOk result (λ p. Begins (core_form plan.core) p.driver) }
     ensures suits { IfOk result (λ p. Suits p.driver p.schedule) }
+    ensures seated { IfOk result (λ p. HaveCells cells p.schedule) }
     ensures unread { IfOk result (λ p. p.schedule.routed ≡ 0) }
     ensures main { IfOk result (λ p. IsMainOf p.hub p.driver.main) }
     ensures groups { IfOk result (λ p. AreGroupsOf p.hub p.groups.items) }

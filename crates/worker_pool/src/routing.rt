@@ -4,7 +4,7 @@ ghost use Rattle.mon_outside.specs.Sink.{AppendsFront};
 ghost use Rattle.log_reader.specs.Progress.{read};
 ghost use Rattle.log_reader.specs.Readers.{progress};
 ghost use Rattle.turn_hub.specs.Ends.{IsMainOf, cell_count};
-ghost use Rattle.worker_pool.specs.Changes.{Suits};
+ghost use Rattle.worker_pool.specs.Changes.{HaveCells, Suits};
 ghost use Rattle.worker_pool.specs.Hands.{AreHandsOf};
 ghost use Rattle.worker_pool.specs.Pieces.{ForEachRun, IsUnderWay, StopsLines, TakesAll};
 ghost use Rattle.worker_pool.specs.Policies.{ForEachPolicy};
@@ -39,6 +39,7 @@ pub(crate) fn route_complete<R: Wait, O: Sink, G: Gate>(
     requires works { reader.old.is_broken ≡ false }
     requires few { reader.old.limits.points < 2 ^ 63 }
     requires suits { Suits driver.old schedule.old }
+    requires seated { HaveCells shop.now.cells schedule.old }
     requires routed { schedule.old.routed ≡ reader.old.given }
     requires under_way { IsUnderWay reader.old driver.old (O.written out.old) page.old.tally }
     requires main { IsMainOf shop.now.hub.now driver.old.main }
@@ -47,6 +48,7 @@ pub(crate) fn route_complete<R: Wait, O: Sink, G: Gate>(
     ensures hands { AreHandsOf shop.now.hub.now own.new.items }
     ensures main { OnOk result (IsMainOf shop.now.hub.now driver.new.main) }
     ensures suits { OnOk result (Suits driver.new schedule.new) }
+    ensures seated { OnOk result (HaveCells shop.now.cells schedule.new) }
     ensures routed { OnOk result (schedule.new.routed ≡ reader.new.given) }
     ensures reader { OnOk result (reader.new
         ≡ record reader.old { given = reader.new.given; kept = reader.new.kept }) }

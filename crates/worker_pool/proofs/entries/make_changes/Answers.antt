@@ -1,5 +1,5 @@
 use Rattle.std.proofs.Common.{◌∙◌, arith}
-use Rattle.worker_pool.proofs.ChangeLemmas.{suits_kept, suits_later}
+use Rattle.worker_pool.proofs.ChangeLemmas.{seated_later, seated_now, suits_kept, suits_later}
 use Rattle.worker_pool.proofs.WritingLemmas.{keeps_on, runs_on}
 use Rattle.worker_pool.proofs.entries.make_changes.Goals as goal
 
@@ -20,6 +20,8 @@ loop-preserved g c =
       suits = suits_kept c.loop.driver c.change.new.driver here behind c.loop.page.tally c.change.new.page.tally
           c.next_due.new.self runs made.ok
           (suits_later c.loop.driver c.loop.schedule c.next_due.new.self c.in-Some-next_due.strategy due inv.suits);
+      seated = seated_later c.args.shop.now.cells c.loop.schedule c.next_due.new.self c.in-Some-next_due.strategy due
+          inv.seated;
       routed = due.3 ∙ inv.routed;
       main = made.main;
       hands = c.change.ensures.hands;
@@ -27,3 +29,8 @@ loop-preserved g c =
       can = tt;
       finite = tt;
     }
+
+pub change-requires-clause-seated : goal.change-requires-clause-seated
+change-requires-clause-seated g c =
+    seated_now c.args.shop.now.cells c.loop.schedule c.next_due.new.self c.in-Some-next_due.strategy
+    c.in-Some-next_due.ensures c.loop.invariant.seated

@@ -1,6 +1,6 @@
 use Rattle.std.proofs.Common.{◌≡◌, ◌≤◌}
 use Rattle.turn_hub.specs.Ends.{IsMainOf}
-use Rattle.worker_pool.specs.Changes.{Suits}
+use Rattle.worker_pool.specs.Changes.{HaveCells, Suits}
 use Rattle.worker_pool.specs.Hands.{AreHandsOf}
 use Rattle.worker_pool.specs.Writing.{Keeps}
 use Rattle.worker_pool.proofs.entries.make_changes.Given as goal
@@ -10,6 +10,7 @@ abbrev pub invariant-loop : goal.invariant-loop
 invariant-loop g l = record {
   keeps : Keeps l.fn.driver (g.O.Sink.written l.fn.out) l.fn.page.tally l.driver (g.O.Sink.written l.out) l.page.tally;
   suits : Suits l.driver l.schedule;
+  seated : HaveCells l.shop.cells l.schedule;
   routed : l.schedule.routed ≡ l.fn.schedule.routed;
   main : IsMainOf l.shop.hub.now l.driver.main;
   hands : AreHandsOf l.shop.hub.now l.own.items;

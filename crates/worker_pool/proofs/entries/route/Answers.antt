@@ -1,4 +1,4 @@
-use Rattle.worker_pool.proofs.ChangeLemmas.{suits_routed}
+use Rattle.worker_pool.proofs.ChangeLemmas.{seated_routed, suits_routed}
 use Rattle.worker_pool.proofs.WritingLemmas.{falls_on, keeps_on, may_point, on_err, point_adds, stops}
 use Rattle.worker_pool.proofs.entries.route.Goals as goal
 
@@ -53,3 +53,8 @@ returns-clause-suits g c =
     c.in_ok-make_room.ensures.ok)
     c.in_ok-admit.ensures.reads)
     c.count.ensures.changes c.in_ok-make_changes.ensures.suits
+
+pub returns-clause-seated : goal.returns-clause-seated
+returns-clause-seated g c =
+    seated_routed c.args.shop.now.cells c.make_changes.new.schedule c.count.new.self c.count.ensures.changes
+    c.in_ok-make_changes.ensures.seated

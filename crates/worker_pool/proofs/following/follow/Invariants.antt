@@ -1,7 +1,7 @@
 use Rattle.std.proofs.Common.{◌≡◌, ◌≤◌, false}
 use Rattle.monitorable.specs.CoreForms.{CoreForm}
 use Rattle.turn_hub.specs.Ends.{IsMainOf}
-use Rattle.worker_pool.specs.Changes.{Suits}
+use Rattle.worker_pool.specs.Changes.{HaveCells, Suits}
 use Rattle.worker_pool.specs.Hands.{AreHandsOf}
 use Rattle.worker_pool.specs.Writing.{Begins}
 use Rattle.worker_pool.proofs.PieceLemmas.{Course}
@@ -13,6 +13,7 @@ invariant-pieces g l = record {
   main : IsMainOf l.shop.hub.now l.driver.main;
   hands : AreHandsOf l.shop.hub.now l.own.items;
   suits : Suits l.driver l.schedule;
+  seated : HaveCells l.shop.cells l.schedule;
   routed : l.schedule.routed ≡ l.reader.given;
   files : g.I.Inputs.files l.inputs ≡ g.I.Inputs.files l.fn.inputs;
   stays_open : g.I.Inputs.is_open l.inputs ≡ g.I.Inputs.is_open l.fn.inputs;

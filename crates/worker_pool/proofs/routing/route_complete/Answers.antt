@@ -15,6 +15,7 @@ points-init g c = record {
   main = c.requires.main;
   hands = c.requires.hands;
   suits = c.requires.suits;
+  seated = c.requires.seated;
   routed = c.requires.routed;
   so_far = λ core bytes start reads so_far.
       begins core c.args.reader.now bytes c.args.driver.now start (g.O.Sink.written c.args.out.now)
@@ -159,6 +160,7 @@ points-preserved g c =
       main = c.in_ok-route-in-Ok-Point.ensures.main;
       hands = c.route.ensures.hands;
       suits = c.in_ok-route-in-Ok-Point.ensures.suits;
+      seated = c.in_ok-route-in-Ok-Point.ensures.seated;
       routed = c.in_ok-route-in-Ok-Point.ensures.routed ∙ ap (λ n. n + 1) c.points.invariant.routed ∙ sym given;
       so_far = λ core bytes start reads so_far.
           let here = c.points.invariant.so_far core bytes start reads so_far in

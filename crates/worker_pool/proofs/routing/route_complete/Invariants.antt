@@ -1,7 +1,7 @@
 use Rattle.std.proofs.Common.{◌≡◌, ◌≤◌, false}
 use Rattle.log_reader.specs.Readers.{progress}
 use Rattle.turn_hub.specs.Ends.{IsMainOf}
-use Rattle.worker_pool.specs.Changes.{Suits}
+use Rattle.worker_pool.specs.Changes.{HaveCells, Suits}
 use Rattle.worker_pool.specs.Hands.{AreHandsOf}
 use Rattle.worker_pool.specs.Pieces.{ForEachRun}
 use Rattle.worker_pool.proofs.PointLemmas.{Takes}
@@ -15,6 +15,7 @@ invariant-points g l = record {
   main : IsMainOf l.shop.hub.now l.driver.main;
   hands : AreHandsOf l.shop.hub.now l.own.items;
   suits : Suits l.driver l.schedule;
+  seated : HaveCells l.shop.cells l.schedule;
   routed : l.schedule.routed ≡ l.reader.given;
   so_far : ForEachRun l.fn.reader l.fn.driver (g.O.Sink.written l.fn.out) l.fn.page.tally
       (λ core bytes start. Takes core (progress l.fn.reader bytes) l.reader l.driver start (g.O.Sink.written l.out)
