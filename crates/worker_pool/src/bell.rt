@@ -1,11 +1,12 @@
 //! What main or a thread sleeps on while there is nothing to do.
+use std::hint;
 use std::sync::Wait;
 use std::sync::atomic::Ordering::SeqCst;
 use std::sync::atomic::{AtomicBool, AtomicU64};
-use std::thread;
 use std::time::Duration;
 
-/// So many rounds without work pass with yields alone.
+/// So many rounds without work pass without a sleep, some microseconds. A yield would hand the processor of a busy
+/// machine to others for milliseconds, while a sleeper is woken at once.
 const PATIENCE: u64 = 100;
 
 /// The longest sleep.
@@ -41,11 +42,11 @@ impl Bell {
         }
     }
 
-    /// Passes a little time after a round without work, the `idle`-th in a row: yields, and from some number on
-    /// sleeps until it rings, unless it rang since `heard` was asked of `rings`.
+    /// Passes a little time after a round without work, the `idle`-th in a row: from some number on it sleeps until
+    /// it rings, unless it rang since `heard` was asked of `rings`.
     pub fn rest<R: Wait>(&self, rt: &R, heard: u32, idle: u64) {
         if idle < PATIENCE {
-            thread::yield_now();
+            hint::spin_loop();
             return;
         }
         self.sleeps.store(true, SeqCst);
