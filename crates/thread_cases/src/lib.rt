@@ -1,10 +1,13 @@
-//! Worked cases of threads: a run in which two workers have to be at work at the same time, and the turns of a hub.
+//! Worked cases of threads: a run in which two workers have to be at work at the same time, one whose change gives a second
+//! worker work, and the turns of a hub.
 #![tactic(auto)]
 
+mod counter;
 mod echo;
 mod meeting;
 mod watched_sink;
 
+pub use counter::Counter;
 pub use echo::Echo;
 pub use meeting::Meeting;
 pub use watched_sink::WatchedSink;

@@ -1,4 +1,4 @@
-use crate::{Echo, Meeting, WatchedSink};
+use crate::{Counter, Echo, Meeting, WatchedSink};
 use mon_outside::{MemInputs, MemSink, NamedFile, OpenGate};
 use monitor_main::run;
 use std::alloc::{AllocError, Global};
@@ -12,11 +12,14 @@ fn file(alloc: Global, name: &str, text: &str) -> Result<NamedFile, AllocError> 
     })
 }
 
-// The words of a run with two workers and two threads.
-fn words(alloc: Global) -> Result<Vec<String>, AllocError> {
-    let line = "monitor run --sig s --policy p --log l --strategy x=hash:2 --threads 2";
+// The words of a run, with more behind them.
+fn words(alloc: Global, more: &str) -> Result<Vec<String>, AllocError> {
+    let line = "monitor run --sig s --policy p --log l";
     let mut words = Vec::new(alloc);
     for word in line.split(' ') {
+        words.push(String::from_str(alloc, word)?)?;
+    }
+    for word in more.split(' ') {
         words.push(String::from_str(alloc, word)?)?;
     }
     Ok(words)
@@ -31,29 +34,48 @@ fn files(alloc: Global) -> Result<Vec<NamedFile>, AllocError> {
         "l",
         "@1 approve(52) @3 publish(52)(60) @9 publish(52)",
     )?)?;
+    files.push(file(alloc, "c", "before 1 x=hash:2")?)?;
     Ok(files)
 }
+
+// The lines of the run, whatever the strategies.
+const LINES: &[u8] = b"@1 (time point 0):\n@3 (time point 1): (60)\n@9 (time point 2): (52)\n";
 
 #[test]
 fn two_workers_overlap(rt: HostRuntime) -> Result<(), Fail> {
     let alloc = rt.alloc();
     let files = files(alloc)?;
-    let words = words(alloc)?;
+    let words = words(alloc, "--strategy x=hash:2 --threads 2")?;
     let meeting = Meeting::new();
     let mut inputs = MemInputs::new(files.as_slice(), 4096, &[]);
     let mut out = WatchedSink::new(MemSink::new(alloc, &[]), &meeting);
     let mut err = MemSink::new(alloc, &[]);
     let status = run(&rt, alloc, words, &mut inputs, &mut out, &mut err, &meeting);
     assert_eq!(rt; status.code(), 1);
-    assert!(rt;
-        out.inner().written()
-            == b"@1 (time point 0):\n@3 (time point 1): (60)\n@9 (time point 2): (52)\n".as_slice()
-    );
+    assert!(rt; out.inner().written() == LINES);
     assert!(rt; err.written().is_empty());
     assert!(rt; meeting.passes() == (3, 3));
     assert!(rt; !meeting.gave_up());
     assert_eq!(rt; out.lines(), 3);
     assert!(rt; !out.was_early());
+    Ok(())
+}
+
+// No line of a run tells that a change is made. Worker 1 passes with its piece and with two slices.
+#[test]
+fn change_gives_the_second_worker_work(rt: HostRuntime) -> Result<(), Fail> {
+    let alloc = rt.alloc();
+    let files = files(alloc)?;
+    let words = words(alloc, "--changes c --threads 0")?;
+    let second = Counter::new(1);
+    let mut inputs = MemInputs::new(files.as_slice(), 4096, &[]);
+    let mut out = MemSink::new(alloc, &[]);
+    let mut err = MemSink::new(alloc, &[]);
+    let status = run(&rt, alloc, words, &mut inputs, &mut out, &mut err, &second);
+    assert_eq!(rt; status.code(), 1);
+    assert!(rt; out.written() == LINES);
+    assert!(rt; err.written().is_empty());
+    assert_eq!(rt; second.passes(), 3);
     Ok(())
 }
 
