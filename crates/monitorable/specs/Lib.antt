@@ -17,3 +17,4 @@ pub mod Soundness
 pub mod Conjuncts
 pub mod PartView
 pub mod Laws
+pub mod Examples

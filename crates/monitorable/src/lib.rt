@@ -6,6 +6,7 @@ mod apart;
 mod atoms;
 mod boxes;
 mod count;
+pub mod examples;
 mod fault;
 mod fragment;
 mod free_variables;
