@@ -18,7 +18,7 @@ use Rattle.eval_until.specs.declared.entries.Entry.{Entry}
 use Rattle.eval_until.specs.Entries.{entries_of, meets, met_by}
 use Rattle.eval_until.specs.Keeping.{Below, Covered, CoveredStarts, Fresh, IsLater, IsThinned, Keeps, NotAfter}
 use Rattle.eval_until.specs.Keeping.{Rising, Sized, breaks_before, names}
-use Rattle.eval_until.specs.Rules.{PlacesAscend, StartsAbove, Waiting, all_before}
+use Rattle.eval_until.specs.Rules.{NoneEmpty, PlacesAscend, StartsAbove, Waiting, all_before}
 use Rattle.eval_until.specs.Starts.{kept_start, later_start, start_of, start_taken}
 use Rattle.eval_until.proofs.EntriesLemmas.{all_thinned, ascend_push, ascend_thinned, none_thinned}
 use Rattle.eval_until.proofs.QueueLemmas.{after_push, breaks_last, breaks_push, broken_fresh, entries_waiting}
@@ -92,6 +92,7 @@ module _ (negated : Bool) (right left : List ℕ) (pulled ts : ℕ) (lefts : Lis
           ts = ts;
         } ∷ [])
         (entries_of rows u)
+    pub some : NoneEmpty rows → NoneEmpty new
     pub runs : (w : List Value) → kept_start more w ≡ start_taken negated q.place lefts starts w
 
   pub kept_taken : Stepped → Keeps negated right pulled (q.place + 1) more new (queue ++ q ∷ [])
@@ -104,6 +105,7 @@ module _ (negated : Bool) (right left : List ℕ) (pulled ts : ℕ) (lefts : Lis
             ∙ ap (λ b. cond b (entries_of rows u ++ entry u ∷ []) (entries_of rows u))
             (lacks_other (length right) q.rights.items u j.sized apart)
             ∙ j.kept.sized u apart;
+        some = j.some j.kept.some;
         ascend = λ u. either PlacesAscend (has_row q.rights.items u) (entries_of rows u ++ entry u ∷ [])
             (entries_of rows u) (entries_of new u) (j.entries u)
             (ascend_push (entries_of rows u) (entry u) (j.kept.ascend u)
@@ -242,15 +244,17 @@ pub kept_pulled : (negated : Bool) (right : List ℕ) (pulled taken next : ℕ) 
     (rows new : List (List Value × List Entry)) (queue rest : List Taken)
     → Keeps negated right pulled taken starts rows queue
     → ((u : List Value) → IsThinned next (entries_of rows u) (entries_of new u))
+    → (NoneEmpty rows → NoneEmpty new)
     → ((w : List Value) → IsLater negated next (kept_start starts w) (kept_start more w))
     → Covered rest new
     → (negated ≡ true → CoveredStarts queue starts → CoveredStarts rest more)
     → Rising rest → Fresh next rest → ((p : ℕ) → NotAfter p queue → NotAfter p rest)
     → Keeps negated right next taken more new rest
-kept_pulled negated right pulled taken next starts more rows new queue rest kept thin later covered breaks rising
-    fresh after = record {
+kept_pulled negated right pulled taken next starts more rows new queue rest kept thin some later covered breaks
+    rising fresh after = record {
       apart = kept.apart;
       sized = λ u apart. none_thinned next (entries_of rows u) (entries_of new u) (thin u) (kept.sized u apart);
+      some = some kept.some;
       ascend = λ u. ascend_thinned next (entries_of rows u) (entries_of new u) (thin u) (kept.ascend u);
       below = λ u. all_thinned (λ e. nat_lt e.place taken && nat_le e.start e.place) next (entries_of rows u)
           (entries_of new u) (thin u) (kept.below u);

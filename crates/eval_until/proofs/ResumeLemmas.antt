@@ -21,7 +21,7 @@ use Rattle.eval_until.specs.AheadView.{AheadOf}
 use Rattle.eval_until.specs.Entries.{entries_of, met_by}
 use Rattle.eval_until.specs.Keeping.{Keeps, Rising, Sized, breaks_before, names}
 use Rattle.eval_until.specs.Recalled.{broken, named}
-use Rattle.eval_until.specs.Rules.{Ascending, PlacesAscend, StartsAbove, StartsBelow, Waiting}
+use Rattle.eval_until.specs.Rules.{Ascending, NoneEmpty, PlacesAscend, StartsAbove, StartsBelow, Waiting}
 use Rattle.eval_until.specs.Starts.{kept_start}
 use Rattle.eval_until.specs.UntilView.{Follows, FollowsLeft}
 use Rattle.eval_until.specs.declared.ahead.Taken.{Taken}
@@ -132,8 +132,8 @@ both_some P Q R gives (Some s) p q = gives s p q
 -- what is kept with these starts and entries
 pub keeps_resumed : (negated : Bool) (right : List ℕ) (pulled taken : ℕ) (starts : List (List Value × ℕ))
     (rows : List (List Value × List Entry)) (queue : List Taken)
-    → all_apart right ≡ true → Sized (length right) rows → Waiting pulled taken rows → Ascending rows
-    → StartsBelow taken starts → (negated ≡ true → StartsAbove pulled starts)
+    → all_apart right ≡ true → Sized (length right) rows → NoneEmpty rows → Waiting pulled taken rows
+    → Ascending rows → StartsBelow taken starts → (negated ≡ true → StartsAbove pulled starts)
     → RowsAscend rows → (negated ≡ true → RowsAscend starts)
     → ((u : List Value) (j : ℕ) → names queue u j ≡ named rows u j)
     → (negated ≡ true → (w : List Value) (s : ℕ)
@@ -142,11 +142,12 @@ pub keeps_resumed : (negated : Bool) (right : List ℕ) (pulled taken : ℕ) (st
     ≡ (list_all (λ r. list_all (λ e. test e.place) r.1) rows
     && cond negated (list_all (λ r. test (r.1 - 1)) starts) true))
     → Rising queue → Keeps negated right pulled taken starts rows queue
-keeps_resumed negated right pulled taken starts rows queue apart sized waiting ascend below above up ups same
+keeps_resumed negated right pulled taken starts rows queue apart sized some waiting ascend below above up ups same
     breaks tests rising =
     record {
       apart = apart;
       sized = sized;
+      some = some;
       ascend = ascend;
       below = λ u. all_weaker (λ e. nat_le pulled e.place && nat_lt e.place taken && nat_le e.start e.place)
           (λ e. nat_lt e.place taken && nat_le e.start e.place) (entries_of rows u)
@@ -199,6 +200,21 @@ pub each_ascends : (rows : List (List Value × List Entry)) → RowsAscend rows 
 each_ascends rows up ascend = each_kept (λ u es. PlacesAscend es) rows up (λ u es is.
     subst PlacesAscend (ap (λ o. unwrap_or o []) is) (ascend u))
 
+-- each row has an entry, by look-ups, and of all pairs
+pub some_found : (rows : List (List Value × List Entry)) → AllByRecursion (λ r. 0 < length r.1) rows → NoneEmpty rows
+some_found [] all u = tt
+some_found (r ∷ rs) all u = by (is_at (row_cmp u) r.0) all.0 (some_found rs all.1 u)
+  where
+    by : (b : Bool) → 0 < length r.1 → IfSome (kept_for rs u) (λ es. 0 < length es)
+        → IfSome (cond b (Some r.1) (kept_for rs u)) (λ es. 0 < length es)
+    by true here rest = here
+    by false here rest = rest
+
+pub each_some : (rows : List (List Value × List Entry)) → RowsAscend rows → NoneEmpty rows
+    → AllByRecursion (λ r. 0 < length r.1) rows
+each_some rows up some = each_kept (λ u es. 0 < length es) rows up (λ u es is.
+    subst (λ (o : Option (List Entry)). IfSome o (λ fs. 0 < length fs)) is (some u))
+
 -- a state whose starts are found alike is right on the left side where the other is
 pub left_alike : (k m : AheadOf) (times ts : List ℕ) (lefts rights rs : List TableOf) (a : List Bool) (v : Valuation)
     → m ≡ record k { starts = m.starts; rows = m.rows }
@@ -239,6 +255,11 @@ pub sized_as : (n : ℕ) (rows new : List (List Value × List Entry))
     → Sized n rows → Sized n new
 sized_as n rows new same sized u other = ap (λ o. unwrap_or o []) (same u) ∙ sized u other
 
+pub some_as : (rows new : List (List Value × List Entry)) → ((u : List Value) → kept_for new u ≡ kept_for rows u)
+    → NoneEmpty rows → NoneEmpty new
+some_as rows new same some u =
+    subst (λ (o : Option (List Entry)). IfSome o (λ es. 0 < length es)) (sym (same u)) (some u)
+
 pub waiting_as : (pulled taken : ℕ) (rows new : List (List Value × List Entry))
     → ((u : List Value) → kept_for new u ≡ kept_for rows u) → Waiting pulled taken rows → Waiting pulled taken new
 waiting_as pulled taken rows new same waiting u =
@@ -264,6 +285,7 @@ keeps_alike negated right pulled taken starts more rows new queue starts_same ro
     record {
       apart = keeps.apart;
       sized = sized_as (length right) rows new rows_same keeps.sized;
+      some = some_as rows new rows_same keeps.some;
       ascend = ascend_as rows new rows_same keeps.ascend;
       below = λ u. ap (λ o. list_all (λ e. nat_lt e.place taken && nat_le e.start e.place) (unwrap_or o []))
           (rows_same u) ∙ keeps.below u;

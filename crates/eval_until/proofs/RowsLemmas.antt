@@ -1,7 +1,7 @@
 -- Entries of rows and starts of runs, one row of a table after another.
 use Rattle.std.proofs.Common.{◌≡◌, ℕ, zero, suc, ◌+◌, ◌<◌, ◌≤◌, Bool, true, false, cond, nat_eq, ◌&&◌, ◌||◌, nat_le}
 use Rattle.std.proofs.Common.{List, [], ◌∷◌, ◌++◌, Option, Some, None, length, get_or, take, refl, sym, ap, ap₂}
-use Rattle.std.proofs.Common.{◌∙◌, arith}
+use Rattle.std.proofs.Common.{◌∙◌, arith, subst}
 use Rattle.std.proofs.lemmas.Bool.{eqb-true}
 use Rattle.std.proofs.lemmas.Bool.Decides.{nat_tests}
 use Rattle.std.proofs.lemmas.Map.Keys.{IsDistinct-from_sorted}
@@ -10,7 +10,7 @@ use Rattle.std.specs.Cmp.{eq_by_cmp_equiv}
 use Rattle.std.specs.List.{AllByRecursion, IsDistinct, list_any}
 use Rattle.std.specs.List.Sorted.{IsStrictlySortedBy}
 use Rattle.std.specs.Map.{lookup}
-use Rattle.std.specs.Option.{unwrap_or}
+use Rattle.std.specs.Option.{IfSome, unwrap_or}
 use Rattle.std.specs.Ordering.{eq_by_cmp}
 use Rattle.mfotl_model.specs.Tables.{has_row}
 use Rattle.mfotl_model.specs.Values.{row_cmp, row_total}
@@ -197,6 +197,30 @@ hit_is interval i x u (e ∷ es) h = by (is_at (row_cmp u) e.0) refl
         (none_behind u e es h at))
         ∙ or_false (met_by interval i x e.1)
     by false at rest = rest
+
+-- after a change at one row, a row that is kept has an entry, if it had one, and if what is put there has one
+pub some_changed : (row u : List Value) (m n : List (List Value × List Entry)) (w : Option (List Entry))
+    → lookup (is_at (row_cmp u)) n ≡ cond (is_at (row_cmp row) u) w (lookup (is_at (row_cmp u)) m)
+    → IfSome w (λ es. 0 < length es) → IfSome (lookup (is_at (row_cmp u)) m) (λ es. 0 < length es)
+    → IfSome (lookup (is_at (row_cmp u)) n) (λ es. 0 < length es)
+some_changed row u m n w e new old =
+    subst (λ (o : Option (List Entry)). IfSome o (λ es. 0 < length es)) (sym e) (by (is_at (row_cmp row) u))
+  where
+    by : (b : Bool) → IfSome (cond b w (lookup (is_at (row_cmp u)) m)) (λ es. 0 < length es)
+    by true = new
+    by false = old
+
+-- what was pushed is there
+pub some_pushed : (old new : List Entry) (e : Entry) → new ≡ old ++ e ∷ [] → 0 < length new
+some_pushed old new e is = subst (λ (es : List Entry). 0 < length es) (sym is) (by old)
+  where
+    by : (es : List Entry) → 0 < length (es ++ e ∷ [])
+    by [] = omega arith
+    by (f ∷ fs) = omega arith
+
+pub some_left : (es : List Entry) → nat_eq (length es) 0 ≡ false → 0 < length es
+some_left [] e = cc
+some_left (x ∷ xs) e = omega arith
 
 pub empty_list : (es : List Entry) → nat_eq (length es) 0 ≡ true → [] ≡ es
 empty_list [] e = refl

@@ -8,7 +8,7 @@ use Rattle.mfotl_model.specs.declared.value.Value.{Value}
 use Rattle.eval_until.specs.declared.ahead.Taken.{Taken}
 use Rattle.eval_until.specs.declared.entries.Entry.{Entry}
 use Rattle.eval_until.specs.Entries.{entries_of, from_place}
-use Rattle.eval_until.specs.Rules.{Ascending, StartsBelow}
+use Rattle.eval_until.specs.Rules.{Ascending, NoneEmpty, StartsBelow}
 use Rattle.eval_until.specs.Starts.{kept_start, later_start}
 
 -- each row that entries are kept for has n values
@@ -63,6 +63,7 @@ pub record Keeps (negated : Bool) (right : List ℕ) (pulled taken : ℕ) (start
     (rows : List (List Value × List Entry)) (queue : List Taken) : Type 0 where
   pub apart : all_apart right ≡ true
   pub sized : Sized (length right) rows
+  pub some : NoneEmpty rows
   pub ascend : Ascending rows
   pub below : Below taken rows
   pub low : StartsBelow taken starts

@@ -1,8 +1,9 @@
 -- What is kept of positions, and no more.
-use Rattle.std.specs.Prelude.{◌≡◌, ℕ, ◌<◌, ◌≤◌, Bool, true, ◌&&◌, nat_le, nat_lt, List, [], ◌∷◌}
+use Rattle.std.specs.Prelude.{◌≡◌, ℕ, ◌<◌, ◌≤◌, Bool, true, ◌&&◌, nat_le, nat_lt, List, [], ◌∷◌, length}
 use Rattle.std.specs.List.{list_all}
 use Rattle.std.specs.Option.{IfSome}
 use Rattle.mfotl_model.specs.declared.value.Value.{Value}
+use Rattle.relations.specs.KeptRows.{kept_for}
 use Rattle.eval_until.specs.declared.entries.Entry.{Entry}
 use Rattle.eval_until.specs.Entries.{entries_of}
 use Rattle.eval_until.specs.Starts.{kept_start}
@@ -25,6 +26,10 @@ PlacesAscend (e ∷ es) = (list_all (λ f. nat_lt e.place f.place) es ≡ true) 
 -- those of each row do
 abbrev pub Ascending : List (List Value × List Entry) → Type 0
 Ascending rows = (u : List Value) → PlacesAscend (entries_of rows u)
+
+-- each row that is kept has an entry
+abbrev pub NoneEmpty : List (List Value × List Entry) → Type 0
+NoneEmpty rows = (u : List Value) → IfSome (kept_for rows u) (λ entries. 0 < length entries)
 
 -- no kept start is behind the positions taken
 abbrev pub StartsBelow : ℕ → List (List Value × ℕ) → Type 0

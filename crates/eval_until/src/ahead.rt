@@ -12,7 +12,7 @@ ghost use Rattle.relations.specs.Pushed.{turned};
 ghost use Rattle.eval_until.specs.AheadView.{AheadOf, met, run_start};
 ghost use Rattle.eval_until.specs.Entries.{entries_of};
 ghost use Rattle.eval_until.specs.Keeping.{Keeps, Sized};
-ghost use Rattle.eval_until.specs.Rules.{Ascending, StartsAbove, StartsBelow, Waiting};
+ghost use Rattle.eval_until.specs.Rules.{Ascending, NoneEmpty, StartsAbove, StartsBelow, Waiting};
 ghost use Rattle.eval_until.specs.Starts.{kept_start, start_of, start_taken};
 
 use crate::entries::Entries;
@@ -168,6 +168,7 @@ impl Ahead {
     ) -> Result<Self, AllocError>
         requires apart { IsTrue (all_apart right.items) }
         requires sized { Sized (length right.items) rows.entries }
+        requires some { NoneEmpty rows.entries }
         requires waiting { Waiting pulled taken rows.entries }
         requires ascend { Ascending rows.entries }
         requires below { StartsBelow taken starts.entries }
@@ -370,6 +371,7 @@ impl Ahead {
 
     /// What is kept of positions, and no more.
     pub fn is_bounded(&self)
+        ensures some { NoneEmpty self.now.rows }
         ensures waiting { Waiting self.now.pulled self.now.taken self.now.rows }
         ensures ascend { Ascending self.now.rows }
         ensures below { StartsBelow self.now.taken self.now.starts }

@@ -102,13 +102,9 @@ impl Entries {
         pulled: u64,
         times: &VecDeque<u64>,
     ) -> Result<Vec<Mark>, AllocError>
-        ensures marks { IfOk result (λ marks.
+        ensures { IfOk result (λ marks.
             map (entry_at pulled times.now.items) marks.items ≡ self.now) }
-        ensures some { IfOk result (λ _. 0 < length self.now) }
     {
-        if self.list.is_empty() {
-            return Err(AllocError);
-        }
         let mut marks = Vec::with_capacity(alloc, self.list.len())?;
         for k in 0..self.list.len() {
             marks.push(mark_of(self.list[k], pulled, times)?)?;

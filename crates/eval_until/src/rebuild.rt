@@ -240,7 +240,6 @@ pub fn kept_marks(
 ) -> Result<Vec<KeptMarks>, AllocError>
     ensures rows { IfOk result (λ kept.
         entries_kept pulled times.now.items kept.items ≡ rows.now.entries) }
-    ensures some { IfOk result (λ kept. AllByRecursion (λ r. 0 < length r.1) rows.now.entries) }
     ensures ascend { IfOk result (λ _. RowsAscend rows.now.entries) }
 {
     let mut kept = Vec::with_capacity(alloc, rows.len())?;

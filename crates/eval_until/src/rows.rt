@@ -9,7 +9,7 @@ ghost use Rattle.mfotl_model.specs.Values.{row_cmp};
 ghost use Rattle.mfotl_model.specs.declared.value.Value.{Value};
 ghost use Rattle.relations.specs.KeptRows.{RowsDiffer};
 ghost use Rattle.eval_until.specs.Entries.{entries_of, from_place, met_by};
-ghost use Rattle.eval_until.specs.Rules.{all_before};
+ghost use Rattle.eval_until.specs.Rules.{NoneEmpty, all_before};
 ghost use Rattle.eval_until.specs.Starts.{start_of};
 
 use crate::entries::{Entries, Entry};
@@ -27,9 +27,10 @@ fn add_entry(
     entry: Entry,
 ) -> Result<(), AllocError>
     requires { IsTrue (all_before entry.place (entries_of rows.old.entries row)) }
-    ensures { OnOk result ((u : List Value) → entries_of rows.new.entries u
+    ensures entries { OnOk result ((u : List Value) → entries_of rows.new.entries u
         ≡ cond (is_at (row_cmp row) u) (entries_of rows.old.entries u ++ entry ∷ [])
         (entries_of rows.old.entries u)) }
+    ensures some { OnOk result (NoneEmpty rows.old.entries → NoneEmpty rows.new.entries) }
 {
     if let Some(entries) = rows.get_mut(&row) {
         entries.push(entry)?;
@@ -56,9 +57,10 @@ pub fn add_rows(
 ) -> Result<(), AllocError>
     requires sorted { IsStrictlySortedBy row_cmp table.now }
     requires before { (u : List Value) → IsTrue (all_before place (entries_of rows.old.entries u)) }
-    ensures { OnOk result ((u : List Value) → entries_of rows.new.entries u
+    ensures entries { OnOk result ((u : List Value) → entries_of rows.new.entries u
         ≡ cond (has_row table.now u) (entries_of rows.old.entries u ++ record { place = place; start = start_of negated place starts.now.entries (part right.now left.now u); ts = ts } ∷ [])
         (entries_of rows.old.entries u)) }
+    ensures some { OnOk result (NoneEmpty rows.old.entries → NoneEmpty rows.new.entries) }
 {
     for row in table {
         let key = part_of(alloc, right, left, row.values())?;
@@ -70,9 +72,10 @@ pub fn add_rows(
 
 // forgets what stands before the position `next`, of one row
 fn forget_row(rows: &mut HashMap<Row, Entries>, row: &Row, next: u64)
-    ensures { (u : List Value) → entries_of rows.new.entries u
+    ensures entries { (u : List Value) → entries_of rows.new.entries u
         ≡ cond (is_at (row_cmp row.now) u) (from_place next (entries_of rows.old.entries u))
         (entries_of rows.old.entries u) }
+    ensures some { NoneEmpty rows.old.entries → NoneEmpty rows.new.entries }
 {
     let Some(entries) = rows.get_mut(row) else {
         return;
@@ -85,9 +88,10 @@ fn forget_row(rows: &mut HashMap<Row, Entries>, row: &Row, next: u64)
 
 /// Forgets what stands before the position `next`, of these rows.
 pub fn forget_rows(rows: &mut HashMap<Row, Entries>, table: &[Row], next: u64)
-    ensures { (u : List Value) → entries_of rows.new.entries u
+    ensures entries { (u : List Value) → entries_of rows.new.entries u
         ≡ cond (has_row table.now u) (from_place next (entries_of rows.old.entries u))
         (entries_of rows.old.entries u) }
+    ensures some { NoneEmpty rows.old.entries → NoneEmpty rows.new.entries }
 {
     for row in table {
         forget_row(rows, row, next);

@@ -8,7 +8,7 @@ ghost use Rattle.mfotl_model.specs.declared.value.Value.{Value};
 ghost use Rattle.relations.specs.KeptRows.{kept_for};
 ghost use Rattle.eval_until.specs.Recalled.{entries_kept, starts_kept};
 ghost use Rattle.eval_until.specs.UntilData.{UntilRule, setting_of, until_of};
-ghost use Rattle.eval_until.specs.Rules.{Ascending, StartsAbove, StartsBelow, Waiting};
+ghost use Rattle.eval_until.specs.Rules.{Ascending, NoneEmpty, StartsAbove, StartsBelow, Waiting};
 ghost use Rattle.eval_until.specs.UntilView.{Advances, Follows, FollowsLeft, Takes, UntilOf, due, past_bound, to_take, took_all};
 
 use crate::ahead::Ahead;
@@ -415,12 +415,13 @@ impl UntilState {
         Ok(Some(table))
     }
 
-    /// Of what is kept: each entry stands at a position that was taken and not pulled, those of a row by
+    /// Of what is kept: each row has an entry; each entry stands at a position that was taken and not pulled, those of a row by
     /// strictly ascending positions, and no run begins behind the entry that names it; no start is behind
     /// the positions taken, and one of a negated operand is behind the next position to pull.
     pub fn keeps_no_more(&self)
         ensures low { self.now.ahead.pulled ≤ self.now.ahead.taken }
         ensures high { self.now.ahead.taken ≤ self.now.ahead.pulled + length self.now.times }
+        ensures some { NoneEmpty self.now.ahead.rows }
         ensures waiting { Waiting self.now.ahead.pulled self.now.ahead.taken self.now.ahead.rows }
         ensures ascend { Ascending self.now.ahead.rows }
         ensures below { StartsBelow self.now.ahead.taken self.now.ahead.starts }

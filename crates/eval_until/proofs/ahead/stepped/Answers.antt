@@ -16,6 +16,7 @@ returns-clause-kept c = rw c.in_ok-push_back.ensures.items (
       sized = c.requires.sized;
       kept = c.requires.kept;
       breaks = c.breaks_of-breaks.ensures;
-      entries = rw c.as_slice-table.ensures.value at c.in_ok-add_rows.ensures;
+      entries = rw c.as_slice-table.ensures.value at c.in_ok-add_rows.ensures.entries;
+      some = c.in_ok-add_rows.ensures.some;
       runs = rw c.as_slice.ensures.value at c.in_ok-apply_left.ensures;
     }))

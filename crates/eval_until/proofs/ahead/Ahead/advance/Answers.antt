@@ -13,7 +13,7 @@ invariant_of-self c =
     kept_pulled k.negated k.right.items k.pulled k.taken (k.pulled + 1) k.contents.starts.entries
     c.expire.new.starts.entries k.contents.rows.entries c.expire.new.rows.entries k.contents.queue.items
     c.expire.new.queue.items c.self.invariant
-    c.expire.ensures.rows c.expire.ensures.starts c.expire.ensures.covered c.expire.ensures.breaks
+    c.expire.ensures.rows c.expire.ensures.some c.expire.ensures.starts c.expire.ensures.covered c.expire.ensures.breaks
     c.expire.ensures.rising c.expire.ensures.fresh c.expire.ensures.after
 
 pub returns-clause-met : goal.returns-clause-met

@@ -2,8 +2,14 @@ use Rattle.std.proofs.Common.{◌<◌, ◌≤◌}
 use Rattle.eval_until.specs.InOrder.{in_order}
 use Rattle.eval_until.proofs.KeepingLemmas.{above_is, waiting_is}
 use Rattle.eval_until.proofs.OrderLemmas.{kept_in_order}
-use Rattle.eval_until.proofs.ResumeLemmas.{ascend_as, starts_as, waiting_as}
+use Rattle.eval_until.proofs.ResumeLemmas.{ascend_as, some_as, starts_as, waiting_as}
 use Rattle.eval_until.proofs.ahead.Ahead.is_bounded.Goals as goal
+
+pub returns-clause-some : goal.returns-clause-some
+returns-clause-some c = rw (← c.self.view_is) (
+    let k = c.self.inside in
+    some_as k.contents.rows.entries (in_order k.contents.rows.entries) (kept_in_order k.contents.rows.entries)
+    c.self.invariant.some)
 
 pub returns-clause-waiting : goal.returns-clause-waiting
 returns-clause-waiting c = rw (← c.self.view_is) (

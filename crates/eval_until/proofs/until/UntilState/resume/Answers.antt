@@ -3,7 +3,7 @@ use Rattle.relations.specs.KeptRows.{kept_for}
 use Rattle.eval_until.specs.AheadView.{AheadOf}
 use Rattle.eval_until.specs.Recalled.{entries_kept, starts_kept}
 use Rattle.eval_until.proofs.ResumeLemmas.{ascend_as, each_ascends, filled_map, follows_alike, left_alike, shape_of}
-use Rattle.eval_until.proofs.ResumeLemmas.{sized_as, starts_as, waiting_as}
+use Rattle.eval_until.proofs.ResumeLemmas.{sized_as, some_as, some_found, starts_as, waiting_as}
 use Rattle.eval_until.proofs.until.UntilState.resume.Goals as goal
 
 pub rows_map-requires : goal.rows_map-requires
@@ -17,6 +17,13 @@ resume-requires-clause-sized c = λ u other.
     sized_as (length c.args.right.now) kept c.in_ok-rows.rows.entries
     (filled_map kept c.in_ok-rows.rows.entries c.requires.rule.rows c.in_ok-rows.ensures) c.requires.rule.sized u
     (sym (ap (λ (columns : List ℕ). nat_eq (length u) (length columns)) c.in_ok-right.ensures.items) ∙ other)
+
+pub resume-requires-clause-some : goal.resume-requires-clause-some
+resume-requires-clause-some c =
+    let kept = entries_kept c.args.kept.pulled c.args.times.now c.args.kept.rows.items in
+    some_as kept c.in_ok-rows.rows.entries
+    (filled_map kept c.in_ok-rows.rows.entries c.requires.rule.rows c.in_ok-rows.ensures)
+    (some_found kept c.requires.rule.some)
 
 pub resume-requires-clause-waiting : goal.resume-requires-clause-waiting
 resume-requires-clause-waiting c =
