@@ -1,5 +1,5 @@
 //! UNTIL over tables that are pushed position by position.
-ghost use Rattle.std.specs.Prelude.{◌≡◌, ◌+◌, ◌-◌, ◌<◌, ◌≤◌, ◌^◌, ◌∷◌, ◌++◌, [], ℕ, Bool, true, IfOk, IfSome, IsTrue, List, MatchOption, OnOk, drop, is_some, length, min, not};
+ghost use Rattle.std.specs.Prelude.{◌≡◌, ◌↔◌, ◌+◌, ◌-◌, ◌<◌, ◌≤◌, ◌^◌, ◌∷◌, ◌++◌, [], ℕ, Bool, true, IfOk, IfSome, IsTrue, List, MatchOption, OnOk, drop, is_some, length, min, nat_lt, not};
 ghost use Rattle.mfotl_model.specs.Satisfaction.{Valuation, time_at, truth_at, until};
 ghost use Rattle.mfotl_model.specs.Tables.{all_among, all_apart, has, valuation};
 ghost use Rattle.mfotl_model.specs.Times.{NeverFalls};
@@ -87,21 +87,21 @@ impl UntilState {
 
     /// Whether the table is over the left operand's columns, as `push_left` asks.
     pub fn takes_left(&self, table: &Table) -> bool
-        ensures { IsTrue result → table.now.columns ≡ self.now.ahead.left }
+        ensures { IsTrue result ↔ (table.now.columns ≡ self.now.ahead.left) }
     {
         table.columns() == self.ahead.left()
     }
 
     /// Whether the table is over the right operand's columns, as `push_right` asks.
     pub fn takes_right(&self, table: &Table) -> bool
-        ensures { IsTrue result → table.now.columns ≡ self.now.ahead.right }
+        ensures { IsTrue result ↔ (table.now.columns ≡ self.now.ahead.right) }
     {
         table.columns() == self.ahead.right()
     }
 
     /// Whether there are few enough times, as `push_time` asks.
     pub fn takes_time(&self) -> bool
-        ensures { IsTrue result → self.now.ahead.pulled + length self.now.times < 2 ^ 63 }
+        ensures { result ≡ nat_lt (self.now.ahead.pulled + length self.now.times) (2 ^ 63) }
     {
         self.ahead.pulled() + (self.times.len() as u64) < 1 << 63
     }
