@@ -10,4 +10,5 @@ pub mod Keeping
 pub mod UntilView
 pub mod NextData
 pub mod Recalled
+pub mod Examples
 pub mod UntilData

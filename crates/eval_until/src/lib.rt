@@ -3,6 +3,7 @@
 
 mod ahead;
 mod entries;
+pub mod examples;
 mod expiry;
 pub mod laws;
 mod meeting;
