@@ -78,6 +78,8 @@ impl Child {
     pub(crate) fn takes(&self, pulled: u64, table: &Table) -> bool
         ensures columns { IsTrue result → table.now.columns ≡ self.now.columns }
         ensures few { IsTrue result → pulled + length self.now.tables < 2 ^ 63 }
+        ensures enough { table.now.columns ≡ self.now.columns →
+            pulled + length self.now.tables < 2 ^ 63 → IsTrue result }
     {
         fits(self.columns.as_slice(), pulled, self.tables.len(), table)
     }

@@ -121,6 +121,9 @@ impl JoinState {
             table.now.columns ≡ child_columns self.now.children child }
         ensures few { IsTrue result →
             self.now.pulled + length (child_tables self.now.children child) < 2 ^ 63 }
+        ensures enough { child < length self.now.children →
+            table.now.columns ≡ child_columns self.now.children child →
+            self.now.pulled + length (child_tables self.now.children child) < 2 ^ 63 → IsTrue result }
     {
         let child = child as usize;
         child < self.children.len() && self.children[child].takes(self.pulled, table)

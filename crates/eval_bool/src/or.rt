@@ -146,6 +146,8 @@ impl OrState {
         ensures columns { IsTrue result → table.now.columns ≡ operand_columns self.now child }
         ensures few { IsTrue result →
             self.now.pulled + length (operand_tables self.now child) < 2 ^ 63 }
+        ensures enough { child < 2 → table.now.columns ≡ operand_columns self.now child →
+            self.now.pulled + length (operand_tables self.now child) < 2 ^ 63 → IsTrue result }
     {
         if child == 0 {
             return fits(self.left.as_slice(), self.pulled, self.lefts.len(), table);

@@ -9,6 +9,7 @@ use relations::Table;
 pub(crate) fn fits(columns: &[u32], pulled: u64, waiting: usize, table: &Table) -> bool
     ensures columns { IsTrue result → table.now.columns ≡ columns.now }
     ensures few { IsTrue result → pulled + waiting < 2 ^ 63 }
+    ensures enough { table.now.columns ≡ columns.now → pulled + waiting < 2 ^ 63 → IsTrue result }
 {
     are_same(table.columns(), columns) && (waiting as u64) < (1u64 << 63).saturating_sub(pulled)
 }

@@ -21,3 +21,14 @@ returns-then-child-len-clause-few c = rw (← c.self.view_is) (
     subst (λ tables. s.pulled + length tables < 2 ^ 63)
     (ap (λ (z : ChildOf). z.tables) is ∙ sym (tables_at s.children.items c.args.child own (omega arith)))
     (c.takes.ensures.few yes))
+
+pub returns-then-child-len-clause-enough : goal.returns-then-child-len-clause-enough
+returns-then-child-len-clause-enough c = rw (← c.self.view_is) (
+    let s = c.self.inside in
+    let own : ChildOf = c.index.result.now in
+    let is : own ≡ get_or s.children.items c.args.child own = c.index.ensures in
+    λ low columns few.
+    c.takes.ensures.enough
+    (columns ∙ columns_at s.children.items c.args.child own (omega arith) ∙ sym (ap (λ (z : ChildOf). z.columns) is))
+    (subst (λ tables. s.pulled + length tables < 2 ^ 63)
+    (tables_at s.children.items c.args.child own (omega arith) ∙ sym (ap (λ (z : ChildOf). z.tables) is)) few))
