@@ -5,4 +5,5 @@ pub mod IsJoin
 pub mod Heads
 pub mod JoinedSoFar
 pub mod OrView
+pub mod Laws
 pub mod BoolData

@@ -8,6 +8,7 @@ mod conjunct;
 mod exists;
 mod heads;
 mod join;
+pub mod laws;
 mod matching;
 mod or;
 mod recalled;
