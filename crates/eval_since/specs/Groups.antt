@@ -1,4 +1,4 @@
--- Rows with the times kept for them, in groups by the part that the left operand speaks of.
+-- Rows with the times kept for them, in groups by their part at the columns that they are grouped by.
 use Rattle.std.specs.Prelude.{ℕ, Bool, ◌&&◌, List, []}
 use Rattle.std.specs.BTreeMap.{is_at}
 use Rattle.std.specs.Map.{lookup}

@@ -1,4 +1,4 @@
-//! Rows with the times kept for them. Where there is one row alone, it stands in the group itself.
+//! Rows with the times kept for them. Until a second row comes, the one row stands in the group itself.
 ghost use Rattle.std.specs.Prelude.{◌≡◌, ◌||◌, ◌&&◌, ◌==◌, ◌∷◌, [], IfOk, List, OnOk, cond, length};
 ghost use Rattle.std.specs.BTreeMap.{is_at};
 ghost use Rattle.mfotl_model.specs.Values.{row_cmp};

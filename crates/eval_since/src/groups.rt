@@ -1,4 +1,4 @@
-//! Rows with the times kept for them, in groups by the part that the left operand speaks of.
+//! Rows with the times kept for them, in groups by their part at the columns that they are grouped by.
 ghost use Rattle.std.specs.Prelude.{◌≡◌, ◌||◌, ◌&&◌, ◌==◌, [], List, ℕ, OnOk, None, Some, cond, length, not};
 ghost use Rattle.std.specs.BTreeMap.{is_at};
 ghost use Rattle.std.specs.List.{list_any};
