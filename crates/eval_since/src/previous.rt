@@ -1,5 +1,5 @@
 //! PREVIOUS over tables that are pushed position by position.
-ghost use Rattle.std.specs.Prelude.{◌≡◌, ◌+◌, ◌-◌, ◌<◌, ◌^◌, ◌∷◌, ◌++◌, ◌&&◌, [], Bool, IfOk, IfSome, IsTrue, List, MatchOption, None, OnOk, OnErr, Some, cond, is_some, length, nat_eq, ℕ};
+ghost use Rattle.std.specs.Prelude.{◌≡◌, ◌+◌, ◌-◌, ◌<◌, ◌^◌, ◌∷◌, ◌++◌, ◌&&◌, [], Bool, IfOk, IfSome, IsTrue, List, MatchOption, None, OnOk, OnErr, Some, cond, is_some, length, nat_eq, nat_lt, ℕ, ◌↔◌};
 ghost use Rattle.mfotl_model.specs.Satisfaction.{Valuation, previous, time_at, truth_at};
 ghost use Rattle.mfotl_model.specs.Tables.{all_apart, has};
 ghost use Rattle.eval_since.specs.PreviousData.{PreviousRule, previous_of};
@@ -142,14 +142,14 @@ impl PrevState {
 
     /// Whether the table is over the operand's columns, as `push_right` asks.
     pub fn takes_right(&self, table: &Table) -> bool
-        ensures { IsTrue result → table.now.columns ≡ self.now.columns }
+        ensures { IsTrue result ↔ (table.now.columns ≡ self.now.columns) }
     {
         table.columns() == self.columns.as_slice()
     }
 
     /// Whether there are few enough times, as `push_time` asks.
     pub fn takes_time(&self) -> bool
-        ensures { IsTrue result → self.now.pulled + length self.now.times < 2 ^ 63 }
+        ensures { result ≡ nat_lt (self.now.pulled + length self.now.times) (2 ^ 63) }
     {
         self.pulled + (self.times.len() as u64) < 1 << 63
     }

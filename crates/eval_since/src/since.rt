@@ -1,5 +1,5 @@
 //! SINCE over tables that are pushed position by position.
-ghost use Rattle.std.specs.Prelude.{◌≡◌, ◌+◌, ◌-◌, ◌<◌, ◌≤◌, ◌^◌, ◌∷◌, ◌++◌, [], Bool, IfOk, IfSome, IsTrue, List, MatchOption, None, OnOk, Some, ◌&&◌, ◌||◌, cond, drop, is_some, length, map, nat_eq, ℕ};
+ghost use Rattle.std.specs.Prelude.{◌≡◌, ◌+◌, ◌-◌, ◌<◌, ◌≤◌, ◌^◌, ◌∷◌, ◌++◌, [], Bool, IfOk, IfSome, IsTrue, List, MatchOption, None, OnOk, Some, ◌&&◌, ◌||◌, cond, drop, is_some, length, map, nat_eq, nat_le, nat_lt, ℕ, ◌↔◌};
 ghost use Rattle.mfotl_model.specs.Satisfaction.{Valuation, since, time_at, truth_at};
 ghost use Rattle.mfotl_model.specs.Tables.{all_among, all_apart, has, valuation};
 ghost use Rattle.mfotl_model.specs.declared.value.Value.{Value};
@@ -207,14 +207,14 @@ impl SinceState {
 
     /// Whether the table is over the left operand's columns, as `push_left` asks.
     pub fn takes_left(&self, table: &Table) -> bool
-        ensures { IsTrue result → table.now.columns ≡ self.now.window.left }
+        ensures { IsTrue result ↔ (table.now.columns ≡ self.now.window.left) }
     {
         table.columns() == self.window.left()
     }
 
     /// Whether the table is over the right operand's columns, as `push_right` asks.
     pub fn takes_right(&self, table: &Table) -> bool
-        ensures { IsTrue result → table.now.columns ≡ self.now.window.right }
+        ensures { IsTrue result ↔ (table.now.columns ≡ self.now.window.right) }
     {
         table.columns() == self.window.right()
     }
@@ -222,8 +222,8 @@ impl SinceState {
     /// Whether the time is no earlier than the latest one, and there are few enough, as `push_time`
     /// asks.
     pub fn takes_time(&self, ts: u64) -> bool
-        ensures rises { IsTrue result → self.now.newest ≤ ts }
-        ensures few { IsTrue result → self.now.pulled + length self.now.times < 2 ^ 63 }
+        ensures { result ≡ (nat_le self.now.newest ts
+            && nat_lt (self.now.pulled + length self.now.times) (2 ^ 63)) }
     {
         self.newest <= ts && self.pulled + (self.times.len() as u64) < 1 << 63
     }
