@@ -3,6 +3,7 @@ pub mod SinceLemmas
 pub mod TimesLemmas
 pub mod GroupLemmas
 pub mod OneRowLemmas
+pub mod FilledLemmas
 pub mod KeyLemmas
 pub mod WindowLemmas
 pub mod ExpireLemmas

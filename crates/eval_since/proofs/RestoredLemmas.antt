@@ -1,6 +1,6 @@
 -- What a window keeps, from the rows of plain data, and what the data keeps, from a window.
-use Rattle.std.proofs.Common.{◌≡◌, ℕ, ◌-◌, ◌≤◌, Bool, true, false, cond, nat_le, List, [], ◌∷◌, length, map, Option}
-use Rattle.std.proofs.Common.{Some, None, refl, sym, subst, ap, ◌∙◌, arith}
+use Rattle.std.proofs.Common.{◌≡◌, ℕ, ◌-◌, ◌<◌, ◌≤◌, Bool, true, false, cond, nat_le, List, [], ◌∷◌, length, map}
+use Rattle.std.proofs.Common.{Option, Some, None, refl, sym, subst, ap, ◌∙◌, arith}
 use Rattle.std.specs.BTreeMap.{is_at}
 use Rattle.std.specs.List.{AllByRecursion, list_all}
 use Rattle.std.specs.List.Sorted.{IsStrictlyIncreasing}
@@ -9,7 +9,7 @@ use Rattle.mfotl_model.specs.Tables.{all_apart, all_sized, part}
 use Rattle.mfotl_model.specs.Values.{row_cmp}
 use Rattle.mfotl_model.specs.declared.value.Value.{Value}
 use Rattle.relations.specs.KeptRows.{RowsAscend, filled, kept_for}
-use Rattle.eval_since.specs.Groups.{times_at}
+use Rattle.eval_since.specs.Groups.{NoneEmpty, times_at}
 use Rattle.eval_since.specs.Recalled.{named, put_times, times_for, times_kept}
 use Rattle.eval_since.specs.SinceData.{KeepsTimes}
 use Rattle.eval_since.specs.Times.{ArePast}
@@ -75,6 +75,12 @@ pub each_ascends : (hi : Option ℕ) (last : ℕ) (rows : List KeptRow)
     → AllByRecursion (λ k. IsStrictlyIncreasing k.times.items) rows
 each_ascends hi last rows all = each_times IsStrictlyIncreasing hi last rows all (λ ts k. k.ascend)
 
+-- each row has some
+pub each_some : (hi : Option ℕ) (last : ℕ) (rows : List KeptRow)
+    → AllByRecursion (λ k. KeepsTimes hi last k.times.items) rows
+    → AllByRecursion (λ k. 0 < length k.times.items) rows
+each_some hi last rows all = each_times (λ (ts : List ℕ). 0 < length ts) hi last rows all (λ ts k. k.some)
+
 -- without a greatest distance there is nothing to find
 pub finds_none : (hi : Option ℕ) (last : ℕ) (groups : List (List Value × List (List Value × List ℕ)))
     (queue : List Dated) → is_some hi ≡ false → Finds hi last groups queue
@@ -115,8 +121,8 @@ pub keeps_restored : (hi : Option ℕ) (right left : List ℕ) (last : ℕ) (row
     → all_apart right ≡ true → all_sized (length right) (map (λ k. k.row) rows) ≡ true
     → AllByRecursion (λ k. KeepsTimes hi last k.times.items) rows
     → ((q v : List Value) → times_at groups q v ≡ cond (is_at (row_cmp (part right left v)) q) (times_for rows v) [])
-    → Finds hi last groups queue → Keeps hi right left last groups queue
-keeps_restored hi right left last rows groups queue apart sized all is finds = record {
+    → NoneEmpty groups → Finds hi last groups queue → Keeps hi right left last groups queue
+keeps_restored hi right left last rows groups queue apart sized all is some finds = record {
   apart = apart;
   sized = λ q v other. is q v ∙ blank (is_at (row_cmp (part right left v)) q) (times_for rows v)
       (times_sized (length right) rows v sized other);
@@ -125,6 +131,7 @@ keeps_restored hi right left last rows groups queue apart sized all is finds = r
   alone = λ none. in_groups (λ ts. length ts ≤ 1) right left rows groups is (omega arith)
       (times_each (λ ts. length ts ≤ 1) rows (each_times (λ ts. length ts ≤ 1) hi last rows all (λ ts k. k.alone none))
       (omega arith));
+  some = some;
   placed = λ q v apart. is q v ∙ ap (λ b. cond b (times_for rows v) []) apart;
   past = in_groups (ArePast last) right left rows groups is (λ k l. absurd (omega arith))
       (times_each (ArePast last) rows (each_times (ArePast last) hi last rows all (λ ts k. k.past))

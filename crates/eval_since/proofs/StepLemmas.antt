@@ -8,7 +8,7 @@ use Rattle.mfotl_model.specs.Values.{row_cmp}
 use Rattle.mfotl_model.specs.declared.interval.Interval.{Interval}
 use Rattle.mfotl_model.specs.declared.value.Value.{Value}
 use Rattle.eval_since.specs.declared.contents.Dated.{Dated}
-use Rattle.eval_since.specs.Groups.{times_at}
+use Rattle.eval_since.specs.Groups.{NoneEmpty, times_at}
 use Rattle.mfotl_model.specs.Tables.{all_sized, has_row, part}
 use Rattle.eval_since.specs.Times.{reaches, added}
 use Rattle.eval_since.specs.Windows.{Alone, Ascending, Sized, Placed, Past, IsThinned, Covered, Rising, NotAfter}
@@ -40,6 +40,7 @@ module _ (interval : Interval) (right left : List ℕ) (goes : List Value → Bo
     pub second : (q v : List Value) → times_at new q v
         ≡ cond (is_at (row_cmp (part right left v)) q && has_row d.rows.items v)
         (added (is_some interval.hi) (times_at held q v) d.ts) (times_at held q v)
+    pub some : NoneEmpty new
 
   pub past_before : last ≤ d.ts → Keeps interval.hi right left last old queue
       → ((q v : List Value) → times_at held q v ≡ cond (goes q) (times_at old q v) [])
@@ -110,6 +111,7 @@ module _ (interval : Interval) (right left : List ℕ) (goes : List Value → Bo
     sized = sized_after j;
     ascend = ascend_after j;
     alone = λ n. alone_after e j;
+    some = j.some;
     placed = placed_after j;
     past =
         past_after j;
@@ -139,15 +141,16 @@ module _ (interval : Interval) (right left : List ℕ) (goes : List Value → Bo
   pub kept_bounded : (hi : ℕ) (thin : List (List Value × List (List Value × List ℕ))) (rest : List Dated)
       → interval.hi ≡ Some hi → Joined
       → ((q v : List Value) → IsThinned hi d.ts (times_at new q v) (times_at thin q v))
-      → Covered rest thin → Rising rest → Fresh hi d.ts rest
+      → NoneEmpty thin → Covered rest thin → Rising rest → Fresh hi d.ts rest
       → ((x : ℕ) → NotAfter x (queue ++ d ∷ []) → NotAfter x rest)
       → Keeps interval.hi right left d.ts thin rest
-  kept_bounded hi thin rest e j thins covered rising fresh after = record {
+  kept_bounded hi thin rest e j thins some covered rising fresh after = record {
     apart = j.kept.apart;
     sized = λ q v apart. placed_thinned hi d.ts (times_at new q v) (times_at thin q v) (thins q v)
         (sized_after j q v apart);
     ascend = λ q v. increasing_thinned hi d.ts (times_at new q v) (times_at thin q v) (thins q v) (ascend_after j q v);
     alone = λ n. absurd (let f : Some hi ≡ None = sym e ∙ n in cc);
+    some = some;
     placed = λ q v apart. placed_thinned hi d.ts (times_at new q v) (times_at thin q v) (thins q v)
         (placed_after j q v apart);
     past = λ q v. past_thinned hi d.ts d.ts (times_at new q v) (times_at thin q v) (thins q v) (past_after j q v);

@@ -5,7 +5,7 @@ use Rattle.std.specs.BTreeMap.{is_at}
 use Rattle.std.specs.List.Sorted.{IsStrictlyIncreasing}
 use Rattle.mfotl_model.specs.Values.{row_cmp}
 use Rattle.mfotl_model.specs.declared.value.Value.{Value}
-use Rattle.eval_since.specs.Groups.{times_at}
+use Rattle.eval_since.specs.Groups.{NoneEmpty, times_at}
 use Rattle.std.specs.List.{list_any, list_all}
 use Rattle.eval_since.specs.declared.contents.Dated.{Dated}
 use Rattle.mfotl_model.specs.Tables.{all_apart, has_row, part}
@@ -77,6 +77,7 @@ pub record Keeps (hi : Option ℕ) (right left : List ℕ) (x : ℕ)
   pub sized : Sized (length right) groups
   pub ascend : Ascending groups
   pub alone : hi ≡ None → Alone groups
+  pub some : NoneEmpty groups
   pub placed : Placed right left groups
   pub past : Past x groups
   pub finds : Finds hi x groups queue

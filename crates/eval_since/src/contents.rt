@@ -6,7 +6,7 @@ ghost use Rattle.mfotl_model.specs.Intervals.{in_interval};
 ghost use Rattle.mfotl_model.specs.Tables.{all_apart, all_sized, has_row, part};
 ghost use Rattle.mfotl_model.specs.Values.{row_cmp};
 ghost use Rattle.mfotl_model.specs.declared.value.Value.{Value};
-ghost use Rattle.eval_since.specs.Groups.{times_at};
+ghost use Rattle.eval_since.specs.Groups.{NoneEmpty, times_at};
 ghost use Rattle.eval_since.specs.LeftOperand.{lead, left_has};
 ghost use Rattle.relations.specs.KeptRows.{RowsAscend};
 ghost use Rattle.eval_since.specs.Recalled.{times_for, times_kept};
@@ -38,8 +38,9 @@ fn apply_left(
     negated: bool,
     lefts: &Table,
 ) -> Result<(), AllocError>
-    ensures { OnOk result ((q v : List Value) → times_at groups.new q v
+    ensures times { OnOk result ((q v : List Value) → times_at groups.new q v
         ≡ cond (left_has negated lefts.now.rows (lead closed q)) (times_at groups.old q v) []) }
+    ensures some { OnOk result (NoneEmpty groups.old → NoneEmpty groups.new) }
 {
     if closed {
         apply_closed(alloc, groups, holds_on(negated, lefts, &Row::empty()));
@@ -51,7 +52,8 @@ fn apply_left(
 
 // all rows go on, or none
 fn apply_closed(alloc: Global, groups: &mut Groups, held: bool)
-    ensures { (q v : List Value) → times_at groups.new q v ≡ cond held (times_at groups.old q v) [] }
+    ensures times { (q v : List Value) → times_at groups.new q v ≡ cond held (times_at groups.old q v) [] }
+    ensures some { NoneEmpty groups.old → NoneEmpty groups.new }
 {
     if !held {
         *groups = Groups::new(alloc);
@@ -65,8 +67,9 @@ fn apply_rows(
     negated: bool,
     lefts: &Table,
 ) -> Result<(), AllocError>
-    ensures { OnOk result ((q v : List Value) → times_at groups.new q v
+    ensures times { OnOk result ((q v : List Value) → times_at groups.new q v
         ≡ cond (left_has negated lefts.now.rows q) (times_at groups.old q v) []) }
+    ensures some { OnOk result (NoneEmpty groups.old → NoneEmpty groups.new) }
 {
     if negated {
         groups.drop_groups(lefts.rows());
@@ -87,9 +90,10 @@ fn add_rows(
     bounded: bool,
 ) -> Result<(), AllocError>
     requires { Past now groups.old }
-    ensures { OnOk result ((q v : List Value) → times_at groups.new q v
+    ensures times { OnOk result ((q v : List Value) → times_at groups.new q v
         ≡ cond (is_at (row_cmp (part right.now left.now v)) q && has_row rows.now v)
         (added bounded (times_at groups.old q v) now) (times_at groups.old q v)) }
+    ensures some { OnOk result (NoneEmpty groups.old → NoneEmpty groups.new) }
 {
     for row in rows {
         let key = part_of(alloc, right, left, row.values())?;
@@ -107,9 +111,10 @@ fn forget_rows(
     now: u64,
     hi: u64,
 ) -> Result<(), AllocError>
-    ensures { OnOk result ((q v : List Value) → times_at groups.new q v
+    ensures times { OnOk result ((q v : List Value) → times_at groups.new q v
         ≡ cond (is_at (row_cmp (part right.now left.now v)) q && has_row rows.now v)
         (recent hi now (times_at groups.old q v)) (times_at groups.old q v)) }
+    ensures some { OnOk result (NoneEmpty groups.old → NoneEmpty groups.new) }
 {
     for row in rows {
         groups.forget(&part_of(alloc, right, left, row.values())?, row, hi, now);
@@ -132,6 +137,7 @@ fn expire(
     requires rising { Rising dated.old.items }
     ensures thin { OnOk result ((q v : List Value) →
         IsThinned hi now (times_at groups.old q v) (times_at groups.new q v)) }
+    ensures some { OnOk result (NoneEmpty groups.old → NoneEmpty groups.new) }
     ensures covered { OnOk result (Covered dated.new.items groups.new) }
     ensures rising { OnOk result (Rising dated.new.items) }
     ensures fresh { OnOk result (Fresh hi now dated.new.items) }

@@ -1,9 +1,9 @@
 //! Rows with the times kept for them. Until a second row comes, the one row stands in the group itself.
-ghost use Rattle.std.specs.Prelude.{◌≡◌, ◌||◌, ◌&&◌, ◌==◌, ◌∷◌, [], IfOk, List, OnOk, cond, length};
+ghost use Rattle.std.specs.Prelude.{◌≡◌, ◌||◌, ◌&&◌, ◌==◌, ◌∷◌, ◌<◌, [], IfOk, List, OnOk, cond, length};
 ghost use Rattle.std.specs.BTreeMap.{is_at};
 ghost use Rattle.mfotl_model.specs.Values.{row_cmp};
 ghost use Rattle.mfotl_model.specs.declared.value.Value.{Value};
-ghost use Rattle.eval_since.specs.Groups.{times_in};
+ghost use Rattle.eval_since.specs.Groups.{HaveTimes, times_in};
 ghost use Rattle.eval_since.specs.HeldTimes.{held_times};
 ghost use Rattle.mfotl_model.specs.Tables.{has_row, part};
 ghost use Rattle.eval_since.specs.Times.{ArePast, added, reaches, recent};
@@ -46,8 +46,9 @@ impl Model for Group {
 
 // A map of one row.
 fn hashed(alloc: Global, row: Row, times: Times) -> Result<Hashed, AllocError>
-    ensures { IfOk result (λ rows. (v : List Value) → times_in rows v
+    ensures times { IfOk result (λ rows. (v : List Value) → times_in rows v
         ≡ times_in ((row, times) ∷ []) v) }
+    ensures some { IfOk result (λ rows. 0 < length times → HaveTimes rows) }
 {
     let mut rows = Hashed::new(alloc);
     rows.put(row, times)?;
@@ -55,8 +56,9 @@ fn hashed(alloc: Global, row: Row, times: Times) -> Result<Hashed, AllocError>
 }
 
 fn first_time(alloc: Global, row: Row, x: u64, bounded: bool) -> Result<Held, AllocError>
-    ensures { IfOk result (λ held. (v : List Value) → times_in (held_times held) v
+    ensures times { IfOk result (λ held. (v : List Value) → times_in (held_times held) v
         ≡ cond (is_at (row_cmp row) v) (added bounded [] x) []) }
+    ensures some { IfOk result (λ held. HaveTimes (held_times held)) }
 {
     let mut times = Times::new(alloc);
     times.add(x, bounded)?;
@@ -72,9 +74,11 @@ fn other_time(
     bounded: bool,
 ) -> Result<Held, AllocError>
     requires { ArePast x (times_in ((first, times) ∷ []) row) }
-    ensures { IfOk result (λ held. (v : List Value) → times_in (held_times held) v
+    ensures times { IfOk result (λ held. (v : List Value) → times_in (held_times held) v
         ≡ cond (is_at (row_cmp row) v)
         (added bounded (times_in ((first, times) ∷ []) v) x) (times_in ((first, times) ∷ []) v)) }
+    ensures some { IfOk result (λ held.
+        HaveTimes ((first, times) ∷ []) → HaveTimes (held_times held)) }
 {
     let mut rows = hashed(alloc, first, times)?;
     rows.add(alloc, row, x, bounded)?;
@@ -90,9 +94,11 @@ fn next_time(
     bounded: bool,
 ) -> Result<Held, AllocError>
     requires { ArePast x (times_in ((first, times) ∷ []) row) }
-    ensures { IfOk result (λ held. (v : List Value) → times_in (held_times held) v
+    ensures times { IfOk result (λ held. (v : List Value) → times_in (held_times held) v
         ≡ cond (is_at (row_cmp row) v)
         (added bounded (times_in ((first, times) ∷ []) v) x) (times_in ((first, times) ∷ []) v)) }
+    ensures some { IfOk result (λ held.
+        HaveTimes ((first, times) ∷ []) → HaveTimes (held_times held)) }
 {
     if first == row {
         times.add(x, bounded)?;
@@ -103,9 +109,10 @@ fn next_time(
 
 fn with_time(alloc: Global, held: Held, row: Row, x: u64, bounded: bool) -> Result<Held, AllocError>
     requires { ArePast x (times_in (held_times held) row) }
-    ensures { IfOk result (λ more. (v : List Value) → times_in (held_times more) v
+    ensures times { IfOk result (λ more. (v : List Value) → times_in (held_times more) v
         ≡ cond (is_at (row_cmp row) v)
         (added bounded (times_in (held_times held) v) x) (times_in (held_times held) v)) }
+    ensures some { IfOk result (λ more. HaveTimes (held_times held) → HaveTimes (held_times more)) }
 {
     match held {
         Held::Zero => first_time(alloc, row, x, bounded),
@@ -118,8 +125,9 @@ fn with_time(alloc: Global, held: Held, row: Row, x: u64, bounded: bool) -> Resu
 }
 
 fn same_recent(first: Row, mut times: Times, hi: u64, now: u64) -> Held
-    ensures { (v : List Value) → times_in (held_times result) v
+    ensures times { (v : List Value) → times_in (held_times result) v
         ≡ times_in ((first, recent hi now times) ∷ []) v }
+    ensures some { HaveTimes (held_times result) }
 {
     times.forget(hi, now);
     if times.is_empty() {
@@ -129,9 +137,10 @@ fn same_recent(first: Row, mut times: Times, hi: u64, now: u64) -> Held
 }
 
 fn one_recent(first: Row, times: Times, row: &Row, hi: u64, now: u64) -> Held
-    ensures { (v : List Value) → times_in (held_times result) v
+    ensures times { (v : List Value) → times_in (held_times result) v
         ≡ cond (is_at (row_cmp row.now) v)
         (recent hi now (times_in ((first, times) ∷ []) v)) (times_in ((first, times) ∷ []) v) }
+    ensures some { HaveTimes ((first, times) ∷ []) → HaveTimes (held_times result) }
 {
     if first == *row {
         return same_recent(first, times, hi, now);
@@ -140,9 +149,10 @@ fn one_recent(first: Row, times: Times, row: &Row, hi: u64, now: u64) -> Held
 }
 
 fn with_recent(held: Held, row: &Row, hi: u64, now: u64) -> Held
-    ensures { (v : List Value) → times_in (held_times result) v
+    ensures times { (v : List Value) → times_in (held_times result) v
         ≡ cond (is_at (row_cmp row.now) v)
         (recent hi now (times_in (held_times held) v)) (times_in (held_times held) v) }
+    ensures some { HaveTimes (held_times held) → HaveTimes (held_times result) }
 {
     match held {
         Held::Zero => Held::Zero,
@@ -155,8 +165,10 @@ fn with_recent(held: Held, row: &Row, hi: u64, now: u64) -> Held
 }
 
 fn with_times(alloc: Global, held: Held, row: Row, times: Times) -> Result<Held, AllocError>
-    ensures { IfOk result (λ more. (v : List Value) → times_in (held_times more) v
+    ensures times { IfOk result (λ more. (v : List Value) → times_in (held_times more) v
         ≡ cond (is_at (row_cmp row) v) times (times_in (held_times held) v)) }
+    ensures some { IfOk result (λ more.
+        0 < length times → HaveTimes (held_times held) → HaveTimes (held_times more)) }
 {
     match held {
         Held::Zero => Ok(Held::One(row, times)),
@@ -218,9 +230,10 @@ impl Group {
     /// The times of a row, with one more.
     pub fn add(&mut self, alloc: Global, row: Row, x: u64, bounded: bool) -> Result<(), AllocError>
         requires { ArePast x (times_in self.old row) }
-        ensures { OnOk result ((v : List Value) → times_in self.new v
+        ensures times { OnOk result ((v : List Value) → times_in self.new v
             ≡ cond (is_at (row_cmp row) v)
             (added bounded (times_in self.old v) x) (times_in self.old v)) }
+        ensures some { OnOk result (HaveTimes self.old → HaveTimes self.new) }
     {
         let held = mem::replace(&mut self.held, Held::Zero);
         self.held = with_time(alloc, held, row, x, bounded)?;
@@ -229,9 +242,10 @@ impl Group {
 
     /// Forgets the times of a row that lie further back than `hi`.
     pub fn forget(&mut self, row: &Row, hi: u64, now: u64)
-        ensures { (v : List Value) → times_in self.new v
+        ensures times { (v : List Value) → times_in self.new v
             ≡ cond (is_at (row_cmp row.now) v)
             (recent hi now (times_in self.old v)) (times_in self.old v) }
+        ensures some { HaveTimes self.old → HaveTimes self.new }
     {
         let held = mem::replace(&mut self.held, Held::Zero);
         self.held = with_recent(held, row, hi, now);
@@ -294,8 +308,9 @@ impl Group {
 
     /// Puts the times of a row in the place of those that it has.
     pub fn put(&mut self, alloc: Global, row: Row, times: Times) -> Result<(), AllocError>
-        ensures { OnOk result ((v : List Value) → times_in self.new v
+        ensures times { OnOk result ((v : List Value) → times_in self.new v
             ≡ cond (is_at (row_cmp row) v) times (times_in self.old v)) }
+        ensures some { OnOk result (0 < length times → HaveTimes self.old → HaveTimes self.new) }
     {
         let held = mem::replace(&mut self.held, Held::Zero);
         self.held = with_times(alloc, held, row, times)?;

@@ -1,5 +1,5 @@
 //! Rows with the times kept for them, in groups by their part at the columns that they are grouped by.
-ghost use Rattle.std.specs.Prelude.{◌≡◌, ◌||◌, ◌&&◌, ◌==◌, [], List, ℕ, OnOk, None, Some, cond, length, not};
+ghost use Rattle.std.specs.Prelude.{◌≡◌, ◌||◌, ◌&&◌, ◌==◌, ◌<◌, [], List, ℕ, OnOk, None, Some, cond, length, not};
 ghost use Rattle.std.specs.BTreeMap.{is_at};
 ghost use Rattle.std.specs.List.{list_any};
 ghost use Rattle.std.specs.Map.{lookup};
@@ -9,7 +9,7 @@ ghost use Rattle.relations.specs.KeptRows.{RowsDiffer, kept_for};
 ghost use Rattle.eval_since.specs.Recalled.{first_times};
 ghost use Rattle.mfotl_model.specs.Values.{row_cmp};
 ghost use Rattle.mfotl_model.specs.declared.value.Value.{Value};
-ghost use Rattle.eval_since.specs.Groups.{times_at, times_in};
+ghost use Rattle.eval_since.specs.Groups.{NoneEmpty, times_at, times_in};
 ghost use Rattle.mfotl_model.specs.Tables.{has_row, part};
 ghost use Rattle.eval_since.specs.Times.{ArePast, added, reaches, recent};
 
@@ -70,9 +70,10 @@ impl Groups {
         bounded: bool,
     ) -> Result<(), AllocError>
         requires { ArePast x (times_at self.old key row) }
-        ensures { OnOk result ((q v : List Value) → times_at self.new q v
+        ensures times { OnOk result ((q v : List Value) → times_at self.new q v
             ≡ cond (is_at (row_cmp key) q && is_at (row_cmp row) v)
             (added bounded (times_at self.old q v) x) (times_at self.old q v)) }
+        ensures some { OnOk result (NoneEmpty self.old → NoneEmpty self.new) }
     {
         if let Some(group) = self.groups.get_mut(&key) {
             group.add(alloc, row, x, bounded)?;
@@ -86,9 +87,10 @@ impl Groups {
 
     /// Forgets the times of a row that lie further back than `hi`.
     pub fn forget(&mut self, key: &Row, row: &Row, hi: u64, now: u64)
-        ensures { (q v : List Value) → times_at self.new q v
+        ensures times { (q v : List Value) → times_at self.new q v
             ≡ cond (is_at (row_cmp key.now) q && is_at (row_cmp row.now) v)
             (recent hi now (times_at self.old q v)) (times_at self.old q v) }
+        ensures some { NoneEmpty self.old → NoneEmpty self.new }
     {
         let Some(group) = self.groups.get_mut(key) else {
             return;
@@ -101,16 +103,18 @@ impl Groups {
 
     // drops the groups of other parts where they stand
     fn drop_others(&mut self, parts: &Table)
-        ensures { (q v : List Value) → times_at self.new q v
+        ensures times { (q v : List Value) → times_at self.new q v
             ≡ cond (has_row parts.now.rows q) (times_at self.old q v) [] }
+        ensures some { NoneEmpty self.old → NoneEmpty self.new }
     {
         self.groups.retain(|key, _| parts.contains(key));
     }
 
     // moves the groups of these parts into a map of their own
     fn move_groups(&mut self, alloc: Global, parts: &[Row]) -> Result<(), AllocError>
-        ensures { OnOk result ((q v : List Value) → times_at self.new q v
+        ensures times { OnOk result ((q v : List Value) → times_at self.new q v
             ≡ cond (has_row parts.now q) (times_at self.old q v) []) }
+        ensures some { OnOk result (NoneEmpty self.old → NoneEmpty self.new) }
     {
         let mut kept = HashMap::new(alloc);
         for part in parts {
@@ -125,8 +129,9 @@ impl Groups {
     /// Keeps the groups of a table's rows alone. Out of few the others are dropped, which takes no memory;
     /// of many those that stay are found by their hashes, and take no more room than they need.
     pub fn keep(&mut self, alloc: Global, parts: &Table) -> Result<(), AllocError>
-        ensures { OnOk result ((q v : List Value) → times_at self.new q v
+        ensures times { OnOk result ((q v : List Value) → times_at self.new q v
             ≡ cond (has_row parts.now.rows q) (times_at self.old q v) []) }
+        ensures some { OnOk result (NoneEmpty self.old → NoneEmpty self.new) }
     {
         if self.groups.capacity() > 64 {
             return self.move_groups(alloc, parts.rows());
@@ -137,7 +142,9 @@ impl Groups {
 
     /// Drops the groups of these parts.
     pub fn drop_groups(&mut self, parts: &[Row])
-        ensures { (q v : List Value) → times_at self.new q v ≡ cond (has_row parts.now q) [] (times_at self.old q v) }
+        ensures times { (q v : List Value) → times_at self.new q v
+            ≡ cond (has_row parts.now q) [] (times_at self.old q v) }
+        ensures some { NoneEmpty self.old → NoneEmpty self.new }
     {
         for part in parts {
             self.groups.remove(part);
@@ -233,8 +240,9 @@ impl Groups {
 
     /// Puts the times of a row into a group, in the place of those that it has there.
     pub fn put(&mut self, alloc: Global, key: Row, row: Row, times: Times) -> Result<(), AllocError>
-        ensures { OnOk result ((q v : List Value) → times_at self.new q v
+        ensures times { OnOk result ((q v : List Value) → times_at self.new q v
             ≡ cond (is_at (row_cmp key) q && is_at (row_cmp row) v) times (times_at self.old q v)) }
+        ensures some { OnOk result (0 < length times → NoneEmpty self.old → NoneEmpty self.new) }
     {
         if let Some(group) = self.groups.get_mut(&key) {
             group.put(alloc, row, times)?;

@@ -1,9 +1,9 @@
 //! Many rows with the times kept for them, each found by its hash.
-ghost use Rattle.std.specs.Prelude.{◌≡◌, ◌||◌, ◌&&◌, ◌==◌, [], List, OnOk, cond, length};
+ghost use Rattle.std.specs.Prelude.{◌≡◌, ◌||◌, ◌&&◌, ◌==◌, ◌<◌, [], List, OnOk, cond, length};
 ghost use Rattle.std.specs.BTreeMap.{is_at};
 ghost use Rattle.mfotl_model.specs.Values.{row_cmp};
 ghost use Rattle.mfotl_model.specs.declared.value.Value.{Value};
-ghost use Rattle.eval_since.specs.Groups.{times_in, hit};
+ghost use Rattle.eval_since.specs.Groups.{HaveTimes, hit, times_in};
 ghost use Rattle.mfotl_model.specs.Tables.{has_row, part};
 ghost use Rattle.eval_since.specs.Times.{ArePast, added, reaches, recent};
 ghost use Rattle.std.specs.List.{list_any};
@@ -52,9 +52,10 @@ impl Hashed {
     /// The times of a row, with one more.
     pub fn add(&mut self, alloc: Global, row: Row, x: u64, bounded: bool) -> Result<(), AllocError>
         requires { ArePast x (times_in self.old row) }
-        ensures { OnOk result ((v : List Value) → times_in self.new v
+        ensures times { OnOk result ((v : List Value) → times_in self.new v
             ≡ cond (is_at (row_cmp row) v)
             (added bounded (times_in self.old v) x) (times_in self.old v)) }
+        ensures some { OnOk result (HaveTimes self.old → HaveTimes self.new) }
     {
         if let Some(times) = self.rows.get_mut(&row) {
             times.add(x, bounded)?;
@@ -68,9 +69,10 @@ impl Hashed {
 
     /// Forgets the times of a row that lie further back than `hi`.
     pub fn forget(&mut self, row: &Row, hi: u64, now: u64)
-        ensures { (v : List Value) → times_in self.new v
+        ensures times { (v : List Value) → times_in self.new v
             ≡ cond (is_at (row_cmp row.now) v)
             (recent hi now (times_in self.old v)) (times_in self.old v) }
+        ensures some { HaveTimes self.old → HaveTimes self.new }
     {
         let Some(times) = self.rows.get_mut(row) else {
             return;
@@ -165,8 +167,9 @@ impl Hashed {
 
     /// Puts the times of a row in the place of those that it has.
     pub fn put(&mut self, row: Row, times: Times) -> Result<(), AllocError>
-        ensures { OnOk result ((v : List Value) → times_in self.new v
+        ensures times { OnOk result ((v : List Value) → times_in self.new v
             ≡ cond (is_at (row_cmp row) v) times (times_in self.old v)) }
+        ensures some { OnOk result (0 < length times → HaveTimes self.old → HaveTimes self.new) }
     {
         self.rows.insert(row, times)?;
         Ok(())

@@ -1,10 +1,10 @@
 //! The rows of plain data, put back into groups, and the queue that finds their times.
-ghost use Rattle.std.specs.Prelude.{◌≡◌, ◌||◌, ◌&&◌, ◌∷◌, [], Bool, IfOk, List, OnOk, nat_eq, ℕ};
+ghost use Rattle.std.specs.Prelude.{◌≡◌, ◌||◌, ◌&&◌, ◌<◌, ◌∷◌, [], Bool, IfOk, List, OnOk, length, nat_eq, ℕ};
 ghost use Rattle.std.specs.List.{AllByRecursion, list_all, list_any};
 ghost use Rattle.std.specs.List.Sorted.{IsStrictlyIncreasing};
 ghost use Rattle.mfotl_model.specs.Tables.{has_row};
 ghost use Rattle.mfotl_model.specs.declared.value.Value.{Value};
-ghost use Rattle.eval_since.specs.Groups.{times_at};
+ghost use Rattle.eval_since.specs.Groups.{NoneEmpty, times_at};
 ghost use Rattle.eval_since.specs.Recalled.{named, put_times, times_kept};
 ghost use Rattle.eval_since.specs.Windows.{Rising, names};
 
@@ -25,8 +25,10 @@ pub fn grouped(
     rows: Vec<KeptRow>,
 ) -> Result<Groups, AllocError>
     requires { AllByRecursion (λ k. IsStrictlyIncreasing k.times.items) rows.items }
-    ensures { IfOk result (λ groups. (q v : List Value) → times_at groups q v
+    ensures times { IfOk result (λ groups. (q v : List Value) → times_at groups q v
         ≡ put_times right.now left.now (times_kept rows.items) q v []) }
+    ensures some { IfOk result (λ groups.
+        AllByRecursion (λ k. 0 < length k.times.items) rows.items → NoneEmpty groups) }
 {
     let mut groups = Groups::new(alloc);
     for kept in rows {

@@ -3,6 +3,7 @@ ghost use Rattle.std.specs.Prelude.{◌≡◌, ◌+◌, ◌-◌, ◌<◌, ◌≤
 ghost use Rattle.mfotl_model.specs.Satisfaction.{Valuation, since, time_at, truth_at};
 ghost use Rattle.mfotl_model.specs.Tables.{all_among, all_apart, has, valuation};
 ghost use Rattle.mfotl_model.specs.declared.value.Value.{Value};
+ghost use Rattle.eval_since.specs.Groups.{NoneEmpty};
 ghost use Rattle.eval_since.specs.LeftOperand.{grouping};
 ghost use Rattle.relations.specs.Pushed.{left_holds};
 ghost use Rattle.relations.specs.KeptRows.{filled, kept_for};
@@ -349,13 +350,15 @@ impl SinceState {
 
     /// Of the times kept for a row: they ascend, lie no further back from the last position pulled
     /// than the interval's greatest number, are not after that position's time, and stand in the
-    /// row's own group; without a greatest number there is one at most.
+    /// row's own group; without a greatest number there is one at most. No row is kept without times,
+    /// and no group without rows.
     pub fn keeps_no_more(&self)
         ensures bounded { IfSome self.now.window.interval.hi (λ hi.
             Bounded hi self.now.window.last self.now.window.groups) }
         ensures past { Past self.now.window.last self.now.window.groups }
         ensures ascend { Ascending self.now.window.groups }
         ensures alone { self.now.window.interval.hi ≡ None → Alone self.now.window.groups }
+        ensures some { NoneEmpty self.now.window.groups }
         ensures placed { Placed self.now.window.right self.now.window.keys self.now.window.groups }
     {
         self.window.is_bounded();

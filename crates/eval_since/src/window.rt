@@ -5,6 +5,7 @@ ghost use Rattle.std.specs.List.{AllByRecursion};
 ghost use Rattle.mfotl_model.specs.Intervals.{in_interval};
 ghost use Rattle.mfotl_model.specs.Tables.{all_apart, all_sized, has_row, part};
 ghost use Rattle.mfotl_model.specs.declared.value.Value.{Value};
+ghost use Rattle.eval_since.specs.Groups.{NoneEmpty};
 ghost use Rattle.eval_since.specs.LeftOperand.{grouping, left_has};
 ghost use Rattle.relations.specs.KeptRows.{RowsAscend, filled, kept_for};
 ghost use Rattle.eval_since.specs.Recalled.{times_for, times_kept};
@@ -317,6 +318,7 @@ impl Window {
         ensures past { Past self.now.last self.now.groups }
         ensures ascend { Ascending self.now.groups }
         ensures alone { self.now.interval.hi ≡ None → Alone self.now.groups }
+        ensures some { NoneEmpty self.now.groups }
         ensures placed { Placed self.now.right self.now.keys self.now.groups }
     {
         let _ = &self.last;

@@ -14,13 +14,16 @@ add-requires c =
     let old = times_at c.args.groups.now q v in
     either_list (ArePast c.args.now) (is_at (row_cmp (part c.args.right.now c.args.left.now v)) q
     && has_row (take c.loop-row.row-index c.args.rows.now) v)
-    (added c.args.bounded old c.args.now) old (times_at c.loop-row.groups q v) (c.loop-row.invariant q v)
+    (added c.args.bounded old c.args.now) old (times_at c.loop-row.groups q v) (c.loop-row.invariant.times q v)
     (past_added c.args.bounded old c.args.now (c.requires q v)) (c.requires q v)
 
 pub loop-row-preserved : goal.loop-row-preserved
-loop-row-preserved c = λ q v.
-    rows_more (λ ts. added c.args.bounded ts c.args.now)
-    (added_twice c.args.bounded c.args.now) c.args.right.now c.args.left.now c.args.rows.now c.loop-row.row-index
-    c.row-item.result c.in_ok-key.key q v c.args.groups.now c.loop-row.groups c.add-in-loop-row.new.self
-    (omega arith) c.row-item.is (c.in_ok-key.ensures ∙ ap (part c.args.right.now c.args.left.now) c.values.ensures)
-    (c.loop-row.invariant q v) (rw c.in_ok-copy.ensures at (c.in_ok-add.ensures q v))
+loop-row-preserved c = record {
+  times = λ q v.
+      rows_more (λ ts. added c.args.bounded ts c.args.now)
+      (added_twice c.args.bounded c.args.now) c.args.right.now c.args.left.now c.args.rows.now c.loop-row.row-index
+      c.row-item.result c.in_ok-key.key q v c.args.groups.now c.loop-row.groups c.add-in-loop-row.new.self
+      (omega arith) c.row-item.is (c.in_ok-key.ensures ∙ ap (part c.args.right.now c.args.left.now) c.values.ensures)
+      (c.loop-row.invariant.times q v) (rw c.in_ok-copy.ensures at (c.in_ok-add.ensures.times q v));
+  some = λ all. c.in_ok-add.ensures.some (c.loop-row.invariant.some all);
+}

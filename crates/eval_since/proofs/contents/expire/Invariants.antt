@@ -1,12 +1,13 @@
 use Rattle.std.proofs.Common.{ℕ, List, length}
 use Rattle.mfotl_model.specs.declared.value.Value.{Value}
-use Rattle.eval_since.specs.Groups.{times_at}
+use Rattle.eval_since.specs.Groups.{NoneEmpty, times_at}
 use Rattle.eval_since.specs.Windows.{Covered, IsThinned, NotAfter, Placed, Rising}
 use Rattle.eval_since.proofs.contents.expire.Given as goal
 
 abbrev pub invariant-loop-front : goal.invariant-loop-front
 invariant-loop-front l = record {
   thin : (q v : List Value) → IsThinned l.hi l.now (times_at l.fn.groups q v) (times_at l.groups q v);
+  some : NoneEmpty l.fn.groups → NoneEmpty l.groups;
   placed : Placed l.right l.left l.groups;
   covered : Covered l.dated.items l.groups;
   rising : Rising l.dated.items;

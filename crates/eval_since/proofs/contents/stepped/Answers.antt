@@ -9,7 +9,7 @@ add_rows-requires c =
     (λ q. left_has c.args.negated c.args.lefts.now.rows (lead c.args.closed q))
     (record { ts = c.args.now; rows = c.args.rights }) c.args.last
     c.args.contents.groups c.apply_left.new.groups c.apply_left.new.groups c.args.contents.dated.items
-    c.requires.rises c.requires.kept c.in_ok-apply_left.ensures
+    c.requires.rises c.requires.kept c.in_ok-apply_left.ensures.times
 
 pub returns-in_default-clause-within : goal.returns-in_default-clause-within
 returns-in_default-clause-within c = λ x u _.
@@ -22,9 +22,10 @@ returns-in_default-clause-within c = λ x u _.
       sized = c.requires.sized;
       kept = c.requires.kept;
       first =
-          c.in_ok-apply_left.ensures;
+          c.in_ok-apply_left.ensures.times;
       second = rw (c.as_slice-rows.ensures.value, c.is_some.ensures) at
-          c.in_ok-add_rows.ensures;
+          c.in_ok-add_rows.ensures.times;
+      some = c.in_ok-add_rows.ensures.some (c.in_ok-apply_left.ensures.some c.requires.kept.some);
     }) x u
 
 pub returns-in_default-clause-kept : goal.returns-in_default-clause-kept
@@ -38,9 +39,10 @@ returns-in_default-clause-kept c =
       sized = c.requires.sized;
       kept = c.requires.kept;
       first =
-          c.in_ok-apply_left.ensures;
+          c.in_ok-apply_left.ensures.times;
       second = rw (c.as_slice-rows.ensures.value, c.is_some.ensures) at
-          c.in_ok-add_rows.ensures;
+          c.in_ok-add_rows.ensures.times;
+      some = c.in_ok-add_rows.ensures.some (c.in_ok-apply_left.ensures.some c.requires.kept.some);
     })
 
 pub expire-requires : goal.expire-requires
@@ -54,9 +56,10 @@ expire-requires c =
       sized = c.requires.sized;
       kept = c.requires.kept;
       first =
-          c.in_ok-apply_left.ensures;
+          c.in_ok-apply_left.ensures.times;
       second = rw (c.as_slice-rows.ensures.value, c.is_some.ensures) at
-          c.in_ok-add_rows.ensures;
+          c.in_ok-add_rows.ensures.times;
+      some = c.in_ok-add_rows.ensures.some (c.in_ok-apply_left.ensures.some c.requires.kept.some);
     } in
     record {
       placed = placed_after c.args.interval.now c.args.right.now c.args.keys.now
@@ -87,9 +90,10 @@ returns-clause-within c =
       sized = c.requires.sized;
       kept = c.requires.kept;
       first =
-          c.in_ok-apply_left.ensures;
+          c.in_ok-apply_left.ensures.times;
       second = rw (c.as_slice-rows.ensures.value, c.is_some.ensures) at
-          c.in_ok-add_rows.ensures;
+          c.in_ok-add_rows.ensures.times;
+      some = c.in_ok-add_rows.ensures.some (c.in_ok-apply_left.ensures.some c.requires.kept.some);
     })
     c.in_ok-expire.ensures.thin
 
@@ -105,10 +109,14 @@ returns-clause-kept c =
       sized = c.requires.sized;
       kept = c.requires.kept;
       first =
-          c.in_ok-apply_left.ensures;
+          c.in_ok-apply_left.ensures.times;
       second = rw (c.as_slice-rows.ensures.value, c.is_some.ensures) at
-          c.in_ok-add_rows.ensures;
+          c.in_ok-add_rows.ensures.times;
+      some = c.in_ok-add_rows.ensures.some (c.in_ok-apply_left.ensures.some c.requires.kept.some);
     })
-    c.in_ok-expire.ensures.thin c.in_ok-expire.ensures.covered c.in_ok-expire.ensures.rising
+    c.in_ok-expire.ensures.thin
+    (c.in_ok-expire.ensures.some (c.in_ok-add_rows.ensures.some (c.in_ok-apply_left.ensures.some
+    c.requires.kept.some)))
+    c.in_ok-expire.ensures.covered c.in_ok-expire.ensures.rising
     c.in_ok-expire.ensures.fresh
     (rw c.in_ok-push_back.ensures.items at c.in_ok-expire.ensures.after)

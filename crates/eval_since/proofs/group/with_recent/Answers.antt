@@ -7,9 +7,15 @@ use Rattle.eval_since.specs.Times.{recent}
 use Rattle.eval_since.proofs.GroupLemmas.{none_recent}
 use Rattle.eval_since.proofs.group.with_recent.Goals as goal
 
-pub returns-in-Zero : goal.returns-in-Zero
-returns-in-Zero c = λ v.
+pub returns-in-Zero-clause-times : goal.returns-in-Zero-clause-times
+returns-in-Zero-clause-times c = λ v.
     none_recent c.args.hi c.args.now c.args.row.now v
     ∙ (λ i. cond (is_at (row_cmp c.args.row.now) v)
     (recent c.args.hi c.args.now (times_in (held_times (sym c.in-Zero.is i)) v))
     (times_in (held_times (sym c.in-Zero.is i)) v))
+
+pub returns-in-One-clause-some : goal.returns-in-One-clause-some
+returns-in-One-clause-some c = rw c.in-One.is c.one_recent.ensures.some
+
+pub returns-in-Many-clause-some : goal.returns-in-Many-clause-some
+returns-in-Many-clause-some c = rw c.in-Many.is c.forget.ensures.some

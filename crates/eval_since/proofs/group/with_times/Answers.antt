@@ -3,10 +3,22 @@ use Rattle.std.specs.BTreeMap.{is_at}
 use Rattle.mfotl_model.specs.Values.{row_cmp}
 use Rattle.eval_since.specs.Groups.{times_in}
 use Rattle.eval_since.specs.HeldTimes.{held_times}
+use Rattle.eval_since.proofs.FilledLemmas.{one_had, one_has}
 use Rattle.eval_since.proofs.OneRowLemmas.{times_one}
 use Rattle.eval_since.proofs.group.with_times.Goals as goal
 
-pub returns-in-Zero : goal.returns-in-Zero
-returns-in-Zero c = λ v.
+pub returns-in-Zero-clause-times : goal.returns-in-Zero-clause-times
+returns-in-Zero-clause-times c = λ v.
     times_one c.args.row c.args.times v
     ∙ (λ i. cond (is_at (row_cmp c.args.row) v) c.args.times (times_in (held_times (sym c.in-Zero.is i)) v))
+
+pub returns-in-Zero-clause-some : goal.returns-in-Zero-clause-some
+returns-in-Zero-clause-some c = λ some _. one_has c.args.row c.args.times some
+
+pub returns-in_ok-put-in-One-clause-some : goal.returns-in_ok-put-in-One-clause-some
+returns-in_ok-put-in-One-clause-some c = rw c.in-One.is (λ some have.
+    c.in_ok-put-in-One.ensures.some some
+    (c.in_ok-rows-in-One.ensures.some (one_had c.in-One.first c.in-One.kept have)))
+
+pub returns-in_ok-put-in-Many-clause-some : goal.returns-in_ok-put-in-Many-clause-some
+returns-in_ok-put-in-Many-clause-some c = rw c.in-Many.is c.in_ok-put-in-Many.ensures.some

@@ -1,8 +1,8 @@
-use Rattle.std.proofs.Common.{◌≡◌, List, []}
+use Rattle.std.proofs.Common.{◌≡◌, ◌<◌, List, [], length}
 use Rattle.std.specs.List.{AllByRecursion}
 use Rattle.std.specs.List.Sorted.{IsStrictlyIncreasing}
 use Rattle.mfotl_model.specs.declared.value.Value.{Value}
-use Rattle.eval_since.specs.Groups.{times_at}
+use Rattle.eval_since.specs.Groups.{NoneEmpty, times_at}
 use Rattle.eval_since.specs.Recalled.{put_times, times_kept}
 use Rattle.eval_since.specs.declared.recalled.KeptRow.{KeptRow}
 use Rattle.eval_since.proofs.rebuild.grouped.Given as goal
@@ -14,4 +14,6 @@ invariant-loop-kept l = record {
   put : (q v : List Value) → put_times l.right l.left (times_kept l.kept-iterator.rest.items) q v
       (times_at l.groups q v)
       ≡ put_times l.right l.left (times_kept l.fn.rows.items) q v [];
+  some : AllByRecursion (λ (k : KeptRow). 0 < length k.times.items) l.fn.rows.items
+      → AllByRecursion (λ (k : KeptRow). 0 < length k.times.items) l.kept-iterator.rest.items × NoneEmpty l.groups;
 }

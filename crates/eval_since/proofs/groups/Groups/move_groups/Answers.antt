@@ -1,4 +1,6 @@
-use Rattle.std.proofs.Common.{arith}
+use Rattle.std.proofs.Common.{arith, take}
+use Rattle.mfotl_model.specs.Tables.{has_row}
+use Rattle.eval_since.proofs.FilledLemmas.{IsFilled, each_left}
 use Rattle.eval_since.proofs.GroupLemmas.{gone_more, kept_none, kept_some}
 use Rattle.eval_since.proofs.groups.Groups.move_groups.Goals as goal
 use Rattle.eval_since.proofs.groups.Groups.move_groups.Goals.{in-Some+in_ok-keep_group, in_default}
@@ -23,3 +25,8 @@ loop-part-preserved c =
             w.in_default.ensures.value)
       ];
     }
+
+pub returns-clause-some : goal.returns-clause-some
+returns-clause-some c =
+    each_left IsFilled (has_row (take c.loop-part.part-index c.args.parts.now)) c.args.self.now c.loop-part.kept.entries
+    c.loop-part.invariant.kept

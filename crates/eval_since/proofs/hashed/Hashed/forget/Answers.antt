@@ -1,4 +1,4 @@
-use Rattle.std.proofs.Common.{◌≡◌, [], Some, None, sym, ap, ◌∙◌}
+use Rattle.std.proofs.Common.{◌≡◌, ℕ, ◌<◌, List, [], length, Some, None, sym, ap, ◌∙◌}
 use Rattle.std.specs.Option.{unwrap_or}
 use Rattle.std.specs.Map.{lookup}
 use Rattle.std.specs.BTreeMap.{is_at}
@@ -6,12 +6,13 @@ use Rattle.std.specs.HashMap.{HashMap}
 use Rattle.mfotl_model.specs.Values.{row_cmp}
 use Rattle.eval_since.specs.Times.{recent}
 use Rattle.relations.proofs.MapLemmas.{changed, nothing_there, put_through, taken_out}
+use Rattle.eval_since.proofs.FilledLemmas.{each_after, not_empty}
 use Rattle.eval_since.proofs.GroupLemmas.{recent_none, empty_list}
 use Rattle.eval_since.proofs.hashed.Hashed.forget.Goals as goal
 use Rattle.eval_since.proofs.hashed.Hashed.forget.Goals.{in-Some-1, in-None-1}
 
-pub returns-in_default : goal.returns-in_default
-returns-in_default c = λ v.
+pub returns-in_default-clause-times : goal.returns-in_default-clause-times
+returns-in_default-clause-times c = λ v.
     let old = c.self.inside.rows in
     let is : None ≡ lookup (is_at (row_cmp c.args.row.now)) old.entries = c.in_default.ensures.value in
     rw (← c.self.view_is) (changed [] (recent c.args.hi c.args.now) c.args.row.now v old.entries
@@ -20,8 +21,8 @@ returns-in_default c = λ v.
     (ap (λ (m : HashMap _ _ _). m.entries) c.get_mut.follows.holds-at-none) is)
     (sym (recent_none c.args.hi c.args.now) ∙ ap (λ o. recent c.args.hi c.args.now (unwrap_or o [])) is))
 
-pub returns-then-is_empty : goal.returns-then-is_empty
-returns-then-is_empty c = λ v.
+pub returns-then-is_empty-clause-times : goal.returns-then-is_empty-clause-times
+returns-then-is_empty-clause-times c = λ v.
     let old = c.self.inside.rows in
     let is : Some c.in-Some.times.now ≡ lookup (is_at (row_cmp c.args.row.now)) old.entries =
     c.in-Some.ensures.value in
@@ -37,8 +38,8 @@ returns-then-is_empty c = λ v.
     (empty_list c.forget.new.self (sym c.is_empty.ensures ∙ c.if-is_empty.true) ∙ c.forget.ensures
     ∙ ap (λ o. recent c.args.hi c.args.now (unwrap_or o [])) is))
 
-pub returns-else-is_empty : goal.returns-else-is_empty
-returns-else-is_empty c = λ v.
+pub returns-else-is_empty-clause-times : goal.returns-else-is_empty-clause-times
+returns-else-is_empty-clause-times c = λ v.
     let old = c.self.inside.rows in
     let is : Some c.in-Some.times.now ≡ lookup (is_at (row_cmp c.args.row.now)) old.entries =
     c.in-Some.ensures.value in
@@ -47,3 +48,39 @@ returns-else-is_empty c = λ v.
     (put_through c.args.row.now v old (c.get_mut.follows.lender c.forget.new.self) c.forget.new.self
     c.in-Some.times.now (c.get_mut.follows.holds c.forget.new.self) is)
     (c.forget.ensures ∙ ap (λ o. recent c.args.hi c.args.now (unwrap_or o [])) is))
+
+pub returns-in_default-clause-some : goal.returns-in_default-clause-some
+returns-in_default-clause-some c =
+    let old = c.self.inside.rows in
+    rw (← c.self.view_is) (each_after (λ (ts : List ℕ). 0 < length ts) c.args.row.now old.entries
+    c.get_mut.follows.lender-at-none.entries None
+    (λ v. nothing_there c.args.row.now v old.entries c.get_mut.follows.lender-at-none.entries
+    (ap (λ (m : HashMap _ _ _). m.entries) c.get_mut.follows.holds-at-none) c.in_default.ensures.value)
+    tt)
+
+pub returns-then-is_empty-clause-some : goal.returns-then-is_empty-clause-some
+returns-then-is_empty-clause-some c =
+    let old = c.self.inside.rows in
+    let is : Some c.in-Some.times.now ≡ lookup (is_at (row_cmp c.args.row.now)) old.entries =
+    c.in-Some.ensures.value in
+    let same : c.match-remove.self ≡ c.remove.new.self.entries = elim c.match-remove.branch
+    [ in-Some-1 w ↦ w.self-is | in-None-1 w ↦ w.self-is ] in
+    rw (same, ← c.self.view_is) (each_after (λ (ts : List ℕ). 0 < length ts) c.args.row.now old.entries
+    c.remove.new.self.entries None
+    (λ v. taken_out c.args.row.now v old.entries (c.get_mut.follows.lender c.forget.new.self).entries
+    c.remove.new.self.entries c.forget.new.self
+    (put_through c.args.row.now v old (c.get_mut.follows.lender c.forget.new.self) c.forget.new.self
+    c.in-Some.times.now (c.get_mut.follows.holds c.forget.new.self) is)
+    (c.remove.ensures.updates.0 v))
+    tt)
+
+pub returns-else-is_empty-clause-some : goal.returns-else-is_empty-clause-some
+returns-else-is_empty-clause-some c =
+    let old = c.self.inside.rows in
+    let is : Some c.in-Some.times.now ≡ lookup (is_at (row_cmp c.args.row.now)) old.entries =
+    c.in-Some.ensures.value in
+    rw (← c.self.view_is) (each_after (λ (ts : List ℕ). 0 < length ts) c.args.row.now old.entries
+    (c.get_mut.follows.lender c.forget.new.self).entries (Some c.forget.new.self)
+    (λ v. put_through c.args.row.now v old (c.get_mut.follows.lender c.forget.new.self) c.forget.new.self
+    c.in-Some.times.now (c.get_mut.follows.holds c.forget.new.self) is)
+    (not_empty c.forget.new.self (sym c.is_empty.ensures ∙ c.if-is_empty.false)))

@@ -11,3 +11,6 @@ returns-clause-ascend c = rw (← c.self.view_is) c.is_bounded.ensures.ascend
 
 pub returns-clause-alone : goal.returns-clause-alone
 returns-clause-alone c = rw (← c.self.view_is) c.is_bounded.ensures.alone
+
+pub returns-clause-some : goal.returns-clause-some
+returns-clause-some c = rw (← c.self.view_is) c.is_bounded.ensures.some

@@ -16,3 +16,6 @@ returns-clause-ascend c = rw (← c.self.view_is) c.self.invariant.ascend
 
 pub returns-clause-alone : goal.returns-clause-alone
 returns-clause-alone c = rw (← c.self.view_is) c.self.invariant.alone
+
+pub returns-clause-some : goal.returns-clause-some
+returns-clause-some c = rw (← c.self.view_is) c.self.invariant.some

@@ -1,0 +1,105 @@
+-- Each row that is kept has a time, and each group a row.
+use Rattle.std.proofs.Common.{◌≡◌, ℕ, ◌<◌, Bool, true, false, cond, nat_eq, List, [], ◌∷◌, ◌++◌, length}
+use Rattle.std.proofs.Common.{Option, Some, None, sym, subst, ap, ◌∙◌, arith}
+use Rattle.std.proofs.lemmas.Map.Entries.{lookup-filter-keys}
+use Rattle.std.specs.BTreeMap.{is_at}
+use Rattle.std.specs.Cmp.{eq_by_cmp_equiv}
+use Rattle.std.specs.List.{filter}
+use Rattle.std.specs.Option.{IfSome}
+use Rattle.mfotl_model.specs.Tables.{has_row}
+use Rattle.mfotl_model.specs.Values.{row_cmp, row_total}
+use Rattle.mfotl_model.specs.declared.value.Value.{Value}
+use Rattle.relations.specs.KeptRows.{kept_for}
+use Rattle.relations.proofs.MapLemmas.{same_row}
+use Rattle.eval_since.specs.Groups.{HaveTimes, NoneEmpty, times_in}
+use Rattle.eval_since.specs.Times.{added, is_new}
+
+-- a group has a row, and each of its rows a time
+abbrev pub IsFilled : List (List Value × List ℕ) → Type 0
+IsFilled group = (0 < length group) × HaveTimes group
+
+-- what holds of all that is kept still does after a change at one row
+pub each_after : {X : Type 0} (P : X → Type 0) (row : List Value) (old new : List (List Value × X)) (w : Option X)
+    → ((v : List Value) → kept_for new v ≡ cond (is_at (row_cmp row) v) w (kept_for old v))
+    → IfSome w P → ((v : List Value) → IfSome (kept_for old v) P) → (v : List Value) → IfSome (kept_for new v) P
+each_after {X} P row old new w changes here before v =
+    subst (λ (o : Option X). IfSome o P) (sym (changes v)) (by (is_at (row_cmp row) v))
+  where
+    by : (b : Bool) → IfSome (cond b w (kept_for old v)) P
+    by true = here
+    by false = before v
+
+-- and where some of it is left out
+pub each_left : {X : Type 0} (P : X → Type 0) (stays : List Value → Bool) (old new : List (List Value × X))
+    → ((v : List Value) → kept_for new v ≡ cond (stays v) (kept_for old v) None)
+    → ((v : List Value) → IfSome (kept_for old v) P) → (v : List Value) → IfSome (kept_for new v) P
+each_left {X} P stays old new is before v =
+    subst (λ (o : Option X). IfSome o P) (sym (is v)) (by (stays v))
+  where
+    by : (b : Bool) → IfSome (cond b (kept_for old v) None) P
+    by true = before v
+    by false = tt
+
+pub each_gone : {X : Type 0} (P : X → Type 0) (goes : List Value → Bool) (old new : List (List Value × X))
+    → ((v : List Value) → kept_for new v ≡ cond (goes v) None (kept_for old v))
+    → ((v : List Value) → IfSome (kept_for old v) P) → (v : List Value) → IfSome (kept_for new v) P
+each_gone {X} P goes old new is before v =
+    subst (λ (o : Option X). IfSome o P) (sym (is v)) (by (goes v))
+  where
+    by : (b : Bool) → IfSome (cond b None (kept_for old v)) P
+    by true = tt
+    by false = before v
+
+-- where the groups of other parts are left out
+pub filled_where : (parts : List (List Value)) (old new : List (List Value × List (List Value × List ℕ)))
+    → new ≡ filter (λ e. has_row parts e.0) old → NoneEmpty old → NoneEmpty new
+filled_where parts old new e =
+    each_left IsFilled (has_row parts) old new (λ q. ap (λ es. kept_for es q) e
+    ∙ lookup-filter-keys (is_at (row_cmp q)) (has_row parts) (has_row parts q)
+    (λ k at. ap (has_row parts) (sym (same_row q k at))) old)
+
+-- the group that is found
+pub found_filled : (key : List Value) (groups : List (List Value × List (List Value × List ℕ)))
+    (group : List (List Value × List ℕ)) → Some group ≡ kept_for groups key → NoneEmpty groups → IsFilled group
+found_filled key groups group is all =
+    subst (λ (o : Option (List (List Value × List ℕ))). IfSome o IsFilled) (sym is) (all key)
+
+-- after one time more there are some
+pub some_added : (bounded : Bool) (ts : List ℕ) (x : ℕ) → 0 < length (added bounded ts x)
+unfolding added
+some_added bounded [] x = let w : 0 < length (x ∷ []) = omega arith in w
+some_added bounded (t ∷ ts) x = by (is_new bounded (t ∷ ts) x)
+  where
+    by : (b : Bool) → 0 < length (cond b ((t ∷ ts) ++ x ∷ []) (t ∷ ts))
+    by true = omega arith
+    by false = omega arith
+
+pub not_empty : {X : Type 0} (ys : List X) → nat_eq (length ys) 0 ≡ false → 0 < length ys
+not_empty [] e = absurd (let w : true ≡ false = e in cc)
+not_empty (y ∷ ys) e = omega arith
+
+-- a group that has times for a row has a row
+row_there : (group : List (List Value × List ℕ)) (v : List Value) → 0 < length (times_in group v) → 0 < length group
+row_there [] v some = absurd (let w : 0 < 0 = some in omega arith)
+row_there (e ∷ es) v some = omega arith
+
+-- a group has the row that it was given times for
+pub row_changed : (h : List ℕ → List ℕ) (row : List Value) (old new : List (List Value × List ℕ))
+    → ((v : List Value) → times_in new v ≡ cond (is_at (row_cmp row) v) (h (times_in old v)) (times_in old v))
+    → 0 < length (h (times_in old row)) → 0 < length new
+row_changed h row old new is some =
+    row_there new row (subst (λ (ts : List ℕ). 0 < length ts) (sym (is row
+    ∙ ap (λ b. cond b (h (times_in old row)) (times_in old row)) ((eq_by_cmp_equiv row_total).refl row))) some)
+
+-- one row
+pub one_has : (first : List Value) (ts : List ℕ) → 0 < length ts → HaveTimes ((first, ts) ∷ [])
+one_has first ts some = λ v. by (is_at (row_cmp v) first)
+  where
+    by : (b : Bool) → IfSome (cond b (Some ts) None) (λ (times : List ℕ). 0 < length times)
+    by true = some
+    by false = tt
+
+pub one_had : (first : List Value) (ts : List ℕ) → HaveTimes ((first, ts) ∷ []) → 0 < length ts
+one_had first ts have =
+    subst (λ (b : Bool). IfSome (cond b (Some ts) None) (λ (times : List ℕ). 0 < length times))
+    ((eq_by_cmp_equiv row_total).refl first) (have first)
