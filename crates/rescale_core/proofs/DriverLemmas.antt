@@ -20,10 +20,10 @@ use Rattle.rescale_core.specs.Working.{May, Told}
 use Rattle.rescale_core.specs.Works.{MayBy, ToldBy}
 use Rattle.rescale_core.specs.Worlds.{World, Allowed, Seat, after, line_in}
 use Rattle.rescale_core.specs.Worlds.Move.{Read, Emit}
+use Rattle.rescale_core.specs.declared.driver.Driver.{Driver}
 use Rattle.rescale_core.specs.declared.item.Entry.{Entry}
 use Rattle.rescale_core.specs.declared.item.Item.{Item}
 use Rattle.rescale_core.specs.declared.item.Out.{Out}
-use Rattle.rescale_core.specs.declared.turns.Driver.{Driver}
 
 -- ---- places among lines
 

@@ -24,10 +24,10 @@ use Rattle.rescale_core.specs.Stages.{Answers}
 use Rattle.rescale_core.specs.Workers.{settled_in}
 use Rattle.rescale_core.specs.Handing.{chance}
 use Rattle.rescale_core.specs.Worlds.{World, IsGathered, line_in, spot_in}
-use Rattle.rescale_core.specs.declared.cells.Step.{Step}
-use Rattle.rescale_core.specs.declared.cells.Step.TheVariants as step
+use Rattle.rescale_core.specs.declared.step.Step.{Step}
+use Rattle.rescale_core.specs.declared.step.Step.TheVariants as step
 use Rattle.rescale_core.specs.declared.item.Entry.{Entry}
-use Rattle.rescale_core.specs.declared.stage.Machine.{Machine}
+use Rattle.rescale_core.specs.declared.machine.Machine.{Machine}
 
 dropped_all : {A : Type 0} (n : ℕ) (xs : List A) → drop n xs ≡ [] → length xs ≤ n
 dropped_all zero [] e = omega arith

@@ -27,7 +27,7 @@ use Rattle.rescale_core.specs.Worlds.{set_seat, spot_in, standings_in}
 use Rattle.rescale_core.specs.Worlds.Move.{Feed}
 use Rattle.rescale_core.specs.declared.item.Entry.{Entry}
 use Rattle.rescale_core.specs.declared.item.Item.{Item}
-use Rattle.rescale_core.specs.declared.routes.Router.{Router}
+use Rattle.rescale_core.specs.declared.router.Router.{Router}
 use Rattle.rescale_core.specs.declared.slot.Slot.{Slot}
 
 tail_of : (c : CoreForm) (k n : ℕ) (pieces : List _) (ds : List Due) (i : Item) (rest : List Chance)

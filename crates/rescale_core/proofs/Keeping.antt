@@ -7,9 +7,9 @@ use Rattle.rescale_core.specs.Moving.Kind.{Reads, Feeds, Takes, Collects, Emits}
 use Rattle.rescale_core.specs.Soundly.{IsSound}
 use Rattle.rescale_core.specs.Worlds.{World, Allowed, Move, after}
 use Rattle.rescale_core.specs.Worlds.Move.{Read, Feed, Take, Collect, Emit}
-use Rattle.rescale_core.specs.declared.turns.Driver.{Driver}
-use Rattle.rescale_core.specs.declared.turns.Turn.{Turn}
-use Rattle.rescale_core.specs.declared.turns.Turn.TheVariants.{Moved, NotYet, Broken}
+use Rattle.rescale_core.specs.declared.driver.Driver.{Driver}
+use Rattle.rescale_core.specs.declared.driver.Turn.{Turn}
+use Rattle.rescale_core.specs.declared.driver.Turn.TheVariants.{Moved, NotYet, Broken}
 use Rattle.rescale_core.proofs.Soundness.{step_sound}
 use Rattle.rescale_core.proofs.Taking.{reaches_on}
 use Rattle.rescale_core.proofs.Verdicts.{step_verdicts}

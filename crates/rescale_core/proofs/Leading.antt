@@ -12,7 +12,7 @@ use Rattle.rescale_core.specs.Working.{IsAt, StandsFor, May, Has, first_stage, l
 use Rattle.rescale_core.specs.Works.{MayBy, StandsBy, seen}
 use Rattle.turn_hub.specs.Work.{Takes, Leads}
 use Rattle.monitorable.specs.CoreForms.{CoreForm}
-use Rattle.rescale_core.specs.declared.phase.Worker.{Worker}
+use Rattle.rescale_core.specs.declared.worker.Worker.{Worker}
 use Rattle.rescale_core.specs.declared.seed.Seed.{Seed}
 use Rattle.rescale_core.specs.declared.item.Entry.{Entry}
 use Rattle.rescale_core.specs.declared.item.Item.{Item}

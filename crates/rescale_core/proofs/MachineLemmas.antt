@@ -18,15 +18,15 @@ use Rattle.rescale_core.specs.Handing.{chance, nth, ready_items, standing}
 use Rattle.rescale_core.specs.Worlds.{World, Allowed, Seat, after, all_collected, fed_more, line_in}
 use Rattle.rescale_core.specs.Worlds.{ready_in, set_seat, spot_in, took_one}
 use Rattle.rescale_core.specs.Worlds.Move.{Read, Feed, Take, Collect, Emit}
-use Rattle.rescale_core.specs.declared.cells.Applied.{Applied}
-use Rattle.rescale_core.specs.declared.cells.Applied.TheVariants.{Did, NotEnabled}
-use Rattle.rescale_core.specs.declared.cells.Cell.{Cell}
-use Rattle.rescale_core.specs.declared.cells.Step.TheVariants as step
+use Rattle.rescale_core.specs.declared.step.Applied.{Applied}
+use Rattle.rescale_core.specs.declared.step.Applied.TheVariants.{Did, NotEnabled}
+use Rattle.rescale_core.specs.declared.cell.Cell.{Cell}
+use Rattle.rescale_core.specs.declared.step.Step.TheVariants as step
 use Rattle.rescale_core.specs.declared.item.Entry.{Entry}
 use Rattle.rescale_core.specs.declared.item.Item.{Item}
 use Rattle.rescale_core.specs.declared.item.Out.{Out}
-use Rattle.rescale_core.specs.declared.routes.Router.{Router}
-use Rattle.rescale_core.specs.declared.stage.Machine.{Machine}
+use Rattle.rescale_core.specs.declared.router.Router.{Router}
+use Rattle.rescale_core.specs.declared.machine.Machine.{Machine}
 use Rattle.rescale_core.proofs.CellLemmas.{nth_set, nth_else, line_none, seed_in, seat_here, seat_else, back_cell}
 use Rattle.rescale_core.proofs.CellLemmas.{same_cell, within_front}
 

@@ -22,7 +22,7 @@ use Rattle.state_merge.specs.MergingView.{MergingOf}
 use Rattle.state_merge.specs.declared.merging.Merging.{Merging}
 use Rattle.rescale_core.specs.declared.phase.Phase.{Phase}
 use Rattle.rescale_core.specs.declared.phase.Phase.TheVariants.{Active, Vacant, Waiting}
-use Rattle.rescale_core.specs.declared.phase.Worker.{Worker}
+use Rattle.rescale_core.specs.declared.worker.Worker.{Worker}
 use Rattle.monitor_state.specs.declared.state.Piece.{Piece}
 
 -- ---- a part

@@ -11,7 +11,7 @@ use Rattle.rescale_core.specs.Queues.{chances, is_clear, queue_at}
 use Rattle.rescale_core.specs.Routing.{HasEnded, IsRouterOf}
 use Rattle.rescale_core.specs.Worlds.{World, IsGathered}
 use Rattle.rescale_core.specs.declared.slot.Slot.{Slot}
-use Rattle.rescale_core.specs.declared.routes.Router.{Router}
+use Rattle.rescale_core.specs.declared.router.Router.{Router}
 
 none_inside : (xs : List Slot) → length xs ≡ 0 → xs ≡ []
 none_inside [] e = refl

@@ -28,7 +28,7 @@ use Rattle.rescale_core.specs.Worlds.Move.{Collect, Emit}
 use Rattle.rescale_core.specs.declared.item.Item.{Item}
 use Rattle.rescale_core.specs.declared.item.Out.{Out}
 use Rattle.monitor_state.specs.declared.state.Piece.{Piece}
-use Rattle.rescale_core.specs.declared.routes.Router.{Router}
+use Rattle.rescale_core.specs.declared.router.Router.{Router}
 
 -- ---- collecting
 

@@ -18,11 +18,11 @@ use Rattle.rescale_core.specs.Stages.{Answers}
 use Rattle.rescale_core.specs.Handing.{chance, standing}
 use Rattle.rescale_core.specs.Worlds.{World, Allowed, Seat, after, line_in, spot_in, took_one}
 use Rattle.rescale_core.specs.Worlds.Move.{Take}
+use Rattle.rescale_core.specs.declared.driver.Driver.{Driver}
 use Rattle.rescale_core.specs.declared.item.Entry.{Entry}
 use Rattle.rescale_core.specs.declared.item.Item.{Item}
 use Rattle.rescale_core.specs.declared.item.Out.{Out}
-use Rattle.rescale_core.specs.declared.routes.Router.{Router}
-use Rattle.rescale_core.specs.declared.turns.Driver.{Driver}
+use Rattle.rescale_core.specs.declared.router.Router.{Router}
 
 -- ---- steps, one after the other
 

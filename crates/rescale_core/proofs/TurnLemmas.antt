@@ -23,10 +23,10 @@ use Rattle.rescale_core.specs.Works.{MayBy, ToldBy, seen}
 use Rattle.rescale_core.specs.Worlds.{World, Allowed, AreAllowed, Seat, after, all_collected, fed_more, first_seat}
 use Rattle.rescale_core.specs.Worlds.{line_in, run}
 use Rattle.rescale_core.specs.Worlds.Move.{Feed, Collect}
+use Rattle.rescale_core.specs.declared.driver.Driver.{Driver}
 use Rattle.rescale_core.specs.declared.item.Item.{Item}
 use Rattle.rescale_core.specs.declared.item.Out.{Out}
-use Rattle.rescale_core.specs.declared.routes.Router.{Router}
-use Rattle.rescale_core.specs.declared.turns.Driver.{Driver}
+use Rattle.rescale_core.specs.declared.router.Router.{Router}
 
 -- where the others' seats are as before, those without a cell are
 beyond_kept : (d e : Driver) (w x : World) (k : ℕ) (new : CellLine) → lines_of e ≡ slice_set (lines_of d) k new

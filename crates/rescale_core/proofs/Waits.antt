@@ -26,7 +26,7 @@ use Rattle.rescale_core.specs.declared.item.Entry.TheVariants.{Point, Change}
 use Rattle.rescale_core.specs.declared.item.Item.{Item}
 use Rattle.rescale_core.specs.declared.slot.Slot.{Slot}
 use Rattle.rescale_core.specs.declared.slot.Slot.TheVariants.{Ready, Room}
-use Rattle.rescale_core.specs.declared.routes.Router.{Router}
+use Rattle.rescale_core.specs.declared.router.Router.{Router}
 
 -- ---- queues
 

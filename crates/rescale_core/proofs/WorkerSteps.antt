@@ -38,7 +38,7 @@ use Rattle.rescale_core.specs.Workers.{IsFor, MayFollow, settled_in, slice_for}
 use Rattle.rescale_core.specs.Working.{CanTake, IsAt, Steps, first_stage}
 use Rattle.rescale_core.specs.declared.phase.Phase.{Phase}
 use Rattle.rescale_core.specs.declared.phase.Phase.TheVariants.{Active}
-use Rattle.rescale_core.specs.declared.phase.Worker.{Worker}
+use Rattle.rescale_core.specs.declared.worker.Worker.{Worker}
 use Rattle.rescale_core.specs.declared.item.Item.TheVariants.{Slice}
 use Rattle.rescale_core.specs.declared.item.Out.{Out}
 use Rattle.rescale_core.specs.declared.settled.Settled.{Settled}

@@ -11,17 +11,17 @@ use Rattle.rescale_core.specs.Working.{StandsFor}
 use Rattle.rescale_core.specs.Handing.{nth}
 use Rattle.rescale_core.specs.Worlds.{World, Allowed, IsGathered, Seat, after, spot_in}
 use Rattle.rescale_core.specs.Worlds.Move.{Read, Feed, Take, Collect, Emit}
-use Rattle.rescale_core.specs.declared.cells.Applied.{Applied}
-use Rattle.rescale_core.specs.declared.cells.Applied.TheVariants.{Did, NotEnabled}
-use Rattle.rescale_core.specs.declared.cells.Cell.{Cell}
-use Rattle.rescale_core.specs.declared.cells.Step.{Step}
-use Rattle.rescale_core.specs.declared.cells.Step.TheVariants as step
+use Rattle.rescale_core.specs.declared.step.Applied.{Applied}
+use Rattle.rescale_core.specs.declared.step.Applied.TheVariants.{Did, NotEnabled}
+use Rattle.rescale_core.specs.declared.cell.Cell.{Cell}
+use Rattle.rescale_core.specs.declared.step.Step.{Step}
+use Rattle.rescale_core.specs.declared.step.Step.TheVariants as step
 use Rattle.rescale_core.specs.declared.item.Entry.{Entry}
 use Rattle.rescale_core.specs.declared.item.Entry.TheVariants.{Point, Change}
 use Rattle.rescale_core.specs.declared.item.Item.{Item}
 use Rattle.rescale_core.specs.declared.item.Out.{Out}
 use Rattle.verdict_merge.specs.declared.rows.Verdict.{Verdict}
-use Rattle.rescale_core.specs.declared.stage.Machine.{Machine}
+use Rattle.rescale_core.specs.declared.machine.Machine.{Machine}
 
 -- The cell is of a worker with this seed and seat: the worker stands for what it took and gave, and what lies in the
 -- cell was handed over and not taken, and given and not collected.

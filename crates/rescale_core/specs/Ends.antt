@@ -20,15 +20,15 @@ use Rattle.rescale_core.specs.Workers.{owner, settled_in, violations_at}
 use Rattle.rescale_core.specs.Working.{StandsFor, seed_of}
 use Rattle.rescale_core.specs.Works.{StandsBy, begun}
 use Rattle.rescale_core.specs.Worlds.{World, IsGathered, spot_in, verdict_on}
-use Rattle.rescale_core.specs.declared.cells.Step.{Step}
+use Rattle.rescale_core.specs.declared.driver.Driver.{Driver}
+use Rattle.rescale_core.specs.declared.driver.Turn.{Turn}
 use Rattle.rescale_core.specs.declared.item.Entry.{Entry}
 use Rattle.rescale_core.specs.declared.item.Item.{Item}
 use Rattle.rescale_core.specs.declared.item.Out.{Out}
-use Rattle.rescale_core.specs.declared.phase.Worker.{Worker}
+use Rattle.rescale_core.specs.declared.machine.Machine.{Machine}
 use Rattle.rescale_core.specs.declared.seed.Seed.{Seed}
-use Rattle.rescale_core.specs.declared.stage.Machine.{Machine}
-use Rattle.rescale_core.specs.declared.turns.Driver.{Driver}
-use Rattle.rescale_core.specs.declared.turns.Turn.{Turn}
+use Rattle.rescale_core.specs.declared.step.Step.{Step}
+use Rattle.rescale_core.specs.declared.worker.Worker.{Worker}
 
 -- in each world that a machine stands for, what workers were handed fits, what they gave answers it, and what was
 -- emitted are the first verdicts

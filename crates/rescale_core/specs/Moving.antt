@@ -18,11 +18,11 @@ use Rattle.rescale_core.specs.Worlds.Move.{Read, Feed, Take, Collect, Emit}
 use Rattle.rescale_core.specs.declared.item.Entry.{Entry}
 use Rattle.rescale_core.specs.declared.item.Item.{Item}
 use Rattle.rescale_core.specs.declared.item.Out.{Out}
-use Rattle.rescale_core.specs.declared.phase.Worker.{Worker}
+use Rattle.rescale_core.specs.declared.worker.Worker.{Worker}
 use Rattle.rescale_core.specs.declared.seed.Seed.{Seed}
-use Rattle.rescale_core.specs.declared.turns.Driver.{Driver}
-use Rattle.rescale_core.specs.declared.turns.Turn.{Turn}
-use Rattle.rescale_core.specs.declared.turns.Turn.TheVariants.{Moved, NotYet, Broken}
+use Rattle.rescale_core.specs.declared.driver.Driver.{Driver}
+use Rattle.rescale_core.specs.declared.driver.Turn.{Turn}
+use Rattle.rescale_core.specs.declared.driver.Turn.TheVariants.{Moved, NotYet, Broken}
 
 -- what main knows of a worker's cell
 abbrev pub CellLine : Type 0

@@ -14,7 +14,7 @@ use Rattle.rescale_core.specs.Seeds.{SeedOf}
 use Rattle.state_merge.specs.declared.merging.Merging.{Merging}
 use Rattle.rescale_core.specs.declared.phase.Phase.{Phase}
 use Rattle.rescale_core.specs.declared.phase.Phase.TheVariants.{Active, Vacant, Waiting}
-use Rattle.rescale_core.specs.declared.phase.Worker.{Worker}
+use Rattle.rescale_core.specs.declared.worker.Worker.{Worker}
 use Rattle.rescale_core.specs.declared.item.Entry.{Entry}
 use Rattle.rescale_core.specs.declared.item.Item.{Item}
 use Rattle.rescale_core.specs.declared.item.Out.{Out}

@@ -5,8 +5,8 @@ use Rattle.rescale_core.specs.Seeds.{SeedOf}
 use Rattle.rescale_core.specs.Working.{May, StandsFor, Told, may_less, may_none, tells}
 use Rattle.rescale_core.specs.declared.item.Item.{Item}
 use Rattle.rescale_core.specs.declared.item.Out.{Out}
-use Rattle.rescale_core.specs.declared.phase.Worker.{Worker}
 use Rattle.rescale_core.specs.declared.seed.Seed.{Seed}
+use Rattle.rescale_core.specs.declared.worker.Worker.{Worker}
 
 -- a seed as the definitions speak of it: of the core its form alone
 abbrev pub seen : Seed → SeedOf

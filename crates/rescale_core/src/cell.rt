@@ -2,9 +2,22 @@
 ghost use Rattle.std.specs.Prelude.{◌≡◌, ◌+◌, IfOk};
 ghost use Rattle.rescale_core.specs.Cells.{MayTake, Takes};
 
-use crate::cells::{Applied, Cell};
+use crate::item::{Item, Out};
+use crate::step::Applied;
+use crate::worker::Worker;
 use std::alloc::{AllocError, Global};
+use std::collections::VecDeque;
 use turn_hub::Work;
+
+/// A worker, the items that it was handed and didn't take, and how many it took that were not collected, with what it
+/// gave for these.
+#[derive(Drop)]
+pub(crate) struct Cell {
+    pub(crate) worker: Worker,
+    pub(crate) items: VecDeque<Item>,
+    pub(crate) taken: u64,
+    pub(crate) outs: Vec<Out>,
+}
 
 impl Cell {
     /// The worker takes the next item, if it was handed one.

@@ -12,14 +12,31 @@ ghost use Rattle.rescale_core.specs.Worlds.{World, Allowed, IsGathered, after, f
 ghost use Rattle.rescale_core.specs.Worlds.Move.{Emit};
 ghost use Rattle.rescale_core.specs.declared.item.Entry.TheVariants.{Change, Point};
 
-use crate::phase::Worker;
-use crate::routes::Router;
-use crate::turns::{Driver, Turn};
+use crate::router::Router;
+use crate::worker::Worker;
 use mfotl_model::TimePoint;
 use slice_strategy::Strategy;
 use std::alloc::{AllocError, Global};
 use turn_hub::{Hub, Main, Swap};
 use verdict_merge::Verdict;
+
+/// The router beside main's end of a hub of workers.
+#[derive(Drop)]
+pub struct Driver {
+    pub(crate) router: Router,
+    pub(crate) main: Main<Worker>,
+}
+
+/// What main found at a worker.
+#[derive(Drop)]
+pub enum Turn {
+    /// How many items the worker had, all of which it took, and how many it was handed now.
+    Moved(u64, u64),
+    /// It is the worker's turn.
+    NotYet,
+    /// The worker ran out of memory.
+    Broken,
+}
 
 impl Driver {
     /// The driver that did nothing yet, of a router that was just started and a hub that was just opened on workers of

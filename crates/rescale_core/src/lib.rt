@@ -4,7 +4,6 @@
 #![tactic(auto)]
 
 mod cell;
-mod cells;
 mod driver;
 pub mod examples;
 mod item;
@@ -18,20 +17,17 @@ mod reading;
 mod rescaling;
 mod router;
 mod router_start;
-mod routes;
 mod seed;
 mod settled;
 mod slot;
-mod slots;
-mod stage;
-mod turns;
+mod step;
 mod waiting;
 mod worker;
 
-pub use cells::{Applied, Step};
+pub use driver::{Driver, Turn};
 pub use item::{Entry, Item, Out};
-pub use phase::Worker;
-pub use routes::Router;
+pub use machine::Machine;
+pub use router::Router;
 pub use seed::Seed;
-pub use stage::Machine;
-pub use turns::{Driver, Turn};
+pub use step::{Applied, Step};
+pub use worker::Worker;

@@ -4,12 +4,23 @@ ghost use Rattle.rescale_core.specs.Cells.{Applies, IsMachineOf};
 ghost use Rattle.rescale_core.specs.Worlds.{World, ready_in};
 ghost use Rattle.rescale_core.specs.declared.item.Entry.{Entry as OneEntry};
 
-use crate::cells::{Applied, Step};
+use crate::cell::Cell;
 use crate::item::Entry;
-use crate::stage::Machine;
+use crate::router::Router;
+use crate::step::{Applied, Step};
 use std::alloc::{AllocError, Global};
+use std::collections::VecDeque;
 use std::mem;
 use verdict_merge::Verdict;
+
+/// Router and workers on one thread, over entries that are known beforehand.
+#[derive(Drop)]
+pub struct Machine {
+    pub(crate) router: Router,
+    pub(crate) cells: Vec<Cell>,
+    pub(crate) left: VecDeque<Entry>,
+    pub(crate) verdicts: Vec<Verdict>,
+}
 
 impl Machine {
     /// How many items may be handed to worker `k` now.

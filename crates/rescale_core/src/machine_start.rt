@@ -8,13 +8,13 @@ ghost use Rattle.rescale_core.specs.Workers.{IsFor};
 ghost use Rattle.rescale_core.specs.Handing.{nth};
 ghost use Rattle.rescale_core.specs.Worlds.{first_world};
 ghost use Rattle.mfotl_model.specs.Strategies.{workers_of};
-ghost use Rattle.rescale_core.specs.declared.cells.Cell.{Cell as OneCell};
+ghost use Rattle.rescale_core.specs.declared.cell.Cell.{Cell as OneCell};
 
-use crate::cells::Cell;
+use crate::cell::Cell;
 use crate::item::Entry;
-use crate::phase::Worker;
-use crate::routes::Router;
-use crate::stage::Machine;
+use crate::machine::Machine;
+use crate::router::Router;
+use crate::worker::Worker;
 use monitorable::Core;
 use slice_strategy::{Slicer, Strategy};
 use std::alloc::{AllocError, Global};

@@ -6,7 +6,8 @@ ghost use Rattle.rescale_core.specs.States.{IsFull};
 ghost use Rattle.rescale_core.specs.Working.{CanTake, Gave, GoesOn, IsOpen, Settles, Steps};
 
 use crate::item::{Item, Out};
-use crate::phase::{Phase, Worker};
+use crate::phase::Phase;
+use crate::worker::Worker;
 use monitor_state::Piece;
 use monitorable::Core;
 use slice_strategy::Strategy;

@@ -12,13 +12,26 @@ use crate::item::{Item, Out};
 use crate::outstanding::{grow_counts, lower, none_outstanding, raise};
 use crate::queue::{Queue, none_wait};
 use crate::reading::{grow, push_parts, push_places, push_slices};
-use crate::routes::Router;
 use event_splitter::split_owned;
 use mfotl_model::TimePoint;
 use monitor_state::Piece;
+use monitorable::Core;
 use slice_strategy::{Slicer, Strategy};
 use std::alloc::{AllocError, Global};
 use verdict_merge::{Gather, Verdict};
+
+/// Queues what is read for each worker, and gathers what they give.
+#[derive(Drop)]
+pub struct Router {
+    pub(crate) core: Core,
+    pub(crate) strategy: Strategy,
+    pub(crate) generation: u64,
+    pub(crate) points: u64,
+    pub(crate) queues: Vec<Queue>,
+    // how many items each worker was handed that were not collected
+    pub(crate) outstanding: Vec<u64>,
+    pub(crate) gather: Gather,
+}
 
 impl Router {
     /// Queues a slice of the time-point for each worker, also an empty one.

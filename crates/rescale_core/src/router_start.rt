@@ -7,7 +7,7 @@ ghost use Rattle.rescale_core.specs.Workers.{IsFor};
 ghost use Rattle.rescale_core.specs.Worlds.{first_world};
 
 use crate::queue::Queue;
-use crate::routes::Router;
+use crate::router::Router;
 use monitorable::Core;
 use slice_strategy::{Slicer, Strategy};
 use std::alloc::{AllocError, Global};

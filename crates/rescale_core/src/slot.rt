@@ -1,4 +1,7 @@
 //! What stands in a queue.
+ghost use Rattle.std.specs.Prelude.{◌≡◌};
+ghost use Rattle.rescale_core.specs.Slots.{ends_place, is_there, item_in, lacks, put_in, weight_of};
+
 use crate::item::Item;
 use monitor_state::Piece;
 use slice_strategy::Strategy;
@@ -14,4 +17,73 @@ pub(crate) enum Slot {
         last: bool,
         piece: Option<Piece>,
     },
+}
+
+impl Slot {
+    /// Whether its item is there.
+    pub(crate) fn is_there(&self) -> bool
+        ensures { result ≡ is_there self.now }
+    {
+        match self {
+            Slot::Ready(_) => true,
+            Slot::Room { piece, .. } => piece.is_some(),
+        }
+    }
+
+    /// Whether it is the last one of a place.
+    pub(crate) fn ends_place(&self) -> bool
+        ensures { result ≡ ends_place self.now }
+    {
+        match self {
+            Slot::Ready(_) => false,
+            Slot::Room { last, .. } => *last,
+        }
+    }
+
+    /// Whether a piece of the generation is missing there.
+    pub(crate) fn lacks(&self, generation: u64) -> bool
+        ensures { result ≡ lacks generation self.now }
+    {
+        match self {
+            Slot::Ready(_) => false,
+            Slot::Room {
+                generation: own,
+                piece,
+                ..
+            } => *own == generation && piece.is_none(),
+        }
+    }
+
+    /// How much it counts as.
+    pub(crate) fn weight(&self) -> u64
+        ensures { result ≡ weight_of self.now }
+    {
+        match self {
+            Slot::Ready(_) => 1,
+            Slot::Room { last, .. } => *last as u64,
+        }
+    }
+
+    /// The item, if it is there.
+    pub(crate) fn into_item(self) -> Option<Item>
+        ensures { result ≡ item_in self }
+    {
+        match self {
+            Slot::Ready(item) => Some(item),
+            Slot::Room { piece, now, .. } => {
+                let piece = piece?;
+                Some(Item::Adopt { piece, now })
+            }
+        }
+    }
+
+    /// Puts the piece where there is room.
+    pub(crate) fn put(&mut self, piece: Piece)
+        ensures { self.new ≡ put_in piece self.old }
+    {
+        match self {
+            Slot::Ready(_) => {}
+            Slot::Room { piece: room, .. } => *room = Some(piece),
+        }
+    }
 }

@@ -6,9 +6,9 @@ ghost use Rattle.rescale_core.specs.Routing.{IsRouterOf};
 ghost use Rattle.rescale_core.specs.Waiting.{HasRoom, waiting_in};
 ghost use Rattle.rescale_core.specs.Worlds.{World};
 
+use crate::driver::Driver;
 use crate::queue::all_short;
-use crate::routes::Router;
-use crate::turns::Driver;
+use crate::router::Router;
 
 impl Router {
     /// How much waits for worker `k`.

@@ -5,7 +5,7 @@ ghost use Rattle.rescale_core.specs.Workers.{IsFor};
 ghost use Rattle.rescale_core.specs.Working.{CanTake, Gave, IsAt, StandsFor, first_stage, seed_of};
 
 use crate::item::{Item, Out};
-use crate::phase::{Phase, Worker};
+use crate::phase::Phase;
 use crate::seed::Seed;
 use crate::settled::{give_rows, numbered};
 use mfotl_model::TimePoint;
@@ -15,6 +15,15 @@ use slice_strategy::{Slicer, Strategy};
 use std::alloc::{AllocError, Global};
 use std::snapshot::Snapshot;
 use turn_hub::Work;
+
+/// Takes items one by one, and gives what it finds in them.
+#[derive(Drop)]
+pub struct Worker {
+    pub(crate) core: Core,
+    pub(crate) number: u32,
+    pub(crate) first: Snapshot<Strategy>,
+    pub(crate) phase: Phase,
+}
 
 impl Worker {
     /// The worker of number `k` that took nothing yet: it monitors if the strategy has so many workers.

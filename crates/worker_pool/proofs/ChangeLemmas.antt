@@ -16,8 +16,8 @@ use Rattle.rescale_core.specs.Moving.Kind.{Reads}
 use Rattle.rescale_core.specs.Workers.{IsFor}
 use Rattle.rescale_core.specs.Worlds.{World, after, spot_in}
 use Rattle.rescale_core.specs.Worlds.Move.{Read}
+use Rattle.rescale_core.specs.declared.driver.Driver.{Driver}
 use Rattle.rescale_core.specs.declared.item.Entry.TheVariants.{Change as ToStrategy}
-use Rattle.rescale_core.specs.declared.turns.Driver.{Driver}
 use Rattle.mon_outside.specs.Sink.{Appends}
 use Rattle.slice_strategy.specs.declared.change.Change.{Change}
 use Rattle.worker_pool.specs.Changes.{AllSuit, ChangesIn, HaveCells, IsDue, Suits, TakesDue}

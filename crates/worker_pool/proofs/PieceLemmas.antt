@@ -20,7 +20,7 @@ use Rattle.log_reader.specs.Readings.{NoFault, Reading, reading, shown}
 use Rattle.log_reader.specs.declared.limits.Limits.{Limits}
 use Rattle.monitorable.specs.CoreForms.{CoreForm}
 use Rattle.monitorable.specs.Laws.{open_log}
-use Rattle.rescale_core.specs.declared.turns.Driver.{Driver}
+use Rattle.rescale_core.specs.declared.driver.Driver.{Driver}
 use Rattle.worker_pool.specs.Effects.{Effect}
 use Rattle.worker_pool.specs.Endings.{EndsBy, FollowsLog}
 use Rattle.worker_pool.specs.Pieces.{Feeds, IsPieceStop, ReadsPiece, SoFar, StopsLines, TakesAll, end_of}

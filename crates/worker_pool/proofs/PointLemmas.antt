@@ -24,7 +24,7 @@ use Rattle.monitorable.proofs.TextFinal.{text_final}
 use Rattle.monitorable.specs.CoreForms.{CoreForm}
 use Rattle.monitorable.specs.Laws.{open_log}
 use Rattle.rescale_core.specs.Workers.{MayFollow}
-use Rattle.rescale_core.specs.declared.turns.Driver.{Driver}
+use Rattle.rescale_core.specs.declared.driver.Driver.{Driver}
 use Rattle.worker_pool.specs.Pieces.{SoFar, StopsLines, TakesAll, stop_for}
 use Rattle.worker_pool.specs.Policies.{ForEachPolicy, IsCoreOf}
 use Rattle.worker_pool.specs.Texts.{lines, tally_of, text_on}

@@ -32,7 +32,7 @@ use Rattle.monitor_state.specs.contracts.monitor.Monitor as Monitor
 use Rattle.monitor_state.specs.contracts.state.State as State
 use Rattle.monitor_state.specs.contracts.state.NodeData as NodeData
 use Rattle.state_merge.specs.contracts.merging.Merging as Merging
-use Rattle.rescale_core.specs.contracts.phase.Worker as Worker
+use Rattle.rescale_core.specs.contracts.worker.Worker as Worker
 use Rattle.rescale_core.specs.contracts.item.Item as Item
 use Rattle.rescale_core.specs.contracts.item.Out as Out
 

@@ -22,9 +22,9 @@ use Rattle.rescale_core.specs.Routing.{HasEnded}
 use Rattle.rescale_core.specs.Workers.{MayFollow, settled_in}
 use Rattle.rescale_core.specs.Worlds.{World, Allowed, after, first_world, spot_in, verdict_on}
 use Rattle.rescale_core.specs.Worlds.Move.{Emit, Read}
+use Rattle.rescale_core.specs.declared.driver.Driver.{Driver}
+use Rattle.rescale_core.specs.declared.driver.Turn.{Turn}
 use Rattle.rescale_core.specs.declared.item.Entry.TheVariants.{Point}
-use Rattle.rescale_core.specs.declared.turns.Driver.{Driver}
-use Rattle.rescale_core.specs.declared.turns.Turn.{Turn}
 use Rattle.verdict_merge.specs.declared.rows.Verdict.{Verdict}
 use Rattle.worker_pool.specs.Texts.{lines, tally_of}
 use Rattle.worker_pool.specs.Writing.{Adds, Begins, FallsShort, IsOver, Keeps, ReadsIn, Runs, RunsTo, Writes}

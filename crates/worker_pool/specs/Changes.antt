@@ -8,8 +8,8 @@ use Rattle.rescale_core.specs.Moving.{IsDriverOf, Reaches, core_of}
 use Rattle.rescale_core.specs.Moving.Kind.{Reads}
 use Rattle.rescale_core.specs.Workers.{IsFor}
 use Rattle.rescale_core.specs.Worlds.{World}
+use Rattle.rescale_core.specs.declared.driver.Driver.{Driver}
 use Rattle.rescale_core.specs.declared.item.Entry.TheVariants.{Change as ToStrategy}
-use Rattle.rescale_core.specs.declared.turns.Driver.{Driver}
 use Rattle.worker_pool.specs.declared.schedule.Schedule.{Schedule}
 
 -- each change is to a strategy for the core

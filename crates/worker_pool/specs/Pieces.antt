@@ -12,7 +12,7 @@ use Rattle.log_reader.specs.Readers.{ForEach, Reader, Reads, progress}
 use Rattle.log_reader.specs.Readings.{Fault, NoFault, Reading}
 use Rattle.log_reader.specs.declared.fault.LogFault.{LogFault}
 use Rattle.log_reader.specs.declared.fault.LogFault.TheVariants as log
-use Rattle.rescale_core.specs.declared.turns.Driver.{Driver}
+use Rattle.rescale_core.specs.declared.driver.Driver.{Driver}
 use Rattle.worker_pool.specs.Texts.{lines, tally_of, text_on}
 use Rattle.worker_pool.specs.Writing.{IsOutputStop, Writes, all_verdicts}
 use Rattle.worker_pool.specs.declared.end.End.{End}

@@ -13,8 +13,8 @@ use Rattle.rescale_core.specs.Moving.Kind.{Reads}
 use Rattle.rescale_core.specs.Waiting.{HasRoom}
 use Rattle.rescale_core.specs.Workers.{MayFollow, settled_in}
 use Rattle.rescale_core.specs.Worlds.{World, first_world, spot_in, verdict_on}
+use Rattle.rescale_core.specs.declared.driver.Driver.{Driver}
 use Rattle.rescale_core.specs.declared.item.Entry.TheVariants.{Point}
-use Rattle.rescale_core.specs.declared.turns.Driver.{Driver}
 use Rattle.verdict_merge.specs.declared.rows.Verdict.{Verdict}
 use Rattle.worker_pool.specs.Texts.{lines, tally_of}
 use Rattle.worker_pool.specs.declared.stop.Stop.{Stop}

@@ -4,7 +4,7 @@ use lib.ListN.{get_elem?}
 use Rattle.turn_hub.specs.Steps.{started}
 use Rattle.rescale_core.specs.Moving.{CellLine}
 use Rattle.rescale_core.specs.Works.{begun, seen}
-use Rattle.rescale_core.specs.declared.phase.Worker.{Worker}
+use Rattle.rescale_core.specs.declared.worker.Worker.{Worker}
 use Rattle.rescale_core.proofs.laws.opened_workers.Goals as goal
 
 -- what stands in a place of a mapped list

@@ -3,7 +3,7 @@ use Rattle.monitorable.specs.Cores.{core_form}
 use Rattle.rescale_core.specs.Cells.{IsCellOf}
 use Rattle.rescale_core.specs.Handing.{nth}
 use Rattle.rescale_core.specs.Worlds.{first_world}
-use Rattle.rescale_core.specs.declared.cells.Cell.{Cell}
+use Rattle.rescale_core.specs.declared.cell.Cell.{Cell}
 use Rattle.rescale_core.proofs.machine_start.new_cells.Given as goal
 
 abbrev pub invariant-loop-k : goal.invariant-loop-k

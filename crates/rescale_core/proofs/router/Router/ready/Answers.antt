@@ -1,0 +1,18 @@
+use Rattle.std.proofs.Common.{ap, sym, length, arith, ◌∙◌}
+use Rattle.rescale_core.specs.Slots.{ready_of}
+use Rattle.rescale_core.proofs.QueueLemmas.{queue_beyond, queue_here}
+use Rattle.rescale_core.proofs.ReadyQueues.{router_ready}
+use Rattle.rescale_core.proofs.router.Router.ready.Goals as goal
+
+pub returns-then-k-len : goal.returns-then-k-len
+returns-then-k-len c = λ w is.
+    ap length
+    (ap ready_of (sym (queue_beyond c.args.self.now.queues.items c.args.k (omega (arith, c.len.ensures))))
+    ∙ router_ready c.args.self.now w is c.args.k)
+
+pub returns : goal.returns
+returns c = λ w is.
+    c.ready.ensures
+    ∙ ap length
+    (ap ready_of (sym (queue_here c.args.self.now.queues.items c.args.k c.index.result.now
+    (omega (arith, c.len.ensures)) c.index.ensures)) ∙ router_ready c.args.self.now w is c.args.k)
