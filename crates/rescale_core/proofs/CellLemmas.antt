@@ -10,7 +10,7 @@ use Rattle.rescale_core.proofs.Leading.{has_front}
 use Rattle.rescale_core.proofs.Chains.{left_out}
 use Rattle.rescale_core.proofs.Soundness.{has_of}
 use Rattle.rescale_core.specs.Cells.{AreWithin, IsCellAt, IsCellOf}
-use Rattle.rescale_core.specs.Lines.{Spot, if_below, line, moved, place, turn_at}
+use Rattle.rescale_core.specs.Lines.{Spot, if_below, line, moved, place, change_at}
 use Rattle.rescale_core.specs.Lines.Due.{Slicing, Parting}
 use Rattle.rescale_core.specs.Seeds.{SeedOf}
 use Rattle.rescale_core.specs.Soundly.{IsSound}
@@ -66,10 +66,10 @@ pub line_none : (k n : ℕ) (es : List Entry) (a : Spot) → AreWithin n es → 
 line_none k n [] a h high low = refl
 line_none k n (Change s ∷ es) a h high low =
     let new : workers_of s ≤ n = h.0 in
-    ap (λ x. (x ++ if_below k (workers_of s) (place (turn_at a s))) ++ line k (moved a (Change s)) es)
-    (left_out k (workers_of a.strategy) (Parting (turn_at a s) ∷ []) (omega arith))
+    ap (λ x. (x ++ if_below k (workers_of s) (place (change_at a s))) ++ line k (moved a (Change s)) es)
+    (left_out k (workers_of a.strategy) (Parting (change_at a s) ∷ []) (omega arith))
     ∙ ap (λ x. x ++ line k (moved a (Change s)) es)
-    (left_out k (workers_of s) (place (turn_at a s)) (omega arith))
+    (left_out k (workers_of s) (place (change_at a s)) (omega arith))
     ∙ line_none k n es (moved a (Change s)) h.1 new low
 line_none k n (Point p ∷ es) a h high low =
     ap (λ x. x ++ line k (moved a (Point p)) es)

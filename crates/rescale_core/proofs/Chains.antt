@@ -6,7 +6,8 @@ use Rattle.std.specs.List.{range_with_len}
 use native.Mathlib.Decide.{ℕ_discrete}
 use Rattle.std.proofs.lemmas.Bool.Decides.{leb_tells}
 use Rattle.mfotl_model.specs.Strategies.{Strategy, workers_of}
-use Rattle.rescale_core.specs.Lines.{Turn, Spot, Due, turn_at, moved, if_below, place, dues, line, AreSound}
+use Rattle.rescale_core.specs.Lines.{ChangeOfStrategy, Spot, Due, change_at, moved, if_below, place, dues, line}
+use Rattle.rescale_core.specs.Lines.{AreSound}
 use Rattle.rescale_core.specs.Stages.{Stage, froms_of, Meets, from_of, stage_after, Fits, stage, Follows}
 use Rattle.rescale_core.specs.Workers.{MayFollow, IsFor}
 use Rattle.monitorable.specs.CoreForms.{CoreForm}
@@ -44,12 +45,13 @@ pub agrees_gone : (k : ℕ) (a : Spot) → workers_of a.strategy ≤ k → Agree
 agrees_gone k a h = record { live = λ e. absurd (omega arith); gone = λ _. refl }
 
 -- what is known of the stage before the n pieces that are still to come after j
-abbrev Before : Turn → ℕ → ℕ → Stage → Type 0
+abbrev Before : ChangeOfStrategy → ℕ → ℕ → Stage → Type 0
 Before t n j st = (n ≡ 0 → st ≡ Live t.new t.before)
     × (0 < n → (j ≡ length (froms_of st)) × ((st ≡ Gone) ⊎ (st ≡ Filling t (froms_of st)))
     × (j ≢ 0 → st ≡ Filling t (froms_of st)))
 
-before_next : (t : Turn) (n j : ℕ) (st : Stage) (from : ℕ) → j + suc n ≡ workers_of t.old → j ≡ length (froms_of st)
+before_next : (t : ChangeOfStrategy) (n j : ℕ) (st : Stage) (from : ℕ) → j + suc n ≡ workers_of t.old
+    → j ≡ length (froms_of st)
     → Dec (j + 1 ≡ workers_of t.old)
     → Before t n (j + 1)
     (cond (nat_eq (j + 1) (workers_of t.old)) (Live t.new t.before) (Filling t (from ∷ froms_of st)))
@@ -64,7 +66,7 @@ before_next t n j st from e here (no other) =
     (ne_eqb (j + 1) (workers_of t.old) other)))
     ((λ z. absurd (other (omega arith))), λ h. (omega arith, inr refl, λ _. refl))
 
-module _ (c : CoreForm) (k : ℕ) (t : Turn) (rest : List Due) (after : Chain c k (Live t.new t.before) rest)
+module _ (c : CoreForm) (k : ℕ) (t : ChangeOfStrategy) (rest : List Due) (after : Chain c k (Live t.new t.before) rest)
     (f : IsFor c t.old) (f' : IsFor c t.new) where
   pub holes : (n j : ℕ) (st : Stage) → j + n ≡ workers_of t.old → Before t n j st
       → Chain c k st (map (λ i. Hole t i) (range_with_len j n) ++ rest)
@@ -76,7 +78,7 @@ module _ (c : CoreForm) (k : ℕ) (t : Turn) (rest : List Due) (after : Chain c 
   )
 
 -- the state goes, if there is one
-parted : (c : CoreForm) (k : ℕ) (t : Turn) (st : Stage) (more : List Due)
+parted : (c : CoreForm) (k : ℕ) (t : ChangeOfStrategy) (st : Stage) (more : List Due)
     → (k < workers_of t.old → st ≡ Live t.old t.before) → (workers_of t.old ≤ k → st ≡ Gone) → IsFor c t.old
     → IsFor c t.new → Chain c k Gone more
     → Chain c k st (if_below k (workers_of t.old) (Parting t ∷ []) ++ more)
@@ -92,7 +94,7 @@ pub some_workers : (c : CoreForm) (s : Strategy) → IsFor c s → 0 < workers_o
 some_workers c s f = f.workers.some
 
 -- and comes, where there is one
-filled : (c : CoreForm) (k : ℕ) (t : Turn) (more : List Due) → IsFor c t.old → IsFor c t.new
+filled : (c : CoreForm) (k : ℕ) (t : ChangeOfStrategy) (more : List Due) → IsFor c t.old → IsFor c t.new
     → (k < workers_of t.new → Chain c k (Live t.new t.before) more) → (workers_of t.new ≤ k → Chain c k Gone more)
     → Chain c k Gone (if_below k (workers_of t.new) (place t) ++ more)
 filled c k t more f f' live gone = ⊎_elim
@@ -122,7 +124,7 @@ module _ (c : CoreForm) (k : ℕ) where
   chained [] a st f s g = tt
   chained (Point p ∷ es) a st f s g =
       sliced a p st (line k (moved a (Point p)) es) g s.0 f (λ x g'. chained es (moved a (Point p)) x f s.1 g')
-  chained (Change n ∷ es) a st f s g = let t : Turn = turn_at a n in
+  chained (Change n ∷ es) a st f s g = let t : ChangeOfStrategy = change_at a n in
       let more : List Due = line k (moved a (Change n)) es in
       subst (λ (x : List Due). Chain c k st x)
       (sym (append_assoc (if_below k (workers_of a.strategy) (Parting t ∷ []))

@@ -17,13 +17,13 @@ use Rattle.rescale_core.proofs.Soundness.{step_sound}
 use Rattle.rescale_core.proofs.WorldLemmas.{spot_more}
 use Rattle.rescale_core.specs.Chances.Chance.{Open}
 use Rattle.rescale_core.specs.Chances.Standing.{Last, Within}
-use Rattle.rescale_core.specs.Lines.{AreSound, Spot, Turn, dues, first_spot, if_below, moved, place, spot_after}
-use Rattle.rescale_core.specs.Lines.{turn_at}
+use Rattle.rescale_core.specs.Lines.{AreSound, Spot, ChangeOfStrategy, dues, first_spot, if_below, moved, place}
+use Rattle.rescale_core.specs.Lines.{spot_after, change_at}
 use Rattle.rescale_core.specs.Lines.Due.{Parting, Hole}
 use Rattle.rescale_core.specs.Queues.{chances, queue_at}
 use Rattle.rescale_core.specs.Routing.{IsRouterOf, part_below, place_below}
 use Rattle.rescale_core.specs.Slots.{chance_of, standing_of}
-use Rattle.rescale_core.specs.Soundly.{Known, turn_of}
+use Rattle.rescale_core.specs.Soundly.{Known, change_of}
 use Rattle.rescale_core.specs.Handing.{chance, chance_from, for_place, nth, standing}
 use Rattle.rescale_core.specs.Workers.{IsFor}
 use Rattle.rescale_core.specs.Worlds.{World, after, queue_in, spot_in, standings_in}
@@ -57,28 +57,28 @@ not_begun r w is =
     none_begun r.gather.begun (r.generation + 1) (spot_in w).generation is.gather.later
     (let g = is.generation in omega arith)
 
-turn_within : (es : List Entry) (a : Spot) (g : ℕ) (t : Turn) → turn_of a es g ≡ Some t
+change_within : (es : List Entry) (a : Spot) (g : ℕ) (t : ChangeOfStrategy) → change_of a es g ≡ Some t
     → g ≤ (spot_after a es).generation
-turn_within [] a g t e = cc
-turn_within (Point p ∷ es) a g t e = turn_within es (moved a (Point p)) g t e
-turn_within (Change x ∷ es) a g t e =
-    here (ℕ_discrete g (a.generation + 1)) (turn_within es (moved a (Change x)) g t)
+change_within [] a g t e = cc
+change_within (Point p ∷ es) a g t e = change_within es (moved a (Point p)) g t e
+change_within (Change x ∷ es) a g t e =
+    here (ℕ_discrete g (a.generation + 1)) (change_within es (moved a (Change x)) g t)
   where
     here : Dec (g ≡ a.generation + 1)
-        → (turn_of (moved a (Change x)) es g ≡ Some t → g ≤ (spot_after (moved a (Change x)) es).generation)
+        → (change_of (moved a (Change x)) es g ≡ Some t → g ≤ (spot_after (moved a (Change x)) es).generation)
         → g ≤ (spot_after (moved a (Change x)) es).generation
     here (yes is) rest = let h = spot_up es (moved a (Change x)) in omega arith
     here (no n) rest =
-        rest (ap (λ b. cond b (Some (turn_at a x)) (turn_of (moved a (Change x)) es g))
+        rest (ap (λ b. cond b (Some (change_at a x)) (change_of (moved a (Change x)) es g))
         (sym (ne_eqb g (a.generation + 1) n)) ∙ e)
 
 -- no piece is of a later generation
-none_yet : (f : ℕ → Option Turn) (c : CoreForm) (g q top : ℕ) (pieces : List Piece)
-    → ((h : ℕ) (t : Turn) → f h ≡ Some t → h ≤ top) → top < g → AllByRecursion (Known f c) pieces
+none_yet : (f : ℕ → Option ChangeOfStrategy) (c : CoreForm) (g q top : ℕ) (pieces : List Piece)
+    → ((h : ℕ) (t : ChangeOfStrategy) → f h ≡ Some t → h ≤ top) → top < g → AllByRecursion (Known f c) pieces
     → for_place g q pieces ≡ []
 none_yet f c g q top [] b l k = refl
 none_yet f c g q top (p ∷ pieces) b l k =
-    skips g q p pieces (λ e. (let h : p.generation ≤ top = b p.generation k.0.turn k.0.is in omega arith))
+    skips g q p pieces (λ e. (let h : p.generation ≤ top = b p.generation k.0.change k.0.is in omega arith))
     ∙ none_yet f c g q top pieces b l k.1
 
 -- ---- parts and places
@@ -88,7 +88,7 @@ if_map f true xs = refl
 if_map f false xs = refl
 
 -- a place of which no piece came
-rooms_open : (c : CoreForm) (q : ℕ) (pieces : List Piece) (t : Turn) (count n j : ℕ)
+rooms_open : (c : CoreForm) (q : ℕ) (pieces : List Piece) (t : ChangeOfStrategy) (count n j : ℕ)
     → for_place t.generation q pieces ≡ []
     → chances (map (λ i. Room t.generation t.new (nat_eq (i + 1) count) None) (range_with_len j n))
     ≡ map (chance c q pieces) (map (λ i. Hole t i) (range_with_len j n))
@@ -98,7 +98,7 @@ rooms_open c q pieces t count (suc n) j e =
     ∙ ap (λ xs. chance_from (Hole t j) (option_map (λ p. Adopt p t.new) (nth xs j))
     ∷ map (chance c q pieces) (map (λ i. Hole t i) (range_with_len (j + 1) n))) (sym e)
 
-rooms_stand : (t : Turn) (n j : ℕ)
+rooms_stand : (t : ChangeOfStrategy) (n j : ℕ)
     → map standing_of (map (λ i. Room t.generation t.new (nat_eq (i + 1) (workers_of t.old)) None) (range_with_len j n))
     ≡ map standing (map (λ i. Hole t i) (range_with_len j n))
 rooms_stand t zero j = refl
@@ -115,7 +115,7 @@ change_chances : (c : CoreForm) (q : ℕ) (pieces : List Piece) (a : Spot) (s : 
     → for_place (a.generation + 1) q pieces ≡ []
     → chances (changes_for q a s) ≡ map (chance c q pieces) (dues q a (Change s) ++ [])
 change_chances c q pieces a s e =
-    let t : Turn = turn_at a s in
+    let t : ChangeOfStrategy = change_at a s in
     map-append chance_of (part_below q (workers_of a.strategy) (a.generation + 1) a.strategy s)
     (place_below q (workers_of s) (a.generation + 1) s (workers_of a.strategy))
     ∙ ap (λ x. x ++ chances (place_below q (workers_of s) (a.generation + 1) s (workers_of a.strategy)))
@@ -135,7 +135,7 @@ change_chances c q pieces a s e =
 change_standings : (q : ℕ) (a : Spot) (s : Strategy)
     → map standing_of (changes_for q a s) ≡ map standing (dues q a (Change s) ++ [])
 change_standings q a s =
-    let t : Turn = turn_at a s in
+    let t : ChangeOfStrategy = change_at a s in
     map-append standing_of (part_below q (workers_of a.strategy) (a.generation + 1) a.strategy s)
     (place_below q (workers_of s) (a.generation + 1) s (workers_of a.strategy))
     ∙ ap (λ x. x ++ map standing_of (place_below q (workers_of s) (a.generation + 1) s (workers_of a.strategy)))
@@ -176,8 +176,8 @@ module _ (r x : Router) (w : World) (is : IsRouterOf r w) (s : Strategy) (may : 
 
     none_here : (q : ℕ) → for_place (a.generation + 1) q w.pieces ≡ []
     none_here q =
-        none_yet (turn_of (first_spot w.first) w.read) w.core (a.generation + 1) q a.generation w.pieces
-        (turn_within w.read (first_spot w.first)) (omega arith) is.sound.known
+        none_yet (change_of (first_spot w.first) w.read) w.core (a.generation + 1) q a.generation w.pieces
+        (change_within w.read (first_spot w.first)) (omega arith) is.sound.known
 
     -- the slots in the world's words
     queued_in : (q : ℕ) → queue_at x.queues.items q ≡ queue_at r.queues.items q ++ changes_for q a s

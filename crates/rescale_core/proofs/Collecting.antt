@@ -12,9 +12,9 @@ use Rattle.rescale_core.proofs.Rowing.{owns_cut, owns_front, slices_cut, slices_
 use Rattle.rescale_core.proofs.Rowing.{last_ascends, last_level_more, CameRow, rows_came, rows_more, LoneRow}
 use Rattle.rescale_core.proofs.Rowing.{rows_lone}
 use Rattle.rescale_core.proofs.WorldLemmas.{supplies_pieces}
-use Rattle.rescale_core.proofs.WorldLemmas.{AreTurns, Rises, line_rises, line_turns}
-use Rattle.rescale_core.specs.Lines.{Turn, Due, first_spot}
-use Rattle.rescale_core.specs.Soundly.{Known, turn_of, last_part, KnownRow, last_level, IsSeated, IsSound}
+use Rattle.rescale_core.proofs.WorldLemmas.{AreChanges, Rises, line_rises, line_changes}
+use Rattle.rescale_core.specs.Lines.{ChangeOfStrategy, Due, first_spot}
+use Rattle.rescale_core.specs.Soundly.{Known, change_of, last_part, KnownRow, last_level, IsSeated, IsSound}
 use Rattle.rescale_core.specs.Stages.{NotIn, Answers}
 use Rattle.rescale_core.specs.Workers.{settled_in}
 use Rattle.rescale_core.specs.Handing.{for_place}
@@ -30,7 +30,7 @@ use Rattle.rescale_core.specs.declared.item.Out.{Out}
 use Rattle.verdict_merge.specs.declared.rows.Rows.{Rows}
 use Rattle.rescale_core.specs.Worlds.Move.{Collect}
 use Rattle.rescale_core.proofs.Pieces.{distinct_snoc, drop_front, answers_cut, last_more, rises_cut, rises_front}
-use Rattle.rescale_core.proofs.Pieces.{last_rises, turns_cut, turns_front, Came, answers_came, Lone, answers_lone}
+use Rattle.rescale_core.proofs.Pieces.{last_rises, changes_cut, changes_front, Came, answers_came, Lone, answers_lone}
 use Rattle.rescale_core.proofs.Pieces.{pieces_more}
 use Rattle.rescale_core.proofs.SeatLemmas.{at_seat, at_seat_else, by_from, by_worker, own_pieces, own_rows}
 use Rattle.rescale_core.proofs.SeatLemmas.{other_pieces, other_rows}
@@ -88,8 +88,8 @@ module _ (w : World) (k : ℕ) (r : IsSound w) where
   abbrev lo : ℕ
   lo = last_part 0 (take st.collected ds)
 
-  abbrev f : ℕ → Option Turn
-  f = turn_of (first_spot w.first) w.read
+  abbrev f : ℕ → Option ChangeOfStrategy
+  f = change_of (first_spot w.first) w.read
 
   abbrev more : List Out
   more = (r.seated k).more.0
@@ -115,22 +115,22 @@ module _ (w : World) (k : ℕ) (r : IsSound w) where
       (rises_front 0 (take st.taken ds) (drop st.taken ds)
       (subst (Rises 0) (sym (take-append-drop st.taken ds)) (line_rises k w.read (first_spot w.first))))
 
-  turns : AreTurns f seg
-  turns = turns_cut f (take st.collected ds) seg
-      (subst (AreTurns f) cut
-      (turns_front f (take st.taken ds) (drop st.taken ds)
-      (subst (AreTurns f) (sym (take-append-drop st.taken ds)) (line_turns k w.read (first_spot w.first)))))
+  changes : AreChanges f seg
+  changes = changes_cut f (take st.collected ds) seg
+      (subst (AreChanges f) cut
+      (changes_front f (take st.taken ds) (drop st.taken ds)
+      (subst (AreChanges f) (sym (take-append-drop st.taken ds)) (line_changes k w.read (first_spot w.first)))))
 
   hi_is : last_part lo seg ≡ last_part 0 (take st.taken ds)
   hi_is = sym (ap (last_part 0) cut ∙ last_more 0 (take st.collected ds) seg)
 
   came : AllByRecursion (Came f w.core k lo (last_part lo seg)) ps
   came = subst (λ x. AllByRecursion (Came f w.core k lo (last_part lo seg)) (pieces_in x)) (sym rest_is)
-      (answers_came f w.core k lo seg more (rises_cut 0 (take st.collected ds) seg rises) turns answered)
+      (answers_came f w.core k lo seg more (rises_cut 0 (take st.collected ds) seg rises) changes answered)
 
   lone : (g q : ℕ) → Lone (for_place g q ps)
   lone g q = subst (λ x. Lone (for_place g q (pieces_in x))) (sym rest_is)
-      (answers_lone f w.core k lo g q seg more (rises_cut 0 (take st.collected ds) seg rises) turns answered)
+      (answers_lone f w.core k lo g q seg more (rises_cut 0 (take st.collected ds) seg rises) changes answered)
 
   -- an old piece of this worker is of an earlier generation
   apart_from : (g q : ℕ)

@@ -12,7 +12,7 @@ use Rattle.rescale_core.proofs.SlotLemmas.{filling, fillings}
 use Rattle.rescale_core.proofs.WorldLemmas.{Above, behind_change, if_either, line_above, mapped}
 use Rattle.rescale_core.specs.Chances.{Chance}
 use Rattle.rescale_core.specs.Chances.Chance.{Sure, Open}
-use Rattle.rescale_core.specs.Lines.{Turn, Spot, Due, turn_at, moved, first_spot, line, place}
+use Rattle.rescale_core.specs.Lines.{ChangeOfStrategy, Spot, Due, change_at, moved, first_spot, line, place}
 use Rattle.rescale_core.specs.Lines.Due.{Slicing, Parting, Hole}
 use Rattle.rescale_core.specs.Soundly.{Supplies, IsSound}
 use Rattle.rescale_core.specs.Workers.{slice_for}
@@ -37,17 +37,18 @@ none_next g j (Slicing h s log p ∷ ds) a = none_next g j ds a
 none_next g j (Parting t ∷ ds) a = none_next g j ds a.1
 none_next g j (Hole t i ∷ ds) a = inr ((λ e. (let h = a.0 in omega arith)), none_next g j ds a.1)
 
-these_next : (t : Turn) (n j : ℕ) (ds : List Due) → Above t.generation ds
+these_next : (t : ChangeOfStrategy) (n j : ℕ) (ds : List Due) → Above t.generation ds
     → Next t.generation j (map (λ i. Hole t i) (range_with_len j n) ++ ds)
 these_next t zero j ds a = none_next t.generation j ds a
 these_next t (suc n) j ds a = inl (refl, refl, these_next t n (j + 1) ds a)
 
-others_next : (g : ℕ) (t : Turn) (is : List ℕ) (j : ℕ) (ds : List Due) → t.generation ≢ g → Next g j ds
+others_next : (g : ℕ) (t : ChangeOfStrategy) (is : List ℕ) (j : ℕ) (ds : List Due) → t.generation ≢ g → Next g j ds
     → Next g j (map (λ i. Hole t i) is ++ ds)
 others_next g t [] j ds n a = a
 others_next g t (i ∷ is) j ds n a = inr (n, others_next g t is j ds n a)
 
-place_next : (g : ℕ) (t : Turn) (ds : List Due) → Above t.generation ds → Next g 0 ds → Dec (t.generation ≡ g)
+place_next : (g : ℕ) (t : ChangeOfStrategy) (ds : List Due) → Above t.generation ds → Next g 0 ds
+    → Dec (t.generation ≡ g)
     → Next g 0 (place t ++ ds)
 place_next g t ds above rest (yes e) =
     subst (λ x. Next x 0 (place t ++ ds)) e (these_next t (workers_of t.old) 0 ds above)
@@ -58,7 +59,8 @@ line_next g k [] a = tt
 line_next g k (Point p ∷ es) a = let rest = line_next g k es (moved a (Point p)) in
     if_either (λ x. Next g 0 (x ++ line k (moved a (Point p)) es)) (nat_lt k (workers_of a.strategy))
     (Slicing a.generation a.strategy a.points p ∷ []) rest rest
-line_next g k (Change s ∷ es) a = let more : List Due = line k (moved a (Change s)) es in let t : Turn = turn_at a s in
+line_next g k (Change s ∷ es) a = let more : List Due = line k (moved a (Change s)) es in
+    let t : ChangeOfStrategy = change_at a s in
     let rest : Next g 0 more = line_next g k es (moved a (Change s)) in
     behind_change (Next g 0) k a s more (λ parts places.
     let r : Next g 0 (cond places (place t) [] ++ more) =
@@ -128,12 +130,13 @@ module _ (c : CoreForm) (q : ℕ) (pieces : List Piece) (p : Piece) where
   abbrev new : Due → Chance
   new d = chance c q (pieces ++ p ∷ []) d
 
-  hole_same : (t : Turn) (i : ℕ) (xs ys : List Piece) → nth xs i ≡ nth ys i
+  hole_same : (t : ChangeOfStrategy) (i : ℕ) (xs ys : List Piece) → nth xs i ≡ nth ys i
       → chance_from (Hole t i) (option_map (λ x. Adopt x t.new) (nth xs i))
       ≡ chance_from (Hole t i) (option_map (λ x. Adopt x t.new) (nth ys i))
   hole_same t i xs ys e = ap (λ o. chance_from (Hole t i) (option_map (λ x. Adopt x t.new) o)) e
 
-  skipped : (t : Turn) (i : ℕ) → (p.generation ≢ t.generation) ⊎ (p.to ≢ q) → new (Hole t i) ≡ old (Hole t i)
+  skipped : (t : ChangeOfStrategy) (i : ℕ) → (p.generation ≢ t.generation) ⊎ (p.to ≢ q)
+      → new (Hole t i) ≡ old (Hole t i)
   skipped t i n = ap (λ xs. chance_from (Hole t i) (option_map (λ x. Adopt x t.new) (nth xs i)))
       (place_skips t.generation q pieces p n)
 
@@ -169,19 +172,20 @@ module _ (c : CoreForm) (q : ℕ) (pieces : List Piece) (p : Piece) where
         ∙ ap (λ r. old (Hole t i) ∷ r) (past j ds a.1 h))
         n
 
-    filled_other : (t : Turn) (o : Option Item) (i : ℕ) (r : List Chance) → t.generation ≢ p.generation
+    filled_other : (t : ChangeOfStrategy) (o : Option Item) (i : ℕ) (r : List Chance) → t.generation ≢ p.generation
         → filling p (chance_from (Hole t i) o ∷ r) ≡ chance_from (Hole t i) o ∷ filling p r
     filled_other t (Some x) i r n = refl
     filled_other t None i r n = ap (λ b. cond b (Sure (Adopt p t.new) ∷ r) (Open t.generation t.new ∷ filling p r))
         (ne_eqb t.generation p.generation n)
 
-    filled_sure : (t : Turn) (o : Option Piece) (x : Piece) (i : ℕ) (r : List Chance) → o ≡ Some x
+    filled_sure : (t : ChangeOfStrategy) (o : Option Piece) (x : Piece) (i : ℕ) (r : List Chance) → o ≡ Some x
         → filling p (chance_from (Hole t i) (option_map (λ y. Adopt y t.new) o) ∷ r)
         ≡ chance_from (Hole t i) (option_map (λ y. Adopt y t.new) o) ∷ filling p r
     filled_sure t (Some y) x i r e = refl
     filled_sure t None x i r e = cc
 
-    filled_open : (t : Turn) (o : Option Piece) (i : ℕ) (r : List Chance) → o ≡ None → t.generation ≡ p.generation
+    filled_open : (t : ChangeOfStrategy) (o : Option Piece) (i : ℕ) (r : List Chance) → o ≡ None
+        → t.generation ≡ p.generation
         → filling p (chance_from (Hole t i) (option_map (λ y. Adopt y t.new) o) ∷ r) ≡ Sure (Adopt p t.new) ∷ r
     filled_open t (Some y) i r e g = cc
     filled_open t None i r e g = ap (λ b. cond b (Sure (Adopt p t.new) ∷ r) (Open t.generation t.new ∷ filling p r))
@@ -192,7 +196,7 @@ module _ (c : CoreForm) (q : ℕ) (pieces : List Piece) (p : Piece) where
     nth_there (x ∷ xs) zero h = (x, refl)
     nth_there (x ∷ xs) (suc n) h = nth_there xs n (omega arith)
 
-    at_hole : (t : Turn) (i j : ℕ) (ds : List Due) → t.generation ≡ p.generation → i ≡ j
+    at_hole : (t : ChangeOfStrategy) (i j : ℕ) (ds : List Due) → t.generation ≡ p.generation → i ≡ j
         → (j < length (for_place p.generation q pieces) → map new ds ≡ filling p (map old ds))
         → (j ≡ length (for_place p.generation q pieces) → map new ds ≡ map old ds)
         → j ≤ length (for_place p.generation q pieces) → Dec (j ≡ length (for_place p.generation q pieces))

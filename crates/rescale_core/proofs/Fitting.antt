@@ -3,8 +3,8 @@ use Rattle.std.proofs.Common.{◌≡◌, ℕ, zero, suc, ◌+◌, Bool, true, fa
 use Rattle.std.proofs.Common.{◌∷◌, ◌++◌, length, map, filter, sym, refl, ap, ◌∙◌, subst, ⊎_elim, eqb-true}
 use Rattle.mfotl_model.specs.Strategies.{Strategy, workers_of}
 use Rattle.rescale_core.proofs.Chains.{Chain}
-use Rattle.rescale_core.proofs.WorldLemmas.{mapped, AreTurns}
-use Rattle.rescale_core.specs.Lines.{Turn, Due}
+use Rattle.rescale_core.proofs.WorldLemmas.{mapped, AreChanges}
+use Rattle.rescale_core.specs.Lines.{ChangeOfStrategy, Due}
 use Rattle.rescale_core.specs.Soundly.{Supplies, Known}
 use Rattle.rescale_core.specs.Stages.{NotIn, Stage, froms_of, IsPieceFor, Meets, stage_after, Fits, Follows}
 use Rattle.rescale_core.specs.Handing.{nth, for_place, item_of}
@@ -83,11 +83,11 @@ apart_none : (ps : List Piece) → AllApart [] ps
 apart_none [] = tt
 apart_none (p ∷ ps) = (tt, apart_none ps)
 
-module _ (c : CoreForm) (k : ℕ) (pieces : List Piece) (f : ℕ → Option Turn)
+module _ (c : CoreForm) (k : ℕ) (pieces : List Piece) (f : ℕ → Option ChangeOfStrategy)
     (known : AllByRecursion (Known f c) pieces)
     (distinct : (g : ℕ) → Apart (map (λ (p : Piece). p.from) (for_place g k pieces))) where
   abbrev Tied : Stage → Type 0
-  Tied st = (t : Turn) (froms : List ℕ) → st ≡ Filling t froms
+  Tied st = (t : ChangeOfStrategy) (froms : List ℕ) → st ≡ Filling t froms
       → froms ≡ froms_before (length froms) (for_place t.generation k pieces) []
 
   tied_live : (s : Strategy) (log : List _) → Tied (Live s log)
@@ -96,7 +96,7 @@ module _ (c : CoreForm) (k : ℕ) (pieces : List Piece) (f : ℕ → Option Turn
   tied_gone : Tied Gone
   tied_gone t froms e = cc
 
-  piece_due : (t : Turn) (j : ℕ) (p : Piece) → f t.generation ≡ Some t
+  piece_due : (t : ChangeOfStrategy) (j : ℕ) (p : Piece) → f t.generation ≡ Some t
       → nth (for_place t.generation k pieces) j ≡ Some p → IsPieceFor c t k p
   piece_due t j p ft e = let r =
       every_nth (λ x. Known f c x × (nat_eq x.generation t.generation && nat_eq x.to k ≡ true))
@@ -105,11 +105,12 @@ module _ (c : CoreForm) (k : ℕ) (pieces : List Piece) (f : ℕ → Option Turn
       let g_is : p.generation ≡ t.generation =
       eqb-true p.generation t.generation (and_left (nat_eq p.generation t.generation) (nat_eq p.to k) r.1) in
       let to_is : p.to ≡ k = eqb-true p.to k (and_right (nat_eq p.generation t.generation) (nat_eq p.to k) r.1) in
-      let same : Some (r.0.turn) ≡ Some t = sym r.0.is ∙ ap f g_is ∙ ft in
-      let t_is : r.0.turn ≡ t = cc in
-      subst (λ (x : ℕ). IsPieceFor c t x p) to_is (subst (λ (x : Turn). IsPieceFor c x p.to p) t_is r.0.piece_for)
+      let same : Some (r.0.change) ≡ Some t = sym r.0.is ∙ ap f g_is ∙ ft in
+      let t_is : r.0.change ≡ t = cc in
+      subst (λ (x : ℕ). IsPieceFor c t x p) to_is
+      (subst (λ (x : ChangeOfStrategy). IsPieceFor c x p.to p) t_is r.0.piece_for)
 
-  froms_here : (st : Stage) (t : Turn) (j : ℕ) → Follows c k st (Hole t j) → Tied st
+  froms_here : (st : Stage) (t : ChangeOfStrategy) (j : ℕ) → Follows c k st (Hole t j) → Tied st
       → froms_of st ≡ froms_before j (for_place t.generation k pieces) []
   froms_here st t j fo tied = ⊎_elim
       (λ gone. let j_is : j ≡ 0 = fo.0 ∙ ap (λ x. length (froms_of x)) gone in
@@ -118,7 +119,7 @@ module _ (c : CoreForm) (k : ℕ) (pieces : List Piece) (f : ℕ → Option Turn
       ∙ ap (λ x. froms_before x (for_place t.generation k pieces) []) (sym fo.0))
       fo.2
 
-  tied_next : (st : Stage) (t : Turn) (j : ℕ) (p : Piece) → Follows c k st (Hole t j) → Tied st
+  tied_next : (st : Stage) (t : ChangeOfStrategy) (j : ℕ) (p : Piece) → Follows c k st (Hole t j) → Tied st
       → nth (for_place t.generation k pieces) j ≡ Some p → Tied (stage_after st (Hole t j) (Adopt p t.new))
   tied_next st t j p fo tied e = by_test (nat_eq (j + 1) (workers_of t.old))
     where
@@ -131,19 +132,19 @@ module _ (c : CoreForm) (k : ℕ) (pieces : List Piece) (f : ℕ → Option Turn
       by_test true u froms same = tied_live t.new t.before u froms same
       by_test false u froms same = let a : t ≡ u = cc in let b : p.from ∷ froms_of st ≡ froms = cc in
           sym b ∙ longer ∙ ap (λ x. froms_before (length x) (for_place t.generation k pieces) []) b
-          ∙ ap (λ (x : Turn). froms_before (length froms) (for_place x.generation k pieces) []) a
+          ∙ ap (λ (x : ChangeOfStrategy). froms_before (length froms) (for_place x.generation k pieces) []) a
 
-  meets_due : (st : Stage) (d : Due) (i : Item) → Follows c k st d → Tied st → AreTurns f (d ∷ [])
+  meets_due : (st : Stage) (d : Due) (i : Item) → Follows c k st d → Tied st → AreChanges f (d ∷ [])
       → item_of c k pieces d ≡ Some i → Meets c k st d i × Tied (stage_after st d i)
-  meets_due st (Slicing g s log p) i fo tied turns e = (cc, tied_live s _)
-  meets_due st (Parting t) i fo tied turns e = (cc, tied_gone)
-  meets_due st (Hole t j) i fo tied turns e = let m =
+  meets_due st (Slicing g s log p) i fo tied changes e = (cc, tied_live s _)
+  meets_due st (Parting t) i fo tied changes e = (cc, tied_gone)
+  meets_due st (Hole t j) i fo tied changes e = let m =
       mapped (λ p. Adopt p t.new) (nth (for_place t.generation k pieces) j) i e in
       let p : Piece = m.0 in (
         (
           p,
           sym m.2,
-          piece_due t j p turns.0 m.1,
+          piece_due t j p changes.0 m.1,
           subst (λ xs. NotIn p.from xs) (sym (froms_here st t j fo tied))
               (not_before j (for_place t.generation k pieces) p [] (distinct t.generation)
               (apart_none (for_place t.generation k pieces)) m.1),
@@ -151,15 +152,15 @@ module _ (c : CoreForm) (k : ℕ) (pieces : List Piece) (f : ℕ → Option Turn
         subst (λ x. Tied (stage_after st (Hole t j) x)) m.2 (tied_next st t j p fo tied m.1),
       )
 
-  one_turn : (d : Due) (ds : List Due) → AreTurns f (d ∷ ds) → AreTurns f (d ∷ []) × AreTurns f ds
-  one_turn (Slicing g s log p) ds a = (tt, a)
-  one_turn (Parting t) ds a = ((a.0, tt), a.1)
-  one_turn (Hole t j) ds a = ((a.0, tt), a.1)
+  one_change : (d : Due) (ds : List Due) → AreChanges f (d ∷ ds) → AreChanges f (d ∷ []) × AreChanges f ds
+  one_change (Slicing g s log p) ds a = (tt, a)
+  one_change (Parting t) ds a = ((a.0, tt), a.1)
+  one_change (Hole t j) ds a = ((a.0, tt), a.1)
 
-  pub fits_of : (ds : List Due) (is : List Item) (st : Stage) → Chain c k st ds → Tied st → AreTurns f ds
+  pub fits_of : (ds : List Due) (is : List Item) (st : Stage) → Chain c k st ds → Tied st → AreChanges f ds
       → Supplies c k pieces ds is → Fits c k st ds is
-  fits_of ds [] st ch tied turns s = tt
-  fits_of [] (i ∷ is) st ch tied turns s = s
-  fits_of (d ∷ ds) (i ∷ is) st ch tied turns s = let u = one_turn d ds turns in
+  fits_of ds [] st ch tied changes s = tt
+  fits_of [] (i ∷ is) st ch tied changes s = s
+  fits_of (d ∷ ds) (i ∷ is) st ch tied changes s = let u = one_change d ds changes in
       let m = meets_due st d i ch.0 tied u.0 s.0 in
       (m.0, fits_of ds is (stage_after st d i) (ch.1 i m.0) m.1 u.1 s.1)

@@ -8,7 +8,7 @@ use Rattle.monitorable.specs.CoreForms.{CoreForm}
 use Rattle.monitorable.specs.Cores.{core_form}
 use Rattle.monitor_state.specs.declared.monitor.Monitor.{Monitor}
 use Rattle.rescale_core.proofs.WorkerSteps.{live_at}
-use Rattle.rescale_core.specs.Lines.{Due, Turn}
+use Rattle.rescale_core.specs.Lines.{Due, ChangeOfStrategy}
 use Rattle.rescale_core.specs.Lines.Due.{Slicing, Parting, Hole}
 use Rattle.monitor_state.specs.Pieces.{AreCuts, PieceStands}
 use Rattle.rescale_core.specs.States.{Adopted, CanAdopt, IsFull, Merges, MergesMore, Splits}
@@ -27,7 +27,7 @@ use Rattle.monitor_state.specs.declared.state.Piece.{Piece}
 
 -- ---- a part
 
-cut_pieces : (c : CoreForm) (k : ℕ) (t : Turn) (k2 : ℕ) (ps : List Piece) → k < workers_of t.old
+cut_pieces : (c : CoreForm) (k : ℕ) (t : ChangeOfStrategy) (k2 : ℕ) (ps : List Piece) → k < workers_of t.old
     → AreCuts c t.old k t.new t.before t.generation k2 ps → Parts c k t k2 (map (λ p. OfPiece p) ps)
 cut_pieces c k t k2 [] h a = tt
 cut_pieces c k t k2 (p ∷ ps) h a = (
@@ -110,13 +110,15 @@ part_active w g old new can = by can.0 can.1 can.2 can.3 can.4
 -- ---- a piece
 
 -- the merge has just the pieces of these workers
-record Carries (c : CoreForm) (k : ℕ) (t : Turn) (froms : List ℕ) (merging : Merging) (missing : ℕ) : Type 0 where
+record Carries (c : CoreForm) (k : ℕ) (t : ChangeOfStrategy) (froms : List ℕ) (merging : Merging)
+    (missing : ℕ) : Type 0 where
   merges : Merges c t.old t.new k t.before froms merging
   left : missing + length froms ≡ workers_of t.old
   some : 0 < missing
   adopted : Adopted t.old froms
 
-carries_none : (c : CoreForm) (k : ℕ) (t : Turn) (st : Stage) (phase : Phase) (count : ℕ) (merging : Merging)
+carries_none : (c : CoreForm) (k : ℕ) (t : ChangeOfStrategy) (st : Stage) (phase : Phase) (count : ℕ)
+    (merging : Merging)
     (missing : ℕ) → st ≡ Gone → 0 < workers_of t.old → IsAt c k st phase → count ≡ workers_of t.old
     → GoesOn phase c count merging missing → Carries c k t (froms_of st) merging missing
 carries_none c k t st phase count merging missing gone few at counts on =
@@ -135,7 +137,7 @@ carries_none c k t st phase count merging missing gone few at counts on =
       adopted = record { distinct = tt; near = tt };
     }
 
-carries_some : (c : CoreForm) (k : ℕ) (t : Turn) (st : Stage) (froms : List ℕ) (phase : Phase) (count : ℕ)
+carries_some : (c : CoreForm) (k : ℕ) (t : ChangeOfStrategy) (st : Stage) (froms : List ℕ) (phase : Phase) (count : ℕ)
     (merging : Merging) (missing : ℕ) → st ≡ Filling t froms → IsAt c k st phase
     → GoesOn phase c count merging missing → Carries c k t froms merging missing
 carries_some c k t st froms phase count merging missing filling at on =
@@ -149,7 +151,8 @@ carries_some c k t st froms phase count merging missing filling at on =
       adopted = a.6;
     }
 
-carries : (c : CoreForm) (k : ℕ) (t : Turn) (j : ℕ) (st : Stage) (phase : Phase) (count : ℕ) (merging : Merging)
+carries : (c : CoreForm) (k : ℕ) (t : ChangeOfStrategy) (j : ℕ) (st : Stage) (phase : Phase) (count : ℕ)
+    (merging : Merging)
     (missing : ℕ) → Follows c k st (Hole t j) → IsAt c k st phase → count ≡ workers_of t.old
     → GoesOn phase c count merging missing → Carries c k t (froms_of st) merging missing
 carries c k t j st phase count merging missing f at counts on = ⊎_elim
@@ -158,7 +161,7 @@ carries c k t j st phase count merging missing f at counts on = ⊎_elim
     f.2
 
 -- what is known of a piece that is due
-record DuePiece (w : Worker) (piece : Piece) (now : Strategy) (merging : Merging) (missing : ℕ) (t : Turn)
+record DuePiece (w : Worker) (piece : Piece) (now : Strategy) (merging : Merging) (missing : ℕ) (t : ChangeOfStrategy)
     (froms : List ℕ) : Type 0 where
   carried : Carries (core_form w.core) w.number t froms merging missing
   piece_for : IsPieceFor (core_form w.core) t w.number piece
@@ -194,7 +197,8 @@ module _ (w : Worker) (piece : Piece) (now : Strategy) (merging : Merging) (miss
   abbrev number_of : ℕ
   number_of = w.number
 
-  due_piece : (st : Stage) (t : Turn) (j : ℕ) → IsAt own number_of st w.phase → Follows own number_of st (Hole t j)
+  due_piece : (st : Stage) (t : ChangeOfStrategy) (j : ℕ) → IsAt own number_of st w.phase
+      → Follows own number_of st (Hole t j)
       → Meets own number_of st (Hole t j) (Adopt piece now) → DuePiece w piece now merging missing t (froms_of st)
   due_piece st t j at f meets =
       let p : Piece = meets.0 in
@@ -211,7 +215,7 @@ module _ (w : Worker) (piece : Piece) (now : Strategy) (merging : Merging) (miss
       }
 
   -- of which workers the pieces are then
-  with_piece : (t : Turn) (froms : List ℕ) → DuePiece w piece now merging missing t froms
+  with_piece : (t : ChangeOfStrategy) (froms : List ℕ) → DuePiece w piece now merging missing t froms
       → Adopted t.old (piece.from ∷ froms)
   with_piece t froms d =
       record {
@@ -251,7 +255,7 @@ module _ (w : Worker) (piece : Piece) (now : Strategy) (merging : Merging) (miss
 
   module _ (merging2 : Merging) (more : MergesMore merging piece merging2) where
     -- the merge with the piece
-    merges_piece : (t : Turn) (froms : List ℕ) → DuePiece w piece now merging missing t froms
+    merges_piece : (t : ChangeOfStrategy) (froms : List ℕ) → DuePiece w piece now merging missing t froms
         → Merges own t.old t.new number_of t.before (piece.from ∷ froms) merging2
     merges_piece t froms d =
         more own t.old t.new number_of t.before froms d.old_for d.new_for d.carried.merges d.piece_for.stands
@@ -281,7 +285,7 @@ module _ (w : Worker) (piece : Piece) (now : Strategy) (merging : Merging) (miss
 
     module _ (x : Worker) (core : core_form x.core ≡ core_form w.core) (number : x.number ≡ w.number)
         (settles : Settles merging2 now missing x.phase) where
-      at_last : (t : Turn) (froms : List ℕ) → DuePiece w piece now merging missing t froms → missing ≡ 1
+      at_last : (t : ChangeOfStrategy) (froms : List ℕ) → DuePiece w piece now merging missing t froms → missing ≡ 1
           → IsAt own number_of (Live t.new t.before) x.phase
       at_last t froms d one =
           let s = settles.0 one in (
@@ -291,7 +295,7 @@ module _ (w : Worker) (piece : Piece) (now : Strategy) (merging : Merging) (miss
                 (with_piece t froms d) (let l = d.carried.left in omega arith),
           )
 
-      before_last : (t : Turn) (froms : List ℕ) → DuePiece w piece now merging missing t froms → missing ≢ 1
+      before_last : (t : ChangeOfStrategy) (froms : List ℕ) → DuePiece w piece now merging missing t froms → missing ≢ 1
           → IsAt own number_of (Filling t (piece.from ∷ froms)) x.phase
       before_last t froms d other =
           let some = d.carried.some in
@@ -305,7 +309,7 @@ module _ (w : Worker) (piece : Piece) (now : Strategy) (merging : Merging) (miss
             with_piece t froms d,
           )
 
-      at_stage : (t : Turn) (j : ℕ) (froms : List ℕ) → DuePiece w piece now merging missing t froms
+      at_stage : (t : ChangeOfStrategy) (j : ℕ) (froms : List ℕ) → DuePiece w piece now merging missing t froms
           → j ≡ length froms → Dec (j + 1 ≡ workers_of t.old)
           → IsAt own number_of
           (cond (nat_eq (j + 1) (workers_of t.old)) (Live t.new t.before) (Filling t (piece.from ∷ froms))) x.phase

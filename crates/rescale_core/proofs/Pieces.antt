@@ -8,8 +8,8 @@ use Rattle.std.proofs.lemmas.List.{length-map}
 use native.Mathlib.Decide.{ℕ_discrete}
 use Rattle.mfotl_model.specs.Strategies.{Strategy, workers_of}
 use Rattle.rescale_core.proofs.Fitting.{and_right, every_more, every_map}
-use Rattle.rescale_core.proofs.WorldLemmas.{AreTurns, Rises}
-use Rattle.rescale_core.specs.Lines.{Turn, Due}
+use Rattle.rescale_core.proofs.WorldLemmas.{AreChanges, Rises}
+use Rattle.rescale_core.specs.Lines.{ChangeOfStrategy, Due}
 use Rattle.rescale_core.specs.Soundly.{Known, last_part}
 use Rattle.rescale_core.specs.Stages.{NotIn, IsPieceFor, Gives, Parts, Answers, rows_for}
 use Rattle.rescale_core.specs.Workers.{newly}
@@ -100,31 +100,33 @@ last_rises g (Slicing h s log p ∷ xs) r = last_rises g xs r
 last_rises g (Parting t ∷ xs) r = let h = last_rises t.generation xs r.1 in let l = r.0 in omega arith
 last_rises g (Hole t j ∷ xs) r = last_rises g xs r
 
-pub turns_cut : (f : ℕ → Option Turn) (xs ys : List Due) → AreTurns f (xs ++ ys) → AreTurns f ys
-turns_cut f [] ys r = r
-turns_cut f (Slicing h s log p ∷ xs) ys r = turns_cut f xs ys r
-turns_cut f (Parting t ∷ xs) ys r = turns_cut f xs ys r.1
-turns_cut f (Hole t j ∷ xs) ys r = turns_cut f xs ys r.1
+pub changes_cut : (f : ℕ → Option ChangeOfStrategy) (xs ys : List Due) → AreChanges f (xs ++ ys) → AreChanges f ys
+changes_cut f [] ys r = r
+changes_cut f (Slicing h s log p ∷ xs) ys r = changes_cut f xs ys r
+changes_cut f (Parting t ∷ xs) ys r = changes_cut f xs ys r.1
+changes_cut f (Hole t j ∷ xs) ys r = changes_cut f xs ys r.1
 
-pub turns_front : (f : ℕ → Option Turn) (xs ys : List Due) → AreTurns f (xs ++ ys) → AreTurns f xs
-turns_front f [] ys r = tt
-turns_front f (Slicing h s log p ∷ xs) ys r = turns_front f xs ys r
-turns_front f (Parting t ∷ xs) ys r = (r.0, turns_front f xs ys r.1)
-turns_front f (Hole t j ∷ xs) ys r = (r.0, turns_front f xs ys r.1)
+pub changes_front : (f : ℕ → Option ChangeOfStrategy) (xs ys : List Due) → AreChanges f (xs ++ ys) → AreChanges f xs
+changes_front f [] ys r = tt
+changes_front f (Slicing h s log p ∷ xs) ys r = changes_front f xs ys r
+changes_front f (Parting t ∷ xs) ys r = (r.0, changes_front f xs ys r.1)
+changes_front f (Hole t j ∷ xs) ys r = (r.0, changes_front f xs ys r.1)
 
 -- a piece that a part of k gave
-pub record Came (f : ℕ → Option Turn) (c : CoreForm) (k lo hi : ℕ) (p : Piece) : Type 0 where
+pub record Came (f : ℕ → Option ChangeOfStrategy) (c : CoreForm) (k lo hi : ℕ) (p : Piece) : Type 0 where
   pub known : Known f c p
   pub from : p.from ≡ k
   pub above : lo < p.generation
   pub within : p.generation ≤ hi
 
-came_wider : (f : ℕ → Option Turn) (c : CoreForm) (k lo lo' hi : ℕ) (p : Piece) → lo' ≤ lo → Came f c k lo hi p
+came_wider : (f : ℕ → Option ChangeOfStrategy) (c : CoreForm) (k lo lo' hi : ℕ) (p : Piece) → lo' ≤ lo
+    → Came f c k lo hi p
     → Came f c k lo' hi p
 came_wider f c k lo lo' hi p e r =
     record { known = r.known; from = r.from; above = (let h = r.above in omega arith); within = r.within }
 
-parts_came : (f : ℕ → Option Turn) (c : CoreForm) (k lo hi : ℕ) (t : Turn) (k2 : ℕ) (os : List Out)
+parts_came : (f : ℕ → Option ChangeOfStrategy) (c : CoreForm) (k lo hi : ℕ) (t : ChangeOfStrategy) (k2 : ℕ)
+    (os : List Out)
     → f t.generation ≡ Some t → lo < t.generation → t.generation ≤ hi → k2 + length os ≡ workers_of t.new
     → Parts c k t k2 os
     → AllByRecursion (Came f c k lo hi) (pieces_in os)
@@ -136,7 +138,7 @@ parts_came f c k lo hi t k2 (OfPiece p ∷ os) e l h n ps = let q : Piece = ps.0
     let g_is : p.generation ≡ t.generation = is.generation in (
       record {
         known = record {
-          turn = t;
+          change = t;
           is = ap f g_is ∙ e;
           piece_for = subst (λ (y : ℕ). IsPieceFor c t y p) (sym is.to) is;
           near = (let to : p.to ≡ k2 = is.to in omega arith);
@@ -148,8 +150,9 @@ parts_came f c k lo hi t k2 (OfPiece p ∷ os) e l h n ps = let q : Piece = ps.0
       parts_came f c k lo hi t (k2 + 1) os e l h (omega arith) ps.1,
     )
 
-pub answers_came : (f : ℕ → Option Turn) (c : CoreForm) (k lo : ℕ) (ds : List Due) (os : List Out) → Rises lo ds
-    → AreTurns f ds → Answers c k ds os → AllByRecursion (Came f c k lo (last_part lo ds)) (pieces_in os)
+pub answers_came : (f : ℕ → Option ChangeOfStrategy) (c : CoreForm) (k lo : ℕ) (ds : List Due) (os : List Out)
+    → Rises lo ds
+    → AreChanges f ds → Answers c k ds os → AllByRecursion (Came f c k lo (last_part lo ds)) (pieces_in os)
 answers_came f c k lo [] os r t a = subst (λ x. AllByRecursion (Came f c k lo lo) (pieces_in x)) (sym a) tt
 answers_came f c k lo (Slicing g s log p ∷ ds) os r t a = let rest = answers_came f c k lo ds a.1 r t a.4 in
     let none : pieces_in a.0 ≡ [] = ap pieces_in a.3 ∙ no_pieces_in c k g s log p (newly c log p) in
@@ -189,13 +192,13 @@ skips_to g q p ps n =
     ap (λ b. cond b (p ∷ for_place g q ps) (for_place g q ps))
     (and_false (nat_eq p.generation g) (nat_eq p.to q) (ne_eqb p.to q n))
 
-came_none : (f : ℕ → Option Turn) (c : CoreForm) (k lo hi g q : ℕ) (ps : List Piece)
+came_none : (f : ℕ → Option ChangeOfStrategy) (c : CoreForm) (k lo hi g q : ℕ) (ps : List Piece)
     → AllByRecursion (Came f c k lo hi) ps → g ≤ lo → for_place g q ps ≡ []
 came_none f c k lo hi g q [] a e = refl
 came_none f c k lo hi g q (p ∷ ps) a e = skips g q p ps (λ same. (let h = a.0.above in omega arith))
     ∙ came_none f c k lo hi g q ps a.1 e
 
-parts_none : (c : CoreForm) (k : ℕ) (t : Turn) (k2 g q : ℕ) (os : List Out) → Parts c k t k2 os → q < k2
+parts_none : (c : CoreForm) (k : ℕ) (t : ChangeOfStrategy) (k2 g q : ℕ) (os : List Out) → Parts c k t k2 os → q < k2
     → for_place g q (pieces_in os) ≡ []
 parts_none c k t k2 g q [] ps e = refl
 parts_none c k t k2 g q (OfRows r ∷ os) ps e = let x = ps.0.1 in cc
@@ -203,7 +206,8 @@ parts_none c k t k2 g q (OfPiece p ∷ os) ps e = let o : Piece = ps.0.0 in let 
     let to : p.to ≡ k2 = subst (λ (y : Piece). y.to ≡ k2) same ps.0.3.to in
     skips_to g q p (pieces_in os) (λ h. (omega arith)) ∙ parts_none c k t (k2 + 1) g q os ps.1 (omega arith)
 
-parts_other : (c : CoreForm) (k : ℕ) (t : Turn) (k2 g q : ℕ) (os : List Out) → Parts c k t k2 os → t.generation ≢ g
+parts_other : (c : CoreForm) (k : ℕ) (t : ChangeOfStrategy) (k2 g q : ℕ) (os : List Out) → Parts c k t k2 os
+    → t.generation ≢ g
     → for_place g q (pieces_in os) ≡ []
 parts_other c k t k2 g q [] ps e = refl
 parts_other c k t k2 g q (OfRows r ∷ os) ps e = let x = ps.0.1 in cc
@@ -215,7 +219,7 @@ lone_cons : (b : Bool) (p : Piece) (xs : List Piece) → (b ≡ true → xs ≡ 
 lone_cons true p xs none l = inr (p, ap (λ x. p ∷ x) (none refl))
 lone_cons false p xs none l = l
 
-parts_lone : (c : CoreForm) (k : ℕ) (t : Turn) (k2 g q : ℕ) (os : List Out) → Parts c k t k2 os
+parts_lone : (c : CoreForm) (k : ℕ) (t : ChangeOfStrategy) (k2 g q : ℕ) (os : List Out) → Parts c k t k2 os
     → Lone (for_place g q (pieces_in os))
 parts_lone c k t k2 g q [] ps = inl refl
 parts_lone c k t k2 g q (OfRows r ∷ os) ps = parts_lone c k t (k2 + 1) g q os ps.1
@@ -237,8 +241,9 @@ place_more : (g q : ℕ) (a b : List Out)
 place_more g q a b = ap (for_place g q) (pieces_more a b)
     ∙ filter-append (λ p. nat_eq p.generation g && nat_eq p.to q) (pieces_in a) (pieces_in b)
 
-by_generation : (f : ℕ → Option Turn) (c : CoreForm) (k g q : ℕ) (u : Turn) (ds : List Due) (a b : List Out)
-    → Rises u.generation ds → AreTurns f ds → Gives c k (Parting u) a → Answers c k ds b
+by_generation : (f : ℕ → Option ChangeOfStrategy) (c : CoreForm) (k g q : ℕ) (u : ChangeOfStrategy) (ds : List Due)
+    (a b : List Out)
+    → Rises u.generation ds → AreChanges f ds → Gives c k (Parting u) a → Answers c k ds b
     → Lone (for_place g q (pieces_in b))
     → Dec (u.generation ≡ g) → Lone (for_place g q (pieces_in a) ++ for_place g q (pieces_in b))
 by_generation f c k g q u ds a b r t gives answers rest (yes is) =
@@ -249,8 +254,9 @@ by_generation f c k g q u ds a b r t gives answers rest (no other) =
     lone_right (for_place g q (pieces_in a)) (for_place g q (pieces_in b))
     (parts_other c k u 0 g q a gives.1 other) rest
 
-pub answers_lone : (f : ℕ → Option Turn) (c : CoreForm) (k lo g q : ℕ) (ds : List Due) (os : List Out) → Rises lo ds
-    → AreTurns f ds → Answers c k ds os → Lone (for_place g q (pieces_in os))
+pub answers_lone : (f : ℕ → Option ChangeOfStrategy) (c : CoreForm) (k lo g q : ℕ) (ds : List Due) (os : List Out)
+    → Rises lo ds
+    → AreChanges f ds → Answers c k ds os → Lone (for_place g q (pieces_in os))
 answers_lone f c k lo g q [] os r t a = inl (ap (λ x. for_place g q (pieces_in x)) a)
 answers_lone f c k lo g q (Slicing h s log p ∷ ds) os r t a =
     subst Lone (sym (ap (λ x. for_place g q (pieces_in x)) a.2 ∙ place_more g q a.0 a.1))

@@ -14,10 +14,11 @@ use Rattle.rescale_core.proofs.Chains.{below, left_out, taken_if}
 use Rattle.rescale_core.proofs.Counting.{at_least}
 use Rattle.rescale_core.proofs.Pieces.{pieces_more}
 use Rattle.rescale_core.proofs.ReadyLemmas.{ready_first}
-use Rattle.rescale_core.proofs.WorldLemmas.{AreTurns, if_either, line_turns}
-use Rattle.rescale_core.specs.Lines.{Due, Spot, Turn, dues, first_spot, if_below, line, moved, place, turn_at}
+use Rattle.rescale_core.proofs.WorldLemmas.{AreChanges, if_either, line_changes}
+use Rattle.rescale_core.specs.Lines.{Due, Spot, ChangeOfStrategy, dues, first_spot, if_below, line, moved, place}
+use Rattle.rescale_core.specs.Lines.{change_at}
 use Rattle.rescale_core.specs.Lines.Due.{Slicing, Parting, Hole}
-use Rattle.rescale_core.specs.Soundly.{IsSound, turn_of}
+use Rattle.rescale_core.specs.Soundly.{IsSound, change_of}
 use Rattle.rescale_core.specs.Stages.{Answers, Parts}
 use Rattle.rescale_core.specs.Workers.{slice_for}
 use Rattle.rescale_core.specs.Handing.{for_place, item_of, nth, ready_items}
@@ -46,7 +47,7 @@ earlier_more g (Slicing h s log p ∷ a) b x y = earlier_more g a b x y
 earlier_more g (Parting t ∷ a) b x y = earlier_more g a b x y
 earlier_more g (Hole t j ∷ a) b x y = (x.0, earlier_more g a b x.1 y)
 
-earlier_holes : (g : ℕ) (t : Turn) (is : List ℕ) → t.generation < g → Earlier g (map (λ j. Hole t j) is)
+earlier_holes : (g : ℕ) (t : ChangeOfStrategy) (is : List ℕ) → t.generation < g → Earlier g (map (λ j. Hole t j) is)
 earlier_holes g t [] h = tt
 earlier_holes g t (i ∷ is) h = (h, earlier_holes g t is h)
 
@@ -54,39 +55,40 @@ earlier_dues : (g k : ℕ) (a : Spot) (e : Entry) → (moved a e).generation < g
 earlier_dues g k a (Point p) h =
     if_either (Earlier g) (nat_lt k (workers_of a.strategy)) (Slicing a.generation a.strategy a.points p ∷ []) tt tt
 earlier_dues g k a (Change s) h =
-    earlier_more g (if_below k (workers_of a.strategy) (Parting (turn_at a s) ∷ []))
-    (if_below k (workers_of s) (place (turn_at a s)))
-    (if_either (Earlier g) (nat_lt k (workers_of a.strategy)) (Parting (turn_at a s) ∷ []) tt tt)
-    (if_either (Earlier g) (nat_lt k (workers_of s)) (place (turn_at a s))
-    (earlier_holes g (turn_at a s) (range_with_len 0 (workers_of a.strategy)) h) tt)
+    earlier_more g (if_below k (workers_of a.strategy) (Parting (change_at a s) ∷ []))
+    (if_below k (workers_of s) (place (change_at a s)))
+    (if_either (Earlier g) (nat_lt k (workers_of a.strategy)) (Parting (change_at a s) ∷ []) tt tt)
+    (if_either (Earlier g) (nat_lt k (workers_of s)) (place (change_at a s))
+    (earlier_holes g (change_at a s) (range_with_len 0 (workers_of a.strategy)) h) tt)
 
 -- a part of a worker's line, with what comes before it
-pub record HasPart (ds : List Due) (t : Turn) : Type 0 where
+pub record HasPart (ds : List Due) (t : ChangeOfStrategy) : Type 0 where
   pub before : List Due
   pub behind : List Due
   pub is : ds ≡ before ++ Parting t ∷ behind
   pub earlier : Earlier t.generation before
 
-turn_later : (es : List Entry) (a : Spot) (g : ℕ) (t : Turn) → turn_of a es g ≡ Some t → a.generation < g
-turn_later [] a g t e = cc
-turn_later (Point p ∷ es) a g t e = turn_later es (moved a (Point p)) g t e
-turn_later (Change s ∷ es) a g t e = at (ℕ_discrete g (a.generation + 1)) (turn_later es (moved a (Change s)) g t)
+change_later : (es : List Entry) (a : Spot) (g : ℕ) (t : ChangeOfStrategy) → change_of a es g ≡ Some t
+    → a.generation < g
+change_later [] a g t e = cc
+change_later (Point p ∷ es) a g t e = change_later es (moved a (Point p)) g t e
+change_later (Change s ∷ es) a g t e = at (ℕ_discrete g (a.generation + 1)) (change_later es (moved a (Change s)) g t)
   where
-    at : Dec (g ≡ a.generation + 1) → (turn_of (moved a (Change s)) es g ≡ Some t → a.generation + 1 < g)
+    at : Dec (g ≡ a.generation + 1) → (change_of (moved a (Change s)) es g ≡ Some t → a.generation + 1 < g)
         → a.generation < g
     at (yes is) next = omega arith
     at (no n) next =
-        let h = next (ap (λ b. cond b (Some (turn_at a s)) (turn_of (moved a (Change s)) es g))
+        let h = next (ap (λ b. cond b (Some (change_at a s)) (change_of (moved a (Change s)) es g))
         (sym (ne_eqb g (a.generation + 1) n)) ∙ e) in
         omega arith
 
 -- each worker of the old strategy has its part
-pub has_part : (k : ℕ) (es : List Entry) (a : Spot) (g : ℕ) (t : Turn) → turn_of a es g ≡ Some t
+pub has_part : (k : ℕ) (es : List Entry) (a : Spot) (g : ℕ) (t : ChangeOfStrategy) → change_of a es g ≡ Some t
     → t.generation ≡ g → k < workers_of t.old → HasPart (line k a es) t
 has_part k [] a g t e same low = cc
 has_part k (Point p ∷ es) a g t e same low =
     let r = has_part k es (moved a (Point p)) g t e same low in
-    let later = turn_later es (moved a (Point p)) g t e in
+    let later = change_later es (moved a (Point p)) g t e in
     record {
       before = dues k a (Point p) ++ r.before;
       behind = r.behind;
@@ -99,31 +101,32 @@ has_part k (Change s ∷ es) a g t e same low =
     at (ℕ_discrete g (a.generation + 1)) (λ f. has_part k es (moved a (Change s)) g t f same low)
   where
     at : Dec (g ≡ a.generation + 1)
-        → (turn_of (moved a (Change s)) es g ≡ Some t → HasPart (line k (moved a (Change s)) es) t)
+        → (change_of (moved a (Change s)) es g ≡ Some t → HasPart (line k (moved a (Change s)) es) t)
         → HasPart (line k a (Change s ∷ es)) t
     at (yes is) next =
-        let here : Some (turn_at a s) ≡ Some t =
-        sym (ap (λ b. cond b (Some (turn_at a s)) (turn_of (moved a (Change s)) es g))
+        let here : Some (change_at a s) ≡ Some t =
+        sym (ap (λ b. cond b (Some (change_at a s)) (change_of (moved a (Change s)) es g))
         (eq-eqb g (a.generation + 1) is)) ∙ e in
-        let turn : turn_at a s ≡ t = cc in
-        let near : k < workers_of a.strategy = subst (λ (x : Turn). k < workers_of x.old) (sym turn) low in
+        let change : change_at a s ≡ t = cc in
+        let near : k < workers_of a.strategy =
+        subst (λ (x : ChangeOfStrategy). k < workers_of x.old) (sym change) low in
         record {
           before = [];
-          behind = (if_below k (workers_of s) (place (turn_at a s)) ++ line k (moved a (Change s)) es);
-          is = append_assoc (if_below k (workers_of a.strategy) (Parting (turn_at a s) ∷ []))
-              (if_below k (workers_of s) (place (turn_at a s))) (line k (moved a (Change s)) es)
-              ∙ ap (λ ds. ds ++ (if_below k (workers_of s) (place (turn_at a s)) ++ line k (moved a (Change s)) es))
-              (taken_if k (workers_of a.strategy) (Parting (turn_at a s) ∷ []) near)
-              ∙ ap (λ x. Parting x ∷ (if_below k (workers_of s) (place (turn_at a s)) ++ line k
-              (moved a (Change s)) es)) turn;
+          behind = (if_below k (workers_of s) (place (change_at a s)) ++ line k (moved a (Change s)) es);
+          is = append_assoc (if_below k (workers_of a.strategy) (Parting (change_at a s) ∷ []))
+              (if_below k (workers_of s) (place (change_at a s))) (line k (moved a (Change s)) es)
+              ∙ ap (λ ds. ds ++ (if_below k (workers_of s) (place (change_at a s)) ++ line k (moved a (Change s)) es))
+              (taken_if k (workers_of a.strategy) (Parting (change_at a s) ∷ []) near)
+              ∙ ap (λ x. Parting x ∷ (if_below k (workers_of s) (place (change_at a s)) ++ line k
+              (moved a (Change s)) es)) change;
           earlier = tt;
         }
     at (no n) next =
-        let f : turn_of (moved a (Change s)) es g ≡ Some t =
-        ap (λ b. cond b (Some (turn_at a s)) (turn_of (moved a (Change s)) es g))
+        let f : change_of (moved a (Change s)) es g ≡ Some t =
+        ap (λ b. cond b (Some (change_at a s)) (change_of (moved a (Change s)) es g))
         (sym (ne_eqb g (a.generation + 1) n)) ∙ e in
         let r = next f in
-        let later = turn_later es (moved a (Change s)) g t f in
+        let later = change_later es (moved a (Change s)) g t f in
         record {
           before = dues k a (Change s) ++ r.before;
           behind = r.behind;
@@ -139,7 +142,7 @@ has_part k (Change s ∷ es) a g t e same low =
 abbrev pub is_from_to : ℕ → ℕ → ℕ → Piece → Bool
 is_from_to g from to p = nat_eq p.from from && (nat_eq p.generation g && nat_eq p.to to)
 
-part_there : (c : CoreForm) (k : ℕ) (t : Turn) (to k2 : ℕ) (outs : List Out) → Parts c k t k2 outs → k2 ≤ to
+part_there : (c : CoreForm) (k : ℕ) (t : ChangeOfStrategy) (to k2 : ℕ) (outs : List Out) → Parts c k t k2 outs → k2 ≤ to
     → to < k2 + length outs → list_any (is_from_to t.generation k to) (pieces_in outs) ≡ true
 part_there c k t to k2 [] ps low high = absurd (omega arith)
 part_there c k t to k2 (OfRows r ∷ outs) ps low high = let x = ps.0.1 in cc
@@ -165,7 +168,8 @@ part_there c k t to k2 (OfPiece p ∷ outs) ps low high =
         (next (omega (arith, n)))
 
 -- what answers a part has its pieces
-pub piece_there : (c : CoreForm) (k : ℕ) (before : List Due) (t : Turn) (behind : List Due) (outs : List Out) (to : ℕ)
+pub piece_there : (c : CoreForm) (k : ℕ) (before : List Due) (t : ChangeOfStrategy) (behind : List Due)
+    (outs : List Out) (to : ℕ)
     → to < workers_of t.new → Answers c k (before ++ Parting t ∷ behind) outs
     → list_any (is_from_to t.generation k to) (pieces_in outs) ≡ true
 piece_there c k [] t behind outs to low a =
@@ -231,7 +235,8 @@ nth_within (x ∷ xs) zero h = (x, refl)
 nth_within (x ∷ xs) (suc n) h = nth_within xs n (omega arith)
 
 -- the first due of a rest of the line is before the part, or the part, or behind it
-first_left : (g n : ℕ) (before : List Due) (t : Turn) (behind : List Due) → Earlier g before → n ≤ length before
+first_left : (g n : ℕ) (before : List Due) (t : ChangeOfStrategy) (behind : List Due) → Earlier g before
+    → n ≤ length before
     → (d : Due) × (rest : List Due) × (drop n (before ++ Parting t ∷ behind) ≡ d ∷ rest)
     × (Earlier g (d ∷ []) ⊎ (d ≡ Parting t))
 first_left g zero [] t behind e h = (Parting t, behind, refl, inr refl)
@@ -258,13 +263,13 @@ near_more k (Slicing h s log p ∷ a) b x y = near_more k a b x y
 near_more k (Parting t ∷ a) b x y = near_more k a b x y
 near_more k (Hole t j ∷ a) b x y = (x.0, near_more k a b x.1 y)
 
-near_holes : (k : ℕ) (t : Turn) (i n : ℕ) → k < workers_of t.new → i + n ≤ workers_of t.old
+near_holes : (k : ℕ) (t : ChangeOfStrategy) (i n : ℕ) → k < workers_of t.new → i + n ≤ workers_of t.old
     → AreNear k (map (λ j. Hole t j) (range_with_len i n))
 unfolding AreNear
 near_holes k t i zero to h = tt
 near_holes k t i (suc n) to h = ((omega arith, to), near_holes k t (i + 1) n to (omega arith))
 
-near_place : (k : ℕ) (t : Turn) → AreNear k (if_below k (workers_of t.new) (place t))
+near_place : (k : ℕ) (t : ChangeOfStrategy) → AreNear k (if_below k (workers_of t.new) (place t))
 unfolding AreNear
 near_place k t = ⊎_elim
     (λ low. subst (AreNear k) (sym (taken_if k (workers_of t.new) (place t) low))
@@ -281,31 +286,32 @@ line_near k (Point p ∷ es) a =
     (line_near k es (moved a (Point p)))
 line_near k (Change s ∷ es) a =
     near_more k (dues k a (Change s)) (line k (moved a (Change s)) es)
-    (near_more k (if_below k (workers_of a.strategy) (Parting (turn_at a s) ∷ []))
-    (if_below k (workers_of s) (place (turn_at a s)))
-    (if_either (AreNear k) (nat_lt k (workers_of a.strategy)) (Parting (turn_at a s) ∷ []) tt tt)
-    (near_place k (turn_at a s)))
+    (near_more k (if_below k (workers_of a.strategy) (Parting (change_at a s) ∷ []))
+    (if_below k (workers_of s) (place (change_at a s)))
+    (if_either (AreNear k) (nat_lt k (workers_of a.strategy)) (Parting (change_at a s) ∷ []) tt tt)
+    (near_place k (change_at a s)))
     (line_near k es (moved a (Change s)))
 
 -- what is known of a hole that is the first due of a rest of the line
-hole_due : (f : ℕ → Option Turn) (k n : ℕ) (ds : List Due) (t : Turn) (j : ℕ) (rest : List Due) → AreTurns f ds
+hole_due : (f : ℕ → Option ChangeOfStrategy) (k n : ℕ) (ds : List Due) (t : ChangeOfStrategy) (j : ℕ) (rest : List Due)
+    → AreChanges f ds
     → AreNear k ds → drop n ds ≡ Hole t j ∷ rest
     → (f t.generation ≡ Some t) × (j < workers_of t.old) × (k < workers_of t.new)
 unfolding AreNear
-hole_due f k zero [] t j rest turns near e = cc
-hole_due f k zero (Slicing h s log p ∷ ds) t j rest turns near e = cc
-hole_due f k zero (Parting u ∷ ds) t j rest turns near e = cc
-hole_due f k zero (Hole u i ∷ ds) t j rest turns near e =
-    let turn : u ≡ t = cc in
+hole_due f k zero [] t j rest changes near e = cc
+hole_due f k zero (Slicing h s log p ∷ ds) t j rest changes near e = cc
+hole_due f k zero (Parting u ∷ ds) t j rest changes near e = cc
+hole_due f k zero (Hole u i ∷ ds) t j rest changes near e =
+    let change : u ≡ t = cc in
     let here : i ≡ j = cc in (
-      subst (λ (x : Turn). f x.generation ≡ Some x) turn turns.0,
-      subst (λ (x : Turn). j < workers_of x.old) turn (let l = near.0.0 in omega arith),
-      subst (λ (x : Turn). k < workers_of x.new) turn near.0.1,
+      subst (λ (x : ChangeOfStrategy). f x.generation ≡ Some x) change changes.0,
+      subst (λ (x : ChangeOfStrategy). j < workers_of x.old) change (let l = near.0.0 in omega arith),
+      subst (λ (x : ChangeOfStrategy). k < workers_of x.new) change near.0.1,
     )
-hole_due f k (suc n) [] t j rest turns near e = cc
-hole_due f k (suc n) (Slicing h s log p ∷ ds) t j rest turns near e = hole_due f k n ds t j rest turns near e
-hole_due f k (suc n) (Parting u ∷ ds) t j rest turns near e = hole_due f k n ds t j rest turns.1 near e
-hole_due f k (suc n) (Hole u i ∷ ds) t j rest turns near e = hole_due f k n ds t j rest turns.1 near.1 e
+hole_due f k (suc n) [] t j rest changes near e = cc
+hole_due f k (suc n) (Slicing h s log p ∷ ds) t j rest changes near e = hole_due f k n ds t j rest changes near e
+hole_due f k (suc n) (Parting u ∷ ds) t j rest changes near e = hole_due f k n ds t j rest changes.1 near e
+hole_due f k (suc n) (Hole u i ∷ ds) t j rest changes near e = hole_due f k n ds t j rest changes.1 near.1 e
 
 -- the first dues are those before the part, the part, and some behind it
 taken_past : (n : ℕ) (before : List Due) (d : Due) (behind : List Due) → length before < n
@@ -318,8 +324,8 @@ taken_past (suc n) (x ∷ before) d behind h =
 
 module _ (w : World) (sound : IsSound w) (idle : (k : ℕ) (i : Item) → Allowed w (Feed k i) → ⊥)
     (back : (k : ℕ) → length (w.seats k).fed ≤ (w.seats k).collected) where
-  abbrev f : ℕ → Option Turn
-  f = turn_of (first_spot w.first) w.read
+  abbrev f : ℕ → Option ChangeOfStrategy
+  f = change_of (first_spot w.first) w.read
 
   -- the first due that wasn't handed over isn't there
   not_there : (k : ℕ) (d : Due) (rest : List Due) (i : Item)
@@ -329,11 +335,11 @@ module _ (w : World) (sound : IsSound w) (idle : (k : ℕ) (i : Item) → Allowe
       idle k i (r.0, ap (ready_items w.core k w.pieces) e ∙ r.1)
 
   abbrev Stuck : ℕ → Type 0
-  Stuck n = (k : ℕ) (t : Turn) (j : ℕ) (rest : List Due)
+  Stuck n = (k : ℕ) (t : ChangeOfStrategy) (j : ℕ) (rest : List Due)
       → drop (length (w.seats k).fed) (line_in w k) ≡ Hole t j ∷ rest → t.generation < n → ⊥
 
   -- so it is a piece of an earlier change, if it comes before a part
-  first_none : (from : ℕ) (t : Turn) (d : Due) (rest : List Due) → Stuck t.generation
+  first_none : (from : ℕ) (t : ChangeOfStrategy) (d : Due) (rest : List Due) → Stuck t.generation
       → drop (length (w.seats from).fed) (line_in w from) ≡ d ∷ rest → Earlier t.generation (d ∷ []) → ⊥
   first_none from t (Slicing g s log p) rest earlier e early =
       not_there from (Slicing g s log p) rest (Slice g (length log) (slice_for w.core s from p)) e refl
@@ -342,7 +348,7 @@ module _ (w : World) (sound : IsSound w) (idle : (k : ℕ) (i : Item) → Allowe
   first_none from t (Hole u j) rest earlier e early = earlier from u j rest e early.0
 
   -- where no earlier piece is missing, each worker was handed its part
-  part_fed : (t : Turn) (from : ℕ) (part : HasPart (line_in w from) t) → Stuck t.generation
+  part_fed : (t : ChangeOfStrategy) (from : ℕ) (part : HasPart (line_in w from) t) → Stuck t.generation
       → length (w.seats from).fed ≤ length part.before → ⊥
   part_fed t from part earlier h =
       let n : ℕ = length (w.seats from).fed in
@@ -352,7 +358,7 @@ module _ (w : World) (sound : IsSound w) (idle : (k : ℕ) (i : Item) → Allowe
       (λ is. not_there from r.0 r.1 (Part t.generation t.old t.new) e (ap (item_of w.core from w.pieces) is)) r.3
 
   -- and what it gave for the part was collected
-  piece_came : (k : ℕ) (t : Turn) (from : ℕ) (part : HasPart (line_in w from) t) → k < workers_of t.new
+  piece_came : (k : ℕ) (t : ChangeOfStrategy) (from : ℕ) (part : HasPart (line_in w from) t) → k < workers_of t.new
       → length part.before < length (w.seats from).fed
       → list_any (nat_eq from) (map (λ (p : Piece). p.from) (for_place t.generation k w.pieces)) ≡ true
   piece_came k t from part to h =
@@ -367,18 +373,18 @@ module _ (w : World) (sound : IsSound w) (idle : (k : ℕ) (i : Item) → Allowe
       (ap (list_any (is_from_to t.generation from k)) s.pieces
       ∙ piece_there w.core from part.before t r.0 (w.seats from).back k to a))
 
-  came : (k : ℕ) (t : Turn) (from : ℕ) → Stuck t.generation → f t.generation ≡ Some t → k < workers_of t.new
+  came : (k : ℕ) (t : ChangeOfStrategy) (from : ℕ) → Stuck t.generation → f t.generation ≡ Some t → k < workers_of t.new
       → from < workers_of t.old
       → list_any (nat_eq from) (map (λ (p : Piece). p.from) (for_place t.generation k w.pieces)) ≡ true
-  came k t from earlier turn to low =
-      let part = has_part from w.read (first_spot w.first) t.generation t turn refl low in
+  came k t from earlier change to low =
+      let part = has_part from w.read (first_spot w.first) t.generation t change refl low in
       ⊎_elim (λ h. piece_came k t from part to h) (λ h. absurd (part_fed t from part earlier h))
       (below (length part.before) (length (w.seats from).fed))
 
   none_stuck : (n : ℕ) → Stuck n
   none_stuck zero k t j rest e h = absurd (omega arith)
   none_stuck (suc n) k t j rest e h =
-      let d = hole_due f k (length (w.seats k).fed) (line_in w k) t j rest (line_turns k w.read (first_spot w.first))
+      let d = hole_due f k (length (w.seats k).fed) (line_in w k) t j rest (line_changes k w.read (first_spot w.first))
       (line_near k w.read (first_spot w.first)) e in
       let ps : List Piece = for_place t.generation k w.pieces in
       let most = at_least (workers_of t.old) (map (λ (p : Piece). p.from) ps)

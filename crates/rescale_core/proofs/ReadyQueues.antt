@@ -9,17 +9,17 @@ use Rattle.monitorable.specs.CoreForms.{CoreForm}
 use Rattle.monitor_state.specs.declared.state.Piece.{Piece}
 use Rattle.verdict_merge.proofs.CountLemmas.{at_most}
 use Rattle.rescale_core.proofs.Fitting.{and_left, and_right, every_filter, every_map}
-use Rattle.rescale_core.proofs.WorldLemmas.{AreTurns, behind_change, if_either, line_turns}
+use Rattle.rescale_core.proofs.WorldLemmas.{AreChanges, behind_change, if_either, line_changes}
 use Rattle.rescale_core.specs.Chances.{Chance, Standing}
 use Rattle.rescale_core.specs.Chances.Chance.{Open, Sure}
 use Rattle.rescale_core.specs.Chances.Standing.{Last, Outside, Within}
 use Rattle.rescale_core.specs.Handing.{chance, chance_from, for_place, nth, ready_items, standing}
-use Rattle.rescale_core.specs.Lines.{Due, Spot, Turn, first_spot, line, moved, place, turn_at}
+use Rattle.rescale_core.specs.Lines.{Due, Spot, ChangeOfStrategy, first_spot, line, moved, place, change_at}
 use Rattle.rescale_core.specs.Lines.Due.{Slicing, Parting, Hole}
 use Rattle.rescale_core.specs.Queues.{chances, queue_at}
 use Rattle.rescale_core.specs.Routing.{IsRouterOf}
 use Rattle.rescale_core.specs.Slots.{ready_of, standing_of}
-use Rattle.rescale_core.specs.Soundly.{IsSound, Known, turn_of}
+use Rattle.rescale_core.specs.Soundly.{IsSound, Known, change_of}
 use Rattle.rescale_core.specs.Workers.{slice_for}
 use Rattle.rescale_core.specs.Worlds.{World, line_in, queue_in, ready_in}
 use Rattle.rescale_core.specs.declared.item.Entry.{Entry}
@@ -59,7 +59,7 @@ Runs (Hole t j ∷ ds) =
     ((j + 1 ≡ workers_of t.old)
     ⊎ ((j + 1 < workers_of t.old) × (rest : List Due) × (ds ≡ Hole t (j + 1) ∷ rest))) × Runs ds
 
-runs_place : (t : Turn) (n j : ℕ) (ds : List Due) → j + n ≡ workers_of t.old → Runs ds
+runs_place : (t : ChangeOfStrategy) (n j : ℕ) (ds : List Due) → j + n ≡ workers_of t.old → Runs ds
     → Runs (map (λ i. Hole t i) (range_with_len j n) ++ ds)
 runs_place t zero j ds e r = r
 runs_place t (suc zero) j ds e r = (inl (omega arith), r)
@@ -74,7 +74,7 @@ line_runs k (Point p ∷ es) a = let rest = line_runs k es (moved a (Point p)) i
     if_either (λ x. Runs (x ++ line k (moved a (Point p)) es)) (nat_lt k (workers_of a.strategy))
     (Slicing a.generation a.strategy a.points p ∷ []) rest rest
 line_runs k (Change s ∷ es) a = let more : List Due = line k (moved a (Change s)) es in
-    let t : Turn = turn_at a s in
+    let t : ChangeOfStrategy = change_at a s in
     let rest : Runs more = line_runs k es (moved a (Change s)) in
     behind_change Runs k a s more (λ parts places.
     let r : Runs (cond places (place t) [] ++ more) =
@@ -89,12 +89,12 @@ runs_left (suc n) (Slicing g s log p ∷ ds) r = runs_left n ds r
 runs_left (suc n) (Parting t ∷ ds) r = runs_left n ds r
 runs_left (suc n) (Hole t j ∷ ds) r = runs_left n ds r.1
 
-turns_left : (f : ℕ → Option Turn) (n : ℕ) (ds : List Due) → AreTurns f ds → AreTurns f (drop n ds)
-turns_left f zero ds r = r
-turns_left f (suc n) [] r = tt
-turns_left f (suc n) (Slicing g s log p ∷ ds) r = turns_left f n ds r
-turns_left f (suc n) (Parting t ∷ ds) r = turns_left f n ds r.1
-turns_left f (suc n) (Hole t j ∷ ds) r = turns_left f n ds r.1
+changes_left : (f : ℕ → Option ChangeOfStrategy) (n : ℕ) (ds : List Due) → AreChanges f ds → AreChanges f (drop n ds)
+changes_left f zero ds r = r
+changes_left f (suc n) [] r = tt
+changes_left f (suc n) (Slicing g s log p ∷ ds) r = changes_left f n ds r
+changes_left f (suc n) (Parting t ∷ ds) r = changes_left f n ds r.1
+changes_left f (suc n) (Hole t j ∷ ds) r = changes_left f n ds r.1
 
 -- ---- pieces
 
@@ -104,25 +104,27 @@ all_from n [] a = tt
 all_from n (p ∷ ps) a = (a.0, all_from n ps a.1)
 
 -- a piece that came for a place is of one of the workers before the change
-known_near : (f : ℕ → Option Turn) (c : CoreForm) (k : ℕ) (t : Turn) (p : Piece) → f t.generation ≡ Some t → Known f c p
+known_near : (f : ℕ → Option ChangeOfStrategy) (c : CoreForm) (k : ℕ) (t : ChangeOfStrategy) (p : Piece)
+    → f t.generation ≡ Some t → Known f c p
     → (nat_eq p.generation t.generation && nat_eq p.to k) ≡ true → p.from < workers_of t.old
-known_near f c k t p turn known e =
+known_near f c k t p change known e =
     let same : p.generation ≡ t.generation =
     eqb-true p.generation t.generation (and_left (nat_eq p.generation t.generation) (nat_eq p.to k) e) in
-    let turns : Some known.turn ≡ Some t = sym known.is ∙ ap f same ∙ turn in
-    let is : known.turn ≡ t = cc in
-    subst (λ (x : Turn). p.from < workers_of x.old) is known.piece_for.near
+    let changes : Some known.change ≡ Some t = sym known.is ∙ ap f same ∙ change in
+    let is : known.change ≡ t = cc in
+    subst (λ (x : ChangeOfStrategy). p.from < workers_of x.old) is known.piece_for.near
 
 -- so no more came than there were such workers
-pub few_came : (w : World) (k : ℕ) (t : Turn) → IsSound w → turn_of (first_spot w.first) w.read t.generation ≡ Some t
+pub few_came : (w : World) (k : ℕ) (t : ChangeOfStrategy) → IsSound w
+    → change_of (first_spot w.first) w.read t.generation ≡ Some t
     → length (for_place t.generation k w.pieces) ≤ workers_of t.old
-few_came w k t sound turn =
-    let f : (ℕ → Option Turn) = turn_of (first_spot w.first) w.read in
+few_came w k t sound change =
+    let f : (ℕ → Option ChangeOfStrategy) = change_of (first_spot w.first) w.read in
     let test : (Piece → Bool) = λ p. nat_eq p.generation t.generation && nat_eq p.to k in
     let ps : List Piece = for_place t.generation k w.pieces in
     let near : AllByRecursion (λ (p : Piece). p.from < workers_of t.old) ps =
     every_map (λ p. Known f w.core p × (test p ≡ true)) (λ (p : Piece). p.from < workers_of t.old) ps
-    (λ p h. known_near f w.core k t p turn h.0 h.1) (every_filter (Known f w.core) test w.pieces sound.known) in
+    (λ p h. known_near f w.core k t p change h.0 h.1) (every_filter (Known f w.core) test w.pieces sound.known) in
     let most = at_most (workers_of t.old) (map (λ (p : Piece). p.from) ps) (sound.distinct t.generation k)
     (all_from (workers_of t.old) ps near) in
     let same = length-map ps (λ (p : Piece). p.from) in
@@ -147,19 +149,20 @@ drop_past (x ∷ xs) (suc n) h = drop_past xs n (omega arith)
 
 -- ---- what is due
 
-module _ (c : CoreForm) (k : ℕ) (pieces : List Piece) (f : ℕ → Option Turn)
-    (few : (t : Turn) → f t.generation ≡ Some t → length (for_place t.generation k pieces) ≤ workers_of t.old) where
+module _ (c : CoreForm) (k : ℕ) (pieces : List Piece) (f : ℕ → Option ChangeOfStrategy)
+    (few : (t : ChangeOfStrategy) → f t.generation ≡ Some t
+    → length (for_place t.generation k pieces) ≤ workers_of t.old) where
   abbrev so : List Due → List Item
   so ds = ready_by (map (chance c k pieces) ds) (map standing ds)
 
-  abbrev these : Turn → List Piece
+  abbrev these : ChangeOfStrategy → List Piece
   these t = for_place t.generation k pieces
 
-  abbrev adopts : Turn → List Piece → List Item
+  abbrev adopts : ChangeOfStrategy → List Piece → List Item
   adopts t ps = map (λ (p : Piece). Adopt p t.new) ps
 
   -- the j-th piece of a place came, with others behind it or none
-  piece_ready : (t : Turn) (j : ℕ) (ds : List Due) (p : Piece) → length (these t) ≤ workers_of t.old
+  piece_ready : (t : ChangeOfStrategy) (j : ℕ) (ds : List Due) (p : Piece) → length (these t) ≤ workers_of t.old
       → Runs (Hole t j ∷ ds) → so ds ≡ ready_items c k pieces ds → nth (these t) j ≡ Some p
       → ready_by (Sure (Adopt p t.new) ∷ map (chance c k pieces) ds) (standing (Hole t j) ∷ map standing ds)
       ≡ adopts t (drop j (these t))
@@ -179,7 +182,8 @@ module _ (c : CoreForm) (k : ℕ) (pieces : List Piece) (f : ℕ → Option Turn
       ∙ ap (adopts t) (sym (drop_some (these t) j p e)))
       runs.0
 
-  hole_ready : (t : Turn) (j : ℕ) (ds : List Due) → length (these t) ≤ workers_of t.old → Runs (Hole t j ∷ ds)
+  hole_ready : (t : ChangeOfStrategy) (j : ℕ) (ds : List Due) → length (these t) ≤ workers_of t.old
+      → Runs (Hole t j ∷ ds)
       → so ds ≡ ready_items c k pieces ds → so (Hole t j ∷ ds) ≡ ready_items c k pieces (Hole t j ∷ ds)
   hole_ready t j ds most runs rest = at (nth (these t) j) refl
     where
@@ -190,24 +194,24 @@ module _ (c : CoreForm) (k : ℕ) (pieces : List Piece) (f : ℕ → Option Turn
       at None e = ap (adopts t) (sym (drop_none (these t) j e))
       at (Some p) e = piece_ready t j ds p most runs rest e
 
-  pub dues_ready : (ds : List Due) → Runs ds → AreTurns f ds → so ds ≡ ready_items c k pieces ds
-  dues_ready [] runs turns = refl
-  dues_ready (Slicing g s log p ∷ ds) runs turns =
-      ap (λ is. Slice g (length log) (slice_for c s k p) ∷ is) (dues_ready ds runs turns)
-  dues_ready (Parting t ∷ ds) runs turns =
-      ap (λ is. Part t.generation t.old t.new ∷ is) (dues_ready ds runs turns.1)
-  dues_ready (Hole t j ∷ ds) runs turns =
-      hole_ready t j ds (few t turns.0) runs (dues_ready ds runs.1 turns.1)
+  pub dues_ready : (ds : List Due) → Runs ds → AreChanges f ds → so ds ≡ ready_items c k pieces ds
+  dues_ready [] runs changes = refl
+  dues_ready (Slicing g s log p ∷ ds) runs changes =
+      ap (λ is. Slice g (length log) (slice_for c s k p) ∷ is) (dues_ready ds runs changes)
+  dues_ready (Parting t ∷ ds) runs changes =
+      ap (λ is. Part t.generation t.old t.new ∷ is) (dues_ready ds runs changes.1)
+  dues_ready (Hole t j ∷ ds) runs changes =
+      hole_ready t j ds (few t changes.0) runs (dues_ready ds runs.1 changes.1)
 
 -- what is ready in a router's queue
 pub router_ready : (r : Router) (w : World) → IsRouterOf r w → (k : ℕ)
     → ready_of (queue_at r.queues.items k) ≡ ready_in w k
 router_ready r w is k =
-    let f : (ℕ → Option Turn) = turn_of (first_spot w.first) w.read in
+    let f : (ℕ → Option ChangeOfStrategy) = change_of (first_spot w.first) w.read in
     let n : ℕ = length (w.seats k).fed in
     slots_ready (queue_at r.queues.items k)
     ∙ ap (λ cs. ready_by cs (map standing_of (queue_at r.queues.items k))) (is.queues k)
     ∙ ap (ready_by (queue_in w k)) (is.standings k)
-    ∙ dues_ready w.core k w.pieces f (λ t turn. few_came w k t is.sound turn) (drop n (line_in w k))
+    ∙ dues_ready w.core k w.pieces f (λ t change. few_came w k t is.sound change) (drop n (line_in w k))
     (runs_left n (line_in w k) (line_runs k w.read (first_spot w.first)))
-    (turns_left f n (line_in w k) (line_turns k w.read (first_spot w.first)))
+    (changes_left f n (line_in w k) (line_changes k w.read (first_spot w.first)))

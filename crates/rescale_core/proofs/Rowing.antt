@@ -10,7 +10,7 @@ use Rattle.rescale_core.proofs.Chains.{below, taken_if, left_out}
 use Rattle.rescale_core.proofs.Fitting.{every_more, every_map}
 use Rattle.rescale_core.proofs.LogLemmas.{settled_more}
 use Rattle.rescale_core.proofs.WorldLemmas.{if_either, behind_change}
-use Rattle.rescale_core.specs.Lines.{Turn, Spot, Due, turn_at, moved, line, place, AreSound}
+use Rattle.rescale_core.specs.Lines.{ChangeOfStrategy, Spot, Due, change_at, moved, line, place, AreSound}
 use Rattle.rescale_core.specs.Soundly.{KnownRow, last_level}
 use Rattle.rescale_core.specs.Stages.{Parts, Answers, row_for, rows_for}
 use Rattle.rescale_core.specs.Workers.{newly, settled_in}
@@ -46,7 +46,7 @@ ascends_weak c lo hi (Slicing g s log p ∷ ds) e r = (omega arith, r.1, r.2)
 ascends_weak c lo hi (Parting t ∷ ds) e r = ascends_weak c lo hi ds e r
 ascends_weak c lo hi (Hole t j ∷ ds) e r = ascends_weak c lo hi ds e r
 
-ascends_holes : (c : CoreForm) (lo : ℕ) (t : Turn) (is : List ℕ) (ds : List Due) → Ascends c lo ds
+ascends_holes : (c : CoreForm) (lo : ℕ) (t : ChangeOfStrategy) (is : List ℕ) (ds : List Due) → Ascends c lo ds
     → Ascends c lo (map (λ i. Hole t i) is ++ ds)
 ascends_holes c lo t [] ds r = r
 ascends_holes c lo t (i ∷ is) ds r = ascends_holes c lo t is ds r
@@ -62,7 +62,7 @@ line_ascends c k (Point p ∷ es) a s = let rest = line_ascends c k es (moved a 
     (ascends_weak c (settled_in c a.points) (settled_in c (a.points ++ p ∷ []))
     (line k (moved a (Point p)) es) m rest)
 line_ascends c k (Change x ∷ es) a s = let more : List Due = line k (moved a (Change x)) es in
-    let t : Turn = turn_at a x in let lo : ℕ = settled_in c a.points in
+    let t : ChangeOfStrategy = change_at a x in let lo : ℕ = settled_in c a.points in
     let rest : Ascends c lo more = line_ascends c k es (moved a (Change x)) s.1 in
     behind_change (Ascends c lo) k a x more (λ parts places.
     let r : Ascends c lo (cond places (place t) [] ++ more) =
@@ -83,11 +83,12 @@ longer_weak n m (Slicing g s log p ∷ ds) e r = (omega arith, longer_weak n m d
 longer_weak n m (Parting t ∷ ds) e r = longer_weak n m ds e r
 longer_weak n m (Hole t j ∷ ds) e r = longer_weak n m ds e r
 
-longer_holes : (n : ℕ) (t : Turn) (is : List ℕ) (ds : List Due) → Longer n ds → Longer n (map (λ i. Hole t i) is ++ ds)
+longer_holes : (n : ℕ) (t : ChangeOfStrategy) (is : List ℕ) (ds : List Due) → Longer n ds
+    → Longer n (map (λ i. Hole t i) is ++ ds)
 longer_holes n t [] ds r = r
 longer_holes n t (i ∷ is) ds r = longer_holes n t is ds r
 
-slices_holes : (f : ℕ → Option Due) (t : Turn) (is : List ℕ) (ds : List Due) → AreSlices f ds
+slices_holes : (f : ℕ → Option Due) (t : ChangeOfStrategy) (is : List ℕ) (ds : List Due) → AreSlices f ds
     → AreSlices f (map (λ i. Hole t i) is ++ ds)
 slices_holes f t [] ds r = r
 slices_holes f t (i ∷ is) ds r = slices_holes f t is ds r
@@ -99,7 +100,7 @@ line_longer k n (Point p ∷ es) a h = let l = length-append a.points (p ∷ [])
     if_either (λ x. Longer n (x ++ line k (moved a (Point p)) es)) (nat_lt k (workers_of a.strategy))
     (Slicing a.generation a.strategy a.points p ∷ []) (h, rest) rest
 line_longer k n (Change x ∷ es) a h = let more : List Due = line k (moved a (Change x)) es in
-    let t : Turn = turn_at a x in
+    let t : ChangeOfStrategy = change_at a x in
     let rest : Longer n more = line_longer k n es (moved a (Change x)) h in
     behind_change (Longer n) k a x more (λ parts places.
     let r : Longer n (cond places (place t) [] ++ more) =
@@ -132,7 +133,7 @@ line_slices k (Point p ∷ es) a = let l = length-append a.points (p ∷ []) in
     if_either (λ x. AreSlices (slice_at a (Point p ∷ es)) (x ++ more)) (nat_lt k (workers_of a.strategy))
     (Slicing a.generation a.strategy a.points p ∷ []) (here, rest) rest
 line_slices k (Change x ∷ es) a = let more : List Due = line k (moved a (Change x)) es in
-    let t : Turn = turn_at a x in let f : (ℕ → Option Due) = slice_at a (Change x ∷ es) in
+    let t : ChangeOfStrategy = change_at a x in let f : (ℕ → Option Due) = slice_at a (Change x ∷ es) in
     let rest : AreSlices f more = line_slices k es (moved a (Change x)) in
     behind_change (AreSlices f) k a x more (λ parts places.
     let r : AreSlices f (cond places (place t) [] ++ more) =
@@ -147,7 +148,8 @@ rows_more [] b = refl
 rows_more (OfRows r ∷ a) b = ap (λ x. r ∷ x) (rows_more a b)
 rows_more (OfPiece p ∷ a) b = rows_more a b
 
-parts_no_rows : (c : CoreForm) (k : ℕ) (t : Turn) (k2 : ℕ) (os : List Out) → Parts c k t k2 os → rows_in os ≡ []
+parts_no_rows : (c : CoreForm) (k : ℕ) (t : ChangeOfStrategy) (k2 : ℕ) (os : List Out) → Parts c k t k2 os
+    → rows_in os ≡ []
 parts_no_rows c k t k2 [] p = refl
 parts_no_rows c k t k2 (OfRows r ∷ os) p = let x = p.0.1 in cc
 parts_no_rows c k t k2 (OfPiece q ∷ os) p = parts_no_rows c k t (k2 + 1) os p.1
@@ -341,7 +343,8 @@ rows_lone f c k lo i (Hole t j ∷ ds) os u s o a =
     (lone_right (rows_at i (rows_in a.0)) (rows_at i (rows_in a.1)) (ap (λ x. rows_at i (rows_in x)) a.3)
     (rows_lone f c k lo i ds a.1 u s o a.4))
 
-owns_holes : (k : ℕ) (t : Turn) (is : List ℕ) (ds : List Due) → Owns k ds → Owns k (map (λ i. Hole t i) is ++ ds)
+owns_holes : (k : ℕ) (t : ChangeOfStrategy) (is : List ℕ) (ds : List Due) → Owns k ds
+    → Owns k (map (λ i. Hole t i) is ++ ds)
 owns_holes k t [] ds r = r
 owns_holes k t (i ∷ is) ds r = owns_holes k t is ds r
 
@@ -354,7 +357,8 @@ line_owns k (Point p ∷ es) a = let more : List Due = line k (moved a (Point p)
     (λ h. subst (λ x. Owns k (x ++ more))
     (sym (left_out k (workers_of a.strategy) (Slicing a.generation a.strategy a.points p ∷ []) h)) rest)
     (below k (workers_of a.strategy))
-line_owns k (Change x ∷ es) a = let more : List Due = line k (moved a (Change x)) es in let t : Turn = turn_at a x in
+line_owns k (Change x ∷ es) a = let more : List Due = line k (moved a (Change x)) es in
+    let t : ChangeOfStrategy = change_at a x in
     let rest : Owns k more = line_owns k es (moved a (Change x)) in
     behind_change (Owns k) k a x more (λ parts places.
     let r : Owns k (cond places (place t) [] ++ more) =

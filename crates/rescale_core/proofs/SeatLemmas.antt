@@ -10,9 +10,9 @@ use Rattle.rescale_core.proofs.Fitting.{every_map}
 use Rattle.rescale_core.proofs.ReadyLemmas.{first_due}
 use Rattle.rescale_core.proofs.Settling.{slice_more}
 use Rattle.rescale_core.proofs.WorldLemmas.{line_more, sound_more, supplies_line, supplies_length}
-use Rattle.rescale_core.proofs.WorldLemmas.{supplies_next, turn_more}
+use Rattle.rescale_core.proofs.WorldLemmas.{supplies_next, change_more}
 use Rattle.rescale_core.specs.Lines.{Due, first_spot, line, MayRead}
-use Rattle.rescale_core.specs.Soundly.{Supplies, Known, turn_of, last_part, KnownRow, last_level, IsSeated, IsSound}
+use Rattle.rescale_core.specs.Soundly.{Supplies, Known, change_of, last_part, KnownRow, last_level, IsSeated, IsSound}
 use Rattle.rescale_core.specs.Stages.{Answers}
 use Rattle.rescale_core.specs.Workers.{IsFor}
 use Rattle.rescale_core.specs.Worlds.{first_world, World, Seat, line_in}
@@ -142,11 +142,11 @@ module _ (w : World) (e : Entry) (r : IsSound w) (may : MayRead w.core (spot_in 
     first = r.first;
     read = sound_more w.core (first_spot w.first) w.read e r.read may;
     seated = seated_read;
-    known = every_map (Known (turn_of (first_spot w.first) w.read) w.core)
-        (Known (turn_of (first_spot w.first) (w.read ++ e ∷ [])) w.core) w.pieces
+    known = every_map (Known (change_of (first_spot w.first) w.read) w.core)
+        (Known (change_of (first_spot w.first) (w.read ++ e ∷ [])) w.core) w.pieces
         (λ p x. record {
-          turn = x.turn;
-          is = turn_more (first_spot w.first) w.read (e ∷ []) p.generation x.turn x.is;
+          change = x.change;
+          is = change_more (first_spot w.first) w.read (e ∷ []) p.generation x.change x.is;
           piece_for = x.piece_for;
           near = x.near;
         }) r.known;

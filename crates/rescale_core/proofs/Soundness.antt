@@ -6,10 +6,10 @@ use Rattle.rescale_core.proofs.Chains.{chained}
 use Rattle.rescale_core.proofs.Fitting.{froms_before}
 use Rattle.rescale_core.proofs.Fitting.{fits_of}
 use Rattle.rescale_core.proofs.Leading.{first_agrees}
-use Rattle.rescale_core.proofs.WorldLemmas.{line_turns}
-use Rattle.rescale_core.specs.Lines.{Turn, first_spot}
+use Rattle.rescale_core.proofs.WorldLemmas.{line_changes}
+use Rattle.rescale_core.specs.Lines.{ChangeOfStrategy, first_spot}
 use Rattle.rescale_core.specs.Seeds.{SeedOf}
-use Rattle.rescale_core.specs.Soundly.{turn_of, IsSound}
+use Rattle.rescale_core.specs.Soundly.{change_of, IsSound}
 use Rattle.rescale_core.specs.Working.{Has, first_stage}
 use Rattle.rescale_core.specs.Handing.{for_place}
 use Rattle.rescale_core.specs.Worlds.{World, Move, line_in}
@@ -59,7 +59,7 @@ run_sound w (s ∷ ss) r a = run_sound (after w s) ss (step_sound w s r a.0) a.1
 
 -- ---- what workers are told
 
-tied_first : (w : World) (k : ℕ) (b : Bool) (t : Turn) (froms : List ℕ)
+tied_first : (w : World) (k : ℕ) (b : Bool) (t : ChangeOfStrategy) (froms : List ℕ)
     → cond b (Live w.first []) Gone ≡ Filling t froms
     → froms ≡ froms_before (length froms) (for_place t.generation k w.pieces) []
 tied_first w k true t froms e = cc
@@ -70,9 +70,9 @@ pub has_of : (w : World) (k : ℕ) → IsSound w
     → Has record { core = w.core; first = w.first; k = k } w.read (w.seats k).fed
 has_of w k r = let s : SeedOf = record { core = w.core; first = w.first; k = k } in (
   r.read,
-  fits_of w.core k w.pieces (turn_of (first_spot w.first) w.read) r.known (λ g. r.distinct g k) (line_in w k)
+  fits_of w.core k w.pieces (change_of (first_spot w.first) w.read) r.known (λ g. r.distinct g k) (line_in w k)
       (w.seats k).fed (first_stage s)
       (chained w.core k w.read (first_spot w.first) (first_stage s) r.first r.read (first_agrees s))
-      (tied_first w k (nat_lt k (workers_of w.first))) (line_turns k w.read (first_spot w.first))
+      (tied_first w k (nat_lt k (workers_of w.first))) (line_changes k w.read (first_spot w.first))
       (r.seated k).supplied,
 )

@@ -8,7 +8,7 @@ use Rattle.std.specs.List.{list_all, range_with_len}
 use Rattle.mfotl_model.specs.Strategies.{workers_of}
 use Rattle.rescale_core.proofs.Fitting.{and_left, and_right}
 use Rattle.rescale_core.proofs.WorldLemmas.{if_either, line_more, supplies_length}
-use Rattle.rescale_core.specs.Lines.{Due, Spot, Turn, first_spot, if_below, line, place, turn_at}
+use Rattle.rescale_core.specs.Lines.{Due, Spot, ChangeOfStrategy, first_spot, if_below, line, place, change_at}
 use Rattle.rescale_core.specs.Lines.Due.{Slicing, Parting, Hole}
 use Rattle.rescale_core.specs.Queues.{queue_at}
 use Rattle.rescale_core.specs.Chances.{Standing}
@@ -94,11 +94,11 @@ room_router r w is h = wait_all r.queues.items (λ k. (let e = queue_waits r w i
 
 -- ---- worlds
 
-abbrev holes : Turn → ℕ → ℕ → List Due
+abbrev holes : ChangeOfStrategy → ℕ → ℕ → List Due
 holes t i m = map (λ j. Hole t j) (range_with_len i m)
 
 -- a place is one
-holes_weigh : (t : Turn) (m i : ℕ) → i + m ≡ workers_of t.old → sum_by weight (holes t i m) ≤ 1
+holes_weigh : (t : ChangeOfStrategy) (m i : ℕ) → i + m ≡ workers_of t.old → sum_by weight (holes t i m) ≤ 1
 holes_weigh t zero i e = omega arith
 holes_weigh t (suc zero) i e =
     let here = small (nat_eq (i + 1) (workers_of t.old)) in
@@ -125,7 +125,7 @@ dues_weigh k a (Point p) =
     if_either (λ ds. sum_by weight ds ≤ 1) (nat_lt k (workers_of a.strategy)) slice (omega arith) (omega arith) in
     subst (λ ds. sum_by weight ds ≤ 1) (sym (append-nil (if_below k (workers_of a.strategy) slice))) h
 dues_weigh k a (Change s) =
-    let t : Turn = turn_at a s in
+    let t : ChangeOfStrategy = change_at a s in
     let part : List Due = if_below k (workers_of a.strategy) (Parting t ∷ []) in
     let holes : List Due = if_below k (workers_of s) (place t) in
     let h : sum_by weight part ≤ 1 =

@@ -5,9 +5,10 @@ use Rattle.std.proofs.Common.{subst, append_assoc, arith, eq-eqb, ne_eqb}
 use Rattle.std.specs.List.{range_with_len}
 use Rattle.std.proofs.lemmas.List.Elements.{filter-append}
 use Rattle.mfotl_model.specs.Strategies.{Strategy, workers_of}
-use Rattle.rescale_core.specs.Lines.{Turn, Spot, Due, turn_at, moved, spot_after, line, dues, place, if_below}
+use Rattle.rescale_core.specs.Lines.{ChangeOfStrategy, Spot, Due, change_at, moved, spot_after, line, dues, place}
+use Rattle.rescale_core.specs.Lines.{if_below}
 use Rattle.rescale_core.specs.Lines.{MayRead, AreSound}
-use Rattle.rescale_core.specs.Soundly.{Supplies, turn_of}
+use Rattle.rescale_core.specs.Soundly.{Supplies, change_of}
 use Rattle.rescale_core.specs.Handing.{nth, for_place, item_of}
 use Rattle.monitorable.specs.CoreForms.{CoreForm}
 use Rattle.monitor_state.specs.declared.state.Piece.{Piece}
@@ -86,25 +87,25 @@ supplies_next c k pieces (x ∷ ds) (j ∷ is) d rest i s e f = (s.0, supplies_n
 
 -- ---- changes, by their generation
 
-pub turn_more : (a : Spot) (es more : List Entry) (g : ℕ) (t : Turn) → turn_of a es g ≡ Some t
-    → turn_of a (es ++ more) g ≡ Some t
-turn_more a [] more g t e = cc
-turn_more a (Point p ∷ es) more g t e = turn_more (moved a (Point p)) es more g t e
-turn_more a (Change s ∷ es) more g t e =
-    by_test (nat_eq g (a.generation + 1)) e (turn_more (moved a (Change s)) es more g t)
+pub change_more : (a : Spot) (es more : List Entry) (g : ℕ) (t : ChangeOfStrategy) → change_of a es g ≡ Some t
+    → change_of a (es ++ more) g ≡ Some t
+change_more a [] more g t e = cc
+change_more a (Point p ∷ es) more g t e = change_more (moved a (Point p)) es more g t e
+change_more a (Change s ∷ es) more g t e =
+    by_test (nat_eq g (a.generation + 1)) e (change_more (moved a (Change s)) es more g t)
   where
-    by_test : (b : Bool) → cond b (Some (turn_at a s)) (turn_of (moved a (Change s)) es g) ≡ Some t
-        → (turn_of (moved a (Change s)) es g ≡ Some t → turn_of (moved a (Change s)) (es ++ more) g ≡ Some t)
-        → cond b (Some (turn_at a s)) (turn_of (moved a (Change s)) (es ++ more) g) ≡ Some t
+    by_test : (b : Bool) → cond b (Some (change_at a s)) (change_of (moved a (Change s)) es g) ≡ Some t
+        → (change_of (moved a (Change s)) es g ≡ Some t → change_of (moved a (Change s)) (es ++ more) g ≡ Some t)
+        → cond b (Some (change_at a s)) (change_of (moved a (Change s)) (es ++ more) g) ≡ Some t
     by_test true e next = e
     by_test false e next = next e
 
 -- each change on the line is the one of its generation, and generations rise from part to part
-abbrev pub AreTurns : (ℕ → Option Turn) → List Due → Type 0
-AreTurns f [] = Unit {0}
-AreTurns f (Slicing g s log p ∷ ds) = AreTurns f ds
-AreTurns f (Parting t ∷ ds) = (f t.generation ≡ Some t) × AreTurns f ds
-AreTurns f (Hole t j ∷ ds) = (f t.generation ≡ Some t) × AreTurns f ds
+abbrev pub AreChanges : (ℕ → Option ChangeOfStrategy) → List Due → Type 0
+AreChanges f [] = Unit {0}
+AreChanges f (Slicing g s log p ∷ ds) = AreChanges f ds
+AreChanges f (Parting t ∷ ds) = (f t.generation ≡ Some t) × AreChanges f ds
+AreChanges f (Hole t j ∷ ds) = (f t.generation ≡ Some t) × AreChanges f ds
 
 abbrev pub Rises : ℕ → List Due → Type 0
 Rises g [] = Unit {0}
@@ -118,14 +119,16 @@ rises_weak g h (Slicing x s log p ∷ ds) e r = rises_weak g h ds e r
 rises_weak g h (Parting t ∷ ds) e r = (omega arith, r.1)
 rises_weak g h (Hole t j ∷ ds) e r = rises_weak g h ds e r
 
-rises_holes : (g : ℕ) (t : Turn) (is : List ℕ) (ds : List Due) → Rises g ds → Rises g (map (λ i. Hole t i) is ++ ds)
+rises_holes : (g : ℕ) (t : ChangeOfStrategy) (is : List ℕ) (ds : List Due) → Rises g ds
+    → Rises g (map (λ i. Hole t i) is ++ ds)
 rises_holes g t [] ds r = r
 rises_holes g t (i ∷ is) ds r = rises_holes g t is ds r
 
-turns_holes : (f : ℕ → Option Turn) (t : Turn) (is : List ℕ) (ds : List Due) → f t.generation ≡ Some t
-    → AreTurns f ds → AreTurns f (map (λ i. Hole t i) is ++ ds)
-turns_holes f t [] ds e r = r
-turns_holes f t (i ∷ is) ds e r = (e, turns_holes f t is ds e r)
+changes_holes : (f : ℕ → Option ChangeOfStrategy) (t : ChangeOfStrategy) (is : List ℕ) (ds : List Due)
+    → f t.generation ≡ Some t
+    → AreChanges f ds → AreChanges f (map (λ i. Hole t i) is ++ ds)
+changes_holes f t [] ds e r = r
+changes_holes f t (i ∷ is) ds e r = (e, changes_holes f t is ds e r)
 
 pub if_either : (P : List Due → Type 0) (b : Bool) (ds : List Due) → P ds → P [] → P (cond b ds [])
 if_either P true ds x y = x
@@ -144,7 +147,7 @@ above_weak g h (Slicing x s log p ∷ ds) e r = above_weak g h ds e r
 above_weak g h (Parting t ∷ ds) e r = (omega arith, above_weak g h ds e r.1)
 above_weak g h (Hole t j ∷ ds) e r = (omega arith, above_weak g h ds e r.1)
 
-above_holes : (g : ℕ) (t : Turn) (is : List ℕ) (ds : List Due) → g < t.generation → Above g ds
+above_holes : (g : ℕ) (t : ChangeOfStrategy) (is : List ℕ) (ds : List Due) → g < t.generation → Above g ds
     → Above g (map (λ i. Hole t i) is ++ ds)
 above_holes g t [] ds e r = r
 above_holes g t (i ∷ is) ds e r = (e, above_holes g t is ds e r)
@@ -152,11 +155,11 @@ above_holes g t (i ∷ is) ds e r = (e, above_holes g t is ds e r)
 -- the line behind a change
 pub behind_change : (P : List Due → Type 0) (k : ℕ) (a : Spot) (s : Strategy) (more : List Due)
     → ((parts places : Bool)
-    → P (cond parts (Parting (turn_at a s) ∷ []) [] ++ (cond places (place (turn_at a s)) [] ++ more)))
+    → P (cond parts (Parting (change_at a s) ∷ []) [] ++ (cond places (place (change_at a s)) [] ++ more)))
     → P (dues k a (Change s) ++ more)
 behind_change P k a s more h =
-    subst P (sym (append_assoc (if_below k (workers_of a.strategy) (Parting (turn_at a s) ∷ []))
-    (if_below k (workers_of s) (place (turn_at a s))) more))
+    subst P (sym (append_assoc (if_below k (workers_of a.strategy) (Parting (change_at a s) ∷ []))
+    (if_below k (workers_of s) (place (change_at a s))) more))
     (h (nat_lt k (workers_of a.strategy)) (nat_lt k (workers_of s)))
 
 pub line_above : (k : ℕ) (es : List Entry) (a : Spot) → Above a.generation (line k a es)
@@ -167,7 +170,7 @@ line_above k (Point p ∷ es) a = let rest = line_above k es (moved a (Point p))
 line_above k (Change s ∷ es) a = let more : List Due = line k (moved a (Change s)) es in
     let rest : Above a.generation more =
     above_weak a.generation (a.generation + 1) more (omega arith) (line_above k es (moved a (Change s))) in
-    let t : Turn = turn_at a s in
+    let t : ChangeOfStrategy = change_at a s in
     behind_change (Above a.generation) k a s more (λ parts places.
     let r : Above a.generation (cond places (place t) [] ++ more) =
     if_either (λ x. Above a.generation (x ++ more)) places (place t)
@@ -181,7 +184,7 @@ line_rises k (Point p ∷ es) a = let rest = line_rises k es (moved a (Point p))
     if_either (λ x. Rises a.generation (x ++ line k (moved a (Point p)) es)) (nat_lt k (workers_of a.strategy))
     (Slicing a.generation a.strategy a.points p ∷ []) rest rest
 line_rises k (Change s ∷ es) a = let more : List Due = line k (moved a (Change s)) es in
-    let t : Turn = turn_at a s in
+    let t : ChangeOfStrategy = change_at a s in
     let rest : Rises t.generation more = line_rises k es (moved a (Change s)) in
     behind_change (Rises a.generation) k a s more (λ parts places.
     let r : Rises t.generation (cond places (place t) [] ++ more) =
@@ -190,36 +193,36 @@ line_rises k (Change s ∷ es) a = let more : List Due = line k (moved a (Change
     if_either (λ x. Rises a.generation (x ++ (cond places (place t) [] ++ more))) parts (Parting t ∷ [])
     (omega arith, r) (rises_weak a.generation t.generation (cond places (place t) [] ++ more) (omega arith) r))
 
-turns_lift : (a : Spot) (s : Strategy) (es : List Entry) (ds : List Due) → Above (a.generation + 1) ds
-    → AreTurns (turn_of (moved a (Change s)) es) ds → AreTurns (turn_of a (Change s ∷ es)) ds
-turns_lift a s es [] b r = tt
-turns_lift a s es (Slicing g h log p ∷ ds) b r = turns_lift a s es ds b r
-turns_lift a s es (Parting t ∷ ds) b r = (
-  ap (λ x. cond x (Some (turn_at a s)) (turn_of (moved a (Change s)) es t.generation))
+changes_lift : (a : Spot) (s : Strategy) (es : List Entry) (ds : List Due) → Above (a.generation + 1) ds
+    → AreChanges (change_of (moved a (Change s)) es) ds → AreChanges (change_of a (Change s ∷ es)) ds
+changes_lift a s es [] b r = tt
+changes_lift a s es (Slicing g h log p ∷ ds) b r = changes_lift a s es ds b r
+changes_lift a s es (Parting t ∷ ds) b r = (
+  ap (λ x. cond x (Some (change_at a s)) (change_of (moved a (Change s)) es t.generation))
       (ne_eqb t.generation (a.generation + 1) (λ e. (let h = b.0 in omega arith))) ∙ r.0,
-  turns_lift a s es ds b.1 r.1,
+  changes_lift a s es ds b.1 r.1,
 )
-turns_lift a s es (Hole t j ∷ ds) b r = (
-  ap (λ x. cond x (Some (turn_at a s)) (turn_of (moved a (Change s)) es t.generation))
+changes_lift a s es (Hole t j ∷ ds) b r = (
+  ap (λ x. cond x (Some (change_at a s)) (change_of (moved a (Change s)) es t.generation))
       (ne_eqb t.generation (a.generation + 1) (λ e. (let h = b.0 in omega arith))) ∙ r.0,
-  turns_lift a s es ds b.1 r.1,
+  changes_lift a s es ds b.1 r.1,
 )
 
-pub line_turns : (k : ℕ) (es : List Entry) (a : Spot) → AreTurns (turn_of a es) (line k a es)
-line_turns k [] a = tt
-line_turns k (Point p ∷ es) a = let rest = line_turns k es (moved a (Point p)) in
-    if_either (λ x. AreTurns (turn_of a (Point p ∷ es)) (x ++ line k (moved a (Point p)) es))
+pub line_changes : (k : ℕ) (es : List Entry) (a : Spot) → AreChanges (change_of a es) (line k a es)
+line_changes k [] a = tt
+line_changes k (Point p ∷ es) a = let rest = line_changes k es (moved a (Point p)) in
+    if_either (λ x. AreChanges (change_of a (Point p ∷ es)) (x ++ line k (moved a (Point p)) es))
     (nat_lt k (workers_of a.strategy)) (Slicing a.generation a.strategy a.points p ∷ []) rest rest
-line_turns k (Change s ∷ es) a = let more : List Due = line k (moved a (Change s)) es in
-    let t : Turn = turn_at a s in
-    let f : (ℕ → Option Turn) = turn_of a (Change s ∷ es) in
+line_changes k (Change s ∷ es) a = let more : List Due = line k (moved a (Change s)) es in
+    let t : ChangeOfStrategy = change_at a s in
+    let f : (ℕ → Option ChangeOfStrategy) = change_of a (Change s ∷ es) in
     let here : f t.generation ≡ Some t =
-    ap (λ x. cond x (Some t) (turn_of (moved a (Change s)) es t.generation))
+    ap (λ x. cond x (Some t) (change_of (moved a (Change s)) es t.generation))
     (eq-eqb t.generation (a.generation + 1) refl) in
-    let rest : AreTurns f more =
-    turns_lift a s es more (line_above k es (moved a (Change s))) (line_turns k es (moved a (Change s))) in
-    behind_change (AreTurns f) k a s more (λ parts places.
-    let r : AreTurns f (cond places (place t) [] ++ more) =
-    if_either (λ x. AreTurns f (x ++ more)) places (place t)
-    (turns_holes f t (range_with_len 0 (workers_of t.old)) more here rest) rest in
-    if_either (λ x. AreTurns f (x ++ (cond places (place t) [] ++ more))) parts (Parting t ∷ []) (here, r) r)
+    let rest : AreChanges f more =
+    changes_lift a s es more (line_above k es (moved a (Change s))) (line_changes k es (moved a (Change s))) in
+    behind_change (AreChanges f) k a s more (λ parts places.
+    let r : AreChanges f (cond places (place t) [] ++ more) =
+    if_either (λ x. AreChanges f (x ++ more)) places (place t)
+    (changes_holes f t (range_with_len 0 (workers_of t.old)) more here rest) rest in
+    if_either (λ x. AreChanges f (x ++ (cond places (place t) [] ++ more))) parts (Parting t ∷ []) (here, r) r)

@@ -9,7 +9,7 @@ use Rattle.rescale_core.specs.declared.item.Entry.{Entry}
 use Rattle.rescale_core.specs.declared.item.Entry.TheVariants.{Point, Change}
 
 -- a change of strategy; its generation is that of the new one
-pub record Turn : Type 0 where
+pub record ChangeOfStrategy : Type 0 where
   pub generation : ℕ
   pub old : Strategy
   pub new : Strategy
@@ -25,12 +25,12 @@ pub record Spot : Type 0 where
 -- of a place
 pub data Due : Type 0 where
   Slicing : (generation : ℕ) → (s : Strategy) → (before : List TimePoint) → (point : TimePoint) → Due
-  Parting : Turn → Due
-  Hole : Turn → (j : ℕ) → Due
+  Parting : ChangeOfStrategy → Due
+  Hole : ChangeOfStrategy → (j : ℕ) → Due
 
 -- the change to this strategy
-abbrev pub turn_at : Spot → Strategy → Turn
-turn_at a s = record { generation = a.generation + 1; old = a.strategy; new = s; before = a.points }
+abbrev pub change_at : Spot → Strategy → ChangeOfStrategy
+change_at a s = record { generation = a.generation + 1; old = a.strategy; new = s; before = a.points }
 
 -- where reading stands after an entry
 abbrev pub moved : Spot → Entry → Spot
@@ -51,7 +51,7 @@ abbrev pub if_below : ℕ → ℕ → List Due → List Due
 if_below k n ds = cond (nat_lt k n) ds []
 
 -- a place for as many pieces as there were workers
-abbrev pub place : Turn → List Due
+abbrev pub place : ChangeOfStrategy → List Due
 place t = map (λ j. Hole t j) (range_with_len 0 (workers_of t.old))
 
 -- what worker k is due by an entry
@@ -59,8 +59,8 @@ abbrev pub dues : ℕ → Spot → Entry → List Due
 dues k a (Point p) =
     if_below k (workers_of a.strategy) (Slicing a.generation a.strategy a.points p ∷ [])
 dues k a (Change s) =
-    if_below k (workers_of a.strategy) (Parting (turn_at a s) ∷ [])
-    ++ if_below k (workers_of s) (place (turn_at a s))
+    if_below k (workers_of a.strategy) (Parting (change_at a s) ∷ [])
+    ++ if_below k (workers_of s) (place (change_at a s))
 
 -- what worker k is due by all entries
 abbrev pub line : ℕ → Spot → List Entry → List Due

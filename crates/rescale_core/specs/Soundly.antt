@@ -9,7 +9,7 @@ use Rattle.verdict_merge.specs.Gathers.{rows_at}
 use Rattle.verdict_merge.specs.Laws.{Apart}
 use Rattle.verdict_merge.specs.declared.rows.Rows.{Rows}
 use Rattle.rescale_core.specs.Workers.{IsFor, settled_in}
-use Rattle.rescale_core.specs.Lines.{Turn, Spot, Due, turn_at, moved, first_spot, AreSound}
+use Rattle.rescale_core.specs.Lines.{ChangeOfStrategy, Spot, Due, change_at, moved, first_spot, AreSound}
 use Rattle.rescale_core.specs.Lines.Due.{Slicing, Parting, Hole}
 use Rattle.rescale_core.specs.Stages.{IsPieceFor, Answers, row_for}
 use Rattle.rescale_core.specs.Handing.{for_place, item_of}
@@ -27,18 +27,18 @@ Supplies core k pieces [] (i ∷ is) = ⊥
 Supplies core k pieces (d ∷ ds) (i ∷ is) = (item_of core k pieces d ≡ Some i) × Supplies core k pieces ds is
 
 -- the change to a generation
-abbrev pub turn_of : Spot → List Entry → ℕ → Option Turn
-turn_of a [] g = None
-turn_of a (Point p ∷ es) g = turn_of (moved a (Point p)) es g
-turn_of a (Change s ∷ es) g =
-    cond (nat_eq g (a.generation + 1)) (Some (turn_at a s)) (turn_of (moved a (Change s)) es g)
+abbrev pub change_of : Spot → List Entry → ℕ → Option ChangeOfStrategy
+change_of a [] g = None
+change_of a (Point p ∷ es) g = change_of (moved a (Point p)) es g
+change_of a (Change s ∷ es) g =
+    cond (nat_eq g (a.generation + 1)) (Some (change_at a s)) (change_of (moved a (Change s)) es g)
 
 -- the piece is one that the change to its generation asks for
-pub record Known (turn_to : ℕ → Option Turn) (core : CoreForm) (p : Piece) : Type 0 where
-  pub turn : Turn
-  pub is : turn_to p.generation ≡ Some turn
-  pub piece_for : IsPieceFor core turn p.to p
-  pub near : p.to < workers_of turn.new
+pub record Known (change_to : ℕ → Option ChangeOfStrategy) (core : CoreForm) (p : Piece) : Type 0 where
+  pub change : ChangeOfStrategy
+  pub is : change_to p.generation ≡ Some change
+  pub piece_for : IsPieceFor core change p.to p
+  pub near : p.to < workers_of change.new
 
 -- the generation of the last part, or g
 abbrev pub last_part : ℕ → List Due → ℕ
@@ -82,7 +82,7 @@ pub record IsSound (w : World) : Type 0 where
   pub first : IsFor w.core w.first
   pub read : AreSound w.core (first_spot w.first) w.read
   pub seated : (k : ℕ) → IsSeated w k (w.seats k)
-  pub known : AllByRecursion (Known (turn_of (first_spot w.first) w.read) w.core) w.pieces
+  pub known : AllByRecursion (Known (change_of (first_spot w.first) w.read) w.core) w.pieces
   pub distinct : (g k : ℕ) → Apart (map (λ (p : Piece). p.from) (for_place g k w.pieces))
   pub past : AllByRecursion
       (λ (p : Piece). p.generation ≤ last_part 0 (take (w.seats p.from).collected (line_in w p.from))) w.pieces

@@ -9,7 +9,7 @@ use Rattle.monitorable.specs.CoreForms.{CoreForm}
 use Rattle.verdict_merge.specs.declared.rows.Rows.{Rows}
 use Rattle.rescale_core.specs.Workers.{IsFor, MayFollow, newly, owned_by, slice_for, violations_at}
 use Rattle.monitor_state.specs.Pieces.{PieceStands}
-use Rattle.rescale_core.specs.Lines.{Turn, Due}
+use Rattle.rescale_core.specs.Lines.{ChangeOfStrategy, Due}
 use Rattle.rescale_core.specs.Lines.Due.{Slicing, Parting, Hole}
 use Rattle.monitor_state.specs.declared.state.Piece.{Piece}
 use Rattle.rescale_core.specs.declared.item.Item.{Item}
@@ -21,7 +21,7 @@ use Rattle.rescale_core.specs.declared.item.Out.TheVariants.{Rows as OfRows, Pie
 pub data Stage : Type 0 where
   Live : (s : Strategy) → (log : List TimePoint) → Stage
   Gone : Stage
-  Filling : (t : Turn) → (froms : List ℕ) → Stage
+  Filling : (t : ChangeOfStrategy) → (froms : List ℕ) → Stage
 
 -- the workers whose pieces were adopted
 abbrev pub froms_of : Stage → List ℕ
@@ -34,7 +34,7 @@ abbrev pub NotIn : ℕ → List ℕ → Type 0
 NotIn x ys = AllByRecursion (λ y. x ≢ y) ys
 
 -- the piece is one of those that the change asks of a worker for worker k
-pub record IsPieceFor (core : CoreForm) (t : Turn) (k : ℕ) (p : Piece) : Type 0 where
+pub record IsPieceFor (core : CoreForm) (t : ChangeOfStrategy) (k : ℕ) (p : Piece) : Type 0 where
   pub generation : p.generation ≡ t.generation
   pub to : p.to ≡ k
   pub count : p.count ≡ workers_of t.old
@@ -100,7 +100,7 @@ abbrev pub rows_for : CoreForm → ℕ → ℕ → Strategy → List TimePoint �
 rows_for core k g s log p i = OfRows (row_for core k g s log p i)
 
 -- one piece for each new worker from k2 on, in order
-abbrev pub Parts : CoreForm → ℕ → Turn → ℕ → List Out → Type 0
+abbrev pub Parts : CoreForm → ℕ → ChangeOfStrategy → ℕ → List Out → Type 0
 Parts core k t k2 [] = Unit {0}
 Parts core k t k2 (o ∷ os) =
     ((p : Piece) × (o ≡ OfPiece p) × (p.from ≡ k) × IsPieceFor core t k2 p) × Parts core k t (k2 + 1) os
