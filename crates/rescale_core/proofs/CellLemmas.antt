@@ -14,7 +14,7 @@ use Rattle.rescale_core.specs.Lines.{Spot, if_below, line, moved, place, change_
 use Rattle.rescale_core.specs.Lines.Due.{Slicing, Parting}
 use Rattle.rescale_core.specs.Seeds.{SeedOf}
 use Rattle.rescale_core.specs.Soundly.{IsSound}
-use Rattle.rescale_core.specs.Stages.{Answers}
+use Rattle.rescale_core.specs.Phases.{Answers}
 use Rattle.rescale_core.specs.Working.{Has, May, StandsFor}
 use Rattle.rescale_core.specs.Handing.{nth}
 use Rattle.rescale_core.specs.Worlds.{World, Allowed, Seat, after, all_collected, fed_more, line_in}

@@ -15,7 +15,7 @@ use Rattle.rescale_core.proofs.WorldLemmas.{supplies_pieces}
 use Rattle.rescale_core.proofs.WorldLemmas.{AreChanges, Rises, line_rises, line_changes}
 use Rattle.rescale_core.specs.Lines.{ChangeOfStrategy, Due, first_spot}
 use Rattle.rescale_core.specs.Soundly.{Known, change_of, last_part, KnownRow, last_level, IsSeated, IsSound}
-use Rattle.rescale_core.specs.Stages.{NotIn, Answers}
+use Rattle.rescale_core.specs.Phases.{NotIn, Answers}
 use Rattle.rescale_core.specs.Workers.{settled_in}
 use Rattle.rescale_core.specs.Handing.{for_place}
 use Rattle.rescale_core.specs.Worlds.{pieces_in, World, Seat, line_in}

@@ -15,7 +15,7 @@ use Rattle.rescale_core.specs.Moving.{CellLine, IsDriverOf, IsLineOf, lines_of}
 use Rattle.rescale_core.specs.Routing.{HasEnded, IsRouterOf}
 use Rattle.rescale_core.specs.Seeds.{SeedOf}
 use Rattle.rescale_core.specs.Soundly.{IsSound}
-use Rattle.rescale_core.specs.Stages.{Answers}
+use Rattle.rescale_core.specs.Phases.{Answers}
 use Rattle.rescale_core.specs.Working.{May, Told}
 use Rattle.rescale_core.specs.Works.{MayBy, ToldBy}
 use Rattle.rescale_core.specs.Worlds.{World, Allowed, Seat, after, line_in}

@@ -20,7 +20,7 @@ use Rattle.rescale_core.specs.Laws.{EmitsVerdicts}
 use Rattle.rescale_core.specs.Routing.{HasEnded}
 use Rattle.rescale_core.specs.Lines.{Due, first_spot}
 use Rattle.rescale_core.specs.Soundly.{IsSound}
-use Rattle.rescale_core.specs.Stages.{Answers}
+use Rattle.rescale_core.specs.Phases.{Answers}
 use Rattle.rescale_core.specs.Workers.{settled_in}
 use Rattle.rescale_core.specs.Handing.{chance}
 use Rattle.rescale_core.specs.Worlds.{World, IsGathered, line_in, spot_in}

@@ -6,7 +6,7 @@ use Rattle.rescale_core.proofs.Chains.{Chain}
 use Rattle.rescale_core.proofs.WorldLemmas.{mapped, AreChanges}
 use Rattle.rescale_core.specs.Lines.{ChangeOfStrategy, Due}
 use Rattle.rescale_core.specs.Soundly.{Supplies, Known}
-use Rattle.rescale_core.specs.Stages.{NotIn, Stage, froms_of, IsPieceFor, Meets, stage_after, Fits, Follows}
+use Rattle.rescale_core.specs.Phases.{NotIn, PhaseOf, froms_of, IsPieceFor, Meets, phase_after, Fits, Follows}
 use Rattle.rescale_core.specs.Handing.{nth, for_place, item_of}
 use Rattle.std.specs.List.{AllByRecursion}
 use Rattle.verdict_merge.specs.Laws.{Apart}
@@ -15,7 +15,7 @@ use Rattle.monitor_state.specs.declared.state.Piece.{Piece}
 use Rattle.rescale_core.specs.declared.item.Item.{Item}
 use Rattle.rescale_core.specs.declared.item.Item.TheVariants.{Adopt}
 use Rattle.rescale_core.specs.Lines.Due.{Slicing, Parting, Hole}
-use Rattle.rescale_core.specs.Stages.Stage.{Live, Gone, Filling}
+use Rattle.rescale_core.specs.Phases.PhaseOf.{Active, Vacant, Waiting}
 
 pub every_more : {A : Type 0} (P : A → Type 0) (xs ys : List A) → AllByRecursion P xs → AllByRecursion P ys
     → AllByRecursion P (xs ++ ys)
@@ -86,15 +86,15 @@ apart_none (p ∷ ps) = (tt, apart_none ps)
 module _ (c : CoreForm) (k : ℕ) (pieces : List Piece) (f : ℕ → Option ChangeOfStrategy)
     (known : AllByRecursion (Known f c) pieces)
     (distinct : (g : ℕ) → Apart (map (λ (p : Piece). p.from) (for_place g k pieces))) where
-  abbrev Tied : Stage → Type 0
-  Tied st = (t : ChangeOfStrategy) (froms : List ℕ) → st ≡ Filling t froms
+  abbrev Tied : PhaseOf → Type 0
+  Tied ph = (t : ChangeOfStrategy) (froms : List ℕ) → ph ≡ Waiting t froms
       → froms ≡ froms_before (length froms) (for_place t.generation k pieces) []
 
-  tied_live : (s : Strategy) (log : List _) → Tied (Live s log)
-  tied_live s log t froms e = cc
+  tied_active : (s : Strategy) (log : List _) → Tied (Active s log)
+  tied_active s log t froms e = cc
 
-  tied_gone : Tied Gone
-  tied_gone t froms e = cc
+  tied_vacant : Tied Vacant
+  tied_vacant t froms e = cc
 
   piece_due : (t : ChangeOfStrategy) (j : ℕ) (p : Piece) → f t.generation ≡ Some t
       → nth (for_place t.generation k pieces) j ≡ Some p → IsPieceFor c t k p
@@ -110,46 +110,46 @@ module _ (c : CoreForm) (k : ℕ) (pieces : List Piece) (f : ℕ → Option Chan
       subst (λ (x : ℕ). IsPieceFor c t x p) to_is
       (subst (λ (x : ChangeOfStrategy). IsPieceFor c x p.to p) t_is r.0.piece_for)
 
-  froms_here : (st : Stage) (t : ChangeOfStrategy) (j : ℕ) → Follows c k st (Hole t j) → Tied st
-      → froms_of st ≡ froms_before j (for_place t.generation k pieces) []
-  froms_here st t j fo tied = ⊎_elim
-      (λ gone. let j_is : j ≡ 0 = fo.0 ∙ ap (λ x. length (froms_of x)) gone in
-      ap froms_of gone ∙ ap (λ x. froms_before x (for_place t.generation k pieces) []) (sym j_is))
-      (λ filling. tied t (froms_of st) filling
+  froms_here : (ph : PhaseOf) (t : ChangeOfStrategy) (j : ℕ) → Follows c k ph (Hole t j) → Tied ph
+      → froms_of ph ≡ froms_before j (for_place t.generation k pieces) []
+  froms_here ph t j fo tied = ⊎_elim
+      (λ vacant. let j_is : j ≡ 0 = fo.0 ∙ ap (λ x. length (froms_of x)) vacant in
+      ap froms_of vacant ∙ ap (λ x. froms_before x (for_place t.generation k pieces) []) (sym j_is))
+      (λ waiting. tied t (froms_of ph) waiting
       ∙ ap (λ x. froms_before x (for_place t.generation k pieces) []) (sym fo.0))
       fo.2
 
-  tied_next : (st : Stage) (t : ChangeOfStrategy) (j : ℕ) (p : Piece) → Follows c k st (Hole t j) → Tied st
-      → nth (for_place t.generation k pieces) j ≡ Some p → Tied (stage_after st (Hole t j) (Adopt p t.new))
-  tied_next st t j p fo tied e = by_test (nat_eq (j + 1) (workers_of t.old))
+  tied_next : (ph : PhaseOf) (t : ChangeOfStrategy) (j : ℕ) (p : Piece) → Follows c k ph (Hole t j) → Tied ph
+      → nth (for_place t.generation k pieces) j ≡ Some p → Tied (phase_after ph (Hole t j) (Adopt p t.new))
+  tied_next ph t j p fo tied e = by_test (nat_eq (j + 1) (workers_of t.old))
     where
-      longer : p.from ∷ froms_of st ≡ froms_before (length (p.from ∷ froms_of st)) (for_place t.generation k pieces) []
-      longer = ap (λ x. p.from ∷ x) (froms_here st t j fo tied)
+      longer : p.from ∷ froms_of ph ≡ froms_before (length (p.from ∷ froms_of ph)) (for_place t.generation k pieces) []
+      longer = ap (λ x. p.from ∷ x) (froms_here ph t j fo tied)
           ∙ sym (before_suc j (for_place t.generation k pieces) p [] e)
           ∙ ap (λ x. froms_before (suc x) (for_place t.generation k pieces) []) fo.0
 
-      by_test : (b : Bool) → Tied (cond b (Live t.new t.before) (Filling t (p.from ∷ froms_of st)))
-      by_test true u froms same = tied_live t.new t.before u froms same
-      by_test false u froms same = let a : t ≡ u = cc in let b : p.from ∷ froms_of st ≡ froms = cc in
+      by_test : (b : Bool) → Tied (cond b (Active t.new t.before) (Waiting t (p.from ∷ froms_of ph)))
+      by_test true u froms same = tied_active t.new t.before u froms same
+      by_test false u froms same = let a : t ≡ u = cc in let b : p.from ∷ froms_of ph ≡ froms = cc in
           sym b ∙ longer ∙ ap (λ x. froms_before (length x) (for_place t.generation k pieces) []) b
           ∙ ap (λ (x : ChangeOfStrategy). froms_before (length froms) (for_place x.generation k pieces) []) a
 
-  meets_due : (st : Stage) (d : Due) (i : Item) → Follows c k st d → Tied st → AreChanges f (d ∷ [])
-      → item_of c k pieces d ≡ Some i → Meets c k st d i × Tied (stage_after st d i)
-  meets_due st (Slicing g s log p) i fo tied changes e = (cc, tied_live s _)
-  meets_due st (Parting t) i fo tied changes e = (cc, tied_gone)
-  meets_due st (Hole t j) i fo tied changes e = let m =
+  meets_due : (ph : PhaseOf) (d : Due) (i : Item) → Follows c k ph d → Tied ph → AreChanges f (d ∷ [])
+      → item_of c k pieces d ≡ Some i → Meets c k ph d i × Tied (phase_after ph d i)
+  meets_due ph (Slicing g s log p) i fo tied changes e = (cc, tied_active s _)
+  meets_due ph (Parting t) i fo tied changes e = (cc, tied_vacant)
+  meets_due ph (Hole t j) i fo tied changes e = let m =
       mapped (λ p. Adopt p t.new) (nth (for_place t.generation k pieces) j) i e in
       let p : Piece = m.0 in (
         (
           p,
           sym m.2,
           piece_due t j p changes.0 m.1,
-          subst (λ xs. NotIn p.from xs) (sym (froms_here st t j fo tied))
+          subst (λ xs. NotIn p.from xs) (sym (froms_here ph t j fo tied))
               (not_before j (for_place t.generation k pieces) p [] (distinct t.generation)
               (apart_none (for_place t.generation k pieces)) m.1),
         ),
-        subst (λ x. Tied (stage_after st (Hole t j) x)) m.2 (tied_next st t j p fo tied m.1),
+        subst (λ x. Tied (phase_after ph (Hole t j) x)) m.2 (tied_next ph t j p fo tied m.1),
       )
 
   one_change : (d : Due) (ds : List Due) → AreChanges f (d ∷ ds) → AreChanges f (d ∷ []) × AreChanges f ds
@@ -157,10 +157,10 @@ module _ (c : CoreForm) (k : ℕ) (pieces : List Piece) (f : ℕ → Option Chan
   one_change (Parting t) ds a = ((a.0, tt), a.1)
   one_change (Hole t j) ds a = ((a.0, tt), a.1)
 
-  pub fits_of : (ds : List Due) (is : List Item) (st : Stage) → Chain c k st ds → Tied st → AreChanges f ds
-      → Supplies c k pieces ds is → Fits c k st ds is
-  fits_of ds [] st ch tied changes s = tt
-  fits_of [] (i ∷ is) st ch tied changes s = s
-  fits_of (d ∷ ds) (i ∷ is) st ch tied changes s = let u = one_change d ds changes in
-      let m = meets_due st d i ch.0 tied u.0 s.0 in
-      (m.0, fits_of ds is (stage_after st d i) (ch.1 i m.0) m.1 u.1 s.1)
+  pub fits_of : (ds : List Due) (is : List Item) (ph : PhaseOf) → Chain c k ph ds → Tied ph → AreChanges f ds
+      → Supplies c k pieces ds is → Fits c k ph ds is
+  fits_of ds [] ph ch tied changes s = tt
+  fits_of [] (i ∷ is) ph ch tied changes s = s
+  fits_of (d ∷ ds) (i ∷ is) ph ch tied changes s = let u = one_change d ds changes in
+      let m = meets_due ph d i ch.0 tied u.0 s.0 in
+      (m.0, fits_of ds is (phase_after ph d i) (ch.1 i m.0) m.1 u.1 s.1)

@@ -16,7 +16,7 @@ use Rattle.rescale_core.proofs.WorldLemmas.{spot_more}
 use Rattle.rescale_core.specs.Lines.{Spot, Due, moved, spot_after, first_spot}
 use Rattle.rescale_core.specs.Routing.{IsGatherIn, IsGatherOf, MayAdd}
 use Rattle.rescale_core.specs.Soundly.{IsSound, KnownRow}
-use Rattle.rescale_core.specs.Stages.{NotIn}
+use Rattle.rescale_core.specs.Phases.{NotIn}
 use Rattle.rescale_core.specs.Worlds.{World, IsGathered, not_back, slice_at, spot_in, rows_in, Allowed, after}
 use Rattle.std.specs.List.{AllByRecursion, find, list_any}
 use Rattle.verdict_merge.specs.Emitted.{Emits}

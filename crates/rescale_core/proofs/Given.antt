@@ -15,7 +15,7 @@ use Rattle.rescale_core.proofs.Chains.{below, taken_if}
 use Rattle.rescale_core.proofs.Rowing.{rows_more, rows_of_slice}
 use Rattle.rescale_core.specs.Lines.{Due, Spot, dues, line, moved, spot_after}
 use Rattle.rescale_core.specs.Lines.Due.{Slicing}
-use Rattle.rescale_core.specs.Stages.{Answers, row_for}
+use Rattle.rescale_core.specs.Phases.{Answers, row_for}
 use Rattle.rescale_core.specs.Workers.{newly, settled_in}
 use Rattle.rescale_core.specs.Worlds.{rows_in, slice_at}
 use Rattle.rescale_core.specs.declared.item.Entry.{Entry}

@@ -3,12 +3,12 @@ use Rattle.std.proofs.Common.{◌≡◌, ℕ, cond, List, [], ◌∷◌, ◌++�
 use Rattle.std.proofs.Common.{append_assoc, append-nil, lt-ltb, le-ltb}
 use Rattle.mfotl_model.specs.Strategies.{workers_of}
 use Rattle.monitorable.specs.Cores.{core_form}
-use Rattle.rescale_core.proofs.Chains.{Agrees, agrees_live, agrees_gone, below, chained, fits_front, Turned, turned}
+use Rattle.rescale_core.proofs.Chains.{Agrees, agrees_active, agrees_vacant, below, chained, fits_front, Turned, turned}
 use Rattle.rescale_core.specs.Lines.{Due, first_spot}
+use Rattle.rescale_core.specs.Phases.{PhaseOf, Meets, phase_at, phase_after, Follows, Gives, Answers}
 use Rattle.rescale_core.specs.Seeds.{SeedOf}
-use Rattle.rescale_core.specs.Stages.{Stage, Meets, stage, stage_after, Follows, Gives, Answers}
 use Rattle.rescale_core.specs.Workers.{IsFor}
-use Rattle.rescale_core.specs.Working.{IsAt, StandsFor, May, Has, first_stage, line_of, CanTake, Steps}
+use Rattle.rescale_core.specs.Working.{IsAt, StandsFor, May, Has, first_phase, line_of, CanTake, Steps}
 use Rattle.rescale_core.specs.Works.{MayBy, StandsBy, seen}
 use Rattle.turn_hub.specs.Work.{Takes, Leads}
 use Rattle.monitorable.specs.CoreForms.{CoreForm}
@@ -17,16 +17,16 @@ use Rattle.rescale_core.specs.declared.seed.Seed.{Seed}
 use Rattle.rescale_core.specs.declared.item.Entry.{Entry}
 use Rattle.rescale_core.specs.declared.item.Item.{Item}
 use Rattle.rescale_core.specs.declared.item.Out.{Out}
-use Rattle.rescale_core.specs.Stages.Stage.{Live, Gone}
+use Rattle.rescale_core.specs.Phases.PhaseOf.{Active, Vacant}
 
-pub first_agrees : (s : SeedOf) → Agrees s.k (first_spot s.first) (first_stage s)
+pub first_agrees : (s : SeedOf) → Agrees s.k (first_spot s.first) (first_phase s)
 first_agrees s = ⊎_elim
     (λ h. subst (Agrees s.k (first_spot s.first))
-    (sym (ap (λ b. cond b (Live s.first []) Gone) (lt-ltb s.k (workers_of s.first) h)))
-    (agrees_live s.k (first_spot s.first) h))
+    (sym (ap (λ b. cond b (Active s.first []) Vacant) (lt-ltb s.k (workers_of s.first) h)))
+    (agrees_active s.k (first_spot s.first) h))
     (λ h. subst (Agrees s.k (first_spot s.first))
-    (sym (ap (λ b. cond b (Live s.first []) Gone) (le-ltb s.k (workers_of s.first) h)))
-    (agrees_gone s.k (first_spot s.first) h))
+    (sym (ap (λ b. cond b (Active s.first []) Vacant) (le-ltb s.k (workers_of s.first) h)))
+    (agrees_vacant s.k (first_spot s.first) h))
     (below s.k (workers_of s.first))
 
 pub answers_more : (c : CoreForm) (k : ℕ) (ds : List Due) (d : Due) (outs more : List Out) → Answers c k ds outs
@@ -43,28 +43,28 @@ answers_more c k (e ∷ ds) d outs more a g = (
 
 -- what the next item is, for any entries that make it due
 pub turned_in : (s : SeedOf) (t : List Item) (i : Item) (es : List Entry) → IsFor s.core s.first
-    → Has s es (t ++ i ∷ []) → Turned s.core s.k (first_stage s) (line_of s es) t i
+    → Has s es (t ++ i ∷ []) → Turned s.core s.k (first_phase s) (line_of s es) t i
 turned_in s t i es f h =
-    turned s.core s.k t i (first_stage s) (line_of s es)
-    (chained s.core s.k es (first_spot s.first) (first_stage s) f h.0 (first_agrees s)) h.1
+    turned s.core s.k t i (first_phase s) (line_of s es)
+    (chained s.core s.k es (first_spot s.first) (first_phase s) f h.0 (first_agrees s)) h.1
 
 pub has_front : (s : SeedOf) (a b : List Item) (es : List Entry) → Has s es (a ++ b) → Has s es a
-has_front s a b es h = (h.0, fits_front s.core s.k a b (first_stage s) (line_of s es) h.1)
+has_front s a b es h = (h.0, fits_front s.core s.k a b (first_phase s) (line_of s es) h.1)
 
 can_take_in : (s : SeedOf) (t : List Item) (g : List Out) (w : Worker) (i : Item) → StandsFor s t g w
     → (es : List Entry) → Has s es (t ++ i ∷ []) → CanTake w i
 can_take_in s t g w i st es h = let r = turned_in s t i es st.first h in
-    let at : IsAt s.core s.k (stage (first_stage s) (line_of s es) t) w.phase =
+    let at : IsAt s.core s.k (phase_at (first_phase s) (line_of s es) t) w.phase =
     st.at es (has_front s t (i ∷ []) es h) in (
-      stage (first_stage s) (line_of s es) t,
+      phase_at (first_phase s) (line_of s es) t,
       r.due,
-      subst (λ (k : ℕ). IsAt (core_form w.core) k (stage (first_stage s) (line_of s es) t) w.phase) (sym st.number)
-          (subst (λ (c : CoreForm). IsAt c s.k (stage (first_stage s) (line_of s es) t) w.phase) (sym st.core) at),
-      subst (λ (k : ℕ). Follows (core_form w.core) k (stage (first_stage s) (line_of s es) t) r.due) (sym st.number)
-          (subst (λ (c : CoreForm). Follows c s.k (stage (first_stage s) (line_of s es) t) r.due)
+      subst (λ (k : ℕ). IsAt (core_form w.core) k (phase_at (first_phase s) (line_of s es) t) w.phase) (sym st.number)
+          (subst (λ (c : CoreForm). IsAt c s.k (phase_at (first_phase s) (line_of s es) t) w.phase) (sym st.core) at),
+      subst (λ (k : ℕ). Follows (core_form w.core) k (phase_at (first_phase s) (line_of s es) t) r.due) (sym st.number)
+          (subst (λ (c : CoreForm). Follows c s.k (phase_at (first_phase s) (line_of s es) t) r.due)
           (sym st.core) r.follows),
-      subst (λ (k : ℕ). Meets (core_form w.core) k (stage (first_stage s) (line_of s es) t) r.due i) (sym st.number)
-          (subst (λ (c : CoreForm). Meets c s.k (stage (first_stage s) (line_of s es) t) r.due i)
+      subst (λ (k : ℕ). Meets (core_form w.core) k (phase_at (first_phase s) (line_of s es) t) r.due i) (sym st.number)
+          (subst (λ (c : CoreForm). Meets c s.k (phase_at (first_phase s) (line_of s es) t) r.due i)
           (sym st.core) r.meets),
     )
 
@@ -73,26 +73,26 @@ can_take w i t = can_take_in t.0 t.1 t.2 w i t.3 t.4.0 t.4.1
 
 -- a step in the seed's own words
 steps_in : (s : SeedOf) (w : Worker) (i : Item) (x : Worker) (gave : List Out) → core_form w.core ≡ s.core
-    → w.number ≡ s.k → Steps w i x gave → (st : Stage) (d : Due)
-    → IsAt s.core s.k st w.phase → Follows s.core s.k st d → Meets s.core s.k st d i → Gives s.core s.k d gave
-    × IsAt s.core s.k (stage_after st d i) x.phase
-steps_in s w i x gave core number steps st d =
-    subst (λ (k : ℕ). IsAt s.core k st w.phase → Follows s.core k st d → Meets s.core k st d i
-    → Gives s.core k d gave × IsAt s.core k (stage_after st d i) x.phase) number
-    (subst (λ (c : CoreForm). IsAt c w.number st w.phase → Follows c w.number st d → Meets c w.number st d i
-    → Gives c w.number d gave × IsAt c w.number (stage_after st d i) x.phase) core (steps.step st d))
+    → w.number ≡ s.k → Steps w i x gave → (ph : PhaseOf) (d : Due)
+    → IsAt s.core s.k ph w.phase → Follows s.core s.k ph d → Meets s.core s.k ph d i → Gives s.core s.k d gave
+    × IsAt s.core s.k (phase_after ph d i) x.phase
+steps_in s w i x gave core number steps ph d =
+    subst (λ (k : ℕ). IsAt s.core k ph w.phase → Follows s.core k ph d → Meets s.core k ph d i
+    → Gives s.core k d gave × IsAt s.core k (phase_after ph d i) x.phase) number
+    (subst (λ (c : CoreForm). IsAt c w.number ph w.phase → Follows c w.number ph d → Meets c w.number ph d i
+    → Gives c w.number d gave × IsAt c w.number (phase_after ph d i) x.phase) core (steps.step ph d))
 
 module _ (s : SeedOf) (t : List Item) (g : List Out) (w : Worker) (i : Item) (x : Worker) (gave : List Out)
     (st : StandsFor s t g w) (steps : Steps w i x gave) where
   does : (es : List Entry) → Has s es (t ++ i ∷ [])
       → Answers s.core s.k (take (length (t ++ i ∷ [])) (line_of s es)) (g ++ gave)
-      × IsAt s.core s.k (stage (first_stage s) (line_of s es) (t ++ i ∷ [])) x.phase
+      × IsAt s.core s.k (phase_at (first_phase s) (line_of s es) (t ++ i ∷ [])) x.phase
   does es h = let front = has_front s t (i ∷ []) es h in let r = turned_in s t i es st.first h in
-      let done = steps_in s w i x gave st.core st.number steps (stage (first_stage s) (line_of s es) t) r.due
+      let done = steps_in s w i x gave st.core st.number steps (phase_at (first_phase s) (line_of s es) t) r.due
       (st.at es front) r.follows r.meets in (
         subst (λ (ds : List Due). Answers s.core s.k ds (g ++ gave)) (sym r.front)
             (answers_more s.core s.k (take (length t) (line_of s es)) r.due g gave (st.told es front) done.0),
-        subst (λ (y : Stage). IsAt s.core s.k y x.phase) (sym r.next) done.1,
+        subst (λ (y : PhaseOf). IsAt s.core s.k y x.phase) (sym r.next) done.1,
       )
 
   stands_on : StandsFor s (t ++ i ∷ []) (g ++ gave) x

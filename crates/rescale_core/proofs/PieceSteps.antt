@@ -7,13 +7,13 @@ use Rattle.mfotl_model.specs.Strategies.{Strategy, workers_of}
 use Rattle.monitorable.specs.CoreForms.{CoreForm}
 use Rattle.monitorable.specs.Cores.{core_form}
 use Rattle.monitor_state.specs.declared.monitor.Monitor.{Monitor}
-use Rattle.rescale_core.proofs.WorkerSteps.{live_at}
+use Rattle.rescale_core.proofs.WorkerSteps.{active_at}
 use Rattle.rescale_core.specs.Lines.{Due, ChangeOfStrategy}
 use Rattle.rescale_core.specs.Lines.Due.{Slicing, Parting, Hole}
 use Rattle.monitor_state.specs.Pieces.{AreCuts, PieceStands}
 use Rattle.rescale_core.specs.States.{Adopted, CanAdopt, IsFull, Merges, MergesMore, Splits}
-use Rattle.rescale_core.specs.Stages.{Follows, Gives, IsPieceFor, Meets, NotIn, Parts, Stage, froms_of, stage_after}
-use Rattle.rescale_core.specs.Stages.Stage.{Filling, Gone, Live}
+use Rattle.rescale_core.specs.Phases.{Follows, Gives, IsPieceFor, Meets, NotIn, Parts, PhaseOf, froms_of, phase_after}
+use Rattle.rescale_core.specs.Phases.PhaseOf.{Active, Vacant, Waiting}
 use Rattle.rescale_core.specs.Workers.{IsFor}
 use Rattle.rescale_core.specs.Working.{CanTake, GoesOn, IsAt, IsOpen, Settles, Steps}
 use Rattle.rescale_core.specs.declared.item.Item.TheVariants.{Adopt, Part}
@@ -21,7 +21,7 @@ use Rattle.rescale_core.specs.declared.item.Out.TheVariants.{Piece as OfPiece}
 use Rattle.state_merge.specs.MergingView.{MergingOf}
 use Rattle.state_merge.specs.declared.merging.Merging.{Merging}
 use Rattle.rescale_core.specs.declared.phase.Phase.{Phase}
-use Rattle.rescale_core.specs.declared.phase.Phase.TheVariants.{Active, Vacant, Waiting}
+use Rattle.rescale_core.specs.declared.phase.Phase.TheVariants as held
 use Rattle.rescale_core.specs.declared.worker.Worker.{Worker}
 use Rattle.monitor_state.specs.declared.state.Piece.{Piece}
 
@@ -46,20 +46,20 @@ cut_pieces c k t k2 (p ∷ ps) h a = (
   cut_pieces c k t (k2 + 1) ps h a.1,
 )
 
-module _ (w : Worker) (m : Monitor) (s : Strategy) (g : ℕ) (old new : Strategy) (active : w.phase ≡ Active m s)
+module _ (w : Worker) (m : Monitor) (s : Strategy) (g : ℕ) (old new : Strategy) (active : w.phase ≡ held.Active m s)
     (x : Worker) (pieces : List Piece) (core : core_form x.core ≡ core_form w.core) (number : x.number ≡ w.number)
-    (vacant : x.phase ≡ Vacant) (splits : Splits m s w.number new g pieces) where
+    (vacant : x.phase ≡ held.Vacant) (splits : Splits m s w.number new g pieces) where
   abbrev c : CoreForm
   c = core_form w.core
 
   abbrev k : ℕ
   k = w.number
 
-  parts_due : (st : Stage) (d : Due) → IsAt c k st w.phase → Follows c k st d → Meets c k st d (Part g old new)
-      → Gives c k d (map (λ p. OfPiece p) pieces) × IsAt c k (stage_after st d (Part g old new)) x.phase
-  parts_due st (Slicing g' s' log q) at f meets = cc
-  parts_due st (Parting t) at f meets =
-      let l = live_at c k st s t.old t.before m w.phase f.0 at active in
+  parts_due : (ph : PhaseOf) (d : Due) → IsAt c k ph w.phase → Follows c k ph d → Meets c k ph d (Part g old new)
+      → Gives c k d (map (λ p. OfPiece p) pieces) × IsAt c k (phase_after ph d (Part g old new)) x.phase
+  parts_due ph (Slicing g' s' log q) at f meets = cc
+  parts_due ph (Parting t) at f meets =
+      let l = active_at c k ph s t.old t.before m w.phase f.0 at active in
       let to : new ≡ t.new = cc in
       let by : g ≡ t.generation = cc in
       let is_for : IsFor c s = subst (IsFor c) l.0 f.1 in
@@ -72,40 +72,40 @@ module _ (w : Worker) (m : Monitor) (s : Strategy) (g : ℕ) (old new : Strategy
       let e : AreCuts c t.old k t.new t.before t.generation 0 pieces =
       subst (λ (y : ℕ). AreCuts c t.old k t.new t.before y 0 pieces) by d in
       ((length-map pieces (λ p. OfPiece p) ∙ splits.0 ∙ ap workers_of to, cut_pieces c k t 0 pieces f.3 e), vacant)
-  parts_due st (Hole t j) at f meets = let e = meets.1 in cc
+  parts_due ph (Hole t j) at f meets = let e = meets.1 in cc
 
   pub part_steps : Steps w (Part g old new) x (map (λ p. OfPiece p) pieces)
   part_steps = record { core = core; number = number; step = parts_due }
 
 -- it is one of its strategy's workers
-pub part_below : (w : Worker) (m : Monitor) (s : Strategy) (g : ℕ) (old new : Strategy) → w.phase ≡ Active m s
+pub part_below : (w : Worker) (m : Monitor) (s : Strategy) (g : ℕ) (old new : Strategy) → w.phase ≡ held.Active m s
     → CanTake w (Part g old new) → w.number < workers_of s
 part_below w m s g old new active can = by can.0 can.1 can.2 can.3 can.4
   where
-    by : (st : Stage) (d : Due) → IsAt (core_form w.core) w.number st w.phase
-        → Follows (core_form w.core) w.number st d → Meets (core_form w.core) w.number st d (Part g old new)
+    by : (ph : PhaseOf) (d : Due) → IsAt (core_form w.core) w.number ph w.phase
+        → Follows (core_form w.core) w.number ph d → Meets (core_form w.core) w.number ph d (Part g old new)
         → w.number < workers_of s
-    by st (Slicing g' s' log q) at f meets = cc
-    by st (Parting t) at f meets =
-        let l = live_at (core_form w.core) w.number st s t.old t.before m w.phase f.0 at active in
+    by ph (Slicing g' s' log q) at f meets = cc
+    by ph (Parting t) at f meets =
+        let l = active_at (core_form w.core) w.number ph s t.old t.before m w.phase f.0 at active in
         subst (λ (y : Strategy). w.number < workers_of y) l.0 f.3
-    by st (Hole t j) at f meets = let e = meets.1 in cc
+    by ph (Hole t j) at f meets = let e = meets.1 in cc
 
 -- only a worker that monitors is due a part
 pub part_active : (w : Worker) (g : ℕ) (old new : Strategy) → CanTake w (Part g old new)
-    → (m : Monitor) × (w.phase ≡ Active m old)
+    → (m : Monitor) × (w.phase ≡ held.Active m old)
 part_active w g old new can = by can.0 can.1 can.2 can.3 can.4
   where
-    by : (st : Stage) (d : Due) → IsAt (core_form w.core) w.number st w.phase
-        → Follows (core_form w.core) w.number st d → Meets (core_form w.core) w.number st d (Part g old new)
-        → (m : Monitor) × (w.phase ≡ Active m old)
-    by st (Slicing g' s' log q) at f meets = cc
-    by st (Parting t) at f meets =
-        let h : IsAt (core_form w.core) w.number (Live t.old t.before) w.phase =
-        subst (λ (y : Stage). IsAt (core_form w.core) w.number y w.phase) f.0 at in
+    by : (ph : PhaseOf) (d : Due) → IsAt (core_form w.core) w.number ph w.phase
+        → Follows (core_form w.core) w.number ph d → Meets (core_form w.core) w.number ph d (Part g old new)
+        → (m : Monitor) × (w.phase ≡ held.Active m old)
+    by ph (Slicing g' s' log q) at f meets = cc
+    by ph (Parting t) at f meets =
+        let h : IsAt (core_form w.core) w.number (Active t.old t.before) w.phase =
+        subst (λ (y : PhaseOf). IsAt (core_form w.core) w.number y w.phase) f.0 at in
         let from : old ≡ t.old = cc in
-        (h.0, h.1 ∙ ap (λ (y : Strategy). Active h.0 y) (sym from))
-    by st (Hole t j) at f meets = let e = meets.1 in cc
+        (h.0, h.1 ∙ ap (λ (y : Strategy). held.Active h.0 y) (sym from))
+    by ph (Hole t j) at f meets = let e = meets.1 in cc
 
 -- ---- a piece
 
@@ -117,15 +117,15 @@ record Carries (c : CoreForm) (k : ℕ) (t : ChangeOfStrategy) (froms : List ℕ
   some : 0 < missing
   adopted : Adopted t.old froms
 
-carries_none : (c : CoreForm) (k : ℕ) (t : ChangeOfStrategy) (st : Stage) (phase : Phase) (count : ℕ)
+carries_none : (c : CoreForm) (k : ℕ) (t : ChangeOfStrategy) (ph : PhaseOf) (phase : Phase) (count : ℕ)
     (merging : Merging)
-    (missing : ℕ) → st ≡ Gone → 0 < workers_of t.old → IsAt c k st phase → count ≡ workers_of t.old
-    → GoesOn phase c count merging missing → Carries c k t (froms_of st) merging missing
-carries_none c k t st phase count merging missing gone few at counts on =
-    let vacant : phase ≡ Vacant = subst (λ (y : Stage). IsAt c k y phase) gone at in
-    let g : GoesOn Vacant c count merging missing =
+    (missing : ℕ) → ph ≡ Vacant → 0 < workers_of t.old → IsAt c k ph phase → count ≡ workers_of t.old
+    → GoesOn phase c count merging missing → Carries c k t (froms_of ph) merging missing
+carries_none c k t ph phase count merging missing none few at counts on =
+    let vacant : phase ≡ held.Vacant = subst (λ (y : PhaseOf). IsAt c k y phase) none at in
+    let g : GoesOn held.Vacant c count merging missing =
     subst (λ (y : Phase). GoesOn y c count merging missing) vacant on in
-    subst (λ (y : Stage). Carries c k t (froms_of y) merging missing) (sym gone) record {
+    subst (λ (y : PhaseOf). Carries c k t (froms_of y) merging missing) (sym none) record {
       merges = record {
         of = ap (λ (m : MergingOf). m.core) g.0;
         count = ap (λ (m : MergingOf). m.count) g.0 ∙ counts;
@@ -137,12 +137,12 @@ carries_none c k t st phase count merging missing gone few at counts on =
       adopted = record { distinct = tt; near = tt };
     }
 
-carries_some : (c : CoreForm) (k : ℕ) (t : ChangeOfStrategy) (st : Stage) (froms : List ℕ) (phase : Phase) (count : ℕ)
-    (merging : Merging) (missing : ℕ) → st ≡ Filling t froms → IsAt c k st phase
+carries_some : (c : CoreForm) (k : ℕ) (t : ChangeOfStrategy) (ph : PhaseOf) (froms : List ℕ) (phase : Phase) (count : ℕ)
+    (merging : Merging) (missing : ℕ) → ph ≡ Waiting t froms → IsAt c k ph phase
     → GoesOn phase c count merging missing → Carries c k t froms merging missing
-carries_some c k t st froms phase count merging missing filling at on =
-    let a : IsAt c k (Filling t froms) phase = subst (λ (y : Stage). IsAt c k y phase) filling at in
-    let g : GoesOn (Waiting a.0 t.new a.1) c count merging missing =
+carries_some c k t ph froms phase count merging missing waiting at on =
+    let a : IsAt c k (Waiting t froms) phase = subst (λ (y : PhaseOf). IsAt c k y phase) waiting at in
+    let g : GoesOn (held.Waiting a.0 t.new a.1) c count merging missing =
     subst (λ (y : Phase). GoesOn y c count merging missing) a.2 on in
     record {
       merges = subst (λ (y : Merging). Merges c t.old t.new k t.before froms y) (sym g.0) a.3;
@@ -151,13 +151,13 @@ carries_some c k t st froms phase count merging missing filling at on =
       adopted = a.6;
     }
 
-carries : (c : CoreForm) (k : ℕ) (t : ChangeOfStrategy) (j : ℕ) (st : Stage) (phase : Phase) (count : ℕ)
+carries : (c : CoreForm) (k : ℕ) (t : ChangeOfStrategy) (j : ℕ) (ph : PhaseOf) (phase : Phase) (count : ℕ)
     (merging : Merging)
-    (missing : ℕ) → Follows c k st (Hole t j) → IsAt c k st phase → count ≡ workers_of t.old
-    → GoesOn phase c count merging missing → Carries c k t (froms_of st) merging missing
-carries c k t j st phase count merging missing f at counts on = ⊎_elim
-    (λ gone. carries_none c k t st phase count merging missing gone (let h = f.1 in omega arith) at counts on)
-    (λ filling. carries_some c k t st (froms_of st) phase count merging missing filling at on)
+    (missing : ℕ) → Follows c k ph (Hole t j) → IsAt c k ph phase → count ≡ workers_of t.old
+    → GoesOn phase c count merging missing → Carries c k t (froms_of ph) merging missing
+carries c k t j ph phase count merging missing f at counts on = ⊎_elim
+    (λ none. carries_none c k t ph phase count merging missing none (let h = f.1 in omega arith) at counts on)
+    (λ waiting. carries_some c k t ph (froms_of ph) phase count merging missing waiting at on)
     f.2
 
 -- what is known of a piece that is due
@@ -174,18 +174,18 @@ record DuePiece (w : Worker) (piece : Piece) (now : Strategy) (merging : Merging
 pub adopt_open : (w : Worker) (piece : Piece) (now : Strategy) → CanTake w (Adopt piece now) → IsOpen w.phase
 adopt_open w piece now can = by can.0 can.1 can.2 can.3 can.4
   where
-    by : (st : Stage) (d : Due) → IsAt (core_form w.core) w.number st w.phase
-        → Follows (core_form w.core) w.number st d → Meets (core_form w.core) w.number st d (Adopt piece now)
+    by : (ph : PhaseOf) (d : Due) → IsAt (core_form w.core) w.number ph w.phase
+        → Follows (core_form w.core) w.number ph d → Meets (core_form w.core) w.number ph d (Adopt piece now)
         → IsOpen w.phase
-    by st (Slicing g s log q) at f meets = cc
-    by st (Parting t) at f meets = cc
-    by st (Hole t j) at f meets = ⊎_elim
-        (λ gone.
-        let h : w.phase ≡ Vacant = subst (λ (y : Stage). IsAt (core_form w.core) w.number y w.phase) gone at in
+    by ph (Slicing g s log q) at f meets = cc
+    by ph (Parting t) at f meets = cc
+    by ph (Hole t j) at f meets = ⊎_elim
+        (λ none.
+        let h : w.phase ≡ held.Vacant = subst (λ (y : PhaseOf). IsAt (core_form w.core) w.number y w.phase) none at in
         subst IsOpen (sym h) tt)
-        (λ filling.
-        let h : IsAt (core_form w.core) w.number (Filling t (froms_of st)) w.phase =
-        subst (λ (y : Stage). IsAt (core_form w.core) w.number y w.phase) filling at in
+        (λ waiting.
+        let h : IsAt (core_form w.core) w.number (Waiting t (froms_of ph)) w.phase =
+        subst (λ (y : PhaseOf). IsAt (core_form w.core) w.number y w.phase) waiting at in
         subst IsOpen (sym h.2) tt)
         f.2
 
@@ -197,18 +197,18 @@ module _ (w : Worker) (piece : Piece) (now : Strategy) (merging : Merging) (miss
   abbrev number_of : ℕ
   number_of = w.number
 
-  due_piece : (st : Stage) (t : ChangeOfStrategy) (j : ℕ) → IsAt own number_of st w.phase
-      → Follows own number_of st (Hole t j)
-      → Meets own number_of st (Hole t j) (Adopt piece now) → DuePiece w piece now merging missing t (froms_of st)
-  due_piece st t j at f meets =
+  due_piece : (ph : PhaseOf) (t : ChangeOfStrategy) (j : ℕ) → IsAt own number_of ph w.phase
+      → Follows own number_of ph (Hole t j)
+      → Meets own number_of ph (Hole t j) (Adopt piece now) → DuePiece w piece now merging missing t (froms_of ph)
+  due_piece ph t j at f meets =
       let p : Piece = meets.0 in
       let e : Adopt piece now ≡ Adopt p t.new = meets.1 in
       let same : p ≡ piece = cc in
       let is : IsPieceFor own t number_of piece = subst (λ (y : Piece). IsPieceFor own t number_of y) same meets.2 in
       record {
-        carried = carries own number_of t j st w.phase piece.count merging missing f at is.count on;
+        carried = carries own number_of t j ph w.phase piece.count merging missing f at is.count on;
         piece_for = is;
-        apart = subst (λ (y : Piece). NotIn y.from (froms_of st)) same meets.3;
+        apart = subst (λ (y : Piece). NotIn y.from (froms_of ph)) same meets.3;
         now_is = cc;
         old_for = f.4;
         new_for = f.5;
@@ -223,25 +223,25 @@ module _ (w : Worker) (piece : Piece) (now : Strategy) (merging : Merging) (miss
         near = (d.piece_for.near, d.carried.adopted.near);
       }
 
-  adopts_due : (st : Stage) (d : Due) → IsAt own number_of st w.phase → Follows own number_of st d
-      → Meets own number_of st d (Adopt piece now)
+  adopts_due : (ph : PhaseOf) (d : Due) → IsAt own number_of ph w.phase → Follows own number_of ph d
+      → Meets own number_of ph d (Adopt piece now)
       → CanAdopt merging piece × (0 < missing)
-  adopts_due st (Slicing g s log q) at f meets = cc
-  adopts_due st (Parting t) at f meets = cc
-  adopts_due st (Hole t j) at f meets =
-      let d = due_piece st t j at f meets in (
+  adopts_due ph (Slicing g s log q) at f meets = cc
+  adopts_due ph (Parting t) at f meets = cc
+  adopts_due ph (Hole t j) at f meets =
+      let d = due_piece ph t j at f meets in (
         (
           own,
           t.old,
           t.new,
           number_of,
           t.before,
-          froms_of st,
+          froms_of ph,
           d.old_for,
           d.new_for,
           d.carried.merges,
           d.piece_for.stands,
-          with_piece t (froms_of st) d,
+          with_piece t (froms_of ph) d,
           d.piece_for.count,
         ),
         d.carried.some,
@@ -260,23 +260,23 @@ module _ (w : Worker) (piece : Piece) (now : Strategy) (merging : Merging) (miss
     merges_piece t froms d =
         more own t.old t.new number_of t.before froms d.old_for d.new_for d.carried.merges d.piece_for.stands
 
-    fills_due : (st : Stage) (d : Due) → IsAt own number_of st w.phase → Follows own number_of st d
-        → Meets own number_of st d (Adopt piece now)
+    fills_due : (ph : PhaseOf) (d : Due) → IsAt own number_of ph w.phase → Follows own number_of ph d
+        → Meets own number_of ph d (Adopt piece now)
         → missing ≡ 1 → IsFull merging2
-    fills_due st (Slicing g s log q) at f meets one = cc
-    fills_due st (Parting t) at f meets one = cc
-    fills_due st (Hole t j) at f meets one =
-        let d = due_piece st t j at f meets in (
+    fills_due ph (Slicing g s log q) at f meets one = cc
+    fills_due ph (Parting t) at f meets one = cc
+    fills_due ph (Hole t j) at f meets one =
+        let d = due_piece ph t j at f meets in (
           own,
           t.old,
           t.new,
           number_of,
           t.before,
-          piece.from ∷ froms_of st,
+          piece.from ∷ froms_of ph,
           d.old_for,
           d.new_for,
-          merges_piece t (froms_of st) d,
-          with_piece t (froms_of st) d,
+          merges_piece t (froms_of ph) d,
+          with_piece t (froms_of ph) d,
           (let l = d.carried.left in omega arith),
         )
 
@@ -286,51 +286,51 @@ module _ (w : Worker) (piece : Piece) (now : Strategy) (merging : Merging) (miss
     module _ (x : Worker) (core : core_form x.core ≡ core_form w.core) (number : x.number ≡ w.number)
         (settles : Settles merging2 now missing x.phase) where
       at_last : (t : ChangeOfStrategy) (froms : List ℕ) → DuePiece w piece now merging missing t froms → missing ≡ 1
-          → IsAt own number_of (Live t.new t.before) x.phase
+          → IsAt own number_of (Active t.new t.before) x.phase
       at_last t froms d one =
           let s = settles.0 one in (
             s.0,
-            s.1 ∙ ap (λ (y : Strategy). Active s.0 y) d.now_is,
+            s.1 ∙ ap (λ (y : Strategy). held.Active s.0 y) d.now_is,
             s.2 own t.old t.new number_of t.before (piece.from ∷ froms) d.old_for d.new_for (merges_piece t froms d)
                 (with_piece t froms d) (let l = d.carried.left in omega arith),
           )
 
       before_last : (t : ChangeOfStrategy) (froms : List ℕ) → DuePiece w piece now merging missing t froms → missing ≢ 1
-          → IsAt own number_of (Filling t (piece.from ∷ froms)) x.phase
+          → IsAt own number_of (Waiting t (piece.from ∷ froms)) x.phase
       before_last t froms d other =
           let some = d.carried.some in
           let l = d.carried.left in (
             merging2,
             missing - 1,
-            settles.1 other ∙ ap (λ (y : Strategy). Waiting merging2 y (missing - 1)) d.now_is,
+            settles.1 other ∙ ap (λ (y : Strategy). held.Waiting merging2 y (missing - 1)) d.now_is,
             merges_piece t froms d,
             omega arith,
             omega (arith, other),
             with_piece t froms d,
           )
 
-      at_stage : (t : ChangeOfStrategy) (j : ℕ) (froms : List ℕ) → DuePiece w piece now merging missing t froms
+      at_phase : (t : ChangeOfStrategy) (j : ℕ) (froms : List ℕ) → DuePiece w piece now merging missing t froms
           → j ≡ length froms → Dec (j + 1 ≡ workers_of t.old)
           → IsAt own number_of
-          (cond (nat_eq (j + 1) (workers_of t.old)) (Live t.new t.before) (Filling t (piece.from ∷ froms))) x.phase
-      at_stage t j froms d here (yes is) =
+          (cond (nat_eq (j + 1) (workers_of t.old)) (Active t.new t.before) (Waiting t (piece.from ∷ froms))) x.phase
+      at_phase t j froms d here (yes is) =
           let l = d.carried.left in
-          subst (λ (y : Stage). IsAt own number_of y x.phase)
-          (sym (ap (λ b. cond b (Live t.new t.before) (Filling t (piece.from ∷ froms)))
+          subst (λ (y : PhaseOf). IsAt own number_of y x.phase)
+          (sym (ap (λ b. cond b (Active t.new t.before) (Waiting t (piece.from ∷ froms)))
           (eq-eqb (j + 1) (workers_of t.old) is))) (at_last t froms d (omega arith))
-      at_stage t j froms d here (no other) =
+      at_phase t j froms d here (no other) =
           let l = d.carried.left in
-          subst (λ (y : Stage). IsAt own number_of y x.phase)
-          (sym (ap (λ b. cond b (Live t.new t.before) (Filling t (piece.from ∷ froms)))
+          subst (λ (y : PhaseOf). IsAt own number_of y x.phase)
+          (sym (ap (λ b. cond b (Active t.new t.before) (Waiting t (piece.from ∷ froms)))
           (ne_eqb (j + 1) (workers_of t.old) other))) (before_last t froms d (λ one. other (omega arith)))
 
-      adopted_due : (st : Stage) (d : Due) → IsAt own number_of st w.phase → Follows own number_of st d
-          → Meets own number_of st d (Adopt piece now)
-          → Gives own number_of d [] × IsAt own number_of (stage_after st d (Adopt piece now)) x.phase
-      adopted_due st (Slicing g s log q) at f meets = cc
-      adopted_due st (Parting t) at f meets = cc
-      adopted_due st (Hole t j) at f meets =
-          (refl, at_stage t j (froms_of st) (due_piece st t j at f meets) f.0 (ℕ_discrete (j + 1) (workers_of t.old)))
+      adopted_due : (ph : PhaseOf) (d : Due) → IsAt own number_of ph w.phase → Follows own number_of ph d
+          → Meets own number_of ph d (Adopt piece now)
+          → Gives own number_of d [] × IsAt own number_of (phase_after ph d (Adopt piece now)) x.phase
+      adopted_due ph (Slicing g s log q) at f meets = cc
+      adopted_due ph (Parting t) at f meets = cc
+      adopted_due ph (Hole t j) at f meets =
+          (refl, at_phase t j (froms_of ph) (due_piece ph t j at f meets) f.0 (ℕ_discrete (j + 1) (workers_of t.old)))
 
       pub adopt_steps : Steps w (Adopt piece now) x []
       adopt_steps = record { core = core; number = number; step = adopted_due }

@@ -11,7 +11,7 @@ use Rattle.rescale_core.proofs.Fitting.{and_right, every_more, every_map}
 use Rattle.rescale_core.proofs.WorldLemmas.{AreChanges, Rises}
 use Rattle.rescale_core.specs.Lines.{ChangeOfStrategy, Due}
 use Rattle.rescale_core.specs.Soundly.{Known, last_part}
-use Rattle.rescale_core.specs.Stages.{NotIn, IsPieceFor, Gives, Parts, Answers, rows_for}
+use Rattle.rescale_core.specs.Phases.{NotIn, IsPieceFor, Gives, Parts, Answers, rows_for}
 use Rattle.rescale_core.specs.Workers.{newly}
 use Rattle.rescale_core.specs.Handing.{for_place}
 use Rattle.rescale_core.specs.Worlds.{pieces_in}

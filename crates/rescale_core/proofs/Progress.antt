@@ -19,7 +19,7 @@ use Rattle.rescale_core.specs.Lines.{Due, Spot, ChangeOfStrategy, dues, first_sp
 use Rattle.rescale_core.specs.Lines.{change_at}
 use Rattle.rescale_core.specs.Lines.Due.{Slicing, Parting, Hole}
 use Rattle.rescale_core.specs.Soundly.{IsSound, change_of}
-use Rattle.rescale_core.specs.Stages.{Answers, Parts}
+use Rattle.rescale_core.specs.Phases.{Answers, Parts}
 use Rattle.rescale_core.specs.Workers.{slice_for}
 use Rattle.rescale_core.specs.Handing.{for_place, item_of, nth, ready_items}
 use Rattle.rescale_core.specs.Worlds.{World, Allowed, line_in, pieces_in}

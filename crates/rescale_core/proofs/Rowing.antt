@@ -11,8 +11,8 @@ use Rattle.rescale_core.proofs.Fitting.{every_more, every_map}
 use Rattle.rescale_core.proofs.LogLemmas.{settled_more}
 use Rattle.rescale_core.proofs.WorldLemmas.{if_either, behind_change}
 use Rattle.rescale_core.specs.Lines.{ChangeOfStrategy, Spot, Due, change_at, moved, line, place, AreSound}
+use Rattle.rescale_core.specs.Phases.{Parts, Answers, row_for, rows_for}
 use Rattle.rescale_core.specs.Soundly.{KnownRow, last_level}
-use Rattle.rescale_core.specs.Stages.{Parts, Answers, row_for, rows_for}
 use Rattle.rescale_core.specs.Workers.{newly, settled_in}
 use Rattle.rescale_core.specs.Worlds.{slice_at, rows_in}
 use Rattle.std.specs.List.{AllByRecursion}

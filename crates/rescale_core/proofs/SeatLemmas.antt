@@ -13,7 +13,7 @@ use Rattle.rescale_core.proofs.WorldLemmas.{line_more, sound_more, supplies_line
 use Rattle.rescale_core.proofs.WorldLemmas.{supplies_next, change_more}
 use Rattle.rescale_core.specs.Lines.{Due, first_spot, line, MayRead}
 use Rattle.rescale_core.specs.Soundly.{Supplies, Known, change_of, last_part, KnownRow, last_level, IsSeated, IsSound}
-use Rattle.rescale_core.specs.Stages.{Answers}
+use Rattle.rescale_core.specs.Phases.{Answers}
 use Rattle.rescale_core.specs.Workers.{IsFor}
 use Rattle.rescale_core.specs.Worlds.{first_world, World, Seat, line_in}
 use Rattle.rescale_core.specs.Worlds.{spot_in, set_seat}

@@ -10,13 +10,13 @@ use Rattle.rescale_core.proofs.WorldLemmas.{line_changes}
 use Rattle.rescale_core.specs.Lines.{ChangeOfStrategy, first_spot}
 use Rattle.rescale_core.specs.Seeds.{SeedOf}
 use Rattle.rescale_core.specs.Soundly.{change_of, IsSound}
-use Rattle.rescale_core.specs.Working.{Has, first_stage}
+use Rattle.rescale_core.specs.Working.{Has, first_phase}
 use Rattle.rescale_core.specs.Handing.{for_place}
 use Rattle.rescale_core.specs.Worlds.{World, Move, line_in}
 use Rattle.rescale_core.specs.Worlds.{after, Allowed}
 use Rattle.rescale_core.specs.Worlds.{run, AreAllowed}
 use Rattle.rescale_core.specs.Worlds.Move.{Read, Feed, Take, Collect, Emit}
-use Rattle.rescale_core.specs.Stages.Stage.{Live, Gone, Filling}
+use Rattle.rescale_core.specs.Phases.PhaseOf.{Active, Vacant, Waiting}
 use Rattle.rescale_core.proofs.SeatLemmas.{read_sound, feed_sound, take_sound}
 use Rattle.rescale_core.proofs.Collecting.{collect_sound}
 
@@ -60,7 +60,7 @@ run_sound w (s ∷ ss) r a = run_sound (after w s) ss (step_sound w s r a.0) a.1
 -- ---- what workers are told
 
 tied_first : (w : World) (k : ℕ) (b : Bool) (t : ChangeOfStrategy) (froms : List ℕ)
-    → cond b (Live w.first []) Gone ≡ Filling t froms
+    → cond b (Active w.first []) Vacant ≡ Waiting t froms
     → froms ≡ froms_before (length froms) (for_place t.generation k w.pieces) []
 tied_first w k true t froms e = cc
 tied_first w k false t froms e = cc
@@ -71,8 +71,8 @@ pub has_of : (w : World) (k : ℕ) → IsSound w
 has_of w k r = let s : SeedOf = record { core = w.core; first = w.first; k = k } in (
   r.read,
   fits_of w.core k w.pieces (change_of (first_spot w.first) w.read) r.known (λ g. r.distinct g k) (line_in w k)
-      (w.seats k).fed (first_stage s)
-      (chained w.core k w.read (first_spot w.first) (first_stage s) r.first r.read (first_agrees s))
+      (w.seats k).fed (first_phase s)
+      (chained w.core k w.read (first_spot w.first) (first_phase s) r.first r.read (first_agrees s))
       (tied_first w k (nat_lt k (workers_of w.first))) (line_changes k w.read (first_spot w.first))
       (r.seated k).supplied,
 )

@@ -14,7 +14,7 @@ use Rattle.rescale_core.specs.Moving.{CellLine, Kind, Moves, Reaches, lines_of}
 use Rattle.rescale_core.specs.Moving.Kind.{Takes}
 use Rattle.rescale_core.specs.Routing.{IsRouterOf}
 use Rattle.rescale_core.specs.Soundly.{IsSound}
-use Rattle.rescale_core.specs.Stages.{Answers}
+use Rattle.rescale_core.specs.Phases.{Answers}
 use Rattle.rescale_core.specs.Handing.{chance, standing}
 use Rattle.rescale_core.specs.Worlds.{World, Allowed, Seat, after, line_in, spot_in, took_one}
 use Rattle.rescale_core.specs.Worlds.Move.{Take}

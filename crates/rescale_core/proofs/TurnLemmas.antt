@@ -17,7 +17,7 @@ use Rattle.rescale_core.specs.Moving.Kind.{Feeds, Takes}
 use Rattle.rescale_core.specs.Routing.{HasTaken, IsRouterOf, feeds}
 use Rattle.rescale_core.specs.Seeds.{SeedOf}
 use Rattle.rescale_core.specs.Soundly.{IsSound}
-use Rattle.rescale_core.specs.Stages.{Answers}
+use Rattle.rescale_core.specs.Phases.{Answers}
 use Rattle.rescale_core.specs.Working.{May}
 use Rattle.rescale_core.specs.Works.{MayBy, ToldBy, seen}
 use Rattle.rescale_core.specs.Worlds.{World, Allowed, AreAllowed, Seat, after, all_collected, fed_more, first_seat}

@@ -32,12 +32,12 @@ use Rattle.rescale_core.specs.Lines.Due.{Slicing, Parting, Hole}
 use Rattle.rescale_core.specs.Monitors.{IsMonitor}
 use Rattle.monitor_state.specs.Pieces.{view_of}
 use Rattle.rescale_core.specs.Settlings.{HasWidth, IsKept, IsTabled, all_settled, row_out}
-use Rattle.rescale_core.specs.Stages.{Stage, Follows, Gives, Meets, rows_for, stage_after}
-use Rattle.rescale_core.specs.Stages.Stage.{Live, Gone}
+use Rattle.rescale_core.specs.Phases.{PhaseOf, Follows, Gives, Meets, rows_for, phase_after}
+use Rattle.rescale_core.specs.Phases.PhaseOf.{Active, Vacant}
 use Rattle.rescale_core.specs.Workers.{IsFor, MayFollow, settled_in, slice_for}
-use Rattle.rescale_core.specs.Working.{CanTake, IsAt, Steps, first_stage}
+use Rattle.rescale_core.specs.Working.{CanTake, IsAt, Steps, first_phase}
 use Rattle.rescale_core.specs.declared.phase.Phase.{Phase}
-use Rattle.rescale_core.specs.declared.phase.Phase.TheVariants.{Active}
+use Rattle.rescale_core.specs.declared.phase.Phase.TheVariants as held
 use Rattle.rescale_core.specs.declared.worker.Worker.{Worker}
 use Rattle.rescale_core.specs.declared.item.Item.TheVariants.{Slice}
 use Rattle.rescale_core.specs.declared.item.Out.{Out}
@@ -120,12 +120,13 @@ wide c s view st i (table ∷ tables) e exact = (
 
 -- ---- one step
 
--- what a live stage means where a slice is due
-pub live_at : (c : CoreForm) (k : ℕ) (st : Stage) (s s' : Strategy) (log : List TimePoint) (m : Monitor) (phase : Phase)
-    → st ≡ Live s' log → IsAt c k st phase → phase ≡ Active m s → (s' ≡ s) × IsMonitor c s k log m
-live_at c k st s s' log m phase e at is =
-    let h : IsAt c k (Live s' log) phase = subst (λ (x : Stage). IsAt c k x phase) e at in
-    let same : Active h.0 s' ≡ Active m s = sym h.1 ∙ is in
+-- what an active phase means where a slice is due
+pub active_at : (c : CoreForm) (k : ℕ) (ph : PhaseOf) (s s' : Strategy) (log : List TimePoint) (m : Monitor)
+    (phase : Phase)
+    → ph ≡ Active s' log → IsAt c k ph phase → phase ≡ held.Active m s → (s' ≡ s) × IsMonitor c s k log m
+active_at c k ph s s' log m phase e at is =
+    let h : IsAt c k (Active s' log) phase = subst (λ (x : PhaseOf). IsAt c k x phase) e at in
+    let same : held.Active h.0 s' ≡ held.Active m s = sym h.1 ∙ is in
     let m' : h.0 ≡ m = cc in
     let t : s' ≡ s = cc in (
       t,
@@ -133,7 +134,7 @@ live_at c k st s s' log m phase e at is =
     )
 
 -- what is known of a slice that is due
-pub record DueSlice (c : CoreForm) (k : ℕ) (m : Monitor) (s : Strategy) (g n : ℕ) (p : TimePoint) (st : Stage)
+pub record DueSlice (c : CoreForm) (k : ℕ) (m : Monitor) (s : Strategy) (g n : ℕ) (p : TimePoint) (ph : PhaseOf)
     (d : Due)
     : Type 0 where
   pub log : List TimePoint
@@ -146,10 +147,11 @@ pub record DueSlice (c : CoreForm) (k : ℕ) (m : Monitor) (s : Strategy) (g n :
   pub fits : IsFor c s
 
 pub due_slice : (c : CoreForm) (k : ℕ) (m : Monitor) (s : Strategy) (g n : ℕ) (p : TimePoint) (phase : Phase)
-    → phase ≡ Active m s → (st : Stage) (d : Due) → IsAt c k st phase → Follows c k st d → Meets c k st d (Slice g n p)
-    → DueSlice c k m s g n p st d
-due_slice c k m s g n p phase active st (Slicing g' s' log q) at f meets =
-    let l = live_at c k st s s' log m phase f.0 at active in
+    → phase ≡ held.Active m s → (ph : PhaseOf) (d : Due) → IsAt c k ph phase → Follows c k ph d
+    → Meets c k ph d (Slice g n p)
+    → DueSlice c k m s g n p ph d
+due_slice c k m s g n p phase active ph (Slicing g' s' log q) at f meets =
+    let l = active_at c k ph s s' log m phase f.0 at active in
     let part : p ≡ slice_for c s' k q = cc in
     let number : n ≡ length log = cc in
     let gen : g' ≡ g = cc in
@@ -163,11 +165,11 @@ due_slice c k m s g n p phase active st (Slicing g' s' log q) at f meets =
       follows = f.1;
       fits = subst (IsFor c) l.0 f.2;
     }
-due_slice c k m s g n p phase active st (Parting t) at f meets = cc
-due_slice c k m s g n p phase active st (Hole t j) at f meets = let e = meets.1 in cc
+due_slice c k m s g n p phase active ph (Parting t) at f meets = cc
+due_slice c k m s g n p phase active ph (Hole t j) at f meets = let e = meets.1 in cc
 
-module _ (c : CoreForm) (k : ℕ) (m : Monitor) (s : Strategy) (g n : ℕ) (p : TimePoint) (st : Stage) (d : Due)
-    (due : DueSlice c k m s g n p st d) where
+module _ (c : CoreForm) (k : ℕ) (m : Monitor) (s : Strategy) (g n : ℕ) (p : TimePoint) (ph : PhaseOf) (d : Due)
+    (due : DueSlice c k m s g n p ph d) where
   abbrev old : StateOf
   old = (monitor_of m).state
 
@@ -211,10 +213,10 @@ module _ (c : CoreForm) (k : ℕ) (m : Monitor) (s : Strategy) (g n : ℕ) (p : 
     widths = wide c s (longer near due.point) new old.given tables due.fits.variables
         (subst (λ i. AllExact (longer near due.point) (meaning c) i tables) (sym given_is) stepped.1.exact)
 
-    pub gives : (phase : Phase) → phase ≡ Active m2 s → (gave : List Out)
+    pub gives : (phase : Phase) → phase ≡ held.Active m2 s → (gave : List Out)
         → gave ≡ map (row_out s k g) (all_settled new old.given tables)
         → AllByRecursion IsTabled (all_settled new old.given tables)
-        → Gives c k d gave × IsAt c k (stage_after st d (Slice g n p)) phase
+        → Gives c k d gave × IsAt c k (phase_after ph d (Slice g n p)) phase
     gives phase active gave rows tabled =
         let count : settled_in c due.log + length tables ≡ settled_in c (due.log ++ due.point ∷ []) =
         stepped.1.count in
@@ -222,7 +224,7 @@ module _ (c : CoreForm) (k : ℕ) (m : Monitor) (s : Strategy) (g n : ℕ) (p : 
         let exact : AllExact (longer near due.point) (meaning c) old.given tables =
         subst (λ i. AllExact (longer near due.point) (meaning c) i tables) (sym given_is) stepped.1.exact in
         let low : new.first ≤ old.given = omega (arith, first) in
-        subst (λ (x : Due). Gives c k x gave × IsAt c k (stage_after st x (Slice g n p)) phase) (sym due.due) (
+        subst (λ (x : Due). Gives c k x gave × IsAt c k (phase_after ph x (Slice g n p)) phase) (sym due.due) (
           rows
               ∙ rows_due c k g s due.log due.point new old.given tables due.fits low stepped.0.times exact tabled
               ∙ ap (λ i. map (rows_for c k g s due.log due.point) (range_with_len i (length tables))) given_is
@@ -232,8 +234,8 @@ module _ (c : CoreForm) (k : ℕ) (m : Monitor) (s : Strategy) (g n : ℕ) (p : 
 
 -- the worker's step with a slice
 pub slice_steps : (w x : Worker) (m m2 : Monitor) (s : Strategy) (g n : ℕ) (p : TimePoint) (tables : List TableOf)
-    (settled : List Settled) → w.phase ≡ Active m s → core_form x.core ≡ core_form w.core → x.number ≡ w.number
-    → x.phase ≡ Active m2 s → (monitor_of m2).core ≡ (monitor_of m).core
+    (settled : List Settled) → w.phase ≡ held.Active m s → core_form x.core ≡ core_form w.core → x.number ≡ w.number
+    → x.phase ≡ held.Active m2 s → (monitor_of m2).core ≡ (monitor_of m).core
     → (monitor_of m2).state.first ≡ (monitor_of m).state.given
     → StepsOn (monitor_of m).core (monitor_of m).state p (monitor_of m2).state tables
     → settled ≡ all_settled (monitor_of m2).state (monitor_of m).state.given tables
@@ -242,16 +244,16 @@ slice_steps w x m m2 s g n p tables settled active core number active2 mcore fir
     record {
       core = core;
       number = number;
-      step = λ st d at f meets.
-          let due = due_slice (core_form w.core) w.number m s g n p w.phase active st d at f meets in
-          gives (core_form w.core) w.number m s g n p st d due m2 tables mcore first steps x.phase active2
+      step = λ ph d at f meets.
+          let due = due_slice (core_form w.core) w.number m s g n p w.phase active ph d at f meets in
+          gives (core_form w.core) w.number m s g n p ph d due m2 tables mcore first steps x.phase active2
           (map (row_out s w.number g) settled) (ap (map (row_out s w.number g)) is)
           (subst (AllByRecursion IsTabled) is tabled);
     }
 
 -- a worker that takes a slice can number the tables that it gets
 pub slice_kept : (w : Worker) (m m2 : Monitor) (s : Strategy) (g n : ℕ) (p : TimePoint) (tables : List TableOf)
-    → w.phase ≡ Active m s → (monitor_of m2).core ≡ (monitor_of m).core
+    → w.phase ≡ held.Active m s → (monitor_of m2).core ≡ (monitor_of m).core
     → (monitor_of m2).state.first ≡ (monitor_of m).state.given
     → StepsOn (monitor_of m).core (monitor_of m).state p (monitor_of m2).state tables
     → CanTake w (Slice g n p)
@@ -265,14 +267,14 @@ slice_kept w m m2 s g n p tables active mcore first steps can =
     )
 
 -- a monitor that begins is that of each worker
-pub first_live : (c : CoreForm) (s t : Strategy) (k : ℕ) (m : Monitor) → (monitor_of m).core ≡ c
+pub first_active : (c : CoreForm) (s t : Strategy) (k : ℕ) (m : Monitor) → (monitor_of m).core ≡ c
     → Begins c (monitor_of m).state → t ≡ s → k < workers_of s
-    → IsAt c k (first_stage (record { core = c; first = s; k = k })) (Active m t)
-first_live c s t k m core begins same low =
-    subst (λ (st : Stage). IsAt c k st (Active m t))
-    (sym (ap (λ b. cond b (Live s []) Gone) (lt-ltb k (workers_of s) low))) (
+    → IsAt c k (first_phase (record { core = c; first = s; k = k })) (held.Active m t)
+first_active c s t k m core begins same low =
+    subst (λ (ph : PhaseOf). IsAt c k ph (held.Active m t))
+    (sym (ap (λ b. cond b (Active s []) Vacant) (lt-ltb k (workers_of s) low))) (
       m,
-      ap (λ (x : Strategy). Active m x) same,
+      ap (λ (x : Strategy). held.Active m x) same,
       record {
         of = core;
         stands = begins (view_of c (near_of s k) []) refl;

@@ -8,7 +8,7 @@ use Rattle.mfotl_model.specs.declared.event.TimePoint.{TimePoint}
 use Rattle.monitorable.specs.CoreForms.{CoreForm}
 use Rattle.monitorable.specs.SatisfyingRows.{HasViolationsOf}
 use Rattle.rescale_core.specs.Workers.{IsFor, settled_in, violations_at}
-use Rattle.rescale_core.specs.Stages.{Answers}
+use Rattle.rescale_core.specs.Phases.{Answers}
 use Rattle.rescale_core.specs.Working.{Has}
 use Rattle.rescale_core.specs.Worlds.{World, Move, first_world, run, AreAllowed, line_in, spot_in, verdict_on}
 

@@ -1,7 +1,7 @@
 pub mod Workers
 pub mod Monitors
 pub mod Lines
-pub mod Stages
+pub mod Phases
 pub mod Chances
 pub mod States
 pub mod Slots

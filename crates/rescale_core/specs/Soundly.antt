@@ -11,7 +11,7 @@ use Rattle.verdict_merge.specs.declared.rows.Rows.{Rows}
 use Rattle.rescale_core.specs.Workers.{IsFor, settled_in}
 use Rattle.rescale_core.specs.Lines.{ChangeOfStrategy, Spot, Due, change_at, moved, first_spot, AreSound}
 use Rattle.rescale_core.specs.Lines.Due.{Slicing, Parting, Hole}
-use Rattle.rescale_core.specs.Stages.{IsPieceFor, Answers, row_for}
+use Rattle.rescale_core.specs.Phases.{IsPieceFor, Answers, row_for}
 use Rattle.rescale_core.specs.Handing.{for_place, item_of}
 use Rattle.rescale_core.specs.Worlds.{World, Seat, line_in, pieces_in, rows_in, slice_at}
 use Rattle.monitor_state.specs.declared.state.Piece.{Piece}

@@ -8,32 +8,32 @@ use Rattle.rescale_core.specs.Workers.{IsFor}
 use Rattle.rescale_core.specs.Monitors.{IsMonitor}
 use Rattle.rescale_core.specs.States.{Adopted, Finishes, Merges, MergesNone}
 use Rattle.rescale_core.specs.Lines.{Due, first_spot, line, AreSound}
-use Rattle.rescale_core.specs.Stages.{Stage, Answers, Fits, Follows, Gives, Meets, stage, stage_after}
-use Rattle.rescale_core.specs.Stages.Stage.{Live, Gone, Filling}
+use Rattle.rescale_core.specs.Phases.{PhaseOf, Answers, Fits, Follows, Gives, Meets, phase_at, phase_after}
+use Rattle.rescale_core.specs.Phases.PhaseOf.{Active, Vacant, Waiting}
 use Rattle.rescale_core.specs.Seeds.{SeedOf}
 use Rattle.state_merge.specs.declared.merging.Merging.{Merging}
 use Rattle.rescale_core.specs.declared.phase.Phase.{Phase}
-use Rattle.rescale_core.specs.declared.phase.Phase.TheVariants.{Active, Vacant, Waiting}
+use Rattle.rescale_core.specs.declared.phase.Phase.TheVariants as held
 use Rattle.rescale_core.specs.declared.worker.Worker.{Worker}
 use Rattle.rescale_core.specs.declared.item.Entry.{Entry}
 use Rattle.rescale_core.specs.declared.item.Item.{Item}
 use Rattle.rescale_core.specs.declared.item.Out.{Out}
 
--- the worker is at this stage: it monitors, is idle, or merges the pieces that came, where some are missing
-abbrev pub IsAt : CoreForm → ℕ → Stage → Phase → Type 0
-IsAt core k (Live s log) phase = (m : Monitor) × (phase ≡ Active m s) × IsMonitor core s k log m
-IsAt core k Gone phase = phase ≡ Vacant
-IsAt core k (Filling t froms) phase =
-    (m : Merging) × (missing : ℕ) × (phase ≡ Waiting m t.new missing) × Merges core t.old t.new k t.before froms m
+-- the worker is in this phase: it monitors, is idle, or merges the pieces that came, where some are missing
+abbrev pub IsAt : CoreForm → ℕ → PhaseOf → Phase → Type 0
+IsAt core k (Active s log) phase = (m : Monitor) × (phase ≡ held.Active m s) × IsMonitor core s k log m
+IsAt core k Vacant phase = phase ≡ held.Vacant
+IsAt core k (Waiting t froms) phase =
+    (m : Merging) × (missing : ℕ) × (phase ≡ held.Waiting m t.new missing) × Merges core t.old t.new k t.before froms m
     × (missing + length froms ≡ workers_of t.old) × (0 < missing) × Adopted t.old froms
 
 -- what the worker began with
 abbrev pub seed_of : Worker → SeedOf
 seed_of w = record { core = core_form w.core; first = w.first.value; k = w.number }
 
--- the stage before anything was taken
-abbrev pub first_stage : SeedOf → Stage
-first_stage s = cond (nat_lt s.k (workers_of s.first)) (Live s.first []) Gone
+-- the phase before anything was taken
+abbrev pub first_phase : SeedOf → PhaseOf
+first_phase s = cond (nat_lt s.k (workers_of s.first)) (Active s.first []) Vacant
 
 -- what the worker is due by these entries
 abbrev pub line_of : SeedOf → List Entry → List Due
@@ -41,7 +41,7 @@ line_of s es = line s.k (first_spot s.first) es
 
 -- the entries may be read, and the items are those that they make due, as far as they go
 abbrev pub Has : SeedOf → List Entry → List Item → Type 0
-Has s es items = AreSound s.core (first_spot s.first) es × Fits s.core s.k (first_stage s) (line_of s es) items
+Has s es items = AreSound s.core (first_spot s.first) es × Fits s.core s.k (first_phase s) (line_of s es) items
 
 -- the items may be handed over: some entries make them due
 abbrev pub May : SeedOf → List Item → Type 0
@@ -58,28 +58,28 @@ pub record StandsFor (s : SeedOf) (taken : List Item) (gave : List Out) (w : Wor
   pub number : w.number ≡ s.k
   pub first : IsFor s.core s.first
   pub told : Told s taken gave
-  pub at : (es : List Entry) → Has s es taken → IsAt s.core s.k (stage (first_stage s) (line_of s es) taken) w.phase
+  pub at : (es : List Entry) → Has s es taken → IsAt s.core s.k (phase_at (first_phase s) (line_of s es) taken) w.phase
 
 -- ---- one item
 
--- the worker is at a stage at which this item is due
+-- the worker is in a phase in which this item is due
 abbrev pub CanTake : Worker → Item → Type 0
 CanTake w item =
-    (st : Stage) × (d : Due)
-    × IsAt (core_form w.core) w.number st w.phase
-    × Follows (core_form w.core) w.number st d
-    × Meets (core_form w.core) w.number st d item
+    (ph : PhaseOf) × (d : Due)
+    × IsAt (core_form w.core) w.number ph w.phase
+    × Follows (core_form w.core) w.number ph d
+    × Meets (core_form w.core) w.number ph d item
 
--- from whatever stage the worker takes the item, its outs answer what was due, and it is at the next stage
+-- in whatever phase the worker takes the item, its outs answer what was due, and it is in the next phase
 pub record Steps (w : Worker) (item : Item) (x : Worker) (gave : List Out) : Type 0 where
   pub core : core_form x.core ≡ core_form w.core
   pub number : x.number ≡ w.number
-  pub step : (st : Stage) (d : Due)
-      → IsAt (core_form w.core) w.number st w.phase
-      → Follows (core_form w.core) w.number st d
-      → Meets (core_form w.core) w.number st d item
+  pub step : (ph : PhaseOf) (d : Due)
+      → IsAt (core_form w.core) w.number ph w.phase
+      → Follows (core_form w.core) w.number ph d
+      → Meets (core_form w.core) w.number ph d item
       → Gives (core_form w.core) w.number d gave
-      × IsAt (core_form w.core) w.number (stage_after st d item) x.phase
+      × IsAt (core_form w.core) w.number (phase_after ph d item) x.phase
 
 -- the worker gave these outs behind others
 abbrev pub Gave : Worker → Item → Worker → List Out → List Out → Type 0
@@ -89,21 +89,21 @@ Gave w item x old new = (gave : List Out) × (new ≡ old ++ gave) × Steps w it
 
 -- the worker has no state of its own
 abbrev pub IsOpen : Phase → Type 0
-IsOpen (Active monitor strategy) = ⊥
-IsOpen Vacant = Unit {0}
-IsOpen (Waiting merging now missing) = Unit {0}
+IsOpen (held.Active monitor strategy) = ⊥
+IsOpen held.Vacant = Unit {0}
+IsOpen (held.Waiting merging now missing) = Unit {0}
 
 -- the merge is the worker's, or a new one, which misses all pieces
 abbrev pub GoesOn : Phase → CoreForm → ℕ → Merging → ℕ → Type 0
-GoesOn (Active monitor strategy) core count merging missing = ⊥
-GoesOn Vacant core count merging missing = MergesNone core count merging × (missing ≡ count)
-GoesOn (Waiting own now left) core count merging missing = (merging ≡ own) × (missing ≡ left)
+GoesOn (held.Active monitor strategy) core count merging missing = ⊥
+GoesOn held.Vacant core count merging missing = MergesNone core count merging × (missing ≡ count)
+GoesOn (held.Waiting own now left) core count merging missing = (merging ≡ own) × (missing ≡ left)
 
 -- the merge is finished with the last piece
 abbrev pub Settles : Merging → Strategy → ℕ → Phase → Type 0
 Settles merging now missing phase =
-    (missing ≡ 1 → (m : Monitor) × (phase ≡ Active m now) × Finishes merging m)
-    × (missing ≢ 1 → phase ≡ Waiting merging now (missing - 1))
+    (missing ≡ 1 → (m : Monitor) × (phase ≡ held.Active m now) × Finishes merging m)
+    × (missing ≢ 1 → phase ≡ held.Waiting merging now (missing - 1))
 
 -- ---- laws
 
@@ -115,12 +115,12 @@ tells s t g w h = h.told
 pub may_none : (s : SeedOf) → May s []
 may_none s = ([], (tt, tt))
 
-fits_front : (core : CoreForm) (k : ℕ) (a b : List Item) (st : Stage) (ds : List Due) → Fits core k st ds (a ++ b)
-    → Fits core k st ds a
-fits_front core k [] b st ds f = tt
-fits_front core k (i ∷ a) b st [] f = f
-fits_front core k (i ∷ a) b st (d ∷ ds) f = (f.0, fits_front core k a b (stage_after st d i) ds f.1)
+fits_front : (core : CoreForm) (k : ℕ) (a b : List Item) (ph : PhaseOf) (ds : List Due) → Fits core k ph ds (a ++ b)
+    → Fits core k ph ds a
+fits_front core k [] b ph ds f = tt
+fits_front core k (i ∷ a) b ph [] f = f
+fits_front core k (i ∷ a) b ph (d ∷ ds) f = (f.0, fits_front core k a b (phase_after ph d i) ds f.1)
 
 -- a front of what may be handed over may be
 pub may_less : (s : SeedOf) (a b : List Item) → May s (a ++ b) → May s a
-may_less s a b m = (m.0, (m.1.0, fits_front s.core s.k a b (first_stage s) (line_of s m.0) m.1.1))
+may_less s a b m = (m.0, (m.1.0, fits_front s.core s.k a b (first_phase s) (line_of s m.0) m.1.1))

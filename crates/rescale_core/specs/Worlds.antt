@@ -12,7 +12,7 @@ use Rattle.verdict_merge.specs.declared.rows.Verdict.{Verdict}
 use Rattle.rescale_core.specs.Workers.{settled_in, violations_at}
 use Rattle.rescale_core.specs.Lines.{Spot, Due, moved, spot_after, first_spot, line, MayRead}
 use Rattle.rescale_core.specs.Lines.Due.{Slicing}
-use Rattle.rescale_core.specs.Stages.{Answers}
+use Rattle.rescale_core.specs.Phases.{Answers}
 use Rattle.rescale_core.specs.Chances.{Chance, Standing}
 use Rattle.rescale_core.specs.Handing.{chance, ready_items, standing}
 use Rattle.monitor_state.specs.declared.state.Piece.{Piece}

@@ -2,7 +2,7 @@
 ghost use Rattle.std.specs.Prelude.{◌≡◌, [], IfOk};
 ghost use Rattle.monitorable.specs.Cores.{core_form};
 ghost use Rattle.rescale_core.specs.Workers.{IsFor};
-ghost use Rattle.rescale_core.specs.Working.{CanTake, Gave, IsAt, StandsFor, first_stage, seed_of};
+ghost use Rattle.rescale_core.specs.Working.{CanTake, Gave, IsAt, StandsFor, first_phase, seed_of};
 
 use crate::item::{Item, Out};
 use crate::phase::Phase;
@@ -129,7 +129,7 @@ fn first_parts(
 ) -> Result<(Core, Phase), AllocError>
     ensures core { IfOk result (λ parts. core_form parts.0 ≡ core_form core.now) }
     ensures phase { IfOk result (λ parts. IsAt (core_form core.now) k
-        (first_stage (record { core = core_form core.now; first = strategy.now; k = k })) parts.1) }
+        (first_phase (record { core = core_form core.now; first = strategy.now; k = k })) parts.1) }
 {
     let own = core.copy(alloc)?;
     let phase = first_phase(alloc, core, strategy, k)?;
@@ -139,7 +139,7 @@ fn first_parts(
 // What worker `k` keeps before it took anything.
 fn first_phase(alloc: Global, core: &Core, strategy: &Strategy, k: u32) -> Result<Phase, AllocError>
     ensures { IfOk result (λ phase. IsAt (core_form core.now) k
-        (first_stage (record { core = core_form core.now; first = strategy.now; k = k })) phase) }
+        (first_phase (record { core = core_form core.now; first = strategy.now; k = k })) phase) }
 {
     if k >= strategy.workers() {
         return Ok(Phase::Vacant);

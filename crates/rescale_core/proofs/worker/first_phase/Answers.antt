@@ -1,7 +1,7 @@
 use Rattle.std.proofs.Common.{arith, ◌<◌}
 use Rattle.mfotl_model.specs.Strategies.{workers_of}
 use Rattle.monitorable.specs.Cores.{core_form}
-use Rattle.rescale_core.proofs.WorkerSteps.{first_live}
+use Rattle.rescale_core.proofs.WorkerSteps.{first_active}
 use Rattle.rescale_core.proofs.worker.first_phase.Goals as goal
 
 pub returns : goal.returns
@@ -9,5 +9,5 @@ returns c =
     let few = c.workers.ensures.count in
     let else_ = c.if-k-workers.false in
     let low : c.args.k < workers_of c.args.strategy.now = omega arith in
-    first_live (core_form c.args.core.now) c.args.strategy.now c.in_ok-strategy.strategy c.args.k
+    first_active (core_form c.args.core.now) c.args.strategy.now c.in_ok-strategy.strategy c.args.k
     c.in_ok-monitor.monitor c.in_ok-monitor.ensures.core c.in_ok-monitor.ensures.begins c.in_ok-strategy.ensures low

@@ -1,4 +1,4 @@
--- The stages of a worker, what meets what it is due, and what answers that.
+-- The phases of a worker, what meets what it is due, and what answers that.
 use Rattle.std.specs.Prelude.{◌≡◌, ◌≢◌, ◌⊎◌, ℕ, ◌+◌, ◌<◌, cond, nat_eq, List, [], ◌∷◌, ◌++◌, length, map}
 use Rattle.std.specs.List.{AllByRecursion}
 use Rattle.mfotl_model.specs.Log.{times}
@@ -18,16 +18,16 @@ use Rattle.rescale_core.specs.declared.item.Out.{Out}
 use Rattle.rescale_core.specs.declared.item.Out.TheVariants.{Rows as OfRows, Piece as OfPiece}
 
 -- what a worker's state stands for: a log under a strategy, nothing, or the pieces adopted so far, the last first
-pub data Stage : Type 0 where
-  Live : (s : Strategy) → (log : List TimePoint) → Stage
-  Gone : Stage
-  Filling : (t : ChangeOfStrategy) → (froms : List ℕ) → Stage
+pub data PhaseOf : Type 0 where
+  Active : (s : Strategy) → (log : List TimePoint) → PhaseOf
+  Vacant : PhaseOf
+  Waiting : (t : ChangeOfStrategy) → (froms : List ℕ) → PhaseOf
 
 -- the workers whose pieces were adopted
-abbrev pub froms_of : Stage → List ℕ
-froms_of (Live s log) = []
-froms_of Gone = []
-froms_of (Filling t froms) = froms
+abbrev pub froms_of : PhaseOf → List ℕ
+froms_of (Active s log) = []
+froms_of Vacant = []
+froms_of (Waiting t froms) = froms
 
 -- the number is none of these
 abbrev pub NotIn : ℕ → List ℕ → Type 0
@@ -42,11 +42,11 @@ pub record IsPieceFor (core : CoreForm) (t : ChangeOfStrategy) (k : ℕ) (p : Pi
   pub stands : PieceStands core t.old p.from t.new k t.before p
 
 -- the item is what is due
-abbrev pub Meets : CoreForm → ℕ → Stage → Due → Item → Type 0
-Meets core k st (Slicing g s log p) i = i ≡ Slice g (length log) (slice_for core s k p)
-Meets core k st (Parting t) i = i ≡ Part t.generation t.old t.new
-Meets core k st (Hole t j) i =
-    (p : Piece) × (i ≡ Adopt p t.new) × IsPieceFor core t k p × NotIn p.from (froms_of st)
+abbrev pub Meets : CoreForm → ℕ → PhaseOf → Due → Item → Type 0
+Meets core k ph (Slicing g s log p) i = i ≡ Slice g (length log) (slice_for core s k p)
+Meets core k ph (Parting t) i = i ≡ Part t.generation t.old t.new
+Meets core k ph (Hole t j) i =
+    (p : Piece) × (i ≡ Adopt p t.new) × IsPieceFor core t k p × NotIn p.from (froms_of ph)
 
 -- the worker that an item comes from, of a piece
 abbrev pub from_of : Item → ℕ
@@ -54,34 +54,34 @@ from_of (Slice g n p) = 0
 from_of (Part g old new) = 0
 from_of (Adopt p now) = p.from
 
--- the stage after an item
-abbrev pub stage_after : Stage → Due → Item → Stage
-stage_after st (Slicing g s log p) i = Live s (log ++ p ∷ [])
-stage_after st (Parting t) i = Gone
-stage_after st (Hole t j) i =
-    cond (nat_eq (j + 1) (workers_of t.old)) (Live t.new t.before) (Filling t (from_of i ∷ froms_of st))
+-- the phase after an item
+abbrev pub phase_after : PhaseOf → Due → Item → PhaseOf
+phase_after ph (Slicing g s log p) i = Active s (log ++ p ∷ [])
+phase_after ph (Parting t) i = Vacant
+phase_after ph (Hole t j) i =
+    cond (nat_eq (j + 1) (workers_of t.old)) (Active t.new t.before) (Waiting t (from_of i ∷ froms_of ph))
 
 -- the items are what is due, one by one, as far as they go
-abbrev pub Fits : CoreForm → ℕ → Stage → List Due → List Item → Type 0
-Fits core k st ds [] = Unit {0}
-Fits core k st [] (i ∷ is) = ⊥
-Fits core k st (d ∷ ds) (i ∷ is) = Meets core k st d i × Fits core k (stage_after st d i) ds is
+abbrev pub Fits : CoreForm → ℕ → PhaseOf → List Due → List Item → Type 0
+Fits core k ph ds [] = Unit {0}
+Fits core k ph [] (i ∷ is) = ⊥
+Fits core k ph (d ∷ ds) (i ∷ is) = Meets core k ph d i × Fits core k (phase_after ph d i) ds is
 
--- the stage after these items
-abbrev pub stage : Stage → List Due → List Item → Stage
-stage st ds [] = st
-stage st [] (i ∷ is) = st
-stage st (d ∷ ds) (i ∷ is) = stage (stage_after st d i) ds is
+-- the phase after these items
+abbrev pub phase_at : PhaseOf → List Due → List Item → PhaseOf
+phase_at ph ds [] = ph
+phase_at ph [] (i ∷ is) = ph
+phase_at ph (d ∷ ds) (i ∷ is) = phase_at (phase_after ph d i) ds is
 
--- the stage and what is due next belong together
-abbrev pub Follows : CoreForm → ℕ → Stage → Due → Type 0
-Follows core k st (Slicing g s log p) =
-    (st ≡ Live s log) × MayFollow log p × IsFor core s × (k < workers_of s)
-Follows core k st (Parting t) =
-    (st ≡ Live t.old t.before) × IsFor core t.old × IsFor core t.new × (k < workers_of t.old)
-Follows core k st (Hole t j) =
-    (j ≡ length (froms_of st)) × (j < workers_of t.old)
-    × ((st ≡ Gone) ⊎ (st ≡ Filling t (froms_of st))) × (j ≢ 0 → st ≡ Filling t (froms_of st))
+-- the phase and what is due next belong together
+abbrev pub Follows : CoreForm → ℕ → PhaseOf → Due → Type 0
+Follows core k ph (Slicing g s log p) =
+    (ph ≡ Active s log) × MayFollow log p × IsFor core s × (k < workers_of s)
+Follows core k ph (Parting t) =
+    (ph ≡ Active t.old t.before) × IsFor core t.old × IsFor core t.new × (k < workers_of t.old)
+Follows core k ph (Hole t j) =
+    (j ≡ length (froms_of ph)) × (j < workers_of t.old)
+    × ((ph ≡ Vacant) ⊎ (ph ≡ Waiting t (froms_of ph))) × (j ≢ 0 → ph ≡ Waiting t (froms_of ph))
     × IsFor core t.old × IsFor core t.new
 
 -- what a worker says of a position that the time-point settles: the violations that it owns
