@@ -19,7 +19,7 @@ use Rattle.rescale_core.specs.Working.{Has, May, StandsFor}
 use Rattle.rescale_core.specs.Handing.{nth}
 use Rattle.rescale_core.specs.Worlds.{World, Allowed, Seat, after, all_collected, fed_more, line_in}
 use Rattle.rescale_core.specs.Worlds.{set_seat, took_one}
-use Rattle.rescale_core.specs.Worlds.Move.{Feed, Take, Collect}
+use Rattle.rescale_core.specs.Worlds.Step.{Feed, Take, Collect}
 use Rattle.rescale_core.specs.declared.cell.Cell.{Cell}
 use Rattle.rescale_core.specs.declared.item.Entry.{Entry}
 use Rattle.rescale_core.specs.declared.item.Entry.TheVariants.{Point, Change}

@@ -27,7 +27,7 @@ use Rattle.rescale_core.specs.Soundly.{Known, change_of}
 use Rattle.rescale_core.specs.Handing.{chance, chance_from, for_place, nth, standing}
 use Rattle.rescale_core.specs.Workers.{IsFor}
 use Rattle.rescale_core.specs.Worlds.{World, after, queue_in, spot_in, standings_in}
-use Rattle.rescale_core.specs.Worlds.Move.{Read}
+use Rattle.rescale_core.specs.Worlds.Step.{Read}
 use Rattle.rescale_core.specs.declared.item.Entry.{Entry}
 use Rattle.rescale_core.specs.declared.item.Entry.TheVariants.{Point, Change}
 use Rattle.rescale_core.specs.declared.item.Item.TheVariants.{Adopt, Part}

@@ -28,7 +28,7 @@ use Rattle.verdict_merge.specs.Laws.{Apart}
 use Rattle.monitor_state.specs.declared.state.Piece.{Piece}
 use Rattle.rescale_core.specs.declared.item.Out.{Out}
 use Rattle.verdict_merge.specs.declared.rows.Rows.{Rows}
-use Rattle.rescale_core.specs.Worlds.Move.{Collect}
+use Rattle.rescale_core.specs.Worlds.Step.{Collect}
 use Rattle.rescale_core.proofs.Pieces.{distinct_snoc, drop_front, answers_cut, last_more, rises_cut, rises_front}
 use Rattle.rescale_core.proofs.Pieces.{last_rises, changes_cut, changes_front, Came, answers_came, Lone, answers_lone}
 use Rattle.rescale_core.proofs.Pieces.{pieces_more}

@@ -19,7 +19,7 @@ use Rattle.rescale_core.specs.Phases.{Answers}
 use Rattle.rescale_core.specs.Working.{May, Told}
 use Rattle.rescale_core.specs.Works.{MayBy, ToldBy}
 use Rattle.rescale_core.specs.Worlds.{World, Allowed, Seat, after, line_in}
-use Rattle.rescale_core.specs.Worlds.Move.{Read, Emit}
+use Rattle.rescale_core.specs.Worlds.Step.{Read, Emit}
 use Rattle.rescale_core.specs.declared.driver.Driver.{Driver}
 use Rattle.rescale_core.specs.declared.item.Entry.{Entry}
 use Rattle.rescale_core.specs.declared.item.Item.{Item}

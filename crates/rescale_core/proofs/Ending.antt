@@ -24,7 +24,7 @@ use Rattle.rescale_core.specs.Phases.{Answers}
 use Rattle.rescale_core.specs.Workers.{settled_in}
 use Rattle.rescale_core.specs.Handing.{chance}
 use Rattle.rescale_core.specs.Worlds.{World, IsGathered, line_in, spot_in}
-use Rattle.rescale_core.specs.declared.step.Step.{Step}
+use Rattle.rescale_core.specs.declared.step.Step.{Step as MachineStep}
 use Rattle.rescale_core.specs.declared.step.Step.TheVariants as step
 use Rattle.rescale_core.specs.declared.item.Entry.{Entry}
 use Rattle.rescale_core.specs.declared.machine.Machine.{Machine}
@@ -111,7 +111,7 @@ world_emitted w sound verdicts end = all_out w sound fed back verdicts end.none_
     back k = let e = end.all_back k in omega arith
 
 module _ (m : Machine) (entries : List Entry) (w : World) (is : IsMachineOf m entries w)
-    (none : (s : Step) → Enabled w m.left.items s → ⊥) where
+    (none : (s : MachineStep) → Enabled w m.left.items s → ⊥) where
   sound : IsSound w
   sound = is.router.sound
 

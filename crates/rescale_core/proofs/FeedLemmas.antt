@@ -24,7 +24,7 @@ use Rattle.rescale_core.specs.Handing.{chance, standing}
 use Rattle.rescale_core.specs.Worlds.{World, Allowed, AreAllowed, Seat, after}
 use Rattle.rescale_core.specs.Worlds.{fed_more, line_in, queue_in, run}
 use Rattle.rescale_core.specs.Worlds.{set_seat, spot_in, standings_in}
-use Rattle.rescale_core.specs.Worlds.Move.{Feed}
+use Rattle.rescale_core.specs.Worlds.Step.{Feed}
 use Rattle.rescale_core.specs.declared.item.Entry.{Entry}
 use Rattle.rescale_core.specs.declared.item.Item.{Item}
 use Rattle.rescale_core.specs.declared.router.Router.{Router}

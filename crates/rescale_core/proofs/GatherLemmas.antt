@@ -32,7 +32,7 @@ use Rattle.verdict_merge.specs.declared.rows.Begun.{Begun}
 use Rattle.verdict_merge.specs.declared.rows.Rows.{Rows}
 use Rattle.verdict_merge.specs.declared.rows.Verdict.{Verdict}
 use Rattle.rescale_core.specs.Lines.Due.{Slicing}
-use Rattle.rescale_core.specs.Worlds.Move.{Read, Collect, Emit}
+use Rattle.rescale_core.specs.Worlds.Step.{Read, Collect, Emit}
 
 -- a slice of one entry more is an old one or the new one
 slice_snoc : (es : List Entry) (e : Entry) (a : Spot) (n : ℕ) (d : Due) → slice_at a (es ++ e ∷ []) n ≡ Some d

@@ -11,12 +11,12 @@ use Rattle.rescale_core.proofs.Settling.{slice_more}
 use Rattle.rescale_core.proofs.Collecting.{collect_sound}
 use Rattle.rescale_core.specs.Lines.{first_spot}
 use Rattle.rescale_core.specs.Soundly.{IsSound}
-use Rattle.rescale_core.specs.Worlds.{World, Move, not_back, rows_in, Allowed, IsGathered, after}
+use Rattle.rescale_core.specs.Worlds.{World, Step, not_back, rows_in, Allowed, IsGathered, after}
 use Rattle.verdict_merge.proofs.CountLemmas.{at_most}
 use Rattle.verdict_merge.specs.Gathers.{rows_at}
 use Rattle.verdict_merge.specs.declared.rows.Rows.{Rows}
 use Rattle.rescale_core.specs.Lines.Due.{Slicing}
-use Rattle.rescale_core.specs.Worlds.Move.{Read, Feed, Take, Collect, Emit}
+use Rattle.rescale_core.specs.Worlds.Step.{Read, Feed, Take, Collect, Emit}
 
 -- ---- what was emitted was gathered whole
 
@@ -48,7 +48,7 @@ module _ (w : World) (k : ℕ) (r : IsSound w) where
       no_length [] e = refl
       no_length (x ∷ xs) e = absurd (omega arith)
 
-pub step_gathered : (w : World) (s : Move) → IsSound w → Allowed w s → AllGathered w → AllGathered (after w s)
+pub step_gathered : (w : World) (s : Step) → IsSound w → Allowed w s → AllGathered w → AllGathered (after w s)
 step_gathered w (Read e) r a g i h = let x = g i h in (
   x.0,
   x.1,

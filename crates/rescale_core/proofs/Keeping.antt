@@ -2,11 +2,11 @@
 use Rattle.std.proofs.Common.{ℕ, zero, suc, List, [], ◌∷◌, ◌++◌, ◌≡◌, ◌≤◌, ◌∙◌, arith, refl, replicate, sym, subst}
 use Rattle.std.specs.List.{AllByRecursion}
 use Rattle.rescale_core.specs.Laws.{EmitsVerdicts}
-use Rattle.rescale_core.specs.Moving.{IsDriverOf, Kind, Reaches, StepsBy, TurnsTo, collects}
-use Rattle.rescale_core.specs.Moving.Kind.{Reads, Feeds, Takes, Collects, Emits}
+use Rattle.rescale_core.specs.Moving.{IsDriverOf, StepKind, Reaches, StepsBy, TurnsTo, collects}
+use Rattle.rescale_core.specs.Moving.StepKind.{Reads, Feeds, Takes, Collects, Emits}
 use Rattle.rescale_core.specs.Soundly.{IsSound}
-use Rattle.rescale_core.specs.Worlds.{World, Allowed, Move, after}
-use Rattle.rescale_core.specs.Worlds.Move.{Read, Feed, Take, Collect, Emit}
+use Rattle.rescale_core.specs.Worlds.{World, Allowed, Step, after}
+use Rattle.rescale_core.specs.Worlds.Step.{Read, Feed, Take, Collect, Emit}
 use Rattle.rescale_core.specs.declared.driver.Driver.{Driver}
 use Rattle.rescale_core.specs.declared.driver.Turn.{Turn}
 use Rattle.rescale_core.specs.declared.driver.Turn.TheVariants.{Moved, NotYet, Broken}
@@ -16,27 +16,27 @@ use Rattle.rescale_core.proofs.Verdicts.{step_verdicts}
 use Rattle.rescale_core.proofs.Waits.{waits_for}
 use Rattle.rescale_core.specs.Waiting.{added, waiting_in}
 
-by_move : (w x : World) (m : Move) → IsSound w → EmitsVerdicts w → Allowed w m → x ≡ after w m
+by_step : (w x : World) (s : Step) → IsSound w → EmitsVerdicts w → Allowed w s → x ≡ after w s
     → IsSound x × EmitsVerdicts x
-by_move w x m sound verdicts may e =
-    subst (λ y. IsSound y × EmitsVerdicts y) (sym e) (step_sound w m sound may, step_verdicts w m sound may verdicts)
+by_step w x s sound verdicts may e =
+    subst (λ y. IsSound y × EmitsVerdicts y) (sym e) (step_sound w s sound may, step_verdicts w s sound may verdicts)
 
-by_step : (w x : World) (s : Kind) → IsSound w → EmitsVerdicts w → StepsBy w s x → IsSound x × EmitsVerdicts x
-by_step w x (Reads e) sound verdicts h = by_move w x (Read e) sound verdicts h.0 h.1
-by_step w x (Feeds k) sound verdicts h = by_move w x (Feed k h.0) sound verdicts h.1 h.2
-by_step w x (Takes k) sound verdicts h = by_move w x (Take k h.0) sound verdicts h.1 h.2
-by_step w x (Collects k) sound verdicts h = by_move w x (Collect k) sound verdicts h.0 h.1
-by_step w x Emits sound verdicts h = by_move w x (Emit h.0) sound verdicts h.1 h.2
+by_kind : (w x : World) (s : StepKind) → IsSound w → EmitsVerdicts w → StepsBy w s x → IsSound x × EmitsVerdicts x
+by_kind w x (Reads e) sound verdicts h = by_step w x (Read e) sound verdicts h.0 h.1
+by_kind w x (Feeds k) sound verdicts h = by_step w x (Feed k h.0) sound verdicts h.1 h.2
+by_kind w x (Takes k) sound verdicts h = by_step w x (Take k h.0) sound verdicts h.1 h.2
+by_kind w x (Collects k) sound verdicts h = by_step w x (Collect k) sound verdicts h.0 h.1
+by_kind w x Emits sound verdicts h = by_step w x (Emit h.0) sound verdicts h.1 h.2
 
-pub by_steps : (steps : List Kind) (w x : World) → IsSound w → EmitsVerdicts w → Reaches w steps x
+pub by_steps : (steps : List StepKind) (w x : World) → IsSound w → EmitsVerdicts w → Reaches w steps x
     → IsSound x × EmitsVerdicts x
 by_steps [] w x sound verdicts h = subst (λ y. IsSound y × EmitsVerdicts y) h (sound, verdicts)
 by_steps (s ∷ steps) w x sound verdicts h =
-    let one = by_step w h.0 s sound verdicts h.1 in
+    let one = by_kind w h.0 s sound verdicts h.1 in
     by_steps steps h.0 x one.0 one.1 h.2
 
 -- a step that reads nothing and emits nothing
-abbrev IsInner : Kind → Type 0
+abbrev IsInner : StepKind → Type 0
 IsInner (Reads e) = ⊥
 IsInner (Feeds k) = Unit {0}
 IsInner (Takes k) = Unit {0}
@@ -61,50 +61,51 @@ kept_on w x y a b = record {
   emitted = b.emitted ∙ a.emitted;
 }
 
-keeps_step : (w x : World) (s : Kind) → IsInner s → StepsBy w s x → Keeps w x
-keeps_step w x (Reads e) i h = absurd i
-keeps_step w x (Feeds k) i h =
+keeps_kind : (w x : World) (s : StepKind) → IsInner s → StepsBy w s x → Keeps w x
+keeps_kind w x (Reads e) i h = absurd i
+keeps_kind w x (Feeds k) i h =
     kept_to w (after w (Feed k h.0)) x h.2 (record { core = refl; first = refl; read = refl; emitted = refl })
-keeps_step w x (Takes k) i h =
+keeps_kind w x (Takes k) i h =
     kept_to w (after w (Take k h.0)) x h.2 (record { core = refl; first = refl; read = refl; emitted = refl })
-keeps_step w x (Collects k) i h =
+keeps_kind w x (Collects k) i h =
     kept_to w (after w (Collect k)) x h.1 (record { core = refl; first = refl; read = refl; emitted = refl })
-keeps_step w x Emits i h = absurd i
+keeps_kind w x Emits i h = absurd i
 
-keeps_steps : (steps : List Kind) (w x : World) → AllByRecursion IsInner steps → Reaches w steps x → Keeps w x
+keeps_steps : (steps : List StepKind) (w x : World) → AllByRecursion IsInner steps → Reaches w steps x → Keeps w x
 keeps_steps [] w x i h = subst (Keeps w) h (record { core = refl; first = refl; read = refl; emitted = refl })
 keeps_steps (s ∷ steps) w x i h =
-    kept_on w h.0 x (keeps_step w h.0 s i.0 h.1) (keeps_steps steps h.0 x i.1 h.2)
+    kept_on w h.0 x (keeps_kind w h.0 s i.0 h.1) (keeps_steps steps h.0 x i.1 h.2)
 
 -- nor does more wait
-waits_move : (w x : World) (m : Move) (q : ℕ) → IsSound w → Allowed w m → added m ≡ 0 → x ≡ after w m
+waits_step : (w x : World) (s : Step) (q : ℕ) → IsSound w → Allowed w s → added s ≡ 0 → x ≡ after w s
     → waiting_in x q ≤ waiting_in w q
-waits_move w x m q sound may none e =
-    let h = waits_for w m q sound may in
+waits_step w x s q sound may none e =
+    let h = waits_for w s q sound may in
     subst (λ y. waiting_in y q ≤ waiting_in w q) (sym e) (omega arith)
 
-waits_step : (w x : World) (s : Kind) (q : ℕ) → IsInner s → IsSound w → StepsBy w s x
+waits_kind : (w x : World) (s : StepKind) (q : ℕ) → IsInner s → IsSound w → StepsBy w s x
     → waiting_in x q ≤ waiting_in w q
-waits_step w x (Reads e) q i sound h = absurd i
-waits_step w x (Feeds k) q i sound h = waits_move w x (Feed k h.0) q sound h.1 refl h.2
-waits_step w x (Takes k) q i sound h = waits_move w x (Take k h.0) q sound h.1 refl h.2
-waits_step w x (Collects k) q i sound h = waits_move w x (Collect k) q sound h.0 refl h.1
-waits_step w x Emits q i sound h = absurd i
+waits_kind w x (Reads e) q i sound h = absurd i
+waits_kind w x (Feeds k) q i sound h = waits_step w x (Feed k h.0) q sound h.1 refl h.2
+waits_kind w x (Takes k) q i sound h = waits_step w x (Take k h.0) q sound h.1 refl h.2
+waits_kind w x (Collects k) q i sound h = waits_step w x (Collect k) q sound h.0 refl h.1
+waits_kind w x Emits q i sound h = absurd i
 
-waits_steps : (steps : List Kind) (w x : World) (q : ℕ) → AllByRecursion IsInner steps → IsSound w
+waits_steps : (steps : List StepKind) (w x : World) (q : ℕ) → AllByRecursion IsInner steps → IsSound w
     → EmitsVerdicts w → Reaches w steps x → waiting_in x q ≤ waiting_in w q
 waits_steps [] w x q i sound verdicts h = subst (λ y. waiting_in y q ≤ waiting_in w q) h (omega arith)
 waits_steps (s ∷ steps) w x q i sound verdicts h =
-    let one = by_step w h.0 s sound verdicts h.1 in
-    let here = waits_step w h.0 s q i.0 sound h.1 in
+    let one = by_kind w h.0 s sound verdicts h.1 in
+    let here = waits_kind w h.0 s q i.0 sound h.1 in
     let rest = waits_steps steps h.0 x q i.1 one.0 one.1 h.2 in
     omega arith
 
-inner_more : (a b : List Kind) → AllByRecursion IsInner a → AllByRecursion IsInner b → AllByRecursion IsInner (a ++ b)
+inner_more : (a b : List StepKind) → AllByRecursion IsInner a → AllByRecursion IsInner b
+    → AllByRecursion IsInner (a ++ b)
 inner_more [] b x y = y
 inner_more (s ∷ a) b x y = (x.0, inner_more a b x.1 y)
 
-inner_times : (n : ℕ) (s : Kind) → IsInner s → AllByRecursion IsInner (replicate n s)
+inner_times : (n : ℕ) (s : StepKind) → IsInner s → AllByRecursion IsInner (replicate n s)
 inner_times zero s i = tt
 inner_times (suc n) s i = (i, inner_times n s i)
 
@@ -114,7 +115,7 @@ inner_collects k (suc n) = (tt, tt)
 
 -- a turn moves by inner steps
 pub turn_moves : (d e : Driver) (k : ℕ) (turn : Turn) (w : World) → TurnsTo d k turn e → IsDriverOf d w
-    → (steps : List Kind) × AllByRecursion IsInner steps × (x : World) × Reaches w steps x × IsDriverOf e x
+    → (steps : List StepKind) × AllByRecursion IsInner steps × (x : World) × Reaches w steps x × IsDriverOf e x
 turn_moves d e k (Moved n m) w t is =
     let r = t w is in (
       (replicate n (Takes k) ++ collects k n) ++ replicate m (Feeds k),

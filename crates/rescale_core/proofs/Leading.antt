@@ -8,7 +8,7 @@ use Rattle.rescale_core.specs.Lines.{Due, first_spot}
 use Rattle.rescale_core.specs.Phases.{PhaseOf, Meets, phase_at, phase_after, Follows, Gives, Answers}
 use Rattle.rescale_core.specs.Seeds.{SeedOf}
 use Rattle.rescale_core.specs.Workers.{IsFor}
-use Rattle.rescale_core.specs.Working.{IsAt, StandsFor, May, Has, first_phase, line_of, CanTake, Steps}
+use Rattle.rescale_core.specs.Working.{IsAt, StandsFor, May, Has, first_phase, line_of, CanTake, TakesItem}
 use Rattle.rescale_core.specs.Works.{MayBy, StandsBy, seen}
 use Rattle.turn_hub.specs.Work.{Takes, Leads}
 use Rattle.monitorable.specs.CoreForms.{CoreForm}
@@ -72,23 +72,23 @@ pub can_take : (w : Worker) (i : Item) → Takes StandsFor May w (i ∷ []) → 
 can_take w i t = can_take_in t.0 t.1 t.2 w i t.3 t.4.0 t.4.1
 
 -- a step in the seed's own words
-steps_in : (s : SeedOf) (w : Worker) (i : Item) (x : Worker) (gave : List Out) → core_form w.core ≡ s.core
-    → w.number ≡ s.k → Steps w i x gave → (ph : PhaseOf) (d : Due)
+takes_in : (s : SeedOf) (w : Worker) (i : Item) (x : Worker) (gave : List Out) → core_form w.core ≡ s.core
+    → w.number ≡ s.k → TakesItem w i x gave → (ph : PhaseOf) (d : Due)
     → IsAt s.core s.k ph w.phase → Follows s.core s.k ph d → Meets s.core s.k ph d i → Gives s.core s.k d gave
     × IsAt s.core s.k (phase_after ph d i) x.phase
-steps_in s w i x gave core number steps ph d =
+takes_in s w i x gave core number takes ph d =
     subst (λ (k : ℕ). IsAt s.core k ph w.phase → Follows s.core k ph d → Meets s.core k ph d i
     → Gives s.core k d gave × IsAt s.core k (phase_after ph d i) x.phase) number
     (subst (λ (c : CoreForm). IsAt c w.number ph w.phase → Follows c w.number ph d → Meets c w.number ph d i
-    → Gives c w.number d gave × IsAt c w.number (phase_after ph d i) x.phase) core (steps.step ph d))
+    → Gives c w.number d gave × IsAt c w.number (phase_after ph d i) x.phase) core (takes.in_phase ph d))
 
 module _ (s : SeedOf) (t : List Item) (g : List Out) (w : Worker) (i : Item) (x : Worker) (gave : List Out)
-    (st : StandsFor s t g w) (steps : Steps w i x gave) where
+    (st : StandsFor s t g w) (takes : TakesItem w i x gave) where
   does : (es : List Entry) → Has s es (t ++ i ∷ [])
       → Answers s.core s.k (take (length (t ++ i ∷ [])) (line_of s es)) (g ++ gave)
       × IsAt s.core s.k (phase_at (first_phase s) (line_of s es) (t ++ i ∷ [])) x.phase
   does es h = let front = has_front s t (i ∷ []) es h in let r = turned_in s t i es st.first h in
-      let done = steps_in s w i x gave st.core st.number steps (phase_at (first_phase s) (line_of s es) t) r.due
+      let done = takes_in s w i x gave st.core st.number takes (phase_at (first_phase s) (line_of s es) t) r.due
       (st.at es front) r.follows r.meets in (
         subst (λ (ds : List Due). Answers s.core s.k ds (g ++ gave)) (sym r.front)
             (answers_more s.core s.k (take (length t) (line_of s es)) r.due g gave (st.told es front) done.0),
@@ -97,16 +97,16 @@ module _ (s : SeedOf) (t : List Item) (g : List Out) (w : Worker) (i : Item) (x 
 
   stands_on : StandsFor s (t ++ i ∷ []) (g ++ gave) x
   stands_on = record {
-    core = steps.core ∙ st.core;
-    number = steps.number ∙ st.number;
+    core = takes.core ∙ st.core;
+    number = takes.number ∙ st.number;
     first = st.first;
     told = λ es h. (does es h).0;
     at = λ es h. (does es h).1;
   }
 
-pub leads_on : (w : Worker) (i : Item) (x : Worker) (gave : List Out) → Steps w i x gave
+pub leads_on : (w : Worker) (i : Item) (x : Worker) (gave : List Out) → TakesItem w i x gave
     → Leads StandsFor May w (i ∷ []) x gave
-leads_on w i x gave steps s t g st may = stands_on s t g w i x gave st steps
+leads_on w i x gave takes s t g st may = stands_on s t g w i x gave st takes
 
 -- ---- seeds with a core
 

@@ -12,7 +12,7 @@ pub mod SeatLemmas
 pub mod Collecting
 pub mod Soundness
 pub mod Verdicts
-pub mod WorkerSteps
+pub mod SliceLemmas
 pub mod Emitting
 pub mod Gathered
 pub mod GatherLemmas
@@ -23,8 +23,8 @@ pub mod ReadyQueues
 pub mod Filling
 pub mod ChangeLemmas
 pub mod FeedLemmas
-pub mod MergeSteps
-pub mod PieceSteps
+pub mod MergeLemmas
+pub mod PieceLemmas
 pub mod RouterLemmas
 pub mod RouterEnds
 pub mod CellLemmas

@@ -17,7 +17,7 @@ use Rattle.rescale_core.specs.Routing.{HasTaken, IsRouterOf}
 use Rattle.rescale_core.specs.Handing.{chance, nth, ready_items, standing}
 use Rattle.rescale_core.specs.Worlds.{World, Allowed, Seat, after, all_collected, fed_more, line_in}
 use Rattle.rescale_core.specs.Worlds.{ready_in, set_seat, spot_in, took_one}
-use Rattle.rescale_core.specs.Worlds.Move.{Read, Feed, Take, Collect, Emit}
+use Rattle.rescale_core.specs.Worlds.Step.{Read, Feed, Take, Collect, Emit}
 use Rattle.rescale_core.specs.declared.step.Applied.{Applied}
 use Rattle.rescale_core.specs.declared.step.Applied.TheVariants.{Did, NotEnabled}
 use Rattle.rescale_core.specs.declared.cell.Cell.{Cell}

@@ -23,7 +23,7 @@ use Rattle.rescale_core.specs.Phases.{Answers, Parts}
 use Rattle.rescale_core.specs.Workers.{slice_for}
 use Rattle.rescale_core.specs.Handing.{for_place, item_of, nth, ready_items}
 use Rattle.rescale_core.specs.Worlds.{World, Allowed, line_in, pieces_in}
-use Rattle.rescale_core.specs.Worlds.Move.{Feed}
+use Rattle.rescale_core.specs.Worlds.Step.{Feed}
 use Rattle.rescale_core.specs.declared.item.Entry.{Entry}
 use Rattle.rescale_core.specs.declared.item.Entry.TheVariants.{Point, Change}
 use Rattle.rescale_core.specs.declared.item.Item.{Item}

@@ -25,7 +25,7 @@ use Rattle.rescale_core.specs.Soundly.{IsSound}
 use Rattle.rescale_core.specs.Handing.{chance, standing}
 use Rattle.rescale_core.specs.Workers.{MayFollow, slice_for}
 use Rattle.rescale_core.specs.Worlds.{World, after, line_in, queue_in, spot_in, standings_in}
-use Rattle.rescale_core.specs.Worlds.Move.{Read}
+use Rattle.rescale_core.specs.Worlds.Step.{Read}
 use Rattle.rescale_core.specs.declared.item.Entry.{Entry}
 use Rattle.rescale_core.specs.declared.item.Entry.TheVariants.{Point}
 use Rattle.rescale_core.specs.declared.item.Item.TheVariants.{Slice}

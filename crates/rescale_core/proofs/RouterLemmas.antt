@@ -24,7 +24,7 @@ use Rattle.rescale_core.specs.Handing.{chance, standing}
 use Rattle.rescale_core.specs.Workers.{IsFor}
 use Rattle.rescale_core.specs.Worlds.{World, Allowed, IsGathered, after, all_collected}
 use Rattle.rescale_core.specs.Worlds.{first_world, line_in, not_back, pieces_in, queue_in, rows_in, standings_in}
-use Rattle.rescale_core.specs.Worlds.Move.{Collect, Emit}
+use Rattle.rescale_core.specs.Worlds.Step.{Collect, Emit}
 use Rattle.rescale_core.specs.declared.item.Item.{Item}
 use Rattle.rescale_core.specs.declared.item.Out.{Out}
 use Rattle.monitor_state.specs.declared.state.Piece.{Piece}

@@ -27,7 +27,7 @@ use Rattle.rescale_core.specs.declared.item.Entry.{Entry}
 use Rattle.rescale_core.specs.declared.item.Out.{Out}
 use Rattle.verdict_merge.specs.declared.rows.Rows.{Rows}
 use Rattle.rescale_core.specs.Lines.Due.{Slicing, Parting, Hole}
-use Rattle.rescale_core.specs.Worlds.Move.{Read, Feed, Take}
+use Rattle.rescale_core.specs.Worlds.Step.{Read, Feed, Take}
 
 -- ---- worlds
 

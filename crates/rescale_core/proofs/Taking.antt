@@ -10,14 +10,14 @@ use Rattle.rescale_core.proofs.Leading.{answers_more}
 use Rattle.rescale_core.proofs.Soundness.{step_sound}
 use Rattle.rescale_core.proofs.WorldLemmas.{supplies_length}
 use Rattle.rescale_core.specs.Lines.{Spot, Due, first_spot, line, spot_after}
-use Rattle.rescale_core.specs.Moving.{CellLine, Kind, Moves, Reaches, lines_of}
-use Rattle.rescale_core.specs.Moving.Kind.{Takes}
+use Rattle.rescale_core.specs.Moving.{CellLine, StepKind, Moves, Reaches, lines_of}
+use Rattle.rescale_core.specs.Moving.StepKind.{Takes}
 use Rattle.rescale_core.specs.Routing.{IsRouterOf}
 use Rattle.rescale_core.specs.Soundly.{IsSound}
 use Rattle.rescale_core.specs.Phases.{Answers}
 use Rattle.rescale_core.specs.Handing.{chance, standing}
 use Rattle.rescale_core.specs.Worlds.{World, Allowed, Seat, after, line_in, spot_in, took_one}
-use Rattle.rescale_core.specs.Worlds.Move.{Take}
+use Rattle.rescale_core.specs.Worlds.Step.{Take}
 use Rattle.rescale_core.specs.declared.driver.Driver.{Driver}
 use Rattle.rescale_core.specs.declared.item.Entry.{Entry}
 use Rattle.rescale_core.specs.declared.item.Item.{Item}
@@ -26,7 +26,7 @@ use Rattle.rescale_core.specs.declared.router.Router.{Router}
 
 -- ---- steps, one after the other
 
-pub reaches_on : (a b : List Kind) (w x y : World) → Reaches w a x → Reaches x b y → Reaches w (a ++ b) y
+pub reaches_on : (a b : List StepKind) (w x y : World) → Reaches w a x → Reaches x b y → Reaches w (a ++ b) y
 reaches_on [] b w x y r s = subst (λ z. Reaches z b y) (sym r) s
 reaches_on (k ∷ a) b w x y r s = (r.0, r.1, reaches_on a b r.0 x y r.2 s)
 

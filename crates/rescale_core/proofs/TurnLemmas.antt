@@ -13,7 +13,7 @@ use Rattle.rescale_core.proofs.DriverLemmas.{seed_in}
 use Rattle.rescale_core.proofs.DriverLemmas.{some_is}
 use Rattle.rescale_core.proofs.Taking.{Took, reaches_on, takes_all, took_router}
 use Rattle.rescale_core.specs.Moving.{CellLine, HasTurn, IsDriverOf, IsLineOf, Moves, Reaches, collects, lines_of}
-use Rattle.rescale_core.specs.Moving.Kind.{Feeds, Takes}
+use Rattle.rescale_core.specs.Moving.StepKind.{Feeds, Takes}
 use Rattle.rescale_core.specs.Routing.{HasTaken, IsRouterOf, feeds}
 use Rattle.rescale_core.specs.Seeds.{SeedOf}
 use Rattle.rescale_core.specs.Soundly.{IsSound}
@@ -22,7 +22,7 @@ use Rattle.rescale_core.specs.Working.{May}
 use Rattle.rescale_core.specs.Works.{MayBy, ToldBy, seen}
 use Rattle.rescale_core.specs.Worlds.{World, Allowed, AreAllowed, Seat, after, all_collected, fed_more, first_seat}
 use Rattle.rescale_core.specs.Worlds.{line_in, run}
-use Rattle.rescale_core.specs.Worlds.Move.{Feed, Collect}
+use Rattle.rescale_core.specs.Worlds.Step.{Feed, Collect}
 use Rattle.rescale_core.specs.declared.driver.Driver.{Driver}
 use Rattle.rescale_core.specs.declared.item.Item.{Item}
 use Rattle.rescale_core.specs.declared.item.Out.{Out}

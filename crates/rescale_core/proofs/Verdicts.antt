@@ -15,10 +15,10 @@ use Rattle.mfotl_model.specs.Strategies.{Strategy}
 use Rattle.monitorable.specs.CoreForms.{CoreForm}
 use Rattle.rescale_core.specs.Laws.{EmitsVerdicts}
 use Rattle.rescale_core.specs.Workers.{violations_at, settled_in}
-use Rattle.rescale_core.specs.Worlds.{World, first_world, Move, spot_in, verdict_on, Allowed, AreAllowed, after, run}
+use Rattle.rescale_core.specs.Worlds.{World, first_world, Step, spot_in, verdict_on, Allowed, AreAllowed, after, run}
 use Rattle.rescale_core.specs.declared.item.Entry.{Entry}
 use Rattle.verdict_merge.specs.declared.rows.Verdict.{Verdict}
-use Rattle.rescale_core.specs.Worlds.Move.{Read, Feed, Take, Collect, Emit}
+use Rattle.rescale_core.specs.Worlds.Step.{Read, Feed, Take, Collect, Emit}
 
 map_same : {A : Type 0} (f g : ℕ → A) (j n : ℕ) → ((i : ℕ) → i < j + n → f i ≡ g i)
     → map f (range_with_len j n) ≡ map g (range_with_len j n)
@@ -56,7 +56,7 @@ read_verdicts w e r may v = let more : spot_in (after w (Read e)) ≡ moved (spo
           subst (λ (a : Spot). length w.emitted ≤ settled_in w.core a.points) (sym more) (omega arith);
     }
 
-pub step_verdicts : (w : World) (s : Move) → IsSound w → Allowed w s → EmitsVerdicts w → EmitsVerdicts (after w s)
+pub step_verdicts : (w : World) (s : Step) → IsSound w → Allowed w s → EmitsVerdicts w → EmitsVerdicts (after w s)
 step_verdicts w (Read e) r a v = read_verdicts w e r a v
 step_verdicts w (Feed k i) r a v = record { are = v.are; settled = v.settled }
 step_verdicts w (Take k gave) r a v = record { are = v.are; settled = v.settled }
@@ -71,7 +71,7 @@ step_verdicts w (Emit x) r a v = let n : ℕ = length w.emitted in let f = verdi
           let high : length w.emitted < settled_in w.core (g.2 ++ g.3 ∷ []) = g.6 in omega arith;
     }
 
-pub run_verdicts : (w : World) (ss : List Move) → IsSound w → AreAllowed w ss → EmitsVerdicts w
+pub run_verdicts : (w : World) (ss : List Step) → IsSound w → AreAllowed w ss → EmitsVerdicts w
     → EmitsVerdicts (run w ss)
 run_verdicts w [] r a v = v
 run_verdicts w (s ∷ ss) r a v = run_verdicts (after w s) ss (step_sound w s r a.0) a.1 (step_verdicts w s r a.0 v)

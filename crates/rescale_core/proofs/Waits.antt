@@ -18,9 +18,9 @@ use Rattle.rescale_core.specs.Slots.{standing_of, weight_of}
 use Rattle.rescale_core.specs.Routing.{IsRouterOf}
 use Rattle.rescale_core.specs.Soundly.{IsSound}
 use Rattle.rescale_core.specs.Waiting.{HasRoom, added, full, is_short, waiting_in, weight}
-use Rattle.rescale_core.specs.Worlds.{World, Allowed, Move, Seat, after, all_collected, fed_more, line_in}
+use Rattle.rescale_core.specs.Worlds.{World, Allowed, Step, Seat, after, all_collected, fed_more, line_in}
 use Rattle.rescale_core.specs.Worlds.{spot_in, took_one}
-use Rattle.rescale_core.specs.Worlds.Move.{Read, Feed, Take, Collect, Emit}
+use Rattle.rescale_core.specs.Worlds.Step.{Read, Feed, Take, Collect, Emit}
 use Rattle.rescale_core.specs.declared.item.Entry.{Entry}
 use Rattle.rescale_core.specs.declared.item.Entry.TheVariants.{Point, Change}
 use Rattle.rescale_core.specs.declared.item.Item.{Item}
@@ -184,8 +184,8 @@ same_waits w q s k fed = at (nat_eq k q) refl
         (omega arith)
     at false e = omega arith
 
-pub waits_for : (w : World) (m : Move) (k : ℕ) → IsSound w → Allowed w m
-    → waiting_in (after w m) k ≤ waiting_in w k + added m
+pub waits_for : (w : World) (s : Step) (k : ℕ) → IsSound w → Allowed w s
+    → waiting_in (after w s) k ≤ waiting_in w k + added s
 waits_for w (Read e) k sound may = read_waits w e k sound
 waits_for w (Feed q i) k sound may = let h = fed_waits w q i k in omega arith
 waits_for w (Take q gave) k sound may =

@@ -10,11 +10,11 @@ use Rattle.rescale_core.specs.Soundly.{IsSound}
 use Rattle.rescale_core.specs.Working.{StandsFor}
 use Rattle.rescale_core.specs.Handing.{nth}
 use Rattle.rescale_core.specs.Worlds.{World, Allowed, IsGathered, Seat, after, spot_in}
-use Rattle.rescale_core.specs.Worlds.Move.{Read, Feed, Take, Collect, Emit}
+use Rattle.rescale_core.specs.Worlds.Step.{Read, Feed, Take, Collect, Emit}
 use Rattle.rescale_core.specs.declared.step.Applied.{Applied}
 use Rattle.rescale_core.specs.declared.step.Applied.TheVariants.{Did, NotEnabled}
 use Rattle.rescale_core.specs.declared.cell.Cell.{Cell}
-use Rattle.rescale_core.specs.declared.step.Step.{Step}
+use Rattle.rescale_core.specs.declared.step.Step.{Step as MachineStep}
 use Rattle.rescale_core.specs.declared.step.Step.TheVariants as step
 use Rattle.rescale_core.specs.declared.item.Entry.{Entry}
 use Rattle.rescale_core.specs.declared.item.Entry.TheVariants.{Point, Change}
@@ -71,7 +71,7 @@ pub record IsMachineOf (m : Machine) (entries : List Entry) (w : World) : Type 0
   pub verdicts : EmitsVerdicts w
 
 -- the step leads from one world to another
-abbrev pub StepsTo : World → Step → World → Type 0
+abbrev pub StepsTo : World → MachineStep → World → Type 0
 StepsTo w step.Read x = (e : Entry) × Allowed w (Read e) × (x ≡ after w (Read e))
 StepsTo w (step.Feed k) x = (i : Item) × Allowed w (Feed k i) × (x ≡ after w (Feed k i))
 StepsTo w (step.Take k) x = (gave : List Out) × Allowed w (Take k gave) × (x ≡ after w (Take k gave))
@@ -79,7 +79,7 @@ StepsTo w (step.Collect k) x = Allowed w (Collect k) × (x ≡ after w (Collect 
 StepsTo w step.Emit x = (v : Verdict) × Allowed w (Emit v) × (x ≡ after w (Emit v))
 
 -- the step's guard holds, where these entries are left
-abbrev pub Enabled : World → List Entry → Step → Type 0
+abbrev pub Enabled : World → List Entry → MachineStep → Type 0
 Enabled w left step.Read = (e : Entry) × (rest : List Entry) × (left ≡ e ∷ rest)
 Enabled w left (step.Feed k) = (i : Item) × Allowed w (Feed k i)
 Enabled w left (step.Take k) = (w.seats k).taken < length (w.seats k).fed
@@ -88,7 +88,7 @@ Enabled w left step.Emit = IsGathered w (length w.emitted)
 
 -- the step was done, in each world for which the machine stands; or its guard is false there, and it stands for the
 -- same world still
-abbrev pub Applies : Machine → Step → Applied → Machine → Type 0
+abbrev pub Applies : Machine → MachineStep → Applied → Machine → Type 0
 Applies old s Did new =
     (entries : List Entry) (w : World) → IsMachineOf old entries w
     → (x : World) × StepsTo w s x × IsMachineOf new entries x

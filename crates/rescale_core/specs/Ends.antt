@@ -12,7 +12,7 @@ use Rattle.verdict_merge.specs.Gathers.{rows_at}
 use Rattle.verdict_merge.specs.Laws.{IsPartition}
 use Rattle.rescale_core.specs.Cells.{Enabled, IsMachineOf}
 use Rattle.rescale_core.specs.Laws.{EmitsVerdicts, FitsAndAnswers}
-use Rattle.rescale_core.specs.Moving.{IsDriverOf, IsOpened, Kind, Reaches, TurnsTo, core_of}
+use Rattle.rescale_core.specs.Moving.{IsDriverOf, IsOpened, StepKind, Reaches, TurnsTo, core_of}
 use Rattle.rescale_core.specs.Routing.{HasEnded}
 use Rattle.rescale_core.specs.Soundly.{IsSound}
 use Rattle.rescale_core.specs.Waiting.{waiting_in}
@@ -27,7 +27,7 @@ use Rattle.rescale_core.specs.declared.item.Item.{Item}
 use Rattle.rescale_core.specs.declared.item.Out.{Out}
 use Rattle.rescale_core.specs.declared.machine.Machine.{Machine}
 use Rattle.rescale_core.specs.declared.seed.Seed.{Seed}
-use Rattle.rescale_core.specs.declared.step.Step.{Step}
+use Rattle.rescale_core.specs.declared.step.Step.{Step as MachineStep}
 use Rattle.rescale_core.specs.declared.worker.Worker.{Worker}
 
 -- in each world that a machine stands for, what workers were handed fits, what they gave answers it, and what was
@@ -41,7 +41,7 @@ MachineWorlds =
 abbrev pub MachineEnds : Type 0
 MachineEnds =
     (m : Machine) (entries : List Entry) (w : World) → IsMachineOf m entries w
-    → ((s : Step) → Enabled w m.left.items s → ⊥)
+    → ((s : MachineStep) → Enabled w m.left.items s → ⊥)
     → (w.read ≡ entries)
     × (w.emitted
     ≡ map (verdict_on w.core (spot_in w).points) (range_with_len 0 (settled_in w.core (spot_in w).points)))
@@ -55,7 +55,7 @@ RowsPartition =
 -- whatever a driver does, what was emitted are the first verdicts, where they were
 abbrev pub DriverWorlds : Type 0
 DriverWorlds =
-    (d : Driver) (w : World) (steps : List Kind) (x : World) → IsDriverOf d w → EmitsVerdicts w → Reaches w steps x
+    (d : Driver) (w : World) (steps : List StepKind) (x : World) → IsDriverOf d w → EmitsVerdicts w → Reaches w steps x
     → IsSound x × EmitsVerdicts x
 
 -- where it has ended, all verdicts on what was read were emitted

@@ -8,8 +8,8 @@ use Rattle.monitor_state.specs.declared.state.Piece.{Piece}
 use Rattle.monitor_state.specs.declared.state.State.{State}
 use Rattle.rescale_core.specs.Waiting.{is_short}
 use Rattle.rescale_core.specs.Workers.{slice_for}
-use Rattle.rescale_core.specs.Worlds.{Move, first_world, ready_in, run}
-use Rattle.rescale_core.specs.Worlds.Move.{Collect, Feed, Read, Take}
+use Rattle.rescale_core.specs.Worlds.{Step, first_world, ready_in, run}
+use Rattle.rescale_core.specs.Worlds.Step.{Collect, Feed, Read, Take}
 use Rattle.rescale_core.specs.declared.item.Entry.TheVariants.{Change, Point}
 use Rattle.rescale_core.specs.declared.item.Item.{Item}
 use Rattle.rescale_core.specs.declared.item.Item.TheVariants.{Adopt, Part, Slice}
@@ -29,18 +29,18 @@ abbrev pub piece_of : ℕ → State → Piece
 piece_of from state = record { generation = 1; from = from; to = 0; count = 2; state = state }
 
 -- what is ready for worker k where a time-point, the change and another time-point were read, and then this happened
-abbrev pub ready_behind : CoreForm → TimePoint → TimePoint → ℕ → List Move → List Item
-ready_behind core a b k moves =
-    ready_in (run (first_world core two) (Read (Point a) ∷ Read (Change one) ∷ Read (Point b) ∷ moves)) k
+abbrev pub ready_behind : CoreForm → TimePoint → TimePoint → ℕ → List Step → List Item
+ready_behind core a b k steps =
+    ready_in (run (first_world core two) (Read (Point a) ∷ Read (Change one) ∷ Read (Point b) ∷ steps)) k
 
 -- worker k is handed its slice and its part, takes both and gives its piece, which is collected
-abbrev pub parts : CoreForm → TimePoint → ℕ → State → List Move
+abbrev pub parts : CoreForm → TimePoint → ℕ → State → List Step
 parts core a k state =
     Feed k (Slice 0 0 (slice_for core two k a)) ∷ Feed k (Part 1 two one) ∷ Take k []
     ∷ Take k (OfPiece (piece_of k state) ∷ []) ∷ Collect k ∷ []
 
 -- worker 0 is handed the piece of one of the two
-abbrev pub adopts : ℕ → State → List Move
+abbrev pub adopts : ℕ → State → List Step
 adopts from state = Feed 0 (Adopt (piece_of from state) one) ∷ []
 
 -- At first each of the two may be handed its slice and its part, and nothing behind that. A piece is ready for worker 0

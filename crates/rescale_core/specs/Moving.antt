@@ -14,7 +14,7 @@ use Rattle.verdict_merge.specs.declared.rows.Verdict.{Verdict}
 use Rattle.rescale_core.specs.Routing.{IsRouterOf}
 use Rattle.rescale_core.specs.Works.{seen}
 use Rattle.rescale_core.specs.Worlds.{World, Allowed, after, first_seat, ready_in}
-use Rattle.rescale_core.specs.Worlds.Move.{Read, Feed, Take, Collect, Emit}
+use Rattle.rescale_core.specs.Worlds.Step.{Read, Feed, Take, Collect, Emit}
 use Rattle.rescale_core.specs.declared.item.Entry.{Entry}
 use Rattle.rescale_core.specs.declared.item.Item.{Item}
 use Rattle.rescale_core.specs.declared.item.Out.{Out}
@@ -38,15 +38,15 @@ core_of d = core_form d.router.core
 
 -- the kinds of steps: an entry is read, worker k is handed an item, takes one, what it gave is collected, or a
 -- verdict is emitted
-pub data Kind : Type 0 where
-  Reads : Entry → Kind
-  Feeds : ℕ → Kind
-  Takes : ℕ → Kind
-  Collects : ℕ → Kind
-  Emits : Kind
+pub data StepKind : Type 0 where
+  Reads : Entry → StepKind
+  Feeds : ℕ → StepKind
+  Takes : ℕ → StepKind
+  Collects : ℕ → StepKind
+  Emits : StepKind
 
 -- a step of the kind leads from one world to another
-abbrev pub StepsBy : World → Kind → World → Type 0
+abbrev pub StepsBy : World → StepKind → World → Type 0
 StepsBy w (Reads e) x = Allowed w (Read e) × (x ≡ after w (Read e))
 StepsBy w (Feeds k) x = (i : Item) × Allowed w (Feed k i) × (x ≡ after w (Feed k i))
 StepsBy w (Takes k) x = (gave : List Out) × Allowed w (Take k gave) × (x ≡ after w (Take k gave))
@@ -54,7 +54,7 @@ StepsBy w (Collects k) x = Allowed w (Collect k) × (x ≡ after w (Collect k))
 StepsBy w Emits x = (v : Verdict) × Allowed w (Emit v) × (x ≡ after w (Emit v))
 
 -- steps of these kinds, one after the other
-abbrev pub Reaches : World → List Kind → World → Type 0
+abbrev pub Reaches : World → List StepKind → World → Type 0
 Reaches w [] x = w ≡ x
 Reaches w (s ∷ ss) x = (y : World) × StepsBy w s y × Reaches y ss x
 
@@ -84,11 +84,11 @@ IsOpened c s main =
     × (l.handed ≡ []) × (l.back ≡ []) × (l.last ≡ 0) × (l.mine ≡ true)
 
 -- from each world for which the one driver stands, steps of these kinds lead to one for which the other stands
-abbrev pub Moves : Driver → List Kind → Driver → Type 0
+abbrev pub Moves : Driver → List StepKind → Driver → Type 0
 Moves d steps e = (w : World) → IsDriverOf d w → (x : World) × Reaches w steps x × IsDriverOf e x
 
 -- collecting is a step only where something was taken
-abbrev pub collects : ℕ → ℕ → List Kind
+abbrev pub collects : ℕ → ℕ → List StepKind
 collects k zero = []
 collects k (suc n) = Collects k ∷ []
 

@@ -16,8 +16,8 @@ use Rattle.rescale_core.specs.Lines.Due.{Slicing}
 use Rattle.rescale_core.specs.Chances.Chance.{Sure}
 use Rattle.rescale_core.specs.Queues.{chances, queue_at}
 use Rattle.rescale_core.specs.Slots.{ready_of, rooms, standing_of}
-use Rattle.rescale_core.specs.Worlds.{World, Move, spot_in, queue_in, slice_at, standings_in, GatheredIn, IsGathered}
-use Rattle.rescale_core.specs.Worlds.Move.{Feed}
+use Rattle.rescale_core.specs.Worlds.{World, Step, spot_in, queue_in, slice_at, standings_in, GatheredIn, IsGathered}
+use Rattle.rescale_core.specs.Worlds.Step.{Feed}
 use Rattle.rescale_core.specs.Soundly.{IsSound}
 use Rattle.rescale_core.specs.declared.item.Item.{Item}
 use Rattle.rescale_core.specs.declared.item.Entry.{Entry}
@@ -95,7 +95,7 @@ pub record IsRouterOf (r : Router) (w : World) : Type 0 where
   pub gather : IsGatherOf r.gather w
 
 -- the items are handed to worker k
-abbrev pub feeds : ℕ → List Item → List Move
+abbrev pub feeds : ℕ → List Item → List Step
 feeds k items = map (λ i. Feed k i) items
 
 -- the worker took so many items that were not collected, and gave these outs by them

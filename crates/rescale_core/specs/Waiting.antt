@@ -5,8 +5,8 @@ use Rattle.rescale_core.specs.Lines.{Due}
 use Rattle.rescale_core.specs.Lines.Due.{Slicing, Parting, Hole}
 use Rattle.rescale_core.specs.Slots.{weight_of}
 use Rattle.rescale_core.specs.Soundly.{IsSound}
-use Rattle.rescale_core.specs.Worlds.{World, Move, Allowed, after, line_in}
-use Rattle.rescale_core.specs.Worlds.Move.{Read, Feed, Take, Collect, Emit}
+use Rattle.rescale_core.specs.Worlds.{World, Step, Allowed, after, line_in}
+use Rattle.rescale_core.specs.Worlds.Step.{Read, Feed, Take, Collect, Emit}
 use Rattle.rescale_core.specs.declared.item.Entry.TheVariants.{Point, Change}
 use Rattle.rescale_core.specs.declared.slot.Slot.{Slot}
 
@@ -33,7 +33,7 @@ abbrev pub is_short : List Slot → Bool
 is_short slots = nat_lt (sum_by weight_of slots) full
 
 -- how many more a step may make wait for one worker
-abbrev pub added : Move → ℕ
+abbrev pub added : Step → ℕ
 added (Read (Point p)) = 1
 added (Read (Change s)) = 2
 added (Feed k i) = 0
@@ -44,4 +44,4 @@ added (Emit v) = 0
 -- a time-point makes at most one more wait for a worker, a change two, and nothing else makes more wait
 abbrev pub WaitsFor : Type 0
 WaitsFor =
-    (w : World) (m : Move) (k : ℕ) → IsSound w → Allowed w m → waiting_in (after w m) k ≤ waiting_in w k + added m
+    (w : World) (s : Step) (k : ℕ) → IsSound w → Allowed w s → waiting_in (after w s) k ≤ waiting_in w k + added s

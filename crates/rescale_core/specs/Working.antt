@@ -71,10 +71,10 @@ CanTake w item =
     × Meets (core_form w.core) w.number ph d item
 
 -- in whatever phase the worker takes the item, its outs answer what was due, and it is in the next phase
-pub record Steps (w : Worker) (item : Item) (x : Worker) (gave : List Out) : Type 0 where
+pub record TakesItem (w : Worker) (item : Item) (x : Worker) (gave : List Out) : Type 0 where
   pub core : core_form x.core ≡ core_form w.core
   pub number : x.number ≡ w.number
-  pub step : (ph : PhaseOf) (d : Due)
+  pub in_phase : (ph : PhaseOf) (d : Due)
       → IsAt (core_form w.core) w.number ph w.phase
       → Follows (core_form w.core) w.number ph d
       → Meets (core_form w.core) w.number ph d item
@@ -83,7 +83,7 @@ pub record Steps (w : Worker) (item : Item) (x : Worker) (gave : List Out) : Typ
 
 -- the worker gave these outs behind others
 abbrev pub Gave : Worker → Item → Worker → List Out → List Out → Type 0
-Gave w item x old new = (gave : List Out) × (new ≡ old ++ gave) × Steps w item x gave
+Gave w item x old new = (gave : List Out) × (new ≡ old ++ gave) × TakesItem w item x gave
 
 -- ---- pieces
 

@@ -103,14 +103,14 @@ ready_in w k = ready_items w.core k w.pieces (drop (length (w.seats k).fed) (lin
 abbrev pub set_seat : (ℕ → Seat) → ℕ → Seat → ℕ → Seat
 set_seat seats k s q = cond (nat_eq q k) s (seats q)
 
--- what happens next: an entry is read, worker k is handed an item, takes one and gives outs, what worker k gave
--- is collected, or a verdict is emitted
-pub data Move : Type 0 where
-  Read : Entry → Move
-  Feed : ℕ → Item → Move
-  Take : ℕ → List Out → Move
-  Collect : ℕ → Move
-  Emit : Verdict → Move
+-- a step, what happens next: an entry is read, worker k is handed an item, takes one and gives outs, what worker k
+-- gave is collected, or a verdict is emitted
+pub data Step : Type 0 where
+  Read : Entry → Step
+  Feed : ℕ → Item → Step
+  Take : ℕ → List Out → Step
+  Collect : ℕ → Step
+  Emit : Verdict → Step
 
 -- the seat with one item handed over more
 abbrev pub fed_more : Seat → Item → Seat
@@ -129,7 +129,7 @@ abbrev pub not_back : Seat → List Out
 not_back s = drop (length s.back) s.outs
 
 -- the world after a step
-abbrev pub after : World → Move → World
+abbrev pub after : World → Step → World
 after w (Read e) = record w { read = w.read ++ e ∷ [] }
 after w (Feed k i) = record w { seats = set_seat w.seats k (fed_more (w.seats k) i) }
 after w (Take k gave) = record w { seats = set_seat w.seats k (took_one (w.seats k) gave) }
@@ -160,7 +160,7 @@ abbrev pub IsGathered : World → ℕ → Type 0
 IsGathered w i = GatheredIn w.core w.first w.read w.rows i
 
 -- the step may come
-abbrev pub Allowed : World → Move → Type 0
+abbrev pub Allowed : World → Step → Type 0
 Allowed w (Read e) = MayRead w.core (spot_in w) e
 Allowed w (Feed k i) = (rest : List Item) × (ready_in w k ≡ i ∷ rest)
 Allowed w (Take k gave) =
@@ -170,11 +170,11 @@ Allowed w (Collect k) = (w.seats k).collected < (w.seats k).taken
 Allowed w (Emit v) = (v ≡ verdict_on w.core (spot_in w).points (length w.emitted)) × IsGathered w (length w.emitted)
 
 -- the world after these steps
-abbrev pub run : World → List Move → World
+abbrev pub run : World → List Step → World
 run w [] = w
-run w (m ∷ ms) = run (after w m) ms
+run w (s ∷ ss) = run (after w s) ss
 
 -- the steps may come one after the other
-abbrev pub AreAllowed : World → List Move → Type 0
+abbrev pub AreAllowed : World → List Step → Type 0
 AreAllowed w [] = Unit {0}
-AreAllowed w (m ∷ ms) = Allowed w m × AreAllowed (after w m) ms
+AreAllowed w (s ∷ ss) = Allowed w s × AreAllowed (after w s) ss

@@ -5,11 +5,11 @@ ghost use Rattle.monitorable.specs.CoreForms.{CoreForm};
 ghost use Rattle.turn_hub.specs.Ends.{AllMine, IsMainOf, cell_count, main_view};
 ghost use Rattle.rescale_core.specs.Moving.{HandsOver, HasTurn, IsDriverOf, IsOpened};
 ghost use Rattle.rescale_core.specs.Moving.{Reaches, TakesBack, TurnsTo};
-ghost use Rattle.rescale_core.specs.Moving.Kind.{Reads};
+ghost use Rattle.rescale_core.specs.Moving.StepKind.{Reads};
 ghost use Rattle.rescale_core.specs.Routing.{HasEnded, IsRouterOf};
 ghost use Rattle.rescale_core.specs.Workers.{IsFor, MayFollow};
 ghost use Rattle.rescale_core.specs.Worlds.{World, Allowed, IsGathered, after, first_world, spot_in};
-ghost use Rattle.rescale_core.specs.Worlds.Move.{Emit};
+ghost use Rattle.rescale_core.specs.Worlds.Step.{Emit};
 ghost use Rattle.rescale_core.specs.declared.item.Entry.TheVariants.{Change, Point};
 
 use crate::router::Router;

@@ -3,7 +3,7 @@
 ghost use Rattle.std.specs.Prelude.{◌≡◌, ◌++◌, [], ◌<◌, IfOk, map};
 ghost use Rattle.monitorable.specs.Cores.{core_form};
 ghost use Rattle.rescale_core.specs.States.{IsFull};
-ghost use Rattle.rescale_core.specs.Working.{CanTake, Gave, GoesOn, IsOpen, Settles, Steps};
+ghost use Rattle.rescale_core.specs.Working.{CanTake, Gave, GoesOn, IsOpen, Settles, TakesItem};
 
 use crate::item::{Item, Out};
 use crate::phase::Phase;
@@ -47,7 +47,7 @@ impl Worker {
         now: Strategy,
     ) -> Result<(), AllocError>
         requires { CanTake self.old (Item.Adopt piece now) }
-        ensures { IfOk result (λ _. Steps self.old (Item.Adopt piece now) self.new []) }
+        ensures { IfOk result (λ _. TakesItem self.old (Item.Adopt piece now) self.new []) }
     {
         let phase = mem::replace(&mut self.phase, Phase::Vacant);
         let (mut merging, missing) = merging_for(alloc, &self.core, phase, piece.count)?;

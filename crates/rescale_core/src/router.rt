@@ -5,7 +5,7 @@ ghost use Rattle.rescale_core.specs.Routing.{HasEnded, HasTaken, IsRouterOf, May
 ghost use Rattle.rescale_core.specs.Workers.{IsFor, MayFollow};
 ghost use Rattle.rescale_core.specs.Worlds.{World, Allowed, AreAllowed, IsGathered, after, run, spot_in};
 ghost use Rattle.rescale_core.specs.Worlds.{pieces_in, ready_in, rows_in};
-ghost use Rattle.rescale_core.specs.Worlds.Move.{Read, Collect, Emit};
+ghost use Rattle.rescale_core.specs.Worlds.Step.{Read, Collect, Emit};
 ghost use Rattle.rescale_core.specs.declared.item.Entry.TheVariants.{Change, Point};
 
 use crate::item::{Item, Out};

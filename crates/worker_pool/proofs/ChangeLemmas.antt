@@ -12,10 +12,10 @@ use Rattle.rescale_core.proofs.Keeping.{by_steps}
 use Rattle.rescale_core.proofs.WorldLemmas.{spot_more}
 use Rattle.rescale_core.specs.Lines.{Spot, first_spot}
 use Rattle.rescale_core.specs.Moving.{IsDriverOf, core_of}
-use Rattle.rescale_core.specs.Moving.Kind.{Reads}
+use Rattle.rescale_core.specs.Moving.StepKind.{Reads}
 use Rattle.rescale_core.specs.Workers.{IsFor}
 use Rattle.rescale_core.specs.Worlds.{World, after, spot_in}
-use Rattle.rescale_core.specs.Worlds.Move.{Read}
+use Rattle.rescale_core.specs.Worlds.Step.{Read}
 use Rattle.rescale_core.specs.declared.driver.Driver.{Driver}
 use Rattle.rescale_core.specs.declared.item.Entry.TheVariants.{Change as ToStrategy}
 use Rattle.mon_outside.specs.Sink.{Appends}

@@ -17,11 +17,11 @@ use Rattle.rescale_core.proofs.WorldLemmas.{spot_more}
 use Rattle.rescale_core.specs.Laws.{EmitsVerdicts}
 use Rattle.rescale_core.specs.Lines.{Spot, first_spot, spot_after}
 use Rattle.rescale_core.specs.Moving.{IsDriverOf, TurnsTo}
-use Rattle.rescale_core.specs.Moving.Kind.{Emits, Reads}
+use Rattle.rescale_core.specs.Moving.StepKind.{Emits, Reads}
 use Rattle.rescale_core.specs.Routing.{HasEnded}
 use Rattle.rescale_core.specs.Workers.{MayFollow, settled_in}
 use Rattle.rescale_core.specs.Worlds.{World, Allowed, after, first_world, spot_in, verdict_on}
-use Rattle.rescale_core.specs.Worlds.Move.{Emit, Read}
+use Rattle.rescale_core.specs.Worlds.Step.{Emit, Read}
 use Rattle.rescale_core.specs.declared.driver.Driver.{Driver}
 use Rattle.rescale_core.specs.declared.driver.Turn.{Turn}
 use Rattle.rescale_core.specs.declared.item.Entry.TheVariants.{Point}

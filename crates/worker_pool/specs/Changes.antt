@@ -5,7 +5,7 @@ use Rattle.mfotl_model.specs.Strategies.{Strategy, workers_of}
 use Rattle.monitorable.specs.CoreForms.{CoreForm}
 use Rattle.slice_strategy.specs.declared.change.Change.{Change}
 use Rattle.rescale_core.specs.Moving.{IsDriverOf, Reaches, core_of}
-use Rattle.rescale_core.specs.Moving.Kind.{Reads}
+use Rattle.rescale_core.specs.Moving.StepKind.{Reads}
 use Rattle.rescale_core.specs.Workers.{IsFor}
 use Rattle.rescale_core.specs.Worlds.{World}
 use Rattle.rescale_core.specs.declared.driver.Driver.{Driver}

@@ -9,7 +9,7 @@ use Rattle.mfotl_model.specs.declared.event.TimePoint.{TimePoint}
 use Rattle.monitorable.specs.CoreForms.{CoreForm}
 use Rattle.rescale_core.specs.Laws.{EmitsVerdicts}
 use Rattle.rescale_core.specs.Moving.{IsDriverOf, Reaches}
-use Rattle.rescale_core.specs.Moving.Kind.{Reads}
+use Rattle.rescale_core.specs.Moving.StepKind.{Reads}
 use Rattle.rescale_core.specs.Waiting.{HasRoom}
 use Rattle.rescale_core.specs.Workers.{MayFollow, settled_in}
 use Rattle.rescale_core.specs.Worlds.{World, first_world, spot_in, verdict_on}

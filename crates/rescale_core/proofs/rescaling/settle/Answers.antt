@@ -1,5 +1,5 @@
 use Rattle.std.proofs.Common.{refl}
-use Rattle.rescale_core.proofs.MergeSteps.{finishes, is_whole}
+use Rattle.rescale_core.proofs.MergeLemmas.{finishes, is_whole}
 use Rattle.rescale_core.proofs.rescaling.settle.Goals as goal
 
 pub finish-requires : goal.finish-requires

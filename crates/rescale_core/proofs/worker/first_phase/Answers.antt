@@ -1,7 +1,7 @@
 use Rattle.std.proofs.Common.{arith, ◌<◌}
 use Rattle.mfotl_model.specs.Strategies.{workers_of}
 use Rattle.monitorable.specs.Cores.{core_form}
-use Rattle.rescale_core.proofs.WorkerSteps.{first_active}
+use Rattle.rescale_core.proofs.SliceLemmas.{first_active}
 use Rattle.rescale_core.proofs.worker.first_phase.Goals as goal
 
 pub returns : goal.returns

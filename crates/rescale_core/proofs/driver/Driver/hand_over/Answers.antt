@@ -1,6 +1,6 @@
 use Rattle.std.proofs.Common.{◌≡◌, ℕ, List, ap, arith, length, refl, replicate, subst, sym, ◌∙◌}
 use Rattle.rescale_core.specs.Moving.{Reaches}
-use Rattle.rescale_core.specs.Moving.Kind.{Feeds}
+use Rattle.rescale_core.specs.Moving.StepKind.{Feeds}
 use Rattle.rescale_core.specs.Worlds.{ready_in}
 use Rattle.rescale_core.specs.declared.item.Item.{Item}
 use Rattle.rescale_core.proofs.QueueLemmas.{all_taken}

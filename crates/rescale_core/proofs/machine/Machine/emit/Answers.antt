@@ -1,7 +1,7 @@
 use Rattle.std.proofs.Common.{IfSome, refl, subst}
 use Rattle.rescale_core.specs.Routing.{IsRouterOf}
 use Rattle.rescale_core.specs.Worlds.{Allowed, World, after}
-use Rattle.rescale_core.specs.Worlds.Move.{Emit}
+use Rattle.rescale_core.specs.Worlds.Step.{Emit}
 use Rattle.rescale_core.proofs.MachineLemmas.{machine_emitted}
 use Rattle.rescale_core.proofs.machine.Machine.emit.Goals as goal
 

@@ -1,7 +1,7 @@
 use Rattle.std.proofs.Common.{◌≡◌, ◌<◌, ℕ, List, [], ◌∷◌, refl, subst, length, arith}
 use Rattle.rescale_core.specs.Routing.{IsRouterOf, feeds}
 use Rattle.rescale_core.specs.Worlds.{AreAllowed, after, run}
-use Rattle.rescale_core.specs.Worlds.Move.{Feed}
+use Rattle.rescale_core.specs.Worlds.Step.{Feed}
 use Rattle.rescale_core.specs.declared.item.Item.{Item}
 use Rattle.rescale_core.proofs.CellLemmas.{fed_cell, nth_here}
 use Rattle.rescale_core.proofs.MachineLemmas.{machine_fed, no_feed, one_item}

@@ -2,8 +2,8 @@ use Rattle.std.proofs.Common.{refl, subst}
 use Rattle.monitorable.specs.Cores.{core_form}
 use Rattle.rescale_core.specs.Working.{GoesOn}
 use Rattle.rescale_core.specs.declared.phase.Phase.{Phase}
-use Rattle.rescale_core.proofs.MergeSteps.{adopt_due, adopt_fits, merges_more}
-use Rattle.rescale_core.proofs.PieceSteps.{adopt_allowed, adopt_steps, full_allowed}
+use Rattle.rescale_core.proofs.MergeLemmas.{adopt_due, adopt_fits, merges_more}
+use Rattle.rescale_core.proofs.PieceLemmas.{adopt_allowed, takes_piece, full_allowed}
 use Rattle.rescale_core.proofs.worker.Worker.adopt.Goals as goal
 
 pub adopt-requires-clause-fits : goal.adopt-requires-clause-fits
@@ -34,7 +34,7 @@ settle-requires-clause-full c =
 pub returns : goal.returns
 returns c =
     let e = c.in_ok-adopt.ensures in
-    adopt_steps c.args.self.now c.args.piece c.args.now c.in_ok-merging.merging c.in_ok-merging.missing
+    takes_piece c.args.self.now c.args.piece c.args.now c.in_ok-merging.merging c.in_ok-merging.missing
     (subst (λ (y : Phase). GoesOn y (core_form c.args.self.now.core) c.args.piece.count c.in_ok-merging.merging
     c.in_ok-merging.missing) c.replace-phase.ensures.value c.in_ok-merging.ensures)
     c.adopt.new.self

@@ -1,6 +1,6 @@
 use Rattle.std.proofs.Common.{refl}
-use Rattle.rescale_core.proofs.MergeSteps.{splits}
-use Rattle.rescale_core.proofs.PieceSteps.{part_below, part_steps}
+use Rattle.rescale_core.proofs.MergeLemmas.{splits}
+use Rattle.rescale_core.proofs.PieceLemmas.{part_below, takes_part}
 use Rattle.rescale_core.proofs.worker.Worker.part.Goals as goal
 
 pub split_state-requires : goal.split_state-requires
@@ -13,7 +13,7 @@ returns c =
     let e = c.in_ok-pieces.ensures in (
       _,
       c.in_ok-give_pieces.ensures,
-      part_steps c.args.self.now c.in-Active.monitor c.in-Active.strategy c.args.generation c.args.old c.args.new
+      takes_part c.args.self.now c.in-Active.monitor c.in-Active.strategy c.args.generation c.args.old c.args.new
           c.in-Active.is _ c.in_ok-pieces.pieces.items refl refl refl
           (splits c.in-Active.monitor c.in-Active.strategy c.args.self.now.number c.args.new c.args.generation
           c.in_ok-pieces.pieces.items e.pieces e.numbers e.stands),

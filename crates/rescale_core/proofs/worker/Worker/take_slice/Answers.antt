@@ -2,7 +2,7 @@ use Rattle.std.proofs.Common.{sym, refl, ap, ◌∙◌, subst, length}
 use Rattle.std.specs.List.{AllByRecursion}
 use Rattle.monitor_state.specs.MonitorView.{monitor_of}
 use Rattle.rescale_core.specs.Settlings.{HasWidth, IsKept, all_settled}
-use Rattle.rescale_core.proofs.WorkerSteps.{slice_kept, slice_steps}
+use Rattle.rescale_core.proofs.SliceLemmas.{slice_kept, takes_slice}
 use Rattle.rescale_core.proofs.worker.Worker.take_slice.Goals as goal
 
 pub numbered-requires : goal.numbered-requires
@@ -27,7 +27,7 @@ returns c =
     let outs = c.in_ok-give_rows.ensures in (
       _,
       outs.given,
-      slice_steps c.args.self.now _ c.in-Active.monitor c.step.new.self c.in-Active.strategy c.args.generation
+      takes_slice c.args.self.now _ c.in-Active.monitor c.step.new.self c.in-Active.strategy c.args.generation
           c.args.number c.args.point c.in_ok-tables.tables c.in_ok-settled.settled.items c.in-Active.is refl refl refl
           e.core e.first e.steps
           (c.in_ok-settled.ensures

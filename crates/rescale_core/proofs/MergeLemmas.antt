@@ -26,7 +26,7 @@ use Rattle.state_split.specs.Splits.{AreNumbered, StandEach}
 use Rattle.verdict_merge.proofs.CountLemmas.{at_most}
 use Rattle.verdict_merge.specs.Laws.{Apart}
 use Rattle.rescale_core.proofs.OwnedLemmas.{among_range}
-use Rattle.rescale_core.proofs.WorkerSteps.{region_passes}
+use Rattle.rescale_core.proofs.SliceLemmas.{region_passes}
 use Rattle.rescale_core.specs.States.{Adopted, CanAdopt, Finishes, IsFull, MergesMore, Splits}
 use Rattle.rescale_core.specs.Workers.{IsFor}
 

@@ -7,7 +7,7 @@ use Rattle.mfotl_model.specs.Strategies.{Strategy, workers_of}
 use Rattle.monitorable.specs.CoreForms.{CoreForm}
 use Rattle.monitorable.specs.Cores.{core_form}
 use Rattle.monitor_state.specs.declared.monitor.Monitor.{Monitor}
-use Rattle.rescale_core.proofs.WorkerSteps.{active_at}
+use Rattle.rescale_core.proofs.SliceLemmas.{active_at}
 use Rattle.rescale_core.specs.Lines.{Due, ChangeOfStrategy}
 use Rattle.rescale_core.specs.Lines.Due.{Slicing, Parting, Hole}
 use Rattle.monitor_state.specs.Pieces.{AreCuts, PieceStands}
@@ -15,7 +15,7 @@ use Rattle.rescale_core.specs.States.{Adopted, CanAdopt, IsFull, Merges, MergesM
 use Rattle.rescale_core.specs.Phases.{Follows, Gives, IsPieceFor, Meets, NotIn, Parts, PhaseOf, froms_of, phase_after}
 use Rattle.rescale_core.specs.Phases.PhaseOf.{Active, Vacant, Waiting}
 use Rattle.rescale_core.specs.Workers.{IsFor}
-use Rattle.rescale_core.specs.Working.{CanTake, GoesOn, IsAt, IsOpen, Settles, Steps}
+use Rattle.rescale_core.specs.Working.{CanTake, GoesOn, IsAt, IsOpen, Settles, TakesItem}
 use Rattle.rescale_core.specs.declared.item.Item.TheVariants.{Adopt, Part}
 use Rattle.rescale_core.specs.declared.item.Out.TheVariants.{Piece as OfPiece}
 use Rattle.state_merge.specs.MergingView.{MergingOf}
@@ -74,8 +74,8 @@ module _ (w : Worker) (m : Monitor) (s : Strategy) (g : ℕ) (old new : Strategy
       ((length-map pieces (λ p. OfPiece p) ∙ splits.0 ∙ ap workers_of to, cut_pieces c k t 0 pieces f.3 e), vacant)
   parts_due ph (Hole t j) at f meets = let e = meets.1 in cc
 
-  pub part_steps : Steps w (Part g old new) x (map (λ p. OfPiece p) pieces)
-  part_steps = record { core = core; number = number; step = parts_due }
+  pub takes_part : TakesItem w (Part g old new) x (map (λ p. OfPiece p) pieces)
+  takes_part = record { core = core; number = number; in_phase = parts_due }
 
 -- it is one of its strategy's workers
 pub part_below : (w : Worker) (m : Monitor) (s : Strategy) (g : ℕ) (old new : Strategy) → w.phase ≡ held.Active m s
@@ -332,5 +332,5 @@ module _ (w : Worker) (piece : Piece) (now : Strategy) (merging : Merging) (miss
       adopted_due ph (Hole t j) at f meets =
           (refl, at_phase t j (froms_of ph) (due_piece ph t j at f meets) f.0 (ℕ_discrete (j + 1) (workers_of t.old)))
 
-      pub adopt_steps : Steps w (Adopt piece now) x []
-      adopt_steps = record { core = core; number = number; step = adopted_due }
+      pub takes_piece : TakesItem w (Adopt piece now) x []
+      takes_piece = record { core = core; number = number; in_phase = adopted_due }

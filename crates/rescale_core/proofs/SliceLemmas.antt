@@ -35,7 +35,7 @@ use Rattle.rescale_core.specs.Settlings.{HasWidth, IsKept, IsTabled, all_settled
 use Rattle.rescale_core.specs.Phases.{PhaseOf, Follows, Gives, Meets, rows_for, phase_after}
 use Rattle.rescale_core.specs.Phases.PhaseOf.{Active, Vacant}
 use Rattle.rescale_core.specs.Workers.{IsFor, MayFollow, settled_in, slice_for}
-use Rattle.rescale_core.specs.Working.{CanTake, IsAt, Steps, first_phase}
+use Rattle.rescale_core.specs.Working.{CanTake, IsAt, TakesItem, first_phase}
 use Rattle.rescale_core.specs.declared.phase.Phase.{Phase}
 use Rattle.rescale_core.specs.declared.phase.Phase.TheVariants as held
 use Rattle.rescale_core.specs.declared.worker.Worker.{Worker}
@@ -233,18 +233,18 @@ module _ (c : CoreForm) (k : ℕ) (m : Monitor) (s : Strategy) (g n : ℕ) (p : 
         )
 
 -- the worker's step with a slice
-pub slice_steps : (w x : Worker) (m m2 : Monitor) (s : Strategy) (g n : ℕ) (p : TimePoint) (tables : List TableOf)
+pub takes_slice : (w x : Worker) (m m2 : Monitor) (s : Strategy) (g n : ℕ) (p : TimePoint) (tables : List TableOf)
     (settled : List Settled) → w.phase ≡ held.Active m s → core_form x.core ≡ core_form w.core → x.number ≡ w.number
     → x.phase ≡ held.Active m2 s → (monitor_of m2).core ≡ (monitor_of m).core
     → (monitor_of m2).state.first ≡ (monitor_of m).state.given
     → StepsOn (monitor_of m).core (monitor_of m).state p (monitor_of m2).state tables
     → settled ≡ all_settled (monitor_of m2).state (monitor_of m).state.given tables
-    → AllByRecursion IsTabled settled → Steps w (Slice g n p) x (map (row_out s w.number g) settled)
-slice_steps w x m m2 s g n p tables settled active core number active2 mcore first steps is tabled =
+    → AllByRecursion IsTabled settled → TakesItem w (Slice g n p) x (map (row_out s w.number g) settled)
+takes_slice w x m m2 s g n p tables settled active core number active2 mcore first steps is tabled =
     record {
       core = core;
       number = number;
-      step = λ ph d at f meets.
+      in_phase = λ ph d at f meets.
           let due = due_slice (core_form w.core) w.number m s g n p w.phase active ph d at f meets in
           gives (core_form w.core) w.number m s g n p ph d due m2 tables mcore first steps x.phase active2
           (map (row_out s w.number g) settled) (ap (map (row_out s w.number g)) is)
