@@ -17,7 +17,7 @@ use Rattle.rescale_core.specs.Handing.{standing}
 use Rattle.rescale_core.specs.Slots.{standing_of, weight_of}
 use Rattle.rescale_core.specs.Routing.{IsRouterOf}
 use Rattle.rescale_core.specs.Soundly.{IsSound}
-use Rattle.rescale_core.specs.Waiting.{HasRoom, added, full, is_short, waiting_in, weight}
+use Rattle.rescale_core.specs.Waiting.{HasRoom, added, is_short, most_waiting, waiting_in, weight}
 use Rattle.rescale_core.specs.Worlds.{World, Allowed, Step, Seat, after, all_collected, fed_more, line_in}
 use Rattle.rescale_core.specs.Worlds.{spot_in, took_one}
 use Rattle.rescale_core.specs.Worlds.Step.{Read, Feed, Take, Collect, Emit}
@@ -72,16 +72,16 @@ queue_waits r w is k =
     ∙ sym (dues_stand (drop (length (w.seats k).fed) (line_in w k)))
 
 pub all_wait : (xs : List (List Slot)) → list_all is_short xs ≡ true → (k : ℕ)
-    → sum_by weight_of (queue_at xs k) < full
+    → sum_by weight_of (queue_at xs k) < most_waiting
 all_wait [] h k = omega arith
-all_wait (x ∷ xs) h zero = ltb-true (sum_by weight_of x) full (and_left (is_short x) (list_all is_short xs) h)
+all_wait (x ∷ xs) h zero = ltb-true (sum_by weight_of x) most_waiting (and_left (is_short x) (list_all is_short xs) h)
 all_wait (x ∷ xs) h (suc k) = all_wait xs (and_right (is_short x) (list_all is_short xs) h) k
 
-pub wait_all : (xs : List (List Slot)) → ((k : ℕ) → sum_by weight_of (queue_at xs k) < full)
+pub wait_all : (xs : List (List Slot)) → ((k : ℕ) → sum_by weight_of (queue_at xs k) < most_waiting)
     → list_all is_short xs ≡ true
 wait_all [] h = refl
 wait_all (x ∷ xs) h =
-    ap (λ b. b && list_all is_short xs) (lt-ltb (sum_by weight_of x) full (h 0)) ∙ wait_all xs (λ k. h (suc k))
+    ap (λ b. b && list_all is_short xs) (lt-ltb (sum_by weight_of x) most_waiting (h 0)) ∙ wait_all xs (λ k. h (suc k))
 
 pub router_room : (r : Router) (w : World) → IsRouterOf r w → list_all is_short r.queues.items ≡ true → HasRoom w
 router_room r w is h k =

@@ -20,17 +20,17 @@ weight (Hole t j) = cond (nat_eq (j + 1) (workers_of t.old)) 1 0
 abbrev pub waiting_in : World → ℕ → ℕ
 waiting_in w k = sum_by weight (drop (length (w.seats k).fed) (line_in w k))
 
--- from so many on no more is read
-abbrev pub full : ℕ
-full = 1024
+-- from so many on that wait for one worker no more is read
+abbrev pub most_waiting : ℕ
+most_waiting = 1024
 
 -- no worker has so many waiting
 abbrev pub HasRoom : World → Type 0
-HasRoom w = (k : ℕ) → waiting_in w k < full
+HasRoom w = (k : ℕ) → waiting_in w k < most_waiting
 
 -- whether fewer stand in a queue
 abbrev pub is_short : List Slot → Bool
-is_short slots = nat_lt (sum_by weight_of slots) full
+is_short slots = nat_lt (sum_by weight_of slots) most_waiting
 
 -- how many more a step may make wait for one worker
 abbrev pub added : Step → ℕ

@@ -8,6 +8,7 @@ mod driver;
 pub mod examples;
 mod item;
 pub mod laws;
+mod limits;
 mod machine;
 mod machine_start;
 mod outstanding;

@@ -7,6 +7,7 @@ ghost use Rattle.rescale_core.specs.Waiting.{is_short};
 ghost use Rattle.rescale_core.specs.declared.slot.Slot.TheVariants.{Ready};
 
 use crate::item::Item;
+use crate::limits::MOST_WAITING;
 use crate::slot::Slot;
 use monitor_state::Piece;
 use slice_strategy::{Slicer, Strategy};
@@ -134,7 +135,7 @@ impl Queue {
     pub(crate) fn is_short(&self) -> bool
         ensures { result ≡ is_short self.now }
     {
-        self.waiting < FULL
+        self.waiting < MOST_WAITING
     }
 
     /// Whether nothing is there.
@@ -167,9 +168,6 @@ fn ready_len(slots: &VecDeque<Slot>) -> usize
     }
     slots.len()
 }
-
-/// From so many on no more is read.
-const FULL: u64 = 1024;
 
 /// Whether there is room for more in each queue.
 pub(crate) fn all_short(queues: &[Queue]) -> bool
