@@ -103,35 +103,45 @@ impl Driver {
         main
     }
 
-    /// Collects what the items that worker `k` had gave, and hands over all that are ready then. Where it is the
+    /// Collects what the items that the worker had gave, and hands over all that are ready then. Where it is the
     /// worker's turn, or the worker is broken, nothing happens.
-    pub fn turn(&mut self, alloc: Global, hub: &Hub<Worker>, k: u32) -> Result<Turn, AllocError>
+    pub fn turn(
+        &mut self,
+        alloc: Global,
+        hub: &Hub<Worker>,
+        worker: u32,
+    ) -> Result<Turn, AllocError>
         requires stands { (w : World) × IsDriverOf self.old w }
-        requires main { IsMainOf hub.now self.old.main × (k < cell_count hub.now) }
-        ensures did { IfOk result (λ turn. TurnsTo self.old k turn self.new) }
+        requires main { IsMainOf hub.now self.old.main × (worker < cell_count hub.now) }
+        ensures did { IfOk result (λ turn. TurnsTo self.old worker turn self.new) }
         ensures main { IfOk result (λ _. IsMainOf hub.now self.new.main) }
     {
-        let back = self.take_back(alloc, hub, k)?;
+        let back = self.take_back(alloc, hub, worker)?;
         let Turn::Moved(given, _) = back else {
             return Ok(back);
         };
-        let handed = self.hand_over(alloc, hub, k)?;
+        let handed = self.hand_over(alloc, hub, worker)?;
         Ok(Turn::Moved(given, handed))
     }
 
     // Collects what the items that the worker had gave.
-    fn take_back(&mut self, alloc: Global, hub: &Hub<Worker>, k: u32) -> Result<Turn, AllocError>
+    fn take_back(
+        &mut self,
+        alloc: Global,
+        hub: &Hub<Worker>,
+        worker: u32,
+    ) -> Result<Turn, AllocError>
         requires stands { (w : World) × IsDriverOf self.old w }
-        requires main { IsMainOf hub.now self.old.main × (k < cell_count hub.now) }
-        ensures did { IfOk result (λ turn. TakesBack self.old k turn self.new) }
+        requires main { IsMainOf hub.now self.old.main × (worker < cell_count hub.now) }
+        ensures did { IfOk result (λ turn. TakesBack self.old worker turn self.new) }
         ensures main { IfOk result (λ _. IsMainOf hub.now self.new.main) }
     {
-        match hub.swap(&mut self.main, k, Vec::new(alloc)) {
+        match hub.swap(&mut self.main, worker, Vec::new(alloc)) {
             Swap::NotYet(_) => Ok(Turn::NotYet),
             Swap::Broken(_) => Ok(Turn::Broken),
             Swap::Back(given, outs) => {
                 if given != 0 {
-                    self.router.collect(k, given, outs)?;
+                    self.router.collect(worker, given, outs)?;
                 }
                 Ok(Turn::Moved(given, 0))
             }
@@ -139,16 +149,21 @@ impl Driver {
     }
 
     // Hands over all that are ready, and says how many these are.
-    fn hand_over(&mut self, alloc: Global, hub: &Hub<Worker>, k: u32) -> Result<u64, AllocError>
+    fn hand_over(
+        &mut self,
+        alloc: Global,
+        hub: &Hub<Worker>,
+        worker: u32,
+    ) -> Result<u64, AllocError>
         requires stands { (w : World) × IsDriverOf self.old w }
-        requires main { IsMainOf hub.now self.old.main × (k < cell_count hub.now) }
-        requires mine { HasTurn (main_view self.old.main).lines k }
-        ensures did { IfOk result (λ m. (w : World) → IsDriverOf self.old w → HandsOver w k m self.new) }
+        requires main { IsMainOf hub.now self.old.main × (worker < cell_count hub.now) }
+        requires mine { HasTurn (main_view self.old.main).lines worker }
+        ensures did { IfOk result (λ m. (w : World) → IsDriverOf self.old w → HandsOver w worker m self.new) }
         ensures main { IfOk result (λ _. IsMainOf hub.now self.new.main) }
     {
-        let items = self.router.take_ready(alloc, k, u64::MAX)?;
+        let items = self.router.take_ready(alloc, worker, u64::MAX)?;
         let handed = items.len() as u64;
-        match hub.swap(&mut self.main, k, items) {
+        match hub.swap(&mut self.main, worker, items) {
             Swap::Back(_, _) => Ok(handed),
             _ => unreachable!(),
         }

@@ -23,12 +23,12 @@ pub struct Machine {
 }
 
 impl Machine {
-    /// How many items may be handed to worker `k` now.
-    pub fn ready(&self, k: u32) -> u64
+    /// How many items may be handed to the worker now.
+    pub fn ready(&self, worker: u32) -> u64
         ensures { (entries : List OneEntry) (w : World) → IsMachineOf self.now entries w
-            → result ≡ length (ready_in w k) }
+            → result ≡ length (ready_in w worker) }
     {
-        self.router.ready(k)
+        self.router.ready(worker)
     }
 
     /// The verdicts that were emitted.
@@ -45,9 +45,9 @@ impl Machine {
     {
         match step {
             Step::Read => self.read(alloc),
-            Step::Feed(k) => self.feed(alloc, k),
-            Step::Take(k) => self.take(alloc, k),
-            Step::Collect(k) => self.collect(alloc, k),
+            Step::Feed(worker) => self.feed(alloc, worker),
+            Step::Take(worker) => self.take(alloc, worker),
+            Step::Collect(worker) => self.collect(alloc, worker),
             Step::Emit => self.emit(alloc),
         }
     }
@@ -69,47 +69,47 @@ impl Machine {
         }
     }
 
-    fn feed(&mut self, alloc: Global, k: u32) -> Result<Applied, AllocError>
-        ensures { IfOk result (λ applied. Applies self.old (Step.Feed k) applied self.new) }
+    fn feed(&mut self, alloc: Global, worker: u32) -> Result<Applied, AllocError>
+        ensures { IfOk result (λ applied. Applies self.old (Step.Feed worker) applied self.new) }
     {
-        if k as usize >= self.cells.len() {
+        if worker as usize >= self.cells.len() {
             return Ok(Applied::NotEnabled);
         }
-        let mut items = self.router.take_ready(alloc, k, 1)?;
+        let mut items = self.router.take_ready(alloc, worker, 1)?;
         let Some(item) = items.pop() else {
             return Ok(Applied::NotEnabled);
         };
-        let cell = &mut self.cells[k as usize];
+        let cell = &mut self.cells[worker as usize];
         cell.items.push_back(item)?;
         Ok(Applied::Did)
     }
 
-    fn take(&mut self, alloc: Global, k: u32) -> Result<Applied, AllocError>
+    fn take(&mut self, alloc: Global, worker: u32) -> Result<Applied, AllocError>
         requires { (entries : List OneEntry) × (w : World) × IsMachineOf self.old entries w }
-        ensures { IfOk result (λ applied. Applies self.old (Step.Take k) applied self.new) }
+        ensures { IfOk result (λ applied. Applies self.old (Step.Take worker) applied self.new) }
     {
-        if k as usize >= self.cells.len() {
+        if worker as usize >= self.cells.len() {
             return Ok(Applied::NotEnabled);
         }
-        let cell = &mut self.cells[k as usize];
+        let cell = &mut self.cells[worker as usize];
         let applied = cell.take(alloc)?;
         Ok(applied)
     }
 
-    fn collect(&mut self, alloc: Global, k: u32) -> Result<Applied, AllocError>
+    fn collect(&mut self, alloc: Global, worker: u32) -> Result<Applied, AllocError>
         requires { (entries : List OneEntry) × (w : World) × IsMachineOf self.old entries w }
-        ensures { IfOk result (λ applied. Applies self.old (Step.Collect k) applied self.new) }
+        ensures { IfOk result (λ applied. Applies self.old (Step.Collect worker) applied self.new) }
     {
-        if k as usize >= self.cells.len() {
+        if worker as usize >= self.cells.len() {
             return Ok(Applied::NotEnabled);
         }
-        let cell = &mut self.cells[k as usize];
+        let cell = &mut self.cells[worker as usize];
         let taken = mem::replace(&mut cell.taken, 0);
         if taken == 0 {
             return Ok(Applied::NotEnabled);
         }
         let outs = mem::replace(&mut cell.outs, Vec::new(alloc));
-        self.router.collect(k, taken, outs)?;
+        self.router.collect(worker, taken, outs)?;
         Ok(Applied::Did)
     }
 

@@ -16,29 +16,29 @@ pub(crate) fn grow_counts(counts: &mut Vec<u64>, len: usize) -> Result<(), Alloc
     Ok(())
 }
 
-/// Counts so many more for worker `k`.
-pub(crate) fn raise(counts: &mut Vec<u64>, k: u32, more: u64) -> Result<(), AllocError>
+/// Counts so many more for the worker.
+pub(crate) fn raise(counts: &mut Vec<u64>, worker: u32, more: u64) -> Result<(), AllocError>
     ensures len { IfOk result (λ _. length counts.new.items ≡ length counts.old.items) }
     ensures more { IfOk result (λ _. (q : ℕ) → get_or counts.new.items q 0
-        ≡ get_or counts.old.items q 0 + cond (nat_eq q k) more 0) }
+        ≡ get_or counts.old.items q 0 + cond (nat_eq q worker) more 0) }
 {
-    if k as usize >= counts.len() {
+    if worker as usize >= counts.len() {
         return Err(AllocError);
     }
-    let count = counts[k as usize];
-    counts[k as usize] = count.checked_add(more).ok_or(AllocError)?;
+    let count = counts[worker as usize];
+    counts[worker as usize] = count.checked_add(more).ok_or(AllocError)?;
     Ok(())
 }
 
-/// Counts so many less for worker `k`.
-pub(crate) fn lower(counts: &mut Vec<u64>, k: u32, less: u64)
-    requires low { k < length counts.old.items }
-    requires less { less ≤ get_or counts.old.items k 0 }
+/// Counts so many less for the worker.
+pub(crate) fn lower(counts: &mut Vec<u64>, worker: u32, less: u64)
+    requires low { worker < length counts.old.items }
+    requires less { less ≤ get_or counts.old.items worker 0 }
     ensures len { length counts.new.items ≡ length counts.old.items }
-    ensures less { (q : ℕ) → get_or counts.new.items q 0 + cond (nat_eq q k) less 0 ≡ get_or counts.old.items q 0 }
+    ensures less { (q : ℕ) → get_or counts.new.items q 0 + cond (nat_eq q worker) less 0 ≡ get_or counts.old.items q 0 }
 {
-    let count = counts[k as usize];
-    counts[k as usize] = count - less;
+    let count = counts[worker as usize];
+    counts[worker as usize] = count - less;
 }
 
 /// Whether no worker has anything that was not collected.

@@ -72,43 +72,48 @@ impl Router {
         Ok(())
     }
 
-    /// How many items may be handed to worker `k` now: those before the first place whose pieces were not all handed
+    /// How many items may be handed to the worker now: those before the first place whose pieces were not all handed
     /// over, and at that place the pieces that were collected.
-    pub fn ready(&self, k: u32) -> u64
-        ensures { (w : World) → IsRouterOf self.now w → result ≡ length (ready_in w k) }
+    pub fn ready(&self, worker: u32) -> u64
+        ensures { (w : World) → IsRouterOf self.now w → result ≡ length (ready_in w worker) }
     {
-        if k as usize >= self.queues.len() {
+        if worker as usize >= self.queues.len() {
             return 0;
         }
-        self.queues[k as usize].ready()
+        self.queues[worker as usize].ready()
     }
 
-    /// Hands the first items to worker `k`: as many as wanted, or all that are ready.
-    pub fn take_ready(&mut self, alloc: Global, k: u32, most: u64) -> Result<Vec<Item>, AllocError>
+    /// Hands the first items to the worker: as many as wanted, or all that are ready.
+    pub fn take_ready(
+        &mut self,
+        alloc: Global,
+        worker: u32,
+        most: u64,
+    ) -> Result<Vec<Item>, AllocError>
         ensures moves { IfOk result (λ items. (w : World) → IsRouterOf self.old w
-            → AreAllowed w (feeds k items.items) × IsRouterOf self.new (run w (feeds k items.items))) }
+            → AreAllowed w (feeds worker items.items) × IsRouterOf self.new (run w (feeds worker items.items))) }
         ensures few { IfOk result (λ items. length items.items ≤ most) }
         ensures first { IfOk result (λ items. (w : World) → IsRouterOf self.old w
-            → items.items ≡ take most (ready_in w k)) }
+            → items.items ≡ take most (ready_in w worker)) }
     {
-        if k as usize >= self.queues.len() {
+        if worker as usize >= self.queues.len() {
             return Ok(Vec::new(alloc));
         }
-        let queue = &mut self.queues[k as usize];
+        let queue = &mut self.queues[worker as usize];
         let items = take_front(alloc, queue, most)?;
-        raise(&mut self.outstanding, k, items.len() as u64)?;
+        raise(&mut self.outstanding, worker, items.len() as u64)?;
         Ok(items)
     }
 
-    /// Takes what worker `k` gave for the next items that it was handed.
-    pub fn collect(&mut self, k: u32, taken: u64, outs: Vec<Out>) -> Result<(), AllocError>
-        requires taken { (w : World) × IsRouterOf self.old w × HasTaken w k taken outs.items }
+    /// Takes what the worker gave for the next items that it was handed.
+    pub fn collect(&mut self, worker: u32, taken: u64, outs: Vec<Out>) -> Result<(), AllocError>
+        requires taken { (w : World) × IsRouterOf self.old w × HasTaken w worker taken outs.items }
         requires some { 0 < taken }
-        ensures { IfOk result (λ _. (w : World) → IsRouterOf self.old w → HasTaken w k taken outs.items
-            → IsRouterOf self.new (after w (Collect k))) }
+        ensures { IfOk result (λ _. (w : World) → IsRouterOf self.old w → HasTaken w worker taken outs.items
+            → IsRouterOf self.new (after w (Collect worker))) }
     {
         collect_all(&mut self.queues, &mut self.gather, outs)?;
-        lower(&mut self.outstanding, k, taken);
+        lower(&mut self.outstanding, worker, taken);
         Ok(())
     }
 

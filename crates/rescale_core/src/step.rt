@@ -1,7 +1,7 @@
 //! What a machine does at a time.
 
-/// A step of a machine: it reads an entry, hands worker `k` an item, lets it take one, collects what it gave, or emits
-/// a verdict.
+/// A step of a machine: it reads an entry, hands the worker of a number an item, lets it take one, collects what it
+/// gave, or emits a verdict.
 pub enum Step {
     Read,
     Feed(u32),

@@ -11,14 +11,14 @@ use crate::queue::all_short;
 use crate::router::Router;
 
 impl Router {
-    /// How much waits for worker `k`.
-    pub fn waiting(&self, k: u32) -> u64
-        ensures { (w : World) → IsRouterOf self.now w → result ≡ waiting_in w k }
+    /// How much waits for the worker.
+    pub fn waiting(&self, worker: u32) -> u64
+        ensures { (w : World) → IsRouterOf self.now w → result ≡ waiting_in w worker }
     {
-        if k as usize >= self.queues.len() {
+        if worker as usize >= self.queues.len() {
             return 0;
         }
-        self.queues[k as usize].waiting()
+        self.queues[worker as usize].waiting()
     }
 
     /// Whether fewer than 1,024 wait for each worker.
@@ -31,11 +31,11 @@ impl Router {
 }
 
 impl Driver {
-    /// How much waits for worker `k`.
-    pub fn waiting(&self, k: u32) -> u64
-        ensures { (w : World) → IsDriverOf self.now w → result ≡ waiting_in w k }
+    /// How much waits for the worker.
+    pub fn waiting(&self, worker: u32) -> u64
+        ensures { (w : World) → IsDriverOf self.now w → result ≡ waiting_in w worker }
     {
-        self.router.waiting(k)
+        self.router.waiting(worker)
     }
 
     /// Whether fewer than 1,024 wait for each worker. Where more is read only then, no more than 1,024 wait behind a

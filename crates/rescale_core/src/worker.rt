@@ -26,23 +26,23 @@ pub struct Worker {
 }
 
 impl Worker {
-    /// The worker of number `k` that took nothing yet: it monitors if the strategy has so many workers.
+    /// The worker of this number that took nothing yet: it monitors if the strategy has so many workers.
     pub fn start(
         alloc: Global,
         core: &Core,
         strategy: &Strategy,
-        k: u32,
+        number: u32,
     ) -> Result<Self, AllocError>
         requires { IsFor (core_form core.now) strategy.now }
         ensures seed { IfOk result (λ w.
-            seed_of w ≡ record { core = core_form core.now; first = strategy.now; k = k }) }
+            seed_of w ≡ record { core = core_form core.now; first = strategy.now; k = number }) }
         ensures stands { IfOk result (λ w. StandsFor (seed_of w) [] [] w) }
     {
         let first = Snapshot::of(strategy);
-        let (core, phase) = first_parts(alloc, core, strategy, k)?;
+        let (core, phase) = first_parts(alloc, core, strategy, number)?;
         Ok(Worker {
             core,
-            number: k,
+            number,
             first,
             phase,
         })
@@ -120,28 +120,33 @@ impl Work for Worker {
     }
 }
 
-// The core of worker `k`, and what it keeps before it took anything.
+// The core of the worker of this number, and what it keeps before it took anything.
 fn first_parts(
     alloc: Global,
     core: &Core,
     strategy: &Strategy,
-    k: u32,
+    number: u32,
 ) -> Result<(Core, Phase), AllocError>
     ensures core { IfOk result (λ parts. core_form parts.0 ≡ core_form core.now) }
-    ensures phase { IfOk result (λ parts. IsAt (core_form core.now) k
-        (first_phase (record { core = core_form core.now; first = strategy.now; k = k })) parts.1) }
+    ensures phase { IfOk result (λ parts. IsAt (core_form core.now) number
+        (first_phase (record { core = core_form core.now; first = strategy.now; k = number })) parts.1) }
 {
     let own = core.copy(alloc)?;
-    let phase = first_phase(alloc, core, strategy, k)?;
+    let phase = first_phase(alloc, core, strategy, number)?;
     Ok((own, phase))
 }
 
-// What worker `k` keeps before it took anything.
-fn first_phase(alloc: Global, core: &Core, strategy: &Strategy, k: u32) -> Result<Phase, AllocError>
-    ensures { IfOk result (λ phase. IsAt (core_form core.now) k
-        (first_phase (record { core = core_form core.now; first = strategy.now; k = k })) phase) }
+// What the worker of this number keeps before it took anything.
+fn first_phase(
+    alloc: Global,
+    core: &Core,
+    strategy: &Strategy,
+    number: u32,
+) -> Result<Phase, AllocError>
+    ensures { IfOk result (λ phase. IsAt (core_form core.now) number
+        (first_phase (record { core = core_form core.now; first = strategy.now; k = number })) phase) }
 {
-    if k >= strategy.workers() {
+    if number >= strategy.workers() {
         return Ok(Phase::Vacant);
     }
     let strategy = strategy.copy(alloc)?;

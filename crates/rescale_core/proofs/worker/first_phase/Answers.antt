@@ -7,7 +7,7 @@ use Rattle.rescale_core.proofs.worker.first_phase.Goals as goal
 pub returns : goal.returns
 returns c =
     let few = c.workers.ensures.count in
-    let else_ = c.if-k-workers.false in
-    let low : c.args.k < workers_of c.args.strategy.now = omega arith in
-    first_active (core_form c.args.core.now) c.args.strategy.now c.in_ok-strategy.strategy c.args.k
+    let else_ = c.if-number-workers.false in
+    let low : c.args.number < workers_of c.args.strategy.now = omega arith in
+    first_active (core_form c.args.core.now) c.args.strategy.now c.in_ok-strategy.strategy c.args.number
     c.in_ok-monitor.monitor c.in_ok-monitor.ensures.core c.in_ok-monitor.ensures.begins c.in_ok-strategy.ensures low

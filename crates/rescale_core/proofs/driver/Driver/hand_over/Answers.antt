@@ -9,14 +9,14 @@ use Rattle.rescale_core.proofs.driver.Driver.hand_over.Goals as goal
 
 pub swap-requires-clause-may : goal.swap-requires-clause-may
 swap-requires-clause-may c =
-    may_items c.args.self.now c.take_ready.new.self c.args.k c.in_ok-items.items.items c.requires.mine
+    may_items c.args.self.now c.take_ready.new.self c.args.worker c.in_ok-items.items.items c.requires.mine
     c.in_ok-items.ensures.moves c.requires.stands.0 c.requires.stands.1
 
 pub returns-clause-did : goal.returns-clause-did
 returns-clause-did c = λ w is.
     let s = c.in-Back.ensures.did.1 in
     let d = c.args.self.now in
-    let k : ℕ = c.args.k in
+    let k : ℕ = c.args.worker in
     let items : List Item = c.in_ok-items.items.items in
     let ok = c.in_ok-items.items.ok in
     let e : length items ≡ c.len-handed.result = sym (c.len-handed.ensures ∙ ok.0) in

@@ -14,7 +14,7 @@ swap-requires-clause-may c =
     let m = c.requires.main in
     let e = m.0.4 in
     let low = m.1 in
-    may_nothing c.args.self.now c.args.k c.new.result.items c.new.ensures.items (omega arith) c.requires.stands.0
+    may_nothing c.args.self.now c.args.worker c.new.result.items c.new.ensures.items (omega arith) c.requires.stands.0
     c.requires.stands.1
 
 pub returns-in-NotYet-clause-did : goal.returns-in-NotYet-clause-did
@@ -34,13 +34,13 @@ collect-requires-clause-taken c =
     let w = c.requires.stands.0 in
     let is = c.requires.stands.1 in
     let main : (main_view c.swap.new.main).lines
-    ≡ slice_set (lines_of d) c.args.k (swapped_line s.0 c.in-Back.outs.items []) =
-    s.4 ∙ ap (λ (is : List Item). slice_set (lines_of d) c.args.k (swapped_line s.0 c.in-Back.outs.items is))
+    ≡ slice_set (lines_of d) c.args.worker (swapped_line s.0 c.in-Back.outs.items []) =
+    s.4 ∙ ap (λ (is : List Item). slice_set (lines_of d) c.args.worker (swapped_line s.0 c.in-Back.outs.items is))
     c.new.ensures.items in
     let e : Driver = record { router = d.router; main = c.swap.new.main } in (
-      (taken_back d e c.args.k c.in-Back.given c.in-Back.outs.items s.0 s.1 s.2 s.3 main w is).0,
-      router_back d e c.args.k c.in-Back.given c.in-Back.outs.items s.0 s.1 s.2 s.3 main w is,
-      has_taken d e c.args.k c.in-Back.given c.in-Back.outs.items s.0 s.1 s.2 s.3 main w is,
+      (taken_back d e c.args.worker c.in-Back.given c.in-Back.outs.items s.0 s.1 s.2 s.3 main w is).0,
+      router_back d e c.args.worker c.in-Back.given c.in-Back.outs.items s.0 s.1 s.2 s.3 main w is,
+      has_taken d e c.args.worker c.in-Back.given c.in-Back.outs.items s.0 s.1 s.2 s.3 main w is,
     )
 
 pub returns-in_ok-collect-in-Back-clause-did : goal.returns-in_ok-collect-in-Back-clause-did
@@ -48,10 +48,10 @@ returns-in_ok-collect-in-Back-clause-did c =
     let s = c.in-Back.ensures.did.1 in
     let d = c.args.self.now in
     let main : (main_view c.swap.new.main).lines
-    ≡ slice_set (lines_of d) c.args.k (swapped_line s.0 c.in-Back.outs.items []) =
-    s.4 ∙ ap (λ (is : List Item). slice_set (lines_of d) c.args.k (swapped_line s.0 c.in-Back.outs.items is))
+    ≡ slice_set (lines_of d) c.args.worker (swapped_line s.0 c.in-Back.outs.items []) =
+    s.4 ∙ ap (λ (is : List Item). slice_set (lines_of d) c.args.worker (swapped_line s.0 c.in-Back.outs.items is))
     c.new.ensures.items in
-    moves_back d _ c.args.k c.in-Back.given c.in-Back.outs.items s.0 s.1 s.2 s.3 main (λ z. (omega arith))
+    moves_back d _ c.args.worker c.in-Back.given c.in-Back.outs.items s.0 s.1 s.2 s.3 main (λ z. (omega arith))
     c.in_ok-collect-in-Back.ensures
 
 pub returns-else-given-ne0-clause-did : goal.returns-else-given-ne0-clause-did
@@ -59,7 +59,7 @@ returns-else-given-ne0-clause-did c =
     let s = c.in-Back.ensures.did.1 in
     let d = c.args.self.now in
     let main : (main_view c.swap.new.main).lines
-    ≡ slice_set (lines_of d) c.args.k (swapped_line s.0 c.in-Back.outs.items []) =
-    s.4 ∙ ap (λ (is : List Item). slice_set (lines_of d) c.args.k (swapped_line s.0 c.in-Back.outs.items is))
+    ≡ slice_set (lines_of d) c.args.worker (swapped_line s.0 c.in-Back.outs.items []) =
+    s.4 ∙ ap (λ (is : List Item). slice_set (lines_of d) c.args.worker (swapped_line s.0 c.in-Back.outs.items is))
     c.new.ensures.items in
-    moves_none_back d _ c.args.k c.in-Back.given c.in-Back.outs.items s.0 s.1 s.2 s.3 main (omega arith) refl
+    moves_none_back d _ c.args.worker c.in-Back.given c.in-Back.outs.items s.0 s.1 s.2 s.3 main (omega arith) refl

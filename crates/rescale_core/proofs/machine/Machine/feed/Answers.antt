@@ -7,14 +7,14 @@ use Rattle.rescale_core.proofs.CellLemmas.{fed_cell, nth_here}
 use Rattle.rescale_core.proofs.MachineLemmas.{machine_fed, no_feed, one_item}
 use Rattle.rescale_core.proofs.machine.Machine.feed.Goals as goal
 
-pub returns-then-k-len : goal.returns-then-k-len
-returns-then-k-len c = λ entries w is.
-    ((λ h. no_feed c.args.self.now entries w is c.args.k (omega (arith, c.len.ensures)) h.0 h.1), is)
+pub returns-then-worker-len : goal.returns-then-worker-len
+returns-then-worker-len c = λ entries w is.
+    ((λ h. no_feed c.args.self.now entries w is c.args.worker (omega (arith, c.len.ensures)) h.0 h.1), is)
 
 pub returns : goal.returns
 returns c = λ entries w is.
     let m = c.args.self.now in
-    let k : ℕ = c.args.k in
+    let k : ℕ = c.args.worker in
     let item = c.in-Some.item in
     let items : List Item = c.in_ok-items.items.items in
     let one : items ≡ item ∷ [] =

@@ -5,20 +5,20 @@ use Rattle.rescale_core.proofs.router.Router.collect.Goals as goal
 pub collect_all-requires : goal.collect_all-requires
 collect_all-requires c =
     let t = c.requires.taken in
-    outs_may_add c.args.self.now t.0 c.args.k c.args.taken c.args.outs.items t.1 t.2
+    outs_may_add c.args.self.now t.0 c.args.worker c.args.taken c.args.outs.items t.1 t.2
 
 pub returns : goal.returns
 returns c = λ w is taken.
     let all = c.in_ok-collect_all.ensures in
-    outs_collected c.args.self.now _ w is c.args.k c.args.taken c.args.outs.items taken refl refl refl refl
+    outs_collected c.args.self.now _ w is c.args.worker c.args.taken c.args.outs.items taken refl refl refl refl
     all.len all.filled c.requires.some c.lower.ensures.len c.lower.ensures.less all.gathered
 
 pub lower-requires-clause-low : goal.lower-requires-clause-low
 lower-requires-clause-low c =
     let t = c.requires.taken in
-    taken_low c.args.self.now t.0 c.args.k c.args.taken c.args.outs.items t.1 t.2 c.requires.some
+    taken_low c.args.self.now t.0 c.args.worker c.args.taken c.args.outs.items t.1 t.2 c.requires.some
 
 pub lower-requires-clause-less : goal.lower-requires-clause-less
 lower-requires-clause-less c =
     let t = c.requires.taken in
-    taken_less c.args.self.now t.0 c.args.k c.args.taken c.args.outs.items t.1 t.2
+    taken_less c.args.self.now t.0 c.args.worker c.args.taken c.args.outs.items t.1 t.2

@@ -8,30 +8,30 @@ use Rattle.rescale_core.proofs.QueueLemmas.{queue_beyond, queue_else, queue_here
 use Rattle.rescale_core.proofs.ReadyQueues.{router_ready}
 use Rattle.rescale_core.proofs.router.Router.take_ready.Goals as goal
 
-near : (c : goal.In_ok-raise) → c.args.k < length c.args.self.now.queues.items
+near : (c : goal.In_ok-raise) → c.args.worker < length c.args.self.now.queues.items
 near c = omega (arith, c.len.ensures)
 
-same : (c : goal.In_ok-raise) → queue_at c.args.self.now.queues.items c.args.k ≡ c.index_mut-queue.result.now
+same : (c : goal.In_ok-raise) → queue_at c.args.self.now.queues.items c.args.worker ≡ c.index_mut-queue.result.now
 same c =
-    queue_here c.args.self.now.queues.items c.args.k c.index_mut-queue.result.now (near c)
+    queue_here c.args.self.now.queues.items c.args.worker c.index_mut-queue.result.now (near c)
     c.index_mut-queue.ensures.value
 
-here : (c : goal.In_ok-raise) → queue_at c.args.self.now.queues.items c.args.k
+here : (c : goal.In_ok-raise) → queue_at c.args.self.now.queues.items c.args.worker
     ≡ c.in_ok-items.ensures.0 ++ c.take_front.new.queue
 here c = same c ∙ c.in_ok-items.ensures.1
 
 -- so many items more are outstanding
 items_more : (c : goal.In_ok-raise) (q : ℕ) → get_or c.raise.new.counts.items q 0
     ≡ get_or c.args.self.now.outstanding.items q 0
-    + cond (nat_eq q c.args.k) (length c.in_ok-items.items.items) 0
+    + cond (nat_eq q c.args.worker) (length c.in_ok-items.items.items) 0
 items_more c q =
     c.in_ok-raise.ensures.more q
-    ∙ ap (λ n. get_or c.args.self.now.outstanding.items q 0 + cond (nat_eq q c.args.k) n 0)
+    ∙ ap (λ n. get_or c.args.self.now.outstanding.items q 0 + cond (nat_eq q c.args.worker) n 0)
     (c.len-2.ensures ∙ c.in_ok-items.items.ok.0)
 
-pub returns-then-k-len-clause-first : goal.returns-then-k-len-clause-first
-returns-then-k-len-clause-first c = λ w is.
-    let k : ℕ = c.args.k in
+pub returns-then-worker-len-clause-first : goal.returns-then-worker-len-clause-first
+returns-then-worker-len-clause-first c = λ w is.
+    let k : ℕ = c.args.worker in
     c.new.ensures.items
     ∙ sym (take_all c.args.most [] (omega arith))
     ∙ ap (λ q. take c.args.most (ready_of q))
@@ -41,7 +41,7 @@ returns-then-k-len-clause-first c = λ w is.
 pub returns-clause-moves : goal.returns-clause-moves
 returns-clause-moves c = λ w is.
     let r = c.args.self.now in
-    let k : ℕ = c.args.k in
+    let k : ℕ = c.args.worker in
     items_taken r _ w is k c.in_ok-items.items.items c.in_ok-items.ensures.0 c.take_front.new.queue refl refl refl
     refl (length-set r.queues.items k c.take_front.new.queue) (here c) c.in_ok-items.ensures.2
     (queue_set r.queues.items k c.take_front.new.queue (near c))
@@ -51,4 +51,4 @@ returns-clause-moves c = λ w is.
 pub returns-clause-first : goal.returns-clause-first
 returns-clause-first c = λ w is.
     c.in_ok-items.ensures.3 ∙ ap (λ q. take c.args.most (ready_of q)) (sym (same c))
-    ∙ ap (take c.args.most) (router_ready c.args.self.now w is c.args.k)
+    ∙ ap (take c.args.most) (router_ready c.args.self.now w is c.args.worker)

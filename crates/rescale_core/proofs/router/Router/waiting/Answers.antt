@@ -4,14 +4,14 @@ use Rattle.rescale_core.proofs.QueueLemmas.{queue_beyond, queue_here}
 use Rattle.rescale_core.proofs.Waits.{queue_waits}
 use Rattle.rescale_core.proofs.router.Router.waiting.Goals as goal
 
-pub returns-then-k-len : goal.returns-then-k-len
-returns-then-k-len c = λ w is.
-    ap (sum_by weight_of) (sym (queue_beyond c.args.self.now.queues.items c.args.k (omega (arith, c.len.ensures))))
-    ∙ queue_waits c.args.self.now w is c.args.k
+pub returns-then-worker-len : goal.returns-then-worker-len
+returns-then-worker-len c = λ w is.
+    ap (sum_by weight_of) (sym (queue_beyond c.args.self.now.queues.items c.args.worker (omega (arith, c.len.ensures))))
+    ∙ queue_waits c.args.self.now w is c.args.worker
 
 pub returns : goal.returns
 returns c = λ w is.
     c.waiting.ensures
-    ∙ ap (sum_by weight_of) (sym (queue_here c.args.self.now.queues.items c.args.k c.index.result.now
+    ∙ ap (sum_by weight_of) (sym (queue_here c.args.self.now.queues.items c.args.worker c.index.result.now
     (omega (arith, c.len.ensures)) c.index.ensures))
-    ∙ queue_waits c.args.self.now w is c.args.k
+    ∙ queue_waits c.args.self.now w is c.args.worker
