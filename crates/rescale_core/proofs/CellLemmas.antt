@@ -84,7 +84,7 @@ within_front n (e ∷ a) b h = (h.0, within_front n a b h.1)
 -- ---- one cell
 
 abbrev pub seed_in : World → ℕ → SeedOf
-seed_in w k = record { core = w.core; first = w.first; k = k }
+seed_in w k = record { core = w.core; first = w.first; number = k }
 
 pub seat_here : (w : World) (k : ℕ) (s : Seat) → set_seat w.seats k s k ≡ s
 seat_here w k s = ap (λ b. cond b s (w.seats k)) (eq-eqb k k refl)

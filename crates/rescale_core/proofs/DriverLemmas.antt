@@ -61,7 +61,7 @@ some_is x y e = cc
 -- ---- lines
 
 abbrev pub seed_in : World → ℕ → SeedOf
-seed_in w k = record { core = w.core; first = w.first; k = k }
+seed_in w k = record { core = w.core; first = w.first; number = k }
 
 -- the outs that came back answer what was handed over last
 pub answered_last : (w : World) (k : ℕ) (l : CellLine) (outs : List Out) → IsSound w → IsLineOf w k l
@@ -86,8 +86,8 @@ pub line_kept : (w x : World) (q : ℕ) (l : CellLine) → x.core ≡ w.core →
     → IsLineOf w q l → IsLineOf x q l
 line_kept w x q l c f e il =
     record {
-      seed = il.seed ∙ ap (λ y. record { core = y; first = w.first; k = q }) (sym c)
-          ∙ ap (λ y. record { core = x.core; first = y; k = q }) (sym f);
+      seed = il.seed ∙ ap (λ y. record { core = y; first = w.first; number = q }) (sym c)
+          ∙ ap (λ y. record { core = x.core; first = y; number = q }) (sym f);
       handed = il.handed ∙ ap (λ (s : Seat). s.fed) (sym e);
       back = il.back ∙ ap (λ (s : Seat). s.back) (sym e);
       outs = subst (λ (s : Seat). s.outs ≡ s.back) (sym e) il.outs;

@@ -19,15 +19,15 @@ use Rattle.rescale_core.specs.declared.item.Item.{Item}
 use Rattle.rescale_core.specs.declared.item.Out.{Out}
 use Rattle.rescale_core.specs.Phases.PhaseOf.{Active, Vacant}
 
-pub first_agrees : (s : SeedOf) → Agrees s.k (first_spot s.first) (first_phase s)
+pub first_agrees : (s : SeedOf) → Agrees s.number (first_spot s.first) (first_phase s)
 first_agrees s = ⊎_elim
-    (λ h. subst (Agrees s.k (first_spot s.first))
-    (sym (ap (λ b. cond b (Active s.first []) Vacant) (lt-ltb s.k (workers_of s.first) h)))
-    (agrees_active s.k (first_spot s.first) h))
-    (λ h. subst (Agrees s.k (first_spot s.first))
-    (sym (ap (λ b. cond b (Active s.first []) Vacant) (le-ltb s.k (workers_of s.first) h)))
-    (agrees_vacant s.k (first_spot s.first) h))
-    (below s.k (workers_of s.first))
+    (λ h. subst (Agrees s.number (first_spot s.first))
+    (sym (ap (λ b. cond b (Active s.first []) Vacant) (lt-ltb s.number (workers_of s.first) h)))
+    (agrees_active s.number (first_spot s.first) h))
+    (λ h. subst (Agrees s.number (first_spot s.first))
+    (sym (ap (λ b. cond b (Active s.first []) Vacant) (le-ltb s.number (workers_of s.first) h)))
+    (agrees_vacant s.number (first_spot s.first) h))
+    (below s.number (workers_of s.first))
 
 pub answers_more : (c : CoreForm) (k : ℕ) (ds : List Due) (d : Due) (outs more : List Out) → Answers c k ds outs
     → Gives c k d more → Answers c k (ds ++ d ∷ []) (outs ++ more)
@@ -43,28 +43,29 @@ answers_more c k (e ∷ ds) d outs more a g = (
 
 -- what the next item is, for any entries that make it due
 pub turned_in : (s : SeedOf) (t : List Item) (i : Item) (es : List Entry) → IsFor s.core s.first
-    → Has s es (t ++ i ∷ []) → Turned s.core s.k (first_phase s) (line_of s es) t i
+    → Has s es (t ++ i ∷ []) → Turned s.core s.number (first_phase s) (line_of s es) t i
 turned_in s t i es f h =
-    turned s.core s.k t i (first_phase s) (line_of s es)
-    (chained s.core s.k es (first_spot s.first) (first_phase s) f h.0 (first_agrees s)) h.1
+    turned s.core s.number t i (first_phase s) (line_of s es)
+    (chained s.core s.number es (first_spot s.first) (first_phase s) f h.0 (first_agrees s)) h.1
 
 pub has_front : (s : SeedOf) (a b : List Item) (es : List Entry) → Has s es (a ++ b) → Has s es a
-has_front s a b es h = (h.0, fits_front s.core s.k a b (first_phase s) (line_of s es) h.1)
+has_front s a b es h = (h.0, fits_front s.core s.number a b (first_phase s) (line_of s es) h.1)
 
 can_take_in : (s : SeedOf) (t : List Item) (g : List Out) (w : Worker) (i : Item) → StandsFor s t g w
     → (es : List Entry) → Has s es (t ++ i ∷ []) → CanTake w i
 can_take_in s t g w i st es h = let r = turned_in s t i es st.first h in
-    let at : IsAt s.core s.k (phase_at (first_phase s) (line_of s es) t) w.phase =
+    let at : IsAt s.core s.number (phase_at (first_phase s) (line_of s es) t) w.phase =
     st.at es (has_front s t (i ∷ []) es h) in (
       phase_at (first_phase s) (line_of s es) t,
       r.due,
       subst (λ (k : ℕ). IsAt (core_form w.core) k (phase_at (first_phase s) (line_of s es) t) w.phase) (sym st.number)
-          (subst (λ (c : CoreForm). IsAt c s.k (phase_at (first_phase s) (line_of s es) t) w.phase) (sym st.core) at),
+          (subst (λ (c : CoreForm). IsAt c s.number (phase_at (first_phase s) (line_of s es) t) w.phase)
+          (sym st.core) at),
       subst (λ (k : ℕ). Follows (core_form w.core) k (phase_at (first_phase s) (line_of s es) t) r.due) (sym st.number)
-          (subst (λ (c : CoreForm). Follows c s.k (phase_at (first_phase s) (line_of s es) t) r.due)
+          (subst (λ (c : CoreForm). Follows c s.number (phase_at (first_phase s) (line_of s es) t) r.due)
           (sym st.core) r.follows),
       subst (λ (k : ℕ). Meets (core_form w.core) k (phase_at (first_phase s) (line_of s es) t) r.due i) (sym st.number)
-          (subst (λ (c : CoreForm). Meets c s.k (phase_at (first_phase s) (line_of s es) t) r.due i)
+          (subst (λ (c : CoreForm). Meets c s.number (phase_at (first_phase s) (line_of s es) t) r.due i)
           (sym st.core) r.meets),
     )
 
@@ -73,9 +74,10 @@ can_take w i t = can_take_in t.0 t.1 t.2 w i t.3 t.4.0 t.4.1
 
 -- a step in the seed's own words
 takes_in : (s : SeedOf) (w : Worker) (i : Item) (x : Worker) (gave : List Out) → core_form w.core ≡ s.core
-    → w.number ≡ s.k → TakesItem w i x gave → (ph : PhaseOf) (d : Due)
-    → IsAt s.core s.k ph w.phase → Follows s.core s.k ph d → Meets s.core s.k ph d i → Gives s.core s.k d gave
-    × IsAt s.core s.k (phase_after ph d i) x.phase
+    → w.number ≡ s.number → TakesItem w i x gave → (ph : PhaseOf) (d : Due)
+    → IsAt s.core s.number ph w.phase → Follows s.core s.number ph d → Meets s.core s.number ph d i
+    → Gives s.core s.number d gave
+    × IsAt s.core s.number (phase_after ph d i) x.phase
 takes_in s w i x gave core number takes ph d =
     subst (λ (k : ℕ). IsAt s.core k ph w.phase → Follows s.core k ph d → Meets s.core k ph d i
     → Gives s.core k d gave × IsAt s.core k (phase_after ph d i) x.phase) number
@@ -85,14 +87,14 @@ takes_in s w i x gave core number takes ph d =
 module _ (s : SeedOf) (t : List Item) (g : List Out) (w : Worker) (i : Item) (x : Worker) (gave : List Out)
     (st : StandsFor s t g w) (takes : TakesItem w i x gave) where
   does : (es : List Entry) → Has s es (t ++ i ∷ [])
-      → Answers s.core s.k (take (length (t ++ i ∷ [])) (line_of s es)) (g ++ gave)
-      × IsAt s.core s.k (phase_at (first_phase s) (line_of s es) (t ++ i ∷ [])) x.phase
+      → Answers s.core s.number (take (length (t ++ i ∷ [])) (line_of s es)) (g ++ gave)
+      × IsAt s.core s.number (phase_at (first_phase s) (line_of s es) (t ++ i ∷ [])) x.phase
   does es h = let front = has_front s t (i ∷ []) es h in let r = turned_in s t i es st.first h in
       let done = takes_in s w i x gave st.core st.number takes (phase_at (first_phase s) (line_of s es) t) r.due
       (st.at es front) r.follows r.meets in (
-        subst (λ (ds : List Due). Answers s.core s.k ds (g ++ gave)) (sym r.front)
-            (answers_more s.core s.k (take (length t) (line_of s es)) r.due g gave (st.told es front) done.0),
-        subst (λ (y : PhaseOf). IsAt s.core s.k y x.phase) (sym r.next) done.1,
+        subst (λ (ds : List Due). Answers s.core s.number ds (g ++ gave)) (sym r.front)
+            (answers_more s.core s.number (take (length t) (line_of s es)) r.due g gave (st.told es front) done.0),
+        subst (λ (y : PhaseOf). IsAt s.core s.number y x.phase) (sym r.next) done.1,
       )
 
   stands_on : StandsFor s (t ++ i ∷ []) (g ++ gave) x
@@ -113,10 +115,10 @@ leads_on w i x gave takes s t g st may = stands_on s t g w i x gave st takes
 module _ (s : SeedOf) (w : Worker) (core : core_form w.core ≡ s.core) where
   -- the seed, with the worker's own core
   abbrev with_core : Seed
-  with_core = record { core = w.core; first = s.first; k = s.k }
+  with_core = record { core = w.core; first = s.first; number = s.number }
 
   seen_same : seen with_core ≡ s
-  seen_same = ap (λ (c : CoreForm). record { core = c; first = s.first; k = s.k }) core
+  seen_same = ap (λ (c : CoreForm). record { core = c; first = s.first; number = s.number }) core
 
 pub takes_by : (w : Worker) (items : List Item) → Takes StandsFor May w items → Takes StandsBy MayBy w items
 takes_by w items t =

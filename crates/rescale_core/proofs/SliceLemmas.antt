@@ -269,7 +269,7 @@ slice_kept w m m2 s g n p tables active mcore first steps can =
 -- a monitor that begins is that of each worker
 pub first_active : (c : CoreForm) (s t : Strategy) (k : ℕ) (m : Monitor) → (monitor_of m).core ≡ c
     → Begins c (monitor_of m).state → t ≡ s → k < workers_of s
-    → IsAt c k (first_phase (record { core = c; first = s; k = k })) (held.Active m t)
+    → IsAt c k (first_phase (record { core = c; first = s; number = k })) (held.Active m t)
 first_active c s t k m core begins same low =
     subst (λ (ph : PhaseOf). IsAt c k ph (held.Active m t))
     (sym (ap (λ b. cond b (Active s []) Vacant) (lt-ltb k (workers_of s) low))) (

@@ -67,8 +67,8 @@ tied_first w k false t froms e = cc
 
 -- all that was handed over fits
 pub has_of : (w : World) (k : ℕ) → IsSound w
-    → Has record { core = w.core; first = w.first; k = k } w.read (w.seats k).fed
-has_of w k r = let s : SeedOf = record { core = w.core; first = w.first; k = k } in (
+    → Has record { core = w.core; first = w.first; number = k } w.read (w.seats k).fed
+has_of w k r = let s : SeedOf = record { core = w.core; first = w.first; number = k } in (
   r.read,
   fits_of w.core k w.pieces (change_of (first_spot w.first) w.read) r.known (λ g. r.distinct g k) (line_in w k)
       (w.seats k).fed (first_phase s)

@@ -120,8 +120,8 @@ module _ (d e : Driver) (k n : ℕ) (outs : List Out) (l : CellLine) (at : get_e
           record {
             router = router;
             lines = lines_set (lines_of d) (lines_of e) y k (swapped_line l outs []) main (record {
-              seed = il.seed ∙ ap (λ c. record { core = c; first = w.first; k = k }) (sym t.core)
-                  ∙ ap (λ f. record { core = x.core; first = f; k = k }) (sym t.first);
+              seed = il.seed ∙ ap (λ c. record { core = c; first = w.first; number = k }) (sym t.core)
+                  ∙ ap (λ f. record { core = x.core; first = f; number = k }) (sym t.first);
               handed = append-nil l.handed ∙ il.handed ∙ sym (t.fed k) ∙ ap (λ (s : Seat). s.fed) (sym here);
               back = ap (λ b. b ++ outs) (il.back ∙ sym il.outs) ∙ sym t.given ∙ ap (λ (s : Seat). s.back) (sym here);
               outs = ap (λ (s : Seat). s.outs) here ∙ ap (λ (s : Seat). s.back) (sym here);
@@ -206,8 +206,8 @@ module _ (d : Driver) (router : Router) (k : ℕ) (items : List Item) (turn : Ha
       let h = handed_all items w k in
       let il = is.lines k turn.0 turn.1 in
       let seed : seed_in x k ≡ seen turn.0.seed =
-      ap (λ c. record { core = c; first = x.first; k = k }) h.core
-      ∙ ap (λ f. record { core = w.core; first = f; k = k }) h.first ∙ sym il.seed in (
+      ap (λ c. record { core = c; first = x.first; number = k }) h.core
+      ∙ ap (λ f. record { core = w.core; first = f; number = k }) h.first ∙ sym il.seed in (
         turn.0,
         turn.1,
         subst (λ (s : SeedOf). May s (turn.0.handed ++ items)) seed
@@ -235,8 +235,8 @@ module _ (d : Driver) (router : Router) (k : ℕ) (items : List Item) (turn : Ha
           record {
             router = subst (λ r. IsRouterOf r x) (sym is_router) m.1;
             lines = lines_set (lines_of d) (lines_of e) x k (swapped_line l outs items) main (record {
-              seed = il.seed ∙ ap (λ c. record { core = c; first = w.first; k = k }) (sym h.core)
-                  ∙ ap (λ f. record { core = x.core; first = f; k = k }) (sym h.first);
+              seed = il.seed ∙ ap (λ c. record { core = c; first = w.first; number = k }) (sym h.core)
+                  ∙ ap (λ f. record { core = x.core; first = f; number = k }) (sym h.first);
               handed = ap (λ z. z ++ items) il.handed ∙ sym h.fed;
               back = ap (λ o. l.back ++ o) none ∙ append-nil l.back ∙ il.back ∙ sym h.back;
               outs = h.outs ∙ il.outs ∙ sym h.back;

@@ -35,7 +35,7 @@ pub record IsCellAt (seed : SeedOf) (seat : Seat) (cell : Cell) : Type 0 where
 
 -- the cell is worker k's
 abbrev pub IsCellOf : World → ℕ → Cell → Type 0
-IsCellOf w k cell = IsCellAt (record { core = w.core; first = w.first; k = k }) (w.seats k) cell
+IsCellOf w k cell = IsCellAt (record { core = w.core; first = w.first; number = k }) (w.seats k) cell
 
 -- the cell is that of a worker in a world
 abbrev pub MayTake : Cell → Type 0

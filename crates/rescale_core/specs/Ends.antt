@@ -80,6 +80,6 @@ abbrev pub OpenedWorkers : Type 0
 OpenedWorkers =
     (c : CoreForm) (s : Strategy) (works : List Worker) (main : Main Worker Item Out Seed)
     → ((k : ℕ) (w : Worker) → get_elem? works k ≡ some w
-    → (seed_of w ≡ record { core = c; first = s; k = k }) × StandsFor (seed_of w) [] [] w)
+    → (seed_of w ≡ record { core = c; first = s; number = k }) × StandsFor (seed_of w) [] [] w)
     → (main_view main).lines ≡ map (λ w. started (begun w)) works
     → Starts StandsBy begun works × IsOpened c s main

@@ -15,7 +15,7 @@ use Rattle.rescale_core.specs.Worlds.{World, Step, first_world, run, AreAllowed,
 -- what worker k was handed fits, and what it gave answers what it took
 abbrev pub FitsAndAnswers : World → ℕ → Type 0
 FitsAndAnswers w k =
-    Has (record { core = w.core; first = w.first; k = k }) w.read (w.seats k).fed
+    Has (record { core = w.core; first = w.first; number = k }) w.read (w.seats k).fed
     × Answers w.core k (take (w.seats k).taken (line_in w k)) (w.seats k).outs
 
 -- what was emitted are the first verdicts on what was read, of settled positions alone

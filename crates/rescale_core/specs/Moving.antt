@@ -61,7 +61,7 @@ Reaches w (s ∷ ss) x = (y : World) × StepsBy w s y × Reaches y ss x
 -- main's view of a cell is the world's: what was handed over, what came back, that all that was taken is collected, and
 -- how many items were handed over last
 pub record IsLineOf (w : World) (k : ℕ) (l : CellLine) : Type 0 where
-  pub seed : seen l.seed ≡ record { core = w.core; first = w.first; k = k }
+  pub seed : seen l.seed ≡ record { core = w.core; first = w.first; number = k }
   pub handed : l.handed ≡ (w.seats k).fed
   pub back : l.back ≡ (w.seats k).back
   pub outs : (w.seats k).outs ≡ (w.seats k).back
@@ -80,7 +80,7 @@ pub record IsDriverOf (d : Driver) (w : World) : Type 0 where
 abbrev pub IsOpened : CoreForm → Strategy → Main Worker Item Out Seed → Type 0
 IsOpened c s main =
     (k : ℕ) (l : CellLine) → get_elem? (main_view main).lines k ≡ some l
-    → (seen l.seed ≡ record { core = c; first = s; k = k })
+    → (seen l.seed ≡ record { core = c; first = s; number = k })
     × (l.handed ≡ []) × (l.back ≡ []) × (l.last ≡ 0) × (l.mine ≡ true)
 
 -- from each world for which the one driver stands, steps of these kinds lead to one for which the other stands

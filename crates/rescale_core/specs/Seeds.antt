@@ -7,4 +7,4 @@ use Rattle.monitorable.specs.CoreForms.{CoreForm}
 pub record SeedOf : Type 0 where
   pub core : CoreForm
   pub first : Strategy
-  pub k : ℕ
+  pub number : ℕ

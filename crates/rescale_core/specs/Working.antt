@@ -29,19 +29,19 @@ IsAt core k (Waiting t froms) phase =
 
 -- what the worker began with
 abbrev pub seed_of : Worker → SeedOf
-seed_of w = record { core = core_form w.core; first = w.first.value; k = w.number }
+seed_of w = record { core = core_form w.core; first = w.first.value; number = w.number }
 
 -- the phase before anything was taken
 abbrev pub first_phase : SeedOf → PhaseOf
-first_phase s = cond (nat_lt s.k (workers_of s.first)) (Active s.first []) Vacant
+first_phase s = cond (nat_lt s.number (workers_of s.first)) (Active s.first []) Vacant
 
 -- what the worker is due by these entries
 abbrev pub line_of : SeedOf → List Entry → List Due
-line_of s es = line s.k (first_spot s.first) es
+line_of s es = line s.number (first_spot s.first) es
 
 -- the entries may be read, and the items are those that they make due, as far as they go
 abbrev pub Has : SeedOf → List Entry → List Item → Type 0
-Has s es items = AreSound s.core (first_spot s.first) es × Fits s.core s.k (first_phase s) (line_of s es) items
+Has s es items = AreSound s.core (first_spot s.first) es × Fits s.core s.number (first_phase s) (line_of s es) items
 
 -- the items may be handed over: some entries make them due
 abbrev pub May : SeedOf → List Item → Type 0
@@ -50,15 +50,16 @@ May s items = (es : List Entry) × Has s es items
 -- whatever entries make the items due, the outs answer them
 abbrev pub Told : SeedOf → List Item → List Out → Type 0
 Told s taken gave =
-    (es : List Entry) → Has s es taken → Answers s.core s.k (take (length taken) (line_of s es)) gave
+    (es : List Entry) → Has s es taken → Answers s.core s.number (take (length taken) (line_of s es)) gave
 
 -- the worker began with the seed, took these items and gave these outs
 pub record StandsFor (s : SeedOf) (taken : List Item) (gave : List Out) (w : Worker) : Type 0 where
   pub core : core_form w.core ≡ s.core
-  pub number : w.number ≡ s.k
+  pub number : w.number ≡ s.number
   pub first : IsFor s.core s.first
   pub told : Told s taken gave
-  pub at : (es : List Entry) → Has s es taken → IsAt s.core s.k (phase_at (first_phase s) (line_of s es) taken) w.phase
+  pub at : (es : List Entry) → Has s es taken
+      → IsAt s.core s.number (phase_at (first_phase s) (line_of s es) taken) w.phase
 
 -- ---- one item
 
@@ -123,4 +124,4 @@ fits_front core k (i ∷ a) b ph (d ∷ ds) f = (f.0, fits_front core k a b (pha
 
 -- a front of what may be handed over may be
 pub may_less : (s : SeedOf) (a b : List Item) → May s (a ++ b) → May s a
-may_less s a b m = (m.0, (m.1.0, fits_front s.core s.k a b (first_phase s) (line_of s m.0) m.1.1))
+may_less s a b m = (m.0, (m.1.0, fits_front s.core s.number a b (first_phase s) (line_of s m.0) m.1.1))

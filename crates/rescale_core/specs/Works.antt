@@ -10,11 +10,11 @@ use Rattle.rescale_core.specs.declared.worker.Worker.{Worker}
 
 -- a seed as the definitions speak of it: of the core its form alone
 abbrev pub seen : Seed → SeedOf
-seen s = record { core = core_form s.core; first = s.first; k = s.k }
+seen s = record { core = core_form s.core; first = s.first; number = s.number }
 
 -- what the worker began with
 abbrev pub begun : Worker → Seed
-begun w = record { core = w.core; first = w.first.value; k = w.number }
+begun w = record { core = w.core; first = w.first.value; number = w.number }
 
 -- the worker began with the seed, took these items and gave these outs
 abbrev pub StandsBy : Seed → List Item → List Out → Worker → Type 0

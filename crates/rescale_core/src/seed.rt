@@ -6,5 +6,5 @@ use slice_strategy::Strategy;
 pub struct Seed {
     pub core: Core,
     pub first: Strategy,
-    pub k: u32,
+    pub number: u32,
 }

@@ -35,7 +35,7 @@ impl Worker {
     ) -> Result<Self, AllocError>
         requires { IsFor (core_form core.now) strategy.now }
         ensures seed { IfOk result (λ w.
-            seed_of w ≡ record { core = core_form core.now; first = strategy.now; k = number }) }
+            seed_of w ≡ record { core = core_form core.now; first = strategy.now; number = number }) }
         ensures stands { IfOk result (λ w. StandsFor (seed_of w) [] [] w) }
     {
         let first = Snapshot::of(strategy);
@@ -129,7 +129,7 @@ fn first_parts(
 ) -> Result<(Core, Phase), AllocError>
     ensures core { IfOk result (λ parts. core_form parts.0 ≡ core_form core.now) }
     ensures phase { IfOk result (λ parts. IsAt (core_form core.now) number
-        (first_phase (record { core = core_form core.now; first = strategy.now; k = number })) parts.1) }
+        (first_phase (record { core = core_form core.now; first = strategy.now; number = number })) parts.1) }
 {
     let own = core.copy(alloc)?;
     let phase = first_phase(alloc, core, strategy, number)?;
@@ -144,7 +144,7 @@ fn first_phase(
     number: u32,
 ) -> Result<Phase, AllocError>
     ensures { IfOk result (λ phase. IsAt (core_form core.now) number
-        (first_phase (record { core = core_form core.now; first = strategy.now; k = number })) phase) }
+        (first_phase (record { core = core_form core.now; first = strategy.now; number = number })) phase) }
 {
     if number >= strategy.workers() {
         return Ok(Phase::Vacant);

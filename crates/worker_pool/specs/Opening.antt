@@ -10,4 +10,4 @@ use Rattle.rescale_core.specs.declared.worker.Worker.{Worker}
 -- in each place is the worker of its number, which took nothing
 abbrev pub AreStarted : CoreForm → Strategy → List Worker → Type 0
 AreStarted core strategy works = (k : ℕ) (w : Worker) → get_elem? works k ≡ some w
-    → (seed_of w ≡ record { core = core; first = strategy; k = k }) × StandsFor (seed_of w) [] [] w
+    → (seed_of w ≡ record { core = core; first = strategy; number = k }) × StandsFor (seed_of w) [] [] w

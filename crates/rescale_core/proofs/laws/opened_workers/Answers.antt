@@ -20,7 +20,7 @@ returns c = λ core s works main each lines. (
   (λ k l at.
       let found = mapped (λ (w : Worker). started (begun w)) works k l
       (ap (λ (z : List CellLine). get_elem? z k) (sym lines) ∙ at) in (
-        subst (λ (y : CellLine). seen y.seed ≡ record { core = core; first = s; k = k }) found.2
+        subst (λ (y : CellLine). seen y.seed ≡ record { core = core; first = s; number = k }) found.2
             (each k found.0 found.1).0,
         sym (ap (λ (y : CellLine). y.handed) found.2),
         sym (ap (λ (y : CellLine). y.back) found.2),

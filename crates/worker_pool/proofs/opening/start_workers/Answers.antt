@@ -13,7 +13,7 @@ loop-k-preserved c =
     let new : Worker = c.in_ok-worker.worker in
     let Is : ℕ → Worker → Type 0 =
     (λ (k : ℕ) (w : Worker).
-    (seed_of w ≡ record { core = core_form c.args.core.now; first = c.args.strategy.now; k = k })
+    (seed_of w ≡ record { core = core_form c.args.core.now; first = c.args.strategy.now; number = k })
     × StandsFor (seed_of w) [] [] w) in
     let items : c.push.new.self.items ≡ old ++ new ∷ [] = c.in_ok-push.ensures.items in
     record {
