@@ -23,7 +23,7 @@ use worker_pool::End;
 const LOG: &str = "log";
 
 // The most bytes that a read gives.
-const PIECE: usize = 65_536;
+const CHUNK: usize = 65_536;
 
 // The policy of these texts, whose work is divided by no strategy at first, and then by these changes.
 fn task_of(alloc: Global, sig: &[u8], policy: &[u8], changes: &[u8]) -> Result<Task, Refusal>
@@ -58,7 +58,7 @@ fn follow_log<R: Threads + Wait + Sync, G: Gate + Sync>(
         bytes: log.into_bytes(),
     };
     let files = vec![in alloc; file]?;
-    let mut inputs = SureInputs::new(files.as_slice(), PIECE);
+    let mut inputs = SureInputs::new(files.as_slice(), CHUNK);
     let mut out = SureSink::new();
     inputs.open(LOG).unwrap();
     Ok(follow(

@@ -5,6 +5,6 @@ pub mod TallyLemmas
 pub mod WritingLemmas
 pub mod ChangeLemmas
 pub mod PointLemmas
-pub mod PieceLemmas
+pub mod ChunkLemmas
 pub mod HandLemmas
 pub mod Sent

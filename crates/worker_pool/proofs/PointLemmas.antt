@@ -25,7 +25,7 @@ use Rattle.monitorable.specs.CoreForms.{CoreForm}
 use Rattle.monitorable.specs.Laws.{open_log}
 use Rattle.rescale_core.specs.Workers.{MayFollow}
 use Rattle.rescale_core.specs.declared.driver.Driver.{Driver}
-use Rattle.worker_pool.specs.Pieces.{SoFar, StopsLines, TakesAll, stop_for}
+use Rattle.worker_pool.specs.Chunks.{SoFar, StopsLines, TakesAll, stop_for}
 use Rattle.worker_pool.specs.Policies.{ForEachPolicy, IsCoreOf}
 use Rattle.worker_pool.specs.Texts.{lines, tally_of, text_on}
 use Rattle.worker_pool.specs.Writing.{Adds, Falls, FallsShort, IsOutputStop, IsOver, Keeps, Writes, all_verdicts}

@@ -7,5 +7,5 @@ pub mod Hands
 pub mod Opening
 pub mod Changes
 pub mod Writing
-pub mod Pieces
+pub mod Chunks
 pub mod Laws

@@ -26,11 +26,11 @@ impl Bells {
         })
     }
 
-    /// Wakes the thread that serves worker `k`, if a thread does.
-    pub fn ring(&self, k: u32) {
+    /// Wakes the thread that serves the worker of this number, if a thread does.
+    pub fn ring(&self, worker: u32) {
         let count = self.threads.len();
         if count != 0 {
-            self.threads[k as usize % count].ring();
+            self.threads[worker as usize % count].ring();
         }
     }
 

@@ -1,4 +1,4 @@
-//! What main reads: changes of the strategy, and time-points.
+//! The entries that main reads: changes of the strategy, and time-points.
 ghost use Rattle.std.specs.Prelude.{◌≡◌, ◌+◌, ◌≤◌, ◌<◌, ◌^◌, IfErr, OnOk, OnErr};
 ghost use Rattle.mfotl_model.specs.Strategies.{workers_of};
 ghost use Rattle.rescale_core.specs.Moving.{IsDriverOf, core_of};
@@ -10,10 +10,10 @@ ghost use Rattle.worker_pool.specs.Hands.{AreHandsOf};
 ghost use Rattle.worker_pool.specs.Writing.{Adds, FallsShort, IsOutputStop, IsRoomy, Keeps, ReadsIn, Runs, RunsTo};
 
 use crate::hands::WorkerHand;
-use crate::page::Page;
-use crate::pump::make_room;
+use crate::line_writer::LineWriter;
+use crate::loop_context::LoopContext;
+use crate::main_turns::make_room;
 use crate::schedule::Schedule;
-use crate::shop::Shop;
 use crate::stop::Stop;
 use mfotl_model::TimePoint;
 use mon_outside::{Gate, Sink};
@@ -50,63 +50,63 @@ fn alter(alloc: Global, driver: &mut Driver, strategy: Strategy) -> Result<(), A
 
 // Reads a change to another strategy, once there is room for it.
 fn change<R: Wait, O: Sink, G: Gate>(
-    shop: &Shop<'_, R, G>,
+    context: &LoopContext<'_, R, G>,
     own: &mut Vec<WorkerHand>,
     driver: &mut Driver,
-    page: &mut Page,
+    writer: &mut LineWriter,
     out: &mut O,
     strategy: Strategy,
 ) -> Result<(), Stop>
-    requires runs { Runs driver.old (O.written out.old) page.old.tally }
+    requires runs { Runs driver.old (O.written out.old) writer.old.tally }
     requires suits { IsFor (core_of driver.old) strategy }
-    requires seated { workers_of strategy ≤ shop.now.cells }
-    requires main { IsMainOf shop.now.hub.now driver.old.main }
-    requires cells { shop.now.cells ≤ cell_count shop.now.hub.now }
-    requires hands { AreHandsOf shop.now.hub.now own.old.items }
-    ensures hands { AreHandsOf shop.now.hub.now own.new.items }
-    ensures main { OnOk result (IsMainOf shop.now.hub.now driver.new.main) }
-    ensures ok { OnOk result (Keeps driver.old (O.written out.old) page.old.tally
-        driver.new (O.written out.new) page.new.tally) }
-    ensures err { OnErr result (FallsShort driver.old (O.written out.old) page.old.tally (O.written out.new)) }
+    requires seated { workers_of strategy ≤ context.now.cells }
+    requires main { IsMainOf context.now.hub.now driver.old.main }
+    requires cells { context.now.cells ≤ cell_count context.now.hub.now }
+    requires hands { AreHandsOf context.now.hub.now own.old.items }
+    ensures hands { AreHandsOf context.now.hub.now own.new.items }
+    ensures main { OnOk result (IsMainOf context.now.hub.now driver.new.main) }
+    ensures ok { OnOk result (Keeps driver.old (O.written out.old) writer.old.tally
+        driver.new (O.written out.new) writer.new.tally) }
+    ensures err { OnErr result (FallsShort driver.old (O.written out.old) writer.old.tally (O.written out.new)) }
     ensures stop { IfErr result (λ stop. IsOutputStop (O.faults out.old) (O.faults out.new) stop) }
     ensures later { O.faults out.old ≤ O.faults out.new }
 {
-    make_room(shop, own, driver, page, out, false)?;
-    alter(shop.alloc, driver, strategy)?;
+    make_room(context, own, driver, writer, out, false)?;
+    alter(context.alloc, driver, strategy)?;
     Ok(())
 }
 
 // Reads each change that is to be made before the next time-point, in order.
 fn make_changes<R: Wait, O: Sink, G: Gate>(
-    shop: &Shop<'_, R, G>,
+    context: &LoopContext<'_, R, G>,
     own: &mut Vec<WorkerHand>,
     driver: &mut Driver,
     schedule: &mut Schedule,
-    page: &mut Page,
+    writer: &mut LineWriter,
     out: &mut O,
 ) -> Result<(), Stop>
-    requires runs { Runs driver.old (O.written out.old) page.old.tally }
+    requires runs { Runs driver.old (O.written out.old) writer.old.tally }
     requires suits { Suits driver.old schedule.old }
-    requires seated { HaveCells shop.now.cells schedule.old }
-    requires main { IsMainOf shop.now.hub.now driver.old.main }
-    requires cells { shop.now.cells ≤ cell_count shop.now.hub.now }
-    requires hands { AreHandsOf shop.now.hub.now own.old.items }
-    ensures hands { AreHandsOf shop.now.hub.now own.new.items }
-    ensures main { OnOk result (IsMainOf shop.now.hub.now driver.new.main) }
+    requires seated { HaveCells context.now.cells schedule.old }
+    requires main { IsMainOf context.now.hub.now driver.old.main }
+    requires cells { context.now.cells ≤ cell_count context.now.hub.now }
+    requires hands { AreHandsOf context.now.hub.now own.old.items }
+    ensures hands { AreHandsOf context.now.hub.now own.new.items }
+    ensures main { OnOk result (IsMainOf context.now.hub.now driver.new.main) }
     ensures suits { OnOk result (Suits driver.new schedule.new) }
-    ensures seated { OnOk result (HaveCells shop.now.cells schedule.new) }
+    ensures seated { OnOk result (HaveCells context.now.cells schedule.new) }
     ensures all { OnOk result (NoneDue schedule.new) }
     ensures routed { schedule.new.routed ≡ schedule.old.routed }
-    ensures ok { OnOk result (Keeps driver.old (O.written out.old) page.old.tally
-        driver.new (O.written out.new) page.new.tally) }
-    ensures err { OnErr result (FallsShort driver.old (O.written out.old) page.old.tally (O.written out.new)) }
+    ensures ok { OnOk result (Keeps driver.old (O.written out.old) writer.old.tally
+        driver.new (O.written out.new) writer.new.tally) }
+    ensures err { OnErr result (FallsShort driver.old (O.written out.old) writer.old.tally (O.written out.new)) }
     ensures stop { IfErr result (λ stop. IsOutputStop (O.faults out.old) (O.faults out.new) stop) }
     ensures later { O.faults out.old ≤ O.faults out.new }
 {
-    for _ in shop.rt.forever() {
+    for _ in context.rt.forever() {
         match schedule.next_due() {
             None => return Ok(()),
-            Some(strategy) => change(shop, own, driver, page, out, strategy)?,
+            Some(strategy) => change(context, own, driver, writer, out, strategy)?,
         }
     }
     unreachable!()
@@ -115,36 +115,36 @@ fn make_changes<R: Wait, O: Sink, G: Gate>(
 /// Reads a time-point, once the changes before it are made and there is room for it; where `turns` is told, behind a
 /// turn of the loop.
 pub(crate) fn route<R: Wait, O: Sink, G: Gate>(
-    shop: &Shop<'_, R, G>,
+    context: &LoopContext<'_, R, G>,
     own: &mut Vec<WorkerHand>,
     driver: &mut Driver,
     schedule: &mut Schedule,
-    page: &mut Page,
+    writer: &mut LineWriter,
     out: &mut O,
     turns: bool,
     point: TimePoint,
 ) -> Result<(), Stop>
-    requires runs { RunsTo driver.old (O.written out.old) page.old.tally point }
+    requires runs { RunsTo driver.old (O.written out.old) writer.old.tally point }
     requires suits { Suits driver.old schedule.old }
-    requires seated { HaveCells shop.now.cells schedule.old }
+    requires seated { HaveCells context.now.cells schedule.old }
     requires few { schedule.old.routed < 2 ^ 63 }
-    requires main { IsMainOf shop.now.hub.now driver.old.main }
-    requires cells { shop.now.cells ≤ cell_count shop.now.hub.now }
-    requires hands { AreHandsOf shop.now.hub.now own.old.items }
-    ensures hands { AreHandsOf shop.now.hub.now own.new.items }
-    ensures main { OnOk result (IsMainOf shop.now.hub.now driver.new.main) }
+    requires main { IsMainOf context.now.hub.now driver.old.main }
+    requires cells { context.now.cells ≤ cell_count context.now.hub.now }
+    requires hands { AreHandsOf context.now.hub.now own.old.items }
+    ensures hands { AreHandsOf context.now.hub.now own.new.items }
+    ensures main { OnOk result (IsMainOf context.now.hub.now driver.new.main) }
     ensures suits { OnOk result (Suits driver.new schedule.new) }
-    ensures seated { OnOk result (HaveCells shop.now.cells schedule.new) }
+    ensures seated { OnOk result (HaveCells context.now.cells schedule.new) }
     ensures routed { OnOk result (schedule.new.routed ≡ schedule.old.routed + 1) }
-    ensures ok { OnOk result (Adds driver.old (O.written out.old) page.old.tally point
-        driver.new (O.written out.new) page.new.tally) }
-    ensures err { OnErr result (FallsShort driver.old (O.written out.old) page.old.tally (O.written out.new)) }
+    ensures ok { OnOk result (Adds driver.old (O.written out.old) writer.old.tally point
+        driver.new (O.written out.new) writer.new.tally) }
+    ensures err { OnErr result (FallsShort driver.old (O.written out.old) writer.old.tally (O.written out.new)) }
     ensures stop { IfErr result (λ stop. IsOutputStop (O.faults out.old) (O.faults out.new) stop) }
     ensures later { O.faults out.old ≤ O.faults out.new }
 {
-    make_changes(shop, own, driver, schedule, page, out)?;
-    make_room(shop, own, driver, page, out, turns)?;
-    admit(shop.alloc, driver, schedule, point)?;
+    make_changes(context, own, driver, schedule, writer, out)?;
+    make_room(context, own, driver, writer, out, turns)?;
+    admit(context.alloc, driver, schedule, point)?;
     schedule.count();
     Ok(())
 }

@@ -1,4 +1,4 @@
-//! The log in pieces: all lines of a piece are written and handed on before the next piece is read.
+//! The log in chunks: all lines of a chunk are written and handed on before the next chunk is read.
 ghost use Rattle.std.specs.Prelude.{◌≡◌, ◌<◌, ◌≤◌, IsTrue, length, [], false};
 ghost use Rattle.log_reader.specs.Limits.{standard};
 ghost use Rattle.log_reader.specs.Progress.{start};
@@ -6,18 +6,18 @@ ghost use Rattle.log_reader.specs.Readers.{Reads, progress};
 ghost use Rattle.monitorable.specs.CoreForms.{CoreForm};
 ghost use Rattle.turn_hub.specs.Ends.{IsMainOf, cell_count};
 ghost use Rattle.worker_pool.specs.Changes.{HaveCells, Suits};
+ghost use Rattle.worker_pool.specs.Chunks.{ReadsChunk, end_of};
 ghost use Rattle.worker_pool.specs.Effects.{effect};
 ghost use Rattle.worker_pool.specs.Endings.{FollowsLog};
 ghost use Rattle.worker_pool.specs.Hands.{AreHandsOf};
-ghost use Rattle.worker_pool.specs.Pieces.{ReadsPiece, end_of};
 ghost use Rattle.worker_pool.specs.Policies.{ForEachPolicy};
 ghost use Rattle.worker_pool.specs.Writing.{Begins};
 
 use crate::hands::WorkerHand;
-use crate::page::Page;
+use crate::line_writer::LineWriter;
+use crate::loop_context::LoopContext;
 use crate::routing::route_complete;
 use crate::schedule::Schedule;
-use crate::shop::Shop;
 use crate::stop::Stop;
 use crate::tally::Tally;
 use log_reader::LogReader;
@@ -28,7 +28,7 @@ use std::sync::Wait;
 
 // Reads once, and feeds what was given; no byte is the end. It waits for the log only where the output
 // holds nothing back.
-fn read_piece<I: Inputs, O: Sink>(
+fn read_chunk<I: Inputs, O: Sink>(
     alloc: Global,
     inputs: &mut I,
     buffer: &mut [u8],
@@ -44,7 +44,7 @@ fn read_piece<I: Inputs, O: Sink>(
     ensures stays_open { I.is_open inputs.new ≡ I.is_open inputs.old }
     ensures asks_nothing { I.asked inputs.new ≡ I.asked inputs.old }
     ensures later { I.faults inputs.old ≤ I.faults inputs.new }
-    ensures reads { ReadsPiece reader.old reader.new (I.rest inputs.old) (I.rest inputs.new)
+    ensures reads { ReadsChunk reader.old reader.new (I.rest inputs.old) (I.rest inputs.new)
         (I.faults inputs.old) (I.faults inputs.new) result }
 {
     match inputs.read(buffer) {
@@ -60,10 +60,10 @@ fn read_piece<I: Inputs, O: Sink>(
     }
 }
 
-/// Monitors the open file as a log, piece after piece, and answers what was counted of its lines. What was
+/// Monitors the open file as a log, chunk after chunk, and answers what was counted of its lines. What was
 /// written is handed on before each read.
 pub(crate) fn follow<R: Wait, I: Inputs, O: Sink, G: Gate>(
-    shop: &Shop<'_, R, G>,
+    context: &LoopContext<'_, R, G>,
     own: &mut Vec<WorkerHand>,
     driver: &mut Driver,
     schedule: &mut Schedule,
@@ -78,12 +78,12 @@ pub(crate) fn follow<R: Wait, I: Inputs, O: Sink, G: Gate>(
     requires reads { Reads reader.old [] }
     requires begins { (core : CoreForm) × Begins core driver.old }
     requires suits { Suits driver.old schedule.old }
-    requires seated { HaveCells shop.now.cells schedule.old }
+    requires seated { HaveCells context.now.cells schedule.old }
     requires unread { schedule.old.routed ≡ 0 }
-    requires main { IsMainOf shop.now.hub.now driver.old.main }
-    requires cells { shop.now.cells ≤ cell_count shop.now.hub.now }
-    requires hands { AreHandsOf shop.now.hub.now own.old.items }
-    ensures hands { AreHandsOf shop.now.hub.now own.new.items }
+    requires main { IsMainOf context.now.hub.now driver.old.main }
+    requires cells { context.now.cells ≤ cell_count context.now.hub.now }
+    requires hands { AreHandsOf context.now.hub.now own.old.items }
+    ensures hands { AreHandsOf context.now.hub.now own.new.items }
     ensures files { I.files inputs.new ≡ I.files inputs.old }
     ensures stays_open { I.is_open inputs.new ≡ I.is_open inputs.old }
     ensures asks_nothing { I.asked inputs.new ≡ I.asked inputs.old }
@@ -93,20 +93,20 @@ pub(crate) fn follow<R: Wait, I: Inputs, O: Sink, G: Gate>(
         FollowsLog reader.old.sig policy (effect I.Inputs O.Sink inputs.old inputs.new out.old out.new)
         (end_of result)) }
 {
-    let mut page = Page::blank(shop.alloc);
-    'pieces: for _ in shop.rt.forever() {
-        match route_complete(shop, own, driver, schedule, &mut page, reader, out) {
+    let mut writer = LineWriter::new(context.alloc);
+    'chunks: for _ in context.rt.forever() {
+        match route_complete(context, own, driver, schedule, &mut writer, reader, out) {
             Ok(()) => {}
             Err(stop) => return Err(stop),
         }
         if reader.is_finished() {
-            return Ok(page.tally);
+            return Ok(writer.tally);
         }
         match out.flush() {
             Ok(()) => {}
             Err(Failed) => return Err(Stop::Sink),
         }
-        match read_piece(shop.alloc, inputs, buffer, reader, out) {
+        match read_chunk(context.alloc, inputs, buffer, reader, out) {
             Ok(()) => {}
             Err(stop) => return Err(stop),
         }

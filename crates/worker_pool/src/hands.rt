@@ -1,5 +1,5 @@
 //! The hub of workers and its hands.
-use crate::shift::Thread;
+use crate::serving::Thread;
 use rescale_core::Worker;
 use turn_hub::{Hand, Hub};
 

@@ -3,26 +3,26 @@
 
 mod bell;
 mod bells;
-mod crew;
 mod dealing;
-mod desk;
 mod end;
 mod entries;
-mod errand;
 mod following;
 mod hands;
 pub mod laws;
+mod line_writer;
+mod loop_context;
+mod main_loop;
+mod main_task;
+mod main_turns;
 mod monitoring;
 mod opening;
-mod page;
 mod plan;
-mod pump;
 mod routing;
 mod schedule;
-mod shift;
-mod shop;
+mod serving;
 mod stop;
 mod tally;
+mod threads;
 
 pub use end::End;
 pub use monitoring::monitor;

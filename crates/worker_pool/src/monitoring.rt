@@ -11,20 +11,20 @@ ghost use Rattle.worker_pool.specs.Changes.{HaveCells, Suits};
 ghost use Rattle.worker_pool.specs.Effects.{effect};
 ghost use Rattle.worker_pool.specs.Endings.{FollowsLog};
 ghost use Rattle.turn_hub.specs.Ends.{IsMainOf, cell_count};
+ghost use Rattle.worker_pool.specs.Chunks.{end_of};
 ghost use Rattle.worker_pool.specs.Hands.{AreGroupsOf, AreHandsOf};
-ghost use Rattle.worker_pool.specs.Pieces.{end_of};
 ghost use Rattle.worker_pool.specs.Policies.{ForEachPolicy};
 ghost use Rattle.worker_pool.specs.Writing.{Begins};
 
 use crate::bells::Bells;
 use crate::dealing::deal;
-use crate::desk::follow_beside;
 use crate::end::End;
 use crate::hands::{WorkerHand, WorkerHub};
+use crate::loop_context::LoopContext;
+use crate::main_loop::follow_beside;
 use crate::opening::open;
 use crate::plan::Plan;
 use crate::schedule::{Schedule, most_workers};
-use crate::shop::Shop;
 use crate::stop::Stop;
 use crate::tally::Tally;
 use log_reader::LogReader;
@@ -35,7 +35,7 @@ use std::sync::Wait;
 use std::thread::Threads;
 
 // The most bytes that one read gives.
-const PIECE: usize = 65_536;
+const CHUNK: usize = 65_536;
 
 // What main and the threads work with, before anything was read.
 #[derive(Drop)]
@@ -73,7 +73,7 @@ fn prepare(alloc: Global, plan: Plan, cells: u32, threads: u32) -> Result<Prepar
     let (hub, driver, hands) = open(alloc, core, first, cells)?;
     let (groups, own) = deal(alloc, hands, threads)?;
     let bells = Bells::new(alloc, groups.len())?;
-    let buffer = Vec::from_elem(alloc, 0, PIECE)?;
+    let buffer = Vec::from_elem(alloc, 0, CHUNK)?;
     Ok(Prepared {
         hub,
         driver,
@@ -122,7 +122,7 @@ fn run_plan<R: Threads + Wait + Sync, I: Inputs, O: Sink, G: Gate + Sync>(
         bells,
         mut buffer,
     } = prepared;
-    let shop = Shop {
+    let context = LoopContext {
         rt,
         alloc,
         hub: &hub,
@@ -131,7 +131,7 @@ fn run_plan<R: Threads + Wait + Sync, I: Inputs, O: Sink, G: Gate + Sync>(
         cells,
     };
     follow_beside(
-        &shop,
+        &context,
         groups,
         own,
         &mut driver,

@@ -28,7 +28,7 @@ impl From<AllocError> for Stop {
 
 impl From<LogFault> for Stop {
     ghost use Rattle.std.specs.Prelude.{◌≡◌};
-    ghost use Rattle.worker_pool.specs.Pieces.{stop_for};
+    ghost use Rattle.worker_pool.specs.Chunks.{stop_for};
 
     ghost from_gives = { λ fault stop. stop ≡ stop_for fault };
 

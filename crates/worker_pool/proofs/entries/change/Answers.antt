@@ -5,19 +5,19 @@ use Rattle.worker_pool.proofs.entries.change.Goals as goal
 pub alter-requires-clause-may : goal.alter-requires-clause-may
 alter-requires-clause-may g c =
     may_change c.args.driver.now c.make_room.new.driver (g.O.Sink.written c.args.out.now)
-    (g.O.Sink.written c.make_room.new.out) c.args.page.now.tally c.make_room.new.page.tally c.args.strategy
+    (g.O.Sink.written c.make_room.new.out) c.args.writer.now.tally c.make_room.new.writer.tally c.args.strategy
     c.in_ok-make_room.ensures.ok c.requires.runs c.requires.suits
 
 pub returns-in_err-alter-clause-err : goal.returns-in_err-alter-clause-err
 returns-in_err-alter-clause-err g c =
     on_err c.from_residual-in_err-alter.result _
     (falls_on c.args.driver.now c.make_room.new.driver (g.O.Sink.written c.args.out.now)
-    (g.O.Sink.written c.make_room.new.out) (g.O.Sink.written c.make_room.new.out) c.args.page.now.tally
-    c.make_room.new.page.tally c.in_ok-make_room.ensures.ok
-    (stops c.make_room.new.driver (g.O.Sink.written c.make_room.new.out) c.make_room.new.page.tally))
+    (g.O.Sink.written c.make_room.new.out) (g.O.Sink.written c.make_room.new.out) c.args.writer.now.tally
+    c.make_room.new.writer.tally c.in_ok-make_room.ensures.ok
+    (stops c.make_room.new.driver (g.O.Sink.written c.make_room.new.out) c.make_room.new.writer.tally))
 
 pub returns-clause-ok : goal.returns-clause-ok
 returns-clause-ok g c =
     change_keeps c.args.driver.now c.make_room.new.driver c.alter.new.driver (g.O.Sink.written c.args.out.now)
-    (g.O.Sink.written c.make_room.new.out) c.args.page.now.tally c.make_room.new.page.tally c.args.strategy
+    (g.O.Sink.written c.make_room.new.out) c.args.writer.now.tally c.make_room.new.writer.tally c.args.strategy
     c.in_ok-make_room.ensures.ok c.requires.suits c.in_ok-alter.ensures.changes

@@ -12,15 +12,15 @@ loop-preserved g c =
     let inv = c.loop.invariant in
     let due = c.in-Some-next_due.ensures in
     let made = c.in_ok-change-in-Some-next_due.ensures in
-    let runs = runs_on c.args.driver.now c.loop.driver before here c.args.page.now.tally c.loop.page.tally inv.keeps
+    let runs = runs_on c.args.driver.now c.loop.driver before here c.args.writer.now.tally c.loop.writer.tally inv.keeps
     c.requires.runs in
     record {
-      keeps = keeps_on c.args.driver.now c.loop.driver c.change.new.driver before here behind c.args.page.now.tally
-          c.loop.page.tally c.change.new.page.tally inv.keeps made.ok;
-      suits = suits_kept c.loop.driver c.change.new.driver here behind c.loop.page.tally c.change.new.page.tally
+      keeps = keeps_on c.args.driver.now c.loop.driver c.change.new.driver before here behind c.args.writer.now.tally
+          c.loop.writer.tally c.change.new.writer.tally inv.keeps made.ok;
+      suits = suits_kept c.loop.driver c.change.new.driver here behind c.loop.writer.tally c.change.new.writer.tally
           c.next_due.new.self runs made.ok
           (suits_later c.loop.driver c.loop.schedule c.next_due.new.self c.in-Some-next_due.strategy due inv.suits);
-      seated = seated_later c.args.shop.now.cells c.loop.schedule c.next_due.new.self c.in-Some-next_due.strategy due
+      seated = seated_later c.args.context.now.cells c.loop.schedule c.next_due.new.self c.in-Some-next_due.strategy due
           inv.seated;
       routed = due.3 ∙ inv.routed;
       main = made.main;
@@ -32,5 +32,5 @@ loop-preserved g c =
 
 pub change-requires-clause-seated : goal.change-requires-clause-seated
 change-requires-clause-seated g c =
-    seated_now c.args.shop.now.cells c.loop.schedule c.next_due.new.self c.in-Some-next_due.strategy
+    seated_now c.args.context.now.cells c.loop.schedule c.next_due.new.self c.in-Some-next_due.strategy
     c.in-Some-next_due.ensures c.loop.invariant.seated

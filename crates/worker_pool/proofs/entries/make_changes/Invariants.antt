@@ -8,12 +8,13 @@ use Rattle.worker_pool.proofs.entries.make_changes.Given as goal
 -- the changes that are left suit the driver
 abbrev pub invariant-loop : goal.invariant-loop
 invariant-loop g l = record {
-  keeps : Keeps l.fn.driver (g.O.Sink.written l.fn.out) l.fn.page.tally l.driver (g.O.Sink.written l.out) l.page.tally;
+  keeps : Keeps l.fn.driver (g.O.Sink.written l.fn.out) l.fn.writer.tally l.driver (g.O.Sink.written l.out)
+      l.writer.tally;
   suits : Suits l.driver l.schedule;
-  seated : HaveCells l.shop.cells l.schedule;
+  seated : HaveCells l.context.cells l.schedule;
   routed : l.schedule.routed ≡ l.fn.schedule.routed;
-  main : IsMainOf l.shop.hub.now l.driver.main;
-  hands : AreHandsOf l.shop.hub.now l.own.items;
+  main : IsMainOf l.context.hub.now l.driver.main;
+  hands : AreHandsOf l.context.hub.now l.own.items;
   later : g.O.Sink.faults l.fn.out ≤ g.O.Sink.faults l.out;
   can : (goal.iterator-loop g).can_next l.iterator';
   finite : (goal.iterator-loop g).is_finite l.iterator';

@@ -7,10 +7,10 @@ admit-requires-clause-may g c =
     let a = g.O.Sink.written c.args.out.now in
     let b = g.O.Sink.written c.make_changes.new.out in
     let d = g.O.Sink.written c.make_room.new.out in
-    may_point c.args.driver.now c.make_room.new.driver a d c.args.page.now.tally c.make_room.new.page.tally
+    may_point c.args.driver.now c.make_room.new.driver a d c.args.writer.now.tally c.make_room.new.writer.tally
     c.args.point
-    (keeps_on c.args.driver.now c.make_changes.new.driver c.make_room.new.driver a b d c.args.page.now.tally
-    c.make_changes.new.page.tally c.make_room.new.page.tally c.in_ok-make_changes.ensures.ok
+    (keeps_on c.args.driver.now c.make_changes.new.driver c.make_room.new.driver a b d c.args.writer.now.tally
+    c.make_changes.new.writer.tally c.make_room.new.writer.tally c.in_ok-make_changes.ensures.ok
     c.in_ok-make_room.ensures.ok)
     c.requires.runs
 
@@ -20,21 +20,21 @@ returns-in_err-admit-clause-err g c =
     let b = g.O.Sink.written c.make_changes.new.out in
     let d = g.O.Sink.written c.make_room.new.out in
     on_err c.from_residual-in_err-admit.result _
-    (falls_on c.args.driver.now c.make_room.new.driver a d d c.args.page.now.tally c.make_room.new.page.tally
-    (keeps_on c.args.driver.now c.make_changes.new.driver c.make_room.new.driver a b d c.args.page.now.tally
-    c.make_changes.new.page.tally c.make_room.new.page.tally c.in_ok-make_changes.ensures.ok
+    (falls_on c.args.driver.now c.make_room.new.driver a d d c.args.writer.now.tally c.make_room.new.writer.tally
+    (keeps_on c.args.driver.now c.make_changes.new.driver c.make_room.new.driver a b d c.args.writer.now.tally
+    c.make_changes.new.writer.tally c.make_room.new.writer.tally c.in_ok-make_changes.ensures.ok
     c.in_ok-make_room.ensures.ok)
-    (stops c.make_room.new.driver d c.make_room.new.page.tally))
+    (stops c.make_room.new.driver d c.make_room.new.writer.tally))
 
 pub returns-clause-ok : goal.returns-clause-ok
 returns-clause-ok g c =
     let a = g.O.Sink.written c.args.out.now in
     let b = g.O.Sink.written c.make_changes.new.out in
     let d = g.O.Sink.written c.make_room.new.out in
-    point_adds c.args.driver.now c.make_room.new.driver c.admit.new.driver a d c.args.page.now.tally
-    c.make_room.new.page.tally c.args.point
-    (keeps_on c.args.driver.now c.make_changes.new.driver c.make_room.new.driver a b d c.args.page.now.tally
-    c.make_changes.new.page.tally c.make_room.new.page.tally c.in_ok-make_changes.ensures.ok
+    point_adds c.args.driver.now c.make_room.new.driver c.admit.new.driver a d c.args.writer.now.tally
+    c.make_room.new.writer.tally c.args.point
+    (keeps_on c.args.driver.now c.make_changes.new.driver c.make_room.new.driver a b d c.args.writer.now.tally
+    c.make_changes.new.writer.tally c.make_room.new.writer.tally c.in_ok-make_changes.ensures.ok
     c.in_ok-make_room.ensures.ok)
     c.in_ok-admit.ensures.reads
 
@@ -43,18 +43,18 @@ returns-clause-suits g c =
     let a = g.O.Sink.written c.args.out.now in
     let b = g.O.Sink.written c.make_changes.new.out in
     let d = g.O.Sink.written c.make_room.new.out in
-    suits_routed c.args.driver.now c.make_changes.new.driver c.admit.new.driver a b d c.args.page.now.tally
-    c.make_changes.new.page.tally c.make_room.new.page.tally c.args.point c.make_changes.new.schedule
+    suits_routed c.args.driver.now c.make_changes.new.driver c.admit.new.driver a b d c.args.writer.now.tally
+    c.make_changes.new.writer.tally c.make_room.new.writer.tally c.args.point c.make_changes.new.schedule
     c.count.new.self c.requires.runs c.in_ok-make_changes.ensures.ok
-    (point_adds c.args.driver.now c.make_room.new.driver c.admit.new.driver a d c.args.page.now.tally
-    c.make_room.new.page.tally c.args.point
-    (keeps_on c.args.driver.now c.make_changes.new.driver c.make_room.new.driver a b d c.args.page.now.tally
-    c.make_changes.new.page.tally c.make_room.new.page.tally c.in_ok-make_changes.ensures.ok
+    (point_adds c.args.driver.now c.make_room.new.driver c.admit.new.driver a d c.args.writer.now.tally
+    c.make_room.new.writer.tally c.args.point
+    (keeps_on c.args.driver.now c.make_changes.new.driver c.make_room.new.driver a b d c.args.writer.now.tally
+    c.make_changes.new.writer.tally c.make_room.new.writer.tally c.in_ok-make_changes.ensures.ok
     c.in_ok-make_room.ensures.ok)
     c.in_ok-admit.ensures.reads)
     c.count.ensures.changes c.in_ok-make_changes.ensures.suits
 
 pub returns-clause-seated : goal.returns-clause-seated
 returns-clause-seated g c =
-    seated_routed c.args.shop.now.cells c.make_changes.new.schedule c.count.new.self c.count.ensures.changes
+    seated_routed c.args.context.now.cells c.make_changes.new.schedule c.count.new.self c.count.ensures.changes
     c.in_ok-make_changes.ensures.seated

@@ -3,13 +3,13 @@ use Rattle.log_reader.specs.Progress.{Progress}
 use Rattle.log_reader.specs.Readers.{Reader}
 use Rattle.log_reader.specs.declared.limits.Limits.{Limits}
 use Rattle.worker_pool.specs.Effects.{effect}
-use Rattle.worker_pool.proofs.PieceLemmas.{course_begins, finished, lines_stop, one_more_piece}
-use Rattle.worker_pool.proofs.PieceLemmas.{output_failed, piece_failed, settles}
+use Rattle.worker_pool.proofs.ChunkLemmas.{chunk_failed, course_begins, finished, lines_stop, one_more_chunk}
+use Rattle.worker_pool.proofs.ChunkLemmas.{output_failed, settles}
 use Rattle.worker_pool.proofs.PointLemmas.{rose_later}
 use Rattle.worker_pool.proofs.following.follow.Goals as goal
 
-pub pieces-init : goal.pieces-init
-pieces-init g c = record {
+pub chunks-init : goal.chunks-init
+chunks-init g c = record {
   works = ap (λ (p : Progress). p.is_broken) c.requires.fresh;
   main = c.requires.main;
   hands = c.requires.hands;
@@ -22,8 +22,8 @@ pieces-init g c = record {
   later = omega arith;
   later_out = omega arith;
   course = λ core begins. course_begins core c.args.reader.now.sig (g.I.Inputs.rest c.args.inputs.now)
-      c.args.reader.now c.args.driver.now (g.O.Sink.written c.args.out.now) c.blank-page.result.tally
-      c.requires.fresh c.requires.reads begins c.blank-page.ensures;
+      c.args.reader.now c.args.driver.now (g.O.Sink.written c.args.out.now) c.new-writer.result.tally
+      c.requires.fresh c.requires.reads begins c.new-writer.ensures;
   can = tt;
   finite = tt;
 }
@@ -31,14 +31,14 @@ pieces-init g c = record {
 pub route_complete-requires-clause-few : goal.route_complete-requires-clause-few
 route_complete-requires-clause-few g c =
     let begins = c.requires.begins in
-    let course = c.pieces.invariant.course begins.0 begins.1 in
-    let most : c.pieces.reader.limits.points ≡ 2 ^ 32 - 1 = ap (λ (l : Limits). l.points) course.limits_is in
+    let course = c.chunks.invariant.course begins.0 begins.1 in
+    let most : c.chunks.reader.limits.points ≡ 2 ^ 32 - 1 = ap (λ (l : Limits). l.points) course.limits_is in
     omega (arith, most)
 
 pub route_complete-requires-clause-under_way : goal.route_complete-requires-clause-under_way
 route_complete-requires-clause-under_way g c =
     let begins = c.requires.begins in
-    let course = c.pieces.invariant.course begins.0 begins.1 in
+    let course = c.chunks.invariant.course begins.0 begins.1 in
     record {
       core = begins.0;
       bytes = course.bytes;
@@ -49,81 +49,81 @@ route_complete-requires-clause-under_way g c =
 
 pub returns-in-Err-clause-follows : goal.returns-in-Err-clause-follows
 returns-in-Err-clause-follows g c core begins policy is =
-    let inv = c.pieces.invariant in
+    let inv = c.chunks.invariant in
     let course = inv.course core begins in
     lines_stop core c.args.reader.now.sig policy is
-    (effect g.I.Inputs g.O.Sink c.args.inputs.now c.pieces.inputs c.args.out.now c.route_complete.new.out)
-    c.pieces.reader c.pieces.driver c.pieces.page.tally
-    (g.O.Sink.written c.pieces.out) course c.in-Err.stop (g.O.Sink.faults c.pieces.out) inv.later_out
+    (effect g.I.Inputs g.O.Sink c.args.inputs.now c.chunks.inputs c.args.out.now c.route_complete.new.out)
+    c.chunks.reader c.chunks.driver c.chunks.writer.tally
+    (g.O.Sink.written c.chunks.out) course c.in-Err.stop (g.O.Sink.faults c.chunks.out) inv.later_out
     (c.in-Err.ensures.stops core course.bytes (g.O.Sink.written c.args.out.now) course.reads course.so_far policy is)
     (c.in-Err.ensures.front core course.bytes (g.O.Sink.written c.args.out.now) course.reads course.so_far policy is)
 
 pub returns-then-is_finished-clause-follows : goal.returns-then-is_finished-clause-follows
 returns-then-is_finished-clause-follows g c core begins policy is =
-    let course = c.pieces.invariant.course core begins in
+    let course = c.chunks.invariant.course core begins in
     let all = settles core c.args.reader.now.sig _ _ _ c.route_complete.new.reader _ c.route_complete.new.driver _ _
-    (g.O.Sink.written c.route_complete.new.out) _ c.route_complete.new.page.tally course c.in-Ok.ensures.reader
+    (g.O.Sink.written c.route_complete.new.out) _ c.route_complete.new.writer.tally course c.in-Ok.ensures.reader
     (c.in-Ok.ensures.ok core course.bytes (g.O.Sink.written c.args.out.now) course.reads course.so_far) in
     finished core c.args.reader.now.sig policy is
-    (effect g.I.Inputs g.O.Sink c.args.inputs.now c.pieces.inputs c.args.out.now c.route_complete.new.out)
-    c.route_complete.new.reader c.route_complete.new.driver c.route_complete.new.page.tally all
+    (effect g.I.Inputs g.O.Sink c.args.inputs.now c.chunks.inputs c.args.out.now c.route_complete.new.out)
+    c.route_complete.new.reader c.route_complete.new.driver c.route_complete.new.writer.tally all
     (sym c.is_finished.ensures ∙ c.if-is_finished.true)
 
 pub returns-in-Err-flush-clause-follows : goal.returns-in-Err-flush-clause-follows
 returns-in-Err-flush-clause-follows g c core begins policy is =
-    let inv = c.pieces.invariant in
+    let inv = c.chunks.invariant in
     let course = inv.course core begins in
     let all = settles core c.args.reader.now.sig _ _ _ c.route_complete.new.reader _ c.route_complete.new.driver _ _
-    (g.O.Sink.written c.route_complete.new.out) _ c.route_complete.new.page.tally course c.in-Ok.ensures.reader
+    (g.O.Sink.written c.route_complete.new.out) _ c.route_complete.new.writer.tally course c.in-Ok.ensures.reader
     (c.in-Ok.ensures.ok core course.bytes (g.O.Sink.written c.args.out.now) course.reads course.so_far) in
     output_failed core c.args.reader.now.sig policy is
-    (effect g.I.Inputs g.O.Sink c.args.inputs.now c.pieces.inputs c.args.out.now c.flush.new.self)
-    c.route_complete.new.reader c.route_complete.new.driver c.route_complete.new.page.tally
+    (effect g.I.Inputs g.O.Sink c.args.inputs.now c.chunks.inputs c.args.out.now c.flush.new.self)
+    c.route_complete.new.reader c.route_complete.new.driver c.route_complete.new.writer.tally
     (g.O.Sink.written c.route_complete.new.out) c.flush.ensures.kept all
     (rose_later (g.O.Sink.faults c.args.out.now) (g.O.Sink.faults c.route_complete.new.out)
     (g.O.Sink.faults c.flush.new.self) (omega (arith, inv.later_out, c.route_complete.ensures.later))
     c.in-Err-flush.ensures.cause.failed)
 
-pub returns-in-Err-read_piece-clause-follows : goal.returns-in-Err-read_piece-clause-follows
-returns-in-Err-read_piece-clause-follows g c core begins policy is =
-    let inv = c.pieces.invariant in
+pub returns-in-Err-read_chunk-clause-follows : goal.returns-in-Err-read_chunk-clause-follows
+returns-in-Err-read_chunk-clause-follows g c core begins policy is =
+    let inv = c.chunks.invariant in
     let course = inv.course core begins in
     let all = settles core c.args.reader.now.sig _ _ _ c.route_complete.new.reader _ c.route_complete.new.driver _ _
-    (g.O.Sink.written c.route_complete.new.out) _ c.route_complete.new.page.tally course c.in-Ok.ensures.reader
+    (g.O.Sink.written c.route_complete.new.out) _ c.route_complete.new.writer.tally course c.in-Ok.ensures.reader
     (c.in-Ok.ensures.ok core course.bytes (g.O.Sink.written c.args.out.now) course.reads course.so_far) in
-    piece_failed core c.args.reader.now.sig policy is
-    (effect g.I.Inputs g.O.Sink c.args.inputs.now c.read_piece.new.inputs c.args.out.now c.flush.new.self)
-    c.route_complete.new.reader c.route_complete.new.driver c.route_complete.new.page.tally
-    (g.O.Sink.written c.route_complete.new.out) (g.I.Inputs.rest c.pieces.inputs) c.flush.ensures.kept all
-    (sym c.is_finished.ensures ∙ c.if-is_finished.false) c.read_piece.new.reader
-    (g.I.Inputs.faults c.pieces.inputs) c.in-Err-read_piece.stop inv.later c.in-Err-read_piece.ensures.reads
+    chunk_failed core c.args.reader.now.sig policy is
+    (effect g.I.Inputs g.O.Sink c.args.inputs.now c.read_chunk.new.inputs c.args.out.now c.flush.new.self)
+    c.route_complete.new.reader c.route_complete.new.driver c.route_complete.new.writer.tally
+    (g.O.Sink.written c.route_complete.new.out) (g.I.Inputs.rest c.chunks.inputs) c.flush.ensures.kept all
+    (sym c.is_finished.ensures ∙ c.if-is_finished.false) c.read_chunk.new.reader
+    (g.I.Inputs.faults c.chunks.inputs) c.in-Err-read_chunk.stop inv.later c.in-Err-read_chunk.ensures.reads
 
-pub pieces-preserved : goal.pieces-preserved
-pieces-preserved g c =
-    let inv = c.pieces.invariant in
-    let piece = c.in-Ok-read_piece.ensures.reads in
+pub chunks-preserved : goal.chunks-preserved
+chunks-preserved g c =
+    let inv = c.chunks.invariant in
+    let chunk = c.in-Ok-read_chunk.ensures.reads in
     record {
-      works = ap (λ (r : Reader). r.is_broken) piece.ok.same
+      works = ap (λ (r : Reader). r.is_broken) chunk.ok.same
           ∙ ap (λ (r : Reader). r.is_broken) c.in-Ok.ensures.reader ∙ inv.works;
       main = c.in-Ok.ensures.main;
       hands = c.route_complete.ensures.hands;
       suits = c.in-Ok.ensures.suits;
       seated = c.in-Ok.ensures.seated;
-      routed = c.in-Ok.ensures.routed ∙ sym (ap (λ (r : Reader). r.given) piece.ok.same);
-      files = c.read_piece.ensures.files ∙ inv.files;
-      stays_open = c.read_piece.ensures.stays_open ∙ inv.stays_open;
-      asks_nothing = c.read_piece.ensures.asks_nothing ∙ inv.asks_nothing;
-      later = omega (arith, inv.later, c.read_piece.ensures.later);
+      routed = c.in-Ok.ensures.routed ∙ sym (ap (λ (r : Reader). r.given) chunk.ok.same);
+      files = c.read_chunk.ensures.files ∙ inv.files;
+      stays_open = c.read_chunk.ensures.stays_open ∙ inv.stays_open;
+      asks_nothing = c.read_chunk.ensures.asks_nothing ∙ inv.asks_nothing;
+      later = omega (arith, inv.later, c.read_chunk.ensures.later);
       later_out = omega (arith, inv.later_out, c.route_complete.ensures.later, c.flush.ensures.cause.later);
       course = λ core begins.
           let course = inv.course core begins in
           let all = settles core c.args.reader.now.sig _ _ _ c.route_complete.new.reader _ c.route_complete.new.driver
-          _ _ (g.O.Sink.written c.route_complete.new.out) _ c.route_complete.new.page.tally course
+          _ _ (g.O.Sink.written c.route_complete.new.out) _ c.route_complete.new.writer.tally course
           c.in-Ok.ensures.reader
           (c.in-Ok.ensures.ok core course.bytes (g.O.Sink.written c.args.out.now) course.reads course.so_far) in
-          rw c.flush.ensures.kept (one_more_piece core c.args.reader.now.sig
-          _ _ (g.I.Inputs.rest c.read_piece.new.inputs) _ c.read_piece.new.reader _ _ _ _ all
-          (sym c.is_finished.ensures ∙ c.if-is_finished.false) piece.piece piece.taken piece.ok);
+          rw c.flush.ensures.kept (one_more_chunk core c.args.reader.now.sig
+          _ _ (g.I.Inputs.rest c.read_chunk.new.inputs) _ c.read_chunk.new.reader _ _ _ _ all
+          (sym c.is_finished.ensures ∙ c.if-is_finished.false) chunk.chunk chunk.taken chunk.ok);
       can = tt;
       finite = tt;
     }

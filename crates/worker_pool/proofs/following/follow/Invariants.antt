@@ -4,16 +4,16 @@ use Rattle.turn_hub.specs.Ends.{IsMainOf}
 use Rattle.worker_pool.specs.Changes.{HaveCells, Suits}
 use Rattle.worker_pool.specs.Hands.{AreHandsOf}
 use Rattle.worker_pool.specs.Writing.{Begins}
-use Rattle.worker_pool.proofs.PieceLemmas.{Course}
+use Rattle.worker_pool.proofs.ChunkLemmas.{Course}
 use Rattle.worker_pool.proofs.following.follow.Given as goal
 
-abbrev pub invariant-pieces : goal.invariant-pieces
-invariant-pieces g l = record {
+abbrev pub invariant-chunks : goal.invariant-chunks
+invariant-chunks g l = record {
   works : l.reader.is_broken ≡ false;
-  main : IsMainOf l.shop.hub.now l.driver.main;
-  hands : AreHandsOf l.shop.hub.now l.own.items;
+  main : IsMainOf l.context.hub.now l.driver.main;
+  hands : AreHandsOf l.context.hub.now l.own.items;
   suits : Suits l.driver l.schedule;
-  seated : HaveCells l.shop.cells l.schedule;
+  seated : HaveCells l.context.cells l.schedule;
   routed : l.schedule.routed ≡ l.reader.given;
   files : g.I.Inputs.files l.inputs ≡ g.I.Inputs.files l.fn.inputs;
   stays_open : g.I.Inputs.is_open l.inputs ≡ g.I.Inputs.is_open l.fn.inputs;
@@ -22,7 +22,7 @@ invariant-pieces g l = record {
   later_out : g.O.Sink.faults l.fn.out ≤ g.O.Sink.faults l.out;
   course : (core : CoreForm) → Begins core l.fn.driver → Course core l.fn.reader.sig
       (g.I.Inputs.rest l.fn.inputs) (g.I.Inputs.rest l.inputs) l.reader l.driver (g.O.Sink.written l.fn.out)
-      (g.O.Sink.written l.out) l.page.tally;
-  can : (goal.iterator-pieces g).can_next l.iterator';
-  finite : (goal.iterator-pieces g).is_finite l.iterator';
+      (g.O.Sink.written l.out) l.writer.tally;
+  can : (goal.iterator-chunks g).can_next l.iterator';
+  finite : (goal.iterator-chunks g).is_finite l.iterator';
 }

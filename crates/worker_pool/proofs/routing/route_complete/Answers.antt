@@ -19,7 +19,7 @@ points-init g c = record {
   routed = c.requires.routed;
   so_far = λ core bytes start reads so_far.
       begins core c.args.reader.now bytes c.args.driver.now start (g.O.Sink.written c.args.out.now)
-      c.args.page.now.tally reads so_far;
+      c.args.writer.now.tally reads so_far;
   can = tt;
   finite = tt;
 }
@@ -77,7 +77,7 @@ returns-in-Ok-More-clause-ok g c =
     ends_more _ _ _ _ _ _ _ here c.next-in-points.new.self (rw c.in-Ok-More.field-0-is at c.in-Ok-More.ensures.after)
     (c.in-Ok-More.ensures.reads bytes here.reads)
     (rw c.in-Ok-More.field-0-is at (c.in-Ok-More.ensures.answer bytes here.reads))
-    c.drain.new.driver (g.O.Sink.written c.drain.new.out) c.drain.new.page.tally keeps over)
+    c.drain.new.driver (g.O.Sink.written c.drain.new.out) c.drain.new.writer.tally keeps over)
     c.drain.ensures.ok c.drain.ensures.over
 
 pub returns-in-Ok-More-clause-suits : goal.returns-in-Ok-More-clause-suits
@@ -85,7 +85,7 @@ returns-in-Ok-More-clause-suits g c =
     let under = c.requires.under_way in
     let here = c.points.invariant.so_far under.core under.bytes under.start under.reads under.so_far in
     suits_drained c.drain.result c.points.driver c.drain.new.driver (g.O.Sink.written c.points.out)
-    (g.O.Sink.written c.drain.new.out) c.points.page.tally c.drain.new.page.tally c.points.schedule (
+    (g.O.Sink.written c.drain.new.out) c.points.writer.tally c.drain.new.writer.tally c.points.schedule (
       under.core,
       take c.points.reader.given (read (progress c.args.reader.now under.bytes)).points,
       under.start,
@@ -96,7 +96,7 @@ pub returns-in-Ok-More-clause-front : goal.returns-in-Ok-More-clause-front
 returns-in-Ok-More-clause-front g c core bytes start reads so_far =
     short _ _ _ _ _ _ _ (c.points.invariant.so_far core bytes start reads so_far) (g.O.Sink.written c.drain.new.out)
     (falls_either c.drain.result c.points.driver c.drain.new.driver (g.O.Sink.written c.points.out)
-    (g.O.Sink.written c.drain.new.out) c.points.page.tally c.drain.new.page.tally c.drain.ensures.ok
+    (g.O.Sink.written c.drain.new.out) c.points.writer.tally c.drain.new.writer.tally c.drain.ensures.ok
     c.drain.ensures.err)
 
 pub drain-requires-in-Ok-End-clause-runs : goal.drain-requires-in-Ok-End-clause-runs
@@ -117,7 +117,7 @@ returns-in-Ok-End-clause-ok g c =
     ends_end _ _ _ _ _ _ _ here c.next-in-points.new.self (rw c.in-Ok-End.field-0-is at c.in-Ok-End.ensures.after)
     (c.in-Ok-End.ensures.reads bytes here.reads)
     (rw c.in-Ok-End.field-0-is at (c.in-Ok-End.ensures.answer bytes here.reads))
-    c.drain-in-Ok-End.new.driver (g.O.Sink.written c.drain-in-Ok-End.new.out) c.drain-in-Ok-End.new.page.tally keeps
+    c.drain-in-Ok-End.new.driver (g.O.Sink.written c.drain-in-Ok-End.new.out) c.drain-in-Ok-End.new.writer.tally keeps
     over)
     c.drain-in-Ok-End.ensures.ok c.drain-in-Ok-End.ensures.over
 
@@ -126,7 +126,7 @@ returns-in-Ok-End-clause-suits g c =
     let under = c.requires.under_way in
     let here = c.points.invariant.so_far under.core under.bytes under.start under.reads under.so_far in
     suits_drained c.drain-in-Ok-End.result c.points.driver c.drain-in-Ok-End.new.driver (g.O.Sink.written c.points.out)
-    (g.O.Sink.written c.drain-in-Ok-End.new.out) c.points.page.tally c.drain-in-Ok-End.new.page.tally
+    (g.O.Sink.written c.drain-in-Ok-End.new.out) c.points.writer.tally c.drain-in-Ok-End.new.writer.tally
     c.points.schedule (
       under.core,
       take c.points.reader.given (read (progress c.args.reader.now under.bytes)).points,
@@ -139,8 +139,8 @@ returns-in-Ok-End-clause-front g c core bytes start reads so_far =
     short _ _ _ _ _ _ _ (c.points.invariant.so_far core bytes start reads so_far)
     (g.O.Sink.written c.drain-in-Ok-End.new.out)
     (falls_either c.drain-in-Ok-End.result c.points.driver c.drain-in-Ok-End.new.driver
-    (g.O.Sink.written c.points.out) (g.O.Sink.written c.drain-in-Ok-End.new.out) c.points.page.tally
-    c.drain-in-Ok-End.new.page.tally c.drain-in-Ok-End.ensures.ok c.drain-in-Ok-End.ensures.err)
+    (g.O.Sink.written c.points.out) (g.O.Sink.written c.drain-in-Ok-End.new.out) c.points.writer.tally
+    c.drain-in-Ok-End.new.writer.tally c.drain-in-Ok-End.ensures.ok c.drain-in-Ok-End.ensures.err)
 
 pub points-preserved : goal.points-preserved
 points-preserved g c =
@@ -166,9 +166,9 @@ points-preserved g c =
           let here = c.points.invariant.so_far core bytes start reads so_far in
           let gives = rw c.in-Ok-Point.field-0-is at (c.in-Ok-Point.ensures.answer bytes here.reads) in
           goes_on core (progress c.args.reader.now bytes) c.points.reader c.points.driver start
-          (g.O.Sink.written c.points.out) c.points.page.tally here c.in-Ok-Point.point gives c.next-in-points.new.self
+          (g.O.Sink.written c.points.out) c.points.writer.tally here c.in-Ok-Point.point gives c.next-in-points.new.self
           after (reads_on bytes here.reads) room c.route.new.driver (g.O.Sink.written c.route.new.out)
-          c.route.new.page.tally c.in_ok-route-in-Ok-Point.ensures.ok;
+          c.route.new.writer.tally c.in_ok-route-in-Ok-Point.ensures.ok;
       can = tt;
       finite = tt;
     }
@@ -177,7 +177,7 @@ pub returns-in-Err-clause-stops : goal.returns-in-Err-clause-stops
 returns-in-Err-clause-stops g c core bytes start reads so_far =
     let here = c.points.invariant.so_far core bytes start reads so_far in
     stops_with _ _ _ _ _ _ _ here c.in-Err.fault _ c.from.ensures (c.in-Err.ensures.answer bytes here.reads)
-    c.drain-in-Err.new.driver (g.O.Sink.written c.drain-in-Err.new.out) c.drain-in-Err.new.page.tally
+    c.drain-in-Err.new.driver (g.O.Sink.written c.drain-in-Err.new.out) c.drain-in-Err.new.writer.tally
     c.in_ok-drain-in-Err.ensures.ok c.in_ok-drain-in-Err.ensures.over _ _
 
 pub drain-requires-in-Err-clause-runs : goal.drain-requires-in-Err-clause-runs
@@ -200,5 +200,5 @@ returns-in-Err-clause-front g c core bytes start reads so_far =
     short _ _ _ _ _ _ _ (c.points.invariant.so_far core bytes start reads so_far)
     (g.O.Sink.written c.drain-in-Err.new.out)
     (falls_either c.drain-in-Err.result c.points.driver c.drain-in-Err.new.driver
-    (g.O.Sink.written c.points.out) (g.O.Sink.written c.drain-in-Err.new.out) c.points.page.tally
-    c.drain-in-Err.new.page.tally c.drain-in-Err.ensures.ok c.drain-in-Err.ensures.err)
+    (g.O.Sink.written c.points.out) (g.O.Sink.written c.drain-in-Err.new.out) c.points.writer.tally
+    c.drain-in-Err.new.writer.tally c.drain-in-Err.ensures.ok c.drain-in-Err.ensures.err)

@@ -2,8 +2,8 @@ use Rattle.std.proofs.Common.{◌≡◌, ◌≤◌, false}
 use Rattle.log_reader.specs.Readers.{progress}
 use Rattle.turn_hub.specs.Ends.{IsMainOf}
 use Rattle.worker_pool.specs.Changes.{HaveCells, Suits}
+use Rattle.worker_pool.specs.Chunks.{ForEachRun}
 use Rattle.worker_pool.specs.Hands.{AreHandsOf}
-use Rattle.worker_pool.specs.Pieces.{ForEachRun}
 use Rattle.worker_pool.proofs.PointLemmas.{Takes}
 use Rattle.worker_pool.proofs.routing.route_complete.Given as goal
 
@@ -12,14 +12,14 @@ invariant-points g l = record {
   works : l.reader.is_broken ≡ false;
   reader : l.reader ≡ record l.fn.reader { given = l.reader.given; kept = l.reader.kept };
   later : g.O.Sink.faults l.fn.out ≤ g.O.Sink.faults l.out;
-  main : IsMainOf l.shop.hub.now l.driver.main;
-  hands : AreHandsOf l.shop.hub.now l.own.items;
+  main : IsMainOf l.context.hub.now l.driver.main;
+  hands : AreHandsOf l.context.hub.now l.own.items;
   suits : Suits l.driver l.schedule;
-  seated : HaveCells l.shop.cells l.schedule;
+  seated : HaveCells l.context.cells l.schedule;
   routed : l.schedule.routed ≡ l.reader.given;
-  so_far : ForEachRun l.fn.reader l.fn.driver (g.O.Sink.written l.fn.out) l.fn.page.tally
+  so_far : ForEachRun l.fn.reader l.fn.driver (g.O.Sink.written l.fn.out) l.fn.writer.tally
       (λ core bytes start. Takes core (progress l.fn.reader bytes) l.reader l.driver start (g.O.Sink.written l.out)
-      l.page.tally);
+      l.writer.tally);
   can : (goal.iterator-points g).can_next l.iterator';
   finite : (goal.iterator-points g).is_finite l.iterator';
 }

@@ -1,0 +1,98 @@
+-- How far the monitoring of a log has come that is read in chunks.
+use Rattle.std.specs.Prelude.{◌≡◌, ℕ, true, List, [], ◌++◌, length, take, Option, Result, IfErr, OnOk}
+use Rattle.std.specs.Prelude.{Ok, Err}
+use Rattle.std.specs.Io.KnownBytes.{IsAtEnd}
+use Rattle.mon_outside.specs.Causes.{Rose}
+use Rattle.mon_outside.specs.Inputs.{Consumes}
+use Rattle.mon_outside.specs.Sink.{Appends}
+use Rattle.mfotl_model.specs.Formulas.{Form}
+use Rattle.monitorable.specs.CoreForms.{CoreForm}
+use Rattle.log_reader.specs.Progress.{Progress, read}
+use Rattle.log_reader.specs.Readers.{ForEach, Reader, Reads, progress}
+use Rattle.log_reader.specs.Readings.{Fault, NoFault, Reading}
+use Rattle.log_reader.specs.declared.fault.LogFault.{LogFault}
+use Rattle.log_reader.specs.declared.fault.LogFault.TheVariants as log
+use Rattle.rescale_core.specs.declared.driver.Driver.{Driver}
+use Rattle.worker_pool.specs.Texts.{lines, tally_of, text_on}
+use Rattle.worker_pool.specs.Writing.{IsOutputStop, Writes, all_verdicts}
+use Rattle.worker_pool.specs.declared.end.End.{End}
+use Rattle.worker_pool.specs.declared.end.End.TheVariants.{Finished, LogEnds, ReadFailed, SinkFailed}
+use Rattle.worker_pool.specs.declared.end.End.TheVariants as end
+use Rattle.worker_pool.specs.declared.stop.Stop.{Stop}
+use Rattle.worker_pool.specs.declared.stop.Stop.TheVariants.{Log, Read, Sink, Memory}
+use Rattle.worker_pool.specs.declared.tally.Tally.{Tally}
+
+-- the end of a run that stopped, or that counted all lines
+abbrev pub end_of : Result Tally Stop → End
+end_of (Ok tally) = Finished tally.settled tally.violated tally.rows
+end_of (Err (Log fault)) = LogEnds fault
+end_of (Err Read) = ReadFailed
+end_of (Err Sink) = SinkFailed
+end_of (Err Memory) = end.Memory
+
+-- what stops the loop at a fault of the log
+abbrev pub stop_for : LogFault → Stop
+stop_for log.Memory = Memory
+stop_for fault = Log fault
+
+-- ---- the time-points of the bytes so far
+
+-- the time-points that were given were read, and the lines of what was emitted were written
+pub record SoFar (core : CoreForm) (r : Progress) (driver : Driver) (old new : Option (List ℕ)) (tally : Tally)
+    : Type 0 where
+  pub counted : length (take r.given (read r).points) ≡ r.given
+  pub writes : Writes core (take r.given (read r).points) old driver new tally
+
+-- the reader was fed some bytes, of which the time-points that it gave were read
+pub record IsUnderWay (reader : Reader) (driver : Driver) (now : Option (List ℕ)) (tally : Tally) : Type 0 where
+  pub core : CoreForm
+  pub bytes : List ℕ
+  pub start : Option (List ℕ)
+  pub reads : Reads reader bytes
+  pub so_far : SoFar core (progress reader bytes) driver start now tally
+
+-- whatever the core, the bytes that the reader may have been fed, and what stood in the output before the lines
+abbrev pub ForEachRun : Reader → Driver → Option (List ℕ) → Tally
+    → (CoreForm → List ℕ → Option (List ℕ) → Type 0) → Type 0
+ForEachRun reader driver now tally P =
+    (core : CoreForm) (bytes : List ℕ) (start : Option (List ℕ)) → Reads reader bytes
+    → SoFar core (progress reader bytes) driver start now tally → P core bytes start
+
+-- all time-points that the bytes show were read, all their lines written and counted, and the bytes show no fault
+pub record TakesAll (core : CoreForm) (reader : Reader) (bytes : List ℕ) (driver : Driver) (old new : Option (List ℕ))
+    (tally : Tally) : Type 0 where
+  pub reads : Reads reader bytes
+  pub so_far : SoFar core (progress reader bytes) driver old new tally
+  pub all : reader.given ≡ length (read (progress reader bytes)).points
+  pub clear : (read (progress reader bytes)).ending ≡ NoFault
+  pub written : Appends old new (lines (all_verdicts core (read (progress reader bytes)).points))
+  pub counts : tally ≡ tally_of (all_verdicts core (read (progress reader bytes)).points)
+
+-- why not all lines were written, or that the fault stands behind them
+abbrev pub StopsLines : Form → Reading → Option (List ℕ) → Option (List ℕ) → ℕ → ℕ → Stop → Type 0
+StopsLines policy r old new before now (Log fault) =
+    (r.ending ≡ Fault fault) × Appends old new (text_on policy r)
+StopsLines policy r old new before now stop = IsOutputStop before now stop
+
+-- ---- one chunk more
+
+-- the chunk was fed, or the end told where no byte was left
+pub record Feeds (old new : Reader) (before : Option (List ℕ)) (chunk : List ℕ) : Type 0 where
+  pub same : new ≡ record old { is_fed = new.is_fed; is_ended = new.is_ended; kept = new.kept }
+  pub reads : ForEach old (λ bytes. Reads new (bytes ++ chunk))
+  pub whole : new.is_ended ≡ true → IsAtEnd before × (chunk ≡ [])
+
+-- the read failed and gave nothing, or memory was refused
+abbrev pub IsChunkStop : List ℕ → ℕ → ℕ → Stop → Type 0
+IsChunkStop chunk before now (Log fault) = ⊥
+IsChunkStop chunk before now Read = (chunk ≡ []) × Rose before now
+IsChunkStop chunk before now Sink = ⊥
+IsChunkStop chunk before now Memory = Unit {0}
+
+-- one chunk was read of what was left of the log, and fed
+pub record ReadsChunk (old new : Reader) (before after : Option (List ℕ)) (faults faults_after : ℕ)
+    (result : Result Unit Stop) : Type 0 where
+  pub chunk : List ℕ
+  pub taken : Consumes before after chunk
+  pub ok : OnOk result (Feeds old new before chunk)
+  pub failed : IfErr result (IsChunkStop chunk faults faults_after)

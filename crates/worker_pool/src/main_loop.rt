@@ -1,0 +1,153 @@
+//! Main's loop as what main does beside the threads.
+ghost use Rattle.std.specs.Prelude.{◌≡◌, ◌≤◌, ◌<◌, [], IsTrue, length};
+ghost use Rattle.log_reader.specs.Limits.{standard};
+ghost use Rattle.log_reader.specs.Progress.{start};
+ghost use Rattle.log_reader.specs.Readers.{Reads, progress};
+ghost use Rattle.monitorable.specs.CoreForms.{CoreForm};
+ghost use Rattle.turn_hub.specs.Ends.{IsMainOf, cell_count};
+ghost use Rattle.worker_pool.specs.Changes.{HaveCells, Suits};
+ghost use Rattle.worker_pool.specs.Chunks.{end_of};
+ghost use Rattle.worker_pool.specs.Effects.{effect};
+ghost use Rattle.worker_pool.specs.Endings.{FollowsLog};
+ghost use Rattle.worker_pool.specs.Hands.{AreGroupsOf, AreHandsOf};
+ghost use Rattle.worker_pool.specs.Policies.{ForEachPolicy};
+ghost use Rattle.worker_pool.specs.Writing.{Begins};
+
+use crate::following::follow;
+use crate::hands::WorkerHand;
+use crate::loop_context::LoopContext;
+use crate::main_task::MainTask;
+use crate::schedule::Schedule;
+use crate::stop::Stop;
+use crate::tally::Tally;
+use crate::threads::beside;
+use log_reader::LogReader;
+use mon_outside::{Gate, Inputs, Sink};
+use rescale_core::Driver;
+use std::alloc::AllocError;
+use std::sync::Wait;
+use std::thread::Threads;
+
+// What main's loop has and is lent.
+#[derive(Drop)]
+struct MainLoop<'o, 's, R, G, I, O> {
+    context: &'o LoopContext<'o, R, G>,
+    driver: &'o mut Driver,
+    schedule: &'o mut Schedule,
+    buffer: &'o mut Vec<u8>,
+    log: &'o mut LogReader<'s>,
+    inputs: &'o mut I,
+    out: &'o mut O,
+}
+
+impl<'o, 's, R: Wait, G: Gate, I: Inputs, O: Sink> MainTask for MainLoop<'o, 's, R, G, I, O> {
+    ghost use Rattle.std.specs.Prelude.{◌≡◌, ◌≤◌, ◌<◌, [], IsTrue, length};
+    ghost use Rattle.log_reader.specs.Progress.{start};
+    ghost use Rattle.log_reader.specs.Readers.{Reads, progress};
+    ghost use Rattle.monitorable.specs.CoreForms.{CoreForm};
+    ghost use Rattle.turn_hub.specs.Ends.{IsMainOf, cell_count};
+    ghost use Rattle.worker_pool.specs.Changes.{HaveCells, Suits};
+    ghost use Rattle.worker_pool.specs.Chunks.{end_of};
+    ghost use Rattle.worker_pool.specs.Effects.{effect};
+    ghost use Rattle.worker_pool.specs.Endings.{FollowsLog};
+    ghost use Rattle.worker_pool.specs.Hands.{AreHandsOf};
+    ghost use Rattle.worker_pool.specs.Policies.{ForEachPolicy};
+    ghost use Rattle.log_reader.specs.Limits.{standard};
+    ghost use Rattle.worker_pool.specs.Writing.{Begins};
+
+    type Answer = Result<Tally, Stop>;
+
+    ghost can = { λ d own. (0 < length d.buffer.now.items)
+        × IsTrue (I.is_open d.inputs.now)
+        × (progress d.log.now [] ≡ start d.log.now.sig standard)
+        × Reads d.log.now []
+        × ((core : CoreForm) × Begins core d.driver.now)
+        × Suits d.driver.now d.schedule.now
+        × HaveCells d.context.now.cells d.schedule.now
+        × (d.schedule.now.routed ≡ 0)
+        × IsMainOf d.context.now.hub.now d.driver.now.main
+        × (d.context.now.cells ≤ cell_count d.context.now.hub.now)
+        × AreHandsOf d.context.now.hub.now own };
+
+    ghost did = { λ d r e. (e.log.ghost_name ≡ d.log.ghost_name)
+        × (e.inputs.ghost_name ≡ d.inputs.ghost_name)
+        × (e.out.ghost_name ≡ d.out.ghost_name)
+        × (I.files e.inputs.now ≡ I.files d.inputs.now)
+        × (I.is_open e.inputs.now ≡ I.is_open d.inputs.now)
+        × (I.asked e.inputs.now ≡ I.asked d.inputs.now)
+        × (I.faults d.inputs.now ≤ I.faults e.inputs.now)
+        × (O.faults d.out.now ≤ O.faults e.out.now)
+        × ((core : CoreForm) → Begins core d.driver.now → ForEachPolicy core (λ policy. FollowsLog d.log.now.sig policy
+        (effect I.Inputs O.Sink d.inputs.now e.inputs.now d.out.now e.out.now) (end_of r))) };
+
+    fn run(
+        &mut self,
+        ready: Result<(), AllocError>,
+        own: &mut Vec<WorkerHand>,
+    ) -> Result<Tally, Stop> {
+        ready?;
+        follow(
+            self.context,
+            own,
+            &mut *self.driver,
+            &mut *self.schedule,
+            &mut *self.inputs,
+            self.buffer.as_mut_slice(),
+            &mut *self.log,
+            &mut *self.out,
+        )
+    }
+}
+
+/// Follows the log with a thread for each group of hands. Main serves its own.
+pub(crate) fn follow_beside<'o, 's, R: Threads + Wait + Sync, I: Inputs, O: Sink, G: Gate + Sync>(
+    context: &'o LoopContext<'o, R, G>,
+    groups: Vec<Vec<WorkerHand>>,
+    own: Vec<WorkerHand>,
+    driver: &'o mut Driver,
+    schedule: &'o mut Schedule,
+    buffer: &'o mut Vec<u8>,
+    log: &'o mut LogReader<'s>,
+    inputs: &'o mut I,
+    out: &'o mut O,
+) -> Result<Tally, Stop>
+    requires room { 0 < length buffer.old.items }
+    requires opened { IsTrue (I.is_open inputs.old) }
+    requires fresh { progress log.old [] ≡ start log.old.sig standard }
+    requires reads { Reads log.old [] }
+    requires begins { (core : CoreForm) × Begins core driver.old }
+    requires suits { Suits driver.old schedule.old }
+    requires seated { HaveCells context.now.cells schedule.old }
+    requires unread { schedule.old.routed ≡ 0 }
+    requires main { IsMainOf context.now.hub.now driver.old.main }
+    requires cells { context.now.cells ≤ cell_count context.now.hub.now }
+    requires groups { AreGroupsOf context.now.hub.now groups.items }
+    requires hands { AreHandsOf context.now.hub.now own.items }
+    ensures files { I.files inputs.new ≡ I.files inputs.old }
+    ensures stays_open { I.is_open inputs.new ≡ I.is_open inputs.old }
+    ensures asks_nothing { I.asked inputs.new ≡ I.asked inputs.old }
+    ensures later { I.faults inputs.old ≤ I.faults inputs.new }
+    ensures later_out { O.faults out.old ≤ O.faults out.new }
+    ensures follows { (core : CoreForm) → Begins core driver.old → ForEachPolicy core (λ policy.
+        FollowsLog log.old.sig policy (effect I.Inputs O.Sink inputs.old inputs.new out.old out.new) (end_of result)) }
+{
+    let mut main_loop = MainLoop {
+        context,
+        driver,
+        schedule,
+        buffer,
+        log,
+        inputs,
+        out,
+    };
+    beside(
+        context.rt,
+        context.alloc,
+        context.hub,
+        context.gate,
+        context.bells,
+        groups,
+        own,
+        &mut main_loop,
+    )
+}

@@ -1,0 +1,174 @@
+//! Main's turns: what is ready is handed over, collected and written.
+ghost use Rattle.std.specs.Prelude.{◌≡◌, ◌≤◌, IfErr, OnOk, OnErr, true};
+ghost use Rattle.turn_hub.specs.Ends.{IsMainOf, cell_count};
+ghost use Rattle.worker_pool.specs.Hands.{AreHandsOf};
+ghost use Rattle.worker_pool.specs.Writing.{FallsShort, IsOutputStop, IsOver, IsRoomy, Keeps, Runs};
+
+use crate::hands::WorkerHand;
+use crate::line_writer::LineWriter;
+use crate::loop_context::LoopContext;
+use crate::serving::serve_each;
+use crate::stop::Stop;
+use mon_outside::{Gate, Sink};
+use rescale_core::{Driver, Turn};
+use std::alloc::{AllocError, Global};
+use std::sync::Wait;
+
+// Writes the line of each verdict that is ready.
+fn write_ready<R: Wait, O: Sink>(
+    rt: &R,
+    alloc: Global,
+    driver: &mut Driver,
+    writer: &mut LineWriter,
+    out: &mut O,
+) -> Result<(), Stop>
+    requires { Runs driver.old (O.written out.old) writer.old.tally }
+    ensures main { OnOk result (driver.new.main ≡ driver.old.main) }
+    ensures ok { OnOk result (Keeps driver.old (O.written out.old) writer.old.tally
+        driver.new (O.written out.new) writer.new.tally) }
+    ensures err { OnErr result (FallsShort driver.old (O.written out.old) writer.old.tally (O.written out.new)) }
+    ensures stop { IfErr result (λ stop. IsOutputStop (O.faults out.old) (O.faults out.new) stop) }
+    ensures later { O.faults out.old ≤ O.faults out.new }
+{
+    for _ in rt.forever() {
+        let ready = driver.emit(alloc)?;
+        match ready {
+            None => return Ok(()),
+            Some(verdict) => writer.write(&verdict, out)?,
+        }
+    }
+    unreachable!()
+}
+
+// Collects from each worker what it gave, and hands over what is ready for it. Answers whether there was any of it.
+fn turn_all<R, G, O: Sink>(
+    context: &LoopContext<'_, R, G>,
+    driver: &mut Driver,
+    writer: &LineWriter,
+    out: &O,
+) -> Result<bool, AllocError>
+    requires runs { Runs driver.old (O.written out.now) writer.now.tally }
+    requires main { IsMainOf context.now.hub.now driver.old.main }
+    requires cells { context.now.cells ≤ cell_count context.now.hub.now }
+    ensures main { OnOk result (IsMainOf context.now.hub.now driver.new.main) }
+    ensures ok { OnOk result (Keeps driver.old (O.written out.now) writer.now.tally
+        driver.new (O.written out.now) writer.now.tally) }
+{
+    let mut busy = false;
+    for k in 0..context.cells {
+        let turn = driver.turn(context.alloc, context.hub, k)?;
+        match turn {
+            Turn::NotYet => {}
+            Turn::Broken => return Err(AllocError),
+            Turn::Moved(given, handed) => {
+                busy |= given != 0 || handed != 0;
+                if handed != 0 {
+                    context.bells.ring(k);
+                }
+            }
+        }
+    }
+    Ok(busy)
+}
+
+// One turn of main's loop: each worker, main's own hands, and the lines that are ready. Answers whether there was
+// something to do.
+fn round<R: Wait, O: Sink, G: Gate>(
+    context: &LoopContext<'_, R, G>,
+    own: &mut Vec<WorkerHand>,
+    driver: &mut Driver,
+    writer: &mut LineWriter,
+    out: &mut O,
+) -> Result<bool, Stop>
+    requires runs { Runs driver.old (O.written out.old) writer.old.tally }
+    requires main { IsMainOf context.now.hub.now driver.old.main }
+    requires cells { context.now.cells ≤ cell_count context.now.hub.now }
+    requires hands { AreHandsOf context.now.hub.now own.old.items }
+    ensures hands { AreHandsOf context.now.hub.now own.new.items }
+    ensures main { OnOk result (IsMainOf context.now.hub.now driver.new.main) }
+    ensures ok { OnOk result (Keeps driver.old (O.written out.old) writer.old.tally
+        driver.new (O.written out.new) writer.new.tally) }
+    ensures err { OnErr result (FallsShort driver.old (O.written out.old) writer.old.tally (O.written out.new)) }
+    ensures stop { IfErr result (λ stop. IsOutputStop (O.faults out.old) (O.faults out.new) stop) }
+    ensures later { O.faults out.old ≤ O.faults out.new }
+{
+    let turned = turn_all(context, driver, writer, out)?;
+    let served = serve_each(context.alloc, context.hub, own, context.gate);
+    write_ready(context.rt, context.alloc, driver, writer, out)?;
+    Ok(turned || served)
+}
+
+// Whether all verdicts on what was read were emitted.
+fn is_drained(driver: &Driver) -> bool
+    ensures { result ≡ true → IsOver driver.now }
+{
+    driver.ended()
+}
+
+/// Goes on until the lines of all settled positions are written.
+pub(crate) fn drain<R: Wait, O: Sink, G: Gate>(
+    context: &LoopContext<'_, R, G>,
+    own: &mut Vec<WorkerHand>,
+    driver: &mut Driver,
+    writer: &mut LineWriter,
+    out: &mut O,
+) -> Result<(), Stop>
+    requires runs { Runs driver.old (O.written out.old) writer.old.tally }
+    requires main { IsMainOf context.now.hub.now driver.old.main }
+    requires cells { context.now.cells ≤ cell_count context.now.hub.now }
+    requires hands { AreHandsOf context.now.hub.now own.old.items }
+    ensures hands { AreHandsOf context.now.hub.now own.new.items }
+    ensures main { OnOk result (IsMainOf context.now.hub.now driver.new.main) }
+    ensures over { OnOk result (IsOver driver.new) }
+    ensures ok { OnOk result (Keeps driver.old (O.written out.old) writer.old.tally
+        driver.new (O.written out.new) writer.new.tally) }
+    ensures err { OnErr result (FallsShort driver.old (O.written out.old) writer.old.tally (O.written out.new)) }
+    ensures stop { IfErr result (λ stop. IsOutputStop (O.faults out.old) (O.faults out.new) stop) }
+    ensures later { O.faults out.old ≤ O.faults out.new }
+{
+    let mut idle = 0u64;
+    for _ in context.rt.forever() {
+        let heard = context.bells.main.rings();
+        let busy = round(context, own, driver, writer, out)?;
+        if is_drained(driver) {
+            return Ok(());
+        }
+        idle = context.rest(busy, heard, idle);
+    }
+    unreachable!()
+}
+
+/// Goes on until each worker's queue has room for an item, at least for one turn where `turns` is told.
+pub(crate) fn make_room<R: Wait, O: Sink, G: Gate>(
+    context: &LoopContext<'_, R, G>,
+    own: &mut Vec<WorkerHand>,
+    driver: &mut Driver,
+    writer: &mut LineWriter,
+    out: &mut O,
+    mut turns: bool,
+) -> Result<(), Stop>
+    requires runs { Runs driver.old (O.written out.old) writer.old.tally }
+    requires main { IsMainOf context.now.hub.now driver.old.main }
+    requires cells { context.now.cells ≤ cell_count context.now.hub.now }
+    requires hands { AreHandsOf context.now.hub.now own.old.items }
+    ensures hands { AreHandsOf context.now.hub.now own.new.items }
+    ensures main { OnOk result (IsMainOf context.now.hub.now driver.new.main) }
+    ensures room { OnOk result (IsRoomy driver.new) }
+    ensures ok { OnOk result (Keeps driver.old (O.written out.old) writer.old.tally
+        driver.new (O.written out.new) writer.new.tally) }
+    ensures err { OnErr result (FallsShort driver.old (O.written out.old) writer.old.tally (O.written out.new)) }
+    ensures stop { IfErr result (λ stop. IsOutputStop (O.faults out.old) (O.faults out.new) stop) }
+    ensures later { O.faults out.old ≤ O.faults out.new }
+{
+    let mut idle = 0u64;
+    for _ in context.rt.forever() {
+        if !turns && driver.has_room() {
+            return Ok(());
+        }
+        let heard = context.bells.main.rings();
+        let busy = round(context, own, driver, writer, out)?;
+        idle = context.rest(busy, heard, idle);
+        turns = false;
+    }
+    unreachable!()
+}
