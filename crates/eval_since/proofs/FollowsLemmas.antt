@@ -26,10 +26,6 @@ pub climbs_push : (x : ℕ) (ts : List ℕ) (y z : ℕ) → Climbs x ts y → y 
 climbs_push x [] y z h l = (omega arith, omega arith)
 climbs_push x (t ∷ ts) y z h l = (h.0, climbs_push t ts y z h.1 l)
 
-pub climbs_lower : (w x : ℕ) (ts : List ℕ) (y : ℕ) → w ≤ x → Climbs x ts y → Climbs w ts y
-climbs_lower w x [] y l h = omega arith
-climbs_lower w x (t ∷ ts) y l h = (omega (arith, h.0), h.1)
-
 -- one position is pulled
 pub follows_next : (k n : WindowOf) (negated : Bool) (p newest t0 : ℕ) (ts : List ℕ) (l : TableOf)
     (ls : List TableOf) (r : TableOf) (rs : List TableOf)

@@ -8,7 +8,6 @@ use Rattle.std.specs.Option.{unwrap_or}
 use Rattle.mfotl_model.specs.Values.{row_cmp, row_total}
 use Rattle.mfotl_model.specs.declared.value.Value.{Value}
 use Rattle.std.proofs.lemmas.Bool.{eqb-true}
-use Rattle.std.proofs.lemmas.List.{take_all}
 use Rattle.std.proofs.lemmas.Map.Entries.{lookup-filter-keys}
 use Rattle.std.specs.Cmp.{eq_by_cmp_equiv}
 use Rattle.mfotl_model.specs.declared.interval.Interval.{Interval}
@@ -43,10 +42,6 @@ grouped h key row q v old new g outer inner = ap (λ e. times_in e v) outer ∙ 
     by true e = inner ∙ ap (λ k. cond (is_at (row_cmp row) v) (h (times_in (group_of old k) v))
         (times_in (group_of old k) v)) (same_row key q e)
     by false e = refl
-
-has_all : (parts : List (List Value)) (i : ℕ) (q : List Value) → length parts ≤ i
-    → has_row (take i parts) q ≡ has_row parts q
-has_all parts i q l = ap (λ ps. has_row ps q) (take_all i parts l)
 
 -- the groups of the parts so far are gone
 abbrev pub AreGone : {X : Type 0} → List (List Value) → List (List Value × X) → List (List Value × X) → Type 0
@@ -120,32 +115,6 @@ kept_some {X} parts i x key old cur kept new g low e gone before some same step 
     by q true false e h = refl
     by q false true e h = some ∙ ap (λ r. lookup (is_at (row_cmp r)) cur) (same_row x q e) ∙ h
     by q false false e h = refl
-
-pub gone_all : (parts : List (List Value)) (i : ℕ) (old new : List (List Value × List (List Value × List ℕ)))
-    (q v : List Value) → length parts ≤ i
-    → AreGone (take i parts) old new → times_at new q v ≡ cond (has_row parts q) [] (times_at old q v)
-gone_all parts i old new q v l gone =
-    ap (λ o. times_in (unwrap_or o []) v) (gone q)
-    ∙ ap (λ b. times_in (unwrap_or (cond b None (lookup (is_at (row_cmp q)) old)) []) v) (has_all parts i q l)
-    ∙ by (has_row parts q)
-  where
-    by : (b : Bool) → times_in (unwrap_or (cond b None (lookup (is_at (row_cmp q)) old)) []) v
-        ≡ cond b [] (times_at old q v)
-    by true = refl
-    by false = refl
-
-pub kept_all : (parts : List (List Value)) (i : ℕ) (old new : List (List Value × List (List Value × List ℕ)))
-    (q v : List Value) → length parts ≤ i
-    → AreKept (take i parts) old new → times_at new q v ≡ cond (has_row parts q) (times_at old q v) []
-kept_all parts i old new q v l kept =
-    ap (λ o. times_in (unwrap_or o []) v) (kept q)
-    ∙ ap (λ b. times_in (unwrap_or (cond b (lookup (is_at (row_cmp q)) old) None) []) v) (has_all parts i q l)
-    ∙ by (has_row parts q)
-  where
-    by : (b : Bool) → times_in (unwrap_or (cond b (lookup (is_at (row_cmp q)) old) None) []) v
-        ≡ cond b (times_at old q v) []
-    by true = refl
-    by false = refl
 
 -- where the groups of other parts are left out
 pub kept_where : (parts : List (List Value)) (old new : List (List Value × List (List Value × List ℕ)))

@@ -1,13 +1,12 @@
 -- The state of PREVIOUS: what a pull answers and keeps.
 use Rattle.std.proofs.Common.{◌≡◌, ℕ, ◌+◌, ◌-◌, ◌<◌, Bool, true, false, ◌&&◌, ◌||◌, nat_eq, nat_lt, List, [], ◌∷◌}
-use Rattle.std.proofs.Common.{◌++◌, length, refl, sym, subst, ap, ap₂, ◌∙◌, arith}
+use Rattle.std.proofs.Common.{◌++◌, length, refl, sym, ap, ap₂, ◌∙◌, arith}
 use Rattle.std.proofs.lemmas.Bool.Decides.{nat_tests}
 use Rattle.mfotl_model.specs.Intervals.{in_interval}
 use Rattle.mfotl_model.specs.Satisfaction.{Valuation, previous, time_at, truth_at}
 use Rattle.mfotl_model.specs.Settled.{previous_settled}
 use Rattle.mfotl_model.specs.Tables.{TableOf, has}
 use Rattle.mfotl_model.specs.declared.interval.Interval.{Interval}
-use Rattle.relations.specs.Pushed.{StandFrom}
 use Rattle.eval_since.specs.PreviousView.{FollowsPrevious, PreviousDueIsSettled}
 use Rattle.relations.proofs.PushedLemmas.{stand_first, stand_push}
 
@@ -27,64 +26,6 @@ later_is interval t a p now last holds some here before was =
     let n : nat_lt 0 p ≡ true = grind (arith, nat_tests) in
     ap₂ (λ d h. in_interval interval d && h) (λ i. here i - before i) was
     ∙ sym (ap (λ b. b && in_interval interval (time_at t p - time_at t (p - 1)) && truth_at a (p - 1)) n)
-
-pub first_pulled : (interval : Interval) (columns : List ℕ) (p last now : ℕ) (all ts : List ℕ) (tables : List TableOf)
-    (t : List ℕ) (a : List Bool) (v : Valuation) → p ≡ 0 → all ≡ now ∷ ts
-    → FollowsPrevious (record {
-      interval = interval;
-      columns = columns;
-      pulled = p;
-      last = last;
-      times = all;
-      tables
-          = tables;
-    }) t a v
-    → FollowsPrevious (record {
-      interval = interval;
-      columns = columns;
-      pulled = p + 1;
-      last = now;
-      times = ts;
-      tables = tables;
-    }) t a v
-first_pulled interval columns p last now all ts tables t a v none e f =
-    let times = stand_first (λ i x. x ≡ time_at t i) p all ts now e f.times in
-    record {
-      last = λ _. let same : p ≡ p + 1 - 1 = omega arith in times.0 ∙ ap (time_at t) same;
-      times = times.1;
-      tables = let same : p - 1 ≡ p + 1 - 1 = omega arith in
-          subst (λ n. StandFrom (λ i table. has table v ≡ truth_at a i) n tables) same f.tables;
-    }
-
-pub later_pulled : (interval : Interval) (columns : List ℕ) (p last now : ℕ) (all ts : List ℕ)
-    (tables rest : List TableOf) (table : TableOf)
-    (t : List ℕ) (a : List Bool) (v : Valuation) → 0 < p → all ≡ now ∷ ts → tables ≡ table ∷ rest
-    → FollowsPrevious (record {
-      interval = interval;
-      columns = columns;
-      pulled = p;
-      last = last;
-      times = all;
-      tables
-          = tables;
-    }) t a v
-    → FollowsPrevious (record {
-      interval = interval;
-      columns = columns;
-      pulled = p + 1;
-      last = now;
-      times = ts;
-      tables = rest;
-    }) t a v
-later_pulled interval columns p last now all ts tables rest table t a v some e k f =
-    let times = stand_first (λ i x. x ≡ time_at t i) p all ts now e f.times in
-    let more = stand_first (λ i (x : TableOf). has x v ≡ truth_at a i) (p - 1) tables rest table k f.tables in
-    record {
-      last = λ _. let same : p ≡ p + 1 - 1 = omega arith in times.0 ∙ ap (time_at t) same;
-      times = times.1;
-      tables = let same : p - 1 + 1 ≡ p + 1 - 1 = omega arith in
-          subst (λ n. StandFrom (λ i (x : TableOf). has x v ≡ truth_at a i) n rest) same more.1;
-    }
 
 -- what a later pull answers
 pub later_answers : (interval : Interval) (columns : List ℕ) (p last now : ℕ) (all ts : List ℕ)

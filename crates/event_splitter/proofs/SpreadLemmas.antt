@@ -112,11 +112,6 @@ given_none p event y (part ∷ parts) never =
     ap (λ ps. part ∷ ps) (given_none p event (y + 1) parts never)
     ∙ ap (λ b. cond b (with_event event part) part ∷ given_to p event (y + 1) parts) (sym (never y))
 
-pub given_size : (p : ℕ → Bool) (event : Event) (y : ℕ) (parts : List TimePoint)
-    → length (given_to p event y parts) ≡ length parts
-given_size p event y [] = refl
-given_size p event y (part ∷ parts) = ap suc (given_size p event (y + 1) parts)
-
 -- one part more is given the event
 given_at : (p q : ℕ → Bool) (event : Event) (y i : ℕ) (parts : List TimePoint) (other : TimePoint) → i < length parts
     → p (y + i) ≡ false → q (y + i) ≡ true

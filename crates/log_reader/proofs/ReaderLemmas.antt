@@ -1,6 +1,6 @@
 -- What a reader that keeps bytes stands for, and what an answer makes of it.
 use Rattle.std.proofs.Common.{◌≡◌, ◌≢◌, ℕ, Bool, true, false, List, Result, Ok, Err, OnOk, IfErr}
-use Rattle.std.proofs.Common.{refl, sym, subst, ◌∙◌}
+use Rattle.std.proofs.Common.{refl, subst, ◌∙◌}
 use Rattle.mfotl_sig.specs.Preds.{PredOf}
 use Rattle.log_reader.specs.declared.fault.LogFault.{LogFault}
 use Rattle.log_reader.specs.declared.fault.LogFault.TheVariants.{Memory}
@@ -10,8 +10,8 @@ use Rattle.log_reader.specs.declared.next.Next.TheVariants.{Point, More, End}
 use Rattle.log_reader.specs.Given.{Gives}
 use Rattle.log_reader.specs.Partials.{Partial}
 use Rattle.log_reader.specs.Progress.{due}
-use Rattle.log_reader.specs.Readers.{Reader, Reads, ReadsOn, ForEach, Proceeds, Kept, progress}
-use Rattle.log_reader.specs.Soundness.{StandsFor, is_wanting, is_more, CountsOn}
+use Rattle.log_reader.specs.Readers.{Reader, Reads, ReadsOn, ForEach, Kept, progress}
+use Rattle.log_reader.specs.Soundness.{StandsFor, is_wanting, is_more}
 use Rattle.log_reader.specs.Stretches.{Stretch}
 
 -- a reader's texts are those that what it keeps stands for
@@ -66,15 +66,6 @@ answers old r e result holds =
 -- the reader with these given, and memory wanting or not
 abbrev pub behind : Reader → ℕ → Bool → Kept → Reader
 behind r given wanting kept = record r { given = given; is_broken = wanting; kept = kept }
-
-pub proceeds : (r : Reader) (result : Result Next LogFault) (given : ℕ) (wanting : Bool) (kept : Kept)
-    → r.is_broken ≡ false → wanting ≡ is_wanting result → CountsOn r.given result given
-    → Proceeds r (behind r given wanting kept) result
-proceeds r (Ok (Point point)) given wanting kept works is counts = rw (counts, is ∙ sym works) refl
-proceeds r (Ok More) given wanting kept works is counts = rw (counts, is ∙ sym works) refl
-proceeds r (Ok End) given wanting kept works is counts = rw (counts, is ∙ sym works) refl
-proceeds r (Err Memory) given wanting kept works is counts = is
-proceeds r (Err fault) given wanting kept works is counts = rw (counts, is ∙ sym works) refl
 
 pub more_is : (result : Result Next LogFault) → is_more result ≡ true → result ≡ Ok More
 more_is (Ok More) e = refl

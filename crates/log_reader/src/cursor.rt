@@ -1,3 +1,4 @@
+//! The walk over a log's tokens, up to a whole time-point or a fault.
 ghost use Rattle.std.specs.Prelude.{◌≡◌, ◌+◌, ◌<◌, ◌≤◌, ◌^◌, false, length, drop, Ok};
 ghost use Rattle.mfotl_lex.specs.Lexemes.{lexeme};
 ghost use Rattle.log_reader.specs.declared.next.Next.TheVariants.{More};

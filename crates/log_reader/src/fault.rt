@@ -1,3 +1,4 @@
+//! The faults of a log, with their printed texts.
 ghost use Rattle.std.specs.Prelude.{◌≡◌};
 ghost use Rattle.log_reader.specs.declared.fault.LogFault.TheVariants.{Memory};
 ghost use Rattle.log_reader.specs.FaultTexts.{name, offset};

@@ -1,3 +1,4 @@
+//! The grammar of logs, token by token: which stage stands behind a token, and what each stage lets follow.
 ghost use Rattle.std.specs.Prelude.{◌≡◌};
 ghost use Rattle.std.specs.Char.{is_ascii_digit};
 ghost use Rattle.std.specs.List.{list_all};

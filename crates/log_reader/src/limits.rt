@@ -1,3 +1,4 @@
+//! How long a log may be, and the part of it that a limit lets be seen.
 ghost use Rattle.std.specs.Prelude.{◌≡◌, ◌+◌, ◌<◌, ◌^◌, nat_lt, length};
 ghost use Rattle.log_reader.specs.Limits.{byte_limit, point_limit, event_limit};
 ghost use Rattle.log_reader.specs.Stretches.{looked_at, is_end_told};

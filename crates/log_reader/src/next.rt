@@ -1,3 +1,4 @@
+//! What one call of the reader answers.
 use mfotl_model::TimePoint;
 
 /// What a reader gives.

@@ -1,3 +1,4 @@
+//! The part of a log's time-point that has been read, and what the next token does to it.
 ghost use Rattle.std.specs.Prelude.{◌≡◌, ◌++◌, ◌∷◌, [], OnOk, Ok};
 ghost use Rattle.mfotl_lex.specs.Lexemes.{lexeme};
 ghost use Rattle.log_reader.specs.Given.{Moves};

@@ -1,3 +1,4 @@
+//! Short integers, read without cutting a token.
 ghost use Rattle.std.specs.Prelude.{◌≡◌, IfSome};
 ghost use Rattle.log_reader.specs.Quick.{ends_value, digits_before, IsQuick};
 

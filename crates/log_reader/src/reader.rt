@@ -1,3 +1,4 @@
+//! The reader that is fed pieces of a log.
 ghost use Rattle.std.specs.Prelude.{◌≡◌, ◌≢◌, ◌≤◌, ◌+◌, ◌++◌, [], length, false, true, Ok, OnOk, OnErr, IfErr};
 ghost use Rattle.log_reader.specs.declared.fault.LogFault.TheVariants.{Memory};
 ghost use Rattle.log_reader.specs.declared.next.Next.TheVariants.{More, End};

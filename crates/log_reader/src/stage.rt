@@ -1,3 +1,5 @@
+//! Where in a time-point a log has been read to.
+
 /// How far a log has been read: what stands directly before.
 #[derive(Clone, Copy)]
 pub enum Stage {

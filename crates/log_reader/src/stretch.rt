@@ -1,3 +1,4 @@
+//! The bytes of a log that are still to be read, and their place in it.
 ghost use Rattle.std.specs.Prelude.{◌≡◌, ◌≤◌, [], length, drop, OnOk, OnErr};
 ghost use Rattle.log_reader.specs.Stretches.{comment_of};
 

@@ -1,3 +1,4 @@
+//! What words and texts of a log stand for: values of a sort, and timestamps.
 ghost use Rattle.std.specs.Prelude.{◌≡◌, Ok};
 ghost use Rattle.log_reader.specs.Given.{Gives};
 ghost use Rattle.log_reader.specs.Symbols.{written_of};

@@ -44,10 +44,6 @@ points_same : (s : Strategy) (es : List Entry) (t : Strategy)
     → (spot_after (first_spot s) (es ++ Change t ∷ [])).points ≡ (spot_after (first_spot s) es).points
 points_same s es t = ap (λ (a : Spot). a.points) (spot_more (first_spot s) es (Change t ∷ []))
 
--- no entry was put yet
-pub script_begins : (core : CoreForm) → IsScript core [] 0
-script_begins core = record { sound = λ s. tt; rises = λ s. omega arith; few = λ s. omega arith }
-
 module _ (core : CoreForm) (es : List Entry) (last : ℕ) (is : IsScript core es last) where
   rises_more : (s : Strategy) (p : TimePoint) → last ≤ p.ts
       → RisesTo 0 (times ((spot_after (first_spot s) es).points ++ p ∷ [])) p.ts

@@ -1,7 +1,7 @@
 -- What follows of a reader that owes what `FollowsGrammar` says.
 use Rattle.std.proofs.Common.{◌≡◌, ◌⊎◌, inl, inr, List, [], ◌∷◌, ◌++◌, Result, Ok, Err, refl, sym, ap, subst, ◌∙◌}
 use Rattle.std.proofs.lemmas.List.{append-nil, append_assoc}
-use Rattle.mfotl_lex.specs.FirstFault.{◌>>=◌, Tail, Text, run, StopsAt, if_sound, given, reading, ShowNone}
+use Rattle.mfotl_lex.specs.FirstFault.{◌>>=◌, Tail, Text, run, StopsAt, given, reading, ShowNone}
 use Rattle.mfotl_lex.specs.FirstFault.{ShownByToken, IsFirst, FollowsGrammar, ExactSoundness}
 use Rattle.mfotl_lex.specs.FirstFault.{ExactFaults, ReadIsValue, ValueIsRead, HasValue, HasFault, OneAnswer}
 
@@ -114,43 +114,6 @@ module _ {S T E O : Type 0} (step : S → T → Result S E) (gives : S → T →
   -- nothing is given behind the tokens
   abbrev pub nothing : S → List O
   nothing s = []
-
-  given_over : (last : S → List O) (front back : List T) (r : Result S E) (q : S)
-      → ((s : S) → run step front s ≡ Ok q
-      → given step gives last (front ++ back) s ≡ given step gives nothing front s ++ given step gives last back q)
-      → (r >>= λ s. run step front s) ≡ Ok q
-      → if_sound r (λ s. given step gives last (front ++ back) s)
-      ≡ if_sound r (λ s. given step gives nothing front s) ++ given step gives last back q
-  given_over last front back (Ok s) q later e = later s e
-  given_over last front back (Err fault) q later e = absurd cc
-
-  -- what tokens give behind some that show no fault
-  pub given_behind : (last : S → List O) (front back : List T) (s q : S) → run step front s ≡ Ok q
-      → given step gives last (front ++ back) s ≡ given step gives nothing front s ++ given step gives last back q
-  unfolding run given
-  given_behind last [] back s q e = ap (given step gives last back) (same_read step s q e)
-  given_behind last (t ∷ front) back s q e =
-      ap (λ os. gives s t ++ os)
-      (given_over last front back (step s t) q (λ p f. given_behind last front back p q f) e)
-      ∙ sym (append_assoc (gives s t) (if_sound (step s t) (λ p. given step gives nothing front p))
-      (given step gives last back q))
-
-  given_till : (last other : S → List O) (front back : List T) (fault : E) (r : Result S E)
-      → ((s : S) → run step front s ≡ Err fault
-      → given step gives last (front ++ back) s ≡ given step gives other front s)
-      → (r >>= λ s. run step front s) ≡ Err fault
-      → if_sound r (λ s. given step gives last (front ++ back) s) ≡ if_sound r (λ s. given step gives other front s)
-  given_till last other front back fault (Ok s) later e = later s e
-  given_till last other front back fault (Err same) later e = refl
-
-  -- behind a fault nothing more is given, whatever stands there
-  pub given_stays : (last other : S → List O) (front back : List T) (s : S) (fault : E) → run step front s ≡ Err fault
-      → given step gives last (front ++ back) s ≡ given step gives other front s
-  unfolding run given
-  given_stays last other [] back s fault e = absurd cc
-  given_stays last other (t ∷ front) back s fault e =
-      ap (λ os. gives s t ++ os)
-      (given_till last other front back fault (step s t) (λ p f. given_stays last other front back p fault f) e)
 
 module _ {S T L E V : Type 0} (step : S → T → Result S E) (start : S) (at_tail : Tail L → S → Result V E)
     (IsViable : List T → Type 0) (IsCause : List T → T → E → Type 0) (IsLast : List T → Tail L → E → Type 0)

@@ -1,11 +1,8 @@
 -- The tokens one after another: any fuel that suffices gives the same.
-use Rattle.std.proofs.Common.{◌≡◌, ℕ, zero, suc, ◌≤◌, ◌<◌, [], ◌∷◌, length, take, subst, ◌+◌, add_assoc, add-zero}
+use Rattle.std.proofs.Common.{◌≡◌, ℕ, zero, suc, ◌≤◌, ◌<◌, [], ◌∷◌, length, take, ◌+◌, add_assoc, add-zero}
 use Rattle.std.proofs.Common.{Option, Some, None, Result, Ok, Err, refl, sym, ap, ◌∙◌, arith}
 use Rattle.std.proofs.lemmas.List.{length-drop, drop-drop}
 use Rattle.mfotl_lex.specs.declared.fault.LexFault.{LexFault}
-use Rattle.std.specs.Prelude.{IsTrue}
-use Rattle.mfotl_lex.specs.declared.kind.Kind.TheVariants.{Integer}
-use Rattle.mfotl_lex.specs.Numbers.{integer_value, is_int64}
 use Rattle.mfotl_lex.specs.declared.scan.Scan.{Scan}
 use Rattle.mfotl_lex.specs.declared.scan.Scan.TheVariants.{Unshown, Takes, Fails}
 use Rattle.mfotl_lex.specs.Blanks.{blank_len}
@@ -188,21 +185,6 @@ pub stopped_at_fault : (p : Place) (f : LexFault) → next_token p ≡ Err f →
 stopped_at_fault p f e = stopped_step p
     ∙ ap (λ (x : Result (Option Lexeme) LexFault). stop_or x (after p) (stopped (after p))) e
     ∙ fault_after p f e
-
-found_fits : (q : Place) (s : Scan) (t : Lexeme) → IsWithin q.rest s → token_at q s ≡ Ok (Some t)
-    → t.kind ≡ Integer → IsTrue (is_int64 (integer_value t.text))
-found_fits q Unshown t w e = absurd cc
-found_fits q (Takes kind n) t w e =
-    let made : Lexeme = record { kind = kind; at = q.at; text = take n q.rest } in
-    let is : made ≡ t = cc in
-    subst (λ (x : Lexeme). x.kind ≡ Integer → IsTrue (is_int64 (integer_value x.text))) is w.2
-found_fits q (Fails fault n) t w e = absurd cc
-
--- an Integer has 64 bits
-pub integer_fits : (p : Place) (t : Lexeme) → next_token p ≡ Ok (Some t) → t.kind ≡ Integer
-    → IsTrue (is_int64 (integer_value t.text))
-integer_fits p t e = found_fits (past_blanks p) (scan_at p) t
-    (scan_within p.mode p.ended (past_blanks p).rest) (sym (next_is p) ∙ e)
 
 moves_by : (p : Place) (s : Scan) → IsWithin (past_blanks p).rest s → MovesOn p (place_after p (past_blanks p) s)
 moves_by p Unshown w = record { count = blank_len p.ended p.rest; within = blanks_within p.ended p.rest; place = refl }

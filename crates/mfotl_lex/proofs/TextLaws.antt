@@ -3,7 +3,7 @@ use Rattle.std.proofs.Common.{◌≡◌, ℕ, ◌+◌, Bool, true, false, List, 
 use Rattle.std.proofs.Common.{Result, Ok, Err, refl, sym, ap, ◌∙◌}
 use Rattle.mfotl_lex.specs.declared.fault.LexFault.{LexFault}
 use Rattle.mfotl_lex.specs.declared.kind.Mode.{Mode}
-use Rattle.mfotl_lex.specs.FirstFault.{◌>>=◌, Tail, More, run, reading, if_sound, given}
+use Rattle.mfotl_lex.specs.FirstFault.{◌>>=◌, Tail, More, run, reading, given}
 use Rattle.mfotl_lex.specs.Growing.{grown, stopped, joined}
 use Rattle.mfotl_lex.specs.Lexemes.{Lexeme, Tokens, next_token, after, tokens}
 use Rattle.mfotl_lex.specs.Places.{Place, beginning}
@@ -53,24 +53,11 @@ module _ {S L E O : Type 0} (step : S → Lexeme → Result S E) (gives : S → 
   abbrev given_of : Tokens → S → List O
   given_of ts s = given step gives (last (tail ts.fault)) ts.list s
 
-  -- what the next token gives, and what is given behind it
-  pub given_token : (p : Place) (s : S) (t : Lexeme) → next_token p ≡ Ok (Some t)
-      → given_on step gives last tail p s
-      ≡ gives s t ++ if_sound (step s t) (λ q. given_on step gives last tail (after p) q)
-  unfolding given_on given
-  given_token p s t e = ap (λ ts. given_of ts s) (tokens_token p t e)
-
   -- no token
   pub given_none : (p : Place) (s : S) → next_token p ≡ Ok None
       → given_on step gives last tail p s ≡ last (tail None) s
   unfolding given_on given
   given_none p s e = ap (λ ts. given_of ts s) (tokens_none p e)
-
-  -- a fault of the lexer
-  pub given_fault : (p : Place) (s : S) (fault : LexFault) → next_token p ≡ Err fault
-      → given_on step gives last tail p s ≡ last (tail (Some fault)) s
-  unfolding given_on given
-  given_fault p s fault e = ap (λ ts. given_of ts s) (tokens_fault p fault e)
 
 module _ {S E V : Type 0} (step : S → Lexeme → Result S E) (start : S) (at_tail : Tail LexFault → S → Result V E) where
   -- reading all the bytes begins at their beginning

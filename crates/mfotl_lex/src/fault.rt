@@ -1,3 +1,4 @@
+//! The faults of bytes that are no token, with their printed texts.
 use std::fmt;
 use thiserror::Error;
 

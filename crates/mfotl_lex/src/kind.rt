@@ -1,3 +1,5 @@
+//! Kinds of tokens, and the modes of a lexer.
+
 /// How bytes are cut into tokens.
 #[derive(Clone, Copy)]
 pub enum Mode {

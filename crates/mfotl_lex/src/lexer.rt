@@ -1,3 +1,4 @@
+//! The lexer: one token at each call.
 ghost use Rattle.std.specs.Prelude.{◌≡◌, ◌+◌, ◌<◌, ◌^◌, length, true, IsTrue, OnErr, ◌↔◌};
 
 use crate::bytes::blank_len;

@@ -1,3 +1,4 @@
+//! The 64-bit number that a token's digits write.
 ghost use Rattle.std.specs.Prelude.{◌≡◌, ◌≤◌, neg_ℤ, pos};
 ghost use Rattle.mfotl_lex.specs.Limits.{max_magnitude};
 ghost use Rattle.mfotl_lex.specs.Numbers.{digits_value, integer_value, int64_of, at_most};

@@ -1,3 +1,4 @@
+//! What stands at the front of bytes: a token, a fault, or too little to tell.
 ghost use Rattle.std.specs.Prelude.{◌≡◌, length, drop, ◌≤◌, slice_index};
 ghost use Rattle.std.specs.Char.{is_ascii_digit};
 ghost use Rattle.std.specs.List.{prefix_len};

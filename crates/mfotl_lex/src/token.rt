@@ -1,3 +1,4 @@
+//! A token, and what it stands for.
 ghost use Rattle.std.specs.Prelude.{◌≡◌, IsTrue};
 ghost use Rattle.mfotl_lex.specs.declared.kind.Kind.TheVariants.{Integer};
 ghost use Rattle.mfotl_lex.specs.Numbers.{integer_value, is_int64};

@@ -1,3 +1,4 @@
+//! Worked texts, with what the definitions give for each.
 ghost use Rattle.mfotl_parse.specs.Examples.{FaultExamples, ClashExamples, FormulaExamples, NameExamples, DepthExamples, BoundExamples, NodeExamples, OrderExamples};
 
 /// Texts with the first fault of each.

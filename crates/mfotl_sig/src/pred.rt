@@ -1,3 +1,4 @@
+//! One predicate of a signature.
 use mfotl_model::{Name, Sort};
 
 /// A predicate of a signature.

@@ -14,7 +14,7 @@ use Rattle.monitor_main.specs.declared.refusal.Refusal.TheVariants.{Log, Read, U
 use Rattle.monitor_main.specs.Answer.{demo_answer, demo_ended, demo_line, demo_on, reading_of, refused}
 use Rattle.monitor_main.specs.CheckedPolicies.{Fails, IsInside}
 use Rattle.monitor_main.specs.Decisions.{ComesTo}
-use Rattle.monitor_main.specs.DemoRuns.{EndsDemo, IsDemoFault}
+use Rattle.monitor_main.specs.DemoRuns.{EndsDemo}
 use Rattle.monitor_main.specs.LogRuns.{IsOutputFault}
 use Rattle.monitor_main.specs.Refusals.{log_refusal}
 use Rattle.monitor_main.specs.Tasks.{◌>>=◌, CheckedPolicy, Task, changes_in, demo_task, divided_by, divided_texts}
@@ -144,18 +144,3 @@ module _ (seed : ℕ) where
     task_told Write inside fails = absurd inside
     task_told Memory inside fails = comes_memory _ _ old
     task_told r inside fails = rw (refused_is r fails) (comes_refused r _ old (refuses_at r old))
-
-pub log_cause : (fault : LogFault) (before now : ℕ) → IsDemoFault (log_refusal fault) before now
-log_cause log.Memory before now = tt
-log_cause fault before now = tt
-
-pub output_cause : (r : Refusal) (before now : ℕ) → IsOutputFault r before now → IsDemoFault r before now
-output_cause Write before now h = h
-output_cause Memory before now h = tt
-output_cause r before now h = absurd h
-
-pub inside_cause : (r : Refusal) (before now : ℕ) → IsInside r → IsDemoFault r before now
-inside_cause Usage before now h = h
-inside_cause (Read name) before now h = h
-inside_cause Write before now h = absurd h
-inside_cause r before now h = tt

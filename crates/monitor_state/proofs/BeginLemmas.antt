@@ -74,10 +74,6 @@ false_adds table old new columns rows is =
     adds_one False (node.Constant table) old new is
     (record { columns = columns; rows = λ log dom v i. rows v; alone = refl }) (λ view empty. tt)
 
-pub atom_adds : (a b : OneAtom) (old new : List Node) → b ≡ a → new ≡ old ++ node.Atom b ∷ []
-    → Adds (Atom a ∷ []) old new
-atom_adds a b old new same is = adds_one (Atom a) (node.Atom b) old new is same (λ view empty. tt)
-
 pub exists_adds : (r : Role) (h : CoreForm) (x : Bound) (f : CoreForm) (old mid new : List Node) → h ≡ Exists x f
     → Adds (nodes_in role.Whole f) old mid
     → new ≡ mid ++ node.Exists x.number ∷ [] → Adds (nodes_in r h) old new
@@ -219,10 +215,6 @@ join_begins f s same begins view empty =
 
 adds_none : (old : List Node) → Adds [] old old
 adds_none old view empty = ([], sym (append-nil old), tt)
-
-pub unjudged_adds : (own : Bool) (f : CoreForm) (old new : List Node) → own ≡ false → new ≡ old → AddsIf own f old new
-unjudged_adds own f old new not_own same =
-    subst (λ b. AddsIf b f old new) (sym not_own) (subst (λ ns. Adds [] old ns) (sym same) (adds_none old))
 
 -- the node of a conjunction that has a child
 pub join_node : (h : CoreForm) (s : JoinOf) → IsJoined h → operands h ≡ children (conjuncts_of h) → BeginsJoin h s

@@ -184,10 +184,6 @@ alone_fixed role.Left c a h = judged_fixed a.0 c a.1
 alone_fixed role.Part c a h = or_left (binds c) (is_closed c) h
 alone_fixed role.Negated c a h = cc
 
--- what is fixed and no equation with a constant is one of constants
-pub fixed_closed : (c : Comparison) → is_fixed c ≡ true → binds c ≡ false → is_closed c ≡ true
-fixed_closed c h loose = ap (λ b. b || is_closed c) (sym loose) ∙ h
-
 no_child : (ps : List PartForm) → list_any is_child ps ≡ false → children ps ≡ []
 no_child [] h = refl
 no_child (ChildPart f n ∷ ps) h = absurd (let e : true ≡ false = h in cc)

@@ -27,10 +27,6 @@ pub taken_one : {X : Type 0} (r : Option X) (x : X) (all rest : List X) → r �
     → all ≡ x ∷ rest
 taken_one r x all rest is e = e ∙ ap (λ o. option_to_list o ++ rest) is
 
-pub taken_none : {X : Type 0} (r : Option X) (all rest : List X) → r ≡ None → all ≡ option_to_list r ++ rest
-    → all ≡ rest
-taken_none r all rest is e = e ∙ ap (λ o. option_to_list o ++ rest) is
-
 pub moved_one : {X : Type 0} (initial front all rest : List X) (x : X) → initial ≡ front ++ all → all ≡ x ∷ rest
     → initial ≡ (front ++ x ∷ []) ++ rest
 moved_one initial front all rest x before is =

@@ -11,12 +11,12 @@ use Rattle.mfotl_model.specs.declared.term.Atom.{Atom as OneAtom}
 use Rattle.mfotl_model.specs.declared.value.Value.{Value}
 use Rattle.eval_bool.proofs.ChildLemmas.{Alike}
 use Rattle.eval_bool.proofs.RefillLemmas.{rule_alike}
-use Rattle.eval_bool.specs.BoolData.{JoinRule, OrRule, TablesOver, join_of, kept_tables, or_of, with_tables}
+use Rattle.eval_bool.specs.BoolData.{JoinRule, TablesOver, join_of, kept_tables, or_of, with_tables}
 use Rattle.eval_bool.specs.JoinView.{ChildOf, JoinOf, children_of}
 use Rattle.eval_bool.specs.OrView.{OrOf}
 use Rattle.eval_bool.specs.declared.recalled.JoinData.{JoinData}
 use Rattle.eval_bool.specs.declared.recalled.OrData.{OrData}
-use Rattle.eval_since.specs.PreviousData.{PreviousRule, previous_of}
+use Rattle.eval_since.specs.PreviousData.{previous_of}
 use Rattle.eval_since.specs.PreviousView.{PrevOf}
 use Rattle.eval_since.specs.SinceData.{KeepsRule, setting_of}
 use Rattle.eval_since.specs.SinceView.{SinceOf}
@@ -38,7 +38,7 @@ use Rattle.monitor_state.proofs.ResumeWindows.{until_resumed_is, until_resumed_s
 use Rattle.monitor_state.specs.FilterNode.{GivenAs}
 use Rattle.monitor_state.specs.Nodes.{left_operand, operands}
 use Rattle.monitor_state.specs.Resuming.{NodeResumed, Reach, SinceResumed, Suits, UntilResumed, WindowResumed}
-use Rattle.monitor_state.specs.Stands.{ChildrenStand, IsFor, IsJoin, IsPrevious, JoinStands, NextStands, NodeStands}
+use Rattle.monitor_state.specs.Stands.{ChildrenStand, IsFor, IsJoin, IsPrevious, JoinStands, NextStands}
 use Rattle.monitor_state.specs.Stands.{PreviousStands, bare, conjunct_as}
 use Rattle.monitor_state.specs.StateRules.{JoinKeeps, NodeKeeps, SinceKeeps, UntilKeeps, WindowKeeps}
 use Rattle.monitor_state.specs.StateStands.{JoinDataStands, NextDataStands, PreviousDataStands}
@@ -58,32 +58,6 @@ use Rattle.monitor_state.specs.declared.state.WindowData.TheVariants as data_of
 use Rattle.monitor_state.specs.declared.window.Window.TheVariants as window
 
 -- ---- nodes that keep nothing
-
-constant_stands : (view : View) (f : CoreForm) (table : TableOf) → IsFor f (node.Constant table)
-    → NodeStands view f (node.Constant table)
-constant_stands view (Not f) table is = tt
-constant_stands view (And f g) table is = tt
-constant_stands view f table is = tt
-
-pub constant_resumed : (k : KeptTimes) (table : TableOf)
-    → NodeResumed k (node.Constant table) kept.Bare (node.Constant table)
-constant_resumed k table f is keeps = (is, λ view whole suits reach stands. constant_stands view f table is)
-
-atom_stands : (view : View) (f : CoreForm) (a : OneAtom) → IsFor f (node.Atom a) → NodeStands view f (node.Atom a)
-atom_stands view (Not f) a is = tt
-atom_stands view (And f g) a is = tt
-atom_stands view f a is = tt
-
-pub atom_resumed : (k : KeptTimes) (a : OneAtom) → NodeResumed k (node.Atom a) kept.Bare (node.Atom a)
-atom_resumed k a f is keeps = (is, λ view whole suits reach stands. atom_stands view f a is)
-
-exists_stands : (view : View) (f : CoreForm) (x : ℕ) → IsFor f (node.Exists x) → NodeStands view f (node.Exists x)
-exists_stands view (Not f) x is = tt
-exists_stands view (And f g) x is = tt
-exists_stands view f x is = tt
-
-pub exists_resumed : (k : KeptTimes) (x : ℕ) → NodeResumed k (node.Exists x) kept.Bare (node.Exists x)
-exists_resumed k x f is keeps = (is, λ view whole suits reach stands. exists_stands view f x is)
 
 -- ---- conjunctions
 
@@ -154,13 +128,6 @@ join_fits k s d f is keeps = absurd is
 
 -- ---- OR
 
-pub or_fits : (k : KeptTimes) (s : OrOf) (d : OrData) (f : CoreForm) → IsFor f (node.Or s) → NodeKeeps k f (kept.Or d)
-    → OrRule s.left s.right d
-or_fits k s d (Or f g) is keeps =
-    subst (λ cols. OrRule cols s.right d) (sym is.columns)
-    (subst (λ cols. OrRule (fv (meaning (Or f g))) cols d) (sym is.right) keeps)
-or_fits k s d f is keeps = absurd is
-
 pub or_resumed : (k : KeptTimes) (s new : OrOf) (d : OrData) → new ≡ or_of s.left s.right d
     → NodeResumed k (node.Or s) (kept.Or d) (node.Or new)
 or_resumed k s new d made (Or f g) is keeps = (
@@ -179,12 +146,6 @@ or_resumed k s new d made (Or f g) is keeps = (
 or_resumed k s new d made f is keeps = absurd is
 
 -- ---- PREVIOUS and NEXT
-
-pub previous_fits : (k : KeptTimes) (s : PrevOf) (d : PrevData) (f : CoreForm) → IsFor f (node.Previous s)
-    → NodeKeeps k f (kept.Previous d) → PreviousRule s.columns (times_from k d.pulled) d
-previous_fits k s d (Previous i f) is keeps =
-    subst (λ cols. PreviousRule cols (times_from k d.pulled) d) (sym is.columns) keeps
-previous_fits k s d f is keeps = absurd is
 
 previous_stands : (k : KeptTimes) (i : Interval) (f : CoreForm) (s new : PrevOf) (d : PrevData) → IsPrevious i f s
     → new ≡ previous_of s.interval s.columns (time_before k d.pulled) (times_from k d.pulled) d
@@ -293,18 +254,6 @@ until_fits k i f g s d is keeps =
     subst (λ c. UntilRule (until_of c (times_from k d.kept.pulled) d.kept)) (sym (until_setting_is i f g s is))
     keeps.rule
 
-pub window_since_fits : (k : KeptTimes) (s : SinceOf) (d : SinceKept) (w : CoreForm) → IsWindow w (window.Since s)
-    → WindowKeeps k w (data_of.Since d)
-    → KeepsRule (setting_of s) (time_before k d.kept.pulled) (times_from k d.kept.pulled) d.kept
-window_since_fits k s d (Since i f g) is keeps = since_fits k i f g s d is keeps
-window_since_fits k s d w is keeps = absurd is
-
-pub window_until_fits : (k : KeptTimes) (s : UntilOf) (d : UntilKept) (w : CoreForm) → IsWindow w (window.Until s)
-    → WindowKeeps k w (data_of.Until d)
-    → UntilRule (until_of (until_setting_of s) (times_from k d.kept.pulled) d.kept)
-window_until_fits k s d (Until i f g) is keeps = until_fits k i f g s d is keeps
-window_until_fits k s d w is keeps = absurd is
-
 pub since_in_window : (k : KeptTimes) (s new : SinceOf) (d : SinceKept) → SinceResumed k s d.kept new
     → WindowResumed k (window.Since s) (data_of.Since d) (window.Since new)
 since_in_window k s new d res (Since i f g) is keeps = (
@@ -324,18 +273,6 @@ until_in_window k s new d res (Until i f g) is keeps = (
   ),
 )
 until_in_window k s new d res w is keeps = absurd is
-
-pub node_since_fits : (k : KeptTimes) (s : SinceOf) (order : TableOf) (d : SinceKept) (f : CoreForm)
-    → IsFor f (node.Since s order) → NodeKeeps k f (kept.Window (data_of.Since d))
-    → KeepsRule (setting_of s) (time_before k d.kept.pulled) (times_from k d.kept.pulled) d.kept
-node_since_fits k s order d (Since i f g) is keeps = since_fits k i f g s d is.state keeps
-node_since_fits k s order d f is keeps = absurd is
-
-pub node_until_fits : (k : KeptTimes) (s : UntilOf) (order : TableOf) (d : UntilKept) (f : CoreForm)
-    → IsFor f (node.Until s order) → NodeKeeps k f (kept.Window (data_of.Until d))
-    → UntilRule (until_of (until_setting_of s) (times_from k d.kept.pulled) d.kept)
-node_until_fits k s order d (Until i f g) is keeps = until_fits k i f g s d is.state keeps
-node_until_fits k s order d f is keeps = absurd is
 
 pub since_resumed_node : (k : KeptTimes) (s new : SinceOf) (order : TableOf) (d : SinceKept)
     → SinceResumed k s d.kept new

@@ -108,10 +108,6 @@ has_chosen : (stays : Bool) (row u : List Value)
 has_chosen true row u = refl
 has_chosen false row u = refl
 
-pub sift_none : (w : Window) (negated : Bool) (columns : List ℕ) (kept : List (List Value)) → kept ≡ []
-    → Sifts w negated columns [] kept
-sift_none w negated columns kept none row holds answers = ap (λ rows. has_row rows row) none
-
 pub sift_more : (w : Window) (negated answer stays : Bool) (columns : List ℕ) (done kept new : List (List Value))
     (row : List Value)
     → Sifts w negated columns done kept → Answers w (valuation columns row) answer → stays ≡ turned negated answer

@@ -49,7 +49,7 @@ Adds fs old new =
 abbrev pub IsJoined : CoreForm → Type 0
 IsJoined h = ((f : CoreForm) × (g : CoreForm) × (h ≡ And f g)) ⊎ ((f : CoreForm) × (h ≡ Not f))
 
--- none of its conjuncts only filters, where it is its own
+-- none of its conjuncts is only asked, where it is its own
 abbrev pub WholeIf : Bool → CoreForm → Type 0
 WholeIf own h = own ≡ true → operands h ≡ children (conjuncts_of h)
 

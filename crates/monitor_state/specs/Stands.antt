@@ -53,7 +53,7 @@ conjunct_as (TestPart c wanted) = Test c wanted
 abbrev pub bare : ChildOf → ChildOf
 bare c = record c { tables = [] }
 
--- the state is one of the core's conjunction, which has a child and none that only filters
+-- the state is one of the core's conjunction, which has a child and no conjunct that is only asked
 pub record IsJoin (f : CoreForm) (s : JoinOf) : Type 0 where
   pub columns : s.columns ≡ conjunct_columns (map conjunct_as (conjuncts_of f))
   pub tests : s.tests ≡ tests_of (map conjunct_as (conjuncts_of f))

@@ -54,7 +54,7 @@ WindowKeeps k (Since i f g) (window.Since s) = SinceKeeps k i f g s
 WindowKeeps k (Until i f g) (window.Until s) = UntilKeeps k i f g s
 WindowKeeps k f other = ⊥
 
--- the data is that of a conjunction with a child and none that only filters
+-- the data is that of a conjunction with a child and no conjunct that is only asked
 pub record JoinKeeps (f : CoreForm) (s : JoinData) : Type 0 where
   pub some : 0 < length (children (conjuncts_of f))
   pub whole : operands f ≡ children (conjuncts_of f)

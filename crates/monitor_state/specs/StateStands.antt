@@ -122,7 +122,7 @@ pub record NextDataStands (view : View) (i : Interval) (f : CoreForm) (s : NextD
   pub bare : s.started ≡ false → (s.pulled ≡ 0) × (length s.tables.items ≡ 0)
   pub tables : AllExact view (meaning f) (s.pulled + 1) s.tables.items
 
--- the data of a conjunction whose right side only filters stands for the log
+-- the data of a conjunction whose right side is asked, by rows or by keys, stands for the log
 pub record FilterDataStands (view : View) (f g : CoreForm) (tables : List TableOf) (w : WindowData) : Type 0 where
   pub pushed : reached view (And f g) + length tables ≡ reached view f
   pub exact : AllExact view (meaning f) (reached view (And f g)) tables

@@ -105,10 +105,6 @@ append_apart (x ∷ xs) ys h k out =
     (out x (or_left (nat_eq x x) (among x xs) (same_number x)))))
     (append_apart xs ys parts.1 k (λ y m. out y (or_right (nat_eq y x) (among y xs) m)))
 
-not_in_rest_at : (y : ℕ) (xs ys : List ℕ) (b : Bool) → among y xs ≡ true → among y ys ≡ b
-    → (not (among y xs) && among y ys) ≡ false
-not_in_rest_at y xs ys b h e = ap (λ t. not t && among y ys) h
-
 pub joined_apart : (xs ys : List ℕ) → all_apart xs ≡ true → all_apart ys ≡ true → all_apart (joined xs ys) ≡ true
 joined_apart xs ys h k =
     append_apart xs (filter (λ z. not (among z xs)) ys) h (filter_apart (λ z. not (among z xs)) ys k)

@@ -57,20 +57,6 @@ pub written : {X : Type 0} (row v : List Value) (m n : BTreeMap (List Value) X) 
     (lookup (is_at (row_cmp v)) m.entries)
 written row v m n w old writes is = (writes.3 (some_there _ old is)).0 v
 
--- what is left after a write and a removal at one key
-pub removed : {X : Type 0} (row v : List Value) (m n k : BTreeMap (List Value) X) (w : X)
-    → lookup (is_at (row_cmp v)) n.entries ≡ cond (is_at (row_cmp row) v) (Some w)
-    (lookup (is_at (row_cmp v)) m.entries)
-    → lookup (is_at (row_cmp v)) k.entries ≡ cond (is_at (row_cmp row) v) None (lookup (is_at (row_cmp v)) n.entries)
-    → lookup (is_at (row_cmp v)) k.entries ≡ cond (is_at (row_cmp row) v) None (lookup (is_at (row_cmp v)) m.entries)
-removed {X} row v m n k w first second = second ∙ ap (λ o. cond (is_at (row_cmp row) v) None o) first
-    ∙ by (is_at (row_cmp row) v)
-  where
-    by : (b : Bool) → cond b None (cond b (Some w) (lookup (is_at (row_cmp v)) m.entries))
-        ≡ cond b None (lookup (is_at (row_cmp v)) m.entries)
-    by true = refl
-    by false = refl
-
 -- what a write through `get_mut` leaves at each key of a map that finds rows by their hashes
 pub put_through : {X S : Type 0} (row v : List Value) (m n : HashMap (List Value) X S) (w old : X)
     → hash.WritesThrough (eq_by_cmp row_cmp) (eq_by_cmp row_cmp row) m w n

@@ -73,11 +73,6 @@ sized_parts columns wanted (row ∷ rows) =
     (eq-eqb (length (part columns wanted row)) (length wanted) (part_size columns wanted row))
     (sized_parts columns wanted rows)
 
-pub sized_both : (n : ℕ) (xs ys : List (List Value)) → all_sized n xs ≡ true → all_sized n ys ≡ true
-    → all_sized n (xs ++ ys) ≡ true
-sized_both n xs ys first second =
-    list_all-append (λ row. nat_eq (length row) n) xs ys ∙ and_from (all_sized n xs) (all_sized n ys) first second
-
 pub sized_filtered : (n : ℕ) (p : List Value → Bool) (rows : List (List Value)) → all_sized n rows ≡ true
     → all_sized n (filter p rows) ≡ true
 sized_filtered n p [] sized = refl
@@ -237,10 +232,6 @@ pub some_of : (columns cs : List ℕ) (p : List Value → Bool) (rows rs : List 
     → cs ≡ columns → rs ≡ filter p rows → IsTable cs rs
 some_of columns cs p rows rs is c r = subst (λ k. IsTable k rs) (sym c)
     (subst (IsTable columns) (sym r) (some_is columns p rows is))
-
-pub table_same : (columns cs : List ℕ) (rows rs : List (List Value)) → IsTable columns rows → cs ≡ columns
-    → rs ≡ rows → IsTable cs rs
-table_same columns cs rows rs is c r = subst (λ k. IsTable k rs) (sym c) (subst (IsTable columns) (sym r) is)
 
 pub inserted_is : (columns : List ℕ) (rows : List (List Value)) (row : List Value) → IsTable columns rows
     → length row ≡ length columns

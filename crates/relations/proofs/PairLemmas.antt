@@ -107,13 +107,6 @@ fewer i n k l = grind (arith)
 pub record Spending (i steps old : ℕ) (rows : List (List Value)) : Type 0 where
   pub spent : (d : ℕ) → length rows < 2 ^ d → steps ≤ old + i * (2 * d)
 
-pub nothing_spent : (old : ℕ) (rows : List (List Value)) → Spending 0 old old rows
-nothing_spent old rows = record { spent = λ d l. omega arith }
-
-pub more_spent : (i old now then : ℕ) (rows : List (List Value)) → Spending i now old rows
-    → ((d : ℕ) → length rows < 2 ^ d → then ≤ now + 2 * d) → Spending (i + 1) then old rows
-more_spent i old now then rows s h = record { spent = λ d l. one_more i (2 * d) old now then (s.spent d l) (h d l) }
-
 all_as_any : (p : List Value → Bool) (xs : List (List Value)) → list_all p xs ≡ not (list_any (λ x. not (p x)) xs)
 all_as_any p [] = refl
 all_as_any p (x ∷ xs) = ap (λ t. p x && t) (all_as_any p xs) ∙ turn (p x) (list_any (λ x. not (p x)) xs)

@@ -15,7 +15,7 @@ use Rattle.rescale_core.specs.States.{Adopted, CanAdopt, IsFull, Merges, MergesM
 use Rattle.rescale_core.specs.Phases.{Follows, Gives, IsPieceFor, Meets, NotIn, Parts, PhaseOf, froms_of, phase_after}
 use Rattle.rescale_core.specs.Phases.PhaseOf.{Active, Vacant, Waiting}
 use Rattle.rescale_core.specs.Workers.{IsFor}
-use Rattle.rescale_core.specs.Working.{CanTake, GoesOn, IsAt, IsOpen, Settles, TakesItem}
+use Rattle.rescale_core.specs.Working.{CanTake, GoesOn, IsAt, Settles, TakesItem}
 use Rattle.rescale_core.specs.declared.item.Item.TheVariants.{Adopt, Part}
 use Rattle.rescale_core.specs.declared.item.Out.TheVariants.{Piece as OfPiece}
 use Rattle.state_merge.specs.MergingView.{MergingOf}
@@ -91,22 +91,6 @@ part_below w m s g old new active can = by can.0 can.1 can.2 can.3 can.4
         subst (λ (y : Strategy). w.number < workers_of y) l.0 f.3
     by ph (Hole t j) at f meets = let e = meets.1 in cc
 
--- only a worker that monitors is due a part
-pub part_active : (w : Worker) (g : ℕ) (old new : Strategy) → CanTake w (Part g old new)
-    → (m : Monitor) × (w.phase ≡ held.Active m old)
-part_active w g old new can = by can.0 can.1 can.2 can.3 can.4
-  where
-    by : (ph : PhaseOf) (d : Due) → IsAt (core_form w.core) w.number ph w.phase
-        → Follows (core_form w.core) w.number ph d → Meets (core_form w.core) w.number ph d (Part g old new)
-        → (m : Monitor) × (w.phase ≡ held.Active m old)
-    by ph (Slicing g' s' log q) at f meets = cc
-    by ph (Parting t) at f meets =
-        let h : IsAt (core_form w.core) w.number (Active t.old t.before) w.phase =
-        subst (λ (y : PhaseOf). IsAt (core_form w.core) w.number y w.phase) f.0 at in
-        let from : old ≡ t.old = cc in
-        (h.0, h.1 ∙ ap (λ (y : Strategy). held.Active h.0 y) (sym from))
-    by ph (Hole t j) at f meets = let e = meets.1 in cc
-
 -- ---- a piece
 
 -- the merge has just the pieces of these workers
@@ -170,25 +154,6 @@ record DuePiece (w : Worker) (piece : Piece) (now : Strategy) (merging : Merging
   old_for : IsFor (core_form w.core) t.old
   new_for : IsFor (core_form w.core) t.new
 
--- a worker that is due a piece has no state of its own
-pub adopt_open : (w : Worker) (piece : Piece) (now : Strategy) → CanTake w (Adopt piece now) → IsOpen w.phase
-adopt_open w piece now can = by can.0 can.1 can.2 can.3 can.4
-  where
-    by : (ph : PhaseOf) (d : Due) → IsAt (core_form w.core) w.number ph w.phase
-        → Follows (core_form w.core) w.number ph d → Meets (core_form w.core) w.number ph d (Adopt piece now)
-        → IsOpen w.phase
-    by ph (Slicing g s log q) at f meets = cc
-    by ph (Parting t) at f meets = cc
-    by ph (Hole t j) at f meets = ⊎_elim
-        (λ none.
-        let h : w.phase ≡ held.Vacant = subst (λ (y : PhaseOf). IsAt (core_form w.core) w.number y w.phase) none at in
-        subst IsOpen (sym h) tt)
-        (λ waiting.
-        let h : IsAt (core_form w.core) w.number (Waiting t (froms_of ph)) w.phase =
-        subst (λ (y : PhaseOf). IsAt (core_form w.core) w.number y w.phase) waiting at in
-        subst IsOpen (sym h.2) tt)
-        f.2
-
 module _ (w : Worker) (piece : Piece) (now : Strategy) (merging : Merging) (missing : ℕ)
     (on : GoesOn w.phase (core_form w.core) piece.count merging missing) where
   abbrev own : CoreForm
@@ -249,9 +214,6 @@ module _ (w : Worker) (piece : Piece) (now : Strategy) (merging : Merging) (miss
 
   pub adopt_allowed : CanTake w (Adopt piece now) → CanAdopt merging piece
   adopt_allowed can = (adopts_due can.0 can.1 can.2 can.3 can.4).0
-
-  pub adopt_missing : CanTake w (Adopt piece now) → 0 < missing
-  adopt_missing can = (adopts_due can.0 can.1 can.2 can.3 can.4).1
 
   module _ (merging2 : Merging) (more : MergesMore merging piece merging2) where
     -- the merge with the piece

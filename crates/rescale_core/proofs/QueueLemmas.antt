@@ -1,19 +1,17 @@
 -- Places among queues, and what is put there.
-use Rattle.std.proofs.Common.{◌≡◌, ◌≢◌, ◌⊎◌, ℕ, zero, suc, ◌+◌, ◌<◌, ◌≤◌, cond, nat_eq, nat_lt}
+use Rattle.std.proofs.Common.{◌≡◌, ◌≢◌, ◌⊎◌, ℕ, zero, suc, ◌+◌, ◌<◌, ◌≤◌, cond, nat_eq}
 use Rattle.std.proofs.Common.{List, [], ◌∷◌, ◌++◌, length, map, drop, get_or, min, set, take}
-use Rattle.std.proofs.Common.{sym, refl, ap, ◌∙◌, append-nil, append_assoc, arith, eq-eqb, inl, inr}
-use Rattle.std.proofs.Common.{get_or-set_other, get_or-set_same, lt-ltb, le-ltb, ne_eqb}
+use Rattle.std.proofs.Common.{sym, refl, ap, ◌∙◌, append-nil, append_assoc, arith, eq-eqb}
+use Rattle.std.proofs.Common.{get_or-set_other, get_or-set_same, ne_eqb}
 use Rattle.std.proofs.lemmas.List.{length-map, length-take, map-append, take_all}
 use native.Mathlib.Decide.{ℕ_discrete}
 use Rattle.mfotl_model.specs.declared.event.TimePoint.{TimePoint}
-use Rattle.rescale_core.proofs.Chains.{below}
 use Rattle.rescale_core.specs.Chances.Chance.{Sure}
-use Rattle.rescale_core.specs.Queues.{all_put, chances, filled, queue_at}
+use Rattle.rescale_core.specs.Queues.{chances, queue_at}
 use Rattle.rescale_core.specs.Routing.{slices_for}
 use Rattle.rescale_core.specs.Slots.{chance_of, standing_of}
 use Rattle.rescale_core.specs.declared.item.Item.{Item}
 use Rattle.rescale_core.specs.declared.item.Item.TheVariants.{Slice}
-use Rattle.monitor_state.specs.declared.state.Piece.{Piece}
 use Rattle.rescale_core.specs.declared.slot.Slot.{Slot}
 use Rattle.rescale_core.specs.declared.slot.Slot.TheVariants.{Ready}
 
@@ -68,61 +66,6 @@ slice_pushed g n k p old rest xs first v q e low here more =
     ap (λ x. x ++ slices_for g n (k + 1) rest q) (queue_pushed xs k first v (Ready (Slice g n p) ∷ []) low here more q)
     ∙ append_assoc (queue_at xs q) (cond (nat_eq q k) (Ready (Slice g n p) ∷ []) []) (slices_for g n (k + 1) rest q)
     ∙ ap (λ (ps : List TimePoint). queue_at xs q ++ slices_for g n k ps q) (sym e)
-
--- workers below k have more slots, and so has worker k then
-pub below_pushed : (more : List Slot) (xs ys : Queues) (k : ℕ) (first v : List Slot) (q : ℕ)
-    → queue_at ys q ≡ queue_at xs q ++ cond (nat_lt q k) more [] → k < length ys → first ≡ get_or ys k first
-    → v ≡ first ++ more → queue_at (set ys k v) q ≡ queue_at xs q ++ cond (nat_lt q (k + 1)) more []
-below_pushed more xs ys k first v q old low here pushed =
-    queue_pushed ys k first v more low here pushed q
-    ∙ ap (λ x. x ++ cond (nat_eq q k) more []) old
-    ∙ append_assoc (queue_at xs q) (cond (nat_lt q k) more []) (cond (nat_eq q k) more [])
-    ∙ ap (λ x. queue_at xs q ++ x) (at (ℕ_discrete q k) (below q k))
-  where
-    at : Dec (q ≡ k) → (q < k) ⊎ (k ≤ q)
-        → cond (nat_lt q k) more [] ++ cond (nat_eq q k) more [] ≡ cond (nat_lt q (k + 1)) more []
-    at (yes e) h =
-        ap (λ b. cond b more [] ++ cond (nat_eq q k) more []) (le-ltb q k (omega arith))
-        ∙ ap (λ b. cond b more []) (eq-eqb q k e)
-        ∙ ap (λ b. cond b more []) (sym (lt-ltb q (k + 1) (omega arith)))
-    at (no n) (inl h) =
-        ap (λ b. cond b more [] ++ cond (nat_eq q k) more []) (lt-ltb q k h)
-        ∙ ap (λ b. more ++ cond b more []) (ne_eqb q k n) ∙ append-nil more
-        ∙ ap (λ b. cond b more []) (sym (lt-ltb q (k + 1) (omega arith)))
-    at (no n) (inr h) =
-        let high : k + 1 ≤ q = beyond q k n h in
-        ap (λ b. cond b more [] ++ cond (nat_eq q k) more []) (le-ltb q k h)
-        ∙ ap (λ b. cond b more []) (ne_eqb q k n)
-        ∙ ap (λ b. cond b more []) (sym (le-ltb q (k + 1) high))
-      where
-        beyond : (q k : ℕ) → q ≢ k → k ≤ q → k + 1 ≤ q
-        beyond q k n h = omega (arith, n)
-
--- a queue that gets its piece
-pub piece_put : (xs : Queues) (p : Piece) (old v : List Slot) → p.to < length xs → old ≡ get_or xs p.to old
-    → v ≡ filled p old → (q : ℕ) → queue_at (set xs p.to v) q ≡ all_put q (p ∷ []) (queue_at xs q)
-piece_put xs p old v low here put q = at (ℕ_discrete q p.to)
-  where
-    at : Dec (q ≡ p.to) → queue_at (set xs p.to v) q ≡ cond (nat_eq p.to q) (filled p (queue_at xs q)) (queue_at xs q)
-    at (yes e) =
-        ap (queue_at (set xs p.to v)) e ∙ queue_set xs p.to v low ∙ put
-        ∙ ap (filled p) (sym (queue_here xs p.to old low here) ∙ ap (queue_at xs) (sym e))
-        ∙ ap (λ b. cond b (filled p (queue_at xs q)) (queue_at xs q)) (sym (eq-eqb p.to q (sym e)))
-    at (no n) =
-        queue_else xs p.to q v n
-        ∙ ap (λ b. cond b (filled p (queue_at xs q)) (queue_at xs q)) (sym (ne_eqb p.to q (λ e. n (sym e))))
-
--- a piece for a worker without a queue changes nothing
-pub none_put : (xs : Queues) (p : Piece) → length xs ≤ p.to → (q : ℕ)
-    → queue_at xs q ≡ all_put q (p ∷ []) (queue_at xs q)
-none_put xs p high q = at (ℕ_discrete q p.to)
-  where
-    at : Dec (q ≡ p.to) → queue_at xs q ≡ cond (nat_eq p.to q) (filled p (queue_at xs q)) (queue_at xs q)
-    at (yes e) =
-        let none : queue_at xs q ≡ [] = ap (queue_at xs) e ∙ queue_beyond xs p.to high in
-        none ∙ ap (filled p) (sym none) ∙ ap (λ b. cond b (filled p (queue_at xs q)) (queue_at xs q))
-        (sym (eq-eqb p.to q (sym e)))
-    at (no n) = ap (λ b. cond b (filled p (queue_at xs q)) (queue_at xs q)) (sym (ne_eqb p.to q (λ e. n (sym e))))
 
 -- ---- items in front
 

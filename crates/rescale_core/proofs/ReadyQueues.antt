@@ -8,7 +8,7 @@ use Rattle.mfotl_model.specs.Strategies.{workers_of}
 use Rattle.monitorable.specs.CoreForms.{CoreForm}
 use Rattle.monitor_state.specs.declared.state.Piece.{Piece}
 use Rattle.verdict_merge.proofs.CountLemmas.{at_most}
-use Rattle.rescale_core.proofs.Fitting.{and_left, and_right, every_filter, every_map}
+use Rattle.rescale_core.proofs.Fitting.{and_left, every_filter, every_map}
 use Rattle.rescale_core.proofs.WorldLemmas.{AreChanges, behind_change, if_either, line_changes}
 use Rattle.rescale_core.specs.Chances.{Chance, Standing}
 use Rattle.rescale_core.specs.Chances.Chance.{Open, Sure}

@@ -3,27 +3,23 @@ use Rattle.std.proofs.Common.{◌≡◌, ℕ, zero, suc, ◌+◌, ◌<◌, ◌�
 use Rattle.std.proofs.Common.{IfNone, IfSome, Option, Some, None, List, [], ◌∷◌, ◌++◌, length, map, drop, get_or}
 use Rattle.std.proofs.Common.{sym, refl, ap, ◌∙◌, subst, arith}
 use Rattle.std.proofs.Common.{eqb-true}
-use Rattle.mfotl_model.specs.Strategies.{Strategy, workers_of}
-use Rattle.monitorable.specs.CoreForms.{CoreForm}
+use Rattle.mfotl_model.specs.Strategies.{workers_of}
 use Rattle.monitorable.specs.Cores.{core_form}
 use Rattle.verdict_merge.specs.Emitted.{Emits}
 use Rattle.verdict_merge.specs.declared.rows.Verdict.{Verdict}
 use Rattle.rescale_core.proofs.GatherLemmas.{gather_collected, gather_emitted}
 use Rattle.rescale_core.proofs.GatherLemmas.{none_emitted, rows_may_add}
 use Rattle.rescale_core.proofs.Filling.{all_filled, are_next}
-use Rattle.rescale_core.proofs.SeatLemmas.{first_sound}
 use Rattle.rescale_core.proofs.SlotLemmas.{fillings, put_chances, put_standings}
 use Rattle.rescale_core.proofs.Soundness.{step_sound}
 use Rattle.rescale_core.proofs.Collecting.{collect_sound}
 use Rattle.rescale_core.proofs.Pieces.{drop_front}
-use Rattle.rescale_core.specs.Lines.Due.{Slicing}
 use Rattle.rescale_core.specs.Queues.{all_put, chances, queue_at}
 use Rattle.rescale_core.specs.Routing.{HasTaken, IsGatherOf, IsRouterOf, MayAdd}
 use Rattle.rescale_core.specs.Slots.{standing_of}
 use Rattle.rescale_core.specs.Handing.{chance, standing}
-use Rattle.rescale_core.specs.Workers.{IsFor}
 use Rattle.rescale_core.specs.Worlds.{World, Allowed, IsGathered, after, all_collected}
-use Rattle.rescale_core.specs.Worlds.{first_world, line_in, not_back, pieces_in, queue_in, rows_in, standings_in}
+use Rattle.rescale_core.specs.Worlds.{line_in, not_back, pieces_in, queue_in, rows_in, standings_in}
 use Rattle.rescale_core.specs.Worlds.Step.{Collect, Emit}
 use Rattle.rescale_core.specs.declared.item.Item.{Item}
 use Rattle.rescale_core.specs.declared.item.Out.{Out}
@@ -197,31 +193,3 @@ unemitted_if r x None core strategy generation points queues outstanding h = λ 
 )
 
 -- ---- the beginning
-
-pub router_begins : (r : Router) (c : CoreForm) (s : Strategy) → IsFor c s → core_form r.core ≡ c → r.strategy ≡ s
-    → r.generation ≡ 0 → r.points ≡ 0 → workers_of s ≤ length r.queues.items
-    → ((q : ℕ) → queue_at r.queues.items q ≡ [])
-    → length r.outstanding.items ≡ length r.queues.items → ((q : ℕ) → get_or r.outstanding.items q 0 ≡ 0)
-    → r.gather ≡ record { begun = record { generation = 0; workers = workers_of s } ∷ []; next = 0; added = [] }
-    → IsRouterOf r (first_world c s)
-router_begins r c s is core strategy generation points wide empty counted nothing gather =
-    record {
-      core = core;
-      generation = generation;
-      strategy = strategy;
-      points = points;
-      wide = subst (λ t. workers_of t ≤ length r.queues.items) (sym strategy) wide;
-      queues = λ q. ap chances (empty q);
-      standings = λ q. ap (map standing_of) (empty q);
-      counted = counted;
-      outstanding = λ q. (let n = nothing q in omega arith);
-      sound = first_sound c s is;
-      gather = subst (λ g. IsGatherOf g (first_world c s)) (sym gather) (record {
-        next = refl;
-        added = refl;
-        workers = λ n h t log p e. (let clash : None ≡ Some (Slicing h t log p) = e in cc);
-        present = refl;
-        later = (omega arith, tt);
-        gathered = λ i low. absurd (omega arith);
-      });
-    }

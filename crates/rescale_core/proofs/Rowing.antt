@@ -77,12 +77,6 @@ Longer n (Slicing g s log p ∷ ds) = (n < length log) × Longer n ds
 Longer n (Parting t ∷ ds) = Longer n ds
 Longer n (Hole t j ∷ ds) = Longer n ds
 
-longer_weak : (n m : ℕ) (ds : List Due) → n ≤ m → Longer m ds → Longer n ds
-longer_weak n m [] e r = tt
-longer_weak n m (Slicing g s log p ∷ ds) e r = (omega arith, longer_weak n m ds e r.1)
-longer_weak n m (Parting t ∷ ds) e r = longer_weak n m ds e r
-longer_weak n m (Hole t j ∷ ds) e r = longer_weak n m ds e r
-
 longer_holes : (n : ℕ) (t : ChangeOfStrategy) (is : List ℕ) (ds : List Due) → Longer n ds
     → Longer n (map (λ i. Hole t i) is ++ ds)
 longer_holes n t [] ds r = r

@@ -1,6 +1,6 @@
 -- What holds of worlds and seats still does where an entry is read, and an item is handed over or taken.
 use Rattle.std.proofs.Common.{◌≡◌, ℕ, ◌+◌, ◌<◌, ◌≤◌, Bool, true, false, cond, nat_eq}
-use Rattle.std.proofs.Common.{Option, Some, None, List, [], ◌∷◌, ◌++◌, length, map, filter, take, drop, sym, refl}
+use Rattle.std.proofs.Common.{List, [], ◌∷◌, ◌++◌, length, map, filter, take, drop, sym, refl}
 use Rattle.std.proofs.Common.{ap, ◌∙◌}
 use Rattle.std.proofs.Common.{subst, append_assoc, arith, eq-eqb, ne_eqb, eqb-true}
 use Rattle.std.proofs.Common.{length-append}
@@ -11,7 +11,7 @@ use Rattle.rescale_core.proofs.ReadyLemmas.{first_due}
 use Rattle.rescale_core.proofs.Settling.{slice_more}
 use Rattle.rescale_core.proofs.WorldLemmas.{line_more, sound_more, supplies_line, supplies_length}
 use Rattle.rescale_core.proofs.WorldLemmas.{supplies_next, change_more}
-use Rattle.rescale_core.specs.Lines.{Due, first_spot, line, MayRead}
+use Rattle.rescale_core.specs.Lines.{first_spot, line, MayRead}
 use Rattle.rescale_core.specs.Soundly.{Supplies, Known, change_of, last_part, KnownRow, last_level, IsSeated, IsSound}
 use Rattle.rescale_core.specs.Phases.{Answers}
 use Rattle.rescale_core.specs.Workers.{IsFor}
@@ -26,7 +26,7 @@ use Rattle.rescale_core.specs.declared.item.Item.{Item}
 use Rattle.rescale_core.specs.declared.item.Entry.{Entry}
 use Rattle.rescale_core.specs.declared.item.Out.{Out}
 use Rattle.verdict_merge.specs.declared.rows.Rows.{Rows}
-use Rattle.rescale_core.specs.Lines.Due.{Slicing, Parting, Hole}
+use Rattle.rescale_core.specs.Lines.Due.{Slicing}
 use Rattle.rescale_core.specs.Worlds.Step.{Read, Feed, Take}
 
 -- ---- worlds

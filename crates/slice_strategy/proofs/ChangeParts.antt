@@ -8,7 +8,7 @@ use Rattle.mfotl_lex.specs.FirstFault.{◌>>=◌, run}
 use Rattle.mfotl_lex.specs.Lexemes.{Lexeme}
 use Rattle.mfotl_lex.proofs.FirstFaultLaws.{run-append, run_none}
 use Rattle.mfotl_lex.proofs.Verdicts as layer
-use Rattle.mfotl_lex.proofs.Verdicts.{breaks, then_judged, judged_ok, judged_rule, kept_ok, judged_as}
+use Rattle.mfotl_lex.proofs.Verdicts.{breaks, then_judged, judged_ok, judged_rule, judged_as}
 use Rattle.mfotl_model.specs.declared.policy.Var.{Var}
 use Rattle.slice_strategy.specs.declared.change.Change.{Change as ChangeOf}
 use Rattle.slice_strategy.specs.declared.change.ChangeFault.{ChangeFault}
@@ -25,7 +25,7 @@ use Rattle.slice_strategy.specs.ChangeRules.{point, changes_of, IsNotBelow, Keep
 use Rattle.slice_strategy.specs.Grammar.{Entries, NoEntry, Part, Whole, FitsPart, spell_part}
 use Rattle.slice_strategy.specs.Limits.{max_changes}
 use Rattle.slice_strategy.specs.Reading as strategy
-use Rattle.slice_strategy.specs.Reading.{Partial, Between, ended}
+use Rattle.slice_strategy.specs.Reading.{Between, ended}
 use Rattle.slice_strategy.proofs.Moves as strategies
 use Rattle.slice_strategy.proofs.Moves.{AreFew, so_far, behind, ended_judged}
 use Rattle.slice_strategy.proofs.PartReads.{KeepsPart, few_kept, kept_whole, few_of, part_read}

@@ -14,7 +14,7 @@ use Rattle.slice_strategy.specs.declared.stage.Method.{Method}
 use Rattle.slice_strategy.specs.declared.stage.Method.TheVariants as method
 use Rattle.slice_strategy.specs.ChangeGrammar.{is_before, IsBefore}
 use Rattle.slice_strategy.specs.ChangeReading as script
-use Rattle.slice_strategy.specs.ChangeReading.{ScriptOf, lifted, may_begin, within, interrupted, inside, step_from}
+use Rattle.slice_strategy.specs.ChangeReading.{ScriptOf, lifted, may_begin, within, interrupted}
 use Rattle.slice_strategy.specs.Grammar.{Integers, First, Next, Opening, Entries, NoEntry, Then, Part, Whole, ToName}
 use Rattle.slice_strategy.specs.Grammar.{ToEqual, ToMethod, ToColon, ToComma, FitsPart, Fits, FitsOpening}
 use Rattle.slice_strategy.specs.Grammar.{FitsIntegers}

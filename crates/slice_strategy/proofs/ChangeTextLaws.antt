@@ -6,7 +6,7 @@ use Rattle.std.proofs.Common.{IfOk, IfErr, refl, ap, sym}
 use Rattle.mfotl_lex.specs.declared.fault.LexFault.{LexFault}
 use Rattle.mfotl_lex.specs.declared.kind.Mode.TheVariants.{Plain}
 use Rattle.mfotl_lex.specs.FirstFault as layer
-use Rattle.mfotl_lex.specs.FirstFault.{◌>>=◌, Tail, Broken, End, run}
+use Rattle.mfotl_lex.specs.FirstFault.{◌>>=◌, Broken, End, run}
 use Rattle.mfotl_lex.specs.Lexemes.{tokens}
 use Rattle.mfotl_lex.specs.Places.{beginning}
 use Rattle.mfotl_lex.specs.Texts.{tail_of}

@@ -4,7 +4,7 @@ use Rattle.std.proofs.Common.{◌&&◌, ◌||◌, List, [], ◌∷◌, length, d
 use Rattle.std.proofs.Common.{slice_get, add-zero, ap, refl, sym, subst, arith}
 use Rattle.std.proofs.lemmas.List.{drop_more}
 use Rattle.std.proofs.lemmas.Nat.{mul-le, mod_below, div-mul-add}
-use Rattle.std.proofs.Math.Nat.{mul_comm, mul_assoc, add-mul, mul-one, zero-mul}
+use Rattle.std.proofs.Math.Nat.{mul_comm, mul_assoc, add-mul, mul-one}
 use Rattle.std.proofs.lemmas.Option.{slice_get-map, slice_get-get_or}
 use Rattle.mfotl_model.specs.FreeVariables.{among}
 use Rattle.mfotl_model.specs.Regions.{near_from, near_of}
@@ -94,10 +94,6 @@ pub record Owes (items : List Entry) (row : List Value) (number i : ℕ) : Type 
   pub owner : number * workers_of (behind items i) + owner_from i (behind items i) (full_row row)
       ≡ owner_of (entries_of items) (full_row row)
 
-pub owes_all : (items : List Entry) (row : List Value) → HasWorkers (entries_of items) → Owes items row 0 0
-owes_all items row within =
-    record { within = within; owner = omega (arith, zero-mul (workers_of (entries_of items))) }
-
 horner : (n p w a r : ℕ) → (n * p + a) * w + r ≡ n * (p * w) + (a * w + r)
 horner n p w a r =
     let one : (n * p + a) * w ≡ n * p * w + a * w = add-mul (n * p) a w in
@@ -147,13 +143,6 @@ owes_parts items row number i owes e low is =
     let few = owes_bound items row number i owes in
     (h.0, h.1, mul-le number (parts_of (entry_of e)) max_workers max_workers (omega (arith, few)) h.1)
 
-pub owes_done : (items : List Entry) (row : List Value) (number i : ℕ) → Owes items row number i → length items ≤ i
-    → number ≡ owner_of (entries_of items) (full_row row)
-owes_done items row number i owes past =
-    let last = sym (ap (λ es. number * workers_of es + owner_from i es (full_row row)) (none_behind items i past))
-    ∙ owes.owner in
-    omega (arith, last, mul-one number)
-
 -- ---- a worker's digits, from the first entry on
 
 -- the worker has these digits in the places behind the entries before place i, which the row lies in
@@ -161,10 +150,6 @@ pub record Nears (items : List Entry) (vs : List ℕ) (v : Valuation) (k digits 
   pub places : place ≡ workers_of (behind items i)
   pub low : digits < place
   pub near : near_from i (behind items i) digits vs v ≡ near_of (entries_of items) k vs v
-
-pub nears_all : (items : List Entry) (vs : List ℕ) (v : Valuation) (k place : ℕ) → place ≡ workers_of (entries_of items)
-    → k < place → Nears items vs v k k place 0
-nears_all items vs v k place is low = record { places = is; low = low; near = refl }
 
 module _ (items : List Entry) (vs : List ℕ) (v : Valuation) (k digits place i : ℕ)
     (nears : Nears items vs v k digits place i) (e : Entry) (low : i < length items) (is : e ≡ get_or items i e) where
@@ -176,9 +161,6 @@ module _ (items : List Entry) (vs : List ℕ) (v : Valuation) (k digits place i 
 
   positive : (0 < parts_of (entry_of e)) × (0 < others)
   positive = both_some (parts_of (entry_of e)) others (omega (arith, product, nears.low))
-
-  pub some_parts : 0 < parts_of (entry_of e)
-  some_parts = positive.0
 
   pub divides : place / parts_of (entry_of e) ≡ others
   divides = ap (λ n. n / parts_of (entry_of e)) product ∙ quotient (parts_of (entry_of e)) others positive.0
@@ -211,12 +193,3 @@ module _ (items : List Entry) (vs : List ℕ) (v : Valuation) (k digits place i 
       sym (ap (λ b. b && near_from (i + 1) (behind items (i + 1)) (digits % others) vs v)
       (sym (ap lies divides) ∙ other))
       ∙ both
-
-pub nears_done : (items : List Entry) (vs : List ℕ) (v : Valuation) (k digits place i : ℕ)
-    → Nears items vs v k digits place i → length items ≤ i → true ≡ near_of (entries_of items) k vs v
-nears_done items vs v k digits place i nears past =
-    let one : place ≡ 1 = nears.places ∙ ap workers_of (none_behind items i past) in
-    let zero_is : digits ≡ 0 = omega (arith, one, nears.low) in
-    sym (ap (λ n. nat_eq n 0) zero_is)
-    ∙ sym (ap (λ es. near_from i es digits vs v) (none_behind items i past))
-    ∙ nears.near

@@ -1,22 +1,18 @@
 -- Values that rows give to variables.
 use Rattle.std.proofs.Common.{◌≡◌, ◌≢◌, ◌∙◌, ℕ, zero, suc, ◌+◌, ◌<◌, ◌≤◌, true, false, cond, nat_eq, ◌||◌}
-use Rattle.std.proofs.Common.{List, [], ◌∷◌, length, drop, get_or, ap, refl, sym, arith, zero-add}
+use Rattle.std.proofs.Common.{List, [], ◌∷◌, length, drop, get_or, ap, sym, arith, zero-add}
 use Rattle.std.proofs.lemmas.Bool.Decides.{nat_tests}
 use Rattle.std.proofs.lemmas.List.{drop_more}
 use Rattle.std.specs.List.{range_with_len}
 use Rattle.mfotl_model.specs.FreeVariables.{among}
 use Rattle.mfotl_model.specs.Tables.{valuation}
 use Rattle.mfotl_model.specs.declared.value.Value.{Value}
-use Rattle.slice_strategy.proofs.EntryLemmas.{drop_past}
 use Rattle.slice_strategy.specs.Slicers.{full_row}
 
 -- what is still to be looked at says the same of the variable
 pub record Reads (cols : List ℕ) (row : List Value) (y i : ℕ) : Type 0 where
   pub bound : among y (drop i cols) ≡ among y cols
   pub value : valuation (drop i cols) (drop i row) y ≡ valuation cols row y
-
-pub reads_all : (cols : List ℕ) (row : List Value) (y : ℕ) → Reads cols row y 0
-reads_all cols row y = record { bound = refl; value = refl }
 
 module _ (cols : List ℕ) (row : List Value) (y i : ℕ) (a : Value) (in_cols : i < length cols) (in_row : i < length row)
     (reads : Reads cols row y i) where
@@ -37,17 +33,6 @@ module _ (cols : List ℕ) (row : List Value) (y i : ℕ) (a : Value) (in_cols :
         value =
             sym (ap (λ b. cond b (get_or row i a) (valuation (drop (i + 1) cols) (drop (i + 1) row) y)) apart) ∙ taken;
       }
-
-  pub read_here : get_or cols i 0 ≡ y → (among y cols ≡ true) × (get_or row i a ≡ valuation cols row y)
-  read_here same =
-      let here : nat_eq y (get_or cols i 0) ≡ true = grind (arith, nat_tests) in (
-        sym first ∙ ap (λ b. b || among y (drop (i + 1) cols)) here,
-        sym (ap (λ b. cond b (get_or row i a) (valuation (drop (i + 1) cols) (drop (i + 1) row) y)) here) ∙ taken,
-      )
-
-pub read_none : (cols : List ℕ) (row : List Value) (y i : ℕ) → length cols ≤ i → Reads cols row y i
-    → among y cols ≡ false
-read_none cols row y i past reads = sym reads.bound ∙ ap (among y) (drop_past cols i past)
 
 full_from : (s i : ℕ) (row : List Value) (a : Value) → i < length row
     → valuation (range_with_len s (length row)) row (s + i) ≡ get_or row i a

@@ -1,3 +1,4 @@
+//! Runs whose threads have to overlap, and the turns of two cells.
 use crate::{Counter, Echo, Meeting, WatchedSink};
 use mon_outside::{MemInputs, MemSink, NamedFile, OpenGate};
 use monitor_main::run;

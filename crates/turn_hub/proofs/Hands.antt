@@ -2,7 +2,7 @@
 use Rattle.std.proofs.Common.{◌≡◌, ◌≢◌, ◌⊎◌, ℕ, ◌<◌, List, ◌∷◌, ◌++◌, true, length, set, sym, refl, ap, ◌∙◌}
 use Rattle.std.proofs.Common.{subst, inl, inr, ⊎_elim, arith, Option, Some, None, length-set, get_or-set_other}
 use mathlib.Core.Logic.{dite}
-use mathlib.Core.Option.{some, none, some-injective, some-ne-none}
+use mathlib.Core.Option.{some, none, some-injective}
 use mathlib.Core.Option as maybe
 use native.Mathlib.Decide.{ℕ_discrete}
 use lib.ListN.{get_elem?}

@@ -5,7 +5,6 @@ use Rattle.std.specs.Prelude.{Result}
 use Rattle.std.specs.declared.collections.VecDeque.{VecDeque}
 use Rattle.std.specs.Global.{Global}
 use Rattle.std.specs.Option.{option_to_list}
-use Rattle.monitorable.specs.CoreForms.{CoreForm}
 use Rattle.mfotl_model.specs.Strategies.{Strategy, workers_of}
 use Rattle.mfotl_model.specs.declared.event.TimePoint.{TimePoint}
 use Rattle.rescale_core.proofs.Keeping.{by_steps}
@@ -23,7 +22,7 @@ use Rattle.slice_strategy.specs.declared.change.Change.{Change}
 use Rattle.worker_pool.specs.Changes.{AllSuit, ChangesIn, HaveCells, IsDue, Suits, TakesDue}
 use Rattle.worker_pool.specs.Laws.{DueAtItsNumber}
 use Rattle.worker_pool.specs.Texts.{lines, tally_of}
-use Rattle.worker_pool.specs.Writing.{Adds, Begins, Keeps, Runs, RunsTo, seen}
+use Rattle.worker_pool.specs.Writing.{Adds, Keeps, Runs, RunsTo, seen}
 use Rattle.worker_pool.specs.declared.schedule.Schedule.{Schedule}
 use Rattle.worker_pool.specs.declared.tally.Tally.{Tally}
 use Rattle.worker_pool.proofs.WritingLemmas.{runs_of}
@@ -58,21 +57,10 @@ pub suits_kept : (d e : Driver) (a b : Option (List ℕ)) (t u : Tally) (s : Sch
     → Keeps d a t e b u → Suits d s → Suits e s
 suits_kept d e a b t u s r k suits = suits_by d e s (core_kept d e a b t u r k) suits
 
--- a driver that read nothing has the core that it began with
-pub suits_first : (core : CoreForm) (d : Driver) (s : Schedule) → Begins core d → AllSuit core s.changes.items
-    → Suits d s
-suits_first core d s begins suits =
-    subst (λ c. AllSuit c s.changes.items) (sym (core_same d _ begins.stands)) suits
-
 -- the first change is to a strategy for the core, and so are those behind it
 both_suit : (d : Driver) (old new : Schedule) (s : Strategy) (due : TakesDue old (Some s) new) → Suits d old
     → AllSuit (core_of d) (due.0.change ∷ due.0.rest)
 both_suit d old new s due suits = subst (λ cs. AllSuit (core_of d) cs) due.0.first suits
-
-pub suits_now : (d : Driver) (old new : Schedule) (s : Strategy) → TakesDue old (Some s) new → Suits d old
-    → IsFor (core_of d) s
-suits_now d old new s due suits =
-    subst (λ x. IsFor (core_of d) x) (sym due.1) (both_suit d old new s due suits).0
 
 pub suits_later : (d : Driver) (old new : Schedule) (s : Strategy) → TakesDue old (Some s) new → Suits d old
     → Suits d new

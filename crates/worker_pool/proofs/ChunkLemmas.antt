@@ -66,12 +66,6 @@ pub moved : (before after : Option (List ℕ)) (buffer : List ℕ) (count : ℕ)
 moved None after buffer count m = tt
 moved (Some all) after buffer count m = rw m.new_is m.next
 
--- no byte was moved at the end
-pub moved_none : (before after : Option (List ℕ)) (buffer : List ℕ) (count : ℕ) → Moves before after buffer count
-    → count ≡ 0 → IsAtEnd before
-moved_none None after buffer count m none = tt
-moved_none (Some all) after buffer count m none = m.end none
-
 -- a chunk was fed
 pub fed : (old new : Reader) (before : Option (List ℕ)) (chunk : List ℕ) → old.is_ended ≡ false
     → new ≡ record old { is_fed = true; kept = new.kept } → ForEach old (λ bytes. Reads new (bytes ++ chunk))
@@ -83,19 +77,6 @@ fed old new before chunk untold e reads =
       same = e ∙ ap₂ (λ f d. record old { is_fed = f; is_ended = d; kept = new.kept }) (sym told) (sym ended);
       reads = reads;
       whole = λ end. absurd cc;
-    }
-
--- the end was told
-pub told_end : (old new : Reader) (before : Option (List ℕ))
-    → new ≡ record old { is_ended = true; kept = new.kept } → ForEach old (Reads new) → IsAtEnd before
-    → Feeds old new before []
-told_end old new before e reads end =
-    let told : new.is_fed ≡ old.is_fed = ap (λ (r : Reader). r.is_fed) e in
-    let ended : new.is_ended ≡ true = ap (λ (r : Reader). r.is_ended) e in
-    record {
-      same = e ∙ ap₂ (λ f d. record old { is_fed = f; is_ended = d; kept = new.kept }) (sym told) (sym ended);
-      reads = λ bytes of. rw (append-nil bytes) (reads bytes of);
-      whole = λ told. (end, refl);
     }
 
 module _ (core : CoreForm) (sig : List PredOf) where

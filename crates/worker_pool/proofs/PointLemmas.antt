@@ -28,7 +28,7 @@ use Rattle.rescale_core.specs.declared.driver.Driver.{Driver}
 use Rattle.worker_pool.specs.Chunks.{SoFar, StopsLines, TakesAll, stop_for}
 use Rattle.worker_pool.specs.Policies.{ForEachPolicy, IsCoreOf}
 use Rattle.worker_pool.specs.Texts.{lines, tally_of, text_on}
-use Rattle.worker_pool.specs.Writing.{Adds, Falls, FallsShort, IsOutputStop, IsOver, Keeps, Writes, all_verdicts}
+use Rattle.worker_pool.specs.Writing.{Adds, Falls, FallsShort, IsOver, Keeps, Writes, all_verdicts}
 use Rattle.worker_pool.specs.declared.stop.Stop.{Stop}
 use Rattle.worker_pool.specs.declared.stop.Stop.TheVariants as stop
 use Rattle.worker_pool.specs.declared.tally.Tally.{Tally}
@@ -117,14 +117,6 @@ pub one_more_given : (first old new : Reader) → old ≡ record first { given =
 one_more_given first old new before is =
     is ∙ ap (λ (r : Reader). record r { given = old.given + 1; kept = new.kept }) before
     ∙ ap (λ n. record first { given = n; kept = new.kept }) (sym (ap (λ (r : Reader). r.given) is))
-
--- the output failed, looked at from before
-pub output_stops : (policy : Form) (r : Reading) (old new : Option (List ℕ)) (before mid now : ℕ) (why : Stop)
-    → before ≤ mid → IsOutputStop mid now why → StopsLines policy r old new before now why
-output_stops policy r old new before mid now (stop.Log fault) later h = absurd h
-output_stops policy r old new before mid now stop.Read later h = absurd h
-output_stops policy r old new before mid now stop.Sink later h = rose_later before mid now later h
-output_stops policy r old new before mid now stop.Memory later h = tt
 
 -- a front of the lines of the first verdicts on the first time-points is one of the text
 pub falls_front : (core : CoreForm) (policy : Form) → IsCoreOf core policy → (r : Reading) (xs ys : List TimePoint)

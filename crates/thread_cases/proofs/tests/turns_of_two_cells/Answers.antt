@@ -1,4 +1,4 @@
-use Rattle.std.proofs.Common.{rules, ◌<◌, length, subst, sym}
+use Rattle.std.proofs.Common.{rules, ◌<◌, subst, sym}
 use Rattle.turn_hub.specs.Ends.{cell_count}
 use Rattle.turn_hub.proofs.Keeps.{there}
 use Rattle.thread_cases.specs.Echoes.{Stands, May}
