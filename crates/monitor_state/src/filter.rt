@@ -119,14 +119,8 @@ fn sifted(alloc: Global, window: &Window, negated: bool, table: Table) -> Result
     ensures over { IfOk result (λ kept. kept.columns ≡ table.columns) }
     ensures sifts { IfOk result (λ kept. Sifts window.now negated table.columns table.rows kept.rows) }
 {
-    let columns = Vec::from_slice(alloc, table.columns())?;
-    let kept = kept_rows(
-        alloc,
-        window,
-        negated,
-        columns.as_slice(),
-        table.into_rows(),
-    )?;
+    let (columns, rows) = table.into_parts();
+    let kept = kept_rows(alloc, window, negated, columns.as_slice(), rows)?;
     Ok(Table::from_ascending(columns, kept))
 }
 

@@ -95,7 +95,9 @@ impl Tables {
         ensures none { IfNone result (self.old ≡ []) }
     {
         let first = self.first.take();
-        self.first = self.more.pop_front();
+        if !self.more.is_empty() {
+            self.first = self.more.pop_front();
+        }
         first
     }
 }

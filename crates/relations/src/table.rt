@@ -85,7 +85,8 @@ impl Table {
         Table { columns, rows }
     }
 
-    pub(crate) fn into_parts(self) -> (Vec<u32>, Vec<Row>)
+    /// The columns and the rows themselves.
+    pub fn into_parts(self) -> (Vec<u32>, Vec<Row>)
         ensures columns { result.0.items ≡ self.columns }
         ensures rows { result.1.items ≡ self.rows }
         ensures is_table { IsTable self.columns self.rows }

@@ -59,6 +59,7 @@ fn prepare(alloc: Global, plan: Plan, cells: u32, threads: u32) -> Result<Prepar
     ensures begins { IfOk result (λ p. Begins (core_form plan.core) p.driver) }
     ensures suits { IfOk result (λ p. Suits p.driver p.schedule) }
     ensures seated { IfOk result (λ p. HaveCells cells p.schedule) }
+    ensures all { IfOk result (λ p. p.schedule.changes.items ≡ plan.changes.items) }
     ensures unread { IfOk result (λ p. p.schedule.routed ≡ 0) }
     ensures main { IfOk result (λ p. IsMainOf p.hub p.driver.main) }
     ensures groups { IfOk result (λ p. AreGroupsOf p.hub p.groups.items) }

@@ -18,12 +18,18 @@ use crate::main_turns::drain;
 use crate::schedule::Schedule;
 use crate::stop::Stop;
 use log_reader::{LogReader, Next};
+use mfotl_model::TimePoint;
 use mon_outside::{Gate, Sink};
 use rescale_core::Driver;
 use std::sync::Wait;
 
-// After so many time-points main turns to the workers, so that they work while it reads on.
-const BATCH: u64 = 256;
+// After so many time-points and events together main turns to the workers, so that they work while it reads on.
+const BATCH: usize = 256;
+
+// How much a time-point counts towards a batch.
+fn size(point: &TimePoint) -> usize {
+    point.db.inserted().len().saturating_add(1)
+}
 
 /// Reads all time-points that are complete, each behind the changes that are to be made before it, and writes all
 /// lines that are due by then.
@@ -62,10 +68,15 @@ pub(crate) fn route_complete<R: Wait, O: Sink, G: Gate>(
         start (O.written out.new) (text_on policy (read (progress reader.old bytes))))) }
     ensures later { O.faults out.old ≤ O.faults out.new }
 {
+    let mut batch = 0usize;
     'points: for _ in context.rt.forever() {
         match reader.next(context.alloc) {
             Ok(Next::Point(point)) => {
-                let turns = schedule.routed % BATCH == BATCH - 1;
+                let turns = batch >= BATCH;
+                if turns {
+                    batch = 0;
+                }
+                batch = batch.saturating_add(size(&point));
                 route(context, own, driver, schedule, writer, out, turns, point)?;
             }
             Ok(Next::More) => return drain(context, own, driver, writer, out),
