@@ -2,10 +2,7 @@ pub mod CountLemmas
 pub mod MergeLemmas
 pub mod OwnerLemmas
 pub mod MergedLists
-pub mod KeptLemmas
-pub mod WaitingLemmas
-pub mod SlotLemmas
-pub mod IndexLemmas
-pub mod PlaceLemmas
-pub mod TakingLemmas
 pub mod EmitLemmas
+pub mod OrderLemmas
+pub mod SlotLemmas
+pub mod PutLemmas

@@ -1,106 +1,154 @@
--- The Rows of slots, by their places.
-use Rattle.std.proofs.Common.{◌≡◌, ◌∙◌, ℕ, zero, suc, ◌+◌, ◌<◌, List, [], ◌∷◌, ◌++◌, length, slice_index_or, slice_set}
-use Rattle.std.proofs.Common.{Bool, Option, Some, None, true, false, refl, sym, ap, arith}
-use Rattle.std.proofs.lemmas.Map.Entries.{lookup_head, lookup_tail}
-use Rattle.std.specs.BTreeMap.{is_at}
-use Rattle.std.specs.Cmp.{nat_cmp_is}
-use Rattle.std.specs.List.{AllByRecursion}
-use Rattle.std.specs.List.Sorted.{IsStrictlySortedBy}
-use Rattle.std.specs.Map.{keys_of, lookup, remove_entry}
-use Rattle.std.specs.Ordering.{is_eq, nat_cmp}
-use Rattle.std.specs.declared.cmp.Ordering.TheVariants.{Less}
-use Rattle.verdict_merge.proofs.KeptLemmas.{hit, miss, remove_head, remove_tail}
-use Rattle.verdict_merge.specs.declared.rows.Rows.{Rows}
-use Rattle.verdict_merge.specs.Places.{at_slot, placed}
+-- The Rows of each time-point in their slot, as Rows come and go.
+use Rattle.std.proofs.Common.{◌≡◌, ◌∙◌, ℕ, zero, suc, ◌+◌, ◌<◌, ◌≤◌, Bool, false, true, cond, not, List, [], ◌∷◌, ◌++◌, length, map}
+use Rattle.std.proofs.Common.{filter, drop, Some, refl, sym, ap, arith, eq-eqb, ne_eqb}
+use Rattle.std.proofs.lemmas.List.{append-nil, append_assoc, map-append}
+use Rattle.std.proofs.lemmas.List.Elements.{filter-append}
+use Rattle.std.specs.List.{AllByRecursion, find}
+use Rattle.verdict_merge.proofs.OrderLemmas.{all_joined, all_kept, comes_last, each, kept_in_order, none_in_order}
+use Rattle.verdict_merge.proofs.OrderLemmas.{none_kept, none_numbered}
+use Rattle.verdict_merge.specs.declared.arrived.Arrived.{Arrived}
+use Rattle.verdict_merge.specs.Gathers.{at_point, rows_after, rows_at}
+use Rattle.verdict_merge.specs.Slots.{AreSlots, IsSlot, first_held, first_of, in_order, joined, put_in}
 
-less : (k s : ℕ) → k < s → nat_cmp k s ≡ Less
-less k s low = sym (nat_cmp_is k s Less low)
+abbrev AllBelow : ℕ → List Arrived → Type 0
+AllBelow n all = AllByRecursion (λ a. a.number < n) all
 
--- all places are above those before the first
-all_above : (k start : ℕ) (slots : List (Option Rows)) → k < start
-    → AllByRecursion (λ place. nat_cmp k place ≡ Less) (keys_of (placed start slots))
-all_above k start [] low = tt
-all_above k start (None ∷ slots) low = all_above k (start + 1) slots (omega arith)
-all_above k start (Some r ∷ slots) low = (less k start low, all_above k (start + 1) slots (omega arith))
+below_more : (n : ℕ) (all : List Arrived) → AllBelow n all → AllBelow (suc n) all
+below_more n all = each (λ a. a.number < n) (λ a. a.number < suc n) (λ a low. omega (arith, low)) all
 
-pub placed_ascend : (start : ℕ) (slots : List (Option Rows)) → IsStrictlySortedBy nat_cmp (keys_of (placed start slots))
-unfolding IsStrictlySortedBy
-placed_ascend start [] = tt
-placed_ascend start (None ∷ slots) = placed_ascend (start + 1) slots
-placed_ascend start (Some r ∷ slots) =
-    (all_above start (start + 1) slots (omega arith), placed_ascend (start + 1) slots)
+all_below : (n p : ℕ) (slots : List (List Arrived)) → AreSlots n p slots → AllBelow n (joined slots)
+all_below n p [] h = tt
+all_below n p (all ∷ more) h =
+    all_joined (λ a. a.number < n) all (joined more) h.0.numbers (all_below n (p + 1) more h.1)
 
--- nothing stands at another place than those
-not_found : (s : ℕ) (es : List (ℕ × Rows)) → AllByRecursion (λ place. nat_cmp s place ≡ Less) (keys_of es)
-    → (lookup (is_at (nat_cmp s)) es ≡ None) × (remove_entry (is_at (nat_cmp s)) es ≡ es)
-not_found s [] above = (refl, refl)
-not_found s (e ∷ es) above =
-    let past : is_at (nat_cmp s) e.0 ≡ false = ap is_eq above.0 in
-    let (none, same) = not_found s es above.1 in (
-      lookup_tail (is_at (nat_cmp s)) e es past ∙ none,
-      remove_tail (is_at (nat_cmp s)) e es past ∙ ap (λ ds. e ∷ ds) same,
-    )
+empty_slot : (n p : ℕ) → IsSlot n p []
+empty_slot n p = record { points = tt; numbers = tt; order = none_in_order n }
 
-pub before_start : (s start : ℕ) (slots : List (Option Rows)) → s < start
-    → (lookup (is_at (nat_cmp s)) (placed start slots) ≡ None)
-    × (remove_entry (is_at (nat_cmp s)) (placed start slots) ≡ placed start slots)
-before_start s start slots low = not_found s (placed start slots) (all_above s start slots low)
+slot_more : (n p : ℕ) (all : List Arrived) → IsSlot n p all → IsSlot (suc n) p all
+slot_more n p all h = record {
+  points = h.points;
+  numbers = below_more n all h.numbers;
+  order = ap (λ rs. in_order n all ++ rs) (none_numbered n all h.numbers) ∙ append-nil (in_order n all) ∙ h.order;
+}
 
--- what isn't there isn't taken out
-pub none_there : (s : ℕ) (es : List (ℕ × Rows)) → lookup (is_at (nat_cmp s)) es ≡ None
-    → remove_entry (is_at (nat_cmp s)) es ≡ es
-none_there s [] h = refl
-none_there s (e ∷ es) h = at (is_at (nat_cmp s) e.0) refl (none_there s es)
-  where
-    at : (b : Bool) → is_at (nat_cmp s) e.0 ≡ b
-        → (lookup (is_at (nat_cmp s)) es ≡ None → remove_entry (is_at (nat_cmp s)) es ≡ es)
-        → remove_entry (is_at (nat_cmp s)) (e ∷ es) ≡ e ∷ es
-    at true here next = absurd (let bad = sym (lookup_head (is_at (nat_cmp s)) e es here) ∙ h in cc)
-    at false past next =
-        remove_tail (is_at (nat_cmp s)) e es past
-        ∙ ap (λ ds. e ∷ ds) (next (sym (lookup_tail (is_at (nat_cmp s)) e es past) ∙ h))
+slots_more : (n p : ℕ) (slots : List (List Arrived)) → AreSlots n p slots → AreSlots (suc n) p slots
+slots_more n p [] h = tt
+slots_more n p (all ∷ more) h = (slot_more n p all h.0, slots_more n (p + 1) more h.1)
 
--- what goes with one slot
-pub record Slot (start s i : ℕ) (slots : List (Option Rows)) : Type 0 where
-  pub found : lookup (is_at (nat_cmp s)) (placed start slots) ≡ slice_index_or slots i None
-  pub left : placed start (slice_set slots i None) ≡ remove_entry (is_at (nat_cmp s)) (placed start slots)
+slot_put : (n p : ℕ) (a : Arrived) (all : List Arrived) → a.number ≡ n → a.rows.point ≡ p → IsSlot n p all
+    → IsSlot (suc n) p (all ++ a ∷ [])
+slot_put n p a all number point h = record {
+  points = all_joined (λ b. b.rows.point ≡ p) all (a ∷ []) h.points (point, tt);
+  numbers = all_joined (λ b. b.number < suc n) all (a ∷ []) (below_more n all h.numbers)
+      ((omega (arith, number)), tt);
+  order = comes_last a all [] n number h.numbers tt ∙ ap (λ bs. in_order n bs ++ a.rows ∷ []) (append-nil all)
+      ∙ ap (λ rs. rs ++ a.rows ∷ []) h.order ∙ sym (map-append (λ b. b.rows) all (a ∷ []));
+}
 
-pub slot_is : (start s i : ℕ) (slots : List (Option Rows)) → s ≡ start + i → Slot start s i slots
-slot_is start s i [] at = record { found = refl; left = refl }
-slot_is start s zero (None ∷ slots) at =
-    let (none, same) = before_start s (start + 1) slots (omega (arith, at)) in
-    record { found = none; left = sym same }
-slot_is start s zero (Some r ∷ slots) at =
-    let here : is_at (nat_cmp s) start ≡ true = hit s start (omega (arith, at)) in
+-- the slots once the next Rows are put into that of their time-point
+pub slots_put : (n p i : ℕ) (a : Arrived) (slots : List (List Arrived)) → a.number ≡ n → a.rows.point ≡ p + i
+    → AreSlots n p slots → AreSlots (suc n) p (put_in i a slots)
+slots_put n p zero a [] number point h =
+    (slot_put n p a [] number (omega (arith, point)) (empty_slot n p), tt)
+slots_put n p zero a (all ∷ more) number point h =
+    (slot_put n p a all number (omega (arith, point)) h.0, slots_more n (p + 1) more h.1)
+slots_put n p (suc i) a [] number point h =
+    (empty_slot (suc n) p, slots_put n (p + 1) i a [] number (omega (arith, point)) tt)
+slots_put n p (suc i) a (all ∷ more) number point h =
+    (slot_more n p all h.0, slots_put n (p + 1) i a more number (omega (arith, point)) h.1)
+
+-- what stands before the Rows that were put in, and behind them
+record Parts (n i : ℕ) (a : Arrived) (slots : List (List Arrived)) : Type 0 where
+  pub front : List Arrived
+  pub back : List Arrived
+  pub old : joined slots ≡ front ++ back
+  pub new : joined (put_in i a slots) ≡ front ++ a ∷ back
+  pub below : AllBelow n front
+  pub beyond : AllBelow n back
+
+parts : (n p i : ℕ) (a : Arrived) (slots : List (List Arrived)) → AreSlots n p slots → Parts n i a slots
+parts n p zero a [] h = record { front = []; back = []; old = refl; new = refl; below = tt; beyond = tt }
+parts n p zero a (all ∷ more) h = record {
+  front = all;
+  back = joined more;
+  old = refl;
+  new = append_assoc all (a ∷ []) (joined more);
+  below = h.0.numbers;
+  beyond = all_below n (p + 1) more h.1;
+}
+parts n p (suc i) a [] h =
+    let t = parts n (p + 1) i a [] tt in
+    record { front = t.front; back = t.back; old = t.old; new = t.new; below = t.below; beyond = t.beyond }
+parts n p (suc i) a (all ∷ more) h =
+    let t = parts n (p + 1) i a more h.1 in
     record {
-      found = lookup_head (is_at (nat_cmp s)) (start, r) (placed (start + 1) slots) here;
-      left = sym (remove_head (is_at (nat_cmp s)) (start, r) (placed (start + 1) slots) here);
-    }
-slot_is start s (suc i) (None ∷ slots) at =
-    let t = slot_is (start + 1) s i slots (omega (arith, at)) in
-    record { found = t.found; left = t.left }
-slot_is start s (suc i) (Some r ∷ slots) at =
-    let t = slot_is (start + 1) s i slots (omega (arith, at)) in
-    let past : is_at (nat_cmp s) start ≡ false = miss s start (less start s (omega (arith, at))) in
-    record {
-      found = lookup_tail (is_at (nat_cmp s)) (start, r) (placed (start + 1) slots) past ∙ t.found;
-      left = ap (λ ds. (start, r) ∷ ds) t.left
-          ∙ sym (remove_tail (is_at (nat_cmp s)) (start, r) (placed (start + 1) slots) past);
+      front = all ++ t.front;
+      back = t.back;
+      old = ap (λ bs. all ++ bs) t.old ∙ sym (append_assoc all t.front t.back);
+      new = ap (λ bs. all ++ bs) t.new ∙ sym (append_assoc all t.front (a ∷ t.back));
+      below = all_joined (λ b. b.number < n) all t.front h.0.numbers t.below;
+      beyond = t.beyond;
     }
 
--- Rows behind all slots
-pub placed_last : (start : ℕ) (r : Rows) (slots : List (Option Rows))
-    → placed start (slots ++ Some r ∷ []) ≡ placed start slots ++ (start + length slots, r) ∷ []
-placed_last start r [] =
-    let is : start ≡ start + 0 = omega arith in
-    ap (λ k. (k, r) ∷ []) is
-placed_last start r (slot ∷ slots) =
-    let is : (start + 1) + length slots ≡ start + suc (length slots) = omega arith in
-    by slot (placed_last (start + 1) r slots ∙ ap (λ k. placed (start + 1) slots ++ (k, r) ∷ []) is)
+-- the next Rows that are put in come last
+pub put_last : (n p i : ℕ) (a : Arrived) (slots : List (List Arrived)) → a.number ≡ n → AreSlots n p slots
+    → in_order (suc n) (joined (put_in i a slots)) ≡ in_order n (joined slots) ++ a.rows ∷ []
+put_last n p i a slots number h =
+    let t = parts n p i a slots h in
+    ap (in_order (suc n)) t.new ∙ comes_last a t.front t.back n number t.below t.beyond
+    ∙ ap (λ bs. in_order n bs ++ a.rows ∷ []) (sym t.old)
+
+later : (n p q : ℕ) (slots : List (List Arrived)) → p < q → AreSlots n q slots
+    → AllByRecursion (λ a. at_point p a.rows ≡ false) (joined slots)
+later n p q [] low h = tt
+later n p q (all ∷ more) low h =
+    all_joined (λ a. at_point p a.rows ≡ false) all (joined more)
+    (each (λ a. a.rows.point ≡ q) (λ a. at_point p a.rows ≡ false)
+    (λ a is. ne_eqb a.rows.point p (λ e. omega (arith, e, is, low))) all h.0.points)
+    (later n p (q + 1) more (omega (arith, low)) h.1)
+
+-- the Rows of the next time-point are those of the first slot
+pub first_rows : (n p : ℕ) (slots : List (List Arrived)) → AreSlots n p slots
+    → rows_at p (in_order n (joined slots)) ≡ map (λ a. a.rows) (first_held slots)
+first_rows n p [] h = ap (rows_at p) (none_in_order n)
+first_rows n p (all ∷ more) h =
+    let f : Arrived → Bool = λ a. at_point p a.rows in
+    kept_in_order (at_point p) n (all ++ joined more)
+    ∙ ap (in_order n) (filter-append f all (joined more)
+    ∙ ap (λ bs. bs ++ filter f (joined more)) (all_kept f all
+    (each (λ a. a.rows.point ≡ p) (λ a. f a ≡ true) (λ a is. eq-eqb a.rows.point p is) all h.0.points))
+    ∙ ap (λ bs. all ++ bs) (none_kept f (joined more) (later n p (p + 1) more (omega arith) h.1))
+    ∙ append-nil all)
+    ∙ h.0.order
+
+found_first : {X : Type 0} (f : X → Bool) (xs : List X) → find f xs ≡ first_of (filter f xs)
+found_first f [] = refl
+found_first f (x ∷ xs) = at (f x) (found_first f xs)
   where
-    by : (o : Option Rows) → placed (start + 1) (slots ++ Some r ∷ [])
-        ≡ placed (start + 1) slots ++ (start + suc (length slots), r) ∷ []
-        → at_slot start o (placed (start + 1) (slots ++ Some r ∷ []))
-        ≡ at_slot start o (placed (start + 1) slots) ++ (start + suc (length slots), r) ∷ []
-    by None more = more
-    by (Some q) more = ap (λ ds. (start, q) ∷ ds) more
+    at : (b : Bool) → find f xs ≡ first_of (filter f xs)
+        → cond b (Some x) (find f xs) ≡ first_of (cond b (x ∷ filter f xs) (filter f xs))
+    at true h = refl
+    at false h = h
+
+-- and the first of them are the first there
+pub first_found : (n p : ℕ) (slots : List (List Arrived)) → AreSlots n p slots
+    → find (at_point p) (in_order n (joined slots)) ≡ first_of (map (λ a. a.rows) (first_held slots))
+first_found n p slots h =
+    found_first (at_point p) (in_order n (joined slots)) ∙ ap first_of (first_rows n p slots h)
+
+-- those of the other time-points are left
+pub others_left : (n p : ℕ) (slots : List (List Arrived)) → AreSlots n p slots
+    → rows_after p (in_order n (joined slots)) ≡ in_order n (joined (drop 1 slots))
+others_left n p [] h = ap (rows_after p) (none_in_order n) ∙ sym (none_in_order n)
+others_left n p (all ∷ more) h =
+    let f : Arrived → Bool = λ a. not (at_point p a.rows) in
+    kept_in_order (λ r. not (at_point p r)) n (all ++ joined more)
+    ∙ ap (in_order n) (filter-append f all (joined more)
+    ∙ ap (λ bs. bs ++ filter f (joined more)) (none_kept f all
+    (each (λ a. a.rows.point ≡ p) (λ a. f a ≡ false) (λ a is. ap not (eq-eqb a.rows.point p is)) all h.0.points))
+    ∙ all_kept f (joined more) (each (λ a. at_point p a.rows ≡ false) (λ a. f a ≡ true) (λ a is. ap not is)
+    (joined more) (later n p (p + 1) more (omega arith) h.1)))
+
+pub slots_left : (n p : ℕ) (slots : List (List Arrived)) → AreSlots n p slots → AreSlots n (p + 1) (drop 1 slots)
+slots_left n p [] h = tt
+slots_left n p (all ∷ more) h = h.1

@@ -1,5 +1,5 @@
 pub mod Gathers
 pub mod Emitted
 pub mod Laws
-pub mod Places
+pub mod Slots
 pub mod Examples

@@ -5,7 +5,6 @@ ghost use Rattle.std.specs.Option.{is_some};
 ghost use Rattle.verdict_merge.specs.Gathers.{complete_ts, is_from, is_generation, workers_in};
 ghost use Rattle.verdict_merge.specs.Emitted.{Emits};
 
-use crate::merge::merged;
 use crate::rows::{Begun, Rows, Verdict};
 use crate::waiting::Waiting;
 use std::alloc::{AllocError, Global};
@@ -16,8 +15,7 @@ use std::marker::Model;
 #[derive(Drop)]
 pub struct Gather {
     begun: Vec<Begun>,
-    next: u64,
-    added: Waiting,
+    waiting: Waiting,
 }
 
 impl Model for Gather {
@@ -25,7 +23,7 @@ impl Model for Gather {
 
     ghost Value = { GatherOf };
 
-    ghost view = { λ g. record { begun = g.begun.items; next = g.next; added = g.added } };
+    ghost view = { λ g. record { begun = g.begun.items; next = g.waiting.next; added = g.waiting.added } };
 }
 
 impl Gather {
@@ -35,8 +33,7 @@ impl Gather {
     {
         Gather {
             begun: Vec::new(alloc),
-            next: 0,
-            added: Waiting::new(alloc),
+            waiting: Waiting::new(alloc),
         }
     }
 
@@ -69,7 +66,7 @@ impl Gather {
           added = self.old.added ++ rows ∷ [];
         }) }
     {
-        self.added.push(rows)?;
+        self.waiting.push(rows)?;
         Ok(())
     }
 
@@ -81,11 +78,8 @@ impl Gather {
         let Some(ts) = self.complete_ts() else {
             return Ok(None);
         };
-        let point = self.next;
-        let after = point.checked_add(1).ok_or(AllocError)?;
-        let lists = self.added.take(alloc, point)?;
-        let rows = merged(alloc, lists)?;
-        self.next = after;
+        let point = self.waiting.next();
+        let rows = self.waiting.take(alloc)?;
         Ok(Some(Verdict { point, ts, rows }))
     }
 
@@ -117,8 +111,8 @@ impl Gather {
     fn complete_ts(&self) -> Option<u64>
         ensures { result ≡ complete_ts self.now }
     {
-        let first = self.added.first(self.next)?;
-        if self.added.count(self.next) == self.workers(first.generation) as usize {
+        let first = self.waiting.first()?;
+        if self.waiting.count() == self.workers(first.generation) as usize {
             Some(first.ts)
         } else {
             None

@@ -1,11 +1,12 @@
 //! The verdicts of many workers put together: one for each time-point, in order.
 #![tactic(auto)]
 
+mod arrived;
 pub mod examples;
 mod gather;
+mod group;
 pub mod laws;
 mod merge;
-mod places;
 mod rows;
 mod slots;
 mod text;

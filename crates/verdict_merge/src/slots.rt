@@ -1,55 +1,80 @@
-//! Rows at places that rise one by one from a first, some of them taken out.
-ghost use Rattle.std.specs.Prelude.{◌≡◌, ◌∷◌, IsTrue, None, drop, option_copied};
-ghost use Rattle.std.specs.BTreeMap.{is_at};
-ghost use Rattle.std.specs.Map.{lookup, remove_entry};
-ghost use Rattle.std.specs.Ordering.{nat_cmp};
-ghost use Rattle.verdict_merge.specs.Places.{placed};
+//! A slot for each time-point, from the next on.
+ghost use Rattle.std.specs.Prelude.{◌≡◌, ◌++◌, ◌∷◌, [], ◌≤◌, IfOk, OnOk, drop, length, map, option_copied};
+ghost use Rattle.mfotl_model.specs.Ascending.{ascending};
+ghost use Rattle.mfotl_model.specs.Values.{row_cmp};
+ghost use Rattle.verdict_merge.specs.Gathers.{all_rows};
+ghost use Rattle.verdict_merge.specs.Slots.{first_held, held, put_in};
 
-use crate::rows::Rows;
+use crate::arrived::Arrived;
+use crate::group::Group;
+use mfotl_model::RowList;
+use std::alloc::{AllocError, Global};
 use std::collections::VecDeque;
 
-// The Rows at a place.
-pub(crate) fn get_at(start: u64, slots: &VecDeque<Option<Rows>>, place: u64) -> Option<&Rows>
-    ensures { option_copied result ≡ lookup (is_at (nat_cmp place)) (placed start slots.now.items) }
+// What the first slot holds.
+pub(crate) fn front(slots: &VecDeque<Option<Group>>) -> Option<&Group>
+    ensures { held (option_copied result) ≡ first_held (map held slots.now.items) }
 {
-    let index = place.checked_sub(start)?;
-    slots.get(index as usize)?.as_ref()
+    slots.front()?.as_ref()
 }
 
-// Takes the Rows at a place out.
-pub(crate) fn take_at(start: u64, slots: &mut VecDeque<Option<Rows>>, place: u64) -> Option<Rows>
-    ensures value { result ≡ lookup (is_at (nat_cmp place)) (placed start slots.old.items) }
-    ensures left { placed start slots.new.items
-        ≡ remove_entry (is_at (nat_cmp place)) (placed start slots.old.items) }
+// Takes the first slot out.
+pub(crate) fn pop(slots: &mut VecDeque<Option<Group>>) -> Option<Group>
+    ensures first { held result ≡ first_held (map held slots.old.items) }
+    ensures left { map held slots.new.items ≡ drop 1 (map held slots.old.items) }
 {
-    let index = place.checked_sub(start)?;
-    slots.get_mut(index as usize)?.take()
+    slots.pop_front()?
 }
 
-// Whether the Rows of the first slot are taken out.
-fn is_taken(slots: &VecDeque<Option<Rows>>) -> bool
-    ensures { IsTrue result → slots.now.items ≡ None ∷ drop 1 slots.now.items }
+// All rows of a slot in ascending order, each once.
+pub(crate) fn slot_rows(alloc: Global, slot: Option<Group>) -> Result<RowList, AllocError>
+    ensures { IfOk result (λ rows. rows ≡ ascending row_cmp (all_rows (map (λ a. a.rows) (held slot)))) }
 {
-    match slots.front() {
-        Some(slot) => slot.is_none(),
-        None => false,
+    match slot {
+        Some(group) => group.into_rows(alloc),
+        None => Ok(RowList::new(Vec::new(alloc))),
     }
 }
 
-// Drops the first slots where their Rows are taken out: the first place from then on.
-pub(crate) fn trimmed(start: u64, slots: &mut VecDeque<Option<Rows>>) -> u64
-    ensures { placed result slots.new.items ≡ placed start slots.old.items }
+// Puts Rows behind those of a slot. Where there are fewer slots, empty ones come in between.
+pub(crate) fn put(
+    slots: &mut VecDeque<Option<Group>>,
+    alloc: Global,
+    index: usize,
+    arrived: Arrived,
+) -> Result<(), AllocError>
+    ensures { OnOk result (map held slots.new.items ≡ put_in index arrived (map held slots.old.items)) }
 {
-    let mut first = start;
-    for _ in 0..slots.len() {
-        if !is_taken(slots) {
-            return first;
-        }
-        let Some(after) = first.checked_add(1) else {
-            return first;
-        };
-        slots.pop_front();
-        first = after;
+    if index < slots.len() {
+        add(&mut slots[index], alloc, arrived)?;
+        return Ok(());
     }
-    first
+    fill(slots, index)?;
+    slots.push_back(Some(Group::new(alloc, arrived)))?;
+    Ok(())
+}
+
+// Puts Rows behind those of a slot.
+fn add(slot: &mut Option<Group>, alloc: Global, arrived: Arrived) -> Result<(), AllocError>
+    ensures { OnOk result (held slot.new ≡ held slot.old ++ arrived ∷ []) }
+{
+    if let Some(group) = slot {
+        return group.push(arrived);
+    }
+    *slot = Some(Group::new(alloc, arrived));
+    Ok(())
+}
+
+// Adds empty slots until there are so many. Where memory doesn't suffice for all, none is added.
+fn fill(slots: &mut VecDeque<Option<Group>>, count: usize) -> Result<(), AllocError>
+    requires { length slots.old.items ≤ count }
+    ensures len { OnOk result (length slots.new.items ≡ count) }
+    ensures same { OnOk result ((a : Arrived) → put_in count a (map held slots.new.items)
+        ≡ put_in count a (map held slots.old.items)) }
+{
+    slots.reserve(count - slots.len())?;
+    for _ in slots.len()..count {
+        slots.push_back(None)?;
+    }
+    Ok(())
 }

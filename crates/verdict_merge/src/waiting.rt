@@ -1,147 +1,114 @@
-//! The Rows that wait, in the order in which they came. Those of a time-point are found without a search.
-ghost use Rattle.std.specs.Prelude.{◌≡◌, ◌++◌, ◌∷◌, [], ℕ, IfOk, OnOk, length, option_copied};
-ghost use Rattle.std.specs.List.{find, flat_map};
-ghost use Rattle.std.specs.BTreeMap.{is_at};
-ghost use Rattle.std.specs.Map.{lookup, remove_entry, values_of};
-ghost use Rattle.std.specs.Ordering.{nat_cmp};
+//! The Rows that wait. Those of a time-point are found without a search.
+ghost use Rattle.std.specs.Prelude.{◌≡◌, ◌++◌, ◌∷◌, [], ◌+◌, ◌≤◌, IfOk, length, option_copied};
+ghost use Rattle.std.specs.List.{find};
+ghost use Rattle.mfotl_model.specs.Ascending.{ascending};
+ghost use Rattle.mfotl_model.specs.Values.{row_cmp};
 ghost use Rattle.verdict_merge.specs.Gathers.{all_rows, at_point, rows_after, rows_at};
-ghost use Rattle.verdict_merge.specs.Places.{arrived_at, others, placed, places_found, rows_found};
 
-use crate::places::{Places, add_place, first_place, take_places};
+use crate::arrived::Arrived;
+use crate::group::Group;
 use crate::rows::Rows;
-use crate::slots::{get_at, take_at, trimmed};
-use mfotl_model::Row;
+use crate::slots::{front, pop, put, slot_rows};
+use mfotl_model::RowList;
 use std::alloc::{AllocError, Global};
-use std::collections::{HashMap, VecDeque};
+use std::collections::VecDeque;
 use std::marker::Model;
 
-// Each Rows has a place in the order, and an index gives the places of each time-point.
+// A slot holds the Rows of a time-point: the first those of the next one, and each other those of the one after.
 #[derive(Drop)]
 pub(crate) struct Waiting {
     alloc: Global,
-    start: u64,
-    arrived: VecDeque<Option<Rows>>,
-    index: HashMap<u64, Places>,
+    next: u64,
+    // how many Rows came so far
+    count: u64,
+    slots: VecDeque<Option<Group>>,
 }
 
 impl Model for Waiting {
-    ghost use Rattle.std.specs.Prelude.{List};
-    ghost use Rattle.std.specs.Map.{values_of};
-    ghost use Rattle.verdict_merge.specs.declared.rows.Rows.{Rows as Given};
-    ghost use Rattle.verdict_merge.specs.Places.{AreIndexed, placed};
+    ghost use Rattle.std.specs.Prelude.{map};
+    ghost use Rattle.verdict_merge.specs.Slots.{AreSlots, WaitingOf, held, in_order, joined};
 
-    ghost Value = { List Given };
+    ghost Value = { WaitingOf };
 
-    ghost view = { λ w. values_of (placed w.start w.arrived.items) };
+    ghost view = { λ w. record { next = w.next; added = in_order w.count (joined (map held w.slots.items)) } };
 
-    ghost invariant = { λ w. AreIndexed (placed w.start w.arrived.items) w.index.entries };
+    ghost invariant = { λ w. AreSlots w.count w.next (map held w.slots.items) };
 }
 
 impl Waiting {
     pub(crate) fn new(alloc: Global) -> Self
-        ensures { result ≡ [] }
+        ensures { result ≡ record { next = 0; added = [] } }
     {
         Waiting {
             alloc,
-            start: 0,
-            arrived: VecDeque::new(alloc),
-            index: HashMap::new(alloc),
+            next: 0,
+            count: 0,
+            slots: VecDeque::new(alloc),
         }
+    }
+
+    // The number of the next time-point.
+    pub(crate) fn next(&self) -> u64
+        ensures { result ≡ self.now.next }
+    {
+        self.next
     }
 
     // Puts Rows after all that wait. Where memory runs out in between, none wait any more.
     pub(crate) fn push(&mut self, rows: Rows) -> Result<(), AllocError>
-        ensures { IfOk result (λ _. self.new ≡ self.old ++ rows ∷ []) }
+        requires { self.old.next ≤ rows.point }
+        ensures { IfOk result (λ _. self.new ≡ record {
+          next = self.old.next;
+          added = self.old.added ++ rows ∷ [];
+        }) }
     {
-        let place = self
-            .start
-            .checked_add(self.arrived.len() as u64)
-            .ok_or(AllocError)?;
-        let point = rows.point;
-        let Ok(()) = self.arrived.push_back(Some(rows)) else {
+        let count = self.count.checked_add(1).ok_or(AllocError)?;
+        let index = rows.point - self.next;
+        let arrived = Arrived {
+            number: self.count,
+            rows,
+        };
+        let Ok(()) = put(&mut self.slots, self.alloc, index as usize, arrived) else {
+            self.slots.clear();
             return Err(AllocError);
         };
-        let Ok(()) = add_place(&mut self.index, self.alloc, point, place) else {
-            self.arrived.clear();
-            self.index.clear();
-            return Err(AllocError);
-        };
+        self.count = count;
         Ok(())
     }
 
-    // The first Rows of a time-point.
-    pub(crate) fn first(&self, point: u64) -> Option<&Rows>
-        ensures { option_copied result ≡ find (at_point point) self.now }
+    // The first Rows of the next time-point.
+    pub(crate) fn first(&self) -> Option<&Rows>
+        ensures { option_copied result ≡ find (at_point self.now.next) self.now.added }
     {
-        let place = first_place(&self.index, point)?;
-        get_at(self.start, &self.arrived, place)
+        match front(&self.slots) {
+            Some(group) => Some(group.first()),
+            None => None,
+        }
     }
 
-    // How many Rows of a time-point wait.
-    pub(crate) fn count(&self, point: u64) -> usize
-        ensures { result ≡ length (rows_at point self.now) }
+    // How many Rows of the next time-point wait.
+    pub(crate) fn count(&self) -> usize
+        ensures { result ≡ length (rows_at self.now.next self.now.added) }
     {
-        match self.index.get(&point) {
-            Some(places) => places.len(),
+        match front(&self.slots) {
+            Some(group) => group.len(),
             None => 0,
         }
     }
 
-    // Takes the Rows of a time-point out: the rows of each. Where memory runs out, none wait any more.
-    pub(crate) fn take(&mut self, alloc: Global, point: u64) -> Result<Vec<Vec<Row>>, AllocError>
-        ensures rows { IfOk result (λ lists.
-            flat_map (λ list. list.items) lists.items ≡ all_rows (rows_at point self.old)) }
-        ensures left { IfOk result (λ _. self.new ≡ rows_after point self.old) }
+    // Takes the Rows of the next time-point out: all their rows in ascending order, each once.
+    pub(crate) fn take(&mut self, alloc: Global) -> Result<RowList, AllocError>
+        ensures rows { IfOk result (λ rows.
+            rows ≡ ascending row_cmp (all_rows (rows_at self.old.next self.old.added))) }
+        ensures left { IfOk result (λ _. self.new ≡ record {
+          next = self.old.next + 1;
+          added = rows_after self.old.next self.old.added;
+        }) }
     {
-        let places = take_places(&mut self.index, point);
-        let Ok(lists) = take_rows(self.start, &mut self.arrived, alloc, places) else {
-            self.arrived.clear();
-            self.index.clear();
-            return Err(AllocError);
-        };
-        self.start = trimmed(self.start, &mut self.arrived);
-        Ok(lists)
+        let after = self.next.checked_add(1).ok_or(AllocError)?;
+        let first = pop(&mut self.slots);
+        self.next = after;
+        let rows = slot_rows(alloc, first)?;
+        Ok(rows)
     }
-}
-
-// Takes the Rows at a place out, and keeps their rows.
-fn take_list(
-    start: u64,
-    arrived: &mut VecDeque<Option<Rows>>,
-    lists: &mut Vec<Vec<Row>>,
-    place: u64,
-) -> Result<(), AllocError>
-    ensures rows { OnOk result (flat_map (λ list. list.items) lists.new.items
-        ≡ flat_map (λ list. list.items) lists.old.items
-        ++ rows_found (lookup (is_at (nat_cmp place)) (placed start arrived.old.items))) }
-    ensures left { placed start arrived.new.items ≡ remove_entry (is_at (nat_cmp place)) (placed start arrived.old.items) }
-{
-    if let Some(rows) = take_at(start, arrived, place) {
-        lists.push(rows.rows.into_vec())?;
-    }
-    Ok(())
-}
-
-// Takes the Rows at all places of a time-point out: the rows of each.
-fn take_rows(
-    start: u64,
-    arrived: &mut VecDeque<Option<Rows>>,
-    alloc: Global,
-    places: Option<Places>,
-) -> Result<Vec<Vec<Row>>, AllocError>
-    ensures rows { IfOk result (λ lists. (point : ℕ) → arrived_at point (placed start arrived.old.items) ≡ places_found places
-        → flat_map (λ list. list.items) lists.items ≡ all_rows (rows_at point (values_of (placed start arrived.old.items)))) }
-    ensures left { OnOk result ((point : ℕ) → arrived_at point (placed start arrived.old.items) ≡ places_found places
-        → placed start arrived.new.items ≡ others point (placed start arrived.old.items)) }
-{
-    let mut lists = Vec::new(alloc);
-    let Some(places) = places else {
-        return Ok(lists);
-    };
-    let (first, more) = places.into_parts();
-    take_list(start, arrived, &mut lists, first)?;
-    for place in more {
-        take_list(start, arrived, &mut lists, place)?;
-    }
-    Ok(lists)
 }

@@ -1,17 +1,21 @@
-use Rattle.std.proofs.Common.{◌∙◌, ap, length}
-use Rattle.verdict_merge.proofs.KeptLemmas.{counted}
-use Rattle.verdict_merge.specs.Places.{placed, places_found}
+use Rattle.std.proofs.Common.{◌∙◌, length, map, sym, ap}
+use Rattle.std.proofs.lemmas.List.{length-map}
+use Rattle.verdict_merge.proofs.SlotLemmas.{first_rows}
+use Rattle.verdict_merge.specs.Slots.{first_held, held}
 use Rattle.verdict_merge.proofs.waiting.Waiting.count.Goals as goal
 
 pub returns-in-Some : goal.returns-in-Some
 returns-in-Some c =
-    rw (← c.self.view_is) (c.len.ensures
-    ∙ ap (λ o. length (places_found o)) c.in-Some.ensures.value
-    ∙ ap length (c.self.invariant c.args.point) ∙ counted c.args.point
-    (placed c.self.inside.start c.self.inside.arrived.items))
+    let w = c.self.inside in
+    let slots = map held w.slots.items in
+    rw (← c.self.view_is) (c.len.ensures ∙ ap length c.in-Some.ensures
+    ∙ sym (ap length (first_rows w.count w.next slots c.self.invariant)
+    ∙ length-map (first_held slots) (λ a. a.rows)))
 
 pub returns-in-None : goal.returns-in-None
 returns-in-None c =
-    rw (← c.self.view_is) (ap (λ o. length (places_found o)) c.in-None.ensures.value
-    ∙ ap length (c.self.invariant c.args.point) ∙ counted c.args.point
-    (placed c.self.inside.start c.self.inside.arrived.items))
+    let w = c.self.inside in
+    let slots = map held w.slots.items in
+    rw (← c.self.view_is) (ap length c.in-None.ensures
+    ∙ sym (ap length (first_rows w.count w.next slots c.self.invariant)
+    ∙ length-map (first_held slots) (λ a. a.rows)))

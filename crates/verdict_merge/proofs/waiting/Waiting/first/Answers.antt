@@ -1,18 +1,16 @@
-use Rattle.std.proofs.Common.{◌∙◌, sym, ap}
-use Rattle.verdict_merge.proofs.SlotLemmas.{placed_ascend}
-use Rattle.verdict_merge.proofs.WaitingLemmas.{found_at, found_nowhere}
-use Rattle.verdict_merge.specs.Places.{first_of, placed}
+use Rattle.std.proofs.Common.{◌∙◌, map, sym, ap}
+use Rattle.verdict_merge.proofs.SlotLemmas.{first_found}
+use Rattle.verdict_merge.specs.Slots.{first_of, held}
 use Rattle.verdict_merge.proofs.waiting.Waiting.first.Goals as goal
 
-pub returns-in_err-place : goal.returns-in_err-place
-returns-in_err-place c =
-    let now = placed c.self.inside.start c.self.inside.arrived.items in
-    rw (c.from_residual.ensures, ← c.self.view_is) (sym (found_nowhere c.args.point now
-    (sym (ap first_of (c.self.invariant c.args.point)) ∙ sym c.first_place.ensures ∙ c.in_err-place.was)))
+pub returns-in-Some : goal.returns-in-Some
+returns-in-Some c =
+    let w = c.self.inside in
+    rw (← c.self.view_is) (c.first.ensures ∙ ap (λ all. first_of (map (λ a. a.rows) all)) c.in-Some.ensures
+    ∙ sym (first_found w.count w.next (map held w.slots.items) c.self.invariant))
 
-pub returns : goal.returns
-returns c =
-    let now = placed c.self.inside.start c.self.inside.arrived.items in
-    rw (← c.self.view_is) (c.get_at.ensures ∙ sym (found_at c.args.point now
-    (placed_ascend c.self.inside.start c.self.inside.arrived.items) c.in_ok-place.place
-    (sym (ap first_of (c.self.invariant c.args.point)) ∙ sym c.first_place.ensures ∙ c.in_ok-place.was)))
+pub returns-in-None : goal.returns-in-None
+returns-in-None c =
+    let w = c.self.inside in
+    rw (← c.self.view_is) (ap (λ all. first_of (map (λ a. a.rows) all)) c.in-None.ensures
+    ∙ sym (first_found w.count w.next (map held w.slots.items) c.self.invariant))

@@ -1,34 +1,30 @@
-use Rattle.std.proofs.Common.{◌≡◌, ◌∙◌, ◌+◌, ◌++◌, ◌∷◌, [], Some, cond, length, nat_eq, sym, ap, arith}
+use Rattle.std.proofs.Common.{◌≡◌, ◌∙◌, suc, ◌+◌, ◌-◌, ◌≤◌, ◌++◌, ◌∷◌, [], map, refl, sym, ap, subst, arith}
 use Rattle.std.proofs.lemmas.Grind.{common_steps}
-use Rattle.std.specs.Map.{values_of}
-use Rattle.verdict_merge.proofs.PlaceLemmas.{places_last, values_last}
-use Rattle.verdict_merge.proofs.SlotLemmas.{placed_last}
-use Rattle.verdict_merge.specs.Places.{arrived_at, placed, places_of}
+use Rattle.verdict_merge.proofs.SlotLemmas.{put_last, slots_put}
+use Rattle.verdict_merge.specs.declared.arrived.Arrived.{Arrived}
+use Rattle.verdict_merge.specs.Slots.{AreSlots, WaitingOf, held, in_order, joined}
 use Rattle.verdict_merge.proofs.waiting.Waiting.push.Goals as goal
 
-pub invariant_of-self-in-Ok-add_place : goal.invariant_of-self-in-Ok-add_place
-invariant_of-self-in-Ok-add_place c = λ p.
-    let start = c.self.inside.start in
-    let items = c.self.inside.arrived.items in
-    let before = placed start items in
-    let place = c.in_ok-place.place in
-    let rows = c.args.rows in
-    let is : start + length items ≡ place = grind (arith, common_steps) in
-    let grown : placed start (items ++ Some rows ∷ []) ≡ before ++ (place, rows) ∷ [] =
-    placed_last start rows items ∙ ap (λ k. before ++ (k, rows) ∷ []) is in
-    c.in-Ok-add_place.ensures p
-    ∙ ap (λ ks. cond (nat_eq rows.point p) (ks ++ place ∷ []) (places_of p c.self.inside.index.entries))
-    (c.self.invariant rows.point)
-    ∙ ap (λ ks. cond (nat_eq rows.point p) (arrived_at rows.point before ++ place ∷ []) ks) (c.self.invariant p)
-    ∙ sym (ap (λ slots. arrived_at p (placed start slots)) c.in-Ok.ensures.items
-    ∙ ap (arrived_at p) grown ∙ places_last place p rows before)
+pub invariant_of-self-2 : goal.invariant_of-self-2
+invariant_of-self-2 c =
+    let w = c.self.inside in
+    let a : Arrived = record { number = w.count; rows = c.args.rows } in
+    let is : suc w.count ≡ c.in_ok-count.count = grind (arith, common_steps) in
+    let next : w.next ≡ c.args.self.now.next = ap (λ (v : WaitingOf). v.next) c.self.view_is in
+    let ahead : c.args.self.now.next ≤ c.args.rows.point = c.requires in
+    let at : c.args.rows.point ≡ w.next + (c.args.rows.point - w.next) = omega (arith, next, ahead) in
+    subst (λ n. AreSlots n w.next (map held c.put.new.slots.items)) is
+    (subst (AreSlots (suc w.count) w.next) (sym c.in-Ok.ensures)
+    (slots_put w.count w.next (c.args.rows.point - w.next) a (map held w.slots.items) refl at c.self.invariant))
 
 pub returns : goal.returns
 returns c =
-    let start = c.self.inside.start in
-    let items = c.self.inside.arrived.items in
-    let before = placed start items in
-    let rows = c.args.rows in
-    ap (λ slots. values_of (placed start slots)) c.in-Ok.ensures.items
-    ∙ ap values_of (placed_last start rows items) ∙ values_last (start + length items) rows before
-    ∙ ap (λ given. given ++ rows ∷ []) c.self.view_is
+    let w = c.self.inside in
+    let a : Arrived = record { number = w.count; rows = c.args.rows } in
+    let is : suc w.count ≡ c.in_ok-count.count = grind (arith, common_steps) in
+    let last : in_order c.in_ok-count.count (joined (map held c.put.new.slots.items))
+        ≡ in_order w.count (joined (map held w.slots.items)) ++ c.args.rows ∷ [] =
+    ap (λ n. in_order n (joined (map held c.put.new.slots.items))) (sym is)
+    ∙ ap (λ slots. in_order (suc w.count) (joined slots)) c.in-Ok.ensures
+    ∙ put_last w.count w.next (c.args.rows.point - w.next) a (map held w.slots.items) refl c.self.invariant in
+    rw (← c.self.view_is) (ap (λ added. record { next = w.next; added = added }) last)

@@ -1,26 +1,26 @@
-use Rattle.std.proofs.Common.{◌≡◌, ◌∙◌, cond, nat_eq, [], sym, ap}
-use Rattle.std.specs.Map.{values_of}
-use Rattle.verdict_merge.proofs.KeptLemmas.{kept_rows}
-use Rattle.verdict_merge.proofs.PlaceLemmas.{places_left}
-use Rattle.verdict_merge.specs.Gathers.{rows_after}
-use Rattle.verdict_merge.specs.Places.{arrived_at, others, placed}
+use Rattle.std.proofs.Common.{◌≡◌, ◌∙◌, ◌+◌, drop, map, sym, ap, arith}
+use Rattle.std.proofs.lemmas.Grind.{common_steps}
+use Rattle.mfotl_model.specs.Ascending.{ascending}
+use Rattle.mfotl_model.specs.Values.{row_cmp}
+use Rattle.verdict_merge.proofs.SlotLemmas.{first_rows, others_left}
+use Rattle.verdict_merge.specs.Gathers.{all_rows, rows_after}
+use Rattle.verdict_merge.specs.Slots.{held, in_order, joined}
 use Rattle.verdict_merge.proofs.waiting.Waiting.take.Goals as goal
 
-pub invariant_of-self-2 : goal.invariant_of-self-2
-invariant_of-self-2 c = λ p.
-    let before = placed c.self.inside.start c.self.inside.arrived.items in
-    let point = c.args.point in
-    let left : placed c.trimmed-self-inside.result c.trimmed-self-inside.new.slots.items ≡ others point before =
-    c.trimmed-self-inside.ensures
-    ∙ c.in-Ok.ensures.left point (sym (c.take_places-places.ensures.places ∙ c.self.invariant point)) in
-    c.take_places-places.ensures.left p
-    ∙ ap (cond (nat_eq point p) []) (c.self.invariant p)
-    ∙ sym (ap (arrived_at p) left ∙ places_left point p before)
+pub returns-clause-rows : goal.returns-clause-rows
+returns-clause-rows c =
+    let w = c.self.inside in
+    rw (← c.self.view_is) (c.in_ok-rows.ensures
+    ∙ ap (λ all. ascending row_cmp (all_rows (map (λ a. a.rows) all))) c.pop-first.ensures.first
+    ∙ ap (λ given. ascending row_cmp (all_rows given))
+    (sym (first_rows w.count w.next (map held w.slots.items) c.self.invariant)))
 
 pub returns-clause-left : goal.returns-clause-left
 returns-clause-left c =
-    let before = placed c.self.inside.start c.self.inside.arrived.items in
-    let point = c.args.point in
-    ap values_of (c.trimmed-self-inside.ensures
-    ∙ c.in-Ok.ensures.left point (sym (c.take_places-places.ensures.places ∙ c.self.invariant point)))
-    ∙ kept_rows point before ∙ ap (rows_after point) c.self.view_is
+    let w = c.self.inside in
+    let is : c.in_ok-after.after ≡ w.next + 1 = grind (arith, common_steps) in
+    rw (← c.self.view_is)
+    (ap (λ n. record { next = n; added = in_order w.count (joined (map held c.pop-first.new.slots.items)) }) is
+    ∙ ap (λ added. record { next = w.next + 1; added = added })
+    (ap (λ slots. in_order w.count (joined slots)) c.pop-first.ensures.left
+    ∙ sym (others_left w.count w.next (map held w.slots.items) c.self.invariant)))

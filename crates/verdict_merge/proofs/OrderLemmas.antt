@@ -1,0 +1,117 @@
+-- Rows by their numbers.
+use Rattle.std.proofs.Common.{◌≡◌, ◌∙◌, ℕ, zero, suc, ◌<◌, ◌≤◌, Bool, true, false, cond, nat_eq, List, [], ◌∷◌, ◌++◌}
+use Rattle.std.proofs.Common.{map, filter, refl, sym, ap, arith, eq-eqb, ne_eqb}
+use Rattle.std.proofs.lemmas.List.{map-append}
+use Rattle.std.proofs.lemmas.List.Elements.{filter-append}
+use Rattle.std.specs.List.{AllByRecursion}
+use Rattle.verdict_merge.specs.declared.arrived.Arrived.{Arrived}
+use Rattle.verdict_merge.specs.declared.rows.Rows.{Rows}
+use Rattle.verdict_merge.specs.Slots.{in_order, numbered}
+
+module _ {X : Type 0} (f : X → Bool) where
+  pub all_kept : (xs : List X) → AllByRecursion (λ x. f x ≡ true) xs → filter f xs ≡ xs
+  all_kept [] h = refl
+  all_kept (x ∷ xs) h = ap (λ b. cond b (x ∷ filter f xs) (filter f xs)) h.0 ∙ ap (λ ys. x ∷ ys) (all_kept xs h.1)
+
+  pub none_kept : (xs : List X) → AllByRecursion (λ x. f x ≡ false) xs → filter f xs ≡ []
+  none_kept [] h = refl
+  none_kept (x ∷ xs) h = ap (λ b. cond b (x ∷ filter f xs) (filter f xs)) h.0 ∙ none_kept xs h.1
+
+  kept_by : (b : Bool) (x : X) (xs : List X) → filter f (cond b (x ∷ xs) xs)
+      ≡ cond b (cond (f x) (x ∷ filter f xs) (filter f xs)) (filter f xs)
+  kept_by true x xs = refl
+  kept_by false x xs = refl
+
+module _ {X : Type 0} (P Q : X → Type 0) (holds : (x : X) → P x → Q x) where
+  pub each : (xs : List X) → AllByRecursion P xs → AllByRecursion Q xs
+  each [] h = tt
+  each (x ∷ xs) h = (holds x h.0, each xs h.1)
+
+pub all_joined : {X : Type 0} (P : X → Type 0) (xs ys : List X) → AllByRecursion P xs → AllByRecursion P ys
+    → AllByRecursion P (xs ++ ys)
+all_joined P [] ys h more = more
+all_joined P (x ∷ xs) ys h more = (h.0, all_joined P xs ys h.1 more)
+
+-- two tests, the one or the other first
+kept_twice : {X : Type 0} (f g : X → Bool) (xs : List X) → filter f (filter g xs) ≡ filter g (filter f xs)
+kept_twice f g [] = refl
+kept_twice f g (x ∷ xs) =
+    kept_by f (g x) x (filter g xs) ∙ by (f x) (g x) (kept_twice f g xs) ∙ sym (kept_by g (f x) x (filter f xs))
+  where
+    by : (b c : Bool) → filter f (filter g xs) ≡ filter g (filter f xs)
+        → cond c (cond b (x ∷ filter f (filter g xs)) (filter f (filter g xs))) (filter f (filter g xs))
+        ≡ cond b (cond c (x ∷ filter g (filter f xs)) (filter g (filter f xs))) (filter g (filter f xs))
+    by true true h = ap (λ ys. x ∷ ys) h
+    by true false h = h
+    by false true h = h
+    by false false h = h
+
+-- a test of what is read of each element
+kept_map : {X Y : Type 0} (g : X → Y) (f : Y → Bool) (xs : List X)
+    → filter f (map g xs) ≡ map g (filter (λ x. f (g x)) xs)
+kept_map g f [] = refl
+kept_map g f (x ∷ xs) = at (f (g x)) (kept_map g f xs)
+  where
+    at : (b : Bool) → filter f (map g xs) ≡ map g (filter (λ y. f (g y)) xs)
+        → cond b (g x ∷ filter f (map g xs)) (filter f (map g xs))
+        ≡ map g (cond b (x ∷ filter (λ y. f (g y)) xs) (filter (λ y. f (g y)) xs))
+    at true h = ap (λ ys. g x ∷ ys) h
+    at false h = h
+
+pub none_numbered : (n : ℕ) (all : List Arrived) → AllByRecursion (λ a. a.number < n) all → numbered n all ≡ []
+none_numbered n all below =
+    ap (map (λ a. a.rows)) (none_kept (λ a. nat_eq a.number n) all
+    (each (λ a. a.number < n) (λ a. nat_eq a.number n ≡ false)
+    (λ a low. ne_eqb a.number n (λ e. omega (arith, e, low))) all below))
+
+pub none_in_order : (n : ℕ) → in_order n [] ≡ []
+none_in_order zero = refl
+none_in_order (suc n) = ap (λ rs. rs ++ []) (none_in_order n)
+
+-- those Rows that a test keeps, by their numbers
+pub kept_in_order : (f : Rows → Bool) (n : ℕ) (all : List Arrived)
+    → filter f (in_order n all) ≡ in_order n (filter (λ a. f a.rows) all)
+kept_in_order f zero all = refl
+kept_in_order f (suc n) all =
+    let kept = filter (λ a. f a.rows) all in
+    let same : filter f (numbered n all) ≡ numbered n kept =
+    kept_map (λ a. a.rows) f (filter (λ a. nat_eq a.number n) all)
+    ∙ ap (map (λ a. a.rows)) (kept_twice (λ a. f a.rows) (λ a. nat_eq a.number n) all) in
+    filter-append f (in_order n all) (numbered n all)
+    ∙ ap (λ rs. rs ++ filter f (numbered n all)) (kept_in_order f n all)
+    ∙ ap (λ rs. in_order n kept ++ rs) same
+
+module _ (a : Arrived) (xs ys : List Arrived) where
+  numbered_among : (n : ℕ) → numbered n (xs ++ a ∷ ys) ≡ numbered n xs ++ numbered n (a ∷ ys)
+  numbered_among n =
+      ap (map (λ a. a.rows)) (filter-append (λ a. nat_eq a.number n) xs (a ∷ ys))
+      ∙ map-append (λ a. a.rows) (filter (λ a. nat_eq a.number n) xs) (filter (λ a. nat_eq a.number n) (a ∷ ys))
+
+  numbered_both : (n : ℕ) → numbered n (xs ++ ys) ≡ numbered n xs ++ numbered n ys
+  numbered_both n =
+      ap (map (λ a. a.rows)) (filter-append (λ a. nat_eq a.number n) xs ys)
+      ∙ map-append (λ a. a.rows) (filter (λ a. nat_eq a.number n) xs) (filter (λ a. nat_eq a.number n) ys)
+
+  -- Rows of a number that isn't asked for
+  passed_over : (n : ℕ) → n ≤ a.number → in_order n (xs ++ a ∷ ys) ≡ in_order n (xs ++ ys)
+  passed_over zero low = refl
+  passed_over (suc n) low =
+      let other : nat_eq a.number n ≡ false = ne_eqb a.number n (λ e. omega (arith, e, low)) in
+      let same : numbered n (a ∷ ys) ≡ numbered n ys =
+      ap (λ b. map (λ c. c.rows) (cond b (a ∷ filter (λ c. nat_eq c.number n) ys)
+      (filter (λ c. nat_eq c.number n) ys))) other in
+      ap (λ rs. rs ++ numbered n (xs ++ a ∷ ys)) (passed_over n (omega (arith, low)))
+      ∙ ap (λ rs. in_order n (xs ++ ys) ++ rs)
+      (numbered_among n ∙ ap (λ rs. numbered n xs ++ rs) same ∙ sym (numbered_both n))
+
+  -- Rows of the next number come last
+  pub comes_last : (n : ℕ) → a.number ≡ n → AllByRecursion (λ c. c.number < n) xs
+      → AllByRecursion (λ c. c.number < n) ys → in_order (suc n) (xs ++ a ∷ ys) ≡ in_order n (xs ++ ys) ++ a.rows ∷ []
+  comes_last n is before after =
+      let here : numbered n (a ∷ ys) ≡ a.rows ∷ numbered n ys =
+      ap (λ b. map (λ c. c.rows) (cond b (a ∷ filter (λ c. nat_eq c.number n) ys)
+      (filter (λ c. nat_eq c.number n) ys))) (eq-eqb a.number n is) in
+      ap (λ rs. rs ++ numbered n (xs ++ a ∷ ys)) (passed_over n (omega (arith, is)))
+      ∙ ap (λ rs. in_order n (xs ++ ys) ++ rs)
+      (numbered_among n ∙ ap (λ rs. rs ++ numbered n (a ∷ ys)) (none_numbered n xs before) ∙ here
+      ∙ ap (λ rs. a.rows ∷ rs) (none_numbered n ys after))

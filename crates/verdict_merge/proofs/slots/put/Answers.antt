@@ -1,0 +1,21 @@
+use Rattle.std.proofs.Common.{◌≡◌, ◌∙◌, ◌<◌, ◌++◌, [], ◌∷◌, Some, length, map, sym, ap, arith}
+use Rattle.std.proofs.lemmas.Grind.{common_steps}
+use Rattle.std.proofs.lemmas.List.{length-map, map-append}
+use Rattle.verdict_merge.proofs.PutLemmas.{put_at, put_behind}
+use Rattle.verdict_merge.specs.Slots.{held}
+use Rattle.verdict_merge.proofs.slots.put.Goals as goal
+
+pub returns-then-index-len : goal.returns-then-index-len
+returns-then-index-len c =
+    let items = c.args.slots.now.items in
+    let low : c.args.index < length items = grind (arith, common_steps) in
+    put_at c.args.index c.args.arrived items c.index_mut.result.now c.add.new.slot low
+    (c.in_ok-add.ensures ∙ ap (λ slot. held slot ++ c.args.arrived ∷ []) c.index_mut.ensures.value)
+
+pub returns : goal.returns
+returns c =
+    let items = c.fill.new.slots.items in
+    ap (map held) c.in_ok-push_back.ensures.items ∙ map-append held items (Some c.new.result ∷ [])
+    ∙ ap (λ all. map held items ++ all ∷ []) c.new.ensures
+    ∙ sym (put_behind c.args.index c.args.arrived (map held items) (length-map items held ∙ c.in_ok-fill.ensures.len))
+    ∙ c.in_ok-fill.ensures.same c.args.arrived

@@ -1,0 +1,92 @@
+//! The Rows of one time-point that wait, in the order in which they came.
+ghost use Rattle.std.specs.Prelude.{◌≡◌, ◌++◌, ◌∷◌, [], IfOk, OnOk, Some, length, map};
+ghost use Rattle.std.specs.List.{flat_map};
+ghost use Rattle.mfotl_model.specs.Ascending.{ascending};
+ghost use Rattle.mfotl_model.specs.Values.{row_cmp};
+ghost use Rattle.verdict_merge.specs.Gathers.{all_rows};
+ghost use Rattle.verdict_merge.specs.Slots.{first_of};
+
+use crate::arrived::Arrived;
+use crate::merge::merged;
+use crate::rows::Rows;
+use mfotl_model::{Row, RowList};
+use std::alloc::{AllocError, Global};
+use std::marker::Model;
+
+// At least one. Where there is one, it takes no memory.
+#[derive(Drop)]
+pub(crate) struct Group {
+    first: Arrived,
+    more: Vec<Arrived>,
+}
+
+impl Model for Group {
+    ghost use Rattle.std.specs.Prelude.{List, ◌∷◌};
+    ghost use Rattle.verdict_merge.specs.declared.arrived.Arrived.{Arrived as Came};
+
+    ghost Value = { List Came };
+
+    ghost view = { λ g. g.first ∷ g.more.items };
+}
+
+impl Group {
+    pub(crate) fn new(alloc: Global, arrived: Arrived) -> Self
+        ensures { result ≡ arrived ∷ [] }
+    {
+        Group {
+            first: arrived,
+            more: Vec::new(alloc),
+        }
+    }
+
+    // Puts Rows behind the others.
+    pub(crate) fn push(&mut self, arrived: Arrived) -> Result<(), AllocError>
+        ensures { OnOk result (self.new ≡ self.old ++ arrived ∷ []) }
+    {
+        self.more.push(arrived)?;
+        Ok(())
+    }
+
+    // How many Rows there are.
+    pub(crate) fn len(&self) -> usize
+        ensures { result ≡ length self.now }
+    {
+        1 + self.more.len()
+    }
+
+    // The Rows that came first.
+    pub(crate) fn first(&self) -> &Rows
+        ensures { Some result.now ≡ first_of (map (λ a. a.rows) self.now) }
+    {
+        &self.first.rows
+    }
+
+    // All their rows, merged. Those that are alone are handed on as they are.
+    pub(crate) fn into_rows(self, alloc: Global) -> Result<RowList, AllocError>
+        ensures { IfOk result (λ rows. rows ≡ ascending row_cmp (all_rows (map (λ a. a.rows) self))) }
+    {
+        let first = self.first.rows.rows.into_vec();
+        if self.more.is_empty() {
+            return Ok(RowList::in_order(first));
+        }
+        let lists = all_lists(alloc, first, self.more)?;
+        merged(alloc, lists)
+    }
+}
+
+// The rows of each of these Rows, after a first list.
+fn all_lists(
+    alloc: Global,
+    first: Vec<Row>,
+    more: Vec<Arrived>,
+) -> Result<Vec<Vec<Row>>, AllocError>
+    ensures { IfOk result (λ lists. flat_map (λ list. list.items) lists.items
+        ≡ first.items ++ all_rows (map (λ a. a.rows) more.items)) }
+{
+    let mut lists = Vec::with_capacity(alloc, 1 + more.len())?;
+    lists.push(first)?;
+    for arrived in more {
+        lists.push(arrived.rows.rows.into_vec())?;
+    }
+    Ok(lists)
+}
