@@ -1,5 +1,5 @@
 -- Rows merged are an ascending list, where they are a partition of it.
-use Rattle.std.proofs.Common.{◌≡◌, Bool, true, false, List, refl, sym, ◌∙◌}
+use Rattle.std.proofs.Common.{◌≡◌, ◌∙◌, ◌<◌, Bool, true, false, List, [], ◌∷◌, length, refl, sym, arith}
 use Rattle.std.proofs.lemmas.List.Folds.{Any-from_list_any, list_any-from_Any}
 use Rattle.std.proofs.lemmas.List.Sorted.{Contains-permutation, IsPermutation-sym}
 use Rattle.std.proofs.lemmas.Map.Lookups.{btree_set_from_contains}
@@ -53,3 +53,8 @@ ascending_permuted xs ys moved =
     ∙ sym (any_permuted (eq_by_cmp row_cmp q) xs ys moved)
     ∙ sym (any_ascending row_total row_exact (eq_by_cmp row_cmp q) xs))
     row_exact
+
+pub few_ascend : (xs : List (List Value)) → length xs < 2 → xs ≡ ascending row_cmp xs
+few_ascend [] few = refl
+few_ascend (x ∷ []) few = refl
+few_ascend (x ∷ y ∷ xs) few = absurd (omega (arith, few))

@@ -1,6 +1,6 @@
 -- What a merge of vectors gives are their items.
 use Rattle.std.proofs.Common.{◌≡◌, ◌∙◌, Bool, true, List, [], ◌∷◌, ◌++◌, length, map, refl, sym, ap, subst}
-use Rattle.std.proofs.Common.{Vec, Option, Some, option_to_list, arith, Result, Ok, Err, IfOk, IsPermutation, flat_map}
+use Rattle.std.proofs.Common.{Vec, Result, Ok, Err, IfOk, IsPermutation, flat_map}
 use Rattle.std.proofs.lemmas.List.{append-nil}
 use Rattle.std.proofs.lemmas.Iterator.Adapters.{YieldsList-from_vec}
 use Rattle.std.specs.Iterator.{DrainsIf}
@@ -60,14 +60,3 @@ module _ {X Z : Type 0} (gives : Vec X Z → IntoIter X Z → Type 0)
     merged_ok (Ok v) run =
         subst (λ xs. IsPermutation xs v.items) (joined_map (λ l. l.items) lists) (merged_all v.items run)
     merged_ok (Err e) run = tt
-
--- a list that is alone is the last
-pub alone : {X Z : Type 0} (xs ys : List (Vec X Z)) (o : Option (Vec X Z)) → length xs ≡ 1
-    → xs ≡ ys ++ option_to_list o → (l : Vec X Z) → o ≡ Some l → l.items ≡ flat_map (λ v. v.items) xs
-alone {X} {Z} xs ys o one split l is = at ys (ap length (sym (split ∙ ap (λ p. ys ++ option_to_list p) is)) ∙ one)
-    (split ∙ ap (λ p. ys ++ option_to_list p) is)
-  where
-    at : (zs : List (Vec X Z)) → length (zs ++ l ∷ []) ≡ 1 → xs ≡ zs ++ l ∷ [] → l.items ≡ flat_map (λ v. v.items) xs
-    at [] few same = sym (ap (flat_map (λ v. v.items)) same ∙ append-nil l.items)
-    at (z ∷ []) few same = absurd (omega (arith, few))
-    at (z ∷ y ∷ zs) few same = absurd (omega (arith, few))

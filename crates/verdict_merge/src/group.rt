@@ -7,7 +7,7 @@ ghost use Rattle.verdict_merge.specs.Gathers.{all_rows};
 ghost use Rattle.verdict_merge.specs.Slots.{first_of};
 
 use crate::arrived::Arrived;
-use crate::merge::merged;
+use crate::merge::{merged, ordered};
 use crate::rows::Rows;
 use mfotl_model::{Row, RowList};
 use std::alloc::{AllocError, Global};
@@ -67,7 +67,7 @@ impl Group {
     {
         let first = self.first.rows.rows.into_vec();
         if self.more.is_empty() {
-            return Ok(RowList::in_order(first));
+            return Ok(ordered(first));
         }
         let lists = all_lists(alloc, first, self.more)?;
         merged(alloc, lists)

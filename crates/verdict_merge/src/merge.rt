@@ -8,6 +8,16 @@ use itertools::Itertools;
 use mfotl_model::{Row, RowList};
 use std::alloc::{AllocError, Global};
 
+/// The rows of one list in ascending order, each once.
+pub fn ordered(rows: Vec<Row>) -> RowList
+    ensures { result ≡ ascending row_cmp rows.items }
+{
+    if rows.len() < 2 {
+        return RowList::new(rows);
+    }
+    RowList::in_order(rows)
+}
+
 /// All rows of these lists in ascending order, each once.
 pub fn merged(alloc: Global, lists: Vec<Vec<Row>>) -> Result<RowList, AllocError>
     ensures { IfOk result (λ rows. rows ≡ ascending row_cmp (flat_map (λ list. list.items) lists.items)) }

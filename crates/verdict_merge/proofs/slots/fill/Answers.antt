@@ -10,7 +10,9 @@ loop-preserved c =
     let before = c.loop.slots.items in
     let count = c.args.count in
     let one : length c.push_back.new.self.items ≡ c.loop.counter + 1 = grind (arith, common_steps) in
-    let low : length (map held before) ≤ count = grind (arith, common_steps, length-map) in
-    (one, λ a. ap (λ slots. put_in count a (map held slots)) c.in_ok-push_back.ensures.items
-    ∙ ap (put_in count a) (map-append held before (None ∷ [])) ∙ put_past count a (map held before) low
-    ∙ c.loop.invariant.1 a)
+    let low : length (map held before) ≤ count = grind (arith, common_steps, length-map) in (
+      one,
+      λ a. ap (λ slots. put_in count a (map held slots)) c.in_ok-push_back.ensures.items
+          ∙ ap (put_in count a) (map-append held before (None ∷ [])) ∙ put_past count a (map held before) low
+          ∙ c.loop.invariant.1 a,
+    )

@@ -1,4 +1,4 @@
-use Rattle.std.proofs.Common.{◌≡◌, ◌≤◌, length, map}
+use Rattle.std.proofs.Common.{◌≡◌, length, map}
 use Rattle.verdict_merge.specs.declared.arrived.Arrived.{Arrived}
 use Rattle.verdict_merge.specs.Slots.{held, put_in}
 use Rattle.verdict_merge.proofs.slots.fill.Given as goal

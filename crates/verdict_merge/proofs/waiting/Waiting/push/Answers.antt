@@ -23,7 +23,7 @@ returns c =
     let a : Arrived = record { number = w.count; rows = c.args.rows } in
     let is : suc w.count ≡ c.in_ok-count.count = grind (arith, common_steps) in
     let last : in_order c.in_ok-count.count (joined (map held c.put.new.slots.items))
-        ≡ in_order w.count (joined (map held w.slots.items)) ++ c.args.rows ∷ [] =
+    ≡ in_order w.count (joined (map held w.slots.items)) ++ c.args.rows ∷ [] =
     ap (λ n. in_order n (joined (map held c.put.new.slots.items))) (sym is)
     ∙ ap (λ slots. in_order (suc w.count) (joined slots)) c.in-Ok.ensures
     ∙ put_last w.count w.next (c.args.rows.point - w.next) a (map held w.slots.items) refl c.self.invariant in

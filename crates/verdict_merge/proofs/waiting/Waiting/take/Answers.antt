@@ -1,9 +1,9 @@
-use Rattle.std.proofs.Common.{◌≡◌, ◌∙◌, ◌+◌, drop, map, sym, ap, arith}
+use Rattle.std.proofs.Common.{◌≡◌, ◌∙◌, ◌+◌, map, sym, ap, arith}
 use Rattle.std.proofs.lemmas.Grind.{common_steps}
 use Rattle.mfotl_model.specs.Ascending.{ascending}
 use Rattle.mfotl_model.specs.Values.{row_cmp}
 use Rattle.verdict_merge.proofs.SlotLemmas.{first_rows, others_left}
-use Rattle.verdict_merge.specs.Gathers.{all_rows, rows_after}
+use Rattle.verdict_merge.specs.Gathers.{all_rows}
 use Rattle.verdict_merge.specs.Slots.{held, in_order, joined}
 use Rattle.verdict_merge.proofs.waiting.Waiting.take.Goals as goal
 
