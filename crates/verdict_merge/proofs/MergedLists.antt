@@ -1,6 +1,6 @@
 -- What a merge of vectors gives are their items.
 use Rattle.std.proofs.Common.{◌≡◌, ◌∙◌, Bool, true, List, [], ◌∷◌, ◌++◌, length, map, refl, sym, ap, subst}
-use Rattle.std.proofs.Common.{Vec, Result, Ok, Err, IfOk, IsPermutation, flat_map}
+use Rattle.std.proofs.Common.{Vec, arith, ◌<◌, Result, Ok, Err, IfOk, IsPermutation, flat_map}
 use Rattle.std.proofs.lemmas.List.{append-nil}
 use Rattle.std.proofs.lemmas.Iterator.Adapters.{YieldsList-from_vec}
 use Rattle.std.specs.Iterator.{DrainsIf}
@@ -60,3 +60,10 @@ module _ {X Z : Type 0} (gives : Vec X Z → IntoIter X Z → Type 0)
     merged_ok (Ok v) run =
         subst (λ xs. IsPermutation xs v.items) (joined_map (λ l. l.items) lists) (merged_all v.items run)
     merged_ok (Err e) run = tt
+
+-- the last of a list that has no other
+pub alone : {X Z : Type 0} (xs ys : List (Vec X Z)) (l : Vec X Z) → length xs < 2 → xs ≡ ys ++ l ∷ []
+    → l.items ≡ flat_map (λ v. v.items) xs
+alone {X} {Z} xs [] l few split = sym (ap (flat_map (λ v. v.items)) split ∙ append-nil l.items)
+alone {X} {Z} xs (y ∷ []) l few split = absurd (let two = ap length split in omega (arith, few, two))
+alone {X} {Z} xs (y ∷ z ∷ ys) l few split = absurd (let two = ap length split in omega (arith, few, two))

@@ -74,7 +74,7 @@ impl Group {
     }
 }
 
-// The rows of each of these Rows, after a first list.
+// The rows of each of these Rows that has some, after a first list.
 fn all_lists(
     alloc: Global,
     first: Vec<Row>,
@@ -83,10 +83,21 @@ fn all_lists(
     ensures { IfOk result (λ lists. flat_map (λ list. list.items) lists.items
         ≡ first.items ++ all_rows (map (λ a. a.rows) more.items)) }
 {
-    let mut lists = Vec::with_capacity(alloc, 1 + more.len())?;
-    lists.push(first)?;
+    let mut lists = Vec::new(alloc);
+    push_some(&mut lists, first)?;
     for arrived in more {
-        lists.push(arrived.rows.rows.into_vec())?;
+        push_some(&mut lists, arrived.rows.rows.into_vec())?;
     }
     Ok(lists)
+}
+
+// A list without rows is left out.
+fn push_some(lists: &mut Vec<Vec<Row>>, list: Vec<Row>) -> Result<(), AllocError>
+    ensures { OnOk result (flat_map (λ list. list.items) lists.new.items
+        ≡ flat_map (λ list. list.items) lists.old.items ++ list.items) }
+{
+    if !list.is_empty() {
+        lists.push(list)?;
+    }
+    Ok(())
 }
