@@ -20,7 +20,7 @@ pub(crate) struct Waiting {
     alloc: Global,
     next: u64,
     // how many Rows came so far
-    count: u64,
+    came: u64,
     slots: VecDeque<Option<Group>>,
 }
 
@@ -30,9 +30,9 @@ impl Model for Waiting {
 
     ghost Value = { WaitingOf };
 
-    ghost view = { λ w. record { next = w.next; added = in_order w.count (joined (map held w.slots.items)) } };
+    ghost view = { λ w. record { next = w.next; added = in_order w.came (joined (map held w.slots.items)) } };
 
-    ghost invariant = { λ w. AreSlots w.count w.next (map held w.slots.items) };
+    ghost invariant = { λ w. AreSlots w.came w.next (map held w.slots.items) };
 }
 
 impl Waiting {
@@ -42,7 +42,7 @@ impl Waiting {
         Waiting {
             alloc,
             next: 0,
-            count: 0,
+            came: 0,
             slots: VecDeque::new(alloc),
         }
     }
@@ -62,17 +62,17 @@ impl Waiting {
           added = self.old.added ++ rows ∷ [];
         }) }
     {
-        let count = self.count.checked_add(1).ok_or(AllocError)?;
+        let came = self.came.checked_add(1).ok_or(AllocError)?;
         let index = rows.point - self.next;
         let arrived = Arrived {
-            number: self.count,
+            number: self.came,
             rows,
         };
         let Ok(()) = put(&mut self.slots, self.alloc, index as usize, arrived) else {
             self.slots.clear();
             return Err(AllocError);
         };
-        self.count = count;
+        self.came = came;
         Ok(())
     }
 

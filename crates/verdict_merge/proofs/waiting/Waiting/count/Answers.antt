@@ -9,7 +9,7 @@ returns-in-Some c =
     let w = c.self.inside in
     let slots = map held w.slots.items in
     rw (← c.self.view_is) (c.len.ensures ∙ ap length c.in-Some.ensures
-    ∙ sym (ap length (first_rows w.count w.next slots c.self.invariant)
+    ∙ sym (ap length (first_rows w.came w.next slots c.self.invariant)
     ∙ length-map (first_held slots) (λ a. a.rows)))
 
 pub returns-in-None : goal.returns-in-None
@@ -17,5 +17,5 @@ returns-in-None c =
     let w = c.self.inside in
     let slots = map held w.slots.items in
     rw (← c.self.view_is) (ap length c.in-None.ensures
-    ∙ sym (ap length (first_rows w.count w.next slots c.self.invariant)
+    ∙ sym (ap length (first_rows w.came w.next slots c.self.invariant)
     ∙ length-map (first_held slots) (λ a. a.rows)))

@@ -8,23 +8,23 @@ use Rattle.verdict_merge.proofs.waiting.Waiting.push.Goals as goal
 pub invariant_of-self-2 : goal.invariant_of-self-2
 invariant_of-self-2 c =
     let w = c.self.inside in
-    let a : Arrived = record { number = w.count; rows = c.args.rows } in
-    let is : suc w.count ≡ c.in_ok-count.count = grind (arith, common_steps) in
+    let a : Arrived = record { number = w.came; rows = c.args.rows } in
+    let is : suc w.came ≡ c.in_ok-came.came = grind (arith, common_steps) in
     let next : w.next ≡ c.args.self.now.next = ap (λ (v : WaitingOf). v.next) c.self.view_is in
     let ahead : c.args.self.now.next ≤ c.args.rows.point = c.requires in
     let at : c.args.rows.point ≡ w.next + (c.args.rows.point - w.next) = omega (arith, next, ahead) in
     subst (λ n. AreSlots n w.next (map held c.put.new.slots.items)) is
-    (subst (AreSlots (suc w.count) w.next) (sym c.in-Ok.ensures)
-    (slots_put w.count w.next (c.args.rows.point - w.next) a (map held w.slots.items) refl at c.self.invariant))
+    (subst (AreSlots (suc w.came) w.next) (sym c.in-Ok.ensures)
+    (slots_put w.came w.next (c.args.rows.point - w.next) a (map held w.slots.items) refl at c.self.invariant))
 
 pub returns : goal.returns
 returns c =
     let w = c.self.inside in
-    let a : Arrived = record { number = w.count; rows = c.args.rows } in
-    let is : suc w.count ≡ c.in_ok-count.count = grind (arith, common_steps) in
-    let last : in_order c.in_ok-count.count (joined (map held c.put.new.slots.items))
-    ≡ in_order w.count (joined (map held w.slots.items)) ++ c.args.rows ∷ [] =
+    let a : Arrived = record { number = w.came; rows = c.args.rows } in
+    let is : suc w.came ≡ c.in_ok-came.came = grind (arith, common_steps) in
+    let last : in_order c.in_ok-came.came (joined (map held c.put.new.slots.items))
+    ≡ in_order w.came (joined (map held w.slots.items)) ++ c.args.rows ∷ [] =
     ap (λ n. in_order n (joined (map held c.put.new.slots.items))) (sym is)
-    ∙ ap (λ slots. in_order (suc w.count) (joined slots)) c.in-Ok.ensures
-    ∙ put_last w.count w.next (c.args.rows.point - w.next) a (map held w.slots.items) refl c.self.invariant in
+    ∙ ap (λ slots. in_order (suc w.came) (joined slots)) c.in-Ok.ensures
+    ∙ put_last w.came w.next (c.args.rows.point - w.next) a (map held w.slots.items) refl c.self.invariant in
     rw (← c.self.view_is) (ap (λ added. record { next = w.next; added = added }) last)

@@ -13,14 +13,14 @@ returns-clause-rows c =
     rw (← c.self.view_is) (c.in_ok-rows.ensures
     ∙ ap (λ all. ascending row_cmp (all_rows (map (λ a. a.rows) all))) c.pop-first.ensures.first
     ∙ ap (λ given. ascending row_cmp (all_rows given))
-    (sym (first_rows w.count w.next (map held w.slots.items) c.self.invariant)))
+    (sym (first_rows w.came w.next (map held w.slots.items) c.self.invariant)))
 
 pub returns-clause-left : goal.returns-clause-left
 returns-clause-left c =
     let w = c.self.inside in
     let is : c.in_ok-after.after ≡ w.next + 1 = grind (arith, common_steps) in
     rw (← c.self.view_is)
-    (ap (λ n. record { next = n; added = in_order w.count (joined (map held c.pop-first.new.slots.items)) }) is
+    (ap (λ n. record { next = n; added = in_order w.came (joined (map held c.pop-first.new.slots.items)) }) is
     ∙ ap (λ added. record { next = w.next + 1; added = added })
-    (ap (λ slots. in_order w.count (joined slots)) c.pop-first.ensures.left
-    ∙ sym (others_left w.count w.next (map held w.slots.items) c.self.invariant)))
+    (ap (λ slots. in_order w.came (joined slots)) c.pop-first.ensures.left
+    ∙ sym (others_left w.came w.next (map held w.slots.items) c.self.invariant)))
