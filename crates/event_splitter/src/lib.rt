@@ -6,4 +6,4 @@ mod reading;
 mod spread;
 mod time_point;
 
-pub use time_point::{split, split_owned};
+pub use time_point::{is_whole, split};

@@ -1,5 +1,5 @@
 //! Time-points split among workers.
-ghost use Rattle.std.specs.Prelude.{◌≡◌, [], IfOk, replicate};
+ghost use Rattle.std.specs.Prelude.{◌≡◌, ◌∷◌, [], IfOk, replicate, true};
 ghost use Rattle.std.specs.List.{list_all};
 ghost use Rattle.monitorable.specs.Atoms.{atoms_of};
 ghost use Rattle.monitorable.specs.Cores.{core_form};
@@ -56,21 +56,13 @@ fn all_seen(atoms: &[Atom], events: &[Event]) -> bool
     events.iter().all(|event| is_seen(atoms, event))
 }
 
-/// The same of a time-point that is given away. Where there is one worker and an atom stands for each event, the
-/// time-point is its part as it is, and no event is copied.
-pub fn split_owned<S: Slicer>(
-    alloc: Global,
-    core: &Core,
-    slicer: &S,
-    point: TimePoint,
-) -> Result<Vec<TimePoint>, AllocError>
-    ensures { IfOk result (λ points. points.items
-        ≡ parts_for (S.count slicer.now) (S.region slicer.now) (atoms_of (core_form core.now)) point) }
+/// Whether the time-point as it is would be its only part: where there is one worker, and some atom stands for each of
+/// the events.
+pub fn is_whole<S: Slicer>(core: &Core, slicer: &S, point: &TimePoint) -> bool
+    ensures whole { result ≡ true → parts_for (S.count slicer.now) (S.region slicer.now) (atoms_of (core_form core.now))
+        point.now ≡ point.now ∷ [] }
+    ensures parted { parts_for (S.count slicer.now) (S.region slicer.now) (atoms_of (core_form core.now)) point.now
+        ≡ point.now ∷ [] → result ≡ true }
 {
-    if slicer.workers() == 1 && all_seen(core.atoms(), point.db.inserted()) {
-        let mut points = Vec::with_capacity(alloc, 1)?;
-        points.push(point)?;
-        return Ok(points);
-    }
-    split(alloc, core, slicer, &point)
+    slicer.workers() == 1 && all_seen(core.atoms(), point.db.inserted())
 }
