@@ -3,6 +3,7 @@ use Rattle.std.proofs.Common.{◌≡◌, ◌≢◌, ◌⊎◌, ℕ, zero, suc, �
 use Rattle.std.proofs.Common.{List, [], ◌∷◌, ◌++◌, length, map, drop, get_or, sym, refl, ap, ◌∙◌, subst, inl, inr}
 use Rattle.std.proofs.Common.{⊎_elim, arith, eq-eqb, ne_eqb, lt-ltb, le-ltb, length-append}
 use Rattle.std.proofs.lemmas.List.{drop-append-le, map-append}
+use Rattle.std.proofs.lemmas.List.FromFn.{length-map-range_with_len}
 use Rattle.std.specs.List.{range_with_len}
 use native.Mathlib.Decide.{ℕ_discrete}
 use Rattle.event_splitter.specs.Parts.{parts_for}
@@ -101,6 +102,10 @@ pub parts_are : (c : CoreForm) (s : Strategy) (p : TimePoint)
     → parts_for (workers_of s) (near_of s) (atoms_of c) p ≡ all_slices c s p
 unfolding slice_for
 parts_are c s p = refl
+
+-- one for each worker
+pub slices_len : (c : CoreForm) (s : Strategy) (p : TimePoint) → length (all_slices c s p) ≡ workers_of s
+slices_len c s p = length-map-range_with_len (λ k. slice_for c s k p) 0 (workers_of s)
 
 -- ---- reading
 

@@ -1,17 +1,44 @@
 //! What reading an entry puts into the queues.
-ghost use Rattle.std.specs.Prelude.{◌≡◌, ◌++◌, ◌<◌, ◌≤◌, [], IfOk, length, ℕ};
+ghost use Rattle.std.specs.Prelude.{◌≡◌, ◌++◌, ◌∷◌, ◌<◌, ◌≤◌, [], IfOk, length, ℕ};
 ghost use Rattle.mfotl_model.specs.Strategies.{workers_of};
+ghost use Rattle.monitorable.specs.Cores.{core_form};
 ghost use Rattle.rescale_core.specs.Queues.{queue_at};
-ghost use Rattle.rescale_core.specs.Routing.{part_below, place_below, slices_for};
+ghost use Rattle.rescale_core.specs.Routing.{all_slices, part_below, place_below, slices_for};
 
 use crate::item::Item;
 use crate::queue::Queue;
+use event_splitter::{is_whole, split};
 use mfotl_model::TimePoint;
+use monitorable::Core;
 use slice_strategy::{Slicer, Strategy};
 use std::alloc::{AllocError, Global};
 
-/// Queues a slice for each worker.
-pub(crate) fn push_slices(
+/// Queues a slice of the time-point for each worker.
+pub(crate) fn push_point(
+    alloc: Global,
+    queues: &mut Vec<Queue>,
+    core: &Core,
+    strategy: &Strategy,
+    generation: u64,
+    number: u64,
+    point: TimePoint,
+) -> Result<(), AllocError>
+    requires { workers_of strategy.now ≤ length queues.old.items }
+    ensures len { IfOk result (λ _. length queues.new.items ≡ length queues.old.items) }
+    ensures queued { IfOk result (λ _. (q : ℕ) → queue_at queues.new.items q ≡ queue_at queues.old.items q
+        ++ slices_for generation number 0 (all_slices (core_form core.now) strategy.now point) q) }
+{
+    if is_whole(core, strategy, &point) {
+        push_whole(queues, generation, number, point)?;
+        return Ok(());
+    }
+    let slices = split(alloc, core, strategy, &point)?;
+    push_slices(queues, generation, number, slices)?;
+    Ok(())
+}
+
+// Queues a slice for each worker.
+fn push_slices(
     queues: &mut Vec<Queue>,
     generation: u64,
     number: u64,
@@ -32,6 +59,27 @@ pub(crate) fn push_slices(
         })?;
         k += 1;
     }
+    Ok(())
+}
+
+// Queues the time-point as it is for the first worker, whose slice it is.
+fn push_whole(
+    queues: &mut Vec<Queue>,
+    generation: u64,
+    number: u64,
+    point: TimePoint,
+) -> Result<(), AllocError>
+    requires { 0 < length queues.old.items }
+    ensures len { IfOk result (λ _. length queues.new.items ≡ length queues.old.items) }
+    ensures queued { IfOk result (λ _. (q : ℕ) → queue_at queues.new.items q
+        ≡ queue_at queues.old.items q ++ slices_for generation number 0 (point ∷ []) q) }
+{
+    let queue = &mut queues[0];
+    queue.push(Item::Slice {
+        generation,
+        number,
+        point,
+    })?;
     Ok(())
 }
 

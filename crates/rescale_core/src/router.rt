@@ -11,8 +11,7 @@ ghost use Rattle.rescale_core.specs.declared.item.Entry.TheVariants.{Change, Poi
 use crate::item::{Item, Out};
 use crate::outstanding::{grow_counts, lower, none_outstanding, raise};
 use crate::queue::{Queue, none_wait};
-use crate::reading::{grow, push_parts, push_places, push_slices};
-use event_splitter::split_owned;
+use crate::reading::{grow, push_parts, push_places, push_point};
 use mfotl_model::TimePoint;
 use monitor_state::Piece;
 use monitorable::Core;
@@ -40,8 +39,15 @@ impl Router {
         ensures { IfOk result (λ _. (w : World) → IsRouterOf self.old w → MayFollow (spot_in w).points point
             → IsRouterOf self.new (after w (Read (Point point)))) }
     {
-        let slices = split_owned(alloc, &self.core, &self.strategy, point)?;
-        push_slices(&mut self.queues, self.generation, self.points, slices)?;
+        push_point(
+            alloc,
+            &mut self.queues,
+            &self.core,
+            &self.strategy,
+            self.generation,
+            self.points,
+            point,
+        )?;
         self.points += 1;
         Ok(())
     }
