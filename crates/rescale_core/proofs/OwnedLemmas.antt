@@ -16,7 +16,7 @@ use Rattle.mfotl_model.proofs.RowLemmas.{row_exact}
 use Rattle.mfotl_model.specs.Exact.{Exact}
 use Rattle.mfotl_model.specs.FreeVariables.{fv, among}
 use Rattle.mfotl_model.specs.Regions.{near_of}
-use Rattle.mfotl_model.specs.Strategies.{Strategy, owner_of}
+use Rattle.mfotl_model.specs.Strategies.{Strategy, owner_of, workers_of}
 use Rattle.mfotl_model.specs.Tables.{TableOf, all_sized, has, has_row, valuation}
 use Rattle.mfotl_model.specs.Values.{row_cmp, row_total}
 use Rattle.mfotl_model.specs.Violations.{all_rows}
@@ -30,7 +30,8 @@ use Rattle.monitorable.proofs.FreeVariableLemmas.{fv_apart}
 use Rattle.monitorable.specs.CoreForms.{CoreForm, meaning}
 use Rattle.monitorable.specs.SatisfyingRows.{core_domain, satisfies, satisfying_rows}
 use Rattle.relations.specs.Tables.{IsTable}
-use Rattle.slice_strategy.specs.SlicerLemmas.{near_is_owner}
+use Rattle.slice_strategy.specs.SlicerLemmas.{near_is_owner, owner_below}
+use Rattle.slice_strategy.specs.Slicers.{full_row}
 use Rattle.monitor_state.specs.Pieces.{view_of}
 use Rattle.rescale_core.specs.Workers.{IsFor, owned_by, owner, violations_at}
 
@@ -190,3 +191,19 @@ pub owned_same : (c : CoreForm) (s : Strategy) (k : ℕ) (log : List TimePoint) 
     → owned_by s k table.rows ≡ owned_by s k (violations_at c log i)
 unfolding violations_at
 owned_same c s k log i table is exact table_is = same_owned c s k log i table is exact table_is
+
+-- ---- one worker
+
+only_owner : (s : Strategy) (row : List Value) → workers_of s ≡ 1 → owner s row ≡ 0
+unfolding owner
+only_owner s row one =
+    let low = owner_below 0 s (full_row row) (omega (arith, one)) in
+    omega (arith, one, low)
+
+-- the only worker owns all rows
+pub owned_all : (s : Strategy) (k : ℕ) → workers_of s ≡ 1 → k ≡ 0 → (rows : List (List Value)) → rows ≡ owned_by s k rows
+owned_all s k one first [] = refl
+owned_all s k one first (row ∷ rows) =
+    ap (λ ys. row ∷ ys) (owned_all s k one first rows)
+    ∙ sym (ap (λ b. cond b (row ∷ owned_by s k rows) (owned_by s k rows))
+    (eq-eqb (owner s row) k (only_owner s row one ∙ sym first)))

@@ -1,5 +1,5 @@
 //! The tables of newly settled positions, and what a worker says of them.
-ghost use Rattle.std.specs.Prelude.{◌≡◌, ◌++◌, true, map, nat_eq, IfOk, length};
+ghost use Rattle.std.specs.Prelude.{◌≡◌, ◌++◌, ◌∷◌, [], true, map, nat_eq, IfOk, length};
 ghost use Rattle.std.specs.List.{AllByRecursion};
 ghost use Rattle.mfotl_model.specs.Tables.{all_sized};
 ghost use Rattle.monitor_state.specs.MonitorView.{monitor_of};
@@ -23,50 +23,58 @@ pub(crate) struct Settled {
     pub(crate) table: Table,
 }
 
-/// The tables of the positions from the first on, one after the other.
-pub(crate) fn numbered(
+/// Says of the positions from the first on, whose tables these are one after the other, what the worker owns.
+pub(crate) fn give_tables(
     alloc: Global,
     monitor: &Monitor,
+    strategy: &Strategy,
+    worker: u32,
+    generation: u64,
     first: u64,
     mut tables: Tables,
-) -> Result<Vec<Settled>, AllocError>
-    requires { IsKept (monitor_of monitor.now).state first (length tables) }
-    ensures { IfOk result (λ settled. settled.items ≡ all_settled (monitor_of monitor.now).state first tables) }
+    outs: &mut Vec<Out>,
+) -> Result<(), AllocError>
+    requires kept { IsKept (monitor_of monitor.now).state first (length tables) }
+    requires wide { AllByRecursion (HasWidth (length strategy.now))
+        (all_settled (monitor_of monitor.now).state first tables) }
+    ensures tables { IfOk result (λ _. AllByRecursion IsTabled
+        (all_settled (monitor_of monitor.now).state first tables)) }
+    ensures given { IfOk result (λ _. outs.new.items ≡ outs.old.items ++ map (row_out strategy.now worker generation)
+        (all_settled (monitor_of monitor.now).state first tables)) }
 {
-    let mut settled = Vec::new(alloc);
     let mut point = first;
     while let Some(table) = tables.take() {
         let ts = monitor.time_at(point);
-        settled.push(Settled { point, ts, table })?;
+        let settled = Settled { point, ts, table };
+        give_rows(alloc, strategy, worker, generation, settled, outs)?;
         point += 1;
     }
-    Ok(settled)
+    Ok(())
 }
 
-/// Says of each position what the worker owns.
-pub(crate) fn give_rows(
+// Says of a position what the worker owns.
+fn give_rows(
     alloc: Global,
     strategy: &Strategy,
     worker: u32,
     generation: u64,
-    settled: Vec<Settled>,
+    settled: Settled,
     outs: &mut Vec<Out>,
 ) -> Result<(), AllocError>
-    requires { AllByRecursion (HasWidth (length strategy.now)) settled.items }
-    ensures tables { IfOk result (λ _. AllByRecursion IsTabled settled.items) }
+    requires { HasWidth (length strategy.now) settled }
+    ensures table { IfOk result (λ _. IsTabled settled) }
     ensures given { IfOk result (λ _.
-        outs.new.items ≡ outs.old.items ++ map (row_out strategy.now worker generation) settled.items) }
+        outs.new.items ≡ outs.old.items ++ row_out strategy.now worker generation settled ∷ []) }
 {
-    for one in settled {
-        let rows = owned(alloc, strategy, worker, one.table)?;
-        outs.push(Out::Rows(Rows {
-            point: one.point,
-            ts: one.ts,
-            generation,
-            worker,
-            rows,
-        }))?;
-    }
+    let Settled { point, ts, table } = settled;
+    let rows = owned(alloc, strategy, worker, table)?;
+    outs.push(Out::Rows(Rows {
+        point,
+        ts,
+        generation,
+        worker,
+        rows,
+    }))?;
     Ok(())
 }
 
@@ -94,6 +102,9 @@ fn kept(
     requires { all_sized (length strategy.now) rows.items ≡ true }
     ensures { IfOk result (λ kept. kept ≡ owned_by strategy.now worker rows.items) }
 {
+    if worker == 0 && strategy.workers() == 1 {
+        return Ok(RowList::new(rows));
+    }
     let mut kept = Vec::new(alloc);
     for row in rows {
         if is_owner(strategy, worker, &row) {

@@ -7,7 +7,7 @@ ghost use Rattle.rescale_core.specs.Working.{CanTake, Gave, IsAt, StandsFor, fir
 use crate::item::{Item, Out};
 use crate::phase::Phase;
 use crate::seed::Seed;
-use crate::settled::{give_rows, numbered};
+use crate::settled::give_tables;
 use mfotl_model::TimePoint;
 use monitor_state::Monitor;
 use monitorable::Core;
@@ -84,8 +84,16 @@ impl Worker {
         };
         let first = monitor.given();
         let tables = monitor.step(alloc, &point)?;
-        let settled = numbered(alloc, monitor, first, tables)?;
-        give_rows(alloc, strategy, self.number, generation, settled, outs)?;
+        give_tables(
+            alloc,
+            monitor,
+            strategy,
+            self.number,
+            generation,
+            first,
+            tables,
+            outs,
+        )?;
         Ok(())
     }
 }

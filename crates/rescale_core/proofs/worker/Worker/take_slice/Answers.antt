@@ -1,36 +1,32 @@
-use Rattle.std.proofs.Common.{sym, refl, ap, ◌∙◌, subst, length}
+use Rattle.std.proofs.Common.{sym, refl, ap, ◌∙◌, ◌++◌, subst, length, map}
 use Rattle.std.specs.List.{AllByRecursion}
 use Rattle.monitor_state.specs.MonitorView.{monitor_of}
-use Rattle.rescale_core.specs.Settlings.{HasWidth, IsKept, all_settled}
+use Rattle.rescale_core.specs.Settlings.{HasWidth, IsKept, IsTabled, all_settled, row_out}
 use Rattle.rescale_core.proofs.SliceLemmas.{slice_kept, takes_slice}
 use Rattle.rescale_core.proofs.worker.Worker.take_slice.Goals as goal
 
-pub numbered-requires : goal.numbered-requires
-numbered-requires c =
+pub give_tables-requires : goal.give_tables-requires
+give_tables-requires c =
     let e = c.in_ok-tables.ensures in
-    subst (λ i. IsKept (monitor_of c.step.new.self).state i (length c.in_ok-tables.tables)) (sym c.given-first.ensures)
-    (slice_kept c.args.self.now c.in-Active.monitor c.step.new.self c.in-Active.strategy c.args.generation
-    c.args.number c.args.point c.in_ok-tables.tables c.in-Active.is e.core e.first e.steps c.requires).0
-
-pub give_rows-requires : goal.give_rows-requires
-give_rows-requires c =
-    let e = c.in_ok-tables.ensures in
-    subst (AllByRecursion (HasWidth (length c.in-Active.strategy)))
-    (sym (c.in_ok-settled.ensures
-    ∙ ap (λ i. all_settled (monitor_of c.step.new.self).state i c.in_ok-tables.tables) c.given-first.ensures))
-    (slice_kept c.args.self.now c.in-Active.monitor c.step.new.self c.in-Active.strategy c.args.generation
-    c.args.number c.args.point c.in_ok-tables.tables c.in-Active.is e.core e.first e.steps c.requires).1
+    let state = (monitor_of c.step.new.self).state in
+    let tables = c.in_ok-tables.tables in
+    let has = slice_kept c.args.self.now c.in-Active.monitor c.step.new.self c.in-Active.strategy c.args.generation
+    c.args.number c.args.point tables c.in-Active.is e.core e.first e.steps c.requires in
+    record {
+      kept = subst (λ i. IsKept state i (length tables)) (sym c.given-first.ensures) has.0;
+      wide = subst (λ i. AllByRecursion (HasWidth (length c.in-Active.strategy)) (all_settled state i tables))
+          (sym c.given-first.ensures) has.1;
+    }
 
 pub returns : goal.returns
 returns c =
     let e = c.in_ok-tables.ensures in
-    let outs = c.in_ok-give_rows.ensures in (
+    let state = (monitor_of c.step.new.self).state in
+    let tables = c.in_ok-tables.tables in
+    let outs = c.in_ok-give_tables.ensures in (
       _,
       outs.given,
       takes_slice c.args.self.now _ c.in-Active.monitor c.step.new.self c.in-Active.strategy c.args.generation
-          c.args.number c.args.point c.in_ok-tables.tables c.in_ok-settled.settled.items c.in-Active.is refl refl refl
-          e.core e.first e.steps
-          (c.in_ok-settled.ensures
-          ∙ ap (λ i. all_settled (monitor_of c.step.new.self).state i c.in_ok-tables.tables) c.given-first.ensures)
-          outs.tables,
+          c.args.number c.args.point tables (all_settled state c.given-first.result tables) c.in-Active.is refl refl refl
+          e.core e.first e.steps (ap (λ i. all_settled state i tables) c.given-first.ensures) outs.tables,
     )
