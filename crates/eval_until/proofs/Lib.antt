@@ -9,3 +9,4 @@ pub mod KeepingLemmas
 pub mod FollowsLemmas
 pub mod TakingLemmas
 pub mod ResumeLemmas
+pub mod StartLemmas

@@ -1,5 +1,5 @@
 -- Where the left operand's present runs begin.
-use Rattle.std.specs.Prelude.{ℕ, ◌+◌, Bool, false, cond, nat_le, Option, Some, None, List}
+use Rattle.std.specs.Prelude.{ℕ, ◌+◌, Bool, false, cond, nat_le, Option, Some, None, List, [], ◌∷◌}
 use Rattle.std.specs.BTreeMap.{is_at}
 use Rattle.std.specs.Map.{lookup}
 use Rattle.std.specs.Option.{unwrap_or}
@@ -27,3 +27,8 @@ start_taken negated p rows starts w = cond negated
 abbrev pub later_start : ℕ → Option ℕ → Option ℕ
 later_start next None = None
 later_start next (Some s) = cond (nat_le s next) None (Some s)
+
+-- a lone start, or where there is none, many
+abbrev pub starts_among : Option (List Value × ℕ) → List (List Value × ℕ) → List (List Value × ℕ)
+starts_among None many = many
+starts_among (Some lone) many = lone ∷ []

@@ -17,17 +17,17 @@ ghost use Rattle.eval_until.specs.Starts.{kept_start, start_of, start_taken};
 
 use crate::entries::Entries;
 use crate::expiry::expire;
-use crate::ordered::{hashed_rows, hashed_starts, ordered_rows, ordered_starts};
+use crate::ordered::{hashed_rows, hashed_starts, ordered_rows};
 use crate::rebuild::{kept_marks, kept_starts, queue_of};
 use crate::recalled::{KeptMarks, KeptStart};
 use crate::rows::{add_rows, push_met, row_met};
+use crate::start_map::StartMap;
 use crate::starts::apply_left;
 use mfotl_model::{Interval, Row};
 use relations::Table;
 use std::alloc::{AllocError, Global};
 use std::collections::{BTreeMap, HashMap, VecDeque};
 use std::marker::Model;
-use std::mem;
 
 /// The rows of the tables of one position: the right operand's, and those of a negated left one, whose
 /// runs break there.
@@ -42,65 +42,82 @@ pub struct Taken {
 /// so that what is pulled is found.
 #[derive(Drop)]
 struct Contents {
-    starts: HashMap<Row, u64>,
+    starts: StartMap,
     rows: HashMap<Row, Entries>,
     queue: VecDeque<Taken>,
 }
 
-// the rows of the left operand's table that the queue needs: none where it is not negated
-fn breaks_of(alloc: Global, negated: bool, lefts: Vec<Row>) -> Vec<Row>
-    ensures { negated ≡ true → result.items ≡ lefts.items }
+fn no_contents(alloc: Global) -> Contents
+    ensures starts { result.starts ≡ [] }
+    ensures rows { result.rows.entries ≡ [] }
+    ensures queue { result.queue.items ≡ [] }
 {
-    if negated { lefts } else { Vec::new(alloc) }
+    Contents {
+        starts: StartMap::new(alloc),
+        rows: HashMap::new(alloc),
+        queue: VecDeque::new(alloc),
+    }
+}
+
+// the rows of the left operand's table that the queue needs: none where it is not negated
+fn breaks_of(alloc: Global, negated: bool, lefts: Table) -> Vec<Row>
+    ensures { negated ≡ true → result.items ≡ lefts.rows }
+{
+    if negated {
+        lefts.into_rows()
+    } else {
+        Vec::new(alloc)
+    }
 }
 
 /// One position more: the right operand's rows, then the left operand's.
-fn stepped(
+fn take_position(
     alloc: Global,
-    contents: Contents,
+    contents: &mut Contents,
     left: &[u32],
     right: &[u32],
     negated: bool,
-    lefts: Vec<Row>,
-    rights: Vec<Row>,
+    lefts: Table,
+    rights: Table,
     pulled: u64,
     place: u64,
     ts: u64,
-) -> Result<Contents, AllocError>
-    requires kept { Keeps negated right.now pulled place contents.starts.entries contents.rows.entries contents.queue.items }
-    requires sized { IsTrue (all_sized (length right.now) rights.items) }
-    requires sorted { IsStrictlySortedBy row_cmp rights.items }
+) -> Result<(), AllocError>
+    requires kept { Keeps negated right.now pulled place contents.old.starts contents.old.rows.entries contents.old.queue.items }
+    requires columns { rights.columns ≡ right.now }
     requires low { pulled ≤ place }
     requires few { place < 2 ^ 63 }
-    ensures rows { IfOk result (λ next. (u : List Value) → entries_of next.rows.entries u
-        ≡ cond (has_row rights.items u) (entries_of contents.rows.entries u ++ record { place = place; start = start_of negated place contents.starts.entries (part right.now left.now u); ts = ts } ∷ [])
-        (entries_of contents.rows.entries u)) }
-    ensures starts { IfOk result (λ next. (w : List Value) → kept_start next.starts.entries w
-        ≡ start_taken negated place lefts.items contents.starts.entries w) }
-    ensures kept { IfOk result (λ next.
-        Keeps negated right.now pulled (place + 1) next.starts.entries next.rows.entries next.queue.items) }
+    ensures rows { OnOk result ((u : List Value) → entries_of contents.new.rows.entries u
+        ≡ cond (has_row rights.rows u) (entries_of contents.old.rows.entries u ++ record { place = place; start = start_of negated place contents.old.starts (part right.now left.now u); ts = ts } ∷ [])
+        (entries_of contents.old.rows.entries u)) }
+    ensures starts { OnOk result ((w : List Value) → kept_start contents.new.starts w
+        ≡ start_taken negated place lefts.rows contents.old.starts w) }
+    ensures kept { OnOk result (
+        Keeps negated right.now pulled (place + 1) contents.new.starts contents.new.rows.entries contents.new.queue.items) }
 {
     let Contents {
-        mut starts,
-        mut rows,
-        mut queue,
-    } = contents;
-    let table = rights.as_slice();
-    add_rows(
-        alloc, &mut rows, &starts, right, left, negated, table, place, ts,
-    )?;
-    apply_left(alloc, &mut starts, negated, lefts.as_slice(), place)?;
-    let breaks = breaks_of(alloc, negated, lefts);
-    queue.push_back(Taken {
-        place,
-        rights,
-        breaks,
-    })?;
-    Ok(Contents {
         starts,
         rows,
         queue,
-    })
+    } = contents;
+    add_rows(
+        alloc,
+        rows,
+        starts,
+        right,
+        left,
+        negated,
+        rights.rows(),
+        place,
+        ts,
+    )?;
+    apply_left(alloc, starts, negated, lefts.rows(), place)?;
+    queue.push_back(Taken {
+        place,
+        rights: rights.into_rows(),
+        breaks: breaks_of(alloc, negated, lefts),
+    })?;
+    Ok(())
 }
 
 /// What UNTIL has seen from the next position on.
@@ -122,9 +139,9 @@ impl Model for Ahead {
 
     ghost Value = { AheadOf };
 
-    ghost view = { λ k. record { interval = k.interval; left = k.left.items; right = k.right.items; negated = k.negated; pulled = k.pulled; taken = k.taken; starts = in_order k.contents.starts.entries; rows = in_order k.contents.rows.entries } };
+    ghost view = { λ k. record { interval = k.interval; left = k.left.items; right = k.right.items; negated = k.negated; pulled = k.pulled; taken = k.taken; starts = in_order k.contents.starts; rows = in_order k.contents.rows.entries } };
 
-    ghost invariant = { λ k. Keeps k.negated k.right.items k.pulled k.taken k.contents.starts.entries k.contents.rows.entries k.contents.queue.items };
+    ghost invariant = { λ k. Keeps k.negated k.right.items k.pulled k.taken k.contents.starts k.contents.rows.entries k.contents.queue.items };
 }
 
 impl Ahead {
@@ -146,11 +163,7 @@ impl Ahead {
             negated,
             pulled: 0,
             taken: 0,
-            contents: Contents {
-                starts: HashMap::new(alloc),
-                rows: HashMap::new(alloc),
-                queue: VecDeque::new(alloc),
-            },
+            contents: no_contents(alloc),
         }
     }
 
@@ -200,7 +213,7 @@ impl Ahead {
             AllByRecursion (λ r. length r.0 ≡ length self.now.left) self.now.starts) }
         ensures ascend { IfOk result (λ _. RowsAscend self.now.starts) }
     {
-        let starts = ordered_starts(alloc, &self.contents.starts)?;
+        let starts = self.contents.starts.in_order(alloc)?;
         let kept = kept_starts(alloc, &starts, self.left.as_slice().len())?;
         Ok(kept)
     }
@@ -254,32 +267,28 @@ impl Ahead {
         ensures right { self.new.right ≡ self.old.right }
         ensures negated { self.new.negated ≡ self.old.negated }
     {
-        let contents = mem::replace(
-            &mut self.contents,
-            Contents {
-                starts: HashMap::new(alloc),
-                rows: HashMap::new(alloc),
-                queue: VecDeque::new(alloc),
-            },
-        );
-        let left = self.left.as_slice();
-        let right = self.right.as_slice();
-        let lefts = lefts.into_rows();
-        let rights = rights.into_rows();
-        self.contents = stepped(
+        let taken = take_position(
             alloc,
-            contents,
-            left,
-            right,
+            &mut self.contents,
+            self.left.as_slice(),
+            self.right.as_slice(),
             self.negated,
             lefts,
             rights,
             self.pulled,
             self.taken,
             ts,
-        )?;
-        self.taken += 1;
-        Ok(())
+        );
+        match taken {
+            Ok(()) => {
+                self.taken += 1;
+                Ok(())
+            }
+            Err(error) => {
+                self.contents = no_contents(alloc);
+                Err(error)
+            }
+        }
     }
 
     /// Goes on to the next position, and forgets what stands before it.

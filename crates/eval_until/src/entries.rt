@@ -1,5 +1,5 @@
 //! The entries of one row, by ascending positions.
-ghost use Rattle.std.specs.Prelude.{◌≡◌, ◌==◌, ◌∷◌, ◌++◌, ◌||◌, ◌&&◌, ◌<◌, [], Bool, IfOk, IsTrue, List, OnOk, MatchOption, drop, length, map, nat_eq, ℕ};
+ghost use Rattle.std.specs.Prelude.{◌≡◌, ◌==◌, ◌∷◌, ◌++◌, ◌||◌, ◌&&◌, ◌<◌, [], Bool, IfOk, IsTrue, List, OnOk, length, map, nat_eq, ℕ};
 ghost use Rattle.std.specs.List.{list_all, list_any};
 ghost use Rattle.mfotl_model.specs.Tables.{has_row};
 ghost use Rattle.mfotl_model.specs.declared.value.Value.{Value};
@@ -12,6 +12,7 @@ use crate::meeting::meets;
 use crate::rebuild::row_taken;
 use crate::recalled::Mark;
 use mfotl_model::{Interval, Row};
+use short_queue::ShortQueue;
 use std::alloc::{AllocError, Global};
 use std::collections::VecDeque;
 use std::marker::Model;
@@ -27,7 +28,7 @@ pub struct Entry {
 
 #[derive(Drop)]
 pub struct Entries {
-    list: VecDeque<Entry>,
+    list: ShortQueue<Entry>,
 }
 
 impl Model for Entries {
@@ -37,27 +38,9 @@ impl Model for Entries {
 
     ghost Value = { List OneEntry };
 
-    ghost view = { λ e. e.list.items };
+    ghost view = { λ e. e.list };
 
-    ghost invariant = { λ e. PlacesAscend e.list.items };
-}
-
-// the first entry, if there is one
-#[tactic(auto, using(relations::proofs::PushedLemmas::first_is))]
-fn oldest(list: &VecDeque<Entry>) -> Option<Entry>
-    ensures { MatchOption result (list.now.items ≡ []) (λ e. list.now.items ≡ e ∷ drop 1 list.now.items) }
-{
-    list.front().copied()
-}
-
-fn copied(alloc: Global, list: &VecDeque<Entry>) -> Result<Vec<Entry>, AllocError>
-    ensures { IfOk result (λ copy. copy.items ≡ list.now.items) }
-{
-    let mut copy = Vec::with_capacity(alloc, list.len())?;
-    for i in 0..list.len() {
-        copy.push(list[i])?;
-    }
-    Ok(copy)
+    ghost invariant = { λ e. PlacesAscend e.list };
 }
 
 // a kept entry has the time of its position, which `times` has, too
@@ -81,7 +64,7 @@ impl Entries {
         ensures { result ≡ [] }
     {
         Entries {
-            list: VecDeque::new(alloc),
+            list: ShortQueue::new(alloc),
         }
     }
 
@@ -91,7 +74,7 @@ impl Entries {
         ensures { result ≡ list.items }
     {
         Entries {
-            list: VecDeque::from_vec(list),
+            list: ShortQueue::from_vec(list),
         }
     }
 
@@ -107,7 +90,7 @@ impl Entries {
     {
         let mut marks = Vec::with_capacity(alloc, self.list.len())?;
         for k in 0..self.list.len() {
-            marks.push(mark_of(self.list[k], pulled, times)?)?;
+            marks.push(mark_of(self.list.get(k), pulled, times)?)?;
         }
         Ok(marks)
     }
@@ -128,7 +111,7 @@ impl Entries {
             breaks_before out.new.items w s ≡ breaks_before out.old.items w s) }
     {
         for k in 0..self.list.len() {
-            out.push(row_taken(alloc, self.list[k].place, row)?)?;
+            out.push(row_taken(alloc, self.list.get(k).place, row)?)?;
         }
         Ok(())
     }
@@ -136,9 +119,9 @@ impl Entries {
     pub fn copy(&self, alloc: Global) -> Result<Self, AllocError>
         ensures { IfOk result (λ copy. copy ≡ self.now) }
     {
-        let list = copied(alloc, &self.list)?;
+        let list = self.list.to_vec(alloc)?;
         Ok(Entries {
-            list: VecDeque::from_vec(list),
+            list: ShortQueue::from_vec(list),
         })
     }
 
@@ -161,7 +144,7 @@ impl Entries {
     pub fn forget(&mut self, next: u64)
         ensures { self.new ≡ from_place next self.old }
     {
-        while let Some(first) = oldest(&self.list) {
+        while let Some(first) = self.list.front() {
             if first.place >= next {
                 return;
             }
@@ -174,7 +157,7 @@ impl Entries {
         ensures { result ≡ met_by interval.now i x self.now }
     {
         for k in 0..self.list.len() {
-            if meets(interval, i, x, self.list[k]) {
+            if meets(interval, i, x, self.list.get(k)) {
                 return true;
             }
         }

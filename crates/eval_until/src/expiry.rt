@@ -10,16 +10,17 @@ ghost use Rattle.eval_until.specs.Starts.{kept_start, later_start};
 use crate::ahead::Taken;
 use crate::entries::Entries;
 use crate::rows::forget_rows;
+use crate::start_map::StartMap;
 use crate::starts::forget_starts;
 use mfotl_model::Row;
 use std::collections::{HashMap, VecDeque};
 
 // a run that began with the position `next` or before tells nothing more; only those of a negated
 // operand may be forgotten, since they are taken to begin with the first position
-fn forget_breaks(starts: &mut HashMap<Row, u64>, negated: bool, table: &[Row], next: u64)
-    ensures { (w : List Value) → kept_start starts.new.entries w
-        ≡ cond (negated && has_row table.now w) (later_start next (kept_start starts.old.entries w))
-        (kept_start starts.old.entries w) }
+fn forget_breaks(starts: &mut StartMap, negated: bool, table: &[Row], next: u64)
+    ensures { (w : List Value) → kept_start starts.new w
+        ≡ cond (negated && has_row table.now w) (later_start next (kept_start starts.old w))
+        (kept_start starts.old w) }
 {
     if negated {
         forget_starts(starts, table, next);
@@ -29,7 +30,7 @@ fn forget_breaks(starts: &mut HashMap<Row, u64>, negated: bool, table: &[Row], n
 /// Forgets what stands before the position `next`, by the rows that it came with.
 pub fn expire(
     rows: &mut HashMap<Row, Entries>,
-    starts: &mut HashMap<Row, u64>,
+    starts: &mut StartMap,
     queue: &mut VecDeque<Taken>,
     negated: bool,
     next: u64,
@@ -40,10 +41,10 @@ pub fn expire(
         IsThinned next (entries_of rows.old.entries u) (entries_of rows.new.entries u) }
     ensures some { NoneEmpty rows.old.entries → NoneEmpty rows.new.entries }
     ensures starts { (w : List Value) →
-        IsLater negated next (kept_start starts.old.entries w) (kept_start starts.new.entries w) }
+        IsLater negated next (kept_start starts.old w) (kept_start starts.new w) }
     ensures covered { Covered queue.new.items rows.new.entries }
-    ensures breaks { negated ≡ true → CoveredStarts queue.old.items starts.old.entries →
-        CoveredStarts queue.new.items starts.new.entries }
+    ensures breaks { negated ≡ true → CoveredStarts queue.old.items starts.old →
+        CoveredStarts queue.new.items starts.new }
     ensures rising { Rising queue.new.items }
     ensures fresh { Fresh next queue.new.items }
     ensures after { (p : ℕ) → NotAfter p queue.old.items → NotAfter p queue.new.items }

@@ -12,6 +12,7 @@ mod ordered;
 mod rebuild;
 mod recalled;
 mod rows;
+mod start_map;
 mod starts;
 mod until;
 

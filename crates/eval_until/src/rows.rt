@@ -13,6 +13,7 @@ ghost use Rattle.eval_until.specs.Rules.{NoneEmpty, all_before};
 ghost use Rattle.eval_until.specs.Starts.{start_of};
 
 use crate::entries::{Entries, Entry};
+use crate::start_map::StartMap;
 use crate::starts::start_at;
 use mfotl_model::{Interval, Row};
 use relations::part_of;
@@ -23,22 +24,22 @@ use std::collections::HashMap;
 fn add_entry(
     alloc: Global,
     rows: &mut HashMap<Row, Entries>,
-    row: Row,
+    row: &Row,
     entry: Entry,
 ) -> Result<(), AllocError>
-    requires { IsTrue (all_before entry.place (entries_of rows.old.entries row)) }
+    requires { IsTrue (all_before entry.place (entries_of rows.old.entries row.now)) }
     ensures entries { OnOk result ((u : List Value) → entries_of rows.new.entries u
-        ≡ cond (is_at (row_cmp row) u) (entries_of rows.old.entries u ++ entry ∷ [])
+        ≡ cond (is_at (row_cmp row.now) u) (entries_of rows.old.entries u ++ entry ∷ [])
         (entries_of rows.old.entries u)) }
     ensures some { OnOk result (NoneEmpty rows.old.entries → NoneEmpty rows.new.entries) }
 {
-    if let Some(entries) = rows.get_mut(&row) {
+    if let Some(entries) = rows.get_mut(row) {
         entries.push(entry)?;
         return Ok(());
     }
     let mut entries = Entries::new(alloc);
     entries.push(entry)?;
-    rows.insert(row, entries)?;
+    rows.insert(row.copy(alloc)?, entries)?;
     Ok(())
 }
 
@@ -47,7 +48,7 @@ fn add_entry(
 pub fn add_rows(
     alloc: Global,
     rows: &mut HashMap<Row, Entries>,
-    starts: &HashMap<Row, u64>,
+    starts: &StartMap,
     right: &[u32],
     left: &[u32],
     negated: bool,
@@ -58,14 +59,14 @@ pub fn add_rows(
     requires sorted { IsStrictlySortedBy row_cmp table.now }
     requires before { (u : List Value) → IsTrue (all_before place (entries_of rows.old.entries u)) }
     ensures entries { OnOk result ((u : List Value) → entries_of rows.new.entries u
-        ≡ cond (has_row table.now u) (entries_of rows.old.entries u ++ record { place = place; start = start_of negated place starts.now.entries (part right.now left.now u); ts = ts } ∷ [])
+        ≡ cond (has_row table.now u) (entries_of rows.old.entries u ++ record { place = place; start = start_of negated place starts.now (part right.now left.now u); ts = ts } ∷ [])
         (entries_of rows.old.entries u)) }
     ensures some { OnOk result (NoneEmpty rows.old.entries → NoneEmpty rows.new.entries) }
 {
     for row in table {
         let key = part_of(alloc, right, left, row.values())?;
         let start = start_at(starts, negated, place, &key);
-        add_entry(alloc, rows, row.copy(alloc)?, Entry { place, start, ts })?;
+        add_entry(alloc, rows, row, Entry { place, start, ts })?;
     }
     Ok(())
 }

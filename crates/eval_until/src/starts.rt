@@ -1,51 +1,78 @@
 //! Where the left operand's present runs begin.
-ghost use Rattle.std.specs.Prelude.{◌≡◌, ◌+◌, ◌<◌, ◌^◌, List, OnOk, IfOk, Some, None, cond, false};
+ghost use Rattle.std.specs.Prelude.{◌≡◌, ◌+◌, ◌<◌, ◌^◌, ◌∷◌, [], List, OnOk, IfOk, Some, None, cond, false};
 ghost use Rattle.std.specs.BTreeMap.{is_at};
 ghost use Rattle.mfotl_model.specs.Tables.{has_row};
 ghost use Rattle.mfotl_model.specs.Values.{row_cmp};
 ghost use Rattle.mfotl_model.specs.declared.value.Value.{Value};
 ghost use Rattle.eval_until.specs.Starts.{kept_start, later_start, start_of, start_taken};
 
+use crate::start_map::StartMap;
 use mfotl_model::Row;
 use std::alloc::{AllocError, Global};
-use std::collections::HashMap;
 
 /// Where the run of a row begins, of which the positions before `place` were taken.
-pub fn start_at(starts: &HashMap<Row, u64>, negated: bool, place: u64, row: &Row) -> u64
-    ensures { result ≡ start_of negated place starts.now.entries row.now }
+pub fn start_at(starts: &StartMap, negated: bool, place: u64, row: &Row) -> u64
+    ensures { result ≡ start_of negated place starts.now row.now }
 {
     match starts.get(row) {
-        Some(start) => *start,
+        Some(start) => start,
         None => { if negated { 0 } else { place } }
     }
+}
+
+// the run of the only row of the left operand's table goes on, or begins at the position `place`
+fn keep_alone(alloc: Global, starts: &mut StartMap, row: &Row, place: u64) -> Result<(), AllocError>
+    ensures { OnOk result (starts.new ≡ (row.now, start_of false place starts.old row.now) ∷ []) }
+{
+    let start = start_at(starts, false, place, row);
+    starts.put_alone(alloc, row.copy(alloc)?, start);
+    Ok(())
 }
 
 // the runs that go on or begin at the position `place`
 fn kept_starts(
     alloc: Global,
-    starts: &HashMap<Row, u64>,
+    starts: &StartMap,
     table: &[Row],
     place: u64,
-) -> Result<HashMap<Row, u64>, AllocError>
-    ensures { IfOk result (λ kept. (w : List Value) → kept_start kept.entries w
-        ≡ cond (has_row table.now w) (Some (start_of false place starts.now.entries w)) None) }
+) -> Result<StartMap, AllocError>
+    ensures { IfOk result (λ kept. (w : List Value) → kept_start kept w
+        ≡ cond (has_row table.now w) (Some (start_of false place starts.now w)) None) }
 {
-    let mut kept = HashMap::new(alloc);
+    let mut kept = StartMap::new(alloc);
     for row in table {
         kept.insert(row.copy(alloc)?, start_at(starts, false, place, row))?;
     }
     Ok(kept)
 }
 
+// only those runs are kept
+fn keep_starts(
+    alloc: Global,
+    starts: &mut StartMap,
+    table: &[Row],
+    place: u64,
+) -> Result<(), AllocError>
+    ensures { OnOk result ((w : List Value) → kept_start starts.new w
+        ≡ cond (has_row table.now w) (Some (start_of false place starts.old w)) None) }
+{
+    if table.len() == 1 {
+        keep_alone(alloc, starts, &table[0], place)?;
+    } else {
+        *starts = kept_starts(alloc, starts, table, place)?;
+    }
+    Ok(())
+}
+
 // the runs that break, and begin anew at the position `behind`
 fn break_starts(
     alloc: Global,
-    starts: &mut HashMap<Row, u64>,
+    starts: &mut StartMap,
     table: &[Row],
     behind: u64,
 ) -> Result<(), AllocError>
-    ensures { OnOk result ((w : List Value) → kept_start starts.new.entries w
-        ≡ cond (has_row table.now w) (Some behind) (kept_start starts.old.entries w)) }
+    ensures { OnOk result ((w : List Value) → kept_start starts.new w
+        ≡ cond (has_row table.now w) (Some behind) (kept_start starts.old w)) }
 {
     for row in table {
         starts.insert(row.copy(alloc)?, behind)?;
@@ -56,42 +83,41 @@ fn break_starts(
 /// Applies the rows of the left operand's table at the position `place`.
 pub fn apply_left(
     alloc: Global,
-    starts: &mut HashMap<Row, u64>,
+    starts: &mut StartMap,
     negated: bool,
     table: &[Row],
     place: u64,
 ) -> Result<(), AllocError>
     requires { place < 2 ^ 63 }
-    ensures { OnOk result ((w : List Value) → kept_start starts.new.entries w
-        ≡ start_taken negated place table.now starts.old.entries w) }
+    ensures { OnOk result ((w : List Value) → kept_start starts.new w
+        ≡ start_taken negated place table.now starts.old w) }
 {
     if negated {
         break_starts(alloc, starts, table, place + 1)
     } else {
-        *starts = kept_starts(alloc, starts, table, place)?;
-        Ok(())
+        keep_starts(alloc, starts, table, place)
     }
 }
 
 // forgets the start of one row where it is not behind the position `next`
-fn forget_start(starts: &mut HashMap<Row, u64>, row: &Row, next: u64)
-    ensures { (w : List Value) → kept_start starts.new.entries w
-        ≡ cond (is_at (row_cmp row.now) w) (later_start next (kept_start starts.old.entries w))
-        (kept_start starts.old.entries w) }
+fn forget_start(starts: &mut StartMap, row: &Row, next: u64)
+    ensures { (w : List Value) → kept_start starts.new w
+        ≡ cond (is_at (row_cmp row.now) w) (later_start next (kept_start starts.old w))
+        (kept_start starts.old w) }
 {
     let Some(start) = starts.get(row) else {
         return;
     };
-    if *start <= next {
+    if start <= next {
         starts.remove(row);
     }
 }
 
 /// Forgets the starts of these rows that are not behind the position `next`.
-pub fn forget_starts(starts: &mut HashMap<Row, u64>, table: &[Row], next: u64)
-    ensures { (w : List Value) → kept_start starts.new.entries w
-        ≡ cond (has_row table.now w) (later_start next (kept_start starts.old.entries w))
-        (kept_start starts.old.entries w) }
+pub fn forget_starts(starts: &mut StartMap, table: &[Row], next: u64)
+    ensures { (w : List Value) → kept_start starts.new w
+        ≡ cond (has_row table.now w) (later_start next (kept_start starts.old w))
+        (kept_start starts.old w) }
 {
     for row in table {
         forget_start(starts, row, next);

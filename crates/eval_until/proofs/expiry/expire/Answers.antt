@@ -30,14 +30,14 @@ loop-front-preserved c =
           (entries_of c.loop-front.rows.entries u) (entries_of c.forget_rows.new.rows.entries u)
           (has_row q.rights.items u) (c.loop-front.invariant.rows u) (rows u);
       some = λ before. c.forget_rows.ensures.some (c.loop-front.invariant.some before);
-      starts = λ w. later_more c.args.negated c.args.next (kept_start c.args.starts.now.entries w)
-          (kept_start c.loop-front.starts.entries w) (kept_start c.forget_breaks.new.starts.entries w)
+      starts = λ w. later_more c.args.negated c.args.next (kept_start c.args.starts.now w)
+          (kept_start c.loop-front.starts w) (kept_start c.forget_breaks.new.starts w)
           (has_row q.breaks.items w) (c.loop-front.invariant.starts w) (starts w);
       covered = λ u. covered_more c.args.next q rest u (entries_of c.loop-front.rows.entries u)
           (entries_of c.forget_rows.new.rows.entries u) low (covered u) (rows u);
       breaks = λ negated before w. breaks_more c.args.negated c.args.next q rest w
-          (kept_start c.loop-front.starts.entries w) (kept_start c.forget_breaks.new.starts.entries w) negated low
-          (subst (λ (queue : List Taken). CoveredStarts queue c.loop-front.starts.entries) is
+          (kept_start c.loop-front.starts w) (kept_start c.forget_breaks.new.starts w) negated low
+          (subst (λ (queue : List Taken). CoveredStarts queue c.loop-front.starts) is
           (c.loop-front.invariant.breaks negated before) w) (starts w);
       rising = rising.1;
       after = λ p all. after_rest p q rest (subst (λ (queue : List Taken). NotAfter p queue) is

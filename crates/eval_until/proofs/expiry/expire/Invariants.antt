@@ -10,11 +10,11 @@ abbrev pub invariant-loop-front : goal.invariant-loop-front
 invariant-loop-front l = record {
   rows : (u : List Value) → IsThinned l.next (entries_of l.fn.rows.entries u) (entries_of l.rows.entries u);
   some : NoneEmpty l.fn.rows.entries → NoneEmpty l.rows.entries;
-  starts : (w : List Value) → IsLater l.negated l.next (kept_start l.fn.starts.entries w)
-      (kept_start l.starts.entries w);
+  starts : (w : List Value) → IsLater l.negated l.next (kept_start l.fn.starts w)
+      (kept_start l.starts w);
   covered : Covered l.queue.items l.rows.entries;
-  breaks : l.negated ≡ true → CoveredStarts l.fn.queue.items l.fn.starts.entries
-      → CoveredStarts l.queue.items l.starts.entries;
+  breaks : l.negated ≡ true → CoveredStarts l.fn.queue.items l.fn.starts
+      → CoveredStarts l.queue.items l.starts;
   rising : Rising l.queue.items;
   after : (p : ℕ) → NotAfter p l.fn.queue.items → NotAfter p l.queue.items;
 }

@@ -5,4 +5,4 @@ use Rattle.eval_until.proofs.ordered.hashed_starts.Given as goal
 
 abbrev pub invariant-loop-row : goal.invariant-loop-row
 invariant-loop-row l = (u : List Value) →
-    last_for l.row-iterator u (kept_for l.map.entries u) ≡ last_for l.fn.starts.entries u None
+    last_for l.row-iterator u (kept_for l.map u) ≡ last_for l.fn.starts.entries u None

@@ -11,7 +11,7 @@ invariant-loop-row l = record {
   entries : (u : List Value) → entries_of l.rows.entries u
       ≡ cond (has_row (take l.row-index l.table) u) (entries_of l.fn.rows.entries u ++ record {
         place = l.place;
-        start = start_of l.negated l.place l.starts.entries (part l.right l.left u);
+        start = start_of l.negated l.place l.starts (part l.right l.left u);
         ts = l.ts;
       } ∷ []) (entries_of l.fn.rows.entries u);
   some : NoneEmpty l.fn.rows.entries → NoneEmpty l.rows.entries;

@@ -4,7 +4,7 @@ use Rattle.eval_until.proofs.starts.break_starts.Goals as goal
 
 pub loop-row-preserved : goal.loop-row-preserved
 loop-row-preserved c = λ w.
-    broken_more c.args.table.now c.loop-row.row-index c.row-item.result w c.args.behind c.args.starts.now.entries
-    c.loop-row.starts.entries c.insert.new.self.entries
+    broken_more c.args.table.now c.loop-row.row-index c.row-item.result w c.args.behind c.args.starts.now
+    c.loop-row.starts c.insert.new.self
     (omega arith) c.row-item.is (c.loop-row.invariant w)
-    (rw c.in_ok-copy.ensures at (c.in_ok-insert.ensures.updates.0 w))
+    (rw c.in_ok-copy.ensures at (c.in_ok-insert.ensures w))

@@ -5,5 +5,5 @@ use Rattle.eval_until.specs.Starts.{kept_start}
 use Rattle.eval_until.proofs.starts.break_starts.Given as goal
 
 abbrev pub invariant-loop-row : goal.invariant-loop-row
-invariant-loop-row l = (w : List Value) → kept_start l.starts.entries w
-    ≡ cond (has_row (take l.row-index l.table) w) (Some l.behind) (kept_start l.fn.starts.entries w)
+invariant-loop-row l = (w : List Value) → kept_start l.starts w
+    ≡ cond (has_row (take l.row-index l.table) w) (Some l.behind) (kept_start l.fn.starts w)

@@ -6,6 +6,6 @@ use Rattle.eval_until.proofs.starts.forget_starts.Goals as goal
 pub loop-row-preserved : goal.loop-row-preserved
 loop-row-preserved c = λ w.
     changed_more (later_start c.args.next) (later_twice c.args.next) c.args.table.now c.loop-row.row-index
-    c.row-item.result w (kept_start c.args.starts.now.entries w) (kept_start c.loop-row.starts.entries w)
-    (kept_start c.forget_start.new.starts.entries w)
+    c.row-item.result w (kept_start c.args.starts.now w) (kept_start c.loop-row.starts w)
+    (kept_start c.forget_start.new.starts w)
     (omega arith) c.row-item.is (c.loop-row.invariant w) (c.forget_start.ensures w)

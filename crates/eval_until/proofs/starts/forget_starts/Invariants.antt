@@ -5,6 +5,6 @@ use Rattle.eval_until.specs.Starts.{kept_start, later_start}
 use Rattle.eval_until.proofs.starts.forget_starts.Given as goal
 
 abbrev pub invariant-loop-row : goal.invariant-loop-row
-invariant-loop-row l = (w : List Value) → kept_start l.starts.entries w
-    ≡ cond (has_row (take l.row-index l.table) w) (later_start l.next (kept_start l.fn.starts.entries w))
-    (kept_start l.fn.starts.entries w)
+invariant-loop-row l = (w : List Value) → kept_start l.starts w
+    ≡ cond (has_row (take l.row-index l.table) w) (later_start l.next (kept_start l.fn.starts w))
+    (kept_start l.fn.starts w)

@@ -5,5 +5,5 @@ use Rattle.eval_until.specs.Starts.{kept_start, start_of}
 use Rattle.eval_until.proofs.starts.kept_starts.Given as goal
 
 abbrev pub invariant-loop-row : goal.invariant-loop-row
-invariant-loop-row l = (w : List Value) → kept_start l.kept.entries w
-    ≡ cond (has_row (take l.row-index l.table) w) (Some (start_of false l.place l.starts.entries w)) None
+invariant-loop-row l = (w : List Value) → kept_start l.kept w
+    ≡ cond (has_row (take l.row-index l.table) w) (Some (start_of false l.place l.starts w)) None

@@ -10,8 +10,8 @@ use Rattle.eval_until.proofs.ahead.Ahead.advance.Goals as goal
 pub invariant_of-self : goal.invariant_of-self
 invariant_of-self c =
     let k = c.self.inside in
-    kept_pulled k.negated k.right.items k.pulled k.taken (k.pulled + 1) k.contents.starts.entries
-    c.expire.new.starts.entries k.contents.rows.entries c.expire.new.rows.entries k.contents.queue.items
+    kept_pulled k.negated k.right.items k.pulled k.taken (k.pulled + 1) k.contents.starts
+    c.expire.new.starts k.contents.rows.entries c.expire.new.rows.entries k.contents.queue.items
     c.expire.new.queue.items c.self.invariant
     c.expire.ensures.rows c.expire.ensures.some c.expire.ensures.starts c.expire.ensures.covered c.expire.ensures.breaks
     c.expire.ensures.rising c.expire.ensures.fresh c.expire.ensures.after
@@ -28,8 +28,8 @@ pub returns-clause-start : goal.returns-clause-start
 returns-clause-start c = rw (← c.self.view_is) (
     let k = c.self.inside in
     λ i w low.
-    ap (λ o. nat_le (unwrap_or o (cond k.negated 0 k.taken)) i) (kept_in_order c.expire.new.starts.entries w)
-    ∙ start_later k.negated (k.pulled + 1) k.taken i (kept_start k.contents.starts.entries w)
-    (kept_start c.expire.new.starts.entries w) low (c.expire.ensures.starts w)
+    ap (λ o. nat_le (unwrap_or o (cond k.negated 0 k.taken)) i) (kept_in_order c.expire.new.starts w)
+    ∙ start_later k.negated (k.pulled + 1) k.taken i (kept_start k.contents.starts w)
+    (kept_start c.expire.new.starts w) low (c.expire.ensures.starts w)
     ∙ ap (λ o. nat_le (unwrap_or o (cond k.negated 0 k.taken)) i)
-    (sym (kept_in_order k.contents.starts.entries w)))
+    (sym (kept_in_order k.contents.starts w)))

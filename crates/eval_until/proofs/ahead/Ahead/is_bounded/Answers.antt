@@ -16,7 +16,7 @@ returns-clause-waiting c = rw (← c.self.view_is) (
     let k = c.self.inside in
     waiting_as k.pulled k.taken k.contents.rows.entries (in_order k.contents.rows.entries)
     (kept_in_order k.contents.rows.entries)
-    (waiting_is k.negated k.right.items k.pulled k.taken k.contents.starts.entries k.contents.rows.entries
+    (waiting_is k.negated k.right.items k.pulled k.taken k.contents.starts k.contents.rows.entries
     k.contents.queue.items c.self.invariant))
 
 pub returns-clause-ascend : goal.returns-clause-ascend
@@ -28,13 +28,13 @@ returns-clause-ascend c = rw (← c.self.view_is) (
 pub returns-clause-below : goal.returns-clause-below
 returns-clause-below c = rw (← c.self.view_is) (
     let k = c.self.inside in
-    starts_as (λ s. s ≤ k.taken) k.contents.starts.entries (in_order k.contents.starts.entries)
-    (kept_in_order k.contents.starts.entries) c.self.invariant.low)
+    starts_as (λ s. s ≤ k.taken) k.contents.starts (in_order k.contents.starts)
+    (kept_in_order k.contents.starts) c.self.invariant.low)
 
 pub returns-clause-above : goal.returns-clause-above
 returns-clause-above c = rw (← c.self.view_is) (
     let k = c.self.inside in
-    λ is. starts_as (λ s. k.pulled < s) k.contents.starts.entries (in_order k.contents.starts.entries)
-    (kept_in_order k.contents.starts.entries)
-    (above_is k.negated k.right.items k.pulled k.taken k.contents.starts.entries k.contents.rows.entries
+    λ is. starts_as (λ s. k.pulled < s) k.contents.starts (in_order k.contents.starts)
+    (kept_in_order k.contents.starts)
+    (above_is k.negated k.right.items k.pulled k.taken k.contents.starts k.contents.rows.entries
     k.contents.queue.items c.self.invariant is))

@@ -7,15 +7,15 @@ use Rattle.eval_until.proofs.ahead.Ahead.kept_starts.Goals as goal
 pub returns-clause-starts : goal.returns-clause-starts
 returns-clause-starts c = rw (← c.self.view_is) (
     c.in_ok-kept.ensures.starts
-    ∙ ordered_is c.self.inside.contents.starts.entries c.in_ok-starts.starts.entries c.in_ok-starts.ensures.differ
+    ∙ ordered_is c.self.inside.contents.starts c.in_ok-starts.starts.entries c.in_ok-starts.ensures.differ
     c.in_ok-starts.ensures.ascend c.in_ok-starts.ensures.found)
 
 pub returns-clause-wide : goal.returns-clause-wide
 returns-clause-wide c = rw (← c.self.view_is) (
     subst (λ (rows : List (List Value × ℕ)). AllByRecursion (λ r. length r.0 ≡ length c.self.inside.left.items) rows)
-    (ordered_is c.self.inside.contents.starts.entries c.in_ok-starts.starts.entries c.in_ok-starts.ensures.differ
+    (ordered_is c.self.inside.contents.starts c.in_ok-starts.starts.entries c.in_ok-starts.ensures.differ
     c.in_ok-starts.ensures.ascend c.in_ok-starts.ensures.found)
     (rw c.as_slice.ensures.value at c.in_ok-kept.ensures.wide))
 
 pub returns-clause-ascend : goal.returns-clause-ascend
-returns-clause-ascend c = rw (← c.self.view_is) (in_order_ascends c.self.inside.contents.starts.entries)
+returns-clause-ascend c = rw (← c.self.view_is) (in_order_ascends c.self.inside.contents.starts)

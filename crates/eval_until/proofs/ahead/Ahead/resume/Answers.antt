@@ -5,8 +5,8 @@ use Rattle.eval_until.proofs.ahead.Ahead.resume.Goals as goal
 pub invariant_of-result : goal.invariant_of-result
 invariant_of-result c =
     keeps_alike c.args.negated c.args.right.items c.args.pulled c.args.taken c.args.starts.entries
-    c.in_ok-starts.starts.entries c.args.rows.entries c.in_ok-rows.rows.entries c.in_ok-queue.queue.items
-    (hashed_finds c.args.starts.entries c.in_ok-starts.starts.entries c.in_ok-starts.ensures.ascend
+    c.in_ok-starts.starts c.args.rows.entries c.in_ok-rows.rows.entries c.in_ok-queue.queue.items
+    (hashed_finds c.args.starts.entries c.in_ok-starts.starts c.in_ok-starts.ensures.ascend
     c.in_ok-starts.ensures.found)
     (hashed_finds c.args.rows.entries c.in_ok-rows.rows.entries c.in_ok-rows.ensures.ascend
     c.in_ok-rows.ensures.found)
@@ -23,7 +23,7 @@ returns c = λ i. record {
   negated = c.args.negated;
   pulled = c.args.pulled;
   taken = c.args.taken;
-  starts = (hashed_is c.args.starts.entries c.in_ok-starts.starts.entries c.in_ok-starts.ensures.ascend
+  starts = (hashed_is c.args.starts.entries c.in_ok-starts.starts c.in_ok-starts.ensures.ascend
       c.in_ok-starts.ensures.found) i;
   rows = (hashed_is c.args.rows.entries c.in_ok-rows.rows.entries c.in_ok-rows.ensures.ascend
       c.in_ok-rows.ensures.found) i;

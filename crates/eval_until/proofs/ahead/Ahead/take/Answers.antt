@@ -9,42 +9,34 @@ use Rattle.eval_until.proofs.KeepingLemmas.{met_taken, start_stepped}
 use Rattle.eval_until.proofs.OrderLemmas.{entries_in_order, kept_in_order}
 use Rattle.eval_until.proofs.ahead.Ahead.take.Goals as goal
 
-pub returns-clause-met : goal.returns-clause-met
-returns-clause-met c = rw (← c.self.view_is) (
+pub returns-in-Ok-clause-met : goal.returns-in-Ok-clause-met
+returns-in-Ok-clause-met c = rw (← c.self.view_is) (
     let k = c.self.inside in
     λ i x u.
-    ap (met_by k.interval i x) (entries_in_order c.in_ok-self-inside.field-0.rows.entries u)
+    ap (met_by k.interval i x) (entries_in_order c.take_position-taken.new.contents.rows.entries u)
     ∙ met_taken k.interval i x (has_row c.args.rights.rows u) (entries_of k.contents.rows.entries u)
-    (entries_of c.in_ok-self-inside.field-0.rows.entries u)
+    (entries_of c.take_position-taken.new.contents.rows.entries u)
     (record {
       place = k.taken;
-      start = start_of k.negated k.taken k.contents.starts.entries (part k.right.items k.left.items u);
+      start = start_of k.negated k.taken k.contents.starts (part k.right.items k.left.items u);
       ts = c.args.ts;
     })
-    ((rw (
-      c.as_slice-right.ensures.value,
-      c.as_slice-left.ensures.value,
-      c.replace-contents.ensures.value,
-      c.into_rows-rights.ensures.rows,
-    ) at c.in_ok-self-inside.ensures.rows) u)
+    ((rw (c.as_slice.ensures.value, c.as_slice-2.ensures.value) at c.in-Ok.ensures.rows) u)
     ∙ ap₂ (λ m s. m || (has_row c.args.rights.rows u
     && (nat_le s i && nat_le i k.taken && in_interval k.interval (c.args.ts - x))))
     (ap (met_by k.interval i x) (sym (entries_in_order k.contents.rows.entries u)))
     (ap (λ o. unwrap_or o (cond k.negated 0 k.taken))
-    (sym (kept_in_order k.contents.starts.entries (part k.right.items k.left.items u)))))
+    (sym (kept_in_order k.contents.starts (part k.right.items k.left.items u)))))
 
-pub returns-clause-start : goal.returns-clause-start
-returns-clause-start c = rw (← c.self.view_is) (
+pub returns-in-Ok-clause-start : goal.returns-in-Ok-clause-start
+returns-in-Ok-clause-start c = rw (← c.self.view_is) (
     let k = c.self.inside in
     λ w.
     ap (λ o. unwrap_or o (cond k.negated 0 (k.taken + 1)))
-    (kept_in_order c.in_ok-self-inside.field-0.starts.entries w)
+    (kept_in_order c.take_position-taken.new.contents.starts w)
     ∙ start_stepped k.negated (has_row c.args.lefts.rows w) k.taken
-    (start_of k.negated k.taken k.contents.starts.entries w)
-    (kept_start k.contents.starts.entries w) (kept_start c.in_ok-self-inside.field-0.starts.entries w) refl
-    ((rw (
-      c.replace-contents.ensures.value,
-      c.into_rows-lefts.ensures.rows,
-    ) at c.in_ok-self-inside.ensures.starts) w)
+    (start_of k.negated k.taken k.contents.starts w)
+    (kept_start k.contents.starts w) (kept_start c.take_position-taken.new.contents.starts w) refl
+    (c.in-Ok.ensures.starts w)
     ∙ ap (λ o. cond (turned k.negated (has_row c.args.lefts.rows w)) (unwrap_or o (cond k.negated 0 k.taken))
-    (k.taken + 1)) (sym (kept_in_order k.contents.starts.entries w)))
+    (k.taken + 1)) (sym (kept_in_order k.contents.starts w)))

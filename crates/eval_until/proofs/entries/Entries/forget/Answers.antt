@@ -6,7 +6,7 @@ use Rattle.eval_until.proofs.entries.Entries.forget.Goals as goal
 
 pub returns-then-first-next : goal.returns-then-first-next
 returns-then-first-next c =
-    let items = c.loop-first.self-inside.list.items in
+    let items = c.loop-first.self-inside.list in
     c.in-Some.ensures
     ∙ sym (from_here c.args.next c.in-Some.first (drop 1 items) c.if-first-next.true
     (subst PlacesAscend c.in-Some.ensures c.loop-first.invariant.ascend))
@@ -14,7 +14,7 @@ returns-then-first-next c =
 
 pub loop-first-preserved : goal.loop-first-preserved
 loop-first-preserved c =
-    let items = c.loop-first.self-inside.list.items in
+    let items = c.loop-first.self-inside.list in
     record {
       ascend = rw c.pop_front.ensures.rest (ascend_rest items c.loop-first.invariant.ascend);
       same = ap (from_place c.args.next) c.pop_front.ensures.rest

@@ -5,9 +5,9 @@ use Rattle.eval_until.proofs.entries.Entries.forget.Given as goal
 
 abbrev pub invariant-loop-first : goal.invariant-loop-first
 invariant-loop-first l = record {
-  ascend : PlacesAscend l.self-inside.list.items;
-  same : from_place l.next l.self-inside.list.items ≡ from_place l.next l.fn.self;
+  ascend : PlacesAscend l.self-inside.list;
+  same : from_place l.next l.self-inside.list ≡ from_place l.next l.fn.self;
 }
 
 abbrev pub decreases-loop-first : goal.decreases-loop-first
-decreases-loop-first l = length l.self-inside.list.items
+decreases-loop-first l = length l.self-inside.list
