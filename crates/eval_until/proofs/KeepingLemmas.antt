@@ -17,12 +17,13 @@ use Rattle.eval_until.specs.declared.ahead.Taken.{Taken}
 use Rattle.eval_until.specs.declared.entries.Entry.{Entry}
 use Rattle.eval_until.specs.Entries.{entries_of, meets, met_by}
 use Rattle.eval_until.specs.Keeping.{Below, Covered, CoveredStarts, Fresh, IsLater, IsThinned, Keeps, NotAfter}
-use Rattle.eval_until.specs.Keeping.{Rising, Sized, breaks_before, names}
+use Rattle.eval_until.specs.Keeping.{Queues, Rising, Sized, breaks_before, names}
 use Rattle.eval_until.specs.Rules.{NoneEmpty, PlacesAscend, StartsAbove, Waiting, all_before}
 use Rattle.eval_until.specs.Starts.{kept_start, later_start, start_of, start_taken}
 use Rattle.eval_until.proofs.EntriesLemmas.{all_thinned, ascend_push, ascend_thinned, none_thinned}
 use Rattle.eval_until.proofs.QueueLemmas.{after_push, breaks_last, breaks_push, broken_fresh, entries_waiting}
-use Rattle.eval_until.proofs.QueueLemmas.{fresh_push, names_last, names_push, rising_push}
+use Rattle.eval_until.proofs.QueueLemmas.{all_kept, covered_kept, fresh_push, names_last, names_push, rising_kept}
+use Rattle.eval_until.proofs.QueueLemmas.{rising_push, starts_kept}
 
 -- of two outcomes
 either : {X : Type 0} (P : X → Type 0) (b : Bool) (x y z : X) → z ≡ cond b x y → P x → P y → P z
@@ -175,6 +176,28 @@ module _ (negated : Bool) (right left : List ℕ) (pulled ts : ℕ) (lefts : Lis
           subst (λ (o : Option ℕ). IfSome o (λ s. breaks_before (queue ++ q ∷ []) w s ≡ true))
           (sym (e ∙ ap (λ n. cond n (kept_start starts w) None) is))
           (breaks_push queue q w (kept_start starts w) (j.kept.breaks is w))
+
+-- a position without rows needn't go into the queue
+pub kept_queued : (negated : Bool) (right : List ℕ) (pulled taken : ℕ) (starts : List (List Value × ℕ))
+    (rows : List (List Value × List Entry)) (queue new : List Taken) (q : Taken) → Queues queue q new
+    → Keeps negated right pulled taken starts rows (queue ++ q ∷ [])
+    → Keeps negated right pulled taken starts rows new
+kept_queued negated right pulled taken starts rows queue new q (inl is) kept =
+    subst (Keeps negated right pulled taken starts rows) (sym is) kept
+kept_queued negated right pulled taken starts rows queue new q (inr none) kept =
+    subst (Keeps negated right pulled taken starts rows) (sym none.0) (record {
+      apart = kept.apart;
+      sized = kept.sized;
+      some = kept.some;
+      ascend = kept.ascend;
+      below = kept.below;
+      low = kept.low;
+      covered = λ u. covered_kept queue q none.1.0 u (entries_of rows u) (kept.covered u);
+      breaks = λ is w. starts_kept queue q none.1.1 w (kept_start starts w) (kept.breaks is w);
+      rising = rising_kept queue q kept.rising;
+      after = all_kept queue q (λ r. nat_lt r.place taken) kept.after;
+      fresh = all_kept queue q (λ r. nat_le pulled r.place) kept.fresh;
+    })
 
 -- what an entry more meets
 pub met_taken : (interval : Interval) (i x : ℕ) (b : Bool) (old new : List Entry) (e : Entry)

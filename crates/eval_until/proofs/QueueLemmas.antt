@@ -240,3 +240,50 @@ entries_waiting pulled taken u qs (e ∷ es) fresh covered below =
     (and_from (nat_le pulled e.place) (nat_lt e.place taken)
     (let h : nat_le pulled e.place ≡ true = grind (arith, nat_tests) in h) parts.0) parts.1)
     (entries_waiting pulled taken u qs es fresh here.1 both.1)
+
+-- a position without rows at the end tells nothing
+module _ (queue : List Taken) (q : Taken) where
+  no_row : (rows : List (List Value)) (c : Bool) (u : List Value) → rows ≡ [] → (c && has_row rows u || false) ≡ false
+  no_row rows c u none = ap (λ rs. c && has_row rs u || false) none ∙ by c
+    where
+      by : (b : Bool) → (b && false || false) ≡ false
+      by true = refl
+      by false = refl
+
+  or_none : (b : Bool) → (b || false) ≡ b
+  or_none true = refl
+  or_none false = refl
+
+  names_kept : q.rights.items ≡ [] → (u : List Value) (j : ℕ) → names (queue ++ q ∷ []) u j ≡ names queue u j
+  names_kept none u j = list_any-append (λ r. nat_eq r.place j && has_row r.rights.items u) queue (q ∷ [])
+      ∙ ap (λ b. names queue u j || b) (no_row q.rights.items (nat_eq q.place j) u none)
+      ∙ or_none (names queue u j)
+
+  breaks_kept : q.breaks.items ≡ [] → (w : List Value) (s : ℕ)
+      → breaks_before (queue ++ q ∷ []) w s ≡ breaks_before queue w s
+  breaks_kept none w s = list_any-append (λ r. nat_eq (r.place + 1) s && has_row r.breaks.items w) queue (q ∷ [])
+      ∙ ap (λ b. breaks_before queue w s || b) (no_row q.breaks.items (nat_eq (q.place + 1) s) w none)
+      ∙ or_none (breaks_before queue w s)
+
+  pub covered_kept : q.rights.items ≡ [] → (u : List Value) (es : List Entry)
+      → list_all (λ e. names (queue ++ q ∷ []) u e.place) es ≡ true
+      → list_all (λ e. names queue u e.place) es ≡ true
+  covered_kept none u [] all = refl
+  covered_kept none u (e ∷ es) all =
+      let parts = and_parts (names (queue ++ q ∷ []) u e.place)
+      (list_all (λ f. names (queue ++ q ∷ []) u f.place) es) all in
+      and_from (names queue u e.place) (list_all (λ f. names queue u f.place) es)
+      (sym (names_kept none u e.place) ∙ parts.0) (covered_kept none u es parts.1)
+
+  pub starts_kept : q.breaks.items ≡ [] → (w : List Value) (o : Option ℕ)
+      → IfSome o (λ s. breaks_before (queue ++ q ∷ []) w s ≡ true) → IfSome o (λ s. breaks_before queue w s ≡ true)
+  starts_kept none w None covered = tt
+  starts_kept none w (Some s) covered = sym (breaks_kept none w s) ∙ covered
+
+  pub all_kept : (test : Taken → Bool) → list_all test (queue ++ q ∷ []) ≡ true → list_all test queue ≡ true
+  all_kept test all =
+      (and_parts (list_all test queue) (test q && true) (sym (list_all-append test queue (q ∷ [])) ∙ all)).0
+
+pub rising_kept : (queue : List Taken) (q : Taken) → Rising (queue ++ q ∷ []) → Rising queue
+rising_kept [] q rising = tt
+rising_kept (r ∷ rs) q rising = (all_kept rs q (λ s. nat_le r.place s.place) rising.0, rising_kept rs q rising.1)

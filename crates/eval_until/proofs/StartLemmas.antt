@@ -1,17 +1,16 @@
 -- Starts of runs where one has no others beside it.
 use Rattle.std.proofs.Common.{◌≡◌, ℕ, ◌||◌, Bool, true, false, cond, List, [], ◌∷◌, Option, Some, None, length}
 use Rattle.std.proofs.Common.{get_or, refl, sym, ap, ◌∙◌, arith}
-use Rattle.std.proofs.lemmas.Bool.{eqb-true}
 use Rattle.std.specs.BTreeMap.{is_at}
 use Rattle.std.specs.Cmp.{eq_by_cmp_equiv}
 use Rattle.std.specs.List.{IsDistinct}
-use Rattle.std.specs.Map.{lookup}
+use Rattle.std.specs.Option.{unwrap_or}
 use Rattle.mfotl_model.specs.Tables.{has_row}
 use Rattle.mfotl_model.specs.Values.{row_cmp, row_total}
 use Rattle.mfotl_model.specs.declared.value.Value.{Value}
 use Rattle.relations.specs.KeptRows.{RowsDiffer}
 use Rattle.relations.proofs.MapLemmas.{same_row}
-use Rattle.eval_until.specs.Starts.{kept_start, start_of}
+use Rattle.eval_until.specs.Starts.{kept_start}
 
 -- one row has no other beside it
 pub one_differs : (row : List Value) (s : ℕ) → RowsDiffer ((row, s) ∷ [])
@@ -52,15 +51,39 @@ one_left row lone w s apart = by (is_at (row_cmp row) w) refl
         (ap (λ r. is_at (row_cmp r) lone) (sym (same_row row w at)) ∙ apart)
     by false at = refl
 
--- the starts of a table of one row
-pub only_start : (table : List (List Value)) (row w : List Value) (s : List Value → ℕ) → length table ≡ 1
-    → row ≡ get_or table 0 row
-    → kept_start ((row, s row) ∷ []) w ≡ cond (has_row table w) (Some (s w)) None
-only_start [] row w s one is = absurd (omega (arith, one))
-only_start (r ∷ q ∷ rs) row w s one is = absurd (omega (arith, one))
-only_start (r ∷ []) row w s one is = by (is_at (row_cmp w) row) refl
-    ∙ ap (λ x. cond (is_at (row_cmp w) x || false) (Some (s w)) None) is
+-- the only start, which goes on
+pub only_found : (row lone w : List Value) (s p : ℕ) → is_at (row_cmp row) lone ≡ true
+    → kept_start ((lone, s) ∷ []) w
+    ≡ cond (is_at (row_cmp row) w) (Some (unwrap_or (kept_start ((lone, s) ∷ []) w) p)) None
+only_found row lone w s p at =
+    ap (λ b. cond b (Some s) None) same ∙ by (is_at (row_cmp row) w)
+    ∙ ap (λ b. cond (is_at (row_cmp row) w) (Some (unwrap_or (cond b (Some s) None) p)) None) (sym same)
   where
-    by : (b : Bool) → is_at (row_cmp w) row ≡ b → cond b (Some (s row)) None ≡ cond (b || false) (Some (s w)) None
-    by true at = ap (λ x. Some (s x)) (sym (same_row w row at))
+    same : is_at (row_cmp w) lone ≡ is_at (row_cmp row) w
+    same = (eq_by_cmp_equiv row_total).symm w lone ∙ ap (λ r. is_at (row_cmp r) w) (sym (same_row row lone at))
+
+    by : (b : Bool) → cond b (Some s) None ≡ cond b (Some (unwrap_or (cond b (Some s) None) p)) None
+    by true = refl
+    by false = refl
+
+-- the one row of a table
+pub only_row : (table : List (List Value)) (row w : List Value) → length table ≡ 1 → row ≡ get_or table 0 row
+    → is_at (row_cmp row) w ≡ has_row table w
+only_row [] row w one is = absurd (omega (arith, one))
+only_row (r ∷ q ∷ rs) row w one is = absurd (omega (arith, one))
+only_row (r ∷ []) row w one is = (eq_by_cmp_equiv row_total).symm row w ∙ ap (λ x. is_at (row_cmp w) x) is
+    ∙ or_true (is_at (row_cmp w) r)
+  where
+    or_true : (b : Bool) → b ≡ (b || false)
+    or_true true = refl
+    or_true false = refl
+
+-- a start that is put in place of all
+pub only_put : (row copy w : List Value) (starts : List Value → ℕ) (s : ℕ) → copy ≡ row → s ≡ starts row
+    → kept_start ((copy, s) ∷ []) w ≡ cond (is_at (row_cmp row) w) (Some (starts w)) None
+only_put row copy w starts s is from = one_found copy w s ∙ ap (λ r. cond (is_at (row_cmp r) w) (Some s) None) is
+    ∙ by (is_at (row_cmp row) w) refl
+  where
+    by : (b : Bool) → is_at (row_cmp row) w ≡ b → cond b (Some s) None ≡ cond b (Some (starts w)) None
+    by true at = ap (λ n. Some n) (from ∙ ap starts (same_row row w at))
     by false at = refl

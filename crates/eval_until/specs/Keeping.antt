@@ -1,6 +1,6 @@
 -- What holds of all that UNTIL keeps: starts of runs, entries of rows, and the queue that finds them.
 use Rattle.std.specs.Prelude.{◌≡◌, ℕ, ◌+◌, Bool, true, false, ◌&&◌, ◌⊎◌, nat_eq, nat_le, nat_lt, Option, List, []}
-use Rattle.std.specs.Prelude.{◌∷◌, length}
+use Rattle.std.specs.Prelude.{◌∷◌, ◌++◌, length}
 use Rattle.std.specs.List.{list_any, list_all}
 use Rattle.std.specs.Option.{IfSome}
 use Rattle.mfotl_model.specs.Tables.{all_apart, has_row}
@@ -41,6 +41,10 @@ CoveredStarts queue starts = (w : List Value)
 abbrev pub Rising : List Taken → Type 0
 Rising [] = Unit {0}
 Rising (q ∷ qs) = (list_all (λ r. nat_le q.place r.place) qs ≡ true) × Rising qs
+
+-- a position goes into the queue, or has no rows there
+abbrev pub Queues : List Taken → Taken → List Taken → Type 0
+Queues old q new = (new ≡ old ++ q ∷ []) ⊎ ((new ≡ old) × ((q.rights.items ≡ []) × (q.breaks.items ≡ [])))
 
 -- each of the queue's positions is below p
 abbrev pub NotAfter : ℕ → List Taken → Type 0

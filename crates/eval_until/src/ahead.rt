@@ -11,7 +11,7 @@ ghost use Rattle.mfotl_model.specs.declared.value.Value.{Value};
 ghost use Rattle.relations.specs.Pushed.{turned};
 ghost use Rattle.eval_until.specs.AheadView.{AheadOf, met, run_start};
 ghost use Rattle.eval_until.specs.Entries.{entries_of};
-ghost use Rattle.eval_until.specs.Keeping.{Keeps, Sized};
+ghost use Rattle.eval_until.specs.Keeping.{Keeps, Queues, Sized};
 ghost use Rattle.eval_until.specs.Rules.{Ascending, NoneEmpty, StartsAbove, StartsBelow, Waiting};
 ghost use Rattle.eval_until.specs.Starts.{kept_start, start_of, start_taken};
 
@@ -70,6 +70,17 @@ fn breaks_of(alloc: Global, negated: bool, lefts: Table) -> Vec<Row>
     }
 }
 
+// a position without rows isn't looked for when it is pulled
+fn put_taken(queue: &mut VecDeque<Taken>, taken: Taken) -> Result<(), AllocError>
+    ensures { OnOk result (Queues queue.old.items taken queue.new.items) }
+{
+    if taken.rights.is_empty() && taken.breaks.is_empty() {
+        return Ok(());
+    }
+    queue.push_back(taken)?;
+    Ok(())
+}
+
 /// One position more: the right operand's rows, then the left operand's.
 fn take_position(
     alloc: Global,
@@ -112,11 +123,16 @@ fn take_position(
         ts,
     )?;
     apply_left(alloc, starts, negated, lefts.rows(), place)?;
-    queue.push_back(Taken {
-        place,
-        rights: rights.into_rows(),
-        breaks: breaks_of(alloc, negated, lefts),
-    })?;
+    let rights = rights.into_rows();
+    let breaks = breaks_of(alloc, negated, lefts);
+    put_taken(
+        queue,
+        Taken {
+            place,
+            rights,
+            breaks,
+        },
+    )?;
     Ok(())
 }
 

@@ -1,6 +1,7 @@
 //! The starts of rows' runs, each found by its row. A start that has no others beside it stands in place.
-ghost use Rattle.std.specs.Prelude.{◌≡◌, ◌∷◌, [], true, IfOk, List, None, OnOk, Some, cond};
+ghost use Rattle.std.specs.Prelude.{◌≡◌, ◌∷◌, [], ℕ, true, IfOk, List, None, OnOk, Some, cond};
 ghost use Rattle.std.specs.BTreeMap.{is_at};
+ghost use Rattle.std.specs.Option.{unwrap_or};
 ghost use Rattle.mfotl_model.specs.Values.{row_cmp};
 ghost use Rattle.mfotl_model.specs.declared.value.Value.{Value};
 ghost use Rattle.relations.specs.KeptRows.{RowsAscend, RowsDiffer, kept_for, last_for};
@@ -92,6 +93,17 @@ impl StartMap {
         spread(&mut self.lone, &mut self.many)?;
         self.many.insert(row, start)?;
         Ok(())
+    }
+
+    /// Whether this row's start is the only one.
+    pub fn has_only(&self, row: &Row) -> bool
+        ensures { result ≡ true → (w : List Value) (p : ℕ) → kept_start self.now w
+            ≡ cond (is_at (row_cmp row.now) w) (Some (unwrap_or (kept_start self.now w) p)) None }
+    {
+        match &self.lone {
+            Some((lone, _)) => row == lone,
+            None => false,
+        }
     }
 
     /// The start of one row, in place of all.

@@ -1,5 +1,5 @@
 //! Where the left operand's present runs begin.
-ghost use Rattle.std.specs.Prelude.{◌≡◌, ◌+◌, ◌<◌, ◌^◌, ◌∷◌, [], List, OnOk, IfOk, Some, None, cond, false};
+ghost use Rattle.std.specs.Prelude.{◌≡◌, ◌+◌, ◌<◌, ◌^◌, List, OnOk, IfOk, Some, None, cond, false};
 ghost use Rattle.std.specs.BTreeMap.{is_at};
 ghost use Rattle.mfotl_model.specs.Tables.{has_row};
 ghost use Rattle.mfotl_model.specs.Values.{row_cmp};
@@ -20,16 +20,35 @@ pub fn start_at(starts: &StartMap, negated: bool, place: u64, row: &Row) -> u64
     }
 }
 
-// the run of the only row of the left operand's table goes on, or begins at the position `place`
-fn keep_alone(alloc: Global, starts: &mut StartMap, row: &Row, place: u64) -> Result<(), AllocError>
-    ensures { OnOk result (starts.new ≡ (row.now, start_of false place starts.old row.now) ∷ []) }
+// the run of one row goes on, or begins at the position `place`, and no other does
+#[inline(never)]
+fn begin_alone(
+    alloc: Global,
+    starts: &mut StartMap,
+    row: &Row,
+    place: u64,
+) -> Result<(), AllocError>
+    ensures { OnOk result ((w : List Value) → kept_start starts.new w
+        ≡ cond (is_at (row_cmp row.now) w) (Some (start_of false place starts.old w)) None) }
 {
     let start = start_at(starts, false, place, row);
     starts.put_alone(alloc, row.copy(alloc)?, start);
     Ok(())
 }
 
+// where no other run went on before, nothing changes
+fn keep_alone(alloc: Global, starts: &mut StartMap, row: &Row, place: u64) -> Result<(), AllocError>
+    ensures { OnOk result ((w : List Value) → kept_start starts.new w
+        ≡ cond (is_at (row_cmp row.now) w) (Some (start_of false place starts.old w)) None) }
+{
+    if starts.has_only(row) {
+        return Ok(());
+    }
+    begin_alone(alloc, starts, row, place)
+}
+
 // the runs that go on or begin at the position `place`
+#[inline(never)]
 fn kept_starts(
     alloc: Global,
     starts: &StartMap,
@@ -65,6 +84,7 @@ fn keep_starts(
 }
 
 // the runs that break, and begin anew at the position `behind`
+#[inline(never)]
 fn break_starts(
     alloc: Global,
     starts: &mut StartMap,

@@ -287,6 +287,8 @@ impl UntilState {
         place < self.times.len() as u64 && !self.lefts.is_empty() && !self.rights.is_empty()
     }
 
+    // a function apart, since most calls of `take_all` find nothing to take
+    #[inline(never)]
     fn take_one(&mut self, alloc: Global) -> Result<(), AllocError>
         requires { IsTrue (not (took_all self.old)) }
         ensures takes { OnOk result (Takes 1 self.old self.new) }

@@ -1,6 +1,7 @@
-use Rattle.std.proofs.Common.{subst, length, List, ℕ, sym, ap, ◌≡◌, ◌∙◌, true}
+use Rattle.std.proofs.Common.{◌+◌, ℕ, List, length, sym, ap, ◌∙◌}
 use Rattle.mfotl_model.specs.Tables.{all_sized}
-use Rattle.eval_until.proofs.KeepingLemmas.{all_before_taken, kept_taken}
+use Rattle.eval_until.specs.declared.ahead.Taken.{Taken}
+use Rattle.eval_until.proofs.KeepingLemmas.{all_before_taken, kept_queued, kept_taken}
 use Rattle.eval_until.proofs.ahead.take_position.Goals as goal
 
 pub add_rows-requires-clause-before : goal.add_rows-requires-clause-before
@@ -8,19 +9,21 @@ add_rows-requires-clause-before c =
     all_before_taken c.args.place c.args.contents.now.rows.entries c.requires.kept.below
 
 pub returns-clause-kept : goal.returns-clause-kept
-returns-clause-kept c = rw c.in_ok-push_back.ensures.items (
-    kept_taken c.args.negated c.args.right.now c.args.left.now c.args.pulled c.args.ts c.args.lefts.rows
-    (record { place = c.args.place; rights = c.into_rows.result; breaks = c.breaks_of.result })
+returns-clause-kept c =
+    let q : Taken = record { place = c.args.place; rights = c.into_rows-rights.result; breaks = c.breaks_of-breaks.result } in
+    kept_queued c.args.negated c.args.right.now c.args.pulled (c.args.place + 1) c.apply_left.new.starts
+    c.add_rows.new.rows.entries c.args.contents.now.queue.items c.put_taken.new.queue.items q c.in_ok-put_taken.ensures
+    (kept_taken c.args.negated c.args.right.now c.args.left.now c.args.pulled c.args.ts c.args.lefts.rows q
     c.args.contents.now.starts c.apply_left.new.starts c.args.contents.now.rows.entries
     c.add_rows.new.rows.entries c.args.contents.now.queue.items
     (record {
       ahead = c.requires.low;
-      sized = ap (all_sized (length c.args.right.now)) c.into_rows.ensures.rows
+      sized = ap (all_sized (length c.args.right.now)) c.into_rows-rights.ensures.rows
           ∙ ap (λ (columns : List ℕ). all_sized (length columns) c.args.rights.rows) (sym c.requires.columns)
-          ∙ c.into_rows.ensures.is_table.sized;
+          ∙ c.into_rows-rights.ensures.is_table.sized;
       kept = c.requires.kept;
-      breaks = c.breaks_of.ensures;
-      entries = rw (c.rows.ensures.rows, ← c.into_rows.ensures.rows) at c.in_ok-add_rows.ensures.entries;
+      breaks = c.breaks_of-breaks.ensures;
+      entries = rw (c.rows.ensures.rows, ← c.into_rows-rights.ensures.rows) at c.in_ok-add_rows.ensures.entries;
       some = c.in_ok-add_rows.ensures.some;
       runs = rw c.rows-2.ensures.rows at c.in_ok-apply_left.ensures;
     }))
