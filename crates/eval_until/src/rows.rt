@@ -24,22 +24,17 @@ use std::collections::HashMap;
 fn add_entry(
     alloc: Global,
     rows: &mut HashMap<Row, Entries>,
-    row: &Row,
+    row: Row,
     entry: Entry,
 ) -> Result<(), AllocError>
-    requires { IsTrue (all_before entry.place (entries_of rows.old.entries row.now)) }
+    requires { IsTrue (all_before entry.place (entries_of rows.old.entries row)) }
     ensures entries { OnOk result ((u : List Value) → entries_of rows.new.entries u
-        ≡ cond (is_at (row_cmp row.now) u) (entries_of rows.old.entries u ++ entry ∷ [])
+        ≡ cond (is_at (row_cmp row) u) (entries_of rows.old.entries u ++ entry ∷ [])
         (entries_of rows.old.entries u)) }
     ensures some { OnOk result (NoneEmpty rows.old.entries → NoneEmpty rows.new.entries) }
 {
-    if let Some(entries) = rows.get_mut(row) {
-        entries.push(entry)?;
-        return Ok(());
-    }
-    let mut entries = Entries::new(alloc);
+    let entries = rows.entry(row)?.or_insert(Entries::new(alloc));
     entries.push(entry)?;
-    rows.insert(row.copy(alloc)?, entries)?;
     Ok(())
 }
 
@@ -66,7 +61,7 @@ pub fn add_rows(
     for row in table {
         let key = part_of(alloc, right, left, row.values())?;
         let start = start_at(starts, negated, place, &key);
-        add_entry(alloc, rows, row, Entry { place, start, ts })?;
+        add_entry(alloc, rows, row.copy(alloc)?, Entry { place, start, ts })?;
     }
     Ok(())
 }

@@ -19,7 +19,8 @@ add_entry-requires c =
     } in
     let old = entries_of c.args.rows.now.entries x in
     let lacks = next_lacks c.args.table.now c.loop-row.row-index x c.requires.sorted (omega arith) c.row-item.is in
-    ap (all_before c.args.place) (still_old c.args.table.now c.loop-row.row-index x (old ++ entry x ∷ []) old
+    ap (λ r. all_before c.args.place (entries_of c.loop-row.rows.entries r)) c.in_ok-copy.ensures
+    ∙ ap (all_before c.args.place) (still_old c.args.table.now c.loop-row.row-index x (old ++ entry x ∷ []) old
     (entries_of c.loop-row.rows.entries x) lacks (c.loop-row.invariant.entries x))
     ∙ c.requires.before x
 
@@ -42,6 +43,6 @@ loop-row-preserved c =
           ∙ ap (start_of c.args.negated c.args.place c.args.starts.now) (c.in_ok-key.ensures
           ∙ ap (part c.args.right.now c.args.left.now) c.values.ensures)))
           (c.loop-row.invariant.entries u)
-          (c.in_ok-add_entry.ensures.entries u);
+          (rw c.in_ok-copy.ensures at (c.in_ok-add_entry.ensures.entries u));
       some = λ old. c.in_ok-add_entry.ensures.some (c.loop-row.invariant.some old);
     }
