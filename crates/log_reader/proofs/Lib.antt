@@ -7,6 +7,7 @@ pub mod TokenSteps
 pub mod StretchLemmas
 pub mod Waiting
 pub mod QuickLemmas
+pub mod TokenFronts
 pub mod ReaderSoundness
 pub mod Keeping
 pub mod Fewness

@@ -16,6 +16,7 @@ pub mod Growth
 pub mod Laws
 pub mod Progress
 pub mod Quick
+pub mod Tokens
 pub mod Stretches
 pub mod Cursors
 pub mod Soundness

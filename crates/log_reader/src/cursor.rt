@@ -7,14 +7,16 @@ ghost use Rattle.log_reader.specs.Quick.{TakesQuick};
 ghost use Rattle.log_reader.specs.Soundness.{IsWithin, AnswersDue, StandsOn, is_wanting, CountsOn};
 ghost use Rattle.log_reader.specs.Cursors.{StepsOver, TakesToken, Advances, IsCounted, given_of};
 ghost use Rattle.log_reader.specs.Stretches.{Waits, place_in};
+ghost use Rattle.log_reader.specs.Tokens.{Finds};
 
 use crate::fault::LogFault;
+use crate::front::token_before;
 use crate::grammar::read_on;
 use crate::limits::{Limits, Look};
 use crate::next::Next;
 use crate::partial::Partial;
 use crate::stretch::Stretch;
-use mfotl_lex::{Lexer, Mode, Token};
+use mfotl_lex::{LexFault, Lexer, Mode, Token};
 use mfotl_model::TimePoint;
 use mfotl_sig::Signature;
 use std::alloc::{AllocError, Global};
@@ -37,6 +39,13 @@ pub struct Cursor<'a> {
     pub partial: Partial<'a>,
 }
 
+/// The token at an offset, if a whole one stands there, and the offset behind it.
+#[derive(Clone, Copy)]
+pub struct Found<'b> {
+    pub token: Option<Token<'b>>,
+    pub behind: usize,
+}
+
 fn lexer_at<'b>(look: Look<'b>, at: usize) -> Lexer<'b>
     requires within { at ≤ length look.bytes.now }
     requires small { look.from + length look.bytes.now < 2 ^ 63 }
@@ -44,6 +53,39 @@ fn lexer_at<'b>(look: Look<'b>, at: usize) -> Lexer<'b>
 {
     let (_, rest) = look.bytes.split_at(at);
     Lexer::resume(rest, Mode::Log, look.from + at, look.ended)
+}
+
+// The token at an offset, or the fault there.
+fn token_at<'b>(look: Look<'b>, at: usize) -> Result<Found<'b>, LexFault>
+    requires within { at ≤ length look.bytes.now }
+    requires small { look.from + length look.bytes.now < 2 ^ 63 }
+    ensures { Finds look.entry.from
+        (place_in look.entry.from look.entry.bytes.now look.entry.ended at) result }
+{
+    let (_, rest) = look.bytes.split_at(at);
+    match token_before(rest, look.from + at) {
+        Some(token) => Ok(Found {
+            token: Some(token),
+            behind: token.at + token.text.len() - look.from,
+        }),
+        None => lexed_at(look, at),
+    }
+}
+
+fn lexed_at<'b>(look: Look<'b>, at: usize) -> Result<Found<'b>, LexFault>
+    requires within { at ≤ length look.bytes.now }
+    requires small { look.from + length look.bytes.now < 2 ^ 63 }
+    ensures { Finds look.entry.from
+        (place_in look.entry.from look.entry.bytes.now look.entry.ended at) result }
+{
+    let mut lexer = lexer_at(look, at);
+    match lexer.next() {
+        Ok(token) => Ok(Found {
+            token,
+            behind: lexer.offset() - look.from,
+        }),
+        Err(fault) => Err(fault),
+    }
 }
 
 impl<'a> Cursor<'a> {
@@ -124,18 +166,17 @@ impl<'a> Cursor<'a> {
         ensures { TakesToken sig.now limits.now look.entry.from look.entry.bytes.now look.entry.ended
             self.old.at self.old.partial result self.new.at self.new.partial }
     {
-        let mut lexer = lexer_at(look, self.at);
-        match lexer.next() {
-            Ok(Some(token)) => {
-                let behind = lexer.offset() - look.from;
-                self.take(alloc, sig, limits, &token, behind)
-            }
-            Ok(None) => {
+        let found = match token_at(look, self.at) {
+            Ok(found) => found,
+            Err(fault) => return Err(LogFault::Lex(fault)),
+        };
+        match found.token {
+            Some(token) => self.take(alloc, sig, limits, &token, found.behind),
+            None => {
                 // Blanks that nothing stands behind are done with.
-                self.at = lexer.offset() - look.from;
+                self.at = found.behind;
                 Ok(TokenStep::Empty)
             }
-            Err(fault) => Err(LogFault::Lex(fault)),
         }
     }
 

@@ -7,6 +7,7 @@ mod demo;
 mod demo_draws;
 mod demo_event;
 mod fault;
+mod front;
 mod grammar;
 pub mod laws;
 mod limits;

@@ -1,0 +1,186 @@
+-- What is seen straight in a log's bytes is what a lexer would find there.
+use Rattle.std.proofs.Common.{◌≡◌, ℕ, suc, ◌+◌, ◌≤◌, ◌<◌, Bool, true, false, List, [], ◌∷◌, length, take, drop}
+use Rattle.std.proofs.Common.{Option, Some, None, Ok, IfSome, get_or, refl, sym, ap, subst, ◌∙◌, inl, inr, arith}
+use Rattle.std.specs.Prelude.{◌==◌}
+use Rattle.std.specs.List.{prefix_len}
+use Rattle.std.proofs.lemmas.Bool.{cases_Bool, eqb-true, le-ltb, lt-ltb, or_right}
+use Rattle.std.proofs.lemmas.List.{length-take}
+use Rattle.std.proofs.lemmas.Bool.Decides.{nat_tests}
+use Rattle.mfotl_lex.proofs.BlankLemmas.{blank_len-none}
+use Rattle.mfotl_lex.proofs.Sequence.{next_is, after_is, scan_at}
+use Rattle.mfotl_lex.specs.Blanks.{blank_len}
+use Rattle.mfotl_lex.specs.Bytes.{quote, hash, is_space, in_log_word}
+use Rattle.mfotl_lex.specs.Lexemes.{Lexeme, lexeme, past_blanks, token_at, place_after}
+use Rattle.mfotl_lex.specs.Limits.{max_log_word}
+use Rattle.mfotl_lex.specs.Places.{Place}
+use Rattle.mfotl_lex.specs.Scans.{log_scan, log_mark}
+use Rattle.mfotl_lex.specs.declared.kind.Kind.{Kind}
+use Rattle.mfotl_lex.specs.declared.kind.Kind.TheVariants.{Word}
+use Rattle.mfotl_lex.specs.declared.scan.Scan.{Scan}
+use Rattle.mfotl_lex.specs.declared.scan.Scan.TheVariants.{Unshown, Takes, Fails}
+use Rattle.mfotl_lex.specs.declared.token.Token.{Token}
+use Rattle.log_reader.specs.Tokens.{front_of, IsInFront}
+
+-- a whole token without blanks before it
+record IsWhole (bytes : List ℕ) (kind : Kind) (n : ℕ) : Type 0 where
+  scanned : (ended : Bool) → log_scan ended bytes ≡ Takes kind n
+  bare : (ended : Bool) → blank_len ended bytes ≡ 0
+  inner : n ≤ length bytes
+
+in_front : (bytes : List ℕ) (at : ℕ) (kind : Kind) (n : ℕ) → IsWhole bytes kind n
+    → IsInFront bytes at (record { kind = kind; at = at; text = take n bytes })
+in_front bytes at kind n w = record {
+  is = λ ended.
+      let same : at + 0 ≡ at = omega arith in
+      next_is (front_of bytes at ended) ∙ rw (w.bare ended, w.scanned ended, same) refl;
+  behind = λ ended.
+      ap (λ (r : Place). r.at) (after_is (front_of bytes at ended))
+      ∙ rw (w.bare ended, w.scanned ended) (omega (arith, w.inner, length-take n bytes));
+  first = omega arith;
+  last = omega (arith, w.inner, length-take n bytes);
+}
+
+-- ---- marks
+
+-- a byte that is a mark, and no other
+record Marks (b : ℕ) : Type 0 where
+  space : is_space b ≡ false
+  comment : (b == hash) ≡ false
+  word : in_log_word b ≡ false
+  text : (b == quote) ≡ false
+
+marks_of : (b : ℕ) (kind : Kind) → log_mark b ≡ Some kind → Marks b
+marks_of b kind e =
+    elim (cases_Bool (b == 64)) [
+      | inl is ↦ rw (eqb-true b 64 is) (record { space = refl; comment = refl; word = refl; text = refl })
+      | inr not64 ↦ elim (cases_Bool (b == 40)) [
+        | inl is ↦ rw (eqb-true b 40 is) (record { space = refl; comment = refl; word = refl; text = refl })
+        | inr not40 ↦ elim (cases_Bool (b == 41)) [
+          | inl is ↦ rw (eqb-true b 41 is) (record { space = refl; comment = refl; word = refl; text = refl })
+          | inr not41 ↦ elim (cases_Bool (b == 44)) [
+            | inl is ↦ rw (eqb-true b 44 is) (record { space = refl; comment = refl; word = refl; text = refl })
+            | inr not44 ↦ elim (cases_Bool (b == 59)) [
+              | inl is ↦ rw (eqb-true b 59 is) (record { space = refl; comment = refl; word = refl; text = refl })
+              | inr not59 ↦
+                  let lost : None ≡ Some kind = rw (not64, not40, not41, not44, not59) at e in absurd cc
+            ]
+          ]
+        ]
+      ]
+    ]
+
+mark_whole : (b : ℕ) (more : List ℕ) (kind : Kind) → log_mark b ≡ Some kind → IsWhole (b ∷ more) kind 1
+unfolding log_scan
+mark_whole b more kind e =
+    let m = marks_of b kind e in
+    record {
+      scanned = λ ended. rw (m.word, m.text, m.comment, e) refl;
+      bare = λ ended. blank_len-none ended b more m.space m.comment;
+      inner = omega arith;
+    }
+
+pub mark_in_front : (b : ℕ) (more : List ℕ) (at : ℕ) (kind : Kind) → log_mark b ≡ Some kind
+    → IsInFront (b ∷ more) at (record { kind = kind; at = at; text = b ∷ [] })
+mark_in_front b more at kind e = in_front (b ∷ more) at kind 1 (mark_whole b more kind e)
+
+-- ---- words
+
+no_blank : (b : ℕ) → in_log_word b ≡ true → is_space b ≡ false
+no_blank b h = grind (arith, nat_tests)
+
+no_comment : (b : ℕ) → in_log_word b ≡ true → (b == hash) ≡ false
+no_comment b h = grind (arith, nat_tests)
+
+first_in : (b : ℕ) (bytes : List ℕ) (n : ℕ) → prefix_len in_log_word (b ∷ bytes) ≡ n → 0 < n
+    → in_log_word b ≡ true
+first_in b bytes n e some =
+    elim (cases_Bool (in_log_word b)) [
+      | inl is ↦ is
+      | inr not ↦ let none : 0 ≡ n = rw not at e in absurd (omega (arith, none, some))
+    ]
+
+word_whole : (bytes : List ℕ) (n : ℕ) → prefix_len in_log_word bytes ≡ n → 0 < n → n ≤ 4096
+    → n < length bytes → IsWhole bytes Word n
+unfolding log_scan
+word_whole [] n e some few inner = absurd (omega (arith, inner))
+word_whole (b ∷ bytes) n e some few inner =
+    let first = first_in b bytes n e some in
+    record {
+      scanned = λ ended. rw (
+        e,
+        first,
+        le-ltb max_log_word n few,
+        lt-ltb n (length (b ∷ bytes)) inner,
+        or_right ended true refl,
+      ) refl;
+      bare = λ ended. blank_len-none ended b bytes (no_blank b first) (no_comment b first);
+      inner = omega (arith, inner);
+    }
+
+pub word_in_front : (bytes : List ℕ) (at n : ℕ) → prefix_len in_log_word bytes ≡ n → 0 < n → n ≤ 4096
+    → n < length bytes → IsInFront bytes at (record { kind = Word; at = at; text = take n bytes })
+word_in_front bytes at n e some few inner = in_front bytes at Word n (word_whole bytes n e some few inner)
+
+-- ---- one blank
+
+blank_counts : (ended : Bool) (b : ℕ) (bytes : List ℕ) → is_space b ≡ true
+    → blank_len ended (b ∷ bytes) ≡ suc (blank_len ended bytes)
+unfolding blank_len
+blank_counts ended b bytes space = rw space refl
+
+past_blank : (ended : Bool) (b : ℕ) (bytes : List ℕ) (at : ℕ) → is_space b ≡ true
+    → past_blanks (front_of (b ∷ bytes) at ended) ≡ past_blanks (front_of bytes (at + 1) ended)
+past_blank ended b bytes at space = rw (blank_counts ended b bytes space)
+    (ap (λ (k : ℕ). front_of (drop (blank_len ended bytes) bytes) k ended) (omega arith))
+
+-- behind a token it doesn't matter where its blanks begin
+same_behind : (p q place : Place) (s : Scan) (t : Lexeme) → token_at place s ≡ Ok (Some t)
+    → (place_after p place s).at ≡ (place_after q place s).at
+same_behind p q place Unshown t e = absurd cc
+same_behind p q place (Takes kind n) t e = refl
+same_behind p q place (Fails fault n) t e = absurd cc
+
+-- a token behind a blank is in front of both
+pub blank_in_front : (b : ℕ) (bytes : List ℕ) (at : ℕ) (t : Lexeme) → is_space b ≡ true
+    → IsInFront bytes (at + 1) t → IsInFront (b ∷ bytes) at t
+blank_in_front b bytes at t space f =
+    let here = λ (ended : Bool). front_of (b ∷ bytes) at ended in
+    let there = λ (ended : Bool). front_of bytes (at + 1) ended in
+    let past = λ (ended : Bool). past_blank ended b bytes at space in
+    let found : (ended : Bool) → token_at (past_blanks (there ended)) (scan_at (there ended)) ≡ Ok (Some t) =
+    λ ended. sym (next_is (there ended)) ∙ f.is ended in
+    record {
+      is = λ ended.
+          next_is (here ended)
+          ∙ ap (λ (q : Place). token_at q (log_scan ended q.rest)) (past ended) ∙ found ended;
+      behind = λ ended.
+          ap (λ (r : Place). r.at) (after_is (here ended))
+          ∙ ap (λ (q : Place). (place_after (here ended) q (log_scan ended q.rest)).at) (past ended)
+          ∙ same_behind (here ended) (there ended) (past_blanks (there ended)) (scan_at (there ended)) t
+          (found ended)
+          ∙ sym (ap (λ (r : Place). r.at) (after_is (there ended))) ∙ f.behind ended;
+      first = omega (arith, f.first);
+      last = omega (arith, f.last);
+    }
+
+-- ---- as a call sees them
+
+pub word_at : (bytes : List ℕ) (at n : ℕ) (text : List ℕ) → n ≡ prefix_len in_log_word bytes → (n ≡ 0 → ⊥)
+    → n ≤ 4096 → (n ≡ length bytes → ⊥) → n ≤ length bytes → text ≡ take n bytes
+    → IsInFront bytes at (record { kind = Word; at = at; text = text })
+word_at bytes at n text e some few inner within is =
+    rw is (word_in_front bytes at n (sym e) (omega (arith, some)) few (omega (arith, inner, within)))
+
+pub mark_at : (bytes : List ℕ) (at : ℕ) (kind : Kind) (text : List ℕ) → 1 ≤ length bytes
+    → log_mark (get_or bytes 0 0) ≡ Some kind → text ≡ take 1 bytes
+    → IsInFront bytes at (record { kind = kind; at = at; text = text })
+mark_at [] at kind text some e is = absurd (omega (arith, some))
+mark_at (b ∷ bytes) at kind text some e is = rw is (mark_in_front b bytes at kind e)
+
+pub blank_at : (bytes : List ℕ) (at : ℕ) (behind : List ℕ) (token : Option Token) → 1 ≤ length bytes
+    → is_space (get_or bytes 0 0) ≡ true → behind ≡ drop 1 bytes
+    → IfSome token (λ t. IsInFront behind (at + 1) (lexeme t)) → IfSome token (λ t. IsInFront bytes at (lexeme t))
+blank_at bytes at behind None some space is f = tt
+blank_at [] at behind (Some t) some space is f = absurd (omega (arith, some))
+blank_at (b ∷ bytes) at behind (Some t) some space is f =
+    blank_in_front b bytes at (lexeme t) space (subst (λ (r : List ℕ). IsInFront r (at + 1) (lexeme t)) is f)

@@ -1,0 +1,8 @@
+use Rattle.std.proofs.Common.{ℕ, refl}
+use Rattle.log_reader.proofs.TokenFronts.{word_at}
+use Rattle.log_reader.proofs.front.word_before.Goals as goal
+
+pub returns : goal.returns
+returns c =
+    word_at c.args.bytes.now c.args.at c.word_len-count.result _ c.word_len-count.ensures.count c.if-count-eq0.false
+    c.if-count-gt-MOST_BYTES.false c.if-count-bytes.false c.word_len-count.ensures.within c.split_at.ensures.front
