@@ -8,6 +8,7 @@ pub mod StretchLemmas
 pub mod Waiting
 pub mod QuickLemmas
 pub mod TokenFronts
+pub mod MarkLemmas
 pub mod ReaderSoundness
 pub mod Keeping
 pub mod Fewness

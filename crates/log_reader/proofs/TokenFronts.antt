@@ -1,5 +1,5 @@
 -- What is seen straight in a log's bytes is what a lexer would find there.
-use Rattle.std.proofs.Common.{◌≡◌, ℕ, suc, ◌+◌, ◌≤◌, ◌<◌, Bool, true, false, List, [], ◌∷◌, length, take, drop}
+use Rattle.std.proofs.Common.{◌≡◌, ℕ, suc, ◌+◌, ◌≤◌, ◌<◌, Bool, true, false, List, [], ◌∷◌, length, take, drop, cond}
 use Rattle.std.proofs.Common.{Option, Some, None, Ok, IfSome, get_or, refl, sym, ap, subst, ◌∙◌, inl, inr, arith}
 use Rattle.std.specs.Prelude.{◌==◌}
 use Rattle.std.specs.List.{prefix_len}
@@ -19,7 +19,7 @@ use Rattle.mfotl_lex.specs.declared.kind.Kind.TheVariants.{Word}
 use Rattle.mfotl_lex.specs.declared.scan.Scan.{Scan}
 use Rattle.mfotl_lex.specs.declared.scan.Scan.TheVariants.{Unshown, Takes, Fails}
 use Rattle.mfotl_lex.specs.declared.token.Token.{Token}
-use Rattle.log_reader.specs.Tokens.{front_of, IsInFront}
+use Rattle.log_reader.specs.Tokens.{front_of, blank_before, IsInFront}
 
 -- a whole token without blanks before it
 record IsWhole (bytes : List ℕ) (kind : Kind) (n : ℕ) : Type 0 where
@@ -177,10 +177,28 @@ pub mark_at : (bytes : List ℕ) (at : ℕ) (kind : Kind) (text : List ℕ) → 
 mark_at [] at kind text some e is = absurd (omega (arith, some))
 mark_at (b ∷ bytes) at kind text some e is = rw is (mark_in_front b bytes at kind e)
 
-pub blank_at : (bytes : List ℕ) (at : ℕ) (behind : List ℕ) (token : Option Token) → 1 ≤ length bytes
-    → is_space (get_or bytes 0 0) ≡ true → behind ≡ drop 1 bytes
-    → IfSome token (λ t. IsInFront behind (at + 1) (lexeme t)) → IfSome token (λ t. IsInFront bytes at (lexeme t))
-blank_at bytes at behind None some space is f = tt
-blank_at [] at behind (Some t) some space is f = absurd (omega (arith, some))
-blank_at (b ∷ bytes) at behind (Some t) some space is f =
-    blank_in_front b bytes at (lexeme t) space (subst (λ (r : List ℕ). IsInFront r (at + 1) (lexeme t)) is f)
+-- the same of the first byte
+pub mark_seen : (bytes : List ℕ) (at : ℕ) (kind : Kind) → 1 ≤ length bytes → log_mark (get_or bytes 0 0) ≡ Some kind
+    → IsInFront bytes at (record { kind = kind; at = at; text = get_or bytes 0 0 ∷ [] })
+mark_seen [] at kind some e = absurd (omega (arith, some))
+mark_seen (b ∷ bytes) at kind some e = mark_in_front b bytes at kind e
+
+in_front_of : (b : ℕ) (bytes : List ℕ) (at : ℕ) (t : Lexeme) (space : Bool) → is_space b ≡ space
+    → IsInFront (drop (cond space 1 0) (b ∷ bytes)) (at + cond space 1 0) t → IsInFront (b ∷ bytes) at t
+in_front_of b bytes at t true is f = blank_in_front b bytes at t is f
+in_front_of b bytes at t false is f =
+    let same : at + 0 ≡ at = omega arith in subst (λ (n : ℕ). IsInFront (b ∷ bytes) n t) same f
+
+blank_past : (bytes : List ℕ) (at : ℕ) (t : Lexeme)
+    → IsInFront (drop (blank_before bytes) bytes) (at + blank_before bytes) t → IsInFront bytes at t
+blank_past [] at t f = let same : at + 0 ≡ at = omega arith in subst (λ (n : ℕ). IsInFront [] n t) same f
+blank_past (b ∷ bytes) at t f = in_front_of b bytes at t (is_space b) refl f
+
+pub blank_at : (bytes : List ℕ) (at n : ℕ) (behind : List ℕ) (token : Option Token) → n ≡ blank_before bytes
+    → behind ≡ drop n bytes → IfSome token (λ t. IsInFront behind (at + n) (lexeme t))
+    → IfSome token (λ t. IsInFront bytes at (lexeme t))
+blank_at bytes at n behind None count is f = tt
+blank_at bytes at n behind (Some t) count is f =
+    blank_past bytes at (lexeme t)
+    (subst (λ (k : ℕ). IsInFront (drop k bytes) (at + k) (lexeme t)) count
+    (subst (λ (r : List ℕ). IsInFront r (at + n) (lexeme t)) is f))

@@ -149,6 +149,36 @@ impl<'a> Cursor<'a> {
                 self.at += count;
                 Ok(TokenStep::Took)
             }
+            None => self.take_marked(alloc, look, sig, limits),
+        }
+    }
+
+    fn take_marked(
+        &mut self,
+        alloc: Global,
+        look: Look<'_>,
+        sig: &'a Signature,
+        limits: &Limits,
+    ) -> Result<TokenStep, LogFault>
+        requires within { self.old.at ≤ length look.bytes.now }
+        requires small { look.from + length look.bytes.now < 2 ^ 63 }
+        requires counted { IsCounted self.old.partial }
+        ensures { TakesToken sig.now limits.now look.entry.from look.entry.bytes.now look.entry.ended
+            self.old.at self.old.partial result self.new.at self.new.partial }
+    {
+        let (_, rest) = look.bytes.split_at(self.at);
+        let [first, ..] = rest else {
+            return self.lex_token(alloc, look, sig, limits);
+        };
+        let place = (look.from + self.at) as u64;
+        match self.partial.take_mark(alloc, limits, place, *first) {
+            Some(stepped) => match stepped {
+                Ok(()) => {
+                    self.at += 1;
+                    Ok(TokenStep::Took)
+                }
+                Err(fault) => Err(fault),
+            },
             None => self.lex_token(alloc, look, sig, limits),
         }
     }

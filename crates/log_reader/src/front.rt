@@ -4,7 +4,7 @@ ghost use Rattle.std.specs.List.{prefix_len};
 ghost use Rattle.mfotl_lex.specs.Bytes.{is_space, in_log_word};
 ghost use Rattle.mfotl_lex.specs.Lexemes.{lexeme};
 ghost use Rattle.mfotl_lex.specs.Scans.{log_mark};
-ghost use Rattle.log_reader.specs.Tokens.{IsInFront};
+ghost use Rattle.log_reader.specs.Tokens.{blank_before, IsInFront};
 
 use mfotl_lex::{Kind, Token};
 
@@ -15,6 +15,17 @@ fn is_space(b: u8) -> bool
     ensures { result ≡ is_space b }
 {
     matches!(b, b' ' | b'\t' | b'\r' | b'\n')
+}
+
+// How many bytes of blanks are in front, if there is one at most.
+fn blank_before(bytes: &[u8]) -> usize
+    ensures is { result ≡ blank_before bytes.now }
+    ensures within { result ≤ length bytes.now }
+{
+    match bytes {
+        [first, ..] if is_space(*first) => 1,
+        _ => 0,
+    }
 }
 
 fn in_word(b: u8) -> bool
@@ -80,13 +91,7 @@ pub fn token_before(bytes: &[u8], at: usize) -> Option<Token<'_>>
     requires { at + length bytes.now < 2 ^ 63 }
     ensures { IfSome result (λ t. IsInFront bytes.now at (lexeme t)) }
 {
-    let [first, ..] = bytes else {
-        return None;
-    };
-    if is_space(*first) {
-        let (_, behind) = bytes.split_at(1);
-        bare_before(behind, at + 1)
-    } else {
-        bare_before(bytes, at)
-    }
+    let blanks = blank_before(bytes);
+    let (_, behind) = bytes.split_at(blanks);
+    bare_before(behind, at + blanks)
 }

@@ -2,7 +2,7 @@
 ghost use Rattle.std.specs.Prelude.{◌≡◌, ◌++◌, ◌∷◌, [], OnOk, Ok};
 ghost use Rattle.mfotl_lex.specs.Lexemes.{lexeme};
 ghost use Rattle.log_reader.specs.Given.{Moves};
-ghost use Rattle.log_reader.specs.Quick.{TakesQuick};
+ghost use Rattle.log_reader.specs.Quick.{TakesQuick, TakesMark};
 ghost use Rattle.log_reader.specs.Stages.{completes};
 ghost use Rattle.log_reader.specs.Symbols.{symbol, written};
 ghost use Rattle.mfotl_sig.specs.Preds.{named};
@@ -183,6 +183,27 @@ impl<'a> Partial<'a> {
                 None => Ok(None),
             },
             _ => Ok(None),
+        }
+    }
+
+    /// Takes a mark that stands at an offset straight by its byte, where the grammar goes on with it within
+    /// the present time-point. It does what the token would do.
+    pub fn take_mark(
+        &mut self,
+        alloc: Global,
+        limits: &Limits,
+        at: u64,
+        b: u8,
+    ) -> Option<Result<(), LogFault>>
+        ensures { TakesMark limits.now self.old at b result self.new }
+    {
+        match self.stage {
+            Stage::AfterValue if b == b',' => Some(self.separate()),
+            Stage::AfterValue if b == b')' => Some(self.end_group(at)),
+            Stage::AfterName if b == b'(' => Some(self.begin_group(limits, at)),
+            Stage::AfterClose if b == b'(' => Some(self.begin_group(limits, at)),
+            Stage::Between if b == b'@' => Some(self.open(alloc, limits, at)),
+            _ => None,
         }
     }
 
