@@ -6,7 +6,10 @@ ghost use Rattle.log_reader.specs.Stretches.{looked_at, is_end_told};
 use crate::stretch::Stretch;
 
 /// The greatest timestamp.
-pub(crate) const LAST_TIMESTAMP: u128 = 1 << 62;
+pub(crate) const LAST_TIMESTAMP: u64 = 1 << 62;
+
+/// With one more digit a number above this is greater than any timestamp.
+pub(crate) const TIMESTAMP_ROOM: u64 = 461_168_601_842_738_790;
 
 const BYTE_LIMIT: u64 = 1 << 40;
 

@@ -6,7 +6,7 @@ ghost use Rattle.log_reader.specs.ValuesRead.{is_number, integer_at, value_at, t
 
 use crate::fault::LogFault;
 use crate::grammar::is_digits;
-use crate::limits::LAST_TIMESTAMP;
+use crate::limits::{LAST_TIMESTAMP, TIMESTAMP_ROOM};
 use mfotl_lex::{Kind, read_integer};
 use mfotl_model::{Sort, Text, Value};
 use std::alloc::Global;
@@ -62,12 +62,15 @@ pub fn value_at(
 pub fn timestamp_of(digits: &[u8]) -> Option<u64>
     ensures { result ≡ timestamp_of digits.now }
 {
-    let mut time: u128 = 0;
+    let mut time: u64 = 0;
     for b in digits {
-        time = 10 * time + u128::from(b.saturating_sub(b'0'));
+        if time > TIMESTAMP_ROOM {
+            return None;
+        }
+        time = 10 * time + u64::from(b.saturating_sub(b'0'));
         if time > LAST_TIMESTAMP {
             return None;
         }
     }
-    Some(time as u64)
+    Some(time)
 }

@@ -1,7 +1,7 @@
 -- The map that keeps the predicates, and the list that clauses see.
 use Rattle.std.proofs.Common.{◌≡◌, ℕ, List, [], ◌∷◌, ◌++◌, map, Option, Some, None, option_map, cond, Bool, true}
 use Rattle.std.proofs.Common.{false, refl, ap, subst, ◌∙◌, sym}
-use Rattle.std.specs.List.{AllByRecursion}
+use Rattle.std.specs.List.{AllByRecursion, find}
 use Rattle.std.specs.Str.{bytes_eq}
 use Rattle.std.specs.Global.{Vec}
 use Rattle.std.specs.Map.{lookup}
@@ -27,6 +27,15 @@ lookup_named (e ∷ entries) name keyed =
     either_way (bytes_eq name e.0.items) e.1 (lookup (λ k. bytes_eq name k.items) entries)
     (named name (preds_of entries)) (lookup_named entries name keyed.1) in
     same ∙ ap (λ key. cond (bytes_eq name key) (Some (pred_of e.1)) (named name (preds_of entries))) keyed.0
+
+-- the first predicate of the name among the values is that one too
+pub first_named : (entries : List (Vec ℕ × Pred)) (name : List ℕ)
+    → option_map pred_of (find (λ (p : Pred). bytes_eq name p.name) (map (λ e. e.1) entries))
+    ≡ named name (preds_of entries)
+first_named [] name = refl
+first_named (e ∷ entries) name =
+    either_way (bytes_eq name e.1.name) e.1 (find (λ (p : Pred). bytes_eq name p.name) (map (λ e. e.1) entries))
+    (named name (preds_of entries)) (first_named entries name)
 
 -- when two keys of the map are one
 abbrev pub same_key : Vec ℕ → Vec ℕ → Bool

@@ -1,8 +1,10 @@
 //! The predicates of a signature, found by name or by number.
 ghost use Rattle.std.specs.Prelude.{◌≡◌, ◌≢◌, ◌↔◌, ◌<◌, ◌^◌, List, [], map, length, All, Contains};
 ghost use Rattle.std.specs.Prelude.{None, option_map, IsNone, IfSome, OnOk};
-ghost use Rattle.std.specs.List.{AllByRecursion};
+ghost use Rattle.std.specs.List.{AllByRecursion, find};
 ghost use Rattle.std.specs.Option.{option_copied};
+ghost use Rattle.std.specs.Str.{bytes_eq};
+ghost use Rattle.indexmap.specs.IndexMap.{values};
 ghost use Rattle.mfotl_sig.specs.Preds.{PredOf, pred_of, named, with_pred, KeyedByName};
 
 use crate::pred::Pred;
@@ -10,6 +12,32 @@ use indexmap::IndexMap;
 use mfotl_model::{Name, Sort};
 use std::alloc::{AllocError, Global};
 use std::marker::Model;
+
+// A signature of so many predicates at most is looked through: that is cheaper than to hash a name.
+const FEW: usize = 8;
+
+// Names are short, so they are compared byte by byte.
+fn is_same(name: &[u8], other: &[u8]) -> bool
+    ensures { result ≡ bytes_eq name.now other.now }
+{
+    if name.len() != other.len() {
+        return false;
+    }
+    for (i, b) in name.iter().enumerate() {
+        if *b != other[i] {
+            return false;
+        }
+    }
+    true
+}
+
+fn first_named<'a>(preds: &'a IndexMap<Vec<u8>, Pred>, name: &[u8]) -> Option<&'a Pred>
+    ensures { option_copied result ≡ find (λ p. bytes_eq name.now p.name) (values preds.now) }
+{
+    preds
+        .values()
+        .find(|pred| is_same(name, pred.name.as_bytes()))
+}
 
 /// The predicates of a signature, in the order of its text.
 #[derive(Drop)]
@@ -49,7 +77,11 @@ impl Signature {
         ensures name { IfSome result (λ p. p.now.name ≡ name.now) }
         ensures member { IfSome result (λ p. Contains self.now (pred_of p.now)) }
     {
-        self.preds.get(name)
+        if self.preds.len() > FEW {
+            self.preds.get(name)
+        } else {
+            first_named(&self.preds, name)
+        }
     }
 
     /// Adds a predicate at the end, with the next number.

@@ -1,16 +1,28 @@
 use Rattle.std.proofs.Common.{◌∙◌, ap, option_map}
 use Rattle.mfotl_sig.specs.Preds.{pred_of, named}
 use Rattle.mfotl_sig.proofs.NamedLemmas.{Lends, is_lent}
-use Rattle.mfotl_sig.proofs.PredLemmas.{lookup_named}
+use Rattle.mfotl_sig.proofs.PredLemmas.{lookup_named, first_named}
 use Rattle.mfotl_sig.proofs.signature.Signature.find.Goals as goal
+use Rattle.mfotl_sig.proofs.signature.Signature.find.Goals.{After-get, After-first_named}
 
-lends : (c : goal.After-get) → Lends c.get.result c.args.name.now c.args.self.now
-lends c =
+by_hash : (c : After-get) → Lends c.get.result c.args.name.now c.args.self.now
+by_hash c =
     ap (option_map pred_of) c.get.ensures.value
     ∙ lookup_named c.self.inside.preds.entries c.args.name.now c.self.invariant
     ∙ ap (named c.args.name.now) c.self.view_is
 
-pub returns : goal.returns
-returns c =
-    let lent = is_lent c.get.result c.args.name.now c.args.self.now (lends c) in
-    record { found = lends c; none = lent.none; name = lent.name_is; member = lent.member }
+by_name : (c : After-first_named) → Lends c.first_named.result c.args.name.now c.args.self.now
+by_name c =
+    ap (option_map pred_of) c.first_named.ensures
+    ∙ first_named c.self.inside.preds.entries c.args.name.now
+    ∙ ap (named c.args.name.now) c.self.view_is
+
+pub returns-then-len-gt-FEW : goal.returns-then-len-gt-FEW
+returns-then-len-gt-FEW c =
+    let lent = is_lent c.get.result c.args.name.now c.args.self.now (by_hash c) in
+    record { found = by_hash c; none = lent.none; name = lent.name_is; member = lent.member }
+
+pub returns-else-len-gt-FEW : goal.returns-else-len-gt-FEW
+returns-else-len-gt-FEW c =
+    let lent = is_lent c.first_named.result c.args.name.now c.args.self.now (by_name c) in
+    record { found = by_name c; none = lent.none; name = lent.name_is; member = lent.member }
