@@ -34,7 +34,7 @@ use Rattle.worker_pool.specs.declared.end.End.TheVariants as end
 use Rattle.monitor_main.specs.Decisions.{ComesTo, Ends, FailsInLog, Finishes, HasCauses, MonitorsLog, Refuses}
 use Rattle.log_reader.specs.Growth.{Keeps}
 use Rattle.monitor_main.specs.DemoRuns.{EndsOn}
-use Rattle.monitor_main.specs.LogRuns.{EndsAs, outcome_of}
+use Rattle.monitor_main.specs.LogRuns.{outcome_of}
 use Rattle.log_reader.proofs.GrowthLemmas.{front_stays}
 use Rattle.monitor_main.proofs.LoadLemmas.{rose_later}
 use Rattle.worker_pool.proofs.LogTimes.{read_never_falls}
@@ -321,17 +321,17 @@ module _ (checked : CheckedPolicy) (log : Name) (core : CoreForm) (is : IsCoreOf
   -- the open file was monitored
   pub log_followed : opened.is_open ≡ true → Opens before.files log opened.rest → (after : InputsView) (new : SinkView)
       → after.files ≡ opened.files → after.is_open ≡ opened.is_open → after.asked ≡ opened.asked
-      → opened.faults ≤ after.faults → old.faults ≤ new.faults → (result : Result Bool Refusal)
-      → EndsAs checked result (record { before = opened; after = after; old = old; new = new })
-      → MonitorsLog checked log (record { before = before; after = after; old = old; new = new }) result
-  log_followed is_open opens after new files_same stays asks_nothing later_on later_out result a =
-      let f = a.follows in
-      rw a.is (log_monitored after new files_same asks_nothing later_on later_out f.bytes f.ended a.end
+      → opened.faults ≤ after.faults → old.faults ≤ new.faults → (end : End)
+      → FollowsLog checked.sig checked.policy.formula
+      (record { before = opened; after = after; old = old; new = new }) end
+      → MonitorsLog checked log (record { before = before; after = after; old = old; new = new }) (outcome_of end)
+  log_followed is_open opens after new files_same stays asks_nothing later_on later_out end f =
+      log_monitored after new files_same asks_nothing later_on later_out f.bytes f.ended end
       (told_map before.files _ _
       (λ files rest_is. opened_read opened.rest (content files log) rest_is after (stays ∙ is_open) f.bytes f.ended
       f.taken f.whole)
       opens)
-      f.ends f.front)
+      f.ends f.front
 
 -- a log of which no call fails was monitored to its end
 pub sure_ends : (task : Task) (core : CoreForm) → IsCoreOf core task.policy.formula → (e : Effect) (end : End)

@@ -14,9 +14,11 @@ pub mod Tasks
 pub mod Answer
 pub mod Unread
 pub mod AnswerLaws
+pub mod WorkedAnswers
 pub mod FilesAsked
 pub mod CheckedPolicies
 pub mod ReadyTasks
+pub mod Divisions
 pub mod Loading
 pub mod LogRuns
 pub mod Decisions

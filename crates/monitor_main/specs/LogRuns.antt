@@ -1,14 +1,11 @@
--- How the monitoring of a log may end.
-use Rattle.std.specs.Prelude.{◌≡◌, ℕ, Bool, Result, Ok, Err, nat_lt}
+-- What the end of a monitored log comes to.
+use Rattle.std.specs.Prelude.{ℕ, Bool, Result, Ok, Err, nat_lt}
 use Rattle.mon_outside.specs.Causes.{Rose}
-use Rattle.worker_pool.specs.Effects.{Effect}
-use Rattle.worker_pool.specs.Endings.{FollowsLog}
 use Rattle.worker_pool.specs.declared.end.End.{End}
 use Rattle.worker_pool.specs.declared.end.End.TheVariants as end
 use Rattle.monitor_main.specs.declared.refusal.InputFile.TheVariants as file
 use Rattle.monitor_main.specs.declared.refusal.Refusal.{Refusal}
 use Rattle.monitor_main.specs.declared.refusal.Refusal.TheVariants.{Read, Write, Memory}
-use Rattle.monitor_main.specs.Tasks.{CheckedPolicy}
 use Rattle.monitor_main.specs.Refusals.{log_refusal}
 
 -- the output failed, which shows in its count, or memory was refused
@@ -24,9 +21,3 @@ outcome_of (end.LogEnds fault) = Err (log_refusal fault)
 outcome_of end.ReadFailed = Err (Read file.Log)
 outcome_of end.SinkFailed = Err Write
 outcome_of end.Memory = Err Memory
-
--- the log of a policy was monitored to some end, and this is what it says
-pub record EndsAs (checked : CheckedPolicy) (result : Result Bool Refusal) (e : Effect) : Type 0 where
-  pub end : End
-  pub follows : FollowsLog checked.sig checked.policy.formula e end
-  pub is : result ≡ outcome_of end

@@ -7,6 +7,7 @@ ghost use Rattle.mon_outside.specs.Views.{inputs_view};
 ghost use Rattle.slice_strategy.specs.Entries.{HasWorkers};
 ghost use Rattle.monitor_main.specs.CheckedPolicies.{Divides, Gives, IsInside};
 ghost use Rattle.monitor_main.specs.CommandViews.{text_in};
+ghost use Rattle.monitor_main.specs.Divisions.{AreChangesAt};
 ghost use Rattle.monitor_main.specs.Limits.{max_file};
 ghost use Rattle.monitor_main.specs.Loading.{AreRefused, IsRefused};
 ghost use Rattle.monitor_main.specs.Tasks.{changes_at, changes_in};
@@ -95,6 +96,8 @@ pub fn load_changes<I: Inputs>(
     ensures asks { I.asked inputs.new ≡ asked_more (I.asked inputs.old) (named (text_in name.entry)) }
     ensures ok { IfOk result (λ changes. ToldFiles (I.files inputs.old) (λ files.
         changes_at policy.now.vars (text_in name.entry) files ≡ Ok changes.items)) }
+    ensures are { IfOk result (λ changes.
+        AreChangesAt policy.now.vars (text_in name.entry) (I.files inputs.old) changes.items) }
     ensures divides { IfOk result (λ changes.
         AllByRecursion (λ c. Divides policy.now.vars c.strategy) changes.items) }
     ensures refused { IfErr result (AreRefused policy.now.vars (text_in name.entry)

@@ -1,7 +1,10 @@
 //! The monitoring of a demo, whose files are in memory and whose lines are only counted.
-ghost use Rattle.std.specs.Prelude.{IfOk, IfErr, string_bytes};
+ghost use Rattle.std.specs.Prelude.{◌≡◌, [], IfOk, IfErr, string_bytes};
+ghost use Rattle.log_reader.specs.DemoTexts.{changes_text};
 ghost use Rattle.monitor_main.specs.CheckedPolicies.{Fails, Gives, IsInside, checked_in};
 ghost use Rattle.monitor_main.specs.DemoRuns.{EndsDemo, EndsOn};
+ghost use Rattle.monitor_main.specs.Divisions.{BeginsBy, ChangesBy};
+ghost use Rattle.monitor_main.specs.Limits.{default_threads};
 ghost use Rattle.monitor_main.specs.ReadyTasks.{IsReady};
 ghost use Rattle.monitor_main.specs.Tasks.{demo_task, divided_texts, task_on};
 
@@ -30,6 +33,9 @@ fn task_of(alloc: Global, sig: &[u8], policy: &[u8], changes: &[u8]) -> Result<T
     ensures gives { Gives (λ task. checked_in task.checked) result
         (divided_texts sig.now policy.now changes.now) }
     ensures ready { IfOk result IsReady }
+    ensures first { IfOk result (BeginsBy []) }
+    ensures changes { IfOk result (ChangesBy changes.now) }
+    ensures threads { IfOk result (λ task. task.threads ≡ default_threads) }
     ensures inside { IfErr result IsInside }
 {
     let checked = check_texts(alloc, sig, policy)?;
@@ -39,6 +45,7 @@ fn task_of(alloc: Global, sig: &[u8], policy: &[u8], changes: &[u8]) -> Result<T
         checked,
         first,
         changes,
+        threads: DEFAULT_THREADS,
     })
 }
 
@@ -50,7 +57,10 @@ fn follow_log<R: Threads + Wait + Sync, G: Gate + Sync>(
     log: String,
     gate: &G,
 ) -> Result<End, AllocError>
-    requires { IsReady task }
+    requires ready { IsReady task }
+    requires first { BeginsBy [] task }
+    requires changes { ChangesBy changes_text task }
+    requires threads { task.threads ≡ default_threads }
     ensures ends { IfOk result (EndsOn (task_on (checked_in task.checked) (string_bytes log))) }
 {
     let file = NamedFile {
@@ -61,15 +71,7 @@ fn follow_log<R: Threads + Wait + Sync, G: Gate + Sync>(
     let mut inputs = SureInputs::new(files.as_slice(), CHUNK);
     let mut out = SureSink::new();
     inputs.open(LOG).unwrap();
-    Ok(follow(
-        rt,
-        alloc,
-        task,
-        DEFAULT_THREADS,
-        &mut inputs,
-        &mut out,
-        gate,
-    ))
+    Ok(follow(rt, alloc, task, &mut inputs, &mut out, gate))
 }
 
 /// Monitors the demo of this seed.

@@ -1,6 +1,7 @@
 //! Laws of the definitions, each the contract of a function.
 ghost use Rattle.monitor_main.specs.AnswerLaws.{CheckAccepts, StrategiesAgree};
 ghost use Rattle.monitor_main.specs.TextLaw.{VerdictsGrow};
+ghost use Rattle.monitor_main.specs.WorkedAnswers.{ColumnsInFull, LimitsInFull, StatusNumbers, ThreadsByDefault, VerdictStatuses};
 ghost use Rattle.monitor_main.specs.WordsLaw.{CheckIsTaken, DemoIsTaken, GreatestSeedIsTaken, InputIsNotShared};
 ghost use Rattle.monitor_main.specs.WordsLaw.{OptionsMayBeLeftOut, RunIsTaken, SeedsHaveAnEnd};
 
@@ -28,4 +29,13 @@ pub fn worked_words()
     ensures greatest { GreatestSeedIsTaken }
     ensures seeds { SeedsHaveAnEnd }
     ensures input { InputIsNotShared }
+{}
+
+/// Statuses, the line of a policy's variables and limits, worked out in full.
+pub fn worked_answers()
+    ensures numbers { StatusNumbers }
+    ensures verdicts { VerdictStatuses }
+    ensures columns { ColumnsInFull }
+    ensures limits { LimitsInFull }
+    ensures threads { ThreadsByDefault }
 {}

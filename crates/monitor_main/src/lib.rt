@@ -14,6 +14,7 @@ mod fault_lines;
 pub mod laws;
 mod limits;
 mod line;
+mod loading;
 mod monitoring;
 mod options;
 mod real_inputs;

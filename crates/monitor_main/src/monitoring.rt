@@ -6,9 +6,10 @@ ghost use Rattle.log_reader.specs.Readers.{Reads, progress};
 ghost use Rattle.worker_pool.specs.Effects.{effect};
 ghost use Rattle.worker_pool.specs.Endings.{FollowsLog};
 ghost use Rattle.monitor_main.specs.CheckedPolicies.{checked_in};
+ghost use Rattle.monitor_main.specs.CommandViews.{text_in};
 ghost use Rattle.monitor_main.specs.Decisions.{MonitorsLog};
-ghost use Rattle.monitor_main.specs.Limits.{max_threads};
-ghost use Rattle.monitor_main.specs.LogRuns.{EndsAs, outcome_of};
+ghost use Rattle.monitor_main.specs.Divisions.{BeginsBy, ChangesAt};
+ghost use Rattle.monitor_main.specs.LogRuns.{outcome_of};
 ghost use Rattle.monitor_main.specs.ReadyTasks.{IsReady};
 
 use crate::refusal::{InputFile, Refusal};
@@ -20,7 +21,7 @@ use mon_outside::{Gate, Inputs, Sink};
 use std::alloc::Global;
 use std::sync::Wait;
 use std::thread::Threads;
-use worker_pool::{End, Plan, monitor};
+use worker_pool::{End, monitor};
 
 // A reader of a log to which nothing was fed.
 fn reader_over<'a>(alloc: Global, sig: &'a Signature) -> LogReader<'a>
@@ -48,13 +49,11 @@ pub fn follow<R: Threads + Wait + Sync, I: Inputs, O: Sink, G: Gate + Sync>(
     rt: &R,
     alloc: Global,
     task: Task,
-    threads: u32,
     inputs: &mut I,
     out: &mut O,
     gate: &G,
 ) -> End
     requires ready { IsReady task }
-    requires few { threads ≤ max_threads }
     requires opened { IsTrue (I.is_open inputs.old) }
     ensures files { I.files inputs.new ≡ I.files inputs.old }
     ensures stays_open { I.is_open inputs.new ≡ I.is_open inputs.old }
@@ -64,48 +63,13 @@ pub fn follow<R: Threads + Wait + Sync, I: Inputs, O: Sink, G: Gate + Sync>(
     ensures follows { FollowsLog task.checked.sig (checked_in task.checked).policy.formula
         (effect I.Inputs O.Sink inputs.old inputs.new out.old out.new) result }
 {
-    let Task {
-        checked,
-        first,
-        changes,
-    } = task;
-    let (sig, core) = checked.into_parts();
+    let threads = task.threads;
+    let (sig, plan) = task.into_parts();
     let mut log = reader_over(alloc, &sig);
-    let plan = Plan {
-        core,
-        first,
-        changes,
-    };
     monitor(rt, alloc, plan, &mut log, inputs, out, threads, gate)
 }
 
-// Monitors the open file, and says what its end means.
-fn monitor_open<R: Threads + Wait + Sync, I: Inputs, O: Sink, G: Gate + Sync>(
-    rt: &R,
-    alloc: Global,
-    task: Task,
-    threads: u32,
-    inputs: &mut I,
-    out: &mut O,
-    gate: &G,
-) -> Result<bool, Refusal>
-    requires ready { IsReady task }
-    requires few { threads ≤ max_threads }
-    requires opened { IsTrue (I.is_open inputs.old) }
-    ensures files { I.files inputs.new ≡ I.files inputs.old }
-    ensures stays_open { I.is_open inputs.new ≡ I.is_open inputs.old }
-    ensures asks_nothing { I.asked inputs.new ≡ I.asked inputs.old }
-    ensures later { I.faults inputs.old ≤ I.faults inputs.new }
-    ensures later_out { O.faults out.old ≤ O.faults out.new }
-    ensures ends { EndsAs (checked_in task.checked) result
-        (effect I.Inputs O.Sink inputs.old inputs.new out.old out.new) }
-{
-    let end = follow(rt, alloc, task, threads, inputs, out, gate);
-    outcome(end)
-}
-
-/// Monitors the log that the options name by a task, with as many threads as they say, and answers whether some line
-/// has a row.
+/// Monitors the log that the options name, by the task that they ask for, and answers whether some line has a row.
 pub fn monitor_task<R: Threads + Wait + Sync, I: Inputs, O: Sink, G: Gate + Sync>(
     rt: &R,
     alloc: Global,
@@ -116,11 +80,14 @@ pub fn monitor_task<R: Threads + Wait + Sync, I: Inputs, O: Sink, G: Gate + Sync
     gate: &G,
 ) -> Result<bool, Refusal>
     requires ready { IsReady task }
+    requires first { BeginsBy options.now.strategy.now task }
+    requires changes { ChangesAt (text_in options.now.changes) (I.files inputs.old) task }
+    requires threads { task.threads ≡ options.now.threads }
     ensures { MonitorsLog (checked_in task.checked) options.now.log.now
         (effect I.Inputs O.Sink inputs.old inputs.new out.old out.new) result }
 {
     match inputs.open(options.log) {
-        Ok(()) => monitor_open(rt, alloc, task, options.threads, inputs, out, gate),
+        Ok(()) => outcome(follow(rt, alloc, task, inputs, out, gate)),
         Err(_) => Err(Refusal::Read(InputFile::Log)),
     }
 }

@@ -1,52 +1,43 @@
-//! What is monitored: a policy, and how the work on it is divided among workers.
-ghost use Rattle.std.specs.Prelude.{◌≡◌, ◌≤◌, IfOk, IfErr};
-ghost use Rattle.mon_outside.specs.Views.{inputs_view};
-ghost use Rattle.monitor_main.specs.CheckedPolicies.{checked_in};
-ghost use Rattle.monitor_main.specs.CommandViews.{options_in, sources_in};
-ghost use Rattle.monitor_main.specs.Loading.{LoadsTask, StopsBeforeLog};
-ghost use Rattle.monitor_main.specs.ReadyTasks.{IsReady};
-ghost use Rattle.monitor_main.specs.Words.{Run};
+//! What is monitored: a policy, and how the work on it is divided among workers and threads.
+ghost use Rattle.std.specs.Prelude.{◌≡◌, ◌≤◌};
+ghost use Rattle.monitor_main.specs.Limits.{max_threads};
 
-use crate::changes_file::load_changes;
-use crate::checked_policy::{CheckedPolicy, load_sources};
-use crate::command::Sources;
-use crate::refusal::Refusal;
-use crate::run_options::RunOptions;
-use crate::strategy_text::read_strategy;
-use mon_outside::Inputs;
+use crate::checked_policy::CheckedPolicy;
+use mfotl_sig::Signature;
 use slice_strategy::{Change, Strategy};
-use std::alloc::Global;
+use worker_pool::Plan;
 
-/// A policy that can be monitored, and how the work on it is divided among workers: at first, and by which changes.
+/// A policy that can be monitored, how the work on it is divided among workers, at first and by which changes, and how
+/// many threads serve these.
 #[derive(Drop)]
 pub struct Task {
     pub checked: CheckedPolicy,
     pub first: Strategy,
     pub changes: Vec<Change>,
+    pub threads: u32,
+    ghost few: { threads ≤ max_threads },
 }
 
-/// All that a run reads before its log: the signature, the policy, the strategy and the changes.
-pub fn load_task<I: Inputs>(
-    alloc: Global,
-    sources: &Sources<'_>,
-    options: &RunOptions<'_>,
-    inputs: &mut I,
-) -> Result<Task, Refusal>
-    ensures files { I.files inputs.new ≡ I.files inputs.old }
-    ensures later { I.faults inputs.old ≤ I.faults inputs.new }
-    ensures ok { IfOk result (λ task.
-        LoadsTask (sources_in sources.now) (options_in options.now) (checked_in task.checked)
-        (inputs_view I.Inputs inputs.old) (inputs_view I.Inputs inputs.new)) }
-    ensures ready { IfOk result IsReady }
-    ensures refused { IfErr result (StopsBeforeLog (Run (sources_in sources.now) (options_in options.now))
-        (inputs_view I.Inputs inputs.old) (inputs_view I.Inputs inputs.new)) }
-{
-    let checked = load_sources(alloc, sources, inputs)?;
-    let first = read_strategy(alloc, options.strategy, &checked.policy)?;
-    let changes = load_changes(alloc, inputs, options.changes, &checked.policy)?;
-    Ok(Task {
-        checked,
-        first,
-        changes,
-    })
+impl Task {
+    /// What a log is read with, and what is done with it.
+    pub fn into_parts(self) -> (Signature, Plan)
+        ensures sig { result.0 ≡ self.checked.sig }
+        ensures core { result.1.core ≡ self.checked.core }
+        ensures first { result.1.first ≡ self.first }
+        ensures changes { result.1.changes ≡ self.changes }
+    {
+        let Task {
+            checked,
+            first,
+            changes,
+            threads: _,
+        } = self;
+        let (sig, core) = checked.into_parts();
+        let plan = Plan {
+            core,
+            first,
+            changes,
+        };
+        (sig, plan)
+    }
 }

@@ -11,7 +11,7 @@ returns g c =
     let log_is : content c.new-inputs.result.files (codes "log") ≡ string_bytes c.args.log = search rules in
     record {
       ends = sure_ends (task_on (checked_in c.args.task.checked) (string_bytes c.args.log))
-          (core_form c.args.task.checked.core) c.requires.core _ c.follow.result c.follow.ensures.follows
+          (core_form c.args.task.checked.core) c.requires.ready.core _ c.follow.result c.follow.ensures.follows
           (c.open.ensures.rest ∙ ap Some log_is) (c.follow.ensures.stays_open ∙ ap is_some c.open.ensures.rest)
           (λ h. omega (arith, h)) (λ h. omega (arith, h));
     }

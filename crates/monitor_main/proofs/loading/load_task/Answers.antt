@@ -5,7 +5,7 @@ use Rattle.monitor_main.specs.CheckedPolicies.{checked_in}
 use Rattle.monitor_main.specs.CommandViews.{options_in, sources_in}
 use Rattle.monitor_main.proofs.DivisionLemmas.{all_for, first_for}
 use Rattle.monitor_main.proofs.StopLemmas.{changes_stop, run_stops, strategy_stops, task_loaded}
-use Rattle.monitor_main.proofs.task.load_task.Goals as goal
+use Rattle.monitor_main.proofs.loading.load_task.Goals as goal
 
 pub returns-in_err-checked-clause-refused : goal.returns-in_err-checked-clause-refused
 returns-in_err-checked-clause-refused g c =
