@@ -1,8 +1,11 @@
+use Rattle.std.proofs.Common.{Option, subst}
 use Rattle.std.proofs.lemmas.Result.{err_from_is_err_and}
+use Rattle.mon_outside.specs.Files.{Files}
 use Rattle.mon_outside.specs.Views.{inputs_view}
 use Rattle.monitorable.specs.Cores.{core_form}
 use Rattle.monitor_main.specs.CheckedPolicies.{checked_in}
-use Rattle.monitor_main.specs.CommandViews.{options_in, sources_in}
+use Rattle.monitor_main.specs.CommandViews.{options_in, sources_in, text_in}
+use Rattle.monitor_main.specs.Divisions.{AreChangesAt}
 use Rattle.monitor_main.proofs.DivisionLemmas.{all_for, first_for}
 use Rattle.monitor_main.proofs.StopLemmas.{changes_stop, run_stops, strategy_stops, task_loaded}
 use Rattle.monitor_main.proofs.loading.load_task.Goals as goal
@@ -51,3 +54,9 @@ returns-clause-ready g c =
       changes = all_for core policy.formula c.in_ok-checked.ensures.core policy.vars c.in_ok-checked.ensures.variables
           c.in_ok-changes.changes.items c.in_ok-changes.ensures.divides;
     }
+
+pub returns-clause-changes : goal.returns-clause-changes
+returns-clause-changes g c =
+    subst (λ (told : Option Files). AreChangesAt (checked_in c.in_ok-checked.checked).policy.vars
+    (text_in c.args.options.now.changes) told c.in_ok-changes.changes.items)
+    c.in_ok-checked.ensures.files c.in_ok-changes.ensures.are
