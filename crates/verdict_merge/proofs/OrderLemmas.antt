@@ -81,17 +81,12 @@ kept_in_order f (suc n) all =
     ∙ ap (λ rs. rs ++ filter f (numbered n all)) (kept_in_order f n all)
     ∙ ap (λ rs. in_order n kept ++ rs) same
 
+numbered_both : (n : ℕ) (xs ys : List Arrived) → numbered n (xs ++ ys) ≡ numbered n xs ++ numbered n ys
+numbered_both n xs ys =
+    ap (map (λ a. a.rows)) (filter-append (λ a. nat_eq a.number n) xs ys)
+    ∙ map-append (λ a. a.rows) (filter (λ a. nat_eq a.number n) xs) (filter (λ a. nat_eq a.number n) ys)
+
 module _ (a : Arrived) (xs ys : List Arrived) where
-  numbered_among : (n : ℕ) → numbered n (xs ++ a ∷ ys) ≡ numbered n xs ++ numbered n (a ∷ ys)
-  numbered_among n =
-      ap (map (λ a. a.rows)) (filter-append (λ a. nat_eq a.number n) xs (a ∷ ys))
-      ∙ map-append (λ a. a.rows) (filter (λ a. nat_eq a.number n) xs) (filter (λ a. nat_eq a.number n) (a ∷ ys))
-
-  numbered_both : (n : ℕ) → numbered n (xs ++ ys) ≡ numbered n xs ++ numbered n ys
-  numbered_both n =
-      ap (map (λ a. a.rows)) (filter-append (λ a. nat_eq a.number n) xs ys)
-      ∙ map-append (λ a. a.rows) (filter (λ a. nat_eq a.number n) xs) (filter (λ a. nat_eq a.number n) ys)
-
   -- Rows of a number that isn't asked for
   passed_over : (n : ℕ) → n ≤ a.number → in_order n (xs ++ a ∷ ys) ≡ in_order n (xs ++ ys)
   passed_over zero low = refl
@@ -102,7 +97,7 @@ module _ (a : Arrived) (xs ys : List Arrived) where
       (filter (λ c. nat_eq c.number n) ys))) other in
       ap (λ rs. rs ++ numbered n (xs ++ a ∷ ys)) (passed_over n (omega (arith, low)))
       ∙ ap (λ rs. in_order n (xs ++ ys) ++ rs)
-      (numbered_among n ∙ ap (λ rs. numbered n xs ++ rs) same ∙ sym (numbered_both n))
+      (numbered_both n xs (a ∷ ys) ∙ ap (λ rs. numbered n xs ++ rs) same ∙ sym (numbered_both n xs ys))
 
   -- Rows of the next number come last
   pub comes_last : (n : ℕ) → a.number ≡ n → AllByRecursion (λ c. c.number < n) xs
@@ -113,5 +108,5 @@ module _ (a : Arrived) (xs ys : List Arrived) where
       (filter (λ c. nat_eq c.number n) ys))) (eq-eqb a.number n is) in
       ap (λ rs. rs ++ numbered n (xs ++ a ∷ ys)) (passed_over n (omega (arith, is)))
       ∙ ap (λ rs. in_order n (xs ++ ys) ++ rs)
-      (numbered_among n ∙ ap (λ rs. rs ++ numbered n (a ∷ ys)) (none_numbered n xs before) ∙ here
+      (numbered_both n xs (a ∷ ys) ∙ ap (λ rs. rs ++ numbered n (a ∷ ys)) (none_numbered n xs before) ∙ here
       ∙ ap (λ rs. a.rows ∷ rs) (none_numbered n ys after))
