@@ -1,7 +1,6 @@
 -- A mark that is taken straight by its byte does what its token would do.
-use Rattle.std.proofs.Common.{◌≡◌, ℕ, ◌+◌, ◌-◌, ◌≤◌, ◌<◌, Bool, false, List, [], ◌∷◌, length, take, drop, get_or}
-use Rattle.std.proofs.Common.{Some, Result, Ok, Err, refl, sym, ap, subst, ◌∙◌, arith}
-use Rattle.std.proofs.lemmas.List.{length-drop}
+use Rattle.std.proofs.Common.{◌≡◌, ℕ, ◌+◌, ◌-◌, ◌≤◌, Bool, false, List, length, drop, get_or}
+use Rattle.std.proofs.Common.{Some, Result, Ok, Err, refl, sym, ap, subst, arith}
 use Rattle.mfotl_lex.specs.Lexemes.{Lexeme, next_token, after}
 use Rattle.mfotl_lex.specs.Places.{Place}
 use Rattle.mfotl_lex.specs.Scans.{log_mark}
@@ -22,9 +21,9 @@ use Rattle.log_reader.specs.Quick.{mark_token, StepsMark}
 use Rattle.log_reader.specs.Stages.{goes, completes}
 use Rattle.log_reader.specs.Steps.{step, stepped, opened, grouped, closed}
 use Rattle.log_reader.specs.Stretches.{place_in}
-use Rattle.log_reader.specs.Symbols.{Symbol, AtSign, Opening, Closing, Separator, symbol}
-use Rattle.log_reader.specs.Tokens.{IsInFront}
-use Rattle.log_reader.proofs.TokenFronts.{mark_seen}
+use Rattle.log_reader.specs.Symbols.{AtSign, Opening, Closing, Separator, symbol}
+use Rattle.log_reader.specs.Tokens.{blank_before, IsInFront}
+use Rattle.log_reader.proofs.TokenFronts.{mark_seen, blank_past}
 use Rattle.log_reader.proofs.TokenPlaces.{TokenAt, token_at_offset}
 use Rattle.log_reader.proofs.TokenSteps.{steps_over}
 
@@ -70,34 +69,49 @@ module _ {U : Type 0} (limits : Limits) (p q : Partial) (at : ℕ) (result : Res
 
 -- ---- the token
 
+-- the place of a mark behind one blank at most
+pub record MarkPlace (looked : List ℕ) (at : ℕ) (front rest : List ℕ) (n : ℕ) : Type 0 where
+  pub front_is : front ≡ drop at looked
+  pub blanks : n ≡ blank_before front
+  pub rest_is : rest ≡ drop n front
+  pub some : 1 ≤ length rest
+
 module _ (sig : List PredOf) (limits : Limits) (from : ℕ) (looked : List ℕ) (ended : Bool) (at : ℕ) (p q : Partial)
-    (counted : IsCounted p) (rest : List ℕ) (back : rest ≡ drop at looked) (some : 1 ≤ length rest)
-    {U : Type 0} (result : Result U LogFault)
-    (s : StepsMark limits p (from + at) (get_or rest 0 0) result q) where
+    (counted : IsCounted p) (within : at ≤ length looked) (front rest : List ℕ) (n : ℕ)
+    (m : MarkPlace looked at front rest n) {U : Type 0} (result : Result U LogFault)
+    (s : StepsMark limits p (from + at + n) (get_or rest 0 0) result q) where
   abbrev here : Place
   here = place_in from looked ended at
 
   abbrev mark : Lexeme
-  mark = mark_token s.kind (from + at) (get_or rest 0 0)
+  mark = mark_token s.kind (from + at + n) (get_or rest 0 0)
+
+  in_rest : IsInFront rest (from + at + n) mark
+  in_rest = mark_seen rest (from + at + n) s.kind m.some s.is
+
+  in_front : IsInFront front (from + at) mark
+  in_front =
+      blank_past front (from + at) mark
+      (subst (λ (k : ℕ). IsInFront (drop k front) (from + at + k) mark) m.blanks
+      (subst (λ (r : List ℕ). IsInFront r (from + at + n) mark) m.rest_is in_rest))
 
   seen : IsInFront (drop at looked) (from + at) mark
-  seen = subst (λ (r : List ℕ). IsInFront r (from + at) mark) back (mark_seen rest (from + at) s.kind some s.is)
+  seen = subst (λ (r : List ℕ). IsInFront r (from + at) mark) m.front_is in_front
 
   mark_takes : (step_result : Result TokenStep LogFault) (at' : ℕ)
-      → StepsOver sig limits mark (at + 1) at p step_result at' q
+      → StepsOver sig limits mark (at + (n + 1)) at p step_result at' q
       → TakesToken sig limits from looked ended at p step_result at' q
   mark_takes step_result at' over =
       let e : next_token here ≡ Ok (Some mark) = seen.is ended in
-      let behind : (after here).at - from ≡ at + 1 = omega (arith, seen.behind ended) in
-      let within : at ≤ length looked = omega (arith, some, ap length back, length-drop at looked) in
-      steps_over sig limits from looked ended at p mark (at + 1)
+      let behind : (after here).at - from ≡ at + (n + 1) = omega (arith, seen.behind ended) in
+      steps_over sig limits from looked ended at p mark (at + (n + 1))
       (subst (TokenAt from looked ended at mark) behind (token_at_offset from looked ended at mark within e))
       within counted e step_result at' q over
 
-  pub mark_took : (u : U) → result ≡ Ok u → TakesToken sig limits from looked ended at p (Ok Took) (at + 1) q
+  pub mark_took : (u : U) → result ≡ Ok u → TakesToken sig limits from looked ended at p (Ok Took) (at + (n + 1)) q
   mark_took u e =
       let steps = subst (λ (r : Result U LogFault). Moves p q r (step sig limits p mark)) e (s.moves sig) in
-      mark_takes (Ok Took) (at + 1) (s.goes_on, steps, refl)
+      mark_takes (Ok Took) (at + (n + 1)) (s.goes_on, steps, refl)
 
   pub mark_halts : (fault : LogFault) → result ≡ Err fault
       → TakesToken sig limits from looked ended at p (Err fault) at q

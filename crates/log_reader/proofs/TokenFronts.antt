@@ -189,7 +189,7 @@ in_front_of b bytes at t true is f = blank_in_front b bytes at t is f
 in_front_of b bytes at t false is f =
     let same : at + 0 ≡ at = omega arith in subst (λ (n : ℕ). IsInFront (b ∷ bytes) n t) same f
 
-blank_past : (bytes : List ℕ) (at : ℕ) (t : Lexeme)
+pub blank_past : (bytes : List ℕ) (at : ℕ) (t : Lexeme)
     → IsInFront (drop (blank_before bytes) bytes) (at + blank_before bytes) t → IsInFront bytes at t
 blank_past [] at t f = let same : at + 0 ≡ at = omega arith in subst (λ (n : ℕ). IsInFront [] n t) same f
 blank_past (b ∷ bytes) at t f = in_front_of b bytes at t (is_space b) refl f

@@ -5,12 +5,12 @@ ghost use Rattle.log_reader.specs.declared.next.Next.TheVariants.{More};
 ghost use Rattle.log_reader.specs.Partials.{blank};
 ghost use Rattle.log_reader.specs.Quick.{TakesQuick};
 ghost use Rattle.log_reader.specs.Soundness.{IsWithin, AnswersDue, StandsOn, is_wanting, CountsOn};
-ghost use Rattle.log_reader.specs.Cursors.{StepsOver, TakesToken, Advances, IsCounted, given_of};
+ghost use Rattle.log_reader.specs.Cursors.{StepsOver, TakesToken, PassesMark, Advances, IsCounted, given_of};
 ghost use Rattle.log_reader.specs.Stretches.{Waits, place_in};
 ghost use Rattle.log_reader.specs.Tokens.{Finds};
 
 use crate::fault::LogFault;
-use crate::front::token_before;
+use crate::front::{blank_before, token_before};
 use crate::grammar::read_on;
 use crate::limits::{Limits, Look};
 use crate::next::Next;
@@ -149,37 +149,43 @@ impl<'a> Cursor<'a> {
                 self.at += count;
                 Ok(TokenStep::Took)
             }
-            None => self.take_marked(alloc, look, sig, limits),
+            None => match self.take_marked(alloc, look, limits) {
+                Ok(true) => Ok(TokenStep::Took),
+                Ok(false) => self.lex_token(alloc, look, sig, limits),
+                Err(fault) => Err(fault),
+            },
         }
     }
 
+    // Takes a mark straight from the bytes, behind one blank at most: whether there is one.
     fn take_marked(
         &mut self,
         alloc: Global,
         look: Look<'_>,
-        sig: &'a Signature,
         limits: &Limits,
-    ) -> Result<TokenStep, LogFault>
+    ) -> Result<bool, LogFault>
         requires within { self.old.at ≤ length look.bytes.now }
         requires small { look.from + length look.bytes.now < 2 ^ 63 }
         requires counted { IsCounted self.old.partial }
-        ensures { TakesToken sig.now limits.now look.entry.from look.entry.bytes.now look.entry.ended
-            self.old.at self.old.partial result self.new.at self.new.partial }
+        ensures { PassesMark limits.now look.entry.from look.entry.bytes.now look.entry.ended self.old.at
+            self.old.partial result self.new.at self.new.partial }
     {
-        let (_, rest) = look.bytes.split_at(self.at);
+        let (_, front) = look.bytes.split_at(self.at);
+        let blanks = blank_before(front);
+        let (_, rest) = front.split_at(blanks);
         let [first, ..] = rest else {
-            return self.lex_token(alloc, look, sig, limits);
+            return Ok(false);
         };
-        let place = (look.from + self.at) as u64;
+        let place = (look.from + self.at + blanks) as u64;
         match self.partial.take_mark(alloc, limits, place, *first) {
+            None => Ok(false),
             Some(stepped) => match stepped {
                 Ok(()) => {
-                    self.at += 1;
-                    Ok(TokenStep::Took)
+                    self.at += blanks + 1;
+                    Ok(true)
                 }
                 Err(fault) => Err(fault),
             },
-            None => self.lex_token(alloc, look, sig, limits),
         }
     }
 

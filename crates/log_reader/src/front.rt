@@ -17,8 +17,8 @@ fn is_space(b: u8) -> bool
     matches!(b, b' ' | b'\t' | b'\r' | b'\n')
 }
 
-// How many bytes of blanks are in front, if there is one at most.
-fn blank_before(bytes: &[u8]) -> usize
+/// How many bytes of blanks are in front, if there is one at most.
+pub fn blank_before(bytes: &[u8]) -> usize
     ensures is { result ≡ blank_before bytes.now }
     ensures within { result ≤ length bytes.now }
 {

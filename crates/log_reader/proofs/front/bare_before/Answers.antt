@@ -1,4 +1,4 @@
-use Rattle.std.proofs.Common.{ℕ, sym, ◌∙◌}
+use Rattle.std.proofs.Common.{sym, ◌∙◌}
 use Rattle.log_reader.proofs.TokenFronts.{mark_at}
 use Rattle.log_reader.proofs.front.bare_before.Goals as goal
 

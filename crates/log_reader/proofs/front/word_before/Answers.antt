@@ -1,4 +1,3 @@
-use Rattle.std.proofs.Common.{ℕ, refl}
 use Rattle.log_reader.proofs.TokenFronts.{word_at}
 use Rattle.log_reader.proofs.front.word_before.Goals as goal
 

@@ -1,5 +1,5 @@
-use Rattle.std.proofs.Common.{◌≡◌, ◌-◌, ℕ, Option, Ok, Err, Some, None, option_map, refl, sym, ap, subst, ◌∙◌}
-use Rattle.mfotl_lex.specs.Lexemes.{lexeme, next_token, after}
+use Rattle.std.proofs.Common.{◌≡◌, Option, Ok, Err, Some, None, option_map, refl, ap, ◌∙◌}
+use Rattle.mfotl_lex.specs.Lexemes.{lexeme, next_token}
 use Rattle.mfotl_lex.specs.declared.token.Token.{Token}
 use Rattle.log_reader.specs.Stretches.{place_in}
 use Rattle.log_reader.specs.Tokens.{Finds}
