@@ -103,6 +103,22 @@ changed_more {X} h twice table k x u old cur new low is before step =
     by false true e = ap h e
     by false false e = e
 
+-- one row of a table whose items are changed, before the rest of it
+pub changed_rest : {X : Type 0} (h : X → X) → ((xs : X) → h (h xs) ≡ h xs)
+    → (x : List Value) (rest : List (List Value)) (u : List Value) (cur new : X)
+    → new ≡ cond (is_at (row_cmp x) u) (h cur) cur
+    → cond (has_row rest u) (h new) new ≡ cond (has_row (x ∷ rest) u) (h cur) cur
+changed_rest {X} h twice x rest u cur new step =
+    ap (λ n. cond (has_row rest u) (h n) n) (step ∙ ap (λ b. cond b (h cur) cur)
+    ((eq_by_cmp_equiv row_total).symm x u))
+    ∙ by (is_at (row_cmp u) x) (has_row rest u)
+  where
+    by : (a b : Bool) → cond b (h (cond a (h cur) cur)) (cond a (h cur) cur) ≡ cond (a || b) (h cur) cur
+    by true true = twice cur
+    by true false = refl
+    by false true = refl
+    by false false = refl
+
 -- one more start that is kept
 pub kept_more : (table : List (List Value)) (k : ℕ) (row w : List Value) (starts : List Value → ℕ) (s : ℕ)
     (cur new : List (List Value × ℕ)) → k < length table → row ≡ get_or table k row → s ≡ starts row

@@ -56,7 +56,8 @@ pub fn expire(
         let Some(old) = queue.pop_front() else {
             return;
         };
-        forget_rows(rows, old.rights.as_slice(), next);
-        forget_breaks(starts, negated, old.breaks.as_slice(), next);
+        let Taken { rights, breaks, .. } = old;
+        forget_rows(rows, rights, next);
+        forget_breaks(starts, negated, breaks.as_slice(), next);
     }
 }

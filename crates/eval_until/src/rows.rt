@@ -19,6 +19,7 @@ use mfotl_model::{Interval, Row};
 use relations::part_of;
 use std::alloc::{AllocError, Global};
 use std::collections::HashMap;
+use std::collections::hash_map::Entry as Slot;
 
 // the entries of a row, with one more
 fn add_entry(
@@ -67,25 +68,32 @@ pub fn add_rows(
 }
 
 // forgets what stands before the position `next`, of one row
-fn forget_row(rows: &mut HashMap<Row, Entries>, row: &Row, next: u64)
+fn forget_row(rows: &mut HashMap<Row, Entries>, row: Row, next: u64)
     ensures entries { (u : List Value) → entries_of rows.new.entries u
-        ≡ cond (is_at (row_cmp row.now) u) (from_place next (entries_of rows.old.entries u))
+        ≡ cond (is_at (row_cmp row) u) (from_place next (entries_of rows.old.entries u))
         (entries_of rows.old.entries u) }
     ensures some { NoneEmpty rows.old.entries → NoneEmpty rows.new.entries }
 {
-    let Some(entries) = rows.get_mut(row) else {
-        return;
+    let slot = match rows.entry(row) {
+        Ok(slot) => slot,
+        Err(_absent) => return,
     };
-    entries.forget(next);
-    if entries.is_empty() {
-        rows.remove(row);
+    match slot {
+        Slot::Occupied(mut kept) => {
+            let entries = kept.get_mut();
+            entries.forget(next);
+            if entries.is_empty() {
+                kept.remove();
+            }
+        }
+        Slot::Vacant(vacant) => drop(vacant.into_key()),
     }
 }
 
 /// Forgets what stands before the position `next`, of these rows.
-pub fn forget_rows(rows: &mut HashMap<Row, Entries>, table: &[Row], next: u64)
+pub fn forget_rows(rows: &mut HashMap<Row, Entries>, table: Vec<Row>, next: u64)
     ensures entries { (u : List Value) → entries_of rows.new.entries u
-        ≡ cond (has_row table.now u) (from_place next (entries_of rows.old.entries u))
+        ≡ cond (has_row table.items u) (from_place next (entries_of rows.old.entries u))
         (entries_of rows.old.entries u) }
     ensures some { NoneEmpty rows.old.entries → NoneEmpty rows.new.entries }
 {

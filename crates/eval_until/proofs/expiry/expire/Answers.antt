@@ -23,8 +23,8 @@ loop-front-preserved c =
     let rising = subst (λ (queue : List Taken). Rising queue) is c.loop-front.invariant.rising in
     let low = front_before c.args.next c.loop-front.queue.items rest c.in-Some.front.now q is
     c.in-Some.ensures.lookup c.if-front-next.false in
-    let rows = rw c.as_slice.ensures.value at c.forget_rows.ensures.entries in
-    let starts = rw c.as_slice-in-Some.ensures.value at c.forget_breaks.ensures in
+    let rows = c.forget_rows.ensures.entries in
+    let starts = rw c.as_slice.ensures.value at c.forget_breaks.ensures in
     record {
       rows = λ u. thin_more c.args.next (entries_of c.args.rows.now.entries u)
           (entries_of c.loop-front.rows.entries u) (entries_of c.forget_rows.new.rows.entries u)
