@@ -5,7 +5,8 @@ ghost use Rattle.std.specs.List.{prefix_len};
 ghost use Rattle.mfotl_lex.specs.Bytes.{is_space, begins_plain_word, in_plain_word, in_log_word, in_text};
 ghost use Rattle.mfotl_lex.specs.Blanks.{blank_len, comment_len};
 
-fn is_space(b: u8) -> bool
+/// Whether the byte is whitespace.
+pub fn is_space(b: u8) -> bool
     ensures { result ≡ is_space b }
 {
     matches!(b, b' ' | b'\t' | b'\r' | b'\n')
@@ -49,8 +50,10 @@ pub fn plain_word_len(bytes: &[u8]) -> usize
     bytes.iter().take_while(|b| in_plain_word(**b)).count()
 }
 
+/// How many bytes of a log's Word stand at the front.
 pub fn log_word_len(bytes: &[u8]) -> usize
-    ensures { result ≡ prefix_len in_log_word bytes.now }
+    ensures count { result ≡ prefix_len in_log_word bytes.now }
+    ensures within { result ≤ length bytes.now }
 {
     bytes.iter().take_while(|b| in_log_word(**b)).count()
 }

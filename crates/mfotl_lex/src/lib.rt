@@ -7,13 +7,15 @@ mod fault;
 mod kind;
 pub mod laws;
 mod lexer;
-mod limits;
+pub mod limits;
 mod number;
 mod scan;
 mod token;
 
+pub use bytes::{is_space, log_word_len};
 pub use fault::{LexFault, LexFaultKind};
 pub use kind::{Kind, Mode};
 pub use lexer::Lexer;
 pub use number::read_integer;
+pub use scan::log_mark;
 pub use token::Token;

@@ -137,7 +137,8 @@ fn plain_mark(b: u8) -> Option<Kind>
     }
 }
 
-fn log_mark(b: u8) -> Option<Kind>
+/// The mark of logs that the byte is.
+pub fn log_mark(b: u8) -> Option<Kind>
     ensures { result ≡ log_mark b }
 {
     match b {

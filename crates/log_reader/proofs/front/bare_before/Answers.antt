@@ -5,4 +5,4 @@ use Rattle.log_reader.proofs.front.bare_before.Goals as goal
 pub returns-in-Some : goal.returns-in-Some
 returns-in-Some c =
     mark_at c.args.bytes.now c.args.at c.in-Some.kind _ c.in-len1-up.len_at_least
-    (sym c.mark_of.ensures ∙ c.in-Some.is) c.split_at.ensures.front
+    (sym c.log_mark.ensures ∙ c.in-Some.is) c.split_at.ensures.front

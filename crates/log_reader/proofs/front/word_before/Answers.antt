@@ -3,5 +3,5 @@ use Rattle.log_reader.proofs.front.word_before.Goals as goal
 
 pub returns : goal.returns
 returns c =
-    word_at c.args.bytes.now c.args.at c.word_len-count.result _ c.word_len-count.ensures.count c.if-count-eq0.false
-    c.if-count-gt-MOST_BYTES.false c.if-count-bytes.false c.word_len-count.ensures.within c.split_at.ensures.front
+    word_at c.args.bytes.now c.args.at c.log_word_len-count.result _ c.log_word_len-count.ensures.count c.if-count-eq0.false
+    c.if-count-gt-MAX_LOG_WORD.false c.if-count-bytes.false c.log_word_len-count.ensures.within c.split_at.ensures.front
