@@ -1,6 +1,6 @@
 //! What workers are handed, and what they give.
+use crate::boxed::{BoxedPiece, BoxedStrategy};
 use mfotl_model::TimePoint;
-use monitor_state::Piece;
 use slice_strategy::Strategy;
 use verdict_merge::Rows;
 
@@ -16,13 +16,13 @@ pub enum Item {
     /// It splits what it keeps among the workers of the new strategy.
     Part {
         generation: u64,
-        old: Strategy,
-        new: Strategy,
+        old: BoxedStrategy,
+        new: BoxedStrategy,
     },
     /// It takes on what a worker of the old strategy kept.
     Adopt {
-        piece: Piece,
-        now: Strategy,
+        piece: BoxedPiece,
+        now: BoxedStrategy,
     },
 }
 
@@ -30,7 +30,7 @@ pub enum Item {
 #[derive(Drop)]
 pub enum Out {
     Rows(Rows),
-    Piece(Piece),
+    Piece(BoxedPiece),
 }
 
 /// What is read: a time-point, or a change to another strategy.

@@ -3,6 +3,7 @@
 //! step by step; a driver is main's part where workers run on threads.
 #![tactic(auto)]
 
+mod boxed;
 mod cell;
 mod driver;
 pub mod examples;
@@ -25,6 +26,7 @@ mod step;
 mod waiting;
 mod worker;
 
+pub use boxed::{BoxedPiece, BoxedStrategy};
 pub use driver::{Driver, Turn};
 pub use item::{Entry, Item, Out};
 pub use machine::Machine;

@@ -6,10 +6,10 @@ ghost use Rattle.rescale_core.specs.Slots.{TakesOut, first_ends, lacks, ready_of
 ghost use Rattle.rescale_core.specs.Waiting.{is_short};
 ghost use Rattle.rescale_core.specs.declared.slot.Slot.TheVariants.{Ready};
 
+use crate::boxed::{BoxedPiece, BoxedStrategy};
 use crate::item::Item;
 use crate::limits::MOST_WAITING;
 use crate::slot::Slot;
-use monitor_state::Piece;
 use slice_strategy::{Slicer, Strategy};
 use std::alloc::{AllocError, Global};
 use std::collections::VecDeque;
@@ -62,7 +62,7 @@ impl Queue {
         ensures { IfOk result (λ _. self.new ≡ self.old ++ rooms generation now.now count) }
     {
         for j in 0..count {
-            let now = now.copy(alloc)?;
+            let now = BoxedStrategy::copied(alloc, now)?;
             self.append(Slot::Room {
                 generation,
                 now,
@@ -96,10 +96,10 @@ impl Queue {
     }
 
     /// Puts the piece where the first of its generation is missing.
-    pub(crate) fn fill(&mut self, piece: Piece)
+    pub(crate) fn fill(&mut self, piece: BoxedPiece)
         ensures { self.new ≡ filled piece self.old }
     {
-        let found = first_lacking(&self.slots, piece.generation);
+        let found = first_lacking(&self.slots, piece.get().generation);
         let Some(at) = found else {
             return;
         };

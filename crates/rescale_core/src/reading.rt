@@ -5,6 +5,7 @@ ghost use Rattle.monitorable.specs.Cores.{core_form};
 ghost use Rattle.rescale_core.specs.Queues.{queue_at};
 ghost use Rattle.rescale_core.specs.Routing.{all_slices, part_below, place_below, slices_for};
 
+use crate::boxed::BoxedStrategy;
 use crate::item::Item;
 use crate::queue::Queue;
 use event_splitter::{is_whole, split};
@@ -99,8 +100,8 @@ pub(crate) fn push_parts(
     for k in 0..old.workers() {
         let item = Item::Part {
             generation,
-            old: old.copy(alloc)?,
-            new: new.copy(alloc)?,
+            old: BoxedStrategy::copied(alloc, old)?,
+            new: BoxedStrategy::copied(alloc, new)?,
         };
         let queue = &mut queues[k as usize];
         queue.push(item)?;

@@ -5,6 +5,7 @@ ghost use Rattle.monitorable.specs.Cores.{core_form};
 ghost use Rattle.rescale_core.specs.States.{IsFull};
 ghost use Rattle.rescale_core.specs.Working.{CanTake, Gave, GoesOn, IsOpen, Settles, TakesItem};
 
+use crate::boxed::BoxedPiece;
 use crate::item::{Item, Out};
 use crate::phase::Phase;
 use crate::worker::Worker;
@@ -34,7 +35,7 @@ impl Worker {
             unreachable!()
         };
         let pieces = split_state(alloc, monitor, strategy, self.number, &new, generation)?;
-        give_pieces(pieces, outs)?;
+        give_pieces(alloc, pieces, outs)?;
         self.phase = Phase::Vacant;
         Ok(())
     }
@@ -78,11 +79,11 @@ fn settle(alloc: Global, merging: Merging, now: Strategy, missing: u32) -> Resul
     }
 }
 
-fn give_pieces(pieces: Vec<Piece>, outs: &mut Vec<Out>) -> Result<(), AllocError>
+fn give_pieces(alloc: Global, pieces: Vec<Piece>, outs: &mut Vec<Out>) -> Result<(), AllocError>
     ensures { IfOk result (λ _. outs.new.items ≡ outs.old.items ++ map (λ p. Out.Piece p) pieces.items) }
 {
     for piece in pieces {
-        outs.push(Out::Piece(piece))?;
+        outs.push(Out::Piece(BoxedPiece::new(alloc, piece)?))?;
     }
     Ok(())
 }

@@ -8,12 +8,12 @@ ghost use Rattle.rescale_core.specs.Worlds.{pieces_in, ready_in, rows_in};
 ghost use Rattle.rescale_core.specs.Worlds.Step.{Read, Collect, Emit};
 ghost use Rattle.rescale_core.specs.declared.item.Entry.TheVariants.{Change, Point};
 
+use crate::boxed::BoxedPiece;
 use crate::item::{Item, Out};
 use crate::outstanding::{grow_counts, lower, none_outstanding, raise};
 use crate::queue::{Queue, none_wait};
 use crate::reading::{grow, push_parts, push_places, push_point};
 use mfotl_model::TimePoint;
-use monitor_state::Piece;
 use monitorable::Core;
 use slice_strategy::{Slicer, Strategy};
 use std::alloc::{AllocError, Global};
@@ -200,11 +200,11 @@ fn collect_all(
 }
 
 // The piece comes into its worker's queue.
-fn put(queues: &mut Vec<Queue>, piece: Piece)
+fn put(queues: &mut Vec<Queue>, piece: BoxedPiece)
     ensures len { length queues.new.items ≡ length queues.old.items }
     ensures filled { (q : ℕ) → queue_at queues.new.items q ≡ all_put q (piece ∷ []) (queue_at queues.old.items q) }
 {
-    let to = piece.to as usize;
+    let to = piece.get().to as usize;
     if to < queues.len() {
         let queue = &mut queues[to];
         queue.fill(piece);

@@ -2,9 +2,8 @@
 ghost use Rattle.std.specs.Prelude.{◌≡◌};
 ghost use Rattle.rescale_core.specs.Slots.{ends_place, is_there, item_in, lacks, put_in, weight_of};
 
+use crate::boxed::{BoxedPiece, BoxedStrategy};
 use crate::item::Item;
-use monitor_state::Piece;
-use slice_strategy::Strategy;
 
 /// An item, or room for a piece.
 #[derive(Drop)]
@@ -13,9 +12,9 @@ pub(crate) enum Slot {
     /// Room for a piece of this generation, whose strategy is `now`. `last` is said of the last one of a place.
     Room {
         generation: u64,
-        now: Strategy,
+        now: BoxedStrategy,
         last: bool,
-        piece: Option<Piece>,
+        piece: Option<BoxedPiece>,
     },
 }
 
@@ -78,7 +77,7 @@ impl Slot {
     }
 
     /// Puts the piece where there is room.
-    pub(crate) fn put(&mut self, piece: Piece)
+    pub(crate) fn put(&mut self, piece: BoxedPiece)
         ensures { self.new ≡ put_in piece self.old }
     {
         match self {

@@ -62,8 +62,8 @@ impl Worker {
                 generation,
                 old,
                 new,
-            } => self.part(alloc, generation, old, new, outs),
-            Item::Adopt { piece, now } => self.adopt(alloc, piece, now),
+            } => self.part(alloc, generation, old.into_inner(), new.into_inner(), outs),
+            Item::Adopt { piece, now } => self.adopt(alloc, piece.into_inner(), now.into_inner()),
         }
     }
 

@@ -1,10 +1,7 @@
-use Rattle.std.proofs.Common.{◌≡◌, ◌≤◌, ◌<◌, ◌++◌, ◌∷◌, [], sym, length, ap, ◌∙◌, arith}
-use Rattle.std.proofs.lemmas.List.FromFn.{length-map-range_with_len}
-use Rattle.mfotl_model.specs.Strategies.{workers_of}
+use Rattle.std.proofs.Common.{◌++◌, sym, length, ap, ◌∙◌, arith}
 use Rattle.monitorable.specs.Cores.{core_form}
 use Rattle.rescale_core.specs.Queues.{queue_at}
-use Rattle.rescale_core.specs.Routing.{all_slices, slices_for}
-use Rattle.rescale_core.specs.Workers.{slice_for}
+use Rattle.rescale_core.specs.Routing.{slices_for}
 use Rattle.rescale_core.proofs.ReadingLemmas.{parts_are, slices_len}
 use Rattle.rescale_core.proofs.reading.push_point.Goals as goal
 

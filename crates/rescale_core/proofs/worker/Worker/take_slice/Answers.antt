@@ -1,7 +1,7 @@
-use Rattle.std.proofs.Common.{sym, refl, ap, ◌∙◌, ◌++◌, subst, length, map}
+use Rattle.std.proofs.Common.{sym, refl, ap, subst, length}
 use Rattle.std.specs.List.{AllByRecursion}
 use Rattle.monitor_state.specs.MonitorView.{monitor_of}
-use Rattle.rescale_core.specs.Settlings.{HasWidth, IsKept, IsTabled, all_settled, row_out}
+use Rattle.rescale_core.specs.Settlings.{HasWidth, IsKept, all_settled}
 use Rattle.rescale_core.proofs.SliceLemmas.{slice_kept, takes_slice}
 use Rattle.rescale_core.proofs.worker.Worker.take_slice.Goals as goal
 
