@@ -1,5 +1,5 @@
 -- Places among queues, and what is put there.
-use Rattle.std.proofs.Common.{◌≡◌, ◌≢◌, ◌⊎◌, ℕ, zero, suc, ◌+◌, ◌<◌, ◌≤◌, cond, nat_eq}
+use Rattle.std.proofs.Common.{◌≡◌, ◌≢◌, ℕ, zero, suc, ◌+◌, ◌<◌, ◌≤◌, cond, nat_eq}
 use Rattle.std.proofs.Common.{List, [], ◌∷◌, ◌++◌, length, map, drop, get_or, min, set, take}
 use Rattle.std.proofs.Common.{sym, refl, ap, ◌∙◌, append-nil, append_assoc, arith, eq-eqb}
 use Rattle.std.proofs.Common.{get_or-set_other, get_or-set_same, ne_eqb}

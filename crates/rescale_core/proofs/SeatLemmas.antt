@@ -1,6 +1,6 @@
 -- What holds of worlds and seats still does where an entry is read, and an item is handed over or taken.
 use Rattle.std.proofs.Common.{◌≡◌, ℕ, ◌+◌, ◌<◌, ◌≤◌, Bool, true, false, cond, nat_eq}
-use Rattle.std.proofs.Common.{List, [], ◌∷◌, ◌++◌, length, map, filter, take, drop, sym, refl}
+use Rattle.std.proofs.Common.{List, [], ◌∷◌, ◌++◌, length, filter, take, drop, sym, refl}
 use Rattle.std.proofs.Common.{ap, ◌∙◌}
 use Rattle.std.proofs.Common.{subst, append_assoc, arith, eq-eqb, ne_eqb, eqb-true}
 use Rattle.std.proofs.Common.{length-append}
