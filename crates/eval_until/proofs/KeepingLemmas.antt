@@ -13,7 +13,7 @@ use Rattle.mfotl_model.specs.declared.interval.Interval.{Interval}
 use Rattle.mfotl_model.specs.declared.value.Value.{Value}
 use Rattle.relations.proofs.TableRows.{all_rows, lacks_other}
 use Rattle.relations.specs.Pushed.{turned}
-use Rattle.eval_until.specs.declared.ahead.Taken.{Taken}
+use Rattle.eval_until.specs.declared.contents.Taken.{Taken}
 use Rattle.eval_until.specs.declared.entries.Entry.{Entry}
 use Rattle.eval_until.specs.Entries.{entries_of, meets, met_by}
 use Rattle.eval_until.specs.Keeping.{Below, Covered, CoveredStarts, Fresh, IsLater, IsThinned, Keeps, NotAfter}

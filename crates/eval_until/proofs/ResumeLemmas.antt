@@ -24,7 +24,7 @@ use Rattle.eval_until.specs.Recalled.{broken, named}
 use Rattle.eval_until.specs.Rules.{Ascending, NoneEmpty, PlacesAscend, StartsAbove, StartsBelow, Waiting}
 use Rattle.eval_until.specs.Starts.{kept_start}
 use Rattle.eval_until.specs.UntilView.{Follows, FollowsLeft}
-use Rattle.eval_until.specs.declared.ahead.Taken.{Taken}
+use Rattle.eval_until.specs.declared.contents.Taken.{Taken}
 use Rattle.eval_until.specs.declared.entries.Entry.{Entry}
 
 low_all : (m : ℕ) (qs : List Taken) → ((j : ℕ) (d : Taken) → j < length qs → m ≤ (get_or qs j d).place)

@@ -5,7 +5,7 @@ use Rattle.std.specs.List.{list_any, list_all}
 use Rattle.std.specs.Option.{IfSome}
 use Rattle.mfotl_model.specs.Tables.{all_apart, has_row}
 use Rattle.mfotl_model.specs.declared.value.Value.{Value}
-use Rattle.eval_until.specs.declared.ahead.Taken.{Taken}
+use Rattle.eval_until.specs.declared.contents.Taken.{Taken}
 use Rattle.eval_until.specs.declared.entries.Entry.{Entry}
 use Rattle.eval_until.specs.Entries.{entries_of, from_place}
 use Rattle.eval_until.specs.Rules.{Ascending, NoneEmpty, StartsBelow}

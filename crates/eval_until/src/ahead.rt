@@ -5,136 +5,26 @@ ghost use Rattle.std.specs.List.Sorted.{IsStrictlySortedBy};
 ghost use Rattle.relations.specs.KeptRows.{RowsAscend};
 ghost use Rattle.eval_until.specs.Recalled.{entries_kept, starts_kept};
 ghost use Rattle.mfotl_model.specs.Intervals.{in_interval};
-ghost use Rattle.mfotl_model.specs.Tables.{all_apart, all_sized, has_row, part};
+ghost use Rattle.mfotl_model.specs.Tables.{all_apart, has_row, part};
 ghost use Rattle.mfotl_model.specs.Values.{row_cmp};
 ghost use Rattle.mfotl_model.specs.declared.value.Value.{Value};
 ghost use Rattle.relations.specs.Pushed.{turned};
 ghost use Rattle.eval_until.specs.AheadView.{AheadOf, met, run_start};
-ghost use Rattle.eval_until.specs.Entries.{entries_of};
-ghost use Rattle.eval_until.specs.Keeping.{Keeps, Queues, Sized};
+ghost use Rattle.eval_until.specs.Keeping.{Sized};
 ghost use Rattle.eval_until.specs.Rules.{Ascending, NoneEmpty, StartsAbove, StartsBelow, Waiting};
-ghost use Rattle.eval_until.specs.Starts.{kept_start, start_of, start_taken};
 
+use crate::contents::{Contents, take_position};
 use crate::entries::Entries;
 use crate::expiry::expire;
 use crate::ordered::{hashed_rows, hashed_starts, ordered_rows};
 use crate::rebuild::{kept_marks, kept_starts, queue_of};
 use crate::recalled::{KeptMarks, KeptStart};
-use crate::rows::{add_rows, push_met, row_met};
-use crate::start_map::StartMap;
-use crate::starts::apply_left;
+use crate::rows::{push_met, row_met};
 use mfotl_model::{Interval, Row};
 use relations::Table;
 use std::alloc::{AllocError, Global};
-use std::collections::{BTreeMap, HashMap, VecDeque};
+use std::collections::{BTreeMap, VecDeque};
 use std::marker::Model;
-
-/// The rows of the tables of one position: the right operand's, and those of a negated left one, whose
-/// runs break there.
-#[derive(Drop)]
-pub struct Taken {
-    pub place: u64,
-    pub rights: Vec<Row>,
-    pub breaks: Vec<Row>,
-}
-
-/// What is kept of the positions that were taken, and the rows that it came with, by their positions,
-/// so that what is pulled is found.
-#[derive(Drop)]
-struct Contents {
-    starts: StartMap,
-    rows: HashMap<Row, Entries>,
-    queue: VecDeque<Taken>,
-}
-
-fn no_contents(alloc: Global) -> Contents
-    ensures starts { result.starts ≡ [] }
-    ensures rows { result.rows.entries ≡ [] }
-    ensures queue { result.queue.items ≡ [] }
-{
-    Contents {
-        starts: StartMap::new(alloc),
-        rows: HashMap::new(alloc),
-        queue: VecDeque::new(alloc),
-    }
-}
-
-// the rows of the left operand's table that the queue needs: none where it is not negated
-fn breaks_of(alloc: Global, negated: bool, lefts: Table) -> Vec<Row>
-    ensures { negated ≡ true → result.items ≡ lefts.rows }
-{
-    if negated {
-        lefts.into_rows()
-    } else {
-        Vec::new(alloc)
-    }
-}
-
-// a position without rows isn't looked for when it is pulled
-fn put_taken(queue: &mut VecDeque<Taken>, taken: Taken) -> Result<(), AllocError>
-    ensures { OnOk result (Queues queue.old.items taken queue.new.items) }
-{
-    if taken.rights.is_empty() && taken.breaks.is_empty() {
-        return Ok(());
-    }
-    queue.push_back(taken)?;
-    Ok(())
-}
-
-/// One position more: the right operand's rows, then the left operand's.
-fn take_position(
-    alloc: Global,
-    contents: &mut Contents,
-    left: &[u32],
-    right: &[u32],
-    negated: bool,
-    lefts: Table,
-    rights: Table,
-    pulled: u64,
-    place: u64,
-    ts: u64,
-) -> Result<(), AllocError>
-    requires kept { Keeps negated right.now pulled place contents.old.starts contents.old.rows.entries contents.old.queue.items }
-    requires columns { rights.columns ≡ right.now }
-    requires low { pulled ≤ place }
-    requires few { place < 2 ^ 63 }
-    ensures rows { OnOk result ((u : List Value) → entries_of contents.new.rows.entries u
-        ≡ cond (has_row rights.rows u) (entries_of contents.old.rows.entries u ++ record { place = place; start = start_of negated place contents.old.starts (part right.now left.now u); ts = ts } ∷ [])
-        (entries_of contents.old.rows.entries u)) }
-    ensures starts { OnOk result ((w : List Value) → kept_start contents.new.starts w
-        ≡ start_taken negated place lefts.rows contents.old.starts w) }
-    ensures kept { OnOk result (
-        Keeps negated right.now pulled (place + 1) contents.new.starts contents.new.rows.entries contents.new.queue.items) }
-{
-    let Contents {
-        starts,
-        rows,
-        queue,
-    } = contents;
-    add_rows(
-        alloc,
-        rows,
-        starts,
-        right,
-        left,
-        negated,
-        rights.rows(),
-        place,
-        ts,
-    )?;
-    apply_left(alloc, starts, negated, lefts.rows(), place)?;
-    let rights = rights.into_rows();
-    let breaks = breaks_of(alloc, negated, lefts);
-    put_taken(
-        queue,
-        Taken {
-            place,
-            rights,
-            breaks,
-        },
-    )?;
-    Ok(())
-}
 
 /// What UNTIL has seen from the next position on.
 #[derive(Drop)]
@@ -179,7 +69,7 @@ impl Ahead {
             negated,
             pulled: 0,
             taken: 0,
-            contents: no_contents(alloc),
+            contents: Contents::new(alloc),
         }
     }
 
@@ -301,7 +191,7 @@ impl Ahead {
                 Ok(())
             }
             Err(error) => {
-                self.contents = no_contents(alloc);
+                self.contents = Contents::new(alloc);
                 Err(error)
             }
         }

@@ -7,7 +7,7 @@ ghost use Rattle.eval_until.specs.Keeping.{breaks_before, names};
 ghost use Rattle.eval_until.specs.Recalled.{entry_at};
 ghost use Rattle.eval_until.specs.Rules.{PlacesAscend, all_before};
 
-use crate::ahead::Taken;
+use crate::contents::Taken;
 use crate::meeting::meets;
 use crate::rebuild::row_taken;
 use crate::recalled::Mark;

@@ -7,7 +7,7 @@ ghost use Rattle.eval_until.specs.Keeping.{Covered, CoveredStarts, Fresh, IsLate
 ghost use Rattle.eval_until.specs.Rules.{NoneEmpty};
 ghost use Rattle.eval_until.specs.Starts.{kept_start, later_start};
 
-use crate::ahead::Taken;
+use crate::contents::Taken;
 use crate::entries::Entries;
 use crate::rows::forget_rows;
 use crate::start_map::StartMap;

@@ -2,6 +2,7 @@
 #![tactic(auto)]
 
 mod ahead;
+mod contents;
 mod entries;
 pub mod examples;
 mod expiry;

@@ -8,7 +8,7 @@ ghost use Rattle.eval_until.specs.Keeping.{Rising, breaks_before, names};
 ghost use Rattle.eval_until.specs.Recalled.{broken, entries_kept, entry_at, named, starts_kept};
 ghost use Rattle.eval_until.specs.Rules.{PlacesAscend};
 
-use crate::ahead::Taken;
+use crate::contents::Taken;
 use crate::entries::{Entries, Entry};
 use crate::recalled::{KeptMarks, KeptStart, Mark};
 use mfotl_model::Row;

@@ -1,6 +1,6 @@
 use Rattle.std.proofs.Common.{◌≡◌, ◌∷◌, List, subst}
 use Rattle.mfotl_model.specs.Tables.{has_row}
-use Rattle.eval_until.specs.declared.ahead.Taken.{Taken}
+use Rattle.eval_until.specs.declared.contents.Taken.{Taken}
 use Rattle.eval_until.specs.Entries.{entries_of}
 use Rattle.eval_until.specs.Keeping.{Covered, CoveredStarts, NotAfter, Rising}
 use Rattle.eval_until.specs.Starts.{kept_start}

@@ -3,7 +3,7 @@ use Rattle.std.proofs.lemmas.List.Sorted.{IsNonDecreasingBy-from_sort_by_key, li
 use Rattle.std.specs.List.{list_all}
 use Rattle.mfotl_model.specs.Tables.{has_row}
 use Rattle.eval_until.specs.Keeping.{Rising, breaks_before, names}
-use Rattle.eval_until.specs.declared.ahead.Taken.{Taken}
+use Rattle.eval_until.specs.declared.contents.Taken.{Taken}
 use Rattle.relations.proofs.TestLemmas.{all_moved}
 use Rattle.eval_until.proofs.ResumeLemmas.{rising_from}
 use Rattle.eval_until.proofs.rebuild.in_order.Goals as goal

@@ -4,7 +4,7 @@ use Rattle.mfotl_model.specs.Tables.{has_row}
 use Rattle.mfotl_model.specs.declared.value.Value.{Value}
 use Rattle.eval_until.specs.Keeping.{names}
 use Rattle.eval_until.specs.Recalled.{named}
-use Rattle.eval_until.specs.declared.ahead.Taken.{Taken}
+use Rattle.eval_until.specs.declared.contents.Taken.{Taken}
 use Rattle.eval_until.specs.declared.entries.Entry.{Entry}
 use Rattle.relations.proofs.TestLemmas.{and_true}
 use Rattle.eval_until.proofs.rebuild.push_rows.Goals as goal

@@ -1,7 +1,7 @@
 use Rattle.std.proofs.Common.{◌≡◌, ℕ, ◌&&◌, ◌-◌, List, [], sym, ap, ◌∙◌, rules}
 use Rattle.std.specs.List.{list_all}
 use Rattle.mfotl_model.specs.declared.value.Value.{Value}
-use Rattle.eval_until.specs.declared.ahead.Taken.{Taken}
+use Rattle.eval_until.specs.declared.contents.Taken.{Taken}
 use Rattle.relations.proofs.TestLemmas.{and_true}
 use Rattle.eval_until.proofs.rebuild.push_starts.Goals as goal
 

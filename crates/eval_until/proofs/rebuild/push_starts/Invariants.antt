@@ -3,7 +3,7 @@ use Rattle.std.specs.List.{list_all}
 use Rattle.mfotl_model.specs.declared.value.Value.{Value}
 use Rattle.eval_until.specs.Keeping.{breaks_before, names}
 use Rattle.eval_until.specs.Recalled.{broken}
-use Rattle.eval_until.specs.declared.ahead.Taken.{Taken}
+use Rattle.eval_until.specs.declared.contents.Taken.{Taken}
 use Rattle.eval_until.proofs.rebuild.push_starts.Given as goal
 
 abbrev pub invariant-loop-row : goal.invariant-loop-row

@@ -1,6 +1,5 @@
-use Rattle.std.proofs.Common.{Some, None, ap, cond, false, ◌∙◌}
-use Rattle.mfotl_model.specs.Values.{row_cmp}
-use Rattle.eval_until.specs.Starts.{kept_start, start_of}
+use Rattle.std.proofs.Common.{false}
+use Rattle.eval_until.specs.Starts.{start_of}
 use Rattle.eval_until.proofs.StartLemmas.{only_put}
 use Rattle.eval_until.proofs.starts.begin_alone.Goals as goal
 

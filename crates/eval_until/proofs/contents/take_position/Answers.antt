@@ -1,8 +1,8 @@
 use Rattle.std.proofs.Common.{◌+◌, ℕ, List, length, sym, ap, ◌∙◌}
 use Rattle.mfotl_model.specs.Tables.{all_sized}
-use Rattle.eval_until.specs.declared.ahead.Taken.{Taken}
+use Rattle.eval_until.specs.declared.contents.Taken.{Taken}
 use Rattle.eval_until.proofs.KeepingLemmas.{all_before_taken, kept_queued, kept_taken}
-use Rattle.eval_until.proofs.ahead.take_position.Goals as goal
+use Rattle.eval_until.proofs.contents.take_position.Goals as goal
 
 pub add_rows-requires-clause-before : goal.add_rows-requires-clause-before
 add_rows-requires-clause-before c =
