@@ -6,3 +6,5 @@ pub mod NodeCuts
 pub mod CutLaw
 pub mod FitLemmas
 pub mod SieveLemmas
+pub mod ShareLemmas
+pub mod WindowLemmas

@@ -1,9 +1,11 @@
--- When the rows of a state have a value for each of their columns.
+-- When the rows of a state have a value for each of their columns, and what is cut of it where they have.
 use Rattle.std.specs.Prelude.{◌≡◌, ℕ, true, nat_eq, List, length}
 use Rattle.std.specs.List.{AllByRecursion}
 use Rattle.mfotl_model.specs.declared.value.Value.{Value}
 use Rattle.eval_since.specs.Recalled.{times_kept}
 use Rattle.eval_until.specs.Recalled.{starts_kept}
+use Rattle.mfotl_model.specs.Regions.{Region}
+use Rattle.monitor_state.specs.StateCuts.{NodeCut, WindowCut}
 use Rattle.monitor_state.specs.StateStands.{marks_kept}
 use Rattle.monitor_state.specs.declared.state.NodeData.{NodeData}
 use Rattle.monitor_state.specs.declared.state.NodeData.TheVariants as kept
@@ -11,6 +13,7 @@ use Rattle.monitor_state.specs.declared.state.SinceKept.{SinceKept}
 use Rattle.monitor_state.specs.declared.state.UntilKept.{UntilKept}
 use Rattle.monitor_state.specs.declared.state.WindowData.{WindowData}
 use Rattle.monitor_state.specs.declared.state.WindowData.TheVariants as window
+use Rattle.state_split.specs.Shares.{OneEach}
 
 -- each of the rows has
 abbrev pub RowsFit : {X : Type 0} → List ℕ → List (List Value × X) → Type 0
@@ -39,3 +42,11 @@ NodeFits other = Unit {0}
 -- those of all nodes
 abbrev pub NodesFit : List NodeData → Type 0
 NodesFit nodes = AllByRecursion NodeFits nodes
+
+-- there is a cut of the window for each of so many workers, to the worker's region
+abbrev pub CutWindows : ℕ → (ℕ → Region) → WindowData → List WindowData → Type 0
+CutWindows count near old cuts = OneEach count (λ k cut. WindowFits old → WindowCut (near k) old cut) cuts
+
+-- the same of a node
+abbrev pub CutNodes : ℕ → (ℕ → Region) → NodeData → List NodeData → Type 0
+CutNodes count near old cuts = OneEach count (λ k cut. NodeFits old → NodeCut (near k) old cut) cuts

@@ -3,10 +3,12 @@
 
 mod both;
 pub mod examples;
+mod kept;
 pub mod laws;
 mod nodes;
 mod rows;
-mod sieve;
+mod shares;
+mod sorter;
 mod split;
 mod tables;
 mod windows;

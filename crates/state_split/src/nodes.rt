@@ -1,132 +1,171 @@
-//! States without the rows outside a region, node by node.
+//! Nodes cut for workers, one by one: each worker gets the rows in its region.
 ghost use Rattle.std.specs.Prelude.{IfOk};
-ghost use Rattle.monitor_state.specs.StateCuts.{JoinCut, NextCut, NodeCut, NodesCut, OrCut, PreviousCut, StateCut};
-ghost use Rattle.state_split.specs.Fits.{NodeFits, NodesFit};
+ghost use Rattle.monitor_state.specs.StateCuts.{NodesCut};
+ghost use Rattle.monitor_state.specs.declared.state.NodeData.TheVariants.{Bare, Join, Or, Previous, Next, Window, Filter};
+ghost use Rattle.state_split.specs.Fits.{CutNodes, NodesFit};
+ghost use Rattle.state_split.specs.Shares.{OneEach};
 
-use crate::sieve::Sieve;
+use crate::shares::{empty_shares, longer, paired};
+use crate::sorter::Sorter;
 use crate::tables::{cut_lists, cut_tables};
 use crate::windows::cut_window;
 use eval_bool::{JoinData, OrData};
 use eval_since::PrevData;
 use eval_until::NextData;
-use monitor_state::{NodeData, State};
+use monitor_state::{NodeData, WindowData};
+use relations::Table;
 use std::alloc::{AllocError, Global};
 
-fn cut_join<S: Sieve>(alloc: Global, sieve: &S, join: &JoinData) -> Result<JoinData, AllocError>
-    requires { S.tells sieve.now }
-    ensures { IfOk result (JoinCut (S.region sieve.now) join.now) }
+fn bare<S: Sorter>(alloc: Global, sorter: &S) -> Result<Vec<NodeData>, AllocError>
+    ensures { IfOk result (λ cuts.
+        CutNodes (S.count sorter.now) (S.region sorter.now) Bare cuts.items) }
 {
-    let tables = cut_lists(alloc, sieve, &join.tables)?;
-    Ok(JoinData {
-        pulled: join.pulled,
-        tables,
-    })
+    let workers = sorter.workers();
+    let mut cuts = Vec::with_capacity(alloc, workers as usize)?;
+    for _ in 0..workers {
+        cuts.push(NodeData::Bare)?;
+    }
+    Ok(cuts)
 }
 
-fn cut_or<S: Sieve>(alloc: Global, sieve: &S, or: &OrData) -> Result<OrData, AllocError>
-    requires { S.tells sieve.now }
-    ensures { IfOk result (OrCut (S.region sieve.now) or.now) }
+fn cut_join<S: Sorter>(alloc: Global, sorter: &S, join: JoinData) -> Result<Vec<NodeData>, AllocError>
+    requires { S.tells sorter.now }
+    ensures { IfOk result (λ cuts.
+        CutNodes (S.count sorter.now) (S.region sorter.now) (Join join) cuts.items) }
 {
-    let lefts = cut_tables(alloc, sieve, &or.lefts)?;
-    let rights = cut_tables(alloc, sieve, &or.rights)?;
-    Ok(OrData {
-        pulled: or.pulled,
-        lefts,
-        rights,
-    })
+    let lists = cut_lists(alloc, sorter, join.tables)?;
+    let mut cuts = Vec::with_capacity(alloc, lists.len())?;
+    for tables in lists {
+        cuts.push(NodeData::Join(JoinData {
+            pulled: join.pulled,
+            tables,
+        }))?;
+    }
+    Ok(cuts)
 }
 
-fn cut_previous<S: Sieve>(
+fn cut_or<S: Sorter>(alloc: Global, sorter: &S, or: OrData) -> Result<Vec<NodeData>, AllocError>
+    requires { S.tells sorter.now }
+    ensures { IfOk result (λ cuts.
+        CutNodes (S.count sorter.now) (S.region sorter.now) (Or or) cuts.items) }
+{
+    let lefts = cut_tables(alloc, sorter, or.lefts)?;
+    let rights = cut_tables(alloc, sorter, or.rights)?;
+    let pairs = paired(alloc, lefts, rights)?;
+    let mut cuts = Vec::with_capacity(alloc, pairs.len())?;
+    for (lefts, rights) in pairs {
+        cuts.push(NodeData::Or(OrData {
+            pulled: or.pulled,
+            lefts,
+            rights,
+        }))?;
+    }
+    Ok(cuts)
+}
+
+fn cut_previous<S: Sorter>(
     alloc: Global,
-    sieve: &S,
-    previous: &PrevData,
-) -> Result<PrevData, AllocError>
-    requires { S.tells sieve.now }
-    ensures { IfOk result (PreviousCut (S.region sieve.now) previous.now) }
+    sorter: &S,
+    previous: PrevData,
+) -> Result<Vec<NodeData>, AllocError>
+    requires { S.tells sorter.now }
+    ensures { IfOk result (λ cuts.
+        CutNodes (S.count sorter.now) (S.region sorter.now) (Previous previous) cuts.items) }
 {
-    let tables = cut_tables(alloc, sieve, &previous.tables)?;
-    Ok(PrevData {
-        pulled: previous.pulled,
-        tables,
-    })
+    let lists = cut_tables(alloc, sorter, previous.tables)?;
+    let mut cuts = Vec::with_capacity(alloc, lists.len())?;
+    for tables in lists {
+        cuts.push(NodeData::Previous(PrevData {
+            pulled: previous.pulled,
+            tables,
+        }))?;
+    }
+    Ok(cuts)
 }
 
-fn cut_next<S: Sieve>(alloc: Global, sieve: &S, next: &NextData) -> Result<NextData, AllocError>
-    requires { S.tells sieve.now }
-    ensures { IfOk result (NextCut (S.region sieve.now) next.now) }
+fn cut_next<S: Sorter>(alloc: Global, sorter: &S, next: NextData) -> Result<Vec<NodeData>, AllocError>
+    requires { S.tells sorter.now }
+    ensures { IfOk result (λ cuts.
+        CutNodes (S.count sorter.now) (S.region sorter.now) (Next next) cuts.items) }
 {
-    let tables = cut_tables(alloc, sieve, &next.tables)?;
-    Ok(NextData {
-        pulled: next.pulled,
-        started: next.started,
-        tables,
-    })
+    let lists = cut_tables(alloc, sorter, next.tables)?;
+    let mut cuts = Vec::with_capacity(alloc, lists.len())?;
+    for tables in lists {
+        cuts.push(NodeData::Next(NextData {
+            pulled: next.pulled,
+            started: next.started,
+            tables,
+        }))?;
+    }
+    Ok(cuts)
 }
 
-fn cut_node<S: Sieve>(alloc: Global, sieve: &S, node: &NodeData) -> Result<NodeData, AllocError>
-    requires { S.tells sieve.now }
-    ensures { IfOk result (λ cut. NodeFits node.now → NodeCut (S.region sieve.now) node.now cut) }
+fn cut_behind<S: Sorter>(
+    alloc: Global,
+    sorter: &S,
+    window: WindowData,
+) -> Result<Vec<NodeData>, AllocError>
+    requires { S.tells sorter.now }
+    ensures { IfOk result (λ cuts.
+        CutNodes (S.count sorter.now) (S.region sorter.now) (Window window) cuts.items) }
+{
+    let windows = cut_window(alloc, sorter, window)?;
+    let mut cuts = Vec::with_capacity(alloc, windows.len())?;
+    for window in windows {
+        cuts.push(NodeData::Window(window))?;
+    }
+    Ok(cuts)
+}
+
+fn cut_filter<S: Sorter>(
+    alloc: Global,
+    sorter: &S,
+    tables: Vec<Table>,
+    window: WindowData,
+) -> Result<Vec<NodeData>, AllocError>
+    requires { S.tells sorter.now }
+    ensures { IfOk result (λ cuts.
+        CutNodes (S.count sorter.now) (S.region sorter.now) (Filter tables window) cuts.items) }
+{
+    let lists = cut_tables(alloc, sorter, tables)?;
+    let windows = cut_window(alloc, sorter, window)?;
+    let pairs = paired(alloc, lists, windows)?;
+    let mut cuts = Vec::with_capacity(alloc, pairs.len())?;
+    for (tables, window) in pairs {
+        cuts.push(NodeData::Filter(tables, window))?;
+    }
+    Ok(cuts)
+}
+
+fn cut_node<S: Sorter>(alloc: Global, sorter: &S, node: NodeData) -> Result<Vec<NodeData>, AllocError>
+    requires { S.tells sorter.now }
+    ensures { IfOk result (λ cuts. CutNodes (S.count sorter.now) (S.region sorter.now) node cuts.items) }
 {
     match node {
-        NodeData::Bare => Ok(NodeData::Bare),
-        NodeData::Join(join) => {
-            let cut = cut_join(alloc, sieve, join)?;
-            Ok(NodeData::Join(cut))
-        }
-        NodeData::Or(or) => {
-            let cut = cut_or(alloc, sieve, or)?;
-            Ok(NodeData::Or(cut))
-        }
-        NodeData::Previous(previous) => {
-            let cut = cut_previous(alloc, sieve, previous)?;
-            Ok(NodeData::Previous(cut))
-        }
-        NodeData::Next(next) => {
-            let cut = cut_next(alloc, sieve, next)?;
-            Ok(NodeData::Next(cut))
-        }
-        NodeData::Window(window) => {
-            let cut = cut_window(alloc, sieve, window)?;
-            Ok(NodeData::Window(cut))
-        }
-        NodeData::Filter(tables, window) => {
-            let tables = cut_tables(alloc, sieve, tables)?;
-            let cut = cut_window(alloc, sieve, window)?;
-            Ok(NodeData::Filter(tables, cut))
-        }
+        NodeData::Bare => bare(alloc, sorter),
+        NodeData::Join(join) => cut_join(alloc, sorter, join),
+        NodeData::Or(or) => cut_or(alloc, sorter, or),
+        NodeData::Previous(previous) => cut_previous(alloc, sorter, previous),
+        NodeData::Next(next) => cut_next(alloc, sorter, next),
+        NodeData::Window(window) => cut_behind(alloc, sorter, window),
+        NodeData::Filter(tables, window) => cut_filter(alloc, sorter, tables, window),
     }
 }
 
-fn cut_nodes<S: Sieve>(
+/// The nodes for each worker, with the rows in its region alone.
+pub(crate) fn cut_nodes<S: Sorter>(
     alloc: Global,
-    sieve: &S,
-    nodes: &[NodeData],
-) -> Result<Vec<NodeData>, AllocError>
-    requires { S.tells sieve.now }
-    ensures { IfOk result (λ cut. NodesFit nodes.now → NodesCut (S.region sieve.now) nodes.now cut.items) }
+    sorter: &S,
+    nodes: Vec<NodeData>,
+) -> Result<Vec<Vec<NodeData>>, AllocError>
+    requires { S.tells sorter.now }
+    ensures { IfOk result (λ cuts. OneEach (S.count sorter.now)
+        (λ k cut. NodesFit nodes.items → NodesCut (S.region sorter.now k) nodes.items cut.items) cuts.items) }
 {
-    let mut cut = Vec::with_capacity(alloc, nodes.len())?;
+    let mut cuts = empty_shares(alloc, sorter.workers())?;
     for node in nodes {
-        cut.push(cut_node(alloc, sieve, node)?)?;
+        let added = cut_node(alloc, sorter, node)?;
+        cuts = longer(alloc, cuts, added)?;
     }
-    Ok(cut)
-}
-
-/// The state with copies of its rows in the region alone.
-pub(crate) fn cut_state<S: Sieve>(
-    alloc: Global,
-    sieve: &S,
-    state: &State,
-) -> Result<State, AllocError>
-    requires { S.tells sieve.now }
-    ensures { IfOk result (λ cut. NodesFit state.now.nodes.items → StateCut (S.region sieve.now) state.now cut) }
-{
-    let times = Vec::from_slice(alloc, &state.times)?;
-    let nodes = cut_nodes(alloc, sieve, &state.nodes)?;
-    Ok(State {
-        taken: state.taken,
-        given: state.given,
-        times,
-        nodes,
-    })
+    Ok(cuts)
 }

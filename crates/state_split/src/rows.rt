@@ -1,120 +1,56 @@
-//! Rows with what is kept for them, without those outside a region.
-ghost use Rattle.std.specs.Prelude.{◌≡◌, IfOk, filter};
-ghost use Rattle.eval_since.specs.Recalled.{times_kept};
-ghost use Rattle.eval_until.specs.Recalled.{starts_kept};
-ghost use Rattle.monitor_state.specs.StateStands.{marks_kept};
-ghost use Rattle.state_split.specs.Sieves.{is_kept, rows_inside};
+//! Rows dealt among workers, by one walk through them.
+ghost use Rattle.std.specs.Prelude.{◌≡◌, ◌≤◌, IfOk, OnOk, filter, length, map};
+ghost use Rattle.slice_strategy.specs.Limits.{max_workers};
+ghost use Rattle.state_split.specs.Shares.{OneEach, given_to};
+ghost use Rattle.state_split.specs.Sieves.{is_kept};
 
-use crate::sieve::Sieve;
-use eval_since::KeptRow;
-use eval_until::{KeptMarks, KeptStart};
-use mfotl_model::Row;
+use crate::kept::Kept;
+use crate::shares::empty_shares;
+use crate::sorter::Sorter;
 use std::alloc::{AllocError, Global};
 
-/// Copies of the rows over these columns that lie in the region.
-pub(crate) fn near_rows<S: Sieve>(
+// Puts the row into the shares of the workers that it goes to: itself into the last, copies into the others.
+fn hand_out<S: Sorter, K: Kept>(
     alloc: Global,
-    sieve: &S,
+    sorter: &S,
     columns: &[u32],
-    rows: &[Row],
-) -> Result<Vec<Row>, AllocError>
-    requires { S.tells sieve.now }
-    ensures { IfOk result (λ kept. kept.items ≡ filter (is_kept (S.region sieve.now) columns.now) rows.now) }
+    kept: K,
+    shares: &mut Vec<Vec<K>>,
+) -> Result<(), AllocError>
+    requires can { S.tells sorter.now }
+    requires each { length shares.old.items ≡ S.count sorter.now }
+    requires few { S.count sorter.now ≤ max_workers }
+    ensures { OnOk result (map (λ s. map K.told s.items) shares.new.items
+        ≡ given_to (λ k. is_kept (S.region sorter.now k) columns.now (K.row_of (K.told kept))) (K.told kept) 0
+        (map (λ s. map K.told s.items) shares.old.items)) }
 {
-    let mut kept = Vec::new(alloc);
-    for row in rows {
-        if sieve.keeps(columns, row) {
-            kept.push(row.copy(alloc)?)?;
-        }
+    let Some(first) = sorter.next_worker(0, columns, kept.row()) else {
+        return Ok(());
+    };
+    let mut last = first;
+    while let Some(next) = sorter.next_worker(last + 1, columns, kept.row()) {
+        shares[last as usize].push(kept.copied(alloc)?)?;
+        last = next;
     }
-    Ok(kept)
+    shares[last as usize].push(kept)?;
+    Ok(())
 }
 
-fn copied_times(alloc: Global, kept: &KeptRow) -> Result<KeptRow, AllocError>
-    ensures row { IfOk result (λ copy. copy.row ≡ kept.now.row) }
-    ensures times { IfOk result (λ copy. copy.times.items ≡ kept.now.times.items) }
-{
-    let row = kept.row.copy(alloc)?;
-    let times = Vec::from_slice(alloc, &kept.times)?;
-    Ok(KeptRow { row, times })
-}
-
-/// The same of rows with their times.
-pub(crate) fn near_times<S: Sieve>(
+/// The rows over these columns that go to each worker. A row is copied for all but the last of those that it goes to.
+pub(crate) fn dealt_rows<S: Sorter, K: Kept>(
     alloc: Global,
-    sieve: &S,
+    sorter: &S,
     columns: &[u32],
-    rows: &[KeptRow],
-) -> Result<Vec<KeptRow>, AllocError>
-    requires { S.tells sieve.now }
-    ensures { IfOk result (λ kept.
-        times_kept kept.items ≡ rows_inside (S.region sieve.now) columns.now (times_kept rows.now)) }
+    rows: Vec<K>,
+) -> Result<Vec<Vec<K>>, AllocError>
+    requires { S.tells sorter.now }
+    ensures { IfOk result (λ shares. OneEach (S.count sorter.now) (λ k share. map K.told share.items
+        ≡ filter (λ e. is_kept (S.region sorter.now k) columns.now (K.row_of e)) (map K.told rows.items)) shares.items) }
 {
-    let mut inside = Vec::new(alloc);
+    let workers = sorter.workers();
+    let mut shares = empty_shares(alloc, workers)?;
     for kept in rows {
-        if sieve.keeps(columns, &kept.row) {
-            inside.push(copied_times(alloc, kept)?)?;
-        }
+        hand_out(alloc, sorter, columns, kept, &mut shares)?;
     }
-    Ok(inside)
-}
-
-fn copied_start(alloc: Global, kept: &KeptStart) -> Result<KeptStart, AllocError>
-    ensures row { IfOk result (λ copy. copy.row ≡ kept.now.row) }
-    ensures start { IfOk result (λ copy. copy.start ≡ kept.now.start) }
-{
-    let row = kept.row.copy(alloc)?;
-    Ok(KeptStart {
-        row,
-        start: kept.start,
-    })
-}
-
-/// The same of rows with their starts.
-pub(crate) fn near_starts<S: Sieve>(
-    alloc: Global,
-    sieve: &S,
-    columns: &[u32],
-    rows: &[KeptStart],
-) -> Result<Vec<KeptStart>, AllocError>
-    requires { S.tells sieve.now }
-    ensures { IfOk result (λ kept.
-        starts_kept kept.items ≡ rows_inside (S.region sieve.now) columns.now (starts_kept rows.now)) }
-{
-    let mut inside = Vec::new(alloc);
-    for kept in rows {
-        if sieve.keeps(columns, &kept.row) {
-            inside.push(copied_start(alloc, kept)?)?;
-        }
-    }
-    Ok(inside)
-}
-
-fn copied_marks(alloc: Global, kept: &KeptMarks) -> Result<KeptMarks, AllocError>
-    ensures row { IfOk result (λ copy. copy.row ≡ kept.now.row) }
-    ensures marks { IfOk result (λ copy. copy.marks.items ≡ kept.now.marks.items) }
-{
-    let row = kept.row.copy(alloc)?;
-    let marks = Vec::from_slice(alloc, &kept.marks)?;
-    Ok(KeptMarks { row, marks })
-}
-
-/// The same of rows with their marks.
-pub(crate) fn near_marks<S: Sieve>(
-    alloc: Global,
-    sieve: &S,
-    columns: &[u32],
-    rows: &[KeptMarks],
-) -> Result<Vec<KeptMarks>, AllocError>
-    requires { S.tells sieve.now }
-    ensures { IfOk result (λ kept.
-        marks_kept kept.items ≡ rows_inside (S.region sieve.now) columns.now (marks_kept rows.now)) }
-{
-    let mut inside = Vec::new(alloc);
-    for kept in rows {
-        if sieve.keeps(columns, &kept.row) {
-            inside.push(copied_marks(alloc, kept)?)?;
-        }
-    }
-    Ok(inside)
+    Ok(shares)
 }

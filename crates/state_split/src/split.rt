@@ -11,15 +11,36 @@ ghost use Rattle.state_split.specs.Fits.{NodesFit};
 ghost use Rattle.state_split.specs.Splits.{AreCut, AreNumbered, IsSplit, StandEach};
 
 use crate::both::Both;
-use crate::nodes::cut_state;
-use monitor_state::{Monitor, Piece, State};
+use crate::nodes::cut_nodes;
+use monitor_state::{Monitor, NodeData, Piece, State};
 use slice_strategy::Slicer;
 use std::alloc::{AllocError, Global};
+
+// The state with these nodes in the place of its own.
+fn state_over(
+    alloc: Global,
+    taken: u64,
+    given: u64,
+    times: &[u64],
+    nodes: Vec<NodeData>,
+) -> Result<State, AllocError>
+    ensures counts { IfOk result (λ state. (state.taken ≡ taken) × (state.given ≡ given)) }
+    ensures times { IfOk result (λ state. state.times.items ≡ times.now) }
+    ensures nodes { IfOk result (λ state. state.nodes.items ≡ nodes.items) }
+{
+    let times = Vec::from_slice(alloc, times)?;
+    Ok(State {
+        taken,
+        given,
+        times,
+        nodes,
+    })
+}
 
 // The state's cut for each worker of the next strategy.
 fn pieces_of<S: Slicer, S2: Slicer>(
     alloc: Global,
-    state: &State,
+    state: State,
     strategy: &S,
     from: u32,
     next: &S2,
@@ -28,20 +49,25 @@ fn pieces_of<S: Slicer, S2: Slicer>(
     requires { from < S.count strategy.now }
     ensures each { IfOk result (λ pieces. length pieces.items ≡ S2.count next.now) }
     ensures numbers { IfOk result (λ pieces. AreNumbered generation from (S.count strategy.now) pieces.items) }
-    ensures cuts { IfOk result (λ pieces. NodesFit state.now.nodes.items →
-        AreCut (S.region strategy.now from) (S2.region next.now) state.now pieces.items) }
+    ensures cuts { IfOk result (λ pieces. NodesFit state.nodes.items →
+        AreCut (S.region strategy.now from) (S2.region next.now) state pieces.items) }
 {
     let count = strategy.workers();
     let workers = next.workers();
+    let times = state.times;
+    let both = Both {
+        present: strategy,
+        from,
+        next,
+    };
+    let cuts = cut_nodes(alloc, &both, state.nodes)?;
+    let mut left = cuts.into_iter();
     let mut pieces = Vec::with_capacity(alloc, workers as usize)?;
     for to in 0..workers {
-        let both = Both {
-            present: strategy,
-            from,
-            next,
-            to,
+        let Some(nodes) = left.next() else {
+            unreachable!();
         };
-        let state = cut_state(alloc, &both, state)?;
+        let state = state_over(alloc, state.taken, state.given, &times, nodes)?;
         pieces.push(Piece {
             generation,
             from,
@@ -76,6 +102,6 @@ pub fn split_state<S: Slicer, S2: Slicer>(
         StandEach (monitor_of monitor.now).core (S.region strategy.now from) (S2.region next.now) log pieces.items) }
 {
     let state = monitor.state(alloc)?;
-    let pieces = pieces_of(alloc, &state, strategy, from, next, generation)?;
+    let pieces = pieces_of(alloc, state, strategy, from, next, generation)?;
     Ok(pieces)
 }

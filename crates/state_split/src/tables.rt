@@ -1,50 +1,71 @@
-//! Tables without the rows outside a region.
+//! Tables cut for workers: each gets the rows in its region.
 ghost use Rattle.std.specs.Prelude.{◌≡◌, IfOk, map};
 ghost use Rattle.monitor_state.specs.StateCuts.{cut_table, cut_tables};
+ghost use Rattle.relations.specs.Tables.{IsTable};
+ghost use Rattle.state_split.specs.Shares.{OneEach};
 
-use crate::rows::near_rows;
-use crate::sieve::Sieve;
+use crate::rows::dealt_rows;
+use crate::shares::{empty_shares, longer};
+use crate::sorter::Sorter;
+use mfotl_model::Row;
 use relations::Table;
 use std::alloc::{AllocError, Global};
 
-fn cut_table<S: Sieve>(alloc: Global, sieve: &S, table: &Table) -> Result<Table, AllocError>
-    requires { S.tells sieve.now }
-    ensures { IfOk result (λ cut. cut ≡ cut_table (S.region sieve.now) table.now) }
+fn table_over(alloc: Global, columns: &[u32], rows: Vec<Row>) -> Result<Table, AllocError>
+    requires { IsTable columns.now rows.items }
+    ensures { IfOk result (λ table. table ≡ record { columns = columns.now; rows = rows.items }) }
 {
-    let columns = Vec::from_slice(alloc, table.columns())?;
-    let rows = near_rows(alloc, sieve, table.columns(), table.rows())?;
+    let columns = Vec::from_slice(alloc, columns)?;
     Ok(Table::from_rows(columns, rows))
 }
 
-/// Each of the tables with copies of its rows in the region alone.
-pub(crate) fn cut_tables<S: Sieve>(
-    alloc: Global,
-    sieve: &S,
-    tables: &[Table],
-) -> Result<Vec<Table>, AllocError>
-    requires { S.tells sieve.now }
-    ensures { IfOk result (λ cut. cut.items ≡ cut_tables (S.region sieve.now) tables.now) }
+fn cut_table<S: Sorter>(alloc: Global, sorter: &S, table: Table) -> Result<Vec<Table>, AllocError>
+    requires { S.tells sorter.now }
+    ensures { IfOk result (λ cuts. OneEach (S.count sorter.now)
+        (λ k cut. cut ≡ cut_table (S.region sorter.now k) table) cuts.items) }
 {
-    let mut cut = Vec::with_capacity(alloc, tables.len())?;
-    for table in tables {
-        cut.push(cut_table(alloc, sieve, table)?)?;
+    let columns = Vec::from_slice(alloc, table.columns())?;
+    let shares = dealt_rows(alloc, sorter, &columns, table.into_rows())?;
+    let mut cuts = Vec::with_capacity(alloc, shares.len())?;
+    for rows in shares {
+        cuts.push(table_over(alloc, &columns, rows)?)?;
     }
-    Ok(cut)
+    Ok(cuts)
+}
+
+/// For each worker all of the tables, with the rows in its region alone.
+pub(crate) fn cut_tables<S: Sorter>(
+    alloc: Global,
+    sorter: &S,
+    tables: Vec<Table>,
+) -> Result<Vec<Vec<Table>>, AllocError>
+    requires { S.tells sorter.now }
+    ensures { IfOk result (λ cuts. OneEach (S.count sorter.now)
+        (λ k cut. cut.items ≡ cut_tables (S.region sorter.now k) tables.items) cuts.items) }
+{
+    let mut cuts = empty_shares(alloc, sorter.workers())?;
+    for table in tables {
+        let added = cut_table(alloc, sorter, table)?;
+        cuts = longer(alloc, cuts, added)?;
+    }
+    Ok(cuts)
 }
 
 /// The same of lists of tables.
-pub(crate) fn cut_lists<S: Sieve>(
+pub(crate) fn cut_lists<S: Sorter>(
     alloc: Global,
-    sieve: &S,
-    lists: &[Vec<Table>],
-) -> Result<Vec<Vec<Table>>, AllocError>
-    requires { S.tells sieve.now }
-    ensures { IfOk result (λ cut. map (λ ts. ts.items) cut.items
-        ≡ map (cut_tables (S.region sieve.now)) (map (λ ts. ts.items) lists.now)) }
+    sorter: &S,
+    lists: Vec<Vec<Table>>,
+) -> Result<Vec<Vec<Vec<Table>>>, AllocError>
+    requires { S.tells sorter.now }
+    ensures { IfOk result (λ cuts. OneEach (S.count sorter.now)
+        (λ k cut. map (λ ts. ts.items) cut.items
+        ≡ map (cut_tables (S.region sorter.now k)) (map (λ ts. ts.items) lists.items)) cuts.items) }
 {
-    let mut cut = Vec::with_capacity(alloc, lists.len())?;
+    let mut cuts = empty_shares(alloc, sorter.workers())?;
     for tables in lists {
-        cut.push(cut_tables(alloc, sieve, tables)?)?;
+        let added = cut_tables(alloc, sorter, tables)?;
+        cuts = longer(alloc, cuts, added)?;
     }
-    Ok(cut)
+    Ok(cuts)
 }

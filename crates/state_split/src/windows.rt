@@ -1,75 +1,130 @@
-//! The data of windows without the rows outside a region.
-ghost use Rattle.std.specs.Prelude.{IfOk};
-ghost use Rattle.monitor_state.specs.StateCuts.{SinceCut, UntilCut, WindowCut};
-ghost use Rattle.state_split.specs.Fits.{SinceFits, UntilFits, WindowFits};
+//! The data of windows cut for workers: each gets the rows in its region, and all that is kept for them.
+ghost use Rattle.std.specs.Prelude.{◌≡◌, IfOk};
+ghost use Rattle.monitor_state.specs.declared.state.SinceKept.{SinceKept};
+ghost use Rattle.monitor_state.specs.declared.state.UntilKept.{UntilKept};
+ghost use Rattle.monitor_state.specs.declared.state.WindowData.TheVariants.{Since, Until};
+ghost use Rattle.state_split.specs.Fits.{CutWindows};
 
-use crate::rows::{near_marks, near_starts, near_times};
-use crate::sieve::Sieve;
+use crate::rows::dealt_rows;
+use crate::shares::paired;
+use crate::sorter::Sorter;
 use crate::tables::cut_tables;
 use eval_since::SinceData;
 use eval_until::UntilData;
+use mfotl_model::Interval;
 use monitor_state::{SinceKept, UntilKept, WindowData};
 use std::alloc::{AllocError, Global};
 
-fn cut_since<S: Sieve>(alloc: Global, sieve: &S, since: &SinceKept) -> Result<SinceKept, AllocError>
-    requires { S.tells sieve.now }
-    ensures { IfOk result (λ cut. SinceFits since.now → SinceCut (S.region sieve.now) since.now cut) }
+fn since_over(
+    alloc: Global,
+    interval: Interval,
+    columns: &[u32],
+    kept: SinceData,
+) -> Result<WindowData, AllocError>
+    ensures { IfOk result (λ window. (since : SinceKept) × (window ≡ Since since) × (since.interval ≡ interval)
+        × (since.columns.items ≡ columns.now) × (since.kept ≡ kept)) }
 {
-    let lefts = cut_tables(alloc, sieve, &since.kept.lefts)?;
-    let rights = cut_tables(alloc, sieve, &since.kept.rights)?;
-    let rows = near_times(alloc, sieve, &since.columns, &since.kept.rows)?;
-    let columns = Vec::from_slice(alloc, &since.columns)?;
-    let kept = SinceData {
-        pulled: since.kept.pulled,
-        lefts,
-        rights,
-        rows,
-    };
-    Ok(SinceKept {
-        interval: since.interval,
+    let columns = Vec::from_slice(alloc, columns)?;
+    Ok(WindowData::Since(SinceKept {
+        interval,
         columns,
         kept,
-    })
+    }))
 }
 
-fn cut_until<S: Sieve>(alloc: Global, sieve: &S, until: &UntilKept) -> Result<UntilKept, AllocError>
-    requires { S.tells sieve.now }
-    ensures { IfOk result (λ cut. UntilFits until.now → UntilCut (S.region sieve.now) until.now cut) }
-{
-    let lefts = cut_tables(alloc, sieve, &until.kept.lefts)?;
-    let rights = cut_tables(alloc, sieve, &until.kept.rights)?;
-    let starts = near_starts(alloc, sieve, &until.left, &until.kept.starts)?;
-    let rows = near_marks(alloc, sieve, &until.right, &until.kept.rows)?;
-    let left = Vec::from_slice(alloc, &until.left)?;
-    let right = Vec::from_slice(alloc, &until.right)?;
-    let kept = UntilData {
-        pulled: until.kept.pulled,
-        taken: until.kept.taken,
-        lefts,
-        rights,
-        starts,
-        rows,
-    };
-    Ok(UntilKept { left, right, kept })
-}
-
-/// The window with its rows in the region alone, and all that is kept for them.
-pub(crate) fn cut_window<S: Sieve>(
+fn cut_since<S: Sorter>(
     alloc: Global,
-    sieve: &S,
-    window: &WindowData,
+    sorter: &S,
+    since: SinceKept,
+) -> Result<Vec<WindowData>, AllocError>
+    requires { S.tells sorter.now }
+    ensures { IfOk result (λ cuts.
+        CutWindows (S.count sorter.now) (S.region sorter.now) (Since since) cuts.items) }
+{
+    let interval = since.interval;
+    let columns = since.columns;
+    let kept = since.kept;
+    let lefts = cut_tables(alloc, sorter, kept.lefts)?;
+    let rights = cut_tables(alloc, sorter, kept.rights)?;
+    let rows = dealt_rows(alloc, sorter, &columns, kept.rows)?;
+    let tables = paired(alloc, lefts, rights)?;
+    let pairs = paired(alloc, tables, rows)?;
+    let mut cuts = Vec::with_capacity(alloc, pairs.len())?;
+    for (tables, rows) in pairs {
+        let (lefts, rights) = tables;
+        let kept = SinceData {
+            pulled: kept.pulled,
+            lefts,
+            rights,
+            rows,
+        };
+        cuts.push(since_over(alloc, interval, &columns, kept)?)?;
+    }
+    Ok(cuts)
+}
+
+fn until_over(
+    alloc: Global,
+    left: &[u32],
+    right: &[u32],
+    kept: UntilData,
 ) -> Result<WindowData, AllocError>
-    requires { S.tells sieve.now }
-    ensures { IfOk result (λ cut. WindowFits window.now → WindowCut (S.region sieve.now) window.now cut) }
+    ensures { IfOk result (λ window. (until : UntilKept) × (window ≡ Until until) × (until.left.items ≡ left.now)
+        × (until.right.items ≡ right.now) × (until.kept ≡ kept)) }
+{
+    let left = Vec::from_slice(alloc, left)?;
+    let right = Vec::from_slice(alloc, right)?;
+    Ok(WindowData::Until(UntilKept { left, right, kept }))
+}
+
+fn cut_until<S: Sorter>(
+    alloc: Global,
+    sorter: &S,
+    until: UntilKept,
+) -> Result<Vec<WindowData>, AllocError>
+    requires { S.tells sorter.now }
+    ensures { IfOk result (λ cuts.
+        CutWindows (S.count sorter.now) (S.region sorter.now) (Until until) cuts.items) }
+{
+    let left = until.left;
+    let right = until.right;
+    let kept = until.kept;
+    let lefts = cut_tables(alloc, sorter, kept.lefts)?;
+    let rights = cut_tables(alloc, sorter, kept.rights)?;
+    let starts = dealt_rows(alloc, sorter, &left, kept.starts)?;
+    let rows = dealt_rows(alloc, sorter, &right, kept.rows)?;
+    let tables = paired(alloc, lefts, rights)?;
+    let entries = paired(alloc, starts, rows)?;
+    let pairs = paired(alloc, tables, entries)?;
+    let mut cuts = Vec::with_capacity(alloc, pairs.len())?;
+    for (tables, entries) in pairs {
+        let (lefts, rights) = tables;
+        let (starts, rows) = entries;
+        let kept = UntilData {
+            pulled: kept.pulled,
+            taken: kept.taken,
+            lefts,
+            rights,
+            starts,
+            rows,
+        };
+        cuts.push(until_over(alloc, &left, &right, kept)?)?;
+    }
+    Ok(cuts)
+}
+
+/// The window for each worker, with the rows in its region alone, and all that is kept for them.
+pub(crate) fn cut_window<S: Sorter>(
+    alloc: Global,
+    sorter: &S,
+    window: WindowData,
+) -> Result<Vec<WindowData>, AllocError>
+    requires { S.tells sorter.now }
+    ensures { IfOk result (λ cuts.
+        CutWindows (S.count sorter.now) (S.region sorter.now) window cuts.items) }
 {
     match window {
-        WindowData::Since(since) => {
-            let cut = cut_since(alloc, sieve, since)?;
-            Ok(WindowData::Since(cut))
-        }
-        WindowData::Until(until) => {
-            let cut = cut_until(alloc, sieve, until)?;
-            Ok(WindowData::Until(cut))
-        }
+        WindowData::Since(since) => cut_since(alloc, sorter, since),
+        WindowData::Until(until) => cut_until(alloc, sorter, until),
     }
 }

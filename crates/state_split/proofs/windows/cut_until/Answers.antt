@@ -1,26 +1,38 @@
-use Rattle.std.proofs.Common.{refl, ap, ◌∙◌}
+use Rattle.std.proofs.Common.{rules, ◌∙◌, ap, refl, sym, length}
 use Rattle.eval_until.specs.Recalled.{starts_kept}
-use Rattle.monitor_state.specs.StateCuts.{cut_tables}
 use Rattle.monitor_state.specs.StateStands.{marks_kept}
-use Rattle.state_split.proofs.SieveLemmas.{rows_are_cut}
+use Rattle.state_split.specs.Sieves.{rows_inside}
+use Rattle.state_split.proofs.ShareLemmas.{build_more, build_none, each_paired, each_weaker}
+use Rattle.state_split.proofs.WindowLemmas.{until_is_cut}
 use Rattle.state_split.proofs.windows.cut_until.Goals as goal
 
-pub returns : goal.returns
-returns g c fits =
-    let near = g.S.Sieve.region c.args.sieve.now in
-    record {
-      left = c.in_ok-left.ensures.items ∙ c.deref-7.ensures.value;
-      right = c.in_ok-right.ensures.items ∙ c.deref-8.ensures.value;
-      pulled = refl;
-      taken = refl;
-      lefts = c.in_ok-lefts.ensures ∙ ap (cut_tables near) c.deref.ensures.value;
-      rights = c.in_ok-rights.ensures ∙ ap (cut_tables near) c.deref-2.ensures.value;
-      starts = rows_are_cut near c.args.until.now.left.items c.deref-3.result.now
-          (starts_kept c.args.until.now.kept.starts.items) (starts_kept c.deref-4.result.now)
-          (starts_kept c.in_ok-starts.starts.items) c.deref-3.ensures.value (ap starts_kept c.deref-4.ensures.value)
-          c.in_ok-starts.ensures fits.0;
-      rows = rows_are_cut near c.args.until.now.right.items c.deref-5.result.now
-          (marks_kept c.args.until.now.kept.rows.items) (marks_kept c.deref-6.result.now)
-          (marks_kept c.in_ok-rows.rows.items) c.deref-5.ensures.value (ap marks_kept c.deref-6.ensures.value)
-          c.in_ok-rows.ensures fits.1;
-    }
+pub paired-requires-3 : goal.paired-requires-3
+paired-requires-3 g c =
+    (each_paired _ _ _ c.in_ok-lefts.lefts.items c.in_ok-rights.rights.items c.in_ok-tables.tables.items
+    c.in_ok-lefts.ensures c.in_ok-rights.ensures c.in_ok-tables.ensures).sized
+    ∙ sym (each_paired _ _ _ c.in_ok-starts.starts.items c.in_ok-rows.rows.items c.in_ok-entries.entries.items
+    c.in_ok-starts.ensures c.in_ok-rows.ensures c.in_ok-entries.ensures).sized
+
+pub loop-tables-init : goal.loop-tables-init
+loop-tables-init g c =
+    let near = g.S.Sorter.region c.args.sorter.now in
+    let pairs = c.in_ok-pairs.pairs.items in
+    build_none _ _ _ pairs _ _ c.in_ok-cuts.ensures.items (search rules)
+    (each_weaker _ _ _ pairs (λ k e is. (
+      is.0.0,
+      is.0.1,
+      is.1.0 ∙ ap (λ cs. rows_inside (near k) cs (starts_kept c.args.until.kept.starts.items)) c.deref.ensures.value,
+      is.1.1 ∙ ap (λ cs. rows_inside (near k) cs (marks_kept c.args.until.kept.rows.items)) c.deref-2.ensures.value,
+    ))
+    (each_paired _ _ _ c.in_ok-tables.tables.items c.in_ok-entries.entries.items pairs
+    (each_paired _ _ _ c.in_ok-lefts.lefts.items c.in_ok-rights.rights.items c.in_ok-tables.tables.items
+    c.in_ok-lefts.ensures c.in_ok-rights.ensures c.in_ok-tables.ensures)
+    (each_paired _ _ _ c.in_ok-starts.starts.items c.in_ok-rows.rows.items c.in_ok-entries.entries.items
+    c.in_ok-starts.ensures c.in_ok-rows.ensures c.in_ok-entries.ensures) c.in_ok-pairs.ensures))
+
+pub loop-tables-preserved : goal.loop-tables-preserved
+loop-tables-preserved g c =
+    build_more _ _ _ _ _ _ c.in_ok-until_over.field-0 _ _ c.in-Some.ensures.steps.0 c.in_ok-push.ensures.items
+    (λ waits fits. until_is_cut (g.S.Sorter.region c.args.sorter.now (length c.loop-tables.cuts.items)) c.args.until _ _ _ c.in_ok-until_over.field-0 c.in_ok-until_over.ensures
+    c.deref-in-loop-tables.ensures.value c.deref-in-loop-tables-2.ensures.value refl refl waits.0 waits.1 waits.2
+    waits.3 fits) c.loop-tables.invariant
