@@ -1,9 +1,7 @@
--- What a sieve keeps of rows that have a value for each column lies in its region.
-use Rattle.std.proofs.Common.{◌≡◌, ℕ, ◌+◌, ◌<◌, Bool, true, ◌&&◌, cond, nat_eq, List, [], ◌∷◌, ◌++◌, length}
+-- What is kept of rows that have a value for each column lies in the region.
+use Rattle.std.proofs.Common.{◌≡◌, ℕ, ◌+◌, Bool, true, ◌&&◌, cond, nat_eq, List, [], ◌∷◌, ◌++◌, length}
 use Rattle.std.proofs.Common.{append_assoc, append-nil, length-append, refl, sym, subst, ap, ap₂, ◌∙◌, arith}
-use Rattle.std.proofs.Math.ListN.{get_or}
 use Rattle.std.proofs.lemmas.Bool.{and_parts}
-use Rattle.std.proofs.lemmas.List.{take_more}
 use Rattle.std.specs.BTreeSet.{insert_key}
 use Rattle.std.specs.List.{AllByRecursion, filter}
 use Rattle.std.specs.List.Sorted.{IsStrictlySortedBy}
@@ -20,7 +18,7 @@ use Rattle.relations.specs.Tables.{IsTable}
 use Rattle.monitor_state.specs.StateCuts.{NodeCut, NodesCut, cut_rows, cut_table, lies}
 use Rattle.monitor_state.specs.declared.state.NodeData.{NodeData}
 use Rattle.state_split.proofs.RowCuts.{tests_filtered}
-use Rattle.state_split.specs.Fits.{NodeFits, NodesFit, RowsFit}
+use Rattle.state_split.specs.Fits.{RowsFit}
 use Rattle.state_split.specs.Sieves.{is_kept, rows_inside}
 
 -- filters of tests that agree on the elements

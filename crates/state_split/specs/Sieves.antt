@@ -1,4 +1,4 @@
--- What a sieve keeps of rows over some columns.
+-- Which rows over some columns a region keeps.
 use Rattle.std.specs.Prelude.{ℕ, Bool, ◌&&◌, nat_eq, List, filter, length}
 use Rattle.mfotl_model.specs.Regions.{Region}
 use Rattle.mfotl_model.specs.declared.value.Value.{Value}

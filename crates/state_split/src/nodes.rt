@@ -28,7 +28,11 @@ fn bare<S: Sorter>(alloc: Global, sorter: &S) -> Result<Vec<NodeData>, AllocErro
     Ok(cuts)
 }
 
-fn cut_join<S: Sorter>(alloc: Global, sorter: &S, join: JoinData) -> Result<Vec<NodeData>, AllocError>
+fn cut_join<S: Sorter>(
+    alloc: Global,
+    sorter: &S,
+    join: JoinData,
+) -> Result<Vec<NodeData>, AllocError>
     requires { S.tells sorter.now }
     ensures { IfOk result (λ cuts.
         CutNodes (S.count sorter.now) (S.region sorter.now) (Join join) cuts.items) }
@@ -83,7 +87,11 @@ fn cut_previous<S: Sorter>(
     Ok(cuts)
 }
 
-fn cut_next<S: Sorter>(alloc: Global, sorter: &S, next: NextData) -> Result<Vec<NodeData>, AllocError>
+fn cut_next<S: Sorter>(
+    alloc: Global,
+    sorter: &S,
+    next: NextData,
+) -> Result<Vec<NodeData>, AllocError>
     requires { S.tells sorter.now }
     ensures { IfOk result (λ cuts.
         CutNodes (S.count sorter.now) (S.region sorter.now) (Next next) cuts.items) }
@@ -137,7 +145,11 @@ fn cut_filter<S: Sorter>(
     Ok(cuts)
 }
 
-fn cut_node<S: Sorter>(alloc: Global, sorter: &S, node: NodeData) -> Result<Vec<NodeData>, AllocError>
+fn cut_node<S: Sorter>(
+    alloc: Global,
+    sorter: &S,
+    node: NodeData,
+) -> Result<Vec<NodeData>, AllocError>
     requires { S.tells sorter.now }
     ensures { IfOk result (λ cuts. CutNodes (S.count sorter.now) (S.region sorter.now) node cuts.items) }
 {

@@ -1,4 +1,4 @@
-use Rattle.std.proofs.Common.{rules, ◌≡◌, ◌∙◌, ap, sym, subst, ℕ, Bool, ◌++◌, List, length, map, replicate, []}
+use Rattle.std.proofs.Common.{rules, ◌≡◌, ◌∙◌, ap, sym, subst, ℕ, Bool, ◌++◌, List, length, map, []}
 use Rattle.std.proofs.lemmas.List.{length-map, length-replicate}
 use Rattle.std.specs.List.{filter}
 use Rattle.relations.specs.Pushed.{StandFrom}
@@ -10,7 +10,7 @@ use Rattle.state_split.proofs.rows.dealt_rows.Goals as goal
 pub loop-kept-init : goal.loop-kept-init
 loop-kept-init g c =
     let goes : ℕ → g.K.Kept.Told → Bool = λ k e.
-        is_kept (g.S.Sorter.region c.args.sorter.now k) c.args.columns.now (g.K.Kept.row_of e) in
+    is_kept (g.S.Sorter.region c.args.sorter.now k) c.args.columns.now (g.K.Kept.row_of e) in
     let rows = c.args.rows.items in
     let shares = c.in_ok-shares.shares.items in
     record {
@@ -25,7 +25,7 @@ loop-kept-init g c =
 pub loop-kept-preserved : goal.loop-kept-preserved
 loop-kept-preserved g c =
     let goes : ℕ → g.K.Kept.Told → Bool = λ k e.
-        is_kept (g.S.Sorter.region c.args.sorter.now k) c.args.columns.now (g.K.Kept.row_of e) in
+    is_kept (g.S.Sorter.region c.args.sorter.now k) c.args.columns.now (g.K.Kept.row_of e) in
     let told = g.K.Kept.told in
     let x = told c.in-Some.kept in
     let before = map told c.loop-kept.kept-iterator.rest.items in
@@ -47,7 +47,7 @@ loop-kept-preserved g c =
 pub returns : goal.returns
 returns g c =
     let goes : ℕ → g.K.Kept.Told → Bool = λ k e.
-        is_kept (g.S.Sorter.region c.args.sorter.now k) c.args.columns.now (g.K.Kept.row_of e) in
+    is_kept (g.S.Sorter.region c.args.sorter.now k) c.args.columns.now (g.K.Kept.row_of e) in
     let told = g.K.Kept.told in
     let left = c.loop-kept.kept-iterator.rest in
     let none : left.items ≡ [] = none_left left.items left.len left.ok.0 c.in-None.ensures.steps.0 in

@@ -1,4 +1,4 @@
-use Rattle.std.proofs.Common.{◌≡◌, ◌∙◌, refl, subst, arith, ℕ, ◌+◌, Bool, true, List, length, map}
+use Rattle.std.proofs.Common.{◌≡◌, ◌∙◌, refl, subst, arith, ℕ, ◌+◌, Bool, true, List, map}
 use Rattle.std.proofs.lemmas.List.{length-map, length-set}
 use Rattle.mfotl_model.specs.declared.value.Value.{Value}
 use Rattle.slice_strategy.specs.Slicers.{NoneFrom}
@@ -9,7 +9,7 @@ use Rattle.state_split.proofs.rows.hand_out.Goals as goal
 pub returns-in_default : goal.returns-in_default
 returns-in_default g c =
     let goes : List Value → ℕ → Bool = λ row k.
-        is_kept (g.S.Sorter.region c.args.sorter.now k) c.args.columns.now row in
+    is_kept (g.S.Sorter.region c.args.sorter.now k) c.args.columns.now row in
     let x = g.K.Kept.told c.args.kept in
     let count = g.S.Sorter.count c.args.sorter.now in
     given_nothing x (goes (g.K.Kept.row_of x)) count (map (λ s. map g.K.Kept.told s.items) c.args.shares.now.items)
@@ -19,7 +19,7 @@ returns-in_default g c =
 pub loop-next-init : goal.loop-next-init
 loop-next-init g c =
     let goes : List Value → ℕ → Bool = λ row k.
-        is_kept (g.S.Sorter.region c.args.sorter.now k) c.args.columns.now row in
+    is_kept (g.S.Sorter.region c.args.sorter.now k) c.args.columns.now row in
     let x = g.K.Kept.told c.args.kept in
     let first = c.in-Some.first in
     record {
@@ -34,7 +34,7 @@ loop-next-init g c =
 pub loop-next-preserved : goal.loop-next-preserved
 loop-next-preserved g c =
     let goes : List Value → ℕ → Bool = λ row k.
-        is_kept (g.S.Sorter.region c.args.sorter.now k) c.args.columns.now row in
+    is_kept (g.S.Sorter.region c.args.sorter.now k) c.args.columns.now row in
     let x = g.K.Kept.told c.args.kept in
     let last = c.loop-next.last in
     let next = c.in-Some-next_worker.next in
@@ -56,7 +56,7 @@ loop-next-preserved g c =
 pub returns : goal.returns
 returns g c =
     let goes : List Value → ℕ → Bool = λ row k.
-        is_kept (g.S.Sorter.region c.args.sorter.now k) c.args.columns.now row in
+    is_kept (g.S.Sorter.region c.args.sorter.now k) c.args.columns.now row in
     let x = g.K.Kept.told c.args.kept in
     let last = c.loop-next.last in
     let count = g.S.Sorter.count c.args.sorter.now in

@@ -30,7 +30,7 @@ loop-to-preserved g c =
     let nodes = c.args.state.nodes.items in
     let made = c.in_ok-state.ensures in
     let waits = subst (StandFrom (λ to cut. NodesFit nodes → NodesCut (in_both near (next to)) nodes cut.items)
-        c.loop-to.to) c.in-Some.ensures.cases.0 inv.waiting in
+    c.loop-to.to) c.in-Some.ensures.cases.0 inv.waiting in
     record {
       each = one_longer c.loop-to.pieces.items c.push.new.self.items _ c.loop-to.to
           c.in_ok-push.ensures.items inv.each;

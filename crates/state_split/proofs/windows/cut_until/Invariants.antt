@@ -1,4 +1,4 @@
-use Rattle.std.proofs.Common.{◌≡◌, map}
+use Rattle.std.proofs.Common.{◌≡◌}
 use Rattle.eval_until.specs.Recalled.{starts_kept}
 use Rattle.monitor_state.specs.StateCuts.{WindowCut, cut_tables}
 use Rattle.monitor_state.specs.StateStands.{marks_kept}
