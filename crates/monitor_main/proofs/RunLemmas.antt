@@ -1,7 +1,7 @@
 -- From the lines that were written to the answer on the log.
 use Rattle.std.proofs.Common.{◌≡◌, ◌∙◌, ap, arith, subst, sym, refl, ℕ, ◌≤◌, Bool, IfSome}
 use Rattle.std.proofs.Common.{true, false, List, [], ◌∷◌, ◌++◌, Option, Some, None, append-nil}
-use Rattle.std.specs.Prelude.{Result, Err, IfOk, IfErr, nat_lt}
+use Rattle.std.specs.Prelude.{Err, IfOk, IfErr, nat_lt}
 use Rattle.mon_outside.specs.Causes.{Rose}
 use Rattle.mon_outside.specs.Files.{ToldFiles, content}
 use Rattle.mon_outside.specs.Inputs.{Consumes, Name, Opens, asked_more}
@@ -16,7 +16,6 @@ use Rattle.log_reader.specs.Readings.{NoFault, Ending, Reading, Fault, accepted,
 use Rattle.log_reader.specs.declared.fault.LogFault.{LogFault}
 use Rattle.log_reader.specs.declared.fault.LogFault.TheVariants as log
 use Rattle.monitor_main.specs.declared.refusal.InputFile.TheVariants as file
-use Rattle.monitor_main.specs.declared.refusal.Refusal.{Refusal}
 use Rattle.monitor_main.specs.declared.refusal.Refusal.TheVariants.{Log, Read}
 use Rattle.mfotl_model.specs.Formulas.{Form}
 use Rattle.monitorable.specs.CoreForms.{CoreForm}

@@ -1,5 +1,5 @@
 -- How a run ends after its decision.
-use Rattle.std.proofs.Common.{◌≡◌, ◌≢◌, ◌⊎◌, ◌∙◌, ap, Bool, []}
+use Rattle.std.proofs.Common.{◌≡◌, ap, Bool}
 use Rattle.std.specs.Prelude.{Result, Err}
 use Rattle.monitor_main.specs.declared.refusal.Refusal.{Refusal}
 use Rattle.monitor_main.specs.declared.refusal.Refusal.TheVariants.{Write}

@@ -1,10 +1,7 @@
-use Rattle.std.proofs.Common.{Option, subst, sym}
 use Rattle.std.proofs.lemmas.Result.{err_from_is_err_and}
-use Rattle.mon_outside.specs.Files.{Files}
 use Rattle.mon_outside.specs.Views.{inputs_view, sink_view}
 use Rattle.monitor_main.specs.CheckedPolicies.{checked_in}
-use Rattle.monitor_main.specs.CommandViews.{options_in, sources_in, text_in}
-use Rattle.monitor_main.specs.Divisions.{ChangesAt}
+use Rattle.monitor_main.specs.CommandViews.{options_in, sources_in}
 use Rattle.monitor_main.specs.Words.{Run}
 use Rattle.monitor_main.proofs.CommandLemmas.{run_monitors}
 use Rattle.monitor_main.proofs.StopLemmas.{stops}
@@ -17,11 +14,6 @@ returns-in_err-task g c =
     (inputs_view g.I.Inputs c.args.inputs.now) (inputs_view g.I.Inputs c.load_task.new.inputs)
     (sink_view g.O.Sink c.args.out.now) c.in_err-task.ensures.files c.in_err-task.ensures.later _
     c.in_err-task.ensures.refused)
-
-pub monitor_task-requires-clause-changes : goal.monitor_task-requires-clause-changes
-monitor_task-requires-clause-changes g c =
-    subst (λ (told : Option Files). ChangesAt (text_in c.args.options.now.changes) told c.in_ok-task.task)
-    (sym c.in_ok-task.ensures.files) c.in_ok-task.ensures.changes
 
 pub returns : goal.returns
 returns g c =

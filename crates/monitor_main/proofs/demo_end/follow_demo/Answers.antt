@@ -1,9 +1,8 @@
 use Rattle.std.proofs.Common.{◌≡◌, rules, subst, string_bytes, ℕ, List}
 use Rattle.std.proofs.lemmas.Result.{err_from_is_err_and}
-use Rattle.log_reader.specs.DemoTexts.{changes_text, log_text}
+use Rattle.log_reader.specs.DemoTexts.{log_text}
 use Rattle.monitor_main.specs.CheckedPolicies.{checked_in}
 use Rattle.monitor_main.specs.DemoRuns.{EndsOn}
-use Rattle.monitor_main.specs.Divisions.{ChangesBy}
 use Rattle.monitor_main.specs.Tasks.{task_on}
 use Rattle.monitor_main.proofs.DemoLemmas.{demo_fails, demo_made}
 use Rattle.monitor_main.proofs.demo_end.follow_demo.Goals as goal
@@ -13,11 +12,6 @@ returns-in_err-task-clause-refused g c =
     let p = err_from_is_err_and c.from_residual-in_err-task.result c.from_residual-in_err-task.ensures.1 in
     rw (p.1, p.2) (demo_fails c.as_bytes.result.now c.as_bytes-2.result.now c.as_bytes-3.result.now c.args.seed
     (search rules) (search rules) (search rules) _ c.in_err-task.ensures.gives)
-
-pub follow_log-requires-clause-changes : goal.follow_log-requires-clause-changes
-follow_log-requires-clause-changes g c =
-    let script_is : c.as_bytes-3.result.now ≡ changes_text = search rules in
-    subst (λ (script : List ℕ). ChangesBy script c.in_ok-task.task) script_is c.in_ok-task.ensures.changes
 
 pub returns-clause-ok : goal.returns-clause-ok
 returns-clause-ok g c =
