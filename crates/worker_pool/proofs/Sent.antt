@@ -19,6 +19,10 @@ use Rattle.eval_since.specs.contracts.groups.Groups as Groups
 use Rattle.eval_since.specs.contracts.window.Window as Window
 use Rattle.eval_since.specs.contracts.since.SinceState as SinceState
 use Rattle.eval_since.specs.contracts.recalled.SinceData as SinceData
+use Rattle.eval_until.specs.contracts.entries.Entries as Entries
+use Rattle.eval_until.specs.contracts.start_map.StartMap as StartMap
+use Rattle.eval_until.specs.contracts.contents.Contents as Contents
+use Rattle.eval_until.specs.contracts.ahead.Ahead as Ahead
 use Rattle.eval_until.specs.contracts.until.UntilState as UntilState
 use Rattle.eval_until.specs.contracts.recalled.UntilData as UntilData
 use Rattle.eval_bool.specs.contracts.join.JoinState as JoinState
@@ -95,8 +99,20 @@ window_send = search (row_send, groups_send, interval_send, base) depth 30
 pub since_send : IsSend (SinceState.the_field).row
 since_send = search (window_send, table_send, base) depth 30
 
+pub entries_send : IsSend (Entries.the_field).row
+entries_send = search base depth 30
+
+pub starts_send : IsSend (StartMap.the_field).row
+starts_send = search (row_send, base) depth 30
+
+pub contents_send : IsSend (Contents.the_field).row
+contents_send = search (row_send, starts_send, entries_send, base) depth 30
+
+pub ahead_send : IsSend (Ahead.the_field).row
+ahead_send = search (contents_send, interval_send, base) depth 30
+
 pub until_send : IsSend (UntilState.the_field).row
-until_send = search (row_send, table_send, interval_send, base) depth 30
+until_send = search (ahead_send, table_send, base) depth 30
 
 pub since_data_send : IsSend (SinceData.the_field).row
 since_data_send = search (row_send, table_send, base) depth 30
