@@ -1,7 +1,7 @@
 //! Laws of conjunctions and of OR, each stated by the contract of a function that does nothing.
 ghost use Rattle.eval_bool.specs.Laws.{NumberedOn, TestsHold};
 
-/// The tests of a conjunction hold where each of its comparisons comes out as wanted.
+/// The tests of a conjunction hold exactly where each of its comparisons comes out as wanted.
 #[tactic(auto, using(crate::proofs::LawLemmas::tests_hold))]
 pub fn tests_hold()
     ensures { TestsHold }

@@ -24,8 +24,8 @@ pub struct Taken {
     pub breaks: Vec<Row>,
 }
 
-/// What is kept of the positions that were taken, and the rows that it came with, by their positions,
-/// so that what is pulled is found.
+/// What is kept of the positions that were taken: where runs begin, the entries of rows, and by position the rows that
+/// came with it, so that those of a pulled position are found.
 #[derive(Drop)]
 pub struct Contents {
     pub starts: StartMap,

@@ -36,7 +36,7 @@ fn begin_alone(
     Ok(())
 }
 
-// where no other run went on before, nothing changes
+// Where this row's run is the only one already, nothing changes.
 fn keep_alone(alloc: Global, starts: &mut StartMap, row: &Row, place: u64) -> Result<(), AllocError>
     ensures { OnOk result ((w : List Value) → kept_start starts.new w
         ≡ cond (is_at (row_cmp row.now) w) (Some (start_of false place starts.old w)) None) }

@@ -417,9 +417,9 @@ impl UntilState {
         Ok(Some(table))
     }
 
-    /// Of what is kept: each row has an entry; each entry stands at a position that was taken and not pulled, those of a row by
-    /// strictly ascending positions, and no run begins behind the entry that names it; no start is behind
-    /// the positions taken, and one of a negated operand is behind the next position to pull.
+    /// Of what is kept: each row has an entry; each entry stands at a position that was taken and not pulled, those of a
+    /// row by strictly ascending positions, and no run begins behind the entry that names it; no start is behind the
+    /// positions taken, and one of a negated operand is behind the next position to pull.
     pub fn keeps_no_more(&self)
         ensures low { self.now.ahead.pulled ≤ self.now.ahead.taken }
         ensures high { self.now.ahead.taken ≤ self.now.ahead.pulled + length self.now.times }

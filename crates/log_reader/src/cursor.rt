@@ -120,7 +120,7 @@ impl<'a> Cursor<'a> {
         Ok(TokenStep::Took)
     }
 
-    // Takes a value straight from the bytes: how many it has, if there is one.
+    // Takes an integer straight from the bytes, and says how many bytes it has, if one stands there.
     fn take_quick(&mut self, alloc: Global, look: Look<'_>) -> Result<Option<usize>, AllocError>
         requires within { self.old.at ≤ length look.bytes.now }
         ensures same { self.new.at ≡ self.old.at }
@@ -157,7 +157,7 @@ impl<'a> Cursor<'a> {
         }
     }
 
-    // Takes a mark straight from the bytes, behind one blank at most: whether there is one.
+    // Takes a mark straight from the bytes, behind one blank at most, and says whether it took one.
     fn take_marked(
         &mut self,
         alloc: Global,

@@ -6,7 +6,7 @@ ghost use Rattle.log_reader.specs.Tokens.{blank_before, IsInFront};
 use mfotl_lex::limits::MAX_LOG_WORD;
 use mfotl_lex::{Kind, Token, is_space, log_mark, log_word_len};
 
-/// How many bytes of blanks are in front, if there is one at most.
+/// 1 where a blank stands in front, else 0.
 pub fn blank_before(bytes: &[u8]) -> usize
     ensures is { result ≡ blank_before bytes.now }
     ensures within { result ≤ length bytes.now }

@@ -186,8 +186,8 @@ impl<'a> Partial<'a> {
         }
     }
 
-    /// Takes a mark that stands at an offset straight by its byte, where the grammar goes on with it within
-    /// the present time-point. It does what the token would do.
+    /// Takes a mark straight by its byte, where its stage awaits it and it completes no time-point. It does what the
+    /// token would do.
     pub fn take_mark(
         &mut self,
         alloc: Global,

@@ -1,4 +1,4 @@
-//! The predicates of a signature, found by name or by number.
+//! The predicates of a signature, found by name.
 ghost use Rattle.std.specs.Prelude.{◌≡◌, ◌≢◌, ◌↔◌, ◌<◌, ◌^◌, List, [], map, length, All, Contains};
 ghost use Rattle.std.specs.Prelude.{None, option_map, IsNone, IfSome, OnOk};
 ghost use Rattle.std.specs.List.{AllByRecursion, find};

@@ -97,8 +97,8 @@ fn first_conjunct(core: &Core) -> &Core
     }
 }
 
-// A core with one more conjunct, which stands before its own. What a call keeps on the stack is a box, since a chain may
-// have as many conjuncts as a core has nodes.
+// A core with one more conjunct, which stands before its own. What a call keeps on the stack is a box, since a
+// chain may have as many conjuncts as a core has nodes.
 fn led(alloc: Global, first: &Core, body: &Core) -> Result<Box<Core>, AllocError>
     ensures { IfOk result (λ own. node_form own.value ≡ led (node_form first.now) (node_form body.now)) }
 {

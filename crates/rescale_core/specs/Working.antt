@@ -19,7 +19,7 @@ use Rattle.rescale_core.specs.declared.item.Entry.{Entry}
 use Rattle.rescale_core.specs.declared.item.Item.{Item}
 use Rattle.rescale_core.specs.declared.item.Out.{Out}
 
--- the worker is in this phase: it monitors, is idle, or merges the pieces that came, where some are missing
+-- the worker is in this phase: it monitors, is vacant, or merges the pieces that came, where some are missing
 abbrev pub IsAt : CoreForm → ℕ → PhaseOf → Phase → Type 0
 IsAt core k (Active s log) phase = (m : Monitor) × (phase ≡ held.Active m s) × IsMonitor core s k log m
 IsAt core k Vacant phase = phase ≡ held.Vacant

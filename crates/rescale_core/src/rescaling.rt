@@ -18,7 +18,7 @@ use std::alloc::{AllocError, Global};
 use std::mem;
 
 impl Worker {
-    /// Gives a piece of its state for each worker of the new strategy, and is idle then.
+    /// Gives a piece of its state for each worker of the new strategy, and is vacant then.
     pub(crate) fn part(
         &mut self,
         alloc: Global,

@@ -25,8 +25,7 @@ abbrev pub shared : ℕ → Region
 shared to = in_both (near_of present 1) (near_of next to)
 
 -- The second worker has the values from 10 on. It keeps a row with 3 as well, which may be wrong, and which goes into
--- no
--- piece, though the second worker of the next strategy has 3. The row with 12 goes to that one.
+-- no piece, though the second worker of the next strategy has 3. The row with 12 goes to that one.
 abbrev pub FarRowStays : Type 0
 FarRowStays =
     (cut_table (shared 0) (of_x ((Int (pos 3) ∷ []) ∷ (Int (pos 12) ∷ []) ∷ [])) ≡ of_x [])

@@ -1,5 +1,5 @@
-//! Worked cases of threads: a run in which two workers have to be at work at the same time, one whose change gives a second
-//! worker work, and the turns of a hub.
+//! Worked cases of threads: a run in which two workers have to be at work at the same time, one whose change gives a
+//! second worker work, and the turns of a hub.
 #![tactic(auto)]
 
 mod counter;

@@ -1,4 +1,4 @@
-//! Runs whose threads have to overlap, and the turns of two cells.
+//! Runs whose threads have to overlap or whose change has to be made, and the turns of hubs.
 use crate::{Counter, Echo, Meeting, WatchedSink};
 use mon_outside::{MemInputs, MemSink, NamedFile, OpenGate};
 use monitor_main::run;

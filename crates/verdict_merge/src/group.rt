@@ -13,7 +13,7 @@ use mfotl_model::{Row, RowList};
 use std::alloc::{AllocError, Global};
 use std::marker::Model;
 
-// At least one. Where there is one, it takes no memory.
+// There is at least one. One that is alone takes no memory beside its slot.
 #[derive(Drop)]
 pub(crate) struct Group {
     first: Arrived,

@@ -14,7 +14,7 @@ use std::alloc::{AllocError, Global};
 use std::collections::VecDeque;
 use std::marker::Model;
 
-// A slot holds the Rows of a time-point: the first those of the next one, and each other those of the one after.
+// The slots are those of the time-points from the next one on, in order.
 #[derive(Drop)]
 pub(crate) struct Waiting {
     alloc: Global,

@@ -112,8 +112,8 @@ fn make_changes<R: Wait, O: Sink, G: Gate>(
     unreachable!()
 }
 
-/// Reads a time-point, once the changes before it are made and there is room for it; where `turns` is told, behind a
-/// turn of the loop.
+/// Reads a time-point, once the changes before it are made and there is room for it; where `turns` is true, main takes a
+/// turn first.
 pub(crate) fn route<R: Wait, O: Sink, G: Gate>(
     context: &LoopContext<'_, R, G>,
     own: &mut Vec<WorkerHand>,

@@ -138,7 +138,7 @@ pub(crate) fn drain<R: Wait, O: Sink, G: Gate>(
     unreachable!()
 }
 
-/// Goes on until each worker's queue has room for an item, at least for one turn where `turns` is told.
+/// Goes on until each worker's queue has room for an item, where `turns` is true, for one turn at least.
 pub(crate) fn make_room<R: Wait, O: Sink, G: Gate>(
     context: &LoopContext<'_, R, G>,
     own: &mut Vec<WorkerHand>,

@@ -1,4 +1,4 @@
-//! What runs the threads beside main's task.
+//! Runs the threads beside main's task.
 ghost use Rattle.std.specs.Prelude.{◌≡◌, List};
 ghost use Rattle.worker_pool.specs.Hands.{AreGroupsOf, AreHandsOf, WorkerHand};
 
@@ -94,7 +94,7 @@ fn in_scope<'s, 'm, E, R: Threads + Wait + Sync, G: Gate + Sync, T: MainTask>(
     (answer, task)
 }
 
-/// Does it with a thread for each group of hands, and ends each thread.
+/// Does main's task beside a thread for each group of hands, and ends each thread.
 pub(crate) fn beside<R: Threads + Wait + Sync, G: Gate + Sync, T: MainTask>(
     rt: &R,
     alloc: Global,
