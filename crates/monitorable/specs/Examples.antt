@@ -25,13 +25,15 @@ free name = record { name = name; sort = Int }
 abbrev pub fault_of : Form → Option FragmentFault
 fault_of f = frag_fault (free_names (free (codes "x") ∷ free (codes "y") ∷ free (codes "z") ∷ [])) f
 
--- the variables as a fault tells them
+-- the first variable as a fault tells it
 abbrev pub x : Variable
 x = record { number = 0; name = codes "x" }
 
+-- the second
 abbrev pub y : Variable
 y = record { number = 1; name = codes "y" }
 
+-- the third
 abbrev pub z : Variable
 z = record { number = 2; name = codes "z" }
 
@@ -39,13 +41,15 @@ z = record { number = 2; name = codes "z" }
 abbrev pub w : Bound
 w = record { number = 8; name = codes "w" }
 
--- p and q of the variable of this number, and p of a constant
+-- p of the variable of this number
 abbrev pub p : ℕ → Form
 p number = at 0 (Var number ∷ [])
 
+-- q of the variable of this number
 abbrev pub q : ℕ → Form
 q number = at 1 (Var number ∷ [])
 
+-- p of a constant
 abbrev pub closed : Form
 closed = at 0 (Const (int 1) ∷ [])
 
