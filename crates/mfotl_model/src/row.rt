@@ -1,11 +1,11 @@
 //! Rows of values, and lists of rows.
-ghost use Rattle.std.specs.Prelude.{◌≡◌, ◌++◌, ◌∷◌, [], IfOk, length, refl};
+ghost use Rattle.std.specs.Prelude.{◌≡◌, ◌++◌, ◌∷◌, [], IfOk, length, IsTrue, refl};
 ghost use Rattle.std.specs.Cmp.{eq_by_cmp_equiv, partial_equiv_from_equiv, partial_order_from_agreeing_total};
 ghost use Rattle.std.specs.Ordering.{as_partial_cmp, eq_by_cmp};
 ghost use Rattle.mfotl_model.specs.Ascending.{ascending};
 ghost use Rattle.mfotl_model.specs.Hashes.{row_writes, rows_alike};
 ghost use Rattle.mfotl_model.specs.HeldValues.{held_values};
-ghost use Rattle.mfotl_model.specs.Values.{row_cmp, row_total, value_cmp};
+ghost use Rattle.mfotl_model.specs.Values.{row_cmp, row_total};
 
 use crate::value::Value;
 use std::alloc::{AllocError, Global};
@@ -50,11 +50,16 @@ fn one_more(alloc: Global, held: Held, value: Value) -> Result<Held, AllocError>
             let [first, second] = values;
             Ok(Held::Many(three(alloc, first, second, value)?))
         }
-        Held::Many(mut values) => {
-            values.push(value)?;
-            Ok(Held::Many(values))
-        }
+        Held::Many(values) => Ok(Held::Many(longer(values, value)?)),
     }
+}
+
+// The values and one more in their own memory.
+fn longer(mut values: Vec<Value>, value: Value) -> Result<Vec<Value>, AllocError>
+    ensures { IfOk result (λ more. more.items ≡ values.items ++ value ∷ []) }
+{
+    values.push(value)?;
+    Ok(values)
 }
 
 // A row's third value takes memory for all.
@@ -172,14 +177,12 @@ fn copied(alloc: Global, values: &[Value]) -> Result<Vec<Value>, AllocError>
     Ok(copies)
 }
 
-// The order of two values. Integers, which most are, are compared where it is called.
-fn compared(left: &Value, right: &Value) -> Ordering
-    ensures { result ≡ value_cmp left.now right.now }
+// The order of any two rows, value by value.
+#[inline(never)]
+fn by_values(left: &Row, right: &Row) -> Ordering
+    ensures { result ≡ row_cmp left.now right.now }
 {
-    match (left, right) {
-        (Value::Int(left), Value::Int(right)) => left.cmp(right),
-        _ => left.cmp(right),
-    }
+    left.values().cmp(right.values())
 }
 
 impl PartialEq for Row {
@@ -188,7 +191,12 @@ impl PartialEq for Row {
     ghost laws = { partial_equiv_from_equiv (eq_by_cmp_equiv row_total) };
 
     fn eq(&self, other: &Row) -> bool {
-        self.cmp(other).is_eq()
+        match (&self.held, &other.held) {
+            (Held::Zero, Held::Zero) => true,
+            (Held::One([left]), Held::One([right])) => left == right,
+            (Held::Two([left, last]), Held::Two([right, end])) => left == right && last == end,
+            _ => by_values(self, other).is_eq(),
+        }
     }
 }
 
@@ -215,15 +223,18 @@ impl Ord for Row {
 
     ghost matches_eq = { λ x y. refl };
 
-    // Most rows have one value or two, and are compared often: then no list is walked.
+    // Most rows have no value, one or two integers, and are compared often: then no list is walked.
     fn cmp(&self, other: &Row) -> Ordering {
         match (&self.held, &other.held) {
-            (Held::One([left]), Held::One([right])) => compared(left, right),
-            (Held::Two([left, last]), Held::Two([right, end])) => match compared(left, right) {
-                Ordering::Equal => compared(last, end),
-                unequal => unequal,
-            },
-            _ => self.values().cmp(other.values()),
+            (Held::Zero, Held::Zero) => Ordering::Equal,
+            (Held::One([Value::Int(left)]), Held::One([Value::Int(right)])) => left.cmp(right),
+            (Held::One([left]), Held::One([right])) => left.cmp(right),
+            (Held::Two([Value::Int(left), last]), Held::Two([Value::Int(right), end])) =>
+                match left.cmp(right) {
+                    Ordering::Equal => last.cmp(end),
+                    unequal => unequal,
+                },
+            _ => by_values(self, other),
         }
     }
 }
@@ -234,7 +245,10 @@ impl Hash for Row {
     ghost respects_eq = { rows_alike };
 
     fn hash<H: Hasher>(&self, state: &mut H) {
-        Value::hash_slice(self.values(), state);
+        match &self.held {
+            Held::One([Value::Int(number)]) => number.hash(state),
+            _ => Value::hash_slice(self.values(), state),
+        }
     }
 }
 
@@ -253,6 +267,13 @@ impl Model for RowList {
     ghost view = { λ r. r.rows.items };
 }
 
+// Whether each row lies below the next.
+fn ascends(rows: &[Row]) -> bool
+    ensures { IsTrue result → rows.now ≡ ascending row_cmp rows.now }
+{
+    rows.is_sorted_by(|left, right| left.cmp(right).is_lt())
+}
+
 impl RowList {
     pub fn new(rows: Vec<Row>) -> Self
         ensures { result ≡ rows.items }
@@ -264,6 +285,9 @@ impl RowList {
     pub fn in_order(mut rows: Vec<Row>) -> Self
         ensures { result ≡ ascending row_cmp rows.items }
     {
+        if ascends(rows.as_slice()) {
+            return RowList { rows };
+        }
         rows.sort_unstable();
         rows.dedup();
         RowList { rows }

@@ -58,6 +58,14 @@ impl Text {
     }
 }
 
+// The order of two texts, byte by byte.
+#[inline(never)]
+fn by_bytes(left: &Text, right: &Text) -> Ordering
+    ensures { result ≡ text_cmp left.now right.now }
+{
+    left.as_bytes().cmp(right.as_bytes())
+}
+
 impl PartialEq for Text {
     ghost eq = { eq_by_cmp text_cmp };
 
@@ -92,7 +100,7 @@ impl Ord for Text {
     ghost matches_eq = { λ x y. refl };
 
     fn cmp(&self, other: &Text) -> Ordering {
-        self.as_bytes().cmp(other.as_bytes())
+        by_bytes(self, other)
     }
 }
 
