@@ -1,15 +1,18 @@
 -- What a look-up by name finds.
-use Rattle.std.proofs.Common.{◌≡◌, ◌≢◌, ◌↔◌, ℕ, Bool, true, false, List, [], ◌∷◌, map, Option, Some, None}
+use Rattle.std.proofs.Common.{◌≡◌, ◌≢◌, ◌↔◌, ℕ, Bool, true, false, List, [], ◌∷◌, map, length, suc, Option, Some, None}
 use Rattle.std.proofs.Common.{option_map, Bor, All, Contains, refl, ap, sym, subst, ◌∙◌, ◌⊎◌, inl, inr, arith}
 use Rattle.std.proofs.lemmas.Cmp.{nat_list_eq_equiv}
-use Rattle.std.proofs.lemmas.List.Elements.{All-from_recursion, All-contains, Contains-get_or, Contains-append_right}
+use Rattle.std.proofs.lemmas.List.Elements.{All-nil, All-cons, All-map, All-contains, Contains-get_or}
+use Rattle.std.proofs.lemmas.List.Elements.{Contains-append_right}
+use Rattle.std.proofs.lemmas.List.{get_or-map, length-map}
 use Rattle.std.specs.Cmp.Lexicographic.{same_text}
-use Rattle.std.specs.List.{AllByRecursion}
 use Rattle.std.specs.Option.{option_copied}
 use Rattle.std.specs.Prelude.{IsNone, IfSome}
 use Rattle.std.specs.Str.{bytes_eq}
 use Rattle.mfotl_sig.specs.declared.pred.Pred.{Pred}
 use Rattle.mfotl_sig.specs.Preds.{PredOf, pred_of, named}
+use Rattle.mfotl_sig.specs.Grammar.{Written}
+use Rattle.mfotl_sig.specs.Rules.{names_of, numbered}
 
 -- the names of predicates
 abbrev pub names : List PredOf → List (List ℕ)
@@ -21,46 +24,56 @@ pub record Finds (name : List ℕ) (preds : List PredOf) : Type 0 where
   pub found : named name preds ≡ Some pred
   pub same : pred.name ≡ name
   pub member : Contains preds pred
-  pub among : Contains (names preds) name
 
 -- none has it
 pub record Lacks (name : List ℕ) (preds : List PredOf) : Type 0 where
   pub none : named name preds ≡ None
-  pub differ : AllByRecursion (λ p. p.name ≢ name) preds
-  pub others : AllByRecursion (λ y. y ≢ name) (names preds)
+  pub differ : All (λ p. p.name ≢ name) preds
 
 with_first : (name : List ℕ) (p : PredOf) (ps : List PredOf) (b : Bool) → bytes_eq name p.name ≡ b
     → Finds name ps ⊎ Lacks name ps → Finds name (p ∷ ps) ⊎ Lacks name (p ∷ ps)
 with_first name p ps true same rest =
     let is = sym (same_text name p.name (sym same)) in
-    inl (record {
-      pred = p;
-      found = rw same refl;
-      same = is;
-      member = Contains-get_or (p ∷ ps) 0 p (omega arith);
-      among = subst (Contains (names (p ∷ ps))) is (Contains-get_or (names (p ∷ ps)) 0 p.name (omega arith));
-    })
+    inl (record { pred = p; found = rw same; same = is; member = Contains-get_or (p ∷ ps) 0 p (omega arith) })
 with_first name p ps false other (inl f) =
-    inl (record {
-      pred = f.pred;
-      found = rw other f.found;
-      same = f.same;
-      member = Contains-append_right (p ∷ []) ps f.pred f.member;
-      among = Contains-append_right (p.name ∷ []) (names ps) name f.among;
-    })
+    let member = Contains-append_right (p ∷ []) ps f.pred f.member in
+    inl (record { pred = f.pred; found = rw other f.found; same = f.same; member = member })
 with_first name p ps false other (inr l) =
     let differs : p.name ≢ name =
     λ is. cc (sym (nat_list_eq_equiv.refl name) ∙ ap (bytes_eq name) (sym is) ∙ other) in
-    inr (record { none = rw other l.none; differ = (differs, l.differ); others = (differs, l.others) })
+    inr (record { none = rw other l.none; differ = All-cons (λ q. q.name ≢ name) p ps differs l.differ })
 
 pub look_up : (name : List ℕ) (preds : List PredOf) → Finds name preds ⊎ Lacks name preds
-look_up name [] = inr (record { none = refl; differ = tt; others = tt })
+look_up name [] = inr (record { none = refl; differ = All-nil (λ q. q.name ≢ name) })
 look_up name (p ∷ ps) = with_first name p ps (bytes_eq name p.name) refl (look_up name ps)
 
-pub absent : (name : List ℕ) (preds : List PredOf) → Lacks name preds → Contains (names preds) name → ⊥
-absent name preds l among =
-    All-contains (λ y. y ≢ name) (names preds) name
-    (All-from_recursion (λ y. y ≢ name) (names preds) l.others) among refl
+-- ---- written predicates, numbered
+
+names_numbered : (ws : List Written) (n : ℕ) → names (numbered n ws) ≡ names_of ws
+names_numbered [] n = refl
+names_numbered (w ∷ ws) n = ap (λ ns. w.name.text ∷ ns) (names_numbered ws (suc n))
+
+pub length-numbered : (ws : List Written) (n : ℕ) → length (numbered n ws) ≡ length ws
+length-numbered [] n = refl
+length-numbered (w ∷ ws) n = ap suc (length-numbered ws (suc n))
+
+pub present : (name : List ℕ) (ws : List Written) → Finds name (numbered 0 ws) → Contains (names_of ws) name
+present name ws f =
+    let preds = numbered 0 ws in
+    let at = f.member in
+    let among : Contains (names preds) f.pred.name = (
+      at.0,
+      rw length-map at.1,
+      get_or-map (λ (p : PredOf). p.name) preds at.0 f.pred f.pred.name at.1
+          ∙ ap (λ (p : PredOf). p.name) at.2,
+    ) in
+    subst (Contains (names_of ws)) f.same (rw (names_numbered ws 0) at among)
+
+pub absent : (name : List ℕ) (ws : List Written) → Lacks name (numbered 0 ws) → Contains (names_of ws) name → ⊥
+absent name ws l among =
+    let preds = numbered 0 ws in
+    All-contains (λ y. y ≢ name) (names preds) name (All-map (λ y. y ≢ name) (λ p. p.name) preds l.differ)
+    (rw (names_numbered ws 0) among) refl
 
 -- what a call lent is the predicate of the name
 abbrev pub Lends : Option (Bor Pred) → List ℕ → List PredOf → Type 0
@@ -77,11 +90,7 @@ lent_by : (lent : Option (Bor Pred)) (name : List ℕ) (preds : List PredOf) →
 lent_by None name preds e (inl f) = absurd (cc (e, f.found))
 lent_by None name preds e (inr l) =
     record {
-      none = (
-        λ none. All-from_recursion
-            (λ p. p.name ≢ name) preds l.differ,
-        λ all. refl,
-      );
+      none = (λ none. l.differ, λ all. refl);
       name_is = tt;
       member = tt;
     }

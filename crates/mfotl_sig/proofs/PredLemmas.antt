@@ -1,6 +1,6 @@
 -- The map that keeps the predicates, and the list that clauses see.
-use Rattle.std.proofs.Common.{◌≡◌, ℕ, List, [], ◌∷◌, ◌++◌, map, Option, Some, None, option_map, cond, Bool, true}
-use Rattle.std.proofs.Common.{false, refl, ap, subst, ◌∙◌, sym}
+use Rattle.std.proofs.Common.{◌≡◌, ℕ, List, [], ◌∷◌, ◌++◌, map, Option, Some, None, option_map, cond, Bool, true, false}
+use Rattle.std.proofs.Common.{refl, ap, subst, ◌∙◌, sym}
 use Rattle.std.specs.List.{AllByRecursion, find}
 use Rattle.std.specs.Str.{bytes_eq}
 use Rattle.std.specs.Global.{Vec}

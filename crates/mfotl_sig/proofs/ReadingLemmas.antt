@@ -7,9 +7,10 @@ use Rattle.mfotl_lex.specs.FirstFault.{◌>>=◌, run}
 use Rattle.mfotl_lex.specs.Lexemes.{Lexeme, tokens, next_token, after}
 use Rattle.mfotl_lex.specs.Places.{Place, beginning}
 use Rattle.mfotl_lex.specs.Texts.{tail_of, reading_on}
+use Rattle.mfotl_lex.proofs.Sequence.{after_shorter}
 use Rattle.mfotl_lex.proofs.TextLaws.{on_step, on_stop, on_none, on_fault, begins}
 use Rattle.mfotl_sig.specs.declared.fault.SigFault.{SigFault}
-use Rattle.mfotl_sig.specs.declared.fault.SigFault.TheVariants.{Lex, Memory}
+use Rattle.mfotl_sig.specs.declared.fault.SigFault.TheVariants.{Memory}
 use Rattle.mfotl_sig.specs.Answers.{Fails}
 use Rattle.mfotl_sig.specs.Reading.{Partial, step, at_end, at_tail, unbroken, nothing_read, tokens_read, reading}
 
@@ -39,11 +40,8 @@ module _ (bytes : List ℕ) (first : Partial) where
         fails_on fault (step p t) (tokens_read bytes first)
         (λ stop. sym leads ∙ on_stop step unbroken (tail_of true (length bytes)) place p t fault next stop) failed
 
-    pub lex_fails : (fault : LexFault) → next_token place ≡ Err fault → tokens_read bytes first ≡ Err (Lex fault)
-    lex_fails fault next = sym leads ∙ on_fault step unbroken (tail_of true (length bytes)) place p fault next
-
-    pub all_read : next_token place ≡ Ok None → tokens_read bytes first ≡ Ok p
-    all_read next = sym leads ∙ on_none step unbroken (tail_of true (length bytes)) place p next
+-- what a loop over the tokens needs
+pub ruleset token_by_token = (begins_so, goes_on, step_fails, on_fault, on_none, after_shorter)
 
 behind : (end : ℕ) (lexical : Option LexFault) (r : Result Partial SigFault)
     → (r >>= λ p. at_tail (tail_of true end lexical) p)
@@ -64,7 +62,3 @@ pub ends_fail : (bytes : List ℕ) (fault : SigFault) → Fails fault (tokens_re
 ends_fail bytes fault failed =
     fails_on fault (tokens_read bytes nothing_read) (reading bytes)
     (λ e. end_behind bytes ∙ ap (λ r. r >>= λ p. at_end (length bytes) p.done p.draft) e) failed
-
-pub ends_so : (bytes : List ℕ) (p : Partial) → tokens_read bytes nothing_read ≡ Ok p
-    → reading bytes ≡ at_end (length bytes) p.done p.draft
-ends_so bytes p e = end_behind bytes ∙ ap (λ r. r >>= λ p. at_end (length bytes) p.done p.draft) e

@@ -1,27 +1,23 @@
 -- What the reader makes of tokens that the grammar spells: a verdict on each part, from left to right.
 use Rattle.std.proofs.Common.{◌≡◌, ℕ, Bool, true, false, cond, List, [], ◌∷◌, length, Option, Some, None, is_some}
-use Rattle.std.proofs.Common.{Result, Ok, Err, refl, ap, sym, ◌∙◌, ◌⊎◌, inl, inr}
+use Rattle.std.proofs.Common.{Result, Ok, Err, refl, ap, ◌∙◌}
 use Rattle.std.specs.Prelude.{nat_le}
 use Rattle.std.specs.List.{AllByRecursion}
-use Rattle.mfotl_lex.specs.declared.kind.Kind.{Kind}
-use Rattle.mfotl_lex.specs.declared.kind.Kind.TheVariants.{Word, OpenParen, CloseParen, Comma, Colon}
+use Rattle.mfotl_lex.specs.declared.kind.Kind.TheVariants.{Word, OpenParen, CloseParen, Comma}
 use Rattle.mfotl_lex.specs.FirstFault.{◌>>=◌, run}
 use Rattle.mfotl_lex.specs.Lexemes.{Lexeme}
-use Rattle.mfotl_lex.proofs.FirstFaultLaws.{bind_assoc, bind_same, run_token}
+use Rattle.mfotl_lex.proofs.FirstFaultLaws.{bind_assoc, bind_same}
 use Rattle.mfotl_model.specs.declared.policy.Sort.{Sort}
 use Rattle.mfotl_sig.specs.declared.arguments.Stage.{Stage}
-use Rattle.mfotl_sig.specs.declared.arguments.Stage.TheVariants.{AfterName, AfterOpen, AfterWord, AfterLabel}
-use Rattle.mfotl_sig.specs.declared.arguments.Stage.TheVariants.{AfterSort, AfterComma}
+use Rattle.mfotl_sig.specs.declared.arguments.Stage.TheVariants.{AfterOpen, AfterComma}
 use Rattle.mfotl_sig.specs.declared.fault.SigFault.{SigFault}
 use Rattle.mfotl_sig.specs.declared.fault.SigFault.TheVariants.{RepeatedName, Arity, TooMany}
 use Rattle.mfotl_sig.specs.Causes.{Begun}
-use Rattle.mfotl_sig.specs.Grammar.{Argument, Only, Labelled, Listed, Written, FitsArgument, FitsListed, FitsLast}
-use Rattle.mfotl_sig.specs.Grammar.{Fits}
+use Rattle.mfotl_sig.specs.Grammar.{Argument, Only, Labelled, Listed, Written, FitsArgument, FitsListed, FitsLast, Fits}
 use Rattle.mfotl_sig.specs.Grammar.{spell_argument, spell_listed, spell_last, spell_pred, spell_preds}
 use Rattle.mfotl_sig.specs.Limits.{max_predicates, max_arguments}
 use Rattle.mfotl_sig.specs.Preds.{PredOf, named, with_pred}
-use Rattle.mfotl_sig.specs.Reading.{Partial, ProgressOf, goes_on, with_sort, word_stage, stage_step, settled, step}
-use Rattle.mfotl_sig.specs.Reading.{nothing_read}
+use Rattle.mfotl_sig.specs.Reading.{Partial, with_sort, step, nothing_read}
 use Rattle.mfotl_sig.specs.Rules.{sort_of, sort_word}
 
 -- ---- verdicts
@@ -70,124 +66,44 @@ abbrev pub stage_in : List Listed → Stage
 stage_in [] = AfterOpen
 stage_in (l ∷ ls) = AfterComma
 
-name_run : (done : List PredOf) (t : Lexeme) (ts : List Lexeme) → t.kind ≡ Word
-    → run step (t ∷ ts) (between done) ≡ (admit_name done t >>= λ d. run step ts (within d t.text [] AfterName))
-unfolding run step
-name_run done t ts kind = rw kind (by (is_some (named t.text done)) (nat_le max_predicates (length done)))
-  where
-    by : (a b : Bool)
-        → (cond a (Err (RepeatedName t.at))
-        (cond b (Err (TooMany t.at)) (Ok (within done t.text [] AfterName))) >>= λ q. run step ts q)
-        ≡ (cond a (Err (RepeatedName t.at)) (cond b (Err (TooMany t.at)) (Ok done)) >>= λ d. run step ts
-        (within d t.text [] AfterName))
-    by true b = refl
-    by false true = refl
-    by false false = refl
+-- a test in front of a verdict
+pub cond_bind : {A B : Type 0} (b : Bool) (fault : SigFault) (r : Result A SigFault) (f : A → Result B SigFault)
+    → (cond b (Err fault) r >>= f) ≡ cond b (Err fault) (r >>= f)
+cond_bind true fault r f = refl
+cond_bind false fault r f = refl
+
+-- and one that showed no fault
+pub cond_ok : {A : Type 0} (b : Bool) (fault : SigFault) (r : Result A SigFault) (x : A)
+    → cond b (Err fault) r ≡ Ok x → r ≡ Ok x
+cond_ok true fault r x e = absurd cc
+cond_ok false fault r x e = e
 
 module _ (done : List PredOf) (name : List ℕ) where
-  abbrev pub settle : Result ProgressOf SigFault → Result Partial SigFault
-  settle r = r >>= λ progress. Ok (settled done name progress)
+  -- an argument and its comma, where an argument may begin
+  one_run : (sorts : List Sort) (a : Argument) (t : Lexeme) (ts : List Lexeme) → FitsArgument a → t.kind ≡ Comma
+      → run step (spell_argument a (t ∷ ts)) (within done name sorts AfterComma)
+      ≡ (admit sorts a >>= λ more. run step ts (within done name more AfterComma))
+  unfolding run step
+  one_run sorts (Only w) t ts fits kind = rw (fits, kind) (simp (cond_bind, bind_assoc))
+  one_run sorts (Labelled l c w) t ts fits kind = rw (fits.0, fits.1, fits.2, kind) (simp (cond_bind, bind_assoc))
 
-  -- a token of this kind within a predicate
-  pub kind_step : (sorts : List Sort) (stage : Stage) (t : Lexeme) (k : Kind) → t.kind ≡ k
-      → step (within done name sorts stage) t ≡ settle (stage_step sorts t stage k)
-  unfolding step
-  kind_step sorts stage t k kind = ap (λ k. settle (stage_step sorts t stage k)) kind
-
-  -- it shows no fault
-  on_kind : (sorts : List Sort) (stage : Stage) (t : Lexeme) (k : Kind) (q : Partial) (ts : List Lexeme) → t.kind ≡ k
-      → settle (stage_step sorts t stage k) ≡ Ok q → run step (t ∷ ts) (within done name sorts stage) ≡ run step ts q
-  on_kind sorts stage t k q ts kind e = run_token step t ts _ q (kind_step sorts stage t k kind ∙ e)
-
-  pub label_step : (sorts : List Sort) (t : Lexeme) → t.kind ≡ Word
-      → step (within done name sorts AfterLabel) t
-      ≡ (with_sort sorts (sort_of t.text) t.at >>= λ more. Ok (within done name more AfterSort))
-  label_step sorts t kind =
-      kind_step sorts AfterLabel t Word kind
-      ∙ bind_assoc (with_sort sorts (sort_of t.text) t.at) (λ more. goes_on more AfterSort)
-      (λ progress. Ok (settled done name progress))
-
-  -- behind an only Word, as behind a labelled one
-  pub word_step : (sorts : List Sort) (sort : Option Sort) (at : ℕ) (t : Lexeme)
-      → (t.kind ≡ Comma) ⊎ (t.kind ≡ CloseParen)
-      → step (within done name sorts (AfterWord sort at)) t
-      ≡ (with_sort sorts sort at >>= λ more. step (within done name more AfterSort) t)
-  word_step sorts sort at t (inl kind) =
-      kind_step sorts (AfterWord sort at) t Comma kind ∙ bind_assoc (with_sort sorts sort at) _ _
-      ∙ bind_same (with_sort sorts sort at) _ _ (λ more. sym (kind_step more AfterSort t Comma kind))
-  word_step sorts sort at t (inr kind) =
-      kind_step sorts (AfterWord sort at) t CloseParen kind ∙ bind_assoc (with_sort sorts sort at) _ _
-      ∙ bind_same (with_sort sorts sort at) _ _ (λ more. sym (kind_step more AfterSort t CloseParen kind))
-
-  -- ---- arguments
-
-  -- an argument may begin in this place
-  abbrev Takes : List Sort → Stage → Type 0
-  Takes sorts stage = (t : Lexeme) → settle (stage_step sorts t stage Word)
-      ≡ cond (nat_le max_arguments (length sorts)) (Err (Arity t.at)) (Ok (within done name sorts (word_stage t)))
-
-  comma_takes : (sorts : List Sort) → Takes sorts AfterComma
-  comma_takes sorts t = by (nat_le max_arguments (length sorts))
-    where
-      by : (b : Bool) → settle (cond b (Err (Arity t.at)) (goes_on sorts (word_stage t)))
-          ≡ cond b (Err (Arity t.at)) (Ok (within done name sorts (word_stage t)))
-      by true = refl
-      by false = refl
-
-  -- the first token of an argument, and then the rest of it
-  first_run : (sorts : List Sort) (stage : Stage) (f t : Lexeme) (ts us : List Lexeme)
-      (o : Result (List Sort) SigFault)
-      → Takes sorts stage → f.kind ≡ Word
-      → run step us (within done name sorts (word_stage f))
-      ≡ (o >>= λ more. run step (t ∷ ts) (within done name more AfterSort))
-      → run step (f ∷ us) (within done name sorts stage)
-      ≡ (cond (nat_le max_arguments (length sorts)) (Err (Arity f.at)) o >>= λ more. run step (t ∷ ts)
-      (within done name more AfterSort))
-  unfolding run
-  first_run sorts stage f t ts us o takes kind later =
-      ap (λ r. r >>= λ q. run step us q) (kind_step sorts stage f Word kind ∙ takes f)
-      ∙ by (nat_le max_arguments (length sorts))
-    where
-      by : (b : Bool) → (cond b (Err (Arity f.at))
-          (Ok (within done name sorts (word_stage f))) >>= λ q. run step us q)
-          ≡ (cond b (Err (Arity f.at)) o >>= λ more. run step (t ∷ ts) (within done name more AfterSort))
-      by true = refl
-      by false = later
-
-  -- an argument, and the token behind it
-  argument_run : (sorts : List Sort) (stage : Stage) (a : Argument) (t : Lexeme) (ts : List Lexeme)
-      → Takes sorts stage → FitsArgument a → (t.kind ≡ Comma) ⊎ (t.kind ≡ CloseParen)
-      → run step (spell_argument a (t ∷ ts)) (within done name sorts stage)
-      ≡ (admit sorts a >>= λ more. run step (t ∷ ts) (within done name more AfterSort))
-  unfolding run
-  argument_run sorts stage (Only w) t ts takes fits ends =
-      first_run sorts stage w t ts (t ∷ ts) (with_sort sorts (sort_of w.text) w.at) takes fits
-      (ap (λ r. r >>= λ q. run step ts q) (word_step sorts (sort_of w.text) w.at t ends)
-      ∙ bind_assoc (with_sort sorts (sort_of w.text) w.at) _ (λ q. run step ts q))
-  argument_run sorts stage (Labelled l c w) t ts takes fits ends =
-      first_run sorts stage l t ts (c ∷ w ∷ t ∷ ts) (with_sort sorts (sort_of w.text) w.at) takes fits.0
-      (on_kind sorts (word_stage l) c Colon _ (w ∷ t ∷ ts) fits.1 refl
-      ∙ ap (λ r. r >>= λ q. run step (t ∷ ts) q) (label_step sorts w fits.2)
-      ∙ bind_assoc (with_sort sorts (sort_of w.text) w.at) _ (λ q. run step (t ∷ ts) q))
-
-  -- an argument and its comma
-  one_run : (sorts : List Sort) (stage : Stage) (l : Listed) (ts : List Lexeme) → Takes sorts stage → FitsListed l
-      → run step (spell_argument l.argument (l.comma ∷ ts)) (within done name sorts stage)
-      ≡ (admit sorts l.argument >>= λ more. run step ts (within done name more AfterComma))
-  one_run sorts stage l ts takes fits =
-      argument_run sorts stage l.argument l.comma ts takes fits.0 (inl fits.1)
-      ∙ bind_same (admit sorts l.argument) _ _ (λ more. on_kind more AfterSort l.comma Comma _ ts fits.1 refl)
-
-  -- an argument and the closing bracket
-  end_run : (sorts : List Sort) (stage : Stage) (a : Argument) (t : Lexeme) (ts : List Lexeme)
-      → Takes sorts stage → FitsArgument a → t.kind ≡ CloseParen
-      → run step (spell_argument a (t ∷ ts)) (within done name sorts stage)
+  -- the last argument and the closing bracket
+  end_run : (sorts : List Sort) (a : Argument) (t : Lexeme) (ts : List Lexeme) → FitsArgument a → t.kind ≡ CloseParen
+      → run step (spell_argument a (t ∷ ts)) (within done name sorts AfterComma)
       ≡ (admit sorts a >>= λ all. run step ts (between (with_pred done name all)))
-  end_run sorts stage a t ts takes fits kind =
-      argument_run sorts stage a t ts takes fits (inr kind)
-      ∙ bind_same (admit sorts a) _ _ (λ all. on_kind all AfterSort t CloseParen _ ts kind refl)
+  unfolding run step
+  end_run sorts (Only w) t ts fits kind = rw (fits, kind) (simp (cond_bind, bind_assoc))
+  end_run sorts (Labelled l d w) t ts fits kind = rw (fits.0, fits.1, fits.2, kind) (simp (cond_bind, bind_assoc))
 
-  -- arguments behind a comma, and what is behind them
+  -- behind a bracket the first argument stands as it would behind a comma
+  first_run : (a : Argument) (ts : List Lexeme) → FitsArgument a
+      → run step (spell_argument a ts) (within done name [] AfterOpen)
+      ≡ run step (spell_argument a ts) (within done name [] AfterComma)
+  unfolding run step
+  first_run (Only w) ts fits = rw fits refl
+  first_run (Labelled l c w) ts fits = rw fits.0 refl
+
+  -- arguments, and what is behind them
   more_run : (sorts : List Sort) (ls : List Listed) (last : Option Argument) (us : List Lexeme)
       (then : List Sort → Result Partial SigFault)
       → AllByRecursion FitsListed ls
@@ -195,39 +111,29 @@ module _ (done : List PredOf) (name : List ℕ) where
       → run step (spell_listed ls us) (within done name sorts AfterComma) ≡ (admit_all sorts ls last >>= then)
   more_run sorts [] last us then fits end = end sorts
   more_run sorts (l ∷ ls) last us then fits end =
-      one_run sorts AfterComma l (spell_listed ls us) (comma_takes sorts) fits.0
-      ∙ bind_same (admit sorts l.argument) _ _ (λ more. more_run more ls last us then fits.1 end)
-      ∙ sym (bind_assoc (admit sorts l.argument) (λ more. admit_all more ls last) then)
-
-  -- from the bracket on
-  inside_run : (l : Listed) (ls : List Listed) (last : Option Argument) (us : List Lexeme)
-      (then : List Sort → Result Partial SigFault)
-      → AllByRecursion FitsListed (l ∷ ls)
-      → ((more : List Sort) → run step us (within done name more AfterComma) ≡ (admit_all more [] last >>= then))
-      → run step (spell_listed (l ∷ ls) us) (within done name [] AfterOpen) ≡ (admit_all [] (l ∷ ls) last >>= then)
-  inside_run l ls last us then fits end =
-      one_run [] AfterOpen l (spell_listed ls us) (λ t. refl) fits.0
-      ∙ bind_same (admit [] l.argument) _ _ (λ more. more_run more ls last us then fits.1 end)
-      ∙ sym (bind_assoc (admit [] l.argument) (λ more. admit_all more ls last) then)
+      one_run sorts l.argument l.comma (spell_listed ls us) fits.0.0 fits.0.1
+      ∙ simp (bind_assoc, λ (more : List Sort). more_run more ls last us then fits.1 end)
 
   -- all arguments that have a comma behind them
   listed_run : (ls : List Listed) (us : List Lexeme) → AllByRecursion FitsListed ls
       → run step (spell_listed ls us) (within done name [] AfterOpen)
       ≡ (admit_all [] ls None >>= λ more. run step us (within done name more (stage_in ls)))
   listed_run [] us fits = refl
-  listed_run (l ∷ ls) us fits = inside_run l ls None us _ fits (λ more. refl)
+  listed_run (l ∷ ls) us fits =
+      first_run l.argument _ fits.0.0 ∙ more_run [] (l ∷ ls) None us _ fits (λ more. refl)
 
   -- all arguments and the closing bracket
   closed_run : (ls : List Listed) (last : Option Argument) (t : Lexeme) (ts : List Lexeme)
       → AllByRecursion FitsListed ls → FitsLast ls last → t.kind ≡ CloseParen
       → run step (spell_listed ls (spell_last last (t ∷ ts))) (within done name [] AfterOpen)
       ≡ (admit_all [] ls last >>= λ all. run step ts (between (with_pred done name all)))
-  closed_run [] None t ts fits end kind = on_kind [] AfterOpen t CloseParen _ ts kind refl
-  closed_run [] (Some a) t ts fits end kind = end_run [] AfterOpen a t ts (λ f. refl) end kind
+  unfolding run step
+  closed_run [] None t ts fits end kind = rw kind refl
+  closed_run [] (Some a) t ts fits end kind = first_run a _ end ∙ end_run [] a t ts end kind
   closed_run (l ∷ ls) None t ts fits end kind = absurd cc
   closed_run (l ∷ ls) (Some a) t ts fits end kind =
-      inside_run l ls (Some a) (spell_argument a (t ∷ ts)) _ fits
-      (λ more. end_run more AfterComma a t ts (comma_takes more) end kind)
+      first_run l.argument _ fits.0.0
+      ∙ more_run [] (l ∷ ls) (Some a) _ _ fits (λ more. end_run more a t ts end kind)
 
 -- ---- predicates
 
@@ -236,19 +142,18 @@ begun_run : (done : List PredOf) (name opening : Lexeme) (ts : List Lexeme) → 
     → opening.kind ≡ OpenParen
     → run step (name ∷ opening ∷ ts) (between done)
     ≡ (admit_name done name >>= λ fresh. run step ts (within fresh name.text [] AfterOpen))
-begun_run done name opening ts named opens =
-    name_run done name (opening ∷ ts) named
-    ∙ bind_same (admit_name done name) _ _
-    (λ fresh. on_kind fresh name.text [] AfterName opening OpenParen _ ts opens refl)
+unfolding run step
+begun_run done name opening ts named opens = rw (named, opens) (simp cond_bind)
 
 pred_run : (done : List PredOf) (w : Written) (ts : List Lexeme) → Fits w
     → run step (spell_pred w ts) (between done) ≡ (judge_one done w >>= λ more. run step ts (between more))
 pred_run done w ts fits =
     begun_run done w.name w.opening _ fits.named fits.opens
-    ∙ bind_same (admit_name done w.name) _ _ (λ fresh.
-    closed_run fresh w.name.text w.listed w.last w.closing ts fits.listed fits.last fits.closes
-    ∙ sym (bind_assoc (admit_all [] w.listed w.last) _ (λ more. run step ts (between more))))
-    ∙ sym (bind_assoc (admit_name done w.name) _ (λ more. run step ts (between more)))
+    ∙ simp (
+      bind_assoc,
+      λ (fresh : List PredOf).
+          closed_run fresh w.name.text w.listed w.last w.closing ts fits.listed fits.last fits.closes,
+    )
 
 -- whole predicates, and what is behind them
 pub preds_run : (done : List PredOf) (ws : List Written) (ts : List Lexeme) → AllByRecursion Fits ws
@@ -256,8 +161,7 @@ pub preds_run : (done : List PredOf) (ws : List Written) (ts : List Lexeme) → 
 preds_run done [] ts fits = refl
 preds_run done (w ∷ ws) ts fits =
     pred_run done w (spell_preds ws ts) fits.0
-    ∙ bind_same (judge_one done w) _ _ (λ more. preds_run more ws ts fits.1)
-    ∙ sym (bind_assoc (judge_one done w) (λ more. judge more ws) (λ more. run step ts (between more)))
+    ∙ simp (bind_assoc, λ (more : List PredOf). preds_run more ws ts fits.1)
 
 -- and a predicate that is begun
 pub part_run : (front rest : List Lexeme) (b : Begun front rest) → run step front nothing_read

@@ -1,11 +1,10 @@
 -- What is spelled in front of a rest, and tokens behind it.
-use Rattle.std.proofs.Common.{◌≡◌, List, [], ◌∷◌, ◌++◌, Option, Some, None, refl, ap, sym, ◌∙◌}
+use Rattle.std.proofs.Common.{◌≡◌, List, [], ◌∷◌, ◌++◌, Option, Some, None, refl, ap, ◌∙◌}
 use Rattle.std.specs.List.{AllByRecursion}
 use Rattle.mfotl_lex.specs.declared.kind.Kind.TheVariants.{CloseParen, Comma}
 use Rattle.mfotl_lex.specs.Lexemes.{Lexeme}
 use Rattle.mfotl_sig.specs.Causes.{Begun}
-use Rattle.mfotl_sig.specs.Grammar.{Argument, Only, Labelled, Listed, Written, FitsArgument, FitsListed, FitsLast}
-use Rattle.mfotl_sig.specs.Grammar.{Fits}
+use Rattle.mfotl_sig.specs.Grammar.{Argument, Only, Labelled, Listed, Written, FitsArgument, FitsListed, FitsLast, Fits}
 use Rattle.mfotl_sig.specs.Grammar.{spell_argument, spell_listed, spell_last, spell_begun, spell_pred, spell_preds}
 use Rattle.mfotl_sig.specs.Grammar.{IsAccepted}
 
@@ -15,9 +14,7 @@ argument_behind (Labelled label colon word) ts us = refl
 
 listed_behind : (ls : List Listed) (ts us : List Lexeme) → spell_listed ls ts ++ us ≡ spell_listed ls (ts ++ us)
 listed_behind [] ts us = refl
-listed_behind (l ∷ ls) ts us =
-    argument_behind l.argument (l.comma ∷ spell_listed ls ts) us
-    ∙ ap (λ x. spell_argument l.argument (l.comma ∷ x)) (listed_behind ls ts us)
+listed_behind (l ∷ ls) ts us = simp (argument_behind, listed_behind ls ts us)
 
 last_behind : (last : Option Argument) (ts us : List Lexeme) → spell_last last ts ++ us ≡ spell_last last (ts ++ us)
 last_behind None ts us = refl
@@ -25,22 +22,18 @@ last_behind (Some a) ts us = argument_behind a ts us
 
 pub preds_behind : (ws : List Written) (ts us : List Lexeme) → spell_preds ws ts ++ us ≡ spell_preds ws (ts ++ us)
 preds_behind [] ts us = refl
-preds_behind (w ∷ ws) ts us =
-    let rest = w.closing ∷ spell_preds ws ts in
-    ap (λ x. w.name ∷ w.opening ∷ x)
-    (listed_behind w.listed (spell_last w.last rest) us ∙ ap (spell_listed w.listed) (last_behind w.last rest us))
-    ∙ ap (λ x. spell_pred w x) (preds_behind ws ts us)
+preds_behind (w ∷ ws) ts us = simp (listed_behind, last_behind, preds_behind ws ts us)
 
 -- one more at the end
 listed_more : (ls : List Listed) (l : Listed) (ts : List Lexeme)
     → spell_listed (ls ++ l ∷ []) ts ≡ spell_listed ls (spell_argument l.argument (l.comma ∷ ts))
 listed_more [] l ts = refl
-listed_more (m ∷ ls) l ts = ap (λ x. spell_argument m.argument (m.comma ∷ x)) (listed_more ls l ts)
+listed_more (m ∷ ls) l ts = rw (listed_more ls l ts)
 
 preds_more : (ws : List Written) (w : Written) (ts : List Lexeme)
     → spell_preds (ws ++ w ∷ []) ts ≡ spell_preds ws (spell_pred w ts)
 preds_more [] w ts = refl
-preds_more (v ∷ ws) w ts = ap (λ x. spell_pred v x) (preds_more ws w ts)
+preds_more (v ∷ ws) w ts = rw (preds_more ws w ts)
 
 all_more : {X : Type 0} (P : X → Type 0) (xs : List X) (x : X) → AllByRecursion P xs → P x
     → AllByRecursion P (xs ++ x ∷ [])
@@ -48,61 +41,44 @@ all_more P [] x all one = (one, tt)
 all_more P (y ∷ xs) x all one = (all.0, all_more P xs x all.1 one)
 
 module _ (front rest : List Lexeme) (t : Lexeme) (b : Begun front rest) where
-  behind : front ++ t ∷ [] ≡ spell_preds b.whole (spell_begun b.name b.opening b.listed (rest ++ t ∷ []))
-  behind =
-      ap (λ x. x ++ t ∷ []) b.parts
-      ∙ preds_behind b.whole (spell_begun b.name b.opening b.listed rest) (t ∷ [])
-      ∙ ap (λ x. spell_preds b.whole (b.name ∷ b.opening ∷ x)) (listed_behind b.listed rest (t ∷ []))
-
-  -- one token more
-  pub begun_more : Begun (front ++ t ∷ []) (rest ++ t ∷ [])
-  begun_more =
+  -- the same predicate, gone on
+  gone_on : (after more : List Lexeme) (ls : List Listed) → AllByRecursion FitsListed ls
+      → after ≡ spell_preds b.whole (spell_begun b.name b.opening ls more) → Begun after more
+  gone_on after more ls arguments parts =
       record {
         whole = b.whole;
         name = b.name;
         opening = b.opening;
-        listed = b.listed;
-        parts = behind;
+        listed = ls;
+        parts = parts;
         fits = b.fits;
         named = b.named;
         opens = b.opens;
-        arguments = b.arguments;
+        arguments = arguments;
       }
+
+  behind : front ++ t ∷ [] ≡ spell_preds b.whole (spell_begun b.name b.opening b.listed (rest ++ t ∷ []))
+  behind = ap (λ x. x ++ t ∷ []) b.parts ∙ simp (preds_behind, listed_behind)
+
+  -- one token more
+  pub begun_more : Begun (front ++ t ∷ []) (rest ++ t ∷ [])
+  begun_more = gone_on _ _ b.listed b.arguments behind
 
   -- a comma behind an argument
   pub begun_listed : (a : Argument) → rest ≡ spell_argument a [] → FitsArgument a → t.kind ≡ Comma
       → Begun (front ++ t ∷ []) []
   begun_listed a is fits kind =
       let l : Listed = record { argument = a; comma = t } in
-      record {
-        whole = b.whole;
-        name = b.name;
-        opening = b.opening;
-        listed = b.listed ++ l ∷ [];
-        parts =
-            behind ∙ ap (λ x. spell_preds b.whole (spell_begun b.name b.opening b.listed (x ++ t ∷ []))) is
-            ∙ ap (λ x. spell_preds b.whole (spell_begun b.name b.opening b.listed x)) (argument_behind a [] (t ∷ []))
-            ∙ ap (λ x. spell_preds b.whole (b.name ∷ b.opening ∷ x)) (sym (listed_more b.listed l []));
-        fits = b.fits;
-        named = b.named;
-        opens = b.opens;
-        arguments = all_more FitsListed b.listed l b.arguments (fits, kind);
-      }
+      gone_on _ [] (b.listed ++ l ∷ []) (all_more FitsListed b.listed l b.arguments (fits, kind))
+      (behind ∙ simp (is, argument_behind, listed_more))
 
   -- a `)` behind all arguments
   pub begun_closed : (last : Option Argument) → rest ≡ spell_last last [] → FitsLast b.listed last
       → t.kind ≡ CloseParen → IsAccepted (front ++ t ∷ [])
   begun_closed last is fits kind =
       let w : Written =
-      record { name = b.name; opening = b.opening; listed = b.listed; last = last; closing = t } in (
-        b.whole ++ w ∷ [],
-        record {
-          fits =
-              all_more Fits b.whole w b.fits
-              (record { named = b.named; opens = b.opens; listed = b.arguments; last = fits; closes = kind });
-          spelled =
-              behind ∙ ap (λ x. spell_preds b.whole (spell_begun b.name b.opening b.listed (x ++ t ∷ []))) is
-              ∙ ap (λ x. spell_preds b.whole (spell_begun b.name b.opening b.listed x)) (last_behind last [] (t ∷ []))
-              ∙ sym (preds_more b.whole w []);
-        },
-      )
+      record { name = b.name; opening = b.opening; listed = b.listed; last = last; closing = t } in
+      let so : Fits w =
+      record { named = b.named; opens = b.opens; listed = b.arguments; last = fits; closes = kind } in
+      let spelled = behind ∙ simp (is, last_behind, preds_more) in
+      (b.whole ++ w ∷ [], record { fits = all_more Fits b.whole w b.fits so; spelled = spelled })

@@ -1,12 +1,15 @@
 -- A verdict passes exactly what keeps the rules, and else shows the fault of one.
-use Rattle.std.proofs.Common.{◌≡◌, ℕ, suc, ◌+◌, ◌<◌, ◌≤◌, Bool, true, false, cond, List, [], ◌∷◌, ◌++◌, length}
-use Rattle.std.proofs.Common.{Option, Some, None, is_some, Result, Ok, Err, refl, ap, sym, ◌∙◌, inl, inr, arith}
+use Rattle.std.proofs.Common.{◌≡◌, ℕ, suc, ◌+◌, ◌<◌, ◌≤◌, Bool, true, false, cond, List, [], ◌∷◌, ◌++◌, length, Option}
+use Rattle.std.proofs.Common.{Some, None, is_some, Result, Ok, Err, refl, ap, ◌∙◌, inl, inr, arith}
 use Rattle.std.proofs.lemmas.Bool.{leb-false, leb-true}
 use Rattle.std.proofs.lemmas.Cmp.{nat_list_eq_equiv}
 use Rattle.std.proofs.lemmas.List.{append-nil, append_assoc, length-append}
+use Rattle.std.proofs.lemmas.List.Elements.{filter_map-append}
+use Rattle.std.proofs.lemmas.List.Folds.{find-append}
 use Rattle.std.proofs.lemmas.Map.Keys.{IsDistinct-head, IsDistinct-tail, IsDistinct-cons}
 use Rattle.std.specs.List.{AllByRecursion, IsDistinct, filter_map, cons_option}
-use Rattle.std.specs.Prelude.{nat_le, IsSome}
+use Rattle.std.specs.Prelude.{nat_le, IsSome, ◌↔◌}
+use Rattle.std.specs.Option.{option_or}
 use Rattle.std.specs.Str.{bytes_eq}
 use Rattle.mfotl_lex.specs.Lexemes.{Lexeme}
 use Rattle.mfotl_lex.proofs.Verdicts as layer
@@ -34,93 +37,77 @@ Judged rules r x = layer.Judged IsRule rules r x
 
 -- ---- arguments
 
-abbrev pub sorts_of : List (List ℕ) → List Sort
+abbrev sorts_of : List (List ℕ) → List Sort
 sorts_of words = filter_map sort_of words
 
-abbrev OneKept : List Sort → Argument → Type 0
-OneKept sorts a = (length sorts < max_arguments) × IsSome (sort_of (sort_word a).text)
+one_more : (sort : Option Sort) (more : List Sort) → IsSome sort
+    → length (cons_option sort more) ≡ suc (length more)
+one_more None more some = absurd cc
+one_more (Some sort) more some = refl
+
+length-sorts_of : (words : List (List ℕ)) → AllKnown words → length (sorts_of words) ≡ length words
+length-sorts_of [] known = refl
+length-sorts_of (word ∷ words) known =
+    one_more (sort_of word) (sorts_of words) known.0 ∙ ap suc (length-sorts_of words known.1)
+
+abbrev word_of : Argument → List ℕ
+word_of a = (sort_word a).text
 
 abbrev with_one : List Sort → Argument → List Sort
-with_one sorts a = sorts ++ cons_option (sort_of (sort_word a).text) []
+with_one sorts a = sorts ++ sorts_of (word_of a ∷ [])
 
-one_by : (sorts : List Sort) (a : Argument) (full : Bool) (sort : Option Sort)
-    → nat_le max_arguments (length sorts) ≡ full
-    → Judged ((length sorts < max_arguments) × IsSome sort)
-    (cond full (Err (Arity (first_token a).at)) (with_sort sorts sort (sort_word a).at))
-    (sorts ++ cons_option sort [])
-one_by sorts a true sort e =
-    inr (breaks IsRule _ (Arity (first_token a).at) tt
-    (λ k. let over = leb-true max_arguments (length sorts) e in omega (arith, over, k.0)))
-one_by sorts a false None e = inr (breaks IsRule _ (UnknownSort (sort_word a).at) tt (λ k. cc (k.1)))
-one_by sorts a false (Some sort) e = inl ((leb-false max_arguments (length sorts) e, refl), refl)
-
-one_judged : (sorts : List Sort) (a : Argument) → Judged (OneKept sorts a) (admit sorts a) (with_one sorts a)
-one_judged sorts a = one_by sorts a (nat_le max_arguments (length sorts)) (sort_of (sort_word a).text) refl
-
-one_longer : (sort : Option Sort) → IsSome sort → length (cons_option sort []) ≡ 1
-one_longer None some = absurd cc
-one_longer (Some sort) some = refl
-
-longer : (sorts : List Sort) (a : Argument) → IsSome (sort_of (sort_word a).text)
+longer : (sorts : List Sort) (a : Argument) → IsSome (sort_of (word_of a))
     → length (with_one sorts a) ≡ length sorts + 1
 longer sorts a some =
-    length-append sorts (cons_option (sort_of (sort_word a).text) [])
-    ∙ ap (λ n. length sorts + n) (one_longer (sort_of (sort_word a).text) some)
+    length-append sorts (sorts_of (word_of a ∷ []))
+    ∙ ap (λ n. length sorts + n) (length-sorts_of (word_of a ∷ []) (some, tt))
 
-cons_behind : (sorts more : List Sort) (sort : Option Sort)
-    → (sorts ++ cons_option sort []) ++ more ≡ sorts ++ cons_option sort more
-cons_behind sorts more None = ap (λ xs. xs ++ more) (append-nil sorts)
-cons_behind sorts more (Some sort) = append_assoc sorts (sort ∷ []) more
+abbrev OneKept : List Sort → Argument → Type 0
+OneKept sorts a = (length sorts < max_arguments) × IsSome (sort_of (word_of a))
+
+one_judged : (sorts : List Sort) (a : Argument) → Judged (OneKept sorts a) (admit sorts a) (with_one sorts a)
+one_judged sorts a = by (nat_le max_arguments (length sorts)) (sort_of (word_of a)) refl
+  where
+    by : (full : Bool) (sort : Option Sort) → nat_le max_arguments (length sorts) ≡ full
+        → Judged ((length sorts < max_arguments) × IsSome sort)
+        (cond full (Err (Arity (first_token a).at)) (with_sort sorts sort (sort_word a).at))
+        (sorts ++ cons_option sort [])
+    by true sort e =
+        let over = leb-true max_arguments (length sorts) e in inr (breaks IsRule _ _ tt (λ k. omega (arith, k.0)))
+    by false None e = inr (breaks IsRule _ _ tt (λ k. cc (k.1)))
+    by false (Some sort) e = inl ((leb-false max_arguments (length sorts) e, refl), refl)
 
 abbrev AllKept : List Sort → List (List ℕ) → Type 0
 AllKept sorts words = (length sorts + length words ≤ max_arguments) × AllKnown words
 
 pub all_judged : (sorts : List Sort) (ls : List Listed) (last : Option Argument) → length sorts ≤ max_arguments
     → Judged (AllKept sorts (words_of ls last)) (admit_all sorts ls last) (sorts ++ sorts_of (words_of ls last))
-all_judged sorts [] None few = inl ((omega (arith, few), tt), ap (λ xs. Ok xs) (sym (append-nil sorts)))
+all_judged sorts [] None few = inl ((omega arith, tt), rw append-nil)
 all_judged sorts [] (Some a) few =
-    layer.judged_as IsRule (OneKept sorts a) (admit sorts a) (with_one sorts a)
-    (AllKept sorts (words_of [] (Some a))) _
-    (λ k. (omega (arith, k.0), (k.1, tt))) (λ k. (omega (arith, k.0), k.1.0)) refl (one_judged sorts a)
+    layer.judged_as IsRule _ _ _ _ _ (λ k. (omega (arith, k.0), (k.1, tt))) (λ k. (omega (arith, k.0), k.1.0)) refl
+    (one_judged sorts a)
 all_judged sorts (l ∷ ls) last few =
     let a = l.argument in
     let more = with_one sorts a in
     let words = words_of ls last in
-    let to : OneKept sorts a → AllKept more words → AllKept sorts (words_of (l ∷ ls) last) =
-    λ one rest. (omega (arith, rest.0, longer sorts a one.1), (one.1, rest.1)) in
-    let from : AllKept sorts (words_of (l ∷ ls) last) → OneKept sorts a × AllKept more words =
-    λ k. ((omega (arith, k.0), k.1.0), (omega (arith, k.0, longer sorts a k.1.0), k.1.1)) in
-    layer.then_judged IsRule (OneKept sorts a) (admit sorts a) more (AllKept more words)
-    (AllKept sorts (words_of (l ∷ ls) last)) (λ xs. admit_all xs ls last) _ to from
+    rw (filter_map-append sort_of (word_of a ∷ []) words, ← append_assoc)
+    (layer.then_judged IsRule (OneKept sorts a) (admit sorts a) more (AllKept more words)
+    (AllKept sorts (word_of a ∷ words)) _ _ (λ one rest. (omega (arith, rest.0, longer sorts a one.1), (one.1, rest.1)))
+    (λ k. ((omega (arith, k.0), k.1.0), (omega (arith, k.0, longer sorts a k.1.0), k.1.1)))
     (one_judged sorts a)
-    (λ one. layer.judged_as IsRule (AllKept more words) (admit_all more ls last) (more ++ sorts_of words)
-    (AllKept more words) _
-    (λ k. k) (λ k. k) (cons_behind sorts (sorts_of words) (sort_of (sort_word a).text))
-    (all_judged more ls last (omega (arith, one.0, longer sorts a one.1))))
+    (λ one. all_judged more ls last (omega (arith, one.0, longer sorts a one.1))))
+
+length-words_of : (ls : List Listed) → length (words_of ls None) ≡ length ls
+length-words_of [] = refl
+length-words_of (l ∷ ls) = ap suc (length-words_of ls)
 
 -- so many were admitted, and no more than there may be
 pub listed_count : (sorts : List Sort) (ls : List Listed) → admit_all [] ls None ≡ Ok sorts
     → (length sorts ≡ length ls) × (length ls ≤ max_arguments)
 listed_count sorts ls ok =
-    let all =
-    layer.judged_ok IsRule (AllKept [] (words_of ls None)) (admit_all [] ls None)
-    (sorts_of (words_of ls None)) sorts (all_judged [] ls None (omega arith)) ok in
-    let size = count ls all.0.1 in
-    (ap length all.1 ∙ size.0, omega (arith, all.0.0, size.1))
-  where
-    known : (sort : Option Sort) (more : List Sort) → IsSome sort → length (cons_option sort more) ≡ suc (length more)
-    known None more some = absurd cc
-    known (Some sort) more some = refl
-
-    count : (ls : List Listed) → AllKnown (words_of ls None)
-        → (length (sorts_of (words_of ls None)) ≡ length ls) × (length (words_of ls None) ≡ length ls)
-    count [] all = (refl, refl)
-    count (l ∷ ls) all =
-        let rest = count ls all.1 in (
-          known (sort_of (sort_word l.argument).text) (sorts_of (words_of ls None)) all.0
-              ∙ ap suc rest.0,
-          ap suc rest.1,
-        )
+    let all = layer.judged_ok IsRule _ _ _ sorts (all_judged [] ls None (omega arith)) ok in
+    let size = length-words_of ls in
+    (ap length all.1 ∙ length-sorts_of (words_of ls None) all.0.1 ∙ size, omega (arith, all.0.0))
 
 -- ---- predicates
 
@@ -128,15 +115,16 @@ listed_count sorts ls ok =
 abbrev IsAdmitted : List PredOf → List ℕ → Type 0
 IsAdmitted done name = (named name done ≡ None) × (length done < max_predicates)
 
-name_by : (done : List PredOf) (t : Lexeme) (found : Option PredOf) (full : Bool)
-    → nat_le max_predicates (length done) ≡ full
-    → Judged ((found ≡ None) × (length done < max_predicates))
-    (cond (is_some found) (Err (RepeatedName t.at)) (cond full (Err (TooMany t.at)) (Ok done))) done
-name_by done t (Some p) full e = inr (breaks IsRule _ (RepeatedName t.at) tt (λ k. cc (k.0)))
-name_by done t None true e =
-    inr (breaks IsRule _ (TooMany t.at) tt
-    (λ k. let over = leb-true max_predicates (length done) e in omega (arith, over, k.1)))
-name_by done t None false e = inl ((refl, leb-false max_predicates (length done) e), refl)
+name_judged : (done : List PredOf) (t : Lexeme) → Judged (IsAdmitted done t.text) (admit_name done t) done
+name_judged done t = by (named t.text done) (nat_le max_predicates (length done)) refl
+  where
+    by : (found : Option PredOf) (full : Bool) → nat_le max_predicates (length done) ≡ full
+        → Judged ((found ≡ None) × (length done < max_predicates))
+        (cond (is_some found) (Err (RepeatedName t.at)) (cond full (Err (TooMany t.at)) (Ok done))) done
+    by (Some p) full e = inr (breaks IsRule _ _ tt (λ k. cc (k.0)))
+    by None true e =
+        let over = leb-true max_predicates (length done) e in inr (breaks IsRule _ _ tt (λ k. omega (arith, k.1)))
+    by None false e = inl ((refl, leb-false max_predicates (length done) e), refl)
 
 -- the predicate that is written behind others
 abbrev pred_behind : List PredOf → Written → PredOf
@@ -150,91 +138,72 @@ PredKept done w = IsAdmitted done w.name.text × AllKept [] (sort_words w)
 
 pred_judged : (done : List PredOf) (w : Written) → Judged (PredKept done w) (judge_one done w) (and_pred done w)
 pred_judged done w =
-    layer.then_judged IsRule (IsAdmitted done w.name.text) (admit_name done w.name) done (AllKept [] (sort_words w))
-    (PredKept done w) _ (and_pred done w)
-    (λ a b. (a, b)) (λ k. k)
-    (name_by done w.name (named w.name.text done) (nat_le max_predicates (length done)) refl)
-    (λ new. layer.then_judged IsRule (AllKept [] (sort_words w)) (admit_all [] w.listed w.last)
-    (sorts_of (sort_words w)) (Unit {0}) (AllKept [] (sort_words w)) _ (and_pred done w)
+    layer.then_judged IsRule _ (admit_name done w.name) _ _ _ _ _ (λ a b. (a, b)) (λ k. k) (name_judged done w.name)
+    (λ new. layer.then_judged IsRule _ (admit_all [] w.listed w.last) _ (Unit {0}) _ _ _
     (λ a b. a) (λ k. (k, tt)) (all_judged [] w.listed w.last (omega arith)) (λ k. inl (tt, refl)))
 
 -- none of the names stands among the predicates
 abbrev Apart : List PredOf → List Written → Type 0
 Apart done ws = AllByRecursion (λ w. named w.name.text done ≡ None) ws
 
-not_first : (b : Bool) (p : PredOf) (found : Option PredOf) → cond b (Some p) found ≡ None
-    → (b ≡ false) × (found ≡ None)
-not_first true p found e = absurd cc
-not_first false p found e = (refl, e)
+absent_behind : (done : List PredOf) (name : List ℕ) (p : PredOf)
+    → (named name (done ++ p ∷ []) ≡ None) ↔ ((named name done ≡ None) × (bytes_eq p.name name ≡ false))
+absent_behind done name p =
+    rw (find-append, nat_list_eq_equiv.symm p.name name) (by (named name done) (bytes_eq name p.name))
+  where
+    by : (found : Option PredOf) (same : Bool)
+        → (option_or found (cond same (Some p) None) ≡ None) ↔ ((found ≡ None) × (same ≡ false))
+    by (Some q) same = (λ e. absurd cc, λ k. absurd (cc (k.0)))
+    by None true = (λ e. absurd cc, λ k. absurd (cc (k.1)))
+    by None false = (λ e. (refl, refl), λ k. refl)
 
-absent_more : (done : List PredOf) (name : List ℕ) (p : PredOf) → named name done ≡ None
-    → bytes_eq name p.name ≡ false → named name (done ++ p ∷ []) ≡ None
-absent_more [] name p absent differs = rw differs refl
-absent_more (d ∷ done) name p absent differs =
-    let first = not_first (bytes_eq name d.name) d (named name done) absent in
-    rw first.0 (absent_more done name p first.1 differs)
+apart_behind : (done : List PredOf) (p : PredOf) (ws : List Written)
+    → Apart (done ++ p ∷ []) ws ↔ (Apart done ws × AllByRecursion (λ y. bytes_eq p.name y ≡ false) (names_of ws))
+apart_behind done p [] = (λ a. (tt, tt), λ k. tt)
+apart_behind done p (w ∷ ws) =
+    let first = absent_behind done w.name.text p in
+    let rest = apart_behind done p ws in (
+      λ a. (((first.0 a.0).0, (rest.0 a.1).0), ((first.0 a.0).1, (rest.0 a.1).1)),
+      λ k. (first.1 (k.0.0, k.1.0), rest.1 (k.0.1, k.1.1)),
+    )
 
-absent_less : (done : List PredOf) (name : List ℕ) (p : PredOf) → named name (done ++ p ∷ []) ≡ None
-    → (named name done ≡ None) × (bytes_eq name p.name ≡ false)
-absent_less [] name p e = (refl, (not_first (bytes_eq name p.name) p None e).0)
-absent_less (d ∷ done) name p e =
-    let first = not_first (bytes_eq name d.name) d (named name (done ++ p ∷ [])) e in
-    let others = absent_less done name p first.1 in
-    (rw first.0 others.0, others.1)
-
-apart_more : (done : List PredOf) (p : PredOf) (ws : List Written) → Apart done ws
-    → AllByRecursion (λ y. bytes_eq p.name y ≡ false) (names_of ws) → Apart (done ++ p ∷ []) ws
-apart_more done p [] apart differ = tt
-apart_more done p (w ∷ ws) apart differ = (
-  absent_more done w.name.text p apart.0
-      (nat_list_eq_equiv.symm w.name.text p.name ∙ differ.0),
-  apart_more done p ws apart.1 differ.1,
-)
-
-apart_less : (done : List PredOf) (p : PredOf) (ws : List Written) → Apart (done ++ p ∷ []) ws
-    → Apart done ws × AllByRecursion (λ y. bytes_eq p.name y ≡ false) (names_of ws)
-apart_less done p [] apart = (tt, tt)
-apart_less done p (w ∷ ws) apart =
-    let first = absent_less done w.name.text p apart.0 in
-    let rest = apart_less done p ws apart.1 in
-    ((first.0, rest.0), (nat_list_eq_equiv.symm p.name w.name.text ∙ first.1, rest.1))
+apart_from_none : (ws : List Written) → Apart [] ws
+apart_from_none [] = tt
+apart_from_none (w ∷ ws) = (refl, apart_from_none ws)
 
 -- what predicates behind others keep
-record KeptBehind (done : List PredOf) (ws : List Written) : Type 0 where
-  apart : Apart done ws
-  distinct : IsDistinct bytes_eq (names_of ws)
-  few : length done + length ws ≤ max_predicates
-  short : AllByRecursion (λ w. length (sort_words w) ≤ max_arguments) ws
-  known : AllByRecursion (λ w. AllKnown (sort_words w)) ws
+abbrev KeptBehind : List PredOf → List Written → Type 0
+KeptBehind done ws = Apart done ws × KeepsRules ws × (length done + length ws ≤ max_predicates)
 
 module _ (done : List PredOf) (w : Written) (ws : List Written) where
   size : length (and_pred done w) ≡ length done + 1
   size = length-append done (pred_behind done w ∷ [])
 
   kept_first : PredKept done w → KeptBehind (and_pred done w) ws → KeptBehind done (w ∷ ws)
-  kept_first one rest =
-      let split = apart_less done (pred_behind done w) ws rest.apart in
+  kept_first one (apart, rules, few) =
+      let split = (apart_behind done (pred_behind done w) ws).0 apart in
+      let all : length done + length (w ∷ ws) ≤ max_predicates = omega (arith, size) in
+      let keeps : KeepsRules (w ∷ ws) =
       record {
-        apart = (one.0.0, split.0);
-        distinct = IsDistinct-cons bytes_eq w.name.text (names_of ws) split.1 rest.distinct;
-        few = omega (arith, size, rest.few);
-        short = (omega (arith, one.1.0), rest.short);
-        known = (one.1.1, rest.known);
-      }
+        distinct = IsDistinct-cons bytes_eq w.name.text (names_of ws) split.1 rules.distinct;
+        few = omega arith;
+        short = (omega (arith, one.1.0), rules.short);
+        known = (one.1.1, rules.known);
+      } in
+      ((one.0.0, split.0), keeps, all)
 
   first_kept : KeptBehind done (w ∷ ws) → PredKept done w × KeptBehind (and_pred done w) ws
-  first_kept k =
-      let few : length done + suc (length ws) ≤ max_predicates = k.few in (
-        ((k.apart.0, omega (arith, few)), (omega (arith, k.short.0), k.known.0)),
-        record {
-          apart =
-              apart_more done (pred_behind done w) ws k.apart.1
-              (IsDistinct-head bytes_eq w.name.text (names_of ws) k.distinct);
-          distinct = IsDistinct-tail bytes_eq w.name.text (names_of ws) k.distinct;
-          few = omega (arith, size, few);
-          short = k.short.1;
-          known = k.known.1;
-        },
+  first_kept (apart, rules, few) =
+      let differ = IsDistinct-head bytes_eq w.name.text (names_of ws) rules.distinct in
+      let rest : KeepsRules ws =
+      record {
+        distinct = IsDistinct-tail bytes_eq w.name.text (names_of ws) rules.distinct;
+        few = omega (arith, rules.few);
+        short = rules.short.1;
+        known = rules.known.1;
+      } in (
+        ((apart.0, omega arith), (omega (arith, rules.short.0), rules.known.0)),
+        ((apart_behind done (pred_behind done w) ws).1 (apart.1, differ), rest, omega (arith, size)),
       )
 
   numbered_on : and_pred done w ++ numbered (length (and_pred done w)) ws ≡ done ++ numbered (length done) (w ∷ ws)
@@ -246,35 +215,16 @@ preds_judged : (done : List PredOf) (ws : List Written) → length done ≤ max_
     → Judged (KeptBehind done ws) (judge done ws) (done ++ numbered (length done) ws)
 unfolding IsDistinct
 preds_judged done [] room =
-    inl (
-      record { apart = tt; distinct = tt; few = omega (arith, room); short = tt; known = tt },
-      ap (λ ps. Ok ps)
-          (sym (append-nil done)),
-    )
+    let rules : KeepsRules [] = record { distinct = tt; few = omega arith; short = tt; known = tt } in
+    inl ((tt, rules, omega arith), rw append-nil)
 preds_judged done (w ∷ ws) room =
-    let more = and_pred done w in
-    layer.then_judged IsRule (PredKept done w) (judge_one done w) more (KeptBehind more ws) (KeptBehind done (w ∷ ws))
-    (λ ps. judge ps ws) _
-    (kept_first done w ws) (first_kept done w ws) (pred_judged done w)
-    (λ one. layer.judged_as IsRule (KeptBehind more ws) (judge more ws) _ (KeptBehind more ws) _ (λ k. k) (λ k. k)
-    (numbered_on done w ws)
-    (preds_judged more ws (omega (arith, size done w ws, one.0.1))))
-
-apart_from_none : (ws : List Written) → Apart [] ws
-apart_from_none [] = tt
-apart_from_none (w ∷ ws) = (refl, apart_from_none ws)
+    rw (← numbered_on done w ws)
+    (layer.then_judged IsRule (PredKept done w) (judge_one done w) (and_pred done w) (KeptBehind (and_pred done w) ws)
+    (KeptBehind done (w ∷ ws)) _ _ (kept_first done w ws) (first_kept done w ws) (pred_judged done w)
+    (λ one. preds_judged (and_pred done w) ws (omega (arith, size done w ws, one.0.1))))
 
 -- predicates pass exactly where they keep the rules, and are numbered in order
 pub judged : (ws : List Written) → Judged (KeepsRules ws) (judge [] ws) (numbered 0 ws)
 judged ws =
-    layer.judged_as IsRule (KeptBehind [] ws) (judge [] ws) (numbered 0 ws) (KeepsRules ws) (numbered 0 ws)
-    (λ k. record { distinct = k.distinct; few = omega (arith, k.few); short = k.short; known = k.known })
-    (λ k. record {
-      apart = apart_from_none ws;
-      distinct = k.distinct;
-      few = omega
-          (arith, k.few);
-      short = k.short;
-      known = k.known;
-    })
+    layer.judged_as IsRule (KeptBehind [] ws) _ _ _ _ (λ k. k.1) (λ k. (apart_from_none ws, k, omega (arith, k.few)))
     refl (preds_judged [] ws (omega arith))

@@ -4,6 +4,7 @@ ghost use Rattle.mfotl_sig.specs.Laws.{ReadIsSpelled, SpelledIsRead, OneAnswer, 
 ghost use Rattle.mfotl_sig.specs.WorkedTexts.{WorkedValues, WorkedFaults};
 
 /// A text that is read spells its predicates, and keeps the rules.
+#[tactic(auto, using(crate::proofs::SignatureLaws::read_is_spelled))]
 pub fn read_is_spelled()
     ensures { ReadIsSpelled }
 {}
@@ -14,6 +15,7 @@ pub fn spelled_is_read()
 {}
 
 /// A text has exactly one of a value and a first fault.
+#[tactic(auto, using(crate::proofs::SignatureLaws::one_answer))]
 pub fn one_answer()
     ensures { OneAnswer }
 {}
@@ -30,6 +32,7 @@ pub fn exact_soundness()
 {}
 
 /// What the front of a text shows is shown by the text.
+#[tactic(auto, using(crate::proofs::SignatureLaws::stays_shown))]
 pub fn stays_shown()
     ensures { StaysShown }
 {}

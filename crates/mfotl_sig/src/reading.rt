@@ -94,6 +94,7 @@ impl<'a> Reader<'a> {
     }
 
     /// Takes all tokens of a text.
+    #[tactic(auto, using(crate::proofs::ReadingLemmas::token_by_token))]
     fn read(&mut self, alloc: Global, bytes: &'a [u8]) -> Result<(), SigFault>
         ensures { Gives (λ _. self.new) result (tokens_read bytes.now self.old) }
     {
@@ -119,6 +120,7 @@ impl<'a> Reader<'a> {
 ///
 /// `SigFault` is the first fault from left to right, each shown by one token: `UnknownSort` of a Word
 /// that might be a label by the token behind it.
+#[tactic(auto, using(crate::proofs::SignatureLaws::value_given, crate::proofs::SignatureLaws::fault_shown))]
 pub fn read_signature(alloc: Global, bytes: &[u8]) -> Result<Signature, SigFault>
     ensures reads { Gives (λ s. s) result (reading bytes.now) }
     ensures value { IfOk result (λ s. IsValue bytes.now s) }
@@ -127,6 +129,7 @@ pub fn read_signature(alloc: Global, bytes: &[u8]) -> Result<Signature, SigFault
     read_whole(alloc, bytes)
 }
 
+#[tactic(auto, using(crate::proofs::ReadingLemmas::end_behind, crate::proofs::ReadingLemmas::ends_fail))]
 fn read_whole(alloc: Global, bytes: &[u8]) -> Result<Signature, SigFault>
     ensures { Gives (λ s. s) result (reading bytes.now) }
 {
