@@ -1,6 +1,6 @@
 -- The time-points that tokens give are those of their completed fronts.
-use Rattle.std.proofs.Common.{◌≡◌, ◌⊎◌, inl, inr, ℕ, Bool, true, false, ◌&&◌, List, [], ◌∷◌, ◌++◌}
-use Rattle.std.proofs.Common.{Result, Ok, Err, refl, sym, ap, subst, ◌∙◌, append_assoc}
+use Rattle.std.proofs.Common.{◌≡◌, ◌⊎◌, inl, inr, ℕ, Bool, true, false, ◌&&◌, List, [], ◌∷◌, ◌++◌, Result, Ok, Err}
+use Rattle.std.proofs.Common.{refl, sym, ap, subst, ◌∙◌, append_assoc}
 use Rattle.mfotl_lex.specs.FirstFault.{Tail}
 use Rattle.mfotl_lex.specs.Lexemes.{Lexeme}
 use Rattle.mfotl_model.specs.declared.event.TimePoint.{TimePoint}
@@ -12,8 +12,7 @@ use Rattle.log_reader.specs.declared.stage.Stage.TheVariants.{Between, AfterStam
 use Rattle.log_reader.specs.CompletedPoints.{Closes}
 use Rattle.log_reader.specs.Grammar.{symbols_of}
 use Rattle.log_reader.specs.Partials.{Partial, point_of}
-use Rattle.log_reader.specs.Readings.{Reading, Ending, behind, went_on, run}
-use Rattle.log_reader.specs.Readings.{finish_at}
+use Rattle.log_reader.specs.Readings.{Reading, Ending, behind, went_on, run, finish_at}
 use Rattle.log_reader.specs.Stages.{is_whole, ends_point, completes}
 use Rattle.log_reader.specs.Steps.{step, completed}
 use Rattle.log_reader.specs.Symbols.{symbol}
@@ -31,8 +30,7 @@ one_point : (point : TimePoint) (a b : List TimePoint) → point ∷ [] ≡ a ++
 one_point point [] b e = inl refl
 one_point point (x ∷ a) b e =
     let none : a ≡ [] = no_points a b cc in
-    let same : point ≡ x = cc in
-    inr (ap (λ (y : TimePoint). y ∷ a) (sym same) ∙ ap (λ (xs : List TimePoint). point ∷ xs) none)
+    inr cc
 
 both : (a b : Bool) → (a && b) ≡ true → (a ≡ true) × (b ≡ true)
 both true b e = (refl, e)
@@ -97,9 +95,7 @@ module _ (sig : List PredOf) (limits : Limits) (len : ℕ) (ends : Partial → R
     front = t ∷ f.front;
     back = f.back;
     parts = ap (λ (us : List Lexeme). t ∷ us) f.parts;
-    reads = ap (λ (ps : List TimePoint). behind ps (went_on (step sig limits p t) (λ r. fin r f.front))) gives
-        ∙ ap (λ (r : Result Partial LogFault). behind here (went_on r (λ r. fin r f.front))) e
-        ∙ ap (behind here) f.reads;
+    reads = rw (gives, e, f.reads);
     closed = f.closed;
   }
 
@@ -136,18 +132,15 @@ module _ (sig : List PredOf) (limits : Limits) (len : ℕ) (ends : Partial → R
         → point_of p ∷ (went_on r (λ q. run sig limits ends q ts)).points ≡ a ++ b → Later ts → Found p (t ∷ ts) a
     complete p t ts [] b r s one is closes e later = inl refl
     complete p t ts (x ∷ a) b (Err fault) s one is closes e later =
-        let same : point_of p ≡ x = cc in
         let none : a ≡ [] = no_points a b cc in
-        let here : point_of p ∷ [] ≡ x ∷ a =
-        ap (λ (y : TimePoint). y ∷ []) same ∙ ap (λ (xs : List TimePoint). x ∷ xs) (sym none) in
+        let here : point_of p ∷ [] ≡ x ∷ a = cc in
         inr (subst (Front p (t ∷ ts)) here (front_here p (t ∷ ts) is closes))
     complete p t ts (x ∷ a) b (Ok q) s one is closes e later =
         let same : point_of p ≡ x = cc in
         let rest : (run sig limits ends q ts).points ≡ a ++ b = cc in
         elim (later q a b rest) [
           | inl none ↦
-              let here : point_of p ∷ [] ≡ x ∷ a =
-              ap (λ (y : TimePoint). y ∷ []) same ∙ ap (λ (xs : List TimePoint). x ∷ xs) (sym none) in
+              let here : point_of p ∷ [] ≡ x ∷ a = cc in
               inr (subst (Front p (t ∷ ts)) here (front_here p (t ∷ ts) is closes))
           | inr f ↦ inr (subst (λ (y : TimePoint). Front p (t ∷ ts) (y ∷ a)) same
               (front_more p q t ts (point_of p ∷ []) a one s f))
@@ -213,11 +206,7 @@ module _ (sig : List PredOf) (limits : Limits) (len : ℕ) (ends : Partial → R
         ap (λ (x : Ending). record { points = inner; ending = x }) (ap (λ (r : Reading). r.ending) e) in
         let rest = later q inner clear in (
           rest.0,
-          ap (λ (r : Result Partial LogFault). completed p t ++
-              (went_on r (λ q. run sig limits ends q (front ++ back))).points) s
-              ∙ ap (λ (ps : List TimePoint). completed p t ++ ps) rest.1
-              ∙ sym (append_assoc (completed p t) inner rest.0)
-              ∙ ap (λ (r : Reading). r.points ++ rest.0) e,
+          rw (s, rest.1, ← append_assoc) (ap (λ (r : Reading). r.points ++ rest.0) e),
         )
 
     pub begins : (front back : List Lexeme) (p : Partial) (points : List TimePoint) → fin p front ≡ whole points

@@ -1,7 +1,6 @@
 -- The time-points of a reading are those that the longest completed front of its tokens stands for.
-use Rattle.std.proofs.Common.{◌≡◌, ◌⊎◌, inl, inr, ℕ, Bool, true, false, cond, List, [], ◌∷◌, ◌++◌, length}
-use Rattle.std.proofs.Common.{Option, Some, None, refl, sym, ap, ◌∙◌}
-use Rattle.std.proofs.Common.{append-nil}
+use Rattle.std.proofs.Common.{◌≡◌, ◌⊎◌, inl, inr, ℕ, Bool, true, false, cond, List, [], ◌∷◌, ◌++◌, length, Option, Some}
+use Rattle.std.proofs.Common.{None, refl, sym, ap, ◌∙◌, append-nil}
 use Rattle.mfotl_lex.specs.FirstFault.{Tail, Broken, End, More}
 use Rattle.mfotl_lex.specs.Lexemes.{Lexeme}
 use Rattle.mfotl_lex.specs.declared.fault.LexFault.{LexFault}
@@ -16,8 +15,7 @@ use Rattle.log_reader.specs.CompletedPoints.{Closes, Completes, CompletesAll}
 use Rattle.log_reader.specs.Grammar.{symbols_of}
 use Rattle.log_reader.specs.LogTexts.{is_long, tail_behind, log_text, tokens_of}
 use Rattle.log_reader.specs.Partials.{Partial, blank, point_of}
-use Rattle.log_reader.specs.Readings.{Reading, stopped, run, behind_tokens}
-use Rattle.log_reader.specs.Readings.{finish_at, nothing_left, reading}
+use Rattle.log_reader.specs.Readings.{Reading, stopped, run, behind_tokens, finish_at, nothing_left, reading}
 use Rattle.log_reader.specs.Rules.{log_value}
 use Rattle.log_reader.specs.Stages.{is_whole}
 use Rattle.log_reader.proofs.LogJudging.{last}

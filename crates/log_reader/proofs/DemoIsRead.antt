@@ -1,15 +1,13 @@
 -- The demo's log is read to its end.
-use Rattle.std.proofs.Common.{◌≡◌, ℕ, ◌*◌, ◌<◌, ◌≤◌, ◌^◌, true, List, length, map}
-use Rattle.std.proofs.Common.{[], ◌∷◌, refl, ap, ◌∙◌, arith}
+use Rattle.std.proofs.Common.{◌≡◌, ℕ, ◌*◌, ◌<◌, ◌≤◌, ◌^◌, true, List, length, map, [], ◌∷◌, refl, ap, ◌∙◌, arith}
 use Rattle.std.proofs.lemmas.Bool.{le-ltb}
 use Rattle.std.proofs.lemmas.List.{take_all}
-use Rattle.std.specs.List.{flat_map}
+use Rattle.std.specs.List.{flat_map, AllByRecursion}
 use Rattle.mfotl_lex.specs.Lexemes.{tokens}
 use Rattle.mfotl_lex.specs.Places.{Place}
 use Rattle.log_reader.specs.declared.limits.Limits.{Limits}
 use Rattle.log_reader.specs.DemoEvents.{Moment, moments, line_of}
 use Rattle.log_reader.specs.Grammar.{HasStamp, symbols_of}
-use Rattle.std.specs.List.{AllByRecursion}
 use Rattle.log_reader.specs.LogTexts.{place_at}
 use Rattle.log_reader.specs.Readings.{NoFault, accepted}
 use Rattle.log_reader.proofs.LogLaws.{spelled_read}

@@ -1,6 +1,6 @@
 -- The demo's log is cut into tokens that spell its time-points.
-use Rattle.std.proofs.Common.{◌≡◌, ℕ, ◌<◌, ◌^◌, true, List, [], ◌∷◌, ◌++◌, length, map, codes}
-use Rattle.std.proofs.Common.{refl, sym, ap, ◌∙◌, subst, arith, append_assoc}
+use Rattle.std.proofs.Common.{◌≡◌, ℕ, ◌<◌, ◌^◌, true, List, [], ◌∷◌, ◌++◌, length, map, codes, refl, sym, ap, ◌∙◌}
+use Rattle.std.proofs.Common.{subst, arith, append_assoc}
 use Rattle.std.specs.Fmt.{decimal}
 use Rattle.std.specs.List.{list_all, flat_map, AllByRecursion}
 use Rattle.mfotl_lex.specs.Bytes.{in_log_word}

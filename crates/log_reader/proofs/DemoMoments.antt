@@ -1,14 +1,13 @@
 -- The bounds of what the demo draws.
-use Rattle.std.proofs.Common.{◌≡◌, ℕ, zero, suc, ◌+◌, ◌*◌, ◌<◌, ◌≤◌, cond, List, [], ◌∷◌, length}
-use Rattle.std.proofs.Common.{nat_lt, refl, arith}
+use Rattle.std.proofs.Common.{◌≡◌, ℕ, zero, suc, ◌+◌, ◌*◌, ◌<◌, ◌≤◌, cond, List, [], ◌∷◌, length, nat_lt, refl, arith}
 use Rattle.std.proofs.Math.Nat.{mod-lt}
 use Rattle.std.proofs.lemmas.Bool.{cond_both}
 use Rattle.std.specs.List.{AllByRecursion}
 use Rattle.log_reader.specs.declared.demo_event.DemoEvent.{DemoEvent}
 use Rattle.log_reader.specs.declared.demo_event.DemoEvent.TheVariants.{Request, Grant, Drop}
 use Rattle.log_reader.specs.DemoDraws.{drawn, moved_on}
-use Rattle.log_reader.specs.DemoEvents.{Moment, person_at, event_behind, state_behind, events_behind}
-use Rattle.log_reader.specs.DemoEvents.{state_behind_all, moments}
+use Rattle.log_reader.specs.DemoEvents.{Moment, person_at, event_behind, state_behind, events_behind, state_behind_all}
+use Rattle.log_reader.specs.DemoEvents.{moments}
 
 -- an event's identity is small
 abbrev pub IsSmall : DemoEvent → Type 0

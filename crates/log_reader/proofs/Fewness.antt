@@ -1,6 +1,6 @@
 -- A reading has no more time-points than the limit.
-use Rattle.std.proofs.Common.{◌≡◌, inl, inr, ℕ, ◌+◌, ◌≤◌, Bool, true, false, List, [], ◌∷◌, length, Option, Some}
-use Rattle.std.proofs.Common.{None, Result, Ok, Err, refl, sym, ap, ◌∙◌, arith, nat_lt}
+use Rattle.std.proofs.Common.{◌≡◌, inl, inr, ℕ, ◌+◌, ◌≤◌, Bool, true, false, List, [], ◌∷◌, length, Option, Some, None}
+use Rattle.std.proofs.Common.{Result, Ok, Err, refl, sym, ap, ◌∙◌, arith, nat_lt}
 use Rattle.std.proofs.lemmas.Bool.{cond_both, cases_Bool, ltb-true}
 use Rattle.std.proofs.lemmas.List.{length-append}
 use Rattle.mfotl_lex.specs.Lexemes.{Lexeme, tokens}
@@ -13,8 +13,8 @@ use Rattle.log_reader.specs.declared.stage.Stage.{Stage}
 use Rattle.log_reader.specs.declared.stage.Stage.TheVariants.{Between, AfterAt, AfterStamp, AfterClose}
 use Rattle.log_reader.specs.Cursors.{open_count, given_of, IsCounted}
 use Rattle.log_reader.specs.Partials.{Partial, blank}
-use Rattle.log_reader.specs.Readings.{Reading, went_on, run, behind_tokens, is_long, finish_at, nothing_left}
-use Rattle.log_reader.specs.Readings.{place_at, reading}
+use Rattle.log_reader.specs.Readings.{Reading, went_on, run, behind_tokens, is_long, finish_at, nothing_left, place_at}
+use Rattle.log_reader.specs.Readings.{reading}
 use Rattle.log_reader.specs.Soundness.{StandsFor, IsSound}
 use Rattle.log_reader.specs.Stages.{goes, completes}
 use Rattle.log_reader.specs.Steps.{step, stepped, completed}

@@ -1,6 +1,5 @@
 -- What a reader knows of the tokens that it has read is what stands before the next one.
-use Rattle.std.proofs.Common.{◌≡◌, List, [], ◌∷◌, ◌++◌}
-use Rattle.std.proofs.Common.{Ok, refl, sym, ap, subst, ◌∙◌, append_assoc}
+use Rattle.std.proofs.Common.{◌≡◌, List, [], ◌∷◌, ◌++◌, Ok, refl, sym, ap, subst, ◌∙◌, append_assoc}
 use Rattle.std.proofs.lemmas.List.{append-nil, reverse-append}
 use Rattle.mfotl_lex.proofs.FirstFaultLaws.{bind_ok}
 use Rattle.mfotl_lex.specs.FirstFault.{run}
@@ -15,8 +14,7 @@ use Rattle.log_reader.specs.Fronts.{GroupEnds, PointEnds, before, role}
 use Rattle.log_reader.specs.Grammar.{symbols_of}
 use Rattle.log_reader.specs.Partials.{Partial, blank}
 use Rattle.log_reader.specs.Steps.{step, stepped}
-use Rattle.log_reader.specs.Symbols.{Symbol}
-use Rattle.log_reader.specs.Symbols.{symbol}
+use Rattle.log_reader.specs.Symbols.{Symbol, symbol}
 use Rattle.log_reader.proofs.StepStages.{step_goes}
 use Rattle.log_reader.proofs.Transitions.{Transition, begins_first, begins_bare, begins_full, times, names_first}
 use Rattle.log_reader.proofs.Transitions.{names_more, opens_first, opens_more, gives_first, gives_more, separates}

@@ -1,6 +1,6 @@
 -- What a reader knows of the tokens that it has read, as what stands before the next one, and how a step keeps it.
-use Rattle.std.proofs.Common.{◌≡◌, ℕ, ◌+◌, Bool, true, false, List, [], ◌∷◌, ◌++◌, drop, Option}
-use Rattle.std.proofs.Common.{Some, None, Result, Ok, Err, refl, sym, ap, ◌∙◌, nat_lt}
+use Rattle.std.proofs.Common.{arith, ◌≡◌, ℕ, ◌+◌, Bool, true, false, List, [], ◌∷◌, ◌++◌, drop, Option, Some, None}
+use Rattle.std.proofs.Common.{Result, Ok, Err, refl, sym, ap, ◌∙◌, nat_lt}
 use Rattle.std.proofs.lemmas.Bool.{cond_both}
 use Rattle.std.proofs.lemmas.List.{drop-drop}
 use Rattle.mfotl_lex.specs.FirstFault.{◌>>=◌}
@@ -13,8 +13,8 @@ use Rattle.log_reader.specs.declared.limits.Limits.{Limits}
 use Rattle.log_reader.specs.declared.stage.Stage.{Stage}
 use Rattle.log_reader.specs.declared.stage.Stage.TheVariants.{Between, AfterAt, AfterStamp, AfterName, AfterOpen}
 use Rattle.log_reader.specs.declared.stage.Stage.TheVariants.{AfterValue, AfterComma, AfterClose}
-use Rattle.log_reader.specs.Fronts.{is_behind_at, is_in_group, points_begun}
-use Rattle.log_reader.specs.Fronts.{last_time, groups_begun, last_sorts, values_begun, due_sorts}
+use Rattle.log_reader.specs.Fronts.{is_behind_at, is_in_group, points_begun, last_time, groups_begun, last_sorts}
+use Rattle.log_reader.specs.Fronts.{values_begun, due_sorts}
 use Rattle.log_reader.specs.Partials.{Partial, blank, finished}
 use Rattle.log_reader.specs.Steps.{stepped, opened, stamped, naming, grouped, valued, closed}
 use Rattle.log_reader.specs.Symbols.{Symbol, AtSign, Opening, Closing, Separator, Terminator, Says, Written, Bare}
@@ -49,15 +49,7 @@ pub record Stands (sig : List PredOf) (s : Stage) (p : Partial) (older : List Sy
   pub due : is_in_brackets s ≡ true → p.due ≡ due_sorts sig older
 
 pub nothing_stands : (sig : List PredOf) → Stands sig Between blank []
-nothing_stands sig = record {
-  behind = refl;
-  inside = refl;
-  points = refl;
-  groups = refl;
-  time = refl;
-  sorts = refl;
-  due = λ e. absurd cc;
-}
+nothing_stands sig = search arith
 
 -- ---- steps
 
@@ -68,15 +60,7 @@ module _ (sig : List PredOf) (limits : Limits) (p : Partial) (t : Lexeme) (older
   at_stands : (s : Stage) → is_in_brackets s ≡ false → Stands sig s p older
       → OnDone (Leads AfterAt AtSign) (opened limits t.at p)
   at_stands s out st = cond_both (nat_lt p.points limits.points) _ _ (OnDone (Leads AfterAt AtSign))
-      (λ _. done (Leads AfterAt AtSign) _ (record {
-        behind = refl;
-        inside = st.inside ∙ out;
-        points = ap (λ n. n + 1) st.points;
-        groups = refl;
-        time = st.time;
-        sorts = st.sorts;
-        due = λ e. absurd cc;
-      }))
+      (λ _. done (Leads AfterAt AtSign) _ (search (arith, st.inside ∙ out)))
       (λ _. failed (Leads AfterAt AtSign) _)
 
   stamp_stands : (word : List ℕ) (found : Option ℕ) → timestamp_of word ≡ found → Stands sig AfterAt p older
@@ -114,15 +98,7 @@ module _ (sig : List PredOf) (limits : Limits) (p : Partial) (t : Lexeme) (older
 
   group_stands : (s : Stage) → Stands sig s p older → OnDone (Leads AfterOpen Opening) (grouped limits t.at p)
   group_stands s st = cond_both (nat_lt p.groups limits.events) _ _ (OnDone (Leads AfterOpen Opening))
-      (λ _. done (Leads AfterOpen Opening) _ (record {
-        behind = refl;
-        inside = refl;
-        points = st.points;
-        groups = ap (λ n. n + 1) st.groups;
-        time = st.time;
-        sorts = st.sorts;
-        due = λ _. st.sorts;
-      }))
+      (λ _. done (Leads AfterOpen Opening) _ (search arith))
       (λ _. failed (Leads AfterOpen Opening) _)
 
   one_more_given : (sort : Sort) (more : List Sort) → sort ∷ more ≡ due_sorts sig older
@@ -174,39 +150,15 @@ module _ (sig : List PredOf) (limits : Limits) (p : Partial) (t : Lexeme) (older
       given_stands w s sort more (value_at sort t.at (written t)) far within st (sym e ∙ st.due within)
 
   comma_stands : Stands sig AfterValue p older → Leads AfterComma Separator (record p { stage = AfterComma })
-  comma_stands st = record {
-    behind = refl;
-    inside = st.inside;
-    points = st.points;
-    groups = st.groups;
-    time = st.time;
-    sorts = st.sorts;
-    due = st.due;
-  }
+  comma_stands st = search (arith, st.due)
 
   closed_stands : (s : Stage) (due : List Sort) → Stands sig s p older
       → OnDone (Leads AfterClose Closing) (closed t.at p due)
   closed_stands s (sort ∷ due) st = failed (Leads AfterClose Closing) _
-  closed_stands s [] st = done (Leads AfterClose Closing) _ (record {
-    behind = refl;
-    inside = refl;
-    points = st.points;
-    groups = st.groups;
-    time = st.time;
-    sorts = st.sorts;
-    due = λ e. absurd cc;
-  })
+  closed_stands s [] st = done (Leads AfterClose Closing) _ (search arith)
 
   ended_stands : (s : Stage) → is_in_brackets s ≡ false → Stands sig s p older → Leads Between Terminator (finished p)
-  ended_stands s out st = record {
-    behind = refl;
-    inside = st.inside ∙ out;
-    points = st.points;
-    groups = refl;
-    time = st.time;
-    sorts = st.sorts;
-    due = λ e. absurd cc;
-  }
+  ended_stands s out st = search (arith, st.inside ∙ out)
 
   says : (word : List ℕ) → symbol t ≡ Says (Bare word) → content t ≡ word
   says word e = bare_content t.kind (content t) word e

@@ -1,7 +1,7 @@
 -- What the front of a log shows stays shown by the whole log.
-use Rattle.std.proofs.Common.{◌≡◌, ◌∙◌, ap, ap₂, sym, refl, arith, ℕ, ◌+◌, ◌-◌, ◌<◌, ◌≤◌, Bool, true, false}
-use Rattle.std.proofs.Common.{not, ◌&&◌, nat_lt, List, [], ◌∷◌, ◌++◌, length, take, drop, Option, Some, None}
-use Rattle.std.proofs.Common.{append_assoc, append-nil}
+use Rattle.std.proofs.Common.{◌≡◌, ◌∙◌, ap, ap₂, sym, refl, arith, ℕ, ◌+◌, ◌-◌, ◌<◌, ◌≤◌, Bool, true, false, not, ◌&&◌}
+use Rattle.std.proofs.Common.{nat_lt, List, [], ◌∷◌, ◌++◌, length, take, drop, Option, Some, None, append_assoc}
+use Rattle.std.proofs.Common.{append-nil}
 use Rattle.std.specs.Prelude.{Result, Ok, Err}
 use Rattle.std.proofs.Math.Bool.{and-false}
 use Rattle.std.proofs.lemmas.Bool.{le-ltb, ltb-false, ltb-true, lt-ltb}
@@ -15,8 +15,8 @@ use Rattle.mfotl_lex.proofs.GrowingLemmas.{more_bytes}
 use Rattle.mfotl_model.specs.declared.event.TimePoint.{TimePoint}
 use Rattle.mfotl_sig.specs.Preds.{PredOf}
 use Rattle.log_reader.specs.Partials.{Partial, blank}
-use Rattle.log_reader.specs.Readings.{NoFault, Reading, behind, behind_tokens, is_long}
-use Rattle.log_reader.specs.Readings.{nothing_left, place_at, reading, run, shown, went_on}
+use Rattle.log_reader.specs.Readings.{NoFault, Reading, behind, behind_tokens, is_long, nothing_left, place_at, reading}
+use Rattle.log_reader.specs.Readings.{run, shown, went_on}
 use Rattle.log_reader.specs.Growth.{Keeps, ShownStays}
 use Rattle.log_reader.specs.Steps.{completed, step}
 use Rattle.log_reader.specs.declared.fault.LogFault.{LogFault}

@@ -1,6 +1,6 @@
 -- A reading of what a log spells goes on exactly where the rules give a value.
-use Rattle.std.proofs.Common.{◌≡◌, ◌⊎◌, inl, inr, ℕ, Bool, true, false, cond, List, [], ◌∷◌, ◌++◌, Option, Some, None}
-use Rattle.std.proofs.Common.{Result, Ok, Err, refl, sym, ap, subst, ◌∙◌, append_assoc}
+use Rattle.std.proofs.Common.{◌≡◌, ◌⊎◌, inl, inr, ℕ, Bool, true, false, List, [], ◌∷◌, ◌++◌, Some, None, Result, Ok}
+use Rattle.std.proofs.Common.{Err, refl, sym, ap, subst, ◌∙◌, append_assoc}
 use Rattle.std.specs.BTreeSet.{insert_key}
 use Rattle.std.specs.Result.{result_ok}
 use Rattle.std.proofs.lemmas.List.{append-nil}
@@ -26,7 +26,7 @@ use Rattle.log_reader.specs.Partials.{Partial, point_of}
 use Rattle.log_reader.specs.Readings.{Reading, Fault, behind, went_on, run}
 use Rattle.log_reader.specs.Rules.{value_of, values_of}
 use Rattle.log_reader.specs.Stages.{goes, completes}
-use Rattle.log_reader.specs.Steps.{step, completed, stepped, valued}
+use Rattle.log_reader.specs.Steps.{step, completed, stepped}
 use Rattle.log_reader.specs.Symbols.{Symbol, Closing, Separator, Says, Written, Bare, Quoted, symbol, symbol_of}
 use Rattle.log_reader.specs.Symbols.{content, written, written_of}
 use Rattle.log_reader.specs.ValuesRead.{value_at, integer_at, is_number}
@@ -75,13 +75,7 @@ module _ (sig : List PredOf) (limits : Limits) where
       → stepped sig limits p t (goes s x) ≡ r → (last : Partial → Reading)
       → run sig limits last p (t ∷ ts) ≡ went_on r (λ q. run sig limits last q ts)
   unfolding run step completed
-  one_step s x p t ts r at is c e last =
-      ap (λ (b : Bool). behind (cond b (point_of p ∷ []) [])
-      (went_on (stepped sig limits p t (goes p.stage (symbol t))) (λ q. run sig limits last q ts)))
-      (ap (λ (y : Stage). completes y (symbol t)) at ∙ ap (completes s) is ∙ c)
-      ∙ ap (λ (o : Option Stage). went_on (stepped sig limits p t o) (λ q. run sig limits last q ts))
-      (ap (λ (y : Stage). goes y (symbol t)) at ∙ ap (goes s) is)
-      ∙ ap (λ (y : Result Partial LogFault). went_on y (λ q. run sig limits last q ts)) e
+  one_step s x p t ts r at is c e last = rw (at, is, c, e)
 
   -- a token that completes the present time-point
   pub last_step : (s : Stage) (x : Symbol) (p : Partial) (t : Lexeme) (ts : List Lexeme)
@@ -89,14 +83,7 @@ module _ (sig : List PredOf) (limits : Limits) where
       → stepped sig limits p t (goes s x) ≡ r → (last : Partial → Reading)
       → run sig limits last p (t ∷ ts) ≡ behind (point_of p ∷ []) (went_on r (λ q. run sig limits last q ts))
   unfolding run step completed
-  last_step s x p t ts r at is c e last =
-      ap (λ (b : Bool). behind (cond b (point_of p ∷ []) [])
-      (went_on (stepped sig limits p t (goes p.stage (symbol t))) (λ q. run sig limits last q ts)))
-      (ap (λ (y : Stage). completes y (symbol t)) at ∙ ap (completes s) is ∙ c)
-      ∙ ap (λ (o : Option Stage). behind (point_of p ∷ [])
-      (went_on (stepped sig limits p t o) (λ q. run sig limits last q ts)))
-      (ap (λ (y : Stage). goes y (symbol t)) at ∙ ap (goes s) is)
-      ∙ ap (λ (y : Result Partial LogFault). behind (point_of p ∷ []) (went_on y (λ q. run sig limits last q ts))) e
+  last_step s x p t ts r at is c e last = rw (at, is, c, e)
 
   -- a step that leads on, and one that doesn't
   pub passes : (s : Stage) (x : Symbol) (p q : Partial) (ts : List Lexeme) (rest : List Symbol) (f : Front ts x rest)
@@ -221,13 +208,12 @@ module _ (sig : List PredOf) (limits : Limits) where
       let says : written f.token ≡ w = says_written f.token.kind (content f.token) w f.is in
       let steps : stepped sig limits p f.token (goes stage (Says w))
       ≡ (value_at sort f.token.at w >>= λ v. Ok (within c AfterValue due (args ++ v ∷ []))) =
-      ap (stepped sig limits p f.token) g ∙ ap (λ (x : Written). valued f.token.at x p (sort ∷ due)) says in
+      rw (g, says) in
       elim (value_judged sort f.token.at w) [
         | inl good ↦
             let q = within c AfterValue due (args ++ good.0 ∷ []) in
             let a = passes sig limits stage (Says w) p q ts _ f refl h
-            (steps ∙ ap (λ (r : Result Value LogFault). r >>= λ v. Ok
-            (within c AfterValue due (args ++ v ∷ []))) good.1) in
+            (steps ∙ rw good.1) in
             elim (later due (args ++ good.0 ∷ []) a.others a.spelled) [
               | inl x ↦ inl (
                 good.0 ∷ x.0,
@@ -241,8 +227,7 @@ module _ (sig : List PredOf) (limits : Limits) where
         | inr bad ↦ inr (
           rw bad.2 refl,
           faults sig limits stage (Says w) p bad.0 ts _ f refl h
-              (steps ∙ ap (λ (r : Result Value LogFault). r >>= λ v. Ok
-              (within c AfterValue due (args ++ v ∷ []))) bad.1),
+              (steps ∙ rw bad.1),
         )
       ]
 

@@ -1,6 +1,6 @@
 -- What the cursor answers is due, and keeps what is kept true.
-use Rattle.std.proofs.Common.{◌≡◌, ℕ, Bool, false, List, [], ◌∷◌, Option, Some, None, Result, Ok, Err, sym, ap}
-use Rattle.std.proofs.Common.{subst, ◌∙◌, arith, append-nil, drop}
+use Rattle.std.proofs.Common.{◌≡◌, ℕ, Bool, false, List, [], ◌∷◌, Option, Some, None, Result, Ok, Err, sym, ap, subst}
+use Rattle.std.proofs.Common.{◌∙◌, arith, append-nil, drop}
 use Rattle.mfotl_model.specs.declared.event.TimePoint.{TimePoint}
 use Rattle.mfotl_sig.specs.Preds.{PredOf}
 use Rattle.log_reader.specs.declared.fault.LogFault.{LogFault}
@@ -8,8 +8,7 @@ use Rattle.log_reader.specs.declared.fault.LogFault.TheVariants.{Memory}
 use Rattle.log_reader.specs.declared.limits.Limits.{Limits}
 use Rattle.log_reader.specs.declared.next.Next.{Next}
 use Rattle.log_reader.specs.declared.next.Next.TheVariants.{Point, More}
-use Rattle.log_reader.specs.Cursors.{given_of, Leads, Exhausts, Breaks, BreaksBy}
-use Rattle.log_reader.specs.Cursors.{Advances, behind_answer}
+use Rattle.log_reader.specs.Cursors.{given_of, Leads, Exhausts, Breaks, BreaksBy, Advances, behind_answer}
 use Rattle.log_reader.specs.Given.{Gives}
 use Rattle.log_reader.specs.Partials.{Partial}
 use Rattle.log_reader.specs.Progress.{answer_of, skipped}

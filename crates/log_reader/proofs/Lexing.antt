@@ -1,6 +1,6 @@
 -- What the lexer's laws say of one token: it leads further, and it stays whatever comes later.
-use Rattle.std.proofs.Common.{◌≡◌, ℕ, ◌+◌, ◌≤◌, ◌<◌, Bool, true, false, List, [], length, drop, Some, None, Ok}
-use Rattle.std.proofs.Common.{refl, sym, ap, ◌∙◌, add_assoc, arith}
+use Rattle.std.proofs.Common.{◌≡◌, ℕ, ◌+◌, ◌≤◌, ◌<◌, Bool, true, false, List, [], length, drop, Some, None, Ok, refl}
+use Rattle.std.proofs.Common.{sym, ap, ◌∙◌, add_assoc, arith}
 use Rattle.std.proofs.lemmas.List.{append-nil, length-drop, drop-drop}
 use Rattle.mfotl_lex.specs.Blanks.{blank_len}
 use Rattle.mfotl_lex.specs.Growing.{grown}

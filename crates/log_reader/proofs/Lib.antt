@@ -6,8 +6,8 @@ pub mod StepStages
 pub mod TokenSteps
 pub mod StretchLemmas
 pub mod Waiting
-pub mod QuickLemmas
 pub mod TokenFronts
+pub mod QuickLemmas
 pub mod MarkLemmas
 pub mod ReaderSoundness
 pub mod Keeping

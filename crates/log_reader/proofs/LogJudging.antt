@@ -129,11 +129,9 @@ module _ (sig : List PredOf) (limits : Limits) (len : ℕ) where
   -- events that are none, or too many groups
   no_events : (earliest room time : ℕ) (log : List PointText) (events : Option (List Event)) (many : Bool)
       → (events ≡ None) ⊎ (many ≡ true) → log_by earliest room log (point_by (Some time) events many) ≡ None
-  no_events earliest room time log events many (inl e) =
-      ap (λ (x : Option (List Event)). log_by earliest room log (point_by (Some time) x many)) e
+  no_events earliest room time log events many (inl e) = rw e
   no_events earliest room time log None many (inr e) = refl
-  no_events earliest room time log (Some events) many (inr e) =
-      ap (λ (x : Bool). log_by earliest room log (point_by (Some time) (Some events) x)) e
+  no_events earliest room time log (Some events) many (inr e) = rw e
 
   -- ---- the reading of a log
 
@@ -183,15 +181,11 @@ module _ (sig : List PredOf) (limits : Limits) (len : ℕ) where
       let few : nat_lt limits.events (group_count p.mentions) ≡ false =
       le-ltb limits.events (group_count p.mentions) (omega (arith, r.few, none)) in
       let events : mentions_value sig [] p.mentions ≡ Some r.there.events =
-      ap (λ (es : List Event). mentions_value sig es p.mentions) (sym clear) ∙ r.events in
+      rw clear at r.events in
       let point : TimePoint = record { ts = time; db = r.there.events } in
       let first : log_value sig limits c.time (suc room) (p ∷ log)
       ≡ option_and_then (λ later. Some (point ∷ later)) (log_value sig limits time room log) =
-      value ∙ ap (λ (es : Option (List Event)). log_by c.time room log
-      (point_by (Some time) es (nat_lt limits.events (group_count p.mentions)))) events
-      ∙ ap (λ (b : Bool). log_by c.time room log (point_by (Some time) (Some r.there.events) b)) few
-      ∙ ap (λ (b : Bool). option_and_then (λ later. Some (point ∷ later))
-      (cond b None (log_value sig limits time room log))) rises in
+      value ∙ rw (events, few, rises) in
       let at_time : log_value sig limits r.there.time room log ≡ log_value sig limits time room log =
       ap (λ (t : ℕ). log_value sig limits t room log) r.time in
       let same : point_of there ≡ point = ap (λ (t : ℕ). record { ts = t; db = r.there.events }) r.time in
@@ -230,14 +224,10 @@ module _ (sig : List PredOf) (limits : Limits) (len : ℕ) where
       let says : content f.token ≡ p.stamp = bare_content f.token.kind (content f.token) p.stamp f.is in
       let many = nat_lt limits.events (group_count p.mentions) in
       inr (
-        log_is c.time room p log
-            ∙ ap (λ (o : Option ℕ). log_by c.time room log
-            (point_by o (mentions_value sig [] p.mentions) many)) found,
+        log_is c.time room p log ∙ rw found,
         refused start ts (faults sig limits AfterAt (Says (Bare p.stamp)) start
             (TimestampRange f.token.at) ts _ f refl refl
-            (ap (λ (b : Bool). stepped sig limits start f.token (cond b (Some AfterStamp) None)) stamp
-            ∙ ap (λ (w : List ℕ). stamped f.token.at start (timestamp_of w)) says
-            ∙ ap (stamped f.token.at start) found)),
+            (rw (stamp, says, found))),
       )
   stamp_then (Some time) c room p log ts found stamp sum clear none e later =
       let start = resting c AfterAt in
@@ -247,11 +237,10 @@ module _ (sig : List PredOf) (limits : Limits) (len : ℕ) where
       let events = mentions_value sig [] p.mentions in
       let value : log_value sig limits c.time (suc room) (p ∷ log)
       ≡ log_by c.time room log (point_by (Some time) events many) =
-      log_is c.time room p log ∙ ap (λ (o : Option ℕ). log_by c.time room log (point_by o events many)) found in
+      log_is c.time room p log ∙ rw found in
       let steps : stepped sig limits start f.token (goes AfterAt (Says (Bare p.stamp)))
       ≡ stamped f.token.at start (Some time) =
-      ap (λ (b : Bool). stepped sig limits start f.token (cond b (Some AfterStamp) None)) stamp
-      ∙ ap (λ (w : List ℕ). stamped f.token.at start (timestamp_of w)) says ∙ ap (stamped f.token.at start) found in
+      rw (stamp, says, found) in
       elim (cases_lt time c.time) [
         | inl falling ↦ inr (
           value ∙ falls c.time room time log events many (lt-ltb time c.time falling),

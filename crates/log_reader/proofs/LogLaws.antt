@@ -1,6 +1,6 @@
 -- What is read to its end is spelled and keeps the rules, and what is spelled so is read to its end.
-use Rattle.std.proofs.Common.{◌≡◌, inl, inr, ℕ, Bool, true, false, cond, List, length, Option, Some, None}
-use Rattle.std.proofs.Common.{Result, Ok, Err, refl, sym, ap, ◌∙◌, arith}
+use Rattle.std.proofs.Common.{◌≡◌, inl, inr, ℕ, Bool, true, false, cond, List, length, Option, Some, None, Result, Ok}
+use Rattle.std.proofs.Common.{Err, refl, sym, ap, ◌∙◌, arith}
 use Rattle.std.proofs.lemmas.Bool.{le-ltb, ltb-false}
 use Rattle.mfotl_lex.proofs.FirstFaultLaws.{bind_ok, one_answer}
 use Rattle.mfotl_lex.specs.FirstFault.{◌>>=◌, run, reading as reading_of, ReadIsValue, ValueIsRead, OneAnswer}

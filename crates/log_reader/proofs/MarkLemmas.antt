@@ -1,27 +1,33 @@
--- A mark that is taken straight by its byte does what its token would do.
-use Rattle.std.proofs.Common.{◌≡◌, ℕ, ◌+◌, ◌-◌, ◌≤◌, Bool, false, List, length, drop, get_or}
-use Rattle.std.proofs.Common.{Some, Result, Ok, Err, refl, sym, ap, subst, arith}
-use Rattle.mfotl_lex.specs.Lexemes.{Lexeme, next_token, after}
+-- A mark or a name that is taken straight from the bytes does what its token would do, and so does whatever is.
+use Rattle.std.proofs.Common.{◌≡◌, ℕ, ◌+◌, ◌-◌, ◌≤◌, Bool, true, false, List, length, drop, get_or}
+use Rattle.std.proofs.Common.{Some, Result, Ok, Err, refl, sym, ap, subst, ◌∙◌, arith}
+use Rattle.mfotl_lex.specs.Lexemes.{Lexeme, lexeme, next_token, after}
 use Rattle.mfotl_lex.specs.Places.{Place}
 use Rattle.mfotl_lex.specs.Scans.{log_mark}
 use Rattle.mfotl_lex.specs.declared.kind.Kind.{Kind}
-use Rattle.mfotl_lex.specs.declared.kind.Kind.TheVariants.{OpenParen, CloseParen, Comma, At}
-use Rattle.mfotl_sig.specs.Preds.{PredOf}
+use Rattle.mfotl_lex.specs.declared.kind.Kind.TheVariants.{Word, OpenParen, CloseParen, Comma, At}
+use Rattle.mfotl_lex.specs.declared.token.Token.{Token}
+use Rattle.mfotl_model.specs.declared.event.TimePoint.{TimePoint}
+use Rattle.mfotl_sig.specs.Preds.{PredOf, named}
 use Rattle.log_reader.specs.declared.cursor.TokenStep.{TokenStep}
-use Rattle.log_reader.specs.declared.cursor.TokenStep.TheVariants.{Took}
+use Rattle.log_reader.specs.declared.cursor.TokenStep.TheVariants.{Took, Completed}
 use Rattle.log_reader.specs.declared.fault.LogFault.{LogFault}
+use Rattle.log_reader.specs.declared.fault.LogFault.TheVariants.{Memory}
 use Rattle.log_reader.specs.declared.limits.Limits.{Limits}
 use Rattle.log_reader.specs.declared.stage.Stage.{Stage}
-use Rattle.log_reader.specs.declared.stage.Stage.TheVariants.{Between, AfterAt, AfterName, AfterOpen, AfterValue}
-use Rattle.log_reader.specs.declared.stage.Stage.TheVariants.{AfterComma, AfterClose}
+use Rattle.log_reader.specs.declared.stage.Stage.TheVariants.{Between, AfterAt, AfterStamp, AfterName, AfterOpen}
+use Rattle.log_reader.specs.declared.stage.Stage.TheVariants.{AfterValue, AfterComma, AfterClose}
 use Rattle.log_reader.specs.Cursors.{IsCounted, TakesToken, StepsOver}
-use Rattle.log_reader.specs.Given.{Moves}
-use Rattle.log_reader.specs.Partials.{Partial}
-use Rattle.log_reader.specs.Quick.{mark_token, StepsMark}
-use Rattle.log_reader.specs.Stages.{goes, completes}
-use Rattle.log_reader.specs.Steps.{step, stepped, opened, grouped, closed}
+use Rattle.log_reader.specs.Given.{Moves, Stays}
+use Rattle.log_reader.specs.Partials.{Partial, point_of, finished}
+use Rattle.log_reader.specs.Quick.{mark_token, StepsMark, TakesFront, CompletesFront, HaltsFront, HaltsFrontBy}
+use Rattle.log_reader.specs.Quick.{TakesStraight}
+use Rattle.log_reader.specs.declared.partial.Straight.{Straight}
+use Rattle.log_reader.specs.declared.partial.Straight.TheVariants as straights
+use Rattle.log_reader.specs.Stages.{goes, completes, is_whole}
+use Rattle.log_reader.specs.Steps.{step, stepped, opened, grouped, closed, naming}
 use Rattle.log_reader.specs.Stretches.{place_in}
-use Rattle.log_reader.specs.Symbols.{AtSign, Opening, Closing, Separator, symbol}
+use Rattle.log_reader.specs.Symbols.{AtSign, Opening, Closing, Separator, Says, Bare, symbol}
 use Rattle.log_reader.specs.Tokens.{blank_before, IsInFront}
 use Rattle.log_reader.proofs.TokenFronts.{mark_seen, blank_past}
 use Rattle.log_reader.proofs.TokenPlaces.{TokenAt, token_at_offset}
@@ -67,54 +73,152 @@ module _ {U : Type 0} (limits : Limits) (p q : Partial) (at : ℕ) (result : Res
   begin_steps b stage is moves = rw is (steps_mark 64 At AfterAt refl
       (ap (λ (s : Stage). goes s AtSign) stage) (ap (λ (s : Stage). completes s AtSign) stage) (λ sig. moves))
 
--- ---- the token
+-- ---- the front of the bytes
 
--- the place of a mark behind one blank at most
-pub record MarkPlace (looked : List ℕ) (at : ℕ) (front rest : List ℕ) (n : ℕ) : Type 0 where
+pub front_halts : (sig : List PredOf) (limits : Limits) (p : Partial) (at : ℕ) (bytes : List ℕ) (fault : LogFault)
+    (q : Partial) → HaltsFront sig limits p at bytes fault q → HaltsFrontBy sig limits p at bytes fault q
+front_halts sig limits p at bytes Memory q h = tt
+front_halts sig limits p at bytes fault q h = h
+
+module _ (sig : List PredOf) (limits : Limits) (p q : Partial) (at : ℕ) (bytes : List ℕ) (some : 1 ≤ length bytes)
+    {U : Type 0} (result : Result U LogFault) (s : StepsMark limits p at (get_or bytes 0 0) result q) where
+  abbrev mark : Lexeme
+  mark = mark_token s.kind at (get_or bytes 0 0)
+
+  pub mark_takes : (u : U) → result ≡ Ok u → TakesFront sig limits p at bytes 1 q
+  mark_takes u e = record {
+    token = mark;
+    front = mark_seen bytes at s.kind some s.is;
+    end = refl;
+    goes_on = s.goes_on;
+    steps = subst (λ (r : Result U LogFault). Moves p q r (step sig limits p mark)) e (s.moves sig);
+  }
+
+  pub mark_halts : (fault : LogFault) → result ≡ Err fault → HaltsFrontBy sig limits p at bytes fault q
+  mark_halts fault e = front_halts sig limits p at bytes fault q (record {
+    token = mark;
+    front = mark_seen bytes at s.kind some s.is;
+    goes_on = s.goes_on;
+    stays = subst (λ (r : Result U LogFault). Moves p q r (step sig limits p mark)) e (s.moves sig);
+  })
+
+-- an `@` behind a whole time-point
+pub at_completes : (p q : Partial) (at : ℕ) (bytes : List ℕ) (point : TimePoint) → 1 ≤ length bytes
+    → get_or bytes 0 0 ≡ 64 → is_whole p.stage ≡ true → point ≡ point_of p → q ≡ finished p
+    → CompletesFront p at bytes point q
+at_completes p q at bytes point some first whole is after = record {
+  token = mark_token At at (get_or bytes 0 0);
+  front = mark_seen bytes at At some (ap log_mark first);
+  kind = refl;
+  whole = rw whole refl;
+  is = is;
+  after = after;
+}
+
+pub plain_word : (bytes : List ℕ) (at : ℕ) (t : Token) → IsInFront bytes at (lexeme t) → t.kind ≡ Word → t.at ≡ at
+    → IsInFront bytes at (record { kind = Word; at = at; text = t.text.now })
+plain_word bytes at t front kind same =
+    subst (λ (n : ℕ). IsInFront bytes at (record { kind = Word; at = n; text = t.text.now })) same
+    (subst (λ (k : Kind). IsInFront bytes at (record { kind = k; at = t.at; text = t.text.now })) kind front)
+
+name_goes : (s : Stage) (w : List ℕ) → is_whole s ≡ true
+    → (goes s (Says (Bare w)) ≡ Some AfterName) × (completes s (Says (Bare w)) ≡ false)
+name_goes AfterStamp w e = (refl, refl)
+name_goes AfterClose w e = (refl, refl)
+name_goes _ w e = absurd cc
+
+module _ (sig : List PredOf) (limits : Limits) (p q : Partial) (at : ℕ) (bytes text : List ℕ)
+    (front : IsInFront bytes at (record { kind = Word; at = at; text = text })) (whole : is_whole p.stage ≡ true) where
+  abbrev name : Lexeme
+  name = record { kind = Word; at = at; text = text }
+
+  steps_name : step sig limits p name ≡ naming at p (named text sig)
+  unfolding step
+  steps_name = ap (stepped sig limits p name) (name_goes p.stage text whole).0
+
+  -- a predicate's name behind a whole time-point
+  pub name_takes : {U : Type 0} (u : U) → Moves p q (Ok u) (naming at p (named text sig))
+      → TakesFront sig limits p at bytes (length text) q
+  name_takes u moves = record {
+    token = name;
+    front = front;
+    end = refl;
+    goes_on = (name_goes p.stage text whole).1;
+    steps = steps_name ∙ moves;
+  }
+
+  pub name_halts : (fault : LogFault) → Stays p q fault (naming at p (named text sig))
+      → HaltsFrontBy sig limits p at bytes fault q
+  name_halts fault stays = front_halts sig limits p at bytes fault q (record {
+    token = name;
+    front = front;
+    goes_on = (name_goes p.stage text whole).1;
+    stays = subst (Stays p q fault) (sym steps_name) stays;
+  })
+
+-- ---- at an offset
+
+-- the place of a token behind one blank at most
+pub record FrontPlace (looked : List ℕ) (at : ℕ) (front rest : List ℕ) (n : ℕ) : Type 0 where
   pub front_is : front ≡ drop at looked
   pub blanks : n ≡ blank_before front
   pub rest_is : rest ≡ drop n front
-  pub some : 1 ≤ length rest
 
 module _ (sig : List PredOf) (limits : Limits) (from : ℕ) (looked : List ℕ) (ended : Bool) (at : ℕ) (p q : Partial)
     (counted : IsCounted p) (within : at ≤ length looked) (front rest : List ℕ) (n : ℕ)
-    (m : MarkPlace looked at front rest n) {U : Type 0} (result : Result U LogFault)
-    (s : StepsMark limits p (from + at + n) (get_or rest 0 0) result q) where
+    (m : FrontPlace looked at front rest n) where
   abbrev here : Place
   here = place_in from looked ended at
 
-  abbrev mark : Lexeme
-  mark = mark_token s.kind (from + at + n) (get_or rest 0 0)
+  module _ (t : Lexeme) (f : IsInFront rest (from + at + n) t) where
+    in_front : IsInFront front (from + at) t
+    in_front =
+        blank_past front (from + at) t
+        (subst (λ (k : ℕ). IsInFront (drop k front) (from + at + k) t) m.blanks
+        (subst (λ (r : List ℕ). IsInFront r (from + at + n) t) m.rest_is f))
 
-  in_rest : IsInFront rest (from + at + n) mark
-  in_rest = mark_seen rest (from + at + n) s.kind m.some s.is
+    seen : IsInFront (drop at looked) (from + at) t
+    seen = subst (λ (r : List ℕ). IsInFront r (from + at) t) m.front_is in_front
 
-  in_front : IsInFront front (from + at) mark
-  in_front =
-      blank_past front (from + at) mark
-      (subst (λ (k : ℕ). IsInFront (drop k front) (from + at + k) mark) m.blanks
-      (subst (λ (r : List ℕ). IsInFront r (from + at + n) mark) m.rest_is in_rest))
+    found : next_token here ≡ Ok (Some t)
+    found = seen.is ended
 
-  seen : IsInFront (drop at looked) (from + at) mark
-  seen = subst (λ (r : List ℕ). IsInFront r (from + at) mark) m.front_is in_front
+    takes : (behind : ℕ) → t.at + length t.text ≡ from + behind → (result : Result TokenStep LogFault) (at' : ℕ)
+        → StepsOver sig limits t behind at p result at' q
+        → TakesToken sig limits from looked ended at p result at' q
+    takes behind end result at' over =
+        let far : (after here).at - from ≡ behind = omega (arith, seen.behind ended, end) in
+        steps_over sig limits from looked ended at p t behind
+        (subst (TokenAt from looked ended at t) far (token_at_offset from looked ended at t within found))
+        within counted found result at' q over
 
-  mark_takes : (step_result : Result TokenStep LogFault) (at' : ℕ)
-      → StepsOver sig limits mark (at + (n + 1)) at p step_result at' q
-      → TakesToken sig limits from looked ended at p step_result at' q
-  mark_takes step_result at' over =
-      let e : next_token here ≡ Ok (Some mark) = seen.is ended in
-      let behind : (after here).at - from ≡ at + (n + 1) = omega (arith, seen.behind ended) in
-      steps_over sig limits from looked ended at p mark (at + (n + 1))
-      (subst (TokenAt from looked ended at mark) behind (token_at_offset from looked ended at mark within e))
-      within counted e step_result at' q over
+  abbrev IsStraight : Straight → Type 0
+  IsStraight step = TakesStraight sig limits p (from + at + n) rest (Ok step) q
 
-  pub mark_took : (u : U) → result ≡ Ok u → TakesToken sig limits from looked ended at p (Ok Took) (at + (n + 1)) q
-  mark_took u e =
-      let steps = subst (λ (r : Result U LogFault). Moves p q r (step sig limits p mark)) e (s.moves sig) in
-      mark_takes (Ok Took) (at + (n + 1)) (s.goes_on, steps, refl)
+  pub front_took : (count : ℕ) (step : Straight) → step ≡ straights.Took count → IsStraight step
+      → TakesToken sig limits from looked ended at p (Ok Took) (at + (n + count)) q
+  front_took count step is taken =
+      let f : TakesFront sig limits p (from + at + n) rest count q = subst IsStraight is taken in
+      takes f.token f.front (at + (n + count)) (omega (arith, f.end)) (Ok Took) (at + (n + count))
+      (f.goes_on, f.steps, refl)
 
-  pub mark_halts : (fault : LogFault) → result ≡ Err fault
+  pub front_completed : (point : TimePoint) (step : Straight) → step ≡ straights.Completed point → IsStraight step
+      → TakesToken sig limits from looked ended at p (Ok (Completed point)) at q
+  front_completed point step is taken =
+      let f : CompletesFront p (from + at + n) rest point q = subst IsStraight is taken in
+      let behind = f.token.at + length f.token.text - from in
+      let first : from + at + n ≤ f.token.at = f.front.first in
+      takes f.token f.front behind (omega (arith, first)) (Ok (Completed point)) at
+      (f.whole, f.is, rw f.kind refl, f.after)
+
+  front_stays : (fault : LogFault) → HaltsFront sig limits p (from + at + n) rest fault q
       → TakesToken sig limits from looked ended at p (Err fault) at q
-  mark_halts fault e =
-      let stays = subst (λ (r : Result U LogFault). Moves p q r (step sig limits p mark)) e (s.moves sig) in
-      mark_takes (Err fault) at (s.goes_on, refl, stays)
+  front_stays fault f =
+      let behind = f.token.at + length f.token.text - from in
+      let first : from + at + n ≤ f.token.at = f.front.first in
+      takes f.token f.front behind (omega (arith, first)) (Err fault) at (f.goes_on, refl, f.stays)
+
+  pub front_halted : (fault : LogFault) → HaltsFrontBy sig limits p (from + at + n) rest fault q
+      → TakesToken sig limits from looked ended at p (Err fault) at q
+  front_halted Memory f = tt
+  front_halted fault f = front_stays fault f

@@ -15,7 +15,7 @@ use Rattle.log_reader.specs.Grammar.{Mention, spell_values, spell_group, spell_g
 use Rattle.log_reader.specs.Partials.{Partial}
 use Rattle.log_reader.specs.Rules.{groups_value, mentions_value, group_count}
 use Rattle.log_reader.specs.Stages.{goes, completes}
-use Rattle.log_reader.specs.Steps.{stepped, naming, grouped}
+use Rattle.log_reader.specs.Steps.{stepped, grouped}
 use Rattle.log_reader.specs.Symbols.{Symbol, Opening, Closing, Says, Written, Bare, content}
 use Rattle.log_reader.proofs.Judging.{front_of, bare_content, Passed, Faulty, passes, faults, Passed-then}
 use Rattle.log_reader.proofs.Judging.{Faulty-behind, resting, within, values_judged}
@@ -160,8 +160,7 @@ module _ (sig : List PredOf) (limits : Limits) where
       inr (
         inl (rw n refl),
         faults sig limits stage (Says (Bare m.name)) p (UnknownPredicate f.token.at) ts _ f refl (o.none m.name)
-            (ap (stepped sig limits p f.token) (o.goes m.name)
-            ∙ ap (λ (w : List ℕ). naming f.token.at p (named w sig)) says ∙ ap (naming f.token.at p) n),
+            (rw (o.goes m.name, says, n)),
       )
   named_judged (Some pred) c stage m mentions ts rest o n e later =
       let p = resting c stage in
@@ -169,8 +168,7 @@ module _ (sig : List PredOf) (limits : Limits) where
       let says : content f.token ≡ m.name = bare_content f.token.kind (content f.token) m.name f.is in
       let q = resting (of_pred c pred) AfterName in
       let a = passes sig limits stage (Says (Bare m.name)) p q ts _ f refl (o.none m.name)
-      (ap (stepped sig limits p f.token) (o.goes m.name)
-      ∙ ap (λ (w : List ℕ). naming f.token.at p (named w sig)) says ∙ ap (naming f.token.at p) n) in
+      (rw (o.goes m.name, says, n)) in
       let inner = spell_mentions mentions rest in
       elim (one_group pred c AfterName m.first m.more a.others inner refl refl a.spelled
       (λ c ts e room. groups_judged pred m.more c ts inner e room)) [

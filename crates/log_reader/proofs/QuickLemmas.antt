@@ -1,41 +1,39 @@
--- An integer that is read straight from the bytes is what the token there stands for.
-use Rattle.std.proofs.Common.{◌≡◌, ℕ, suc, ◌+◌, ◌-◌, ◌*◌, ◌≤◌, ◌<◌, Bool, true, false, List, [], ◌∷◌, ◌++◌, length}
+-- A number that is read straight from the bytes is what the token there stands for.
+use Rattle.std.proofs.Common.{◌≡◌, ℕ, suc, ◌+◌, ◌-◌, ◌*◌, ◌≤◌, ◌<◌, true, false, List, [], ◌∷◌, ◌++◌, length}
 use Rattle.std.proofs.Common.{get_or, drop-cons, take, drop, zero, Result, Option, Some, None, Ok, ℤ, nat_lt, refl}
-use Rattle.std.proofs.Common.{sym, ap, subst, ◌∙◌, inl, inr, arith}
-use Rattle.std.specs.Prelude.{◌==◌, ◌||◌, nat_le, unwrap_or}
+use Rattle.std.proofs.Common.{sym, ap, ◌∙◌, inl, inr, arith}
+use Rattle.std.specs.Prelude.{◌==◌, nat_le, unwrap_or}
 use Rattle.std.specs.Char.{is_ascii_digit}
 use Rattle.std.specs.List.{list_all, prefix_len}
-use Rattle.std.proofs.lemmas.Bool.{cases_Bool, eqb-true, leb-true, ltb-true, lt-ltb, le-ltb, and_parts, and_from}
-use Rattle.std.proofs.lemmas.Bool.{or_from, or_right, ne_eqb}
-use Rattle.mfotl_lex.proofs.BlankLemmas.{blank_len-none}
-use Rattle.mfotl_lex.proofs.Sequence.{next_is, after_is}
-use Rattle.mfotl_lex.specs.Blanks.{blank_len}
-use Rattle.mfotl_lex.specs.Bytes.{hash, minus, is_space, in_log_word}
-use Rattle.mfotl_lex.specs.Lexemes.{Lexeme, next_token, after}
-use Rattle.mfotl_lex.specs.Limits.{max_log_word, max_magnitude}
+use Rattle.std.proofs.lemmas.Bool.{cases_Bool, leb-true, ltb-true, lt-ltb, le-ltb, le-leb, and_parts, and_from, ne_eqb}
+use Rattle.std.proofs.lemmas.Bool.Decides.{nat_tests}
+use Rattle.std.proofs.lemmas.List.{length-take}
+use Rattle.mfotl_lex.specs.Bytes.{minus, in_log_word}
+use Rattle.mfotl_lex.specs.Lexemes.{Lexeme}
+use Rattle.mfotl_lex.specs.Limits.{max_magnitude}
 use Rattle.mfotl_lex.specs.Numbers.{digits_value, integer_value}
-use Rattle.mfotl_lex.specs.Scans.{log_scan}
 use Rattle.mfotl_lex.specs.declared.kind.Kind.TheVariants.{Word}
-use Rattle.mfotl_lex.specs.declared.scan.Scan.TheVariants.{Takes}
 use Rattle.mfotl_lex.specs.FirstFault.{◌>>=◌}
-use Rattle.mfotl_lex.specs.Places.{Place}
+use Rattle.mfotl_model.specs.declared.policy.Sort.{Sort}
+use Rattle.mfotl_model.specs.declared.policy.Sort.TheVariants.{Int}
 use Rattle.mfotl_model.specs.declared.value.Value.{Value}
 use Rattle.mfotl_model.specs.declared.value.Value.TheVariants as values
 use Rattle.mfotl_sig.specs.Preds.{PredOf}
 use Rattle.log_reader.specs.declared.fault.LogFault.{LogFault}
 use Rattle.log_reader.specs.declared.limits.Limits.{Limits}
 use Rattle.log_reader.specs.declared.stage.Stage.{Stage}
-use Rattle.log_reader.specs.declared.stage.Stage.TheVariants.{AfterOpen, AfterValue, AfterComma}
-use Rattle.log_reader.specs.Cursors.{IsCounted, Leads}
+use Rattle.log_reader.specs.declared.stage.Stage.TheVariants.{AfterAt, AfterStamp, AfterOpen, AfterValue, AfterComma}
+use Rattle.log_reader.specs.Limits.{last_timestamp}
 use Rattle.log_reader.specs.Partials.{Partial}
 use Rattle.log_reader.specs.Stages.{goes, completes}
 use Rattle.log_reader.specs.Steps.{step, stepped, valued}
-use Rattle.log_reader.specs.Symbols.{Written, Bare, Says, written}
-use Rattle.log_reader.proofs.TokenPlaces.{TokenAt, token_at_offset}
-use Rattle.log_reader.proofs.TokenSteps.{took_leads}
-use Rattle.log_reader.specs.Quick.{room, ends_value, digits_before, IsQuick, TakesInteger, is_value_due}
-use Rattle.log_reader.specs.Stretches.{place_in}
+use Rattle.log_reader.specs.Symbols.{Written, Bare, Says, written, is_digits}
+use Rattle.log_reader.specs.Quick.{room, ends_number, digits_before, IsNumber, IsInteger, TakesFront, is_value_due}
+use Rattle.log_reader.specs.Quick.{TakesInteger, TakesStraight}
+use Rattle.log_reader.specs.declared.partial.Straight.{Straight}
+use Rattle.log_reader.specs.declared.partial.Straight.TheVariants.{Nothing, Took, Completed}
 use Rattle.log_reader.specs.ValuesRead.{integer_at}
+use Rattle.log_reader.proofs.TokenFronts.{word_in_front}
 
 -- what the digits say
 record Means (number count : ℕ) (bytes : List ℕ) (value n : ℕ) : Type 0 where
@@ -56,14 +54,8 @@ digit_least b d = leb-true 48 b (and_parts (nat_le 48 b) (nat_le b 57) d).0
 in_word : (b : ℕ) → is_ascii_digit b ≡ true → in_log_word b ≡ true
 in_word b d = rw d refl
 
-behind_word : (b : ℕ) → ends_value b ≡ true → in_log_word b ≡ false
-behind_word b e =
-    elim (cases_Bool (b == 44)) [
-      | inl comma ↦ rw (eqb-true b 44 comma) refl
-      | inr other ↦
-          let close : (b == 41) ≡ true = rw other at e in
-          rw (eqb-true b 41 close) refl
-    ]
+behind_word : (b : ℕ) → ends_number b ≡ true → in_log_word b ≡ false
+behind_word b e = grind (arith, nat_tests)
 
 digits_mean : (number count : ℕ) (bytes : List ℕ) (value n : ℕ) → number < 10 * room
     → digits_before number count bytes ≡ Some (value, n) → Means number count bytes value n
@@ -87,7 +79,7 @@ digits_mean number count (b ∷ bytes) value n small e =
             }
         | inr full ↦ let lost : None ≡ Some (value, n) = rw (digit, full) at e in absurd cc
       ]
-      | inr none ↦ elim (cases_Bool (ends_value b)) [
+      | inr none ↦ elim (cases_Bool (ends_number b)) [
         | inl ends ↦
             let here : Some (number, count) ≡ Some (value, n) = rw (none, ends) at e in
             let number_is : number ≡ value = ap (λ (o : Option (ℕ × ℕ)). (unwrap_or o (0, 0)).0) here in
@@ -105,47 +97,48 @@ digits_mean number count (b ∷ bytes) value n small e =
       ]
     ]
 
--- the bytes begin with a Word that writes the integer
-pub record WritesInteger (bytes : List ℕ) (value : ℤ) (n : ℕ) : Type 0 where
-  pub scanned : (ended : Bool) → log_scan ended bytes ≡ Takes Word n
-  pub bare : (ended : Bool) → blank_len ended bytes ≡ 0
-  pub read : (at : ℕ) → integer_at at (take n bytes) ≡ Ok (values.Int value)
+-- the bytes begin with a Word that writes the number
+pub record WritesNumber (bytes : List ℕ) (number n : ℕ) : Type 0 where
+  pub run : prefix_len in_log_word bytes ≡ n
+  pub inner : n < length bytes
+  pub digits : is_digits (take n bytes) ≡ true
+  pub written : digits_value 0 (take n bytes) ≡ number
+  pub small : number < 10 * room
 
-other_byte : (b k : ℕ) → is_ascii_digit b ≡ true → k < 48 → (b == k) ≡ false
-other_byte b k d lt = ne_eqb b k (λ e. omega (arith, e, digit_least b d, lt))
+some_digits : (bytes : List ℕ) (n : ℕ) → 0 < n → n < length bytes → list_all is_ascii_digit (take n bytes) ≡ true
+    → is_digits (take n bytes) ≡ true
+some_digits [] n some inner d = absurd (omega (arith, inner))
+some_digits (b ∷ bytes) zero some inner d = absurd (omega (arith, some))
+some_digits (b ∷ bytes) (suc n) some inner d = d
 
-no_space : (b : ℕ) → is_ascii_digit b ≡ true → is_space b ≡ false
-no_space b d = or_from ((b == 32 || b == 9) || b == 13) (b == 10)
-    (or_from (b == 32 || b == 9) (b == 13) (or_from (b == 32) (b == 9) (other_byte b 32 d (omega arith))
-    (other_byte b 9 d (omega arith))) (other_byte b 13 d (omega arith))) (other_byte b 10 d (omega arith))
-
-pub writes_integer : (bytes : List ℕ) (value : ℤ) (n : ℕ) → IsQuick bytes value n → WritesInteger bytes value n
-unfolding digits_before log_scan integer_at integer_value
-writes_integer [] value n q = let lost : None ≡ Some (q.number, n) = q.found in absurd cc
-writes_integer (b ∷ bytes) value zero q = absurd (omega (arith, q.some))
-writes_integer (b ∷ bytes) value (suc n) q =
-    let m = digits_mean 0 0 (b ∷ bytes) q.number (suc n) (omega arith) q.found in
-    let k : m.k ≡ suc n = omega (arith, m.end) in
-    let all : list_all is_ascii_digit (b ∷ take n bytes) ≡ true =
-    ap (λ (j : ℕ). list_all is_ascii_digit (take j (b ∷ bytes))) (sym k) ∙ m.digits in
-    let digit : is_ascii_digit b ≡ true =
-    (and_parts (is_ascii_digit b) (list_all is_ascii_digit (take n bytes)) all).0 in
-    let run : prefix_len in_log_word (b ∷ bytes) ≡ suc n = m.run ∙ k in
-    let inner : suc n < length (b ∷ bytes) = omega (arith, m.inner, k) in
-    let written : digits_value 0 (b ∷ take n bytes) ≡ q.number =
-    ap (λ (j : ℕ). digits_value 0 (take j (b ∷ bytes))) (sym k) ∙ m.written in
-    let fits : nat_lt q.number max_magnitude ≡ true = lt-ltb q.number max_magnitude (omega (arith, m.small)) in
+writes_number : (bytes : List ℕ) (number n : ℕ) → IsNumber bytes number n → WritesNumber bytes number n
+writes_number bytes number n d =
+    let m = digits_mean 0 0 bytes number n (omega arith) d.found in
+    let k : m.k ≡ n = omega (arith, m.end) in
+    let inner : n < length bytes = omega (arith, m.inner, k) in
     record {
-      scanned = λ ended. rw (
-        run,
-        in_word b digit,
-        le-ltb max_log_word (suc n) q.few,
-        lt-ltb (suc n) (length (b ∷ bytes)) inner,
-        or_right ended true refl,
-      ) refl;
-      bare = λ ended. blank_len-none ended b bytes (no_space b digit) (other_byte b hash digit (omega arith));
-      read = λ at. rw (other_byte b minus digit (omega arith), all, written, fits, q.is) refl;
+      run = m.run ∙ k;
+      inner = inner;
+      digits = some_digits bytes n d.some inner
+          (ap (λ (j : ℕ). list_all is_ascii_digit (take j bytes)) (sym k) ∙ m.digits);
+      written = ap (λ (j : ℕ). digits_value 0 (take j bytes)) (sym k) ∙ m.written;
+      small = m.small;
     }
+
+no_minus : (b : ℕ) → is_ascii_digit b ≡ true → (b == minus) ≡ false
+no_minus b d = ne_eqb b minus (λ e. omega (arith, e, digit_least b d))
+
+integer_read : (bytes : List ℕ) (value : ℤ) (n at : ℕ) → IsInteger bytes value n
+    → integer_at at (take n bytes) ≡ Ok (values.Int value)
+unfolding integer_at integer_value
+integer_read [] value n at i = absurd (omega (arith, (writes_number [] i.number n i.digits).inner))
+integer_read (b ∷ bytes) value zero at i = absurd (omega (arith, i.digits.some))
+integer_read (b ∷ bytes) value (suc n) at i =
+    let w = writes_number (b ∷ bytes) i.number (suc n) i.digits in
+    let digit : is_ascii_digit b ≡ true =
+    (and_parts (is_ascii_digit b) (list_all is_ascii_digit (take n bytes)) w.digits).0 in
+    let fits : nat_lt i.number max_magnitude ≡ true = lt-ltb i.number max_magnitude (omega (arith, w.small)) in
+    rw (no_minus b digit, w.digits, w.written, fits, i.is) refl
 
 -- ---- the token
 
@@ -155,45 +148,59 @@ value_goes AfterOpen w e = (refl, refl)
 value_goes AfterComma w e = (refl, refl)
 value_goes _ w e = absurd cc
 
-module _ (sig : List PredOf) (limits : Limits) (from : ℕ) (looked : List ℕ) (ended : Bool) (at : ℕ) (p q : Partial)
-    (n : ℕ) (t : TakesInteger p (drop at looked) n q) where
-  abbrev here : Place
-  here = place_in from looked ended at
-
+module _ (sig : List PredOf) (limits : Limits) (p q : Partial) (at : ℕ) (bytes : List ℕ) (number n : ℕ)
+    (d : IsNumber bytes number n) where
   abbrev word : Lexeme
-  word = record { kind = Word; at = from + at; text = take n (drop at looked) }
+  word = record { kind = Word; at = at; text = take n bytes }
 
-  writes : WritesInteger (drop at looked) t.value n
-  writes = writes_integer (drop at looked) t.value n t.quick
+  takes_word : completes p.stage (Says (Bare word.text)) ≡ false → step sig limits p word ≡ Ok q
+      → TakesFront sig limits p at bytes n q
+  takes_word goes_on steps =
+      let w = writes_number bytes number n d in
+      record {
+        token = word;
+        front = word_in_front bytes at n w.run d.some d.few w.inner;
+        end = omega (arith, w.inner, length-take n bytes);
+        goes_on = goes_on;
+        steps = steps;
+      }
 
-  found : next_token here ≡ Ok (Some word)
-  found =
-      let same : from + at + 0 ≡ from + at = omega arith in
-      next_is here ∙ rw (writes.bare ended, writes.scanned ended, same) refl
-
-  far : (after here).at ≡ from + at + n
-  far = ap (λ (r : Place). r.at) (after_is here) ∙ rw (writes.bare ended, writes.scanned ended) (omega arith)
-
-  steps : step sig limits p word ≡ Ok q
+  -- as a timestamp it is taken as the token would be
+  pub stamp_takes : p.stage ≡ AfterAt → p.time ≤ number → q ≡ record p { stage = AfterStamp; time = number }
+      → TakesFront sig limits p at bytes n q
   unfolding step
-  steps =
-      ap (stepped sig limits p word) (value_goes p.stage (Bare word.text) t.stage).0
-      ∙ ap (valued word.at (written word) p) t.sorts
-      ∙ ap (λ (r : Result Value LogFault). r >>= λ v. Ok (record p {
-        stage = AfterValue;
-        due = t.due;
-        args = p.args ++ v ∷ [];
-      })) (writes.read word.at)
-      ∙ ap Ok (sym t.after)
+  stamp_takes stage later after =
+      let w = writes_number bytes number n d in
+      let fits : nat_le number last_timestamp ≡ true = le-leb number last_timestamp (omega (arith, w.small)) in
+      let rises : nat_lt number p.time ≡ false = le-ltb number p.time later in
+      takes_word (rw stage refl) (rw (stage, w.digits, w.written, fits, rises, after) refl)
 
-  -- it is taken as the token would be
-  pub quick_leads : at ≤ length looked → IsCounted p
-      → Leads sig limits from looked ended at p [] (at + n) q × (at < at + n)
-  quick_leads within counted =
-      let behind : (after here).at - from ≡ at + n = omega (arith, far) in
-      took_leads sig limits from looked ended at p word (at + n) q
-      (subst (TokenAt from looked ended at word) behind (token_at_offset from looked ended at word within found))
-      counted (value_goes p.stage (Bare word.text) t.stage).1 steps
+-- as a value it is taken as the token would be
+integer_takes : (sig : List PredOf) (limits : Limits) (p q : Partial) (at : ℕ) (bytes : List ℕ) (value : ℤ) (n : ℕ)
+    (due : List Sort) → IsInteger bytes value n → is_value_due p.stage ≡ true → p.due ≡ Int ∷ due
+    → q ≡ record p { stage = AfterValue; due = due; args = p.args ++ values.Int value ∷ [] }
+    → TakesFront sig limits p at bytes n q
+unfolding step
+integer_takes sig limits p q at bytes value n due i stage sorts after =
+    let text = take n bytes in
+    let t : Lexeme = record { kind = Word; at = at; text = text } in
+    takes_word sig limits p q at bytes i.number n i.digits (value_goes p.stage (Bare text) stage).1
+    (ap (stepped sig limits p t) (value_goes p.stage (Bare text) stage).0
+    ∙ ap (valued at (written t) p) sorts
+    ∙ ap (λ (r : Result Value LogFault). r >>= λ v. Ok (record p {
+      stage = AfterValue;
+      due = due;
+      args = p.args ++ v ∷ [];
+    })) (integer_read bytes value n at i)
+    ∙ ap Ok (sym after))
+
+pub value_takes : (sig : List PredOf) (limits : Limits) (p q : Partial) (at : ℕ) (bytes : List ℕ) (result : Straight)
+    → is_value_due p.stage ≡ true → TakesInteger p bytes (Ok result) q
+    → TakesStraight sig limits p at bytes (Ok result) q
+value_takes sig limits p q at bytes Nothing stage t = t
+value_takes sig limits p q at bytes (Took n) stage t =
+    integer_takes sig limits p q at bytes t.value n t.due t.integer stage t.sorts t.after
+value_takes sig limits p q at bytes (Completed point) stage t = absurd t
 
 -- ---- the loop over the digits
 
@@ -205,13 +212,13 @@ module _ (number at : ℕ) (bytes : List ℕ) (inner : at < length bytes) where
   full_at digit full = rw (drop-cons bytes at 0 inner) (rw (digit, full) refl)
 
   -- the digits end
-  pub ends_at : is_ascii_digit (get_or bytes at 0) ≡ false → ends_value (get_or bytes at 0) ≡ true
+  pub ends_at : is_ascii_digit (get_or bytes at 0) ≡ false → ends_number (get_or bytes at 0) ≡ true
       → digits_before number at (drop at bytes) ≡ Some (number, at)
   unfolding digits_before
   ends_at none ends = rw (drop-cons bytes at 0 inner) (rw (none, ends) refl)
 
   -- something else stands there
-  pub other_at : is_ascii_digit (get_or bytes at 0) ≡ false → ends_value (get_or bytes at 0) ≡ false
+  pub other_at : is_ascii_digit (get_or bytes at 0) ≡ false → ends_number (get_or bytes at 0) ≡ false
       → digits_before number at (drop at bytes) ≡ None
   unfolding digits_before
   other_at none other = rw (drop-cons bytes at 0 inner) (rw (none, other) refl)

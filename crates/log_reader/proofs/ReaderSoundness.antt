@@ -1,7 +1,6 @@
 -- What a reader keeps true of the bytes, the offset and what was read before it.
-use Rattle.std.proofs.Common.{◌≡◌, ℕ, ◌+◌, ◌-◌, ◌≤◌, Bool, true, false, cond, List, [], ◌∷◌, ◌++◌, length, drop}
-use Rattle.std.proofs.Common.{nat_lt, None, Result, Ok, Err, refl, sym, ap, subst, ◌∙◌, arith, append_assoc}
-use Rattle.std.proofs.Common.{append-nil}
+use Rattle.std.proofs.Common.{◌≡◌, ℕ, ◌+◌, ◌-◌, ◌≤◌, Bool, true, false, cond, List, [], ◌∷◌, ◌++◌, length, drop, nat_lt}
+use Rattle.std.proofs.Common.{None, Result, Ok, Err, refl, sym, ap, subst, ◌∙◌, arith, append_assoc, append-nil}
 use Rattle.std.proofs.lemmas.Bool.{cond_both, ltb-false}
 use Rattle.std.proofs.lemmas.List.{length-drop, length-append, length-take, drop-drop, take_all, nil_from_length}
 use Rattle.std.proofs.Math.Seq.{drop-append_seam, take-nil}
@@ -16,15 +15,14 @@ use Rattle.log_reader.specs.declared.fault.LogFault.{LogFault}
 use Rattle.log_reader.specs.declared.fault.LogFault.TheVariants.{TooLong, Memory}
 use Rattle.log_reader.specs.declared.limits.Limits.{Limits}
 use Rattle.log_reader.specs.declared.next.Next.{Next}
-use Rattle.log_reader.specs.declared.next.Next.TheVariants.{Point, More, End}
+use Rattle.log_reader.specs.declared.next.Next.TheVariants.{Point, More}
 use Rattle.log_reader.specs.declared.stage.Stage.{Stage}
 use Rattle.log_reader.specs.declared.stage.Stage.TheVariants.{Between, AfterStamp, AfterClose}
-use Rattle.log_reader.specs.Cursors.{IsCounted, open_count, given_of, Leads}
-use Rattle.log_reader.specs.Cursors.{behind_answer}
+use Rattle.log_reader.specs.Cursors.{IsCounted, open_count, given_of, Leads, behind_answer}
 use Rattle.log_reader.specs.Partials.{Partial, blank, point_of, finished}
 use Rattle.log_reader.specs.Progress.{answer_of, skipped}
-use Rattle.log_reader.specs.Readings.{Reading, Ending, NoFault, stopped, behind, behind_tokens, run, run_from}
-use Rattle.log_reader.specs.Readings.{is_long, finish_at, nothing_behind, nothing_left, place_at, reading}
+use Rattle.log_reader.specs.Readings.{Reading, Ending, NoFault, stopped, behind, behind_tokens, run, run_from, is_long}
+use Rattle.log_reader.specs.Readings.{finish_at, nothing_behind, nothing_left, place_at, reading}
 use Rattle.log_reader.specs.Soundness.{Remains, StandsFor, IsWithin, IsSound, StandsOn, CountsOn}
 use Rattle.log_reader.specs.Stretches.{Stretch, Waits, end_of, with_piece, looked_at, is_end_told, place_of, forgotten}
 use Rattle.log_reader.specs.Stretches as stretches
@@ -55,32 +53,19 @@ record Whole (limits : Limits) (len : ℕ) (ended : Bool) (p : Partial) : Type 0
   pub begun : open_count p.stage ≡ 1
   pub behind : nothing_behind limits len ended (finished p) ≡ record { points = []; ending = NoFault }
 
-gives_point : TimePoint → Result Next LogFault → Type 0
-gives_point point r = r ≡ Ok (Point point)
-
-no_fault : (point : TimePoint) (fault : LogFault) → gives_point point (Err fault) → ⊥
-unfolding gives_point
-no_fault point fault e = cc
-
-no_more : (point : TimePoint) → gives_point point (Ok More) → ⊥
-unfolding gives_point
-no_more point e = cc
-
 whole_at : (len : ℕ) (stage : Stage) (p : Partial) (point : TimePoint)
-    → gives_point point (answer_of true (finish_at len p stage))
+    → answer_of true (finish_at len p stage) ≡ Ok (Point point)
     → (finish_at len p stage ≡ record { points = point_of p ∷ []; ending = NoFault })
     × (open_count stage ≡ 1)
-unfolding gives_point
 whole_at len AfterStamp p point e = (refl, refl)
 whole_at len AfterClose p point e = (refl, refl)
 whole_at len _ p point e = absurd cc
 
 whole_by : (limits : Limits) (len : ℕ) (long ended : Bool) (p : Partial) (point : TimePoint)
     → nat_lt limits.bytes len ≡ long
-    → gives_point point (answer_of ended (nothing_behind limits len ended p)) → Whole limits len ended p
-whole_by limits len true ended p point l e =
-    absurd (no_fault point _ (rw l at e))
-whole_by limits len false false p point l e = absurd (no_more point (rw l at e))
+    → answer_of ended (nothing_behind limits len ended p) ≡ Ok (Point point) → Whole limits len ended p
+whole_by limits len true ended p point l e = absurd (cc (rw l at e))
+whole_by limits len false false p point l e = absurd (cc (rw l at e))
 whole_by limits len false true p point l e =
     let whole = whole_at len p.stage p point (rw l at e) in
     record { told = refl; here = rw l whole.0; begun = whole.1; behind = rw l refl }
@@ -199,14 +184,11 @@ module _ (sig : List PredOf) (limits : Limits) (log : List ℕ) where
     pub stands_end : (q : Partial) (answer : Result Next LogFault)
         → answer ≡ answer_of is_ended (nothing_behind limits (end_of s) is_ended p) → q ≡ behind_answer p answer
         → StandsFor sig limits is_ended (given_of q) s at q log
-    unfolding gives_point
     stands_end q (Ok (Point point)) e is =
         let w = whole_by limits (end_of s) (nat_lt limits.bytes (end_of s)) is_ended p point refl (sym e) in
         let more : given_of (finished p) ≡ given_of p + 1 = omega (arith, w.begun, counted) in
         rw (is, more) (stands_last is_ended s (given_of p) at p st empty w)
-    stands_end q (Ok More) e is = rw is st
-    stands_end q (Ok End) e is = rw is st
-    stands_end q (Err fault) e is = rw is st
+    stands_end q _ e is = rw is st
 
   -- ---- bytes that come, and bytes that are done with
 
@@ -255,23 +237,18 @@ pub end_counts : (limits : Limits) (len : ℕ) (is_ended : Bool) (before : ℕ) 
     (answer : Result Next LogFault) → IsCounted p
     → given_of p ≡ before + 0 → answer ≡ answer_of is_ended (nothing_behind limits len is_ended p)
     → q ≡ behind_answer p answer → CountsOn before answer (given_of q)
-unfolding gives_point
 end_counts limits len is_ended before p q (Ok (Point point)) counted given e is =
     let w = whole_by limits len (nat_lt limits.bytes len) is_ended p point refl (sym e) in
     let more : given_of (finished p) ≡ before + 1 = omega (arith, w.begun, counted, given) in
     rw is more
-end_counts limits len is_ended before p q (Ok More) counted given e is = rw is (omega (arith, given))
-end_counts limits len is_ended before p q (Ok End) counted given e is = rw is (omega (arith, given))
 end_counts limits len is_ended before p q (Err Memory) counted given e is = tt
-end_counts limits len is_ended before p q (Err fault) counted given e is = rw is (omega (arith, given))
+end_counts limits len is_ended before p q _ counted given e is = rw is (omega (arith, given))
 
 -- and it leaves a time-point that is begun counted
 pub end_counted : (p q : Partial) (answer : Result Next LogFault) → IsCounted p → q ≡ behind_answer p answer
     → IsCounted q
 end_counted p q (Ok (Point point)) counted is = rw is (omega arith)
-end_counted p q (Ok More) counted is = rw is counted
-end_counted p q (Ok End) counted is = rw is counted
-end_counted p q (Err fault) counted is = rw is counted
+end_counted p q _ counted is = rw is counted
 
 -- where more is asked for, the reader waits
 pub waits_by : (limits : Limits) (s : Stretch) (is_ended : Bool) (at : ℕ) (p : Partial)

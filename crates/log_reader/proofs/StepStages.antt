@@ -1,6 +1,6 @@
 -- A step leads to the stage that the grammar leads to, and counts the time-points.
-use Rattle.std.proofs.Common.{◌≡◌, ℕ, ◌+◌, false, List, [], ◌∷◌, ◌++◌, Option, Some, None, Result}
-use Rattle.std.proofs.Common.{Ok, Err, refl, sym, ap, subst, ◌∙◌, arith, nat_lt}
+use Rattle.std.proofs.Common.{◌≡◌, ℕ, ◌+◌, false, List, [], ◌∷◌, ◌++◌, Option, Some, None, Result, Ok, Err, refl, sym}
+use Rattle.std.proofs.Common.{ap, subst, ◌∙◌, arith, nat_lt}
 use Rattle.std.proofs.lemmas.Bool.{cond_both}
 use Rattle.mfotl_lex.specs.Lexemes.{Lexeme}
 use Rattle.mfotl_model.specs.declared.policy.Sort.{Sort}
@@ -18,11 +18,9 @@ use Rattle.log_reader.specs.Steps.{step, stepped, stamped, naming, valued, close
 use Rattle.log_reader.proofs.Transitions.{Transition, begins_first, begins_bare, begins_full, times, names_first}
 use Rattle.log_reader.proofs.Transitions.{names_more, opens_first, opens_more, gives_first, gives_more, separates}
 use Rattle.log_reader.proofs.Transitions.{closes_empty, closes, ends_bare, ends_full, transition}
-use Rattle.log_reader.specs.ValuesRead.{timestamp_of}
-use Rattle.log_reader.specs.Symbols.{Symbol, Written}
-use Rattle.log_reader.specs.Symbols.{symbol, content, written}
+use Rattle.log_reader.specs.ValuesRead.{timestamp_of, value_at}
+use Rattle.log_reader.specs.Symbols.{Symbol, Written, symbol, content, written}
 use Rattle.mfotl_lex.specs.FirstFault.{◌>>=◌}
-use Rattle.log_reader.specs.ValuesRead.{value_at}
 
 -- the new stage is the one that the grammar leads to, and an `@` counts
 abbrev pub one_if_at : Stage → ℕ

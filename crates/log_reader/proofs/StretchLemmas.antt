@@ -13,8 +13,8 @@ use Rattle.mfotl_lex.specs.Lexemes.{tokens}
 use Rattle.mfotl_lex.specs.declared.kind.Mode.TheVariants.{Log}
 use Rattle.log_reader.specs.declared.limits.Limits.{Limits}
 use Rattle.log_reader.specs.Cursors.{IsLater}
-use Rattle.log_reader.specs.Stretches.{Stretch, end_of, with_piece, looked_at, is_end_told, place_of}
-use Rattle.log_reader.specs.Stretches.{behind, comment_of, shortened}
+use Rattle.log_reader.specs.Stretches.{Stretch, end_of, with_piece, looked_at, is_end_told, place_of, behind}
+use Rattle.log_reader.specs.Stretches.{comment_of, shortened}
 use Rattle.log_reader.proofs.TokenSteps.{later_self}
 
 -- ---- lists

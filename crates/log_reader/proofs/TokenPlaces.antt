@@ -1,6 +1,6 @@
 -- A token at an offset of the bytes, and where reading goes on behind it.
-use Rattle.std.proofs.Common.{◌≡◌, ℕ, ◌+◌, ◌-◌, ◌≤◌, ◌<◌, Bool, List, length, drop, Some, Ok, ap, ap₂}
-use Rattle.std.proofs.Common.{subst, ◌∙◌, arith, add_assoc}
+use Rattle.std.proofs.Common.{◌≡◌, ℕ, ◌+◌, ◌-◌, ◌≤◌, ◌<◌, Bool, List, length, drop, Some, Ok, ap, ap₂, subst, ◌∙◌}
+use Rattle.std.proofs.Common.{arith, add_assoc}
 use Rattle.std.proofs.lemmas.List.{length-drop, drop-drop}
 use Rattle.mfotl_lex.specs.Growing.{grown}
 use Rattle.mfotl_lex.specs.Lexemes.{Lexeme, next_token, after}

@@ -8,7 +8,6 @@ use Rattle.mfotl_lex.specs.Lexemes.{Lexeme, Tokens, next_token, after, tokens}
 use Rattle.mfotl_lex.specs.Places.{Place}
 use Rattle.mfotl_lex.specs.declared.kind.Kind.{Kind}
 use Rattle.mfotl_lex.specs.declared.kind.Kind.TheVariants.{Semicolon}
-use Rattle.mfotl_model.specs.declared.event.TimePoint.{TimePoint}
 use Rattle.mfotl_sig.specs.Preds.{PredOf}
 use Rattle.log_reader.specs.declared.cursor.TokenStep.{TokenStep}
 use Rattle.log_reader.specs.declared.cursor.TokenStep.TheVariants.{Took, Completed, Empty}
@@ -20,7 +19,7 @@ use Rattle.log_reader.specs.declared.stage.Stage.TheVariants.{Between, AfterAt, 
 use Rattle.log_reader.specs.Cursors.{IsLater, open_count, IsCounted, Leads, Exhausts, StepsOver, Halts, HaltsBy}
 use Rattle.log_reader.specs.Cursors.{TakesToken}
 use Rattle.log_reader.specs.Partials.{Partial, point_of, finished}
-use Rattle.log_reader.specs.Readings.{Reading, behind, behind_tokens, went_on, run, run_from}
+use Rattle.log_reader.specs.Readings.{behind_tokens, run}
 use Rattle.log_reader.specs.Stages.{goes, completes, read_on}
 use Rattle.log_reader.specs.Steps.{step, completed, stepped}
 use Rattle.log_reader.specs.Stretches.{place_in}
@@ -67,9 +66,6 @@ later_self false = tt
 
 module _ (sig : List PredOf) (limits : Limits) (from : ℕ) (looked : List ℕ) (ended : Bool) (at : ℕ) (p : Partial)
     (t : Lexeme) where
-  abbrev steps_on : (Partial → Reading) → List TimePoint → Result Partial LogFault → Place → Reading
-  steps_on last points r place = behind points (went_on r (λ q. run_from sig limits last q place))
-
   pub took_leads : (behind : ℕ) (q : Partial) → TokenAt from looked ended at t behind → IsCounted p
       → completes p.stage (symbol t) ≡ false → step sig limits p t ≡ Ok q
       → Leads sig limits from looked ended at p [] behind q × (at < behind)
@@ -79,10 +75,7 @@ module _ (sig : List PredOf) (limits : Limits) (from : ℕ) (looked : List ℕ) 
           reads = λ more later is last.
               let place = grown (place_in from looked ended at) more later in
               token_run sig limits last p place t (found.token more later is)
-              ∙ ap (λ (ps : List TimePoint). steps_on last ps (step sig limits p t)
-              (after place)) (completed_none p t h)
-              ∙ ap (λ (r : Result Partial LogFault). steps_on last [] r (after place)) e
-              ∙ ap (λ (there : Place). steps_on last [] (Ok q) there) (found.place more later is);
+              ∙ rw (completed_none p t h, e, found.place more later is);
           within = found.within;
           counted = counts.counted;
           given = omega (arith, counts.given);
@@ -111,14 +104,12 @@ module _ (sig : List PredOf) (limits : Limits) (from : ℕ) (looked : List ℕ) 
           reads = λ more later is last.
               let place = grown (place_in from looked ended at) more later in
               token_run sig limits last p place t (found.token more later is)
-              ∙ ap (λ (ps : List TimePoint). steps_on last ps (step sig limits p t) (after place))
-              (completed_one p t h)
-              ∙ ap (λ (r : Result Partial LogFault). steps_on last (point_of p ∷ []) r (after place))
-              (step-at x.0 x.1)
-              ∙ ap (λ (r : Reading). behind (point_of p ∷ []) r)
-              (sym (token_run sig limits last (finished p) place t (found.token more later is)
-              ∙ ap (λ (ps : List TimePoint). steps_on last ps (step sig limits (finished p) t) (after place))
-              (completed_between p t)));
+              ∙ rw (
+                completed_one p t h,
+                step-at x.0 x.1,
+                token_run sig limits last (finished p) place t (found.token more later is),
+                completed_between p t,
+              );
           within = le;
           counted = omega arith;
           given = omega (arith, cases.0, c);
@@ -127,11 +118,7 @@ module _ (sig : List PredOf) (limits : Limits) (from : ℕ) (looked : List ℕ) 
           reads = λ more later is last.
               let place = grown (place_in from looked ended at) more later in
               token_run sig limits last p place t (found.token more later is)
-              ∙ ap (λ (ps : List TimePoint). steps_on last ps (step sig limits p t) (after place))
-              (completed_one p t h)
-              ∙ ap (λ (r : Result Partial LogFault). steps_on last (point_of p ∷ []) r (after place))
-              (step-terminator x.1)
-              ∙ ap (λ (q : Place). steps_on last (point_of p ∷ []) (Ok (finished p)) q) (found.place more later is);
+              ∙ rw (completed_one p t h, step-terminator x.1, found.place more later is);
           within = found.within;
           counted = omega arith;
           given = omega (arith, cases.0, c);
@@ -144,9 +131,7 @@ module _ (sig : List PredOf) (limits : Limits) (from : ℕ) (looked : List ℕ) 
   step_halts fault q found h e same = record {
     reads = λ last.
         token_run sig limits last p (place_in from looked ended at) t found
-        ∙ ap (λ (ps : List TimePoint). steps_on last ps (step sig limits p t)
-        (after (place_in from looked ended at))) (completed_none p t h)
-        ∙ ap (λ (r : Result Partial LogFault). steps_on last [] r (after (place_in from looked ended at))) e;
+        ∙ rw (completed_none p t h, e);
     same_at = refl;
     same = same;
   }

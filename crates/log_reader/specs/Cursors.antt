@@ -93,14 +93,6 @@ TakesToken sig limits from looked ended at p (Ok Empty) at' q = Exhausts sig lim
 TakesToken sig limits from looked ended at p (Err fault) at' q =
     HaltsBy sig limits from looked ended at p fault at' q
 
--- what a mark does, if one is taken straight from the bytes
-abbrev pub PassesMark : Limits → ℕ → List ℕ → Bool → ℕ → Partial → Result Bool LogFault → ℕ → Partial → Type 0
-PassesMark limits from looked ended at p (Ok true) at' q =
-    (sig : List PredOf) → TakesToken sig limits from looked ended at p (Ok Took) at' q
-PassesMark limits from looked ended at p (Ok false) at' q = (at' ≡ at) × (q ≡ p)
-PassesMark limits from looked ended at p (Err fault) at' q =
-    (sig : List PredOf) → TakesToken sig limits from looked ended at p (Err fault) at' q
-
 -- tokens were read up to a fault, which stands there again
 pub record Breaks (sig : List PredOf) (limits : Limits) (from : ℕ) (looked : List ℕ) (ended : Bool)
     (at : ℕ) (p : Partial) (fault : LogFault) (at' : ℕ) (q : Partial) : Type 0 where

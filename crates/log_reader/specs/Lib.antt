@@ -15,8 +15,8 @@ pub mod Readings
 pub mod Growth
 pub mod Laws
 pub mod Progress
-pub mod Quick
 pub mod Tokens
+pub mod Quick
 pub mod Stretches
 pub mod Cursors
 pub mod Soundness

@@ -1,11 +1,10 @@
 //! The walk over a log's tokens, up to a whole time-point or a fault.
-ghost use Rattle.std.specs.Prelude.{◌≡◌, ◌+◌, ◌<◌, ◌≤◌, ◌^◌, false, length, drop, Ok};
+ghost use Rattle.std.specs.Prelude.{◌≡◌, ◌+◌, ◌<◌, ◌≤◌, ◌^◌, false, length, Ok};
 ghost use Rattle.mfotl_lex.specs.Lexemes.{lexeme};
 ghost use Rattle.log_reader.specs.declared.next.Next.TheVariants.{More};
 ghost use Rattle.log_reader.specs.Partials.{blank};
-ghost use Rattle.log_reader.specs.Quick.{TakesQuick};
 ghost use Rattle.log_reader.specs.Soundness.{IsWithin, AnswersDue, StandsOn, is_wanting, CountsOn};
-ghost use Rattle.log_reader.specs.Cursors.{StepsOver, TakesToken, PassesMark, Advances, IsCounted, given_of};
+ghost use Rattle.log_reader.specs.Cursors.{StepsOver, TakesToken, Advances, IsCounted, given_of};
 ghost use Rattle.log_reader.specs.Stretches.{Waits, place_in};
 ghost use Rattle.log_reader.specs.Tokens.{Finds};
 
@@ -14,12 +13,12 @@ use crate::front::{blank_before, token_before};
 use crate::grammar::read_on;
 use crate::limits::{Limits, Look};
 use crate::next::Next;
-use crate::partial::Partial;
+use crate::partial::{Partial, Straight};
 use crate::stretch::Stretch;
 use mfotl_lex::{LexFault, Lexer, Mode, Token};
 use mfotl_model::TimePoint;
 use mfotl_sig::Signature;
-use std::alloc::{AllocError, Global};
+use std::alloc::Global;
 
 /// What a token did.
 #[derive(Drop)]
@@ -120,17 +119,7 @@ impl<'a> Cursor<'a> {
         Ok(TokenStep::Took)
     }
 
-    // Takes an integer straight from the bytes, and says how many bytes it has, if one stands there.
-    fn take_quick(&mut self, alloc: Global, look: Look<'_>) -> Result<Option<usize>, AllocError>
-        requires within { self.old.at ≤ length look.bytes.now }
-        ensures same { self.new.at ≡ self.old.at }
-        ensures takes { TakesQuick self.old.partial (drop self.old.at look.entry.bytes.now) result
-            self.new.partial }
-    {
-        let (_, rest) = look.bytes.split_at(self.at);
-        self.partial.take_quick(alloc, rest)
-    }
-
+    // Takes a token, straight from the bytes if it can be, behind one blank at most.
     fn take_token(
         &mut self,
         alloc: Global,
@@ -144,48 +133,18 @@ impl<'a> Cursor<'a> {
         ensures { TakesToken sig.now limits.now look.entry.from look.entry.bytes.now look.entry.ended
             self.old.at self.old.partial result self.new.at self.new.partial }
     {
-        match self.take_quick(alloc, look)? {
-            Some(count) => {
-                self.at += count;
-                Ok(TokenStep::Took)
-            }
-            None => match self.take_marked(alloc, look, limits) {
-                Ok(true) => Ok(TokenStep::Took),
-                Ok(false) => self.lex_token(alloc, look, sig, limits),
-                Err(fault) => Err(fault),
-            },
-        }
-    }
-
-    // Takes a mark straight from the bytes, behind one blank at most, and says whether it took one.
-    fn take_marked(
-        &mut self,
-        alloc: Global,
-        look: Look<'_>,
-        limits: &Limits,
-    ) -> Result<bool, LogFault>
-        requires within { self.old.at ≤ length look.bytes.now }
-        requires small { look.from + length look.bytes.now < 2 ^ 63 }
-        requires counted { IsCounted self.old.partial }
-        ensures { PassesMark limits.now look.entry.from look.entry.bytes.now look.entry.ended self.old.at
-            self.old.partial result self.new.at self.new.partial }
-    {
         let (_, front) = look.bytes.split_at(self.at);
         let blanks = blank_before(front);
         let (_, rest) = front.split_at(blanks);
-        let [first, ..] = rest else {
-            return Ok(false);
-        };
-        let place = (look.from + self.at + blanks) as u64;
-        match self.partial.take_mark(alloc, limits, place, *first) {
-            None => Ok(false),
-            Some(stepped) => match stepped {
-                Ok(()) => {
-                    self.at += blanks + 1;
-                    Ok(true)
-                }
-                Err(fault) => Err(fault),
-            },
+        let place = look.from + self.at + blanks;
+        match self.partial.take_straight(alloc, sig, limits, place, rest) {
+            Ok(Straight::Took(count)) => {
+                self.at += blanks + count;
+                Ok(TokenStep::Took)
+            }
+            Ok(Straight::Completed(point)) => Ok(TokenStep::Completed(point)),
+            Ok(Straight::Nothing) => self.lex_token(alloc, look, sig, limits),
+            Err(fault) => Err(fault),
         }
     }
 

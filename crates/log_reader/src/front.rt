@@ -1,6 +1,7 @@
 //! The tokens that need no lexer: marks and plain Words, with one blank in front at most.
 ghost use Rattle.std.specs.Prelude.{◌≡◌, ◌≤◌, ◌<◌, ◌+◌, ◌^◌, length, IfSome};
 ghost use Rattle.mfotl_lex.specs.Lexemes.{lexeme};
+ghost use Rattle.mfotl_lex.specs.declared.kind.Kind.TheVariants.{Word};
 ghost use Rattle.log_reader.specs.Tokens.{blank_before, IsInFront};
 
 use mfotl_lex::limits::MAX_LOG_WORD;
@@ -17,9 +18,11 @@ pub fn blank_before(bytes: &[u8]) -> usize
     }
 }
 
-// A Word that isn't too long, and behind which more bytes stand.
-fn word_before(bytes: &[u8], at: usize) -> Option<Token<'_>>
-    ensures { IfSome result (λ t. IsInFront bytes.now at (lexeme t)) }
+/// A Word at the front of bytes that isn't too long, and behind which more bytes stand.
+pub fn word_before(bytes: &[u8], at: usize) -> Option<Token<'_>>
+    ensures is { IfSome result (λ t. IsInFront bytes.now at (lexeme t)) }
+    ensures kind { IfSome result (λ t. t.kind ≡ Word) }
+    ensures at { IfSome result (λ t. t.at ≡ at) }
 {
     let count = log_word_len(bytes);
     if count == 0 || count > MAX_LOG_WORD || count == bytes.len() {
@@ -50,6 +53,7 @@ fn bare_before(bytes: &[u8], at: usize) -> Option<Token<'_>>
 
 /// The first token of bytes, the first of which has this offset. None also where only a lexer says what
 /// stands there.
+#[tactic(auto, using(crate::proofs::TokenFronts::blank_at))]
 pub fn token_before(bytes: &[u8], at: usize) -> Option<Token<'_>>
     requires { at + length bytes.now < 2 ^ 63 }
     ensures { IfSome result (λ t. IsInFront bytes.now at (lexeme t)) }

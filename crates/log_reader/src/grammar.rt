@@ -2,7 +2,6 @@
 ghost use Rattle.std.specs.Prelude.{◌≡◌};
 ghost use Rattle.std.specs.Char.{is_ascii_digit};
 ghost use Rattle.std.specs.List.{list_all};
-ghost use Rattle.log_reader.specs.Quick.{is_value_due};
 ghost use Rattle.log_reader.specs.Stages.{goes, is_whole, ends_point, read_on};
 ghost use Rattle.log_reader.specs.Symbols.{symbol_of, is_digits};
 
@@ -46,13 +45,6 @@ pub fn is_whole(stage: Stage) -> bool
     ensures { result ≡ is_whole stage }
 {
     matches!(stage, Stage::AfterStamp | Stage::AfterClose)
-}
-
-/// Whether a value may stand there.
-pub fn is_value_due(stage: Stage) -> bool
-    ensures { result ≡ is_value_due stage }
-{
-    matches!(stage, Stage::AfterOpen | Stage::AfterComma)
 }
 
 /// Whether no more of the present time-point comes behind a token of this kind.

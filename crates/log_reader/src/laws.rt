@@ -6,6 +6,7 @@ ghost use Rattle.log_reader.specs.Laws.{ReadIsSpelled, SpelledIsRead, OneAnswer,
 ghost use Rattle.log_reader.specs.WorkedTexts.{WorkedValues, WorkedFaults, WorkedFronts, WorkedPrints, WorkedDemo};
 
 /// A log that is read to its end spells its time-points, and keeps the rules.
+#[tactic(auto, using(crate::proofs::LogLaws::read_is_value))]
 pub fn read_is_spelled()
     ensures { ReadIsSpelled }
 {}
@@ -16,6 +17,7 @@ pub fn spelled_is_read()
 {}
 
 /// A log has exactly one of a value and a first fault.
+#[tactic(auto, using(crate::proofs::LogLaws::one_of_two))]
 pub fn one_answer()
     ensures { OneAnswer }
 {}
@@ -36,6 +38,7 @@ pub fn exact_faults()
 {}
 
 /// What the front of a log shows, its end not told, is shown by the whole log.
+#[tactic(auto, using(crate::proofs::GrowthLemmas::shown_stays))]
 pub fn shown_stays()
     ensures { ShownStays }
 {}

@@ -1,17 +1,19 @@
 //! The part of a log's time-point that has been read, and what the next token does to it.
-ghost use Rattle.std.specs.Prelude.{◌≡◌, ◌++◌, ◌∷◌, [], OnOk, Ok};
+ghost use Rattle.std.specs.Prelude.{◌≡◌, ◌++◌, ◌∷◌, [], true, OnOk, Ok};
 ghost use Rattle.mfotl_lex.specs.Lexemes.{lexeme};
+ghost use Rattle.log_reader.specs.declared.stage.Stage.TheVariants.{AfterAt};
 ghost use Rattle.log_reader.specs.Given.{Moves};
-ghost use Rattle.log_reader.specs.Quick.{TakesQuick, TakesMark};
-ghost use Rattle.log_reader.specs.Stages.{completes};
+ghost use Rattle.log_reader.specs.Quick.{TakesStraight, TakesInteger, TakesMark, TakesNumber, TakesWord};
+ghost use Rattle.log_reader.specs.Stages.{completes, is_whole};
 ghost use Rattle.log_reader.specs.Symbols.{symbol, written};
 ghost use Rattle.mfotl_sig.specs.Preds.{named};
 
 use crate::fault::LogFault;
-use crate::grammar::{ends_point, is_value_due, is_whole, stage_behind};
+use crate::front::word_before;
+use crate::grammar::{ends_point, is_whole, stage_behind};
 use crate::limits::Limits;
 use crate::next::Next;
-use crate::quick::integer_before;
+use crate::quick::{integer_before, number_before};
 use crate::stage::Stage;
 use crate::values::{timestamp_of, value_at};
 use mfotl_lex::Token;
@@ -33,6 +35,17 @@ pub struct Partial<'a> {
     sorts: &'a [Sort],
     args: Row,
     due: &'a [Sort],
+}
+
+/// What was taken straight from a log's bytes.
+#[derive(Drop)]
+pub enum Straight {
+    /// Nothing: only a token says what stands there.
+    Nothing,
+    /// So many bytes.
+    Took(usize),
+    /// A time-point, which an `@` there completes.
+    Completed(TimePoint),
 }
 
 impl<'a> Model for Partial<'a> {
@@ -164,31 +177,101 @@ impl<'a> Partial<'a> {
         }
     }
 
-    /// Takes an integer of few digits straight from the bytes, where one may stand and does: how many
-    /// digits it has. It is what the token would give.
-    pub fn take_quick(&mut self, alloc: Global, bytes: &[u8]) -> Result<Option<usize>, AllocError>
-        ensures { TakesQuick self.old bytes.now result self.new }
+    /// Takes what stands at the front of bytes straight from them, if it is a mark, a plain Word or a number of
+    /// few digits, and may stand there. It does what the token would do.
+    pub fn take_straight(
+        &mut self,
+        alloc: Global,
+        sig: &'a Signature,
+        limits: &Limits,
+        at: usize,
+        bytes: &[u8],
+    ) -> Result<Straight, LogFault>
+        ensures { TakesStraight sig.now limits.now self.old at bytes.now result self.new }
     {
-        if !is_value_due(self.stage) {
-            return Ok(None);
+        match self.stage {
+            Stage::AfterAt => Ok(self.take_stamp(at, bytes)),
+            Stage::AfterOpen | Stage::AfterComma => Ok(self.take_integer(alloc, bytes)?),
+            _ => self.take_marked(alloc, sig, limits, at, bytes),
         }
+    }
+
+    fn take_stamp(&mut self, at: usize, bytes: &[u8]) -> Straight
+        requires { self.old.stage ≡ AfterAt }
+        ensures { TakesNumber self.old at bytes.now (Ok result) self.new }
+    {
+        match number_before(bytes) {
+            Some((time, count)) if time >= self.time => {
+                self.stage = Stage::AfterStamp;
+                self.time = time;
+                Straight::Took(count)
+            }
+            _ => Straight::Nothing,
+        }
+    }
+
+    fn take_integer(&mut self, alloc: Global, bytes: &[u8]) -> Result<Straight, AllocError>
+        ensures { TakesInteger self.old bytes.now result self.new }
+    {
         match self.due {
             [Sort::Int, due @ ..] => match integer_before(bytes) {
                 Some((value, count)) => {
                     self.push(alloc, Value::Int(value))?;
                     self.stage = Stage::AfterValue;
                     self.due = due;
-                    Ok(Some(count))
+                    Ok(Straight::Took(count))
                 }
-                None => Ok(None),
+                None => Ok(Straight::Nothing),
             },
-            _ => Ok(None),
+            _ => Ok(Straight::Nothing),
         }
     }
 
-    /// Takes a mark straight by its byte, where its stage awaits it and it completes no time-point. It does what the
-    /// token would do.
-    pub fn take_mark(
+    fn take_marked(
+        &mut self,
+        alloc: Global,
+        sig: &'a Signature,
+        limits: &Limits,
+        at: usize,
+        bytes: &[u8],
+    ) -> Result<Straight, LogFault>
+        ensures { TakesStraight sig.now limits.now self.old at bytes.now result self.new }
+    {
+        let [first, ..] = bytes else {
+            return Ok(Straight::Nothing);
+        };
+        match self.take_mark(alloc, limits, at as u64, *first) {
+            Some(stepped) => match stepped {
+                Ok(()) => Ok(Straight::Took(1)),
+                Err(fault) => Err(fault),
+            },
+            None if !is_whole(self.stage) => Ok(Straight::Nothing),
+            None if *first == b'@' => Ok(Straight::Completed(self.finish(alloc))),
+            None => self.take_name(sig, at, bytes),
+        }
+    }
+
+    fn take_name(
+        &mut self,
+        sig: &'a Signature,
+        at: usize,
+        bytes: &[u8],
+    ) -> Result<Straight, LogFault>
+        requires { is_whole self.old.stage ≡ true }
+        ensures { TakesWord sig.now self.old at bytes.now result self.new }
+    {
+        match word_before(bytes, at) {
+            Some(word) => match self.name(sig, at as u64, word.text) {
+                Ok(()) => Ok(Straight::Took(word.text.len())),
+                Err(fault) => Err(fault),
+            },
+            None => Ok(Straight::Nothing),
+        }
+    }
+
+    // Takes a mark straight by its byte, where its stage awaits it and it completes no time-point. It does what the
+    // token would do.
+    fn take_mark(
         &mut self,
         alloc: Global,
         limits: &Limits,

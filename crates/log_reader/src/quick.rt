@@ -1,6 +1,6 @@
-//! Short integers, read without cutting a token.
+//! Short numbers, read without cutting a token.
 ghost use Rattle.std.specs.Prelude.{◌≡◌, IfSome};
-ghost use Rattle.log_reader.specs.Quick.{ends_value, digits_before, IsQuick};
+ghost use Rattle.log_reader.specs.Quick.{ends_number, digits_before, IsNumber, IsInteger};
 
 // A number below this has room for one more digit.
 const ROOM: u64 = 100_000_000_000_000_000;
@@ -8,13 +8,13 @@ const ROOM: u64 = 100_000_000_000_000_000;
 // As many digits as a word of a log may have bytes.
 const MOST_DIGITS: usize = 4_096;
 
-fn ends_value(b: u8) -> bool
-    ensures { result ≡ ends_value b }
+fn ends_number(b: u8) -> bool
+    ensures { result ≡ ends_number b }
 {
-    matches!(b, b',' | b')')
+    matches!(b, b',' | b')' | b' ' | b'\n')
 }
 
-// The number that the digits in front of a `,` or a `)` write, and how many they are.
+// The number that the digits in front of such a byte write, and how many they are.
 #[tactic(auto, unfolding(crate::specs::Quick::digits_before))]
 fn digits_before(bytes: &[u8]) -> Option<(u64, usize)>
     ensures { result ≡ digits_before 0 0 bytes.now }
@@ -27,7 +27,7 @@ fn digits_before(bytes: &[u8]) -> Option<(u64, usize)>
             } else {
                 return None;
             }
-        } else if ends_value(*b) {
+        } else if ends_number(*b) {
             return Some((number, count));
         } else {
             return None;
@@ -36,18 +36,24 @@ fn digits_before(bytes: &[u8]) -> Option<(u64, usize)>
     None
 }
 
-/// The integer of few digits at the front of bytes, and how many digits it has. None also where only a
+/// The number of few digits at the front of bytes, and how many digits it has. None also where only a
 /// token says what stands there.
-pub fn integer_before(bytes: &[u8]) -> Option<(i64, usize)>
-    ensures { IfSome result (λ x. IsQuick bytes.now x.0 x.1) }
+pub fn number_before(bytes: &[u8]) -> Option<(u64, usize)>
+    ensures { IfSome result (λ x. IsNumber bytes.now x.0 x.1) }
 {
     match digits_before(bytes) {
-        Some((number, count)) if count > 0 && count <= MOST_DIGITS => {
-            match i64::try_from(number) {
-                Ok(value) => Some((value, count)),
-                Err(_) => None,
-            }
-        }
+        Some((number, count)) if count > 0 && count <= MOST_DIGITS => Some((number, count)),
         _ => None,
+    }
+}
+
+/// The same of an integer.
+pub fn integer_before(bytes: &[u8]) -> Option<(i64, usize)>
+    ensures { IfSome result (λ x. IsInteger bytes.now x.0 x.1) }
+{
+    let (number, count) = number_before(bytes)?;
+    match i64::try_from(number) {
+        Ok(value) => Some((value, count)),
+        Err(_) => None,
     }
 }

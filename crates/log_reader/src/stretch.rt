@@ -98,7 +98,18 @@ impl Stretch {
     }
 }
 
+// What is left gets memory of its own, or moves to the front where there is none.
 fn remove_front(bytes: &mut Vec<u8>, count: usize)
+    requires { count ≤ length bytes.old.items }
+    ensures { bytes.new.items ≡ drop count bytes.old.items }
+{
+    match bytes.split_off(count) {
+        Ok(rest) => *bytes = rest,
+        Err(_) => move_to_front(bytes, count),
+    }
+}
+
+fn move_to_front(bytes: &mut Vec<u8>, count: usize)
     requires { count ≤ length bytes.old.items }
     ensures { bytes.new.items ≡ drop count bytes.old.items }
 {

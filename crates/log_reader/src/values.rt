@@ -58,7 +58,7 @@ pub fn value_at(
 }
 
 /// The number that digits write, if it is no greater than a timestamp may be.
-#[tactic(auto, unfolding(mfotl_lex::specs::Numbers::digits_value))]
+#[tactic(auto, using(mfotl_lex::proofs::Digits::passes_limit), unfolding(mfotl_lex::specs::Numbers::digits_value))]
 pub fn timestamp_of(digits: &[u8]) -> Option<u64>
     ensures { result ≡ timestamp_of digits.now }
 {

@@ -11,16 +11,16 @@ returns-else-number-lt-ROOM c =
     (le-ltb c.loop-count.number room c.if-number-lt-ROOM.false))
     ∙ c.loop-count.invariant
 
-pub returns-then-ends_value : goal.returns-then-ends_value
-returns-then-ends_value c =
+pub returns-then-ends_number : goal.returns-then-ends_number
+returns-then-ends_number c =
     sym (ends_at c.loop-count.number c.loop-count.count c.args.bytes.now c.loop-count-test.true
     (sym c.is_ascii_digit.ensures.value ∙ c.if-is_ascii_digit.false)
-    (sym c.ends_value.ensures ∙ c.if-ends_value.true))
+    (sym c.ends_number.ensures ∙ c.if-ends_number.true))
     ∙ c.loop-count.invariant
 
-pub returns-else-ends_value : goal.returns-else-ends_value
-returns-else-ends_value c =
+pub returns-else-ends_number : goal.returns-else-ends_number
+returns-else-ends_number c =
     sym (other_at c.loop-count.number c.loop-count.count c.args.bytes.now c.loop-count-test.true
     (sym c.is_ascii_digit.ensures.value ∙ c.if-is_ascii_digit.false)
-    (sym c.ends_value.ensures ∙ c.if-ends_value.false))
+    (sym c.ends_number.ensures ∙ c.if-ends_number.false))
     ∙ c.loop-count.invariant
