@@ -8,7 +8,7 @@ ghost use Rattle.mfotl_model.specs.Values.{row_cmp};
 ghost use Rattle.relations.specs.Indexes.{table_of};
 ghost use Rattle.relations.specs.Operations.{unmatched_rows};
 
-use crate::columns::{copied, part_of};
+use crate::columns::{Columns, part_of};
 use crate::index::Index;
 use crate::matched::unmatched;
 use crate::rows::has_row;
@@ -83,7 +83,7 @@ impl Table {
         ensures has { IfOk result (λ table. (v : Valuation) →
             has table v ≡ (has self.now v && not (has other.now v))) }
     {
-        let columns = copied(alloc, self.columns())?;
+        let columns = Columns::from_slice(alloc, self.columns())?;
         let seconds = other.rows();
         let rows = copied_apart(alloc, self.columns(), other.columns(), self.rows(), seconds)?;
         Ok(Table::of(columns, rows))
@@ -120,7 +120,7 @@ impl Table {
         ensures cost { OnOk result ((d : ℕ) → length index.now.rows < 2 ^ d →
             steps.new ≤ steps.old + length self.now.rows * (2 * d)) }
     {
-        let columns = copied(alloc, self.columns())?;
+        let columns = Columns::from_slice(alloc, self.columns())?;
         let rows = unmatched(alloc, self.columns(), self.rows(), index, steps)?;
         Ok(Table::of(columns, rows))
     }

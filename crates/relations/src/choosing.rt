@@ -5,7 +5,7 @@ ghost use Rattle.mfotl_model.specs.Satisfaction.{Valuation, term_value};
 ghost use Rattle.mfotl_model.specs.Tables.{has, valuation};
 ghost use Rattle.relations.specs.Operations.{binds, chosen, chosen_rows};
 
-use crate::columns::{copied, value_at};
+use crate::columns::{Columns, value_at};
 use crate::table::Table;
 use mfotl_model::{Comparison, Row, Term, Value};
 use std::alloc::{AllocError, Global};
@@ -72,7 +72,7 @@ impl Table {
         ensures has { IfOk result (λ table. (v : Valuation) →
             has table v ≡ (has self.now v && chosen comparison.now wanted v)) }
     {
-        let columns = copied(alloc, self.columns())?;
+        let columns = Columns::from_slice(alloc, self.columns())?;
         let rows = chosen_rows(alloc, self.columns(), comparison, wanted, self.rows())?;
         Ok(Table::of(columns, rows))
     }

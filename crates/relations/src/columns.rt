@@ -1,11 +1,15 @@
 //! Columns, and rows read through them.
 ghost use Rattle.std.specs.Prelude.{◌≡◌, IfOk, MatchOption, map, pos};
-ghost use Rattle.mfotl_model.specs.FreeVariables.{joined};
+ghost use Rattle.mfotl_model.specs.FreeVariables.{joined, without};
 ghost use Rattle.mfotl_model.specs.Tables.{part, valuation};
-ghost use Rattle.relations.specs.Operations.{common};
+ghost use Rattle.relations.specs.Operations.{common, others};
 
-use mfotl_model::{Row, Value, is_among, joined};
+use mfotl_model::{Row, Value, is_among};
+use smallvec::SmallVec;
 use std::alloc::{AllocError, Global};
+
+/// The columns of a table. Up to four stand in the value itself, more in memory of their own.
+pub type Columns = SmallVec<u32, 4>;
 
 /// What a row over these columns has at a column; `None` stands for a column that it lacks.
 pub fn value_at<'a>(columns: &[u32], row: &'a [Value], x: u32) -> Option<&'a Value>
@@ -56,7 +60,7 @@ pub fn part_of(
 }
 
 /// The columns of the second that the first has.
-pub(crate) fn common(alloc: Global, first: &[u32], second: &[u32]) -> Result<Vec<u32>, AllocError>
+pub(crate) fn common(alloc: Global, first: &[u32], second: &[u32]) -> Result<Columns, AllocError>
     ensures { IfOk result (λ both. both.items ≡ common first.now second.now) }
 {
     second
@@ -66,21 +70,33 @@ pub(crate) fn common(alloc: Global, first: &[u32], second: &[u32]) -> Result<Vec
         .collect(alloc)
 }
 
+/// The columns of the second that the first lacks.
+pub(crate) fn others(alloc: Global, first: &[u32], second: &[u32]) -> Result<Columns, AllocError>
+    ensures { IfOk result (λ more. more.items ≡ others first.now second.now) }
+{
+    second
+        .iter()
+        .copied()
+        .filter(|y| !is_among(*y, first))
+        .collect(alloc)
+}
+
 /// The columns of both: those of the first, then those of the second that the first lacks.
 pub(crate) fn both_columns(
     alloc: Global,
     first: &[u32],
     second: &[u32],
-) -> Result<Vec<u32>, AllocError>
+) -> Result<Columns, AllocError>
     ensures { IfOk result (λ both. both.items ≡ joined first.now second.now) }
 {
-    joined(alloc, copied(alloc, first)?, second)
+    let mut both = Columns::from_slice(alloc, first)?;
+    both.extend_from_slice(others(alloc, first, second)?.as_slice())?;
+    Ok(both)
 }
 
-pub(crate) fn copied(alloc: Global, columns: &[u32]) -> Result<Vec<u32>, AllocError>
-    ensures { IfOk result (λ copy. copy.items ≡ columns.now) }
+/// The columns but this one.
+pub(crate) fn without(alloc: Global, x: u32, columns: &[u32]) -> Result<Columns, AllocError>
+    ensures { IfOk result (λ rest. rest.items ≡ without x columns.now) }
 {
-    let mut copy = Vec::with_capacity(alloc, columns.len())?;
-    copy.extend_from_slice(columns)?;
-    Ok(copy)
+    columns.iter().copied().filter(|y| *y != x).collect(alloc)
 }

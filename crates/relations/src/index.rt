@@ -8,7 +8,7 @@ ghost use Rattle.mfotl_model.specs.Values.{row_cmp};
 ghost use Rattle.relations.specs.Entries.{entry_of};
 ghost use Rattle.relations.specs.Indexes.{index_cmp, matching_rows};
 
-use crate::columns::part_of;
+use crate::columns::{Columns, part_of};
 use crate::entry::Entry;
 use crate::search::place;
 use crate::steps::Steps;
@@ -99,8 +99,8 @@ fn matching<'a, L: Ledger>(
 /// their values.
 #[derive(Drop)]
 pub struct Index {
-    columns: Vec<u32>,
-    key_columns: Vec<u32>,
+    columns: Columns,
+    key_columns: Columns,
     keys: Vec<Row>,
     rows: Vec<Row>,
 }
@@ -118,8 +118,8 @@ impl Model for Index {
 impl Index {
     pub(crate) fn of(
         alloc: Global,
-        columns: Vec<u32>,
-        key_columns: Vec<u32>,
+        columns: Columns,
+        key_columns: Columns,
         rows: &[Row],
     ) -> Result<Index, AllocError>
         requires apart { IsTrue (all_apart columns.items) }

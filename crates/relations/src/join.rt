@@ -9,7 +9,7 @@ ghost use Rattle.mfotl_model.specs.Values.{row_cmp};
 ghost use Rattle.relations.specs.Indexes.{index_cmp, table_of};
 ghost use Rattle.relations.specs.Operations.{common, joined_rows};
 
-use crate::columns::{both_columns, common, copied};
+use crate::columns::{Columns, both_columns, common};
 use crate::index::Index;
 use crate::matched::{matched_pairs, turned_pairs};
 use crate::steps::Steps;
@@ -107,7 +107,7 @@ impl Table {
     }
 
     /// The rows in the order of their values in these columns, then of all their values.
-    pub fn index(&self, alloc: Global, key_columns: Vec<u32>) -> Result<Index, AllocError>
+    pub fn index(&self, alloc: Global, key_columns: Columns) -> Result<Index, AllocError>
         requires inside { IsTrue (all_among key_columns.items self.now.columns) }
         ensures columns { IfOk result (λ index. index.columns ≡ self.now.columns) }
         ensures key_columns { IfOk result (λ index. index.key_columns ≡ key_columns.items) }
@@ -115,7 +115,7 @@ impl Table {
         ensures order { IfOk result (λ index.
             IsSorted (index_cmp self.now.columns key_columns.items) index.rows) }
     {
-        let columns = copied(alloc, self.columns())?;
+        let columns = Columns::from_slice(alloc, self.columns())?;
         Index::of(alloc, columns, key_columns, self.rows())
     }
 

@@ -21,7 +21,7 @@ mod steps;
 mod table;
 mod union;
 
-pub use columns::{part_of, value_at};
+pub use columns::{Columns, part_of, value_at};
 pub use index::Index;
 pub use pushed::{copied_tables, first_pushed};
 pub use steps::Steps;

@@ -4,10 +4,10 @@ ghost use Rattle.std.specs.List.{filter};
 ghost use Rattle.mfotl_model.specs.Tables.{has_row, part};
 ghost use Rattle.relations.specs.Operations.{common, others, pairs, pairs_of, pairs_with, turned_pairs};
 
-use crate::columns::{part_of, value_of};
+use crate::columns::{others, part_of, value_of};
 use crate::index::Index;
 use crate::steps::Steps;
-use mfotl_model::{Row, others};
+use mfotl_model::Row;
 use std::alloc::{AllocError, Global};
 use std::sync::ledger::Ledger;
 

@@ -5,11 +5,11 @@ ghost use Rattle.mfotl_model.specs.FreeVariables.{joined};
 ghost use Rattle.mfotl_model.specs.Tables.{all_sized, has_row, part, valuation};
 ghost use Rattle.relations.specs.Operations.{common, has_part, others, pairs_of, table_of_rows};
 
-use crate::columns::{part_of, value_of};
+use crate::columns::{others, part_of, value_of};
 use crate::index::Index;
 use crate::matched::combined;
 use crate::steps::Steps;
-use mfotl_model::{Row, Value, is_among, others};
+use mfotl_model::{Row, Value, is_among};
 use std::alloc::{AllocError, Global};
 use std::collections::HashSet;
 use std::sync::ledger::Ledger;

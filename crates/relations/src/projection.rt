@@ -5,9 +5,9 @@ ghost use Rattle.mfotl_model.specs.Satisfaction.{Valuation, with_value};
 ghost use Rattle.mfotl_model.specs.Tables.{all_among, all_apart, has, part};
 ghost use Rattle.relations.specs.Operations.{projected_rows};
 
-use crate::columns::part_of;
+use crate::columns::{Columns, part_of, without};
 use crate::table::Table;
-use mfotl_model::{Row, Value, without};
+use mfotl_model::{Row, Value};
 use std::alloc::{AllocError, Global};
 
 fn parts(
@@ -27,7 +27,7 @@ fn parts(
 
 impl Table {
     /// The parts of the rows at these columns, each once.
-    pub fn project(&self, alloc: Global, columns: Vec<u32>) -> Result<Self, AllocError>
+    pub fn project(&self, alloc: Global, columns: Columns) -> Result<Self, AllocError>
         requires apart { IsTrue (all_apart columns.items) }
         requires inside { IsTrue (all_among columns.items self.now.columns) }
         ensures columns { IfOk result (λ table. table.columns ≡ columns.items) }

@@ -9,7 +9,7 @@ ghost use Rattle.mfotl_model.specs.Tables.{all_apart, all_sized, has, has_row};
 ghost use Rattle.mfotl_model.specs.Values.{row_cmp};
 ghost use Rattle.relations.specs.Tables.{IsTable};
 
-use crate::columns::copied;
+use crate::columns::Columns;
 use crate::rows::{copied_rows, empty_row, has_row, insert_row};
 use mfotl_model::{Row, RowList};
 use std::alloc::{AllocError, Global};
@@ -19,7 +19,7 @@ use std::marker::Model;
 /// in it. No two columns are the same, and the rows ascend strictly.
 #[derive(Drop)]
 pub struct Table {
-    columns: Vec<u32>,
+    columns: Columns,
     rows: Vec<Row>,
 }
 
@@ -37,7 +37,7 @@ impl Model for Table {
 impl Table {
     /// The table without rows. It takes no memory.
     #[tactic(auto, unfolding(mfotl_model::specs::Tables::has))]
-    pub fn empty(alloc: Global, columns: Vec<u32>) -> Self
+    pub fn empty(alloc: Global, columns: Columns) -> Self
         requires apart { IsTrue (all_apart columns.items) }
         ensures columns { result.columns ≡ columns.items }
         ensures rows { result.rows ≡ [] }
@@ -57,14 +57,14 @@ impl Table {
         ensures has { IfOk result (λ table. (v : Valuation) → has table v ≡ true) }
     {
         Ok(Table {
-            columns: Vec::new(alloc),
+            columns: Columns::new(alloc),
             rows: empty_row(alloc)?,
         })
     }
 
     /// The table of these rows, which may come in any order and more than once.
     #[tactic(auto, unfolding(mfotl_model::specs::Tables::has))]
-    pub fn from_rows(columns: Vec<u32>, rows: Vec<Row>) -> Self
+    pub fn from_rows(columns: Columns, rows: Vec<Row>) -> Self
         requires apart { IsTrue (all_apart columns.items) }
         requires sized { IsTrue (all_sized (length columns.items) rows.items) }
         ensures columns { result.columns ≡ columns.items }
@@ -77,7 +77,7 @@ impl Table {
         }
     }
 
-    pub(crate) fn of(columns: Vec<u32>, rows: Vec<Row>) -> Self
+    pub(crate) fn of(columns: Columns, rows: Vec<Row>) -> Self
         requires is_table { IsTable columns.items rows.items }
         ensures columns { result.columns ≡ columns.items }
         ensures rows { result.rows ≡ rows.items }
@@ -86,7 +86,7 @@ impl Table {
     }
 
     /// The columns and the rows themselves.
-    pub fn into_parts(self) -> (Vec<u32>, Vec<Row>)
+    pub fn into_parts(self) -> (Columns, Vec<Row>)
         ensures columns { result.0.items ≡ self.columns }
         ensures rows { result.1.items ≡ self.rows }
         ensures is_table { IsTable self.columns self.rows }
@@ -126,7 +126,7 @@ impl Table {
     pub fn copy(&self, alloc: Global) -> Result<Self, AllocError>
         ensures { IfOk result (λ table. table ≡ self.now) }
     {
-        let columns = copied(alloc, self.columns())?;
+        let columns = Columns::from_slice(alloc, self.columns())?;
         let rows = copied_rows(alloc, self.rows())?;
         Ok(Table { columns, rows })
     }

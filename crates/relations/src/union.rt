@@ -4,7 +4,7 @@ ghost use Rattle.mfotl_model.specs.Satisfaction.{Valuation};
 ghost use Rattle.mfotl_model.specs.Tables.{has};
 ghost use Rattle.relations.specs.Operations.{united_rows};
 
-use crate::columns::copied;
+use crate::columns::Columns;
 use crate::rows::{copied_rows, push_rows};
 use crate::table::Table;
 use mfotl_model::Row;
@@ -29,7 +29,7 @@ impl Table {
         ensures has { IfOk result (λ table. (v : Valuation) →
             has table v ≡ (has self.now v || has other.now v)) }
     {
-        let columns = copied(alloc, self.columns())?;
+        let columns = Columns::from_slice(alloc, self.columns())?;
         let mut rows = copied_rows(alloc, self.rows())?;
         push_rows(alloc, other.rows(), &mut rows)?;
         Ok(Table::from_rows(columns, rows))

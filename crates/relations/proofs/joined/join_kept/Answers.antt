@@ -36,10 +36,10 @@ from_rows-requires-clause-sized g c =
     let same : (q : List Value) → has_row c.in_ok-set.set.keys q ≡ has_row d.rows q =
     λ q. c.in_ok-set.ensures q ∙ ap (λ rs. has_row rs q) c.rows.ensures.rows in
     let rows : c.in_ok-rows.rows.items ≡ filter p (pairs a.columns b.columns a.rows moved) =
-    c.in_ok-rows.ensures ∙ (λ i. flat_map (λ row. filter (has_part (table_of_rows (c.columns-6.ensures.columns i)
+    c.in_ok-rows.ensures ∙ (λ i. flat_map (λ row. filter (has_part (table_of_rows (c.columns-7.ensures.columns i)
     c.in_ok-set.set.keys)
-    (joined (c.columns-5.ensures.columns i) (c.in_ok-index.ensures.columns i)))
-    (pairs_of (c.columns-5.ensures.columns i) (c.in_ok-index.ensures.columns i) moved row))
+    (joined (c.columns-6.ensures.columns i) (c.in_ok-index.ensures.columns i)))
+    (pairs_of (c.columns-6.ensures.columns i) (c.in_ok-index.ensures.columns i) moved row))
     (c.rows-2.ensures.rows i)) ∙ kept_each found a.columns b.columns a.rows moved
     ∙ kept_alike d c.in_ok-set.set.keys same whole (pairs a.columns b.columns a.rows moved) in
     ap (λ cs. all_sized (length cs) c.in_ok-rows.rows.items)
@@ -61,10 +61,10 @@ returns-clause-rows g c =
     λ q. c.in_ok-set.ensures q ∙ ap (λ rs. has_row rs q) c.rows.ensures.rows in
     c.from_rows.ensures.rows
     ∙ ap (ascending row_cmp)
-    (c.in_ok-rows.ensures ∙ (λ i. flat_map (λ row. filter (has_part (table_of_rows (c.columns-6.ensures.columns i)
+    (c.in_ok-rows.ensures ∙ (λ i. flat_map (λ row. filter (has_part (table_of_rows (c.columns-7.ensures.columns i)
     c.in_ok-set.set.keys)
-    (joined (c.columns-5.ensures.columns i) (c.in_ok-index.ensures.columns i)))
-    (pairs_of (c.columns-5.ensures.columns i) (c.in_ok-index.ensures.columns i) moved row))
+    (joined (c.columns-6.ensures.columns i) (c.in_ok-index.ensures.columns i)))
+    (pairs_of (c.columns-6.ensures.columns i) (c.in_ok-index.ensures.columns i) moved row))
     (c.rows-2.ensures.rows i)) ∙ kept_each found a.columns b.columns a.rows moved
     ∙ kept_alike d c.in_ok-set.set.keys same whole (pairs a.columns b.columns a.rows moved))
     ∙ kept_of_join a b p moved c.in_ok-index.ensures.moved

@@ -16,7 +16,7 @@ of-requires c =
       is_table = some_of a.columns parts.result.0.items (λ row. has_row b.rows (part a.columns b.columns row))
           a.rows c.in_ok-kept.kept.items parts.ensures.is_table parts.ensures.columns
           (c.in_ok-kept.ensures ∙ (λ i. filter (λ row. has_row (c.rows-seconds.ensures.rows i)
-          (part ((c.as_slice.ensures.value ∙ parts.ensures.columns) i) (c.columns-wanted.ensures.columns i) row))
+          (part ((c.as_slice.ensures ∙ parts.ensures.columns) i) (c.columns-wanted.ensures.columns i) row))
           (parts.ensures.rows i)));
     }
 
@@ -32,7 +32,7 @@ returns-clause-rows c =
     let parts = c.into_parts-columns in
     c.of.ensures.rows ∙ c.in_ok-kept.ensures
     ∙ (λ i. filter (λ row. has_row (c.rows-seconds.ensures.rows i)
-    (part ((c.as_slice.ensures.value ∙ parts.ensures.columns) i) (c.columns-wanted.ensures.columns i) row))
+    (part ((c.as_slice.ensures ∙ parts.ensures.columns) i) (c.columns-wanted.ensures.columns i) row))
     (parts.ensures.rows i))
     ∙ matched_is a b parts.ensures.is_table c.rows-seconds.ensures.is_table c.requires.inside
 
@@ -45,7 +45,7 @@ returns-clause-has c = λ v.
     (c.of.ensures.columns ∙ parts.ensures.columns ∙ sym (joined_inside a.columns b.columns c.requires.inside))
     (c.of.ensures.rows ∙ c.in_ok-kept.ensures
     ∙ (λ i. filter (λ row. has_row (c.rows-seconds.ensures.rows i)
-    (part ((c.as_slice.ensures.value ∙ parts.ensures.columns) i) (c.columns-wanted.ensures.columns i) row))
+    (part ((c.as_slice.ensures ∙ parts.ensures.columns) i) (c.columns-wanted.ensures.columns i) row))
     (parts.ensures.rows i))
     ∙ matched_is a b parts.ensures.is_table c.rows-seconds.ensures.is_table c.requires.inside)
     ∙ has_joined a b v c.rows-seconds.ensures.is_table.apart parts.ensures.is_table.sized

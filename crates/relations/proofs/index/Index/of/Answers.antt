@@ -19,6 +19,6 @@ invariant_of-result c =
       sized = sized_moved (length c.args.columns.items) c.args.rows.now c.part_entries.new.rows.items
           (subst (IsPermutation c.args.rows.now) (sym rows) c.in_ok-entries.ensures.moved) c.requires.sized;
       keyed = keys ∙ c.in_ok-entries.ensures.keys ∙ (λ i. map
-          (part (c.as_slice.ensures.value i) (c.as_slice-2.ensures.value i)) (sym rows i));
+          (part (c.as_slice.ensures i) (c.as_slice-2.ensures i)) (sym rows i));
       rises = subst (IsSorted row_cmp) (sym keys) c.in_ok-entries.ensures.rises;
     }

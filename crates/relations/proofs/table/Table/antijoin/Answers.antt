@@ -12,7 +12,8 @@ of-requires c =
     record {
       is_table = some_of a.columns c.in_ok-columns.columns.items
           (λ row. not (has_row b.rows (part a.columns b.columns row)))
-          a.rows c.in_ok-rows.rows.items c.rows.ensures.is_table (c.in_ok-columns.ensures ∙ c.columns.ensures.columns)
+          a.rows c.in_ok-rows.rows.items c.rows.ensures.is_table
+          (c.in_ok-columns.ensures.ok ∙ c.columns.ensures.columns)
           (c.in_ok-rows.ensures ∙ (λ i. filter (λ row. not (has_row (c.rows-seconds.ensures.rows i)
           (part (c.columns-2.ensures.columns i) (c.columns-3.ensures.columns i) row))) (c.rows.ensures.rows i)));
     }
@@ -22,7 +23,7 @@ returns-clause-has c = λ v.
     let a = c.args.self.now in
     let b = c.args.other.now in
     has_as c.of.result a.columns (unmatched_rows a b) v
-    (c.of.ensures.columns ∙ c.in_ok-columns.ensures ∙ c.columns.ensures.columns)
+    (c.of.ensures.columns ∙ c.in_ok-columns.ensures.ok ∙ c.columns.ensures.columns)
     (c.of.ensures.rows ∙ c.in_ok-rows.ensures ∙ (λ i. filter (λ row. not (has_row (c.rows-seconds.ensures.rows i)
     (part (c.columns-2.ensures.columns i) (c.columns-3.ensures.columns i) row))) (c.rows.ensures.rows i)))
     ∙ has_unmatched a b v c.requires.inside

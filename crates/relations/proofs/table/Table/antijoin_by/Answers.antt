@@ -13,7 +13,8 @@ of-requires g c =
     record {
       is_table = some_of a.columns c.in_ok-columns.columns.items
           (λ row. not (has_row b.rows (part a.columns b.columns row)))
-          a.rows c.in_ok-rows.rows.items c.rows.ensures.is_table (c.in_ok-columns.ensures ∙ c.columns.ensures.columns)
+          a.rows c.in_ok-rows.rows.items c.rows.ensures.is_table
+          (c.in_ok-columns.ensures.ok ∙ c.columns.ensures.columns)
           (c.in_ok-rows.ensures.kept ∙ (λ i. filter (λ row. not (has_row b.rows
           (part (c.columns-2.ensures.columns i) b.columns row))) (c.rows.ensures.rows i)));
     }
@@ -23,7 +24,7 @@ returns-clause-has g c = λ v.
     let a = c.args.self.now in
     let b = table_of c.args.index.now in
     has_as c.of.result a.columns (unmatched_rows a b) v
-    (c.of.ensures.columns ∙ c.in_ok-columns.ensures ∙ c.columns.ensures.columns)
+    (c.of.ensures.columns ∙ c.in_ok-columns.ensures.ok ∙ c.columns.ensures.columns)
     (c.of.ensures.rows ∙ c.in_ok-rows.ensures.kept
     ∙ (λ i. filter (λ row. not (has_row b.rows (part (c.columns-2.ensures.columns i) b.columns row)))
     (c.rows.ensures.rows i)))

@@ -14,7 +14,7 @@ of-requires c =
       is_table = some_of a.columns parts.result.0.items (λ row. not (has_row b.rows (part a.columns b.columns row)))
           a.rows c.in_ok-kept.kept.items parts.ensures.is_table parts.ensures.columns
           (c.in_ok-kept.ensures ∙ (λ i. filter (λ row. not (has_row (c.rows-seconds.ensures.rows i)
-          (part ((c.as_slice.ensures.value ∙ parts.ensures.columns) i) (c.columns.ensures.columns i) row)))
+          (part ((c.as_slice.ensures ∙ parts.ensures.columns) i) (c.columns-2.ensures.columns i) row)))
           (parts.ensures.rows i)));
     }
 
@@ -25,6 +25,6 @@ returns-clause-has c = λ v.
     let parts = c.into_parts-columns in
     has_as c.of.result a.columns (unmatched_rows a b) v (c.of.ensures.columns ∙ parts.ensures.columns)
     (c.of.ensures.rows ∙ c.in_ok-kept.ensures ∙ (λ i. filter (λ row. not (has_row (c.rows-seconds.ensures.rows i)
-    (part ((c.as_slice.ensures.value ∙ parts.ensures.columns) i) (c.columns.ensures.columns i) row)))
+    (part ((c.as_slice.ensures ∙ parts.ensures.columns) i) (c.columns-2.ensures.columns i) row)))
     (parts.ensures.rows i)))
     ∙ has_unmatched a b v c.requires.inside

@@ -14,7 +14,7 @@ from_rows-requires-clause-apart c =
 pub from_rows-requires-clause-sized : goal.from_rows-requires-clause-sized
 from_rows-requires-clause-sized c =
     (λ i. all_sized (length c.in_ok-columns.columns.items) ((c.in_ok-rows.ensures
-    ∙ (λ j. map (part (c.columns-2.ensures.columns j) (c.as_slice.ensures.value j)) (c.rows.ensures.rows j))) i))
+    ∙ (λ j. map (part (c.columns-2.ensures.columns j) (c.as_slice.ensures j)) (c.rows.ensures.rows j))) i))
     ∙ sized_parts c.args.self.now.columns c.in_ok-columns.columns.items c.args.self.now.rows
 
 pub returns-clause-has : goal.returns-clause-has
@@ -25,7 +25,7 @@ returns-clause-has c = λ v.
     let rows : c.in_ok-rows.rows.items ≡ map (part c.args.self.now.columns
     (without c.args.x c.args.self.now.columns)) c.args.self.now.rows =
     c.in_ok-rows.ensures
-    ∙ (λ j. map (part (c.columns-2.ensures.columns j) ((c.as_slice.ensures.value ∙ columns) j))
+    ∙ (λ j. map (part (c.columns-2.ensures.columns j) ((c.as_slice.ensures ∙ columns) j))
     (c.rows.ensures.rows j)) in
     let same = c.from_rows.ensures.has v ∙ (λ i. has_row (rows i) (map v (columns i))) in
     let both = has_without v c.args.x c.args.self.now.columns c.args.self.now.rows c.rows.ensures.is_table in

@@ -11,7 +11,7 @@ of-requires c =
     record {
       is_table = some_of a.columns c.in_ok-columns.columns.items
           (λ row. chosen c.args.comparison.now c.args.wanted (valuation a.columns row)) a.rows c.in_ok-rows.rows.items
-          c.rows.ensures.is_table (c.in_ok-columns.ensures ∙ c.columns.ensures.columns)
+          c.rows.ensures.is_table (c.in_ok-columns.ensures.ok ∙ c.columns.ensures.columns)
           (c.in_ok-rows.ensures ∙ (λ i. filter (λ row. chosen c.args.comparison.now c.args.wanted
           (valuation (c.columns-2.ensures.columns i) row)) (c.rows.ensures.rows i)));
     }
@@ -20,7 +20,7 @@ pub returns-clause-has : goal.returns-clause-has
 returns-clause-has c = λ v.
     let a = c.args.self.now in
     has_as c.of.result a.columns (chosen_rows c.args.comparison.now c.args.wanted a) v
-    (c.of.ensures.columns ∙ c.in_ok-columns.ensures ∙ c.columns.ensures.columns)
+    (c.of.ensures.columns ∙ c.in_ok-columns.ensures.ok ∙ c.columns.ensures.columns)
     (c.of.ensures.rows ∙ c.in_ok-rows.ensures ∙ (λ i. filter (λ row. chosen c.args.comparison.now c.args.wanted
     (valuation (c.columns-2.ensures.columns i) row)) (c.rows.ensures.rows i)))
     ∙ has_chosen a c.args.comparison.now c.args.wanted v c.requires.left c.requires.right

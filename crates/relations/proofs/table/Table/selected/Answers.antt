@@ -15,7 +15,7 @@ of-requires c =
           c.retain_chosen.new.rows.items
           parts.ensures.is_table parts.ensures.columns
           (c.retain_chosen.ensures ∙ (λ i. filter (λ row. chosen c.args.comparison.now c.args.wanted
-          (valuation ((c.as_slice.ensures.value ∙ parts.ensures.columns) i) row)) (parts.ensures.rows i)));
+          (valuation ((c.as_slice.ensures ∙ parts.ensures.columns) i) row)) (parts.ensures.rows i)));
     }
 
 pub returns-clause-has : goal.returns-clause-has
@@ -25,5 +25,5 @@ returns-clause-has c = λ v.
     has_as c.of.result a.columns (chosen_rows c.args.comparison.now c.args.wanted a) v
     (c.of.ensures.columns ∙ parts.ensures.columns)
     (c.of.ensures.rows ∙ c.retain_chosen.ensures ∙ (λ i. filter (λ row. chosen c.args.comparison.now c.args.wanted
-    (valuation ((c.as_slice.ensures.value ∙ parts.ensures.columns) i) row)) (parts.ensures.rows i)))
+    (valuation ((c.as_slice.ensures ∙ parts.ensures.columns) i) row)) (parts.ensures.rows i)))
     ∙ has_chosen a c.args.comparison.now c.args.wanted v c.requires.left c.requires.right
