@@ -1,4 +1,5 @@
 pub mod AtomRows
+pub mod PlainLemmas
 pub mod ReorderLemmas
 pub mod OrLemmas
 pub mod LawLemmas

@@ -16,7 +16,7 @@ mod refill;
 mod reorder;
 mod room;
 
-pub use atom::eval_atom;
+pub use atom::{AtomReader, eval_atom};
 pub use conjunct::Conjunct;
 pub use exists::eval_exists;
 pub use join::JoinState;

@@ -1,5 +1,7 @@
 //! The rows that events give to the variables of an atom.
-ghost use Rattle.std.specs.Prelude.{◌≡◌, IfOk};
+ghost use Rattle.std.specs.Prelude.{◌≡◌, IfOk, length};
+ghost use Rattle.mfotl_model.specs.FreeVariables.{variables_in};
+ghost use Rattle.mfotl_model.specs.Matching.{is_match};
 ghost use Rattle.eval_bool.specs.AtomSteps.{atom_rows};
 
 use mfotl_model::{Atom, Event, Row};
@@ -22,4 +24,32 @@ pub(crate) fn atom_rows(
         }
     }
     Ok(rows)
+}
+
+/// The same over the atom's variables, where its arguments are distinct variables: the events' own values.
+pub(crate) fn plain_rows(
+    alloc: Global,
+    atom: &Atom,
+    events: &[Event],
+) -> Result<Vec<Row>, AllocError>
+    requires plain { length (variables_in atom.now.args) ≡ length atom.now.args }
+    ensures { IfOk result (λ rows.
+        rows.items ≡ atom_rows atom.now (variables_in atom.now.args) events.now) }
+{
+    let mut rows = Vec::new(alloc);
+    for event in events {
+        if is_plain_match(atom, event) {
+            rows.push(event.args.copy(alloc)?)?;
+        }
+    }
+    Ok(rows)
+}
+
+// Distinct variables stand for whatever values there are, one for each.
+#[tactic(auto, using(crate::proofs::PlainLemmas::plain_match, crate::proofs::PlainLemmas::other_length, mfotl_model::proofs::AtomLemmas::match_by_pred))]
+fn is_plain_match(atom: &Atom, event: &Event) -> bool
+    requires plain { length (variables_in atom.now.args) ≡ length atom.now.args }
+    ensures { result ≡ is_match atom.now event.now }
+{
+    atom.pred == event.pred && atom.args.as_slice().len() == event.args.values().len()
 }

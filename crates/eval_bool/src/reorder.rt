@@ -3,7 +3,7 @@ ghost use Rattle.std.specs.Prelude.{◌≡◌, ◌↔◌, IfOk, IsTrue};
 ghost use Rattle.mfotl_model.specs.Satisfaction.{Valuation};
 ghost use Rattle.mfotl_model.specs.Tables.{all_among, all_apart, has};
 
-use relations::Table;
+use relations::{Columns, Table};
 use std::alloc::{AllocError, Global};
 
 pub(crate) fn are_same(first: &[u32], second: &[u32]) -> bool
@@ -23,7 +23,7 @@ pub fn reordered(alloc: Global, table: Table, columns: &[u32]) -> Result<Table, 
     if are_same(table.columns(), columns) {
         return Ok(table);
     }
-    let columns = Vec::from_slice(alloc, columns)?;
+    let columns = Columns::from_slice(alloc, columns)?;
     let turned = table.project(alloc, columns)?;
     Ok(turned)
 }

@@ -1,0 +1,147 @@
+-- Atoms whose arguments are distinct variables: as many variables as arguments. They stand for each event of their
+-- predicate with as many values, and the row that is read off is the event's own.
+use Rattle.std.proofs.Common.{◌≡◌, ◌≢◌, ◌∙◌, ap, ap₂, sym, refl, arith, ℕ, suc, ◌≤◌, Bool, true, false, not, cond}
+use Rattle.std.proofs.Common.{nat_eq, List, [], ◌∷◌, length, map, Some, pos}
+use Rattle.std.specs.Prelude.{unwrap_or}
+use Rattle.std.proofs.lemmas.Bool.{and_parts, ne_eqb}
+use Rattle.std.proofs.lemmas.Map.Views.{tells_apart}
+use Rattle.std.specs.List.{filter}
+use Rattle.std.specs.Ordering.{eq_by_cmp}
+use Rattle.mfotl_model.proofs.AtomLemmas.{gives_none_back, match_by_terms}
+use Rattle.mfotl_model.proofs.LogicLemmas.{same_number}
+use Rattle.mfotl_model.proofs.MatchingLemmas.{first_more}
+use Rattle.mfotl_model.proofs.RowLemmas.{event_exact}
+use Rattle.mfotl_model.specs.AtomSteps.{give_back}
+use Rattle.mfotl_model.specs.FreeVariables.{among, variables_in}
+use Rattle.mfotl_model.specs.Matching.{first_value, is_match, read_off, reads, row_read}
+use Rattle.mfotl_model.specs.Satisfaction.{Valuation, event_of, term_value}
+use Rattle.mfotl_model.specs.Tables.{all_apart}
+use Rattle.mfotl_model.specs.Values.{row_cmp}
+use Rattle.mfotl_model.specs.declared.event.Event.{Event}
+use Rattle.mfotl_model.specs.declared.term.Atom.{Atom as OneAtom}
+use Rattle.mfotl_model.specs.declared.term.Term.{Term}
+use Rattle.mfotl_model.specs.declared.term.Term.TheVariants.{Var, Const}
+use Rattle.mfotl_model.specs.declared.value.Value.{Value}
+use Rattle.mfotl_model.specs.declared.value.Value.TheVariants.{Int}
+use Rattle.eval_bool.proofs.AtomRows.{row_taken, variables_apart}
+use Rattle.eval_bool.specs.AtomSteps.{atom_rows}
+use Rattle.relations.proofs.JoinLemmas.{map_same_on, row_itself}
+
+-- whether it is another variable
+abbrev other_than : ℕ → ℕ → Bool
+other_than x y = not (among y (x ∷ []))
+
+at_most : (p : ℕ → Bool) (ys : List ℕ) → length (filter p ys) ≤ length ys
+at_most p [] = omega arith
+at_most p (y ∷ ys) = by (p y) (at_most p ys)
+  where
+    by : (b : Bool) → length (filter p ys) ≤ length ys
+        → length (cond b (y ∷ filter p ys) (filter p ys)) ≤ suc (length ys)
+    by true most = omega arith
+    by false most = omega arith
+
+-- a filter that leaves out none keeps the list
+all_kept : (p : ℕ → Bool) (ys : List ℕ) → length (filter p ys) ≡ length ys → filter p ys ≡ ys
+all_kept p [] same = refl
+all_kept p (y ∷ ys) same = by (p y) (at_most p ys) (all_kept p ys) same
+  where
+    by : (b : Bool) → length (filter p ys) ≤ length ys
+        → (length (filter p ys) ≡ length ys → filter p ys ≡ ys)
+        → length (cond b (y ∷ filter p ys) (filter p ys)) ≡ suc (length ys)
+        → cond b (y ∷ filter p ys) (filter p ys) ≡ y ∷ ys
+    by true most kept e = ap (λ rest. y ∷ rest) (kept (omega arith))
+    by false most kept e = absurd (omega arith)
+
+few_variables : (terms : List Term) → length (variables_in terms) ≤ length terms
+few_variables [] = omega arith
+few_variables (Var x ∷ terms) = omega (arith, at_most (other_than x) (variables_in terms), few_variables terms)
+few_variables (Const c ∷ terms) = omega (arith, few_variables terms)
+
+-- the terms behind a variable, where all are distinct variables
+record Behind (x : ℕ) (terms : List Term) : Type 0 where
+  plain : length (variables_in terms) ≡ length terms
+  kept : filter (other_than x) (variables_in terms) ≡ variables_in terms
+  apart : (y : ℕ) → among y (variables_in terms) ≡ true → nat_eq x y ≡ false
+
+behind : (x : ℕ) (terms : List Term) → length (variables_in (Var x ∷ terms)) ≡ length (Var x ∷ terms)
+    → Behind x terms
+behind x terms plain =
+    let ys = variables_in terms in
+    let most = at_most (other_than x) ys in
+    let few = few_variables terms in
+    let kept : filter (other_than x) ys ≡ ys = all_kept (other_than x) ys (omega arith) in
+    let out : not (among x ys) ≡ true =
+    ap (λ zs. not (among x zs)) (sym kept)
+    ∙ (and_parts (not (among x (filter (other_than x) ys))) (all_apart (filter (other_than x) ys))
+    (variables_apart (Var x ∷ terms))).0 in
+    record {
+      plain = omega arith;
+      kept = kept;
+      apart = λ y m. ne_eqb x y (λ e.
+          absurd (let f : false ≡ true = sym (ap not m) ∙ ap (λ z. not (among z ys)) (sym e) ∙ out in cc));
+    }
+
+-- distinct variables have the values of their valuation
+values_of : (v : Valuation) (terms : List Term) → length (variables_in terms) ≡ length terms
+    → map (term_value v) terms ≡ map v (variables_in terms)
+values_of v [] plain = refl
+values_of v (Var x ∷ terms) plain =
+    let more = behind x terms plain in
+    ap (λ rest. v x ∷ rest) (values_of v terms more.plain ∙ ap (map v) (sym more.kept))
+values_of v (Const c ∷ terms) plain = absurd (omega (arith, few_variables terms))
+
+-- they read off each value in its place
+own_values : (terms : List Term) (values : List Value) → length (variables_in terms) ≡ length terms
+    → length terms ≡ length values
+    → map (read_off terms values) (variables_in terms) ≡ values
+own_values [] [] plain same = refl
+own_values [] (a ∷ values) plain same = absurd (omega arith)
+own_values (t ∷ terms) [] plain same = absurd (omega arith)
+own_values (Var x ∷ terms) (a ∷ values) plain same =
+    let more = behind x terms plain in
+    let v = read_off (Var x ∷ terms) (a ∷ values) in
+    let read : (y : ℕ) (b : Bool) → nat_eq x y ≡ b
+    → v y ≡ unwrap_or (cond b (Some a) (first_value terms values y)) (Int (pos 0)) =
+    λ y b is. ap (λ o. unwrap_or o (Int (pos 0))) (first_more (Var x) terms a values y
+    ∙ ap (λ c. cond c (Some a) (first_value terms values y)) is) in
+    ap₂ (λ b rest. b ∷ rest) (read x true (same_number x))
+    (ap (map v) more.kept
+    ∙ map_same_on v (read_off terms values) (variables_in terms) (λ y m. read y false (more.apart y m))
+    ∙ own_values terms values more.plain (omega arith))
+own_values (Const c ∷ terms) (a ∷ values) plain same = absurd (omega (arith, few_variables terms))
+
+-- they stand for as many values, whatever these are
+pub plain_match : (atom : OneAtom) (event : Event) → length (variables_in atom.args) ≡ length atom.args
+    → atom.pred ≡ event.pred → length atom.args ≡ length event.args
+    → is_match atom event ≡ true
+unfolding give_back
+plain_match atom event plain pred same =
+    match_by_terms atom event pred
+    ∙ ap (λ row. eq_by_cmp row_cmp row event.args) (values_of (reads atom event) atom.args plain
+    ∙ own_values atom.args event.args plain same)
+    ∙ row_itself event.args
+
+pub other_length : (atom : OneAtom) (event : Event) → atom.pred ≡ event.pred
+    → length atom.args ≢ length event.args
+    → is_match atom event ≡ false
+other_length atom event pred apart =
+    match_by_terms atom event pred ∙ gives_none_back atom.args event.args apart
+
+-- the row that is read off is the event's own
+plain_row : (atom : OneAtom) (event : Event) → length (variables_in atom.args) ≡ length atom.args
+    → is_match atom event ≡ true
+    → row_read (record { atom = atom; columns = variables_in atom.args }) event ≡ event.args
+unfolding is_match
+plain_row atom event plain holds =
+    sym (values_of (reads atom event) atom.args plain)
+    ∙ ap (λ e. e.args) (tells_apart event_exact (event_of (reads atom event) atom) event holds)
+
+-- an event that the atom stands for gives its own row
+pub own_row : (atom : OneAtom) (event : Event) (more : List Event)
+    → length (variables_in atom.args) ≡ length atom.args
+    → is_match atom event ≡ true
+    → atom_rows atom (variables_in atom.args) (event ∷ more)
+    ≡ event.args ∷ atom_rows atom (variables_in atom.args) more
+own_row atom event more plain holds =
+    row_taken atom (variables_in atom.args) event more holds
+    ∙ ap (λ row. row ∷ atom_rows atom (variables_in atom.args) more) (plain_row atom event plain holds)
