@@ -5,13 +5,13 @@ use Rattle.std.proofs.lemmas.Map.Entries.{lookup-filter-keys}
 use Rattle.std.specs.BTreeMap.{is_at}
 use Rattle.std.specs.Cmp.{eq_by_cmp_equiv}
 use Rattle.std.specs.List.{filter}
-use Rattle.std.specs.Option.{IfSome}
+use Rattle.std.specs.Option.{IfSome, unwrap_or}
 use Rattle.mfotl_model.specs.Tables.{has_row}
 use Rattle.mfotl_model.specs.Values.{row_cmp, row_total}
 use Rattle.mfotl_model.specs.declared.value.Value.{Value}
 use Rattle.relations.specs.KeptRows.{kept_for}
 use Rattle.relations.proofs.MapLemmas.{same_row}
-use Rattle.eval_since.specs.Groups.{HaveTimes, NoneEmpty, times_in}
+use Rattle.eval_since.specs.Groups.{HaveTimes, NoneEmpty, group_of, times_in}
 use Rattle.eval_since.specs.Times.{added, is_new}
 
 -- a group has a row, and each of its rows a time
@@ -63,6 +63,16 @@ pub found_filled : (key : List Value) (groups : List (List Value × List (List V
     (group : List (List Value × List ℕ)) → Some group ≡ kept_for groups key → NoneEmpty groups → IsFilled group
 found_filled key groups group is all =
     subst (λ (o : Option (List (List Value × List ℕ))). IfSome o IsFilled) (sym is) (all key)
+
+-- each row of the group at a part has a time, also where none is kept there
+pub had_times : (key : List Value) (groups : List (List Value × List (List Value × List ℕ)))
+    (group : List (List Value × List ℕ)) → group ≡ group_of groups key → NoneEmpty groups → HaveTimes group
+had_times key groups group is all =
+    subst HaveTimes (sym is) (by (kept_for groups key) (all key))
+  where
+    by : (o : Option (List (List Value × List ℕ))) → IfSome o IsFilled → HaveTimes (unwrap_or o [])
+    by None _ = λ v. tt
+    by (Some found) filled = filled.1
 
 -- after one time more there are some
 pub some_added : (bounded : Bool) (ts : List ℕ) (x : ℕ) → 0 < length (added bounded ts x)

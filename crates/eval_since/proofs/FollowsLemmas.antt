@@ -22,6 +22,14 @@ use Rattle.std.specs.List.{list_all, range_with_len}
 use Rattle.mfotl_model.specs.Settled.{since_settled}
 use Rattle.mfotl_model.proofs.LogicLemmas.{all_in, all_from}
 
+-- a list of times that climbs does so without its first
+climbs_behind : (x : ℕ) (rest : List ℕ) (t y : ℕ) → Climbs x (t ∷ rest) y → Climbs x rest y
+climbs_behind x [] t y (first, last) = omega arith
+climbs_behind x (r ∷ rs) t y (first, (next, more)) = (omega arith, more)
+
+pub climbs_without_first : (x : ℕ) (all rest : List ℕ) (t y : ℕ) → all ≡ t ∷ rest → Climbs x all y → Climbs x rest y
+climbs_without_first x all rest t y e climbs = climbs_behind x rest t y (subst (λ (q : List ℕ). Climbs x q y) e climbs)
+
 pub climbs_push : (x : ℕ) (ts : List ℕ) (y z : ℕ) → Climbs x ts y → y ≤ z → Climbs x (ts ++ z ∷ []) z
 climbs_push x [] y z h l = (omega arith, omega arith)
 climbs_push x (t ∷ ts) y z h l = (h.0, climbs_push t ts y z h.1 l)

@@ -6,8 +6,9 @@ use Rattle.std.proofs.lemmas.Bool.{cases_lt, eq-eqb}
 use Rattle.std.proofs.lemmas.Bool.Decides.{nat_tests}
 use Rattle.std.proofs.lemmas.List.{get_or_append_left, get_or_push, length_push}
 use Rattle.std.specs.BTreeMap.{is_at}
+use Rattle.std.specs.Cmp.{eq_by_cmp_equiv}
 use Rattle.std.specs.List.{filter}
-use Rattle.mfotl_model.specs.Values.{row_cmp}
+use Rattle.mfotl_model.specs.Values.{row_cmp, row_total}
 use Rattle.mfotl_model.specs.declared.value.Value.{Value}
 use Rattle.eval_since.specs.Groups.{times_at}
 use Rattle.mfotl_model.specs.Tables.{has_row, part}
@@ -22,6 +23,41 @@ and_false false = refl
 or_false : (b : Bool) → (b || false) ≡ b
 or_false true = refl
 or_false false = refl
+
+-- one row of a table, before the rest of it
+pub rows_rest : (h : List ℕ → List ℕ) → ((ts : List ℕ) → h (h ts) ≡ h ts)
+    → (right left : List ℕ) (x key q v : List Value) (rest : List (List Value)) (cur new : List ℕ)
+    → key ≡ part right left x → new ≡ cond (is_at (row_cmp key) q && is_at (row_cmp x) v) (h cur) cur
+    → cond (is_at (row_cmp (part right left v)) q && has_row rest v) (h new) new
+    ≡ cond (is_at (row_cmp (part right left v)) q && has_row (x ∷ rest) v) (h cur) cur
+rows_rest h twice right left x key q v rest cur new is step =
+    ap (λ n. cond (is_at (row_cmp (part right left v)) q && has_row rest v) (h n) n) step
+    ∙ by (is_at (row_cmp x) v) refl
+    ∙ ap (λ b. cond (is_at (row_cmp (part right left v)) q && (b || has_row rest v)) (h cur) cur)
+    ((eq_by_cmp_equiv row_total).symm x v)
+  where
+    here : (b c : Bool) → cond (b && c) (h (cond (b && true) (h cur) cur)) (cond (b && true) (h cur) cur)
+        ≡ cond (b && true) (h cur) cur
+    here true true = twice cur
+    here true false = refl
+    here false c = refl
+
+    away : (k : Bool) → cond (k && false) (h cur) cur ≡ cur
+    away true = refl
+    away false = refl
+
+    by : (a : Bool) → is_at (row_cmp x) v ≡ a
+        → cond (is_at (row_cmp (part right left v)) q && has_row rest v)
+        (h (cond (is_at (row_cmp key) q && a) (h cur) cur)) (cond (is_at (row_cmp key) q && a) (h cur) cur)
+        ≡ cond (is_at (row_cmp (part right left v)) q && (a || has_row rest v)) (h cur) cur
+    by true at =
+        ap (λ k. cond (is_at (row_cmp (part right left v)) q && has_row rest v)
+        (h (cond (is_at (row_cmp k) q && true) (h cur) cur)) (cond (is_at (row_cmp k) q && true) (h cur) cur))
+        (is ∙ ap (part right left) (same_row x v at))
+        ∙ here (is_at (row_cmp (part right left v)) q) (has_row rest v)
+    by false at =
+        ap (λ n. cond (is_at (row_cmp (part right left v)) q && has_row rest v) (h n) n)
+        (away (is_at (row_cmp key) q))
 
 -- one more row of a table
 pub rows_more : (h : List ℕ → List ℕ) → ((ts : List ℕ) → h (h ts) ≡ h ts)

@@ -107,17 +107,18 @@ fn forget_rows(
     groups: &mut Groups,
     right: &[u32],
     left: &[u32],
-    rows: &[Row],
+    rows: Vec<Row>,
     now: u64,
     hi: u64,
 ) -> Result<(), AllocError>
     ensures times { OnOk result ((q v : List Value) → times_at groups.new q v
-        ≡ cond (is_at (row_cmp (part right.now left.now v)) q && has_row rows.now v)
+        ≡ cond (is_at (row_cmp (part right.now left.now v)) q && has_row rows.items v)
         (recent hi now (times_at groups.old q v)) (times_at groups.old q v)) }
     ensures some { OnOk result (NoneEmpty groups.old → NoneEmpty groups.new) }
 {
     for row in rows {
-        groups.forget(&part_of(alloc, right, left, row.values())?, row, hi, now);
+        let key = part_of(alloc, right, left, row.values())?;
+        groups.forget(key, row, hi, now);
     }
     Ok(())
 }
@@ -151,7 +152,7 @@ fn expire(
         let Some(old) = dated.pop_front() else {
             return Ok(());
         };
-        forget_rows(alloc, groups, right, left, old.rows.as_slice(), now, hi)?;
+        forget_rows(alloc, groups, right, left, old.rows, now, hi)?;
     }
     Ok(())
 }
@@ -164,10 +165,23 @@ pub struct Contents {
     pub dated: VecDeque<Dated>,
 }
 
-/// One position more: the left operand's table, then the right operand's rows.
-pub fn stepped(
+impl Contents {
+    pub fn new(alloc: Global) -> Self
+        ensures groups { result.groups ≡ [] }
+        ensures dated { result.dated.items ≡ [] }
+    {
+        Contents {
+            groups: Groups::new(alloc),
+            dated: VecDeque::new(alloc),
+        }
+    }
+}
+
+/// One position more: the left operand's table, then the right operand's rows. Without memory what is
+/// left is right for nothing.
+pub fn step(
     alloc: Global,
-    contents: Contents,
+    contents: &mut Contents,
     interval: &Interval,
     right: &[u32],
     keys: &[u32],
@@ -177,27 +191,23 @@ pub fn stepped(
     rights: Vec<Row>,
     last: u64,
     now: u64,
-) -> Result<Contents, AllocError>
-    requires kept { Keeps interval.now.hi right.now keys.now last contents.groups contents.dated.items }
+) -> Result<(), AllocError>
+    requires kept { Keeps interval.now.hi right.now keys.now last contents.old.groups contents.old.dated.items }
     requires sized { IsTrue (all_sized (length right.now) rights.items) }
     requires rises { last ≤ now }
-    ensures within { IfOk result (λ next. (x : ℕ) (u : List Value) → now ≤ x →
-        reaches interval.now (times_at next.groups (part right.now keys.now u) u) x
-        ≡ ((reaches interval.now (times_at contents.groups (part right.now keys.now u) u) x
+    ensures within { OnOk result ((x : ℕ) (u : List Value) → now ≤ x →
+        reaches interval.now (times_at contents.new.groups (part right.now keys.now u) u) x
+        ≡ ((reaches interval.now (times_at contents.old.groups (part right.now keys.now u) u) x
         && left_has negated lefts.now.rows (lead closed (part right.now keys.now u)))
         || (in_interval interval.now (x - now) && has_row rights.items u))) }
-    ensures kept { IfOk result (λ next.
-        Keeps interval.now.hi right.now keys.now now next.groups next.dated.items) }
+    ensures kept { OnOk result (
+        Keeps interval.now.hi right.now keys.now now contents.new.groups contents.new.dated.items) }
 {
-    let Contents {
-        mut groups,
-        mut dated,
-    } = contents;
-    apply_left(alloc, &mut groups, closed, negated, lefts)?;
+    apply_left(alloc, &mut contents.groups, closed, negated, lefts)?;
     let rows = rights.as_slice();
     add_rows(
         alloc,
-        &mut groups,
+        &mut contents.groups,
         right,
         keys,
         rows,
@@ -205,14 +215,22 @@ pub fn stepped(
         interval.hi.is_some(),
     )?;
     let Some(hi) = interval.hi else {
-        return Ok(Contents { groups, dated });
+        return Ok(());
     };
-    dated.push_back(Dated {
+    contents.dated.push_back(Dated {
         ts: now,
         rows: rights,
     })?;
-    expire(alloc, &mut groups, &mut dated, right, keys, now, hi)?;
-    Ok(Contents { groups, dated })
+    expire(
+        alloc,
+        &mut contents.groups,
+        &mut contents.dated,
+        right,
+        keys,
+        now,
+        hi,
+    )?;
+    Ok(())
 }
 
 /// What a window keeps with these rows.

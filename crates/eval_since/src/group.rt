@@ -148,15 +148,15 @@ fn one_recent(first: Row, times: Times, row: &Row, hi: u64, now: u64) -> Held
     Held::One(first, times)
 }
 
-fn with_recent(held: Held, row: &Row, hi: u64, now: u64) -> Held
+fn with_recent(held: Held, row: Row, hi: u64, now: u64) -> Held
     ensures times { (v : List Value) → times_in (held_times result) v
-        ≡ cond (is_at (row_cmp row.now) v)
+        ≡ cond (is_at (row_cmp row) v)
         (recent hi now (times_in (held_times held) v)) (times_in (held_times held) v) }
     ensures some { HaveTimes (held_times held) → HaveTimes (held_times result) }
 {
     match held {
         Held::Zero => Held::Zero,
-        Held::One(first, times) => one_recent(first, times, row, hi, now),
+        Held::One(first, times) => one_recent(first, times, &row, hi, now),
         Held::Many(mut rows) => {
             rows.forget(row, hi, now);
             Held::Many(rows)
@@ -235,18 +235,26 @@ impl Group {
             (added bounded (times_in self.old v) x) (times_in self.old v)) }
         ensures some { OnOk result (HaveTimes self.old → HaveTimes self.new) }
     {
+        if let Held::Many(rows) = &mut self.held {
+            rows.add(alloc, row, x, bounded)?;
+            return Ok(());
+        }
         let held = mem::replace(&mut self.held, Held::Zero);
         self.held = with_time(alloc, held, row, x, bounded)?;
         Ok(())
     }
 
     /// Forgets the times of a row that lie further back than `hi`.
-    pub fn forget(&mut self, row: &Row, hi: u64, now: u64)
+    pub fn forget(&mut self, row: Row, hi: u64, now: u64)
         ensures times { (v : List Value) → times_in self.new v
-            ≡ cond (is_at (row_cmp row.now) v)
+            ≡ cond (is_at (row_cmp row) v)
             (recent hi now (times_in self.old v)) (times_in self.old v) }
         ensures some { HaveTimes self.old → HaveTimes self.new }
     {
+        if let Held::Many(rows) = &mut self.held {
+            rows.forget(row, hi, now);
+            return;
+        }
         let held = mem::replace(&mut self.held, Held::Zero);
         self.held = with_recent(held, row, hi, now);
     }

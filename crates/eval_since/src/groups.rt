@@ -20,6 +20,7 @@ use mfotl_model::{Interval, Row};
 use relations::Table;
 use std::alloc::{AllocError, Global};
 use std::collections::HashMap;
+use std::collections::hash_map::Entry;
 use std::marker::Model;
 
 #[derive(Drop)]
@@ -44,11 +45,27 @@ fn keep_group(kept: &mut HashMap<Row, Group>, key: Row, group: Group) -> Result<
     Ok(())
 }
 
-fn drop_group(groups: &mut HashMap<Row, Group>, key: &Row)
-    ensures { (q : List Value) → lookup (is_at (row_cmp q)) groups.new.entries
-        ≡ cond (is_at (row_cmp key.now) q) None (lookup (is_at (row_cmp q)) groups.old.entries) }
+// A group that is left without rows goes.
+fn forget_row(groups: &mut HashMap<Row, Group>, key: Row, row: Row, hi: u64, now: u64)
+    ensures times { (q v : List Value) → times_at groups.new.entries q v
+        ≡ cond (is_at (row_cmp key) q && is_at (row_cmp row) v)
+        (recent hi now (times_at groups.old.entries q v)) (times_at groups.old.entries q v) }
+    ensures some { NoneEmpty groups.old.entries → NoneEmpty groups.new.entries }
 {
-    groups.remove(key);
+    let slot = match groups.entry(key) {
+        Ok(slot) => slot,
+        Err(_absent) => return,
+    };
+    match slot {
+        Entry::Occupied(mut kept) => {
+            let group = kept.get_mut();
+            group.forget(row, hi, now);
+            if group.is_empty() {
+                kept.remove();
+            }
+        }
+        Entry::Vacant(vacant) => drop(vacant.into_key()),
+    }
 }
 
 impl Groups {
@@ -75,30 +92,19 @@ impl Groups {
             (added bounded (times_at self.old q v) x) (times_at self.old q v)) }
         ensures some { OnOk result (NoneEmpty self.old → NoneEmpty self.new) }
     {
-        if let Some(group) = self.groups.get_mut(&key) {
-            group.add(alloc, row, x, bounded)?;
-            return Ok(());
-        }
-        let mut group = Group::new();
+        let group = self.groups.entry(key)?.or_insert(Group::new());
         group.add(alloc, row, x, bounded)?;
-        self.groups.insert(key, group)?;
         Ok(())
     }
 
     /// Forgets the times of a row that lie further back than `hi`.
-    pub fn forget(&mut self, key: &Row, row: &Row, hi: u64, now: u64)
+    pub fn forget(&mut self, key: Row, row: Row, hi: u64, now: u64)
         ensures times { (q v : List Value) → times_at self.new q v
-            ≡ cond (is_at (row_cmp key.now) q && is_at (row_cmp row.now) v)
+            ≡ cond (is_at (row_cmp key) q && is_at (row_cmp row) v)
             (recent hi now (times_at self.old q v)) (times_at self.old q v) }
         ensures some { NoneEmpty self.old → NoneEmpty self.new }
     {
-        let Some(group) = self.groups.get_mut(key) else {
-            return;
-        };
-        group.forget(row, hi, now);
-        if group.is_empty() {
-            drop_group(&mut self.groups, key);
-        }
+        forget_row(&mut self.groups, key, row, hi, now);
     }
 
     // drops the groups of other parts where they stand
@@ -244,13 +250,8 @@ impl Groups {
             ≡ cond (is_at (row_cmp key) q && is_at (row_cmp row) v) times (times_at self.old q v)) }
         ensures some { OnOk result (0 < length times → NoneEmpty self.old → NoneEmpty self.new) }
     {
-        if let Some(group) = self.groups.get_mut(&key) {
-            group.put(alloc, row, times)?;
-            return Ok(());
-        }
-        let mut group = Group::new();
+        let group = self.groups.entry(key)?.or_insert(Group::new());
         group.put(alloc, row, times)?;
-        self.groups.insert(key, group)?;
         Ok(())
     }
 

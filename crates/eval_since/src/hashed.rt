@@ -18,6 +18,7 @@ use mfotl_model::{Interval, Row};
 use relations::Table;
 use std::alloc::{AllocError, Global};
 use std::collections::HashMap;
+use std::collections::hash_map::Entry;
 use std::marker::Model;
 
 #[derive(Drop)]
@@ -32,6 +33,29 @@ impl Model for Hashed {
     ghost Value = { List (List OneValue × List ℕ) };
 
     ghost view = { λ g. g.rows.entries };
+}
+
+// A row that is left without times goes.
+fn forget_times(rows: &mut HashMap<Row, Times>, row: Row, hi: u64, now: u64)
+    ensures times { (v : List Value) → times_in rows.new.entries v
+        ≡ cond (is_at (row_cmp row) v)
+        (recent hi now (times_in rows.old.entries v)) (times_in rows.old.entries v) }
+    ensures some { HaveTimes rows.old.entries → HaveTimes rows.new.entries }
+{
+    let slot = match rows.entry(row) {
+        Ok(slot) => slot,
+        Err(_absent) => return,
+    };
+    match slot {
+        Entry::Occupied(mut kept) => {
+            let times = kept.get_mut();
+            times.forget(hi, now);
+            if times.is_empty() {
+                kept.remove();
+            }
+        }
+        Entry::Vacant(vacant) => drop(vacant.into_key()),
+    }
 }
 
 impl Hashed {
@@ -57,30 +81,19 @@ impl Hashed {
             (added bounded (times_in self.old v) x) (times_in self.old v)) }
         ensures some { OnOk result (HaveTimes self.old → HaveTimes self.new) }
     {
-        if let Some(times) = self.rows.get_mut(&row) {
-            times.add(x, bounded)?;
-            return Ok(());
-        }
-        let mut times = Times::new(alloc);
+        let times = self.rows.entry(row)?.or_insert(Times::new(alloc));
         times.add(x, bounded)?;
-        self.rows.insert(row, times)?;
         Ok(())
     }
 
     /// Forgets the times of a row that lie further back than `hi`.
-    pub fn forget(&mut self, row: &Row, hi: u64, now: u64)
+    pub fn forget(&mut self, row: Row, hi: u64, now: u64)
         ensures times { (v : List Value) → times_in self.new v
-            ≡ cond (is_at (row_cmp row.now) v)
+            ≡ cond (is_at (row_cmp row) v)
             (recent hi now (times_in self.old v)) (times_in self.old v) }
         ensures some { HaveTimes self.old → HaveTimes self.new }
     {
-        let Some(times) = self.rows.get_mut(row) else {
-            return;
-        };
-        times.forget(hi, now);
-        if times.is_empty() {
-            self.rows.remove(row);
-        }
+        forget_times(&mut self.rows, row, hi, now);
     }
 
     /// Whether the times of a row reach.

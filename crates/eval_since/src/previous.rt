@@ -7,7 +7,7 @@ ghost use Rattle.eval_since.specs.PreviousView.{AdvancesPrevious, FollowsPreviou
 
 use crate::recalled::PrevData;
 use mfotl_model::Interval;
-use relations::{Table, copied_tables};
+use relations::{Columns, Table, copied_tables};
 use std::alloc::{AllocError, Global};
 use std::collections::VecDeque;
 use std::marker::Model;
@@ -190,7 +190,7 @@ impl PrevState {
     }
 
     // nothing is before the first position
-    fn pull_first(&mut self, alloc: Global, columns: Vec<u32>) -> Table
+    fn pull_first(&mut self, alloc: Global, columns: Columns) -> Table
         requires first { self.old.pulled ≡ 0 }
         requires due { IsTrue (previous_due self.old) }
         requires over { columns.items ≡ self.old.columns }
@@ -253,7 +253,7 @@ impl PrevState {
         if self.pulled > 0 {
             return Ok(Some(self.pull_later(alloc)));
         }
-        let columns = Vec::from_slice(alloc, self.columns.as_slice())?;
+        let columns = Columns::from_slice(alloc, self.columns.as_slice())?;
         Ok(Some(self.pull_first(alloc, columns)))
     }
 }

@@ -14,7 +14,6 @@ ghost use Rattle.eval_since.specs.Windows.{Alone, Ascending, Bounded, Past, Plac
 ghost use Rattle.eval_since.specs.SinceView.{Advances, Climbs, Follows, SinceOf, due};
 
 use crate::kept::latest;
-use crate::keys::holds_on;
 use crate::recalled::SinceData;
 use crate::window::Window;
 use mfotl_model::{Interval, Row};
@@ -65,8 +64,7 @@ impl SinceState {
         ensures follows { IfOk result (λ state.
             (t : List ℕ) (a b : List Bool) (v : Valuation) → Follows state t a b v) }
     {
-        let state = SinceState::keyed(alloc, interval, left, right, negated, &[])?;
-        Ok(state)
+        SinceState::keyed(alloc, interval, left, right, negated, &[])
     }
 
     /// The same, which finds rows by their values in the columns of `keys` at once where the left operand
@@ -192,11 +190,7 @@ impl SinceState {
     pub fn last(&self) -> Option<u64>
         ensures { result ≡ cond (nat_eq self.now.pulled 0) None (Some self.now.window.last) }
     {
-        if self.pulled == 0 {
-            None
-        } else {
-            Some(self.window.last())
-        }
+        (self.pulled > 0).then_some(self.window.last())
     }
 
     /// The times of the positions from the next one on.
@@ -399,18 +393,7 @@ impl SinceState {
         let left = first_pushed(&self.lefts);
         let right = first_pushed(&self.rights);
         let own = part_of(alloc, columns, self.window.right(), row.values())?;
-        let key = self.window.key(alloc, &own)?;
-        let kept = self.window.within(&key, &own, *now);
-        let lead = self.window.left_part(alloc, &own)?;
-        let held = holds_on(self.negated, left, &lead);
-        let reached = self.window.interval().contains(0);
-        Ok(in_either(kept, held, reached, right.contains(&own)))
+        self.window
+            .is_next(alloc, self.negated, left, right, &own, *now)
     }
-}
-
-// what was goes on where the left operand holds; the right one holds at the position itself
-fn in_either(kept: bool, held: bool, reached: bool, new: bool) -> bool
-    ensures { result ≡ ((kept && held) || (reached && new)) }
-{
-    (kept && held) || (reached && new)
 }

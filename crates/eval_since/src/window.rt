@@ -13,17 +13,14 @@ ghost use Rattle.eval_since.specs.SinceData.{KeepsTimes};
 ghost use Rattle.eval_since.specs.WindowView.{kept_times, within};
 ghost use Rattle.eval_since.specs.Windows.{Alone, Ascending, Bounded, IsBlank, Past, Placed};
 
-use crate::contents::{Contents, restored, stepped};
-use crate::groups::Groups;
-use crate::keys::grouping;
+use crate::contents::{Contents, restored, step};
+use crate::keys::{grouping, holds_on};
 use crate::ordered::OrderedGroup;
 use crate::recalled::KeptRow;
 use mfotl_model::{Interval, Row};
-use relations::{Table, part_of};
+use relations::{Columns, Table, part_of};
 use std::alloc::{AllocError, Global};
-use std::collections::VecDeque;
 use std::marker::Model;
-use std::mem;
 
 /// The window of SINCE after some positions.
 #[derive(Drop)]
@@ -67,10 +64,7 @@ impl Window {
             right,
             keys,
             last: 0,
-            contents: Contents {
-                groups: Groups::new(alloc),
-                dated: VecDeque::new(alloc),
-            },
+            contents: Contents::new(alloc),
         }
     }
 
@@ -136,21 +130,13 @@ impl Window {
         ensures right { self.new.right ≡ self.old.right }
         ensures keys { self.new.keys ≡ self.old.keys }
     {
-        let contents = mem::replace(
-            &mut self.contents,
-            Contents {
-                groups: Groups::new(alloc),
-                dated: VecDeque::new(alloc),
-            },
-        );
-        let last = self.last;
         let right = self.right.as_slice();
         let left = self.left.as_slice();
         let keys = grouping(left, self.keys.as_slice());
         let rows = rights.into_rows();
-        self.contents = stepped(
+        let stepped = step(
             alloc,
-            contents,
+            &mut self.contents,
             &self.interval,
             right,
             keys,
@@ -158,15 +144,19 @@ impl Window {
             negated,
             lefts,
             rows,
-            last,
+            self.last,
             now,
-        )?;
+        );
+        if let Err(error) = stepped {
+            self.contents = Contents::new(alloc);
+            return Err(error);
+        }
         self.last = now;
         Ok(())
     }
 
-    /// The part of a row that the left operand speaks of.
-    pub fn left_part(&self, alloc: Global, row: &Row) -> Result<Row, AllocError>
+    // the part of a row that the left operand speaks of
+    fn left_part(&self, alloc: Global, row: &Row) -> Result<Row, AllocError>
         ensures { IfOk result (λ left. left ≡ part self.now.right self.now.left row.now) }
     {
         part_of(
@@ -177,19 +167,64 @@ impl Window {
         )
     }
 
-    /// The part of a row that it is grouped by.
-    pub fn key(&self, alloc: Global, row: &Row) -> Result<Row, AllocError>
+    // the part of a row that it is grouped by
+    fn key(&self, alloc: Global, row: &Row) -> Result<Row, AllocError>
         ensures { IfOk result (λ key. key ≡ part self.now.right self.now.keys row.now) }
     {
         part_of(alloc, self.right.as_slice(), self.keys(), row.values())
     }
 
-    /// Whether some kept time of a row lies in the interval, seen from `x`.
-    pub fn within(&self, key: &Row, row: &Row, x: u64) -> bool
+    // whether some kept time of a row lies in the interval, seen from `x`
+    fn within(&self, key: &Row, row: &Row, x: u64) -> bool
         requires { key.now ≡ part self.now.right self.now.keys row.now }
         ensures { result ≡ within self.now x row.now }
     {
         self.contents.groups.reaches(key, row, &self.interval, x)
+    }
+
+    // whether the row is kept, and the left operand holds of it
+    fn goes_on(
+        &self,
+        alloc: Global,
+        negated: bool,
+        lefts: &Table,
+        row: &Row,
+        now: u64,
+    ) -> Result<bool, AllocError>
+        ensures { IfOk result (λ yes. yes ≡ (within self.now now row.now
+            && left_has negated lefts.now.rows (part self.now.right self.now.left row.now))) }
+    {
+        let key = self.key(alloc, row)?;
+        if !self.within(&key, row, now) {
+            return Ok(false);
+        }
+        let lead = self.left_part(alloc, row)?;
+        Ok(holds_on(negated, lefts, &lead))
+    }
+
+    // whether the right operand holds of the row, and the interval has the position itself
+    fn begins(&self, rights: &Table, row: &Row) -> bool
+        ensures { result ≡ (in_interval self.now.interval 0 && has_row rights.now.rows row.now) }
+    {
+        self.interval.contains(0) && rights.contains(row)
+    }
+
+    /// Whether a row is one of the next position's, whose time is `now`: what was goes on where the left
+    /// operand holds, and the right one holds at the position itself.
+    pub fn is_next(
+        &self,
+        alloc: Global,
+        negated: bool,
+        lefts: &Table,
+        rights: &Table,
+        row: &Row,
+        now: u64,
+    ) -> Result<bool, AllocError>
+        ensures { IfOk result (λ yes. yes ≡ ((within self.now now row.now
+            && left_has negated lefts.now.rows (part self.now.right self.now.left row.now))
+            || (in_interval self.now.interval 0 && has_row rights.now.rows row.now))) }
+    {
+        Ok(self.goes_on(alloc, negated, lefts, row, now)? || self.begins(rights, row))
     }
 
     /// The rows of which some kept time lies in the interval, seen from the last time.
@@ -202,7 +237,7 @@ impl Window {
         self.contents
             .groups
             .push_reaching(alloc, &mut rows, &self.interval, self.last)?;
-        let columns = Vec::from_slice(alloc, self.right.as_slice())?;
+        let columns = Columns::from_slice(alloc, self.right.as_slice())?;
         Ok(Table::from_rows(columns, rows))
     }
 
@@ -215,7 +250,7 @@ impl Window {
     {
         let mut rows = Vec::new(alloc);
         self.push_table_of(alloc, &mut rows, keys)?;
-        let columns = Vec::from_slice(alloc, self.right.as_slice())?;
+        let columns = Columns::from_slice(alloc, self.right.as_slice())?;
         Ok(Table::from_rows(columns, rows))
     }
 

@@ -24,7 +24,7 @@ loop-front-preserved c =
     let rising = subst (λ (queue : List Dated). Rising queue) is c.loop-front.invariant.rising in
     let far = front_far c.args.hi c.args.now c.loop-front.dated.items rest c.in-Some.front.now d is
     c.in-Some.ensures.lookup (omega arith) in
-    let step = rw c.as_slice.ensures.value at c.in_ok-forget_rows.ensures.times in
+    let step = c.in_ok-forget_rows.ensures.times in
     record {
       thin = λ q v. thin_more c.args.hi c.args.now (times_at c.args.groups.now q v)
           (times_at c.loop-front.groups q v) (times_at c.forget_rows.new.groups q v)

@@ -1,4 +1,4 @@
-use Rattle.std.proofs.Common.{◌≡◌, ◌&&◌, List, cond, take}
+use Rattle.std.proofs.Common.{◌≡◌, ◌&&◌, List, cond}
 use Rattle.std.specs.BTreeMap.{is_at}
 use Rattle.mfotl_model.specs.Values.{row_cmp}
 use Rattle.mfotl_model.specs.declared.value.Value.{Value}
@@ -7,10 +7,13 @@ use Rattle.mfotl_model.specs.Tables.{has_row, part}
 use Rattle.eval_since.specs.Times.{recent}
 use Rattle.eval_since.proofs.contents.forget_rows.Given as goal
 
+-- once what is left is forgotten
 abbrev pub invariant-loop-row : goal.invariant-loop-row
 invariant-loop-row l = record {
-  times : (q v : List Value) → times_at l.groups q v
-      ≡ cond (is_at (row_cmp (part l.right l.left v)) q && has_row (take l.row-index l.rows) v)
+  times : (q v : List Value) →
+      cond (is_at (row_cmp (part l.right l.left v)) q && has_row l.row-iterator.rest.items v)
+      (recent l.hi l.now (times_at l.groups q v)) (times_at l.groups q v)
+      ≡ cond (is_at (row_cmp (part l.right l.left v)) q && has_row l.fn.rows.items v)
       (recent l.hi l.now (times_at l.fn.groups q v)) (times_at l.fn.groups q v);
   some : NoneEmpty l.fn.groups → NoneEmpty l.groups;
 }

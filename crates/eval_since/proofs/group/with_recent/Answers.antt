@@ -9,8 +9,8 @@ use Rattle.eval_since.proofs.group.with_recent.Goals as goal
 
 pub returns-in-Zero-clause-times : goal.returns-in-Zero-clause-times
 returns-in-Zero-clause-times c = λ v.
-    none_recent c.args.hi c.args.now c.args.row.now v
-    ∙ (λ i. cond (is_at (row_cmp c.args.row.now) v)
+    none_recent c.args.hi c.args.now c.args.row v
+    ∙ (λ i. cond (is_at (row_cmp c.args.row) v)
     (recent c.args.hi c.args.now (times_in (held_times (sym c.in-Zero.is i)) v))
     (times_in (held_times (sym c.in-Zero.is i)) v))
 

@@ -1,4 +1,5 @@
 use Rattle.std.proofs.Common.{map, sym, ◌∙◌, drop}
+use Rattle.std.proofs.lemmas.Result.{IfOk-weaker}
 use Rattle.mfotl_model.specs.Tables.{part, valuation}
 use Rattle.eval_since.proofs.FollowsLemmas.{next_at}
 use Rattle.eval_since.proofs.since.SinceState.holds.Goals as goal
@@ -7,19 +8,11 @@ pub returns : goal.returns
 unfolding part
 returns c = rw (← c.self.view_is) (
     let s = c.self.inside in
-    λ t a b f. rw (
-      c.in_either.ensures,
-      c.within-kept.ensures,
-      c.holds_on-held.ensures,
-      c.in_ok-lead.ensures,
-      c.contains-reached.ensures,
-      c.interval.ensures,
-      c.contains.ensures,
-    )
-    (next_at s.window s.negated s.pulled s.newest c.first_pushed-now.result.now s.times.items (drop 1 s.times.items)
+    IfOk-weaker c.is_next.result _ _ (λ yes e t a b f. e
+    ∙ next_at s.window s.negated s.pulled s.newest c.first_pushed-now.result.now s.times.items (drop 1 s.times.items)
     c.first_pushed-left.result.now s.lefts.items (drop 1 s.lefts.items) c.first_pushed-right.result.now s.rights.items
     (drop 1 s.rights.items)
     t a b (valuation c.args.columns.now c.args.row.now) c.in_ok-own.own
     c.first_pushed-now.ensures c.first_pushed-left.ensures c.first_pushed-right.ensures c.self.invariant.climbs
     (sym (c.in_ok-own.ensures ∙ (λ i. map (valuation c.args.columns.now (c.values.ensures i))
-    (c.right.ensures.right i)))) f))
+    (c.right.ensures.right i)))) f) c.is_next.ensures)

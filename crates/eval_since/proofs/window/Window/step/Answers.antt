@@ -20,9 +20,8 @@ returns-clause-within c =
       c.as_slice-right.ensures.value,
       keys_are,
       closed_is,
-      c.replace-contents.ensures.value,
       c.into_rows-rows.ensures.rows,
-    ) at c.in_ok-self-inside.ensures.within) x u low
+    ) at c.in_default.ensures.within) x u low
     ∙ ap (λ q.
     (reaches k.interval (times_at k.contents.groups (part k.right.items (grouping k.left.items k.keys.items) u) u) x
     && left_has c.args.negated c.args.lefts.now.rows q)

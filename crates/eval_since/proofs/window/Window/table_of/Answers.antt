@@ -8,7 +8,7 @@ use Rattle.eval_since.proofs.StepLemmas.{sized_reached}
 use Rattle.eval_since.proofs.window.Window.table_of.Goals as goal
 
 pub from_rows-requires-clause-apart : goal.from_rows-requires-clause-apart
-from_rows-requires-clause-apart c = ap all_apart (c.in_ok-columns.ensures.items ∙ c.as_slice.ensures.value)
+from_rows-requires-clause-apart c = ap all_apart (c.in_ok-columns.ensures.ok ∙ c.as_slice.ensures.value)
     ∙ c.self.invariant.apart
 
 pub returns-clause-rows : goal.returns-clause-rows
@@ -23,7 +23,7 @@ pub from_rows-requires-clause-sized : goal.from_rows-requires-clause-sized
 from_rows-requires-clause-sized c =
     let k = c.self.inside in
     ap (λ (columns : List ℕ). all_sized (length columns) c.push_table_of.new.out.items)
-    (c.in_ok-columns.ensures.items ∙ c.as_slice.ensures.value)
+    (c.in_ok-columns.ensures.ok ∙ c.as_slice.ensures.value)
     ∙ sized_reached k.interval k.last k.right.items (grouping k.left.items k.keys.items) k.contents.groups
     c.push_table_of.new.out.items
     c.self.invariant.sized

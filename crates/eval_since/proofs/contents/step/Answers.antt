@@ -1,14 +1,14 @@
 use Rattle.eval_since.proofs.StepLemmas.{Joined, past_before, kept_unbounded, within_after, covered_after}
 use Rattle.eval_since.proofs.StepLemmas.{rising_after, placed_after, kept_bounded, within_bounded}
 use Rattle.eval_since.specs.LeftOperand.{lead, left_has}
-use Rattle.eval_since.proofs.contents.stepped.Goals as goal
+use Rattle.eval_since.proofs.contents.step.Goals as goal
 
 pub add_rows-requires : goal.add_rows-requires
 add_rows-requires c =
     past_before c.args.interval.now c.args.right.now c.args.keys.now
     (λ q. left_has c.args.negated c.args.lefts.now.rows (lead c.args.closed q))
     (record { ts = c.args.now; rows = c.args.rights }) c.args.last
-    c.args.contents.groups c.apply_left.new.groups c.apply_left.new.groups c.args.contents.dated.items
+    c.args.contents.now.groups c.apply_left.new.groups c.apply_left.new.groups c.args.contents.now.dated.items
     c.requires.rises c.requires.kept c.in_ok-apply_left.ensures.times
 
 pub returns-in_default-clause-within : goal.returns-in_default-clause-within
@@ -16,7 +16,7 @@ returns-in_default-clause-within c = λ x u _.
     within_after c.args.interval.now c.args.right.now c.args.keys.now
     (λ q. left_has c.args.negated c.args.lefts.now.rows (lead c.args.closed q))
     (record { ts = c.args.now; rows = c.args.rights }) c.args.last
-    c.args.contents.groups c.apply_left.new.groups c.add_rows.new.groups c.args.contents.dated.items
+    c.args.contents.now.groups c.apply_left.new.groups c.add_rows.new.groups c.args.contents.now.dated.items
     (record {
       rises = c.requires.rises;
       sized = c.requires.sized;
@@ -33,7 +33,8 @@ returns-in_default-clause-kept c =
     kept_unbounded c.args.interval.now c.args.right.now c.args.keys.now
     (λ q. left_has c.args.negated c.args.lefts.now.rows (lead c.args.closed q))
     (record { ts = c.args.now; rows = c.args.rights }) c.args.last
-    c.args.contents.groups c.apply_left.new.groups c.add_rows.new.groups c.args.contents.dated.items c.in_default.is
+    c.args.contents.now.groups c.apply_left.new.groups c.add_rows.new.groups
+    c.args.contents.now.dated.items c.in_default.is
     (record {
       rises = c.requires.rises;
       sized = c.requires.sized;
@@ -50,7 +51,7 @@ expire-requires c =
     let j : Joined c.args.interval.now c.args.right.now c.args.keys.now
     (λ q. left_has c.args.negated c.args.lefts.now.rows (lead c.args.closed q))
     (record { ts = c.args.now; rows = c.args.rights }) c.args.last
-    c.args.contents.groups c.apply_left.new.groups c.add_rows.new.groups c.args.contents.dated.items =
+    c.args.contents.now.groups c.apply_left.new.groups c.add_rows.new.groups c.args.contents.now.dated.items =
     record {
       rises = c.requires.rises;
       sized = c.requires.sized;
@@ -65,16 +66,16 @@ expire-requires c =
       placed = placed_after c.args.interval.now c.args.right.now c.args.keys.now
           (λ q. left_has c.args.negated c.args.lefts.now.rows (lead c.args.closed q))
           (record { ts = c.args.now; rows = c.args.rights }) c.args.last
-          c.args.contents.groups c.apply_left.new.groups c.add_rows.new.groups c.args.contents.dated.items j;
+          c.args.contents.now.groups c.apply_left.new.groups c.add_rows.new.groups c.args.contents.now.dated.items j;
       covered = rw c.in_ok-push_back.ensures.items (covered_after c.args.interval.now c.args.right.now
           c.args.keys.now (λ q. left_has c.args.negated c.args.lefts.now.rows (lead c.args.closed q))
           (record { ts = c.args.now; rows = c.args.rights }) c.args.last
-          c.args.contents.groups c.apply_left.new.groups c.add_rows.new.groups c.args.contents.dated.items
+          c.args.contents.now.groups c.apply_left.new.groups c.add_rows.new.groups c.args.contents.now.dated.items
           c.in-Some.hi c.in-Some.is j);
       rising = rw c.in_ok-push_back.ensures.items (rising_after c.args.interval.now c.args.right.now c.args.keys.now
           (λ q. left_has c.args.negated c.args.lefts.now.rows (lead c.args.closed q))
           (record { ts = c.args.now; rows = c.args.rights }) c.args.last
-          c.args.contents.groups c.apply_left.new.groups c.add_rows.new.groups c.args.contents.dated.items
+          c.args.contents.now.groups c.apply_left.new.groups c.add_rows.new.groups c.args.contents.now.dated.items
           c.in-Some.hi c.in-Some.is j);
     }
 
@@ -83,7 +84,8 @@ returns-clause-within c =
     within_bounded c.args.interval.now c.args.right.now c.args.keys.now
     (λ q. left_has c.args.negated c.args.lefts.now.rows (lead c.args.closed q))
     (record { ts = c.args.now; rows = c.args.rights }) c.args.last
-    c.args.contents.groups c.apply_left.new.groups c.add_rows.new.groups c.args.contents.dated.items c.in-Some.hi
+    c.args.contents.now.groups c.apply_left.new.groups c.add_rows.new.groups
+    c.args.contents.now.dated.items c.in-Some.hi
     c.expire.new.groups c.in-Some.is
     (record {
       rises = c.requires.rises;
@@ -102,7 +104,8 @@ returns-clause-kept c =
     kept_bounded c.args.interval.now c.args.right.now c.args.keys.now
     (λ q. left_has c.args.negated c.args.lefts.now.rows (lead c.args.closed q))
     (record { ts = c.args.now; rows = c.args.rights }) c.args.last
-    c.args.contents.groups c.apply_left.new.groups c.add_rows.new.groups c.args.contents.dated.items c.in-Some.hi
+    c.args.contents.now.groups c.apply_left.new.groups c.add_rows.new.groups
+    c.args.contents.now.dated.items c.in-Some.hi
     c.expire.new.groups c.expire.new.dated.items c.in-Some.is
     (record {
       rises = c.requires.rises;

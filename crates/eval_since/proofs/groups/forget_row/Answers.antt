@@ -1,0 +1,96 @@
+use Rattle.std.proofs.lemmas.Grind.{common_steps}
+use Rattle.std.proofs.Common.{◌≡◌, [], Some, None, arith, refl, sym, ap, ◌∙◌}
+use Rattle.std.specs.Option.{unwrap_or}
+use Rattle.std.specs.Map.{lookup}
+use Rattle.std.specs.BTreeMap.{is_at}
+use Rattle.mfotl_model.specs.Values.{row_cmp}
+use Rattle.eval_since.specs.Times.{recent}
+use Rattle.relations.proofs.MapLemmas.{nothing_there}
+use Rattle.eval_since.proofs.FilledLemmas.{IsFilled, each_after, found_filled, not_empty}
+use Rattle.eval_since.proofs.GroupLemmas.{regrouped, empty_list, none_recent}
+use Rattle.eval_since.proofs.groups.forget_row.Goals as goal
+
+pub returns-in-Err-clause-times : goal.returns-in-Err-clause-times
+returns-in-Err-clause-times c = λ q v.
+    let old = c.args.groups.now.entries in
+    regrouped (recent c.args.hi c.args.now) c.args.key c.args.row q v old _ [] [] None
+    (nothing_there c.args.key q old _
+    (grind (arith, common_steps, c.entry.follows.holds-at-none)) (sym c.in-Err.ensures.absent))
+    refl
+    (ap (λ o. unwrap_or o []) (sym c.in-Err.ensures.absent))
+    (none_recent c.args.hi c.args.now c.args.row v)
+
+pub returns-then-is_empty-clause-times : goal.returns-then-is_empty-clause-times
+returns-then-is_empty-clause-times c = λ q v.
+    let old = c.args.groups.now.entries in
+    let is : Some c.get_mut-group.result.now ≡ lookup (is_at (row_cmp c.args.key)) old =
+    grind (arith, common_steps, c.in-Ok.ensures.value, c.get_mut-group.ensures.value, c.in-Occupied.is) in
+    regrouped (recent c.args.hi c.args.now) c.args.key c.args.row q v old _
+    c.forget.new.self c.get_mut-group.result.now None
+    (grind (
+      arith,
+      common_steps,
+      c.in-Ok.ensures.removal.0.0 q,
+      c.get_mut-group.ensures.written c.forget.new.self,
+      c.remove.ensures.removed,
+    ))
+    (empty_list c.forget.new.self (sym c.is_empty.ensures ∙ c.if-is_empty.true))
+    (ap (λ o. unwrap_or o []) is)
+    (c.forget.ensures.times v)
+
+pub returns-then-is_empty-clause-some : goal.returns-then-is_empty-clause-some
+returns-then-is_empty-clause-some c =
+    each_after IsFilled c.args.key c.args.groups.now.entries _ None
+    (λ q. grind (
+      arith,
+      common_steps,
+      c.in-Ok.ensures.removal.0.0 q,
+      c.get_mut-group.ensures.written c.forget.new.self,
+      c.remove.ensures.removed,
+    ))
+    tt
+
+pub returns-else-is_empty-clause-times : goal.returns-else-is_empty-clause-times
+returns-else-is_empty-clause-times c = λ q v.
+    let old = c.args.groups.now.entries in
+    let is : Some c.get_mut-group.result.now ≡ lookup (is_at (row_cmp c.args.key)) old =
+    grind (arith, common_steps, c.in-Ok.ensures.value, c.get_mut-group.ensures.value, c.in-Occupied.is) in
+    regrouped (recent c.args.hi c.args.now) c.args.key c.args.row q v old _
+    c.forget.new.self c.get_mut-group.result.now (Some c.forget.new.self)
+    (grind (
+      arith,
+      common_steps,
+      (c.in-Ok.ensures.update.0 c.forget.new.self).0 q,
+      c.get_mut-group.ensures.written c.forget.new.self,
+    ))
+    refl
+    (ap (λ o. unwrap_or o []) is)
+    (c.forget.ensures.times v)
+
+pub returns-else-is_empty-clause-some : goal.returns-else-is_empty-clause-some
+returns-else-is_empty-clause-some c = λ all.
+    let old = c.args.groups.now.entries in
+    let is : Some c.get_mut-group.result.now ≡ lookup (is_at (row_cmp c.args.key)) old =
+    grind (arith, common_steps, c.in-Ok.ensures.value, c.get_mut-group.ensures.value, c.in-Occupied.is) in
+    each_after IsFilled c.args.key old _ (Some c.forget.new.self)
+    (λ q. grind (
+      arith,
+      common_steps,
+      (c.in-Ok.ensures.update.0 c.forget.new.self).0 q,
+      c.get_mut-group.ensures.written c.forget.new.self,
+    )) (
+      not_empty c.forget.new.self (sym c.is_empty.ensures ∙ c.if-is_empty.false),
+      c.forget.ensures.some (found_filled c.args.key old c.get_mut-group.result.now is all).1,
+    ) all
+
+pub returns-in-Vacant-clause-times : goal.returns-in-Vacant-clause-times
+returns-in-Vacant-clause-times c = λ q v.
+    let old = c.args.groups.now.entries in
+    let none : None ≡ lookup (is_at (row_cmp c.args.key)) old =
+    grind (arith, common_steps, c.in-Ok.ensures.found, c.in-Vacant.is) in
+    regrouped (recent c.args.hi c.args.now) c.args.key c.args.row q v old _ [] [] None
+    (nothing_there c.args.key q old _
+    (grind (arith, common_steps, c.into_key.ensures.unchanged, c.in-Ok.ensures.unchanged, c.in-Vacant.is)) none)
+    refl
+    (ap (λ o. unwrap_or o []) none)
+    (none_recent c.args.hi c.args.now c.args.row v)
