@@ -21,7 +21,7 @@ use crate::rebuild::{kept_marks, kept_starts, queue_of};
 use crate::recalled::{KeptMarks, KeptStart};
 use crate::rows::{push_met, row_met};
 use mfotl_model::{Interval, Row};
-use relations::Table;
+use relations::{Columns, Table};
 use std::alloc::{AllocError, Global};
 use std::collections::{BTreeMap, VecDeque};
 use std::marker::Model;
@@ -236,7 +236,7 @@ impl Ahead {
     {
         let mut rows = Vec::new(alloc);
         push_met(alloc, &self.contents.rows, &mut rows, &self.interval, i, x)?;
-        let columns = Vec::from_slice(alloc, self.right.as_slice())?;
+        let columns = Columns::from_slice(alloc, self.right.as_slice())?;
         Ok(Table::from_rows(columns, rows))
     }
 

@@ -11,14 +11,14 @@ use Rattle.eval_until.proofs.RowsLemmas.{hit_is}
 use Rattle.eval_until.proofs.ahead.Ahead.table.Goals as goal
 
 pub from_rows-requires-clause-apart : goal.from_rows-requires-clause-apart
-from_rows-requires-clause-apart c = ap all_apart (c.in_ok-columns.ensures.items ∙ c.as_slice.ensures.value)
+from_rows-requires-clause-apart c = ap all_apart (c.in_ok-columns.ensures.ok ∙ c.as_slice.ensures.value)
     ∙ c.self.invariant.apart
 
 pub from_rows-requires-clause-sized : goal.from_rows-requires-clause-sized
 from_rows-requires-clause-sized c =
     let k = c.self.inside in
     ap (λ (columns : List ℕ). all_sized (length columns) c.push_met.new.out.items)
-    (c.in_ok-columns.ensures.items ∙ c.as_slice.ensures.value)
+    (c.in_ok-columns.ensures.ok ∙ c.as_slice.ensures.value)
     ∙ sized_met k.interval c.args.i c.args.x (length k.right.items) k.contents.rows.entries c.push_met.new.out.items
     c.self.invariant.sized
     (λ u. c.in_ok-push_met.ensures.rows u
