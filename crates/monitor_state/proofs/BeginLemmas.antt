@@ -1,6 +1,6 @@
 -- The nodes with which a monitor begins stand for the empty log.
 use Rattle.std.proofs.Common.{subst, ◌≡◌, ℕ, ◌+◌, ◌-◌, ◌≤◌, Bool, true, false, ◌&&◌, cond, List, [], ◌∷◌, ◌++◌, length}
-use Rattle.std.proofs.Common.{map, drop, refl, sym, ap, ap₂, ◌∙◌, arith, append_assoc, append-nil, inl, inr}
+use Rattle.std.proofs.Common.{map, drop, refl, sym, ap, ap₂, ◌∙◌, ◌⊎◌, arith, append_assoc, append-nil, inl, inr}
 use Rattle.mfotl_model.specs.Exact.{AllExact, View}
 use Rattle.mfotl_model.specs.FreeVariables.{fv}
 use Rattle.mfotl_model.specs.Log.{times}
@@ -30,7 +30,8 @@ use Rattle.monitor_state.proofs.SinceSteps.{free_operand}
 use Rattle.monitor_state.specs.Beginnings.{Adds, AddsIf, Begins, BeginsJoin, BeginsNode, IsJoined, NextBegun, OrBegun}
 use Rattle.monitor_state.specs.Beginnings.{PreviousBegun, SinceBegun}
 use Rattle.monitor_state.specs.Constants.{stands_alone}
-use Rattle.monitor_state.specs.Nodes.{children, filters, left_operand, nodes_in, nodes_of, operands, without_last}
+use Rattle.monitor_state.specs.Nodes.{children, filters, left_operand, nodes_in, nodes_of, operands, true_in}
+use Rattle.monitor_state.specs.Nodes.{without_last}
 use Rattle.monitor_state.specs.Stands.{ChildrenStand, IsConstant, IsFor, IsJoin, IsOr, JoinStands, NextStands, OrStands}
 use Rattle.monitor_state.specs.Stands.{PreviousStands, bare, conjunct_as, NodeStands, NodesStand, StateOf}
 use Rattle.monitor_state.specs.SinceNode.{IsSince, IsSinceState, SinceStands, SinceStandsAt}
@@ -73,6 +74,16 @@ unfolding fv sat
 false_adds table old new columns rows is =
     adds_one False (node.Constant table) old new is
     (record { columns = columns; rows = λ log dom v i. rows v; alone = refl }) (λ view empty. tt)
+
+pub true_left : (r : Role) (old new : List Node) → r ≡ role.Left → Adds (False ∷ []) old new
+    → Adds (true_in r ∷ []) old new
+true_left r old new is adds = subst (λ q. Adds (true_in q ∷ []) old new) (sym is) adds
+
+pub true_elsewhere : (r : Role) (old new : List Node) → (r ≡ role.Whole) ⊎ ((r ≡ role.Part) ⊎ (r ≡ role.Negated))
+    → Adds (True ∷ []) old new → Adds (true_in r ∷ []) old new
+true_elsewhere r old new (inl is) adds = subst (λ q. Adds (true_in q ∷ []) old new) (sym is) adds
+true_elsewhere r old new (inr (inl is)) adds = subst (λ q. Adds (true_in q ∷ []) old new) (sym is) adds
+true_elsewhere r old new (inr (inr is)) adds = subst (λ q. Adds (true_in q ∷ []) old new) (sym is) adds
 
 pub exists_adds : (r : Role) (h : CoreForm) (x : Bound) (f : CoreForm) (old mid new : List Node) → h ≡ Exists x f
     → Adds (nodes_in role.Whole f) old mid
@@ -164,7 +175,7 @@ begins core state taken given first times_are adds view empty =
     }
 
 -- a core without operands has one node
-pub true_at : (r : Role) (h : CoreForm) (old new : List Node) → h ≡ True → Adds (True ∷ []) old new
+pub true_at : (r : Role) (h : CoreForm) (old new : List Node) → h ≡ True → Adds (true_in r ∷ []) old new
     → Adds (nodes_in r h) old new
 unfolding nodes_in
 true_at r h old new same adds = subst (λ k. Adds (nodes_in r k) old new) (sym same) adds

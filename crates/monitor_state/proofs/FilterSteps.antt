@@ -17,7 +17,7 @@ use Rattle.mfotl_model.specs.Times.{NeverFalls}
 use Rattle.mfotl_model.specs.declared.event.TimePoint.{TimePoint}
 use Rattle.mfotl_model.specs.declared.value.Value.{Value}
 use Rattle.monitorable.proofs.Coincidence.{coincidence}
-use Rattle.monitorable.specs.CoreForms.{CoreForm, meaning, Compare, Not, And, Since, Until}
+use Rattle.monitorable.specs.CoreForms.{CoreForm, meaning, True, Compare, Not, And, Since, Until}
 use Rattle.monitorable.specs.Fragment.{binds, bound_by}
 use Rattle.monitorable.specs.Soundness.{IsSound}
 use Rattle.relations.proofs.JoinLemmas.{member_of_all, read_own}
@@ -66,6 +66,7 @@ filter_free f g none y m =
     bound_free f y (member_of_all (λ z. among z (bound_by f)) (fv (meaning g)) y none m)
 
 plain_operand : (g : CoreForm) → is_negated g ≡ false → left_operand g ≡ g
+plain_operand True plain = absurd (let clash : true ≡ false = plain in cc)
 plain_operand (Not f) plain = absurd (let clash : true ≡ false = plain in cc)
 plain_operand f plain = refl
 

@@ -293,7 +293,10 @@ module _ (goal : CoreForm) where
   nodes_work role.Left (Not f) pending rest works =
       subst (λ fs. Works goal pending (fs ++ rest)) (sym (append-nil (nodes_in role.Whole f)))
       (nodes_work role.Whole f pending rest works)
-  nodes_work r True pending rest works = work_alone r True pending rest refl refl refl refl works
+  nodes_work role.Whole True pending rest works = works_one goal True pending rest refl works
+  nodes_work role.Part True pending rest works = works_one goal True pending rest refl works
+  nodes_work role.Negated True pending rest works = works_one goal True pending rest refl works
+  nodes_work role.Left True pending rest works = works_one goal False pending rest refl works
   nodes_work r False pending rest works = work_alone r False pending rest refl refl refl refl works
   nodes_work r (Atom a) pending rest works = work_alone r (Atom a) pending rest refl refl refl refl works
 
@@ -488,7 +491,20 @@ module _ (view : View) (point given : TimePoint) (whole : CoreForm) where
       }))
       (p, tt)
   premises_all r (Compare c) p = premises_if (stands_alone r (binds c)) (Compare c) p
-  premises_all r True p = (p, tt)
+  premises_all role.Whole True p = (p, tt)
+  premises_all role.Part True p = (p, tt)
+  premises_all role.Negated True p = (p, tt)
+  premises_all role.Left True p = (
+    record {
+      rising = p.rising;
+      passes = p.passes;
+      whole_is = p.whole_is;
+      sound = p.sound;
+      ts = p.ts;
+      same = p.same;
+    },
+    tt,
+  )
   premises_all r False p = (p, tt)
   premises_all r (Atom a) p = (p, tt)
 

@@ -16,7 +16,7 @@ use Rattle.mfotl_model.specs.declared.event.TimePoint.{TimePoint}
 use Rattle.mfotl_model.specs.declared.interval.Interval.{Interval}
 use Rattle.mfotl_model.specs.declared.value.Value.{Value}
 use Rattle.eval_since.specs.SinceView.{Advances, Follows, SinceOf, due}
-use Rattle.monitorable.specs.CoreForms.{CoreForm, meaning, Not, Since}
+use Rattle.monitorable.specs.CoreForms.{CoreForm, meaning, True, False, Not, Since}
 use Rattle.monitorable.specs.Soundness.{HasVariablesOf}
 use Rattle.relations.specs.Pushed.{StandFrom, left_holds}
 use Rattle.monitor_state.proofs.CountLemmas.{count_since}
@@ -63,6 +63,9 @@ pub left_tell : (view : View) (f : CoreForm) (dom : List Value) (v : Valuation) 
     → Covers view dom → view.near (fv (meaning f)) v ≡ true → Tells view dom v f a → i + length tables ≤ reached view f
     → AllExact view (meaning (left_operand f)) i tables
     → StandFrom (λ k table. left_holds (is_negated f) table v ≡ truth_at a k) i tables
+unfolding sat fv settled_count settled
+left_tell view True dom v a i tables covers near tells most all =
+    negated_tell view False dom v a i tables covers near tells most all
 left_tell view (Not f) dom v a i tables covers near tells most all =
     negated_tell view f dom v a i tables covers near tells most all
 left_tell view f dom v a i tables covers near tells most all =

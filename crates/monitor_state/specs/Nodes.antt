@@ -1,17 +1,19 @@
 -- The nodes of a monitor: one for each part of the core that is evaluated by itself, operands first. A
 -- conjunction is one node with all its conjuncts; but where its right side is a window that is asked for the rows of
--- its left side alone, the node has the left side and the window's operands.
+-- its left side alone, the node has the left side and the window's operands. TRUE on the left of a window, which each
+-- ONCE and EVENTUALLY has, is evaluated as NOT FALSE: the window takes FALSE's tables, which have no rows and so take
+-- no memory.
 use Rattle.std.specs.Prelude.{ℕ, Bool, true, false, not, ◌&&◌, ◌||◌, cond, List, [], ◌∷◌, ◌++◌}
 use Rattle.std.specs.List.{list_any}
 use Rattle.mfotl_model.specs.FreeVariables.{among, fv}
 use Rattle.mfotl_model.specs.Tables.{all_among}
 use Rattle.monitorable.specs.Conjuncts.{PartForm, conjuncts_of}
 use Rattle.monitorable.specs.Conjuncts.PartForm.{Child, Test}
-use Rattle.monitorable.specs.CoreForms.{CoreForm, meaning, Atom, Compare, Not, And, Or, Exists, Previous}
-use Rattle.monitorable.specs.CoreForms.{Next, Since, Until}
+use Rattle.monitorable.specs.CoreForms.{CoreForm, meaning, True, False, Atom, Compare, Not, And, Or, Exists}
+use Rattle.monitorable.specs.CoreForms.{Previous, Next, Since, Until}
 use Rattle.monitorable.specs.Fragment.{binds, bound_by, is_conjunction, judges_not, under_not}
 use Rattle.monitorable.specs.declared.role.Role.{Role}
-use Rattle.monitorable.specs.declared.role.Role.TheVariants.{Whole, Part, Left}
+use Rattle.monitorable.specs.declared.role.Role.TheVariants.{Whole, Part, Negated, Left}
 use Rattle.monitor_state.specs.Constants.{stands_alone}
 
 -- the cores that are evaluated for conjuncts; a comparison that is tested is none
@@ -20,13 +22,15 @@ children [] = []
 children (Child f negated ∷ parts) = f ∷ children parts
 children (Test c wanted ∷ parts) = children parts
 
--- the left operand of SINCE or UNTIL, or a window that is asked for rows, without its NOT
+-- the left operand of SINCE or UNTIL, or a window that is asked for rows, without its NOT; TRUE is NOT FALSE
 abbrev pub left_operand : CoreForm → CoreForm
+left_operand True = False
 left_operand (Not f) = f
 left_operand f = f
 
 -- whether it has one
 abbrev pub is_negated : CoreForm → Bool
+is_negated True = true
 is_negated (Not f) = true
 is_negated f = false
 
@@ -77,9 +81,17 @@ operands (Since i f g) = left_operand f ∷ g ∷ []
 operands (Until i f g) = left_operand f ∷ g ∷ []
 operands f = []
 
+-- what TRUE is evaluated as in its role: FALSE on the left of SINCE or UNTIL
+abbrev pub true_in : Role → CoreForm
+true_in Left = left_operand True
+true_in Whole = True
+true_in Part = True
+true_in Negated = True
+
 -- the cores of the nodes of a core in its role, each behind its operands; a window that is asked for
 -- rows has no node of its own
 unfoldable pub nodes_in : Role → CoreForm → List CoreForm
+nodes_in role True = true_in role ∷ []
 nodes_in role (Compare c) = cond (stands_alone role (binds c)) (Compare c ∷ []) []
 nodes_in role (Not f) = nodes_in (under_not role) f ++ cond (judges_not role) (Not f ∷ []) []
 nodes_in role (And f g) =

@@ -20,12 +20,14 @@ use crate::tables::Tables;
 use crate::window::Window;
 use mfotl_model::{Interval, is_among};
 use monitorable::{Node as Core, Role, bound_by};
-use relations::Table;
+use relations::{Columns, Table};
 use std::alloc::{AllocError, Global};
 
 /// A window that is asked for rows, without its NOT.
 pub fn without_not(core: &Core) -> &Core
-    ensures { node_form result.now ≡ left_operand (node_form core.now) }
+    ensures window { is_window (node_form result.now) ≡ is_window (left_operand (node_form core.now)) }
+    ensures operand { IsTrue (is_window (left_operand (node_form core.now)))
+        → node_form result.now ≡ left_operand (node_form core.now) }
 {
     match core {
         Core::Not(inner) => inner,
@@ -120,7 +122,7 @@ fn order_of(
         return Ok(None);
     }
     let columns = core.free_vars(alloc)?;
-    Ok(Some(Table::empty(alloc, columns)))
+    Ok(Some(Table::empty(alloc, Columns::from_vec(columns))))
 }
 
 /// Adds the node of the core, a conjunction of these sides.
@@ -150,12 +152,12 @@ pub fn add_filter(
 }
 
 // The columns by which the right side is asked: none where it only filters.
-fn keys_of(alloc: Global, keyed: bool, left: &Core, right: &Core) -> Result<Vec<u32>, AllocError>
+fn keys_of(alloc: Global, keyed: bool, left: &Core, right: &Core) -> Result<Columns, AllocError>
     ensures { IfOk result (λ keys. keys.items
         ≡ cond keyed (common (fv (meaning (node_form right.now))) (fv (meaning (node_form left.now)))) []) }
 {
     if !keyed {
-        return Ok(Vec::new(alloc));
+        return Ok(Columns::new(alloc));
     }
     let columns = right.free_vars(alloc)?;
     let own = left.free_vars(alloc)?;

@@ -10,7 +10,7 @@ use crate::operators::is_negated;
 use eval_until::UntilState;
 use mfotl_model::Interval;
 use monitorable::Node as Core;
-use relations::Table;
+use relations::{Columns, Table};
 use std::alloc::{AllocError, Global};
 
 /// Adds the node of `whole`, an UNTIL of these operands.
@@ -29,7 +29,10 @@ pub fn add_until(
 {
     let state = until_state(alloc, interval, left, right)?;
     let columns = whole.free_vars(alloc)?;
-    add(Node::Until(state, Table::empty(alloc, columns)), nodes)
+    add(
+        Node::Until(state, Table::empty(alloc, Columns::from_vec(columns))),
+        nodes,
+    )
 }
 
 pub fn until_state(

@@ -13,6 +13,7 @@ use crate::constant::{add_comparison, add_false, add_true};
 use crate::node::{Node, add};
 use crate::operators::{add_next, add_or, add_previous, add_since};
 use crate::posing::posed;
+use eval_bool::AtomReader;
 use mfotl_model::Atom as OneAtom;
 use monitorable::{Node as Core, Role};
 use std::alloc::{AllocError, Global};
@@ -40,7 +41,7 @@ fn add_nodes(
     ensures { OnOk result (Adds (nodes_in role (node_form core.now)) nodes.old.items nodes.new.items) }
 {
     match core {
-        Core::True => add_true(alloc, nodes),
+        Core::True => add_true(alloc, role, nodes),
         Core::False => add_false(alloc, nodes),
         Core::Atom(atom) => add_atom(alloc, atom, nodes),
         Core::Compare(comparison) => add_comparison(alloc, role, comparison, nodes),
@@ -151,6 +152,6 @@ fn add_exists(variable: u32, nodes: &mut Vec<Node>) -> Result<(), AllocError>
 fn add_atom(alloc: Global, atom: &OneAtom, nodes: &mut Vec<Node>) -> Result<(), AllocError>
     ensures { OnOk result (Adds (Atom atom.now ∷ []) nodes.old.items nodes.new.items) }
 {
-    let atom = atom.copy(alloc)?;
-    add(Node::Atom(atom), nodes)
+    let reader = AtomReader::new(alloc, atom.copy(alloc)?)?;
+    add(Node::Atom(reader), nodes)
 }

@@ -5,32 +5,39 @@ ghost use Rattle.std.specs.Ordering.{eq_by_cmp};
 ghost use Rattle.mfotl_model.specs.Satisfaction.{Valuation};
 ghost use Rattle.mfotl_model.specs.Tables.{has};
 ghost use Rattle.mfotl_model.specs.Values.{value_cmp};
-ghost use Rattle.monitorable.specs.CoreForms.{Compare, False, True};
+ghost use Rattle.monitorable.specs.CoreForms.{Compare, False};
 ghost use Rattle.monitorable.specs.Fragment.{binds};
 ghost use Rattle.monitorable.specs.PartView.{part_form};
 ghost use Rattle.monitor_state.specs.Beginnings.{Accepted, Adds, AddsIf};
 ghost use Rattle.monitor_state.specs.Constants.{is_closed, is_closed_test, is_fixed, passes_test, stands_alone};
+ghost use Rattle.monitor_state.specs.Nodes.{true_in};
 ghost use Rattle.monitor_state.specs.Stands.{IsConstant};
 
 use crate::node::{Node, add};
 use mfotl_model::{Comparison, Row, Term, Value};
 use monitorable::{Part, Role, binds};
-use relations::Table;
+use relations::{Columns, Table};
 use std::alloc::{AllocError, Global};
 
+/// Adds the node of TRUE: that of FALSE on the left of SINCE or UNTIL, whose left operand is then negated.
 #[inline(never)]
-pub fn add_true(alloc: Global, nodes: &mut Vec<Node>) -> Result<(), AllocError>
-    ensures { OnOk result (Adds (True ∷ []) nodes.old.items nodes.new.items) }
+pub fn add_true(alloc: Global, role: Role, nodes: &mut Vec<Node>) -> Result<(), AllocError>
+    ensures { OnOk result (Adds (true_in role ∷ []) nodes.old.items nodes.new.items) }
 {
-    let table = Table::unit(alloc)?;
-    add(Node::Constant(table), nodes)
+    match role {
+        Role::Left => add_false(alloc, nodes),
+        Role::Whole | Role::Part | Role::Negated => {
+            let table = Table::unit(alloc)?;
+            add(Node::Constant(table), nodes)
+        }
+    }
 }
 
 #[inline(never)]
 pub fn add_false(alloc: Global, nodes: &mut Vec<Node>) -> Result<(), AllocError>
     ensures { OnOk result (Adds (False ∷ []) nodes.old.items nodes.new.items) }
 {
-    let table = Table::empty(alloc, Vec::new(alloc));
+    let table = Table::empty(alloc, Columns::new(alloc));
     add(Node::Constant(table), nodes)
 }
 
@@ -91,7 +98,7 @@ fn one_value(alloc: Global, x: u32, value: &Value) -> Result<Table, AllocError>
     ensures columns { IfOk result (λ table. table.columns ≡ x ∷ []) }
     ensures has { IfOk result (λ table. (v : Valuation) → has table v ≡ eq_by_cmp value_cmp (v x) value.now) }
 {
-    let columns = Vec::from_array(alloc, [x])?;
+    let columns = Columns::from_array(alloc, [x])?;
     let rows = Vec::from_array(alloc, [row_of(alloc, value)?])?;
     Ok(Table::from_rows(columns, rows))
 }

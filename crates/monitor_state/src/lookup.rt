@@ -9,7 +9,7 @@ ghost use Rattle.monitor_state.specs.WindowNode.{window_due, window_took_all};
 use crate::ordering::in_order;
 use crate::window::{Window, columns, pulled_of};
 use mfotl_model::is_among;
-use relations::Table;
+use relations::{Columns, Table};
 use std::alloc::{AllocError, Global};
 
 /// Goes on by one position: a table's rows, each with those of which the window holds that agree with it.
@@ -43,7 +43,7 @@ fn keys_of(alloc: Global, table: &Table, columns: &[u32]) -> Result<Table, Alloc
 }
 
 /// The columns of the second that the first has.
-pub fn common(alloc: Global, first: &[u32], second: &[u32]) -> Result<Vec<u32>, AllocError>
+pub fn common(alloc: Global, first: &[u32], second: &[u32]) -> Result<Columns, AllocError>
     ensures { IfOk result (λ both. both.items ≡ common first.now second.now) }
 {
     second

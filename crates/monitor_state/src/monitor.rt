@@ -33,6 +33,8 @@ pub struct Monitor {
     first: u64,
     times: VecDeque<u64>,
     nodes: Vec<Node>,
+    // Room for the nodes' tables while a time-point is taken.
+    stack: Vec<Tables>,
 }
 
 impl Monitor {
@@ -50,6 +52,7 @@ impl Monitor {
             first: 0,
             times: VecDeque::new(alloc),
             nodes,
+            stack: Vec::new(alloc),
         })
     }
 
@@ -119,6 +122,7 @@ impl Monitor {
             first,
             times: VecDeque::from_vec(times),
             nodes,
+            stack: Vec::new(alloc),
         })
     }
 
@@ -134,7 +138,7 @@ impl Monitor {
     {
         let past = self.given.saturating_sub(self.first);
         keep_time(&mut self.times, past, point.ts)?;
-        let tables = advanced(alloc, &mut self.nodes, point)?;
+        let tables = advanced(alloc, &mut self.nodes, &mut self.stack, point)?;
         self.first = self.given;
         self.given = self.given.saturating_add(tables.len() as u64);
         self.taken += 1;
@@ -153,14 +157,20 @@ fn keep_time(times: &mut VecDeque<u64>, past: u64, ts: u64) -> Result<(), AllocE
     Ok(())
 }
 
-// All nodes take the time-point, one after the other. The last one's tables are the core's.
-fn advanced(alloc: Global, nodes: &mut Vec<Node>, point: &TimePoint) -> Result<Tables, AllocError>
+// All nodes take the time-point, one after the other. The last one's tables are the core's. What lies on the stack
+// before is dropped.
+fn advanced(
+    alloc: Global,
+    nodes: &mut Vec<Node>,
+    stack: &mut Vec<Tables>,
+    point: &TimePoint,
+) -> Result<Tables, AllocError>
     ensures { IfOk result (AllAdvance nodes.old.items point.now nodes.new.items) }
 {
-    let mut stack = Vec::new(alloc);
+    stack.clear();
     for node in nodes.iter_mut() {
-        let tables = node.advance(alloc, point, &mut stack)?;
+        let tables = node.advance(alloc, point, stack)?;
         stack.push(tables)?;
     }
-    Ok(popped(alloc, &mut stack))
+    Ok(popped(alloc, stack))
 }

@@ -12,10 +12,10 @@ use crate::since::take_since;
 use crate::stack::{popped, popped_many};
 use crate::tables::Tables;
 use crate::until::take_until;
-use eval_bool::{JoinState, OrState, eval_atom};
+use eval_bool::{AtomReader, JoinState, OrState};
 use eval_since::{PrevState, SinceState};
 use eval_until::{NextState, UntilState};
-use mfotl_model::{Atom, TimePoint};
+use mfotl_model::TimePoint;
 use relations::Table;
 use std::alloc::{AllocError, Global};
 
@@ -24,7 +24,7 @@ use std::alloc::{AllocError, Global};
 pub enum Node {
     /// What is the same at each position, with its table.
     Constant(Table),
-    Atom(Atom),
+    Atom(AtomReader),
     /// EXISTS with its variable.
     Exists(u32),
     /// A conjunction with a child.
@@ -54,7 +54,7 @@ impl Node {
     {
         match self {
             Node::Constant(table) => advance_constant(alloc, table, point, stack),
-            Node::Atom(atom) => advance_atom(alloc, atom, point, stack),
+            Node::Atom(reader) => advance_atom(alloc, reader, point, stack),
             Node::Exists(var) => advance_exists(alloc, *var, point, stack),
             Node::Join(state) => advance_join(alloc, state, point, stack),
             Node::Filter(state) => advance_filter(alloc, state, point, stack),
@@ -84,14 +84,14 @@ fn advance_constant(
 
 fn advance_atom(
     alloc: Global,
-    atom: &Atom,
+    reader: &AtomReader,
     point: &TimePoint,
     _stack: &Vec<Tables>,
 ) -> Result<Tables, AllocError>
-    ensures { IfOk result (λ tables. Advances (Node.Atom atom.now) point.now _stack.now.items
-        (Node.Atom atom.now) _stack.now.items tables) }
+    ensures { IfOk result (λ tables. Advances (Node.Atom reader.now) point.now _stack.now.items
+        (Node.Atom reader.now) _stack.now.items tables) }
 {
-    match eval_atom(alloc, point, atom) {
+    match reader.table(alloc, point) {
         Ok(table) => Ok(Tables::one(alloc, table)),
         Err(error) => Err(error),
     }

@@ -13,15 +13,16 @@ use eval_since::{PrevState, SinceState};
 use eval_until::NextState;
 use mfotl_model::Interval;
 use monitorable::Node as Core;
-use relations::Table;
+use relations::{Columns, Table};
 use std::alloc::{AllocError, Global};
 
-/// Whether a core is a NOT.
+/// Whether a core is a NOT. TRUE is NOT FALSE.
 pub fn is_negated(core: &Core) -> bool
     ensures { result ≡ is_negated (node_form core.now) }
 {
     match core {
         Core::Not(_) => true,
+        Core::True => true,
         _ => false,
     }
 }
@@ -42,7 +43,10 @@ pub fn add_since(
 {
     let state = since_state(alloc, interval, left, right, &[])?;
     let columns = whole.free_vars(alloc)?;
-    add(Node::Since(state, Table::empty(alloc, columns)), nodes)
+    add(
+        Node::Since(state, Table::empty(alloc, Columns::from_vec(columns))),
+        nodes,
+    )
 }
 
 /// The state of a SINCE of these operands, which finds rows by the columns of `keys` at once where the left

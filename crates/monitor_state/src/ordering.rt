@@ -4,7 +4,7 @@ ghost use Rattle.mfotl_model.specs.Satisfaction.{Valuation};
 ghost use Rattle.mfotl_model.specs.Tables.{all_among, has};
 
 use mfotl_model::is_among;
-use relations::Table;
+use relations::{Columns, Table};
 use std::alloc::{AllocError, Global};
 
 pub fn all_among(wanted: &[u32], columns: &[u32]) -> bool
@@ -35,6 +35,6 @@ fn projected(alloc: Global, table: &Table, order: &Table) -> Result<Table, Alloc
     ensures has { IfOk result (λ ordered. IsTrue (all_among table.now.columns order.now.columns)
         → (v : Valuation) → has ordered v ≡ has table.now v) }
 {
-    let columns = Vec::from_slice(alloc, order.columns())?;
+    let columns = Columns::from_slice(alloc, order.columns())?;
     table.project(alloc, columns)
 }

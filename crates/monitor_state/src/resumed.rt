@@ -7,10 +7,9 @@ use crate::node::Node;
 use crate::resuming::{before_place, from_place, since_resumed, until_resumed, window_resumed};
 use crate::state::{NodeData, WindowData};
 use crate::tables::Tables;
-use eval_bool::{JoinState, OrState};
+use eval_bool::{AtomReader, JoinState, OrState};
 use eval_since::{PrevState, SinceState};
 use eval_until::{NextState, UntilState};
-use mfotl_model::Atom;
 use relations::Table;
 use std::alloc::{AllocError, Global};
 use std::collections::VecDeque;
@@ -51,7 +50,7 @@ fn node_resumed(
 {
     match node {
         Node::Constant(table) => resumed_constant(table, first, times, kept),
-        Node::Atom(atom) => resumed_atom(atom, first, times, kept),
+        Node::Atom(reader) => resumed_atom(reader, first, times, kept),
         Node::Exists(var) => resumed_exists(var, first, times, kept),
         Node::Join(state) => resumed_join(alloc, state, first, times, kept),
         Node::Filter(state) => resumed_filter(alloc, state, first, times, kept),
@@ -78,12 +77,17 @@ fn resumed_constant(
     }
 }
 
-fn resumed_atom(atom: Atom, first: u64, times: &[u64], kept: NodeData) -> Result<Node, AllocError>
-    requires { Matches (record { first = first; stamps = times.now }) (Node.Atom atom) kept }
-    ensures { IfOk result (NodeResumed (record { first = first; stamps = times.now }) (Node.Atom atom) kept) }
+fn resumed_atom(
+    reader: AtomReader,
+    first: u64,
+    times: &[u64],
+    kept: NodeData,
+) -> Result<Node, AllocError>
+    requires { Matches (record { first = first; stamps = times.now }) (Node.Atom reader) kept }
+    ensures { IfOk result (NodeResumed (record { first = first; stamps = times.now }) (Node.Atom reader) kept) }
 {
     match kept {
-        NodeData::Bare => Ok(Node::Atom(atom)),
+        NodeData::Bare => Ok(Node::Atom(reader)),
         _ => Err(AllocError),
     }
 }

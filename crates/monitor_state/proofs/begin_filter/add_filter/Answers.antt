@@ -8,9 +8,9 @@ use Rattle.monitor_state.proofs.begin_filter.add_filter.Goals as goal
 
 pub begun_window-requires : goal.begun_window-requires
 begun_window-requires c =
-    subst (Accepted role.Part) (sym c.without_not.ensures)
-    (operand_accepted (node_form c.args.right.now)
-    (is_filtered_window (node_form c.args.left.now) (node_form c.args.right.now) c.requires.only) c.requires.accepted)
+    let window = is_filtered_window (node_form c.args.left.now) (node_form c.args.right.now) c.requires.only in
+    subst (Accepted role.Part) (sym (c.without_not.ensures.operand window))
+    (operand_accepted (node_form c.args.right.now) window c.requires.accepted)
 
 pub returns : goal.returns
 returns c =
@@ -24,5 +24,8 @@ returns c =
     })
     c.args.nodes.now.items c.add.new.nodes.items c.requires.only c.is_negated.ensures c.in_ok-order.ensures
     c.new.ensures
-    (subst (λ w. WindowBegun w c.in_ok-window.window) c.without_not.ensures c.in_ok-window.ensures))
+    (subst (λ w. WindowBegun w c.in_ok-window.window)
+    (c.without_not.ensures.operand
+    (is_filtered_window (node_form c.args.left.now) (node_form c.args.right.now) c.requires.only))
+    c.in_ok-window.ensures))
     c.add.ensures

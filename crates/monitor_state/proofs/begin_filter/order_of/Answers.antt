@@ -8,7 +8,7 @@ use Rattle.monitor_state.proofs.begin_filter.order_of.Goals as goal
 
 pub empty-requires : goal.empty-requires
 empty-requires c = record {
-  apart = ap all_apart c.in_ok-columns.ensures
+  apart = ap all_apart (c.from_vec.ensures.items ∙ c.in_ok-columns.ensures)
       ∙ fv_apart (meaning (node_form c.args.core.now));
 }
 
@@ -16,5 +16,6 @@ pub returns : goal.returns
 returns c = (
   keyed_plain (node_form c.args.left.now) (node_form c.args.right.now) c.requires.only
       (sym c.in_ok-adds_none.ensures ∙ c.if-branch.false),
-  c.empty.ensures.columns ∙ c.in_ok-columns.ensures ∙ ap (λ k. fv (meaning k)) c.requires.sides,
+  c.empty.ensures.columns ∙ c.from_vec.ensures.items ∙ c.in_ok-columns.ensures
+      ∙ ap (λ k. fv (meaning k)) c.requires.sides,
 )

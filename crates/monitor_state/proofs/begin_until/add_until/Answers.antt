@@ -8,7 +8,10 @@ use Rattle.monitor_state.proofs.begin_until.add_until.Goals as goal
 
 pub empty-requires : goal.empty-requires
 empty-requires c =
-    record { apart = ap all_apart c.in_ok-columns.ensures ∙ fv_apart (meaning (node_form c.args.whole.now)) }
+    record {
+      apart = ap all_apart (c.from_vec.ensures.items ∙ c.in_ok-columns.ensures)
+          ∙ fv_apart (meaning (node_form c.args.whole.now));
+    }
 
 pub returns : goal.returns
 returns c =
@@ -16,5 +19,5 @@ returns c =
     (until_added (node_form c.args.whole.now) c.args.interval.now (node_form c.args.left.now)
     (node_form c.args.right.now) c.in_ok-state.state
     c.empty.result c.args.nodes.now.items c.add.new.nodes.items c.in_ok-state.ensures
-    (c.empty.ensures.columns ∙ c.in_ok-columns.ensures))
+    (c.empty.ensures.columns ∙ c.from_vec.ensures.items ∙ c.in_ok-columns.ensures))
     c.add.ensures

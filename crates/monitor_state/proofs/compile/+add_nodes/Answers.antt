@@ -360,7 +360,10 @@ add_and-add_nodes-requires t c =
 
 pub add_and-add_operands-requires : goal.add_and-add_operands-requires
 add_and-add_operands-requires t c =
-    let bare : node_form c.without_not.result.now ≡ left_operand (node_form c.args.right.now) = c.without_not.ensures in
+    let window = is_filter_window c.is_conjunction-own.result (node_form c.args.left.now) (node_form c.args.right.now)
+    (sym c.in_ok-is_filtered.ensures ∙ c.if-branch.true) in
+    let bare : node_form c.without_not.result.now ≡ left_operand (node_form c.args.right.now) =
+    c.without_not.ensures.operand window in
     let same : nodes (node_form c.without_not.result.now) ≡ nodes (left_operand (node_form c.args.right.now)) =
     ap nodes bare in
     let less : nodes (left_operand (node_form c.args.right.now)) ≤ nodes (node_form c.args.right.now) =
@@ -369,9 +372,7 @@ add_and-add_operands-requires t c =
     (nodes (node_form c.args.left.now) + nodes (node_form c.args.right.now)) + 1 = omega arith in (
       search rules,
       subst (Accepted role.Part) (sym bare)
-          (operand_accepted (node_form c.args.right.now)
-          (is_filter_window c.is_conjunction-own.result (node_form c.args.left.now) (node_form c.args.right.now)
-          (sym c.in_ok-is_filtered.ensures ∙ c.if-branch.true))
+          (operand_accepted (node_form c.args.right.now) window
           (and_right c.args.role (node_form c.args.left.now) (node_form c.args.right.now) c.requires.accepted)),
     )
 
@@ -383,6 +384,8 @@ pub add_and-returns-then-branch : goal.add_and-returns-then-branch
 add_and-returns-then-branch t c =
     let only : (c.is_conjunction-own.result && filters (node_form c.args.left.now) (node_form c.args.right.now)) ≡
     true = sym c.in_ok-is_filtered.ensures ∙ c.if-branch.true in
+    let window = is_filter_window c.is_conjunction-own.result (node_form c.args.left.now) (node_form c.args.right.now)
+    only in
     on_ok_then c.add_filter.result _ _
     (filter_adds c.args.role (node_form c.args.core.now) (node_form c.args.left.now) (node_form c.args.right.now)
     c.args.nodes.now.items c.add_nodes.new.nodes.items
@@ -391,10 +394,9 @@ add_and-returns-then-branch t c =
     (sym c.is_conjunction-own.ensures) ∙ only)
     c.in_ok-add_nodes.ensures
     (subst (λ ns. Adds ns c.add_nodes.new.nodes.items c.add_operands.new.nodes.items)
-    (operand_nodes (node_form c.args.right.now)
-    (is_filter_window c.is_conjunction-own.result (node_form c.args.left.now) (node_form c.args.right.now) only))
+    (operand_nodes (node_form c.args.right.now) window)
     (subst (λ w. Adds (without_last (nodes_in role.Part w)) c.add_nodes.new.nodes.items c.add_operands.new.nodes.items)
-    c.without_not.ensures c.in_ok-add_operands.ensures)))
+    (c.without_not.ensures.operand window) c.in_ok-add_operands.ensures)))
     c.add_filter.ensures
 
 pub add_and-add_both-requires : goal.add_and-add_both-requires

@@ -10,7 +10,7 @@ use Rattle.monitor_state.proofs.monitor.advanced.Goals as goal
 
 pub loop-node-init : goal.loop-node-init
 loop-node-init c view point core premises stand =
-    subst (Going view point c.args.point.now core [] c.deref_mut-node-items.result.now) (sym c.new-stack.ensures.items)
+    subst (Going view point c.args.point.now core [] c.deref_mut-node-items.result.now) (sym c.clear.ensures.items)
     (going_begins view point c.args.point.now core c.deref_mut-node-items.result.now premises stand)
 
 pub loop-node-preserved : goal.loop-node-preserved

@@ -8,7 +8,7 @@ use Rattle.monitor_state.proofs.operators.add_since.Goals as goal
 
 pub empty-requires : goal.empty-requires
 empty-requires c = record {
-  apart = ap all_apart c.in_ok-columns.ensures
+  apart = ap all_apart (c.from_vec.ensures.items ∙ c.in_ok-columns.ensures)
       ∙ fv_apart (meaning (node_form c.args.whole.now));
 }
 
@@ -18,5 +18,5 @@ returns c =
     (since_added (node_form c.args.whole.now) c.args.interval.now (node_form c.args.left.now)
     (node_form c.args.right.now)
     c.in_ok-state.state c.empty.result c.args.nodes.now.items c.add.new.nodes.items c.in_ok-state.ensures
-    (c.empty.ensures.columns ∙ c.in_ok-columns.ensures))
+    (c.empty.ensures.columns ∙ c.from_vec.ensures.items ∙ c.in_ok-columns.ensures))
     c.add.ensures

@@ -15,6 +15,6 @@ returns-clause-has c =
     → (v : Valuation) → has table v ≡ has c.args.table.now v)
     (λ table means inside v.
     projected_has c.args.table.now table c.in_ok-columns.columns.items v
-    (ap (all_among c.args.table.now.columns) (c.in_ok-columns.ensures.items ∙ c.columns.ensures.columns) ∙ inside)
+    (ap (all_among c.args.table.now.columns) (c.in_ok-columns.ensures.ok ∙ c.columns.ensures.columns) ∙ inside)
     (means v))
     c.project.ensures.has
