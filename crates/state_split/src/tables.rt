@@ -8,14 +8,14 @@ use crate::rows::dealt_rows;
 use crate::shares::{empty_shares, longer};
 use crate::sorter::Sorter;
 use mfotl_model::Row;
-use relations::Table;
+use relations::{Columns, Table};
 use std::alloc::{AllocError, Global};
 
 fn table_over(alloc: Global, columns: &[u32], rows: Vec<Row>) -> Result<Table, AllocError>
     requires { IsTable columns.now rows.items }
     ensures { IfOk result (λ table. table ≡ record { columns = columns.now; rows = rows.items }) }
 {
-    let columns = Vec::from_slice(alloc, columns)?;
+    let columns = Columns::from_slice(alloc, columns)?;
     Ok(Table::from_rows(columns, rows))
 }
 
