@@ -25,6 +25,7 @@ use Rattle.eval_until.specs.contracts.contents.Contents as Contents
 use Rattle.eval_until.specs.contracts.ahead.Ahead as Ahead
 use Rattle.eval_until.specs.contracts.until.UntilState as UntilState
 use Rattle.eval_until.specs.contracts.recalled.UntilData as UntilData
+use Rattle.eval_bool.specs.contracts.atom.AtomReader as AtomReader
 use Rattle.eval_bool.specs.contracts.join.JoinState as JoinState
 use Rattle.eval_bool.specs.contracts.or.OrState as OrState
 use Rattle.monitorable.specs.contracts.policy_core.Core as Core
@@ -120,6 +121,9 @@ since_data_send = search (row_send, table_send, base) depth 30
 pub until_data_send : IsSend (UntilData.the_field).row
 until_data_send = search (row_send, table_send, base) depth 30
 
+pub reader_send : IsSend (AtomReader.the_field).row
+reader_send = search (atom_send, base) depth 30
+
 pub join_send : IsSend (JoinState.the_field).row
 join_send = search (comparison_send, table_send, base) depth 40
 
@@ -128,10 +132,10 @@ or_send = search (table_send, base) depth 30
 
 -- ---- monitors and their states
 pub node_send : IsSend (Node.the_field).row
-node_send = search (since_send, until_send, join_send, or_send, atom_send, interval_send, table_send, base) depth 30
+node_send = search (since_send, until_send, reader_send, join_send, or_send, interval_send, table_send, base) depth 30
 
 pub monitor_send : IsSend (Monitor.the_field).row
-monitor_send = search (node_send, core_send, base) depth 30
+monitor_send = search (node_send, core_send, table_send, base) depth 30
 
 pub node_data_send : IsSend (NodeData.the_field).row
 node_data_send = search (since_data_send, until_data_send, table_send, interval_send, base) depth 30

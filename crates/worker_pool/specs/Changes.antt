@@ -30,6 +30,12 @@ ChangesIn d s e =
     (w : World) → IsFor w.core s → IsDriverOf d w
     → (x : World) × Reaches w (Reads (ToStrategy s) ∷ []) x × IsDriverOf e x
 
+-- main comes to a driver of which this holds, and that one reads the change to the strategy
+pub record MakesChange (Holds : Driver → Type 0) (s : Strategy) (e : Driver) : Type 0 where
+  pub before : Driver
+  pub holds : Holds before
+  pub changes : ChangesIn before s e
+
 -- the first change, if there is one, is to be made behind more time-points than were read
 abbrev pub NoneDue : Schedule → Type 0
 NoneDue schedule = (c : Change) (rest : List Change) → schedule.changes.items ≡ c ∷ rest → schedule.routed < c.before

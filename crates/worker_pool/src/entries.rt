@@ -5,7 +5,7 @@ ghost use Rattle.rescale_core.specs.Moving.{IsDriverOf, core_of};
 ghost use Rattle.rescale_core.specs.Workers.{IsFor, MayFollow};
 ghost use Rattle.rescale_core.specs.Worlds.{World, spot_in};
 ghost use Rattle.turn_hub.specs.Ends.{IsMainOf, cell_count};
-ghost use Rattle.worker_pool.specs.Changes.{ChangesIn, HaveCells, NoneDue, Suits};
+ghost use Rattle.worker_pool.specs.Changes.{ChangesIn, HaveCells, MakesChange, NoneDue, Suits};
 ghost use Rattle.worker_pool.specs.Hands.{AreHandsOf};
 ghost use Rattle.worker_pool.specs.Writing.{Adds, FallsShort, IsOutputStop, IsRoomy, Keeps, ReadsIn, Runs, RunsTo};
 
@@ -65,6 +65,8 @@ fn change<R: Wait, O: Sink, G: Gate>(
     requires hands { AreHandsOf context.now.hub.now own.old.items }
     ensures hands { AreHandsOf context.now.hub.now own.new.items }
     ensures main { OnOk result (IsMainOf context.now.hub.now driver.new.main) }
+    ensures makes { OnOk result (MakesChange (λ before. Keeps driver.old (O.written out.old) writer.old.tally
+        before (O.written out.new) writer.new.tally) strategy driver.new) }
     ensures ok { OnOk result (Keeps driver.old (O.written out.old) writer.old.tally
         driver.new (O.written out.new) writer.new.tally) }
     ensures err { OnErr result (FallsShort driver.old (O.written out.old) writer.old.tally (O.written out.new)) }

@@ -21,3 +21,11 @@ returns-clause-ok g c =
     change_keeps c.args.driver.now c.make_room.new.driver c.alter.new.driver (g.O.Sink.written c.args.out.now)
     (g.O.Sink.written c.make_room.new.out) c.args.writer.now.tally c.make_room.new.writer.tally c.args.strategy
     c.in_ok-make_room.ensures.ok c.requires.suits c.in_ok-alter.ensures.changes
+
+pub returns-clause-makes : goal.returns-clause-makes
+returns-clause-makes g c =
+    record {
+      before = c.make_room.new.driver;
+      holds = c.in_ok-make_room.ensures.ok;
+      changes = c.in_ok-alter.ensures.changes;
+    }
