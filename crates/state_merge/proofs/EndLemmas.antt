@@ -1,7 +1,7 @@
--- Where nothing is left to unite, all is united.
-use Rattle.std.proofs.Common.{◌≡◌, ℕ, List, [], ◌∷◌, ◌++◌, length, subst, append-nil, refl, arith}
+-- How tables are united one by one, and where nothing is left to unite, that all is united.
+use Rattle.std.proofs.Common.{◌≡◌, ℕ, List, [], ◌∷◌, ◌++◌, length, subst, sym, append_assoc, append-nil, refl, arith}
 use Rattle.mfotl_model.specs.Tables.{TableOf}
-use Rattle.monitor_state.specs.StateUnions.{ListsUnion, NodesUnion, TablesUnion}
+use Rattle.monitor_state.specs.StateUnions.{ListsUnion, NodesUnion, TableUnion, TablesUnion}
 use Rattle.monitor_state.specs.declared.state.NodeData.{NodeData}
 use Rattle.state_merge.specs.Fits.{AllAlike, ListsFit, TablesFit}
 
@@ -14,6 +14,12 @@ pub tables_done : (a b xs ys out : List TableOf) → xs ≡ [] → TablesFit xs 
 tables_done a b [] [] out e fit done = subst (TablesUnion a b) (append-nil out) (done [] tt)
 tables_done a b [] (y ∷ ys) out e fit done = absurd fit
 tables_done a b (x ∷ xs) ys out e fit done = absurd (cc)
+
+pub tables_on : (a b out xs ys : List TableOf) (x y z : TableOf) → TableUnion x y z → TablesFit (x ∷ xs) (y ∷ ys)
+    → ((zs : List TableOf) → TablesUnion (x ∷ xs) (y ∷ ys) zs → TablesUnion a b (out ++ zs))
+    → TablesFit xs ys × ((zs : List TableOf) → TablesUnion xs ys zs → TablesUnion a b ((out ++ z ∷ []) ++ zs))
+tables_on a b out xs ys x y z is fit done =
+    (fit.1, (λ zs u. subst (TablesUnion a b) (sym (append_assoc out (z ∷ []) zs)) (done (z ∷ zs) (is, u))))
 
 pub lists_done : (a b xs ys out : List (List TableOf)) → xs ≡ [] → ListsFit xs ys
     → ((zs : List (List TableOf)) → ListsUnion xs ys zs → ListsUnion a b (out ++ zs)) → ListsUnion a b out
