@@ -1,85 +1,71 @@
--- Changes of the strategy keep what was read and written.
-use Rattle.std.proofs.Common.{◌≡◌, ◌≤◌, ◌<◌, ◌∙◌, arith, ℕ, List, [], ◌∷◌, ◌++◌, Option, Some, OnOk, Ok, Err, map}
-use Rattle.std.proofs.Common.{ap, sym, subst, suc, All}
+-- Changes of the strategy: what is to come fits, and just what is due is read.
+use Rattle.std.proofs.Common.{◌≡◌, ◌≤◌, ◌<◌, ◌∙◌, arith, ℕ, List, [], ◌∷◌, ◌++◌, Option, Some, OnOk, Ok, Err}
+use Rattle.std.proofs.Common.{ap, sym, subst, refl, suc, All, append-nil, append_assoc}
 use Rattle.std.specs.Prelude.{Result}
 use Rattle.std.specs.declared.collections.VecDeque.{VecDeque}
 use Rattle.std.specs.Global.{Global}
 use Rattle.std.specs.Option.{option_to_list}
 use Rattle.mfotl_model.specs.Strategies.{Strategy, workers_of}
 use Rattle.mfotl_model.specs.declared.event.TimePoint.{TimePoint}
-use Rattle.rescale_core.proofs.Keeping.{by_steps}
-use Rattle.rescale_core.proofs.WorldLemmas.{spot_more}
-use Rattle.rescale_core.specs.Lines.{Spot, first_spot}
+use Rattle.monitorable.specs.CoreForms.{CoreForm}
 use Rattle.rescale_core.specs.Moving.{IsDriverOf, core_of}
-use Rattle.rescale_core.specs.Moving.StepKind.{Reads}
-use Rattle.rescale_core.specs.Workers.{IsFor}
-use Rattle.rescale_core.specs.Worlds.{World, after, spot_in}
-use Rattle.rescale_core.specs.Worlds.Step.{Read}
+use Rattle.rescale_core.specs.Workers.{IsFor, MayFollow}
+use Rattle.rescale_core.specs.Worlds.{World, spot_in}
 use Rattle.rescale_core.specs.declared.driver.Driver.{Driver}
-use Rattle.rescale_core.specs.declared.item.Entry.TheVariants.{Change as ToStrategy}
-use Rattle.mon_outside.specs.Sink.{Appends}
+use Rattle.rescale_core.specs.declared.item.Entry.{Entry}
+use Rattle.rescale_core.specs.declared.item.Entry.TheVariants.{Point, Change as ToStrategy}
 use Rattle.slice_strategy.specs.declared.change.Change.{Change}
-use Rattle.worker_pool.specs.Changes.{AllSuit, ChangesIn, HaveCells, IsDue, Suits, TakesDue}
+use Rattle.worker_pool.specs.Changes.{AllSuit, HaveCells, IsDue, NoneDue, Suits, TakesDue, changes_due, changes_later}
+use Rattle.worker_pool.specs.Changes.{points_in}
 use Rattle.worker_pool.specs.Laws.{DueAtItsNumber}
-use Rattle.worker_pool.specs.Texts.{lines, tally_of}
-use Rattle.worker_pool.specs.Writing.{Adds, Keeps, Runs, RunsTo, seen}
+use Rattle.worker_pool.specs.Writing.{Adds, AddsPoint, ChangesIn, Falls, FallsShort, Keeps, ReadsIn, Runs}
+use Rattle.worker_pool.specs.Writing.{RunsTo, Writes}
 use Rattle.worker_pool.specs.declared.schedule.Schedule.{Schedule}
 use Rattle.worker_pool.specs.declared.tally.Tally.{Tally}
-use Rattle.worker_pool.proofs.WritingLemmas.{runs_of}
+use Rattle.worker_pool.proofs.EntryLemmas.{none_due, one_due, points_due, points_with}
+use Rattle.worker_pool.proofs.WritingLemmas.{one_read, points_are}
 
 -- ---- the core stays
 
 core_same : (d : Driver) (w : World) → IsDriverOf d w → core_of d ≡ w.core
 core_same d w is = is.router.core
 
--- nothing was read since
-core_kept : (d e : Driver) (a b : Option (List ℕ)) (t u : Tally) → Runs d a t → Keeps d a t e b u
-    → core_of e ≡ core_of d
-core_kept d e a b t u r k =
-    let w = r.3 in
-    let x = k r.0 r.1 r.2 r.3 in
-    core_same e x.world x.stands ∙ x.core_is ∙ sym w.core_is ∙ sym (core_same d w.world w.stands)
-
--- a time-point was read
-core_added : (d e : Driver) (a b : Option (List ℕ)) (t u : Tally) (p : TimePoint) → RunsTo d a t p
-    → Adds d a t p e b u → core_of e ≡ core_of d
-core_added d e a b t u p r k =
-    let w = r.3 in
-    let x = k r.0 r.1 r.2 r.4 r.3 in
-    core_same e x.world x.stands ∙ x.core_is ∙ sym w.core_is ∙ sym (core_same d w.world w.stands)
+-- where both stand for worlds of one core
+core_kept : {core : CoreForm} {read more : List Entry} {start a b : Option (List ℕ)} {d e : Driver} {t u : Tally}
+    → Writes core read start d a t → Writes core more start e b u → core_of e ≡ core_of d
+core_kept {d} {e} v w =
+    core_same e w.world w.stands ∙ w.core_is ∙ sym v.core_is ∙ sym (core_same d v.world v.stands)
 
 -- ---- what is to come suits the driver
 
 suits_by : (d e : Driver) (s : Schedule) → core_of e ≡ core_of d → Suits d s → Suits e s
 suits_by d e s same suits = subst (λ core. AllSuit core s.changes.items) (sym same) suits
 
-pub suits_kept : (d e : Driver) (a b : Option (List ℕ)) (t u : Tally) (s : Schedule) → Runs d a t
-    → Keeps d a t e b u → Suits d s → Suits e s
-suits_kept d e a b t u s r k suits = suits_by d e s (core_kept d e a b t u r k) suits
-
 -- the first change is to a strategy for the core, and so are those behind it
 both_suit : (d : Driver) (old new : Schedule) (s : Strategy) (due : TakesDue old (Some s) new) → Suits d old
     → AllSuit (core_of d) (due.0.change ∷ due.0.rest)
 both_suit d old new s due suits = subst (λ cs. AllSuit (core_of d) cs) due.0.first suits
 
-pub suits_later : (d : Driver) (old new : Schedule) (s : Strategy) → TakesDue old (Some s) new → Suits d old
-    → Suits d new
-suits_later d old new s due suits =
-    subst (λ cs. AllSuit (core_of d) cs) (sym due.2) (both_suit d old new s due suits).1
+-- so what is left suits once the first was read
+pub suits_later : {d e : Driver} {a b : Option (List ℕ)} {t u : Tally} {entries : List Entry} (old new : Schedule)
+    (s : Strategy) → TakesDue old (Some s) new → Runs d a t → Adds d a t entries e b u → Suits d old → Suits e new
+suits_later {d} {e} old new s due r adds suits =
+    suits_by d e new (core_kept r.3 (adds r.0 r.1 r.2 r.3))
+    (subst (λ cs. AllSuit (core_of d) cs) (sym due.2) (both_suit d old new s due suits).1)
 
 -- whether it went well or not
 pub suits_drained : {T E : Type 0} (r : Result T E) (d e : Driver) (a b : Option (List ℕ)) (t u : Tally)
     (s : Schedule) → Runs d a t → OnOk r (Keeps d a t e b u) → Suits d s → OnOk r (Suits e s)
-suits_drained (Ok x) d e a b t u s r k suits = suits_kept d e a b t u s r k suits
+suits_drained (Ok x) d e a b t u s r k suits = suits_by d e s (core_kept r.3 (k r.0 r.1 r.2 r.3)) suits
 suits_drained (Err x) d e a b t u s r k suits = tt
 
 -- what suited before room was made does so behind the time-point
-pub suits_routed : (d e f : Driver) (a b c : Option (List ℕ)) (t u v : Tally) (p : TimePoint) (s s2 : Schedule)
-    → RunsTo d a t p → Keeps d a t e b u → Adds d a t p f c v → s2.changes ≡ s.changes → Suits e s → Suits f s2
-suits_routed d e f a b c t u v p s s2 r k adds same suits =
+pub suits_routed : {d e f : Driver} {a b c : Option (List ℕ)} {t u v : Tally} {changes : List Entry} {p : TimePoint}
+    (entries : List Entry) (s s2 : Schedule) → RunsTo d a t p → Adds d a t changes e b u → AddsPoint d a t entries p f c v
+    → s2.changes ≡ s.changes → Suits e s → Suits f s2
+suits_routed {e} {f} entries s s2 r adds more same suits =
     subst (λ (cs : VecDeque Change Global). AllSuit (core_of f) cs.items) (sym same)
-    (suits_by e f s
-    (core_added d f a c t v p r adds ∙ sym (core_kept d e a b t u (runs_of d a t p r) k)) suits)
+    (suits_by e f s (core_kept (adds r.0 r.1 r.2 r.3) (more r.0 r.1 r.2 r.4 r.3)) suits)
 
 -- the changes, of which the first one was taken out
 pub taken : (old : List Change) (front : Option Change) (new : List Change) (c : Change)
@@ -137,33 +123,100 @@ due_at_its_number = record {
 -- ---- a change
 
 -- it may be read where nothing was read since the strategy was for the core
-pub may_change : (d e : Driver) (a b : Option (List ℕ)) (t u : Tally) (s : Strategy) → Keeps d a t e b u → Runs d a t
+pub may_change : {d e : Driver} {a b : Option (List ℕ)} {t u : Tally} {s : Strategy} → Keeps d a t e b u → Runs d a t
     → IsFor (core_of d) s → (w : World) × IsDriverOf e w × IsFor w.core s
-may_change d e a b t u s k r is =
-    let w = k r.0 r.1 r.2 r.3 in (
+may_change {e} {s} k r is =
+    let w = k r.0 r.1 r.2 r.3 in
+    (w.world, w.stands, subst (λ c. IsFor c s) (sym (core_kept r.3 w) ∙ core_same e w.world w.stands) is)
+
+pub change_adds : {d e f : Driver} {a b : Option (List ℕ)} {t u : Tally} {s : Strategy} → Keeps d a t e b u
+    → IsFor (core_of d) s → ChangesIn e s f → Adds d a t (ToStrategy s ∷ []) f b u
+change_adds {e} {s} k is changes core read start w0 =
+    let w = k core read start w0 in
+    one_read (ToStrategy s) w (changes w.world
+    (subst (λ c. IsFor c s) (sym (core_kept w0 w) ∙ core_same e w.world w.stands) is) w.stands)
+
+-- what falls short behind changes does so before them
+pub adds_falls : {d e : Driver} {a b c : Option (List ℕ)} {t u : Tally} {entries : List Entry} → points_in entries ≡ []
+    → Adds d a t entries e b u → FallsShort e b u c → FallsShort d a t c
+adds_falls {c} {entries} none adds falls core read start w =
+    subst (λ ps. Falls core ps start c) (points_with read entries none)
+    (falls core (read ++ entries) start (adds core read start w))
+
+-- ---- the changes that are due
+
+-- Of what was due at first this was read, and the rest is due still.
+pub record Made (old now : Schedule) (d : Driver) (a : Option (List ℕ)) (t : Tally) (e : Driver) (b : Option (List ℕ))
+    (u : Tally) : Type 0 where
+  pub made : List Entry
+  pub none : points_in made ≡ []
+  pub adds : Adds d a t made e b u
+  pub routed : now.routed ≡ old.routed
+  pub due : changes_due old.routed old.changes.items ≡ made ++ changes_due now.routed now.changes.items
+  pub later : changes_later old.routed old.changes.items ≡ changes_later now.routed now.changes.items
+
+-- as yet nothing
+pub none_made : (s : Schedule) (d : Driver) (a : Option (List ℕ)) (t : Tally) → Made s s d a t d a t
+none_made s d a t = record {
+  made = [];
+  none = refl;
+  adds = λ core read start w. subst (λ es. Writes core es start d a t) (sym (append-nil read)) w;
+  routed = refl;
+  due = refl;
+  later = refl;
+}
+
+-- the next one
+pub one_made : {old now new : Schedule} {d e f : Driver} {a b c : Option (List ℕ)} {t u v : Tally} {s : Strategy}
+    → Made old now d a t e b u → TakesDue now (Some s) new → Adds e b u (ToStrategy s ∷ []) f c v
+    → Made old new d a t f c v
+one_made {old} {now} {new} {f} {c} {v} {s} m due adds =
+    let n = now.routed in
+    let change = due.0.change in
+    let one = one_due n change due.0.rest due.0.reached in
+    let left : changes_due n due.0.rest ≡ changes_due new.routed new.changes.items = rw (due.3, due.2) refl in
+    let behind : changes_later n due.0.rest ≡ changes_later new.routed new.changes.items = rw (due.3, due.2) refl in
+    record {
+      made = m.made ++ ToStrategy s ∷ [];
+      none = points_with m.made (ToStrategy s ∷ []) refl ∙ m.none;
+      adds = λ core read start w. subst (λ es. Writes core es start f c v)
+          (append_assoc read m.made (ToStrategy s ∷ []))
+          (adds core (read ++ m.made) start (m.adds core read start w));
+      routed = due.3 ∙ m.routed;
+      due = m.due ∙ ap (λ cs. m.made ++ changes_due n cs) due.0.first ∙ ap (λ es. m.made ++ es) one.0
+          ∙ ap (λ x. m.made ++ ToStrategy x ∷ changes_due n due.0.rest) (sym due.1)
+          ∙ ap (λ es. m.made ++ ToStrategy s ∷ es) left
+          ∙ sym (append_assoc m.made (ToStrategy s ∷ []) (changes_due new.routed new.changes.items));
+      later = m.later ∙ ap (changes_later n) due.0.first ∙ one.1 ∙ behind;
+    }
+
+-- all of them, once none is due
+pub all_made : {old now : Schedule} {d e : Driver} {a b : Option (List ℕ)} {t u : Tally} → Made old now d a t e b u
+    → NoneDue now → Adds d a t (changes_due old.routed old.changes.items) e b u
+    × (now.changes.items ≡ changes_later old.routed old.changes.items)
+all_made {old} {now} {d} {e} {a} {b} {t} {u} m none =
+    let left = none_due now.routed now.changes.items none in
+    let all : changes_due old.routed old.changes.items ≡ m.made =
+    m.due ∙ ap (λ es. m.made ++ es) left.0 ∙ append-nil m.made in
+    (subst (λ es. Adds d a t es e b u) (sym all) m.adds, sym left.1 ∙ sym m.later)
+
+-- ---- a time-point behind them
+
+-- it may follow where those before were read, and changes
+pub may_point : {d e : Driver} {a b : Option (List ℕ)} {t u : Tally} {p : TimePoint} (n : ℕ) (changes : List Change)
+    → Adds d a t (changes_due n changes) e b u → RunsTo d a t p
+    → (w : World) × IsDriverOf e w × MayFollow (spot_in w).points p
+may_point {p} n changes adds r =
+    let w = adds r.0 r.1 r.2 r.3 in (
       w.world,
       w.stands,
-      subst (λ c. IsFor c s) (sym (core_kept d e a b t u r k) ∙ core_same e w.world w.stands) is,
+      subst (λ ps. MayFollow ps p) (sym (points_are w ∙ points_with r.1 (changes_due n changes) (points_due n changes))) r.4,
     )
 
--- it reads no time-point
-points_same : (w : World) (s : Strategy) → (spot_in (after w (Read (ToStrategy s)))).points ≡ (spot_in w).points
-points_same w s = ap (λ (a : Spot). a.points) (spot_more (first_spot w.first) w.read (ToStrategy s ∷ []))
-
-pub change_keeps : (d e f : Driver) (a b : Option (List ℕ)) (t u : Tally) (s : Strategy) → Keeps d a t e b u
-    → IsFor (core_of d) s → ChangesIn e s f → Keeps d a t f b u
-change_keeps d e f a b t u s k is_for changes core points start w0 =
-    let w = k core points start w0 in
-    let same : core_of d ≡ w.world.core = core_same d w0.world w0.stands ∙ w0.core_is ∙ sym w.core_is in
-    let r = changes w.world (subst (λ c. IsFor c s) same is_for) w.stands in
-    let x : World = r.0 in
-    let is : x ≡ after w.world (Read (ToStrategy s)) = sym r.1.2 ∙ r.1.1.1 in
-    record {
-      world = x;
-      stands = r.2;
-      core_is = ap (λ (y : World). y.core) is ∙ w.core_is;
-      points_are = ap (λ (y : World). (spot_in y).points) is ∙ points_same w.world s ∙ w.points_are;
-      verdicts = (by_steps (Reads (ToStrategy s) ∷ []) w.world x w.stands.router.sound w.verdicts r.1).1;
-      text = subst (λ vs. Appends start b (lines (map seen vs))) (sym (ap (λ (y : World). y.emitted) is)) w.text;
-      counts = w.counts ∙ ap (λ vs. tally_of (map seen vs)) (sym (ap (λ (y : World). y.emitted) is));
-    }
+pub point_adds : {d e f : Driver} {a b : Option (List ℕ)} {t u : Tally} {p : TimePoint} (n : ℕ) (changes : List Change)
+    → Adds d a t (changes_due n changes) e b u → ReadsIn e p f → AddsPoint d a t (changes_due n changes) p f b u
+point_adds {f} {b} {u} {p} n changes adds reads core read start may w0 =
+    let w = adds core read start w0 in
+    subst (λ es. Writes core es start f b u) (append_assoc read (changes_due n changes) (Point p ∷ []))
+    (one_read (Point p) w (reads w.world
+    (subst (λ ps. MayFollow ps p) (sym (points_are w ∙ points_with read (changes_due n changes) (points_due n changes))) may) w.stands))

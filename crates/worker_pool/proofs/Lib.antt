@@ -3,8 +3,10 @@ pub mod LogTimes
 pub mod VerdictLemmas
 pub mod TallyLemmas
 pub mod WritingLemmas
+pub mod EntryLemmas
 pub mod ChangeLemmas
 pub mod PointLemmas
 pub mod ChunkLemmas
 pub mod HandLemmas
+pub mod DealLemmas
 pub mod Sent

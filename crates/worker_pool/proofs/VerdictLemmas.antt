@@ -1,9 +1,10 @@
 -- The verdicts of a world are those of each policy that its core is one of.
-use Rattle.std.proofs.Common.{◌≡◌, ◌∙◌, ap, ap₂, sym, refl, arith, ℕ, zero, suc, ◌+◌, ◌-◌, ◌≤◌}
-use Rattle.std.proofs.Common.{Bool, true, false, cond, List, [], ◌∷◌, ◌++◌, map, length, add-one}
+use Rattle.std.proofs.Common.{◌≡◌, ◌∙◌, ap, ap₂, sym, refl, ℕ, zero, suc, ◌+◌, ◌≤◌}
+use Rattle.std.proofs.Common.{Bool, true, false, cond, List, [], ◌∷◌, ◌++◌, map, length, take, drop, add-one}
 use Rattle.std.specs.List.{range_with_len, take_while}
 use Rattle.std.proofs.lemmas.Grind.{flat_map-append}
-use Rattle.std.proofs.lemmas.List.{length-map, map-append}
+use Rattle.std.proofs.lemmas.List.{length-map, take-append-drop}
+use Rattle.std.proofs.lemmas.List.FromFn.{take-map-range_with_len}
 use Rattle.std.proofs.lemmas.List.Sums.{take_while-cons}
 use Rattle.mfotl_model.specs.Counts.{passing, settled_count}
 use Rattle.mfotl_model.specs.Formulas.{Form}
@@ -32,17 +33,6 @@ taken_by p i n false rest = refl
 taken : (p : ℕ → Bool) (i n : ℕ) → take_while p (range_with_len i n) ≡ range_with_len i (passing p i n)
 taken p i zero = refl
 taken p i (suc n) = take_while-cons p i (range_with_len (i + 1) n) ∙ taken_by p i n (p i) (taken p (i + 1) n)
-
-range_more : (i n m : ℕ) → range_with_len i (n + m) ≡ range_with_len i n ++ range_with_len (i + n) m
-range_more i zero m =
-    let none : 0 + m ≡ m = omega arith in
-    let at : i ≡ i + 0 = omega arith in
-    ap (range_with_len i) none ∙ ap (λ k. range_with_len k m) at
-range_more i (suc n) m =
-    let count : suc n + m ≡ suc (n + m) = omega arith in
-    let at : i + 1 + n ≡ i + suc n = omega arith in
-    ap (range_with_len i) count
-    ∙ ap (λ xs. i ∷ xs) (range_more (i + 1) n m ∙ ap (λ k. range_with_len (i + 1) n ++ range_with_len k m) at)
 
 -- functions that agree map alike
 map_same : {A B : Type 0} (f g : A → B) → ((a : A) → f a ≡ g a) → (xs : List A) → map f xs ≡ map g xs
@@ -89,12 +79,10 @@ pub first_lines : (core : CoreForm) (points : List TimePoint) (n : ℕ) → n �
     → (rest : List ℕ)
     × (lines (all_verdicts core points) ≡ lines (first_verdicts core points n) ++ rest)
 first_lines core points n within =
-    let m : ℕ = settled_in core points - n in
-    let sum : settled_in core points ≡ n + m = omega arith in
-    let verdict : ℕ → VerdictOf = λ i. seen (verdict_on core points i) in (
-      lines (map verdict (range_with_len (0 + n) m)),
-      ap (λ k. lines (map verdict (range_with_len 0 k))) sum
-          ∙ ap (λ xs. lines (map verdict xs)) (range_more 0 n m)
-          ∙ ap lines (map-append verdict (range_with_len 0 n) (range_with_len (0 + n) m))
-          ∙ flat_map-append line_of (map verdict (range_with_len 0 n)) (map verdict (range_with_len (0 + n) m)),
+    let verdict : ℕ → VerdictOf = λ i. seen (verdict_on core points i) in
+    let all = all_verdicts core points in (
+      lines (drop n all),
+      ap lines (sym (take-append-drop n all)) ∙ flat_map-append line_of (take n all) (drop n all)
+          ∙ ap (λ vs. lines vs ++ lines (drop n all))
+          (take-map-range_with_len verdict 0 (settled_in core points) n within),
     )

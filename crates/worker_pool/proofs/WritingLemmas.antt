@@ -1,6 +1,6 @@
 -- What main has read and written stays true from turn to turn.
 use Rattle.std.proofs.Common.{◌≡◌, ◌∙◌, ℕ, ◌≤◌, List, [], ◌∷◌, ◌++◌, map, length, Option}
-use Rattle.std.proofs.Common.{sym, refl, ap, ap₂, subst}
+use Rattle.std.proofs.Common.{sym, refl, ap, ap₂, subst, append_assoc}
 use Rattle.std.proofs.Common.{append-nil, OnOk, OnErr, Ok, Err, Bool, true}
 use Rattle.std.specs.Prelude.{Result}
 use Rattle.std.specs.List.{range_with_len}
@@ -13,21 +13,22 @@ use Rattle.monitorable.specs.CoreForms.{CoreForm}
 use Rattle.rescale_core.proofs.Ending.{world_emitted}
 use Rattle.rescale_core.proofs.Keeping.{by_steps, turn_keeps}
 use Rattle.rescale_core.proofs.Verdicts.{first_verdicts as none_emitted}
-use Rattle.rescale_core.proofs.WorldLemmas.{spot_more}
 use Rattle.rescale_core.specs.Laws.{EmitsVerdicts}
-use Rattle.rescale_core.specs.Lines.{Spot, first_spot, spot_after}
-use Rattle.rescale_core.specs.Moving.{IsDriverOf, TurnsTo}
+use Rattle.rescale_core.specs.Lines.{Spot, first_spot, moved, spot_after}
+use Rattle.rescale_core.specs.Moving.{IsDriverOf, Reaches, TurnsTo}
 use Rattle.rescale_core.specs.Moving.StepKind.{Emits, Reads}
 use Rattle.rescale_core.specs.Routing.{HasEnded}
-use Rattle.rescale_core.specs.Workers.{MayFollow, settled_in}
+use Rattle.rescale_core.specs.Workers.{settled_in}
 use Rattle.rescale_core.specs.Worlds.{World, Allowed, after, first_world, spot_in, verdict_on}
 use Rattle.rescale_core.specs.Worlds.Step.{Emit, Read}
 use Rattle.rescale_core.specs.declared.driver.Driver.{Driver}
 use Rattle.rescale_core.specs.declared.driver.Turn.{Turn}
-use Rattle.rescale_core.specs.declared.item.Entry.TheVariants.{Point}
+use Rattle.rescale_core.specs.declared.item.Entry.{Entry}
+use Rattle.rescale_core.specs.declared.item.Entry.TheVariants.{Point, Change as ToStrategy}
 use Rattle.verdict_merge.specs.declared.rows.Verdict.{Verdict}
+use Rattle.worker_pool.specs.Changes.{points_in}
 use Rattle.worker_pool.specs.Texts.{lines, tally_of}
-use Rattle.worker_pool.specs.Writing.{Adds, Begins, FallsShort, IsOver, Keeps, ReadsIn, Runs, RunsTo, Writes}
+use Rattle.worker_pool.specs.Writing.{Adds, Begins, Falls, FallsShort, IsOver, Keeps, Runs, RunsTo, Writes}
 use Rattle.worker_pool.specs.Writing.{all_verdicts, first_verdicts, seen}
 use Rattle.worker_pool.specs.declared.tally.Tally.{Tally}
 use Rattle.worker_pool.proofs.SinkLemmas.{appends_more, appends_none, front_behind, whole_front}
@@ -42,53 +43,69 @@ on_ok_both (Err e) P Q R f p q = tt
 
 -- ---- one after the other
 
-pub keeps_on : (d e f : Driver) (a b c : Option (List ℕ)) (t u v : Tally) → Keeps d a t e b u → Keeps e b u f c v
+pub keeps_on : {d e f : Driver} {a b c : Option (List ℕ)} {t u v : Tally} → Keeps d a t e b u → Keeps e b u f c v
     → Keeps d a t f c v
-keeps_on d e f a b c t u v h k core points start w = k core points start (h core points start w)
+keeps_on h k core read start w = k core read start (h core read start w)
 
-pub runs_on : (d e : Driver) (a b : Option (List ℕ)) (t u : Tally) → Keeps d a t e b u → Runs d a t → Runs e b u
-runs_on d e a b t u k r = (r.0, r.1, r.2, k r.0 r.1 r.2 r.3)
+pub runs_on : {d e : Driver} {a b : Option (List ℕ)} {t u : Tally} → Keeps d a t e b u → Runs d a t → Runs e b u
+runs_on k r = (r.0, r.1, r.2, k r.0 r.1 r.2 r.3)
 
-pub falls_on : (d e : Driver) (a b c : Option (List ℕ)) (t u : Tally) → Keeps d a t e b u → FallsShort e b u c
+pub falls_on : {d e : Driver} {a b c : Option (List ℕ)} {t u : Tally} → Keeps d a t e b u → FallsShort e b u c
     → FallsShort d a t c
-falls_on d e a b c t u k f core points start w = f core points start (k core points start w)
+falls_on k f core read start w = f core read start (k core read start w)
 
-pub runs_of : (d : Driver) (a : Option (List ℕ)) (t : Tally) (p : TimePoint) → RunsTo d a t p → Runs d a t
-runs_of d a t p r = (r.0, r.1, r.2, r.3)
+-- the entries were read before, and nothing behind them
+pub adds_keeps : {d e f : Driver} {a b c : Option (List ℕ)} {t u v : Tally} {entries : List Entry}
+    → Adds d a t entries e b u → Keeps e b u f c v → Adds d a t entries f c v
+adds_keeps {entries} h k core read start w = k core (read ++ entries) start (h core read start w)
+
+pub runs_with : {d e : Driver} {a b : Option (List ℕ)} {t u : Tally} {entries : List Entry} → Adds d a t entries e b u
+    → Runs d a t → Runs e b u
+runs_with {entries} k r = (r.0, r.1 ++ entries, r.2, k r.0 r.1 r.2 r.3)
+
+pub runs_of : {d : Driver} {a : Option (List ℕ)} {t : Tally} {p : TimePoint} → RunsTo d a t p → Runs d a t
+runs_of r = (r.0, r.1, r.2, r.3)
 
 -- there is a world for which the driver stands
-pub world_of : (d : Driver) (a : Option (List ℕ)) (t : Tally) → Runs d a t → (w : World) × IsDriverOf d w
-world_of d a t r = (r.3.world, r.3.stands)
+pub world_of : {d : Driver} {a : Option (List ℕ)} {t : Tally} → Runs d a t → (w : World) × IsDriverOf d w
+world_of r = (r.3.world, r.3.stands)
 
 -- nothing was done
-pub same_keeps : (d e : Driver) (now : Option (List ℕ)) (t : Tally)
-    → ((w : World) → IsDriverOf d w → IsDriverOf e w) → Keeps d now t e now t
-same_keeps d e now t go core points start w = record {
+pub same_keeps : {d e : Driver} (now : Option (List ℕ)) (t : Tally) → ((w : World) → IsDriverOf d w → IsDriverOf e w)
+    → Keeps d now t e now t
+same_keeps now t go core read start w = record {
   world = w.world;
   stands = go w.world w.stands;
   core_is = w.core_is;
-  points_are = w.points_are;
+  read_is = w.read_is;
   verdicts = w.verdicts;
   text = w.text;
   counts = w.counts;
 }
 
--- ---- a turn
+-- the time-points are those that were read
+spot_reads : (a : Spot) (read : List Entry) → (spot_after a read).points ≡ a.points ++ points_in read
+spot_reads a [] = sym (append-nil a.points)
+spot_reads a (Point p ∷ read) =
+    spot_reads (moved a (Point p)) read ∙ append_assoc a.points (p ∷ []) (points_in read)
+spot_reads a (ToStrategy s ∷ read) = spot_reads (moved a (ToStrategy s)) read
 
--- where the same was read reading stands at the same place
-same_spot : (w x : World) → x.first ≡ w.first → x.read ≡ w.read → spot_in x ≡ spot_in w
-same_spot w x first read = ap₂ (λ s es. spot_after (first_spot s) es) first read
+pub points_are : {core : CoreForm} {read : List Entry} {start now : Option (List ℕ)} {d : Driver} {t : Tally}
+    → (w : Writes core read start d now t) → (spot_in w.world).points ≡ points_in read
+points_are w = spot_reads (first_spot w.world.first) w.world.read ∙ ap points_in w.read_is
+
+-- ---- a turn
 
 -- a turn reads and writes nothing
 pub turn_written : (d e : Driver) (now : Option (List ℕ)) (t : Tally) (k : ℕ) (turn : Turn) → TurnsTo d k turn e
     → Keeps d now t e now t
-turn_written d e now t k turn to core points start w =
+turn_written d e now t k turn to core read start w =
     let x = turn_keeps d e k turn w.world to w.stands w.verdicts in
     record {
       world = x.0;
       stands = x.1;
       core_is = x.3.core ∙ w.core_is;
-      points_are = ap (λ (a : Spot). a.points) (same_spot w.world x.0 x.3.first x.3.read) ∙ w.points_are;
+      read_is = x.3.read ∙ w.read_is;
       verdicts = x.2;
       text = subst (λ vs. Appends start now (lines (map seen vs))) (sym x.3.emitted) w.text;
       counts = w.counts ∙ ap (λ vs. tally_of (map seen vs)) (sym x.3.emitted);
@@ -113,16 +130,16 @@ emitted_next w d v is verdicts may =
     (by_steps (Emits ∷ []) w (after w (Emit v)) is.router.sound verdicts
     (after w (Emit v), (v, may, refl), refl)).1
 
-pub wrote_one : (d e : Driver) (v : Verdict) (a b : Option (List ℕ)) (t u : Tally) → EmitsIn d v e
+pub wrote_one : {d e : Driver} {v : Verdict} {a b : Option (List ℕ)} {t u : Tally} → EmitsIn d v e
     → Appends a b (line_of (seen v))
     → ((vs : List VerdictOf) → t ≡ tally_of vs → u ≡ tally_of (vs ++ seen v ∷ [])) → Keeps d a t e b u
-wrote_one d e v a b t u emits line counts core points start w =
+wrote_one {d} {e} {v} {a} {b} emits line counts core read start w =
     let one = emits w.world w.stands in
     record {
       world = after w.world (Emit v);
       stands = one.1;
       core_is = w.core_is;
-      points_are = w.points_are;
+      read_is = w.read_is;
       verdicts = emitted_next w.world d v w.stands w.verdicts one.0;
       text = subst (Appends start b) (sym (lines_more w.world.emitted v)) (appends_more start a b _ _ w.text line);
       counts = counts (map seen w.world.emitted) w.counts
@@ -150,32 +167,32 @@ settled_first core points w core_is points_are verdicts =
     (subst (λ c. length w.emitted ≤ settled_in c (spot_in w).points) core_is verdicts.settled)
 
 pub stops : (d : Driver) (now : Option (List ℕ)) (t : Tally) → FallsShort d now t now
-stops d now t core points start w = record {
+stops d now t core read start w = record {
   count = length w.world.emitted;
-  settled = settled_first core points w.world w.core_is w.points_are w.verdicts;
+  settled = settled_first core (points_in read) w.world w.core_is (points_are w) w.verdicts;
   front = subst (λ vs. AppendsFront start now (lines vs))
-      (emitted_first core points w.world w.core_is w.points_are w.verdicts)
+      (emitted_first core (points_in read) w.world w.core_is (points_are w) w.verdicts)
       (whole_front start now (lines (map seen w.world.emitted)) w.text);
 }
 
 -- whether it went well or not
 pub falls_either : {T E : Type 0} (r : Result T E) (d e : Driver) (a b : Option (List ℕ)) (t u : Tally)
     → OnOk r (Keeps d a t e b u) → OnErr r (FallsShort d a t b) → FallsShort d a t b
-falls_either (Ok x) d e a b t u keeps falls = falls_on d e a b b t u keeps (stops e b u)
+falls_either (Ok x) d e a b t u keeps falls = falls_on keeps (stops e b u)
 falls_either (Err x) d e a b t u keeps falls = falls
 
 -- a line was written in part
-pub cut_short : (d e : Driver) (v : Verdict) (a b : Option (List ℕ)) (t : Tally) → EmitsIn d v e
+pub cut_short : {d e : Driver} {v : Verdict} {a b : Option (List ℕ)} {t : Tally} → EmitsIn d v e
     → AppendsFront a b (line_of (seen v)) → FallsShort d a t b
-cut_short d e v a b t emits part core points start w =
+cut_short {d} {e} {v} {a} {b} emits part core read start w =
     let one = emits w.world w.stands in
     let x : World = after w.world (Emit v) in
     let verdicts = emitted_next w.world d v w.stands w.verdicts one.0 in
     record {
       count = length x.emitted;
-      settled = settled_first core points x w.core_is w.points_are verdicts;
+      settled = settled_first core (points_in read) x w.core_is (points_are w) verdicts;
       front = subst (λ vs. AppendsFront start b (lines vs))
-          (emitted_first core points x w.core_is w.points_are verdicts)
+          (emitted_first core (points_in read) x w.core_is (points_are w) verdicts)
           (subst (AppendsFront start b) (sym (lines_more w.world.emitted v))
           (front_behind start a b _ _ w.text part));
     }
@@ -190,40 +207,32 @@ is_over d b told ended w is verdicts =
     ∙ ap (first_verdicts w.core (spot_in w).points) (world_emitted w is.router.sound verdicts (ended w is told))
 
 -- so their lines were written
-pub over_written : (core : CoreForm) (points : List TimePoint) (start now : Option (List ℕ)) (d : Driver) (t : Tally)
-    → Writes core points start d now t → IsOver d
-    → Appends start now (lines (all_verdicts core points)) × (t ≡ tally_of (all_verdicts core points))
-over_written core points start now d t w over =
-    let all : map seen w.world.emitted ≡ all_verdicts core points =
-    over w.world w.stands w.verdicts ∙ ap₂ (λ c ps. all_verdicts c ps) w.core_is w.points_are in
+pub over_written : {core : CoreForm} {read : List Entry} {start now : Option (List ℕ)} {d : Driver} {t : Tally}
+    → Writes core read start d now t → IsOver d
+    → Appends start now (lines (all_verdicts core (points_in read)))
+    × (t ≡ tally_of (all_verdicts core (points_in read)))
+over_written {core} {read} {start} {now} w over =
+    let all : map seen w.world.emitted ≡ all_verdicts core (points_in read) =
+    over w.world w.stands w.verdicts ∙ ap₂ (λ c ps. all_verdicts c ps) w.core_is (points_are w) in
     (subst (λ vs. Appends start now (lines vs)) all w.text, w.counts ∙ ap tally_of all)
 
--- ---- a time-point
+-- ---- an entry more
 
-pub may_point : (d e : Driver) (a b : Option (List ℕ)) (t u : Tally) (p : TimePoint) → Keeps d a t e b u
-    → RunsTo d a t p → (w : World) × IsDriverOf e w × MayFollow (spot_in w).points p
-may_point d e a b t u p k r =
-    let w = k r.0 r.1 r.2 r.3 in (w.world, w.stands, subst (λ ps. MayFollow ps p) (sym w.points_are) r.4)
-
-points_after : (w : World) (p : TimePoint) → (spot_in (after w (Read (Point p)))).points ≡ (spot_in w).points ++ p ∷ []
-points_after w p = ap (λ (a : Spot). a.points) (spot_more (first_spot w.first) w.read (Point p ∷ []))
-
-pub point_adds : (d e f : Driver) (a b : Option (List ℕ)) (t u : Tally) (p : TimePoint) → Keeps d a t e b u
-    → ReadsIn e p f → Adds d a t p f b u
-point_adds d e f a b t u p k reads core points start may w0 =
-    let w = k core points start w0 in
-    let r = reads w.world (subst (λ ps. MayFollow ps p) (sym w.points_are) may) w.stands in
-    let x : World = r.0 in
-    let is : x ≡ after w.world (Read (Point p)) = sym r.1.2 ∙ r.1.1.1 in
+-- it was read, whichever it is
+pub one_read : {core : CoreForm} {read : List Entry} {start now : Option (List ℕ)} {d e : Driver} {t : Tally}
+    (entry : Entry) → (w : Writes core read start d now t)
+    → (x : World) × Reaches w.world (Reads entry ∷ []) x × IsDriverOf e x
+    → Writes core (read ++ entry ∷ []) start e now t
+one_read {start} {now} entry w r =
+    let is : r.0 ≡ after w.world (Read entry) = sym r.1.2 ∙ r.1.1.1 in
     record {
-      world = x;
+      world = r.0;
       stands = r.2;
-      core_is = ap (λ (y : World). y.core) is ∙ w.core_is;
-      points_are = ap (λ (y : World). (spot_in y).points) is ∙ points_after w.world p
-          ∙ ap (λ ps. ps ++ p ∷ []) w.points_are;
-      verdicts = (by_steps (Reads (Point p) ∷ []) w.world x w.stands.router.sound w.verdicts r.1).1;
-      text = subst (λ vs. Appends start b (lines (map seen vs))) (sym (ap (λ (y : World). y.emitted) is)) w.text;
-      counts = w.counts ∙ ap (λ vs. tally_of (map seen vs)) (sym (ap (λ (y : World). y.emitted) is));
+      core_is = ap (λ (x : World). x.core) is ∙ w.core_is;
+      read_is = ap (λ (x : World). x.read) is ∙ ap (λ es. es ++ entry ∷ []) w.read_is;
+      verdicts = (by_steps (Reads entry ∷ []) w.world r.0 w.stands.router.sound w.verdicts r.1).1;
+      text = subst (λ vs. Appends start now (lines (map seen vs))) (sym (ap (λ (x : World). x.emitted) is)) w.text;
+      counts = w.counts ∙ ap (λ vs. tally_of (map seen vs)) (sym (ap (λ (x : World). x.emitted) is));
     }
 
 -- ---- the beginning
@@ -235,7 +244,7 @@ nothing_read core d start t begins none = record {
   world = first_world core begins.first;
   stands = begins.stands;
   core_is = refl;
-  points_are = refl;
+  read_is = refl;
   verdicts = none_emitted core begins.first;
   text = appends_none start;
   counts = none;

@@ -1,10 +1,14 @@
 -- Laws and examples of what is due and of what is counted.
-use Rattle.std.specs.Prelude.{◌≡◌, ◌+◌, List, [], ◌∷◌, nat_lt}
+use Rattle.std.specs.Prelude.{◌≡◌, ◌+◌, ℕ, List, [], ◌∷◌, nat_lt}
 use Rattle.mfotl_model.specs.Formulas.{Form}
+use Rattle.mfotl_model.specs.Strategies.{Strategy}
+use Rattle.mfotl_model.specs.declared.event.TimePoint.{TimePoint}
 use Rattle.log_reader.specs.Limits.{standard}
 use Rattle.log_reader.specs.Readings.{Reading}
+use Rattle.rescale_core.specs.declared.item.Entry.TheVariants.{Point, Change as ToStrategy}
 use Rattle.slice_strategy.specs.declared.change.Change.{Change}
-use Rattle.worker_pool.specs.Changes.{IsDue, NoneDue}
+use Rattle.worker_pool.specs.Changes.{IsDue, NoneDue, entries_by, left_by}
+use Rattle.worker_pool.specs.Hands.{dealt}
 use Rattle.worker_pool.specs.Texts.{tally_of, tally_on, violated_on}
 use Rattle.worker_pool.specs.declared.schedule.Schedule.{Schedule}
 
@@ -29,3 +33,21 @@ pub record DueAtItsNumber : Type 0 where
       → IsDue s
   pub early : (s : Schedule) (c : Change) (rest : List Change) → s.changes.items ≡ c ∷ rest
       → s.routed + 1 ≡ c.before → NoneDue s
+
+-- changes of the numbers 0, 2, 2 and 3
+abbrev pub four_changes : Strategy → Strategy → Strategy → Strategy → List Change
+four_changes s t u v =
+    record { before = 0; strategy = s } ∷ record { before = 2; strategy = t } ∷ record { before = 2; strategy = u }
+    ∷ record { before = 3; strategy = v } ∷ []
+
+-- With three time-points the first change is made at once, the next two before the last time-point, and the fourth, for
+-- which there is no time-point, is to come.
+pub record ChangesOfThree : Type 0 where
+  pub read : (s t u v : Strategy) (p q r : TimePoint) → entries_by (four_changes s t u v) (p ∷ q ∷ r ∷ [])
+      ≡ ToStrategy s ∷ Point p ∷ Point q ∷ ToStrategy t ∷ ToStrategy u ∷ Point r ∷ []
+  pub left : (s t u v : Strategy) (p q r : TimePoint) → left_by (four_changes s t u v) (p ∷ q ∷ r ∷ [])
+      ≡ record { before = 3; strategy = v } ∷ []
+
+-- five cells dealt to two threads
+abbrev pub FiveDealtToTwo : Type 0
+FiveDealtToTwo = let five : List ℕ = 0 ∷ 1 ∷ 2 ∷ 3 ∷ 4 ∷ [] in dealt 2 five ≡ (0 ∷ 2 ∷ 4 ∷ []) ∷ (1 ∷ 3 ∷ []) ∷ []

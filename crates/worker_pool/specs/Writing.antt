@@ -11,11 +11,13 @@ use Rattle.rescale_core.specs.Laws.{EmitsVerdicts}
 use Rattle.rescale_core.specs.Moving.{IsDriverOf, Reaches}
 use Rattle.rescale_core.specs.Moving.StepKind.{Reads}
 use Rattle.rescale_core.specs.Waiting.{HasRoom}
-use Rattle.rescale_core.specs.Workers.{MayFollow, settled_in}
+use Rattle.rescale_core.specs.Workers.{IsFor, MayFollow, settled_in}
 use Rattle.rescale_core.specs.Worlds.{World, first_world, spot_in, verdict_on}
 use Rattle.rescale_core.specs.declared.driver.Driver.{Driver}
-use Rattle.rescale_core.specs.declared.item.Entry.TheVariants.{Point}
+use Rattle.rescale_core.specs.declared.item.Entry.{Entry}
+use Rattle.rescale_core.specs.declared.item.Entry.TheVariants.{Point, Change as ToStrategy}
 use Rattle.verdict_merge.specs.declared.rows.Verdict.{Verdict}
+use Rattle.worker_pool.specs.Changes.{points_in}
 use Rattle.worker_pool.specs.Texts.{lines, tally_of}
 use Rattle.worker_pool.specs.declared.stop.Stop.{Stop}
 use Rattle.worker_pool.specs.declared.stop.Stop.TheVariants.{Log, Read, Sink, Memory}
@@ -33,14 +35,14 @@ first_verdicts core points n = map (λ i. seen (verdict_on core points i)) (rang
 abbrev pub all_verdicts : CoreForm → List TimePoint → List VerdictOf
 all_verdicts core points = first_verdicts core points (settled_in core points)
 
--- The driver stands for a world of this core in which these time-points were read, and since `start` the lines of the
--- verdicts that were emitted there were written and counted.
-pub record Writes (core : CoreForm) (points : List TimePoint) (start : Option (List ℕ)) (driver : Driver)
+-- The driver stands for a world of this core in which just this was read, and since `start` the lines of the verdicts
+-- that were emitted there were written and counted.
+pub record Writes (core : CoreForm) (read : List Entry) (start : Option (List ℕ)) (driver : Driver)
     (now : Option (List ℕ)) (tally : Tally) : Type 0 where
   pub world : World
   pub stands : IsDriverOf driver world
   pub core_is : world.core ≡ core
-  pub points_are : (spot_in world).points ≡ points
+  pub read_is : world.read ≡ read
   pub verdicts : EmitsVerdicts world
   pub text : Appends start now (lines (map seen world.emitted))
   pub counts : tally ≡ tally_of (map seen world.emitted)
@@ -53,26 +55,32 @@ pub record Begins (core : CoreForm) (driver : Driver) : Type 0 where
 -- some world and start are so
 abbrev pub Runs : Driver → Option (List ℕ) → Tally → Type 0
 Runs driver now tally =
-    (core : CoreForm) × (points : List TimePoint) × (start : Option (List ℕ))
-    × Writes core points start driver now tally
+    (core : CoreForm) × (read : List Entry) × (start : Option (List ℕ)) × Writes core read start driver now tally
 
 -- the same, and this time-point may come next
 abbrev pub RunsTo : Driver → Option (List ℕ) → Tally → TimePoint → Type 0
 RunsTo driver now tally point =
-    (core : CoreForm) × (points : List TimePoint) × (start : Option (List ℕ))
-    × Writes core points start driver now tally × MayFollow points point
+    (core : CoreForm) × (read : List Entry) × (start : Option (List ℕ)) × Writes core read start driver now tally
+    × MayFollow (points_in read) point
 
--- whatever was read and written before, no time-point was read since, and the verdicts emitted since were written
+-- whatever was read and written before, nothing was read since, and the verdicts emitted since were written
 abbrev pub Keeps : Driver → Option (List ℕ) → Tally → Driver → Option (List ℕ) → Tally → Type 0
 Keeps d now t e then u =
-    (core : CoreForm) (points : List TimePoint) (start : Option (List ℕ)) → Writes core points start d now t
-    → Writes core points start e then u
+    (core : CoreForm) (read : List Entry) (start : Option (List ℕ)) → Writes core read start d now t
+    → Writes core read start e then u
 
--- one more time-point was read, if it may follow
-abbrev pub Adds : Driver → Option (List ℕ) → Tally → TimePoint → Driver → Option (List ℕ) → Tally → Type 0
-Adds d now t point e then u =
-    (core : CoreForm) (points : List TimePoint) (start : Option (List ℕ)) → MayFollow points point
-    → Writes core points start d now t → Writes core (points ++ point ∷ []) start e then u
+-- just these entries were read since
+abbrev pub Adds : Driver → Option (List ℕ) → Tally → List Entry → Driver → Option (List ℕ) → Tally → Type 0
+Adds d now t entries e then u =
+    (core : CoreForm) (read : List Entry) (start : Option (List ℕ)) → Writes core read start d now t
+    → Writes core (read ++ entries) start e then u
+
+-- just these changes and then the time-point were read since, if it may follow
+abbrev pub AddsPoint : Driver → Option (List ℕ) → Tally → List Entry → TimePoint → Driver → Option (List ℕ) → Tally
+    → Type 0
+AddsPoint d now t changes point e then u =
+    (core : CoreForm) (read : List Entry) (start : Option (List ℕ)) → MayFollow (points_in read) point
+    → Writes core read start d now t → Writes core (read ++ (changes ++ Point point ∷ [])) start e then u
 
 -- what was written since `start` is a front of the lines of the first verdicts
 pub record Falls (core : CoreForm) (points : List TimePoint) (start now : Option (List ℕ)) : Type 0 where
@@ -83,8 +91,8 @@ pub record Falls (core : CoreForm) (points : List TimePoint) (start now : Option
 -- so it is, whatever was read and written before
 abbrev pub FallsShort : Driver → Option (List ℕ) → Tally → Option (List ℕ) → Type 0
 FallsShort d now t then =
-    (core : CoreForm) (points : List TimePoint) (start : Option (List ℕ)) → Writes core points start d now t
-    → Falls core points start then
+    (core : CoreForm) (read : List Entry) (start : Option (List ℕ)) → Writes core read start d now t
+    → Falls core (points_in read) start then
 
 -- so few items wait for each worker that one more may be read
 abbrev pub IsRoomy : Driver → Type 0
@@ -95,6 +103,12 @@ abbrev pub ReadsIn : Driver → TimePoint → Driver → Type 0
 ReadsIn d p e =
     (w : World) → MayFollow (spot_in w).points p → IsDriverOf d w
     → (x : World) × Reaches w (Reads (Point p) ∷ []) x × IsDriverOf e x
+
+-- from each world for which the strategy is, the driver comes to one in which the change to it was read
+abbrev pub ChangesIn : Driver → Strategy → Driver → Type 0
+ChangesIn d s e =
+    (w : World) → IsFor w.core s → IsDriverOf d w
+    → (x : World) × Reaches w (Reads (ToStrategy s) ∷ []) x × IsDriverOf e x
 
 -- all verdicts on what was read were emitted
 abbrev pub IsOver : Driver → Type 0

@@ -1,6 +1,6 @@
 //! How hands are dealt to threads.
-ghost use Rattle.std.specs.Prelude.{◌≡◌, ◌<◌, ◌≤◌, IfOk, length};
-ghost use Rattle.worker_pool.specs.Hands.{AreGroupsOf, AreHandsOf, WorkerHub};
+ghost use Rattle.std.specs.Prelude.{◌≡◌, ◌<◌, [], IfOk, length};
+ghost use Rattle.worker_pool.specs.Hands.{AreDealt, AreGroupsOf, AreHandsOf, WorkerHub, cells_of, dealt, group_cells};
 
 use crate::hands::WorkerHand;
 use std::alloc::{AllocError, Global};
@@ -8,6 +8,7 @@ use std::alloc::{AllocError, Global};
 // So many groups without hands.
 fn empty_groups(alloc: Global, count: usize) -> Result<Vec<Vec<WorkerHand>>, AllocError>
     ensures count { IfOk result (λ groups. length groups.items ≡ count) }
+    ensures none { IfOk result (λ groups. group_cells groups.items ≡ dealt count []) }
     ensures hands { IfOk result (λ groups. (hub : WorkerHub) → AreGroupsOf hub groups.items) }
 {
     let mut groups = Vec::new(alloc);
@@ -24,7 +25,7 @@ fn deal_round(
     count: usize,
 ) -> Result<Vec<Vec<WorkerHand>>, AllocError>
     requires { 0 < count }
-    ensures count { IfOk result (λ groups. length groups.items ≡ count) }
+    ensures dealt { IfOk result (λ groups. group_cells groups.items ≡ dealt count (cells_of hands.items)) }
     ensures hands { IfOk result (λ groups.
         (hub : WorkerHub) → AreHandsOf hub hands.items → AreGroupsOf hub groups.items) }
 {
@@ -45,7 +46,7 @@ pub(crate) fn deal(
     hands: Vec<WorkerHand>,
     threads: u32,
 ) -> Result<(Vec<Vec<WorkerHand>>, Vec<WorkerHand>), AllocError>
-    ensures count { IfOk result (λ r. length r.0.items ≤ threads) }
+    ensures dealt { IfOk result (λ r. AreDealt (cells_of hands.items) threads r.0.items r.1.items) }
     ensures groups { IfOk result (λ r.
         (hub : WorkerHub) → AreHandsOf hub hands.items → AreGroupsOf hub r.0.items) }
     ensures own { IfOk result (λ r. (hub : WorkerHub) → AreHandsOf hub hands.items → AreHandsOf hub r.1.items) }

@@ -1,13 +1,15 @@
 //! The entries that main reads: changes of the strategy, and time-points.
-ghost use Rattle.std.specs.Prelude.{◌≡◌, ◌+◌, ◌≤◌, ◌<◌, ◌^◌, IfErr, OnOk, OnErr};
+ghost use Rattle.std.specs.Prelude.{◌≡◌, ◌+◌, ◌≤◌, ◌<◌, ◌^◌, [], ◌∷◌, IfErr, OnOk, OnErr};
 ghost use Rattle.mfotl_model.specs.Strategies.{workers_of};
 ghost use Rattle.rescale_core.specs.Moving.{IsDriverOf, core_of};
 ghost use Rattle.rescale_core.specs.Workers.{IsFor, MayFollow};
 ghost use Rattle.rescale_core.specs.Worlds.{World, spot_in};
 ghost use Rattle.turn_hub.specs.Ends.{IsMainOf, cell_count};
-ghost use Rattle.worker_pool.specs.Changes.{ChangesIn, HaveCells, MakesChange, NoneDue, Suits};
+ghost use Rattle.rescale_core.specs.declared.item.Entry.TheVariants.{Change as ToStrategy};
+ghost use Rattle.worker_pool.specs.Changes.{HaveCells, NoneDue, Suits, changes_due, changes_later};
 ghost use Rattle.worker_pool.specs.Hands.{AreHandsOf};
-ghost use Rattle.worker_pool.specs.Writing.{Adds, FallsShort, IsOutputStop, IsRoomy, Keeps, ReadsIn, Runs, RunsTo};
+ghost use Rattle.worker_pool.specs.Writing.{Adds, AddsPoint, ChangesIn, FallsShort, IsOutputStop, IsRoomy, ReadsIn};
+ghost use Rattle.worker_pool.specs.Writing.{Runs, RunsTo};
 
 use crate::hands::WorkerHand;
 use crate::line_writer::LineWriter;
@@ -65,9 +67,7 @@ fn change<R: Wait, O: Sink, G: Gate>(
     requires hands { AreHandsOf context.now.hub.now own.old.items }
     ensures hands { AreHandsOf context.now.hub.now own.new.items }
     ensures main { OnOk result (IsMainOf context.now.hub.now driver.new.main) }
-    ensures makes { OnOk result (MakesChange (λ before. Keeps driver.old (O.written out.old) writer.old.tally
-        before (O.written out.new) writer.new.tally) strategy driver.new) }
-    ensures ok { OnOk result (Keeps driver.old (O.written out.old) writer.old.tally
+    ensures ok { OnOk result (Adds driver.old (O.written out.old) writer.old.tally (ToStrategy strategy ∷ [])
         driver.new (O.written out.new) writer.new.tally) }
     ensures err { OnErr result (FallsShort driver.old (O.written out.old) writer.old.tally (O.written out.new)) }
     ensures stop { IfErr result (λ stop. IsOutputStop (O.faults out.old) (O.faults out.new) stop) }
@@ -78,7 +78,7 @@ fn change<R: Wait, O: Sink, G: Gate>(
     Ok(())
 }
 
-// Reads each change that is to be made before the next time-point, in order.
+// Reads just the changes that are to be made before the next time-point, in order.
 fn make_changes<R: Wait, O: Sink, G: Gate>(
     context: &LoopContext<'_, R, G>,
     own: &mut Vec<WorkerHand>,
@@ -98,8 +98,11 @@ fn make_changes<R: Wait, O: Sink, G: Gate>(
     ensures suits { OnOk result (Suits driver.new schedule.new) }
     ensures seated { OnOk result (HaveCells context.now.cells schedule.new) }
     ensures all { OnOk result (NoneDue schedule.new) }
+    ensures left { OnOk result (schedule.new.changes.items
+        ≡ changes_later schedule.old.routed schedule.old.changes.items) }
     ensures routed { schedule.new.routed ≡ schedule.old.routed }
-    ensures ok { OnOk result (Keeps driver.old (O.written out.old) writer.old.tally
+    ensures ok { OnOk result (Adds driver.old (O.written out.old) writer.old.tally
+        (changes_due schedule.old.routed schedule.old.changes.items)
         driver.new (O.written out.new) writer.new.tally) }
     ensures err { OnErr result (FallsShort driver.old (O.written out.old) writer.old.tally (O.written out.new)) }
     ensures stop { IfErr result (λ stop. IsOutputStop (O.faults out.old) (O.faults out.new) stop) }
@@ -137,8 +140,11 @@ pub(crate) fn route<R: Wait, O: Sink, G: Gate>(
     ensures main { OnOk result (IsMainOf context.now.hub.now driver.new.main) }
     ensures suits { OnOk result (Suits driver.new schedule.new) }
     ensures seated { OnOk result (HaveCells context.now.cells schedule.new) }
+    ensures left { OnOk result (schedule.new.changes.items
+        ≡ changes_later schedule.old.routed schedule.old.changes.items) }
     ensures routed { OnOk result (schedule.new.routed ≡ schedule.old.routed + 1) }
-    ensures ok { OnOk result (Adds driver.old (O.written out.old) writer.old.tally point
+    ensures ok { OnOk result (AddsPoint driver.old (O.written out.old) writer.old.tally
+        (changes_due schedule.old.routed schedule.old.changes.items) point
         driver.new (O.written out.new) writer.new.tally) }
     ensures err { OnErr result (FallsShort driver.old (O.written out.old) writer.old.tally (O.written out.new)) }
     ensures stop { IfErr result (λ stop. IsOutputStop (O.faults out.old) (O.faults out.new) stop) }

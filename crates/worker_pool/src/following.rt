@@ -1,12 +1,12 @@
 //! The log in chunks: all lines of a chunk are written and handed on before the next chunk is read.
-ghost use Rattle.std.specs.Prelude.{◌≡◌, ◌<◌, ◌≤◌, IsTrue, length, [], false};
+ghost use Rattle.std.specs.Prelude.{◌≡◌, ◌<◌, ◌≤◌, IsTrue, OnOk, length, [], false};
 ghost use Rattle.log_reader.specs.Limits.{standard};
 ghost use Rattle.log_reader.specs.Progress.{start};
 ghost use Rattle.log_reader.specs.Readers.{Reads, progress};
 ghost use Rattle.monitorable.specs.CoreForms.{CoreForm};
 ghost use Rattle.turn_hub.specs.Ends.{IsMainOf, cell_count};
 ghost use Rattle.worker_pool.specs.Changes.{HaveCells, Suits};
-ghost use Rattle.worker_pool.specs.Chunks.{ReadsChunk, end_of};
+ghost use Rattle.worker_pool.specs.Chunks.{ReadsChunk, ReadsPlan, end_of};
 ghost use Rattle.worker_pool.specs.Effects.{effect};
 ghost use Rattle.worker_pool.specs.Endings.{FollowsLog};
 ghost use Rattle.worker_pool.specs.Hands.{AreHandsOf};
@@ -92,6 +92,8 @@ pub(crate) fn follow<R: Wait, I: Inputs, O: Sink, G: Gate>(
     ensures follows { (core : CoreForm) → Begins core driver.old → ForEachPolicy core (λ policy.
         FollowsLog reader.old.sig policy (effect I.Inputs O.Sink inputs.old inputs.new out.old out.new)
         (end_of result)) }
+    ensures planned { OnOk result (ReadsPlan reader.old.sig schedule.old.changes.items (I.rest inputs.old)
+        (I.rest inputs.new) driver.new) }
 {
     let mut writer = LineWriter::new(context.alloc);
     'chunks: for _ in context.rt.forever() {

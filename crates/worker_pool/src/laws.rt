@@ -1,5 +1,6 @@
 //! Laws of the definitions, each the contract of a function.
-ghost use Rattle.worker_pool.specs.Laws.{DueAtItsNumber, LimitsInFull, TallyOfThree, ViolationsCounted};
+ghost use Rattle.worker_pool.specs.Laws.{ChangesOfThree, DueAtItsNumber, FiveDealtToTwo, LimitsInFull, TallyOfThree};
+ghost use Rattle.worker_pool.specs.Laws.{ViolationsCounted};
 
 /// Some verdict on what was read has a row exactly where the number of those that have one isn't 0.
 pub fn violations_counted()
@@ -15,4 +16,10 @@ pub fn worked_numbers()
 /// A change is due just before the time-point of its number is read.
 pub fn due_at_its_number()
     ensures { DueAtItsNumber }
+{}
+
+/// What is read of three time-points by a plan of four changes, and to whom five hands are dealt.
+pub fn worked_plan()
+    ensures changes { ChangesOfThree }
+    ensures hands { FiveDealtToTwo }
 {}

@@ -1,12 +1,12 @@
 //! Main's loop as what main does beside the threads.
-ghost use Rattle.std.specs.Prelude.{◌≡◌, ◌≤◌, ◌<◌, [], IsTrue, length};
+ghost use Rattle.std.specs.Prelude.{◌≡◌, ◌≤◌, ◌<◌, [], IsTrue, OnOk, length};
 ghost use Rattle.log_reader.specs.Limits.{standard};
 ghost use Rattle.log_reader.specs.Progress.{start};
 ghost use Rattle.log_reader.specs.Readers.{Reads, progress};
 ghost use Rattle.monitorable.specs.CoreForms.{CoreForm};
 ghost use Rattle.turn_hub.specs.Ends.{IsMainOf, cell_count};
 ghost use Rattle.worker_pool.specs.Changes.{HaveCells, Suits};
-ghost use Rattle.worker_pool.specs.Chunks.{end_of};
+ghost use Rattle.worker_pool.specs.Chunks.{ReadsPlan, end_of};
 ghost use Rattle.worker_pool.specs.Effects.{effect};
 ghost use Rattle.worker_pool.specs.Endings.{FollowsLog};
 ghost use Rattle.worker_pool.specs.Hands.{AreGroupsOf, AreHandsOf};
@@ -41,13 +41,13 @@ struct MainLoop<'o, 's, R, G, I, O> {
 }
 
 impl<'o, 's, R: Wait, G: Gate, I: Inputs, O: Sink> MainTask for MainLoop<'o, 's, R, G, I, O> {
-    ghost use Rattle.std.specs.Prelude.{◌≡◌, ◌≤◌, ◌<◌, [], IsTrue, length};
+    ghost use Rattle.std.specs.Prelude.{◌≡◌, ◌≤◌, ◌<◌, [], IsTrue, OnOk, length};
     ghost use Rattle.log_reader.specs.Progress.{start};
     ghost use Rattle.log_reader.specs.Readers.{Reads, progress};
     ghost use Rattle.monitorable.specs.CoreForms.{CoreForm};
     ghost use Rattle.turn_hub.specs.Ends.{IsMainOf, cell_count};
     ghost use Rattle.worker_pool.specs.Changes.{HaveCells, Suits};
-    ghost use Rattle.worker_pool.specs.Chunks.{end_of};
+    ghost use Rattle.worker_pool.specs.Chunks.{ReadsPlan, end_of};
     ghost use Rattle.worker_pool.specs.Effects.{effect};
     ghost use Rattle.worker_pool.specs.Endings.{FollowsLog};
     ghost use Rattle.worker_pool.specs.Hands.{AreHandsOf};
@@ -72,11 +72,14 @@ impl<'o, 's, R: Wait, G: Gate, I: Inputs, O: Sink> MainTask for MainLoop<'o, 's,
     ghost did = { λ d r e. (e.log.ghost_name ≡ d.log.ghost_name)
         × (e.inputs.ghost_name ≡ d.inputs.ghost_name)
         × (e.out.ghost_name ≡ d.out.ghost_name)
+        × (e.driver.ghost_name ≡ d.driver.ghost_name)
         × (I.files e.inputs.now ≡ I.files d.inputs.now)
         × (I.is_open e.inputs.now ≡ I.is_open d.inputs.now)
         × (I.asked e.inputs.now ≡ I.asked d.inputs.now)
         × (I.faults d.inputs.now ≤ I.faults e.inputs.now)
         × (O.faults d.out.now ≤ O.faults e.out.now)
+        × OnOk r (ReadsPlan d.log.now.sig d.schedule.now.changes.items (I.rest d.inputs.now) (I.rest e.inputs.now)
+        e.driver.now)
         × ((core : CoreForm) → Begins core d.driver.now → ForEachPolicy core (λ policy. FollowsLog d.log.now.sig policy
         (effect I.Inputs O.Sink d.inputs.now e.inputs.now d.out.now e.out.now) (end_of r))) };
 
@@ -130,6 +133,8 @@ pub(crate) fn follow_beside<'o, 's, R: Threads + Wait + Sync, I: Inputs, O: Sink
     ensures later_out { O.faults out.old ≤ O.faults out.new }
     ensures follows { (core : CoreForm) → Begins core driver.old → ForEachPolicy core (λ policy.
         FollowsLog log.old.sig policy (effect I.Inputs O.Sink inputs.old inputs.new out.old out.new) (end_of result)) }
+    ensures planned { OnOk result (ReadsPlan log.old.sig schedule.old.changes.items (I.rest inputs.old)
+        (I.rest inputs.new) driver.new) }
 {
     let mut main_loop = MainLoop {
         context,

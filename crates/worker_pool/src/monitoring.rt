@@ -1,6 +1,6 @@
 //! The whole run over a log.
 ghost use Rattle.std.specs.Prelude.{◌≡◌, ◌<◌, ◌≤◌, [], All, IfOk, IsTrue, length};
-ghost use Rattle.std.specs.List.{AllByRecursion};
+ghost use Rattle.std.specs.List.{AllByRecursion, range_with_len};
 ghost use Rattle.log_reader.specs.Limits.{standard};
 ghost use Rattle.log_reader.specs.Progress.{start};
 ghost use Rattle.log_reader.specs.Readers.{Reads, progress};
@@ -12,7 +12,7 @@ ghost use Rattle.worker_pool.specs.Effects.{effect};
 ghost use Rattle.worker_pool.specs.Endings.{FollowsLog};
 ghost use Rattle.turn_hub.specs.Ends.{IsMainOf, cell_count};
 ghost use Rattle.worker_pool.specs.Chunks.{end_of};
-ghost use Rattle.worker_pool.specs.Hands.{AreGroupsOf, AreHandsOf};
+ghost use Rattle.worker_pool.specs.Hands.{AreDealt, AreGroupsOf, AreHandsOf};
 ghost use Rattle.worker_pool.specs.Policies.{ForEachPolicy};
 ghost use Rattle.worker_pool.specs.Writing.{Begins};
 
@@ -64,6 +64,7 @@ fn prepare(alloc: Global, plan: Plan, cells: u32, threads: u32) -> Result<Prepar
     ensures main { IfOk result (λ p. IsMainOf p.hub p.driver.main) }
     ensures groups { IfOk result (λ p. AreGroupsOf p.hub p.groups.items) }
     ensures own { IfOk result (λ p. AreHandsOf p.hub p.own.items) }
+    ensures dealt { IfOk result (λ p. AreDealt (range_with_len 0 cells) threads p.groups.items p.own.items) }
     ensures room { IfOk result (λ p. 0 < length p.buffer.items) }
 {
     let Plan {

@@ -47,7 +47,8 @@ pub(crate) fn route_complete<R: Wait, O: Sink, G: Gate>(
     requires suits { Suits driver.old schedule.old }
     requires seated { HaveCells context.now.cells schedule.old }
     requires routed { schedule.old.routed ≡ reader.old.given }
-    requires under_way { IsUnderWay reader.old driver.old (O.written out.old) writer.old.tally }
+    requires under_way { IsUnderWay reader.old driver.old schedule.old.changes.items (O.written out.old)
+        writer.old.tally }
     requires main { IsMainOf context.now.hub.now driver.old.main }
     requires cells { context.now.cells ≤ cell_count context.now.hub.now }
     requires hands { AreHandsOf context.now.hub.now own.old.items }
@@ -58,13 +59,14 @@ pub(crate) fn route_complete<R: Wait, O: Sink, G: Gate>(
     ensures routed { OnOk result (schedule.new.routed ≡ reader.new.given) }
     ensures reader { OnOk result (reader.new
         ≡ record reader.old { given = reader.new.given; kept = reader.new.kept }) }
-    ensures ok { OnOk result (ForEachRun reader.old driver.old (O.written out.old) writer.old.tally
-        (λ core bytes start. TakesAll core reader.new bytes driver.new start (O.written out.new) writer.new.tally)) }
-    ensures stops { IfErr result (λ stop. ForEachRun reader.old driver.old (O.written out.old) writer.old.tally
-        (λ core bytes start. ForEachPolicy core (λ policy. StopsLines policy
+    ensures ok { OnOk result (ForEachRun reader.old driver.old schedule.old.changes.items (O.written out.old)
+        writer.old.tally (λ core plan bytes start. TakesAll core plan reader.new bytes driver.new
+        schedule.new.changes.items start (O.written out.new) writer.new.tally)) }
+    ensures stops { IfErr result (λ stop. ForEachRun reader.old driver.old schedule.old.changes.items
+        (O.written out.old) writer.old.tally (λ core plan bytes start. ForEachPolicy core (λ policy. StopsLines policy
         (read (progress reader.old bytes)) start (O.written out.new) (O.faults out.old) (O.faults out.new) stop))) }
-    ensures front { ForEachRun reader.old driver.old (O.written out.old) writer.old.tally
-        (λ core bytes start. ForEachPolicy core (λ policy. AppendsFront
+    ensures front { ForEachRun reader.old driver.old schedule.old.changes.items (O.written out.old) writer.old.tally
+        (λ core plan bytes start. ForEachPolicy core (λ policy. AppendsFront
         start (O.written out.new) (text_on policy (read (progress reader.old bytes))))) }
     ensures later { O.faults out.old ≤ O.faults out.new }
 {

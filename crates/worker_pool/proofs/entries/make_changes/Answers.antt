@@ -1,28 +1,34 @@
-use Rattle.std.proofs.Common.{◌∙◌, arith}
-use Rattle.worker_pool.proofs.ChangeLemmas.{seated_later, seated_now, suits_kept, suits_later}
-use Rattle.worker_pool.proofs.WritingLemmas.{keeps_on, runs_on}
+use Rattle.std.proofs.Common.{◌∙◌, ap, arith}
+use Rattle.worker_pool.specs.declared.schedule.Schedule.{Schedule}
+use Rattle.worker_pool.proofs.ChangeLemmas.{adds_falls, all_made, none_made, one_made, seated_later, seated_now}
+use Rattle.worker_pool.proofs.ChangeLemmas.{suits_later}
+use Rattle.worker_pool.proofs.WritingLemmas.{on_err, runs_with}
 use Rattle.worker_pool.proofs.entries.make_changes.Goals as goal
+
+pub loop-init : goal.loop-init
+loop-init g c = record {
+  made = none_made c.args.schedule.now c.args.driver.now (g.O.Sink.written c.args.out.now) c.args.writer.now.tally;
+  suits = c.requires.suits;
+  seated = c.requires.seated;
+  main = c.requires.main;
+  hands = c.requires.hands;
+  later = omega arith;
+  can = tt;
+  finite = tt;
+}
 
 -- the first change was made, and those behind it are left
 pub loop-preserved : goal.loop-preserved
 loop-preserved g c =
-    let before = g.O.Sink.written c.args.out.now in
-    let here = g.O.Sink.written c.loop.out in
-    let behind = g.O.Sink.written c.change.new.out in
     let inv = c.loop.invariant in
     let due = c.in-Some-next_due.ensures in
     let made = c.in_ok-change-in-Some-next_due.ensures in
-    let runs = runs_on c.args.driver.now c.loop.driver before here c.args.writer.now.tally c.loop.writer.tally inv.keeps
-    c.requires.runs in
     record {
-      keeps = keeps_on c.args.driver.now c.loop.driver c.change.new.driver before here behind c.args.writer.now.tally
-          c.loop.writer.tally c.change.new.writer.tally inv.keeps made.ok;
-      suits = suits_kept c.loop.driver c.change.new.driver here behind c.loop.writer.tally c.change.new.writer.tally
-          c.next_due.new.self runs made.ok
-          (suits_later c.loop.driver c.loop.schedule c.next_due.new.self c.in-Some-next_due.strategy due inv.suits);
+      made = one_made inv.made due made.ok;
+      suits = suits_later c.loop.schedule c.next_due.new.self c.in-Some-next_due.strategy due
+          (runs_with inv.made.adds c.requires.runs) made.ok inv.suits;
       seated = seated_later c.args.context.now.cells c.loop.schedule c.next_due.new.self c.in-Some-next_due.strategy due
           inv.seated;
-      routed = due.3 ∙ inv.routed;
       main = made.main;
       hands = c.change.ensures.hands;
       later = omega (arith, inv.later, c.change.ensures.later);
@@ -30,7 +36,23 @@ loop-preserved g c =
       finite = tt;
     }
 
+pub change-requires-clause-runs : goal.change-requires-clause-runs
+change-requires-clause-runs g c = runs_with c.loop.invariant.made.adds c.requires.runs
+
 pub change-requires-clause-seated : goal.change-requires-clause-seated
 change-requires-clause-seated g c =
     seated_now c.args.context.now.cells c.loop.schedule c.next_due.new.self c.in-Some-next_due.strategy
     c.in-Some-next_due.ensures c.loop.invariant.seated
+
+pub returns-in-None-next_due-clause-ok : goal.returns-in-None-next_due-clause-ok
+returns-in-None-next_due-clause-ok g c = (all_made c.loop.invariant.made c.in-None-next_due.ensures.0).0
+
+pub returns-in-None-next_due-clause-left : goal.returns-in-None-next_due-clause-left
+returns-in-None-next_due-clause-left g c =
+    ap (λ (s : Schedule). s.changes.items) c.in-None-next_due.ensures.1
+    ∙ (all_made c.loop.invariant.made c.in-None-next_due.ensures.0).1
+
+pub returns-in_err-change-in-Some-next_due-clause-err : goal.returns-in_err-change-in-Some-next_due-clause-err
+returns-in_err-change-in-Some-next_due-clause-err g c =
+    on_err c.from_residual.result _
+    (adds_falls c.loop.invariant.made.none c.loop.invariant.made.adds c.in_err-change-in-Some-next_due.ensures.err)

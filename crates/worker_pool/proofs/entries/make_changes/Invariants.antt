@@ -2,17 +2,16 @@ use Rattle.std.proofs.Common.{◌≡◌, ◌≤◌}
 use Rattle.turn_hub.specs.Ends.{IsMainOf}
 use Rattle.worker_pool.specs.Changes.{HaveCells, Suits}
 use Rattle.worker_pool.specs.Hands.{AreHandsOf}
-use Rattle.worker_pool.specs.Writing.{Keeps}
+use Rattle.worker_pool.proofs.ChangeLemmas.{Made}
 use Rattle.worker_pool.proofs.entries.make_changes.Given as goal
 
--- the changes that are left suit the driver
+-- some of the changes that are due were made, and the others are to come
 abbrev pub invariant-loop : goal.invariant-loop
 invariant-loop g l = record {
-  keeps : Keeps l.fn.driver (g.O.Sink.written l.fn.out) l.fn.writer.tally l.driver (g.O.Sink.written l.out)
-      l.writer.tally;
+  made : Made l.fn.schedule l.schedule l.fn.driver (g.O.Sink.written l.fn.out) l.fn.writer.tally l.driver
+      (g.O.Sink.written l.out) l.writer.tally;
   suits : Suits l.driver l.schedule;
   seated : HaveCells l.context.cells l.schedule;
-  routed : l.schedule.routed ≡ l.fn.schedule.routed;
   main : IsMainOf l.context.hub.now l.driver.main;
   hands : AreHandsOf l.context.hub.now l.own.items;
   later : g.O.Sink.faults l.fn.out ≤ g.O.Sink.faults l.out;

@@ -4,7 +4,7 @@ use Rattle.log_reader.specs.Readers.{Reader}
 use Rattle.log_reader.specs.declared.limits.Limits.{Limits}
 use Rattle.worker_pool.specs.Effects.{effect}
 use Rattle.worker_pool.proofs.ChunkLemmas.{chunk_failed, course_begins, finished, lines_stop, one_more_chunk}
-use Rattle.worker_pool.proofs.ChunkLemmas.{output_failed, settles}
+use Rattle.worker_pool.proofs.ChunkLemmas.{output_failed, plan_read, settles}
 use Rattle.worker_pool.proofs.PointLemmas.{rose_later}
 use Rattle.worker_pool.proofs.following.follow.Goals as goal
 
@@ -21,9 +21,8 @@ chunks-init g c = record {
   asks_nothing = refl;
   later = omega arith;
   later_out = omega arith;
-  course = λ core begins. course_begins core c.args.reader.now.sig (g.I.Inputs.rest c.args.inputs.now)
-      c.args.reader.now c.args.driver.now (g.O.Sink.written c.args.out.now) c.new-writer.result.tally
-      c.requires.fresh c.requires.reads begins c.new-writer.ensures;
+  course = λ core begins. course_begins c.args.schedule.now.changes.items (g.I.Inputs.rest c.args.inputs.now)
+      (g.O.Sink.written c.args.out.now) c.requires.fresh c.requires.reads begins c.new-writer.ensures;
   can = tt;
   finite = tt;
 }
@@ -41,6 +40,7 @@ route_complete-requires-clause-under_way g c =
     let course = c.chunks.invariant.course begins.0 begins.1 in
     record {
       core = begins.0;
+      plan = c.args.schedule.now.changes.items;
       bytes = course.bytes;
       start = g.O.Sink.written c.args.out.now;
       reads = course.reads;
@@ -50,36 +50,41 @@ route_complete-requires-clause-under_way g c =
 pub returns-in-Err-clause-follows : goal.returns-in-Err-clause-follows
 returns-in-Err-clause-follows g c core begins policy is =
     let inv = c.chunks.invariant in
+    let plan = c.args.schedule.now.changes.items in
+    let start = g.O.Sink.written c.args.out.now in
     let course = inv.course core begins in
-    lines_stop core c.args.reader.now.sig policy is
+    lines_stop policy is
     (effect g.I.Inputs g.O.Sink c.args.inputs.now c.chunks.inputs c.args.out.now c.route_complete.new.out)
-    c.chunks.reader c.chunks.driver c.chunks.writer.tally
-    (g.O.Sink.written c.chunks.out) course c.in-Err.stop (g.O.Sink.faults c.chunks.out) inv.later_out
-    (c.in-Err.ensures.stops core course.bytes (g.O.Sink.written c.args.out.now) course.reads course.so_far policy is)
-    (c.in-Err.ensures.front core course.bytes (g.O.Sink.written c.args.out.now) course.reads course.so_far policy is)
+    course c.in-Err.stop (g.O.Sink.faults c.chunks.out) inv.later_out
+    (c.in-Err.ensures.stops core plan course.bytes start course.reads course.so_far policy is)
+    (c.in-Err.ensures.front core plan course.bytes start course.reads course.so_far policy is)
 
 pub returns-then-is_finished-clause-follows : goal.returns-then-is_finished-clause-follows
 returns-then-is_finished-clause-follows g c core begins policy is =
     let course = c.chunks.invariant.course core begins in
-    let all = settles core c.args.reader.now.sig _ _ _ c.route_complete.new.reader _ c.route_complete.new.driver _ _
-    (g.O.Sink.written c.route_complete.new.out) _ c.route_complete.new.writer.tally course c.in-Ok.ensures.reader
-    (c.in-Ok.ensures.ok core course.bytes (g.O.Sink.written c.args.out.now) course.reads course.so_far) in
-    finished core c.args.reader.now.sig policy is
+    finished policy is
     (effect g.I.Inputs g.O.Sink c.args.inputs.now c.chunks.inputs c.args.out.now c.route_complete.new.out)
-    c.route_complete.new.reader c.route_complete.new.driver c.route_complete.new.writer.tally all
+    (settles course c.in-Ok.ensures.reader (c.in-Ok.ensures.ok core c.args.schedule.now.changes.items course.bytes
+    (g.O.Sink.written c.args.out.now) course.reads course.so_far))
+    (sym c.is_finished.ensures ∙ c.if-is_finished.true)
+
+pub returns-then-is_finished-clause-planned : goal.returns-then-is_finished-clause-planned
+returns-then-is_finished-clause-planned g c =
+    let begins = c.requires.begins in
+    let course = c.chunks.invariant.course begins.0 begins.1 in
+    plan_read (settles course c.in-Ok.ensures.reader (c.in-Ok.ensures.ok begins.0 c.args.schedule.now.changes.items
+    course.bytes (g.O.Sink.written c.args.out.now) course.reads course.so_far))
     (sym c.is_finished.ensures ∙ c.if-is_finished.true)
 
 pub returns-in-Err-flush-clause-follows : goal.returns-in-Err-flush-clause-follows
 returns-in-Err-flush-clause-follows g c core begins policy is =
     let inv = c.chunks.invariant in
     let course = inv.course core begins in
-    let all = settles core c.args.reader.now.sig _ _ _ c.route_complete.new.reader _ c.route_complete.new.driver _ _
-    (g.O.Sink.written c.route_complete.new.out) _ c.route_complete.new.writer.tally course c.in-Ok.ensures.reader
-    (c.in-Ok.ensures.ok core course.bytes (g.O.Sink.written c.args.out.now) course.reads course.so_far) in
-    output_failed core c.args.reader.now.sig policy is
+    output_failed policy is
     (effect g.I.Inputs g.O.Sink c.args.inputs.now c.chunks.inputs c.args.out.now c.flush.new.self)
-    c.route_complete.new.reader c.route_complete.new.driver c.route_complete.new.writer.tally
-    (g.O.Sink.written c.route_complete.new.out) c.flush.ensures.kept all
+    c.flush.ensures.kept
+    (settles course c.in-Ok.ensures.reader (c.in-Ok.ensures.ok core c.args.schedule.now.changes.items course.bytes
+    (g.O.Sink.written c.args.out.now) course.reads course.so_far))
     (rose_later (g.O.Sink.faults c.args.out.now) (g.O.Sink.faults c.route_complete.new.out)
     (g.O.Sink.faults c.flush.new.self) (omega (arith, inv.later_out, c.route_complete.ensures.later))
     c.in-Err-flush.ensures.cause.failed)
@@ -88,15 +93,13 @@ pub returns-in-Err-read_chunk-clause-follows : goal.returns-in-Err-read_chunk-cl
 returns-in-Err-read_chunk-clause-follows g c core begins policy is =
     let inv = c.chunks.invariant in
     let course = inv.course core begins in
-    let all = settles core c.args.reader.now.sig _ _ _ c.route_complete.new.reader _ c.route_complete.new.driver _ _
-    (g.O.Sink.written c.route_complete.new.out) _ c.route_complete.new.writer.tally course c.in-Ok.ensures.reader
-    (c.in-Ok.ensures.ok core course.bytes (g.O.Sink.written c.args.out.now) course.reads course.so_far) in
-    chunk_failed core c.args.reader.now.sig policy is
+    chunk_failed policy is
     (effect g.I.Inputs g.O.Sink c.args.inputs.now c.read_chunk.new.inputs c.args.out.now c.flush.new.self)
-    c.route_complete.new.reader c.route_complete.new.driver c.route_complete.new.writer.tally
-    (g.O.Sink.written c.route_complete.new.out) (g.I.Inputs.rest c.chunks.inputs) c.flush.ensures.kept all
-    (sym c.is_finished.ensures ∙ c.if-is_finished.false) c.read_chunk.new.reader
-    (g.I.Inputs.faults c.chunks.inputs) c.in-Err-read_chunk.stop inv.later c.in-Err-read_chunk.ensures.reads
+    c.flush.ensures.kept
+    (settles course c.in-Ok.ensures.reader (c.in-Ok.ensures.ok core c.args.schedule.now.changes.items course.bytes
+    (g.O.Sink.written c.args.out.now) course.reads course.so_far))
+    (sym c.is_finished.ensures ∙ c.if-is_finished.false) (g.I.Inputs.faults c.chunks.inputs)
+    c.in-Err-read_chunk.stop inv.later c.in-Err-read_chunk.ensures.reads
 
 pub chunks-preserved : goal.chunks-preserved
 chunks-preserved g c =
@@ -117,12 +120,9 @@ chunks-preserved g c =
       later_out = omega (arith, inv.later_out, c.route_complete.ensures.later, c.flush.ensures.cause.later);
       course = λ core begins.
           let course = inv.course core begins in
-          let all = settles core c.args.reader.now.sig _ _ _ c.route_complete.new.reader _ c.route_complete.new.driver
-          _ _ (g.O.Sink.written c.route_complete.new.out) _ c.route_complete.new.writer.tally course
-          c.in-Ok.ensures.reader
-          (c.in-Ok.ensures.ok core course.bytes (g.O.Sink.written c.args.out.now) course.reads course.so_far) in
-          rw c.flush.ensures.kept (one_more_chunk core c.args.reader.now.sig
-          _ _ (g.I.Inputs.rest c.read_chunk.new.inputs) _ c.read_chunk.new.reader _ _ _ _ all
+          rw c.flush.ensures.kept (one_more_chunk
+          (settles course c.in-Ok.ensures.reader (c.in-Ok.ensures.ok core c.args.schedule.now.changes.items
+          course.bytes (g.O.Sink.written c.args.out.now) course.reads course.so_far))
           (sym c.is_finished.ensures ∙ c.if-is_finished.false) chunk.chunk chunk.taken chunk.ok);
       can = tt;
       finite = tt;

@@ -20,9 +20,9 @@ invariant-chunks g l = record {
   asks_nothing : g.I.Inputs.asked l.inputs ≡ g.I.Inputs.asked l.fn.inputs;
   later : g.I.Inputs.faults l.fn.inputs ≤ g.I.Inputs.faults l.inputs;
   later_out : g.O.Sink.faults l.fn.out ≤ g.O.Sink.faults l.out;
-  course : (core : CoreForm) → Begins core l.fn.driver → Course core l.fn.reader.sig
-      (g.I.Inputs.rest l.fn.inputs) (g.I.Inputs.rest l.inputs) l.reader l.driver (g.O.Sink.written l.fn.out)
-      (g.O.Sink.written l.out) l.writer.tally;
+  course : (core : CoreForm) → Begins core l.fn.driver → Course core l.fn.reader.sig l.fn.schedule.changes.items
+      (g.I.Inputs.rest l.fn.inputs) (g.I.Inputs.rest l.inputs) l.reader l.driver l.schedule.changes.items
+      (g.O.Sink.written l.fn.out) (g.O.Sink.written l.out) l.writer.tally;
   can : (goal.iterator-chunks g).can_next l.iterator';
   finite : (goal.iterator-chunks g).is_finite l.iterator';
 }

@@ -2,13 +2,8 @@ use Rattle.worker_pool.proofs.WritingLemmas.{falls_on, on_err, runs_on}
 use Rattle.worker_pool.proofs.main_turns.make_room.Goals as goal
 
 pub round-requires-clause-runs : goal.round-requires-clause-runs
-round-requires-clause-runs g c =
-    runs_on c.args.driver.now c.loop.driver (g.O.Sink.written c.args.out.now) (g.O.Sink.written c.loop.out)
-    c.args.writer.now.tally c.loop.writer.tally c.loop.invariant.keeps c.requires.runs
+round-requires-clause-runs g c = runs_on c.loop.invariant.keeps c.requires.runs
 
 pub returns-in_err-busy-clause-err : goal.returns-in_err-busy-clause-err
 returns-in_err-busy-clause-err g c =
-    on_err c.from_residual.result _
-    (falls_on c.args.driver.now c.loop.driver (g.O.Sink.written c.args.out.now) (g.O.Sink.written c.loop.out)
-    (g.O.Sink.written c.round.new.out) c.args.writer.now.tally c.loop.writer.tally c.loop.invariant.keeps
-    c.in_err-busy.ensures.err)
+    on_err c.from_residual.result _ (falls_on c.loop.invariant.keeps c.in_err-busy.ensures.err)

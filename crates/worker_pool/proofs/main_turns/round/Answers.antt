@@ -2,6 +2,4 @@ use Rattle.worker_pool.proofs.WritingLemmas.{on_err, stops}
 use Rattle.worker_pool.proofs.main_turns.round.Goals as goal
 
 pub returns-in_err-turned-clause-err : goal.returns-in_err-turned-clause-err
-returns-in_err-turned-clause-err g c =
-    on_err c.from_residual.result _
-    (stops c.args.driver.now (g.O.Sink.written c.args.out.now) c.args.writer.now.tally)
+returns-in_err-turned-clause-err g c = on_err c.from_residual.result _ (stops _ _ _)

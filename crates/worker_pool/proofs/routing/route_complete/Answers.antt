@@ -1,9 +1,10 @@
-use Rattle.std.proofs.Common.{◌≡◌, ◌∙◌, ◌+◌, ◌≤◌, ◌<◌, ◌^◌, ap, arith, refl, sym, take}
+use Rattle.std.proofs.Common.{◌≡◌, ◌∙◌, ◌+◌, ◌≤◌, ◌<◌, ◌^◌, ap, ap₂, arith, refl, sym, take}
 use Rattle.log_reader.specs.Progress.{read}
 use Rattle.log_reader.specs.Readers.{Reader, progress}
+use Rattle.worker_pool.specs.Changes.{changes_due, changes_later, entries_by}
 use Rattle.worker_pool.proofs.ChangeLemmas.{suits_drained}
-use Rattle.worker_pool.proofs.PointLemmas.{begins, ends_end, ends_more, follows, goes_on, one_more_given}
-use Rattle.worker_pool.proofs.PointLemmas.{short, stops_with}
+use Rattle.worker_pool.proofs.PointLemmas.{Takes, begins, ends_end, ends_more, follows, goes_on, one_more_given}
+use Rattle.worker_pool.proofs.PointLemmas.{short, stops_with, under}
 use Rattle.worker_pool.proofs.WritingLemmas.{falls_either, on_ok_both}
 use Rattle.worker_pool.proofs.routing.route_complete.Goals as goal
 
@@ -17,9 +18,7 @@ points-init g c = record {
   suits = c.requires.suits;
   seated = c.requires.seated;
   routed = c.requires.routed;
-  so_far = λ core bytes start reads so_far.
-      begins core c.args.reader.now bytes c.args.driver.now start (g.O.Sink.written c.args.out.now)
-      c.args.writer.now.tally reads so_far;
+  so_far = λ core plan bytes start reads so_far. begins reads so_far;
   can = tt;
   finite = tt;
 }
@@ -27,7 +26,7 @@ points-init g c = record {
 pub route-requires-clause-runs : goal.route-requires-clause-runs
 route-requires-clause-runs g c =
     let under = c.requires.under_way in
-    let here = c.points.invariant.so_far under.core under.bytes under.start under.reads under.so_far in
+    let here = c.points.invariant.so_far under.core under.plan under.bytes under.start under.reads under.so_far in
     let gives = rw c.in-Ok-Point.field-0-is at (c.in-Ok-Point.ensures.answer under.bytes here.reads) in
     let after = rw c.in-Ok-Point.field-0-is at c.in-Ok-Point.ensures.after in
     let given : c.next-in-points.new.self.given ≡ c.points.reader.given + 1 = ap (λ (r : Reader). r.given) after in
@@ -37,10 +36,10 @@ route-requires-clause-runs g c =
     let small : c.args.reader.now.limits.points < 2 ^ 63 = c.requires.few in
     let room : c.points.reader.given < 2 ^ 63 = omega (arith, given, limits, few, small) in (
       under.core,
-      take c.points.reader.given (read (progress c.args.reader.now under.bytes)).points,
+      entries_by under.plan (take c.points.reader.given (read (progress c.args.reader.now under.bytes)).points),
       under.start,
-      here.writes,
-      follows _ _ _ _ _ _ _ here c.in-Ok-Point.point gives room,
+      here.so_far.writes,
+      follows here c.in-Ok-Point.point gives room,
     )
 
 pub route-requires-clause-few : goal.route-requires-clause-few
@@ -55,150 +54,101 @@ route-requires-clause-few g c =
     omega (arith, given, limits, few, small, routed)
 
 pub returns-in_err-route-in-Ok-Point-clause-front : goal.returns-in_err-route-in-Ok-Point-clause-front
-returns-in_err-route-in-Ok-Point-clause-front g c core bytes start reads so_far =
-    short _ _ _ _ _ _ _ (c.points.invariant.so_far core bytes start reads so_far) (g.O.Sink.written c.route.new.out)
+returns-in_err-route-in-Ok-Point-clause-front g c core plan bytes start reads so_far =
+    short (c.points.invariant.so_far core plan bytes start reads so_far) (g.O.Sink.written c.route.new.out)
     c.in_err-route-in-Ok-Point.ensures.err
 
 pub drain-requires-clause-runs : goal.drain-requires-clause-runs
-drain-requires-clause-runs g c =
-    let under = c.requires.under_way in
-    let here = c.points.invariant.so_far under.core under.bytes under.start under.reads under.so_far in (
-      under.core,
-      take c.points.reader.given (read (progress c.args.reader.now under.bytes)).points,
-      under.start,
-      here.writes,
-    )
+drain-requires-clause-runs g c = under c.requires.under_way c.points.invariant.so_far
 
 pub returns-in-Ok-More-clause-ok : goal.returns-in-Ok-More-clause-ok
 returns-in-Ok-More-clause-ok g c =
     on_ok_both c.drain.result _ _ _
-    (λ keeps over core bytes start reads so_far.
-    let here = c.points.invariant.so_far core bytes start reads so_far in
-    ends_more _ _ _ _ _ _ _ here c.next-in-points.new.self (rw c.in-Ok-More.field-0-is at c.in-Ok-More.ensures.after)
+    (λ keeps over core plan bytes start reads so_far.
+    let here = c.points.invariant.so_far core plan bytes start reads so_far in
+    ends_more here (rw c.in-Ok-More.field-0-is at c.in-Ok-More.ensures.after)
     (c.in-Ok-More.ensures.reads bytes here.reads)
-    (rw c.in-Ok-More.field-0-is at (c.in-Ok-More.ensures.answer bytes here.reads))
-    c.drain.new.driver (g.O.Sink.written c.drain.new.out) c.drain.new.writer.tally keeps over)
+    (rw c.in-Ok-More.field-0-is at (c.in-Ok-More.ensures.answer bytes here.reads)) keeps over)
     c.drain.ensures.ok c.drain.ensures.over
 
 pub returns-in-Ok-More-clause-suits : goal.returns-in-Ok-More-clause-suits
 returns-in-Ok-More-clause-suits g c =
-    let under = c.requires.under_way in
-    let here = c.points.invariant.so_far under.core under.bytes under.start under.reads under.so_far in
-    suits_drained c.drain.result c.points.driver c.drain.new.driver (g.O.Sink.written c.points.out)
-    (g.O.Sink.written c.drain.new.out) c.points.writer.tally c.drain.new.writer.tally c.points.schedule (
-      under.core,
-      take c.points.reader.given (read (progress c.args.reader.now under.bytes)).points,
-      under.start,
-      here.writes,
-    ) c.drain.ensures.ok c.points.invariant.suits
+    suits_drained c.drain.result _ _ _ _ _ _ c.points.schedule (under c.requires.under_way c.points.invariant.so_far)
+    c.drain.ensures.ok c.points.invariant.suits
 
 pub returns-in-Ok-More-clause-front : goal.returns-in-Ok-More-clause-front
-returns-in-Ok-More-clause-front g c core bytes start reads so_far =
-    short _ _ _ _ _ _ _ (c.points.invariant.so_far core bytes start reads so_far) (g.O.Sink.written c.drain.new.out)
-    (falls_either c.drain.result c.points.driver c.drain.new.driver (g.O.Sink.written c.points.out)
-    (g.O.Sink.written c.drain.new.out) c.points.writer.tally c.drain.new.writer.tally c.drain.ensures.ok
-    c.drain.ensures.err)
+returns-in-Ok-More-clause-front g c core plan bytes start reads so_far =
+    short (c.points.invariant.so_far core plan bytes start reads so_far) (g.O.Sink.written c.drain.new.out)
+    (falls_either c.drain.result _ _ _ _ _ _ c.drain.ensures.ok c.drain.ensures.err)
 
 pub drain-requires-in-Ok-End-clause-runs : goal.drain-requires-in-Ok-End-clause-runs
-drain-requires-in-Ok-End-clause-runs g c =
-    let under = c.requires.under_way in
-    let here = c.points.invariant.so_far under.core under.bytes under.start under.reads under.so_far in (
-      under.core,
-      take c.points.reader.given (read (progress c.args.reader.now under.bytes)).points,
-      under.start,
-      here.writes,
-    )
+drain-requires-in-Ok-End-clause-runs g c = under c.requires.under_way c.points.invariant.so_far
 
 pub returns-in-Ok-End-clause-ok : goal.returns-in-Ok-End-clause-ok
 returns-in-Ok-End-clause-ok g c =
     on_ok_both c.drain-in-Ok-End.result _ _ _
-    (λ keeps over core bytes start reads so_far.
-    let here = c.points.invariant.so_far core bytes start reads so_far in
-    ends_end _ _ _ _ _ _ _ here c.next-in-points.new.self (rw c.in-Ok-End.field-0-is at c.in-Ok-End.ensures.after)
+    (λ keeps over core plan bytes start reads so_far.
+    let here = c.points.invariant.so_far core plan bytes start reads so_far in
+    ends_end here (rw c.in-Ok-End.field-0-is at c.in-Ok-End.ensures.after)
     (c.in-Ok-End.ensures.reads bytes here.reads)
-    (rw c.in-Ok-End.field-0-is at (c.in-Ok-End.ensures.answer bytes here.reads))
-    c.drain-in-Ok-End.new.driver (g.O.Sink.written c.drain-in-Ok-End.new.out) c.drain-in-Ok-End.new.writer.tally keeps
-    over)
+    (rw c.in-Ok-End.field-0-is at (c.in-Ok-End.ensures.answer bytes here.reads)) keeps over)
     c.drain-in-Ok-End.ensures.ok c.drain-in-Ok-End.ensures.over
 
 pub returns-in-Ok-End-clause-suits : goal.returns-in-Ok-End-clause-suits
 returns-in-Ok-End-clause-suits g c =
-    let under = c.requires.under_way in
-    let here = c.points.invariant.so_far under.core under.bytes under.start under.reads under.so_far in
-    suits_drained c.drain-in-Ok-End.result c.points.driver c.drain-in-Ok-End.new.driver (g.O.Sink.written c.points.out)
-    (g.O.Sink.written c.drain-in-Ok-End.new.out) c.points.writer.tally c.drain-in-Ok-End.new.writer.tally
-    c.points.schedule (
-      under.core,
-      take c.points.reader.given (read (progress c.args.reader.now under.bytes)).points,
-      under.start,
-      here.writes,
-    ) c.drain-in-Ok-End.ensures.ok c.points.invariant.suits
+    suits_drained c.drain-in-Ok-End.result _ _ _ _ _ _ c.points.schedule (under c.requires.under_way c.points.invariant.so_far)
+    c.drain-in-Ok-End.ensures.ok c.points.invariant.suits
 
 pub returns-in-Ok-End-clause-front : goal.returns-in-Ok-End-clause-front
-returns-in-Ok-End-clause-front g c core bytes start reads so_far =
-    short _ _ _ _ _ _ _ (c.points.invariant.so_far core bytes start reads so_far)
-    (g.O.Sink.written c.drain-in-Ok-End.new.out)
-    (falls_either c.drain-in-Ok-End.result c.points.driver c.drain-in-Ok-End.new.driver
-    (g.O.Sink.written c.points.out) (g.O.Sink.written c.drain-in-Ok-End.new.out) c.points.writer.tally
-    c.drain-in-Ok-End.new.writer.tally c.drain-in-Ok-End.ensures.ok c.drain-in-Ok-End.ensures.err)
+returns-in-Ok-End-clause-front g c core plan bytes start reads so_far =
+    short (c.points.invariant.so_far core plan bytes start reads so_far) (g.O.Sink.written c.drain-in-Ok-End.new.out)
+    (falls_either c.drain-in-Ok-End.result _ _ _ _ _ _ c.drain-in-Ok-End.ensures.ok c.drain-in-Ok-End.ensures.err)
 
 pub points-preserved : goal.points-preserved
 points-preserved g c =
+    let inv = c.points.invariant in
+    let routed = c.in_ok-route-in-Ok-Point.ensures in
     let after = rw c.in-Ok-Point.field-0-is at c.in-Ok-Point.ensures.after in
     let reads_on = c.in-Ok-Point.ensures.reads in
     let given : c.next-in-points.new.self.given ≡ c.points.reader.given + 1 = ap (λ (r : Reader). r.given) after in
     let limits : c.next-in-points.new.self.limits.points ≡ c.args.reader.now.limits.points =
-    ap (λ (r : Reader). r.limits.points) after ∙ ap (λ (r : Reader). r.limits.points) c.points.invariant.reader in
+    ap (λ (r : Reader). r.limits.points) after ∙ ap (λ (r : Reader). r.limits.points) inv.reader in
     let few : c.next-in-points.new.self.given ≤ c.next-in-points.new.self.limits.points = c.in-Ok-Point.ensures.few in
     let small : c.args.reader.now.limits.points < 2 ^ 63 = c.requires.few in
     let room : c.points.reader.given < 2 ^ 63 = omega (arith, given, limits, few, small) in
     record {
-      works = ap (λ (r : Reader). r.is_broken) after ∙ c.points.invariant.works;
-      reader = one_more_given c.args.reader.now c.points.reader c.next-in-points.new.self c.points.invariant.reader
-          after;
-      later = omega (arith, c.points.invariant.later, c.route.ensures.later);
-      main = c.in_ok-route-in-Ok-Point.ensures.main;
+      works = ap (λ (r : Reader). r.is_broken) after ∙ inv.works;
+      reader = one_more_given c.args.reader.now c.points.reader c.next-in-points.new.self inv.reader after;
+      later = omega (arith, inv.later, c.route.ensures.later);
+      main = routed.main;
       hands = c.route.ensures.hands;
-      suits = c.in_ok-route-in-Ok-Point.ensures.suits;
-      seated = c.in_ok-route-in-Ok-Point.ensures.seated;
-      routed = c.in_ok-route-in-Ok-Point.ensures.routed ∙ ap (λ n. n + 1) c.points.invariant.routed ∙ sym given;
-      so_far = λ core bytes start reads so_far.
-          let here = c.points.invariant.so_far core bytes start reads so_far in
+      suits = routed.suits;
+      seated = routed.seated;
+      routed = routed.routed ∙ ap (λ n. n + 1) inv.routed ∙ sym given;
+      so_far = λ core plan bytes start reads so_far.
+          let here = inv.so_far core plan bytes start reads so_far in
           let gives = rw c.in-Ok-Point.field-0-is at (c.in-Ok-Point.ensures.answer bytes here.reads) in
-          goes_on core (progress c.args.reader.now bytes) c.points.reader c.points.driver start
-          (g.O.Sink.written c.points.out) c.points.writer.tally here c.in-Ok-Point.point gives c.next-in-points.new.self
-          after (reads_on bytes here.reads) room c.route.new.driver (g.O.Sink.written c.route.new.out)
-          c.route.new.writer.tally c.in_ok-route-in-Ok-Point.ensures.ok;
+          goes_on here c.in-Ok-Point.point gives after (reads_on bytes here.reads) room (rw inv.routed at routed.ok)
+          (rw inv.routed at routed.left);
       can = tt;
       finite = tt;
     }
 
 pub returns-in-Err-clause-stops : goal.returns-in-Err-clause-stops
-returns-in-Err-clause-stops g c core bytes start reads so_far =
-    let here = c.points.invariant.so_far core bytes start reads so_far in
-    stops_with _ _ _ _ _ _ _ here c.in-Err.fault _ c.from.ensures (c.in-Err.ensures.answer bytes here.reads)
-    c.drain-in-Err.new.driver (g.O.Sink.written c.drain-in-Err.new.out) c.drain-in-Err.new.writer.tally
+returns-in-Err-clause-stops g c core plan bytes start reads so_far =
+    let here = c.points.invariant.so_far core plan bytes start reads so_far in
+    stops_with here c.in-Err.fault _ c.from.ensures (c.in-Err.ensures.answer bytes here.reads)
     c.in_ok-drain-in-Err.ensures.ok c.in_ok-drain-in-Err.ensures.over _ _
 
 pub drain-requires-in-Err-clause-runs : goal.drain-requires-in-Err-clause-runs
-drain-requires-in-Err-clause-runs g c =
-    let under = c.requires.under_way in
-    let here = c.points.invariant.so_far under.core under.bytes under.start under.reads under.so_far in (
-      under.core,
-      take c.points.reader.given (read (progress c.args.reader.now under.bytes)).points,
-      under.start,
-      here.writes,
-    )
+drain-requires-in-Err-clause-runs g c = under c.requires.under_way c.points.invariant.so_far
 
 pub returns-in_err-drain-in-Err-clause-front : goal.returns-in_err-drain-in-Err-clause-front
-returns-in_err-drain-in-Err-clause-front g c core bytes start reads so_far =
-    short _ _ _ _ _ _ _ (c.points.invariant.so_far core bytes start reads so_far)
-    (g.O.Sink.written c.drain-in-Err.new.out) c.in_err-drain-in-Err.ensures.err
+returns-in_err-drain-in-Err-clause-front g c core plan bytes start reads so_far =
+    short (c.points.invariant.so_far core plan bytes start reads so_far) (g.O.Sink.written c.drain-in-Err.new.out)
+    c.in_err-drain-in-Err.ensures.err
 
 pub returns-in-Err-clause-front : goal.returns-in-Err-clause-front
-returns-in-Err-clause-front g c core bytes start reads so_far =
-    short _ _ _ _ _ _ _ (c.points.invariant.so_far core bytes start reads so_far)
-    (g.O.Sink.written c.drain-in-Err.new.out)
-    (falls_either c.drain-in-Err.result c.points.driver c.drain-in-Err.new.driver
-    (g.O.Sink.written c.points.out) (g.O.Sink.written c.drain-in-Err.new.out) c.points.writer.tally
-    c.drain-in-Err.new.writer.tally c.drain-in-Err.ensures.ok c.drain-in-Err.ensures.err)
+returns-in-Err-clause-front g c core plan bytes start reads so_far =
+    short (c.points.invariant.so_far core plan bytes start reads so_far) (g.O.Sink.written c.drain-in-Err.new.out)
+    (falls_either c.drain-in-Err.result _ _ _ _ _ _ c.drain-in-Err.ensures.ok c.drain-in-Err.ensures.err)

@@ -17,9 +17,9 @@ invariant-points g l = record {
   suits : Suits l.driver l.schedule;
   seated : HaveCells l.context.cells l.schedule;
   routed : l.schedule.routed ≡ l.reader.given;
-  so_far : ForEachRun l.fn.reader l.fn.driver (g.O.Sink.written l.fn.out) l.fn.writer.tally
-      (λ core bytes start. Takes core (progress l.fn.reader bytes) l.reader l.driver start (g.O.Sink.written l.out)
-      l.writer.tally);
+  so_far : ForEachRun l.fn.reader l.fn.driver l.fn.schedule.changes.items (g.O.Sink.written l.fn.out)
+      l.fn.writer.tally (λ core plan bytes start. Takes core plan (progress l.fn.reader bytes) l.reader l.driver
+      l.schedule.changes.items start (g.O.Sink.written l.out) l.writer.tally);
   can : (goal.iterator-points g).can_next l.iterator';
   finite : (goal.iterator-points g).is_finite l.iterator';
 }
