@@ -9,6 +9,7 @@ pub mod Waiting
 pub mod TokenFronts
 pub mod QuickLemmas
 pub mod MarkLemmas
+pub mod GroupLemmas
 pub mod ReaderSoundness
 pub mod Keeping
 pub mod Fewness

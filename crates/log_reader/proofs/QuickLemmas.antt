@@ -111,7 +111,7 @@ some_digits [] n some inner d = absurd (omega (arith, inner))
 some_digits (b ∷ bytes) zero some inner d = absurd (omega (arith, some))
 some_digits (b ∷ bytes) (suc n) some inner d = d
 
-writes_number : (bytes : List ℕ) (number n : ℕ) → IsNumber bytes number n → WritesNumber bytes number n
+pub writes_number : (bytes : List ℕ) (number n : ℕ) → IsNumber bytes number n → WritesNumber bytes number n
 writes_number bytes number n d =
     let m = digits_mean 0 0 bytes number n (omega arith) d.found in
     let k : m.k ≡ n = omega (arith, m.end) in
@@ -142,7 +142,7 @@ integer_read (b ∷ bytes) value (suc n) at i =
 
 -- ---- the token
 
-value_goes : (s : Stage) (w : Written) → is_value_due s ≡ true
+pub value_goes : (s : Stage) (w : Written) → is_value_due s ≡ true
     → (goes s (Says w) ≡ Some AfterValue) × (completes s (Says w) ≡ false)
 value_goes AfterOpen w e = (refl, refl)
 value_goes AfterComma w e = (refl, refl)
@@ -176,7 +176,7 @@ module _ (sig : List PredOf) (limits : Limits) (p q : Partial) (at : ℕ) (bytes
       takes_word (rw stage refl) (rw (stage, w.digits, w.written, fits, rises, after) refl)
 
 -- as a value it is taken as the token would be
-integer_takes : (sig : List PredOf) (limits : Limits) (p q : Partial) (at : ℕ) (bytes : List ℕ) (value : ℤ) (n : ℕ)
+pub integer_takes : (sig : List PredOf) (limits : Limits) (p q : Partial) (at : ℕ) (bytes : List ℕ) (value : ℤ) (n : ℕ)
     (due : List Sort) → IsInteger bytes value n → is_value_due p.stage ≡ true → p.due ≡ Int ∷ due
     → q ≡ record p { stage = AfterValue; due = due; args = p.args ++ values.Int value ∷ [] }
     → TakesFront sig limits p at bytes n q

@@ -1,19 +1,21 @@
 -- What is seen straight in a log's bytes is what a lexer would find there.
 use Rattle.std.proofs.Common.{◌≡◌, ℕ, suc, ◌+◌, ◌≤◌, ◌<◌, Bool, true, false, List, [], ◌∷◌, length, take, drop, cond}
-use Rattle.std.proofs.Common.{Option, Some, None, Ok, IfSome, get_or, refl, sym, ap, subst, ◌∙◌, inl, inr, arith}
+use Rattle.std.proofs.Common.{Option, Some, None, Result, Ok, Err, IfSome, get_or, refl, sym, ap, subst, ◌∙◌, inl, inr, arith}
 use Rattle.std.specs.Prelude.{◌==◌}
 use Rattle.std.specs.List.{prefix_len}
 use Rattle.std.proofs.lemmas.Bool.{cases_Bool, eqb-true, le-ltb, lt-ltb, or_right}
 use Rattle.std.proofs.lemmas.List.{length-take}
 use Rattle.std.proofs.lemmas.Bool.Decides.{nat_tests}
 use Rattle.mfotl_lex.proofs.BlankLemmas.{blank_len-none}
-use Rattle.mfotl_lex.proofs.Sequence.{next_is, after_is, scan_at}
+use Rattle.mfotl_lex.proofs.Sequence.{next_is, after_is, scan_at, tokens_step}
 use Rattle.mfotl_lex.specs.Blanks.{blank_len}
 use Rattle.mfotl_lex.specs.Bytes.{quote, hash, is_space, in_log_word}
-use Rattle.mfotl_lex.specs.Lexemes.{Lexeme, lexeme, past_blanks, token_at, place_after}
+use Rattle.mfotl_lex.specs.Lexemes.{Lexeme, lexeme, past_blanks, token_at, place_after, next_token, after, tokens}
+use Rattle.mfotl_lex.specs.Lexemes.{followed}
 use Rattle.mfotl_lex.specs.Limits.{max_log_word}
 use Rattle.mfotl_lex.specs.Places.{Place}
 use Rattle.mfotl_lex.specs.Scans.{log_scan, log_mark}
+use Rattle.mfotl_lex.specs.declared.fault.LexFault.{LexFault}
 use Rattle.mfotl_lex.specs.declared.kind.Kind.{Kind}
 use Rattle.mfotl_lex.specs.declared.kind.Kind.TheVariants.{Word}
 use Rattle.mfotl_lex.specs.declared.scan.Scan.{Scan}
@@ -135,33 +137,55 @@ past_blank ended b bytes at space = rw (blank_counts ended b bytes space)
 
 -- behind a token it doesn't matter where its blanks begin
 same_behind : (p q place : Place) (s : Scan) (t : Lexeme) → token_at place s ≡ Ok (Some t)
-    → (place_after p place s).at ≡ (place_after q place s).at
+    → place_after p place s ≡ place_after q place s
 same_behind p q place Unshown t e = absurd cc
 same_behind p q place (Takes kind n) t e = refl
 same_behind p q place (Fails fault n) t e = absurd cc
 
+-- a blank in front of bytes
+module _ (b : ℕ) (bytes : List ℕ) (at : ℕ) (space : is_space b ≡ true) (ended : Bool) where
+  abbrev here : Place
+  here = front_of (b ∷ bytes) at ended
+
+  abbrev there : Place
+  there = front_of bytes (at + 1) ended
+
+  same_next : next_token here ≡ next_token there
+  same_next =
+      next_is here
+      ∙ ap (λ (q : Place). token_at q (log_scan ended q.rest)) (past_blank ended b bytes at space)
+      ∙ sym (next_is there)
+
+  same_after : (t : Lexeme) → next_token there ≡ Ok (Some t) → after here ≡ after there
+  same_after t e =
+      after_is here
+      ∙ ap (λ (q : Place). place_after here q (log_scan ended q.rest)) (past_blank ended b bytes at space)
+      ∙ same_behind here there (past_blanks there) (scan_at there) t (sym (next_is there) ∙ e)
+      ∙ sym (after_is there)
+
+  same_followed : (r : Result (Option Lexeme) LexFault) → next_token there ≡ r
+      → followed r (tokens (after here)) ≡ followed r (tokens (after there))
+  same_followed (Ok (Some t)) e = ap (λ (q : Place). followed (Ok (Some t)) (tokens q)) (same_after t e)
+  same_followed (Ok None) e = refl
+  same_followed (Err fault) e = refl
+
+  -- the tokens are those behind it
+  pub blank_tokens : tokens here ≡ tokens there
+  blank_tokens =
+      tokens_step here
+      ∙ ap (λ (r : Result (Option Lexeme) LexFault). followed r (tokens (after here))) same_next
+      ∙ same_followed (next_token there) refl ∙ sym (tokens_step there)
+
 -- a token behind a blank is in front of both
 pub blank_in_front : (b : ℕ) (bytes : List ℕ) (at : ℕ) (t : Lexeme) → is_space b ≡ true
     → IsInFront bytes (at + 1) t → IsInFront (b ∷ bytes) at t
-blank_in_front b bytes at t space f =
-    let here = λ (ended : Bool). front_of (b ∷ bytes) at ended in
-    let there = λ (ended : Bool). front_of bytes (at + 1) ended in
-    let past = λ (ended : Bool). past_blank ended b bytes at space in
-    let found : (ended : Bool) → token_at (past_blanks (there ended)) (scan_at (there ended)) ≡ Ok (Some t) =
-    λ ended. sym (next_is (there ended)) ∙ f.is ended in
-    record {
-      is = λ ended.
-          next_is (here ended)
-          ∙ ap (λ (q : Place). token_at q (log_scan ended q.rest)) (past ended) ∙ found ended;
-      behind = λ ended.
-          ap (λ (r : Place). r.at) (after_is (here ended))
-          ∙ ap (λ (q : Place). (place_after (here ended) q (log_scan ended q.rest)).at) (past ended)
-          ∙ same_behind (here ended) (there ended) (past_blanks (there ended)) (scan_at (there ended)) t
-          (found ended)
-          ∙ sym (ap (λ (r : Place). r.at) (after_is (there ended))) ∙ f.behind ended;
-      first = omega (arith, f.first);
-      last = omega (arith, f.last);
-    }
+blank_in_front b bytes at t space f = record {
+  is = λ ended. same_next b bytes at space ended ∙ f.is ended;
+  behind = λ ended.
+      ap (λ (r : Place). r.at) (same_after b bytes at space ended t (f.is ended)) ∙ f.behind ended;
+  first = omega (arith, f.first);
+  last = omega (arith, f.last);
+}
 
 -- ---- as a call sees them
 

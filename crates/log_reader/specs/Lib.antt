@@ -19,6 +19,7 @@ pub mod Tokens
 pub mod Quick
 pub mod Stretches
 pub mod Cursors
+pub mod Groups
 pub mod Soundness
 pub mod Readers
 pub mod GivenPoints

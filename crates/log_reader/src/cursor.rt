@@ -1,10 +1,11 @@
 //! The walk over a log's tokens, up to a whole time-point or a fault.
-ghost use Rattle.std.specs.Prelude.{◌≡◌, ◌+◌, ◌<◌, ◌≤◌, ◌^◌, false, length, Ok};
+ghost use Rattle.std.specs.Prelude.{◌≡◌, ◌+◌, ◌<◌, ◌≤◌, ◌^◌, false, length, Ok, OnOk};
 ghost use Rattle.mfotl_lex.specs.Lexemes.{lexeme};
 ghost use Rattle.log_reader.specs.declared.next.Next.TheVariants.{More};
 ghost use Rattle.log_reader.specs.Partials.{blank};
 ghost use Rattle.log_reader.specs.Soundness.{IsWithin, AnswersDue, StandsOn, is_wanting, CountsOn};
 ghost use Rattle.log_reader.specs.Cursors.{StepsOver, TakesToken, Advances, IsCounted, given_of};
+ghost use Rattle.log_reader.specs.Groups.{LeadsOn};
 ghost use Rattle.log_reader.specs.Stretches.{Waits, place_in};
 ghost use Rattle.log_reader.specs.Tokens.{Finds};
 
@@ -18,7 +19,7 @@ use crate::stretch::Stretch;
 use mfotl_lex::{LexFault, Lexer, Mode, Token};
 use mfotl_model::TimePoint;
 use mfotl_sig::Signature;
-use std::alloc::Global;
+use std::alloc::{AllocError, Global};
 
 /// What a token did.
 #[derive(Drop)]
@@ -175,6 +176,26 @@ impl<'a> Cursor<'a> {
         }
     }
 
+    // Takes groups straight from the bytes, as long as they stand there.
+    #[tactic(auto, using(crate::proofs::GroupLemmas::lead_stay, crate::proofs::GroupLemmas::lead_further))]
+    fn take_groups(
+        &mut self,
+        alloc: Global,
+        look: Look<'_>,
+        limits: &Limits,
+    ) -> Result<(), AllocError>
+        requires within { self.old.at ≤ length look.bytes.now }
+        requires small { look.from + length look.bytes.now < 2 ^ 63 }
+        requires counted { IsCounted self.old.partial }
+        ensures { OnOk result (LeadsOn limits.now look.entry.from look.entry.bytes.now look.entry.ended
+            self.old.at self.old.partial self.new.at self.new.partial) }
+    {
+        while let Some(behind) = self.partial.take_group(alloc, limits, look, self.at)? {
+            self.at = behind;
+        }
+        Ok(())
+    }
+
     /// Takes tokens until one completes a time-point, or no whole one is left. A fault leaves the cursor
     /// before the token that shows it.
     pub fn advance(
@@ -192,7 +213,7 @@ impl<'a> Cursor<'a> {
     {
         loop {
             match self.take_token(alloc, look, sig, limits) {
-                Ok(TokenStep::Took) => {}
+                Ok(TokenStep::Took) => self.take_groups(alloc, look, limits)?,
                 Ok(TokenStep::Completed(point)) => return Ok(Some(point)),
                 Ok(TokenStep::Empty) => return Ok(None),
                 Err(fault) => return Err(fault),

@@ -2,6 +2,7 @@
 ghost use Rattle.std.specs.Prelude.{◌≡◌};
 ghost use Rattle.std.specs.Char.{is_ascii_digit};
 ghost use Rattle.std.specs.List.{list_all};
+ghost use Rattle.log_reader.specs.Groups.{may_open};
 ghost use Rattle.log_reader.specs.Stages.{goes, is_whole, ends_point, read_on};
 ghost use Rattle.log_reader.specs.Symbols.{symbol_of, is_digits};
 
@@ -45,6 +46,13 @@ pub fn is_whole(stage: Stage) -> bool
     ensures { result ≡ is_whole stage }
 {
     matches!(stage, Stage::AfterStamp | Stage::AfterClose)
+}
+
+/// Whether a group may begin.
+pub fn may_open(stage: Stage) -> bool
+    ensures { result ≡ may_open stage }
+{
+    matches!(stage, Stage::AfterName | Stage::AfterClose)
 }
 
 /// Whether no more of the present time-point comes behind a token of this kind.

@@ -9,6 +9,7 @@ mod demo_event;
 mod fault;
 mod front;
 mod grammar;
+mod groups;
 pub mod laws;
 mod limits;
 mod next;

@@ -26,15 +26,15 @@ use std::mem;
 /// What has been read of a log.
 #[derive(Drop)]
 pub struct Partial<'a> {
-    stage: Stage,
-    points: u32,
-    time: u64,
-    events: Db,
-    groups: u32,
-    pred: u32,
-    sorts: &'a [Sort],
-    args: Row,
-    due: &'a [Sort],
+    pub(crate) stage: Stage,
+    pub(crate) points: u32,
+    pub(crate) time: u64,
+    pub(crate) events: Db,
+    pub(crate) groups: u32,
+    pub(crate) pred: u32,
+    pub(crate) sorts: &'a [Sort],
+    pub(crate) args: Row,
+    pub(crate) due: &'a [Sort],
 }
 
 /// What was taken straight from a log's bytes.

@@ -1,0 +1,331 @@
+-- Groups that are read straight from the bytes lead where their tokens would.
+use Rattle.std.proofs.Common.{◌≡◌, ℕ, ◌+◌, ◌-◌, ◌≤◌, ◌<◌, Bool, true, false, List, [], ◌∷◌, ◌++◌, length, drop, get_or}
+use Rattle.std.proofs.Common.{Option, Some, None, Result, Ok, Err, IfOk, IfSome, ℤ, refl, sym, ap, subst, ◌∙◌, arith}
+use Rattle.std.proofs.lemmas.Bool.{lt-ltb, eqb-true}
+use Rattle.std.proofs.lemmas.List.{drop-drop, length-drop}
+use Rattle.std.specs.Prelude.{cond, ◌==◌}
+use Rattle.mfotl_lex.specs.Bytes.{is_space}
+use Rattle.mfotl_lex.specs.Growing.{grown}
+use Rattle.mfotl_lex.specs.Lexemes.{Tokens, after, tokens}
+use Rattle.mfotl_lex.specs.Places.{Place}
+use Rattle.mfotl_model.specs.declared.policy.Sort.{Sort}
+use Rattle.mfotl_model.specs.declared.value.Value.{Value}
+use Rattle.mfotl_sig.specs.Preds.{PredOf}
+use Rattle.log_reader.specs.declared.limits.Limits.{Limits}
+use Rattle.log_reader.specs.declared.fault.LogFault.{LogFault}
+use Rattle.log_reader.specs.declared.stage.Stage.{Stage}
+use Rattle.log_reader.specs.declared.stage.Stage.TheVariants.{AfterName, AfterOpen, AfterValue, AfterComma, AfterClose}
+use Rattle.log_reader.specs.Cursors.{IsCounted, Leads}
+use Rattle.log_reader.specs.Groups.{may_open, TakesPlain, LeadsOn, IsOpen, IsReady, closed_with, with_group}
+use Rattle.log_reader.specs.Groups.{ReadsValues, ReadsGroup}
+use Rattle.log_reader.specs.Partials.{Partial}
+use Rattle.log_reader.specs.Quick.{IsInteger, is_value_due, TakesFront, StepsMark}
+use Rattle.log_reader.specs.Readings.{run, behind_tokens}
+use Rattle.log_reader.specs.Steps.{step, stepped, valued, closed}
+use Rattle.log_reader.specs.Stretches.{place_in}
+use Rattle.log_reader.specs.Tokens.{front_of, blank_before, IsInFront}
+use Rattle.log_reader.specs.Symbols.{Bare}
+use Rattle.mfotl_lex.specs.declared.kind.Kind.TheVariants.{Word}
+use Rattle.mfotl_model.specs.declared.policy.Sort.TheVariants as sorts
+use Rattle.mfotl_model.specs.declared.value.Value.TheVariants as values
+use Rattle.log_reader.proofs.QuickLemmas.{writes_number, integer_takes, value_goes}
+use Rattle.log_reader.proofs.MarkLemmas.{comma_steps, closing_steps, opening_steps, again_steps, mark_takes}
+use Rattle.log_reader.proofs.TokenFronts.{blank_tokens}
+use Rattle.log_reader.proofs.TokenPlaces.{TokenAt, token_at_offset, place_behind}
+use Rattle.log_reader.proofs.TokenSteps.{took_leads}
+
+pub none_left : {X : Type 0} (xs : List X) → true ≡ (length xs == 0) → xs ≡ []
+none_left [] e = refl
+none_left (x ∷ xs) e = let none : length (x ∷ xs) ≡ 0 = eqb-true (length (x ∷ xs)) 0 (sym e) in
+    absurd (omega (arith, none))
+
+-- ---- values
+
+pub plain_integer : (at : ℕ) (bytes : List ℕ) (value : ℤ) (n : ℕ) → IsInteger bytes value n
+    → TakesPlain sorts.Int at bytes (values.Int value) n
+plain_integer at bytes value n i = record {
+  within = let inner : n < length bytes = (writes_number bytes i.number n i.digits).inner in omega (arith, inner);
+  takes = λ sig limits p due awaits is. integer_takes sig limits p _ at bytes value n due i awaits is refl;
+}
+
+word_steps : (sig : List PredOf) (limits : Limits) (p : Partial) (at : ℕ) (text : List ℕ) (due : List Sort)
+    → is_value_due p.stage ≡ true → p.due ≡ sorts.Text ∷ due
+    → step sig limits p (record { kind = Word; at = at; text = text })
+    ≡ Ok (record p { stage = AfterValue; due = due; args = p.args ++ values.Text text ∷ [] })
+unfolding step
+word_steps sig limits p at text due awaits is =
+    ap (stepped sig limits p (record { kind = Word; at = at; text = text })) (value_goes p.stage (Bare text) awaits).0
+    ∙ ap (valued at (Bare text) p) is
+
+pub plain_word_text : (at : ℕ) (bytes text value : List ℕ)
+    → IsInFront bytes at (record { kind = Word; at = at; text = text }) → value ≡ text
+    → TakesPlain sorts.Text at bytes (values.Text value) (length text)
+plain_word_text at bytes text value front is = rw is (record {
+  within = omega (arith, front.last);
+  takes = λ sig limits p due awaits due_is. record {
+    token = record { kind = Word; at = at; text = text };
+    front = front;
+    end = refl;
+    goes_on = (value_goes p.stage (Bare text) awaits).1;
+    steps = word_steps sig limits p at text due awaits due_is;
+  };
+})
+
+-- ---- steps from an offset
+
+abbrev took : Result (Unit {0}) LogFault
+took = Ok tt
+
+module _ (from : ℕ) (looked : List ℕ) (ended : Bool) (sig : List PredOf) (limits : Limits) where
+  abbrev Goes : ℕ → Partial → ℕ → Partial → Type 0
+  Goes at p at' q = Leads sig limits from looked ended at p [] at' q
+
+  pub stay : (at : ℕ) (p : Partial) → at ≤ length looked → IsCounted p → Goes at p at p
+  stay at p le c = record {
+    reads = λ more later is last. refl;
+    within = le;
+    counted = c;
+    given = omega arith;
+  }
+
+  pub go_on : (at b c : ℕ) (p q r : Partial) → Goes at p b q → Goes b q c r → Goes at p c r
+  go_on at b c p q r x y = record {
+    reads = λ more later is last. x.reads more later is last ∙ y.reads more later is last;
+    within = y.within;
+    counted = y.counted;
+    given = omega (arith, x.given, y.given);
+  }
+
+  module _ (at : ℕ) (p : Partial) (le : at ≤ length looked) (c : IsCounted p) where
+    -- a token in front leads behind it
+    pub front_leads : (n : ℕ) (q : Partial) → TakesFront sig limits p (from + at) (drop at looked) n q
+        → Goes at p (at + n) q × (at < at + n)
+    front_leads n q f =
+        let here = place_in from looked ended at in
+        let far : (after here).at - from ≡ at + n = omega (arith, f.front.behind ended, f.end) in
+        took_leads sig limits from looked ended at p f.token (at + n) q
+        (subst (TokenAt from looked ended at f.token) far
+        (token_at_offset from looked ended at f.token le (f.front.is ended))) c f.goes_on f.steps
+
+    blank_goes : (rest : List ℕ) → drop at looked ≡ rest → Goes at p (at + blank_before rest) p
+    blank_goes [] e = subst (λ (k : ℕ). Goes at p k p) (omega arith) (stay at p le c)
+    blank_goes (b ∷ rest) e = by_space (is_space b) refl
+      where
+        by_space : (space : Bool) → is_space b ≡ space → Goes at p (at + cond space 1 0) p
+        by_space false not = subst (λ (k : ℕ). Goes at p k p) (omega arith) (stay at p le c)
+        by_space true space = record {
+          reads = λ more later is last.
+              ap (λ (ts : Tokens). run sig limits (behind_tokens ts.fault last) p ts.list)
+              (ap (λ (r : List ℕ). tokens (front_of (r ++ more) (from + at) later)) e
+              ∙ blank_tokens b (rest ++ more) (from + at) space later
+              ∙ sym (ap (λ (r : List ℕ). tokens (front_of (drop 1 r ++ more) (from + at + 1) later)) e)
+              ∙ ap (λ (q : Place). tokens (grown q more later)) (place_behind from looked ended at 1));
+          within = let n : length (drop at looked) ≡ length (b ∷ rest) = ap length e in
+              omega (arith, n, length-drop at looked);
+          counted = c;
+          given = omega arith;
+        }
+
+    -- one blank in front, or none, changes nothing
+    pub blank_leads : Goes at p (at + blank_before (drop at looked)) p
+    blank_leads = blank_goes (drop at looked) refl
+
+    module _ (some : 1 ≤ length (drop at looked)) where
+      mark_leads : (q : Partial) → StepsMark limits p (from + at) (get_or (drop at looked) 0 0) took q
+          → Goes at p (at + 1) q
+      mark_leads q s =
+          (front_leads 1 q (mark_takes sig limits p q (from + at) (drop at looked) some took s tt refl)).0
+
+      pub comma_leads : p.stage ≡ AfterValue → get_or (drop at looked) 0 0 ≡ 44
+          → Goes at p (at + 1) (record p { stage = AfterComma })
+      comma_leads stage is =
+          mark_leads _ (comma_steps limits p (record p { stage = AfterComma }) (from + at) took _ stage is refl)
+
+      pub closing_leads : p.stage ≡ AfterValue → p.due ≡ [] → get_or (drop at looked) 0 0 ≡ 41
+          → Goes at p (at + 1) (closed_with p p.args)
+      closing_leads stage due is =
+          mark_leads _ (closing_steps limits p (closed_with p p.args) (from + at) took _ stage is
+          (ap (closed (from + at) p) due
+          ∙ ap (λ (d : List Sort). Ok (record (closed_with p p.args) { due = d })) due))
+
+      abbrev begun : Partial
+      begun = record p { stage = AfterOpen; groups = p.groups + 1; due = p.sorts }
+
+      pub opening_leads : (s : Stage) → p.stage ≡ s → may_open s ≡ true → p.groups < limits.events
+          → get_or (drop at looked) 0 0 ≡ 40 → Goes at p (at + 1) begun
+      opening_leads AfterName stage may room is =
+          mark_leads begun (opening_steps limits p begun (from + at) took _ stage is
+          (rw (lt-ltb p.groups limits.events room) refl))
+      opening_leads AfterClose stage may room is =
+          mark_leads begun (again_steps limits p begun (from + at) took _ stage is
+          (rw (lt-ltb p.groups limits.events room) refl))
+      opening_leads _ stage may room is = absurd cc
+
+module _ (limits : Limits) (from : ℕ) (looked : List ℕ) (ended : Bool) (at : ℕ) (p : Partial) where
+  pub lead_on : (at' : ℕ) (q : Partial) → at ≤ at' → ((sig : List PredOf) → Goes from looked ended sig limits at p at' q)
+      → LeadsOn limits from looked ended at p at' q
+  lead_on at' q further leads =
+      let one = leads [] in
+      record { leads = leads; within = one.within; counted = one.counted; further = further }
+
+  pub lead_stay : at ≤ length looked → IsCounted p → LeadsOn limits from looked ended at p at p
+  lead_stay le c = lead_on at p (omega arith) (λ sig. stay from looked ended sig limits at p le c)
+
+  pub lead_further : (b c : ℕ) (q r : Partial) → LeadsOn limits from looked ended at p b q
+      → LeadsOn limits from looked ended b q c r → LeadsOn limits from looked ended at p c r
+  lead_further b c q r x y =
+      lead_on c r (omega (arith, x.further, y.further))
+      (λ sig. go_on from looked ended sig limits at b c p q r (x.leads sig) (y.leads sig))
+
+module _ (from : ℕ) (looked : List ℕ) (ended : Bool) (sorts : List Sort) (start : ℕ) where
+  -- the tokens from behind the `(` on up to an offset give these values, and these sorts are due then
+  pub record Reached (args : List Value) (due : List Sort) (at : ℕ) (stage : Stage) : Type 0 where
+    pub within : at ≤ length looked
+    pub later : start ≤ at
+    pub leads : (sig : List PredOf) (limits : Limits) (p : Partial) → IsOpen sorts p
+        → Goes from looked ended sig limits start p at (record p { stage = stage; due = due; args = args })
+
+  -- the same where the next value is due
+  pub record Standing (args : List Value) (due : List Sort) (at : ℕ) : Type 0 where
+    pub stage : Stage
+    pub awaits : is_value_due stage ≡ true
+    pub there : Reached args due at stage
+
+  pub begins : start ≤ length looked → Standing [] sorts start
+  begins le = record {
+    stage = AfterOpen;
+    awaits = refl;
+    there = record {
+      within = le;
+      later = omega arith;
+      leads = λ sig limits p o. subst (Goes from looked ended sig limits start p start)
+          (ap (λ (s : Stage). record p { stage = s }) o.stage
+          ∙ ap (λ (d : List Sort). record p { stage = AfterOpen; due = d }) o.due
+          ∙ ap (λ (a : List Value). record p { stage = AfterOpen; due = sorts; args = a }) o.args)
+          (stay from looked ended sig limits start p le o.counted);
+    };
+  }
+
+  -- a value was taken, and behind it bytes are left
+  pub record Took (args : List Value) (due : List Sort) (at : ℕ) (row : List Value) (more : List Sort) (n : ℕ)
+      (behind : List ℕ) : Type 0 where
+    pub sort : Sort
+    pub rest : List ℕ
+    pub value : Value
+    pub found : Option (Value × ℕ)
+    pub due_is : due ≡ sort ∷ more
+    pub rest_is : rest ≡ drop at looked
+    pub found_is : found ≡ Some (value, n)
+    pub plain : IfSome found (λ x. TakesPlain sort (from + at) rest x.0 x.1)
+    pub row_is : row ≡ args ++ value ∷ []
+    pub behind_is : behind ≡ drop n rest
+    pub some : 1 ≤ length behind
+
+  module _ (args : List Value) (due : List Sort) (at : ℕ) (s : Standing args due at) (row : List Value)
+      (more : List Sort) (n : ℕ) (behind : List ℕ) (t : Took args due at row more n behind) where
+    abbrev here : Partial → Partial
+    here p = record p { stage = s.stage; due = due; args = args }
+
+    plain : TakesPlain t.sort (from + at) (drop at looked) t.value n
+    plain = subst (λ (r : List ℕ). TakesPlain t.sort (from + at) r t.value n) t.rest_is
+        (subst (λ (f : Option (Value × ℕ)). IfSome f (λ x. TakesPlain t.sort (from + at) t.rest x.0 x.1)) t.found_is
+        t.plain)
+
+    given_on : Reached row more (at + n) AfterValue
+    given_on = record {
+      within = omega (arith, plain.within, s.there.within, length-drop at looked);
+      later = omega (arith, s.there.later);
+      leads = λ sig limits p o.
+          let reached = s.there.leads sig limits p o in
+          go_on from looked ended sig limits start at (at + n) p (here p) _ reached
+          (front_leads from looked ended sig limits at (here p) s.there.within reached.counted n _
+          (subst (λ (v : List Value). TakesFront sig limits (here p) (from + at) (drop at looked) n
+          (record p { stage = AfterValue; due = more; args = v })) (sym t.row_is)
+          (plain.takes sig limits (here p) more s.awaits t.due_is))).0;
+    }
+
+    mark_is : behind ≡ drop (at + n) looked
+    mark_is = t.behind_is ∙ ap (drop n) t.rest_is ∙ drop-drop n at looked
+
+    mark_some : 1 ≤ length (drop (at + n) looked)
+    mark_some = subst (λ (b : List ℕ). 1 ≤ length b) mark_is t.some
+
+    -- a `,` leads to the next value
+    pub past_comma : get_or behind 0 0 ≡ 44 → Standing row more (at + (n + 1))
+    past_comma is = record {
+      stage = AfterComma;
+      awaits = refl;
+      there = record {
+        within = omega (arith, mark_some, length-drop (at + n) looked);
+        later = omega (arith, s.there.later);
+        leads = λ sig limits p o.
+            let reached = given_on.leads sig limits p o in
+            subst (λ (k : ℕ). Goes from looked ended sig limits start p k
+            (record p { stage = AfterComma; due = more; args = row })) (omega arith)
+            (go_on from looked ended sig limits start (at + n) (at + n + 1) p _ _ reached
+            (comma_leads from looked ended sig limits (at + n)
+            (record p { stage = AfterValue; due = more; args = row }) given_on.within reached.counted mark_some refl
+            (ap (λ (b : List ℕ). get_or b 0 0) (sym mark_is) ∙ is)));
+      };
+    }
+
+    -- a `)` behind the last value ends the group
+    pub past_group : more ≡ [] → get_or behind 0 0 ≡ 41
+        → ReadsValues from looked ended sorts start row (at + n + 1)
+    past_group none is = (
+      λ limits p o. lead_on limits from looked ended start p (at + n + 1) (closed_with p row)
+          (omega (arith, s.there.later)) (λ sig.
+          let reached = given_on.leads sig limits p o in
+          go_on from looked ended sig limits start (at + n) (at + n + 1) p _ _ reached
+          (closing_leads from looked ended sig limits (at + n)
+          (record p { stage = AfterValue; due = more; args = row }) given_on.within reached.counted mark_some refl none
+          (ap (λ (b : List ℕ). get_or b 0 0) (sym mark_is) ∙ is))),
+      omega (arith, s.there.later),
+    )
+
+-- behind a blank or none and a `(`
+module _ (from : ℕ) (looked : List ℕ) (ended : Bool) (sorts : List Sort) (at : ℕ) (front rest : List ℕ) (blanks : ℕ)
+    (le : at ≤ length looked) (front_is : front ≡ drop at looked) (blanks_is : blanks ≡ blank_before front)
+    (rest_is : rest ≡ drop blanks front) (some : 1 ≤ length rest) (is : get_or rest 0 0 ≡ 40) where
+  mark_at : rest ≡ drop (at + blanks) looked
+  mark_at = rest_is ∙ ap (drop blanks) front_is ∙ drop-drop blanks at looked
+
+  group_row : (row : List Value) (behind : ℕ) → ReadsValues from looked ended sorts (at + blanks + 1) row behind
+      → ReadsGroup from looked ended sorts at row behind
+  group_row row behind v = (
+    λ limits p r. lead_on limits from looked ended at p behind (with_group p row) (omega (arith, v.1)) (λ sig.
+        let same : blanks ≡ blank_before (drop at looked) = blanks_is ∙ ap blank_before front_is in
+        let past = subst (λ (k : ℕ). Goes from looked ended sig limits at p (at + k) p) (sym same)
+        (blank_leads from looked ended sig limits at p le r.counted) in
+        let begun = opening_leads from looked ended sig limits (at + blanks) p past.within r.counted
+        (subst (λ (b : List ℕ). 1 ≤ length b) mark_at some) p.stage refl r.stage r.room
+        (ap (λ (b : List ℕ). get_or b 0 0) (sym mark_at) ∙ is) in
+        go_on from looked ended sig limits at (at + blanks) behind p p _ past
+        (go_on from looked ended sig limits (at + blanks) (at + blanks + 1) behind p _ _ begun
+        ((v.0 limits (record p { stage = AfterOpen; groups = p.groups + 1; due = p.sorts }) (record {
+          stage = refl;
+          due = r.same;
+          args = r.args;
+          counted = begun.counted;
+        })).leads sig))),
+    omega (arith, v.1),
+  )
+
+  pub group_reads : {E : Type 0} (found : Result (Option (List Value × ℕ)) E)
+      → IfOk found (λ f. IfSome f (λ x. ReadsValues from looked ended sorts (at + blanks + 1) x.0 x.1))
+      → IfOk found (λ f. IfSome f (λ x. ReadsGroup from looked ended sorts at x.0 x.1))
+  group_reads (Ok (Some x)) v = group_row x.0 x.1 v
+  group_reads (Ok None) v = tt
+  group_reads (Err error) v = tt
+
+-- ---- the call
+
+pub takes_group : (limits : Limits) (from : ℕ) (looked : List ℕ) (ended : Bool) (at : ℕ) (p q : Partial)
+    (found : Option (List Value × ℕ)) (row : List Value) (behind : ℕ)
+    → IfSome found (λ x. ReadsGroup from looked ended p.sorts at x.0 x.1) → found ≡ Some (row, behind)
+    → IsReady limits p.sorts p → q ≡ with_group p row
+    → LeadsOn limits from looked ended at p behind q × (at < behind)
+takes_group limits from looked ended at p q found row behind reads is ready after =
+    let r = subst (λ (f : Option (List Value × ℕ)). IfSome f (λ x. ReadsGroup from looked ended p.sorts at x.0 x.1)) is
+    reads in
+    (rw after (r.0 limits p ready), r.1)

@@ -1,0 +1,36 @@
+use Rattle.std.proofs.Common.{◌≡◌, ◌+◌, ◌<◌, [], sym, subst, ◌∙◌, rules, refl}
+use Rattle.std.specs.BTreeSet.{insert_key}
+use Rattle.mfotl_model.specs.Events.{event_cmp}
+use Rattle.log_reader.specs.declared.stage.Stage.TheVariants.{AfterClose}
+use Rattle.log_reader.specs.Cursors.{IsCounted}
+use Rattle.log_reader.specs.Groups.{LeadsOn}
+use Rattle.log_reader.specs.Partials.{Partial}
+use Rattle.log_reader.proofs.GroupLemmas.{takes_group, none_left}
+use Rattle.log_reader.proofs.partial.Partial.take_group.Goals as goal
+
+pub returns : goal.returns
+returns c =
+    let none : c.self.inside.args ≡ [] = sym c.values.ensures ∙ none_left c.values.result.now c.if-not-is_empty.ensures in
+    let inserted : c.insert.new.self ≡ insert_key event_cmp c.self.inside.events
+    (record { pred = c.self.inside.pred; args = c.in-Some.args }) = search rules in
+    let after : Partial = record {
+      stage = AfterClose;
+      points = c.self.inside.points;
+      time = c.self.inside.time;
+      events = c.insert.new.self;
+      groups = c.self.inside.groups + 1;
+      pred = c.self.inside.pred;
+      sorts = c.self.inside.sorts.now;
+      args = c.self.inside.args;
+      due = [];
+    } in
+    subst (λ (p : Partial). LeadsOn c.args.limits.now c.args.look.from c.args.look.bytes.now c.args.look.ended c.args.at p
+    c.in-Some.behind after × (c.args.at < c.in-Some.behind)) c.self.view_is
+    (takes_group c.args.limits.now c.args.look.from c.args.look.bytes.now c.args.look.ended c.args.at _ after
+    c.in_ok-args.field-0 c.in-Some.args c.in-Some.behind c.in_ok-args.ensures c.in-Some.is (record {
+      stage = sym c.may_open.ensures ∙ c.if-not-may_open.false;
+      same = refl;
+      args = none;
+      room = c.if-self-limits.false;
+      counted = subst (λ (p : Partial). IsCounted p) (sym c.self.view_is) c.requires.counted;
+    }) (rw (inserted, none) refl))

@@ -1,0 +1,138 @@
+//! Groups that are read without cutting tokens: their values stand plainly, with no blank or comment between.
+ghost use Rattle.std.specs.Prelude.{◌≡◌, ◌≤◌, ◌<◌, ◌+◌, ◌^◌, length, IfOk, IfSome};
+ghost use Rattle.mfotl_model.specs.declared.policy.Sort.TheVariants as sorts;
+ghost use Rattle.log_reader.specs.Cursors.{IsCounted};
+ghost use Rattle.log_reader.specs.Groups.{TakesPlain, ReadsValues, ReadsGroup, TakesGroup};
+
+use crate::front::{blank_before, word_before};
+use crate::grammar::may_open;
+use crate::limits::{Limits, Look};
+use crate::partial::Partial;
+use crate::quick::integer_before;
+use crate::stage::Stage;
+use mfotl_model::{Event, Row, Sort, Text, Value};
+use std::alloc::{AllocError, Global};
+
+// A Word at the front of bytes as a text, and how many bytes it has.
+fn plain_text(alloc: Global, at: usize, bytes: &[u8]) -> Result<Option<(Value, usize)>, AllocError>
+    ensures { IfOk result (λ found. IfSome found (λ x. TakesPlain sorts.Text at bytes.now x.0 x.1)) }
+{
+    match word_before(bytes, at) {
+        Some(word) => {
+            let text = Text::from_slice(alloc, word.text)?;
+            Ok(Some((Value::Text(text), word.text.len())))
+        }
+        None => Ok(None),
+    }
+}
+
+// A value of a sort at the front of bytes, the first of which has the offset `at`, and how many bytes it has. None
+// also where only a token says what stands there.
+fn plain_value(
+    alloc: Global,
+    sort: Sort,
+    at: usize,
+    bytes: &[u8],
+) -> Result<Option<(Value, usize)>, AllocError>
+    ensures { IfOk result (λ found. IfSome found (λ x. TakesPlain sort at bytes.now x.0 x.1)) }
+{
+    match sort {
+        Sort::Int => match integer_before(bytes) {
+            Some((number, count)) => Ok(Some((Value::Int(number), count))),
+            None => Ok(None),
+        },
+        Sort::Text => plain_text(alloc, at, bytes),
+    }
+}
+
+// The values of a group behind its `(`, and the offset behind its `)`.
+fn values_at(
+    alloc: Global,
+    sorts: &[Sort],
+    look: Look<'_>,
+    start: usize,
+) -> Result<Option<(Row, usize)>, AllocError>
+    requires within { start ≤ length look.bytes.now }
+    requires small { look.from + length look.bytes.now < 2 ^ 63 }
+    ensures { IfOk result (λ found. IfSome found (λ x. ReadsValues look.entry.from look.entry.bytes.now
+        look.entry.ended sorts.now start x.0 x.1)) }
+{
+    let mut args = Row::empty();
+    let mut due = sorts;
+    let mut at = start;
+    while let Some((sort, more)) = due.split_first() {
+        let (_, rest) = look.bytes.split_at(at);
+        let Some((value, count)) = plain_value(alloc, *sort, look.from + at, rest)? else {
+            return Ok(None);
+        };
+        let (_, behind) = rest.split_at(count);
+        args = args.push(alloc, value)?;
+        match behind {
+            [mark, ..] if *mark == b',' => {
+                at += count + 1;
+                due = more;
+            }
+            [mark, ..] if *mark == b')' && more.is_empty() => return Ok(Some((
+                args,
+                at + count + 1,
+            ))),
+            _ => return Ok(None),
+        }
+    }
+    Ok(None)
+}
+
+// The values of a group of these sorts, behind one blank at most, and the offset behind it. None also where only
+// tokens say what stands there.
+fn group_at(
+    alloc: Global,
+    sorts: &[Sort],
+    look: Look<'_>,
+    at: usize,
+) -> Result<Option<(Row, usize)>, AllocError>
+    requires within { at ≤ length look.bytes.now }
+    requires small { look.from + length look.bytes.now < 2 ^ 63 }
+    ensures { IfOk result (λ found. IfSome found (λ x. ReadsGroup look.entry.from look.entry.bytes.now
+        look.entry.ended sorts.now at x.0 x.1)) }
+{
+    let (_, front) = look.bytes.split_at(at);
+    let blanks = blank_before(front);
+    let (_, rest) = front.split_at(blanks);
+    match rest {
+        [mark, ..] if *mark == b'(' => values_at(alloc, sorts, look, at + blanks + 1),
+        _ => Ok(None),
+    }
+}
+
+impl<'a> Partial<'a> {
+    /// Takes a group straight from the bytes, if one may stand at an offset, and answers the offset behind it. It does
+    /// what the tokens would do.
+    pub fn take_group(
+        &mut self,
+        alloc: Global,
+        limits: &Limits,
+        look: Look<'_>,
+        at: usize,
+    ) -> Result<Option<usize>, AllocError>
+        requires within { at ≤ length look.bytes.now }
+        requires small { look.from + length look.bytes.now < 2 ^ 63 }
+        requires counted { IsCounted self.old }
+        ensures { IfOk result (λ found. TakesGroup limits.now look.entry.from look.entry.bytes.now look.entry.ended
+            at self.old found self.new) }
+    {
+        if !may_open(self.stage) || self.groups >= limits.events || !self.args.values().is_empty() {
+            return Ok(None);
+        }
+        let Some((args, behind)) = group_at(alloc, self.sorts, look, at)? else {
+            return Ok(None);
+        };
+        self.events.insert(Event {
+            pred: self.pred,
+            args,
+        })?;
+        self.stage = Stage::AfterClose;
+        self.groups += 1;
+        self.due = &[];
+        Ok(Some(behind))
+    }
+}
