@@ -19,6 +19,7 @@ pub mod GatherLemmas
 pub mod ReadingLemmas
 pub mod QueueLemmas
 pub mod SlotLemmas
+pub mod SureLemmas
 pub mod ReadyQueues
 pub mod Filling
 pub mod ChangeLemmas

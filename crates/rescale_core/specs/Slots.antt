@@ -79,3 +79,7 @@ first_rooms g now count n = map (λ j. Room g now (nat_eq (j + 1) count) None) (
 -- a place for so many pieces
 abbrev pub rooms : ℕ → Strategy → ℕ → List Slot
 rooms g now count = first_rooms g now count count
+
+-- slots of items that are there
+abbrev pub sure : List Item → List Slot
+sure items = map (λ i. Ready i) items

@@ -1,8 +1,8 @@
 //! What waits for one worker.
-ghost use Rattle.std.specs.Prelude.{◌≡◌, ◌++◌, ◌∷◌, [], IfOk, length, sum_by};
+ghost use Rattle.std.specs.Prelude.{◌≡◌, ◌++◌, ◌∷◌, ◌≤◌, [], IfOk, length, sum_by};
 ghost use Rattle.std.specs.List.{list_all, position};
 ghost use Rattle.rescale_core.specs.Queues.{filled, is_clear};
-ghost use Rattle.rescale_core.specs.Slots.{TakesOut, first_ends, lacks, ready_of, rooms, weight_of};
+ghost use Rattle.rescale_core.specs.Slots.{TakesOut, first_ends, lacks, ready_of, rooms, sure, weight_of};
 ghost use Rattle.rescale_core.specs.Waiting.{is_short};
 ghost use Rattle.rescale_core.specs.declared.slot.Slot.TheVariants.{Ready};
 
@@ -14,25 +14,29 @@ use slice_strategy::{Slicer, Strategy};
 use std::alloc::{AllocError, Global};
 use std::collections::VecDeque;
 use std::marker::Model;
+use std::mem;
 
 /// The items that were not handed over, and room for pieces that are missing.
 #[derive(Drop)]
 pub(crate) struct Queue {
+    // what stands before the first place
+    front: Vec<Item>,
+    // the first place, and what stands behind it
     slots: VecDeque<Slot>,
-    // how many slices, parts and places these are
-    waiting: u64,
+    // how many slices, parts and places the slots are
+    behind: u64,
 }
 
 impl Model for Queue {
-    ghost use Rattle.std.specs.Prelude.{◌≡◌, List, sum_by};
-    ghost use Rattle.rescale_core.specs.Slots.{weight_of};
+    ghost use Rattle.std.specs.Prelude.{◌≡◌, ◌++◌, List, sum_by};
+    ghost use Rattle.rescale_core.specs.Slots.{sure, weight_of};
     ghost use Rattle.rescale_core.specs.declared.slot.Slot.{Slot};
 
     ghost Value = { List Slot };
 
-    ghost view = { λ q. q.slots.items };
+    ghost view = { λ q. sure q.front.items ++ q.slots.items };
 
-    ghost invariant = { λ q. q.waiting ≡ sum_by weight_of q.slots.items };
+    ghost invariant = { λ q. q.behind ≡ sum_by weight_of q.slots.items };
 }
 
 impl Queue {
@@ -40,15 +44,21 @@ impl Queue {
         ensures { result ≡ [] }
     {
         Queue {
+            front: Vec::new(alloc),
             slots: VecDeque::new(alloc),
-            waiting: 0,
+            behind: 0,
         }
     }
 
     pub(crate) fn push(&mut self, item: Item) -> Result<(), AllocError>
         ensures { IfOk result (λ _. self.new ≡ self.old ++ Ready item ∷ []) }
     {
-        self.append(Slot::Ready(item))
+        if !self.slots.is_empty() {
+            return self.append(Slot::Ready(item));
+        }
+        self.front.reserve(1)?;
+        self.front.push_reserved(item);
+        Ok(())
     }
 
     /// Room for so many pieces of the generation, whose strategy is `now`.
@@ -78,20 +88,34 @@ impl Queue {
     {
         let weight = slot.weight();
         self.slots.push_back(slot)?;
-        self.waiting += weight;
+        self.behind += weight;
         Ok(())
+    }
+
+    /// Takes out what stands before the first place, unless that is more than wanted.
+    pub(crate) fn take_front(&mut self, alloc: Global, most: u64) -> Vec<Item>
+        ensures few { length result.items ≤ most }
+        ensures taken { self.old ≡ sure result.items ++ self.new }
+    {
+        if self.front.len() as u64 > most {
+            return Vec::new(alloc);
+        }
+        mem::replace(&mut self.front, Vec::new(alloc))
     }
 
     /// The first item, unless it is a piece that is missing.
     pub(crate) fn pop(&mut self) -> Option<Item>
         ensures { TakesOut self.old result self.new }
     {
+        if !self.front.is_empty() {
+            return Some(self.front.remove(0));
+        }
         let first = self.slots.front()?;
         if !first.is_there() {
             return None;
         }
         let slot = self.slots.pop_front()?;
-        self.waiting -= slot.weight();
+        self.behind -= slot.weight();
         slot.into_item()
     }
 
@@ -111,6 +135,9 @@ impl Queue {
     pub(crate) fn first_ends(&self) -> bool
         ensures { result ≡ first_ends self.now }
     {
+        if !self.front.is_empty() {
+            return false;
+        }
         match self.slots.front() {
             Some(slot) => slot.ends_place(),
             None => false,
@@ -121,28 +148,28 @@ impl Queue {
     pub(crate) fn ready(&self) -> u64
         ensures { result ≡ length (ready_of self.now) }
     {
-        ready_len(&self.slots) as u64
+        (self.front.len() + ready_len(&self.slots)) as u64
     }
 
     /// How many slices, parts and places wait.
     pub(crate) fn waiting(&self) -> u64
         ensures { result ≡ sum_by weight_of self.now }
     {
-        self.waiting
+        self.front.len() as u64 + self.behind
     }
 
     /// Whether there is room for more.
     pub(crate) fn is_short(&self) -> bool
         ensures { result ≡ is_short self.now }
     {
-        self.waiting < MOST_WAITING
+        self.waiting() < MOST_WAITING
     }
 
     /// Whether nothing is there.
     pub(crate) fn is_empty(&self) -> bool
         ensures { result ≡ is_clear self.now }
     {
-        self.slots.is_empty()
+        self.front.is_empty() && self.slots.is_empty()
     }
 }
 

@@ -160,8 +160,8 @@ fn next(generation: u64) -> Result<u64, AllocError>
 fn take_front(alloc: Global, queue: &mut Queue, most: u64) -> Result<Vec<Item>, AllocError>
     ensures { IfOk result (λ items. TakesFront queue.old most items.items queue.new) }
 {
-    let mut items = Vec::new(alloc);
-    for _ in 0..most {
+    let mut items = queue.take_front(alloc, most);
+    for _ in items.len() as u64..most {
         let last = queue.first_ends();
         match queue.pop() {
             None => return Ok(items),

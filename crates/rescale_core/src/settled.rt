@@ -68,13 +68,14 @@ fn give_rows(
 {
     let Settled { point, ts, table } = settled;
     let rows = owned(alloc, strategy, worker, table)?;
-    outs.push(Out::Rows(Rows {
+    outs.reserve(1)?;
+    outs.push_reserved(Out::Rows(Rows {
         point,
         ts,
         generation,
         worker,
         rows,
-    }))?;
+    }));
     Ok(())
 }
 

@@ -1,12 +1,23 @@
 use Rattle.std.proofs.Common.{◌≡◌, ◌≤◌, ◌+◌, ◌∷◌, ◌++◌, [], List, ap, sym, append_assoc, append-nil, arith, length}
 use Rattle.std.proofs.Common.{length-append, map, ◌∙◌}
 use Rattle.rescale_core.specs.Chances.Chance.{Sure}
-use Rattle.rescale_core.specs.Slots.{ready_of}
+use Rattle.rescale_core.specs.Slots.{ready_of, sure}
 use Rattle.rescale_core.specs.declared.item.Item.{Item}
 use Rattle.rescale_core.specs.declared.slot.Slot.{Slot}
 use Rattle.rescale_core.proofs.QueueLemmas.{front_more}
 use Rattle.rescale_core.proofs.SlotLemmas.{all_first, most_first, taken_last, taken_on}
+use Rattle.rescale_core.proofs.SureLemmas.{sure_chances, sure_ready}
 use Rattle.rescale_core.proofs.router.take_front.Goals as goal
+
+pub loop-init : goal.loop-init
+loop-init c =
+    let items = c.take_front-items.result.items in
+    let taken = c.take_front-items.ensures.taken in
+    record {
+      taken = (sure items, taken, sure_chances items);
+      count = omega (arith, c.len-counter.ensures, c.take_front-items.result.ok.0);
+      ready = ap ready_of taken ∙ sure_ready items c.take_front-items.new.self;
+    }
 
 -- nothing more is there
 pub returns-in-None : goal.returns-in-None
