@@ -20,7 +20,7 @@ use std::mem;
 #[derive(Drop)]
 pub(crate) struct Queue {
     // what stands before the first place
-    front: Vec<Item>,
+    front: VecDeque<Item>,
     // the first place, and what stands behind it
     slots: VecDeque<Slot>,
     // how many slices, parts and places the slots are
@@ -44,7 +44,7 @@ impl Queue {
         ensures { result ≡ [] }
     {
         Queue {
-            front: Vec::new(alloc),
+            front: VecDeque::new(alloc),
             slots: VecDeque::new(alloc),
             behind: 0,
         }
@@ -57,7 +57,7 @@ impl Queue {
             return self.append(Slot::Ready(item));
         }
         self.front.reserve(1)?;
-        self.front.push_reserved(item);
+        self.front.push_back_reserved(item);
         Ok(())
     }
 
@@ -100,7 +100,7 @@ impl Queue {
         if self.front.len() as u64 > most {
             return Vec::new(alloc);
         }
-        mem::replace(&mut self.front, Vec::new(alloc))
+        mem::replace(&mut self.front, VecDeque::new(alloc)).into_vec()
     }
 
     /// The first item, unless it is a piece that is missing.
@@ -108,7 +108,7 @@ impl Queue {
         ensures { TakesOut self.old result self.new }
     {
         if !self.front.is_empty() {
-            return Some(self.front.remove(0));
+            return self.front.pop_front();
         }
         let first = self.slots.front()?;
         if !first.is_there() {
