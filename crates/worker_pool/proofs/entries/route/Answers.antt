@@ -4,8 +4,11 @@ use Rattle.std.specs.declared.collections.VecDeque.{VecDeque}
 use Rattle.slice_strategy.specs.declared.change.Change.{Change}
 use Rattle.worker_pool.proofs.ChangeLemmas.{adds_falls, may_point, point_adds, seated_routed, suits_routed}
 use Rattle.worker_pool.proofs.EntryLemmas.{points_due}
-use Rattle.worker_pool.proofs.WritingLemmas.{adds_keeps, on_err, stops}
+use Rattle.worker_pool.proofs.WritingLemmas.{adds_keeps, on_err, runs_of, runs_with, stops}
 use Rattle.worker_pool.proofs.entries.route.Goals as goal
+
+pub make_room-requires-clause-runs : goal.make_room-requires-clause-runs
+make_room-requires-clause-runs g c = runs_with c.in_ok-make_changes.ensures.ok (runs_of c.requires.runs)
 
 pub admit-requires-clause-may : goal.admit-requires-clause-may
 admit-requires-clause-may g c =
@@ -15,8 +18,10 @@ admit-requires-clause-may g c =
 
 pub returns-in_err-admit-clause-err : goal.returns-in_err-admit-clause-err
 returns-in_err-admit-clause-err g c =
+    let schedule = c.args.schedule.now in
     on_err c.from_residual-in_err-admit.result _
-    (adds_falls (points_due _ _) (adds_keeps c.in_ok-make_changes.ensures.ok c.in_ok-make_room.ensures.ok) (stops _ _ _))
+    (adds_falls (points_due schedule.routed schedule.changes.items)
+    (adds_keeps c.in_ok-make_changes.ensures.ok c.in_ok-make_room.ensures.ok) (stops _ _ _))
 
 pub returns-clause-ok : goal.returns-clause-ok
 returns-clause-ok g c =
@@ -39,8 +44,10 @@ returns-clause-seated g c =
 
 pub returns-in_err-make_room-clause-err : goal.returns-in_err-make_room-clause-err
 returns-in_err-make_room-clause-err g c =
+    let schedule = c.args.schedule.now in
     on_err c.from_residual-in_err-make_room.result _
-    (adds_falls (points_due _ _) c.in_ok-make_changes.ensures.ok c.in_err-make_room.ensures.err)
+    (adds_falls (points_due schedule.routed schedule.changes.items)
+    c.in_ok-make_changes.ensures.ok c.in_err-make_room.ensures.err)
 
 pub returns-clause-left : goal.returns-clause-left
 returns-clause-left g c =
