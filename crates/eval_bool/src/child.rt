@@ -4,7 +4,7 @@ ghost use Rattle.eval_bool.specs.Heads.{IsFirst};
 ghost use Rattle.relations.specs.Pushed.{AreOver};
 ghost use Rattle.std.specs.Prelude.{◌≡◌, ◌∷◌, ◌++◌, [], IfOk, OnOk, OnErr, length, nat_lt, ◌+◌, ◌<◌, ◌^◌, IsTrue};
 
-use crate::room::fits;
+use crate::admission::fits;
 use relations::{Table, copied_tables};
 use std::alloc::{AllocError, Global};
 use std::collections::VecDeque;

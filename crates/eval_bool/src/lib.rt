@@ -1,6 +1,7 @@
 //! Atoms, quantified formulas, conjunctions and disjunctions over the tables of their operands.
 #![tactic(auto)]
 
+mod admission;
 mod atom;
 mod child;
 mod combined;
@@ -14,7 +15,6 @@ mod or;
 mod recalled;
 mod refill;
 mod reorder;
-mod room;
 
 pub use atom::{AtomReader, eval_atom};
 pub use conjunct::Conjunct;

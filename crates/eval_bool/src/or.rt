@@ -8,7 +8,7 @@ ghost use Rattle.eval_bool.specs.OrView.{operand_columns, operand_tables, or_adv
 
 use crate::recalled::OrData;
 use crate::reorder::reordered;
-use crate::room::fits;
+use crate::admission::fits;
 use relations::{Table, copied_tables};
 use std::alloc::{AllocError, Global};
 use std::collections::VecDeque;

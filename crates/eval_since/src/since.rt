@@ -13,7 +13,7 @@ ghost use Rattle.eval_since.specs.SinceData.{FollowsData, KeepsRule, newest_of, 
 ghost use Rattle.eval_since.specs.Windows.{Alone, Ascending, Bounded, Past, Placed};
 ghost use Rattle.eval_since.specs.SinceView.{Advances, Climbs, Follows, SinceOf, due};
 
-use crate::kept::latest;
+use crate::latest_time::latest;
 use crate::recalled::SinceData;
 use crate::window::Window;
 use mfotl_model::{Interval, Row};

@@ -19,7 +19,7 @@ use crate::expiry::expire;
 use crate::ordered::{hashed_rows, hashed_starts, ordered_rows};
 use crate::rebuild::{kept_marks, kept_starts, queue_of};
 use crate::recalled::{KeptMarks, KeptStart};
-use crate::rows::{push_met, row_met};
+use crate::row_entries::{push_met, row_met};
 use mfotl_model::{Interval, Row};
 use relations::{Columns, Table};
 use std::alloc::{AllocError, Global};

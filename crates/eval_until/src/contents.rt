@@ -7,7 +7,7 @@ ghost use Rattle.eval_until.specs.Keeping.{Keeps, Queues};
 ghost use Rattle.eval_until.specs.Starts.{kept_start, start_of, start_taken};
 
 use crate::entries::Entries;
-use crate::rows::add_rows;
+use crate::row_entries::add_rows;
 use crate::start_map::StartMap;
 use crate::starts::apply_left;
 use mfotl_model::Row;

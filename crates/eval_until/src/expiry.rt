@@ -9,7 +9,7 @@ ghost use Rattle.eval_until.specs.Starts.{kept_start, later_start};
 
 use crate::contents::Taken;
 use crate::entries::Entries;
-use crate::rows::forget_rows;
+use crate::row_entries::forget_rows;
 use crate::start_map::StartMap;
 use crate::starts::forget_starts;
 use mfotl_model::Row;

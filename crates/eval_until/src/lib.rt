@@ -12,7 +12,7 @@ mod next;
 mod ordered;
 mod rebuild;
 mod recalled;
-mod rows;
+mod row_entries;
 mod start_map;
 mod starts;
 mod until;

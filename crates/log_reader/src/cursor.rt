@@ -10,7 +10,7 @@ ghost use Rattle.log_reader.specs.Stretches.{Waits, place_in};
 ghost use Rattle.log_reader.specs.Tokens.{Finds};
 
 use crate::fault::LogFault;
-use crate::front::{blank_before, token_before};
+use crate::plain_tokens::{blank_before, token_before};
 use crate::grammar::read_on;
 use crate::limits::{Limits, Look};
 use crate::next::Next;

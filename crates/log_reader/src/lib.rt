@@ -3,24 +3,24 @@
 #![tactic(auto)]
 
 mod cursor;
-mod demo;
 mod demo_draws;
 mod demo_event;
+mod demo_texts;
 mod fault;
-mod front;
 mod grammar;
 mod groups;
 pub mod laws;
 mod limits;
 mod next;
 mod partial;
-mod quick;
+mod plain_tokens;
 mod reader;
+mod short_numbers;
 mod stage;
 mod stretch;
 mod values;
 
-pub use demo::{Demo, generate};
+pub use demo_texts::{Demo, generate};
 pub use fault::LogFault;
 pub use limits::Limits;
 pub use next::Next;

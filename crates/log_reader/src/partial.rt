@@ -9,11 +9,11 @@ ghost use Rattle.log_reader.specs.Symbols.{symbol, written};
 ghost use Rattle.mfotl_sig.specs.Preds.{named};
 
 use crate::fault::LogFault;
-use crate::front::word_before;
+use crate::plain_tokens::word_before;
 use crate::grammar::{ends_point, is_whole, stage_behind};
 use crate::limits::Limits;
 use crate::next::Next;
-use crate::quick::{integer_before, number_before};
+use crate::short_numbers::{integer_before, number_before};
 use crate::stage::Stage;
 use crate::values::{timestamp_of, value_at};
 use mfotl_lex::Token;

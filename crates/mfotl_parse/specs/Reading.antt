@@ -83,11 +83,11 @@ pub record PolicyOf : Type 0 where
   pub vars : List Var
 
 -- what the sorts and the free variables of a whole text show, where they show a fault
-abbrev pub refusal : Option ℕ → Option Pair → Option (List ℕ × ℕ) → Option PolicyFault
-refusal (Some at) uneven ninth = Some (SortClash at)
-refusal None (Some pair) ninth = Some (SortClash pair.at)
-refusal None None (Some known) = Some (TooManyVariables known.1)
-refusal None None None = None
+abbrev pub fault_of_names : Option ℕ → Option Pair → Option (List ℕ × ℕ) → Option PolicyFault
+fault_of_names (Some at) uneven ninth = Some (SortClash at)
+fault_of_names None (Some pair) ninth = Some (SortClash pair.at)
+fault_of_names None None (Some known) = Some (TooManyVariables known.1)
+fault_of_names None None None = None
 
 -- the policy, unless it is refused
 abbrev pub unless_refused : Option PolicyFault → PolicyOf → Result PolicyOf PolicyFault
@@ -96,7 +96,7 @@ unless_refused (Some fault) policy = Err fault
 
 -- the policy, unless sorts or the number of variables refuse it
 abbrev pub sorted : Option ℕ → Option Pair → Option (List ℕ × ℕ) → PolicyOf → Result PolicyOf PolicyFault
-sorted clash uneven ninth policy = unless_refused (refusal clash uneven ninth) policy
+sorted clash uneven ninth policy = unless_refused (fault_of_names clash uneven ninth) policy
 
 -- the rules that are looked at when the whole text was read: sorts, and then the number of free variables
 abbrev pub finished : SymbolTable → Form → Result PolicyOf PolicyFault

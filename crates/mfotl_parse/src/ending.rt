@@ -60,8 +60,8 @@ fn columns_at(alloc: Global, context: &Context, end: u64) -> Result<Vars, Policy
 }
 
 /// What sorts and free variables show, where they show a fault.
-fn refusal(names: &SymbolTable) -> Option<PolicyFault>
-    ensures { result ≡ reading_words.refusal (names_of names.now).clash (uneven_pair (names_of names.now))
+fn fault_of_names(names: &SymbolTable) -> Option<PolicyFault>
+    ensures { result ≡ reading_words.fault_of_names (names_of names.now).clash (uneven_pair (names_of names.now))
         (slice_get (names_of names.now).free max_free) }
 {
     if let Some(at) = names.clash {
@@ -81,7 +81,7 @@ fn columns(alloc: Global, names: &SymbolTable) -> Result<Vars, PolicyFault>
     ensures { (f : Form) → Gives (λ vars. record { formula = f; vars = vars }) result
         (finished (names_of names.now) f) }
 {
-    match refusal(names) {
+    match fault_of_names(names) {
         Some(fault) => Err(fault),
         None => Ok(names.vars(alloc)?),
     }

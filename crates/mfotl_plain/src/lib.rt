@@ -6,13 +6,13 @@ mod bindings;
 mod domain;
 mod lines;
 mod operators;
-mod rows;
 mod satisfaction;
 mod settling;
 mod temporal;
+mod violations;
 
 pub use domain::active_domain;
 pub use lines::log_text;
-pub use rows::violations;
 pub use satisfaction::holds;
 pub use settling::is_settled;
+pub use violations::violations;

@@ -3,7 +3,7 @@
 #![tactic(auto)]
 
 mod buffered_sink;
-mod calls;
+mod failing_calls;
 mod fault;
 mod gate;
 mod inputs;

@@ -7,7 +7,7 @@ ghost use Rattle.mon_outside.specs.Files.{find_file};
 ghost use Rattle.mon_outside.specs.Inputs.{Opens, Moves};
 ghost use Rattle.mon_outside.specs.Memory.{named, fails_next, after_call};
 
-use crate::calls::Calls;
+use crate::failing_calls::Calls;
 use crate::{Failed, Inputs};
 use std::marker::Model;
 

@@ -5,7 +5,7 @@ ghost use Rattle.mon_outside.specs.Causes.{HasCause};
 ghost use Rattle.mon_outside.specs.Sink.{Appends};
 ghost use Rattle.mon_outside.specs.Memory.{fails_next, after_call, none_held};
 
-use crate::calls::Calls;
+use crate::failing_calls::Calls;
 use crate::{Failed, Sink};
 use std::alloc::Global;
 use std::marker::Model;

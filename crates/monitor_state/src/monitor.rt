@@ -14,7 +14,7 @@ ghost use Rattle.monitor_state.specs.Steps.{Steps};
 use crate::compile::begun_nodes;
 use crate::node::Node;
 use crate::recording::nodes_data;
-use crate::resumed::nodes_resumed;
+use crate::resume_nodes::nodes_resumed;
 use crate::stack::popped;
 use crate::stamps::{longest, times_behind};
 use crate::state::State;

@@ -2,8 +2,8 @@
 use Rattle.monitorable.specs.Conjuncts.{PartForm}
 use Rattle.monitorable.specs.Conjuncts.PartForm.{Child as ChildPart, Test as TestPart}
 use Rattle.monitorable.specs.CoreForms.{node_form}
-use Rattle.monitorable.specs.declared.join.Part.{Part}
-use Rattle.monitorable.specs.declared.join.Part.TheVariants.{Child, Test}
+use Rattle.monitorable.specs.declared.conjunction.Part.{Part}
+use Rattle.monitorable.specs.declared.conjunction.Part.TheVariants.{Child, Test}
 
 -- the part without its references
 abbrev pub part_form : Part → PartForm

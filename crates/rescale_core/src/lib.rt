@@ -15,15 +15,15 @@ mod machine_start;
 mod outstanding;
 mod phase;
 mod queue;
-mod reading;
+mod queueing;
 mod rescaling;
+mod room;
 mod router;
 mod router_start;
 mod seed;
 mod settled;
 mod slot;
 mod step;
-mod waiting;
 mod worker;
 
 pub use boxed::{BoxedPiece, BoxedStrategy};

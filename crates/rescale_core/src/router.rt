@@ -12,7 +12,7 @@ use crate::boxed::BoxedPiece;
 use crate::item::{Item, Out};
 use crate::outstanding::{grow_counts, lower, none_outstanding, raise};
 use crate::queue::{Queue, none_wait};
-use crate::reading::{grow, push_parts, push_places, push_point};
+use crate::queueing::{grow, push_parts, push_places, push_point};
 use mfotl_model::TimePoint;
 use monitorable::Core;
 use slice_strategy::{Slicer, Strategy};

@@ -9,8 +9,8 @@ mod open;
 mod plays;
 mod serve;
 mod swap;
+mod turns;
 mod view;
-mod words;
 mod work;
 
 pub use hub::{Hand, Hub, Main, Served, Swap};

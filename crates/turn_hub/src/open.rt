@@ -11,7 +11,7 @@ ghost use Rattle.turn_hub.specs.Ends.{IsMainOf, IsHandOf, AreHands, AreInOrder, 
 use crate::hub::{Hand, Hub, Main};
 use crate::plays::{MakeHand, Place};
 use crate::view::Cell;
-use crate::words::MAIN_TURN;
+use crate::turns::MAIN_TURN;
 use crate::work::Work;
 use atomic_table::{Refused, Table};
 use std::alloc::{AllocError, Global};

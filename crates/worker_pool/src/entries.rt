@@ -41,7 +41,7 @@ fn admit(
 }
 
 // Reads a change to another strategy. There is room for it.
-fn alter(alloc: Global, driver: &mut Driver, strategy: Strategy) -> Result<(), AllocError>
+fn read_change(alloc: Global, driver: &mut Driver, strategy: Strategy) -> Result<(), AllocError>
     requires room { IsRoomy driver.old }
     requires may { (w : World) × IsDriverOf driver.old w × IsFor w.core strategy }
     ensures changes { OnOk result (ChangesIn driver.old strategy driver.new) }
@@ -51,7 +51,7 @@ fn alter(alloc: Global, driver: &mut Driver, strategy: Strategy) -> Result<(), A
 }
 
 // Reads a change to another strategy, once there is room for it.
-fn change<R: Wait, O: Sink, G: Gate>(
+fn make_change<R: Wait, O: Sink, G: Gate>(
     context: &LoopContext<'_, R, G>,
     own: &mut Vec<WorkerHand>,
     driver: &mut Driver,
@@ -74,7 +74,7 @@ fn change<R: Wait, O: Sink, G: Gate>(
     ensures later { O.faults out.old ≤ O.faults out.new }
 {
     make_room(context, own, driver, writer, out, false)?;
-    alter(context.alloc, driver, strategy)?;
+    read_change(context.alloc, driver, strategy)?;
     Ok(())
 }
 
@@ -111,7 +111,7 @@ fn make_changes<R: Wait, O: Sink, G: Gate>(
     for _ in context.rt.forever() {
         match schedule.next_due() {
             None => return Ok(()),
-            Some(strategy) => change(context, own, driver, writer, out, strategy)?,
+            Some(strategy) => make_change(context, own, driver, writer, out, strategy)?,
         }
     }
     unreachable!()

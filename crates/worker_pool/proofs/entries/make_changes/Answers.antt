@@ -22,7 +22,7 @@ pub loop-preserved : goal.loop-preserved
 loop-preserved g c =
     let inv = c.loop.invariant in
     let due = c.in-Some-next_due.ensures in
-    let made = c.in_ok-change-in-Some-next_due.ensures in
+    let made = c.in_ok-make_change-in-Some-next_due.ensures in
     record {
       made = one_made inv.made due made.ok;
       suits = suits_later c.loop.schedule c.next_due.new.self c.in-Some-next_due.strategy due
@@ -30,17 +30,17 @@ loop-preserved g c =
       seated = seated_later c.args.context.now.cells c.loop.schedule c.next_due.new.self c.in-Some-next_due.strategy due
           inv.seated;
       main = made.main;
-      hands = c.change.ensures.hands;
-      later = omega (arith, inv.later, c.change.ensures.later);
+      hands = c.make_change.ensures.hands;
+      later = omega (arith, inv.later, c.make_change.ensures.later);
       can = tt;
       finite = tt;
     }
 
-pub change-requires-clause-runs : goal.change-requires-clause-runs
-change-requires-clause-runs g c = runs_with c.loop.invariant.made.adds c.requires.runs
+pub make_change-requires-clause-runs : goal.make_change-requires-clause-runs
+make_change-requires-clause-runs g c = runs_with c.loop.invariant.made.adds c.requires.runs
 
-pub change-requires-clause-seated : goal.change-requires-clause-seated
-change-requires-clause-seated g c =
+pub make_change-requires-clause-seated : goal.make_change-requires-clause-seated
+make_change-requires-clause-seated g c =
     seated_now c.args.context.now.cells c.loop.schedule c.next_due.new.self c.in-Some-next_due.strategy
     c.in-Some-next_due.ensures c.loop.invariant.seated
 
@@ -52,7 +52,7 @@ returns-in-None-next_due-clause-left g c =
     ap (λ (s : Schedule). s.changes.items) c.in-None-next_due.ensures.1
     ∙ (all_made c.loop.invariant.made c.in-None-next_due.ensures.0).1
 
-pub returns-in_err-change-in-Some-next_due-clause-err : goal.returns-in_err-change-in-Some-next_due-clause-err
-returns-in_err-change-in-Some-next_due-clause-err g c =
+pub returns-in_err-make_change-in-Some-next_due-clause-err : goal.returns-in_err-make_change-in-Some-next_due-clause-err
+returns-in_err-make_change-in-Some-next_due-clause-err g c =
     on_err c.from_residual.result _
-    (adds_falls c.loop.invariant.made.none c.loop.invariant.made.adds c.in_err-change-in-Some-next_due.ensures.err)
+    (adds_falls c.loop.invariant.made.none c.loop.invariant.made.adds c.in_err-make_change-in-Some-next_due.ensures.err)

@@ -1,0 +1,10 @@
+use Rattle.std.proofs.Common.{◌≡◌, not}
+use Rattle.std.specs.List.{filter}
+use Rattle.mfotl_model.specs.Formulas.{form}
+use Rattle.mfotl_model.specs.Satisfaction.{sat}
+use Rattle.mfotl_model.specs.Violations.{valuation}
+use Rattle.mfotl_plain.proofs.violations.failing.Given as goal
+
+abbrev pub invariant-loop-row : goal.invariant-loop-row
+invariant-loop-row l =
+    l.found.items ≡ filter (λ row. not (sat l.log l.dom (valuation l.columns row) l.at (form l.formula))) l.yielded

@@ -1,0 +1,231 @@
+//! Nodes into which the data that others kept is put.
+ghost use Rattle.std.specs.Prelude.{IfOk};
+ghost use Rattle.monitor_state.specs.Resuming.{AllMatch, Matches, NodeResumed, NodesResumed};
+
+use crate::filter::FilterState;
+use crate::node::Node;
+use crate::resume_windows::{before_place, from_place, since_resumed, until_resumed, window_resumed};
+use crate::state::{NodeData, WindowData};
+use crate::tables::Tables;
+use eval_bool::{AtomReader, JoinState, OrState};
+use eval_since::{PrevState, SinceState};
+use eval_until::{NextState, UntilState};
+use relations::Table;
+use std::alloc::{AllocError, Global};
+use std::collections::VecDeque;
+
+/// The nodes with the data of nodes of the same core.
+pub fn nodes_resumed(
+    alloc: Global,
+    fresh: Vec<Node>,
+    first: u64,
+    times: &[u64],
+    kept: Vec<NodeData>,
+) -> Result<Vec<Node>, AllocError>
+    requires { AllMatch (record { first = first; stamps = times.now }) fresh.items kept.items }
+    ensures { IfOk result (λ nodes. NodesResumed (record { first = first; stamps = times.now }) fresh.items kept.items
+        nodes.items) }
+{
+    let mut nodes = Vec::with_capacity(alloc, fresh.len())?;
+    let mut rest = VecDeque::from_vec(fresh);
+    let mut left = VecDeque::from_vec(kept);
+    while let Some(node) = rest.pop_front() {
+        let Some(data) = left.pop_front() else {
+            return Err(AllocError);
+        };
+        nodes.push(node_resumed(alloc, node, first, times, data)?)?;
+    }
+    Ok(nodes)
+}
+
+fn node_resumed(
+    alloc: Global,
+    node: Node,
+    first: u64,
+    times: &[u64],
+    kept: NodeData,
+) -> Result<Node, AllocError>
+    requires { Matches (record { first = first; stamps = times.now }) node kept }
+    ensures { IfOk result (NodeResumed (record { first = first; stamps = times.now }) node kept) }
+{
+    match node {
+        Node::Constant(table) => resumed_constant(table, first, times, kept),
+        Node::Atom(reader) => resumed_atom(reader, first, times, kept),
+        Node::Exists(var) => resumed_exists(var, first, times, kept),
+        Node::Join(state) => resumed_join(alloc, state, first, times, kept),
+        Node::Filter(state) => resumed_filter(alloc, state, first, times, kept),
+        Node::Or(state) => resumed_or(state, first, times, kept),
+        Node::Previous(state) => resumed_previous(alloc, state, first, times, kept),
+        Node::Next(state) => resumed_next(alloc, state, first, times, kept),
+        Node::Since(state, order) => resumed_since(alloc, state, order, first, times, kept),
+        Node::Until(state, order) => resumed_until(alloc, state, order, first, times, kept),
+    }
+}
+
+fn resumed_constant(
+    table: Table,
+    first: u64,
+    times: &[u64],
+    kept: NodeData,
+) -> Result<Node, AllocError>
+    requires { Matches (record { first = first; stamps = times.now }) (Node.Constant table) kept }
+    ensures { IfOk result (NodeResumed (record { first = first; stamps = times.now }) (Node.Constant table) kept) }
+{
+    match kept {
+        NodeData::Bare => Ok(Node::Constant(table)),
+        _ => Err(AllocError),
+    }
+}
+
+fn resumed_atom(
+    reader: AtomReader,
+    first: u64,
+    times: &[u64],
+    kept: NodeData,
+) -> Result<Node, AllocError>
+    requires { Matches (record { first = first; stamps = times.now }) (Node.Atom reader) kept }
+    ensures { IfOk result (NodeResumed (record { first = first; stamps = times.now }) (Node.Atom reader) kept) }
+{
+    match kept {
+        NodeData::Bare => Ok(Node::Atom(reader)),
+        _ => Err(AllocError),
+    }
+}
+
+fn resumed_exists(var: u32, first: u64, times: &[u64], kept: NodeData) -> Result<Node, AllocError>
+    requires { Matches (record { first = first; stamps = times.now }) (Node.Exists var) kept }
+    ensures { IfOk result (NodeResumed (record { first = first; stamps = times.now }) (Node.Exists var) kept) }
+{
+    match kept {
+        NodeData::Bare => Ok(Node::Exists(var)),
+        _ => Err(AllocError),
+    }
+}
+
+fn resumed_join(
+    alloc: Global,
+    state: JoinState,
+    first: u64,
+    times: &[u64],
+    kept: NodeData,
+) -> Result<Node, AllocError>
+    requires { Matches (record { first = first; stamps = times.now }) (Node.Join state) kept }
+    ensures { IfOk result (NodeResumed (record { first = first; stamps = times.now }) (Node.Join state) kept) }
+{
+    let NodeData::Join(data) = kept else {
+        return Err(AllocError);
+    };
+    let resumed = state.resumed(alloc, data)?;
+    Ok(Node::Join(resumed))
+}
+
+fn resumed_filter(
+    alloc: Global,
+    state: FilterState,
+    first: u64,
+    times: &[u64],
+    kept: NodeData,
+) -> Result<Node, AllocError>
+    requires { Matches (record { first = first; stamps = times.now }) (Node.Filter state) kept }
+    ensures { IfOk result (NodeResumed (record { first = first; stamps = times.now }) (Node.Filter state) kept) }
+{
+    let NodeData::Filter(tables, window) = kept else {
+        return Err(AllocError);
+    };
+    let window = window_resumed(alloc, state.window, first, times, window)?;
+    Ok(Node::Filter(FilterState {
+        tables: Tables::from_vec(tables),
+        window,
+        negated: state.negated,
+        order: state.order,
+    }))
+}
+
+fn resumed_or(state: OrState, first: u64, times: &[u64], kept: NodeData) -> Result<Node, AllocError>
+    requires { Matches (record { first = first; stamps = times.now }) (Node.Or state) kept }
+    ensures { IfOk result (NodeResumed (record { first = first; stamps = times.now }) (Node.Or state) kept) }
+{
+    let NodeData::Or(data) = kept else {
+        return Err(AllocError);
+    };
+    Ok(Node::Or(state.resumed(data)))
+}
+
+fn resumed_previous(
+    alloc: Global,
+    state: PrevState,
+    first: u64,
+    times: &[u64],
+    kept: NodeData,
+) -> Result<Node, AllocError>
+    requires { Matches (record { first = first; stamps = times.now }) (Node.Previous state) kept }
+    ensures { IfOk result (NodeResumed (record { first = first; stamps = times.now }) (Node.Previous state) kept) }
+{
+    let NodeData::Previous(data) = kept else {
+        return Err(AllocError);
+    };
+    let last = before_place(times, first, data.pulled);
+    let next = from_place(times, first, data.pulled);
+    let resumed = state.resumed(alloc, last, next, data)?;
+    Ok(Node::Previous(resumed))
+}
+
+fn resumed_next(
+    alloc: Global,
+    state: NextState,
+    first: u64,
+    times: &[u64],
+    kept: NodeData,
+) -> Result<Node, AllocError>
+    requires { Matches (record { first = first; stamps = times.now }) (Node.Next state) kept }
+    ensures { IfOk result (NodeResumed (record { first = first; stamps = times.now }) (Node.Next state) kept) }
+{
+    let NodeData::Next(data) = kept else {
+        return Err(AllocError);
+    };
+    let next = from_place(times, first, data.pulled);
+    let resumed = state.resumed(alloc, next, data)?;
+    Ok(Node::Next(resumed))
+}
+
+fn resumed_since(
+    alloc: Global,
+    state: SinceState,
+    order: Table,
+    first: u64,
+    times: &[u64],
+    kept: NodeData,
+) -> Result<Node, AllocError>
+    requires { Matches (record { first = first; stamps = times.now }) (Node.Since state order) kept }
+    ensures { IfOk result (NodeResumed (record { first = first; stamps = times.now }) (Node.Since state order) kept) }
+{
+    let NodeData::Window(window) = kept else {
+        return Err(AllocError);
+    };
+    let WindowData::Since(data) = window else {
+        return Err(AllocError);
+    };
+    let resumed = since_resumed(alloc, state, first, times, data)?;
+    Ok(Node::Since(resumed, order))
+}
+
+fn resumed_until(
+    alloc: Global,
+    state: UntilState,
+    order: Table,
+    first: u64,
+    times: &[u64],
+    kept: NodeData,
+) -> Result<Node, AllocError>
+    requires { Matches (record { first = first; stamps = times.now }) (Node.Until state order) kept }
+    ensures { IfOk result (NodeResumed (record { first = first; stamps = times.now }) (Node.Until state order) kept) }
+{
+    let NodeData::Window(window) = kept else {
+        return Err(AllocError);
+    };
+    let WindowData::Until(data) = window else {
+        return Err(AllocError);
+    };
+    let resumed = until_resumed(alloc, state, first, times, data)?;
+    Ok(Node::Until(resumed, order))
+}

@@ -1,0 +1,11 @@
+use Rattle.std.proofs.Common.{◌≡◌, ◌++◌, ℕ, length}
+use Rattle.rescale_core.specs.Queues.{queue_at}
+use Rattle.rescale_core.specs.Routing.{place_below}
+use Rattle.rescale_core.proofs.queueing.push_places.Given as goal
+
+abbrev pub invariant-loop-k : goal.invariant-loop-k
+invariant-loop-k l = record {
+  len : length l.queues.items ≡ length l.fn.queues.items;
+  queued : (q : ℕ) → queue_at l.queues.items q
+      ≡ queue_at l.fn.queues.items q ++ place_below q l.k l.generation l.now l.count;
+}

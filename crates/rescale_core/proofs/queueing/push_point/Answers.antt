@@ -1,0 +1,37 @@
+use Rattle.std.proofs.Common.{◌++◌, sym, length, ap, ◌∙◌, arith}
+use Rattle.monitorable.specs.Cores.{core_form}
+use Rattle.rescale_core.specs.Queues.{queue_at}
+use Rattle.rescale_core.specs.Routing.{slices_for}
+use Rattle.rescale_core.proofs.ReadingLemmas.{parts_are, slices_len}
+use Rattle.rescale_core.proofs.queueing.push_point.Goals as goal
+
+pub push_whole-requires : goal.push_whole-requires
+push_whole-requires c =
+    let core = core_form c.args.core.now in
+    let s = c.args.strategy.now in
+    let e = sym (slices_len core s c.args.point) ∙ ap length (sym (parts_are core s c.args.point)
+    ∙ c.is_whole.ensures.whole c.if-is_whole.true) in
+    omega (arith, e, c.requires)
+
+pub push_slices-requires : goal.push_slices-requires
+push_slices-requires c =
+    let core = core_form c.args.core.now in
+    let s = c.args.strategy.now in
+    let e = ap length (c.in_ok-slices.ensures ∙ parts_are core s c.args.point) ∙ slices_len core s c.args.point in
+    omega (arith, e, c.requires)
+
+pub returns-then-is_whole-clause-queued : goal.returns-then-is_whole-clause-queued
+returns-then-is_whole-clause-queued c = λ q.
+    let core = core_form c.args.core.now in
+    let s = c.args.strategy.now in
+    c.in_ok-push_whole.ensures.queued q
+    ∙ ap (λ ps. queue_at c.args.queues.now.items q ++ slices_for c.args.generation c.args.number 0 ps q)
+    (sym (c.is_whole.ensures.whole c.if-is_whole.true) ∙ parts_are core s c.args.point)
+
+pub returns-clause-queued : goal.returns-clause-queued
+returns-clause-queued c = λ q.
+    let core = core_form c.args.core.now in
+    let s = c.args.strategy.now in
+    c.in_ok-push_slices.ensures.queued q
+    ∙ ap (λ ps. queue_at c.args.queues.now.items q ++ slices_for c.args.generation c.args.number 0 ps q)
+    (c.in_ok-slices.ensures ∙ parts_are core s c.args.point)

@@ -1,0 +1,14 @@
+use Rattle.worker_pool.proofs.ChangeLemmas.{change_adds, may_change}
+use Rattle.worker_pool.proofs.WritingLemmas.{falls_on, on_err, stops}
+use Rattle.worker_pool.proofs.entries.make_change.Goals as goal
+
+pub read_change-requires-clause-may : goal.read_change-requires-clause-may
+read_change-requires-clause-may g c = may_change c.in_ok-make_room.ensures.ok c.requires.runs c.requires.suits
+
+pub returns-in_err-read_change-clause-err : goal.returns-in_err-read_change-clause-err
+returns-in_err-read_change-clause-err g c =
+    on_err c.from_residual-in_err-read_change.result _ (falls_on c.in_ok-make_room.ensures.ok (stops _ _ _))
+
+pub returns-clause-ok : goal.returns-clause-ok
+returns-clause-ok g c =
+    change_adds c.in_ok-make_room.ensures.ok c.requires.suits c.in_ok-read_change.ensures.changes
