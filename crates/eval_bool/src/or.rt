@@ -6,9 +6,9 @@ ghost use Rattle.eval_bool.specs.BoolData.{OrRule, or_of};
 ghost use Rattle.eval_bool.specs.Firsts.{first_has};
 ghost use Rattle.eval_bool.specs.OrView.{operand_columns, operand_tables, or_advanced, or_begun, or_due, or_pushed, same_columns};
 
+use crate::admission::fits;
 use crate::recalled::OrData;
 use crate::reorder::reordered;
-use crate::admission::fits;
 use relations::{Table, copied_tables};
 use std::alloc::{AllocError, Global};
 use std::collections::VecDeque;

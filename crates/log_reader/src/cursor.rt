@@ -10,11 +10,11 @@ ghost use Rattle.log_reader.specs.Stretches.{Waits, place_in};
 ghost use Rattle.log_reader.specs.Tokens.{Finds};
 
 use crate::fault::LogFault;
-use crate::plain_tokens::{blank_before, token_before};
 use crate::grammar::read_on;
 use crate::limits::{Limits, Look};
 use crate::next::Next;
 use crate::partial::{Partial, Straight};
+use crate::plain_tokens::{blank_before, token_before};
 use crate::stretch::Stretch;
 use mfotl_lex::{LexFault, Lexer, Mode, Token};
 use mfotl_model::TimePoint;

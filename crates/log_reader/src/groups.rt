@@ -4,10 +4,10 @@ ghost use Rattle.mfotl_model.specs.declared.policy.Sort.TheVariants as sorts;
 ghost use Rattle.log_reader.specs.Cursors.{IsCounted};
 ghost use Rattle.log_reader.specs.Groups.{TakesPlain, ReadsValues, ReadsGroup, TakesGroup};
 
-use crate::plain_tokens::{blank_before, word_before};
 use crate::grammar::may_open;
 use crate::limits::{Limits, Look};
 use crate::partial::Partial;
+use crate::plain_tokens::{blank_before, word_before};
 use crate::short_numbers::integer_before;
 use crate::stage::Stage;
 use mfotl_model::{Event, Row, Sort, Text, Value};

@@ -9,10 +9,10 @@ ghost use Rattle.log_reader.specs.Symbols.{symbol, written};
 ghost use Rattle.mfotl_sig.specs.Preds.{named};
 
 use crate::fault::LogFault;
-use crate::plain_tokens::word_before;
 use crate::grammar::{ends_point, is_whole, stage_behind};
 use crate::limits::Limits;
 use crate::next::Next;
+use crate::plain_tokens::word_before;
 use crate::short_numbers::{integer_before, number_before};
 use crate::stage::Stage;
 use crate::values::{timestamp_of, value_at};

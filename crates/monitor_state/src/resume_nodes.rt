@@ -4,7 +4,9 @@ ghost use Rattle.monitor_state.specs.Resuming.{AllMatch, Matches, NodeResumed, N
 
 use crate::filter::FilterState;
 use crate::node::Node;
-use crate::resume_windows::{before_place, from_place, since_resumed, until_resumed, window_resumed};
+use crate::resume_windows::{
+    before_place, from_place, since_resumed, until_resumed, window_resumed,
+};
 use crate::state::{NodeData, WindowData};
 use crate::tables::Tables;
 use eval_bool::{AtomReader, JoinState, OrState};

@@ -10,8 +10,8 @@ ghost use Rattle.turn_hub.specs.Ends.{IsMainOf, IsHandOf, AreHands, AreInOrder, 
 
 use crate::hub::{Hand, Hub, Main};
 use crate::plays::{MakeHand, Place};
-use crate::view::Cell;
 use crate::turns::MAIN_TURN;
+use crate::view::Cell;
 use crate::work::Work;
 use atomic_table::{Refused, Table};
 use std::alloc::{AllocError, Global};

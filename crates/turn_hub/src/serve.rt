@@ -7,8 +7,8 @@ ghost use Rattle.turn_hub.specs.Answers.{ServedAs};
 
 use crate::hub::{Hand, Hub, Served};
 use crate::plays::{GiveBack, HandLook};
-use crate::view::Cell;
 use crate::turns::{BROKEN, HAND_TURN, MAIN_TURN};
+use crate::view::Cell;
 use crate::work::Work;
 use mon_outside::Gate;
 use std::alloc::{AllocError, Global};

@@ -7,8 +7,8 @@ ghost use Rattle.turn_hub.specs.Answers.{Swapped, MayHand};
 
 use crate::hub::{Hub, Main, Swap};
 use crate::plays::{HandOver, MainLook};
-use crate::view::Cell;
 use crate::turns::{HAND_TURN, MAIN_TURN};
+use crate::view::Cell;
 use crate::work::Work;
 use std::mem;
 
