@@ -1,6 +1,6 @@
 -- Hands that are dealt round by round.
 use Rattle.std.proofs.Common.{◌≡◌, ◌∙◌, ap, ap₂, sym, refl, ℕ, zero, suc, ◌+◌, ◌*◌, ◌-◌, ◌/◌, ◌%◌, ◌<◌, ◌++◌, List, []}
-use Rattle.std.proofs.Common.{◌∷◌, length, arith, Bool, true, false, map, min, get_or, take, drop, set, Vec, nat_eq, add-one}
+use Rattle.std.proofs.Common.{◌∷◌, length, arith, Bool, true, false, map, get_or, take, drop, set, Vec, nat_eq, add-one}
 use Rattle.std.proofs.lemmas.Bool.{eqb-true, eqb-false}
 use Rattle.std.proofs.lemmas.List.{ext_get_or, get_or-map, get_or-set_same, get_or-set_other, map-append, map-set}
 use Rattle.std.proofs.lemmas.List.FromFn.{get_or-map-range_with_len, length-map-range_with_len}
@@ -11,7 +11,7 @@ use Rattle.std.specs.List.{range_with_len}
 use mathlib.Core.Option.{some}
 use lib.ListN.{get_elem?, length-set}
 use Rattle.turn_hub.specs.Ends.{AreInOrder, hand_cell}
-use Rattle.worker_pool.specs.Hands.{AreDealt, WorkerHand, cells_of, dealt, every_nth, group_cells, undealt}
+use Rattle.worker_pool.specs.Hands.{WorkerHand, cells_of, dealt, every_nth, group_cells}
 
 -- ---- one element more
 

@@ -34,7 +34,6 @@ use Rattle.worker_pool.specs.Texts.{lines, tally_of, text_on}
 use Rattle.worker_pool.specs.Writing.{AddsPoint, Falls, FallsShort, IsOver, Keeps, Runs, Writes}
 use Rattle.worker_pool.specs.Writing.{all_verdicts}
 use Rattle.worker_pool.specs.declared.stop.Stop.{Stop}
-use Rattle.worker_pool.specs.declared.stop.Stop.TheVariants as stop
 use Rattle.worker_pool.specs.declared.tally.Tally.{Tally}
 use Rattle.worker_pool.proofs.EntryLemmas.{entries_more, left_more, points_read}
 use Rattle.worker_pool.proofs.LogTimes.{read_never_falls}

@@ -28,7 +28,7 @@ use Rattle.rescale_core.specs.declared.item.Entry.TheVariants.{Point, Change as 
 use Rattle.verdict_merge.specs.declared.rows.Verdict.{Verdict}
 use Rattle.worker_pool.specs.Changes.{points_in}
 use Rattle.worker_pool.specs.Texts.{lines, tally_of}
-use Rattle.worker_pool.specs.Writing.{Adds, Begins, Falls, FallsShort, IsOver, Keeps, Runs, RunsTo, Writes}
+use Rattle.worker_pool.specs.Writing.{Adds, Begins, FallsShort, IsOver, Keeps, Runs, RunsTo, Writes}
 use Rattle.worker_pool.specs.Writing.{all_verdicts, first_verdicts, seen}
 use Rattle.worker_pool.specs.declared.tally.Tally.{Tally}
 use Rattle.worker_pool.proofs.SinkLemmas.{appends_more, appends_none, front_behind, whole_front}

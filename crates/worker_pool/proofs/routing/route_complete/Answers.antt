@@ -1,9 +1,9 @@
-use Rattle.std.proofs.Common.{◌≡◌, ◌∙◌, ◌+◌, ◌≤◌, ◌<◌, ◌^◌, ap, ap₂, arith, refl, sym, take}
+use Rattle.std.proofs.Common.{◌≡◌, ◌∙◌, ◌+◌, ◌≤◌, ◌<◌, ◌^◌, ap, arith, refl, sym, take}
 use Rattle.log_reader.specs.Progress.{read}
 use Rattle.log_reader.specs.Readers.{Reader, progress}
-use Rattle.worker_pool.specs.Changes.{changes_due, changes_later, entries_by}
+use Rattle.worker_pool.specs.Changes.{entries_by}
 use Rattle.worker_pool.proofs.ChangeLemmas.{suits_drained}
-use Rattle.worker_pool.proofs.PointLemmas.{Takes, begins, ends_end, ends_more, follows, goes_on, one_more_given}
+use Rattle.worker_pool.proofs.PointLemmas.{begins, ends_end, ends_more, follows, goes_on, one_more_given}
 use Rattle.worker_pool.proofs.PointLemmas.{short, stops_with, under}
 use Rattle.worker_pool.proofs.WritingLemmas.{falls_either, on_ok_both}
 use Rattle.worker_pool.proofs.routing.route_complete.Goals as goal
