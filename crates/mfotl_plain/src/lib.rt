@@ -9,10 +9,10 @@ mod operators;
 mod satisfaction;
 mod settling;
 mod temporal;
-mod violations;
+mod violating_rows;
 
 pub use domain::active_domain;
 pub use lines::log_text;
 pub use satisfaction::holds;
 pub use settling::is_settled;
-pub use violations::violations;
+pub use violating_rows::violations;

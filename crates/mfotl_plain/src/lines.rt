@@ -6,7 +6,7 @@ ghost use Rattle.mfotl_model.specs.VerdictText.{line_of, text, verdict_at};
 
 use crate::operators::time_at;
 use crate::settling::is_settled;
-use crate::violations::violations;
+use crate::violating_rows::violations;
 use mfotl_model::{Formula, TimePoint, push_verdict};
 use std::alloc::{AllocError, Global};
 

@@ -1,6 +1,7 @@
 -- Elements dealt among workers: one by one, and a list of them.
 use Rattle.std.proofs.Common.{◌≡◌, ◌∙◌, ap, sym, subst, refl, arith, ℕ, zero, suc, ◌+◌, ◌<◌, ◌≤◌, Bool, true, false}
-use Rattle.std.proofs.Common.{◌&&◌, cond, nat_lt, inl, inr, ◌⊎◌, List, [], ◌∷◌, ◌++◌, length, set, get_or, map, replicate}
+use Rattle.std.proofs.Common.{◌&&◌, cond, nat_lt, inl, inr, ◌⊎◌, List, [], ◌∷◌, ◌++◌}
+use Rattle.std.proofs.Common.{length, set, get_or, map, replicate}
 use Rattle.std.proofs.Common.{append_assoc, append-nil, length-append}
 use Rattle.std.proofs.lemmas.Bool.{cases_lt}
 use Rattle.std.proofs.lemmas.List.{get_or-map, length-map, map-append, map-set}
@@ -240,7 +241,8 @@ module _ {V X : Type 0} (h : V → List X) (x : X) (test : ℕ → Bool) where
       ∙ given_next x test k next (map h old) (h v) (omega (arith, low, size)) up is none
 
 -- without items
-pub told_nothing : {V K X : Type 0} (items : V → List K) (told : K → X) (P : ℕ → List X → Type 0) (y n : ℕ) (vs : List V)
+pub told_nothing : {V K X : Type 0} (items : V → List K) (told : K → X) (P : ℕ → List X → Type 0) 
+    (y n : ℕ) (vs : List V)
     → map items vs ≡ replicate n [] → ((k : ℕ) → P k []) → StandFrom P y (map (λ v. map told (items v)) vs)
 told_nothing items told P y n [] e all = tt
 told_nothing items told P y zero (v ∷ vs) e all = absurd (let w : items v ∷ map items vs ≡ [] = e in cc)

@@ -5,7 +5,7 @@ use Rattle.mfotl_model.specs.Formulas.{Form}
 use Rattle.mfotl_model.specs.Tables.{all_apart}
 use Rattle.monitorable.proofs.CoreLaws.{accepted, core_of, negates, same_constants, same_variables, settles}
 use Rattle.monitorable.proofs.SatisfyingLaw.{violations_satisfy}
-use Rattle.monitorable.proofs.to_core.to_core.Goals as goal
+use Rattle.monitorable.proofs.core_of_policy.to_core.Goals as goal
 use Rattle.monitorable.specs.CoreForms.{CoreForm, meaning}
 use Rattle.monitorable.specs.Cores.{core_form, policy_form}
 use Rattle.monitorable.specs.Fragment.{Fits, frag, free_names}

@@ -2,7 +2,7 @@ use Rattle.std.proofs.Common.{◌≡◌, ◌∷◌, ◌-◌, map, take}
 use Rattle.std.specs.List.{flat_map}
 use Rattle.mfotl_model.specs.Violations.{all_rows}
 use Rattle.mfotl_model.specs.declared.value.Value.{Value}
-use Rattle.mfotl_plain.proofs.violations.+all_rows.Given as goal
+use Rattle.mfotl_plain.proofs.violating_rows.+all_rows.Given as goal
 
 abbrev pub invariant-loop-value : goal.invariant-loop-value
 invariant-loop-value l =

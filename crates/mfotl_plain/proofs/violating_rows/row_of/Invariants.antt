@@ -1,5 +1,5 @@
 use Rattle.std.proofs.Common.{◌≡◌, ◌∷◌, take}
-use Rattle.mfotl_plain.proofs.violations.row_of.Given as goal
+use Rattle.mfotl_plain.proofs.violating_rows.row_of.Given as goal
 
 abbrev pub invariant-loop-value : goal.invariant-loop-value
 invariant-loop-value l =

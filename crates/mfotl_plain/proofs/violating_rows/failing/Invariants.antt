@@ -3,7 +3,7 @@ use Rattle.std.specs.List.{filter}
 use Rattle.mfotl_model.specs.Formulas.{form}
 use Rattle.mfotl_model.specs.Satisfaction.{sat}
 use Rattle.mfotl_model.specs.Violations.{valuation}
-use Rattle.mfotl_plain.proofs.violations.failing.Given as goal
+use Rattle.mfotl_plain.proofs.violating_rows.failing.Given as goal
 
 abbrev pub invariant-loop-row : goal.invariant-loop-row
 invariant-loop-row l =

@@ -4,7 +4,7 @@ use Rattle.mfotl_model.specs.FreeVariables.{fv}
 use Rattle.mfotl_model.specs.Tables.{all_apart}
 use Rattle.monitorable.proofs.FragmentRenamed.{apart_fragment}
 use Rattle.monitorable.proofs.RenamedVariables.{apart_variables}
-use Rattle.monitorable.proofs.to_core.core_apart.Goals as goal
+use Rattle.monitorable.proofs.core_of_policy.core_apart.Goals as goal
 use Rattle.monitorable.specs.CoreForms.{meaning, node_form}
 use Rattle.monitorable.specs.Fragment.{Fits}
 use Rattle.monitorable.specs.Renaming.{binders}

@@ -1,7 +1,7 @@
 use Rattle.std.proofs.Common.{◌∙◌, ap, List, ◌++◌, ◌∷◌, map}
 use Rattle.mfotl_model.specs.declared.value.Value.{Value}
 use Rattle.mfotl_plain.proofs.PlainRowLemmas.{flat_map_more}
-use Rattle.mfotl_plain.proofs.violations.+all_rows.Goals as goal
+use Rattle.mfotl_plain.proofs.violating_rows.+all_rows.Goals as goal
 
 pub loop-value-preserved : goal.loop-value-preserved
 loop-value-preserved t c =
