@@ -1,5 +1,6 @@
 -- A time-point that is one worker's as it is.
-use Rattle.std.proofs.Common.{◌≡◌, ◌∙◌, ap, sym, refl, arith, ℕ, ◌<◌, Bool, true, false, ◌&&◌, ◌||◌, not, cond, List, [], ◌∷◌}
+use Rattle.std.proofs.Common.{◌≡◌, ◌∙◌, ap, sym, refl, arith, ℕ, ◌<◌, Bool, true, false, ◌&&◌, ◌||◌, not}
+use Rattle.std.proofs.Common.{cond, List, [], ◌∷◌}
 use Rattle.std.proofs.Common.{get_or, length}
 use Rattle.std.proofs.lemmas.Bool.{and_parts}
 use Rattle.std.proofs.lemmas.List.FromFn.{length-map-range_with_len}
@@ -102,7 +103,8 @@ pub one_part : (near : ℕ → Region) (count : ℕ) → count ≡ 1 → Covered
 one_part near count one covers atoms point events are all =
     ap (λ n. parts_for n near atoms point) one
     ∙ ap (λ db. record { ts = point.ts; db = db } ∷ [])
-    (sym (ap (slice (near 0) atoms) are) ∙ whole_slice (near 0) (only_near near count one covers) atoms events all ∙ are)
+    (sym (ap (slice (near 0) atoms) are) ∙ whole_slice (near 0) (only_near near count one covers) atoms events all
+    ∙ are)
 
 -- where it is, there is one worker
 pub one_worker : (near : ℕ → Region) (count : ℕ) (atoms : List OneAtom) (point : TimePoint)

@@ -201,7 +201,8 @@ only_owner s row one =
     omega (arith, one, low)
 
 -- the only worker owns all rows
-pub owned_all : (s : Strategy) (k : ℕ) → workers_of s ≡ 1 → k ≡ 0 → (rows : List (List Value)) → rows ≡ owned_by s k rows
+pub owned_all : (s : Strategy) (k : ℕ) → workers_of s ≡ 1 → k ≡ 0 → (rows : List (List Value))
+    → rows ≡ owned_by s k rows
 owned_all s k one first [] = refl
 owned_all s k one first (row ∷ rows) =
     ap (λ ys. row ∷ ys) (owned_all s k one first rows)

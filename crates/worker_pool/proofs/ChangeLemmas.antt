@@ -61,7 +61,8 @@ suits_drained (Err x) d e a b t u s r k suits = tt
 
 -- what suited before room was made does so behind the time-point
 pub suits_routed : {d e f : Driver} {a b c : Option (List ℕ)} {t u v : Tally} {changes : List Entry} {p : TimePoint}
-    (entries : List Entry) (s s2 : Schedule) → RunsTo d a t p → Adds d a t changes e b u → AddsPoint d a t entries p f c v
+    (entries : List Entry) (s s2 : Schedule) → RunsTo d a t p → Adds d a t changes e b u
+    → AddsPoint d a t entries p f c v
     → s2.changes ≡ s.changes → Suits e s → Suits f s2
 suits_routed {e} {f} entries s s2 r adds more same suits =
     subst (λ (cs : VecDeque Change Global). AllSuit (core_of f) cs.items) (sym same)
@@ -210,7 +211,8 @@ may_point {p} n changes adds r =
     let w = adds r.0 r.1 r.2 r.3 in (
       w.world,
       w.stands,
-      subst (λ ps. MayFollow ps p) (sym (points_are w ∙ points_with r.1 (changes_due n changes) (points_due n changes))) r.4,
+      subst (λ ps. MayFollow ps p)
+      (sym (points_are w ∙ points_with r.1 (changes_due n changes) (points_due n changes))) r.4,
     )
 
 pub point_adds : {d e f : Driver} {a b : Option (List ℕ)} {t u : Tally} {p : TimePoint} (n : ℕ) (changes : List Change)
@@ -219,4 +221,5 @@ point_adds {f} {b} {u} {p} n changes adds reads core read start may w0 =
     let w = adds core read start w0 in
     subst (λ es. Writes core es start f b u) (append_assoc read (changes_due n changes) (Point p ∷ []))
     (one_read (Point p) w (reads w.world
-    (subst (λ ps. MayFollow ps p) (sym (points_are w ∙ points_with read (changes_due n changes) (points_due n changes))) may) w.stands))
+    (subst (λ ps. MayFollow ps p)
+    (sym (points_are w ∙ points_with read (changes_due n changes) (points_due n changes))) may) w.stands))

@@ -260,7 +260,8 @@ module _ {core : CoreForm} {sig : List PredOf} {plan : List Change} (policy : Fo
       }
 
   -- no more lines could be written, or a fault stands behind them
-  pub lines_stop : {mid : Option (List ℕ)} → (c : Course core sig plan e.before.rest e.after.rest reader driver changes e.old.written mid t)
+  pub lines_stop : {mid : Option (List ℕ)}
+      → (c : Course core sig plan e.before.rest e.after.rest reader driver changes e.old.written mid t)
       → (why : Stop) (before : ℕ) → e.old.faults ≤ before
       → StopsLines policy (read (progress reader c.bytes)) e.old.written e.new.written before e.new.faults why
       → AppendsFront e.old.written e.new.written (text_on policy (read (progress reader c.bytes)))

@@ -100,7 +100,8 @@ one_dealt gs group new hand n k xs many count groups are at push =
     let low : k % n < n = mod_below k n many in
     let old : cells_of group.items ≡ every_nth n (k % n) xs =
     ap (λ (g : Vec WorkerHand Global). cells_of g.items) at
-    ∙ sym (get_or-map (λ (g : Vec WorkerHand Global). cells_of g.items) gs (k % n) group [] (omega (arith, low, groups)))
+    ∙ sym (get_or-map (λ (g : Vec WorkerHand Global). cells_of g.items) gs (k % n) group []
+    (omega (arith, low, groups)))
     ∙ ap (λ l. get_or l (k % n) []) are ∙ place n (k % n) xs low in
     let cells : cells_of new.items ≡ every_nth n (k % n) xs ++ hand_cell hand ∷ [] =
     ap (λ hs. cells_of hs) push ∙ map-append (λ h. hand_cell h) group.items (hand ∷ [])
@@ -118,6 +119,7 @@ ordered f a (x ∷ xs) order =
     ap₂ (λ y ys. y ∷ ys) first (ordered f (a + 1) xs (λ k y at. order (suc k) y at ∙ omega arith))
 
 -- hands in order are those of the first cells
-pub in_order : (hands : List WorkerHand) (n : ℕ) → length hands ≡ n → AreInOrder hands → cells_of hands ≡ range_with_len 0 n
+pub in_order : (hands : List WorkerHand) (n : ℕ) → length hands ≡ n → AreInOrder hands
+    → cells_of hands ≡ range_with_len 0 n
 in_order hands n count order =
     ordered (λ h. hand_cell h) 0 hands (λ k h at. order k h at ∙ omega arith) ∙ ap (range_with_len 0) count

@@ -13,7 +13,8 @@ invariant-loop-table l = record {
   given : l.outs.items
       ++ map (row_out l.strategy l.worker l.generation) (all_settled (monitor_of l.monitor).state l.point l.tables)
       ≡ l.fn.outs.items
-      ++ map (row_out l.strategy l.worker l.generation) (all_settled (monitor_of l.monitor).state l.fn.first l.fn.tables);
+      ++ map (row_out l.strategy l.worker l.generation)
+      (all_settled (monitor_of l.monitor).state l.fn.first l.fn.tables);
 }
 
 abbrev pub decreases-loop-table : goal.decreases-loop-table

@@ -8,7 +8,9 @@ pub loop-preserved : goal.loop-preserved
 loop-preserved g c =
     let inv = c.loop.invariant in
     record {
-      sized = one_longer c.loop.cuts.items c.push.new.self.items Bare c.loop.counter c.in_ok-push.ensures.items inv.sized;
-      each = stand_next (λ k cut. NodeFits Bare → NodeCut (g.S.Sorter.region c.args.sorter.now k) Bare cut) c.loop.cuts.items
+      sized = one_longer c.loop.cuts.items c.push.new.self.items Bare c.loop.counter c.in_ok-push.ensures.items
+          inv.sized;
+      each = stand_next (λ k cut. NodeFits Bare → NodeCut (g.S.Sorter.region c.args.sorter.now k) Bare cut)
+          c.loop.cuts.items
           c.push.new.self.items Bare c.loop.counter c.in_ok-push.ensures.items inv.sized inv.each (λ fits. tt);
     }

@@ -5,7 +5,8 @@ use Rattle.state_split.proofs.nodes.cut_filter.Goals as goal
 pub loop-tables-init : goal.loop-tables-init
 loop-tables-init g c =
     build_none _ _ _ c.in_ok-pairs.pairs.items _ _ c.in_ok-cuts.ensures.items (search rules)
-    (each_paired _ _ _ c.in_ok-lists.lists.items c.in_ok-windows.windows.items c.in_ok-pairs.pairs.items c.in_ok-lists.ensures
+    (each_paired _ _ _ c.in_ok-lists.lists.items c.in_ok-windows.windows.items c.in_ok-pairs.pairs.items
+    c.in_ok-lists.ensures
     c.in_ok-windows.ensures c.in_ok-pairs.ensures)
 
 pub loop-tables-preserved : goal.loop-tables-preserved

@@ -11,4 +11,5 @@ invariant-loop-tables g l =
     Building (g.S.Sorter.count l.sorter)
     (λ k tables. map (λ ts. ts.items) tables.items
     ≡ map (cut_tables (g.S.Sorter.region l.sorter k)) (kept_tables l.fn.join))
-    (λ k cut. NodeFits (Join l.fn.join) → NodeCut (g.S.Sorter.region l.sorter k) (Join l.fn.join) cut) l.tables-iterator.rest.items l.cuts.items
+    (λ k cut. NodeFits (Join l.fn.join) → NodeCut (g.S.Sorter.region l.sorter k) (Join l.fn.join) cut)
+    l.tables-iterator.rest.items l.cuts.items

@@ -9,4 +9,5 @@ abbrev pub invariant-loop-tables : goal.invariant-loop-tables
 invariant-loop-tables g l =
     Building (g.S.Sorter.count l.sorter)
     (λ k tables. tables.items ≡ cut_tables (g.S.Sorter.region l.sorter k) l.fn.next.tables.items)
-    (λ k cut. NodeFits (Next l.fn.next) → NodeCut (g.S.Sorter.region l.sorter k) (Next l.fn.next) cut) l.tables-iterator.rest.items l.cuts.items
+    (λ k cut. NodeFits (Next l.fn.next) → NodeCut (g.S.Sorter.region l.sorter k) (Next l.fn.next) cut)
+    l.tables-iterator.rest.items l.cuts.items

@@ -5,7 +5,8 @@ use Rattle.state_split.proofs.nodes.cut_or.Goals as goal
 pub loop-lefts-init : goal.loop-lefts-init
 loop-lefts-init g c =
     build_none _ _ _ c.in_ok-pairs.pairs.items _ _ c.in_ok-cuts.ensures.items (search rules)
-    (each_paired _ _ _ c.in_ok-lefts.lefts.items c.in_ok-rights.rights.items c.in_ok-pairs.pairs.items c.in_ok-lefts.ensures
+    (each_paired _ _ _ c.in_ok-lefts.lefts.items c.in_ok-rights.rights.items c.in_ok-pairs.pairs.items
+    c.in_ok-lefts.ensures
     c.in_ok-rights.ensures c.in_ok-pairs.ensures)
 
 pub loop-lefts-preserved : goal.loop-lefts-preserved

@@ -10,4 +10,5 @@ invariant-loop-lefts g l =
     Building (g.S.Sorter.count l.sorter)
     (λ k e. (e.0.items ≡ cut_tables (g.S.Sorter.region l.sorter k) l.fn.or.lefts.items)
     × (e.1.items ≡ cut_tables (g.S.Sorter.region l.sorter k) l.fn.or.rights.items))
-    (λ k cut. NodeFits (Or l.fn.or) → NodeCut (g.S.Sorter.region l.sorter k) (Or l.fn.or) cut) l.lefts-iterator.rest.items l.cuts.items
+    (λ k cut. NodeFits (Or l.fn.or) → NodeCut (g.S.Sorter.region l.sorter k) (Or l.fn.or) cut)
+    l.lefts-iterator.rest.items l.cuts.items

@@ -17,7 +17,8 @@ loop-rows-init g c =
 
 pub table_over-requires : goal.table_over-requires
 table_over-requires g c =
-    kept_table (g.S.Sorter.region c.args.sorter.now (length c.loop-rows.cuts.items)) c.args.table c.into_rows.ensures.is_table
+    kept_table (g.S.Sorter.region c.args.sorter.now (length c.loop-rows.cuts.items)) c.args.table
+    c.into_rows.ensures.is_table
     c.deref-in-loop-rows.result.now c.in-Some.rows.items
     (c.deref-in-loop-rows.ensures.value ∙ c.in_ok-columns.ensures.items ∙ c.columns.ensures.columns)
     (first_waits _ _ _ c.in-Some.rows _ _ _ c.in-Some.ensures.steps.0 c.loop-rows.invariant)
@@ -26,7 +27,8 @@ pub loop-rows-preserved : goal.loop-rows-preserved
 loop-rows-preserved g c =
     build_more _ _ _ c.in-Some.rows _ _ c.in_ok-table_over.field-0 _ _ c.in-Some.ensures.steps.0
     c.in_ok-push.ensures.items
-    (λ waits. kept_is_cut (g.S.Sorter.region c.args.sorter.now (length c.loop-rows.cuts.items)) c.args.table c.into_rows.ensures.is_table c.deref-in-loop-rows.result.now
+    (λ waits. kept_is_cut (g.S.Sorter.region c.args.sorter.now (length c.loop-rows.cuts.items)) c.args.table
+    c.into_rows.ensures.is_table c.deref-in-loop-rows.result.now
     c.in-Some.rows.items
     (c.deref-in-loop-rows.ensures.value ∙ c.in_ok-columns.ensures.items ∙ c.columns.ensures.columns) waits
     c.in_ok-table_over.field-0 c.in_ok-table_over.ensures) c.loop-rows.invariant

@@ -28,5 +28,6 @@ loop-tables-init g c =
 pub loop-tables-preserved : goal.loop-tables-preserved
 loop-tables-preserved g c =
     build_more _ _ _ _ _ _ c.in_ok-since_over.field-0 _ _ c.in-Some.ensures.steps.0 c.in_ok-push.ensures.items
-    (λ waits fits. since_is_cut (g.S.Sorter.region c.args.sorter.now (length c.loop-tables.cuts.items)) c.args.since _ _ c.in_ok-since_over.field-0 c.in_ok-since_over.ensures
+    (λ waits fits. since_is_cut (g.S.Sorter.region c.args.sorter.now (length c.loop-tables.cuts.items))
+    c.args.since _ _ c.in_ok-since_over.field-0 c.in_ok-since_over.ensures
     c.deref-in-loop-tables.ensures.value refl waits.0 waits.1 waits.2 fits) c.loop-tables.invariant

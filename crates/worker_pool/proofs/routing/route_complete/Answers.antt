@@ -96,7 +96,8 @@ returns-in-Ok-End-clause-ok g c =
 
 pub returns-in-Ok-End-clause-suits : goal.returns-in-Ok-End-clause-suits
 returns-in-Ok-End-clause-suits g c =
-    suits_drained c.drain-in-Ok-End.result _ _ _ _ _ _ c.points.schedule (under c.requires.under_way c.points.invariant.so_far)
+    suits_drained c.drain-in-Ok-End.result _ _ _ _ _ _ c.points.schedule
+    (under c.requires.under_way c.points.invariant.so_far)
     c.drain-in-Ok-End.ensures.ok c.points.invariant.suits
 
 pub returns-in-Ok-End-clause-front : goal.returns-in-Ok-End-clause-front

@@ -27,6 +27,7 @@ returns c =
       _,
       outs.given,
       takes_slice c.args.self.now _ c.in-Active.monitor c.step.new.self c.in-Active.strategy c.args.generation
-          c.args.number c.args.point tables (all_settled state c.given-first.result tables) c.in-Active.is refl refl refl
+          c.args.number c.args.point tables (all_settled state c.given-first.result tables) c.in-Active.is
+          refl refl refl
           e.core e.first e.steps (ap (λ i. all_settled state i tables) c.given-first.ensures) outs.tables,
     )
