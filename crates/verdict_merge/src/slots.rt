@@ -50,7 +50,20 @@ pub(crate) fn put(
         return Ok(());
     }
     fill(slots, index)?;
-    slots.push_back(Some(Group::new(alloc, arrived)))?;
+    append(slots, alloc, arrived)?;
+    Ok(())
+}
+
+// Adds a slot of these Rows.
+fn append(
+    slots: &mut VecDeque<Option<Group>>,
+    alloc: Global,
+    arrived: Arrived,
+) -> Result<(), AllocError>
+    ensures { OnOk result (map held slots.new.items ≡ map held slots.old.items ++ (arrived ∷ []) ∷ []) }
+{
+    slots.reserve(1)?;
+    slots.push_back_reserved(Some(Group::new(alloc, arrived)));
     Ok(())
 }
 
@@ -72,6 +85,9 @@ fn fill(slots: &mut VecDeque<Option<Group>>, count: usize) -> Result<(), AllocEr
     ensures same { OnOk result ((a : Arrived) → put_in count a (map held slots.new.items)
         ≡ put_in count a (map held slots.old.items)) }
 {
+    if slots.len() == count {
+        return Ok(());
+    }
     slots.reserve(count - slots.len())?;
     for _ in slots.len()..count {
         slots.push_back(None)?;

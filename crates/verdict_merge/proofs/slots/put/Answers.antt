@@ -1,6 +1,6 @@
-use Rattle.std.proofs.Common.{◌∙◌, ◌<◌, ◌++◌, [], ◌∷◌, Some, length, map, sym, ap, arith}
+use Rattle.std.proofs.Common.{◌∙◌, ◌<◌, ◌++◌, [], ◌∷◌, length, map, sym, ap, arith}
 use Rattle.std.proofs.lemmas.Grind.{common_steps}
-use Rattle.std.proofs.lemmas.List.{length-map, map-append}
+use Rattle.std.proofs.lemmas.List.{length-map}
 use Rattle.verdict_merge.proofs.PutLemmas.{put_at, put_behind}
 use Rattle.verdict_merge.specs.Slots.{held}
 use Rattle.verdict_merge.proofs.slots.put.Goals as goal
@@ -15,7 +15,6 @@ returns-then-index-len c =
 pub returns : goal.returns
 returns c =
     let items = c.fill.new.slots.items in
-    ap (map held) c.in_ok-push_back.ensures.items ∙ map-append held items (Some c.new.result ∷ [])
-    ∙ ap (λ all. map held items ++ all ∷ []) c.new.ensures
+    c.in_ok-append.ensures
     ∙ sym (put_behind c.args.index c.args.arrived (map held items) (length-map items held ∙ c.in_ok-fill.ensures.len))
     ∙ c.in_ok-fill.ensures.same c.args.arrived
