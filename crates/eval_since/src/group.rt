@@ -60,8 +60,8 @@ fn first_time(alloc: Global, row: Row, x: u64, bounded: bool) -> Result<Held, Al
         ≡ cond (is_at (row_cmp row) v) (added bounded [] x) []) }
     ensures some { IfOk result (λ held. HaveTimes (held_times held)) }
 {
-    let mut times = Times::new(alloc);
-    times.add(x, bounded)?;
+    let mut times = Times::new();
+    times.add(alloc, x, bounded)?;
     Ok(Held::One(row, times))
 }
 
@@ -101,7 +101,7 @@ fn next_time(
         HaveTimes ((first, times) ∷ []) → HaveTimes (held_times held)) }
 {
     if first == row {
-        times.add(x, bounded)?;
+        times.add(alloc, x, bounded)?;
         return Ok(Held::One(first, times));
     }
     other_time(alloc, first, times, row, x, bounded)

@@ -81,8 +81,8 @@ impl Hashed {
             (added bounded (times_in self.old v) x) (times_in self.old v)) }
         ensures some { OnOk result (HaveTimes self.old → HaveTimes self.new) }
     {
-        let times = self.rows.entry(row)?.or_insert(Times::new(alloc));
-        times.add(x, bounded)?;
+        let times = self.rows.entry(row)?.or_insert(Times::new());
+        times.add(alloc, x, bounded)?;
         Ok(())
     }
 

@@ -33,7 +33,8 @@ pub fn grouped(
     let mut groups = Groups::new(alloc);
     for kept in rows {
         let key = part_of(alloc, right, left, kept.row.values())?;
-        groups.put(alloc, key, kept.row, Times::from_vec(kept.times))?;
+        let times = Times::from_vec(alloc, kept.times)?;
+        groups.put(alloc, key, kept.row, times)?;
     }
     Ok(groups)
 }

@@ -34,11 +34,11 @@ fn is_new(list: &ShortQueue<u64>, x: u64, bounded: bool) -> bool
 }
 
 impl Times {
-    pub fn new(alloc: Global) -> Self
+    pub fn new() -> Self
         ensures { result ≡ [] }
     {
         Times {
-            list: ShortQueue::new(alloc),
+            list: ShortQueue::new(),
         }
     }
 
@@ -49,12 +49,12 @@ impl Times {
     }
 
     /// Keeps one more time, which is no earlier than those kept.
-    pub fn add(&mut self, x: u64, bounded: bool) -> Result<(), AllocError>
+    pub fn add(&mut self, alloc: Global, x: u64, bounded: bool) -> Result<(), AllocError>
         requires { ArePast x self.old }
         ensures { OnOk result (self.new ≡ added bounded self.old x) }
     {
         if is_new(&self.list, x, bounded) {
-            self.list.push_back(x)?;
+            self.list.push_back(alloc, x)?;
         }
         Ok(())
     }
@@ -89,13 +89,12 @@ impl Times {
     }
 
     /// The times of a list, which ascend strictly.
-    pub fn from_vec(times: Vec<u64>) -> Self
+    pub fn from_vec(alloc: Global, times: Vec<u64>) -> Result<Self, AllocError>
         requires { IsStrictlyIncreasing times.items }
-        ensures { result ≡ times.items }
+        ensures { IfOk result (λ kept. kept ≡ times.items) }
     {
-        Times {
-            list: ShortQueue::from_vec(times),
-        }
+        let list = ShortQueue::from_vec(alloc, times)?;
+        Ok(Times { list })
     }
 
     pub fn into_vec(self, alloc: Global) -> Result<Vec<u64>, AllocError>
@@ -108,8 +107,7 @@ impl Times {
         ensures { IfOk result (λ copy. copy ≡ self.now) }
     {
         let times = self.list.to_vec(alloc)?;
-        Ok(Times {
-            list: ShortQueue::from_vec(times),
-        })
+        let list = ShortQueue::from_vec(alloc, times)?;
+        Ok(Times { list })
     }
 }

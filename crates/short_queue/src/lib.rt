@@ -7,64 +7,87 @@ use std::alloc::{AllocError, Global};
 use std::collections::VecDeque;
 use std::marker::Model;
 
-/// The first item stands in place, or where it has gone or there are many from the start, all stand in
-/// the deque.
+// Most queues have one item, which takes no memory beside the queue. A deque stays once there is one, so that a
+// queue that is emptied and filled again and again takes memory once.
+#[derive(Drop)]
+enum Held<T> {
+    Zero,
+    One(T),
+    Many(Box<VecDeque<T>>),
+}
+
+/// One item stands in place, in a word more than its own, and others take memory beside the queue.
 #[derive(Drop)]
 pub struct ShortQueue<T> {
-    first: Option<T>,
-    more: VecDeque<T>,
+    held: Held<T>,
 }
 
 impl<T> Model for ShortQueue<T> {
-    ghost use Rattle.std.specs.Prelude.{List, ◌++◌};
-    ghost use Rattle.std.specs.Option.{option_to_list};
+    ghost use Rattle.std.specs.Prelude.{List};
+    ghost use Rattle.short_queue.specs.HeldItems.{held_items};
 
     ghost Value = { List T };
 
-    ghost view = { λ q. option_to_list q.first ++ q.more.items };
+    ghost view = { λ q. held_items q.held };
+}
+
+// Two items, in a box.
+fn pair<T: Copy + Drop>(alloc: Global, first: T, second: T) -> Result<Box<VecDeque<T>>, AllocError>
+    ensures { IfOk result (λ items. items.value.items ≡ first ∷ second ∷ []) }
+{
+    let mut items = VecDeque::with_capacity(alloc, 2)?;
+    items.push_back(first)?;
+    items.push_back(second)?;
+    Ok(Box::new(alloc, items)?)
 }
 
 impl<T: Copy + Drop> ShortQueue<T> {
-    pub fn new(alloc: Global) -> Self
+    pub fn new() -> Self
         ensures { result ≡ [] }
     {
-        ShortQueue {
-            first: None,
-            more: VecDeque::new(alloc),
-        }
+        ShortQueue { held: Held::Zero }
     }
 
-    pub fn from_vec(items: Vec<T>) -> Self
-        ensures { result ≡ items.items }
+    /// The items of a list. More than one stay in the list's memory.
+    pub fn from_vec(alloc: Global, items: Vec<T>) -> Result<Self, AllocError>
+        ensures { IfOk result (λ queue. queue ≡ items.items) }
     {
-        ShortQueue {
-            first: None,
-            more: VecDeque::from_vec(items),
-        }
+        let held = match items.as_slice() {
+            [] => Held::Zero,
+            [item] => Held::One(*item),
+            _ => Held::Many(Box::new(alloc, VecDeque::from_vec(items))?),
+        };
+        Ok(ShortQueue { held })
     }
 
     pub fn len(&self) -> usize
         ensures { result ≡ length self.now }
     {
-        match self.first {
-            Some(_) => self.more.len() + 1,
-            None => self.more.len(),
+        match &self.held {
+            Held::Zero => 0,
+            Held::One(_) => 1,
+            Held::Many(items) => items.len(),
         }
     }
 
     pub fn is_empty(&self) -> bool
         ensures { result ≡ (length self.now == 0) }
     {
-        self.first.is_none() && self.more.is_empty()
+        match &self.held {
+            Held::Zero => true,
+            Held::One(_) => false,
+            Held::Many(items) => items.is_empty(),
+        }
     }
 
     /// The first item, if there is one.
     pub fn front(&self) -> Option<T>
         ensures { MatchOption result (self.now ≡ []) (λ item. self.now ≡ item ∷ drop 1 self.now) }
     {
-        match self.first {
-            Some(item) => Some(item),
-            None => self.more.front().copied(),
+        match &self.held {
+            Held::Zero => None,
+            Held::One(first) => Some(*first),
+            Held::Many(items) => items.front().copied(),
         }
     }
 
@@ -73,9 +96,10 @@ impl<T: Copy + Drop> ShortQueue<T> {
         ensures { MatchOption result (self.now ≡ []) (λ item.
             (0 < length self.now) × (item ≡ slice_index_or self.now (length self.now - 1) item)) }
     {
-        match self.more.back() {
-            Some(item) => Some(*item),
-            None => self.first,
+        match &self.held {
+            Held::Zero => None,
+            Held::One(last) => Some(*last),
+            Held::Many(items) => items.back().copied(),
         }
     }
 
@@ -83,28 +107,23 @@ impl<T: Copy + Drop> ShortQueue<T> {
         requires { place < length self.now }
         ensures { result ≡ slice_index_or self.now place result }
     {
-        match self.first {
-            Some(item) => {
-                if place == 0 {
-                    item
-                } else {
-                    self.more[place - 1]
-                }
-            }
-            None => self.more[place],
+        match &self.held {
+            Held::Zero => unreachable!(),
+            Held::One(item) => *item,
+            Held::Many(items) => items[place],
         }
     }
 
     /// One item more, behind the others.
-    pub fn push_back(&mut self, item: T) -> Result<(), AllocError>
+    pub fn push_back(&mut self, alloc: Global, item: T) -> Result<(), AllocError>
         ensures items { OnOk result (self.new ≡ self.old ++ item ∷ []) }
         ensures err { OnErr result (self.new ≡ self.old) }
     {
-        if self.is_empty() {
-            self.first = Some(item);
-            return Ok(());
+        match &mut self.held {
+            Held::Zero => self.held = Held::One(item),
+            Held::One(first) => self.held = Held::Many(pair(alloc, *first, item)?),
+            Held::Many(items) => items.push_back(item)?,
         }
-        self.more.push_back(item)?;
         Ok(())
     }
 
@@ -112,10 +131,10 @@ impl<T: Copy + Drop> ShortQueue<T> {
     pub fn pop_front(&mut self)
         ensures rest { self.new ≡ drop 1 self.old }
     {
-        if self.first.is_some() {
-            self.first = None;
+        if let Held::Many(items) = &mut self.held {
+            items.pop_front();
         } else {
-            self.more.pop_front();
+            self.held = Held::Zero;
         }
     }
 

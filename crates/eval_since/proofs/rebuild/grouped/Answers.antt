@@ -18,7 +18,7 @@ loop-kept-preserved c =
           put_more c.args.right.now c.args.left.now c.in-Some.kept c.next.new.self.rest.items c.in_ok-key.key q v
           (times_at c.put.new.self q v) (times_at c.loop-kept.groups q v)
           (c.in_ok-key.ensures ∙ ap (part c.args.right.now c.args.left.now) c.values.ensures)
-          (rw c.from_vec.ensures at (c.in_ok-put.ensures.times q v))
+          (rw c.in_ok-times.ensures at (c.in_ok-put.ensures.times q v))
           ∙ sym (ap (λ ks. put_times c.args.right.now c.args.left.now (times_kept ks) q v
           (times_at c.loop-kept.groups q v)) rest)
           ∙ c.loop-kept.invariant.put q v;
@@ -26,7 +26,7 @@ loop-kept-preserved c =
           let before = c.loop-kept.invariant.some all in
           let each = subst (AllByRecursion (λ (k : KeptRow). 0 < length k.times.items)) rest before.0 in (
             each.1,
-            c.in_ok-put.ensures.some (subst (λ (ts : List ℕ). 0 < length ts) (sym c.from_vec.ensures) each.0)
+            c.in_ok-put.ensures.some (subst (λ (ts : List ℕ). 0 < length ts) (sym c.in_ok-times.ensures) each.0)
                 before.1,
           );
     }
