@@ -1,5 +1,7 @@
 //! PREVIOUS over tables that are pushed position by position.
-ghost use Rattle.std.specs.Prelude.{◌≡◌, ◌+◌, ◌-◌, ◌<◌, ◌^◌, ◌∷◌, ◌++◌, ◌&&◌, [], Bool, IfOk, IfSome, IsTrue, List, MatchOption, None, OnOk, OnErr, Some, cond, is_some, length, nat_eq, nat_lt, ℕ, ◌↔◌};
+ghost use Rattle.std.specs.Prelude.{◌≡◌, ◌+◌, ◌-◌, ◌<◌, ◌^◌, ◌∷◌, ◌++◌, ◌&&◌, [], Bool, IfOk, IfSome, IsTrue};
+ghost use Rattle.std.specs.Prelude.{List, MatchOption, None, OnOk, OnErr, Some, cond, is_some, length};
+ghost use Rattle.std.specs.Prelude.{nat_eq, nat_lt, ℕ, ◌↔◌};
 ghost use Rattle.mfotl_model.specs.Satisfaction.{Valuation, previous, time_at, truth_at};
 ghost use Rattle.mfotl_model.specs.Tables.{all_apart, has};
 ghost use Rattle.eval_since.specs.PreviousData.{PreviousRule, previous_of};
@@ -32,16 +34,34 @@ impl Model for PrevState {
 
     ghost Value = { PrevOf };
 
-    ghost view = { λ s. record { interval = s.interval; columns = s.columns.items; pulled = s.pulled; last = s.last; times = s.times.items; tables = s.tables.items } };
+    ghost view = { λ s. record {
+      interval = s.interval;
+      columns = s.columns.items;
+      pulled = s.pulled;
+      last = s.last;
+      times = s.times.items;
+      tables = s.tables.items;
+    } };
 
-    ghost invariant = { λ s. record { few : s.pulled + length s.times.items ≤ 2 ^ 63; apart : all_apart s.columns.items ≡ true; over : AreOver s.columns.items s.tables.items } };
+    ghost invariant = { λ s. record {
+      few : s.pulled + length s.times.items ≤ 2 ^ 63;
+      apart : all_apart s.columns.items ≡ true;
+      over : AreOver s.columns.items s.tables.items;
+    } };
 }
 
 impl PrevState {
     /// The state before the first position, for an operand over these columns.
     pub fn new(alloc: Global, interval: &Interval, columns: &[u32]) -> Result<Self, AllocError>
         requires apart { IsTrue (all_apart columns.now) }
-        ensures state { IfOk result (λ state. state ≡ record { interval = interval.now; columns = columns.now; pulled = 0; last = 0; times = []; tables = [] }) }
+        ensures state { IfOk result (λ state. state ≡ record {
+          interval = interval.now;
+          columns = columns.now;
+          pulled = 0;
+          last = 0;
+          times = [];
+          tables = [];
+        }) }
         ensures follows { IfOk result (λ state.
             (t : List ℕ) (a : List Bool) (v : Valuation) → FollowsPrevious state t a v) }
     {

@@ -1,5 +1,7 @@
 //! SINCE over tables that are pushed position by position.
-ghost use Rattle.std.specs.Prelude.{◌≡◌, ◌+◌, ◌-◌, ◌<◌, ◌≤◌, ◌^◌, ◌∷◌, ◌++◌, [], Bool, IfOk, IfSome, IsTrue, List, MatchOption, None, OnOk, Some, ◌&&◌, ◌||◌, cond, drop, is_some, length, map, nat_eq, nat_le, nat_lt, ℕ, ◌↔◌};
+ghost use Rattle.std.specs.Prelude.{◌≡◌, ◌+◌, ◌-◌, ◌<◌, ◌≤◌, ◌^◌, ◌∷◌, ◌++◌, [], Bool, IfOk, IfSome, IsTrue};
+ghost use Rattle.std.specs.Prelude.{List, MatchOption, None, OnOk, Some, ◌&&◌, ◌||◌, cond, drop, is_some};
+ghost use Rattle.std.specs.Prelude.{length, map, nat_eq, nat_le, nat_lt, ℕ, ◌↔◌};
 ghost use Rattle.mfotl_model.specs.Satisfaction.{Valuation, since, time_at, truth_at};
 ghost use Rattle.mfotl_model.specs.Tables.{all_among, all_apart, has, valuation};
 ghost use Rattle.mfotl_model.specs.declared.value.Value.{Value};
@@ -44,9 +46,24 @@ impl Model for SinceState {
 
     ghost Value = { SinceOf };
 
-    ghost view = { λ s. record { window = s.window; negated = s.negated; pulled = s.pulled; newest = s.newest; times = s.times.items; lefts = s.lefts.items; rights = s.rights.items } };
+    ghost view = { λ s. record {
+      window = s.window;
+      negated = s.negated;
+      pulled = s.pulled;
+      newest = s.newest;
+      times = s.times.items;
+      lefts = s.lefts.items;
+      rights = s.rights.items;
+    } };
 
-    ghost invariant = { λ s. record { climbs : Climbs s.window.last s.times.items s.newest; few : s.pulled + length s.times.items ≤ 2 ^ 63; inside : all_among s.window.left s.window.right ≡ true; over_left : AreOver s.window.left s.lefts.items; over : AreOver s.window.right s.rights.items; begins : s.pulled ≡ 0 → IsBlank s.window.groups } };
+    ghost invariant = { λ s. record {
+      climbs : Climbs s.window.last s.times.items s.newest;
+      few : s.pulled + length s.times.items ≤ 2 ^ 63;
+      inside : all_among s.window.left s.window.right ≡ true;
+      over_left : AreOver s.window.left s.lefts.items;
+      over : AreOver s.window.right s.rights.items;
+      begins : s.pulled ≡ 0 → IsBlank s.window.groups;
+    } };
 }
 
 impl SinceState {
@@ -60,7 +77,22 @@ impl SinceState {
     ) -> Result<Self, AllocError>
         requires apart { IsTrue (all_apart right.now) }
         requires inside { IsTrue (all_among left.now right.now) }
-        ensures state { IfOk result (λ state. state ≡ record { window = record { interval = interval.now; left = left.now; right = right.now; keys = grouping left.now []; last = 0; groups = [] }; negated = negated; pulled = 0; newest = 0; times = []; lefts = []; rights = [] }) }
+        ensures state { IfOk result (λ state. state ≡ record {
+          window = record {
+            interval = interval.now;
+            left = left.now;
+            right = right.now;
+            keys = grouping left.now [];
+            last = 0;
+            groups = [];
+          };
+          negated = negated;
+          pulled = 0;
+          newest = 0;
+          times = [];
+          lefts = [];
+          rights = [];
+        }) }
         ensures follows { IfOk result (λ state.
             (t : List ℕ) (a b : List Bool) (v : Valuation) → Follows state t a b v) }
     {
@@ -79,7 +111,22 @@ impl SinceState {
     ) -> Result<Self, AllocError>
         requires apart { IsTrue (all_apart right.now) }
         requires inside { IsTrue (all_among left.now right.now) }
-        ensures state { IfOk result (λ state. state ≡ record { window = record { interval = interval.now; left = left.now; right = right.now; keys = grouping left.now keys.now; last = 0; groups = [] }; negated = negated; pulled = 0; newest = 0; times = []; lefts = []; rights = [] }) }
+        ensures state { IfOk result (λ state. state ≡ record {
+          window = record {
+            interval = interval.now;
+            left = left.now;
+            right = right.now;
+            keys = grouping left.now keys.now;
+            last = 0;
+            groups = [];
+          };
+          negated = negated;
+          pulled = 0;
+          newest = 0;
+          times = [];
+          lefts = [];
+          rights = [];
+        }) }
         ensures follows { IfOk result (λ state.
             (t : List ℕ) (a b : List Bool) (v : Valuation) → Follows state t a b v) }
     {
@@ -111,8 +158,14 @@ impl SinceState {
     ) -> Result<Self, AllocError>
         requires apart { IsTrue (all_apart right.now) }
         requires inside { IsTrue (all_among left.now right.now) }
-        requires rule { KeepsRule (record { interval = interval.now; left = left.now; right = right.now; negated = negated }) last times.now kept }
-        ensures setting { IfOk result (λ state. setting_of state ≡ record { interval = interval.now; left = left.now; right = right.now; negated = negated }) }
+        requires rule { KeepsRule (record {
+          interval = interval.now;
+          left = left.now;
+          right = right.now;
+          negated = negated;
+        }) last times.now kept }
+        ensures setting { IfOk result (λ state. setting_of state
+            ≡ record { interval = interval.now; left = left.now; right = right.now; negated = negated }) }
         ensures pulled { IfOk result (λ state. state.pulled ≡ kept.pulled) }
         ensures last { IfOk result (λ state. state.window.last ≡ last) }
         ensures newest { IfOk result (λ state. state.newest ≡ newest_of last times.now) }
@@ -123,7 +176,12 @@ impl SinceState {
             kept_times state.window u ≡ times_for kept.rows.items u) }
         ensures follows { IfOk result (λ state.
             (t : List ℕ) (a b : List Bool) (v : Valuation) →
-            FollowsData (record { interval = interval.now; left = left.now; right = right.now; negated = negated }) last times.now kept t a b v →
+            FollowsData (record {
+              interval = interval.now;
+              left = left.now;
+              right = right.now;
+              negated = negated;
+            }) last times.now kept t a b v →
             Follows state t a b v) }
     {
         let fresh = SinceState::new(alloc, interval, left, right, negated)?;

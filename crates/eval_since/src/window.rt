@@ -1,6 +1,7 @@
 //! The window of SINCE: for each row the times at which the right operand held of it and from which
 //! the left one has held on.
-ghost use Rattle.std.specs.Prelude.{◌≡◌, ◌||◌, ◌&&◌, ◌-◌, ◌≤◌, [], ℕ, if◌then◌else◌, is_ok, IfOk, IfSome, IsTrue, List, None, OnErr, OnOk, length, map};
+ghost use Rattle.std.specs.Prelude.{◌≡◌, ◌||◌, ◌&&◌, ◌-◌, ◌≤◌, [], ℕ, if◌then◌else◌, is_ok, IfOk, IfSome};
+ghost use Rattle.std.specs.Prelude.{IsTrue, List, None, OnErr, OnOk, length, map};
 ghost use Rattle.std.specs.List.{AllByRecursion};
 ghost use Rattle.mfotl_model.specs.Intervals.{in_interval};
 ghost use Rattle.mfotl_model.specs.Tables.{all_apart, all_sized, has_row, part};
@@ -41,9 +42,17 @@ impl Model for Window {
     ghost use Rattle.eval_since.specs.LeftOperand.{grouping};
     ghost use Rattle.eval_since.specs.Windows.{Keeps};
 
-    ghost view = { λ k. record { interval = k.interval; left = k.left.items; right = k.right.items; keys = grouping k.left.items k.keys.items; last = k.last; groups = k.contents.groups } };
+    ghost view = { λ k. record {
+      interval = k.interval;
+      left = k.left.items;
+      right = k.right.items;
+      keys = grouping k.left.items k.keys.items;
+      last = k.last;
+      groups = k.contents.groups;
+    } };
 
-    ghost invariant = { λ k. Keeps k.interval.hi k.right.items (grouping k.left.items k.keys.items) k.last k.contents.groups k.contents.dated.items };
+    ghost invariant = { λ k. Keeps k.interval.hi k.right.items (grouping k.left.items k.keys.items) k.last
+        k.contents.groups k.contents.dated.items };
 }
 
 impl Window {
@@ -56,7 +65,14 @@ impl Window {
         keys: Vec<u32>,
     ) -> Self
         requires apart { IsTrue (all_apart right.items) }
-        ensures state { result ≡ record { interval = interval; left = left.items; right = right.items; keys = grouping left.items keys.items; last = 0; groups = [] } }
+        ensures state { result ≡ record {
+          interval = interval;
+          left = left.items;
+          right = right.items;
+          keys = grouping left.items keys.items;
+          last = 0;
+          groups = [];
+        } }
     {
         Window {
             interval,

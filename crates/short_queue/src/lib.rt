@@ -1,7 +1,8 @@
 //! A queue that keeps one item in place, and takes memory only for more.
 #![tactic(auto)]
 
-ghost use Rattle.std.specs.Prelude.{◌≡◌, ◌==◌, ◌-◌, ◌<◌, ◌∷◌, ◌++◌, [], IfOk, OnErr, OnOk, MatchOption, drop, length, slice_index_or};
+ghost use Rattle.std.specs.Prelude.{◌≡◌, ◌==◌, ◌-◌, ◌<◌, ◌∷◌, ◌++◌, [], IfOk, OnErr, OnOk, MatchOption, drop};
+ghost use Rattle.std.specs.Prelude.{length, slice_index_or};
 
 use std::alloc::{AllocError, Global};
 use std::collections::VecDeque;
