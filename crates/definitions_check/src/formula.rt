@@ -4,7 +4,8 @@ ghost use Rattle.std.specs.Fmt.{decimal};
 ghost use Rattle.mfotl_model.specs.Formulas.{form};
 ghost use Rattle.definitions_check.specs.Operators.{word_of};
 ghost use Rattle.definitions_check.specs.Values.{spelled_term};
-ghost use Rattle.definitions_check.specs.Spelling.{spelled, spelled_atom, spelled_comparison, spelled_interval, upper_word};
+ghost use Rattle.definitions_check.specs.Spelling.{spelled, spelled_atom, spelled_comparison};
+ghost use Rattle.definitions_check.specs.Spelling.{spelled_interval, upper_word};
 
 use crate::fault::CaseFault;
 use crate::operator::{Operator, operator_of, sign_of};

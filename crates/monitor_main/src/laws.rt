@@ -1,7 +1,8 @@
 //! Laws of the definitions, each the contract of a function.
 ghost use Rattle.monitor_main.specs.AnswerLaws.{CheckAccepts, StrategiesAgree};
 ghost use Rattle.monitor_main.specs.TextLaw.{VerdictsGrow};
-ghost use Rattle.monitor_main.specs.WorkedAnswers.{ColumnsInFull, LimitsInFull, StatusNumbers, ThreadsByDefault, VerdictStatuses};
+ghost use Rattle.monitor_main.specs.WorkedAnswers.{ColumnsInFull, LimitsInFull, StatusNumbers};
+ghost use Rattle.monitor_main.specs.WorkedAnswers.{ThreadsByDefault, VerdictStatuses};
 ghost use Rattle.monitor_main.specs.WordsLaw.{CheckIsTaken, DemoIsTaken, GreatestSeedIsTaken, InputIsNotShared};
 ghost use Rattle.monitor_main.specs.WordsLaw.{OptionsMayBeLeftOut, RunIsTaken, SeedsHaveAnEnd};
 

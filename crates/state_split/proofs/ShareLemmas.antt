@@ -241,7 +241,7 @@ module _ {V X : Type 0} (h : V → List X) (x : X) (test : ℕ → Bool) where
       ∙ given_next x test k next (map h old) (h v) (omega (arith, low, size)) up is none
 
 -- without items
-pub told_nothing : {V K X : Type 0} (items : V → List K) (told : K → X) (P : ℕ → List X → Type 0) 
+pub told_nothing : {V K X : Type 0} (items : V → List K) (told : K → X) (P : ℕ → List X → Type 0)
     (y n : ℕ) (vs : List V)
     → map items vs ≡ replicate n [] → ((k : ℕ) → P k []) → StandFrom P y (map (λ v. map told (items v)) vs)
 told_nothing items told P y n [] e all = tt

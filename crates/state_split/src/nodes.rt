@@ -1,7 +1,8 @@
 //! Nodes cut for workers, one by one: each worker gets the rows in its region.
 ghost use Rattle.std.specs.Prelude.{IfOk};
 ghost use Rattle.monitor_state.specs.StateCuts.{NodesCut};
-ghost use Rattle.monitor_state.specs.declared.state.NodeData.TheVariants.{Bare, Join, Or, Previous, Next, Window, Filter};
+ghost use Rattle.monitor_state.specs.declared.state.NodeData.TheVariants.{Bare, Join, Or, Previous, Next};
+ghost use Rattle.monitor_state.specs.declared.state.NodeData.TheVariants.{Window, Filter};
 ghost use Rattle.state_split.specs.Fits.{CutNodes, NodesFit};
 ghost use Rattle.state_split.specs.Shares.{OneEach};
 

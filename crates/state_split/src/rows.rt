@@ -45,7 +45,8 @@ pub(crate) fn dealt_rows<S: Sorter, K: Kept>(
 ) -> Result<Vec<Vec<K>>, AllocError>
     requires { S.tells sorter.now }
     ensures { IfOk result (λ shares. OneEach (S.count sorter.now) (λ k share. map K.told share.items
-        ≡ filter (λ e. is_kept (S.region sorter.now k) columns.now (K.row_of e)) (map K.told rows.items)) shares.items) }
+        ≡ filter (λ e. is_kept (S.region sorter.now k) columns.now (K.row_of e)) (map K.told rows.items))
+        shares.items) }
 {
     let workers = sorter.workers();
     let mut shares = empty_shares(alloc, workers)?;

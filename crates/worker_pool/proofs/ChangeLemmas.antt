@@ -212,7 +212,7 @@ may_point {p} n changes adds r =
       w.world,
       w.stands,
       subst (λ ps. MayFollow ps p)
-      (sym (points_are w ∙ points_with r.1 (changes_due n changes) (points_due n changes))) r.4,
+          (sym (points_are w ∙ points_with r.1 (changes_due n changes) (points_due n changes))) r.4,
     )
 
 pub point_adds : {d e f : Driver} {a b : Option (List ℕ)} {t u : Tally} {p : TimePoint} (n : ℕ) (changes : List Change)

@@ -8,7 +8,7 @@ use Rattle.state_split.proofs.rows.hand_out.Given as goal
 abbrev pub invariant-loop-next : goal.invariant-loop-next
 invariant-loop-next g l =
     let test : ℕ → Bool = λ k. is_kept (g.S.Sorter.region l.sorter k) l.columns
-        (g.K.Kept.row_of (g.K.Kept.told l.kept)) in
+    (g.K.Kept.row_of (g.K.Kept.told l.kept)) in
     record {
       below : l.last < g.S.Sorter.count l.sorter;
       goes : test l.last ≡ true;
