@@ -19,7 +19,7 @@ use Rattle.log_reader.specs.Cursors.{IsCounted, Leads}
 use Rattle.log_reader.specs.Groups.{may_open, TakesPlain, LeadsOn, IsOpen, IsReady, closed_with, with_group}
 use Rattle.log_reader.specs.Groups.{ReadsValues, ReadsGroup}
 use Rattle.log_reader.specs.Partials.{Partial}
-use Rattle.log_reader.specs.Quick.{IsInteger, is_value_due, TakesFront, StepsMark}
+use Rattle.log_reader.specs.Quick.{IsInteger, is_value_due, TakesFront, TakesStamp, StepsMark}
 use Rattle.log_reader.specs.Readings.{run, behind_tokens}
 use Rattle.log_reader.specs.Steps.{step, stepped, valued, closed}
 use Rattle.log_reader.specs.Stretches.{place_in}
@@ -329,3 +329,11 @@ takes_group limits from looked ended at p q found row behind reads is ready afte
     let r = subst (λ (f : Option (List Value × ℕ)). IfSome f (λ x. ReadsGroup from looked ended p.sorts at x.0 x.1)) is
     reads in
     (rw after (r.0 limits p ready), r.1)
+
+-- a timestamp in front leads behind it
+pub stamp_leads : (from : ℕ) (looked : List ℕ) (ended : Bool) (at n : ℕ) (p q : Partial) (rest : List ℕ)
+    → at ≤ length looked → IsCounted p → rest ≡ drop at looked → TakesStamp p (from + at) rest (Some n) q
+    → (sig : List PredOf) (limits : Limits) → Leads sig limits from looked ended at p [] (at + n) q × (at < at + n)
+stamp_leads from looked ended at n p q rest le c is takes sig limits =
+    front_leads from looked ended sig limits at p le c n q
+    (subst (λ (r : List ℕ). TakesFront sig limits p (from + at) r n q) is (takes sig limits))

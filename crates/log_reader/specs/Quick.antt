@@ -143,6 +143,7 @@ TakesStraight sig limits p at bytes (Err fault) q = HaltsFrontBy sig limits p at
 abbrev pub TakesWord : List PredOf → Partial → ℕ → List ℕ → Result Straight LogFault → Partial → Type 0
 TakesWord sig p at bytes result q = (limits : Limits) → TakesStraight sig limits p at bytes result q
 
--- the same whatever the signature and the limits
-abbrev pub TakesNumber : Partial → ℕ → List ℕ → Result Straight LogFault → Partial → Type 0
-TakesNumber p at bytes result q = (sig : List PredOf) → TakesWord sig p at bytes result q
+-- a timestamp of n bytes was taken, whatever the signature and the limits, or nothing was
+abbrev pub TakesStamp : Partial → ℕ → List ℕ → Option ℕ → Partial → Type 0
+TakesStamp p at bytes (Some n) q = (sig : List PredOf) (limits : Limits) → TakesFront sig limits p at bytes n q
+TakesStamp p at bytes None q = q ≡ p

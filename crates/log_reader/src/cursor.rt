@@ -1,10 +1,12 @@
 //! The walk over a log's tokens, up to a whole time-point or a fault.
-ghost use Rattle.std.specs.Prelude.{◌≡◌, ◌+◌, ◌<◌, ◌≤◌, ◌^◌, false, length, Ok, OnOk};
+ghost use Rattle.std.specs.Prelude.{◌≡◌, ◌+◌, ◌<◌, ◌≤◌, ◌^◌, [], List, false, length, Ok, OnOk};
 ghost use Rattle.mfotl_lex.specs.Lexemes.{lexeme};
+ghost use Rattle.log_reader.specs.declared.limits.Limits.{Limits as LimitsOf};
+ghost use Rattle.mfotl_sig.specs.Preds.{PredOf};
 ghost use Rattle.log_reader.specs.declared.next.Next.TheVariants.{More};
 ghost use Rattle.log_reader.specs.Partials.{blank};
 ghost use Rattle.log_reader.specs.Soundness.{IsWithin, AnswersDue, StandsOn, is_wanting, CountsOn};
-ghost use Rattle.log_reader.specs.Cursors.{StepsOver, TakesToken, Advances, IsCounted, given_of};
+ghost use Rattle.log_reader.specs.Cursors.{StepsOver, TakesToken, Advances, IsCounted, Leads, given_of};
 ghost use Rattle.log_reader.specs.Groups.{LeadsOn};
 ghost use Rattle.log_reader.specs.Stretches.{Waits, place_in};
 ghost use Rattle.log_reader.specs.Tokens.{Finds};
@@ -176,6 +178,24 @@ impl<'a> Cursor<'a> {
         }
     }
 
+    // Takes a timestamp straight from the bytes, if it stands there behind an `@`.
+    fn take_stamp(&mut self, look: Look<'_>)
+        requires within { self.old.at ≤ length look.bytes.now }
+        requires small { look.from + length look.bytes.now < 2 ^ 63 }
+        requires counted { IsCounted self.old.partial }
+        ensures leads { (sig : List PredOf) (limits : LimitsOf) → Leads sig limits look.entry.from look.entry.bytes.now
+            look.entry.ended self.old.at self.old.partial [] self.new.at self.new.partial }
+        ensures within { self.new.at ≤ length look.entry.bytes.now }
+        ensures counted { IsCounted self.new.partial }
+        ensures further { self.old.at ≤ self.new.at }
+    {
+        let (_, rest) = look.bytes.split_at(self.at);
+        match self.partial.take_stamp(look.from + self.at, rest) {
+            Some(count) => self.at += count,
+            None => {}
+        }
+    }
+
     // Takes groups straight from the bytes, as long as they stand there.
     #[tactic(auto, using(crate::proofs::GroupLemmas::lead_stay, crate::proofs::GroupLemmas::lead_further))]
     fn take_groups(
@@ -213,7 +233,10 @@ impl<'a> Cursor<'a> {
     {
         loop {
             match self.take_token(alloc, look, sig, limits) {
-                Ok(TokenStep::Took) => self.take_groups(alloc, look, limits)?,
+                Ok(TokenStep::Took) => {
+                    self.take_stamp(look);
+                    self.take_groups(alloc, look, limits)?;
+                }
                 Ok(TokenStep::Completed(point)) => return Ok(Some(point)),
                 Ok(TokenStep::Empty) => return Ok(None),
                 Err(fault) => return Err(fault),

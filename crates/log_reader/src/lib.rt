@@ -17,6 +17,7 @@ mod plain_tokens;
 mod reader;
 mod short_numbers;
 mod stage;
+mod stamps;
 mod stretch;
 mod values;
 

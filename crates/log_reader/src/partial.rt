@@ -1,9 +1,8 @@
 //! The part of a log's time-point that has been read, and what the next token does to it.
 ghost use Rattle.std.specs.Prelude.{◌≡◌, ◌++◌, ◌∷◌, [], true, OnOk, Ok};
 ghost use Rattle.mfotl_lex.specs.Lexemes.{lexeme};
-ghost use Rattle.log_reader.specs.declared.stage.Stage.TheVariants.{AfterAt};
 ghost use Rattle.log_reader.specs.Given.{Moves};
-ghost use Rattle.log_reader.specs.Quick.{TakesStraight, TakesInteger, TakesMark, TakesNumber, TakesWord};
+ghost use Rattle.log_reader.specs.Quick.{TakesStraight, TakesInteger, TakesMark, TakesWord};
 ghost use Rattle.log_reader.specs.Stages.{completes, is_whole};
 ghost use Rattle.log_reader.specs.Symbols.{symbol, written};
 ghost use Rattle.mfotl_sig.specs.Preds.{named};
@@ -13,7 +12,7 @@ use crate::grammar::{ends_point, is_whole, stage_behind};
 use crate::limits::Limits;
 use crate::next::Next;
 use crate::plain_tokens::word_before;
-use crate::short_numbers::{integer_before, number_before};
+use crate::short_numbers::integer_before;
 use crate::stage::Stage;
 use crate::values::{timestamp_of, value_at};
 use mfotl_lex::Token;
@@ -111,9 +110,18 @@ impl<'a> Partial<'a> {
         }
         self.stage = Stage::AfterAt;
         self.points += 1;
-        self.events = Db::new(alloc);
+        self.forget_events(alloc);
         self.groups = 0;
         Ok(())
+    }
+
+    // Where there are none, nothing is to be done.
+    fn forget_events(&mut self, alloc: Global)
+        ensures { self.new ≡ record self.old { events = [] } }
+    {
+        if !self.events.is_empty() {
+            self.events = Db::new(alloc);
+        }
     }
 
     fn stamp(&mut self, at: u64, digits: &[u8]) -> Result<(), LogFault>
@@ -190,23 +198,12 @@ impl<'a> Partial<'a> {
         ensures { TakesStraight sig.now limits.now self.old at bytes.now result self.new }
     {
         match self.stage {
-            Stage::AfterAt => Ok(self.take_stamp(at, bytes)),
+            Stage::AfterAt => Ok(match self.take_stamp(at, bytes) {
+                Some(count) => Straight::Took(count),
+                None => Straight::Nothing,
+            }),
             Stage::AfterOpen | Stage::AfterComma => Ok(self.take_integer(alloc, bytes)?),
             _ => self.take_marked(alloc, sig, limits, at, bytes),
-        }
-    }
-
-    fn take_stamp(&mut self, at: usize, bytes: &[u8]) -> Straight
-        requires { self.old.stage ≡ AfterAt }
-        ensures { TakesNumber self.old at bytes.now (Ok result) self.new }
-    {
-        match number_before(bytes) {
-            Some((time, count)) if time >= self.time => {
-                self.stage = Stage::AfterStamp;
-                self.time = time;
-                Straight::Took(count)
-            }
-            _ => Straight::Nothing,
         }
     }
 
