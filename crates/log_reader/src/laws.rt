@@ -2,7 +2,8 @@
 
 ghost use Rattle.log_reader.specs.DemoPoints.{DemoSignatureIsAccepted, DemoLogIsAccepted};
 ghost use Rattle.log_reader.specs.Growth.{ShownStays};
-ghost use Rattle.log_reader.specs.Laws.{ReadIsSpelled, SpelledIsRead, OneAnswer, ExactSyntax, ExactFaults, PointsAreCompleted};
+ghost use Rattle.log_reader.specs.Laws.{ReadIsSpelled, SpelledIsRead, OneAnswer, ExactSyntax, ExactFaults};
+ghost use Rattle.log_reader.specs.Laws.{PointsAreCompleted};
 ghost use Rattle.log_reader.specs.WorkedTexts.{WorkedValues, WorkedFaults, WorkedFronts, WorkedPrints, WorkedDemo};
 
 /// A log that is read to its end spells its time-points, and keeps the rules.
