@@ -1,5 +1,6 @@
 //! What UNTIL has seen from the next position on.
-ghost use Rattle.std.specs.Prelude.{◌≡◌, ◌||◌, ◌&&◌, ◌+◌, ◌-◌, ◌∷◌, ◌++◌, ◌≤◌, ◌<◌, ◌^◌, [], ℕ, Bool, true, IfOk, IsTrue, List, OnOk, cond, if◌then◌else◌, is_ok, length, nat_le};
+ghost use Rattle.std.specs.Prelude.{◌≡◌, ◌||◌, ◌&&◌, ◌+◌, ◌-◌, ◌∷◌, ◌++◌, ◌≤◌, ◌<◌, ◌^◌, [], ℕ, Bool, true, List};
+ghost use Rattle.std.specs.Prelude.{IfOk, IsTrue, OnOk, cond, if◌then◌else◌, is_ok, length, nat_le};
 ghost use Rattle.std.specs.List.{AllByRecursion};
 ghost use Rattle.std.specs.List.Sorted.{IsStrictlySortedBy};
 ghost use Rattle.relations.specs.KeptRows.{RowsAscend};
@@ -45,9 +46,19 @@ impl Model for Ahead {
 
     ghost Value = { AheadOf };
 
-    ghost view = { λ k. record { interval = k.interval; left = k.left.items; right = k.right.items; negated = k.negated; pulled = k.pulled; taken = k.taken; starts = in_order k.contents.starts; rows = in_order k.contents.rows.entries } };
+    ghost view = { λ k. record {
+      interval = k.interval;
+      left = k.left.items;
+      right = k.right.items;
+      negated = k.negated;
+      pulled = k.pulled;
+      taken = k.taken;
+      starts = in_order k.contents.starts;
+      rows = in_order k.contents.rows.entries;
+    } };
 
-    ghost invariant = { λ k. Keeps k.negated k.right.items k.pulled k.taken k.contents.starts k.contents.rows.entries k.contents.queue.items };
+    ghost invariant = { λ k. Keeps k.negated k.right.items k.pulled k.taken k.contents.starts
+        k.contents.rows.entries k.contents.queue.items };
 }
 
 impl Ahead {
@@ -60,7 +71,16 @@ impl Ahead {
         negated: bool,
     ) -> Self
         requires apart { IsTrue (all_apart right.items) }
-        ensures { result ≡ record { interval = interval; left = left.items; right = right.items; negated = negated; pulled = 0; taken = 0; starts = []; rows = [] } }
+        ensures { result ≡ record {
+          interval = interval;
+          left = left.items;
+          right = right.items;
+          negated = negated;
+          pulled = 0;
+          taken = 0;
+          starts = [];
+          rows = [];
+        } }
     {
         Ahead {
             interval,
@@ -92,7 +112,16 @@ impl Ahead {
         requires ascend { Ascending rows.entries }
         requires below { StartsBelow taken starts.entries }
         requires above { negated ≡ true → StartsAbove pulled starts.entries }
-        ensures { IfOk result (λ ahead. ahead ≡ record { interval = interval; left = left.items; right = right.items; negated = negated; pulled = pulled; taken = taken; starts = starts.entries; rows = rows.entries }) }
+        ensures { IfOk result (λ ahead. ahead ≡ record {
+          interval = interval;
+          left = left.items;
+          right = right.items;
+          negated = negated;
+          pulled = pulled;
+          taken = taken;
+          starts = starts.entries;
+          rows = rows.entries;
+        }) }
     {
         let queue = queue_of(alloc, negated, &starts, &rows)?;
         let starts = hashed_starts(alloc, starts)?;

@@ -83,17 +83,23 @@ pub fn take_position(
     place: u64,
     ts: u64,
 ) -> Result<(), AllocError>
-    requires kept { Keeps negated right.now pulled place contents.old.starts contents.old.rows.entries contents.old.queue.items }
+    requires kept { Keeps negated right.now pulled place
+        contents.old.starts contents.old.rows.entries contents.old.queue.items }
     requires columns { rights.columns ≡ right.now }
     requires low { pulled ≤ place }
     requires few { place < 2 ^ 63 }
     ensures rows { OnOk result ((u : List Value) → entries_of contents.new.rows.entries u
-        ≡ cond (has_row rights.rows u) (entries_of contents.old.rows.entries u ++ record { place = place; start = start_of negated place contents.old.starts (part right.now left.now u); ts = ts } ∷ [])
+        ≡ cond (has_row rights.rows u) (entries_of contents.old.rows.entries u ++ record {
+          place = place;
+          start = start_of negated place contents.old.starts (part right.now left.now u);
+          ts = ts;
+        } ∷ [])
         (entries_of contents.old.rows.entries u)) }
     ensures starts { OnOk result ((w : List Value) → kept_start contents.new.starts w
         ≡ start_taken negated place lefts.rows contents.old.starts w) }
     ensures kept { OnOk result (
-        Keeps negated right.now pulled (place + 1) contents.new.starts contents.new.rows.entries contents.new.queue.items) }
+        Keeps negated right.now pulled (place + 1)
+        contents.new.starts contents.new.rows.entries contents.new.queue.items) }
 {
     let Contents {
         starts,

@@ -1,5 +1,6 @@
 //! The entries of one row, by ascending positions.
-ghost use Rattle.std.specs.Prelude.{◌≡◌, ◌==◌, ◌∷◌, ◌++◌, ◌||◌, ◌&&◌, ◌<◌, [], Bool, IfOk, IsTrue, List, OnOk, length, map, nat_eq, ℕ};
+ghost use Rattle.std.specs.Prelude.{◌≡◌, ◌==◌, ◌∷◌, ◌++◌, ◌||◌, ◌&&◌, ◌<◌, [], ℕ, Bool, List};
+ghost use Rattle.std.specs.Prelude.{IfOk, IsTrue, OnOk, length, map, nat_eq};
 ghost use Rattle.std.specs.List.{list_all, list_any};
 ghost use Rattle.mfotl_model.specs.Tables.{has_row};
 ghost use Rattle.mfotl_model.specs.declared.value.Value.{Value};
@@ -60,22 +61,21 @@ fn mark_of(entry: Entry, pulled: u64, times: &VecDeque<u64>) -> Result<Mark, All
 impl Entries {
     ghost use Rattle.eval_until.specs.Entries.{from_place, met_by};
 
-    pub fn new(alloc: Global) -> Self
+    pub fn new() -> Self
         ensures { result ≡ [] }
     {
         Entries {
-            list: ShortQueue::new(alloc),
+            list: ShortQueue::new(),
         }
     }
 
     /// The entries of a list, by ascending positions.
-    pub fn from_vec(list: Vec<Entry>) -> Self
+    pub fn from_vec(alloc: Global, list: Vec<Entry>) -> Result<Self, AllocError>
         requires { PlacesAscend list.items }
-        ensures { result ≡ list.items }
+        ensures { IfOk result (λ entries. entries ≡ list.items) }
     {
-        Entries {
-            list: ShortQueue::from_vec(list),
-        }
+        let list = ShortQueue::from_vec(alloc, list)?;
+        Ok(Entries { list })
     }
 
     /// The marks of the entries, where `times` are those of the positions from `pulled` on.
@@ -119,10 +119,9 @@ impl Entries {
     pub fn copy(&self, alloc: Global) -> Result<Self, AllocError>
         ensures { IfOk result (λ copy. copy ≡ self.now) }
     {
-        let list = self.list.to_vec(alloc)?;
-        Ok(Entries {
-            list: ShortQueue::from_vec(list),
-        })
+        let items = self.list.to_vec(alloc)?;
+        let list = ShortQueue::from_vec(alloc, items)?;
+        Ok(Entries { list })
     }
 
     pub fn is_empty(&self) -> bool
@@ -132,11 +131,11 @@ impl Entries {
     }
 
     /// One entry more, behind the others.
-    pub fn push(&mut self, entry: Entry) -> Result<(), AllocError>
+    pub fn push(&mut self, alloc: Global, entry: Entry) -> Result<(), AllocError>
         requires { IsTrue (all_before entry.place self.old) }
         ensures { OnOk result (self.new ≡ self.old ++ entry ∷ []) }
     {
-        self.list.push_back(entry)?;
+        self.list.push_back(alloc, entry)?;
         Ok(())
     }
 

@@ -1,6 +1,7 @@
 //! Laws of UNTIL and NEXT, each stated by the contract of a function that does nothing.
 ghost use Rattle.eval_until.specs.NextView.{NextDueIsSettled};
-ghost use Rattle.eval_until.specs.UntilLaws.{NoneYet, OneMore, PastTheBound, StartIs, StartLow, StartMore, StartRises, UntilIs};
+ghost use Rattle.eval_until.specs.UntilLaws.{NoneYet, OneMore, PastTheBound, StartIs, StartLow, StartMore};
+ghost use Rattle.eval_until.specs.UntilLaws.{StartRises, UntilIs};
 ghost use Rattle.eval_until.specs.UntilView.{UntilDueIsSettled};
 
 /// What the first positions decide of UNTIL goes on from position to position, up to the greatest

@@ -1,5 +1,6 @@
 //! NEXT over tables that are pushed position by position.
-ghost use Rattle.std.specs.Prelude.{◌≡◌, ◌↔◌, ◌+◌, ◌<◌, ◌^◌, ◌∷◌, ◌++◌, ◌&&◌, [], ℕ, Bool, false, IfOk, IfSome, IsTrue, List, MatchOption, OnOk, OnErr, is_some, length, nat_lt};
+ghost use Rattle.std.specs.Prelude.{◌≡◌, ◌↔◌, ◌+◌, ◌<◌, ◌^◌, ◌∷◌, ◌++◌, ◌&&◌, [], ℕ, Bool, false, List};
+ghost use Rattle.std.specs.Prelude.{IfOk, IfSome, IsTrue, MatchOption, OnOk, OnErr, is_some, length, nat_lt};
 ghost use Rattle.mfotl_model.specs.Satisfaction.{Valuation, next, time_at, truth_at};
 ghost use Rattle.mfotl_model.specs.Tables.{all_apart, has};
 ghost use Rattle.eval_until.specs.NextData.{NextRule, next_of};
@@ -32,16 +33,34 @@ impl Model for NextState {
 
     ghost Value = { NextOf };
 
-    ghost view = { λ s. record { interval = s.interval; columns = s.columns.items; pulled = s.pulled; times = s.times.items; started = s.started; tables = s.tables.items } };
+    ghost view = { λ s. record {
+      interval = s.interval;
+      columns = s.columns.items;
+      pulled = s.pulled;
+      times = s.times.items;
+      started = s.started;
+      tables = s.tables.items;
+    } };
 
-    ghost invariant = { λ s. record { few : s.pulled + length s.times.items ≤ 2 ^ 63; apart : all_apart s.columns.items ≡ true; over : AreOver s.columns.items s.tables.items } };
+    ghost invariant = { λ s. record {
+      few : s.pulled + length s.times.items ≤ 2 ^ 63;
+      apart : all_apart s.columns.items ≡ true;
+      over : AreOver s.columns.items s.tables.items;
+    } };
 }
 
 impl NextState {
     /// The state before the first position, for an operand over these columns.
     pub fn new(alloc: Global, interval: &Interval, columns: &[u32]) -> Result<Self, AllocError>
         requires apart { IsTrue (all_apart columns.now) }
-        ensures state { IfOk result (λ state. state ≡ record { interval = interval.now; columns = columns.now; pulled = 0; times = []; started = false; tables = [] }) }
+        ensures state { IfOk result (λ state. state ≡ record {
+          interval = interval.now;
+          columns = columns.now;
+          pulled = 0;
+          times = [];
+          started = false;
+          tables = [];
+        }) }
         ensures follows { IfOk result (λ state.
             (t : List ℕ) (a : List Bool) (v : Valuation) → FollowsNext state t a v) }
     {

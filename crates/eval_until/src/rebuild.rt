@@ -1,5 +1,6 @@
 //! The rows of plain data, out of maps and back, and the queue that finds what is pulled.
-ghost use Rattle.std.specs.Prelude.{◌≡◌, ◌||◌, ◌&&◌, ◌∷◌, ◌-◌, [], Bool, IfOk, List, None, OnOk, cond, length, map, nat_eq, true, ℕ, ◌<◌};
+ghost use Rattle.std.specs.Prelude.{◌≡◌, ◌||◌, ◌&&◌, ◌∷◌, ◌-◌, ◌<◌, [], ℕ, Bool, true, List, None};
+ghost use Rattle.std.specs.Prelude.{IfOk, OnOk, cond, length, map, nat_eq};
 ghost use Rattle.std.specs.List.{AllByRecursion, list_all};
 ghost use Rattle.mfotl_model.specs.Tables.{has_row};
 ghost use Rattle.mfotl_model.specs.declared.value.Value.{Value};
@@ -203,7 +204,8 @@ pub fn rows_map(
     let mut map = BTreeMap::new(alloc);
     for kept in rows {
         let entries = entries_of(alloc, kept.marks.as_slice(), pulled, times)?;
-        map.insert(kept.row, Entries::from_vec(entries))?;
+        let entries = Entries::from_vec(alloc, entries)?;
+        map.insert(kept.row, entries)?;
     }
     Ok(map)
 }

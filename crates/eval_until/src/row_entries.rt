@@ -34,8 +34,8 @@ fn add_entry(
         (entries_of rows.old.entries u)) }
     ensures some { OnOk result (NoneEmpty rows.old.entries → NoneEmpty rows.new.entries) }
 {
-    let entries = rows.entry(row)?.or_insert(Entries::new(alloc));
-    entries.push(entry)?;
+    let entries = rows.entry(row)?.or_insert(Entries::new());
+    entries.push(alloc, entry)?;
     Ok(())
 }
 
@@ -55,7 +55,11 @@ pub fn add_rows(
     requires sorted { IsStrictlySortedBy row_cmp table.now }
     requires before { (u : List Value) → IsTrue (all_before place (entries_of rows.old.entries u)) }
     ensures entries { OnOk result ((u : List Value) → entries_of rows.new.entries u
-        ≡ cond (has_row table.now u) (entries_of rows.old.entries u ++ record { place = place; start = start_of negated place starts.now (part right.now left.now u); ts = ts } ∷ [])
+        ≡ cond (has_row table.now u) (entries_of rows.old.entries u ++ record {
+          place = place;
+          start = start_of negated place starts.now (part right.now left.now u);
+          ts = ts;
+        } ∷ [])
         (entries_of rows.old.entries u)) }
     ensures some { OnOk result (NoneEmpty rows.old.entries → NoneEmpty rows.new.entries) }
 {

@@ -1,5 +1,6 @@
 //! UNTIL over tables that are pushed position by position.
-ghost use Rattle.std.specs.Prelude.{◌≡◌, ◌↔◌, ◌+◌, ◌-◌, ◌<◌, ◌≤◌, ◌^◌, ◌∷◌, ◌++◌, [], ℕ, Bool, true, IfOk, IfSome, IsTrue, List, MatchOption, OnOk, drop, is_some, length, min, nat_lt, not};
+ghost use Rattle.std.specs.Prelude.{◌≡◌, ◌↔◌, ◌+◌, ◌-◌, ◌<◌, ◌≤◌, ◌^◌, ◌∷◌, ◌++◌, [], ℕ, Bool, true, IfOk};
+ghost use Rattle.std.specs.Prelude.{IfSome, IsTrue, List, MatchOption, OnOk, drop, is_some, length, min, nat_lt, not};
 ghost use Rattle.mfotl_model.specs.Satisfaction.{Valuation, time_at, truth_at, until};
 ghost use Rattle.mfotl_model.specs.Tables.{all_among, all_apart, has, valuation};
 ghost use Rattle.mfotl_model.specs.Times.{NeverFalls};
@@ -9,7 +10,8 @@ ghost use Rattle.relations.specs.KeptRows.{kept_for};
 ghost use Rattle.eval_until.specs.Recalled.{entries_kept, starts_kept};
 ghost use Rattle.eval_until.specs.UntilData.{UntilRule, setting_of, until_of};
 ghost use Rattle.eval_until.specs.Rules.{Ascending, NoneEmpty, StartsAbove, StartsBelow, Waiting};
-ghost use Rattle.eval_until.specs.UntilView.{Advances, Follows, FollowsLeft, Takes, UntilOf, due, past_bound, to_take, took_all};
+ghost use Rattle.eval_until.specs.UntilView.{Advances, Follows, FollowsLeft, Takes, UntilOf, due, past_bound};
+ghost use Rattle.eval_until.specs.UntilView.{to_take, took_all};
 
 use crate::ahead::Ahead;
 use crate::rebuild::{rows_map, starts_map};
@@ -39,9 +41,21 @@ impl Model for UntilState {
 
     ghost Value = { UntilOf };
 
-    ghost view = { λ s. record { ahead = s.ahead; times = s.times.items; lefts = s.lefts.items; rights = s.rights.items } };
+    ghost view = { λ s. record {
+      ahead = s.ahead;
+      times = s.times.items;
+      lefts = s.lefts.items;
+      rights = s.rights.items;
+    } };
 
-    ghost invariant = { λ s. record { low : s.ahead.pulled ≤ s.ahead.taken; high : s.ahead.taken ≤ s.ahead.pulled + length s.times.items; few : s.ahead.pulled + length s.times.items ≤ 2 ^ 63; inside : all_among s.ahead.left s.ahead.right ≡ true; left : AreOver s.ahead.left s.lefts.items; right : AreOver s.ahead.right s.rights.items } };
+    ghost invariant = { λ s. record {
+      low : s.ahead.pulled ≤ s.ahead.taken;
+      high : s.ahead.taken ≤ s.ahead.pulled + length s.times.items;
+      few : s.ahead.pulled + length s.times.items ≤ 2 ^ 63;
+      inside : all_among s.ahead.left s.ahead.right ≡ true;
+      left : AreOver s.ahead.left s.lefts.items;
+      right : AreOver s.ahead.right s.rights.items;
+    } };
 }
 
 // whether the time at the place, or the last one, lies further than `hi` from the first
@@ -69,7 +83,21 @@ impl UntilState {
     ) -> Result<Self, AllocError>
         requires apart { IsTrue (all_apart right.now) }
         requires inside { IsTrue (all_among left.now right.now) }
-        ensures state { IfOk result (λ state. state ≡ record { ahead = record { interval = interval.now; left = left.now; right = right.now; negated = negated; pulled = 0; taken = 0; starts = []; rows = [] }; times = []; lefts = []; rights = [] }) }
+        ensures state { IfOk result (λ state. state ≡ record {
+          ahead = record {
+            interval = interval.now;
+            left = left.now;
+            right = right.now;
+            negated = negated;
+            pulled = 0;
+            taken = 0;
+            starts = [];
+            rows = [];
+          };
+          times = [];
+          lefts = [];
+          rights = [];
+        }) }
         ensures left { IfOk result (λ state.
             (a : List Bool) (v : Valuation) → FollowsLeft state a v) }
         ensures follows { IfOk result (λ state.
@@ -118,8 +146,14 @@ impl UntilState {
     ) -> Result<Self, AllocError>
         requires apart { IsTrue (all_apart right.now) }
         requires inside { IsTrue (all_among left.now right.now) }
-        requires rule { UntilRule (until_of (record { interval = interval.now; left = left.now; right = right.now; negated = negated }) times.now kept) }
-        ensures setting { IfOk result (λ state. setting_of state ≡ record { interval = interval.now; left = left.now; right = right.now; negated = negated }) }
+        requires rule { UntilRule (until_of (record {
+          interval = interval.now;
+          left = left.now;
+          right = right.now;
+          negated = negated;
+        }) times.now kept) }
+        ensures setting { IfOk result (λ state. setting_of state
+            ≡ record { interval = interval.now; left = left.now; right = right.now; negated = negated }) }
         ensures pulled { IfOk result (λ state. state.ahead.pulled ≡ kept.pulled) }
         ensures taken { IfOk result (λ state. state.ahead.taken ≡ kept.taken) }
         ensures times { IfOk result (λ state. state.times ≡ times.now) }
@@ -130,11 +164,21 @@ impl UntilState {
         ensures rows { IfOk result (λ state. (u : List Value) → kept_for state.ahead.rows u
             ≡ kept_for (entries_kept kept.pulled times.now kept.rows.items) u) }
         ensures left { IfOk result (λ state. (a : List Bool) (v : Valuation) →
-            FollowsLeft (until_of (record { interval = interval.now; left = left.now; right = right.now; negated = negated }) times.now kept) a v →
+            FollowsLeft (until_of (record {
+              interval = interval.now;
+              left = left.now;
+              right = right.now;
+              negated = negated;
+            }) times.now kept) a v →
             FollowsLeft state a v) }
         ensures follows { IfOk result (λ state.
             (t : List ℕ) (a b : List Bool) (v : Valuation) →
-            Follows (until_of (record { interval = interval.now; left = left.now; right = right.now; negated = negated }) times.now kept) t a b v →
+            Follows (until_of (record {
+              interval = interval.now;
+              left = left.now;
+              right = right.now;
+              negated = negated;
+            }) times.now kept) t a b v →
             Follows state t a b v) }
     {
         let UntilData {
@@ -396,7 +440,8 @@ impl UntilState {
     pub fn pull(&mut self, alloc: Global) -> Result<Option<Table>, AllocError>
         ensures due { IfOk result (λ answer. is_some answer ≡ due self.old) }
         ensures state { IfOk result (λ answer.
-            MatchOption answer (Takes (to_take self.old) self.old self.new) (λ _. Advances (to_take self.old) self.old self.new)) }
+            MatchOption answer (Takes (to_take self.old) self.old self.new)
+            (λ _. Advances (to_take self.old) self.old self.new)) }
         ensures left { OnOk result ((a : List Bool) (v : Valuation) →
             FollowsLeft self.old a v → FollowsLeft self.new a v) }
         ensures follows { OnOk result ((t : List ℕ) (a b : List Bool) (v : Valuation) →

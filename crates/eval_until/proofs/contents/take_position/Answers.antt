@@ -10,7 +10,11 @@ add_rows-requires-clause-before c =
 
 pub returns-clause-kept : goal.returns-clause-kept
 returns-clause-kept c =
-    let q : Taken = record { place = c.args.place; rights = c.into_rows-rights.result; breaks = c.breaks_of-breaks.result } in
+    let q : Taken = record {
+      place = c.args.place;
+      rights = c.into_rows-rights.result;
+      breaks = c.breaks_of-breaks.result;
+    } in
     kept_queued c.args.negated c.args.right.now c.args.pulled (c.args.place + 1) c.apply_left.new.starts
     c.add_rows.new.rows.entries c.args.contents.now.queue.items c.put_taken.new.queue.items q c.in_ok-put_taken.ensures
     (kept_taken c.args.negated c.args.right.now c.args.left.now c.args.pulled c.args.ts c.args.lefts.rows q

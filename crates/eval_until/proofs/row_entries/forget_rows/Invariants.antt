@@ -7,8 +7,8 @@ use Rattle.eval_until.proofs.row_entries.forget_rows.Given as goal
 
 abbrev pub invariant-loop-row : goal.invariant-loop-row
 invariant-loop-row l = record {
-  entries : (u : List Value) → cond (has_row l.row-iterator.rest.items u) (from_place l.next (entries_of l.rows.entries u))
-      (entries_of l.rows.entries u)
+  entries : (u : List Value) → cond (has_row l.row-iterator.rest.items u)
+      (from_place l.next (entries_of l.rows.entries u)) (entries_of l.rows.entries u)
       ≡ cond (has_row l.fn.table.items u) (from_place l.next (entries_of l.fn.rows.entries u))
       (entries_of l.fn.rows.entries u);
   some : NoneEmpty l.fn.rows.entries → NoneEmpty l.rows.entries;
