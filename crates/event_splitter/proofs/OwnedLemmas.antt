@@ -50,6 +50,24 @@ no_other p (x ∷ xs) = ap (λ b. p x && b) (no_other p xs) ∙ at (p x) (list_a
     at true c = refl
     at false c = refl
 
+none_kept : {A : Type 0} (p : A → Bool) (xs : List A) → list_any p xs ≡ false → filter p xs ≡ []
+none_kept p [] none = refl
+none_kept p (x ∷ xs) none = at (p x) none (λ e. none_kept p xs e)
+  where
+    at : (b : Bool) → (b || list_any p xs) ≡ false → (list_any p xs ≡ false → filter p xs ≡ [])
+        → cond b (x ∷ filter p xs) (filter p xs) ≡ []
+    at true e rest = absurd cc
+    at false e rest = rest e
+
+kept_none : {A : Type 0} (p : A → Bool) (xs : List A) → filter p xs ≡ [] → list_any p xs ≡ false
+kept_none p [] none = refl
+kept_none p (x ∷ xs) none = at (p x) none (λ e. kept_none p xs e)
+  where
+    at : (b : Bool) → cond b (x ∷ filter p xs) (filter p xs) ≡ [] → (filter p xs ≡ [] → list_any p xs ≡ false)
+        → (b || list_any p xs) ≡ false
+    at true e rest = absurd cc
+    at false e rest = rest e
+
 all_ascending : (p : Event → Bool) (events : List Event)
     → list_all p (ascending event_cmp events) ≡ list_all p events
 all_ascending p events =
@@ -106,10 +124,10 @@ one_part near count one covers atoms point events are all =
     (sym (ap (slice (near 0) atoms) are) ∙ whole_slice (near 0) (only_near near count one covers) atoms events all
     ∙ are)
 
--- where it is, there is one worker
-pub one_worker : (near : ℕ → Region) (count : ℕ) (atoms : List OneAtom) (point : TimePoint)
-    → parts_for count near atoms point ≡ point ∷ [] → count ≡ 1
-one_worker near count atoms point e =
+-- where there is one part, there is one worker
+pub one_worker : (near : ℕ → Region) (count : ℕ) (atoms : List OneAtom) (point part : TimePoint)
+    → parts_for count near atoms point ≡ part ∷ [] → count ≡ 1
+one_worker near count atoms point part e =
     sym (length-map-range_with_len (λ k. part_for (near k) atoms point) 0 count) ∙ ap length e
 
 -- and some atom stands for each event
@@ -117,8 +135,49 @@ pub all_are_seen : (near : ℕ → Region) (count : ℕ) → Covered near count 
     (events : List Event) → ascending event_cmp events ≡ point.db → parts_for count near atoms point ≡ point ∷ []
     → list_all (is_seen atoms) events ≡ true
 all_are_seen near count covers atoms point events are e =
-    let one = one_worker near count atoms point e in
+    let one = one_worker near count atoms point point e in
     let alone : parts_for 1 near atoms point ≡ point ∷ [] = sym (ap (λ n. parts_for n near atoms point) one) ∙ e in
     let same : slice (near 0) atoms point.db ≡ point.db = ap (λ ps. (get_or ps 0 point).db) alone in
     slice_whole (near 0) (only_near near count one covers) atoms events
     (ap (slice (near 0) atoms) are ∙ same ∙ sym are)
+
+any_seen : (near : ℕ → Region) (count : ℕ) → count ≡ 1 → Covered near count → (atoms : List OneAtom)
+    (events : List Event) → list_any (λ event. list_any (sees (near 0) event) atoms) (ascending event_cmp events)
+    ≡ list_any (is_seen atoms) events
+any_seen near count one covers atoms events =
+    let sees_it : Event → Bool = λ event. list_any (sees (near 0) event) atoms in
+    any_ascending event_total event_exact sees_it events
+    ∙ ap (λ p. list_any p events) (funext sees_it (is_seen atoms)
+    (seen_alike (near 0) (only_near near count one covers) atoms))
+
+-- the time-point without its events
+abbrev blank : TimePoint → TimePoint
+blank point = record { ts = point.ts; db = [] }
+
+-- the only worker's part has no event where no atom stands for one
+pub blank_part : (near : ℕ → Region) (count : ℕ) → count ≡ 1 → Covered near count → (atoms : List OneAtom)
+    (point : TimePoint) (events : List Event) → ascending event_cmp events ≡ point.db
+    → list_any (is_seen atoms) events ≡ false → parts_for count near atoms point ≡ blank point ∷ []
+blank_part near count one covers atoms point events are none =
+    let sees_it : Event → Bool = λ event. list_any (sees (near 0) event) atoms in
+    ap (λ n. parts_for n near atoms point) one
+    ∙ ap (λ db. record { ts = point.ts; db = db } ∷ [])
+    (none_kept sees_it point.db (ap (list_any sees_it) (sym are) ∙ any_seen near count one covers atoms events ∙ none))
+
+-- and nowhere else
+pub none_are_seen : (near : ℕ → Region) (count : ℕ) → Covered near count → (atoms : List OneAtom) (point : TimePoint)
+    (events : List Event) → ascending event_cmp events ≡ point.db
+    → parts_for count near atoms point ≡ blank point ∷ [] → list_any (is_seen atoms) events ≡ false
+none_are_seen near count covers atoms point events are e =
+    let sees_it : Event → Bool = λ event. list_any (sees (near 0) event) atoms in
+    let one = one_worker near count atoms point (blank point) e in
+    let alone : parts_for 1 near atoms point ≡ blank point ∷ [] =
+    sym (ap (λ n. parts_for n near atoms point) one) ∙ e in
+    let none : slice (near 0) atoms point.db ≡ [] = ap (λ ps. (get_or ps 0 point).db) alone in
+    sym (any_seen near count one covers atoms events)
+    ∙ ap (list_any sees_it) are
+    ∙ kept_none sees_it point.db none
+
+pub not_true : (b : Bool) → not b ≡ true → b ≡ false
+not_true false e = refl
+not_true true e = absurd cc

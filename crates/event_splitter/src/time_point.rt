@@ -1,6 +1,6 @@
 //! Time-points split among workers.
-ghost use Rattle.std.specs.Prelude.{◌≡◌, ◌∷◌, [], IfOk, replicate, true};
-ghost use Rattle.std.specs.List.{list_all};
+ghost use Rattle.std.specs.Prelude.{◌≡◌, ◌∷◌, [], IfOk, not, replicate, true};
+ghost use Rattle.std.specs.List.{list_all, list_any};
 ghost use Rattle.monitorable.specs.Atoms.{atoms_of};
 ghost use Rattle.monitorable.specs.Cores.{core_form};
 ghost use Rattle.event_splitter.specs.Parts.{parts_for};
@@ -65,4 +65,29 @@ pub fn is_whole<S: Slicer>(core: &Core, slicer: &S, point: &TimePoint) -> bool
         ≡ point.now ∷ [] → result ≡ true }
 {
     slicer.workers() == 1 && all_seen(core.atoms(), point.db.inserted())
+}
+
+// Whether some atom stands for some of the events.
+fn any_seen(atoms: &[Atom], events: &[Event]) -> bool
+    ensures { result ≡ list_any (is_seen atoms.now) events.now }
+{
+    events.iter().any(|event| is_seen(atoms, event))
+}
+
+// Whether no atom stands for any of the events.
+fn none_seen(atoms: &[Atom], events: &[Event]) -> bool
+    ensures { result ≡ not (list_any (is_seen atoms.now) events.now) }
+{
+    !any_seen(atoms, events)
+}
+
+/// Whether the only part of the time-point would have no event: where there is one worker, and no atom stands for any
+/// of the events.
+pub fn is_blank<S: Slicer>(core: &Core, slicer: &S, point: &TimePoint) -> bool
+    ensures blank { result ≡ true → parts_for (S.count slicer.now) (S.region slicer.now) (atoms_of (core_form core.now))
+        point.now ≡ record { ts = point.now.ts; db = [] } ∷ [] }
+    ensures parted { parts_for (S.count slicer.now) (S.region slicer.now) (atoms_of (core_form core.now)) point.now
+        ≡ record { ts = point.now.ts; db = [] } ∷ [] → result ≡ true }
+{
+    slicer.workers() == 1 && none_seen(core.atoms(), point.db.inserted())
 }

@@ -32,5 +32,5 @@ pub returns-else-workers-eq1-clause-parted : goal.returns-else-workers-eq1-claus
 returns-else-workers-eq1-clause-parted g c = λ e.
     let near = g.S.Slicer.region c.args.slicer.now in
     let atoms = atoms_of (core_form c.args.core.now) in
-    let one = one_worker near (g.S.Slicer.count c.args.slicer.now) atoms c.args.point.now e in
+    let one = one_worker near (g.S.Slicer.count c.args.slicer.now) atoms c.args.point.now c.args.point.now e in
     absurd (c.if-workers-eq1.false (c.workers.ensures.count ∙ one))
