@@ -125,3 +125,14 @@ past_the_bound interval hi t a b i p (suc n) e low far =
     (too_far interval hi (time_at t (p + n) - time_at t i) e (omega arith))
     ∙ or_false (until_before interval t a b (p + n) i)
     ∙ past_the_bound interval hi t a b i p n e low (λ j l m. far j l (omega arith))
+
+pub ruleset position_by_position = (
+  until_is,
+  none_yet,
+  one_more,
+  start_more,
+  start_is,
+  start_low,
+  start_rises,
+  past_the_bound,
+)

@@ -1,12 +1,12 @@
 //! Laws of UNTIL and NEXT, each stated by the contract of a function that does nothing.
 ghost use Rattle.eval_until.specs.NextView.{NextDueIsSettled};
-ghost use Rattle.eval_until.specs.UntilLaws.{NoneYet, OneMore, PastTheBound, StartIs, StartLow, StartMore};
-ghost use Rattle.eval_until.specs.UntilLaws.{StartRises, UntilIs};
+ghost use Rattle.eval_until.specs.UntilLaws.{NoneYet, OneMore, PastTheBound, UntilIs};
+ghost use Rattle.eval_until.specs.UntilLaws.{StartIs, StartLow, StartMore, StartRises};
 ghost use Rattle.eval_until.specs.UntilView.{UntilDueIsSettled};
 
 /// What the first positions decide of UNTIL goes on from position to position, up to the greatest
 /// distance.
-#[tactic(auto, using(crate::proofs::UntilLemmas::until_is, crate::proofs::UntilLemmas::none_yet, crate::proofs::UntilLemmas::one_more, crate::proofs::UntilLemmas::start_more, crate::proofs::UntilLemmas::start_is, crate::proofs::UntilLemmas::start_low, crate::proofs::UntilLemmas::start_rises, crate::proofs::UntilLemmas::past_the_bound))]
+#[tactic(auto, using(crate::proofs::UntilLemmas::position_by_position))]
 pub fn until_goes_on()
     ensures is { UntilIs }
     ensures none { NoneYet }

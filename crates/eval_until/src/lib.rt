@@ -16,6 +16,7 @@ mod row_entries;
 mod start_map;
 mod starts;
 mod until;
+mod until_steps;
 
 pub use entries::Entry;
 pub use next::NextState;
