@@ -8,8 +8,8 @@ ghost use Rattle.rescale_core.specs.Routing.{all_slices, part_below, place_below
 use crate::boxed::BoxedStrategy;
 use crate::item::Item;
 use crate::queue::Queue;
-use event_splitter::{is_whole, split};
-use mfotl_model::TimePoint;
+use event_splitter::{is_blank, is_whole, split};
+use mfotl_model::{Db, TimePoint};
 use monitorable::Core;
 use slice_strategy::{Slicer, Strategy};
 use std::alloc::{AllocError, Global};
@@ -31,6 +31,10 @@ pub(crate) fn push_point(
 {
     if is_whole(core, strategy, &point) {
         push_whole(queues, generation, number, point)?;
+        return Ok(());
+    }
+    if is_blank(core, strategy, &point) {
+        push_blank(alloc, queues, generation, number, point.ts)?;
         return Ok(());
     }
     let slices = split(alloc, core, strategy, &point)?;
@@ -81,6 +85,24 @@ fn push_whole(
         number,
         point,
     })?;
+    Ok(())
+}
+
+// Queues a time-point without events for the first worker, whose slice it is.
+fn push_blank(
+    alloc: Global,
+    queues: &mut Vec<Queue>,
+    generation: u64,
+    number: u64,
+    ts: u64,
+) -> Result<(), AllocError>
+    requires { 0 < length queues.old.items }
+    ensures len { IfOk result (λ _. length queues.new.items ≡ length queues.old.items) }
+    ensures queued { IfOk result (λ _. (q : ℕ) → queue_at queues.new.items q ≡ queue_at queues.old.items q
+        ++ slices_for generation number 0 (record { ts = ts; db = [] } ∷ []) q) }
+{
+    let db = Db::new(alloc);
+    push_whole(queues, generation, number, TimePoint { ts, db })?;
     Ok(())
 }
 

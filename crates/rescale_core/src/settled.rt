@@ -1,5 +1,5 @@
 //! The tables of newly settled positions, and what a worker says of them.
-ghost use Rattle.std.specs.Prelude.{◌≡◌, ◌++◌, ◌∷◌, [], true, map, nat_eq, IfOk, length};
+ghost use Rattle.std.specs.Prelude.{◌≡◌, ◌++◌, ◌∷◌, [], true, map, nat_eq, IfNone, IfOk, length, option_to_list};
 ghost use Rattle.std.specs.List.{AllByRecursion};
 ghost use Rattle.mfotl_model.specs.Tables.{all_sized};
 ghost use Rattle.monitor_state.specs.MonitorView.{monitor_of};
@@ -43,13 +43,24 @@ pub(crate) fn give_tables(
         (all_settled (monitor_of monitor.now).state first tables)) }
 {
     let mut point = first;
-    while let Some(table) = tables.take() {
+    while let Some(table) = next_table(&mut tables) {
         let ts = monitor.time_at(point);
         let settled = Settled { point, ts, table };
         give_rows(alloc, strategy, worker, generation, settled, outs)?;
         point += 1;
     }
     Ok(())
+}
+
+// Takes the first table. Mostly there is one, behind which nothing is looked for.
+fn next_table(tables: &mut Tables) -> Option<Table>
+    ensures first { tables.old ≡ option_to_list result ++ tables.new }
+    ensures none { IfNone result (tables.old ≡ []) }
+{
+    if tables.len() == 0 {
+        return None;
+    }
+    tables.take()
 }
 
 // Says of a position what the worker owns.

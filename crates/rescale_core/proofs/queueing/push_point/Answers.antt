@@ -35,3 +35,19 @@ returns-clause-queued c = λ q.
     c.in_ok-push_slices.ensures.queued q
     ∙ ap (λ ps. queue_at c.args.queues.now.items q ++ slices_for c.args.generation c.args.number 0 ps q)
     (c.in_ok-slices.ensures ∙ parts_are core s c.args.point)
+
+pub push_blank-requires : goal.push_blank-requires
+push_blank-requires c =
+    let core = core_form c.args.core.now in
+    let s = c.args.strategy.now in
+    let e = sym (slices_len core s c.args.point) ∙ ap length (sym (parts_are core s c.args.point)
+    ∙ c.is_blank.ensures.blank c.if-is_blank.true) in
+    omega (arith, e, c.requires)
+
+pub returns-then-is_blank-clause-queued : goal.returns-then-is_blank-clause-queued
+returns-then-is_blank-clause-queued c = λ q.
+    let core = core_form c.args.core.now in
+    let s = c.args.strategy.now in
+    c.in_ok-push_blank.ensures.queued q
+    ∙ ap (λ ps. queue_at c.args.queues.now.items q ++ slices_for c.args.generation c.args.number 0 ps q)
+    (sym (c.is_blank.ensures.blank c.if-is_blank.true) ∙ parts_are core s c.args.point)
