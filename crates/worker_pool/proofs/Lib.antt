@@ -1,4 +1,5 @@
 pub mod SinkLemmas
+pub mod LineLemmas
 pub mod LogTimes
 pub mod VerdictLemmas
 pub mod TallyLemmas

@@ -79,7 +79,7 @@ fn make_change<R: Wait, O: Sink, G: Gate>(
 }
 
 // Reads just the changes that are to be made before the next time-point, in order.
-fn make_changes<R: Wait, O: Sink, G: Gate>(
+fn make_due<R: Wait, O: Sink, G: Gate>(
     context: &LoopContext<'_, R, G>,
     own: &mut Vec<WorkerHand>,
     driver: &mut Driver,
@@ -117,8 +117,44 @@ fn make_changes<R: Wait, O: Sink, G: Gate>(
     unreachable!()
 }
 
-/// Reads a time-point, once the changes before it are made and there is room for it; where `turns` is true, main takes a
-/// turn first.
+// The same, where mostly there are none.
+fn make_changes<R: Wait, O: Sink, G: Gate>(
+    context: &LoopContext<'_, R, G>,
+    own: &mut Vec<WorkerHand>,
+    driver: &mut Driver,
+    schedule: &mut Schedule,
+    writer: &mut LineWriter,
+    out: &mut O,
+) -> Result<(), Stop>
+    requires runs { Runs driver.old (O.written out.old) writer.old.tally }
+    requires suits { Suits driver.old schedule.old }
+    requires seated { HaveCells context.now.cells schedule.old }
+    requires main { IsMainOf context.now.hub.now driver.old.main }
+    requires cells { context.now.cells ≤ cell_count context.now.hub.now }
+    requires hands { AreHandsOf context.now.hub.now own.old.items }
+    ensures hands { AreHandsOf context.now.hub.now own.new.items }
+    ensures main { OnOk result (IsMainOf context.now.hub.now driver.new.main) }
+    ensures suits { OnOk result (Suits driver.new schedule.new) }
+    ensures seated { OnOk result (HaveCells context.now.cells schedule.new) }
+    ensures all { OnOk result (NoneDue schedule.new) }
+    ensures left { OnOk result (schedule.new.changes.items
+        ≡ changes_later schedule.old.routed schedule.old.changes.items) }
+    ensures routed { schedule.new.routed ≡ schedule.old.routed }
+    ensures ok { OnOk result (Adds driver.old (O.written out.old) writer.old.tally
+        (changes_due schedule.old.routed schedule.old.changes.items)
+        driver.new (O.written out.new) writer.new.tally) }
+    ensures err { OnErr result (FallsShort driver.old (O.written out.old) writer.old.tally (O.written out.new)) }
+    ensures stop { IfErr result (λ stop. IsOutputStop (O.faults out.old) (O.faults out.new) stop) }
+    ensures later { O.faults out.old ≤ O.faults out.new }
+{
+    if schedule.is_due() {
+        return make_due(context, own, driver, schedule, writer, out);
+    }
+    Ok(())
+}
+
+/// Reads a time-point, once the changes before it are made and there is room for it; where `turns` is true, main takes
+/// a turn first.
 pub(crate) fn route<R: Wait, O: Sink, G: Gate>(
     context: &LoopContext<'_, R, G>,
     own: &mut Vec<WorkerHand>,

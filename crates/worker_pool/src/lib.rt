@@ -9,6 +9,7 @@ mod entries;
 mod following;
 mod hands;
 pub mod laws;
+mod line_front;
 mod line_writer;
 mod loop_context;
 mod main_loop;

@@ -5,9 +5,10 @@ ghost use Rattle.mfotl_model.specs.VerdictText.{VerdictOf, line_of};
 ghost use Rattle.worker_pool.specs.Texts.{has_row, tally_of};
 ghost use Rattle.worker_pool.specs.Writing.{IsOutputStop, seen};
 
+use crate::line_front::{END, ROOM, put_front};
 use crate::stop::Stop;
 use crate::tally::Tally;
-use mfotl_model::push_verdict;
+use mfotl_model::push_rows;
 use mon_outside::{Sink, write_whole};
 use std::alloc::{AllocError, Global};
 use verdict_merge::Verdict;
@@ -35,13 +36,32 @@ impl LineWriter {
         ensures line { OnOk result (self.new.line.items ≡ line_of (seen verdict.now)) }
         ensures tally { self.new.tally ≡ self.old.tally }
     {
+        let mut room = [b'\n'; ROOM];
+        let start = put_front(&mut room, verdict.point, verdict.ts);
         self.line.clear();
-        push_verdict(
-            &mut self.line,
-            verdict.point,
-            verdict.ts,
-            verdict.rows.rows(),
-        )
+        self.line.extend_from_slice(&room[start..END])?;
+        push_rows(&mut self.line, verdict.rows.rows())?;
+        self.line.push(b'\n')?;
+        Ok(())
+    }
+
+    // Writes the line of a verdict.
+    fn write_line<O: Sink>(&mut self, verdict: &Verdict, out: &mut O) -> Result<(), Stop>
+        ensures tally { self.new.tally ≡ self.old.tally }
+        ensures ok { OnOk result (Appends (O.written out.old) (O.written out.new) (line_of (seen verdict.now))) }
+        ensures front { OnErr result (AppendsFront (O.written out.old) (O.written out.new)
+            (line_of (seen verdict.now))) }
+        ensures stop { IfErr result (λ stop. IsOutputStop (O.faults out.old) (O.faults out.new) stop) }
+        ensures later { O.faults out.old ≤ O.faults out.new }
+    {
+        if verdict.rows.rows().is_empty() {
+            return write_bare(verdict, out);
+        }
+        self.make_line(verdict)?;
+        match write_whole(out, self.line.as_slice()) {
+            Ok(()) => Ok(()),
+            Err(_) => Err(Stop::Sink),
+        }
     }
 
     /// Writes the line of a verdict, and counts it.
@@ -54,11 +74,25 @@ impl LineWriter {
         ensures stop { IfErr result (λ stop. IsOutputStop (O.faults out.old) (O.faults out.new) stop) }
         ensures later { O.faults out.old ≤ O.faults out.new }
     {
-        self.make_line(verdict)?;
         self.tally.count(verdict.rows.rows().len())?;
-        match write_whole(out, self.line.as_slice()) {
-            Ok(()) => Ok(()),
-            Err(_) => Err(Stop::Sink),
-        }
+        self.write_line(verdict, out)?;
+        Ok(())
+    }
+}
+
+// Writes the line of a verdict without rows.
+fn write_bare<O: Sink>(verdict: &Verdict, out: &mut O) -> Result<(), Stop>
+    requires bare { verdict.now.rows ≡ [] }
+    ensures ok { OnOk result (Appends (O.written out.old) (O.written out.new) (line_of (seen verdict.now))) }
+    ensures front { OnErr result (AppendsFront (O.written out.old) (O.written out.new)
+        (line_of (seen verdict.now))) }
+    ensures stop { IfErr result (λ stop. IsOutputStop (O.faults out.old) (O.faults out.new) stop) }
+    ensures later { O.faults out.old ≤ O.faults out.new }
+{
+    let mut room = [b'\n'; ROOM];
+    let at = put_front(&mut room, verdict.point, verdict.ts);
+    match write_whole(out, &room[at..]) {
+        Ok(()) => Ok(()),
+        Err(_) => Err(Stop::Sink),
     }
 }

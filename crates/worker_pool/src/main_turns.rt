@@ -138,14 +138,13 @@ pub(crate) fn drain<R: Wait, O: Sink, G: Gate>(
     unreachable!()
 }
 
-/// Goes on until each worker's queue has room for an item, where `turns` is true, for one turn at least.
-pub(crate) fn make_room<R: Wait, O: Sink, G: Gate>(
+// Takes turns until each worker's queue has room for an item.
+fn turn_for_room<R: Wait, O: Sink, G: Gate>(
     context: &LoopContext<'_, R, G>,
     own: &mut Vec<WorkerHand>,
     driver: &mut Driver,
     writer: &mut LineWriter,
     out: &mut O,
-    mut turns: bool,
 ) -> Result<(), Stop>
     requires runs { Runs driver.old (O.written out.old) writer.old.tally }
     requires main { IsMainOf context.now.hub.now driver.old.main }
@@ -162,13 +161,40 @@ pub(crate) fn make_room<R: Wait, O: Sink, G: Gate>(
 {
     let mut idle = 0u64;
     for _ in context.rt.forever() {
-        if !turns && driver.has_room() {
-            return Ok(());
-        }
         let heard = context.bells.main.rings();
         let busy = round(context, own, driver, writer, out)?;
+        if driver.has_room() {
+            return Ok(());
+        }
         idle = context.rest(busy, heard, idle);
-        turns = false;
     }
     unreachable!()
+}
+
+/// Goes on until each worker's queue has room for an item, where `turns` is true, for one turn at least.
+pub(crate) fn make_room<R: Wait, O: Sink, G: Gate>(
+    context: &LoopContext<'_, R, G>,
+    own: &mut Vec<WorkerHand>,
+    driver: &mut Driver,
+    writer: &mut LineWriter,
+    out: &mut O,
+    turns: bool,
+) -> Result<(), Stop>
+    requires runs { Runs driver.old (O.written out.old) writer.old.tally }
+    requires main { IsMainOf context.now.hub.now driver.old.main }
+    requires cells { context.now.cells ≤ cell_count context.now.hub.now }
+    requires hands { AreHandsOf context.now.hub.now own.old.items }
+    ensures hands { AreHandsOf context.now.hub.now own.new.items }
+    ensures main { OnOk result (IsMainOf context.now.hub.now driver.new.main) }
+    ensures room { OnOk result (IsRoomy driver.new) }
+    ensures ok { OnOk result (Keeps driver.old (O.written out.old) writer.old.tally
+        driver.new (O.written out.new) writer.new.tally) }
+    ensures err { OnErr result (FallsShort driver.old (O.written out.old) writer.old.tally (O.written out.new)) }
+    ensures stop { IfErr result (λ stop. IsOutputStop (O.faults out.old) (O.faults out.new) stop) }
+    ensures later { O.faults out.old ≤ O.faults out.new }
+{
+    if !turns && driver.has_room() {
+        return Ok(());
+    }
+    turn_for_room(context, own, driver, writer, out)
 }

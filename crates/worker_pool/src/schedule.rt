@@ -25,8 +25,8 @@ impl Schedule {
         }
     }
 
-    // Whether the next change is to be made before the next time-point is read.
-    fn is_due(&self) -> bool
+    /// Whether the next change is to be made before the next time-point is read.
+    pub(crate) fn is_due(&self) -> bool
         ensures { DueTells self.now result }
     {
         match self.changes.front() {

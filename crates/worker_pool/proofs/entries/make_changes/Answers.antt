@@ -1,58 +1,18 @@
-use Rattle.std.proofs.Common.{◌∙◌, ap, arith}
-use Rattle.worker_pool.specs.declared.schedule.Schedule.{Schedule}
-use Rattle.worker_pool.proofs.ChangeLemmas.{adds_falls, all_made, none_made, one_made, seated_later, seated_now}
-use Rattle.worker_pool.proofs.ChangeLemmas.{suits_later}
-use Rattle.worker_pool.proofs.WritingLemmas.{on_err, runs_with}
+use Rattle.std.proofs.Common.{◌≡◌, false, subst}
+use Rattle.worker_pool.specs.Changes.{DueTells, NoneDue}
+use Rattle.worker_pool.proofs.ChangeLemmas.{all_made, none_made}
 use Rattle.worker_pool.proofs.entries.make_changes.Goals as goal
 
-pub loop-init : goal.loop-init
-loop-init g c = record {
-  made = none_made c.args.schedule.now c.args.driver.now (g.O.Sink.written c.args.out.now) c.args.writer.now.tally;
-  suits = c.requires.suits;
-  seated = c.requires.seated;
-  main = c.requires.main;
-  hands = c.requires.hands;
-  later = omega arith;
-  can = tt;
-  finite = tt;
-}
+pub returns-clause-ok : goal.returns-clause-ok
+returns-clause-ok g c =
+    let none : NoneDue c.args.schedule.now =
+    subst (DueTells c.args.schedule.now) c.if-is_due.false c.is_due.ensures in
+    (all_made (none_made c.args.schedule.now c.args.driver.now (g.O.Sink.written c.args.out.now) c.args.writer.now.tally)
+    none).0
 
--- the first change was made, and those behind it are left
-pub loop-preserved : goal.loop-preserved
-loop-preserved g c =
-    let inv = c.loop.invariant in
-    let due = c.in-Some-next_due.ensures in
-    let made = c.in_ok-make_change-in-Some-next_due.ensures in
-    record {
-      made = one_made inv.made due made.ok;
-      suits = suits_later c.loop.schedule c.next_due.new.self c.in-Some-next_due.strategy due
-          (runs_with inv.made.adds c.requires.runs) made.ok inv.suits;
-      seated = seated_later c.args.context.now.cells c.loop.schedule c.next_due.new.self c.in-Some-next_due.strategy due
-          inv.seated;
-      main = made.main;
-      hands = c.make_change.ensures.hands;
-      later = omega (arith, inv.later, c.make_change.ensures.later);
-      can = tt;
-      finite = tt;
-    }
-
-pub make_change-requires-clause-runs : goal.make_change-requires-clause-runs
-make_change-requires-clause-runs g c = runs_with c.loop.invariant.made.adds c.requires.runs
-
-pub make_change-requires-clause-seated : goal.make_change-requires-clause-seated
-make_change-requires-clause-seated g c =
-    seated_now c.args.context.now.cells c.loop.schedule c.next_due.new.self c.in-Some-next_due.strategy
-    c.in-Some-next_due.ensures c.loop.invariant.seated
-
-pub returns-in-None-next_due-clause-ok : goal.returns-in-None-next_due-clause-ok
-returns-in-None-next_due-clause-ok g c = (all_made c.loop.invariant.made c.in-None-next_due.ensures.0).0
-
-pub returns-in-None-next_due-clause-left : goal.returns-in-None-next_due-clause-left
-returns-in-None-next_due-clause-left g c =
-    ap (λ (s : Schedule). s.changes.items) c.in-None-next_due.ensures.1
-    ∙ (all_made c.loop.invariant.made c.in-None-next_due.ensures.0).1
-
-pub returns-in_err-make_change-in-Some-next_due-clause-err : goal.returns-in_err-make_change-in-Some-next_due-clause-err
-returns-in_err-make_change-in-Some-next_due-clause-err g c =
-    on_err c.from_residual.result _
-    (adds_falls c.loop.invariant.made.none c.loop.invariant.made.adds c.in_err-make_change-in-Some-next_due.ensures.err)
+pub returns-clause-left : goal.returns-clause-left
+returns-clause-left g c =
+    let none : NoneDue c.args.schedule.now =
+    subst (DueTells c.args.schedule.now) c.if-is_due.false c.is_due.ensures in
+    (all_made (none_made c.args.schedule.now c.args.driver.now (g.O.Sink.written c.args.out.now) c.args.writer.now.tally)
+    none).1

@@ -2,7 +2,7 @@ use Rattle.std.proofs.Common.{◌≤◌}
 use Rattle.turn_hub.specs.Ends.{IsMainOf}
 use Rattle.worker_pool.specs.Hands.{AreHandsOf}
 use Rattle.worker_pool.specs.Writing.{Keeps}
-use Rattle.worker_pool.proofs.main_turns.make_room.Given as goal
+use Rattle.worker_pool.proofs.main_turns.turn_for_room.Given as goal
 
 abbrev pub invariant-loop : goal.invariant-loop
 invariant-loop g l = record {

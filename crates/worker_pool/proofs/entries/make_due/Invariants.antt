@@ -3,7 +3,7 @@ use Rattle.turn_hub.specs.Ends.{IsMainOf}
 use Rattle.worker_pool.specs.Changes.{HaveCells, Suits}
 use Rattle.worker_pool.specs.Hands.{AreHandsOf}
 use Rattle.worker_pool.proofs.ChangeLemmas.{Made}
-use Rattle.worker_pool.proofs.entries.make_changes.Given as goal
+use Rattle.worker_pool.proofs.entries.make_due.Given as goal
 
 -- some of the changes that are due were made, and the others are to come
 abbrev pub invariant-loop : goal.invariant-loop

@@ -1,5 +1,5 @@
 use Rattle.worker_pool.proofs.WritingLemmas.{falls_on, on_err, runs_on}
-use Rattle.worker_pool.proofs.main_turns.make_room.Goals as goal
+use Rattle.worker_pool.proofs.main_turns.turn_for_room.Goals as goal
 
 pub round-requires-clause-runs : goal.round-requires-clause-runs
 round-requires-clause-runs g c = runs_on c.loop.invariant.keeps c.requires.runs

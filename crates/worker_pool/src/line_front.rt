@@ -1,0 +1,57 @@
+//! The front of a line: the timestamp and the number of its time-point. It is written from its last byte to its first.
+ghost use Rattle.std.specs.Prelude.{◌≡◌, ◌++◌, ◌+◌, ◌∷◌, [], ◌≤◌, codes, decimal, drop};
+ghost use Rattle.worker_pool.specs.Texts.{front_of};
+
+use itoa::write_digits;
+
+/// Room for the longest front, and for one byte behind it.
+pub(crate) const ROOM: usize = 64;
+
+/// Where a front ends.
+pub(crate) const END: usize = 63;
+
+// What stands between the two numbers.
+const WORDS: [u8; 13] = *b" (time point ";
+
+// The last two bytes of a front, and where they begin.
+fn put_end(room: &mut [u8; ROOM]) -> usize
+    ensures at { result ≡ 61 }
+    ensures written { drop result room.new ≡ codes "):" ++ drop 63 room.old }
+{
+    room[END - 1] = b':';
+    room[END - 2] = b')';
+    END - 2
+}
+
+// The words that end at a place, and where they begin.
+fn put_words(room: &mut [u8; ROOM], end: usize) -> usize
+    requires { (13 ≤ end) × (end ≤ 64) }
+    ensures at { result + 13 ≡ end }
+    ensures written { drop result room.new ≡ codes " (time point " ++ drop end room.old }
+{
+    let start = end - WORDS.len();
+    room[start..end].copy_from_slice(&WORDS);
+    start
+}
+
+// A mark and a timestamp behind it that ends at a place, and where the mark stands.
+fn put_time(room: &mut [u8; ROOM], end: usize, ts: u64) -> usize
+    requires { (21 ≤ end) × (end ≤ 64) }
+    ensures within { result ≤ 63 }
+    ensures written { drop result room.new ≡ codes "@" ++ decimal ts ++ drop end room.old }
+{
+    let start = write_digits(ts, room, end) - 1;
+    room[start] = b'@';
+    start
+}
+
+/// Writes the front so that it ends before the last byte, and answers where it begins.
+pub(crate) fn put_front(room: &mut [u8; ROOM], point: u64, ts: u64) -> usize
+    ensures within { result ≤ 63 }
+    ensures written { drop result room.new ≡ front_of ts point ++ drop 63 room.old }
+{
+    let end = put_end(room);
+    let number = write_digits(point, room, end);
+    let words = put_words(room, number);
+    put_time(room, words, ts)
+}
