@@ -45,13 +45,13 @@ written_values (a ∷ row) = written_value a ++ more_values row
 abbrev pub written_row : List Value → List ℕ
 written_row row = codes " (" ++ written_values row ++ codes ")"
 
+-- the front of a line: the timestamp and the number of its time-point
+abbrev pub line_front : ℕ → ℕ → List ℕ
+line_front ts point = codes "@" ++ decimal ts ++ codes " (time point " ++ decimal point ++ codes "):"
+
 -- the line of a verdict, ended by a line feed
 abbrev pub line_of : VerdictOf → List ℕ
-line_of verdict =
-    codes "@" ++ decimal verdict.ts
-    ++ codes " (time point " ++ decimal verdict.point ++ codes "):"
-    ++ flat_map written_row verdict.rows
-    ++ codes "\n"
+line_of verdict = line_front verdict.ts verdict.point ++ flat_map written_row verdict.rows ++ codes "\n"
 
 -- the text that a monitor of the policy f writes on the log
 abbrev pub text : Log → Form → List ℕ

@@ -5,42 +5,47 @@ ghost use Rattle.std.specs.Ordering.{as_partial_cmp, eq_by_cmp};
 ghost use Rattle.mfotl_model.specs.Hashes.{text_writes, texts_alike};
 ghost use Rattle.mfotl_model.specs.Values.{text_cmp, text_total};
 
+use smallvec::SmallVec;
 use std::alloc::{AllocError, Global};
 use std::cmp::Ordering;
 use std::hash::{Hash, Hasher};
 use std::marker::Model;
-use std::sync::ArcSlice;
+use std::sync::Arc;
 
-/// A text of a log or a policy: its bytes, without quotes. Copies of a text share them.
+// As many bytes stand in the memory that copies of a text share: a name, an address, an identifier of 36 characters.
+const SHORT: usize = 40;
+
+/// A text of a log or a policy: its bytes, without quotes. Copies of a text share them, and up to 40 bytes take
+/// memory once.
 #[derive(Debug, Drop)]
 pub struct Text {
-    bytes: ArcSlice<u8>,
+    bytes: Arc<SmallVec<u8, SHORT>>,
 }
 
 /// The name of a predicate or of a variable.
 pub type Name = Text;
 
 impl Model for Text {
-    ghost use Rattle.std.specs.Arc.{arc_slice_items};
+    ghost use Rattle.std.specs.Arc.{arc_value};
     ghost use Rattle.std.specs.Prelude.{List, ℕ};
 
     ghost Value = { List ℕ };
 
-    ghost view = { λ t. arc_slice_items t.bytes };
+    ghost view = { λ t. (arc_value t.bytes).items };
 }
 
 impl Text {
     pub fn new(bytes: Vec<u8>) -> Result<Self, AllocError>
         ensures { IfOk result (λ text. text ≡ bytes.items) }
     {
-        let bytes = ArcSlice::from_vec(bytes)?;
+        let bytes = Arc::new(*bytes.allocator(), SmallVec::from_vec(bytes))?;
         Ok(Text { bytes })
     }
 
     pub fn from_slice(alloc: Global, bytes: &[u8]) -> Result<Self, AllocError>
         ensures { IfOk result (λ text. text ≡ bytes.now) }
     {
-        let bytes = ArcSlice::from_slice(alloc, bytes)?;
+        let bytes = Arc::new(alloc, SmallVec::from_slice(alloc, bytes)?)?;
         Ok(Text { bytes })
     }
 
@@ -53,7 +58,7 @@ impl Text {
     pub fn copy(&self, _alloc: Global) -> Result<Self, AllocError>
         ensures { IfOk result (λ text. text ≡ self.now) }
     {
-        let bytes = self.bytes.clone()?;
+        let bytes = Arc::try_clone(&self.bytes)?;
         Ok(Text { bytes })
     }
 }
