@@ -1,10 +1,12 @@
 //! A conjunction over the tables of its children, which are pushed position by position.
-ghost use Rattle.std.specs.Prelude.{◌≡◌, ◌+◌, ◌<◌, ◌^◌, ◌∷◌, ◌++◌, [], IfOk, IfSome, IsTrue, MatchOption, OnOk, is_some, length, map};
+ghost use Rattle.std.specs.Prelude.{◌≡◌, ◌+◌, ◌<◌, ◌^◌, ◌∷◌, ◌++◌, [], IfOk, IfSome, IsTrue, MatchOption};
+ghost use Rattle.std.specs.Prelude.{OnOk, is_some, length, map};
 ghost use Rattle.mfotl_model.specs.Satisfaction.{Valuation};
 ghost use Rattle.mfotl_model.specs.Tables.{all_apart, has};
 ghost use Rattle.eval_bool.specs.BoolData.{JoinRule, join_of};
 ghost use Rattle.eval_bool.specs.Heads.{AreHeads};
-ghost use Rattle.eval_bool.specs.JoinView.{all_children, child_columns, child_pushed, child_tables, children_of, conjunct_of};
+ghost use Rattle.eval_bool.specs.JoinView.{all_children, child_columns, child_pushed, child_tables};
+ghost use Rattle.eval_bool.specs.JoinView.{children_of, conjunct_of};
 ghost use Rattle.eval_bool.specs.JoinView.{is_guarded, join_advanced, join_begun, join_due, joins, tests_of};
 
 use crate::child::Child;
@@ -33,7 +35,12 @@ impl Model for JoinState {
 
     ghost Value = { JoinOf };
 
-    ghost view = { λ s. record { columns = s.columns.items; tests = s.tests.items; pulled = s.pulled; children = s.children.items } };
+    ghost view = { λ s. record {
+      columns = s.columns.items;
+      tests = s.tests.items;
+      pulled = s.pulled;
+      children = s.children.items;
+    } };
 
     ghost invariant = { λ s. IsJoin s.columns.items s.tests.items s.pulled s.children.items };
 }
@@ -44,7 +51,8 @@ impl JoinState {
     pub fn new(alloc: Global, conjuncts: Vec<Conjunct>) -> Result<Self, AllocError>
         requires some { 0 < length (children_of (map conjunct_of conjuncts.items)) }
         requires apart { IsTrue (all_children all_apart (children_of (map conjunct_of conjuncts.items))) }
-        requires guarded { IsTrue (is_guarded (children_of (map conjunct_of conjuncts.items)) (tests_of (map conjunct_of conjuncts.items))) }
+        requires guarded { IsTrue (is_guarded (children_of (map conjunct_of conjuncts.items))
+            (tests_of (map conjunct_of conjuncts.items))) }
         ensures state { IfOk result (λ state. state ≡ join_begun (map conjunct_of conjuncts.items)) }
     {
         let columns = conjunct_columns(alloc, conjuncts.as_slice())?;
@@ -65,7 +73,8 @@ impl JoinState {
     ) -> Result<Self, AllocError>
         requires some { 0 < length (children_of (map conjunct_of conjuncts.items)) }
         requires apart { IsTrue (all_children all_apart (children_of (map conjunct_of conjuncts.items))) }
-        requires guarded { IsTrue (is_guarded (children_of (map conjunct_of conjuncts.items)) (tests_of (map conjunct_of conjuncts.items))) }
+        requires guarded { IsTrue (is_guarded (children_of (map conjunct_of conjuncts.items))
+            (tests_of (map conjunct_of conjuncts.items))) }
         requires rule { JoinRule (children_of (map conjunct_of conjuncts.items)) kept }
         ensures state { IfOk result (λ state.
             state ≡ join_of (join_begun (map conjunct_of conjuncts.items)) kept) }

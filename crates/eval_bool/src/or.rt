@@ -1,10 +1,12 @@
 //! OR over the tables of its operands, which are pushed position by position.
-ghost use Rattle.std.specs.Prelude.{◌≡◌, ◌+◌, ◌<◌, ◌^◌, ◌||◌, ◌∷◌, ◌++◌, [], IfOk, IfSome, IsTrue, MatchOption, OnOk, is_some, length};
+ghost use Rattle.std.specs.Prelude.{◌≡◌, ◌+◌, ◌<◌, ◌^◌, ◌||◌, ◌∷◌, ◌++◌, [], IfOk, IfSome, IsTrue};
+ghost use Rattle.std.specs.Prelude.{MatchOption, OnOk, is_some, length};
 ghost use Rattle.mfotl_model.specs.Satisfaction.{Valuation};
 ghost use Rattle.mfotl_model.specs.Tables.{all_apart, has};
 ghost use Rattle.eval_bool.specs.BoolData.{OrRule, or_of};
 ghost use Rattle.eval_bool.specs.Firsts.{first_has};
-ghost use Rattle.eval_bool.specs.OrView.{operand_columns, operand_tables, or_advanced, or_begun, or_due, or_pushed, same_columns};
+ghost use Rattle.eval_bool.specs.OrView.{operand_columns, operand_tables, or_advanced, or_begun, or_due};
+ghost use Rattle.eval_bool.specs.OrView.{or_pushed, same_columns};
 
 use crate::admission::fits;
 use crate::recalled::OrData;
@@ -33,9 +35,21 @@ impl Model for OrState {
 
     ghost Value = { OrOf };
 
-    ghost view = { λ s. record { left = s.left.items; right = s.right.items; pulled = s.pulled; lefts = s.lefts.items; rights = s.rights.items } };
+    ghost view = { λ s. record {
+      left = s.left.items;
+      right = s.right.items;
+      pulled = s.pulled;
+      lefts = s.lefts.items;
+      rights = s.rights.items;
+    } };
 
-    ghost invariant = { λ s. record { apart : all_apart s.left.items ≡ true; same : same_columns s.left.items s.right.items ≡ true; few : s.pulled + length s.lefts.items ≤ 2 ^ 63; over_left : AreOver s.left.items s.lefts.items; over_right : AreOver s.right.items s.rights.items } };
+    ghost invariant = { λ s. record {
+      apart : all_apart s.left.items ≡ true;
+      same : same_columns s.left.items s.right.items ≡ true;
+      few : s.pulled + length s.lefts.items ≤ 2 ^ 63;
+      over_left : AreOver s.left.items s.lefts.items;
+      over_right : AreOver s.right.items s.rights.items;
+    } };
 }
 
 // the rows of either table, over the first one's columns

@@ -1,9 +1,19 @@
 //! Examples that were worked out by hand, as theorems on the definitions. Each call does nothing: its
 //! clauses are the examples.
-ghost use Rattle.mfotl_model.specs.OperatorExamples.{AtomsAndComparisons, BooleanOperators, BoundsAddUp, FutureOperators, PastOperators, PreviousAndNext, Quantifiers, SettledNextToTheOperand, SettledOnceReached, SettledPastTheBound, SettledWithBothOperands, SettledWithTheOperand};
-ghost use Rattle.mfotl_model.specs.TableExamples.{AtomsMatch, PartsOfRows, PartsOfValues, SlicesOfEvents, TablesHaveRows, WorkersOfRows};
-ghost use Rattle.mfotl_model.specs.TextExamples.{ColumnsInOrderOfOccurrence, ConstantsAreInTheDomain, EqualTimestampsStayApart, NextTimePointCounts, NoColumns, RowsAscendInALine, SinceIsCutOff, UnboundedFutureWaitsForEver, UntilIsBroken, VerdictWaitsForTheBound, WithinSevenDays};
-ghost use Rattle.mfotl_model.specs.ValueExamples.{EndsBelongToIntervals, EventsInOrder, RowsInOrder, ValuesCompare, ValuesInOrder};
+ghost use Rattle.mfotl_model.specs.OperatorExamples.{AtomsAndComparisons, BooleanOperators, BoundsAddUp};
+ghost use Rattle.mfotl_model.specs.OperatorExamples.{FutureOperators, PastOperators, PreviousAndNext};
+ghost use Rattle.mfotl_model.specs.OperatorExamples.{Quantifiers, SettledNextToTheOperand};
+ghost use Rattle.mfotl_model.specs.OperatorExamples.{SettledOnceReached, SettledPastTheBound};
+ghost use Rattle.mfotl_model.specs.OperatorExamples.{SettledWithBothOperands, SettledWithTheOperand};
+ghost use Rattle.mfotl_model.specs.TableExamples.{AtomsMatch, PartsOfRows, PartsOfValues, SlicesOfEvents};
+ghost use Rattle.mfotl_model.specs.TableExamples.{TablesHaveRows, WorkersOfRows};
+ghost use Rattle.mfotl_model.specs.TextExamples.{ColumnsInOrderOfOccurrence, ConstantsAreInTheDomain};
+ghost use Rattle.mfotl_model.specs.TextExamples.{EqualTimestampsStayApart, NextTimePointCounts, NoColumns};
+ghost use Rattle.mfotl_model.specs.TextExamples.{RowsAscendInALine, SinceIsCutOff};
+ghost use Rattle.mfotl_model.specs.TextExamples.{UnboundedFutureWaitsForEver, UntilIsBroken};
+ghost use Rattle.mfotl_model.specs.TextExamples.{VerdictWaitsForTheBound, WithinSevenDays};
+ghost use Rattle.mfotl_model.specs.ValueExamples.{EndsBelongToIntervals, EventsInOrder, RowsInOrder};
+ghost use Rattle.mfotl_model.specs.ValueExamples.{ValuesCompare, ValuesInOrder};
 ghost use Rattle.mfotl_model.specs.VariableExamples.{ActiveDomains, Constants, FreeVariables};
 
 /// The text of one log under one policy.

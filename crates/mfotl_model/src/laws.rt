@@ -1,6 +1,7 @@
 //! Laws of formulas, tables and regions, as theorems on the definitions. Each call does nothing: its
 //! clause is the law.
-ghost use Rattle.mfotl_model.specs.Laws.{BothPass, CountedSettled, EverywherePasses, ExactBehind, ExactWithin, FrontNeverFalls, NextUnsettled, SliceSees, StrategyPasses};
+ghost use Rattle.mfotl_model.specs.Laws.{BothPass, CountedSettled, EverywherePasses, ExactBehind};
+ghost use Rattle.mfotl_model.specs.Laws.{ExactWithin, FrontNeverFalls, NextUnsettled, SliceSees, StrategyPasses};
 
 /// The rows that are near to a worker pass on to their parts, under each strategy.
 pub fn strategy_passes()

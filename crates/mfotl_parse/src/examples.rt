@@ -1,5 +1,6 @@
 //! Worked texts, with what the definitions give for each.
-ghost use Rattle.mfotl_parse.specs.Examples.{FaultExamples, ClashExamples, FormulaExamples, NameExamples, DepthExamples, BoundExamples, NodeExamples, OrderExamples};
+ghost use Rattle.mfotl_parse.specs.Examples.{FaultExamples, ClashExamples, FormulaExamples, NameExamples};
+ghost use Rattle.mfotl_parse.specs.Examples.{DepthExamples, BoundExamples, NodeExamples, OrderExamples};
 
 /// Texts with the first fault of each.
 pub fn fault_examples()

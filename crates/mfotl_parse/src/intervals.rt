@@ -3,7 +3,9 @@
 
 ghost use Rattle.std.specs.Prelude.{◌≡◌, ◌≤◌, ◌^◌, [], IfSome};
 ghost use Rattle.mfotl_lex.specs.Lexemes.{lexeme};
-ghost use Rattle.mfotl_parse.specs.Intervals.{bound_of, distances, any_distance, timed, bracket, low_move, low_unit, low_number_move, low_done_move, high_move, high_unit, high_number_move, endless_move};
+ghost use Rattle.mfotl_parse.specs.Intervals.{bound_of, distances, any_distance, timed, bracket, low_move};
+ghost use Rattle.mfotl_parse.specs.Intervals.{low_unit, low_number_move, low_done_move, high_move, high_unit};
+ghost use Rattle.mfotl_parse.specs.Intervals.{high_number_move, endless_move};
 ghost use Rattle.mfotl_parse.specs.Limits.{max_bound};
 ghost use Rattle.mfotl_parse.specs.Transitions.{given, goes};
 ghost use Rattle.mfotl_parse.specs.Views.{context_of, GoesOn};

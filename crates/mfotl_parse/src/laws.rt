@@ -1,7 +1,9 @@
 //! What a reader of policies may rely on, said of every text. Each law is a function that does nothing: its
 //! clause is the law.
-ghost use Rattle.mfotl_parse.specs.GrammarLaws.{AcceptedExactly, SpelledIsRead, ReadIsSpelled, OneAnswer, SyntaxExactly, SilentAreRead};
-ghost use Rattle.mfotl_parse.specs.GrammarLaws.{ExactSyntax, ExactLex, ExactSoundness, EachFaultIsShown, StaysShown, ClashesAgree};
+ghost use Rattle.mfotl_parse.specs.GrammarLaws.{AcceptedExactly, SpelledIsRead, ReadIsSpelled, OneAnswer};
+ghost use Rattle.mfotl_parse.specs.GrammarLaws.{SyntaxExactly, SilentAreRead};
+ghost use Rattle.mfotl_parse.specs.GrammarLaws.{ExactSyntax, ExactLex, ExactSoundness, EachFaultIsShown};
+ghost use Rattle.mfotl_parse.specs.GrammarLaws.{StaysShown, ClashesAgree};
 ghost use Rattle.mfotl_parse.specs.Viability.{FirstFaults};
 
 /// Syntax is shown exactly by the token that ends viability, the first fault that is shown stays whatever

@@ -1,5 +1,6 @@
 //! The frames that are open, the newest last.
-ghost use Rattle.std.specs.Prelude.{◌≡◌, ◌∷◌, [], ◌<◌, IfOk, OnOk, MatchOption, IfSome, vec_len, ℕ, Some, None, if◌then◌else◌};
+ghost use Rattle.std.specs.Prelude.{◌≡◌, ◌∷◌, [], ◌<◌, IfOk, OnOk, MatchOption, IfSome, vec_len, ℕ, Some};
+ghost use Rattle.std.specs.Prelude.{None, if◌then◌else◌};
 ghost use Rattle.mfotl_model.specs.Formulas.{Form, form};
 ghost use Rattle.mfotl_parse.specs.States.{depth};
 ghost use Rattle.mfotl_parse.specs.SymbolTable.{binder_of};

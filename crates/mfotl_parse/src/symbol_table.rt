@@ -1,5 +1,6 @@
 //! The variables that were met.
-ghost use Rattle.std.specs.Prelude.{◌≡◌, IfOk, OnOk, length, slice_get, option_map, Some, None, position, map, is_some, ◌++◌, ◌∷◌, []};
+ghost use Rattle.std.specs.Prelude.{◌≡◌, IfOk, OnOk, length, slice_get, option_map, Some, None, position};
+ghost use Rattle.std.specs.Prelude.{map, is_some, ◌++◌, ◌∷◌, []};
 ghost use Rattle.std.specs.Str.{bytes_eq};
 ghost use Rattle.indexmap.specs.IndexMap.{get_by};
 ghost use Rattle.mfotl_parse.specs.SymbolTable as sorting;

@@ -4,7 +4,8 @@ ghost use Rattle.std.specs.List.{list_all, list_any};
 ghost use Rattle.mfotl_plain.specs.Bindings.{values_of};
 ghost use Rattle.mfotl_plain.specs.Operators.{between, connected, in_time};
 ghost use Rattle.mfotl_model.specs.Formulas.{form};
-ghost use Rattle.mfotl_model.specs.Satisfaction.{compares, database_at, event_of, has_event, sat, term_value, truths, with_value};
+ghost use Rattle.mfotl_model.specs.Satisfaction.{compares, database_at, event_of, has_event, sat, term_value};
+ghost use Rattle.mfotl_model.specs.Satisfaction.{truths, with_value};
 ghost use Rattle.mfotl_model.specs.Violations.{valuation};
 
 use crate::bindings::{Bindings, event_of, term_value};

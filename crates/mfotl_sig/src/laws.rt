@@ -1,6 +1,7 @@
 //! What holds of every text. Each law is a function that does nothing: its clause is the law.
 
-ghost use Rattle.mfotl_sig.specs.Laws.{ReadIsSpelled, SpelledIsRead, OneAnswer, ExactFaults, ExactSoundness, StaysShown};
+ghost use Rattle.mfotl_sig.specs.Laws.{ReadIsSpelled, SpelledIsRead, OneAnswer, ExactFaults, ExactSoundness};
+ghost use Rattle.mfotl_sig.specs.Laws.{StaysShown};
 ghost use Rattle.mfotl_sig.specs.WorkedTexts.{WorkedValues, WorkedFaults};
 
 /// A text that is read spells its predicates, and keeps the rules.

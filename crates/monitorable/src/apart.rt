@@ -1,7 +1,8 @@
 //! A core whose quantifiers bind different variables.
 ghost use Rattle.std.specs.Prelude.{◌≡◌, ◌+◌, IfOk, OnOk};
 ghost use Rattle.monitorable.specs.CoreForms.{Exists, node_form};
-ghost use Rattle.monitorable.specs.Renaming.{above, apart_form, binder_count, renamed, renamed_atom, renamed_comparison, with_number};
+ghost use Rattle.monitorable.specs.Renaming.{above, apart_form, binder_count, renamed, renamed_atom};
+ghost use Rattle.monitorable.specs.Renaming.{renamed_comparison, with_number};
 ghost use Rattle.monitorable.specs.RenamingScope.{numbers_of};
 
 use crate::boxes;

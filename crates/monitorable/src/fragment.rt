@@ -2,7 +2,8 @@
 //! takes little of the stack.
 ghost use Rattle.std.specs.Prelude.{◌≡◌};
 ghost use Rattle.monitorable.specs.CoreForms.{node_form};
-ghost use Rattle.monitorable.specs.Fragment.{asked, covers, evens, fault_in, first, guards, is_conjunction, judges_not, looks_within, under_not, uses, with_name};
+ghost use Rattle.monitorable.specs.Fragment.{asked, covers, evens, fault_in, first, guards, is_conjunction};
+ghost use Rattle.monitorable.specs.Fragment.{judges_not, looks_within, under_not, uses, with_name};
 ghost use Rattle.monitorable.specs.Judging.{Judges};
 ghost use Rattle.monitorable.specs.declared.role.Role.TheVariants.{Left, Part, Whole};
 ghost use Rattle.monitorable.specs.Scope.{scope_names};

@@ -1,5 +1,9 @@
 //! Laws of the logic, each stated by the contract of a function that does nothing.
-ghost use Rattle.monitorable.specs.Laws.{ApartConstants, ApartFragment, ApartMeansTheSame, ApartVariables, Coincidence, ConjunctsMean, Domain, Finality, NormalFormConstants, NormalFormHolds, NormalFormSettled, NormalFormVariables, PartsAreSound, SettledBefore, SettledStays, SettledWithin, TablesSatisfy, TextFinal, ViolationsFinal, ViolationsSatisfy};
+ghost use Rattle.monitorable.specs.Laws.{ApartConstants, ApartFragment, ApartMeansTheSame, ApartVariables};
+ghost use Rattle.monitorable.specs.Laws.{Coincidence, ConjunctsMean, Domain, Finality, NormalFormConstants};
+ghost use Rattle.monitorable.specs.Laws.{NormalFormHolds, NormalFormSettled, NormalFormVariables};
+ghost use Rattle.monitorable.specs.Laws.{PartsAreSound, SettledBefore, SettledStays, SettledWithin};
+ghost use Rattle.monitorable.specs.Laws.{TablesSatisfy, TextFinal, ViolationsFinal, ViolationsSatisfy};
 
 /// Whether a formula holds hangs on its free variables alone.
 pub fn only_free_variables_matter()

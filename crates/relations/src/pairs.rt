@@ -155,7 +155,8 @@ pub(crate) fn kept_pairs<L: Ledger>(
     requires key { index.now.key_columns ≡ common columns.now index.now.columns }
     requires sized { all_sized (length columns.now) rows.now ≡ true }
     ensures { IfOk result (λ all. all.items ≡
-        flat_map (λ row. filter (has_part (table_of_rows wanted.now third.now.keys) (joined columns.now index.now.columns))
+        flat_map (λ row. filter (has_part (table_of_rows wanted.now third.now.keys)
+        (joined columns.now index.now.columns))
         (pairs_of columns.now index.now.columns index.now.rows row)) rows.now) }
 {
     let more = others(alloc, columns, index.columns())?;

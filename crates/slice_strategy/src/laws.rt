@@ -1,6 +1,7 @@
 //! What holds of every text. Each law is a function that does nothing: its clause is the law.
 
-ghost use Rattle.slice_strategy.specs.Laws.{ReadIsSpelled, SpelledIsRead, OneAnswer, ExactFaults, ExactSoundness, StaysShown};
+ghost use Rattle.slice_strategy.specs.Laws.{ReadIsSpelled, SpelledIsRead, OneAnswer, ExactFaults};
+ghost use Rattle.slice_strategy.specs.Laws.{ExactSoundness, StaysShown};
 ghost use Rattle.slice_strategy.specs.ChangeLaws as changes;
 ghost use Rattle.slice_strategy.specs.ChangeTexts.{WorkedChanges, WorkedChangeFaults};
 ghost use Rattle.slice_strategy.specs.WorkedParts.{WorkedParts};

@@ -72,7 +72,8 @@ impl<'a> Script<'a> {
 
     /// The changes, where the input's end stands at `end`.
     fn finish(self, end: u64) -> Result<Vec<Change>, ChangeFault>
-        ensures { Gives (λ changes. changes.items) result (ends end self.entry.done self.entry.current self.entry.before) }
+        ensures { Gives (λ changes. changes.items) result
+            (ends end self.entry.done self.entry.current self.entry.before) }
     {
         let Script {
             mut done,

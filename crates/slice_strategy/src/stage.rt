@@ -3,7 +3,8 @@ ghost use Rattle.std.specs.Prelude.{◌≡◌, ◌-◌, length, slice_get};
 ghost use Rattle.mfotl_lex.specs.Lexemes.{lexeme};
 ghost use Rattle.slice_strategy.specs.Answers.{Gives, stage_of};
 ghost use Rattle.slice_strategy.specs.Entries.{entries_of, entry_of};
-ghost use Rattle.slice_strategy.specs.Reading.{begins, after_name, after_equal, after_method, count_step, cut_step, goes_on, is_above, stage_step};
+ghost use Rattle.slice_strategy.specs.Reading.{begins, after_name, after_equal, after_method, count_step};
+ghost use Rattle.slice_strategy.specs.Reading.{cut_step, goes_on, is_above, stage_step};
 ghost use Rattle.slice_strategy.specs.Rules.{holds_text, variable_of};
 
 use crate::entry::Entry;

@@ -1,5 +1,6 @@
 //! Strategies.
-ghost use Rattle.std.specs.Prelude.{◌≡◌, ◌<◌, ◌≤◌, ◌||◌, IfOk, IfSome, length, MatchOption, nat_eq, not, slice_get, true, false};
+ghost use Rattle.std.specs.Prelude.{◌≡◌, ◌<◌, ◌≤◌, ◌||◌, IfOk, IfSome, length, MatchOption, nat_eq, not};
+ghost use Rattle.std.specs.Prelude.{slice_get, true, false};
 ghost use Rattle.mfotl_model.specs.FreeVariables.{among};
 ghost use Rattle.mfotl_model.specs.Regions.{near_of};
 ghost use Rattle.mfotl_model.specs.Strategies.{owner_of, parts_of, strategy_part, workers_of};
@@ -29,7 +30,8 @@ impl Model for Strategy {
 
     ghost view = { λ s. entries_of s.entries.items };
 
-    ghost invariant = { λ s. HasWorkers (entries_of s.entries.items) × (s.workers ≡ workers_of (entries_of s.entries.items)) };
+    ghost invariant = { λ s. HasWorkers (entries_of s.entries.items)
+        × (s.workers ≡ workers_of (entries_of s.entries.items)) };
 }
 
 /// The value that a row gives to a variable, if it gives any.

@@ -1,6 +1,7 @@
 //! Examples that were worked out by hand, as theorems on the definitions. Each call does nothing: its
 //! clauses are the examples.
-ghost use Rattle.verdict_merge.specs.Examples.{BothAreThere, NextIsComplete, NoneBegun, OneIsMissing, RowsInOrder, SameWorker, VerdictComes};
+ghost use Rattle.verdict_merge.specs.Examples.{BothAreThere, NextIsComplete, NoneBegun, OneIsMissing};
+ghost use Rattle.verdict_merge.specs.Examples.{RowsInOrder, SameWorker, VerdictComes};
 
 /// Two time-points with workers of two generations.
 pub fn worked_gathers()
