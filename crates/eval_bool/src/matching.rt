@@ -1,5 +1,5 @@
 //! The rows that events give to the variables of an atom.
-ghost use Rattle.std.specs.Prelude.{◌≡◌, IfOk, length};
+ghost use Rattle.std.specs.Prelude.{◌≡◌, ◌++◌, ◌∷◌, [], IfOk, OnOk, length};
 ghost use Rattle.mfotl_model.specs.FreeVariables.{variables_in};
 ghost use Rattle.mfotl_model.specs.Matching.{is_match};
 ghost use Rattle.eval_bool.specs.AtomSteps.{atom_rows};
@@ -39,10 +39,21 @@ pub(crate) fn plain_rows(
     let mut rows = Vec::new(alloc);
     for event in events {
         if is_plain_match(atom, event) {
-            rows.push(event.args.copy(alloc)?)?;
+            push_row(&mut rows, event.args.copy(alloc)?)?;
         }
     }
     Ok(rows)
+}
+
+// Puts a row behind the others. A first one takes memory for itself alone: many time-points have one event.
+fn push_row(rows: &mut Vec<Row>, row: Row) -> Result<(), AllocError>
+    ensures { OnOk result (rows.new.items ≡ rows.old.items ++ row ∷ []) }
+{
+    if rows.is_empty() {
+        rows.reserve_exact(1)?;
+    }
+    rows.push(row)?;
+    Ok(())
 }
 
 // Distinct variables stand for whatever values there are, one for each.

@@ -3,7 +3,9 @@ ghost use Rattle.std.specs.Prelude.{◌≡◌, length, drop, ◌≤◌, slice_in
 ghost use Rattle.std.specs.Char.{is_ascii_digit};
 ghost use Rattle.std.specs.List.{prefix_len};
 ghost use Rattle.mfotl_lex.specs.Bytes.{minus};
-ghost use Rattle.mfotl_lex.specs.Scans.{whole, word_scan, number_scan, minus_scan, closed_text, text_end, text_scan, order_scan, plain_mark, log_mark, mark_scan, plain_scan, log_scan, scan, IsWithin};
+ghost use Rattle.mfotl_lex.specs.Scans.{whole, word_scan, number_scan, minus_scan, closed_text, text_end};
+ghost use Rattle.mfotl_lex.specs.Scans.{text_scan, order_scan, plain_mark, log_mark, mark_scan, plain_scan};
+ghost use Rattle.mfotl_lex.specs.Scans.{log_scan, scan, IsWithin};
 
 use crate::bytes::{
     begins_plain_word, digit_len, in_log_word, log_word_len, plain_word_len, text_len,

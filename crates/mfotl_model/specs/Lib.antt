@@ -3,7 +3,6 @@ pub mod Values
 pub mod Hashes
 pub mod HeldValues
 pub mod Events
-pub mod HeldEvents
 pub mod Formulas
 pub mod Operators
 pub mod Log

@@ -1,6 +1,7 @@
 //! Reading a file whole.
 
-ghost use Rattle.std.specs.Prelude.{◌≡◌, ℕ, ◌<◌, ◌≤◌, ◌++◌, [], ◌∷◌, length, take, IsTrue, IfSome, IfOk, OnOk, OnErr, IsErrOf};
+ghost use Rattle.std.specs.Prelude.{◌≡◌, ℕ, ◌<◌, ◌≤◌, ◌++◌, [], ◌∷◌, length, take, IsTrue, IfSome, IfOk};
+ghost use Rattle.std.specs.Prelude.{OnOk, OnErr, IsErrOf};
 ghost use Rattle.mon_outside.specs.Causes.{Rose};
 ghost use Rattle.mon_outside.specs.Files.{ToldFiles, content};
 ghost use Rattle.mon_outside.specs.Inputs.{Moves, Gave, Loads, IsLonger, StopsIn, asked_more};

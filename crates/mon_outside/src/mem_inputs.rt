@@ -1,6 +1,7 @@
 //! Files in memory, for tests: they fail at the calls that they are told to fail at.
 
-ghost use Rattle.std.specs.Prelude.{◌≡◌, ◌<◌, ◌≤◌, length, min, ◌||◌, is_ok, is_err, is_none, is_some, Some, None, IfOk, IsTrue, OnOk, OnErr, IfSome};
+ghost use Rattle.std.specs.Prelude.{◌≡◌, ◌<◌, ◌≤◌, length, min, ◌||◌, is_ok, is_err, is_none, is_some, Some};
+ghost use Rattle.std.specs.Prelude.{None, IfOk, IsTrue, OnOk, OnErr, IfSome};
 ghost use Rattle.std.specs.Option.{option_copied};
 ghost use Rattle.mon_outside.specs.Causes.{HasCause};
 ghost use Rattle.mon_outside.specs.Files.{find_file};

@@ -1,6 +1,7 @@
 //! A sink in memory, for tests: it fails at the writes that it is told to fail at.
 
-ghost use Rattle.std.specs.Prelude.{◌≡◌, ◌<◌, ◌≤◌, [], length, take, is_err, is_some, Some, IfOk, IsErr, IsOk, IsTrue, OnErr, OnOk};
+ghost use Rattle.std.specs.Prelude.{◌≡◌, ◌<◌, ◌≤◌, [], length, take, is_err, is_some, Some, IfOk, IsErr};
+ghost use Rattle.std.specs.Prelude.{IsOk, IsTrue, OnErr, OnOk};
 ghost use Rattle.mon_outside.specs.Causes.{HasCause};
 ghost use Rattle.mon_outside.specs.Sink.{Appends};
 ghost use Rattle.mon_outside.specs.Memory.{fails_next, after_call, none_held};

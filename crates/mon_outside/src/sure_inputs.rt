@@ -1,6 +1,7 @@
 //! Files in memory of which no call fails, for a run that has no outside.
 
-ghost use Rattle.std.specs.Prelude.{◌≡◌, ◌<◌, ◌≤◌, length, min, is_ok, is_some, Some, None, IfOk, IsOk, IsTrue, OnOk, OnErr, IfSome};
+ghost use Rattle.std.specs.Prelude.{◌≡◌, ◌<◌, ◌≤◌, length, min, is_ok, is_some, Some, None, IfOk, IsOk};
+ghost use Rattle.std.specs.Prelude.{IsTrue, OnOk, OnErr, IfSome};
 ghost use Rattle.mon_outside.specs.Causes.{HasCause};
 ghost use Rattle.mon_outside.specs.Files.{content};
 ghost use Rattle.mon_outside.specs.Inputs.{Opens, Moves};

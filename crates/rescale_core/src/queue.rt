@@ -92,7 +92,8 @@ impl Queue {
         Ok(())
     }
 
-    /// Takes out what stands before the first place, unless that is more than wanted.
+    /// Takes out what stands before the first place, unless that is more than wanted. As much room is kept for what
+    /// comes next, if there is memory.
     pub(crate) fn take_front(&mut self, alloc: Global, most: u64) -> Vec<Item>
         ensures few { length result.items ≤ most }
         ensures taken { self.old ≡ sure result.items ++ self.new }
@@ -100,7 +101,8 @@ impl Queue {
         if self.front.len() as u64 > most {
             return Vec::new(alloc);
         }
-        mem::replace(&mut self.front, VecDeque::new(alloc)).into_vec()
+        let room = VecDeque::with_capacity(alloc, self.front.len());
+        mem::replace(&mut self.front, room.unwrap_or(VecDeque::new(alloc))).into_vec()
     }
 
     /// The first item, unless it is a piece that is missing.

@@ -6,7 +6,8 @@ ghost use lib.ListN.{get_elem?};
 ghost use Rattle.atomic_table.specs.Table.{opening};
 ghost use Rattle.turn_hub.specs.Rule.{Ruled};
 ghost use Rattle.turn_hub.specs.Steps.{first_view, one_more, started};
-ghost use Rattle.turn_hub.specs.Ends.{IsMainOf, IsHandOf, AreHands, AreInOrder, IsFresh, Starts, cell_count, hand_cell, main_view};
+ghost use Rattle.turn_hub.specs.Ends.{IsMainOf, IsHandOf, AreHands, AreInOrder, IsFresh, Starts, cell_count};
+ghost use Rattle.turn_hub.specs.Ends.{hand_cell, main_view};
 
 use crate::hub::{Hand, Hub, Main};
 use crate::plays::{MakeHand, Place};
@@ -19,7 +20,8 @@ use std::snapshot::Snapshot;
 
 // A cell for each work, with nothing handed over.
 fn cells<W: Work>(alloc: Global, works: Vec<W>) -> Result<Vec<Place<W>>, AllocError>
-    ensures { IfOk result (λ v. (length v.items ≡ length works.items) × ((k : ℕ) (w : W) → get_elem? works.items k ≡ some w → IsFresh v.items k w)) }
+    ensures { IfOk result (λ v. (length v.items ≡ length works.items)
+        × ((k : ℕ) (w : W) → get_elem? works.items k ≡ some w → IsFresh v.items k w)) }
 {
     let mut slots = Vec::with_capacity(alloc, works.len())?;
     for work in works {
@@ -44,7 +46,8 @@ impl<W: Work> Hub<W> {
     ) -> Result<(Hub<W>, Main<W>), AllocError>
         requires rule { Ruled W.stands W.may (opening words.now slots.items (first_view W.seed about.now.value.items)) }
         requires sizes { (length words.now ≡ length slots.items) × (length about.now.value.items ≡ length slots.items) }
-        ensures { IfOk result (λ r. (cell_count r.0 ≡ length slots.items) × IsMainOf r.0 r.1 × (main_view r.1 ≡ first_view W.seed about.now.value.items)) }
+        ensures { IfOk result (λ r. (cell_count r.0 ≡ length slots.items) × IsMainOf r.0 r.1
+            × (main_view r.1 ≡ first_view W.seed about.now.value.items)) }
     {
         match Table::new(alloc, words, slots, about) {
             Ok((table, seat)) => Ok((Hub { table, alloc }, Main { seat })),
@@ -55,7 +58,8 @@ impl<W: Work> Hub<W> {
     // A hub with no hands.
     fn without_hands(alloc: Global, works: Vec<W>) -> Result<(Hub<W>, Main<W>), AllocError>
         requires starts { Starts W.stands W.seed works.items }
-        ensures { IfOk result (λ r. (cell_count r.0 ≡ length works.items) × IsMainOf r.0 r.1 × (main_view r.1 ≡ first_view W.seed works.items)) }
+        ensures { IfOk result (λ r. (cell_count r.0 ≡ length works.items) × IsMainOf r.0 r.1
+            × (main_view r.1 ≡ first_view W.seed works.items)) }
     {
         let about = Snapshot::of(&works);
         let words = Vec::from_elem(alloc, MAIN_TURN, works.len())?;
@@ -89,8 +93,10 @@ impl<W: Work> Hub<W> {
     pub fn open(alloc: Global, works: Vec<W>) -> Result<(Hub<W>, Main<W>, Vec<Hand<W>>), AllocError>
         requires count { (0 < length works.items) × (length works.items < 2 ^ 32) }
         requires starts { Starts W.stands W.seed works.items }
-        ensures main { IfOk result (λ r. (cell_count r.0 ≡ length works.items) × IsMainOf r.0 r.1 × ((main_view r.1).lines ≡ map (λ w. started (W.seed w)) works.items)) }
-        ensures hands { IfOk result (λ r. (length r.2.items ≡ length works.items) × AreInOrder r.2.items × All (λ h. IsHandOf r.0 h) r.2.items) }
+        ensures main { IfOk result (λ r. (cell_count r.0 ≡ length works.items) × IsMainOf r.0 r.1
+            × ((main_view r.1).lines ≡ map (λ w. started (W.seed w)) works.items)) }
+        ensures hands { IfOk result (λ r. (length r.2.items ≡ length works.items) × AreInOrder r.2.items
+            × All (λ h. IsHandOf r.0 h) r.2.items) }
     {
         let count = works.len() as u32;
         let mut hands = Vec::with_capacity(alloc, works.len())?;

@@ -1,7 +1,8 @@
 //! The rule of the table of words and cells, and what each step on it tells.
 
 ghost use Rattle.turn_hub.specs.Rule.{Ruled};
-ghost use Rattle.turn_hub.specs.Steps.{first_view, one_more, new_hand, joined, spent, main_looks, hand_looks, hands_over, gives_back};
+ghost use Rattle.turn_hub.specs.Steps.{first_view, one_more, new_hand, joined, spent, main_looks, hand_looks};
+ghost use Rattle.turn_hub.specs.Steps.{hands_over, gives_back};
 
 use crate::view::{Cell, View};
 use crate::work::Work;

@@ -23,9 +23,11 @@ fn work_all<W: Work, G: Gate>(
 ) -> Result<(), AllocError>
     requires { Takes W.stands W.may cell.old.work cell.old.items.items }
     ensures count { IfOk result (λ _. cell.new.count ≡ cell.old.count) }
-    ensures did { IfOk result (λ _. (gave : List W.Out) × (cell.new.outs.items ≡ cell.old.outs.items ++ gave) × Leads W.stands W.may cell.old.work cell.old.items.items cell.new.work gave) }
+    ensures did { IfOk result (λ _. (gave : List W.Out) × (cell.new.outs.items ≡ cell.old.outs.items ++ gave)
+        × Leads W.stands W.may cell.old.work cell.old.items.items cell.new.work gave) }
 {
     let items = mem::replace(&mut cell.items, Vec::new(alloc));
+    cell.outs.reserve(items.len())?;
     for item in items {
         gate.pass(number, cell.taken);
         cell.taken = cell.taken.saturating_add(1);

@@ -22,7 +22,8 @@ fn turn_after(given: u64) -> u64
 // Lays the items into the cell, and takes out the count and the outs that it has.
 fn refill<W, I: Drop, O>(cell: &mut Cell<W, I, O>, items: Vec<I>, none: Vec<O>) -> (u64, Vec<O>)
     ensures result { result ≡ (cell.old.count, cell.old.outs) }
-    ensures cell { (cell.new.work ≡ cell.old.work) × (cell.new.items ≡ items) × (cell.new.outs ≡ none) × (cell.new.count ≡ length items.items) }
+    ensures cell { (cell.new.work ≡ cell.old.work) × (cell.new.items ≡ items) × (cell.new.outs ≡ none)
+        × (cell.new.count ≡ length items.items) }
 {
     let count = mem::replace(&mut cell.count, items.len() as u64);
     cell.items = items;

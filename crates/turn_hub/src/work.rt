@@ -34,7 +34,8 @@ pub trait Work: Drop {
         outs: &mut Vec<Self::Out>,
     ) -> Result<(), AllocError>
         requires { Takes stands may self.old (item ∷ []) }
-        ensures { IfOk result (λ _. (gave : List Self.Out) × (outs.new.items ≡ outs.old.items ++ gave) × Leads stands may self.old (item ∷ []) self.new gave) };
+        ensures { IfOk result (λ _. (gave : List Self.Out) × (outs.new.items ≡ outs.old.items ++ gave)
+            × Leads stands may self.old (item ∷ []) self.new gave) };
 
     /// What stands is told.
     ghost tells: { (s : Self.Seed) (t : List Self.Item) (g : List Self.Out) (w : Self) → stands s t g w → told s t g };
