@@ -9,6 +9,7 @@ use Rattle.std.specs.BTreeMap.{is_at}
 use Rattle.std.specs.List.{list_all, filter}
 use Rattle.mfotl_model.specs.Values.{row_cmp}
 use Rattle.mfotl_model.specs.declared.value.Value.{Value}
+use Rattle.eval_since.specs.PackedRows.{packed_rows}
 use Rattle.eval_since.specs.declared.contents.Dated.{Dated}
 use Rattle.eval_since.specs.Groups.{times_at}
 use Rattle.mfotl_model.specs.Tables.{has_row, part}
@@ -56,11 +57,11 @@ names_recent hi x d ds v (y ∷ ys) far all =
     by true e named rest =
         let apart : nat_eq d.ts y ≡ false = grind (arith, nat_tests) in
         and_from (names ds v y) (list_all (names ds v) (filter (λ z. nat_le (x - z) hi) ys))
-        (sym (ap (λ b. (b && has_row d.rows.items v) || names ds v y) apart) ∙ named) rest
+        (sym (ap (λ b. (b && has_row (packed_rows d.rows) v) || names ds v y) apart) ∙ named) rest
     by false e named rest = rest
 
 -- a row that the first table lacks stands in the rest
-names_other : (d : Dated) (ds : List Dated) (v : List Value) (ys : List ℕ) → has_row d.rows.items v ≡ false
+names_other : (d : Dated) (ds : List Dated) (v : List Value) (ys : List ℕ) → has_row (packed_rows d.rows) v ≡ false
     → list_all (names (d ∷ ds) v) ys ≡ true → list_all (names ds v) ys ≡ true
 names_other d ds v [] lacks all = refl
 names_other d ds v (y ∷ ys) lacks all =
@@ -73,13 +74,13 @@ names_other d ds v (y ∷ ys) lacks all =
 pub covered_more : (hi x : ℕ) (right left : List ℕ) (d : Dated) (ds : List Dated) (q v : List Value)
     (cur new : List (List Value × List (List Value × List ℕ)))
     → hi < x - d.ts → Placed right left cur → list_all (names (d ∷ ds) v) (times_at cur q v) ≡ true
-    → times_at new q v ≡ cond (is_at (row_cmp (part right left v)) q && has_row d.rows.items v)
+    → times_at new q v ≡ cond (is_at (row_cmp (part right left v)) q && has_row (packed_rows d.rows) v)
     (recent hi x (times_at cur q v)) (times_at cur q v)
     → list_all (names ds v) (times_at new q v) ≡ true
 covered_more hi x right left d ds q v cur new far placed all step = by (is_at (row_cmp (part right left v)) q)
-    (has_row d.rows.items v) refl refl step
+    (has_row (packed_rows d.rows) v) refl refl step
   where
-    by : (a b : Bool) → is_at (row_cmp (part right left v)) q ≡ a → has_row d.rows.items v ≡ b
+    by : (a b : Bool) → is_at (row_cmp (part right left v)) q ≡ a → has_row (packed_rows d.rows) v ≡ b
         → times_at new q v ≡ cond (a && b) (recent hi x (times_at cur q v)) (times_at cur q v)
         → list_all (names ds v) (times_at new q v) ≡ true
     by false b at is e = ap (list_all (names ds v)) (e ∙ placed q v at)
@@ -145,20 +146,20 @@ names_push ds d v [] all = refl
 names_push ds d v (y ∷ ys) all =
     let parts = and_parts (names ds v y) (list_all (names ds v) ys) all in
     and_from (names (ds ++ d ∷ []) v y) (list_all (names (ds ++ d ∷ []) v) ys)
-    (list_any-append (λ e. nat_eq e.ts y && has_row e.rows.items v) ds (d ∷ [])
-    ∙ or_left (names ds v y) ((nat_eq d.ts y && has_row d.rows.items v) || false) parts.0)
+    (list_any-append (λ e. nat_eq e.ts y && has_row (packed_rows e.rows) v) ds (d ∷ [])
+    ∙ or_left (names ds v y) ((nat_eq d.ts y && has_row (packed_rows d.rows) v) || false) parts.0)
     (names_push ds d v ys parts.1)
 
-names_last : (ds : List Dated) (d : Dated) (v : List Value) → has_row d.rows.items v ≡ true
+names_last : (ds : List Dated) (d : Dated) (v : List Value) → has_row (packed_rows d.rows) v ≡ true
     → names (ds ++ d ∷ []) v d.ts ≡ true
 names_last ds d v h =
-    list_any-append (λ e. nat_eq e.ts d.ts && has_row e.rows.items v) ds (d ∷ [])
-    ∙ or_right (names ds v d.ts) ((nat_eq d.ts d.ts && has_row d.rows.items v) || false)
-    (or_left (nat_eq d.ts d.ts && has_row d.rows.items v) false
-    (and_from (nat_eq d.ts d.ts) (has_row d.rows.items v) (eq-eqb d.ts d.ts refl) h))
+    list_any-append (λ e. nat_eq e.ts d.ts && has_row (packed_rows e.rows) v) ds (d ∷ [])
+    ∙ or_right (names ds v d.ts) ((nat_eq d.ts d.ts && has_row (packed_rows d.rows) v) || false)
+    (or_left (nat_eq d.ts d.ts && has_row (packed_rows d.rows) v) false
+    (and_from (nat_eq d.ts d.ts) (has_row (packed_rows d.rows) v) (eq-eqb d.ts d.ts refl) h))
 
 names_added : (ds : List Dated) (d : Dated) (v : List Value) (bounded : Bool) (ys : List ℕ)
-    → has_row d.rows.items v ≡ true → list_all (names (ds ++ d ∷ []) v) ys ≡ true
+    → has_row (packed_rows d.rows) v ≡ true → list_all (names (ds ++ d ∷ []) v) ys ≡ true
     → list_all (names (ds ++ d ∷ []) v) (added bounded ys d.ts) ≡ true
 unfolding added
 names_added ds d v bounded ys h all = by (is_new bounded ys d.ts)
@@ -173,15 +174,15 @@ names_added ds d v bounded ys h all = by (is_new bounded ys d.ts)
 -- the queue with one more table has each kept time
 pub covered_push : (ds : List Dated) (d : Dated) (v : List Value) (bounded holds at : Bool) (old held new : List ℕ)
     → list_all (names ds v) old ≡ true → held ≡ cond holds old []
-    → new ≡ cond (at && has_row d.rows.items v) (added bounded held d.ts) held
+    → new ≡ cond (at && has_row (packed_rows d.rows) v) (added bounded held d.ts) held
     → list_all (names (ds ++ d ∷ []) v) new ≡ true
-covered_push ds d v bounded holds at old held new all first second = by at (has_row d.rows.items v) refl second
+covered_push ds d v bounded holds at old held new all first second = by at (has_row (packed_rows d.rows) v) refl second
   where
     kept : (b : Bool) → list_all (names (ds ++ d ∷ []) v) (cond b old []) ≡ true
     kept true = names_push ds d v old all
     kept false = refl
 
-    by : (a b : Bool) → has_row d.rows.items v ≡ b → new ≡ cond (a && b) (added bounded held d.ts) held
+    by : (a b : Bool) → has_row (packed_rows d.rows) v ≡ b → new ≡ cond (a && b) (added bounded held d.ts) held
         → list_all (names (ds ++ d ∷ []) v) new ≡ true
     by true true h e = ap (list_all (names (ds ++ d ∷ []) v)) e
         ∙ names_added ds d v bounded held h (ap (list_all (names (ds ++ d ∷ []) v)) first ∙ kept holds)
@@ -242,9 +243,9 @@ named_fresh : (hi x : ℕ) (v : List Value) (y : ℕ) (ds : List Dated) → Fres
 named_fresh hi x v y [] fresh named = cc
 named_fresh hi x v y (d ∷ ds) fresh named =
     let parts = and_parts (nat_le (x - d.ts) hi) (list_all (λ e. nat_le (x - e.ts) hi) ds) fresh in
-    elim (or_cases (nat_eq d.ts y && has_row d.rows.items v) (names ds v y) named) [
+    elim (or_cases (nat_eq d.ts y && has_row (packed_rows d.rows) v) (names ds v y) named) [
       | inl here ↦ let e : d.ts ≡ y = eqb-true d.ts y
-          (and_parts (nat_eq d.ts y) (has_row d.rows.items v) here).0 in subst
+          (and_parts (nat_eq d.ts y) (has_row (packed_rows d.rows) v) here).0 in subst
           (λ z. nat_le (x - z) hi ≡ true) e parts.0
       | inr there ↦ named_fresh hi x v y ds parts.1 there
     ]

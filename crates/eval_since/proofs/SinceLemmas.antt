@@ -95,3 +95,5 @@ decided_below interval t u a b c d p x times left right =
     (λ j low high. ap₂ (λ e f. e && f)
     (ap₂ (λ e f. e && f) (ap (λ n. in_interval interval (x - n)) (times j (omega arith))) (right j (omega arith)))
     (all_same (truth_at a) (truth_at c) (j + 1) (p - (j + 1)) (λ k l h. left k (omega arith))))
+
+pub ruleset position_by_position = (begins_false, goes_on, since_is, decided_below)

@@ -7,6 +7,7 @@ use Rattle.mfotl_model.specs.Intervals.{in_interval}
 use Rattle.mfotl_model.specs.Values.{row_cmp}
 use Rattle.mfotl_model.specs.declared.interval.Interval.{Interval}
 use Rattle.mfotl_model.specs.declared.value.Value.{Value}
+use Rattle.eval_since.specs.PackedRows.{packed_rows}
 use Rattle.eval_since.specs.declared.contents.Dated.{Dated}
 use Rattle.eval_since.specs.Groups.{NoneEmpty, times_at}
 use Rattle.mfotl_model.specs.Tables.{all_sized, has_row, part}
@@ -34,11 +35,11 @@ module _ (interval : Interval) (right left : List ℕ) (goes : List Value → Bo
   -- the left operand's table was applied, and the right operand's rows were added
   pub record Joined : Type 0 where
     pub rises : last ≤ d.ts
-    pub sized : all_sized (length right) d.rows.items ≡ true
+    pub sized : all_sized (length right) (packed_rows d.rows) ≡ true
     pub kept : Keeps interval.hi right left last old queue
     pub first : (q v : List Value) → times_at held q v ≡ cond (goes q) (times_at old q v) []
     pub second : (q v : List Value) → times_at new q v
-        ≡ cond (is_at (row_cmp (part right left v)) q && has_row d.rows.items v)
+        ≡ cond (is_at (row_cmp (part right left v)) q && has_row (packed_rows d.rows) v)
         (added (is_some interval.hi) (times_at held q v) d.ts) (times_at held q v)
     pub some : NoneEmpty new
 
@@ -50,16 +51,16 @@ module _ (interval : Interval) (right left : List ℕ) (goes : List Value → Bo
 
   pub past_after : Joined → Past d.ts new
   past_after j = λ q v.
-      past_joined d.ts (is_some interval.hi) (is_at (row_cmp (part right left v)) q && has_row d.rows.items v)
+      past_joined d.ts (is_some interval.hi) (is_at (row_cmp (part right left v)) q && has_row (packed_rows d.rows) v)
       (times_at held q v) (times_at new q v)
       (past_before j.rises j.kept j.first q v) (j.second q v)
 
   pub placed_after : Joined → Placed right left new
   placed_after j = λ q v apart.
-      placed_joined d.ts (is_some interval.hi) (goes q) (has_row d.rows.items v)
+      placed_joined d.ts (is_some interval.hi) (goes q) (has_row (packed_rows d.rows) v)
       (times_at old q v) (times_at held q v) (times_at new q v)
       (j.kept.placed q v apart) (j.first q v)
-      (j.second q v ∙ ap (λ b. cond (b && has_row d.rows.items v)
+      (j.second q v ∙ ap (λ b. cond (b && has_row (packed_rows d.rows) v)
       (added (is_some interval.hi) (times_at held q v) d.ts) (times_at held q v)) apart)
 
   ascend_held : Joined → Ascending held
@@ -70,7 +71,7 @@ module _ (interval : Interval) (right left : List ℕ) (goes : List Value → Bo
 
   pub ascend_after : Joined → Ascending new
   ascend_after j = λ q v.
-      either_list IsStrictlyIncreasing (is_at (row_cmp (part right left v)) q && has_row d.rows.items v)
+      either_list IsStrictlyIncreasing (is_at (row_cmp (part right left v)) q && has_row (packed_rows d.rows) v)
       (added (is_some interval.hi) (times_at held q v) d.ts) (times_at held q v) (times_at new q v) (j.second q v)
       (increasing_more (is_some interval.hi) (times_at held q v) d.ts (ascend_held j q v)
       (past_before j.rises j.kept j.first q v))
@@ -84,7 +85,7 @@ module _ (interval : Interval) (right left : List ℕ) (goes : List Value → Bo
 
   alone_after : interval.hi ≡ None → Joined → Alone new
   alone_after e j = λ q v.
-      either_list (λ ys. length ys ≤ 1) (is_at (row_cmp (part right left v)) q && has_row d.rows.items v)
+      either_list (λ ys. length ys ≤ 1) (is_at (row_cmp (part right left v)) q && has_row (packed_rows d.rows) v)
       (added (is_some interval.hi) (times_at held q v) d.ts) (times_at held q v) (times_at new q v) (j.second q v)
       (one_more (is_some interval.hi) (times_at held q v) d.ts (ap is_some e) (alone_held e j q v))
       (alone_held e j q v)
@@ -96,12 +97,12 @@ module _ (interval : Interval) (right left : List ℕ) (goes : List Value → Bo
       (j.kept.sized q v apart) (j.first q v)
       (j.second q v ∙ ap (λ b. cond (is_at (row_cmp (part right left v)) q && b)
       (added (is_some interval.hi) (times_at held q v) d.ts) (times_at held q v))
-      (lacks_other (length right) d.rows.items v j.sized apart))
+      (lacks_other (length right) (packed_rows d.rows) v j.sized apart))
 
   pub within_after : Joined → (x : ℕ) (u : List Value) → reaches interval (times_at new (part right left u) u) x
       ≡ ((reaches interval (times_at old (part right left u) u) x && goes (part right left u))
-      || (in_interval interval (x - d.ts) && has_row d.rows.items u))
-  within_after j x u = reaches_step interval right left goes d.rows.items u d.ts x old held new
+      || (in_interval interval (x - d.ts) && has_row (packed_rows d.rows) u))
+  within_after j x u = reaches_step interval right left goes (packed_rows d.rows) u d.ts x old held new
       (past_before j.rises j.kept j.first) j.first j.second
 
   -- without an upper end that is all
@@ -163,7 +164,7 @@ module _ (interval : Interval) (right left : List ℕ) (goes : List Value → Bo
       → ((q v : List Value) → IsThinned hi d.ts (times_at new q v) (times_at thin q v))
       → (x : ℕ) (u : List Value) → d.ts ≤ x → reaches interval (times_at thin (part right left u) u) x
       ≡ ((reaches interval (times_at old (part right left u) u) x && goes (part right left u))
-      || (in_interval interval (x - d.ts) && has_row d.rows.items u))
+      || (in_interval interval (x - d.ts) && has_row (packed_rows d.rows) u))
   within_bounded hi thin e j thins x u l =
       reaches_thinned interval hi d.ts x (times_at new (part right left u) u)
       (times_at thin (part right left u) u) e l (thins (part right left u) u)

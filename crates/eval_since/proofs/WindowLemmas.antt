@@ -59,6 +59,15 @@ rows_rest h twice right left x key q v rest cur new is step =
         ap (λ n. cond (is_at (row_cmp (part right left v)) q && has_row rest v) (h n) n)
         (away (is_at (row_cmp key) q))
 
+-- a table of one row
+pub one_row : (h : List ℕ → List ℕ) → ((ts : List ℕ) → h (h ts) ≡ h ts)
+    → (right left : List ℕ) (x key q v : List Value) (cur new : List ℕ)
+    → key ≡ part right left x → new ≡ cond (is_at (row_cmp key) q && is_at (row_cmp x) v) (h cur) cur
+    → new ≡ cond (is_at (row_cmp (part right left v)) q && has_row (x ∷ []) v) (h cur) cur
+one_row h twice right left x key q v cur new is step =
+    sym (ap (λ b. cond b (h new) new) (and_false (is_at (row_cmp (part right left v)) q)))
+    ∙ rows_rest h twice right left x key q v [] cur new is step
+
 -- one more row of a table
 pub rows_more : (h : List ℕ → List ℕ) → ((ts : List ℕ) → h (h ts) ≡ h ts)
     → (right left : List ℕ) (rows : List (List Value)) (i : ℕ) (x key q v : List Value)

@@ -8,4 +8,4 @@ use Rattle.eval_since.specs.declared.group.Held.TheVariants.{Zero, One, Many}
 abbrev pub held_times : Held → List (List Value × List ℕ)
 held_times Zero = []
 held_times (One row times) = (row, times) ∷ []
-held_times (Many rows) = rows
+held_times (Many rows) = rows.value

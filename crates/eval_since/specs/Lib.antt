@@ -5,6 +5,7 @@ pub mod SinceLaws
 pub mod Times
 pub mod HeldTimes
 pub mod Groups
+pub mod PackedRows
 pub mod Windows
 pub mod WindowView
 pub mod SinceView

@@ -7,6 +7,7 @@ use Rattle.mfotl_model.specs.Values.{row_cmp}
 use Rattle.mfotl_model.specs.declared.value.Value.{Value}
 use Rattle.eval_since.specs.Groups.{NoneEmpty, times_at}
 use Rattle.std.specs.List.{list_any, list_all}
+use Rattle.eval_since.specs.PackedRows.{packed_rows}
 use Rattle.eval_since.specs.declared.contents.Dated.{Dated}
 use Rattle.mfotl_model.specs.Tables.{all_apart, has_row, part}
 use Rattle.eval_since.specs.Times.{ArePast, recent}
@@ -42,7 +43,7 @@ IsThinned hi x old new = (new ≡ old) ⊎ (new ≡ recent hi x old)
 
 -- whether the queue has the row at the time
 abbrev pub names : List Dated → List Value → ℕ → Bool
-names queue row y = list_any (λ d. nat_eq d.ts y && has_row d.rows.items row) queue
+names queue row y = list_any (λ d. nat_eq d.ts y && has_row (packed_rows d.rows) row) queue
 
 -- each kept time stands in the queue, with its row
 abbrev pub Covered : List Dated → List (List Value × List (List Value × List ℕ)) → Type 0

@@ -11,11 +11,13 @@ ghost use Rattle.eval_since.specs.LeftOperand.{lead, left_has};
 ghost use Rattle.relations.specs.KeptRows.{RowsAscend};
 ghost use Rattle.eval_since.specs.Recalled.{times_for, times_kept};
 ghost use Rattle.eval_since.specs.SinceData.{KeepsTimes};
-ghost use Rattle.eval_since.specs.Times.{added, reaches, recent};
-ghost use Rattle.eval_since.specs.Windows.{Covered, Fresh, IsThinned, Keeps, NotAfter, Past, Placed, Rising};
+ghost use Rattle.eval_since.specs.Times.{added, reaches};
+ghost use Rattle.eval_since.specs.Windows.{Keeps, Past};
 
+use crate::expiry::expire;
 use crate::groups::Groups;
 use crate::keys::holds_on;
+use crate::packed::{PackedRows, packed};
 use crate::rebuild::{dated_rows, grouped};
 use crate::recalled::KeptRow;
 use mfotl_model::{Interval, Row};
@@ -27,7 +29,7 @@ use std::collections::VecDeque;
 #[derive(Drop)]
 pub struct Dated {
     pub ts: u64,
-    pub rows: Vec<Row>,
+    pub rows: PackedRows,
 }
 
 // rows go on where the left operand holds at the new position
@@ -102,61 +104,6 @@ fn add_rows(
     Ok(())
 }
 
-fn forget_rows(
-    alloc: Global,
-    groups: &mut Groups,
-    right: &[u32],
-    left: &[u32],
-    rows: Vec<Row>,
-    now: u64,
-    hi: u64,
-) -> Result<(), AllocError>
-    ensures times { OnOk result ((q v : List Value) → times_at groups.new q v
-        ≡ cond (is_at (row_cmp (part right.now left.now v)) q && has_row rows.items v)
-        (recent hi now (times_at groups.old q v)) (times_at groups.old q v)) }
-    ensures some { OnOk result (NoneEmpty groups.old → NoneEmpty groups.new) }
-{
-    for row in rows {
-        let key = part_of(alloc, right, left, row.values())?;
-        groups.forget(key, row, hi, now);
-    }
-    Ok(())
-}
-
-/// Forgets the times that lie further back than `hi`, by the rows that came with them.
-fn expire(
-    alloc: Global,
-    groups: &mut Groups,
-    dated: &mut VecDeque<Dated>,
-    right: &[u32],
-    left: &[u32],
-    now: u64,
-    hi: u64,
-) -> Result<(), AllocError>
-    requires placed { Placed right.now left.now groups.old }
-    requires covered { Covered dated.old.items groups.old }
-    requires rising { Rising dated.old.items }
-    ensures thin { OnOk result ((q v : List Value) →
-        IsThinned hi now (times_at groups.old q v) (times_at groups.new q v)) }
-    ensures some { OnOk result (NoneEmpty groups.old → NoneEmpty groups.new) }
-    ensures covered { OnOk result (Covered dated.new.items groups.new) }
-    ensures rising { OnOk result (Rising dated.new.items) }
-    ensures fresh { OnOk result (Fresh hi now dated.new.items) }
-    ensures after { OnOk result ((x : ℕ) →
-        NotAfter x dated.old.items → NotAfter x dated.new.items) }
-{
-    while let Some(front) = dated.front() {
-        if now.saturating_sub(front.ts) <= hi {
-            return Ok(());
-        }
-        let Some(old) = dated.pop_front() else {
-            return Ok(());
-        };
-        forget_rows(alloc, groups, right, left, old.rows, now, hi)?;
-    }
-    Ok(())
-}
-
 /// What a window keeps, and the rows that its times came with, oldest first, so that old times are
 /// found. Without an upper end nothing gets old, and no rows are kept for that.
 #[derive(Drop)]
@@ -217,10 +164,8 @@ pub fn step(
     let Some(hi) = interval.hi else {
         return Ok(());
     };
-    contents.dated.push_back(Dated {
-        ts: now,
-        rows: rights,
-    })?;
+    let rows = packed(alloc, rights)?;
+    contents.dated.push_back(Dated { ts: now, rows })?;
     expire(
         alloc,
         &mut contents.groups,

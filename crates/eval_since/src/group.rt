@@ -21,12 +21,12 @@ use std::alloc::{AllocError, Global};
 use std::marker::Model;
 use std::mem;
 
-// Most groups by a key have one row, and a map takes much more memory than that.
+// Most groups by a key have one row, and a map takes much more memory than that, even if it is empty.
 #[derive(Drop)]
 enum Held {
     Zero,
     One(Row, Times),
-    Many(Hashed),
+    Many(Box<Hashed>),
 }
 
 #[derive(Drop)]
@@ -82,7 +82,7 @@ fn other_time(
 {
     let mut rows = hashed(alloc, first, times)?;
     rows.add(alloc, row, x, bounded)?;
-    Ok(Held::Many(rows))
+    Ok(Held::Many(Box::new(alloc, rows)?))
 }
 
 fn next_time(
@@ -175,7 +175,7 @@ fn with_times(alloc: Global, held: Held, row: Row, times: Times) -> Result<Held,
         Held::One(first, kept) => {
             let mut rows = hashed(alloc, first, kept)?;
             rows.put(row, times)?;
-            Ok(Held::Many(rows))
+            Ok(Held::Many(Box::new(alloc, rows)?))
         }
         Held::Many(mut rows) => {
             rows.put(row, times)?;

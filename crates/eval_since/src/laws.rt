@@ -4,7 +4,7 @@ ghost use Rattle.eval_since.specs.SinceLaws.{BeginsFalse, DecidedBelow, GoesOn, 
 ghost use Rattle.eval_since.specs.SinceView.{DueIsSettled};
 
 /// What the first positions decide of SINCE goes on from position to position.
-#[tactic(auto, using(crate::proofs::SinceLemmas::begins_false, crate::proofs::SinceLemmas::goes_on, crate::proofs::SinceLemmas::since_is, crate::proofs::SinceLemmas::decided_below))]
+#[tactic(auto, using(crate::proofs::SinceLemmas::position_by_position))]
 pub fn since_goes_on()
     ensures begins { BeginsFalse }
     ensures goes_on { GoesOn }

@@ -2,6 +2,7 @@
 #![tactic(auto)]
 
 mod contents;
+mod expiry;
 mod group;
 mod groups;
 mod hashed;
@@ -9,10 +10,12 @@ mod keys;
 mod latest_time;
 pub mod laws;
 mod ordered;
+mod packed;
 mod previous;
 mod rebuild;
 mod recalled;
 mod since;
+mod since_steps;
 mod times;
 mod window;
 

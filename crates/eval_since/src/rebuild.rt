@@ -5,11 +5,13 @@ ghost use Rattle.std.specs.List.Sorted.{IsStrictlyIncreasing};
 ghost use Rattle.mfotl_model.specs.Tables.{has_row};
 ghost use Rattle.mfotl_model.specs.declared.value.Value.{Value};
 ghost use Rattle.eval_since.specs.Groups.{NoneEmpty, times_at};
+ghost use Rattle.eval_since.specs.PackedRows.{packed_rows};
 ghost use Rattle.eval_since.specs.Recalled.{named, put_times, times_kept};
 ghost use Rattle.eval_since.specs.Windows.{Rising, names};
 
 use crate::contents::Dated;
 use crate::groups::Groups;
+use crate::packed::packed;
 use crate::recalled::KeptRow;
 use crate::times::Times;
 use mfotl_model::Row;
@@ -41,10 +43,11 @@ pub fn grouped(
 
 fn dated(alloc: Global, row: &Row, ts: u64) -> Result<Dated, AllocError>
     ensures ts { IfOk result (λ dated. dated.ts ≡ ts) }
-    ensures rows { IfOk result (λ dated. dated.rows.items ≡ row.now ∷ []) }
+    ensures rows { IfOk result (λ dated. packed_rows dated.rows ≡ row.now ∷ []) }
 {
     let mut rows = Vec::with_capacity(alloc, 1)?;
     rows.push(row.copy(alloc)?)?;
+    let rows = packed(alloc, rows)?;
     Ok(Dated { ts, rows })
 }
 

@@ -1,25 +1,23 @@
 //! SINCE over tables that are pushed position by position.
-ghost use Rattle.std.specs.Prelude.{◌≡◌, ◌+◌, ◌-◌, ◌<◌, ◌≤◌, ◌^◌, ◌∷◌, ◌++◌, [], Bool, IfOk, IfSome, IsTrue};
-ghost use Rattle.std.specs.Prelude.{List, MatchOption, None, OnOk, Some, ◌&&◌, ◌||◌, cond, drop, is_some};
-ghost use Rattle.std.specs.Prelude.{length, map, nat_eq, nat_le, nat_lt, ℕ, ◌↔◌};
-ghost use Rattle.mfotl_model.specs.Satisfaction.{Valuation, since, time_at, truth_at};
-ghost use Rattle.mfotl_model.specs.Tables.{all_among, all_apart, has, valuation};
+ghost use Rattle.std.specs.Prelude.{◌≡◌, ◌↔◌, ◌+◌, ◌-◌, ◌<◌, ◌≤◌, ◌^◌, ◌&&◌, [], ℕ, Bool, List, None, Some};
+ghost use Rattle.std.specs.Prelude.{IfOk, IfSome, IsTrue, cond, length, nat_eq, nat_le, nat_lt};
+ghost use Rattle.mfotl_model.specs.Satisfaction.{Valuation};
+ghost use Rattle.mfotl_model.specs.Tables.{all_among, all_apart};
 ghost use Rattle.mfotl_model.specs.declared.value.Value.{Value};
 ghost use Rattle.eval_since.specs.Groups.{NoneEmpty};
 ghost use Rattle.eval_since.specs.LeftOperand.{grouping};
-ghost use Rattle.relations.specs.Pushed.{left_holds};
 ghost use Rattle.relations.specs.KeptRows.{filled, kept_for};
 ghost use Rattle.eval_since.specs.Recalled.{recalls, times_for, times_kept};
 ghost use Rattle.eval_since.specs.WindowView.{kept_times, within};
 ghost use Rattle.eval_since.specs.SinceData.{FollowsData, KeepsRule, newest_of, setting_of};
 ghost use Rattle.eval_since.specs.Windows.{Alone, Ascending, Bounded, Past, Placed};
-ghost use Rattle.eval_since.specs.SinceView.{Advances, Climbs, Follows, SinceOf, due};
+ghost use Rattle.eval_since.specs.SinceView.{Climbs, Follows, SinceOf};
 
 use crate::latest_time::latest;
 use crate::recalled::SinceData;
 use crate::window::Window;
-use mfotl_model::{Interval, Row};
-use relations::{Table, copied_tables, first_pushed, part_of};
+use mfotl_model::Interval;
+use relations::{Table, copied_tables};
 use std::alloc::{AllocError, Global};
 use std::collections::VecDeque;
 use std::marker::Model;
@@ -28,13 +26,13 @@ use std::marker::Model;
 /// n-th table pushed on a side, and the n-th time, are those of position n.
 #[derive(Drop)]
 pub struct SinceState {
-    window: Window,
-    negated: bool,
-    pulled: u64,
-    newest: u64,
-    times: VecDeque<u64>,
-    lefts: VecDeque<Table>,
-    rights: VecDeque<Table>,
+    pub(crate) window: Window,
+    pub(crate) negated: bool,
+    pub(crate) pulled: u64,
+    pub(crate) newest: u64,
+    pub(crate) times: VecDeque<u64>,
+    pub(crate) lefts: VecDeque<Table>,
+    pub(crate) rights: VecDeque<Table>,
 }
 
 impl Model for SinceState {
@@ -281,125 +279,6 @@ impl SinceState {
         self.newest <= ts && self.pulled + (self.times.len() as u64) < 1 << 63
     }
 
-    /// Takes the left operand's next table, which of a negated operand is the operand's own.
-    pub fn push_left(&mut self, table: Table) -> Result<(), AllocError>
-        requires columns { table.columns ≡ self.old.window.left }
-        ensures pushed { OnOk result
-            (self.new ≡ record self.old { lefts = self.old.lefts ++ table ∷ [] }) }
-        ensures follows { OnOk result ((t : List ℕ) (a b : List Bool) (v : Valuation) →
-            Follows self.old t a b v →
-            left_holds self.old.negated table v
-            ≡ truth_at a (self.old.pulled + length self.old.lefts) →
-            Follows self.new t a b v) }
-    {
-        self.lefts.push_back(table)?;
-        Ok(())
-    }
-
-    /// Takes the right operand's next table.
-    pub fn push_right(&mut self, table: Table) -> Result<(), AllocError>
-        requires columns { table.columns ≡ self.old.window.right }
-        ensures pushed { OnOk result
-            (self.new ≡ record self.old { rights = self.old.rights ++ table ∷ [] }) }
-        ensures follows { OnOk result ((t : List ℕ) (a b : List Bool) (v : Valuation) →
-            Follows self.old t a b v →
-            has table v ≡ truth_at b (self.old.pulled + length self.old.rights) →
-            Follows self.new t a b v) }
-    {
-        self.rights.push_back(table)?;
-        Ok(())
-    }
-
-    /// Takes the next position's time.
-    pub fn push_time(&mut self, ts: u64) -> Result<(), AllocError>
-        requires rises { self.old.newest ≤ ts }
-        requires few { self.old.pulled + length self.old.times < 2 ^ 63 }
-        ensures pushed { OnOk result
-            (self.new ≡ record self.old { newest = ts; times = self.old.times ++ ts ∷ [] }) }
-        ensures follows { OnOk result ((t : List ℕ) (a b : List Bool) (v : Valuation) →
-            Follows self.old t a b v →
-            ts ≡ time_at t (self.old.pulled + length self.old.times) →
-            Follows self.new t a b v) }
-    {
-        self.times.push_back(ts)?;
-        self.newest = ts;
-        Ok(())
-    }
-
-    /// Whether the next position can be pulled.
-    pub fn is_due(&self) -> bool
-        ensures { result ≡ due self.now }
-    {
-        !self.times.is_empty() && !self.lefts.is_empty() && !self.rights.is_empty()
-    }
-
-    /// Pulls one position, without its table.
-    pub fn advance(&mut self, alloc: Global) -> Result<(), AllocError>
-        requires due { IsTrue (due self.old) }
-        ensures advances { OnOk result (Advances self.old self.new) }
-        ensures follows { OnOk result ((t : List ℕ) (a b : List Bool) (v : Valuation) →
-            Follows self.old t a b v → Follows self.new t a b v) }
-    {
-        let Some(now) = self.times.pop_front() else {
-            unreachable!();
-        };
-        let Some(left) = self.lefts.pop_front() else {
-            unreachable!();
-        };
-        let Some(right) = self.rights.pop_front() else {
-            unreachable!();
-        };
-        let negated = self.negated;
-        self.window.step(alloc, negated, &left, right, now)?;
-        self.pulled += 1;
-        Ok(())
-    }
-
-    /// The table of the position that was pulled last.
-    pub fn table(&self, alloc: Global) -> Result<Table, AllocError>
-        ensures columns { IfOk result (λ table. table.columns ≡ self.now.window.right) }
-        ensures rows { IfOk result (λ table. (t : List ℕ) (a b : List Bool) (v : Valuation) →
-            Follows self.now t a b v → 0 < self.now.pulled →
-            has table v ≡ since self.now.window.interval t a b (self.now.pulled - 1)) }
-    {
-        let table = self.window.table(alloc)?;
-        Ok(table)
-    }
-
-    /// Of the table of the position that was pulled last the rows whose part at the columns of `keys` is
-    /// one of its rows. No other row is copied.
-    pub fn table_of(&self, alloc: Global, keys: &Table) -> Result<Table, AllocError>
-        requires inside { IsTrue (all_among keys.now.columns self.now.window.right) }
-        ensures columns { IfOk result (λ table. table.columns ≡ self.now.window.right) }
-        ensures rows { IfOk result (λ table. (t : List ℕ) (a b : List Bool) (v : Valuation) →
-            Follows self.now t a b v → 0 < self.now.pulled →
-            has table v ≡ (since self.now.window.interval t a b (self.now.pulled - 1)
-            && has keys.now v)) }
-    {
-        let table = self.window.table_of(alloc, keys)?;
-        Ok(table)
-    }
-
-    /// The table of the next position, `None` while it is not due.
-    pub fn pull(&mut self, alloc: Global) -> Result<Option<Table>, AllocError>
-        ensures due { IfOk result (λ answer. is_some answer ≡ due self.old) }
-        ensures state { IfOk result (λ answer.
-            MatchOption answer (self.new ≡ self.old) (λ _. Advances self.old self.new)) }
-        ensures follows { OnOk result ((t : List ℕ) (a b : List Bool) (v : Valuation) →
-            Follows self.old t a b v → Follows self.new t a b v) }
-        ensures columns { IfOk result (λ answer. IfSome answer (λ table.
-            table.columns ≡ self.old.window.right)) }
-        ensures rows { IfOk result (λ answer. IfSome answer (λ table.
-            (t : List ℕ) (a b : List Bool) (v : Valuation) → Follows self.old t a b v →
-            has table v ≡ since self.old.window.interval t a b self.old.pulled)) }
-    {
-        if !self.is_due() {
-            return Ok(None);
-        }
-        self.advance(alloc)?;
-        Ok(Some(self.table(alloc)?))
-    }
-
     /// Of the times kept for a row: they ascend, lie no further back from the last position pulled
     /// than the interval's greatest number, are not after that position's time, and stand in the
     /// row's own group; without a greatest number there is one at most. No row is kept without times,
@@ -437,21 +316,5 @@ impl SinceState {
             rights: copied_tables(alloc, &self.rights)?,
             rows: self.window.kept(alloc)?,
         })
-    }
-
-    /// Whether the next position's table has the valuation that a row gives to its columns, without
-    /// making the table. The columns are any, the right operand's among them.
-    pub fn holds(&self, alloc: Global, columns: &[u32], row: &Row) -> Result<bool, AllocError>
-        requires due { IsTrue (due self.now) }
-        ensures { IfOk result (λ yes. (t : List ℕ) (a b : List Bool) →
-            Follows self.now t a b (valuation columns.now row.now) →
-            yes ≡ since self.now.window.interval t a b self.now.pulled) }
-    {
-        let now = first_pushed(&self.times);
-        let left = first_pushed(&self.lefts);
-        let right = first_pushed(&self.rights);
-        let own = part_of(alloc, columns, self.window.right(), row.values())?;
-        self.window
-            .is_next(alloc, self.negated, left, right, &own, *now)
     }
 }

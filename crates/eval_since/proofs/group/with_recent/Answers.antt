@@ -18,4 +18,4 @@ pub returns-in-One-clause-some : goal.returns-in-One-clause-some
 returns-in-One-clause-some c = rw c.in-One.is c.one_recent.ensures.some
 
 pub returns-in-Many-clause-some : goal.returns-in-Many-clause-some
-returns-in-Many-clause-some c = rw c.in-Many.is c.forget.ensures.some
+returns-in-Many-clause-some c = rw c.in-Many.is (rw c.deref_mut.ensures.value at c.forget.ensures.some)

@@ -15,10 +15,11 @@ returns-in-Zero-clause-times c = λ v.
 pub returns-in-Zero-clause-some : goal.returns-in-Zero-clause-some
 returns-in-Zero-clause-some c = λ some _. one_has c.args.row c.args.times some
 
-pub returns-in_ok-put-in-One-clause-some : goal.returns-in_ok-put-in-One-clause-some
-returns-in_ok-put-in-One-clause-some c = rw c.in-One.is (λ some have.
+pub returns-in_ok-new-in-One-clause-some : goal.returns-in_ok-new-in-One-clause-some
+returns-in_ok-new-in-One-clause-some c = rw (c.in-One.is, c.in_ok-new-in-One.ensures.ok) (λ some have.
     c.in_ok-put-in-One.ensures.some some
     (c.in_ok-rows-in-One.ensures.some (one_had c.in-One.first c.in-One.kept have)))
 
 pub returns-in_ok-put-in-Many-clause-some : goal.returns-in_ok-put-in-Many-clause-some
-returns-in_ok-put-in-Many-clause-some c = rw c.in-Many.is c.in_ok-put-in-Many.ensures.some
+returns-in_ok-put-in-Many-clause-some c = rw c.in-Many.is
+    (rw c.deref_mut.ensures.value at c.in_ok-put-in-Many.ensures.some)

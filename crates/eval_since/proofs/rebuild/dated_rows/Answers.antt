@@ -3,6 +3,7 @@ use Rattle.std.proofs.lemmas.List.Sorted.{IsNonDecreasingBy-from_sort_by_key, li
 use Rattle.std.specs.List.{list_all}
 use Rattle.mfotl_model.specs.Tables.{has_row}
 use Rattle.eval_since.specs.Windows.{Rising, names}
+use Rattle.eval_since.specs.PackedRows.{packed_rows}
 use Rattle.eval_since.specs.declared.contents.Dated.{Dated}
 use Rattle.relations.proofs.TestLemmas.{all_moved}
 use Rattle.eval_since.proofs.DatedLemmas.{rising_from}
@@ -11,8 +12,8 @@ use Rattle.eval_since.proofs.rebuild.dated_rows.Goals as goal
 pub returns-clause-names : goal.returns-clause-names
 returns-clause-names c = λ v y.
     ap (λ ds. names ds v y) c.from_vec.ensures.items
-    ∙ sym (list_any-IsPermutation (λ (d : Dated). nat_eq d.ts y && has_row d.rows.items v) c.in_ok-list.list.items
-    c.sort_unstable_by_key.new.self.items c.sort_unstable_by_key.ensures.permutation)
+    ∙ sym (list_any-IsPermutation (λ (d : Dated). nat_eq d.ts y && has_row (packed_rows d.rows) v)
+    c.in_ok-list.list.items c.sort_unstable_by_key.new.self.items c.sort_unstable_by_key.ensures.permutation)
     ∙ c.in_ok-list.ensures.names v y
 
 pub returns-clause-all : goal.returns-clause-all

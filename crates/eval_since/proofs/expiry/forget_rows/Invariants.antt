@@ -5,7 +5,7 @@ use Rattle.mfotl_model.specs.declared.value.Value.{Value}
 use Rattle.eval_since.specs.Groups.{NoneEmpty, times_at}
 use Rattle.mfotl_model.specs.Tables.{has_row, part}
 use Rattle.eval_since.specs.Times.{recent}
-use Rattle.eval_since.proofs.contents.forget_rows.Given as goal
+use Rattle.eval_since.proofs.expiry.forget_rows.Given as goal
 
 -- once what is left is forgotten
 abbrev pub invariant-loop-row : goal.invariant-loop-row

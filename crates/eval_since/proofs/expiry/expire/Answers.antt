@@ -1,13 +1,14 @@
 use Rattle.std.proofs.Common.{◌≡◌, ◌&&◌, ◌∷◌, List, subst, arith}
 use Rattle.std.specs.BTreeMap.{is_at}
 use Rattle.mfotl_model.specs.Values.{row_cmp}
+use Rattle.eval_since.specs.PackedRows.{packed_rows}
 use Rattle.eval_since.specs.declared.contents.Dated.{Dated}
 use Rattle.eval_since.specs.Groups.{times_at}
 use Rattle.mfotl_model.specs.Tables.{has_row, part}
 use Rattle.eval_since.specs.Windows.{Covered, NotAfter, Rising}
 use Rattle.eval_since.proofs.ExpireLemmas.{thin_more, nothing_thinned, covered_more, fresh_front, front_far}
 use Rattle.eval_since.proofs.ExpireLemmas.{not_after_tail}
-use Rattle.eval_since.proofs.contents.expire.Goals as goal
+use Rattle.eval_since.proofs.expiry.expire.Goals as goal
 
 pub returns-then-saturating_sub-hi-clause-fresh : goal.returns-then-saturating_sub-hi-clause-fresh
 returns-then-saturating_sub-hi-clause-fresh c =
@@ -24,19 +25,19 @@ loop-front-preserved c =
     let rising = subst (λ (queue : List Dated). Rising queue) is c.loop-front.invariant.rising in
     let far = front_far c.args.hi c.args.now c.loop-front.dated.items rest c.in-Some.front.now d is
     c.in-Some.ensures.lookup (omega arith) in
-    let step = c.in_ok-forget_rows.ensures.times in
+    let step = c.in_ok-forget_packed.ensures.times in
     record {
       thin = λ q v. thin_more c.args.hi c.args.now (times_at c.args.groups.now q v)
-          (times_at c.loop-front.groups q v) (times_at c.forget_rows.new.groups q v)
-          (is_at (row_cmp (part c.args.right.now c.args.left.now v)) q && has_row d.rows.items v)
+          (times_at c.loop-front.groups q v) (times_at c.forget_packed.new.groups q v)
+          (is_at (row_cmp (part c.args.right.now c.args.left.now v)) q && has_row (packed_rows d.rows) v)
           (c.loop-front.invariant.thin q v) (step q v);
-      some = λ all. c.in_ok-forget_rows.ensures.some (c.loop-front.invariant.some all);
+      some = λ all. c.in_ok-forget_packed.ensures.some (c.loop-front.invariant.some all);
       placed = λ q v apart. nothing_thinned c.args.hi c.args.now (times_at c.loop-front.groups q v)
-          (times_at c.forget_rows.new.groups q v)
-          (is_at (row_cmp (part c.args.right.now c.args.left.now v)) q && has_row d.rows.items v)
+          (times_at c.forget_packed.new.groups q v)
+          (is_at (row_cmp (part c.args.right.now c.args.left.now v)) q && has_row (packed_rows d.rows) v)
           (c.loop-front.invariant.placed q v apart) (step q v);
       covered = λ q v. covered_more c.args.hi c.args.now c.args.right.now c.args.left.now d rest q v
-          c.loop-front.groups c.forget_rows.new.groups
+          c.loop-front.groups c.forget_packed.new.groups
           far c.loop-front.invariant.placed (covered q v) (step q v);
       rising = rising.1;
       after = λ x all. not_after_tail x d rest (subst (λ (queue : List Dated). NotAfter x queue) is

@@ -2,7 +2,7 @@ use Rattle.std.proofs.Common.{ℕ, List, length}
 use Rattle.mfotl_model.specs.declared.value.Value.{Value}
 use Rattle.eval_since.specs.Groups.{NoneEmpty, times_at}
 use Rattle.eval_since.specs.Windows.{Covered, IsThinned, NotAfter, Placed, Rising}
-use Rattle.eval_since.proofs.contents.expire.Given as goal
+use Rattle.eval_since.proofs.expiry.expire.Given as goal
 
 abbrev pub invariant-loop-front : goal.invariant-loop-front
 invariant-loop-front l = record {

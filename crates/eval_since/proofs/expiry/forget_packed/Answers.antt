@@ -1,0 +1,13 @@
+use Rattle.std.proofs.Common.{[], ◌∷◌, refl}
+use Rattle.mfotl_model.specs.Tables.{part}
+use Rattle.eval_since.specs.Groups.{times_at}
+use Rattle.eval_since.specs.Times.{recent}
+use Rattle.eval_since.proofs.WindowLemmas.{one_row, recent_twice}
+use Rattle.eval_since.proofs.expiry.forget_packed.Goals as goal
+
+pub returns-in_ok-forget_value-in-One-clause-times : goal.returns-in_ok-forget_value-in-One-clause-times
+returns-in_ok-forget_value-in-One-clause-times c = rw c.in-One.is (λ q v.
+    one_row (recent c.args.hi c.args.now) (recent_twice c.args.hi c.args.now) c.args.right.now c.args.left.now
+    (c.in-One.value ∷ []) (part c.args.right.now c.args.left.now (c.in-One.value ∷ [])) q v
+    (times_at c.args.groups.now q v) (times_at c.forget_value.new.groups q v)
+    refl (c.in_ok-forget_value-in-One.ensures.times q v))
