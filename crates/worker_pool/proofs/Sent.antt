@@ -89,13 +89,13 @@ strategy_send = search base depth 30
 
 -- ---- what operators keep
 pub group_send : IsSend (Group.the_field).row
-group_send = search (row_send, base) depth 30
+group_send = search (row_send, base) depth 40
 
 pub groups_send : IsSend (Groups.the_field).row
 groups_send = search (row_send, group_send, base) depth 30
 
 pub window_send : IsSend (Window.the_field).row
-window_send = search (row_send, groups_send, interval_send, base) depth 30
+window_send = search (value_send, row_send, groups_send, interval_send, base) depth 30
 
 pub since_send : IsSend (SinceState.the_field).row
 since_send = search (window_send, table_send, base) depth 30
