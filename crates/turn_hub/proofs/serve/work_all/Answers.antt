@@ -12,7 +12,7 @@ loop-item-init g c =
       whole,
       refl,
       subst (Takes g.W.Work.stands g.W.Work.may c.args.cell.now.work) whole c.requires,
-      ([], sym (append-nil c.args.cell.now.outs.items), none),
+      ([], c.reserve.ensures.items ∙ sym (append-nil c.args.cell.now.outs.items), none),
     )
 
 pub work-requires : goal.work-requires
