@@ -7,5 +7,6 @@ pub mod Hands
 pub mod Opening
 pub mod Changes
 pub mod Writing
+pub mod Steps
 pub mod Chunks
 pub mod Laws

@@ -1,6 +1,5 @@
 -- The lines that are due for what was read of a log, and how many they are.
-use Rattle.std.specs.Prelude.{ℕ, Bool, true, false, not, List, [], ◌∷◌, ◌++◌, length, sum_by, codes}
-use Rattle.std.specs.Fmt.{decimal}
+use Rattle.std.specs.Prelude.{ℕ, Bool, true, false, not, List, [], ◌∷◌, length, sum_by}
 use Rattle.std.specs.List.{count_by, flat_map, list_any}
 use Rattle.mfotl_model.specs.Formulas.{Form}
 use Rattle.mfotl_model.specs.Log.{Log}
@@ -20,10 +19,6 @@ has_row v = not (is_empty v.rows)
 -- some verdict has a row
 abbrev pub some_rows : List VerdictOf → Bool
 some_rows verdicts = list_any (λ v. not (is_empty v.rows)) verdicts
-
--- the front of a line: the timestamp and the number of a time-point
-abbrev pub front_of : ℕ → ℕ → List ℕ
-front_of ts point = codes "@" ++ decimal ts ++ codes " (time point " ++ decimal point ++ codes "):"
 
 -- the lines of verdicts
 abbrev pub lines : List VerdictOf → List ℕ

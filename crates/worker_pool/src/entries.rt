@@ -8,6 +8,7 @@ ghost use Rattle.turn_hub.specs.Ends.{IsMainOf, cell_count};
 ghost use Rattle.rescale_core.specs.declared.item.Entry.TheVariants.{Change as ToStrategy};
 ghost use Rattle.worker_pool.specs.Changes.{HaveCells, NoneDue, Suits, changes_due, changes_later};
 ghost use Rattle.worker_pool.specs.Hands.{AreHandsOf};
+ghost use Rattle.worker_pool.specs.Steps.{MakesDue, standing};
 ghost use Rattle.worker_pool.specs.Writing.{Adds, AddsPoint, ChangesIn, FallsShort, IsOutputStop, IsRoomy, ReadsIn};
 ghost use Rattle.worker_pool.specs.Writing.{Runs, RunsTo};
 
@@ -93,20 +94,9 @@ fn make_due<R: Wait, O: Sink, G: Gate>(
     requires main { IsMainOf context.now.hub.now driver.old.main }
     requires cells { context.now.cells ≤ cell_count context.now.hub.now }
     requires hands { AreHandsOf context.now.hub.now own.old.items }
-    ensures hands { AreHandsOf context.now.hub.now own.new.items }
-    ensures main { OnOk result (IsMainOf context.now.hub.now driver.new.main) }
-    ensures suits { OnOk result (Suits driver.new schedule.new) }
-    ensures seated { OnOk result (HaveCells context.now.cells schedule.new) }
-    ensures all { OnOk result (NoneDue schedule.new) }
-    ensures left { OnOk result (schedule.new.changes.items
-        ≡ changes_later schedule.old.routed schedule.old.changes.items) }
-    ensures routed { schedule.new.routed ≡ schedule.old.routed }
-    ensures ok { OnOk result (Adds driver.old (O.written out.old) writer.old.tally
-        (changes_due schedule.old.routed schedule.old.changes.items)
-        driver.new (O.written out.new) writer.new.tally) }
-    ensures err { OnErr result (FallsShort driver.old (O.written out.old) writer.old.tally (O.written out.new)) }
-    ensures stop { IfErr result (λ stop. IsOutputStop (O.faults out.old) (O.faults out.new) stop) }
-    ensures later { O.faults out.old ≤ O.faults out.new }
+    ensures { MakesDue context.now.hub.now context.now.cells own.new.items schedule.old schedule.new
+        (standing O.Sink driver.old out.old writer.old.tally)
+        (standing O.Sink driver.new out.new writer.new.tally) result }
 {
     for _ in context.rt.forever() {
         match schedule.next_due() {
@@ -132,20 +122,9 @@ fn make_changes<R: Wait, O: Sink, G: Gate>(
     requires main { IsMainOf context.now.hub.now driver.old.main }
     requires cells { context.now.cells ≤ cell_count context.now.hub.now }
     requires hands { AreHandsOf context.now.hub.now own.old.items }
-    ensures hands { AreHandsOf context.now.hub.now own.new.items }
-    ensures main { OnOk result (IsMainOf context.now.hub.now driver.new.main) }
-    ensures suits { OnOk result (Suits driver.new schedule.new) }
-    ensures seated { OnOk result (HaveCells context.now.cells schedule.new) }
-    ensures all { OnOk result (NoneDue schedule.new) }
-    ensures left { OnOk result (schedule.new.changes.items
-        ≡ changes_later schedule.old.routed schedule.old.changes.items) }
-    ensures routed { schedule.new.routed ≡ schedule.old.routed }
-    ensures ok { OnOk result (Adds driver.old (O.written out.old) writer.old.tally
-        (changes_due schedule.old.routed schedule.old.changes.items)
-        driver.new (O.written out.new) writer.new.tally) }
-    ensures err { OnErr result (FallsShort driver.old (O.written out.old) writer.old.tally (O.written out.new)) }
-    ensures stop { IfErr result (λ stop. IsOutputStop (O.faults out.old) (O.faults out.new) stop) }
-    ensures later { O.faults out.old ≤ O.faults out.new }
+    ensures { MakesDue context.now.hub.now context.now.cells own.new.items schedule.old schedule.new
+        (standing O.Sink driver.old out.old writer.old.tally)
+        (standing O.Sink driver.new out.new writer.new.tally) result }
 {
     if schedule.is_due() {
         return make_due(context, own, driver, schedule, writer, out);

@@ -1,6 +1,6 @@
 //! The front of a line: the timestamp and the number of its time-point. It is written from its last byte to its first.
-ghost use Rattle.std.specs.Prelude.{◌≡◌, ◌++◌, ◌+◌, ◌∷◌, [], ◌≤◌, codes, decimal, drop};
-ghost use Rattle.worker_pool.specs.Texts.{front_of};
+ghost use Rattle.std.specs.Prelude.{◌≡◌, ◌++◌, ◌+◌, ◌≤◌, codes, decimal, drop};
+ghost use Rattle.mfotl_model.specs.VerdictText.{line_front};
 
 use itoa::write_digits;
 
@@ -48,7 +48,7 @@ fn put_time(room: &mut [u8; ROOM], end: usize, ts: u64) -> usize
 /// Writes the front so that it ends before the last byte, and answers where it begins.
 pub(crate) fn put_front(room: &mut [u8; ROOM], point: u64, ts: u64) -> usize
     ensures within { result ≤ 63 }
-    ensures written { drop result room.new ≡ front_of ts point ++ drop 63 room.old }
+    ensures written { drop result room.new ≡ line_front ts point ++ drop 63 room.old }
 {
     let end = put_end(room);
     let number = write_digits(point, room, end);

@@ -1,8 +1,8 @@
 //! The lines of verdicts.
-ghost use Rattle.std.specs.Prelude.{◌≡◌, ◌+◌, ◌++◌, ◌∷◌, ◌≤◌, [], List, length, IfOk, IfErr, OnOk, OnErr};
+ghost use Rattle.std.specs.Prelude.{◌≡◌, ◌++◌, ◌∷◌, ◌≤◌, [], List, IfErr, OnOk, OnErr};
 ghost use Rattle.mon_outside.specs.Sink.{Appends, AppendsFront};
 ghost use Rattle.mfotl_model.specs.VerdictText.{VerdictOf, line_of};
-ghost use Rattle.worker_pool.specs.Texts.{has_row, tally_of};
+ghost use Rattle.worker_pool.specs.Texts.{tally_of};
 ghost use Rattle.worker_pool.specs.Writing.{IsOutputStop, seen};
 
 use crate::line_front::{END, ROOM, put_front};

@@ -2,7 +2,8 @@
 ghost use Rattle.std.specs.Prelude.{◌≡◌, ◌≤◌, IfErr, OnOk, OnErr, true};
 ghost use Rattle.turn_hub.specs.Ends.{IsMainOf, cell_count};
 ghost use Rattle.worker_pool.specs.Hands.{AreHandsOf};
-ghost use Rattle.worker_pool.specs.Writing.{FallsShort, IsOutputStop, IsOver, IsRoomy, Keeps, Runs};
+ghost use Rattle.worker_pool.specs.Steps.{MakesRoom, standing};
+ghost use Rattle.worker_pool.specs.Writing.{FallsShort, IsOutputStop, IsOver, Keeps, Runs};
 
 use crate::hands::WorkerHand;
 use crate::line_writer::LineWriter;
@@ -150,14 +151,9 @@ fn turn_for_room<R: Wait, O: Sink, G: Gate>(
     requires main { IsMainOf context.now.hub.now driver.old.main }
     requires cells { context.now.cells ≤ cell_count context.now.hub.now }
     requires hands { AreHandsOf context.now.hub.now own.old.items }
-    ensures hands { AreHandsOf context.now.hub.now own.new.items }
-    ensures main { OnOk result (IsMainOf context.now.hub.now driver.new.main) }
-    ensures room { OnOk result (IsRoomy driver.new) }
-    ensures ok { OnOk result (Keeps driver.old (O.written out.old) writer.old.tally
-        driver.new (O.written out.new) writer.new.tally) }
-    ensures err { OnErr result (FallsShort driver.old (O.written out.old) writer.old.tally (O.written out.new)) }
-    ensures stop { IfErr result (λ stop. IsOutputStop (O.faults out.old) (O.faults out.new) stop) }
-    ensures later { O.faults out.old ≤ O.faults out.new }
+    ensures { MakesRoom context.now.hub.now own.new.items
+        (standing O.Sink driver.old out.old writer.old.tally)
+        (standing O.Sink driver.new out.new writer.new.tally) result }
 {
     let mut idle = 0u64;
     for _ in context.rt.forever() {
@@ -184,14 +180,9 @@ pub(crate) fn make_room<R: Wait, O: Sink, G: Gate>(
     requires main { IsMainOf context.now.hub.now driver.old.main }
     requires cells { context.now.cells ≤ cell_count context.now.hub.now }
     requires hands { AreHandsOf context.now.hub.now own.old.items }
-    ensures hands { AreHandsOf context.now.hub.now own.new.items }
-    ensures main { OnOk result (IsMainOf context.now.hub.now driver.new.main) }
-    ensures room { OnOk result (IsRoomy driver.new) }
-    ensures ok { OnOk result (Keeps driver.old (O.written out.old) writer.old.tally
-        driver.new (O.written out.new) writer.new.tally) }
-    ensures err { OnErr result (FallsShort driver.old (O.written out.old) writer.old.tally (O.written out.new)) }
-    ensures stop { IfErr result (λ stop. IsOutputStop (O.faults out.old) (O.faults out.new) stop) }
-    ensures later { O.faults out.old ≤ O.faults out.new }
+    ensures { MakesRoom context.now.hub.now own.new.items
+        (standing O.Sink driver.old out.old writer.old.tally)
+        (standing O.Sink driver.new out.new writer.new.tally) result }
 {
     if !turns && driver.has_room() {
         return Ok(());

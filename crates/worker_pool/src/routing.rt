@@ -1,5 +1,5 @@
 //! The time-points of a log that are complete, one after the other.
-ghost use Rattle.std.specs.Prelude.{◌≡◌, ◌^◌, ◌<◌, ◌≤◌, IfOk, IfErr, OnOk, false};
+ghost use Rattle.std.specs.Prelude.{◌≡◌, ◌^◌, ◌<◌, ◌≤◌, IfErr, OnOk, false};
 ghost use Rattle.mon_outside.specs.Sink.{AppendsFront};
 ghost use Rattle.log_reader.specs.Progress.{read};
 ghost use Rattle.log_reader.specs.Readers.{progress};

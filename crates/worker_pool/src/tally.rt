@@ -1,5 +1,5 @@
 //! What is counted of the verdicts.
-ghost use Rattle.std.specs.Prelude.{◌≡◌, ◌+◌, [], OnOk, IfOk, cond, nat_lt};
+ghost use Rattle.std.specs.Prelude.{◌≡◌, ◌+◌, [], OnOk, cond, nat_lt};
 ghost use Rattle.worker_pool.specs.Texts.{tally_of};
 
 use std::alloc::AllocError;

@@ -1,4 +1,4 @@
-use Rattle.std.proofs.Common.{◌∙◌, ap, arith}
+use Rattle.std.proofs.Common.{◌∙◌, ap, arith, rules}
 use Rattle.worker_pool.specs.declared.schedule.Schedule.{Schedule}
 use Rattle.worker_pool.proofs.ChangeLemmas.{adds_falls, all_made, none_made, one_made, seated_later, seated_now}
 use Rattle.worker_pool.proofs.ChangeLemmas.{suits_later}
@@ -44,15 +44,40 @@ make_change-requires-clause-seated g c =
     seated_now c.args.context.now.cells c.loop.schedule c.next_due.new.self c.in-Some-next_due.strategy
     c.in-Some-next_due.ensures c.loop.invariant.seated
 
-pub returns-in-None-next_due-clause-ok : goal.returns-in-None-next_due-clause-ok
-returns-in-None-next_due-clause-ok g c = (all_made c.loop.invariant.made c.in-None-next_due.ensures.0).0
+-- none is due any more
+pub returns-in-None-next_due : goal.returns-in-None-next_due
+returns-in-None-next_due g c =
+    let inv = c.loop.invariant in
+    let none = c.in-None-next_due.ensures in
+    let all = all_made inv.made none.0 in
+    record {
+      hands = inv.hands;
+      main = inv.main;
+      suits = search rules;
+      seated = search rules;
+      all = search rules;
+      left = ap (λ (s : Schedule). s.changes.items) none.1 ∙ all.1;
+      routed = ap (λ (s : Schedule). s.routed) none.1 ∙ inv.made.routed;
+      ok = all.0;
+      err = tt;
+      stop = tt;
+      later = inv.later;
+    }
 
-pub returns-in-None-next_due-clause-left : goal.returns-in-None-next_due-clause-left
-returns-in-None-next_due-clause-left g c =
-    ap (λ (s : Schedule). s.changes.items) c.in-None-next_due.ensures.1
-    ∙ (all_made c.loop.invariant.made c.in-None-next_due.ensures.0).1
-
-pub returns-in_err-make_change-in-Some-next_due-clause-err : goal.returns-in_err-make_change-in-Some-next_due-clause-err
-returns-in_err-make_change-in-Some-next_due-clause-err g c =
-    on_err c.from_residual.result _
-    (adds_falls c.loop.invariant.made.none c.loop.invariant.made.adds c.in_err-make_change-in-Some-next_due.ensures.err)
+pub returns-in_err-make_change-in-Some-next_due : goal.returns-in_err-make_change-in-Some-next_due
+returns-in_err-make_change-in-Some-next_due g c =
+    let inv = c.loop.invariant in
+    let made = c.in_err-make_change-in-Some-next_due.ensures in
+    record {
+      hands = c.make_change.ensures.hands;
+      main = search rules;
+      suits = search rules;
+      seated = search rules;
+      all = search rules;
+      left = search rules;
+      routed = c.in-Some-next_due.ensures.3 ∙ inv.made.routed;
+      ok = search rules;
+      err = on_err c.from_residual.result _ (adds_falls inv.made.none inv.made.adds made.err);
+      stop = search rules;
+      later = omega (arith, inv.later, c.make_change.ensures.later);
+    }

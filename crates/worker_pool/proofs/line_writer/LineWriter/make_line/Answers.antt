@@ -1,7 +1,6 @@
 use Rattle.std.proofs.Common.{◌≡◌, ◌∙◌, ◌-◌, ◌++◌, ◌∷◌, [], ℕ, List, ap, refl, rules, replicate, take, drop}
 use Rattle.std.specs.List.{flat_map}
-use Rattle.mfotl_model.specs.VerdictText.{written_row}
-use Rattle.worker_pool.specs.Texts.{front_of}
+use Rattle.mfotl_model.specs.VerdictText.{line_front, written_row}
 use Rattle.worker_pool.specs.Writing.{seen}
 use Rattle.worker_pool.proofs.LineLemmas.{front_in}
 use Rattle.worker_pool.proofs.line_writer.LineWriter.make_line.Goals as goal
@@ -11,7 +10,7 @@ returns-clause-line c =
     let v = seen c.args.verdict.now in
     let start = c.put_front-start.result in
     let room = c.put_front-start.new.room in
-    let front : List ℕ = front_of v.ts v.point in
+    let front : List ℕ = line_front v.ts v.point in
     let rows : List ℕ = flat_map written_row v.rows in
     let one : c.extend_from_slice.new.self.items ≡ front =
     c.in_ok-extend_from_slice.ensures.items
