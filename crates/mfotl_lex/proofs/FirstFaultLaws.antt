@@ -1,7 +1,7 @@
 -- What follows of a reader that owes what `FollowsGrammar` says.
 use Rattle.std.proofs.Common.{◌≡◌, ◌⊎◌, inl, inr, List, [], ◌∷◌, ◌++◌, Result, Ok, Err, refl, sym, ap, subst, ◌∙◌}
 use Rattle.std.proofs.lemmas.List.{append-nil, append_assoc}
-use Rattle.mfotl_lex.specs.FirstFault.{◌>>=◌, Tail, Text, run, StopsAt, given, reading, ShowNone}
+use Rattle.mfotl_lex.specs.FirstFault.{◌>>=◌, Tail, Text, run, StopsAt, reading, ShowNone}
 use Rattle.mfotl_lex.specs.FirstFault.{ShownByToken, IsFirst, FollowsGrammar, ExactSoundness}
 use Rattle.mfotl_lex.specs.FirstFault.{ExactFaults, ReadIsValue, ValueIsRead, HasValue, HasFault, OneAnswer}
 

@@ -1,4 +1,4 @@
-use Rattle.std.proofs.Common.{arith, rules}
+use Rattle.std.proofs.Common.{rules}
 use Rattle.worker_pool.proofs.WritingLemmas.{falls_on, on_err, runs_on}
 use Rattle.worker_pool.proofs.main_turns.turn_for_room.Goals as goal
 

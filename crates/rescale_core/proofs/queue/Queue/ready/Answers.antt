@@ -1,4 +1,4 @@
-use Rattle.std.proofs.Common.{◌∙◌, ap, length, length-append, arith}
+use Rattle.std.proofs.Common.{ap, length, length-append, arith}
 use Rattle.rescale_core.specs.Slots.{ready_of}
 use Rattle.rescale_core.proofs.SlotLemmas.{ready_most}
 use Rattle.rescale_core.proofs.SureLemmas.{sure_ready}
