@@ -1,4 +1,4 @@
-//! A queue that keeps one item in place, and takes memory only for more.
+//! A queue that keeps two items in place, and takes memory only for more.
 #![tactic(auto)]
 
 ghost use Rattle.std.specs.Prelude.{◌≡◌, ◌==◌, ◌-◌, ◌<◌, ◌∷◌, ◌++◌, [], IfOk, OnErr, OnOk, MatchOption, drop};
@@ -8,16 +8,17 @@ use std::alloc::{AllocError, Global};
 use std::collections::VecDeque;
 use std::marker::Model;
 
-// Most queues have one item, which takes no memory beside the queue. A deque stays once there is one, so that a
+// Most queues have one item or two, which take no memory beside the queue. A deque stays once there is one, so that a
 // queue that is emptied and filled again and again takes memory once.
 #[derive(Drop)]
 enum Held<T> {
     Zero,
     One(T),
+    Two(T, T),
     Many(Box<VecDeque<T>>),
 }
 
-/// One item stands in place, in a word more than its own, and others take memory beside the queue.
+/// Up to two items stand in place, in a word more than their own, and more take memory beside the queue.
 #[derive(Drop)]
 pub struct ShortQueue<T> {
     held: Held<T>,
@@ -32,13 +33,19 @@ impl<T> Model for ShortQueue<T> {
     ghost view = { λ q. held_items q.held };
 }
 
-// Two items, in a box.
-fn pair<T: Copy + Drop>(alloc: Global, first: T, second: T) -> Result<Box<VecDeque<T>>, AllocError>
-    ensures { IfOk result (λ items. items.value.items ≡ first ∷ second ∷ []) }
+// Three items, in a box.
+fn three<T: Copy + Drop>(
+    alloc: Global,
+    first: T,
+    second: T,
+    third: T,
+) -> Result<Box<VecDeque<T>>, AllocError>
+    ensures { IfOk result (λ items. items.value.items ≡ first ∷ second ∷ third ∷ []) }
 {
-    let mut items = VecDeque::with_capacity(alloc, 2)?;
+    let mut items = VecDeque::with_capacity(alloc, 4)?;
     items.push_back(first)?;
     items.push_back(second)?;
+    items.push_back(third)?;
     Ok(Box::new(alloc, items)?)
 }
 
@@ -56,6 +63,7 @@ impl<T: Copy + Drop> ShortQueue<T> {
         let held = match items.as_slice() {
             [] => Held::Zero,
             [item] => Held::One(*item),
+            [first, second] => Held::Two(*first, *second),
             _ => Held::Many(Box::new(alloc, VecDeque::from_vec(items))?),
         };
         Ok(ShortQueue { held })
@@ -67,6 +75,7 @@ impl<T: Copy + Drop> ShortQueue<T> {
         match &self.held {
             Held::Zero => 0,
             Held::One(_) => 1,
+            Held::Two(_, _) => 2,
             Held::Many(items) => items.len(),
         }
     }
@@ -77,6 +86,7 @@ impl<T: Copy + Drop> ShortQueue<T> {
         match &self.held {
             Held::Zero => true,
             Held::One(_) => false,
+            Held::Two(_, _) => false,
             Held::Many(items) => items.is_empty(),
         }
     }
@@ -88,6 +98,7 @@ impl<T: Copy + Drop> ShortQueue<T> {
         match &self.held {
             Held::Zero => None,
             Held::One(first) => Some(*first),
+            Held::Two(first, _) => Some(*first),
             Held::Many(items) => items.front().copied(),
         }
     }
@@ -100,6 +111,7 @@ impl<T: Copy + Drop> ShortQueue<T> {
         match &self.held {
             Held::Zero => None,
             Held::One(last) => Some(*last),
+            Held::Two(_, last) => Some(*last),
             Held::Many(items) => items.back().copied(),
         }
     }
@@ -111,6 +123,8 @@ impl<T: Copy + Drop> ShortQueue<T> {
         match &self.held {
             Held::Zero => unreachable!(),
             Held::One(item) => *item,
+            Held::Two(first, _) if place == 0 => *first,
+            Held::Two(_, last) => *last,
             Held::Many(items) => items[place],
         }
     }
@@ -122,7 +136,10 @@ impl<T: Copy + Drop> ShortQueue<T> {
     {
         match &mut self.held {
             Held::Zero => self.held = Held::One(item),
-            Held::One(first) => self.held = Held::Many(pair(alloc, *first, item)?),
+            Held::One(first) => self.held = Held::Two(*first, item),
+            Held::Two(first, second) => {
+                self.held = Held::Many(three(alloc, *first, *second, item)?);
+            }
             Held::Many(items) => items.push_back(item)?,
         }
         Ok(())
@@ -132,10 +149,12 @@ impl<T: Copy + Drop> ShortQueue<T> {
     pub fn pop_front(&mut self)
         ensures rest { self.new ≡ drop 1 self.old }
     {
-        if let Held::Many(items) = &mut self.held {
-            items.pop_front();
-        } else {
-            self.held = Held::Zero;
+        match &mut self.held {
+            Held::Zero | Held::One(_) => self.held = Held::Zero,
+            Held::Two(_, last) => self.held = Held::One(*last),
+            Held::Many(items) => {
+                items.pop_front();
+            }
         }
     }
 
