@@ -10,7 +10,7 @@ use Rattle.std.specs.Prelude.{nat_lt}
 use Rattle.eval_bool.specs.Heads.{advanced_to}
 use Rattle.eval_bool.specs.IsJoin.{FewFrom, IsJoin}
 use Rattle.eval_bool.specs.JoinView.{ChildOf, TestOf, all_children, bound_columns, child_advanced, child_columns}
-use Rattle.eval_bool.specs.JoinView.{child_pushed, child_tables, compared, is_guarded}
+use Rattle.eval_bool.specs.JoinView.{child_pushed, child_tables, compared_variables, is_guarded}
 
 -- the same children but for their tables
 abbrev pub Alike : List ChildOf → List ChildOf → Type 0
@@ -44,8 +44,8 @@ length_alike (x ∷ xs) (y ∷ ys) same = ap suc (length_alike xs ys same.2)
 guarded_alike : (xs ys : List ChildOf) (tests : List TestOf) → Alike xs ys → is_guarded xs tests ≡ is_guarded ys tests
 guarded_alike xs ys tests same =
     ap (λ bound. all_children (λ columns. all_among columns bound) xs
-    && list_all (λ t. all_among (compared t.comparison) bound) tests) (bound_alike xs ys same)
-    ∙ ap (λ b. b && list_all (λ t. all_among (compared t.comparison) (bound_columns ys)) tests)
+    && list_all (λ t. all_among (compared_variables t.comparison) bound) tests) (bound_alike xs ys same)
+    ∙ ap (λ b. b && list_all (λ t. all_among (compared_variables t.comparison) (bound_columns ys)) tests)
     (all_alike (λ columns. all_among columns (bound_columns ys)) xs ys same)
 
 pub join_alike : (columns : List ℕ) (tests : List TestOf) (p q : ℕ) (xs ys : List ChildOf) → IsJoin columns tests p xs

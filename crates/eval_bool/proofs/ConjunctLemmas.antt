@@ -14,7 +14,8 @@ use Rattle.relations.proofs.JoinLemmas.{all_members, member_of_all, same_truth}
 use Rattle.eval_bool.proofs.AtomRows.{variables_apart}
 use Rattle.eval_bool.specs.IsJoin.{FewFrom, IsJoin}
 use Rattle.eval_bool.specs.JoinView.{ChildOf, ConjunctOf, TestOf, all_children, bound_columns, children_of}
-use Rattle.eval_bool.specs.JoinView.{compared, conjunct_columns, conjunct_of, is_guarded, own_columns, tests_of}
+use Rattle.eval_bool.specs.JoinView.{compared_variables, conjunct_columns, conjunct_of, is_guarded, own_columns}
+use Rattle.eval_bool.specs.JoinView.{tests_of}
 use Rattle.eval_bool.specs.JoinView.ConjunctOf.{Child, Test}
 use Rattle.eval_bool.specs.declared.conjunct.Conjunct.{Conjunct}
 
@@ -25,7 +26,7 @@ conjunct_apart (Child columns negated ∷ cs) apart =
     let parts = and_parts (all_apart columns) (all_children all_apart (children_of cs)) apart in
     apart_joined columns (conjunct_columns cs) parts.0 (conjunct_apart cs parts.1)
 conjunct_apart (Test c wanted ∷ cs) apart =
-    apart_joined (compared c) (conjunct_columns cs) (variables_apart (c.left ∷ c.right ∷ []))
+    apart_joined (compared_variables c) (conjunct_columns cs) (variables_apart (c.left ∷ c.right ∷ []))
     (conjunct_apart cs apart)
 
 module _ (y : ℕ) where
@@ -39,7 +40,7 @@ module _ (y : ℕ) where
 
   inside : (bound : List ℕ) (cs : List ConjunctOf)
       → all_children (λ columns. all_among columns bound) (children_of cs) ≡ true
-      → list_all (λ t. all_among (compared t.comparison) bound) (tests_of cs) ≡ true
+      → list_all (λ t. all_among (compared_variables t.comparison) bound) (tests_of cs) ≡ true
       → among y (conjunct_columns cs) ≡ true → among y bound ≡ true
   inside bound [] children tests h = cc
   inside bound (Child columns negated ∷ cs) children tests h =
@@ -47,9 +48,9 @@ module _ (y : ℕ) where
       (all_children (λ columns. all_among columns bound) (children_of cs)) children in
       either columns (conjunct_columns cs) bound parts.0 (inside bound cs parts.1 tests) h
   inside bound (Test c wanted ∷ cs) children tests h =
-      let parts = and_parts (all_among (compared c) bound)
-      (list_all (λ t. all_among (compared t.comparison) bound) (tests_of cs)) tests in
-      either (compared c) (conjunct_columns cs) bound parts.0 (inside bound cs children parts.1) h
+      let parts = and_parts (all_among (compared_variables c) bound)
+      (list_all (λ t. all_among (compared_variables t.comparison) bound) (tests_of cs)) tests in
+      either (compared_variables c) (conjunct_columns cs) bound parts.0 (inside bound cs children parts.1) h
 
   whole : (cs : List ConjunctOf) → among y (bound_columns (children_of cs)) ≡ true
       → among y (conjunct_columns cs) ≡ true
@@ -65,8 +66,8 @@ module _ (y : ℕ) where
         | inr there ↦ or_right (among y columns) (among y (conjunct_columns cs)) (whole cs there)
       ]
   whole (Test c wanted ∷ cs) h =
-      among_joined y (compared c) (conjunct_columns cs)
-      ∙ or_right (among y (compared c)) (among y (conjunct_columns cs)) (whole cs h)
+      among_joined y (compared_variables c) (conjunct_columns cs)
+      ∙ or_right (among y (compared_variables c)) (among y (conjunct_columns cs)) (whole cs h)
 
 few_begun : (cs : List ConjunctOf) → FewFrom 0 (children_of cs)
 few_begun [] = tt
@@ -79,7 +80,7 @@ begun : (cs : List ConjunctOf) → 0 < length (children_of cs) → all_children 
 begun cs some apart guarded =
     let bound = bound_columns (children_of cs) in
     let parts = and_parts (all_children (λ columns. all_among columns bound) (children_of cs))
-    (list_all (λ t. all_among (compared t.comparison) bound) (tests_of cs)) guarded in
+    (list_all (λ t. all_among (compared_variables t.comparison) bound) (tests_of cs)) guarded in
     record {
       some = some;
       apart = conjunct_apart cs apart;

@@ -19,7 +19,7 @@ use Rattle.eval_bool.specs.Firsts.{first_has}
 use Rattle.eval_bool.specs.Heads.{AreHeads, FirstsOver, advanced_to, all_have, heads_of, all_inside, in_columns}
 use Rattle.eval_bool.specs.Heads.{none_has}
 use Rattle.eval_bool.specs.JoinView.{ChildOf, JoinOf, all_children, bound_columns, child_advanced, child_holds}
-use Rattle.eval_bool.specs.JoinView.{compared, join_due}
+use Rattle.eval_bool.specs.JoinView.{compared_variables, join_due}
 
 at_same : (xs : List ChildOf) (i : ℕ) (d : ChildOf) → get_or (advanced_to i xs) i d ≡ get_or xs i d
 at_same [] zero d = refl
@@ -150,7 +150,7 @@ pub heads_are : (s : JoinOf) (plain negated : List TableOf) → IsJoin s.columns
 heads_are s plain negated is due over e f =
     let bound = bound_columns s.children in
     let parts = and_parts (all_children (λ columns. all_among columns bound) s.children)
-    (list_all (λ t. all_among (compared t.comparison) bound) s.tests) is.guarded in
+    (list_all (λ t. all_among (compared_variables t.comparison) bound) s.tests) is.guarded in
     let children : all_children (λ columns. all_among columns s.columns) s.children ≡ true =
     all_alike (λ c. all_among c.columns s.columns) (λ c. all_among c.columns bound) s.children
     (λ c. same_among c.columns s.columns bound is.same) ∙ parts.0 in
@@ -159,9 +159,9 @@ heads_are s plain negated is due over e f =
       same = λ y. is.same y ∙ sym (heads_columns y s.children due over) ∙ ap (in_columns y) (sym e);
       inside = ap (all_inside s.columns) f
           ∙ heads_inside (λ columns. all_among columns s.columns) s.children over children;
-      tests = all_alike (λ t. all_among (compared t.comparison) s.columns)
-          (λ t. all_among (compared t.comparison) bound) s.tests
-          (λ t. same_among (compared t.comparison) s.columns bound is.same)
+      tests = all_alike (λ t. all_among (compared_variables t.comparison) s.columns)
+          (λ t. all_among (compared_variables t.comparison) bound) s.tests
+          (λ t. same_among (compared_variables t.comparison) s.columns bound is.same)
           ∙ parts.1;
       holds = λ v. (λ i. all_have v (e i) && none_has v (f i)) ∙ heads_hold v s.children due;
     }

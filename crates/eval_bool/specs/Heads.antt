@@ -6,7 +6,7 @@ use Rattle.mfotl_model.specs.FreeVariables.{among}
 use Rattle.mfotl_model.specs.Satisfaction.{Valuation}
 use Rattle.mfotl_model.specs.Tables.{TableOf, all_among, all_apart, has}
 use Rattle.relations.specs.Pushed.{AreOver}
-use Rattle.eval_bool.specs.JoinView.{ChildOf, JoinOf, child_advanced, child_holds, compared}
+use Rattle.eval_bool.specs.JoinView.{ChildOf, JoinOf, child_advanced, child_holds, compared_variables}
 
 -- the children, of which the first n lost their first tables
 abbrev pub advanced_to : ℕ → List ChildOf → List ChildOf
@@ -48,9 +48,9 @@ abbrev pub all_inside : List ℕ → List TableOf → Bool
 all_inside columns tables = list_all (λ t. all_among t.columns columns) tables
 
 -- the first of the tables over these columns, if there is one
-abbrev pub IsFirst : List ℕ → List TableOf → Option TableOf → Type 0
-IsFirst columns tables None = tables ≡ []
-IsFirst columns tables (Some t) = (take 1 tables ≡ t ∷ []) × (t.columns ≡ columns)
+abbrev pub IsHeadTable : List ℕ → List TableOf → Option TableOf → Type 0
+IsHeadTable columns tables None = tables ≡ []
+IsHeadTable columns tables (Some t) = (take 1 tables ≡ t ∷ []) × (t.columns ≡ columns)
 
 -- the first table of each child, if it has one, is over the child's columns
 abbrev pub FirstsOver : List ChildOf → Type 0
@@ -62,5 +62,5 @@ pub record AreHeads (s : JoinOf) (plain negated : List TableOf) : Type 0 where
   pub apart : all_apart s.columns ≡ true
   pub same : (y : ℕ) → among y s.columns ≡ in_columns y plain
   pub inside : all_inside s.columns negated ≡ true
-  pub tests : list_all (λ t. all_among (compared t.comparison) s.columns) s.tests ≡ true
+  pub tests : list_all (λ t. all_among (compared_variables t.comparison) s.columns) s.tests ≡ true
   pub holds : (v : Valuation) → (all_have v plain && none_has v negated) ≡ list_all (child_holds v) s.children

@@ -41,13 +41,13 @@ pub record JoinOf : Type 0 where
   pub children : List ChildOf
 
 -- the variables of a comparison
-abbrev pub compared : Comparison → List ℕ
-compared c = variables_in (c.left ∷ c.right ∷ [])
+abbrev pub compared_variables : Comparison → List ℕ
+compared_variables c = variables_in (c.left ∷ c.right ∷ [])
 
 -- the columns of a child, and the variables of a test
 abbrev pub own_columns : ConjunctOf → List ℕ
 own_columns (Child columns negated) = columns
-own_columns (Test c wanted) = compared c
+own_columns (Test c wanted) = compared_variables c
 
 -- the columns of a conjunction: those of each conjunct, each at its first occurrence
 abbrev pub conjunct_columns : List ConjunctOf → List ℕ
@@ -90,7 +90,7 @@ all_children p children = list_all (λ c. p c.columns) children
 abbrev pub is_guarded : List ChildOf → List TestOf → Bool
 is_guarded children tests =
     all_children (λ columns. all_among columns (bound_columns children)) children
-    && list_all (λ t. all_among (compared t.comparison) (bound_columns children)) tests
+    && list_all (λ t. all_among (compared_variables t.comparison) (bound_columns children)) tests
 
 -- the columns of a child, by its number
 abbrev pub child_columns : List ChildOf → ℕ → List ℕ

@@ -1,6 +1,6 @@
 //! A child of a conjunction, and its tables.
 ghost use Rattle.eval_bool.specs.JoinView.{child_advanced};
-ghost use Rattle.eval_bool.specs.Heads.{IsFirst};
+ghost use Rattle.eval_bool.specs.Heads.{IsHeadTable};
 ghost use Rattle.relations.specs.Pushed.{AreOver};
 ghost use Rattle.std.specs.Prelude.{◌≡◌, ◌∷◌, ◌++◌, [], IfOk, OnOk, OnErr, length, nat_lt, ◌+◌, ◌<◌, ◌^◌, IsTrue};
 
@@ -98,7 +98,7 @@ impl Child {
     /// Gives the first of its tables away.
     pub(crate) fn pop(&mut self) -> Option<Table>
         ensures advanced { self.new ≡ child_advanced self.old }
-        ensures first { IsFirst self.old.columns self.old.tables result }
+        ensures first { IsHeadTable self.old.columns self.old.tables result }
     {
         self.tables.pop_front()
     }

@@ -6,7 +6,7 @@ ghost use Rattle.mfotl_model.specs.Satisfaction.{Valuation};
 ghost use Rattle.mfotl_model.specs.Tables.{all_among, all_apart, has};
 ghost use Rattle.eval_bool.specs.Heads.{all_have, all_inside, in_columns, joined_columns, joined_has, none_has};
 ghost use Rattle.eval_bool.specs.JoinedSoFar.{all_joined, is_joined};
-ghost use Rattle.eval_bool.specs.JoinView.{compared, test_holds};
+ghost use Rattle.eval_bool.specs.JoinView.{compared_variables, test_holds};
 
 use crate::conjunct::Test;
 use crate::heads::Heads;
@@ -142,7 +142,7 @@ fn without_any(alloc: Global, table: Table, others: Vec<Table>) -> Result<Table,
 }
 
 fn tested(table: Table, tests: &[Test]) -> Table
-    requires inside { IsTrue (list_all (λ t. all_among (compared t.comparison) table.columns) tests.now) }
+    requires inside { IsTrue (list_all (λ t. all_among (compared_variables t.comparison) table.columns) tests.now) }
     ensures columns { result.columns ≡ table.columns }
     ensures has { (v : Valuation) →
         has result v ≡ (has table v && list_all (test_holds v) tests.now) }
@@ -165,7 +165,7 @@ pub(crate) fn combined(
     requires apart { IsTrue (all_apart columns.now) }
     requires same { (y : ℕ) → among y columns.now ≡ in_columns y heads.plain.items }
     requires negated { IsTrue (all_inside columns.now heads.negated.items) }
-    requires tests { IsTrue (list_all (λ t. all_among (compared t.comparison) columns.now) tests.now) }
+    requires tests { IsTrue (list_all (λ t. all_among (compared_variables t.comparison) columns.now) tests.now) }
     ensures columns { IfOk result (λ table. table.columns ≡ columns.now) }
     ensures has { IfOk result (λ table. (v : Valuation) → has table v
         ≡ ((all_have v heads.plain.items && none_has v heads.negated.items)

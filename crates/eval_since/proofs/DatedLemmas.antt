@@ -13,7 +13,7 @@ use Rattle.mfotl_model.specs.Values.{row_cmp}
 use Rattle.mfotl_model.specs.declared.value.Value.{Value}
 use Rattle.relations.specs.KeptRows.{kept_for}
 use Rattle.relations.proofs.TestLemmas.{all_weaker}
-use Rattle.eval_since.specs.Recalled.{named, times_for, times_kept}
+use Rattle.eval_since.specs.Recalled.{is_recalled, times_for, times_kept}
 use Rattle.eval_since.specs.Times.{ArePast}
 use Rattle.eval_since.specs.Windows.{Rising}
 use Rattle.eval_since.specs.declared.recalled.KeptRow.{KeptRow}
@@ -40,20 +40,21 @@ any_with c y (t ∷ ts) is there = by (nat_eq t y) (any_with c y ts is) there
     by false rest there = rest there
 
 -- the rows name each time that is kept for a row
-pub names_own : (rows : List KeptRow) (v : List Value) → list_all (named rows v) (times_for rows v) ≡ true
+pub names_own : (rows : List KeptRow) (v : List Value) → list_all (is_recalled rows v) (times_for rows v) ≡ true
 names_own [] v = refl
 names_own (k ∷ ks) v = by (is_at (row_cmp v) k.row) refl (names_own ks v)
   where
     own : ℕ → Bool
     own y = list_any (λ t. nat_eq t y && has_row (k.row ∷ []) v) k.times.items
 
-    by : (b : Bool) → is_at (row_cmp v) k.row ≡ b → list_all (named ks v) (times_for ks v) ≡ true
-        → list_all (named (k ∷ ks) v) (unwrap_or (cond b (Some k.times.items) (kept_for (times_kept ks) v)) []) ≡ true
-    by true at rest = all_own (named (k ∷ ks) v) k.times.items (λ y there.
-        or_left (own y) (named ks v y)
+    by : (b : Bool) → is_at (row_cmp v) k.row ≡ b → list_all (is_recalled ks v) (times_for ks v) ≡ true
+        → list_all (is_recalled (k ∷ ks) v) (unwrap_or (cond b (Some k.times.items) (kept_for (times_kept ks) v)) [])
+        ≡ true
+    by true at rest = all_own (is_recalled (k ∷ ks) v) k.times.items (λ y there.
+        or_left (own y) (is_recalled ks v y)
         (any_with (has_row (k.row ∷ []) v) y k.times.items (or_left (is_at (row_cmp v) k.row) false at) there))
-    by false at rest = all_weaker (named ks v) (named (k ∷ ks) v) (times_for ks v)
-        (λ y there. or_right (own y) (named ks v y) there) rest
+    by false at rest = all_weaker (is_recalled ks v) (is_recalled (k ∷ ks) v) (times_for ks v)
+        (λ y there. or_right (own y) (is_recalled ks v y) there) rest
 
 low_all : (m : ℕ) (ds : List Dated) → ((j : ℕ) (d : Dated) → j < length ds → m ≤ (get_or ds j d).ts)
     → list_all (λ e. nat_le m e.ts) ds ≡ true

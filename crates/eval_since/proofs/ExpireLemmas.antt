@@ -14,7 +14,7 @@ use Rattle.eval_since.specs.declared.contents.Dated.{Dated}
 use Rattle.eval_since.specs.Groups.{times_at}
 use Rattle.mfotl_model.specs.Tables.{has_row, part}
 use Rattle.eval_since.specs.Times.{ArePast, is_new, added, recent}
-use Rattle.eval_since.specs.Windows.{Placed, IsThinned, names, Rising, NotAfter, Fresh, Finds, Bounded}
+use Rattle.eval_since.specs.Windows.{Placed, IsThinned, names, Rising, NotAfter, Fresh, FindsOldTimes, Bounded}
 use Rattle.std.specs.Option.{IfSome}
 use Rattle.eval_since.proofs.GroupLemmas.{recent_none}
 use Rattle.eval_since.proofs.WindowLemmas.{recent_twice, past_added}
@@ -260,6 +260,6 @@ times_fresh hi x v ds (y ∷ ys) fresh all =
 
 -- so no kept time lies further back than the greatest number
 pub bounded_is : (o : Option ℕ) (x : ℕ) (groups : List (List Value × List (List Value × List ℕ)))
-    (queue : List Dated) → Finds o x groups queue → IfSome o (λ hi. Bounded hi x groups)
+    (queue : List Dated) → FindsOldTimes o x groups queue → IfSome o (λ hi. Bounded hi x groups)
 bounded_is None x groups queue f = tt
 bounded_is (Some hi) x groups queue f = λ q v. times_fresh hi x v queue (times_at groups q v) f.3 (f.0 q v)

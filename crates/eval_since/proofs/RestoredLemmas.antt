@@ -10,10 +10,10 @@ use Rattle.mfotl_model.specs.Values.{row_cmp}
 use Rattle.mfotl_model.specs.declared.value.Value.{Value}
 use Rattle.relations.specs.KeptRows.{RowsAscend, filled, kept_for}
 use Rattle.eval_since.specs.Groups.{NoneEmpty, times_at}
-use Rattle.eval_since.specs.Recalled.{named, put_times, times_for, times_kept}
+use Rattle.eval_since.specs.Recalled.{is_recalled, put_times, times_for, times_kept}
 use Rattle.eval_since.specs.SinceData.{KeepsTimes}
 use Rattle.eval_since.specs.Times.{ArePast}
-use Rattle.eval_since.specs.Windows.{Finds, Keeps, Rising, names}
+use Rattle.eval_since.specs.Windows.{FindsOldTimes, Keeps, Rising, names}
 use Rattle.eval_since.specs.declared.recalled.KeptRow.{KeptRow}
 use Rattle.eval_since.specs.declared.contents.Dated.{Dated}
 use Rattle.relations.proofs.TestLemmas.{all_weaker}
@@ -83,7 +83,7 @@ each_some hi last rows all = each_times (λ (ts : List ℕ). 0 < length ts) hi l
 
 -- without a greatest distance there is nothing to find
 pub finds_none : (hi : Option ℕ) (last : ℕ) (groups : List (List Value × List (List Value × List ℕ)))
-    (queue : List Dated) → is_some hi ≡ false → Finds hi last groups queue
+    (queue : List Dated) → is_some hi ≡ false → FindsOldTimes hi last groups queue
 finds_none None last groups queue none = tt
 finds_none (Some h) last groups queue none = absurd (let w : true ≡ false = none in cc)
 
@@ -92,9 +92,9 @@ pub finds_rows : (hi : Option ℕ) (right left : List ℕ) (last : ℕ) (rows : 
     (groups : List (List Value × List (List Value × List ℕ))) (queue : List Dated)
     → AllByRecursion (λ k. KeepsTimes hi last k.times.items) rows
     → ((q v : List Value) → times_at groups q v ≡ cond (is_at (row_cmp (part right left v)) q) (times_for rows v) [])
-    → ((v : List Value) (y : ℕ) → names queue v y ≡ named rows v y)
+    → ((v : List Value) (y : ℕ) → names queue v y ≡ is_recalled rows v y)
     → ((test : ℕ → Bool) → list_all (λ d. test d.ts) queue ≡ list_all (λ k. list_all test k.times.items) rows)
-    → Rising queue → Finds hi last groups queue
+    → Rising queue → FindsOldTimes hi last groups queue
 finds_rows None right left last rows groups queue all is same tests rising = tt
 finds_rows (Some h) right left last rows groups queue all is same tests rising = (
   λ q v. covered q v,
@@ -108,7 +108,7 @@ finds_rows (Some h) right left last rows groups queue all is same tests rising =
 )
   where
     by : (v : List Value) (b : Bool) → list_all (names queue v) (cond b (times_for rows v) []) ≡ true
-    by v true = all_weaker (named rows v) (names queue v) (times_for rows v) (λ y there. same v y ∙ there)
+    by v true = all_weaker (is_recalled rows v) (names queue v) (times_for rows v) (λ y there. same v y ∙ there)
         (names_own rows v)
     by v false = refl
 
@@ -121,7 +121,7 @@ pub keeps_restored : (hi : Option ℕ) (right left : List ℕ) (last : ℕ) (row
     → all_apart right ≡ true → all_sized (length right) (map (λ k. k.row) rows) ≡ true
     → AllByRecursion (λ k. KeepsTimes hi last k.times.items) rows
     → ((q v : List Value) → times_at groups q v ≡ cond (is_at (row_cmp (part right left v)) q) (times_for rows v) [])
-    → NoneEmpty groups → Finds hi last groups queue → Keeps hi right left last groups queue
+    → NoneEmpty groups → FindsOldTimes hi last groups queue → Keeps hi right left last groups queue
 keeps_restored hi right left last rows groups queue apart sized all is some finds = record {
   apart = apart;
   sized = λ q v other. is q v ∙ blank (is_at (row_cmp (part right left v)) q) (times_for rows v)

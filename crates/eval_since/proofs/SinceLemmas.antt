@@ -7,7 +7,7 @@ use Rattle.mfotl_model.specs.Intervals.{in_interval}
 use Rattle.mfotl_model.specs.Satisfaction.{time_at, truth_at, since}
 use Rattle.mfotl_model.proofs.LogicLemmas.{any_same, all_same, range_suc}
 use Rattle.eval_since.specs.SinceBefore.{since_before}
-use Rattle.eval_since.specs.SinceLaws.{BeginsFalse, GoesOn, SinceIs, DecidedBelow}
+use Rattle.eval_since.specs.SinceLaws.{BeginsFalse, SinceRecurrence, SinceIs, DecidedBelow}
 
 pub begins_false : BeginsFalse
 unfolding since_before
@@ -55,7 +55,7 @@ all_none : (a : List Bool) (p : ℕ) → list_all (truth_at a) (range_with_len (
 all_none a p = let none : p + 1 - (p + 1) ≡ 0 = omega arith in ap
     (λ n. list_all (truth_at a) (range_with_len (p + 1) n)) none
 
-pub goes_on : GoesOn
+pub goes_on : SinceRecurrence
 unfolding since_before
 goes_on interval times a b p x =
     let at : ℕ → Bool = λ j. in_interval interval (x - time_at times j) && truth_at b j in

@@ -13,7 +13,7 @@ use Rattle.eval_since.specs.Groups.{NoneEmpty, times_at}
 use Rattle.mfotl_model.specs.Tables.{all_sized, has_row, part}
 use Rattle.eval_since.specs.Times.{reaches, added}
 use Rattle.eval_since.specs.Windows.{Alone, Ascending, Sized, Placed, Past, IsThinned, Covered, Rising, NotAfter}
-use Rattle.eval_since.specs.Windows.{Fresh, Finds, Keeps}
+use Rattle.eval_since.specs.Windows.{Fresh, FindsOldTimes, Keeps}
 use Rattle.eval_since.proofs.ExpireLemmas.{past_held, past_joined, placed_joined, past_thinned, placed_thinned}
 use Rattle.eval_since.proofs.ExpireLemmas.{covered_push, rising_push, not_after_later, not_after_push}
 use Rattle.std.specs.List.Sorted.{IsStrictlyIncreasing}
@@ -116,13 +116,13 @@ module _ (interval : Interval) (right left : List ℕ) (goes : List Value → Bo
     placed = placed_after j;
     past =
         past_after j;
-    finds = subst (λ (o : Option ℕ). Finds o d.ts new queue) (sym e) tt;
+    finds = subst (λ (o : Option ℕ). FindsOldTimes o d.ts new queue) (sym e) tt;
   }
 
   -- with one the table goes into the queue
   pub finds_before : (hi : ℕ) → interval.hi ≡ Some hi → Joined
       → Covered queue old × Rising queue × NotAfter last queue × Fresh hi last queue
-  finds_before hi e j = subst (λ (o : Option ℕ). Finds o last old queue) e j.kept.finds
+  finds_before hi e j = subst (λ (o : Option ℕ). FindsOldTimes o last old queue) e j.kept.finds
 
   pub covered_after : (hi : ℕ) → interval.hi ≡ Some hi → Joined → Covered (queue ++ d ∷ []) new
   covered_after hi e j = λ q v.
@@ -155,7 +155,7 @@ module _ (interval : Interval) (right left : List ℕ) (goes : List Value → Bo
     placed = λ q v apart. placed_thinned hi d.ts (times_at new q v) (times_at thin q v) (thins q v)
         (placed_after j q v apart);
     past = λ q v. past_thinned hi d.ts d.ts (times_at new q v) (times_at thin q v) (thins q v) (past_after j q v);
-    finds = subst (λ (o : Option ℕ). Finds o d.ts thin rest) (sym e)
+    finds = subst (λ (o : Option ℕ). FindsOldTimes o d.ts thin rest) (sym e)
         (covered, rising, after d.ts (not_after hi e j), fresh);
   }
 

@@ -37,5 +37,5 @@ put_times right left (e ∷ es) q v times = put_times right left es q v
     (cond (is_at (row_cmp (part right left e.0)) q && is_at (row_cmp e.0) v) e.1 times)
 
 -- whether some of the rows is v and has the time y
-abbrev pub named : List KeptRow → List Value → ℕ → Bool
-named rows v y = list_any (λ k. list_any (λ t. nat_eq t y && has_row (k.row ∷ []) v) k.times.items) rows
+abbrev pub is_recalled : List KeptRow → List Value → ℕ → Bool
+is_recalled rows v y = list_any (λ k. list_any (λ t. nat_eq t y && has_row (k.row ∷ []) v) k.times.items) rows

@@ -11,8 +11,8 @@ BeginsFalse = (interval : Interval) (times : List ℕ) (a b : List Bool) (x : �
     → since_before interval times a b 0 x ≡ false
 
 -- one position more: what was goes on where a holds there, and b holds there
-abbrev pub GoesOn : Type 0
-GoesOn = (interval : Interval) (times : List ℕ) (a b : List Bool) (p x : ℕ)
+abbrev pub SinceRecurrence : Type 0
+SinceRecurrence = (interval : Interval) (times : List ℕ) (a b : List Bool) (p x : ℕ)
     → since_before interval times a b (p + 1) x
     ≡ ((since_before interval times a b p x && truth_at a p)
     || (in_interval interval (x - time_at times p) && truth_at b p))

@@ -67,9 +67,9 @@ abbrev pub Bounded : ℕ → ℕ → List (List Value × List (List Value × Lis
 Bounded hi x groups = (q v : List Value) → list_all (λ y. nat_le (x - y) hi) (times_at groups q v) ≡ true
 
 -- where the interval has a greatest number hi, the queue finds each kept time when it gets old
-abbrev pub Finds : Option ℕ → ℕ → List (List Value × List (List Value × List ℕ)) → List Dated → Type 0
-Finds None x groups queue = Unit {0}
-Finds (Some hi) x groups queue = Covered queue groups × Rising queue × NotAfter x queue × Fresh hi x queue
+abbrev pub FindsOldTimes : Option ℕ → ℕ → List (List Value × List (List Value × List ℕ)) → List Dated → Type 0
+FindsOldTimes None x groups queue = Unit {0}
+FindsOldTimes (Some hi) x groups queue = Covered queue groups × Rising queue × NotAfter x queue × Fresh hi x queue
 
 -- what holds of the rows and the queue kept up to the time x
 pub record Keeps (hi : Option ℕ) (right left : List ℕ) (x : ℕ)
@@ -81,4 +81,4 @@ pub record Keeps (hi : Option ℕ) (right left : List ℕ) (x : ℕ)
   pub some : NoneEmpty groups
   pub placed : Placed right left groups
   pub past : Past x groups
-  pub finds : Finds hi x groups queue
+  pub finds : FindsOldTimes hi x groups queue

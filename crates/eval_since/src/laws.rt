@@ -1,13 +1,13 @@
 //! Laws of SINCE and PREVIOUS, each stated by the contract of a function that does nothing.
 ghost use Rattle.eval_since.specs.PreviousView.{PreviousDueIsSettled};
-ghost use Rattle.eval_since.specs.SinceLaws.{BeginsFalse, DecidedBelow, GoesOn, SinceIs};
+ghost use Rattle.eval_since.specs.SinceLaws.{BeginsFalse, DecidedBelow, SinceRecurrence, SinceIs};
 ghost use Rattle.eval_since.specs.SinceView.{DueIsSettled};
 
 /// What the first positions decide of SINCE goes on from position to position.
 #[tactic(auto, using(crate::proofs::SinceLemmas::position_by_position))]
 pub fn since_goes_on()
     ensures begins { BeginsFalse }
-    ensures goes_on { GoesOn }
+    ensures goes_on { SinceRecurrence }
     ensures is { SinceIs }
     ensures below { DecidedBelow }
 {}

@@ -6,7 +6,7 @@ ghost use Rattle.mfotl_model.specs.Tables.{has_row};
 ghost use Rattle.mfotl_model.specs.declared.value.Value.{Value};
 ghost use Rattle.eval_since.specs.Groups.{NoneEmpty, times_at};
 ghost use Rattle.eval_since.specs.PackedRows.{packed_rows};
-ghost use Rattle.eval_since.specs.Recalled.{named, put_times, times_kept};
+ghost use Rattle.eval_since.specs.Recalled.{is_recalled, put_times, times_kept};
 ghost use Rattle.eval_since.specs.Windows.{Rising, names};
 
 use crate::contents::Dated;
@@ -71,7 +71,7 @@ fn push_dated(
 
 fn dated_list(alloc: Global, rows: &[KeptRow]) -> Result<Vec<Dated>, AllocError>
     ensures names { IfOk result (λ list. (v : List Value) (y : ℕ) →
-        names list.items v y ≡ named rows.now v y) }
+        names list.items v y ≡ is_recalled rows.now v y) }
     ensures all { IfOk result (λ list. (test : ℕ → Bool) → list_all (λ d. test d.ts) list.items
         ≡ list_all (λ k. list_all test k.times.items) rows.now) }
 {
@@ -85,7 +85,7 @@ fn dated_list(alloc: Global, rows: &[KeptRow]) -> Result<Vec<Dated>, AllocError>
 /// Each of the times with its row, the earliest first.
 pub fn dated_rows(alloc: Global, rows: &[KeptRow]) -> Result<VecDeque<Dated>, AllocError>
     ensures names { IfOk result (λ queue. (v : List Value) (y : ℕ) →
-        names queue.items v y ≡ named rows.now v y) }
+        names queue.items v y ≡ is_recalled rows.now v y) }
     ensures all { IfOk result (λ queue. (test : ℕ → Bool) → list_all (λ d. test d.ts) queue.items
         ≡ list_all (λ k. list_all test k.times.items) rows.now) }
     ensures rising { IfOk result (λ queue. Rising queue.items) }

@@ -18,9 +18,9 @@ use Rattle.relations.specs.KeptRows.{RowsAscend, kept_for, last_for}
 use Rattle.relations.proofs.KeptLemmas.{ascending_differ, each_kept, last_is, or_none}
 use Rattle.relations.proofs.TestLemmas.{all_weaker}
 use Rattle.eval_until.specs.AheadView.{AheadOf}
-use Rattle.eval_until.specs.Entries.{entries_of, met_by}
+use Rattle.eval_until.specs.Entries.{entries_for, met_by}
 use Rattle.eval_until.specs.Keeping.{Keeps, Rising, Sized, breaks_before, names}
-use Rattle.eval_until.specs.Recalled.{broken, named}
+use Rattle.eval_until.specs.Recalled.{run_begins, is_recalled}
 use Rattle.eval_until.specs.Rules.{Ascending, NoneEmpty, PlacesAscend, StartsAbove, StartsBelow, Waiting}
 use Rattle.eval_until.specs.Starts.{kept_start}
 use Rattle.eval_until.specs.UntilView.{Follows, FollowsLeft}
@@ -65,47 +65,49 @@ any_with c j (e ∷ es) is there = by (nat_eq e.place j) (any_with c j es is) th
 
 -- the rows name the position of each entry that is kept for a row
 named_own : (rows : List (List Value × List Entry)) (u : List Value)
-    → list_all (λ e. named rows u e.place) (entries_of rows u) ≡ true
+    → list_all (λ e. is_recalled rows u e.place) (entries_for rows u) ≡ true
 named_own [] u = refl
 named_own (r ∷ rs) u = by (is_at (row_cmp u) r.0) refl (named_own rs u)
   where
     own : ℕ → Bool
     own j = list_any (λ (e : Entry). nat_eq e.place j && has_row (r.0 ∷ []) u) r.1
 
-    by : (b : Bool) → is_at (row_cmp u) r.0 ≡ b → list_all (λ e. named rs u e.place) (entries_of rs u) ≡ true
-        → list_all (λ e. named (r ∷ rs) u e.place) (unwrap_or (cond b (Some r.1) (kept_for rs u)) []) ≡ true
-    by true at rest = all_own (named (r ∷ rs) u) r.1 (λ j there.
-        or_left (own j) (named rs u j)
+    by : (b : Bool) → is_at (row_cmp u) r.0 ≡ b → list_all (λ e. is_recalled rs u e.place) (entries_for rs u) ≡ true
+        → list_all (λ e. is_recalled (r ∷ rs) u e.place) (unwrap_or (cond b (Some r.1) (kept_for rs u)) []) ≡ true
+    by true at rest = all_own (is_recalled (r ∷ rs) u) r.1 (λ j there.
+        or_left (own j) (is_recalled rs u j)
         (any_with (has_row (r.0 ∷ []) u) j r.1 (or_left (is_at (row_cmp u) r.0) false at) there))
-    by false at rest = all_weaker (λ (e : Entry). named rs u e.place) (λ (e : Entry). named (r ∷ rs) u e.place)
-        (entries_of rs u) (λ e there. or_right (own e.place) (named rs u e.place) there) rest
+    by false at rest =
+        all_weaker (λ (e : Entry). is_recalled rs u e.place) (λ (e : Entry). is_recalled (r ∷ rs) u e.place)
+        (entries_for rs u) (λ e there. or_right (own e.place) (is_recalled rs u e.place) there) rest
 
 -- the starts break the run of each row before its start
 broken_own : (starts : List (List Value × ℕ)) (w : List Value) → IfSome (kept_start starts w) (λ s. 0 < s)
-    → IfSome (kept_start starts w) (λ s. broken starts w s ≡ true)
+    → IfSome (kept_start starts w) (λ s. run_begins starts w s ≡ true)
 broken_own [] w low = tt
 broken_own (r ∷ rs) w low = by (is_at (row_cmp w) r.0) refl low (broken_own rs w)
   where
     own : ℕ → Bool
     own s = nat_eq (r.1 - 1 + 1) s && has_row (r.0 ∷ []) w
 
-    later : (o : Option ℕ) → IfSome o (λ s. broken rs w s ≡ true) → IfSome o (λ s. (own s || broken rs w s) ≡ true)
+    later : (o : Option ℕ) → IfSome o (λ s. run_begins rs w s ≡ true)
+        → IfSome o (λ s. (own s || run_begins rs w s) ≡ true)
     later None there = tt
-    later (Some s) there = or_right (own s) (broken rs w s) there
+    later (Some s) there = or_right (own s) (run_begins rs w s) there
 
     by : (b : Bool) → is_at (row_cmp w) r.0 ≡ b → IfSome (cond b (Some r.1) (kept_start rs w)) (λ s. 0 < s)
-        → (IfSome (kept_start rs w) (λ s. 0 < s) → IfSome (kept_start rs w) (λ s. broken rs w s ≡ true))
-        → IfSome (cond b (Some r.1) (kept_start rs w)) (λ s. (own s || broken rs w s) ≡ true)
+        → (IfSome (kept_start rs w) (λ s. 0 < s) → IfSome (kept_start rs w) (λ s. run_begins rs w s ≡ true))
+        → IfSome (cond b (Some r.1) (kept_start rs w)) (λ s. (own s || run_begins rs w s) ≡ true)
     by true at low rest =
         let some : 0 < r.1 = low in
-        or_left (own r.1) (broken rs w r.1)
+        or_left (own r.1) (run_begins rs w r.1)
         (and_from (nat_eq (r.1 - 1 + 1) r.1) (has_row (r.0 ∷ []) w) (grind (arith, nat_tests))
         (or_left (is_at (row_cmp w) r.0) false at))
     by false at low rest = later (kept_start rs w) (rest low)
 
 -- what each row's entries pass, by look-ups
 rows_all : (p : Entry → Bool) (rows : List (List Value × List Entry)) → RowsAscend rows
-    → ((u : List Value) → list_all p (entries_of rows u) ≡ true) → list_all (λ r. list_all p r.1) rows ≡ true
+    → ((u : List Value) → list_all p (entries_for rows u) ≡ true) → list_all (λ r. list_all p r.1) rows ≡ true
 rows_all p rows up all = each rows (each_kept (λ u es. list_all p es ≡ true) rows up (λ u es is.
     sym (ap (λ o. list_all p (unwrap_or o [])) is) ∙ all u))
   where
@@ -135,9 +137,9 @@ pub keeps_resumed : (negated : Bool) (right : List ℕ) (pulled taken : ℕ) (st
     → all_apart right ≡ true → Sized (length right) rows → NoneEmpty rows → Waiting pulled taken rows
     → Ascending rows → StartsBelow taken starts → (negated ≡ true → StartsAbove pulled starts)
     → RowsAscend rows → (negated ≡ true → RowsAscend starts)
-    → ((u : List Value) (j : ℕ) → names queue u j ≡ named rows u j)
+    → ((u : List Value) (j : ℕ) → names queue u j ≡ is_recalled rows u j)
     → (negated ≡ true → (w : List Value) (s : ℕ)
-    → breaks_before queue w s ≡ (breaks_before [] w s || broken starts w s))
+    → breaks_before queue w s ≡ (breaks_before [] w s || run_begins starts w s))
     → ((test : ℕ → Bool) → list_all (λ q. test q.place) queue
     ≡ (list_all (λ r. list_all (λ e. test e.place) r.1) rows
     && cond negated (list_all (λ r. test (r.1 - 1)) starts) true))
@@ -150,14 +152,14 @@ keeps_resumed negated right pulled taken starts rows queue apart sized some wait
       some = some;
       ascend = ascend;
       below = λ u. all_weaker (λ e. nat_le pulled e.place && nat_lt e.place taken && nat_le e.start e.place)
-          (λ e. nat_lt e.place taken && nat_le e.start e.place) (entries_of rows u)
+          (λ e. nat_lt e.place taken && nat_le e.start e.place) (entries_for rows u)
           (λ e h. let parts = and_parts (nat_le pulled e.place && nat_lt e.place taken) (nat_le e.start e.place) h in
           and_from (nat_lt e.place taken) (nat_le e.start e.place)
           (and_parts (nat_le pulled e.place) (nat_lt e.place taken) parts.0).1 parts.1) (waiting u);
       low = below;
-      covered = λ u. all_weaker (λ e. named rows u e.place) (λ e. names queue u e.place) (entries_of rows u)
+      covered = λ u. all_weaker (λ e. is_recalled rows u e.place) (λ e. names queue u e.place) (entries_for rows u)
           (λ e there. same u e.place ∙ there) (named_own rows u);
-      breaks = λ is w. both_some (λ s. pulled < s) (λ s. broken starts w s ≡ true)
+      breaks = λ is w. both_some (λ s. pulled < s) (λ s. run_begins starts w s ≡ true)
           (λ s. breaks_before queue w s ≡ true) (λ s low there. breaks is w s ∙ there) (kept_start starts w)
           (above is w)
           (broken_own starts w (both_some (λ s. pulled < s) (λ s. pulled < s) (λ s. 0 < s) (λ s low low2. omega arith)
@@ -167,7 +169,7 @@ keeps_resumed negated right pulled taken starts rows queue apart sized some wait
           (cond negated (list_all (λ r. nat_lt (r.1 - 1) taken) starts) true)
           (rows_all (λ e. nat_lt e.place taken) rows up (λ u.
           all_weaker (λ e. nat_le pulled e.place && nat_lt e.place taken && nat_le e.start e.place)
-          (λ e. nat_lt e.place taken) (entries_of rows u)
+          (λ e. nat_lt e.place taken) (entries_for rows u)
           (λ e h. let parts = and_parts (nat_le pulled e.place && nat_lt e.place taken) (nat_le e.start e.place) h in
           (and_parts (nat_le pulled e.place) (nat_lt e.place taken) parts.0).1) (waiting u)))
           (only negated refl (λ s. nat_lt (s - 1) taken) (λ s low high. grind (arith, nat_tests)));
@@ -175,7 +177,7 @@ keeps_resumed negated right pulled taken starts rows queue apart sized some wait
           (cond negated (list_all (λ r. nat_le pulled (r.1 - 1)) starts) true)
           (rows_all (λ e. nat_le pulled e.place) rows up (λ u.
           all_weaker (λ e. nat_le pulled e.place && nat_lt e.place taken && nat_le e.start e.place)
-          (λ e. nat_le pulled e.place) (entries_of rows u)
+          (λ e. nat_le pulled e.place) (entries_for rows u)
           (λ e h. let parts = and_parts (nat_le pulled e.place && nat_lt e.place taken) (nat_le e.start e.place) h in
           (and_parts (nat_le pulled e.place) (nat_lt e.place taken) parts.0).0) (waiting u)))
           (only negated refl (λ s. nat_le pulled (s - 1)) (λ s low high. grind (arith, nat_tests)));

@@ -23,5 +23,5 @@ unfoldable pub from_place : ℕ → List Entry → List Entry
 from_place next entries = filter (λ e. nat_le next e.place) entries
 
 -- the entries of a row
-abbrev pub entries_of : List (List Value × List Entry) → List Value → List Entry
-entries_of rows u = unwrap_or (lookup (is_at (row_cmp u)) rows) []
+abbrev pub entries_for : List (List Value × List Entry) → List Value → List Entry
+entries_for rows u = unwrap_or (lookup (is_at (row_cmp u)) rows) []

@@ -21,9 +21,9 @@ abbrev pub starts_kept : List KeptStart → List (List Value × ℕ)
 starts_kept starts = map (λ k. (k.row, k.start)) starts
 
 -- whether some of the rows is u and has an entry at the position j
-abbrev pub named : List (List Value × List Entry) → List Value → ℕ → Bool
-named rows u j = list_any (λ r. list_any (λ e. nat_eq e.place j && has_row (r.0 ∷ []) u) r.1) rows
+abbrev pub is_recalled : List (List Value × List Entry) → List Value → ℕ → Bool
+is_recalled rows u j = list_any (λ r. list_any (λ e. nat_eq e.place j && has_row (r.0 ∷ []) u) r.1) rows
 
 -- whether some of the rows is w and its run begins at s
-abbrev pub broken : List (List Value × ℕ) → List Value → ℕ → Bool
-broken starts w s = list_any (λ r. nat_eq (r.1 - 1 + 1) s && has_row (r.0 ∷ []) w) starts
+abbrev pub run_begins : List (List Value × ℕ) → List Value → ℕ → Bool
+run_begins starts w s = list_any (λ r. nat_eq (r.1 - 1 + 1) s && has_row (r.0 ∷ []) w) starts

@@ -5,13 +5,13 @@ use Rattle.std.specs.Option.{IfSome}
 use Rattle.mfotl_model.specs.declared.value.Value.{Value}
 use Rattle.relations.specs.KeptRows.{kept_for}
 use Rattle.eval_until.specs.declared.entries.Entry.{Entry}
-use Rattle.eval_until.specs.Entries.{entries_of}
+use Rattle.eval_until.specs.Entries.{entries_for}
 use Rattle.eval_until.specs.Starts.{kept_start}
 
 -- each entry stands at a position that was taken and not pulled, and its run doesn't begin behind it
 abbrev pub Waiting : ℕ → ℕ → List (List Value × List Entry) → Type 0
 Waiting pulled taken rows = (u : List Value)
-    → list_all (λ e. nat_le pulled e.place && nat_lt e.place taken && nat_le e.start e.place) (entries_of rows u)
+    → list_all (λ e. nat_le pulled e.place && nat_lt e.place taken && nat_le e.start e.place) (entries_for rows u)
     ≡ true
 
 -- whether each of the entries stands before a position
@@ -25,7 +25,7 @@ PlacesAscend (e ∷ es) = (list_all (λ f. nat_lt e.place f.place) es ≡ true) 
 
 -- those of each row do
 abbrev pub Ascending : List (List Value × List Entry) → Type 0
-Ascending rows = (u : List Value) → PlacesAscend (entries_of rows u)
+Ascending rows = (u : List Value) → PlacesAscend (entries_for rows u)
 
 -- each row that is kept has an entry
 abbrev pub NoneEmpty : List (List Value × List Entry) → Type 0

@@ -2,7 +2,7 @@
 ghost use Rattle.std.specs.Prelude.{◌≡◌, ◌+◌, ◌∷◌, ◌++◌, ◌≤◌, ◌<◌, ◌^◌, [], true, List, OnOk, cond};
 ghost use Rattle.mfotl_model.specs.Tables.{has_row, part};
 ghost use Rattle.mfotl_model.specs.declared.value.Value.{Value};
-ghost use Rattle.eval_until.specs.Entries.{entries_of};
+ghost use Rattle.eval_until.specs.Entries.{entries_for};
 ghost use Rattle.eval_until.specs.Keeping.{Keeps, Queues};
 ghost use Rattle.eval_until.specs.Starts.{kept_start, start_of, start_taken};
 
@@ -88,13 +88,13 @@ pub fn take_position(
     requires columns { rights.columns ≡ right.now }
     requires low { pulled ≤ place }
     requires few { place < 2 ^ 63 }
-    ensures rows { OnOk result ((u : List Value) → entries_of contents.new.rows.entries u
-        ≡ cond (has_row rights.rows u) (entries_of contents.old.rows.entries u ++ record {
+    ensures rows { OnOk result ((u : List Value) → entries_for contents.new.rows.entries u
+        ≡ cond (has_row rights.rows u) (entries_for contents.old.rows.entries u ++ record {
           place = place;
           start = start_of negated place contents.old.starts (part right.now left.now u);
           ts = ts;
         } ∷ [])
-        (entries_of contents.old.rows.entries u)) }
+        (entries_for contents.old.rows.entries u)) }
     ensures starts { OnOk result ((w : List Value) → kept_start contents.new.starts w
         ≡ start_taken negated place lefts.rows contents.old.starts w) }
     ensures kept { OnOk result (

@@ -2,7 +2,7 @@
 ghost use Rattle.std.specs.Prelude.{◌≡◌, ◌&&◌, ℕ, true, List, cond};
 ghost use Rattle.mfotl_model.specs.Tables.{has_row};
 ghost use Rattle.mfotl_model.specs.declared.value.Value.{Value};
-ghost use Rattle.eval_until.specs.Entries.{entries_of};
+ghost use Rattle.eval_until.specs.Entries.{entries_for};
 ghost use Rattle.eval_until.specs.Keeping.{Covered, CoveredStarts, Fresh, IsLater, IsThinned, NotAfter, Rising};
 ghost use Rattle.eval_until.specs.Rules.{NoneEmpty};
 ghost use Rattle.eval_until.specs.Starts.{kept_start, later_start};
@@ -38,7 +38,7 @@ pub fn expire(
     requires rows { Covered queue.old.items rows.old.entries }
     requires rising { Rising queue.old.items }
     ensures rows { (u : List Value) →
-        IsThinned next (entries_of rows.old.entries u) (entries_of rows.new.entries u) }
+        IsThinned next (entries_for rows.old.entries u) (entries_for rows.new.entries u) }
     ensures some { NoneEmpty rows.old.entries → NoneEmpty rows.new.entries }
     ensures starts { (w : List Value) →
         IsLater negated next (kept_start starts.old w) (kept_start starts.new w) }

@@ -6,7 +6,7 @@ ghost use Rattle.mfotl_model.specs.Tables.{has_row};
 ghost use Rattle.mfotl_model.specs.declared.value.Value.{Value};
 ghost use Rattle.relations.specs.KeptRows.{RowsAscend, kept_for, last_for};
 ghost use Rattle.eval_until.specs.Keeping.{Rising, breaks_before, names};
-ghost use Rattle.eval_until.specs.Recalled.{broken, entries_kept, entry_at, named, starts_kept};
+ghost use Rattle.eval_until.specs.Recalled.{run_begins, entries_kept, entry_at, is_recalled, starts_kept};
 ghost use Rattle.eval_until.specs.Rules.{PlacesAscend};
 
 use crate::contents::Taken;
@@ -55,7 +55,7 @@ fn push_rows(
     rows: &BTreeMap<Row, Entries>,
 ) -> Result<(), AllocError>
     ensures names { OnOk result ((u : List Value) (j : ℕ) → names out.new.items u j
-        ≡ (names out.old.items u j || named rows.now.entries u j)) }
+        ≡ (names out.old.items u j || is_recalled rows.now.entries u j)) }
     ensures all { OnOk result ((test : ℕ → Bool) → list_all (λ q. test q.place) out.new.items
         ≡ (list_all (λ q. test q.place) out.old.items
         && list_all (λ r. list_all (λ e. test e.place) r.1) rows.now.entries)) }
@@ -77,7 +77,7 @@ fn push_starts(
     ensures names { OnOk result ((u : List Value) (j : ℕ) →
         names out.new.items u j ≡ names out.old.items u j) }
     ensures breaks { OnOk result ((w : List Value) (s : ℕ) → breaks_before out.new.items w s
-        ≡ (breaks_before out.old.items w s || broken starts.now.entries w s)) }
+        ≡ (breaks_before out.old.items w s || run_begins starts.now.entries w s)) }
     ensures all { OnOk result ((test : ℕ → Bool) → list_all (λ q. test q.place) out.new.items
         ≡ (list_all (λ q. test q.place) out.old.items && list_all (λ r. test (r.1 - 1)) starts.now.entries)) }
     ensures ascend { RowsAscend starts.now.entries }
@@ -111,7 +111,7 @@ fn push_breaks(
     ensures names { OnOk result ((u : List Value) (j : ℕ) →
         names out.new.items u j ≡ names out.old.items u j) }
     ensures breaks { negated ≡ true → OnOk result ((w : List Value) (s : ℕ) → breaks_before out.new.items w s
-        ≡ (breaks_before out.old.items w s || broken starts.now.entries w s)) }
+        ≡ (breaks_before out.old.items w s || run_begins starts.now.entries w s)) }
     ensures all { OnOk result ((test : ℕ → Bool) → list_all (λ q. test q.place) out.new.items
         ≡ (list_all (λ q. test q.place) out.old.items
         && cond negated (list_all (λ r. test (r.1 - 1)) starts.now.entries) true)) }
@@ -132,9 +132,9 @@ pub fn queue_of(
     rows: &BTreeMap<Row, Entries>,
 ) -> Result<VecDeque<Taken>, AllocError>
     ensures names { IfOk result (λ queue. (u : List Value) (j : ℕ) →
-        names queue.items u j ≡ named rows.now.entries u j) }
+        names queue.items u j ≡ is_recalled rows.now.entries u j) }
     ensures breaks { IfOk result (λ queue. negated ≡ true → (w : List Value) (s : ℕ) →
-        breaks_before queue.items w s ≡ (breaks_before [] w s || broken starts.now.entries w s)) }
+        breaks_before queue.items w s ≡ (breaks_before [] w s || run_begins starts.now.entries w s)) }
     ensures all { IfOk result (λ queue. (test : ℕ → Bool) → list_all (λ q. test q.place) queue.items
         ≡ (list_all (λ r. list_all (λ e. test e.place) r.1) rows.now.entries
         && cond negated (list_all (λ r. test (r.1 - 1)) starts.now.entries) true)) }

@@ -8,7 +8,7 @@ ghost use Rattle.mfotl_model.specs.Tables.{has_row, part};
 ghost use Rattle.mfotl_model.specs.Values.{row_cmp};
 ghost use Rattle.mfotl_model.specs.declared.value.Value.{Value};
 ghost use Rattle.relations.specs.KeptRows.{RowsDiffer};
-ghost use Rattle.eval_until.specs.Entries.{entries_of, from_place, met_by};
+ghost use Rattle.eval_until.specs.Entries.{entries_for, from_place, met_by};
 ghost use Rattle.eval_until.specs.Rules.{NoneEmpty, all_before};
 ghost use Rattle.eval_until.specs.Starts.{start_of};
 
@@ -28,10 +28,10 @@ fn add_entry(
     row: Row,
     entry: Entry,
 ) -> Result<(), AllocError>
-    requires { IsTrue (all_before entry.place (entries_of rows.old.entries row)) }
-    ensures entries { OnOk result ((u : List Value) → entries_of rows.new.entries u
-        ≡ cond (is_at (row_cmp row) u) (entries_of rows.old.entries u ++ entry ∷ [])
-        (entries_of rows.old.entries u)) }
+    requires { IsTrue (all_before entry.place (entries_for rows.old.entries row)) }
+    ensures entries { OnOk result ((u : List Value) → entries_for rows.new.entries u
+        ≡ cond (is_at (row_cmp row) u) (entries_for rows.old.entries u ++ entry ∷ [])
+        (entries_for rows.old.entries u)) }
     ensures some { OnOk result (NoneEmpty rows.old.entries → NoneEmpty rows.new.entries) }
 {
     let entries = rows.entry(row)?.or_insert(Entries::new());
@@ -53,14 +53,14 @@ pub fn add_rows(
     ts: u64,
 ) -> Result<(), AllocError>
     requires sorted { IsStrictlySortedBy row_cmp table.now }
-    requires before { (u : List Value) → IsTrue (all_before place (entries_of rows.old.entries u)) }
-    ensures entries { OnOk result ((u : List Value) → entries_of rows.new.entries u
-        ≡ cond (has_row table.now u) (entries_of rows.old.entries u ++ record {
+    requires before { (u : List Value) → IsTrue (all_before place (entries_for rows.old.entries u)) }
+    ensures entries { OnOk result ((u : List Value) → entries_for rows.new.entries u
+        ≡ cond (has_row table.now u) (entries_for rows.old.entries u ++ record {
           place = place;
           start = start_of negated place starts.now (part right.now left.now u);
           ts = ts;
         } ∷ [])
-        (entries_of rows.old.entries u)) }
+        (entries_for rows.old.entries u)) }
     ensures some { OnOk result (NoneEmpty rows.old.entries → NoneEmpty rows.new.entries) }
 {
     for row in table {
@@ -73,9 +73,9 @@ pub fn add_rows(
 
 // forgets what stands before the position `next`, of one row
 fn forget_row(rows: &mut HashMap<Row, Entries>, row: Row, next: u64)
-    ensures entries { (u : List Value) → entries_of rows.new.entries u
-        ≡ cond (is_at (row_cmp row) u) (from_place next (entries_of rows.old.entries u))
-        (entries_of rows.old.entries u) }
+    ensures entries { (u : List Value) → entries_for rows.new.entries u
+        ≡ cond (is_at (row_cmp row) u) (from_place next (entries_for rows.old.entries u))
+        (entries_for rows.old.entries u) }
     ensures some { NoneEmpty rows.old.entries → NoneEmpty rows.new.entries }
 {
     let slot = match rows.entry(row) {
@@ -96,9 +96,9 @@ fn forget_row(rows: &mut HashMap<Row, Entries>, row: Row, next: u64)
 
 /// Forgets what stands before the position `next`, of these rows.
 pub fn forget_rows(rows: &mut HashMap<Row, Entries>, table: Vec<Row>, next: u64)
-    ensures entries { (u : List Value) → entries_of rows.new.entries u
-        ≡ cond (has_row table.items u) (from_place next (entries_of rows.old.entries u))
-        (entries_of rows.old.entries u) }
+    ensures entries { (u : List Value) → entries_for rows.new.entries u
+        ≡ cond (has_row table.items u) (from_place next (entries_for rows.old.entries u))
+        (entries_for rows.old.entries u) }
     ensures some { NoneEmpty rows.old.entries → NoneEmpty rows.new.entries }
 {
     for row in table {
@@ -130,7 +130,7 @@ pub fn push_met(
 
 /// Whether some entry of a row meets UNTIL at the position `i`, whose time is `x`.
 pub fn row_met(rows: &HashMap<Row, Entries>, row: &Row, interval: &Interval, i: u64, x: u64) -> bool
-    ensures { result ≡ met_by interval.now i x (entries_of rows.now.entries row.now) }
+    ensures { result ≡ met_by interval.now i x (entries_for rows.now.entries row.now) }
 {
     match rows.get(row) {
         Some(entries) => entries.met(interval, i, x),

@@ -10,7 +10,7 @@ use Rattle.log_reader.specs.declared.next.Next.TheVariants.{Point, More, End}
 use Rattle.log_reader.specs.GivenPoints.{GivesPoints, IsNextPoint, GaveAll}
 use Rattle.log_reader.specs.Given.{Gives}
 use Rattle.log_reader.specs.Laws.{IsShown}
-use Rattle.log_reader.specs.Progress.{Progress, answer_by, read, due}
+use Rattle.log_reader.specs.Progress.{Progress, answer_by, read, next_answer}
 use Rattle.log_reader.specs.Readings.{Ending, NoFault, Fault, accepted}
 use Rattle.log_reader.specs.Rules.{IsValue}
 use Rattle.log_reader.proofs.CompletedLaws.{all_completed, beginning_completed}
@@ -49,13 +49,13 @@ first_left false [] NoFault point e = absurd cc
 
 module _ (r : Progress) where
   abbrev given : Result Next LogFault → Type 0
-  given result = Gives (λ next. next) result (due r)
+  given result = Gives (λ next. next) result (next_answer r)
 
   -- the end is answered only of a log that keeps the rules
   pub value_due : (result : Result Next LogFault) → given result → result ≡ Ok End
       → IsValue r.sig r.limits r.bytes (accepted r.sig r.limits r.bytes).points
   value_due result g is =
-      let here : due r ≡ Ok End = subst given is g in
+      let here : next_answer r ≡ Ok End = subst given is g in
       let end = end_by r.is_ended _ _ here in
       let clear : (accepted r.sig r.limits r.bytes).ending ≡ NoFault = rw end.0 at end.1 in
       read_spelled r.sig r.limits r.bytes (accepted r.sig r.limits r.bytes).points

@@ -18,9 +18,9 @@ use Rattle.log_reader.specs.declared.stage.Stage.TheVariants.{AfterValue, AfterC
 use Rattle.log_reader.specs.Causes.{IsNoInteger, IsWide}
 use Rattle.mfotl_lex.specs.FirstFault.{◌>>=◌}
 use Rattle.log_reader.specs.Partials.{Partial}
-use Rattle.log_reader.specs.Stages.{goes}
-use Rattle.log_reader.specs.Steps.{step, stepped, opened, stamped, naming, grouped, valued, closed}
-use Rattle.log_reader.specs.Symbols.{Written, Bare, Quoted, symbol, content, written}
+use Rattle.log_reader.specs.Stages.{stage_after}
+use Rattle.log_reader.specs.Steps.{step, stepped, point_opened, stamped, naming, grouped, valued, group_closed}
+use Rattle.log_reader.specs.Symbols.{Written, Bare, Quoted, symbol, token_content, written}
 use Rattle.log_reader.specs.ValuesRead.{value_at, integer_at, is_number, timestamp_of}
 use Rattle.log_reader.proofs.StateCauses.{LeadsTo, ShowsFault}
 
@@ -50,17 +50,17 @@ module _ (sig : List PredOf) (limits : Limits) (p : Partial) (t : Lexeme) where
   then_fine (Ok x) f why = fine (f x)
   then_fine (Err fault) f why = fails fault (why fault refl)
 
-  opened_why : LeadsTo AfterAt p t → Explains (opened limits t.at p)
+  opened_why : LeadsTo AfterAt p t → Explains (point_opened limits t.at p)
   opened_why g = cond_both (nat_lt p.points limits.points) _ _ Explains
       (λ _. fine _) (λ h. fails _ (refl, g, ltb-false p.points limits.points h))
 
-  stamped_why : LeadsTo AfterStamp p t → (time : Option ℕ) → timestamp_of (content t) ≡ time
+  stamped_why : LeadsTo AfterStamp p t → (time : Option ℕ) → timestamp_of (token_content t) ≡ time
       → Explains (stamped t.at p time)
   stamped_why g None none = fails _ (refl, g, none)
   stamped_why g (Some time) some = cond_both (nat_lt time p.time) _ _ Explains
       (λ h. fails _ (refl, g, some, refl, ltb-true time p.time h)) (λ _. fine _)
 
-  naming_why : LeadsTo AfterName p t → (found : Option PredOf) → named (content t) sig ≡ found
+  naming_why : LeadsTo AfterName p t → (found : Option PredOf) → named (token_content t) sig ≡ found
       → Explains (naming t.at p found)
   naming_why g None none = fails _ (refl, g, none)
   naming_why g (Some pred) some = fine _
@@ -91,18 +91,19 @@ module _ (sig : List PredOf) (limits : Limits) (p : Partial) (t : Lexeme) where
   valued_why g (sort ∷ more) due =
       then_fine (value_at sort t.at (written t)) _ (value_why g sort more due (written t) refl)
 
-  closed_why : LeadsTo AfterClose p t → (due : List Sort) → p.due ≡ due → Explains (closed t.at p due)
+  closed_why : LeadsTo AfterClose p t → (due : List Sort) → p.due ≡ due → Explains (group_closed t.at p due)
   closed_why g [] none = fine _
   closed_why g (sort ∷ more) due = fails _ (refl, inr (g, λ none. absurd (some_due sort more (sym due ∙ none))))
     where
       some_due : (sort : Sort) (more : List Sort) → sort ∷ more ≡ [] → ⊥
       some_due sort more e = cc
 
-  stepped_why : (found : Option Stage) → goes p.stage (symbol t) ≡ found → Explains (stepped sig limits p t found)
+  stepped_why : (found : Option Stage) → stage_after p.stage (symbol t) ≡ found
+      → Explains (stepped sig limits p t found)
   stepped_why None g = fails _ (refl, g)
   stepped_why (Some AfterAt) g = opened_why g
-  stepped_why (Some AfterStamp) g = stamped_why g (timestamp_of (content t)) refl
-  stepped_why (Some AfterName) g = naming_why g (named (content t) sig) refl
+  stepped_why (Some AfterStamp) g = stamped_why g (timestamp_of (token_content t)) refl
+  stepped_why (Some AfterName) g = naming_why g (named (token_content t) sig) refl
   stepped_why (Some AfterOpen) g = grouped_why g
   stepped_why (Some AfterValue) g = valued_why g p.due refl
   stepped_why (Some AfterComma) g = fine _
@@ -111,7 +112,7 @@ module _ (sig : List PredOf) (limits : Limits) (p : Partial) (t : Lexeme) where
 
   pub step_why : (fault : LogFault) → step sig limits p t ≡ Err fault → ShowsFault sig limits p t fault
   unfolding step
-  step_why = stepped_why (goes p.stage (symbol t)) refl
+  step_why = stepped_why (stage_after p.stage (symbol t)) refl
 
 -- ---- a cause shows its fault
 
@@ -125,7 +126,7 @@ unfolding integer_at
 wide at (Bare word) w = rw (w.0, w.1) refl
 wide at (Quoted text) w = absurd w
 
-closed_early : (at : ℕ) (p : Partial) (due : List Sort) → due ≢ [] → closed at p due ≡ Err (WrongArity at)
+closed_early : (at : ℕ) (p : Partial) (due : List Sort) → due ≢ [] → group_closed at p due ≡ Err (WrongArity at)
 closed_early at p [] some = absurd (some refl)
 closed_early at p (sort ∷ more) some = refl
 

@@ -14,8 +14,8 @@ use Rattle.log_reader.specs.declared.stage.Stage.TheVariants.{AfterStamp, AfterC
 use Rattle.log_reader.specs.CompletedPoints.{Closes, Completes, CompletesAll}
 use Rattle.log_reader.specs.Grammar.{symbols_of}
 use Rattle.log_reader.specs.LogTexts.{is_long, tail_behind, log_text, tokens_of}
-use Rattle.log_reader.specs.Partials.{Partial, blank, point_of}
-use Rattle.log_reader.specs.Readings.{Reading, stopped, run, behind_tokens, finish_at, nothing_left, reading}
+use Rattle.log_reader.specs.Partials.{Partial, nothing_read, point_of}
+use Rattle.log_reader.specs.Readings.{Reading, fault_only, run, behind_tokens, finish_at, nothing_left, reading}
 use Rattle.log_reader.specs.Rules.{log_value}
 use Rattle.log_reader.specs.Stages.{is_whole}
 use Rattle.log_reader.proofs.LogJudging.{last}
@@ -37,7 +37,7 @@ module _ (len : ℕ) (p : Partial) where
   finish_ends _ e = (inl refl, λ _ is. absurd (let here = rw e at is in cc (here)))
 
 left_ends : (limit len : ℕ) (long ended : Bool) (p : Partial)
-    → Ends len p (λ q. cond long (stopped (TooLong limit)) (cond ended (finish_at len q q.stage) (whole [])))
+    → Ends len p (λ q. cond long (fault_only (TooLong limit)) (cond ended (finish_at len q q.stage) (whole [])))
     (cond long (Broken (TooLong limit)) (cond ended (End len) More))
 left_ends limit len true ended p = (inl refl, λ closed. absurd closed)
 left_ends limit len false true p = finish_ends len p p.stage refl
@@ -74,7 +74,7 @@ module _ (sig : List PredOf) (limits : Limits) (bytes : List ℕ) (ended : Bool)
     closed = inl refl;
   }
 
-  front_completed : (a : List TimePoint) → Front sig limits (length bytes) ends tail blank ts a
+  front_completed : (a : List TimePoint) → Front sig limits (length bytes) ends tail nothing_read ts a
       → Completes sig limits (log_text limits bytes ended) a
   front_completed a f =
       let s = tokens_spelled sig limits (length bytes) f.front a f.reads in
@@ -94,7 +94,7 @@ module _ (sig : List PredOf) (limits : Limits) (bytes : List ℕ) (ended : Bool)
   unfolding reading
   beginning_completed a b e =
       elim (fronts sig limits (length bytes) ends tail
-      (λ p. (log_ends limits bytes ended lexical p).0) ts blank a b e) [
+      (λ p. (log_ends limits bytes ended lexical p).0) ts nothing_read a b e) [
         | inl none ↦ nothing_completed a none
         | inr f ↦ front_completed a f
       ]
@@ -102,19 +102,19 @@ module _ (sig : List PredOf) (limits : Limits) (bytes : List ℕ) (ended : Bool)
   -- what is completed is what a reading begins with
   completed_begins : (others : List TimePoint) (c : Completes sig limits (log_text limits bytes ended) others)
       → (c.front ≡ []) ⊎ Closes (symbols_of c.back) tail
-      → Begins sig limits (length bytes) ends tail blank (c.front ++ c.back) others
+      → Begins sig limits (length bytes) ends tail nothing_read (c.front ++ c.back) others
   unfolding run
   completed_begins others c (inr closed) =
       let reads = spelled_tokens sig limits (length bytes) c.front others
       (record { log = c.log; spells = c.spells; value = c.value }) in
       begins sig limits (length bytes) ends tail
-      (λ p. (log_ends limits bytes ended lexical p).1) c.front c.back blank others reads closed
+      (λ p. (log_ends limits bytes ended lexical p).1) c.front c.back nothing_read others reads closed
   completed_begins others c (inl none) =
       let reads = spelled_tokens sig limits (length bytes) c.front others
       (record { log = c.log; spells = c.spells; value = c.value }) in
       let empty : whole [] ≡ whole others =
-      sym (ap (run sig limits (last sig limits (length bytes)) blank) none) ∙ reads in
-      let points = (run sig limits ends blank (c.front ++ c.back)).points in
+      sym (ap (run sig limits (last sig limits (length bytes)) nothing_read) none) ∙ reads in
+      let points = (run sig limits ends nothing_read (c.front ++ c.back)).points in
       (points, ap (λ (r : Reading). r.points ++ points) empty)
 
   pub all_completed : CompletesAll sig limits (log_text limits bytes ended) (reading sig limits bytes ended).points
@@ -124,5 +124,5 @@ module _ (sig : List PredOf) (limits : Limits) (bytes : List ℕ) (ended : Bool)
         (sym (append-nil (reading sig limits bytes ended).points));
     longest = λ others c.
         let more = completed_begins others c c.closed in
-        (more.0, ap (λ (us : List Lexeme). (run sig limits ends blank us).points) c.parts ∙ more.1);
+        (more.0, ap (λ (us : List Lexeme). (run sig limits ends nothing_read us).points) c.parts ∙ more.1);
   }

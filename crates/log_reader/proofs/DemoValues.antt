@@ -14,7 +14,7 @@ use Rattle.log_reader.specs.declared.limits.Limits.{Limits}
 use Rattle.log_reader.specs.DemoEvents.{Moment, name_of, written, line_of}
 use Rattle.log_reader.specs.Grammar.{Mention}
 use Rattle.log_reader.specs.Rules.{groups_value, mentions_value, values_of, group_count, point_value, log_value}
-use Rattle.log_reader.specs.DemoPoints.{demo_preds, event_of, events_of, point_of}
+use Rattle.log_reader.specs.DemoPoints.{demo_preds, event_of_demo, events_of, point_of}
 use Rattle.log_reader.proofs.DecimalWords.{decimal_read, decimal_short, decimal_timestamp}
 use Rattle.log_reader.proofs.DemoLexing.{mention_of, point_text, length-name}
 use Rattle.log_reader.proofs.DemoMoments.{IsSmall, IsSound, AreSound}
@@ -23,7 +23,7 @@ use Rattle.log_reader.proofs.DemoMoments.{IsSmall, IsSound, AreSound}
 
 event_value : (e : DemoEvent) (before : List Event) (mentions : List Mention) → IsSmall e
     → mentions_value demo_preds before (mention_of e ∷ mentions)
-    ≡ mentions_value demo_preds (insert_key event_cmp before (event_of e)) mentions
+    ≡ mentions_value demo_preds (insert_key event_cmp before (event_of_demo e)) mentions
 unfolding mentions_value groups_value values_of
 event_value (Request id who) before mentions small = rw (decimal_read id 0 (omega (arith, small))) refl
 event_value (Grant id) before mentions small = rw (decimal_read id 0 (omega (arith, small))) refl
@@ -38,7 +38,7 @@ events_value : (events : List DemoEvent) (before : List Event) → AllByRecursio
 events_value [] before small = no_mention before
 events_value (e ∷ events) before small =
     event_value e before (map mention_of events) small.0
-    ∙ events_value events (insert_key event_cmp before (event_of e)) small.1
+    ∙ events_value events (insert_key event_cmp before (event_of_demo e)) small.1
 
 one_group : (e : DemoEvent) (mentions : List Mention)
     → group_count (mention_of e ∷ mentions) ≡ suc (group_count mentions)

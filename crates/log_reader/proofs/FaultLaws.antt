@@ -16,12 +16,12 @@ use Rattle.log_reader.specs.declared.stage.Stage.{Stage}
 use Rattle.log_reader.specs.declared.stage.Stage.TheVariants.{Between, AfterAt, AfterStamp, AfterName, AfterOpen}
 use Rattle.log_reader.specs.declared.stage.Stage.TheVariants.{AfterValue, AfterClose}
 use Rattle.log_reader.specs.Causes.{Plays, IsCause, IsLast}
-use Rattle.log_reader.specs.Fronts.{before, due_sorts}
+use Rattle.log_reader.specs.Fronts.{symbols_before, due_sorts}
 use Rattle.log_reader.specs.Grammar.{symbols_of, IsAccepted, IsViable}
 use Rattle.log_reader.specs.Laws.{ExactFaults}
 use Rattle.log_reader.specs.LogTexts.{log_text}
-use Rattle.log_reader.specs.Partials.{Partial, blank}
-use Rattle.log_reader.specs.Stages.{goes}
+use Rattle.log_reader.specs.Partials.{Partial, nothing_read}
+use Rattle.log_reader.specs.Stages.{stage_after}
 use Rattle.log_reader.specs.Steps.{step}
 use Rattle.log_reader.specs.Symbols.{Symbol, symbol}
 use Rattle.log_reader.proofs.CauseSteps.{step_why, step_shows}
@@ -38,10 +38,10 @@ one_more (Some g) = refl
 one_more None = refl
 
 path_further : (front : List Lexeme) (t : Lexeme) (s : Stage) → paths Between (symbols_of front) ≡ Some s
-    → paths Between (symbols_of (front ++ t ∷ [])) ≡ goes s (symbol t)
+    → paths Between (symbols_of (front ++ t ∷ [])) ≡ stage_after s (symbol t)
 path_further front t s e =
     ap (paths Between) (map-append symbol front (t ∷ [])) ∙ paths-append Between (symbols_of front) (symbol t ∷ [])
-    ∙ ap (option_and_then (λ g. paths g (symbol t ∷ []))) e ∙ one_more (goes s (symbol t))
+    ∙ ap (option_and_then (λ g. paths g (symbol t ∷ []))) e ∙ one_more (stage_after s (symbol t))
 
 -- values and `)` stand within brackets
 value_inside : (s : Stage) (x : Symbol) → Transition s x AfterValue → is_in_brackets s ≡ true
@@ -53,12 +53,12 @@ close_inside _ _ closes_empty = refl
 close_inside _ _ closes = refl
 
 module _ (sig : List PredOf) (limits : Limits) (front : List Lexeme) (p : Partial) (t : Lexeme)
-    (sound : run (step sig limits) front blank ≡ Ok p) where
-  stands : Stands sig p.stage p (before front)
+    (sound : run (step sig limits) front nothing_read ≡ Ok p) where
+  stands : Stands sig p.stage p (symbols_before front)
   stands = run_stands sig limits front p sound
 
-  further : paths Between (symbols_of (front ++ t ∷ [])) ≡ goes p.stage (symbol t)
-  further = path_further front t p.stage (run_paths sig limits blank p front sound)
+  further : paths Between (symbols_of (front ++ t ∷ [])) ≡ stage_after p.stage (symbol t)
+  further = path_further front t p.stage (run_paths sig limits nothing_read p front sound)
 
   -- the grammar goes on exactly where the automaton does
   viable_there : (g : Stage) → LeadsTo g p t → IsViable (front ++ t ∷ [])
@@ -71,25 +71,25 @@ module _ (sig : List PredOf) (limits : Limits) (front : List Lexeme) (p : Partia
   way g leads = transition p.stage (symbol t) g leads
 
   plays : (g : Stage) → LeadsTo g p t → Plays (role_to g) front t
-  plays g leads = (viable_there g leads, role_is sig p (before front) p.stage (symbol t) g (way g leads) stands)
+  plays g leads = (viable_there g leads, role_is sig p (symbols_before front) p.stage (symbol t) g (way g leads) stands)
 
   leads_to : (g : Stage) → Plays (role_to g) front t → LeadsTo g p t
   leads_to g part =
       let there = goes_there part.0 in
-      let here = role_is sig p (before front) p.stage (symbol t) there.0 (way there.0 there.1) stands in
+      let here = role_is sig p (symbols_before front) p.stage (symbol t) there.0 (way there.0 there.1) stands in
       there.1 ∙ ap (λ (s : Stage). Some s) (same_stage there.0 g (sym here ∙ part.1))
 
-  value_due : LeadsTo AfterValue p t → p.due ≡ due_sorts sig (before front)
+  value_due : LeadsTo AfterValue p t → p.due ≡ due_sorts sig (symbols_before front)
   value_due leads = stands.due (value_inside p.stage (symbol t) (way AfterValue leads))
 
-  close_due : LeadsTo AfterClose p t → p.due ≡ due_sorts sig (before front)
+  close_due : LeadsTo AfterClose p t → p.due ≡ due_sorts sig (symbols_before front)
   close_due leads = stands.due (close_inside p.stage (symbol t) (way AfterClose leads))
 
-  no_way : (g : Stage) → goes p.stage (symbol t) ≡ None → LeadsTo g p t → ⊥
+  no_way : (g : Stage) → stage_after p.stage (symbol t) ≡ None → LeadsTo g p t → ⊥
   no_way g none leads = cc
 
-  none_there : (found : Option Stage) → goes p.stage (symbol t) ≡ found → (IsViable (front ++ t ∷ []) → ⊥)
-      → goes p.stage (symbol t) ≡ None
+  none_there : (found : Option Stage) → stage_after p.stage (symbol t) ≡ found → (IsViable (front ++ t ∷ []) → ⊥)
+      → stage_after p.stage (symbol t) ≡ None
   none_there None e ends = e
   none_there (Some g) e ends = absurd (ends (viable_there g e))
 
@@ -115,7 +115,7 @@ module _ (sig : List PredOf) (limits : Limits) (front : List Lexeme) (p : Partia
   in_front _ shows = absurd shows
 
   in_state : (fault : LogFault) → IsCause sig limits front t fault → ShowsFault sig limits p t fault
-  in_state (Syntax at) cause = (cause.stands, none_there (goes p.stage (symbol t)) refl cause.ends)
+  in_state (Syntax at) cause = (cause.stands, none_there (stage_after p.stage (symbol t)) refl cause.ends)
   in_state (UnknownPredicate at) (place, part, none) = (place, leads_to AfterName part, none)
   in_state (WrongArity at) (place, inl (part, none)) =
       let g = leads_to AfterValue part in (place, inl (g, value_due g ∙ none))
@@ -163,28 +163,28 @@ module _ (ts : List Lexeme) (n : ℕ) (p : Partial) (path : paths Between (symbo
 
 module _ (sig : List PredOf) (limits : Limits) where
   tail_why : (ts : List Lexeme) (p : Partial) (tail : Tail LogFault) (fault : LogFault)
-      → run (step sig limits) ts blank ≡ Ok p
+      → run (step sig limits) ts nothing_read ≡ Ok p
       → at_tail tail p ≡ Err fault → IsLast ts tail fault
   tail_why ts p (Broken shown) fault sound e = cc
   tail_why ts p (End n) fault sound e =
-      refused ts n p (run_paths sig limits blank p ts sound) (accepts p.stage) refl fault e
+      refused ts n p (run_paths sig limits nothing_read p ts sound) (accepts p.stage) refl fault e
   tail_why ts p More fault sound e = absurd cc
 
   tail_shows : (ts : List Lexeme) (p : Partial) (tail : Tail LogFault) (fault : LogFault)
-      → run (step sig limits) ts blank ≡ Ok p
+      → run (step sig limits) ts nothing_read ≡ Ok p
       → IsLast ts tail fault → at_tail tail p ≡ Err fault
   tail_shows ts p (Broken shown) fault sound why = ap (λ (f : LogFault). Err f) (sym why)
   tail_shows ts p (End n) (Syntax at) sound why =
       let end = why.stands in
       let place : n ≡ at = cc (end) in
-      unaccepted ts n p (run_paths sig limits blank p ts sound) (accepts p.stage) refl why.unaccepted
+      unaccepted ts n p (run_paths sig limits nothing_read p ts sound) (accepts p.stage) refl why.unaccepted
       ∙ ap (λ (k : ℕ). Err (Syntax k)) place
   tail_shows ts p More (Syntax at) sound why = absurd (let untold = why.stands in cc (untold))
   tail_shows ts p tail fault sound why = absurd why
 
-  pub follows : FollowsGrammar (step sig limits) blank at_tail IsViable (IsCause sig limits) IsLast
+  pub follows : FollowsGrammar (step sig limits) nothing_read at_tail IsViable (IsCause sig limits) IsLast
   follows = record {
-    viable = λ ts s sound. viable_by ts s.stage (run_paths sig limits blank s ts sound);
+    viable = λ ts s sound. viable_by ts s.stage (run_paths sig limits nothing_read s ts sound);
     token = λ front s t fault sound. (
       λ stops. in_front sig limits front s t sound fault (step_why sig limits s t fault stops),
       λ cause. step_shows sig limits s t fault (in_state sig limits front s t sound fault cause),
@@ -194,7 +194,8 @@ module _ (sig : List PredOf) (limits : Limits) where
 
 pub exact_faults_law : ExactFaults
 exact_faults_law sig limits bytes ended fault =
-    let exact = exact_faults (step sig limits) blank at_tail IsViable (IsCause sig limits) IsLast (follows sig limits)
+    let exact =
+        exact_faults (step sig limits) nothing_read at_tail IsViable (IsCause sig limits) IsLast (follows sig limits)
     (log_text limits bytes ended) fault in (
       λ first. exact.0 (fault_by _ fault (sym (log_ending sig limits bytes ended) ∙ first)),
       λ shown. log_ending sig limits bytes ended ∙ ap ending_by (exact.1 shown),

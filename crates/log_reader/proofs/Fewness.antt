@@ -12,11 +12,11 @@ use Rattle.log_reader.specs.declared.limits.Limits.{Limits}
 use Rattle.log_reader.specs.declared.stage.Stage.{Stage}
 use Rattle.log_reader.specs.declared.stage.Stage.TheVariants.{Between, AfterAt, AfterStamp, AfterClose}
 use Rattle.log_reader.specs.Cursors.{open_count, given_of, IsCounted}
-use Rattle.log_reader.specs.Partials.{Partial, blank}
+use Rattle.log_reader.specs.Partials.{Partial, nothing_read}
 use Rattle.log_reader.specs.Readings.{Reading, went_on, run, behind_tokens, is_long, finish_at, nothing_left, place_at}
 use Rattle.log_reader.specs.Readings.{reading}
-use Rattle.log_reader.specs.Soundness.{StandsFor, IsSound}
-use Rattle.log_reader.specs.Stages.{goes, completes}
+use Rattle.log_reader.specs.Soundness.{StandsForLog, StandsForSomeLog}
+use Rattle.log_reader.specs.Stages.{stage_after, completes}
 use Rattle.log_reader.specs.Steps.{step, stepped, completed}
 use Rattle.log_reader.specs.Stretches.{Stretch}
 use Rattle.log_reader.specs.Symbols.{symbol}
@@ -57,7 +57,7 @@ module _ (sig : List PredOf) (limits : Limits) (p : Partial) (t : Lexeme) (f : I
 
   begun_few : (q : Partial) → step sig limits p t ≡ Ok q → q.points ≤ limits.points
   unfolding step
-  begun_few q e = by_stage (goes p.stage (symbol t)) e
+  begun_few q e = by_stage (stage_after p.stage (symbol t)) e
     where
       by_stage : (found : Option Stage) → stepped sig limits p t found ≡ Ok q → q.points ≤ limits.points
       by_stage None e = absurd cc
@@ -78,7 +78,7 @@ module _ (sig : List PredOf) (limits : Limits) (p : Partial) (t : Lexeme) (f : I
 
   gave_one : (g : Stage) (q : Partial) → completes p.stage (symbol t) ≡ true → open_count p.stage ≡ 1
       → open_count g ≡ one_if_at g
-      → goes p.stage (symbol t) ≡ Some g → step sig limits p t ≡ Ok q → Gave q
+      → stage_after p.stage (symbol t) ≡ Some g → step sig limits p t ≡ Ok q → Gave q
   unfolding step
   gave_one g q h one here found e =
       let r = stepped_reaches sig limits p t g q (sym (ap (stepped sig limits p t) found) ∙ e) in
@@ -155,22 +155,22 @@ pub reading_few : (sig : List PredOf) (limits : Limits) (bytes : List ℕ) (ende
 unfolding reading
 reading_few sig limits bytes ended =
     let ts = tokens (place_at limits bytes ended 0) in
-    let few : IsFew limits blank = record { counted = omega arith; begun = omega arith } in
+    let few : IsFew limits nothing_read = record { counted = omega arith; begun = omega arith } in
     omega (
       arith,
       run_few sig limits (behind_tokens ts.fault (nothing_left limits bytes ended))
-          (end_few limits bytes ended ts.fault) ts.list blank few,
+          (end_few limits bytes ended ts.fault) ts.list nothing_read few,
     )
 
 -- no more were given than there are
 pub given_few : (sig : List PredOf) (limits : Limits) (is_ended : Bool) (given : ℕ) (s : Stretch) (at : ℕ)
-    (p : Partial) (log : List ℕ) → StandsFor sig limits is_ended given s at p log
+    (p : Partial) (log : List ℕ) → StandsForLog sig limits is_ended given s at p log
     → given ≤ length (reading sig limits log is_ended).points
 given_few sig limits is_ended given s at p log st = (remains_now sig limits log is_ended s given at p st).few
 
 -- so no more than the limit
 pub sound_few : (sig : List PredOf) (limits : Limits) (is_ended : Bool) (s : Stretch) (at : ℕ) (p : Partial)
-    → IsSound sig limits is_ended s at p → given_of p ≤ limits.points
+    → StandsForSomeLog sig limits is_ended s at p → given_of p ≤ limits.points
 sound_few sig limits is_ended s at p sound =
     omega (
       arith,

@@ -10,9 +10,9 @@ use Rattle.log_reader.specs.declared.stage.Stage.{Stage}
 use Rattle.log_reader.specs.declared.stage.Stage.TheVariants.{Between, AfterAt, AfterStamp, AfterName, AfterOpen}
 use Rattle.log_reader.specs.declared.stage.Stage.TheVariants.{AfterValue, AfterComma, AfterClose}
 use Rattle.log_reader.specs.Fronts.{Role, PointBegins, Timestamp, Name, GroupBegins, Value as ValueRole, Comma}
-use Rattle.log_reader.specs.Fronts.{GroupEnds, PointEnds, before, role}
+use Rattle.log_reader.specs.Fronts.{GroupEnds, PointEnds, symbols_before, role}
 use Rattle.log_reader.specs.Grammar.{symbols_of}
-use Rattle.log_reader.specs.Partials.{Partial, blank}
+use Rattle.log_reader.specs.Partials.{Partial, nothing_read}
 use Rattle.log_reader.specs.Steps.{step, stepped}
 use Rattle.log_reader.specs.Symbols.{Symbol, symbol}
 use Rattle.log_reader.proofs.StepStages.{step_goes}
@@ -82,9 +82,9 @@ same_stage g h e = sym (stage_back g) ∙ ap stage_of e ∙ stage_back h
 
 -- the symbols from one on, the nearest first
 before_more : (t : Lexeme) (ts : List Lexeme) (older : List Symbol)
-    → before ts ++ symbol t ∷ older ≡ before (t ∷ ts) ++ older
+    → symbols_before ts ++ symbol t ∷ older ≡ symbols_before (t ∷ ts) ++ older
 before_more t ts older =
-    sym (append_assoc (before ts) (symbol t ∷ []) older)
+    sym (append_assoc (symbols_before ts) (symbol t ∷ []) older)
     ∙ ap (λ (xs : List Symbol). xs ++ older) (sym (reverse-append (symbol t ∷ []) (symbols_of ts)))
 
 module _ (sig : List PredOf) (limits : Limits) where
@@ -100,7 +100,7 @@ module _ (sig : List PredOf) (limits : Limits) where
 
   run_on : (ts : List Lexeme) (p q : Partial) (older : List Symbol) → run (step sig limits) ts p ≡ Ok q
       → Stands sig p.stage p older
-      → Stands sig q.stage q (before ts ++ older)
+      → Stands sig q.stage q (symbols_before ts ++ older)
   unfolding run
   run_on [] p q older e st = let same : p ≡ q = cc in subst (λ (r : Partial). Stands sig r.stage r older) same st
   run_on (t ∷ ts) p q older e st =
@@ -109,7 +109,8 @@ module _ (sig : List PredOf) (limits : Limits) where
       (run_on ts first.0 q (symbol t ∷ older) first.2 (step_on p first.0 t older first.1 st))
 
   -- what was read of tokens that show no fault
-  pub run_stands : (front : List Lexeme) (p : Partial) → run (step sig limits) front blank ≡ Ok p
-      → Stands sig p.stage p (before front)
+  pub run_stands : (front : List Lexeme) (p : Partial) → run (step sig limits) front nothing_read ≡ Ok p
+      → Stands sig p.stage p (symbols_before front)
   run_stands front p e =
-      subst (Stands sig p.stage p) (append-nil (before front)) (run_on front blank p [] e (nothing_stands sig))
+      subst (Stands sig p.stage p) (append-nil (symbols_before front))
+          (run_on front nothing_read p [] e (nothing_stands sig))

@@ -15,10 +15,10 @@ use Rattle.log_reader.specs.declared.stage.Stage.TheVariants.{Between, AfterAt, 
 use Rattle.log_reader.specs.declared.stage.Stage.TheVariants.{AfterValue, AfterComma, AfterClose}
 use Rattle.log_reader.specs.Fronts.{is_behind_at, is_in_group, points_begun, last_time, groups_begun, last_sorts}
 use Rattle.log_reader.specs.Fronts.{values_begun, due_sorts}
-use Rattle.log_reader.specs.Partials.{Partial, blank, finished}
-use Rattle.log_reader.specs.Steps.{stepped, opened, stamped, naming, grouped, valued, closed}
+use Rattle.log_reader.specs.Partials.{Partial, nothing_read, finished}
+use Rattle.log_reader.specs.Steps.{stepped, point_opened, stamped, naming, grouped, valued, group_closed}
 use Rattle.log_reader.specs.Symbols.{Symbol, AtSign, Opening, Closing, Separator, Terminator, Says, Written, Bare}
-use Rattle.log_reader.specs.Symbols.{Quoted, symbol, content, written}
+use Rattle.log_reader.specs.Symbols.{Quoted, symbol, token_content, written}
 use Rattle.log_reader.specs.ValuesRead.{timestamp_of, value_at}
 use Rattle.log_reader.proofs.Judging.{bare_content}
 use Rattle.log_reader.proofs.StepStages.{OnDone, done, failed}
@@ -48,7 +48,7 @@ pub record Stands (sig : List PredOf) (s : Stage) (p : Partial) (older : List Sy
   pub sorts : p.sorts ≡ last_sorts sig older
   pub due : is_in_brackets s ≡ true → p.due ≡ due_sorts sig older
 
-pub nothing_stands : (sig : List PredOf) → Stands sig Between blank []
+pub nothing_stands : (sig : List PredOf) → Stands sig Between nothing_read []
 nothing_stands sig = search arith
 
 -- ---- steps
@@ -58,7 +58,7 @@ module _ (sig : List PredOf) (limits : Limits) (p : Partial) (t : Lexeme) (older
   Leads g x q = Stands sig g q (x ∷ older)
 
   at_stands : (s : Stage) → is_in_brackets s ≡ false → Stands sig s p older
-      → OnDone (Leads AfterAt AtSign) (opened limits t.at p)
+      → OnDone (Leads AfterAt AtSign) (point_opened limits t.at p)
   at_stands s out st = cond_both (nat_lt p.points limits.points) _ _ (OnDone (Leads AfterAt AtSign))
       (λ _. done (Leads AfterAt AtSign) _ (search (arith, st.inside ∙ out)))
       (λ _. failed (Leads AfterAt AtSign) _)
@@ -153,15 +153,15 @@ module _ (sig : List PredOf) (limits : Limits) (p : Partial) (t : Lexeme) (older
   comma_stands st = search (arith, st.due)
 
   closed_stands : (s : Stage) (due : List Sort) → Stands sig s p older
-      → OnDone (Leads AfterClose Closing) (closed t.at p due)
+      → OnDone (Leads AfterClose Closing) (group_closed t.at p due)
   closed_stands s (sort ∷ due) st = failed (Leads AfterClose Closing) _
   closed_stands s [] st = done (Leads AfterClose Closing) _ (search arith)
 
   ended_stands : (s : Stage) → is_in_brackets s ≡ false → Stands sig s p older → Leads Between Terminator (finished p)
   ended_stands s out st = search (arith, st.inside ∙ out)
 
-  says : (word : List ℕ) → symbol t ≡ Says (Bare word) → content t ≡ word
-  says word e = bare_content t.kind (content t) word e
+  says : (word : List ℕ) → symbol t ≡ Says (Bare word) → token_content t ≡ word
+  says word e = bare_content t.kind (token_content t) word e
 
   -- a step goes on with what stands before the next token
   pub step_stands : (s : Stage) (x : Symbol) (g : Stage) → Transition s x g → symbol t ≡ x → Stands sig s p older
@@ -170,11 +170,11 @@ module _ (sig : List PredOf) (limits : Limits) (p : Partial) (t : Lexeme) (older
   step_stands _ _ _ begins_bare e st = at_stands AfterStamp refl st
   step_stands _ _ _ begins_full e st = at_stands AfterClose refl st
   step_stands _ _ _ (times word digits) e st =
-      stamp_stands word (timestamp_of (content t)) (ap timestamp_of (sym (says word e))) st
+      stamp_stands word (timestamp_of (token_content t)) (ap timestamp_of (sym (says word e))) st
   step_stands _ _ _ (names_first word) e st =
-      name_stands word (named (content t) sig) AfterStamp (ap (λ w. named w sig) (sym (says word e))) refl refl st
+      name_stands word (named (token_content t) sig) AfterStamp (ap (λ w. named w sig) (sym (says word e))) refl refl st
   step_stands _ _ _ (names_more word) e st =
-      name_stands word (named (content t) sig) AfterClose (ap (λ w. named w sig) (sym (says word e))) refl refl st
+      name_stands word (named (token_content t) sig) AfterClose (ap (λ w. named w sig) (sym (says word e))) refl refl st
   step_stands _ _ _ opens_first e st = group_stands AfterName st
   step_stands _ _ _ opens_more e st = group_stands AfterClose st
   step_stands _ _ _ (gives_first w) e st = valued_stands w AfterOpen p.due refl refl refl st

@@ -16,12 +16,12 @@ use Rattle.log_reader.specs.declared.fault.LogFault.{LogFault}
 use Rattle.log_reader.specs.declared.stage.Stage.{Stage}
 use Rattle.log_reader.specs.declared.stage.Stage.TheVariants.{AfterName, AfterOpen, AfterValue, AfterComma, AfterClose}
 use Rattle.log_reader.specs.Cursors.{IsCounted, Leads}
-use Rattle.log_reader.specs.Groups.{may_open, TakesPlain, LeadsOn, IsOpen, IsReady, closed_with, with_group}
+use Rattle.log_reader.specs.Groups.{may_open, TakesPlain, LeadsOn, IsOpen, MayBeginGroup, closed_with, with_group}
 use Rattle.log_reader.specs.Groups.{ReadsValues, ReadsGroup}
 use Rattle.log_reader.specs.Partials.{Partial}
-use Rattle.log_reader.specs.Quick.{IsInteger, is_value_due, TakesFront, TakesStamp, StepsMark}
+use Rattle.log_reader.specs.Quick.{IsInteger, is_value_due, TakesTokenInFront, TakesStamp, StepsMark}
 use Rattle.log_reader.specs.Readings.{run, behind_tokens}
-use Rattle.log_reader.specs.Steps.{step, stepped, valued, closed}
+use Rattle.log_reader.specs.Steps.{step, stepped, valued, group_closed}
 use Rattle.log_reader.specs.Stretches.{place_in}
 use Rattle.log_reader.specs.Tokens.{front_of, blank_before, IsInFront}
 use Rattle.log_reader.specs.Symbols.{Bare}
@@ -98,7 +98,7 @@ module _ (from : ℕ) (looked : List ℕ) (ended : Bool) (sig : List PredOf) (li
 
   module _ (at : ℕ) (p : Partial) (le : at ≤ length looked) (c : IsCounted p) where
     -- a token in front leads behind it
-    pub front_leads : (n : ℕ) (q : Partial) → TakesFront sig limits p (from + at) (drop at looked) n q
+    pub front_leads : (n : ℕ) (q : Partial) → TakesTokenInFront sig limits p (from + at) (drop at looked) n q
         → Goes at p (at + n) q × (at < at + n)
     front_leads n q f =
         let here = place_in from looked ended at in
@@ -145,7 +145,7 @@ module _ (from : ℕ) (looked : List ℕ) (ended : Bool) (sig : List PredOf) (li
           → Goes at p (at + 1) (closed_with p p.args)
       closing_leads stage due is =
           mark_leads _ (closing_steps limits p (closed_with p p.args) (from + at) took _ stage is
-          (ap (closed (from + at) p) due
+          (ap (group_closed (from + at) p) due
           ∙ ap (λ (d : List Sort). Ok (record (closed_with p p.args) { due = d })) due))
 
       abbrev begun : Partial
@@ -239,7 +239,7 @@ module _ (from : ℕ) (looked : List ℕ) (ended : Bool) (sorts : List Sort) (st
           let reached = s.there.leads sig limits p o in
           go_on from looked ended sig limits start at (at + n) p (here p) _ reached
           (front_leads from looked ended sig limits at (here p) s.there.within reached.counted n _
-          (subst (λ (v : List Value). TakesFront sig limits (here p) (from + at) (drop at looked) n
+          (subst (λ (v : List Value). TakesTokenInFront sig limits (here p) (from + at) (drop at looked) n
           (record p { stage = AfterValue; due = more; args = v })) (sym t.row_is)
           (plain.takes sig limits (here p) more s.awaits t.due_is))).0;
     }
@@ -323,7 +323,7 @@ module _ (from : ℕ) (looked : List ℕ) (ended : Bool) (sorts : List Sort) (at
 pub takes_group : (limits : Limits) (from : ℕ) (looked : List ℕ) (ended : Bool) (at : ℕ) (p q : Partial)
     (found : Option (List Value × ℕ)) (row : List Value) (behind : ℕ)
     → IfSome found (λ x. ReadsGroup from looked ended p.sorts at x.0 x.1) → found ≡ Some (row, behind)
-    → IsReady limits p.sorts p → q ≡ with_group p row
+    → MayBeginGroup limits p.sorts p → q ≡ with_group p row
     → LeadsOn limits from looked ended at p behind q × (at < behind)
 takes_group limits from looked ended at p q found row behind reads is ready after =
     let r = subst (λ (f : Option (List Value × ℕ)). IfSome f (λ x. ReadsGroup from looked ended p.sorts at x.0 x.1)) is
@@ -336,4 +336,4 @@ pub stamp_leads : (from : ℕ) (looked : List ℕ) (ended : Bool) (at n : ℕ) (
     → (sig : List PredOf) (limits : Limits) → Leads sig limits from looked ended at p [] (at + n) q × (at < at + n)
 stamp_leads from looked ended at n p q rest le c is takes sig limits =
     front_leads from looked ended sig limits at p le c n q
-    (subst (λ (r : List ℕ). TakesFront sig limits p (from + at) r n q) is (takes sig limits))
+    (subst (λ (r : List ℕ). TakesTokenInFront sig limits p (from + at) r n q) is (takes sig limits))

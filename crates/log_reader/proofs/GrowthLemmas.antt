@@ -5,7 +5,7 @@ use Rattle.std.proofs.Common.{append-nil}
 use Rattle.std.specs.Prelude.{Result, Ok, Err}
 use Rattle.std.proofs.Math.Bool.{and-false}
 use Rattle.std.proofs.lemmas.Bool.{le-ltb, ltb-false, ltb-true, lt-ltb}
-use Rattle.mfotl_lex.specs.Growing.{grown, joined, joined_at, stopped as stopped_at}
+use Rattle.mfotl_lex.specs.Growing.{grown, tokens_joined, joined_at, stopped as stopped_at}
 use Rattle.mfotl_lex.specs.Lexemes.{Lexeme, Tokens, tokens}
 use Rattle.mfotl_lex.specs.declared.fault.LexFault.{LexFault}
 use Rattle.mfotl_lex.specs.declared.kind.Mode.TheVariants.{Log}
@@ -14,16 +14,16 @@ use Rattle.std.proofs.Math.Seq.{take-append-add}
 use Rattle.mfotl_lex.proofs.GrowingLemmas.{more_bytes}
 use Rattle.mfotl_model.specs.declared.event.TimePoint.{TimePoint}
 use Rattle.mfotl_sig.specs.Preds.{PredOf}
-use Rattle.log_reader.specs.Partials.{Partial, blank}
+use Rattle.log_reader.specs.Partials.{Partial, nothing_read}
 use Rattle.log_reader.specs.Readings.{NoFault, Reading, behind, behind_tokens, is_long, nothing_left, place_at, reading}
 use Rattle.log_reader.specs.Readings.{run, shown, went_on}
-use Rattle.log_reader.specs.Growth.{Keeps, ShownStays}
+use Rattle.log_reader.specs.Growth.{ExtendsReading, ShownStays}
 use Rattle.log_reader.specs.Steps.{completed, step}
 use Rattle.log_reader.specs.declared.fault.LogFault.{LogFault}
 use Rattle.log_reader.specs.declared.limits.Limits.{Limits}
 
 -- what is the same keeps all
-same : (s a : Reading) → a ≡ s → Keeps s a
+same : (s a : Reading) → a ≡ s → ExtendsReading s a
 same s a e = record {
   more = [];
   points = ap (λ (r : Reading). r.points) e ∙ sym (append-nil s.points);
@@ -47,15 +47,16 @@ module _ (sig : List PredOf) (limits : Limits) where
   run_append last p (x ∷ xs) ys =
       ap (behind (completed p x)) (went_alike (step sig limits p x) _ _ (λ q. run_append last q xs ys))
 
-  behind_keeps : (points : List TimePoint) (s a : Reading) → Keeps s a → Keeps (behind points s) (behind points a)
+  behind_keeps : (points : List TimePoint) (s a : Reading) → ExtendsReading s a
+      → ExtendsReading (behind points s) (behind points a)
   behind_keeps points s a k = record {
     more = k.more;
     points = ap (λ ps. points ++ ps) k.points ∙ sym (append_assoc points s.points k.more);
     stays = λ fault stops. ap (behind points) (k.stays fault stops);
   }
 
-  went_keeps : (r : Result Partial LogFault) (f g : Partial → Reading) → ((q : Partial) → Keeps (f q) (g q))
-      → Keeps (went_on r f) (went_on r g)
+  went_keeps : (r : Result Partial LogFault) (f g : Partial → Reading) → ((q : Partial) → ExtendsReading (f q) (g q))
+      → ExtendsReading (went_on r f) (went_on r g)
   went_keeps (Ok q) f g k = k q
   went_keeps (Err fault) f g k = same _ _ refl
 
@@ -69,7 +70,7 @@ module _ (sig : List PredOf) (limits : Limits) where
 
   -- whatever comes behind, what the tokens show stays
   run_keeps : (last : Partial → Reading) (p : Partial) (ts : List Lexeme)
-      → Keeps (run sig limits (λ q. nothing) p ts) (run sig limits last p ts)
+      → ExtendsReading (run sig limits (λ q. nothing) p ts) (run sig limits last p ts)
   unfolding run
   run_keeps last p [] = record { more = (last p).points; points = refl; stays = λ fault stops. absurd cc }
   run_keeps last p (t ∷ ts) =
@@ -82,19 +83,20 @@ module _ (sig : List PredOf) (limits : Limits) where
 
   -- a reading of these tokens
   abbrev run_tokens : (Partial → Reading) → Tokens → Reading
-  run_tokens last ts = run sig limits (behind_tokens ts.fault last) blank ts.list
+  run_tokens last ts = run sig limits (behind_tokens ts.fault last) nothing_read ts.list
 
   joined_keeps : (first last : Partial → Reading) → ((q : Partial) → first q ≡ nothing)
       → (fault : Option LexFault) (list : List Lexeme) (more : Tokens)
-      → Keeps (run sig limits (behind_tokens fault first) blank list) (run_tokens last (joined_at fault list more))
-  joined_keeps first last none (Some x) list more = same _ _ (run_alike _ _ (λ q. refl) blank list)
+      → ExtendsReading (run sig limits (behind_tokens fault first) nothing_read list)
+          (run_tokens last (joined_at fault list more))
+  joined_keeps first last none (Some x) list more = same _ _ (run_alike _ _ (λ q. refl) nothing_read list)
   joined_keeps first last none None list more =
       let further = λ (q : Partial). run sig limits (behind_tokens more.fault last) q more.list in
       rw (
-        run_alike (behind_tokens None first) (λ q. nothing) none blank list,
-        run_append (behind_tokens more.fault last) blank list more.list,
+        run_alike (behind_tokens None first) (λ q. nothing) none nothing_read list,
+        run_append (behind_tokens more.fault last) nothing_read list more.list,
       )
-      (run_keeps further blank list)
+      (run_keeps further nothing_read list)
 
   -- the front is longer than the limit: nothing behind it counts
   pub long_same : (seen left : List ℕ) (ended : Bool) → limits.bytes < length seen
@@ -113,11 +115,11 @@ module _ (sig : List PredOf) (limits : Limits) where
       let last_is : (q : Partial) → nothing_left limits (seen ++ left) ended q ≡ nothing_left limits seen false q =
       λ q. rw (whole_long, front_long) refl in
       ap (run_tokens (nothing_left limits (seen ++ left) ended)) (ap tokens place_is)
-      ∙ run_alike _ _ (behind_alike (tokens (place_at limits seen false 0)).fault _ _ last_is) blank _
+      ∙ run_alike _ _ (behind_alike (tokens (place_at limits seen false 0)).fault _ _ last_is) nothing_read _
 
   -- the front is within the limit
   short_keeps : (seen left : List ℕ) (ended : Bool) → length seen ≤ limits.bytes
-      → Keeps (shown sig limits seen) (reading sig limits (seen ++ left) ended)
+      → ExtendsReading (shown sig limits seen) (reading sig limits (seen ++ left) ended)
   unfolding reading
   short_keeps seen left ended short =
       let n = limits.bytes - length seen in
@@ -131,7 +133,7 @@ module _ (sig : List PredOf) (limits : Limits) where
       ap (λ k. take k (seen ++ left)) count ∙ take-append-add seen left n ∙ ap (λ xs. xs ++ more) (sym front_is) in
       let place_is : place_at limits (seen ++ left) ended 0 ≡ grown p more e =
       ap (λ bytes. record { mode = Log; at = 0; rest = drop 0 bytes; ended = e }) looked in
-      let tokens_are : tokens (place_at limits (seen ++ left) ended 0) ≡ joined (tokens p) (tokens (grown
+      let tokens_are : tokens (place_at limits (seen ++ left) ended 0) ≡ tokens_joined (tokens p) (tokens (grown
       (stopped_at p) more e)) =
       ap tokens place_is ∙ (more_bytes p more e refl).1 in
       let none : (q : Partial) → nothing_left limits seen false q ≡ nothing = λ q. rw front_short refl in
@@ -142,11 +144,11 @@ module _ (sig : List PredOf) (limits : Limits) where
 
   -- what a front shows stays, whatever comes behind it, and whether or not the end is told then
   pub front_stays : (seen left : List ℕ) (ended : Bool)
-      → Keeps (shown sig limits seen) (reading sig limits (seen ++ left) ended)
+      → ExtendsReading (shown sig limits seen) (reading sig limits (seen ++ left) ended)
   front_stays seen left ended = go (nat_lt limits.bytes (length seen)) refl
     where
       go : (b : Bool) → nat_lt limits.bytes (length seen) ≡ b
-          → Keeps (shown sig limits seen) (reading sig limits (seen ++ left) ended)
+          → ExtendsReading (shown sig limits seen) (reading sig limits (seen ++ left) ended)
       go true e = same _ _ (long_same seen left ended (ltb-true _ _ e))
       go false e = short_keeps seen left ended (ltb-false _ _ e)
 

@@ -25,10 +25,10 @@ use Rattle.log_reader.specs.Grammar.{spell_more, spell_values, symbols_of}
 use Rattle.log_reader.specs.Partials.{Partial, point_of}
 use Rattle.log_reader.specs.Readings.{Reading, Fault, behind, went_on, run}
 use Rattle.log_reader.specs.Rules.{value_of, values_of}
-use Rattle.log_reader.specs.Stages.{goes, completes}
+use Rattle.log_reader.specs.Stages.{stage_after, completes}
 use Rattle.log_reader.specs.Steps.{step, completed, stepped}
 use Rattle.log_reader.specs.Symbols.{Symbol, Closing, Separator, Says, Written, Bare, Quoted, symbol, symbol_of}
-use Rattle.log_reader.specs.Symbols.{content, written, written_of}
+use Rattle.log_reader.specs.Symbols.{token_content, written, written_of}
 use Rattle.log_reader.specs.ValuesRead.{value_at, integer_at, is_number}
 
 -- ---- symbols and tokens
@@ -72,7 +72,7 @@ module _ (sig : List PredOf) (limits : Limits) where
 
   pub one_step : (s : Stage) (x : Symbol) (p : Partial) (t : Lexeme) (ts : List Lexeme) (r : Result Partial LogFault)
       → p.stage ≡ s → symbol t ≡ x → completes s x ≡ false
-      → stepped sig limits p t (goes s x) ≡ r → (last : Partial → Reading)
+      → stepped sig limits p t (stage_after s x) ≡ r → (last : Partial → Reading)
       → run sig limits last p (t ∷ ts) ≡ went_on r (λ q. run sig limits last q ts)
   unfolding run step completed
   one_step s x p t ts r at is c e last = rw (at, is, c, e)
@@ -80,7 +80,7 @@ module _ (sig : List PredOf) (limits : Limits) where
   -- a token that completes the present time-point
   pub last_step : (s : Stage) (x : Symbol) (p : Partial) (t : Lexeme) (ts : List Lexeme)
       (r : Result Partial LogFault) → p.stage ≡ s → symbol t ≡ x → completes s x ≡ true
-      → stepped sig limits p t (goes s x) ≡ r → (last : Partial → Reading)
+      → stepped sig limits p t (stage_after s x) ≡ r → (last : Partial → Reading)
       → run sig limits last p (t ∷ ts) ≡ behind (point_of p ∷ []) (went_on r (λ q. run sig limits last q ts))
   unfolding run step completed
   last_step s x p t ts r at is c e last = rw (at, is, c, e)
@@ -88,7 +88,7 @@ module _ (sig : List PredOf) (limits : Limits) where
   -- a step that leads on, and one that doesn't
   pub passes : (s : Stage) (x : Symbol) (p q : Partial) (ts : List Lexeme) (rest : List Symbol) (f : Front ts x rest)
       → p.stage ≡ s → completes s x ≡ false
-      → stepped sig limits p f.token (goes s x) ≡ Ok q → Passed p q ts rest
+      → stepped sig limits p f.token (stage_after s x) ≡ Ok q → Passed p q ts rest
   passes s x p q ts rest f at c e = record {
     others = f.others;
     spelled = f.spelled;
@@ -97,7 +97,7 @@ module _ (sig : List PredOf) (limits : Limits) where
 
   pub faults : (s : Stage) (x : Symbol) (p : Partial) (fault : LogFault) (ts : List Lexeme) (rest : List Symbol)
       (f : Front ts x rest) → p.stage ≡ s → completes s x ≡ false
-      → stepped sig limits p f.token (goes s x) ≡ Err fault → Faulty p ts
+      → stepped sig limits p f.token (stage_after s x) ≡ Err fault → Faulty p ts
   faults s x p fault ts rest f at c e = record {
     points = [];
     fault = fault;
@@ -164,7 +164,7 @@ module _ (sig : List PredOf) (limits : Limits) where
 
   -- a `)` where no value is lacking, and where some are
   closing : (c : Partial) (stage : Stage) (due : List Sort) (args : List Value) (ts : List Lexeme)
-      (rest : List Symbol) → goes stage Closing ≡ Some AfterClose → completes stage Closing ≡ false
+      (rest : List Symbol) → stage_after stage Closing ≡ Some AfterClose → completes stage Closing ≡ false
       → symbols_of ts ≡ Closing ∷ rest → InsideJudged c stage due args [] ts rest
   unfolding values_of
   closing c stage [] args ts rest g h e =
@@ -189,7 +189,7 @@ module _ (sig : List PredOf) (limits : Limits) where
   -- a value, and then those behind it
   value_then : (c : Partial) (stage : Stage) (due : List Sort) (args : List Value) (w : Written) (ws : List Written)
       (ts : List Lexeme) (rest : List Symbol)
-      → goes stage (Says w) ≡ Some AfterValue → completes stage (Says w) ≡ false
+      → stage_after stage (Says w) ≡ Some AfterValue → completes stage (Says w) ≡ false
       → symbols_of ts ≡ Says w ∷ spell_more ws (Closing ∷ rest)
       → ((due : List Sort) (args : List Value) (ts : List Lexeme) → symbols_of ts ≡ spell_more ws (Closing ∷ rest)
       → InsideJudged c AfterValue due args ws ts rest)
@@ -205,8 +205,8 @@ module _ (sig : List PredOf) (limits : Limits) where
   value_then c stage (sort ∷ due) args w ws ts rest g h e later =
       let f = front_of ts (Says w) (spell_more ws (Closing ∷ rest)) e in
       let p = within c stage (sort ∷ due) args in
-      let says : written f.token ≡ w = says_written f.token.kind (content f.token) w f.is in
-      let steps : stepped sig limits p f.token (goes stage (Says w))
+      let says : written f.token ≡ w = says_written f.token.kind (token_content f.token) w f.is in
+      let steps : stepped sig limits p f.token (stage_after stage (Says w))
       ≡ (value_at sort f.token.at w >>= λ v. Ok (within c AfterValue due (args ++ v ∷ []))) =
       rw (g, says) in
       elim (value_judged sort f.token.at w) [

@@ -8,13 +8,13 @@ use Rattle.log_reader.specs.declared.fault.LogFault.TheVariants.{Memory}
 use Rattle.log_reader.specs.declared.limits.Limits.{Limits}
 use Rattle.log_reader.specs.declared.next.Next.{Next}
 use Rattle.log_reader.specs.declared.next.Next.TheVariants.{Point, More}
-use Rattle.log_reader.specs.Cursors.{given_of, Leads, Exhausts, Breaks, BreaksBy, Advances, behind_answer}
+use Rattle.log_reader.specs.Cursors.{given_of, Leads, Exhausts, Breaks, BreaksBy, AdvancesToPoint, behind_answer}
 use Rattle.log_reader.specs.Given.{Gives}
 use Rattle.log_reader.specs.Partials.{Partial}
 use Rattle.log_reader.specs.Progress.{answer_of, skipped}
 use Rattle.log_reader.specs.Readings.{Reading, behind, run_from, nothing_behind, nothing_left, reading}
-use Rattle.log_reader.specs.Soundness.{StandsFor, IsWithin, AnswersDue, StandsOn, is_wanting, CountsOn}
-use Rattle.log_reader.specs.Stretches.{Stretch, Waits, end_of, looked_at, is_end_told, place_of}
+use Rattle.log_reader.specs.Soundness.{StandsForLog, IsInStretch, AnswersDue, StandsOn, is_wanting, CountsOn}
+use Rattle.log_reader.specs.Stretches.{Stretch, Waits, stretch_end, looked_at, is_end_told, stretch_place}
 use Rattle.log_reader.proofs.TokenSteps.{later_self}
 use Rattle.log_reader.proofs.ReaderSoundness.{stands_leads, stands_end, end_counts, end_counted, due_rest, due_end}
 use Rattle.log_reader.proofs.ReaderSoundness.{waits_by}
@@ -31,7 +31,7 @@ pub record Owed (sig : List PredOf) (limits : Limits) (is_ended : Bool) (s : Str
     (answer : Result Next LogFault) (at' : ℕ) (q : Partial) : Type 0 where
   pub due : AnswersDue sig limits is_ended s at p answer
   pub stands : is_wanting answer ≡ false → StandsOn sig limits is_ended s at p at' q
-  pub within : is_wanting answer ≡ false → IsWithin limits s at' q
+  pub within : is_wanting answer ≡ false → IsInStretch limits s at' q
   pub counts : CountsOn (given_of p) answer (given_of q)
   pub waits : answer ≡ Ok More → Waits limits s at'
 
@@ -39,9 +39,9 @@ pub record Owed (sig : List PredOf) (limits : Limits) (is_ended : Bool) (s : Str
 module _ (sig : List PredOf) (limits : Limits) (s : Stretch) (from : ℕ) (looked : List ℕ) (is_ended told : Bool)
     (at : ℕ) (p : Partial) (result : Result (Option TimePoint) LogFault) (at' : ℕ) (q : Partial)
     (begins : from ≡ s.from) (look : looked ≡ looked_at limits s) (end : told ≡ is_end_told limits s is_ended)
-    (a : Advances sig limits from looked told at p result at' q) (w : IsWithin limits s at p) where
+    (a : AdvancesToPoint sig limits from looked told at p result at' q) (w : IsInStretch limits s at p) where
   abbrev AdvancesTo : Result (Option TimePoint) LogFault → Type 0
-  AdvancesTo r = Advances sig limits s.from (looked_at limits s) (is_end_told limits s is_ended) at p r at' q
+  AdvancesTo r = AdvancesToPoint sig limits s.from (looked_at limits s) (is_end_told limits s is_ended) at p r at' q
 
   abbrev LeadsOn : List TimePoint → Type 0
   LeadsOn points = Leads sig limits s.from (looked_at limits s) (is_end_told limits s is_ended) at p points at' q
@@ -51,14 +51,15 @@ module _ (sig : List PredOf) (limits : Limits) (s : Stretch) (from : ℕ) (looke
 
   advanced : AdvancesTo result
   advanced =
-      subst (λ (n : ℕ). Advances sig limits n (looked_at limits s) (is_end_told limits s is_ended) at p result at' q)
-      begins (subst (λ (x : Bool). Advances sig limits from (looked_at limits s) x at p result at' q) end
-      (subst (λ (x : List ℕ). Advances sig limits from x told at p result at' q) look a))
+      subst (λ (n : ℕ). AdvancesToPoint sig limits n (looked_at limits s)
+          (is_end_told limits s is_ended) at p result at' q)
+      begins (subst (λ (x : Bool). AdvancesToPoint sig limits from (looked_at limits s) x at p result at' q) end
+      (subst (λ (x : List ℕ). AdvancesToPoint sig limits from x told at p result at' q) look a))
 
   -- the reading of what there is by now
   leads_now : (points : List TimePoint) → LeadsOn points → (last : Partial → Reading)
-      → run_from sig limits last p (place_of limits s is_ended at)
-      ≡ behind points (run_from sig limits last q (place_of limits s is_ended at'))
+      → run_from sig limits last p (stretch_place limits s is_ended at)
+      ≡ behind points (run_from sig limits last q (stretch_place limits s is_ended at'))
   leads_now points l last =
       let told = is_end_told limits s is_ended in
       rw (append-nil (drop at (looked_at limits s)), append-nil (drop at' (looked_at limits s)))
@@ -68,15 +69,15 @@ module _ (sig : List PredOf) (limits : Limits) (s : Stretch) (from : ℕ) (looke
   stands_led points l log st =
       rw l.given (stands_leads sig limits log is_ended s (given_of p) at at' p q points w.within st l)
 
-  within_led : (points : List TimePoint) → LeadsOn points → IsWithin limits s at' q
+  within_led : (points : List TimePoint) → LeadsOn points → IsInStretch limits s at' q
   within_led points l = record { within = l.within; counted = l.counted }
 
   -- what the rest begins with is due
   due_led : (points : List TimePoint) → LeadsOn points → (log : List ℕ)
-      → StandsFor sig limits is_ended (given_of p) s at p log
+      → StandsForLog sig limits is_ended (given_of p) s at p log
       → answer_of is_ended (skipped (given_of p) (reading sig limits log is_ended))
       ≡ answer_of is_ended (behind points
-      (run_from sig limits (nothing_left limits log is_ended) q (place_of limits s is_ended at')))
+      (run_from sig limits (nothing_left limits log is_ended) q (stretch_place limits s is_ended at')))
   due_led points l log st =
       due_rest sig limits log is_ended s (given_of p) at p st
       ∙ ap (answer_of is_ended) (leads_now points l (nothing_left limits log is_ended))
@@ -103,7 +104,7 @@ module _ (sig : List PredOf) (limits : Limits) (s : Stretch) (from : ℕ) (looke
       BreaksBy sig limits s.from (looked_at limits s) (is_end_told limits s is_ended) at p fault at' q
 
   due_broken : (fault : LogFault) → BreaksHere fault → (log : List ℕ)
-      → StandsFor sig limits is_ended (given_of p) s at p log
+      → StandsForLog sig limits is_ended (given_of p) s at p log
       → answer_of is_ended (skipped (given_of p) (reading sig limits log is_ended)) ≡ Err fault
   due_broken fault b log st =
       due_led [] b.leads log st ∙ ap (λ (r : Reading). answer_of is_ended (behind [] r))
@@ -130,7 +131,7 @@ module _ (sig : List PredOf) (limits : Limits) (s : Stretch) (from : ℕ) (looke
 
   -- where no whole token is left, the end gives the answer
   pub owed_end : result ≡ Ok None → (answer : Result Next LogFault) (r : Partial)
-      → answer ≡ answer_of is_ended (nothing_behind limits (end_of s) is_ended q) → r ≡ behind_answer q answer
+      → answer ≡ answer_of is_ended (nothing_behind limits (stretch_end s) is_ended q) → r ≡ behind_answer q answer
       → Answered answer r
   owed_end is answer r e m =
       let x : Exhausts sig limits s.from (looked_at limits s) (is_end_told limits s is_ended) at p at' q =
@@ -144,6 +145,6 @@ module _ (sig : List PredOf) (limits : Limits) (s : Stretch) (from : ℕ) (looke
         stands = λ fine log st.
             stands_end sig limits log is_ended s at' q x.leads.counted (here log st) x.empty r answer e m;
         within = λ fine. record { within = x.leads.within; counted = end_counted q r answer x.leads.counted m };
-        counts = end_counts limits (end_of s) is_ended (given_of p) q r answer x.leads.counted x.leads.given e m;
+        counts = end_counts limits (stretch_end s) is_ended (given_of p) q r answer x.leads.counted x.leads.given e m;
         waits = λ more. waits_by limits s is_ended at' q x.leads.within x.empty x.bare (sym more ∙ e);
       }

@@ -5,7 +5,7 @@ use Rattle.std.proofs.lemmas.List.{append-nil, length-drop, drop-drop}
 use Rattle.mfotl_lex.specs.Blanks.{blank_len}
 use Rattle.mfotl_lex.specs.Growing.{grown}
 use Rattle.mfotl_lex.specs.Lexemes.{Lexeme, token_at, place_after, past_blanks, next_token, after, tokens}
-use Rattle.mfotl_lex.specs.Places.{Place, moved, mode_behind}
+use Rattle.mfotl_lex.specs.Places.{Place, further_on, mode_behind}
 use Rattle.mfotl_lex.specs.Scans.{scan, IsWithin}
 use Rattle.mfotl_lex.specs.declared.scan.Scan.{Scan}
 use Rattle.mfotl_lex.specs.declared.scan.Scan.TheVariants.{Unshown, Takes, Fails}
@@ -14,17 +14,17 @@ use Rattle.mfotl_lex.proofs.BlankLoop.{blanks_within}
 use Rattle.mfotl_lex.proofs.GrowingLemmas.{reads_on}
 use Rattle.mfotl_lex.proofs.ScanLemmas.{scan_within}
 use Rattle.mfotl_lex.proofs.Sequence.{next_is, nothing_after, after_ended, tokens_none}
-use Rattle.log_reader.specs.Cursors.{IsLater}
+use Rattle.log_reader.specs.Cursors.{MayComeLater}
 
 -- how far a token leads: past a byte at least, and within the bytes
 pub record Moves (p q : Place) : Type 0 where
   pub count : ℕ
   pub some : 0 < count
   pub within : count ≤ length p.rest
-  pub place : q ≡ moved p count
+  pub place : q ≡ further_on p count
 
 moves_by : (p : Place) (blanks : ℕ) (s : Scan) (t : Lexeme) → blanks ≤ length p.rest → IsWithin (drop blanks p.rest) s
-    → token_at (moved p blanks) s ≡ Ok (Some t) → Moves p (place_after p (moved p blanks) s)
+    → token_at (further_on p blanks) s ≡ Ok (Some t) → Moves p (place_after p (further_on p blanks) s)
 unfolding mode_behind
 moves_by p blanks Unshown t le w e = absurd cc
 moves_by p blanks (Takes kind n) t le w e =
@@ -56,11 +56,11 @@ pub record TokenAgain (p : Place) (t : Lexeme) (more : List ℕ) (later : Bool) 
   pub place : after (grown p more later) ≡ grown (after p) more later
 
 -- whatever comes later
-pub token_again : (p : Place) (t : Lexeme) (more : List ℕ) (later : Bool) → IsLater p.ended more later
+pub token_again : (p : Place) (t : Lexeme) (more : List ℕ) (later : Bool) → MayComeLater p.ended more later
     → next_token p ≡ Ok (Some t) → TokenAgain p t more later
 token_again p t more later is found = go p.ended refl is
   where
-    go : (ended : Bool) → p.ended ≡ ended → IsLater ended more later → TokenAgain p t more later
+    go : (ended : Bool) → p.ended ≡ ended → MayComeLater ended more later → TokenAgain p t more later
     go false untold is =
         let on = reads_on p more later untold in
         record { token = on.token t found; place = on.behind t found }
@@ -84,11 +84,11 @@ none_behind p none =
 
 -- the blanks there are done with
 pub record BlanksDone (p : Place) : Type 0 where
-  pub again : (more : List ℕ) (later : Bool) → IsLater p.ended more later
+  pub again : (more : List ℕ) (later : Bool) → MayComeLater p.ended more later
       → tokens (grown p more later) ≡ tokens (grown (after p) more later)
   pub empty : next_token (after p) ≡ Ok None
   pub bare : blank_len p.ended (after p).rest ≡ 0
-  pub moves : after p ≡ moved p (blank_len p.ended p.rest)
+  pub moves : after p ≡ further_on p (blank_len p.ended p.rest)
   pub within : blank_len p.ended p.rest ≤ length p.rest
 
 pub blanks_done : (p : Place) → next_token p ≡ Ok None → BlanksDone p
@@ -100,7 +100,7 @@ blanks_done p none = record {
   within = blanks_within p.ended p.rest;
 }
   where
-    go : (more : List ℕ) (later ended : Bool) → p.ended ≡ ended → IsLater ended more later
+    go : (more : List ℕ) (later ended : Bool) → p.ended ≡ ended → MayComeLater ended more later
         → tokens (grown p more later) ≡ tokens (grown (after p) more later)
     go more later false untold is = (reads_on p more later untold).none none
     go more later true told (none_more, same) = rw (none_more, same)

@@ -17,10 +17,10 @@ use Rattle.log_reader.specs.Grammar.{PointText, spell_mentions, spell_end, spell
 use Rattle.log_reader.specs.Partials.{Partial, point_of, finished}
 use Rattle.log_reader.specs.Readings.{Reading, NoFault, Fault, behind, run, finish_at}
 use Rattle.log_reader.specs.Rules.{mentions_value, group_count, point_value, log_value}
-use Rattle.log_reader.specs.Stages.{goes, completes}
-use Rattle.log_reader.specs.Steps.{stepped, opened, stamped}
+use Rattle.log_reader.specs.Stages.{stage_after, completes}
+use Rattle.log_reader.specs.Steps.{stepped, point_opened, stamped}
 use Rattle.log_reader.specs.ValuesRead.{timestamp_of}
-use Rattle.log_reader.specs.Symbols.{AtSign, Terminator, Says, Bare, content}
+use Rattle.log_reader.specs.Symbols.{AtSign, Terminator, Says, Bare, token_content}
 use Rattle.log_reader.proofs.Judging.{front_of, bare_content, Passed, Faulty, one_step, last_step, passes, faults}
 use Rattle.log_reader.proofs.Judging.{Faulty-behind, resting}
 use Rattle.log_reader.proofs.PointJudging.{after_stamp, MentionsRead, mentions_judged}
@@ -43,9 +43,9 @@ module _ (sig : List PredOf) (limits : Limits) (len : ℕ) where
   -- a stage at which a time-point is whole
   record IsWhole (s : Stage) : Type 0 where
     pub at : completes s AtSign ≡ true
-    pub at_goes : goes s AtSign ≡ Some AfterAt
+    pub at_goes : stage_after s AtSign ≡ Some AfterAt
     pub end : completes s Terminator ≡ true
-    pub end_goes : goes s Terminator ≡ Some Between
+    pub end_goes : stage_after s Terminator ≡ Some Between
     pub finishes : (p : Partial) → finish_at len p s ≡ record { points = point_of p ∷ []; ending = NoFault }
 
   whole_stage : (s : Stage) → (s ≡ AfterStamp) ⊎ (s ≡ AfterClose) → IsWhole s
@@ -79,7 +79,7 @@ module _ (sig : List PredOf) (limits : Limits) (len : ℕ) where
   settled q s false (point ∷ log) ts w e =
       let p = resting q s in
       let f = front_of ts AtSign _ e in
-      let r = opened limits f.token.at p in
+      let r = point_opened limits f.token.at p in
       record {
         others = ts;
         spelled = e;
@@ -221,7 +221,7 @@ module _ (sig : List PredOf) (limits : Limits) (len : ℕ) where
   stamp_then None c room p log ts found stamp sum clear none e later =
       let start = resting c AfterAt in
       let f = front_of ts (Says (Bare p.stamp)) _ e in
-      let says : content f.token ≡ p.stamp = bare_content f.token.kind (content f.token) p.stamp f.is in
+      let says : token_content f.token ≡ p.stamp = bare_content f.token.kind (token_content f.token) p.stamp f.is in
       let many = nat_lt limits.events (group_count p.mentions) in
       inr (
         log_is c.time room p log ∙ rw found,
@@ -232,13 +232,13 @@ module _ (sig : List PredOf) (limits : Limits) (len : ℕ) where
   stamp_then (Some time) c room p log ts found stamp sum clear none e later =
       let start = resting c AfterAt in
       let f = front_of ts (Says (Bare p.stamp)) _ e in
-      let says : content f.token ≡ p.stamp = bare_content f.token.kind (content f.token) p.stamp f.is in
+      let says : token_content f.token ≡ p.stamp = bare_content f.token.kind (token_content f.token) p.stamp f.is in
       let many = nat_lt limits.events (group_count p.mentions) in
       let events = mentions_value sig [] p.mentions in
       let value : log_value sig limits c.time (suc room) (p ∷ log)
       ≡ log_by c.time room log (point_by (Some time) events many) =
       log_is c.time room p log ∙ rw found in
-      let steps : stepped sig limits start f.token (goes AfterAt (Says (Bare p.stamp)))
+      let steps : stepped sig limits start f.token (stage_after AfterAt (Says (Bare p.stamp)))
       ≡ stamped f.token.at start (Some time) =
       rw (stamp, says, found) in
       elim (cases_lt time c.time) [

@@ -14,8 +14,8 @@ use Rattle.log_reader.specs.declared.limits.Limits.{Limits}
 use Rattle.log_reader.specs.Grammar.{PointText, Spells, symbols_of}
 use Rattle.log_reader.specs.Laws.{answer_by, whole_answer}
 use Rattle.log_reader.specs.LogTexts.{is_long, log_text, tail_behind, tokens_of}
-use Rattle.log_reader.specs.Partials.{Partial, blank}
-use Rattle.log_reader.specs.Readings.{Reading, Ending, NoFault, Fault, stopped, run as run_points, finish_at}
+use Rattle.log_reader.specs.Partials.{Partial, nothing_read}
+use Rattle.log_reader.specs.Readings.{Reading, Ending, NoFault, Fault, fault_only, run as run_points, finish_at}
 use Rattle.log_reader.specs.Readings.{nothing_left, behind_tokens, reading, accepted}
 use Rattle.log_reader.specs.Rules.{log_value, IsValue}
 use Rattle.log_reader.specs.Steps.{step}
@@ -48,8 +48,9 @@ may_end false n p q e f = absurd (let here = rw e at f in cc (here))
 -- ---- tokens that are all there are
 
 module _ (sig : List PredOf) (limits : Limits) (len : ℕ) (ts : List Lexeme) where
-  judged : (log : List PointText) → Spells (symbols_of ts) log → LogJudged sig limits len blank limits.points log ts
-  judged log s = log_judged sig limits len log limits.points s.stamps blank ts (omega arith) s.spelled
+  judged : (log : List PointText) → Spells (symbols_of ts) log
+      → LogJudged sig limits len nothing_read limits.points log ts
+  judged log s = log_judged sig limits len log limits.points s.stamps nothing_read ts (omega arith) s.spelled
 
   -- what they spell, and what that stands for
   pub record Spelled (points : List TimePoint) : Type 0 where
@@ -58,8 +59,8 @@ module _ (sig : List PredOf) (limits : Limits) (len : ℕ) (ts : List Lexeme) wh
     pub value : log_value sig limits 0 limits.points log ≡ Some points
 
   value_of_read : (points : List TimePoint) (log : List PointText) → Spells (symbols_of ts) log
-      → run_points sig limits (last sig limits len) blank ts ≡ whole points
-      → LogJudged sig limits len blank limits.points log ts
+      → run_points sig limits (last sig limits len) nothing_read ts ≡ whole points
+      → LogJudged sig limits len nothing_read limits.points log ts
       → Spelled points
   value_of_read points log spells e (inl x) = record {
     log = log;
@@ -70,26 +71,26 @@ module _ (sig : List PredOf) (limits : Limits) (len : ℕ) (ts : List Lexeme) wh
       absurd (no_fault y.1.fault (ap (λ (r : Reading). r.ending) (sym y.1.reads ∙ e)))
 
   pub tokens_spelled : (points : List TimePoint)
-      → run_points sig limits (last sig limits len) blank ts ≡ whole points → Spelled points
+      → run_points sig limits (last sig limits len) nothing_read ts ≡ whole points → Spelled points
   tokens_spelled points e =
       let alike = λ (q : Partial). finish_ending len q q.stage in
       let ends : Partial → Result Partial LogFault = λ q. ended_at len q q.stage in
-      let ending = sym (run_ending sig limits (last sig limits len) ends alike blank ts)
+      let ending = sym (run_ending sig limits (last sig limits len) ends alike nothing_read ts)
       ∙ ap (λ (r : Reading). r.ending) e in
       let done = no_ending _ ending in
-      let first = bind_ok (run (step sig limits) ts blank) ends done.0 done.1 in
+      let first = bind_ok (run (step sig limits) ts nothing_read) ends done.0 done.1 in
       let accepted = may_end (accepts first.0.stage) len first.0 done.0 refl first.2 in
-      let spelled = accepted_by ts first.0.stage (run_paths sig limits blank first.0 ts first.1) accepted in
+      let spelled = accepted_by ts first.0.stage (run_paths sig limits nothing_read first.0 ts first.1) accepted in
       value_of_read points spelled.0 spelled.1 e (judged spelled.0 spelled.1)
 
   read_of_value : (points : List TimePoint) (s : Spelled points)
-      → LogJudged sig limits len blank limits.points s.log ts
-      → run_points sig limits (last sig limits len) blank ts ≡ whole points
+      → LogJudged sig limits len nothing_read limits.points s.log ts
+      → run_points sig limits (last sig limits len) nothing_read ts ≡ whole points
   read_of_value points s (inl x) = x.2.reads ∙ ap whole (same_some x.0 points (sym x.1 ∙ s.value))
   read_of_value points s (inr y) = absurd (none_some points (sym y.0 ∙ s.value))
 
   pub spelled_tokens : (points : List TimePoint) → Spelled points
-      → run_points sig limits (last sig limits len) blank ts ≡ whole points
+      → run_points sig limits (last sig limits len) nothing_read ts ≡ whole points
   spelled_tokens points s = read_of_value points s (judged s.log s.spells)
 
 -- ---- bytes that are all there are
@@ -112,16 +113,16 @@ module _ (sig : List PredOf) (limits : Limits) (bytes : List ℕ) where
 
   -- where nothing is too long and the bytes are whole tokens
   plainly : (tokens_of limits bytes true).fault ≡ None → is_long limits bytes ≡ false
-      → accepted sig limits bytes ≡ run_points sig limits (last sig limits (length bytes)) blank ts
+      → accepted sig limits bytes ≡ run_points sig limits (last sig limits (length bytes)) nothing_read ts
   unfolding reading
   plainly whole short =
       ap (λ (f : Option LexFault). run_points sig limits
-      (behind_tokens f (nothing_left limits bytes true)) blank ts) whole
+      (behind_tokens f (nothing_left limits bytes true)) nothing_read ts) whole
       ∙ ap (λ (b : Bool). run_points sig limits
-      (λ p. cond b (stopped (TooLong limits.bytes)) (finish_at (length bytes) p p.stage)) blank ts) short
+      (λ p. cond b (fault_only (TooLong limits.bytes)) (finish_at (length bytes) p p.stage)) nothing_read ts) short
 
-  told_run : (p : Partial) → reading_of (step sig limits) blank at_tail (log_text limits bytes true) ≡ Ok p
-      → (run (step sig limits) ts blank >>= at_tail
+  told_run : (p : Partial) → reading_of (step sig limits) nothing_read at_tail (log_text limits bytes true) ≡ Ok p
+      → (run (step sig limits) ts nothing_read >>= at_tail
       (tail_behind limits bytes true (tokens_of limits bytes true).fault)) ≡ Ok p
   unfolding reading_of
   told_run p e = e
@@ -131,7 +132,7 @@ module _ (sig : List PredOf) (limits : Limits) (bytes : List ℕ) where
       let fault = (tokens_of limits bytes true).fault in
       let ends : Partial → Result Partial LogFault = at_tail (tail_behind limits bytes true fault) in
       let done = no_ending _ (sym (log_ending sig limits bytes true) ∙ e) in
-      let first = bind_ok (run (step sig limits) ts blank) ends done.0 (told_run done.0 done.1) in
+      let first = bind_ok (run (step sig limits) ts nothing_read) ends done.0 (told_run done.0 done.1) in
       whole_by limits bytes fault (is_long limits bytes) first.0 done.0 refl first.2
 
   pub read_spelled : (points : List TimePoint) → accepted sig limits bytes ≡ whole points

@@ -18,14 +18,14 @@ use Rattle.log_reader.specs.declared.stage.Stage.{Stage}
 use Rattle.log_reader.specs.declared.stage.Stage.TheVariants.{Between, AfterAt, AfterStamp, AfterName, AfterOpen}
 use Rattle.log_reader.specs.declared.stage.Stage.TheVariants.{AfterValue, AfterComma, AfterClose}
 use Rattle.log_reader.specs.Cursors.{IsCounted, TakesToken, StepsOver}
-use Rattle.log_reader.specs.Given.{Moves, Stays}
+use Rattle.log_reader.specs.Given.{StateMoves, Stays}
 use Rattle.log_reader.specs.Partials.{Partial, point_of, finished}
-use Rattle.log_reader.specs.Quick.{mark_token, StepsMark, TakesFront, CompletesFront, HaltsFront, HaltsFrontBy}
+use Rattle.log_reader.specs.Quick.{mark_token, StepsMark, TakesTokenInFront, CompletesFront, HaltsFront, HaltsFrontBy}
 use Rattle.log_reader.specs.Quick.{TakesStraight}
 use Rattle.log_reader.specs.declared.partial.Straight.{Straight}
 use Rattle.log_reader.specs.declared.partial.Straight.TheVariants as straights
-use Rattle.log_reader.specs.Stages.{goes, completes, is_whole}
-use Rattle.log_reader.specs.Steps.{step, stepped, opened, grouped, closed, naming}
+use Rattle.log_reader.specs.Stages.{stage_after, completes, is_whole}
+use Rattle.log_reader.specs.Steps.{step, stepped, point_opened, grouped, group_closed, naming}
 use Rattle.log_reader.specs.Stretches.{place_in}
 use Rattle.log_reader.specs.Symbols.{AtSign, Opening, Closing, Separator, Says, Bare, symbol}
 use Rattle.log_reader.specs.Tokens.{blank_before, IsInFront}
@@ -35,9 +35,9 @@ use Rattle.log_reader.proofs.TokenSteps.{steps_over}
 
 module _ {U : Type 0} (limits : Limits) (p q : Partial) (at : ℕ) (result : Result U LogFault) where
   steps_mark : (b : ℕ) (kind : Kind) (stage : Stage) → log_mark b ≡ Some kind
-      → goes p.stage (symbol (mark_token kind at b)) ≡ Some stage
+      → stage_after p.stage (symbol (mark_token kind at b)) ≡ Some stage
       → completes p.stage (symbol (mark_token kind at b)) ≡ false
-      → ((sig : List PredOf) → Moves p q result (stepped sig limits p (mark_token kind at b) (Some stage)))
+      → ((sig : List PredOf) → StateMoves p q result (stepped sig limits p (mark_token kind at b) (Some stage)))
       → StepsMark limits p at b result q
   unfolding step
   steps_mark b kind stage is goes_to goes_on moves = record {
@@ -45,33 +45,35 @@ module _ {U : Type 0} (limits : Limits) (p q : Partial) (at : ℕ) (result : Res
     is = is;
     goes_on = goes_on;
     moves = λ sig.
-        subst (Moves p q result) (sym (ap (stepped sig limits p (mark_token kind at b)) goes_to)) (moves sig);
+        subst (StateMoves p q result) (sym (ap (stepped sig limits p (mark_token kind at b)) goes_to)) (moves sig);
   }
 
-  pub comma_steps : (b : ℕ) → p.stage ≡ AfterValue → b ≡ 44 → Moves p q result (Ok (record p { stage = AfterComma }))
+  pub comma_steps : (b : ℕ) → p.stage ≡ AfterValue → b ≡ 44
+      → StateMoves p q result (Ok (record p { stage = AfterComma }))
       → StepsMark limits p at b result q
   comma_steps b stage is moves = rw is (steps_mark 44 Comma AfterComma refl
-      (ap (λ (s : Stage). goes s Separator) stage) (ap (λ (s : Stage). completes s Separator) stage) (λ sig. moves))
+      (ap (λ (s : Stage). stage_after s Separator) stage) (ap (λ (s : Stage). completes s Separator) stage)
+          (λ sig. moves))
 
-  pub closing_steps : (b : ℕ) → p.stage ≡ AfterValue → b ≡ 41 → Moves p q result (closed at p p.due)
+  pub closing_steps : (b : ℕ) → p.stage ≡ AfterValue → b ≡ 41 → StateMoves p q result (group_closed at p p.due)
       → StepsMark limits p at b result q
   closing_steps b stage is moves = rw is (steps_mark 41 CloseParen AfterClose refl
-      (ap (λ (s : Stage). goes s Closing) stage) (ap (λ (s : Stage). completes s Closing) stage) (λ sig. moves))
+      (ap (λ (s : Stage). stage_after s Closing) stage) (ap (λ (s : Stage). completes s Closing) stage) (λ sig. moves))
 
-  pub opening_steps : (b : ℕ) → p.stage ≡ AfterName → b ≡ 40 → Moves p q result (grouped limits at p)
+  pub opening_steps : (b : ℕ) → p.stage ≡ AfterName → b ≡ 40 → StateMoves p q result (grouped limits at p)
       → StepsMark limits p at b result q
   opening_steps b stage is moves = rw is (steps_mark 40 OpenParen AfterOpen refl
-      (ap (λ (s : Stage). goes s Opening) stage) (ap (λ (s : Stage). completes s Opening) stage) (λ sig. moves))
+      (ap (λ (s : Stage). stage_after s Opening) stage) (ap (λ (s : Stage). completes s Opening) stage) (λ sig. moves))
 
-  pub again_steps : (b : ℕ) → p.stage ≡ AfterClose → b ≡ 40 → Moves p q result (grouped limits at p)
+  pub again_steps : (b : ℕ) → p.stage ≡ AfterClose → b ≡ 40 → StateMoves p q result (grouped limits at p)
       → StepsMark limits p at b result q
   again_steps b stage is moves = rw is (steps_mark 40 OpenParen AfterOpen refl
-      (ap (λ (s : Stage). goes s Opening) stage) (ap (λ (s : Stage). completes s Opening) stage) (λ sig. moves))
+      (ap (λ (s : Stage). stage_after s Opening) stage) (ap (λ (s : Stage). completes s Opening) stage) (λ sig. moves))
 
-  pub begin_steps : (b : ℕ) → p.stage ≡ Between → b ≡ 64 → Moves p q result (opened limits at p)
+  pub begin_steps : (b : ℕ) → p.stage ≡ Between → b ≡ 64 → StateMoves p q result (point_opened limits at p)
       → StepsMark limits p at b result q
   begin_steps b stage is moves = rw is (steps_mark 64 At AfterAt refl
-      (ap (λ (s : Stage). goes s AtSign) stage) (ap (λ (s : Stage). completes s AtSign) stage) (λ sig. moves))
+      (ap (λ (s : Stage). stage_after s AtSign) stage) (ap (λ (s : Stage). completes s AtSign) stage) (λ sig. moves))
 
 -- ---- the front of the bytes
 
@@ -85,13 +87,13 @@ module _ (sig : List PredOf) (limits : Limits) (p q : Partial) (at : ℕ) (bytes
   abbrev mark : Lexeme
   mark = mark_token s.kind at (get_or bytes 0 0)
 
-  pub mark_takes : (u : U) → result ≡ Ok u → TakesFront sig limits p at bytes 1 q
+  pub mark_takes : (u : U) → result ≡ Ok u → TakesTokenInFront sig limits p at bytes 1 q
   mark_takes u e = record {
     token = mark;
     front = mark_seen bytes at s.kind some s.is;
     end = refl;
     goes_on = s.goes_on;
-    steps = subst (λ (r : Result U LogFault). Moves p q r (step sig limits p mark)) e (s.moves sig);
+    steps = subst (λ (r : Result U LogFault). StateMoves p q r (step sig limits p mark)) e (s.moves sig);
   }
 
   pub mark_halts : (fault : LogFault) → result ≡ Err fault → HaltsFrontBy sig limits p at bytes fault q
@@ -99,7 +101,7 @@ module _ (sig : List PredOf) (limits : Limits) (p q : Partial) (at : ℕ) (bytes
     token = mark;
     front = mark_seen bytes at s.kind some s.is;
     goes_on = s.goes_on;
-    stays = subst (λ (r : Result U LogFault). Moves p q r (step sig limits p mark)) e (s.moves sig);
+    stays = subst (λ (r : Result U LogFault). StateMoves p q r (step sig limits p mark)) e (s.moves sig);
   })
 
 -- an `@` behind a whole time-point
@@ -122,7 +124,7 @@ plain_word bytes at t front kind same =
     (subst (λ (k : Kind). IsInFront bytes at (record { kind = k; at = t.at; text = t.text.now })) kind front)
 
 name_goes : (s : Stage) (w : List ℕ) → is_whole s ≡ true
-    → (goes s (Says (Bare w)) ≡ Some AfterName) × (completes s (Says (Bare w)) ≡ false)
+    → (stage_after s (Says (Bare w)) ≡ Some AfterName) × (completes s (Says (Bare w)) ≡ false)
 name_goes AfterStamp w e = (refl, refl)
 name_goes AfterClose w e = (refl, refl)
 name_goes _ w e = absurd cc
@@ -137,8 +139,8 @@ module _ (sig : List PredOf) (limits : Limits) (p q : Partial) (at : ℕ) (bytes
   steps_name = ap (stepped sig limits p name) (name_goes p.stage text whole).0
 
   -- a predicate's name behind a whole time-point
-  pub name_takes : {U : Type 0} (u : U) → Moves p q (Ok u) (naming at p (named text sig))
-      → TakesFront sig limits p at bytes (length text) q
+  pub name_takes : {U : Type 0} (u : U) → StateMoves p q (Ok u) (naming at p (named text sig))
+      → TakesTokenInFront sig limits p at bytes (length text) q
   name_takes u moves = record {
     token = name;
     front = front;
@@ -198,7 +200,7 @@ module _ (sig : List PredOf) (limits : Limits) (from : ℕ) (looked : List ℕ) 
   pub front_took : (count : ℕ) (step : Straight) → step ≡ straights.Took count → IsStraight step
       → TakesToken sig limits from looked ended at p (Ok Took) (at + (n + count)) q
   front_took count step is taken =
-      let f : TakesFront sig limits p (from + at + n) rest count q = subst IsStraight is taken in
+      let f : TakesTokenInFront sig limits p (from + at + n) rest count q = subst IsStraight is taken in
       takes f.token f.front (at + (n + count)) (omega (arith, f.end)) (Ok Took) (at + (n + count))
       (f.goes_on, f.steps, refl)
 

@@ -10,7 +10,7 @@ use Rattle.log_reader.specs.declared.stage.Stage.TheVariants.{AfterValue, AfterC
 use Rattle.log_reader.specs.Grammar.{Mention, PointText, spell_more, spell_values, spell_group, spell_groups}
 use Rattle.log_reader.specs.Grammar.{spell_mentions, spell_end, spell_log, HasStamp, Spells, symbols_of, IsAccepted}
 use Rattle.log_reader.specs.Grammar.{IsViable}
-use Rattle.log_reader.specs.Stages.{goes}
+use Rattle.log_reader.specs.Stages.{stage_after}
 use Rattle.log_reader.proofs.Transitions.{Transition, begins_first, begins_bare, begins_full, times, names_first}
 use Rattle.log_reader.proofs.Transitions.{names_more, opens_first, opens_more, gives_first, gives_more, separates}
 use Rattle.log_reader.proofs.Transitions.{closes_empty, closes, ends_bare, ends_full, transition}
@@ -20,7 +20,7 @@ use Rattle.log_reader.specs.Symbols.{is_digits}
 -- the stage behind symbols, if the grammar goes on with each
 abbrev pub paths : Stage → List Symbol → Option Stage
 paths s [] = Some s
-paths s (x ∷ xs) = option_and_then (λ g. paths g xs) (goes s x)
+paths s (x ∷ xs) = option_and_then (λ g. paths g xs) (stage_after s x)
 
 -- a stage at which a log may end
 abbrev pub accepts : Stage → Bool
@@ -162,7 +162,7 @@ first_step None f next e = absurd cc
 pub tail : (s : Stage) (xs : List Symbol) (f : Stage) → paths s xs ≡ Some f → accepts f ≡ true → Tail s xs
 tail s [] f e a = no_more s f e a
 tail s (x ∷ xs) f e a =
-    let first = first_step (goes s x) f (λ g. paths g xs) e in
+    let first = first_step (stage_after s x) f (λ g. paths g xs) e in
     before s x first.0 xs (transition s x first.0 first.1) (tail first.0 xs f first.2 a)
 
 -- ---- the symbols of a log are accepted
@@ -230,7 +230,7 @@ paths_joined xs ys None each = refl
 pub paths-append : (s : Stage) (xs ys : List Symbol)
     → paths s (xs ++ ys) ≡ option_and_then (λ g. paths g ys) (paths s xs)
 paths-append s [] ys = refl
-paths-append s (x ∷ xs) ys = paths_joined xs ys (goes s x) (λ g. paths-append g xs ys)
+paths-append s (x ∷ xs) ys = paths_joined xs ys (stage_after s x) (λ g. paths-append g xs ys)
 
 -- symbols that complete a log
 completion : (s : Stage) → (more : List Symbol) × Ends s more

@@ -14,9 +14,9 @@ use Rattle.log_reader.specs.declared.stage.Stage.TheVariants.{AfterStamp, AfterN
 use Rattle.log_reader.specs.Grammar.{Mention, spell_values, spell_group, spell_groups, spell_mentions, symbols_of}
 use Rattle.log_reader.specs.Partials.{Partial}
 use Rattle.log_reader.specs.Rules.{groups_value, mentions_value, group_count}
-use Rattle.log_reader.specs.Stages.{goes, completes}
+use Rattle.log_reader.specs.Stages.{stage_after, completes}
 use Rattle.log_reader.specs.Steps.{stepped, grouped}
-use Rattle.log_reader.specs.Symbols.{Symbol, Opening, Closing, Says, Written, Bare, content}
+use Rattle.log_reader.specs.Symbols.{Symbol, Opening, Closing, Says, Written, Bare, token_content}
 use Rattle.log_reader.proofs.Judging.{front_of, bare_content, Passed, Faulty, passes, faults, Passed-then}
 use Rattle.log_reader.proofs.Judging.{Faulty-behind, resting, within, values_judged}
 
@@ -42,7 +42,7 @@ module _ (sig : List PredOf) (limits : Limits) where
 
   one_group : (pred : PredOf) (c : Partial) (stage : Stage) (group : List Written) (groups : List (List Written))
       (ts : List Lexeme) (rest : List Symbol)
-      → goes stage Opening ≡ Some AfterOpen → completes stage Opening ≡ false
+      → stage_after stage Opening ≡ Some AfterOpen → completes stage Opening ≡ false
       → symbols_of ts ≡ spell_group group (spell_groups groups rest)
       → ((c : Partial) (ts : List Lexeme) → symbols_of ts ≡ spell_groups groups rest → c.groups ≤ limits.events
       → GroupsJudged pred c AfterClose groups ts rest)
@@ -51,7 +51,7 @@ module _ (sig : List PredOf) (limits : Limits) where
   one_group pred c stage group groups ts rest g h e later =
       let p = resting (of_pred c pred) stage in
       let f = front_of ts Opening (spell_values group (Closing ∷ spell_groups groups rest)) e in
-      let steps : stepped sig limits p f.token (goes stage Opening) ≡ grouped limits f.token.at p =
+      let steps : stepped sig limits p f.token (stage_after stage Opening) ≡ grouped limits f.token.at p =
       ap (stepped sig limits p f.token) g in
       let begun = record (of_pred c pred) { groups = c.groups + 1 } in
       let opened = within begun AfterOpen pred.sorts [] in
@@ -118,7 +118,7 @@ module _ (sig : List PredOf) (limits : Limits) where
 
   -- a stage at which a time-point is whole: a name may follow
   pub record IsOpen (stage : Stage) : Type 0 where
-    pub goes : (name : List ℕ) → goes stage (Says (Bare name)) ≡ Some AfterName
+    pub goes : (name : List ℕ) → stage_after stage (Says (Bare name)) ≡ Some AfterName
     pub none : (name : List ℕ) → completes stage (Says (Bare name)) ≡ false
     pub whole : (stage ≡ AfterStamp) ⊎ (stage ≡ AfterClose)
 
@@ -156,7 +156,7 @@ module _ (sig : List PredOf) (limits : Limits) where
   named_judged None c stage m mentions ts rest o n e later =
       let p = resting c stage in
       let f = front_of ts (Says (Bare m.name)) _ e in
-      let says : content f.token ≡ m.name = bare_content f.token.kind (content f.token) m.name f.is in
+      let says : token_content f.token ≡ m.name = bare_content f.token.kind (token_content f.token) m.name f.is in
       inr (
         inl (rw n refl),
         faults sig limits stage (Says (Bare m.name)) p (UnknownPredicate f.token.at) ts _ f refl (o.none m.name)
@@ -165,7 +165,7 @@ module _ (sig : List PredOf) (limits : Limits) where
   named_judged (Some pred) c stage m mentions ts rest o n e later =
       let p = resting c stage in
       let f = front_of ts (Says (Bare m.name)) _ e in
-      let says : content f.token ≡ m.name = bare_content f.token.kind (content f.token) m.name f.is in
+      let says : token_content f.token ≡ m.name = bare_content f.token.kind (token_content f.token) m.name f.is in
       let q = resting (of_pred c pred) AfterName in
       let a = passes sig limits stage (Says (Bare m.name)) p q ts _ f refl (o.none m.name)
       (rw (o.goes m.name, says, n)) in

@@ -25,10 +25,11 @@ use Rattle.log_reader.specs.declared.stage.Stage.{Stage}
 use Rattle.log_reader.specs.declared.stage.Stage.TheVariants.{AfterAt, AfterStamp, AfterOpen, AfterValue, AfterComma}
 use Rattle.log_reader.specs.Limits.{last_timestamp}
 use Rattle.log_reader.specs.Partials.{Partial}
-use Rattle.log_reader.specs.Stages.{goes, completes}
+use Rattle.log_reader.specs.Stages.{stage_after, completes}
 use Rattle.log_reader.specs.Steps.{step, stepped, valued}
 use Rattle.log_reader.specs.Symbols.{Written, Bare, Says, written, is_digits}
-use Rattle.log_reader.specs.Quick.{room, ends_number, digits_before, IsNumber, IsInteger, TakesFront, is_value_due}
+use Rattle.log_reader.specs.Quick.{room, ends_number, digits_before, BeginsWithNumber, IsInteger, TakesTokenInFront}
+use Rattle.log_reader.specs.Quick.{is_value_due}
 use Rattle.log_reader.specs.Quick.{TakesInteger, TakesStraight}
 use Rattle.log_reader.specs.declared.partial.Straight.{Straight}
 use Rattle.log_reader.specs.declared.partial.Straight.TheVariants.{Nothing, Took, Completed}
@@ -111,7 +112,7 @@ some_digits [] n some inner d = absurd (omega (arith, inner))
 some_digits (b ∷ bytes) zero some inner d = absurd (omega (arith, some))
 some_digits (b ∷ bytes) (suc n) some inner d = d
 
-pub writes_number : (bytes : List ℕ) (number n : ℕ) → IsNumber bytes number n → WritesNumber bytes number n
+pub writes_number : (bytes : List ℕ) (number n : ℕ) → BeginsWithNumber bytes number n → WritesNumber bytes number n
 writes_number bytes number n d =
     let m = digits_mean 0 0 bytes number n (omega arith) d.found in
     let k : m.k ≡ n = omega (arith, m.end) in
@@ -143,18 +144,18 @@ integer_read (b ∷ bytes) value (suc n) at i =
 -- ---- the token
 
 pub value_goes : (s : Stage) (w : Written) → is_value_due s ≡ true
-    → (goes s (Says w) ≡ Some AfterValue) × (completes s (Says w) ≡ false)
+    → (stage_after s (Says w) ≡ Some AfterValue) × (completes s (Says w) ≡ false)
 value_goes AfterOpen w e = (refl, refl)
 value_goes AfterComma w e = (refl, refl)
 value_goes _ w e = absurd cc
 
 module _ (sig : List PredOf) (limits : Limits) (p q : Partial) (at : ℕ) (bytes : List ℕ) (number n : ℕ)
-    (d : IsNumber bytes number n) where
+    (d : BeginsWithNumber bytes number n) where
   abbrev word : Lexeme
   word = record { kind = Word; at = at; text = take n bytes }
 
   takes_word : completes p.stage (Says (Bare word.text)) ≡ false → step sig limits p word ≡ Ok q
-      → TakesFront sig limits p at bytes n q
+      → TakesTokenInFront sig limits p at bytes n q
   takes_word goes_on steps =
       let w = writes_number bytes number n d in
       record {
@@ -167,7 +168,7 @@ module _ (sig : List PredOf) (limits : Limits) (p q : Partial) (at : ℕ) (bytes
 
   -- as a timestamp it is taken as the token would be
   pub stamp_takes : p.stage ≡ AfterAt → p.time ≤ number → q ≡ record p { stage = AfterStamp; time = number }
-      → TakesFront sig limits p at bytes n q
+      → TakesTokenInFront sig limits p at bytes n q
   unfolding step
   stamp_takes stage later after =
       let w = writes_number bytes number n d in
@@ -179,7 +180,7 @@ module _ (sig : List PredOf) (limits : Limits) (p q : Partial) (at : ℕ) (bytes
 pub integer_takes : (sig : List PredOf) (limits : Limits) (p q : Partial) (at : ℕ) (bytes : List ℕ) (value : ℤ) (n : ℕ)
     (due : List Sort) → IsInteger bytes value n → is_value_due p.stage ≡ true → p.due ≡ Int ∷ due
     → q ≡ record p { stage = AfterValue; due = due; args = p.args ++ values.Int value ∷ [] }
-    → TakesFront sig limits p at bytes n q
+    → TakesTokenInFront sig limits p at bytes n q
 unfolding step
 integer_takes sig limits p q at bytes value n due i stage sorts after =
     let text = take n bytes in

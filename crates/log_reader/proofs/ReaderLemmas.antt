@@ -8,14 +8,14 @@ use Rattle.log_reader.specs.declared.next.Next.{Next}
 use Rattle.log_reader.specs.declared.next.Next.TheVariants.{Point, More, End}
 use Rattle.log_reader.specs.Given.{Gives}
 use Rattle.log_reader.specs.Partials.{Partial}
-use Rattle.log_reader.specs.Progress.{due}
-use Rattle.log_reader.specs.Readers.{Reader, Reads, ReadsOn, ForEach, Kept, progress}
-use Rattle.log_reader.specs.Soundness.{StandsFor, is_wanting, is_more}
+use Rattle.log_reader.specs.Progress.{next_answer}
+use Rattle.log_reader.specs.Readers.{Reader, Reads, ReadsSameBytes, ForEach, Kept, progress}
+use Rattle.log_reader.specs.Soundness.{StandsForLog, is_wanting, is_more}
 use Rattle.log_reader.specs.Stretches.{Stretch}
 
 -- a reader's texts are those that what it keeps stands for
 abbrev pub Stands : Reader → List ℕ → Type 0
-Stands r log = StandsFor r.sig r.limits r.is_ended r.given r.kept.stretch r.kept.at r.kept.partial log
+Stands r log = StandsForLog r.sig r.limits r.is_ended r.given r.kept.stretch r.kept.at r.kept.partial log
 
 pub reads_kept : (r : Reader) (log : List ℕ) → Stands r log → Reads r log
 unfolding Reads
@@ -45,21 +45,21 @@ on_ok P (Ok next) holds = holds refl
 on_ok P (Err fault) holds = tt
 
 on_answer : (old new : Reader) (result : Result Next LogFault)
-    → (is_wanting result ≡ false → ForEach old (Reads new)) → ReadsOn old new result
+    → (is_wanting result ≡ false → ForEach old (Reads new)) → ReadsSameBytes old new result
 on_answer old new (Ok next) holds = holds refl
 on_answer old new (Err Memory) holds = tt
 on_answer old new (Err fault) holds = holds refl
 
 pub reads_on : (old r new : Reader) → old ≡ r → (result : Result Next LogFault)
-    → (is_wanting result ≡ false → (log : List ℕ) → Stands old log → Stands new log) → ReadsOn r new result
+    → (is_wanting result ≡ false → (log : List ℕ) → Stands old log → Stands new log) → ReadsSameBytes r new result
 reads_on old r new e result holds =
     on_answer r new result (λ fine. for_each old r e (Reads new) (λ log st. reads_kept new log (holds fine log st)))
 
 pub answers : (old r : Reader) → old ≡ r → (result : Result Next LogFault)
-    → ((log : List ℕ) → Stands old log → Gives (λ next. next) result (due (progress old log)))
-    → ForEach r (λ log. Gives (λ next. next) result (due (progress r log)))
+    → ((log : List ℕ) → Stands old log → Gives (λ next. next) result (next_answer (progress old log)))
+    → ForEach r (λ log. Gives (λ next. next) result (next_answer (progress r log)))
 answers old r e result holds =
-    subst (λ (x : Reader). ForEach x (λ log. Gives (λ next. next) result (due (progress x log)))) e
+    subst (λ (x : Reader). ForEach x (λ log. Gives (λ next. next) result (next_answer (progress x log)))) e
     (λ log reads. holds log (kept_reads old log reads))
 
 -- the reader with these given, and memory wanting or not
@@ -74,8 +74,8 @@ more_is (Err fault) e = absurd cc
 
 -- once the end is told, the reader still stands for its texts
 pub stands_ended : (sig : List PredOf) (limits : Limits) (is_ended : Bool) (given : ℕ) (s : Stretch) (at : ℕ)
-    (p : Partial) (log : List ℕ) → StandsFor sig limits is_ended given s at p log
-    → StandsFor sig limits true given s at p log
+    (p : Partial) (log : List ℕ) → StandsForLog sig limits is_ended given s at p log
+    → StandsForLog sig limits true given s at p log
 stands_ended sig limits true given s at p log st = st
 stands_ended sig limits false given s at p log st = record {
   len = st.len;

@@ -19,12 +19,14 @@ use Rattle.log_reader.specs.declared.next.Next.TheVariants.{Point, More}
 use Rattle.log_reader.specs.declared.stage.Stage.{Stage}
 use Rattle.log_reader.specs.declared.stage.Stage.TheVariants.{Between, AfterStamp, AfterClose}
 use Rattle.log_reader.specs.Cursors.{IsCounted, open_count, given_of, Leads, behind_answer}
-use Rattle.log_reader.specs.Partials.{Partial, blank, point_of, finished}
+use Rattle.log_reader.specs.Partials.{Partial, nothing_read, point_of, finished}
 use Rattle.log_reader.specs.Progress.{answer_of, skipped}
-use Rattle.log_reader.specs.Readings.{Reading, Ending, NoFault, stopped, behind, behind_tokens, run, run_from, is_long}
+use Rattle.log_reader.specs.Readings.{Reading, Ending, NoFault, fault_only, behind, behind_tokens, run, run_from}
+use Rattle.log_reader.specs.Readings.{is_long}
 use Rattle.log_reader.specs.Readings.{finish_at, nothing_behind, nothing_left, place_at, reading}
-use Rattle.log_reader.specs.Soundness.{Remains, StandsFor, IsWithin, IsSound, StandsOn, CountsOn}
-use Rattle.log_reader.specs.Stretches.{Stretch, Waits, end_of, with_piece, looked_at, is_end_told, place_of, forgotten}
+use Rattle.log_reader.specs.Soundness.{Remains, StandsForLog, IsInStretch, StandsForSomeLog, StandsOn, CountsOn}
+use Rattle.log_reader.specs.Stretches.{Stretch, Waits, stretch_end, with_piece, looked_at, is_end_told, stretch_place}
+use Rattle.log_reader.specs.Stretches.{forgotten}
 use Rattle.log_reader.specs.Stretches as stretches
 use Rattle.log_reader.proofs.StretchLemmas.{further, place_grown, later_told, place_now, behind_place, behind_end}
 use Rattle.log_reader.proofs.StretchLemmas.{shortened_end, shortened_place}
@@ -77,7 +79,7 @@ record Asks (limits : Limits) (len : ℕ) (ended : Bool) : Type 0 where
 
 asks_by : (limits : Limits) (len : ℕ) (long ended : Bool) (p : Partial) (stage : Stage)
     → nat_lt limits.bytes len ≡ long
-    → Ok More ≡ answer_of ended (cond long (stopped (TooLong limits.bytes))
+    → Ok More ≡ answer_of ended (cond long (fault_only (TooLong limits.bytes))
     (cond ended (finish_at len p stage) (record { points = []; ending = NoFault }))) → Asks limits len ended
 asks_by limits len true ended p stage l e = absurd cc
 asks_by limits len false false p stage l e = record { short = l; untold = refl }
@@ -105,24 +107,24 @@ module _ (sig : List PredOf) (limits : Limits) (log : List ℕ) where
 
   module _ (is_ended : Bool) (s : Stretch) (given : ℕ) where
     -- what remains now
-    pub remains_now : (at : ℕ) (p : Partial) → StandsFor sig limits is_ended given s at p log
-        → Remains sig limits log is_ended given p (place_of limits s is_ended at)
+    pub remains_now : (at : ℕ) (p : Partial) → StandsForLog sig limits is_ended given s at p log
+        → Remains sig limits log is_ended given p (stretch_place limits s is_ended at)
     remains_now at p st =
         subst (λ (place : Place). Remains sig limits log is_ended given p place) (place_now limits s is_ended at)
         (subst (λ (bytes : List ℕ). Remains sig limits bytes is_ended given p
-        (place_of limits (with_piece s []) is_ended at)) (append-nil log)
+        (stretch_place limits (with_piece s []) is_ended at)) (append-nil log)
         (st.remains [] is_ended (later_self is_ended)))
 
     pub stands_leads : (at at' : ℕ) (p q : Partial) (points : List TimePoint)
-        → at ≤ length (looked_at limits s) → StandsFor sig limits is_ended given s at p log
+        → at ≤ length (looked_at limits s) → StandsForLog sig limits is_ended given s at p log
         → Leads sig limits s.from (looked_at limits s) (is_end_told limits s is_ended) at p points at' q
-        → StandsFor sig limits is_ended (given + length points) s at' q log
+        → StandsForLog sig limits is_ended (given + length points) s at' q log
     stands_leads at at' p q points within st l = record {
       len = st.len;
       remains = λ more later is.
           let last = nothing_left limits (log ++ more) later in
-          let on : run_from sig limits last p (place_of limits (with_piece s more) later at)
-          ≡ behind points (run_from sig limits last q (place_of limits (with_piece s more) later at')) =
+          let on : run_from sig limits last p (stretch_place limits (with_piece s more) later at)
+          ≡ behind points (run_from sig limits last q (stretch_place limits (with_piece s more) later at')) =
           ap (run_from sig limits last p) (place_grown limits s is_ended later more at within)
           ∙ l.reads (further limits s more) (is_end_told limits (with_piece s more) later)
           (later_told limits s is_ended later more is) last
@@ -132,9 +134,9 @@ module _ (sig : List PredOf) (limits : Limits) (log : List ℕ) where
     }
 
     -- behind the last time-point, which the end completes
-    stands_last : (at : ℕ) (p : Partial) → StandsFor sig limits is_ended given s at p log
-        → next_token (place_of limits s is_ended at) ≡ Ok None
-        → Whole limits (end_of s) is_ended p → StandsFor sig limits is_ended (given + 1) s at (finished p) log
+    stands_last : (at : ℕ) (p : Partial) → StandsForLog sig limits is_ended given s at p log
+        → next_token (stretch_place limits s is_ended at) ≡ Ok None
+        → Whole limits (stretch_end s) is_ended p → StandsForLog sig limits is_ended (given + 1) s at (finished p) log
     stands_last at p st empty w = record {
       len = st.len;
       remains = λ more later is.
@@ -143,11 +145,11 @@ module _ (sig : List PredOf) (limits : Limits) (log : List ℕ) where
     }
       where
         last_point : (u : Unit {0}) → Remains sig limits (log ++ []) true (given + 1) (finished p)
-            (place_of limits (with_piece s []) true at)
+            (stretch_place limits (with_piece s []) true at)
         last_point u =
-            let place = place_of limits (with_piece s []) true at in
+            let place = stretch_place limits (with_piece s []) true at in
             let last = nothing_left limits (log ++ []) true in
-            let len : length (log ++ []) ≡ end_of s = ap length (append-nil log) ∙ st.len in
+            let len : length (log ++ []) ≡ stretch_end s = ap length (append-nil log) ∙ st.len in
             let found : next_token place ≡ Ok None =
             ap next_token (place_now limits s true at) ∙ rw w.told at empty in
             let here : run_from sig limits last p place ≡ record { points = point_of p ∷ []; ending = NoFault } =
@@ -163,29 +165,30 @@ module _ (sig : List PredOf) (limits : Limits) (log : List ℕ) where
             (st.remains [] true (rw w.told (refl, refl))) both
 
     -- what is due is what the rest gives
-    pub due_rest : (at : ℕ) (p : Partial) → StandsFor sig limits is_ended given s at p log
+    pub due_rest : (at : ℕ) (p : Partial) → StandsForLog sig limits is_ended given s at p log
         → answer_of is_ended (skipped given (reading sig limits log is_ended))
-        ≡ answer_of is_ended (run_from sig limits (nothing_left limits log is_ended) p (place_of limits s is_ended at))
+        ≡ answer_of is_ended
+            (run_from sig limits (nothing_left limits log is_ended) p (stretch_place limits s is_ended at))
     due_rest at p st = ap (answer_of is_ended) (remains_now at p st).rest
 
-    pub due_end : (at : ℕ) (p : Partial) → StandsFor sig limits is_ended given s at p log
-        → next_token (place_of limits s is_ended at) ≡ Ok None
+    pub due_end : (at : ℕ) (p : Partial) → StandsForLog sig limits is_ended given s at p log
+        → next_token (stretch_place limits s is_ended at) ≡ Ok None
         → answer_of is_ended (skipped given (reading sig limits log is_ended))
-        ≡ answer_of is_ended (nothing_behind limits (end_of s) is_ended p)
+        ≡ answer_of is_ended (nothing_behind limits (stretch_end s) is_ended p)
     due_end at p st empty =
         due_rest at p st ∙ ap (answer_of is_ended)
-        (none_run sig limits (nothing_left limits log is_ended) p (place_of limits s is_ended at) empty
+        (none_run sig limits (nothing_left limits log is_ended) p (stretch_place limits s is_ended at) empty
         ∙ ap (λ (n : ℕ). nothing_behind limits n is_ended p) st.len)
 
   -- an answer at the end keeps what stands, and counts
   module _ (is_ended : Bool) (s : Stretch) (at : ℕ) (p : Partial) (counted : IsCounted p)
-      (st : StandsFor sig limits is_ended (given_of p) s at p log)
-      (empty : next_token (place_of limits s is_ended at) ≡ Ok None) where
+      (st : StandsForLog sig limits is_ended (given_of p) s at p log)
+      (empty : next_token (stretch_place limits s is_ended at) ≡ Ok None) where
     pub stands_end : (q : Partial) (answer : Result Next LogFault)
-        → answer ≡ answer_of is_ended (nothing_behind limits (end_of s) is_ended p) → q ≡ behind_answer p answer
-        → StandsFor sig limits is_ended (given_of q) s at q log
+        → answer ≡ answer_of is_ended (nothing_behind limits (stretch_end s) is_ended p) → q ≡ behind_answer p answer
+        → StandsForLog sig limits is_ended (given_of q) s at q log
     stands_end q (Ok (Point point)) e is =
-        let w = whole_by limits (end_of s) (nat_lt limits.bytes (end_of s)) is_ended p point refl (sym e) in
+        let w = whole_by limits (stretch_end s) (nat_lt limits.bytes (stretch_end s)) is_ended p point refl (sym e) in
         let more : given_of (finished p) ≡ given_of p + 1 = omega (arith, w.begun, counted) in
         rw (is, more) (stands_last is_ended s (given_of p) at p st empty w)
     stands_end q _ e is = rw is st
@@ -194,8 +197,8 @@ module _ (sig : List PredOf) (limits : Limits) (log : List ℕ) where
 
   -- a piece is fed
   pub stands_fed : (s : Stretch) (given at : ℕ) (p : Partial) (piece : List ℕ)
-      → StandsFor sig limits false given s at p log
-      → StandsFor sig limits false given (with_piece s piece) at p (log ++ piece)
+      → StandsForLog sig limits false given s at p log
+      → StandsForLog sig limits false given (with_piece s piece) at p (log ++ piece)
   stands_fed s given at p piece st = record {
     len = omega (arith, st.len, length-append log piece, length-append s.bytes piece);
     remains = λ more later is.
@@ -203,10 +206,10 @@ module _ (sig : List PredOf) (limits : Limits) (log : List ℕ) where
   }
 
   -- the same tokens remain
-  stands_place : (is_ended : Bool) (s s' : Stretch) (given at at' : ℕ) (p : Partial) → end_of s' ≡ end_of s
-      → ((more : List ℕ) (later : Bool) → tokens (place_of limits (with_piece s' more) later at')
-      ≡ tokens (place_of limits (with_piece s more) later at))
-      → StandsFor sig limits is_ended given s at p log → StandsFor sig limits is_ended given s' at' p log
+  stands_place : (is_ended : Bool) (s s' : Stretch) (given at at' : ℕ) (p : Partial) → stretch_end s' ≡ stretch_end s
+      → ((more : List ℕ) (later : Bool) → tokens (stretch_place limits (with_piece s' more) later at')
+      ≡ tokens (stretch_place limits (with_piece s more) later at))
+      → StandsForLog sig limits is_ended given s at p log → StandsForLog sig limits is_ended given s' at' p log
   stands_place is_ended s s' given at at' p end same st = record {
     len = st.len ∙ sym end;
     remains = λ more later is.
@@ -221,12 +224,12 @@ module _ (sig : List PredOf) (limits : Limits) (log : List ℕ) where
 
   -- what is done with isn't needed
   pub stands_forgotten : (is_ended : Bool) (s : Stretch) (given at : ℕ) (p : Partial) → Waits limits s at
-      → StandsFor sig limits is_ended given s at p log
-      → StandsFor sig limits is_ended given (forgotten s at) 0 p log
+      → StandsForLog sig limits is_ended given s at p log
+      → StandsForLog sig limits is_ended given (forgotten s at) 0 p log
   stands_forgotten is_ended s given at p w st =
       let front = stretches.behind s at in
-      let end : end_of front ≡ end_of s = behind_end limits s at w.within in
-      let short : end_of front ≤ limits.bytes = omega (arith, end, w.short) in
+      let end : stretch_end front ≡ stretch_end s = behind_end limits s at w.within in
+      let short : stretch_end front ≤ limits.bytes = omega (arith, end, w.short) in
       stands_place is_ended front (forgotten s at) given 0 0 p (shortened_end front)
       (shortened_place limits front w.bare short)
       (stands_place is_ended s front given at 0 p end
@@ -252,12 +255,12 @@ end_counted p q _ counted is = rw is counted
 
 -- where more is asked for, the reader waits
 pub waits_by : (limits : Limits) (s : Stretch) (is_ended : Bool) (at : ℕ) (p : Partial)
-    → at ≤ length (looked_at limits s) → next_token (place_of limits s is_ended at) ≡ Ok None
+    → at ≤ length (looked_at limits s) → next_token (stretch_place limits s is_ended at) ≡ Ok None
     → blank_len (is_end_told limits s is_ended) (drop at (looked_at limits s)) ≡ 0
-    → Ok More ≡ answer_of is_ended (nothing_behind limits (end_of s) is_ended p) → Waits limits s at
+    → Ok More ≡ answer_of is_ended (nothing_behind limits (stretch_end s) is_ended p) → Waits limits s at
 waits_by limits s is_ended at p within empty bare e =
-    let asks = asks_by limits (end_of s) (nat_lt limits.bytes (end_of s)) is_ended p p.stage refl e in
-    let short : end_of s ≤ limits.bytes = ltb-false limits.bytes (end_of s) asks.short in
+    let asks = asks_by limits (stretch_end s) (nat_lt limits.bytes (stretch_end s)) is_ended p p.stage refl e in
+    let short : stretch_end s ≤ limits.bytes = ltb-false limits.bytes (stretch_end s) asks.short in
     let all : looked_at limits s ≡ s.bytes = take_all (limits.bytes - s.from) s.bytes (omega (arith, short)) in
     let untold : is_end_told limits s is_ended ≡ false = rw asks.untold refl in
     record {
@@ -270,7 +273,7 @@ waits_by limits s is_ended at p within empty bare e =
 -- ---- the first bytes
 
 first_place : (limits : Limits) (bytes : List ℕ) (ended : Bool)
-    → place_of limits (record { from = 0; bytes = bytes }) ended 0 ≡ place_at limits bytes ended 0
+    → stretch_place limits (record { from = 0; bytes = bytes }) ended 0 ≡ place_at limits bytes ended 0
 first_place limits bytes ended =
     let all : limits.bytes - 0 ≡ limits.bytes = omega arith in
     let len : 0 + length bytes ≡ length bytes = omega arith in
@@ -278,12 +281,12 @@ first_place limits bytes ended =
 
 -- nothing was read of them
 pub stands_start : (sig : List PredOf) (limits : Limits) (at : ℕ) (p : Partial) (bytes : List ℕ)
-    → at ≡ 0 → p ≡ blank → StandsFor sig limits false 0 (record { from = 0; bytes = bytes }) at p bytes
+    → at ≡ 0 → p ≡ nothing_read → StandsForLog sig limits false 0 (record { from = 0; bytes = bytes }) at p bytes
 unfolding reading
 stands_start sig limits at p bytes e f = rw (e, f) (record {
   len = omega arith;
   remains = λ more later is. record {
-    rest = ap (run_from sig limits (nothing_left limits (bytes ++ more) later) blank)
+    rest = ap (run_from sig limits (nothing_left limits (bytes ++ more) later) nothing_read)
         (sym (first_place limits (bytes ++ more) later));
     few = omega arith;
   };
@@ -293,41 +296,41 @@ nothing_there : (ended : Bool) → next_token (record { mode = Log; at = 0; rest
 unfolding next_token blank_len log_scan
 nothing_there ended = refl
 
-nothing_read : (sig : List PredOf) (limits : Limits) → (reading sig limits [] false).points ≡ []
+no_points_read : (sig : List PredOf) (limits : Limits) → (reading sig limits [] false).points ≡ []
 unfolding reading
-nothing_read sig limits =
+no_points_read sig limits =
     let last = nothing_left limits [] false in
     let empty : next_token (place_at limits [] false 0) ≡ Ok None =
     rw (take-nil limits.bytes) (nothing_there false) in
-    ap (λ (r : Reading). r.points) (none_run sig limits last blank (place_at limits [] false 0) empty)
+    ap (λ (r : Reading). r.points) (none_run sig limits last nothing_read (place_at limits [] false 0) empty)
     ∙ cond_both (is_long limits []) _ _ (λ (r : Reading). r.points ≡ []) (λ _. refl) (λ _. refl)
 
 -- of no bytes nothing was given
 pub none_given : (sig : List PredOf) (limits : Limits) (is_ended : Bool) (given at : ℕ) (p : Partial) (log : List ℕ)
     (s : Stretch) → is_ended ≡ false → s ≡ record { from = 0; bytes = [] }
-    → StandsFor sig limits is_ended given s at p log → (log ≡ []) × (given ≡ 0)
+    → StandsForLog sig limits is_ended given s at p log → (log ≡ []) × (given ≡ 0)
 none_given sig limits is_ended given at p log s untold none st =
-    let len : length log ≡ 0 = st.len ∙ ap end_of none in
+    let len : length log ≡ 0 = st.len ∙ ap stretch_end none in
     let empty : log ≡ [] = nil_from_length log len in
     let few : given ≤ length (reading sig limits [] false).points =
     rw (empty, untold) at (remains_now sig limits log is_ended s given at p st).few in
-    let none : length (reading sig limits [] false).points ≡ 0 = ap length (nothing_read sig limits) in
+    let none : length (reading sig limits [] false).points ≡ 0 = ap length (no_points_read sig limits) in
     (empty, omega (arith, few, none))
 
 -- ---- what is kept true
 
 -- of the first bytes
 pub sound_start : (sig : List PredOf) (limits : Limits) (at : ℕ) (p : Partial) (bytes : List ℕ)
-    → at ≡ 0 → p ≡ blank → IsSound sig limits false (record { from = 0; bytes = bytes }) at p
+    → at ≡ 0 → p ≡ nothing_read → StandsForSomeLog sig limits false (record { from = 0; bytes = bytes }) at p
 sound_start sig limits at p bytes e f = record {
   inside = rw (e, f) (record { within = omega arith; counted = omega arith });
   log = bytes;
-  stands = rw f (stands_start sig limits at blank bytes e refl);
+  stands = rw f (stands_start sig limits at nothing_read bytes e refl);
 }
 
 -- of a piece more
 pub sound_fed : (sig : List PredOf) (limits : Limits) (s : Stretch) (at : ℕ) (p : Partial) (piece : List ℕ)
-    → IsSound sig limits false s at p → IsSound sig limits false (with_piece s piece) at p
+    → StandsForSomeLog sig limits false s at p → StandsForSomeLog sig limits false (with_piece s piece) at p
 sound_fed sig limits s at p piece sound = record {
   inside = record {
     within = omega (
@@ -345,7 +348,8 @@ sound_fed sig limits s at p piece sound = record {
 
 -- without what is done with
 pub sound_forgotten : (sig : List PredOf) (limits : Limits) (is_ended : Bool) (s : Stretch) (at : ℕ) (p : Partial)
-    → Waits limits s at → IsSound sig limits is_ended s at p → IsSound sig limits is_ended (forgotten s at) 0 p
+    → Waits limits s at → StandsForSomeLog sig limits is_ended s at p
+    → StandsForSomeLog sig limits is_ended (forgotten s at) 0 p
 sound_forgotten sig limits is_ended s at p w sound = record {
   inside = record { within = omega arith; counted = sound.inside.counted };
   log = sound.log;
@@ -354,8 +358,8 @@ sound_forgotten sig limits is_ended s at p w sound = record {
 
 -- behind an answer
 pub sound_on : (sig : List PredOf) (limits : Limits) (is_ended : Bool) (s : Stretch) (at : ℕ) (p : Partial) (at' : ℕ)
-    (q : Partial) → IsSound sig limits is_ended s at p → StandsOn sig limits is_ended s at p at' q
-    → IsWithin limits s at' q → IsSound sig limits is_ended s at' q
+    (q : Partial) → StandsForSomeLog sig limits is_ended s at p → StandsOn sig limits is_ended s at p at' q
+    → IsInStretch limits s at' q → StandsForSomeLog sig limits is_ended s at' q
 sound_on sig limits is_ended s at p at' q sound on inside = record {
   inside = inside;
   log = sound.log;

@@ -14,8 +14,8 @@ use Rattle.log_reader.specs.declared.stage.Stage.{Stage}
 use Rattle.log_reader.specs.declared.stage.Stage.TheVariants.{Between, AfterStamp, AfterClose}
 use Rattle.log_reader.specs.Grammar.{symbols_of}
 use Rattle.log_reader.specs.LogTexts.{is_long, tail_behind, log_text, tokens_of}
-use Rattle.log_reader.specs.Partials.{Partial, blank}
-use Rattle.log_reader.specs.Readings.{Reading, Ending, NoFault, Fault, stopped, went_on, run as run_points}
+use Rattle.log_reader.specs.Partials.{Partial, nothing_read}
+use Rattle.log_reader.specs.Readings.{Reading, Ending, NoFault, Fault, fault_only, went_on, run as run_points}
 use Rattle.log_reader.specs.Readings.{behind_tokens, finish_at, nothing_left, reading}
 use Rattle.log_reader.specs.Steps.{step}
 use Rattle.log_reader.proofs.Paths.{paths, accepts}
@@ -79,7 +79,7 @@ finish_ending n p AfterClose = refl
 finish_ending n p _ = refl
 
 left_ending : (limit n : ℕ) (long ended : Bool) (p : Partial)
-    → (cond long (stopped (TooLong limit))
+    → (cond long (fault_only (TooLong limit))
     (cond ended (finish_at n p p.stage) (record { points = []; ending = NoFault }))).ending
     ≡ ending_by (at_tail (cond long (Broken (TooLong limit)) (cond ended (End n) More)) p)
 left_ending limit n true ended p = refl
@@ -95,10 +95,10 @@ tail_ending limits bytes ended None p = left_ending limits.bytes (length bytes) 
 -- how a log's reading ends is what the layer reads
 pub log_ending : (sig : List PredOf) (limits : Limits) (bytes : List ℕ) (ended : Bool)
     → (reading sig limits bytes ended).ending
-    ≡ ending_by (reading_of (step sig limits) blank at_tail (log_text limits bytes ended))
+    ≡ ending_by (reading_of (step sig limits) nothing_read at_tail (log_text limits bytes ended))
 unfolding reading reading_of
 log_ending sig limits bytes ended =
     let ts = tokens_of limits bytes ended in
     run_ending sig limits (behind_tokens ts.fault (nothing_left limits bytes ended))
     (at_tail (tail_behind limits bytes ended ts.fault))
-    (tail_ending limits bytes ended ts.fault) blank ts.list
+    (tail_ending limits bytes ended ts.fault) nothing_read ts.list

@@ -14,13 +14,13 @@ use Rattle.log_reader.specs.declared.stage.Stage.TheVariants.{AfterAt, AfterStam
 use Rattle.log_reader.specs.declared.stage.Stage.TheVariants.{AfterClose}
 use Rattle.log_reader.specs.Causes.{IsNoInteger, IsWide}
 use Rattle.log_reader.specs.Partials.{Partial}
-use Rattle.log_reader.specs.Stages.{goes}
-use Rattle.log_reader.specs.Symbols.{symbol, content, written}
+use Rattle.log_reader.specs.Stages.{stage_after}
+use Rattle.log_reader.specs.Symbols.{symbol, token_content, written}
 use Rattle.log_reader.specs.ValuesRead.{timestamp_of}
 
 -- the grammar goes on with the token, to this stage
 abbrev pub LeadsTo : Stage → Partial → Lexeme → Type 0
-LeadsTo stage p t = goes p.stage (symbol t) ≡ Some stage
+LeadsTo stage p t = stage_after p.stage (symbol t) ≡ Some stage
 
 -- the next value of the group is to be an integer
 abbrev pub IsIntegerDue : Partial → Type 0
@@ -29,9 +29,10 @@ IsIntegerDue p = (more : List Sort) × (p.due ≡ Int ∷ more)
 -- what shows a fault at a token
 abbrev pub ShowsFault : List PredOf → Limits → Partial → Lexeme → LogFault → Type 0
 -- the grammar doesn't go on with it
-ShowsFault sig limits p t (Syntax at) = (at ≡ t.at) × (goes p.stage (symbol t) ≡ None)
+ShowsFault sig limits p t (Syntax at) = (at ≡ t.at) × (stage_after p.stage (symbol t) ≡ None)
 -- a predicate's name that the signature lacks
-ShowsFault sig limits p t (UnknownPredicate at) = (at ≡ t.at) × LeadsTo AfterName p t × (named (content t) sig ≡ None)
+ShowsFault sig limits p t (UnknownPredicate at) =
+    (at ≡ t.at) × LeadsTo AfterName p t × (named (token_content t) sig ≡ None)
 -- a value where the group has all, or a `)` where it lacks one
 ShowsFault sig limits p t (WrongArity at) =
     (at ≡ t.at) × ((LeadsTo AfterValue p t × (p.due ≡ [])) ⊎ (LeadsTo AfterClose p t × (p.due ≢ [])))
@@ -40,10 +41,11 @@ ShowsFault sig limits p t (WrongSort at) =
 ShowsFault sig limits p t (IntRange at) =
     (at ≡ t.at) × LeadsTo AfterValue p t × IsIntegerDue p × IsWide (written t)
 ShowsFault sig limits p t (TimestampRange at) =
-    (at ≡ t.at) × LeadsTo AfterStamp p t × (timestamp_of (content t) ≡ None)
+    (at ≡ t.at) × LeadsTo AfterStamp p t × (timestamp_of (token_content t) ≡ None)
 -- a timestamp below the last one
 ShowsFault sig limits p t (FallingTime before now at) =
-    (at ≡ t.at) × LeadsTo AfterStamp p t × (timestamp_of (content t) ≡ Some now) × (before ≡ p.time) × (now < before)
+    (at ≡ t.at) × LeadsTo AfterStamp p t × (timestamp_of (token_content t) ≡ Some now) × (before ≡ p.time)
+        × (now < before)
 -- the `(` of a group, of which the time-point has all that it may have
 ShowsFault sig limits p t (TooManyEvents at) = (at ≡ t.at) × LeadsTo AfterOpen p t × (limits.events ≤ p.groups)
 -- the `@` of a time-point, where as many were begun as may be

@@ -13,13 +13,13 @@ use Rattle.log_reader.specs.declared.stage.Stage.TheVariants.{Between, AfterAt, 
 use Rattle.log_reader.specs.declared.stage.Stage.TheVariants.{AfterValue, AfterComma, AfterClose}
 use Rattle.log_reader.specs.Cursors.{open_count, given_of, IsCounted}
 use Rattle.log_reader.specs.Partials.{Partial}
-use Rattle.log_reader.specs.Stages.{goes, completes}
-use Rattle.log_reader.specs.Steps.{step, stepped, stamped, naming, valued, closed}
+use Rattle.log_reader.specs.Stages.{stage_after, completes}
+use Rattle.log_reader.specs.Steps.{step, stepped, stamped, naming, valued, group_closed}
 use Rattle.log_reader.proofs.Transitions.{Transition, begins_first, begins_bare, begins_full, times, names_first}
 use Rattle.log_reader.proofs.Transitions.{names_more, opens_first, opens_more, gives_first, gives_more, separates}
 use Rattle.log_reader.proofs.Transitions.{closes_empty, closes, ends_bare, ends_full, transition}
 use Rattle.log_reader.specs.ValuesRead.{timestamp_of, value_at}
-use Rattle.log_reader.specs.Symbols.{Symbol, Written, symbol, content, written}
+use Rattle.log_reader.specs.Symbols.{Symbol, Written, symbol, token_content, written}
 use Rattle.mfotl_lex.specs.FirstFault.{◌>>=◌}
 
 -- the new stage is the one that the grammar leads to, and an `@` counts
@@ -54,7 +54,7 @@ valued_reaches at w p (sort ∷ due) = value_reaches p due (value_at sort at w)
     value_reaches p due (Ok v) = done (Reached AfterValue p) _ (record { stage = refl; points = omega arith })
     value_reaches p due (Err fault) = failed (Reached AfterValue p) fault
 
-closed_reaches : (at : ℕ) (p : Partial) (due : List Sort) → Reaches AfterClose p (closed at p due)
+closed_reaches : (at : ℕ) (p : Partial) (due : List Sort) → Reaches AfterClose p (group_closed at p due)
 closed_reaches at p [] = done (Reached AfterClose p) _ (record { stage = refl; points = omega arith })
 closed_reaches at p (sort ∷ due) = failed (Reached AfterClose p) _
 
@@ -73,8 +73,8 @@ pub stepped_reaches : (sig : List PredOf) (limits : Limits) (p : Partial) (t : L
 stepped_reaches sig limits p t AfterAt =
     cond_both (nat_lt p.points limits.points) _ _ (Reaches AfterAt p)
     (λ _. done (Reached AfterAt p) _ (record { stage = refl; points = refl })) (λ _. failed (Reached AfterAt p) _)
-stepped_reaches sig limits p t AfterStamp = stamped_reaches t.at p (timestamp_of (content t))
-stepped_reaches sig limits p t AfterName = naming_reaches t.at p (named (content t) sig)
+stepped_reaches sig limits p t AfterStamp = stamped_reaches t.at p (timestamp_of (token_content t))
+stepped_reaches sig limits p t AfterName = naming_reaches t.at p (named (token_content t) sig)
 stepped_reaches sig limits p t AfterOpen =
     cond_both (nat_lt p.groups limits.events) _ _ (Reaches AfterOpen p)
     (λ _. done (Reached AfterOpen p) _ (record { stage = refl; points = omega arith }))
@@ -123,9 +123,9 @@ pub step_counts : (sig : List PredOf) (limits : Limits) (p q : Partial) (t : Lex
     → completes p.stage (symbol t) ≡ false → step sig limits p t ≡ Ok q → Counts p q
 unfolding step
 step_counts sig limits p q t c h e =
-    by_stage (goes p.stage (symbol t)) refl e
+    by_stage (stage_after p.stage (symbol t)) refl e
   where
-    by_stage : (found : Option Stage) → goes p.stage (symbol t) ≡ found → stepped sig limits p t found ≡ Ok q
+    by_stage : (found : Option Stage) → stage_after p.stage (symbol t) ≡ found → stepped sig limits p t found ≡ Ok q
         → Counts p q
     by_stage None f e = absurd cc
     by_stage (Some g) f e = counts_by p q g (opens p.stage (symbol t) g (transition p.stage (symbol t) g f) h) c
@@ -133,11 +133,11 @@ step_counts sig limits p q t c h e =
 
 -- a step without a fault follows the grammar
 pub step_goes : (sig : List PredOf) (limits : Limits) (p q : Partial) (t : Lexeme) → step sig limits p t ≡ Ok q
-    → goes p.stage (symbol t) ≡ Some q.stage
+    → stage_after p.stage (symbol t) ≡ Some q.stage
 unfolding step
-step_goes sig limits p q t e = by_stage (goes p.stage (symbol t)) refl e
+step_goes sig limits p q t e = by_stage (stage_after p.stage (symbol t)) refl e
   where
-    by_stage : (found : Option Stage) → goes p.stage (symbol t) ≡ found → stepped sig limits p t found ≡ Ok q
-        → goes p.stage (symbol t) ≡ Some q.stage
+    by_stage : (found : Option Stage) → stage_after p.stage (symbol t) ≡ found → stepped sig limits p t found ≡ Ok q
+        → stage_after p.stage (symbol t) ≡ Some q.stage
     by_stage None f h = absurd cc
     by_stage (Some g) f h = f ∙ ap (λ (s : Stage). Some s) (sym (stepped_reaches sig limits p t g q h).stage)

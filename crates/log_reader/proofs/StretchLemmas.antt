@@ -12,8 +12,8 @@ use Rattle.mfotl_lex.specs.Growing.{grown}
 use Rattle.mfotl_lex.specs.Lexemes.{tokens}
 use Rattle.mfotl_lex.specs.declared.kind.Mode.TheVariants.{Log}
 use Rattle.log_reader.specs.declared.limits.Limits.{Limits}
-use Rattle.log_reader.specs.Cursors.{IsLater}
-use Rattle.log_reader.specs.Stretches.{Stretch, end_of, with_piece, looked_at, is_end_told, place_of, behind}
+use Rattle.log_reader.specs.Cursors.{MayComeLater}
+use Rattle.log_reader.specs.Stretches.{Stretch, stretch_end, with_piece, looked_at, is_end_told, stretch_place, behind}
 use Rattle.log_reader.specs.Stretches.{comment_of, shortened}
 use Rattle.log_reader.proofs.TokenSteps.{later_self}
 
@@ -43,8 +43,8 @@ module _ (limits : Limits) (s : Stretch) where
   further more = take (limits.bytes - s.from - length s.bytes) more
 
   pub place_grown : (ended later : Bool) (more : List ℕ) (at : ℕ) → at ≤ length (looked_at limits s)
-      → place_of limits (with_piece s more) later at
-      ≡ grown (place_of limits s ended at) (further more) (is_end_told limits (with_piece s more) later)
+      → stretch_place limits (with_piece s more) later at
+      ≡ grown (stretch_place limits s ended at) (further more) (is_end_told limits (with_piece s more) later)
   place_grown ended later more at within =
       ap (λ (rest : List ℕ). record {
         mode = Log;
@@ -54,21 +54,21 @@ module _ (limits : Limits) (s : Stretch) where
       }) (ap (drop at) (take-append (limits.bytes - s.from) s.bytes more)
       ∙ drop-append-le at (looked_at limits s) (further more) within)
 
-  pub later_told : (ended later : Bool) (more : List ℕ) → IsLater ended more later
-      → IsLater (is_end_told limits s ended) (further more) (is_end_told limits (with_piece s more) later)
+  pub later_told : (ended later : Bool) (more : List ℕ) → MayComeLater ended more later
+      → MayComeLater (is_end_told limits s ended) (further more) (is_end_told limits (with_piece s more) later)
   later_told true later more (none, same) =
       rw (none, same, append-nil s.bytes, take-nil (limits.bytes - s.from - length s.bytes))
-      (later_self (true && not (nat_lt limits.bytes (end_of s))))
+      (later_self (true && not (nat_lt limits.bytes (stretch_end s))))
   later_told false later more is = tt
 
   pub place_now : (ended : Bool) (at : ℕ)
-      → place_of limits (with_piece s []) ended at ≡ place_of limits s ended at
+      → stretch_place limits (with_piece s []) ended at ≡ stretch_place limits s ended at
   place_now ended at = rw (append-nil s.bytes) refl
 
   -- ---- without what is done with
 
   pub behind_place : (at : ℕ) → at ≤ length s.bytes → (more : List ℕ) (later : Bool)
-      → place_of limits (with_piece (behind s at) more) later 0 ≡ place_of limits (with_piece s more) later at
+      → stretch_place limits (with_piece (behind s at) more) later 0 ≡ stretch_place limits (with_piece s more) later at
   behind_place at within more later =
       let same : limits.bytes - (s.from + at) ≡ limits.bytes - s.from - at = omega arith in
       let rest : take (limits.bytes - (s.from + at)) (drop at s.bytes ++ more)
@@ -89,7 +89,7 @@ module _ (limits : Limits) (s : Stretch) where
       let here : s.from + at + 0 ≡ s.from + at = omega arith in
       rw (here, rest, told) refl
 
-  pub behind_end : (at : ℕ) → at ≤ length s.bytes → end_of (behind s at) ≡ end_of s
+  pub behind_end : (at : ℕ) → at ≤ length s.bytes → stretch_end (behind s at) ≡ stretch_end s
   behind_end at within = omega (arith, length-drop at s.bytes, within)
 
 -- ---- an open comment
@@ -100,8 +100,9 @@ module _ (limits : Limits) (from : ℕ) where
 
   hash_place : (comment more : List ℕ) (later : Bool) → blank_len false (hash ∷ comment) ≡ 0
       → from + suc (length comment) ≤ limits.bytes
-      → tokens (place_of limits (with_piece (record { from = from + length comment; bytes = hash ∷ [] }) more) later 0)
-      ≡ tokens (place_of limits (with_piece (at_comment (hash ∷ comment)) more) later 0)
+      → tokens
+          (stretch_place limits (with_piece (record { from = from + length comment; bytes = hash ∷ [] }) more) later 0)
+      ≡ tokens (stretch_place limits (with_piece (at_comment (hash ∷ comment)) more) later 0)
   hash_place comment more later none short =
       let k = limits.bytes - from - suc (length comment) in
       let count : limits.bytes - (from + length comment) ≡ suc k = omega (arith, short) in
@@ -128,8 +129,8 @@ module _ (limits : Limits) (from : ℕ) where
 
   comment_place : (bytes more : List ℕ) (later : Bool) → blank_len false bytes ≡ 0
       → from + length bytes ≤ limits.bytes
-      → tokens (place_of limits (with_piece (shortened (at_comment bytes)) more) later 0)
-      ≡ tokens (place_of limits (with_piece (at_comment bytes) more) later 0)
+      → tokens (stretch_place limits (with_piece (shortened (at_comment bytes)) more) later 0)
+      ≡ tokens (stretch_place limits (with_piece (at_comment bytes) more) later 0)
   comment_place [] more later none short =
       let here : from + 0 ≡ from = omega arith in rw (here, here) refl
   comment_place (b ∷ bytes) more later none short =
@@ -146,7 +147,7 @@ module _ (limits : Limits) (from : ℕ) where
             ap (λ (n : ℕ). take n (b ∷ bytes)) all ∙ take_all (suc (length bytes)) (b ∷ bytes) (omega arith) in
             let same : shortened (at_comment (b ∷ bytes)) ≡ at_comment (b ∷ bytes) =
             ap₂ (λ (n : ℕ) (xs : List ℕ). record { from = n; bytes = xs }) here whole in
-            ap (λ (s : Stretch). tokens (place_of limits (with_piece s more) later 0)) same
+            ap (λ (s : Stretch). tokens (stretch_place limits (with_piece s more) later 0)) same
       ]
 
 pub comment_within : (bytes : List ℕ) → comment_of bytes ≤ length bytes
@@ -157,12 +158,12 @@ comment_within (b ∷ bytes) =
       | inr other ↦ rw other (omega arith)
     ]
 
-pub shortened_end : (s : Stretch) → end_of (shortened s) ≡ end_of s
+pub shortened_end : (s : Stretch) → stretch_end (shortened s) ≡ stretch_end s
 shortened_end s =
     omega (arith, length-take (length s.bytes - comment_of s.bytes) s.bytes, comment_within s.bytes)
 
-pub shortened_place : (limits : Limits) (s : Stretch) → blank_len false s.bytes ≡ 0 → end_of s ≤ limits.bytes
+pub shortened_place : (limits : Limits) (s : Stretch) → blank_len false s.bytes ≡ 0 → stretch_end s ≤ limits.bytes
     → (more : List ℕ) (later : Bool)
-    → tokens (place_of limits (with_piece (shortened s) more) later 0)
-    ≡ tokens (place_of limits (with_piece s more) later 0)
+    → tokens (stretch_place limits (with_piece (shortened s) more) later 0)
+    ≡ tokens (stretch_place limits (with_piece s more) later 0)
 shortened_place limits s none short more later = comment_place limits s.from s.bytes more later none short

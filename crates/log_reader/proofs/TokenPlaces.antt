@@ -4,22 +4,22 @@ use Rattle.std.proofs.Common.{arith, add_assoc}
 use Rattle.std.proofs.lemmas.List.{length-drop, drop-drop}
 use Rattle.mfotl_lex.specs.Growing.{grown}
 use Rattle.mfotl_lex.specs.Lexemes.{Lexeme, next_token, after}
-use Rattle.mfotl_lex.specs.Places.{Place, moved}
-use Rattle.log_reader.specs.Cursors.{IsLater}
+use Rattle.mfotl_lex.specs.Places.{Place, further_on}
+use Rattle.log_reader.specs.Cursors.{MayComeLater}
 use Rattle.log_reader.specs.Stretches.{place_in}
 use Rattle.log_reader.proofs.Lexing.{token_moves, token_again}
 
 -- a token at an offset, and the offset behind it, whatever comes later
 pub record TokenAt (from : ℕ) (looked : List ℕ) (ended : Bool) (at : ℕ) (t : Lexeme) (behind : ℕ) : Type 0 where
-  pub token : (more : List ℕ) (later : Bool) → IsLater ended more later
+  pub token : (more : List ℕ) (later : Bool) → MayComeLater ended more later
       → next_token (grown (place_in from looked ended at) more later) ≡ Ok (Some t)
-  pub place : (more : List ℕ) (later : Bool) → IsLater ended more later
+  pub place : (more : List ℕ) (later : Bool) → MayComeLater ended more later
       → after (grown (place_in from looked ended at) more later) ≡ grown (place_in from looked ended behind) more later
   pub further : at < behind
   pub within : behind ≤ length looked
 
 pub place_behind : (from : ℕ) (looked : List ℕ) (ended : Bool) (at count : ℕ)
-    → moved (place_in from looked ended at) count ≡ place_in from looked ended (at + count)
+    → further_on (place_in from looked ended at) count ≡ place_in from looked ended (at + count)
 place_behind from looked ended at count =
     ap₂ (λ (n : ℕ) (rest : List ℕ). record (place_in from looked ended at) { at = n; rest = rest })
     (add_assoc from at count) (drop-drop count at looked)

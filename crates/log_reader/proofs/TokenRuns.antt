@@ -8,7 +8,7 @@ use Rattle.mfotl_sig.specs.Preds.{PredOf}
 use Rattle.log_reader.specs.declared.fault.LogFault.TheVariants.{Lex}
 use Rattle.log_reader.specs.declared.limits.Limits.{Limits}
 use Rattle.log_reader.specs.Partials.{Partial}
-use Rattle.log_reader.specs.Readings.{Reading, behind, stopped, went_on, run, run_from, behind_tokens}
+use Rattle.log_reader.specs.Readings.{Reading, behind, fault_only, went_on, run, run_from, behind_tokens}
 use Rattle.log_reader.specs.Steps.{step, completed}
 
 module _ (sig : List PredOf) (limits : Limits) (last : Partial → Reading) (p : Partial) (place : Place) where
@@ -29,6 +29,6 @@ module _ (sig : List PredOf) (limits : Limits) (last : Partial → Reading) (p :
   none_run e = by_tokens (Ok None) e
 
   pub fault_run : (fault : LexFault) → next_token place ≡ Err fault
-      → run_from sig limits last p place ≡ stopped (Lex fault)
+      → run_from sig limits last p place ≡ fault_only (Lex fault)
   unfolding run
   fault_run fault e = by_tokens (Err fault) e

@@ -16,14 +16,14 @@ use Rattle.log_reader.specs.declared.fault.LogFault.TheVariants.{Memory}
 use Rattle.log_reader.specs.declared.limits.Limits.{Limits}
 use Rattle.log_reader.specs.declared.stage.Stage.{Stage}
 use Rattle.log_reader.specs.declared.stage.Stage.TheVariants.{Between, AfterAt, AfterStamp, AfterClose}
-use Rattle.log_reader.specs.Cursors.{IsLater, open_count, IsCounted, Leads, Exhausts, StepsOver, Halts, HaltsBy}
+use Rattle.log_reader.specs.Cursors.{MayComeLater, open_count, IsCounted, Leads, Exhausts, StepsOver, Halts, HaltsBy}
 use Rattle.log_reader.specs.Cursors.{TakesToken}
 use Rattle.log_reader.specs.Partials.{Partial, point_of, finished}
 use Rattle.log_reader.specs.Readings.{behind_tokens, run}
-use Rattle.log_reader.specs.Stages.{goes, completes, read_on}
+use Rattle.log_reader.specs.Stages.{stage_after, completes, read_on}
 use Rattle.log_reader.specs.Steps.{step, completed, stepped}
 use Rattle.log_reader.specs.Stretches.{place_in}
-use Rattle.log_reader.specs.Symbols.{Symbol, AtSign, Terminator, symbol, symbol_of, content}
+use Rattle.log_reader.specs.Symbols.{Symbol, AtSign, Terminator, symbol, symbol_of, token_content}
 use Rattle.log_reader.specs.Given.{Stays}
 use Rattle.log_reader.proofs.TokenRuns.{token_run}
 use Rattle.log_reader.proofs.Lexing.{blanks_done}
@@ -31,8 +31,8 @@ use Rattle.log_reader.proofs.TokenPlaces.{TokenAt, place_behind}
 use Rattle.log_reader.proofs.StepStages.{step_counts}
 
 pub completes_cases : (s : Stage) (x : Symbol) → completes s x ≡ true
-    → (open_count s ≡ 1) × (((x ≡ AtSign) × (goes s x ≡ Some AfterAt))
-    ⊎ ((x ≡ Terminator) × (goes s x ≡ Some Between)))
+    → (open_count s ≡ 1) × (((x ≡ AtSign) × (stage_after s x ≡ Some AfterAt))
+    ⊎ ((x ≡ Terminator) × (stage_after s x ≡ Some Between)))
 completes_cases AfterStamp AtSign h = (refl, inl (refl, refl))
 completes_cases AfterStamp Terminator h = (refl, inr (refl, refl))
 completes_cases AfterClose AtSign h = (refl, inl (refl, refl))
@@ -60,7 +60,7 @@ completed_between : (p : Partial) (t : Lexeme) → completed (finished p) t ≡ 
 unfolding completed
 completed_between p t = refl
 
-pub later_self : (b : Bool) → IsLater b [] b
+pub later_self : (b : Bool) → MayComeLater b [] b
 later_self true = (refl, refl)
 later_self false = tt
 
@@ -83,14 +83,14 @@ module _ (sig : List PredOf) (limits : Limits) (from : ℕ) (looked : List ℕ) 
         found.further,
       )
 
-  step-at : symbol t ≡ AtSign → goes p.stage (symbol t) ≡ Some AfterAt
+  step-at : symbol t ≡ AtSign → stage_after p.stage (symbol t) ≡ Some AfterAt
       → step sig limits p t ≡ step sig limits (finished p) t
   unfolding step
   step-at at_sign e =
       ap (stepped sig limits p t) e
-      ∙ sym (ap (λ (x : Symbol). stepped sig limits (finished p) t (goes Between x)) at_sign)
+      ∙ sym (ap (λ (x : Symbol). stepped sig limits (finished p) t (stage_after Between x)) at_sign)
 
-  step-terminator : goes p.stage (symbol t) ≡ Some Between → step sig limits p t ≡ Ok (finished p)
+  step-terminator : stage_after p.stage (symbol t) ≡ Some Between → step sig limits p t ≡ Ok (finished p)
   unfolding step
   step-terminator e = ap (stepped sig limits p t) e
 
@@ -100,7 +100,7 @@ module _ (sig : List PredOf) (limits : Limits) (from : ℕ) (looked : List ℕ) 
   completed_leads b found le c h =
       let cases = completes_cases p.stage (symbol t) h in
       elim cases.1 [
-        | inl x ↦ rw (read_on-at t.kind (content t) at b x.0) (record {
+        | inl x ↦ rw (read_on-at t.kind (token_content t) at b x.0) (record {
           reads = λ more later is last.
               let place = grown (place_in from looked ended at) more later in
               token_run sig limits last p place t (found.token more later is)
@@ -114,7 +114,7 @@ module _ (sig : List PredOf) (limits : Limits) (from : ℕ) (looked : List ℕ) 
           counted = omega arith;
           given = omega (arith, cases.0, c);
         })
-        | inr x ↦ rw (read_on-terminator t.kind (content t) at b x.0) (record {
+        | inr x ↦ rw (read_on-terminator t.kind (token_content t) at b x.0) (record {
           reads = λ more later is last.
               let place = grown (place_in from looked ended at) more later in
               token_run sig limits last p place t (found.token more later is)

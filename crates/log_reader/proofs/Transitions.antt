@@ -3,7 +3,7 @@ use Rattle.std.proofs.Common.{◌≡◌, ℕ, Bool, true, false, cond, List, Som
 use Rattle.log_reader.specs.declared.stage.Stage.{Stage}
 use Rattle.log_reader.specs.declared.stage.Stage.TheVariants.{Between, AfterAt, AfterStamp, AfterName, AfterOpen}
 use Rattle.log_reader.specs.declared.stage.Stage.TheVariants.{AfterValue, AfterComma, AfterClose}
-use Rattle.log_reader.specs.Stages.{goes}
+use Rattle.log_reader.specs.Stages.{stage_after}
 use Rattle.log_reader.specs.Symbols.{Symbol, AtSign, Opening, Closing, Separator, Terminator, Says, Written, Bare}
 use Rattle.log_reader.specs.Symbols.{is_digits}
 
@@ -33,7 +33,7 @@ stamp_to true word g digits e = to AfterStamp g e (times word digits)
 stamp_to false word g digits e = absurd cc
 
 -- each way that the automaton goes is one of these
-pub transition : (s : Stage) (x : Symbol) (g : Stage) → goes s x ≡ Some g → Transition s x g
+pub transition : (s : Stage) (x : Symbol) (g : Stage) → stage_after s x ≡ Some g → Transition s x g
 transition Between AtSign g e = to AfterAt g e begins_first
 transition Between _ g e = absurd cc
 transition AfterAt (Says (Bare word)) g e = stamp_to (is_digits word) word g refl e

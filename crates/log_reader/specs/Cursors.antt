@@ -21,12 +21,12 @@ use Rattle.log_reader.specs.Stages.{completes, read_on}
 use Rattle.log_reader.specs.Steps.{step}
 use Rattle.log_reader.specs.Stretches.{place_in}
 use Rattle.log_reader.specs.Symbols.{symbol}
-use Rattle.log_reader.specs.Readings.{Reading, behind, stopped, run_from}
+use Rattle.log_reader.specs.Readings.{Reading, behind, fault_only, run_from}
 
 -- what may come later: no more bytes, once the end is told
-abbrev pub IsLater : Bool → List ℕ → Bool → Type 0
-IsLater true more later = (more ≡ []) × (later ≡ true)
-IsLater false more later = Unit {0}
+abbrev pub MayComeLater : Bool → List ℕ → Bool → Type 0
+MayComeLater true more later = (more ≡ []) × (later ≡ true)
+MayComeLater false more later = Unit {0}
 
 -- how many time-points are begun and not completed
 abbrev pub open_count : Stage → ℕ
@@ -44,7 +44,7 @@ IsCounted p = open_count p.stage ≤ p.points
 -- the reading from p on is these time-points, and then the reading from q on, whatever comes later
 pub record Leads (sig : List PredOf) (limits : Limits) (from : ℕ) (looked : List ℕ) (ended : Bool)
     (at : ℕ) (p : Partial) (points : List TimePoint) (at' : ℕ) (q : Partial) : Type 0 where
-  pub reads : (more : List ℕ) (later : Bool) → IsLater ended more later → (last : Partial → Reading) →
+  pub reads : (more : List ℕ) (later : Bool) → MayComeLater ended more later → (last : Partial → Reading) →
       run_from sig limits last p (grown (place_in from looked ended at) more later)
       ≡ behind points (run_from sig limits last q (grown (place_in from looked ended at') more later))
   pub within : at' ≤ length looked
@@ -66,7 +66,7 @@ StepsOver sig limits t behind at p (Err fault) at' q =
 pub record Halts (sig : List PredOf) (limits : Limits) (from : ℕ) (looked : List ℕ) (ended : Bool)
     (at : ℕ) (p : Partial) (fault : LogFault) (at' : ℕ) (q : Partial) : Type 0 where
   pub reads : (last : Partial → Reading) →
-      run_from sig limits last p (place_in from looked ended at) ≡ stopped fault
+      run_from sig limits last p (place_in from looked ended at) ≡ fault_only fault
   pub same_at : at' ≡ at
   pub same : q ≡ p
 
@@ -98,7 +98,7 @@ pub record Breaks (sig : List PredOf) (limits : Limits) (from : ℕ) (looked : L
     (at : ℕ) (p : Partial) (fault : LogFault) (at' : ℕ) (q : Partial) : Type 0 where
   pub leads : Leads sig limits from looked ended at p [] at' q
   pub again : (last : Partial → Reading) →
-      run_from sig limits last q (place_in from looked ended at') ≡ stopped fault
+      run_from sig limits last q (place_in from looked ended at') ≡ fault_only fault
 
 -- the same of a fault that isn't want of memory, of which nothing is said
 abbrev pub BreaksBy : List PredOf → Limits → ℕ → List ℕ → Bool → ℕ → Partial → LogFault → ℕ → Partial → Type 0
@@ -106,12 +106,13 @@ BreaksBy sig limits from looked ended at p Memory at' q = Unit {0}
 BreaksBy sig limits from looked ended at p fault at' q = Breaks sig limits from looked ended at p fault at' q
 
 -- what the tokens up to the next time-point do
-abbrev pub Advances : List PredOf → Limits → ℕ → List ℕ → Bool → ℕ → Partial → Result (Option TimePoint) LogFault
+abbrev pub AdvancesToPoint : List PredOf → Limits → ℕ → List ℕ → Bool → ℕ → Partial → Result (Option TimePoint) LogFault
     → ℕ → Partial → Type 0
-Advances sig limits from looked ended at p (Ok (Some point)) at' q =
+AdvancesToPoint sig limits from looked ended at p (Ok (Some point)) at' q =
     Leads sig limits from looked ended at p (point ∷ []) at' q
-Advances sig limits from looked ended at p (Ok None) at' q = Exhausts sig limits from looked ended at p at' q
-Advances sig limits from looked ended at p (Err fault) at' q = BreaksBy sig limits from looked ended at p fault at' q
+AdvancesToPoint sig limits from looked ended at p (Ok None) at' q = Exhausts sig limits from looked ended at p at' q
+AdvancesToPoint sig limits from looked ended at p (Err fault) at' q =
+    BreaksBy sig limits from looked ended at p fault at' q
 
 -- a time-point that is given is done with
 abbrev pub behind_answer : Partial → Result Next LogFault → Partial

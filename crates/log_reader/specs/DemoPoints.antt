@@ -23,15 +23,15 @@ demo_preds =
     ∷ record { number = 2; name = codes "drop"; sorts = sorts.Int ∷ [] } ∷ []
 
 -- the event that an event of the demo stands for
-abbrev pub event_of : DemoEvent → Event
-event_of (Request id who) = record { pred = 0; args = Int (pos id) ∷ Text (name_of who) ∷ [] }
-event_of (Grant id) = record { pred = 1; args = Int (pos id) ∷ [] }
-event_of (Drop id) = record { pred = 2; args = Int (pos id) ∷ [] }
+abbrev pub event_of_demo : DemoEvent → Event
+event_of_demo (Request id who) = record { pred = 0; args = Int (pos id) ∷ Text (name_of who) ∷ [] }
+event_of_demo (Grant id) = record { pred = 1; args = Int (pos id) ∷ [] }
+event_of_demo (Drop id) = record { pred = 2; args = Int (pos id) ∷ [] }
 
 -- the events that some stand for, put with those before; equal events are one
 abbrev pub events_of : List Event → List DemoEvent → List Event
 events_of before [] = before
-events_of before (e ∷ events) = events_of (insert_key event_cmp before (event_of e)) events
+events_of before (e ∷ events) = events_of (insert_key event_cmp before (event_of_demo e)) events
 
 -- the time-point that is drawn
 abbrev pub point_of : Moment → TimePoint

@@ -9,8 +9,8 @@ use Rattle.log_reader.specs.Symbols.{Symbol, AtSign, Opening, Closing, Separator
 use Rattle.log_reader.specs.ValuesRead.{timestamp_of}
 
 -- the symbols before a token, the nearest first
-abbrev pub before : List Lexeme → List Symbol
-before front = reverse (symbols_of front)
+abbrev pub symbols_before : List Lexeme → List Symbol
+symbols_before front = reverse (symbols_of front)
 
 -- ---- what a symbol is for, by what stands before it
 

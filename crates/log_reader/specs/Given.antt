@@ -19,6 +19,6 @@ Stays old new Memory given = Unit {0}
 Stays old new fault given = (given ≡ Err fault) × (new ≡ old)
 
 -- a state moves on as the definition says
-abbrev pub Moves : {S U : Type 0} → S → S → Result U LogFault → Result S LogFault → Type 0
-Moves old new (Ok _) given = given ≡ Ok new
-Moves old new (Err fault) given = Stays old new fault given
+abbrev pub StateMoves : {S U : Type 0} → S → S → Result U LogFault → Result S LogFault → Type 0
+StateMoves old new (Ok _) given = given ≡ Ok new
+StateMoves old new (Err fault) given = Stays old new fault given

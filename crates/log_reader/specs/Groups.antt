@@ -10,7 +10,7 @@ use Rattle.log_reader.specs.declared.stage.Stage.{Stage}
 use Rattle.log_reader.specs.declared.stage.Stage.TheVariants.{AfterName, AfterOpen, AfterValue, AfterClose}
 use Rattle.log_reader.specs.Cursors.{IsCounted, Leads}
 use Rattle.log_reader.specs.Partials.{Partial}
-use Rattle.log_reader.specs.Quick.{is_value_due, TakesFront}
+use Rattle.log_reader.specs.Quick.{is_value_due, TakesTokenInFront}
 
 -- a group may begin there
 abbrev pub may_open : Stage → Bool
@@ -23,7 +23,7 @@ pub record TakesPlain (sort : Sort) (at : ℕ) (bytes : List ℕ) (value : Value
   pub within : n ≤ length bytes
   pub takes : (sig : List PredOf) (limits : Limits) (p : Partial) (due : List Sort) → is_value_due p.stage ≡ true
       → p.due ≡ sort ∷ due
-      → TakesFront sig limits p at bytes n
+      → TakesTokenInFront sig limits p at bytes n
       (record p { stage = AfterValue; due = due; args = p.args ++ value ∷ [] })
 
 -- from p on the tokens up to an offset lead to q, whatever the signature
@@ -42,7 +42,7 @@ pub record IsOpen (sorts : List Sort) (p : Partial) : Type 0 where
   pub counted : IsCounted p
 
 -- a group of these sorts may begin
-pub record IsReady (limits : Limits) (sorts : List Sort) (p : Partial) : Type 0 where
+pub record MayBeginGroup (limits : Limits) (sorts : List Sort) (p : Partial) : Type 0 where
   pub stage : may_open p.stage ≡ true
   pub same : p.sorts ≡ sorts
   pub args : p.args ≡ []
@@ -71,7 +71,7 @@ ReadsValues from looked ended sorts at row behind =
 -- a group of these values stands there
 abbrev pub ReadsGroup : ℕ → List ℕ → Bool → List Sort → ℕ → List Value → ℕ → Type 0
 ReadsGroup from looked ended sorts at row behind =
-    ((limits : Limits) (p : Partial) → IsReady limits sorts p
+    ((limits : Limits) (p : Partial) → MayBeginGroup limits sorts p
     → LeadsOn limits from looked ended at p behind (with_group p row))
     × (at < behind)
 

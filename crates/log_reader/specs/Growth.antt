@@ -7,7 +7,7 @@ use Rattle.log_reader.specs.declared.fault.LogFault.{LogFault}
 use Rattle.log_reader.specs.declared.limits.Limits.{Limits}
 
 -- the second reading begins with what the first one shows, and is the same where that shows a fault
-pub record Keeps (s a : Reading) : Type 0 where
+pub record ExtendsReading (s a : Reading) : Type 0 where
   pub more : List TimePoint
   pub points : a.points ≡ s.points ++ more
   pub stays : (fault : LogFault) → s.ending ≡ Fault fault → a ≡ s
@@ -15,4 +15,4 @@ pub record Keeps (s a : Reading) : Type 0 where
 -- whatever comes behind the front, and though the end is told then
 abbrev pub ShownStays : Type 0
 ShownStays = (sig : List PredOf) (limits : Limits) (seen left : List ℕ)
-    → Keeps (shown sig limits seen) (accepted sig limits (seen ++ left))
+    → ExtendsReading (shown sig limits seen) (accepted sig limits (seen ++ left))

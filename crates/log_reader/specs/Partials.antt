@@ -25,8 +25,8 @@ pub record Partial : Type 0 where
   pub due : List Sort
 
 -- nothing
-abbrev pub blank : Partial
-blank = record {
+abbrev pub nothing_read : Partial
+nothing_read = record {
   stage = Between;
   points = 0;
   time = 0;

@@ -22,8 +22,8 @@ pub record Progress : Type 0 where
   pub is_broken : Bool
 
 -- nothing was fed
-abbrev pub start : List PredOf → Limits → Progress
-start sig limits = record {
+abbrev pub nothing_fed : List PredOf → Limits → Progress
+nothing_fed sig limits = record {
   sig = sig;
   limits = limits;
   bytes = [];
@@ -53,5 +53,5 @@ abbrev pub read : Progress → Reading
 read r = reading r.sig r.limits r.bytes r.is_ended
 
 -- what follows the time-points that were given
-abbrev pub due : Progress → Result Next LogFault
-due r = answer_of r.is_ended (skipped r.given (read r))
+abbrev pub next_answer : Progress → Result Next LogFault
+next_answer r = answer_of r.is_ended (skipped r.given (read r))

@@ -21,7 +21,7 @@ use Rattle.log_reader.specs.declared.partial.Straight.{Straight}
 use Rattle.log_reader.specs.declared.partial.Straight.TheVariants.{Nothing, Took, Completed}
 use Rattle.log_reader.specs.declared.stage.Stage.{Stage}
 use Rattle.log_reader.specs.declared.stage.Stage.TheVariants.{AfterOpen, AfterValue, AfterComma}
-use Rattle.log_reader.specs.Given.{Moves, Stays}
+use Rattle.log_reader.specs.Given.{StateMoves, Stays}
 use Rattle.log_reader.specs.Partials.{Partial, point_of, finished}
 use Rattle.log_reader.specs.Stages.{completes}
 use Rattle.log_reader.specs.Steps.{step}
@@ -48,7 +48,7 @@ digits_before number count (b ∷ bytes) =
     else if ends_number b then Some (number, count) else None
 
 -- the bytes begin with a number of n digits
-pub record IsNumber (bytes : List ℕ) (number n : ℕ) : Type 0 where
+pub record BeginsWithNumber (bytes : List ℕ) (number n : ℕ) : Type 0 where
   pub found : digits_before 0 0 bytes ≡ Some (number, n)
   pub some : 0 < n
   pub few : n ≤ max_log_word
@@ -56,7 +56,7 @@ pub record IsNumber (bytes : List ℕ) (number n : ℕ) : Type 0 where
 -- the bytes begin with an integer of n digits
 pub record IsInteger (bytes : List ℕ) (value : ℤ) (n : ℕ) : Type 0 where
   pub number : ℕ
-  pub digits : IsNumber bytes number n
+  pub digits : BeginsWithNumber bytes number n
   pub is : value ≡ pos number
 
 -- a value may stand there
@@ -92,7 +92,7 @@ pub record StepsMark {U : Type 0} (limits : Limits) (p : Partial) (at b : ℕ) (
   pub kind : Kind
   pub is : log_mark b ≡ Some kind
   pub goes_on : completes p.stage (symbol (mark_token kind at b)) ≡ false
-  pub moves : (sig : List PredOf) → Moves p q result (step sig limits p (mark_token kind at b))
+  pub moves : (sig : List PredOf) → StateMoves p q result (step sig limits p (mark_token kind at b))
 
 -- or nothing was
 abbrev pub TakesMark : {U : Type 0} → Limits → Partial → ℕ → ℕ → Option (Result U LogFault) → Partial → Type 0
@@ -102,7 +102,7 @@ TakesMark limits p at b None q = q ≡ p
 -- ---- the token at the front of bytes, the first of which has the offset `at`
 
 -- it was taken, and n bytes with it
-pub record TakesFront (sig : List PredOf) (limits : Limits) (p : Partial) (at : ℕ) (bytes : List ℕ) (n : ℕ)
+pub record TakesTokenInFront (sig : List PredOf) (limits : Limits) (p : Partial) (at : ℕ) (bytes : List ℕ) (n : ℕ)
     (q : Partial) : Type 0 where
   pub token : Lexeme
   pub front : IsInFront bytes at token
@@ -135,7 +135,7 @@ HaltsFrontBy sig limits p at bytes fault q = HaltsFront sig limits p at bytes fa
 -- one of these, or nothing
 abbrev pub TakesStraight : List PredOf → Limits → Partial → ℕ → List ℕ → Result Straight LogFault → Partial → Type 0
 TakesStraight sig limits p at bytes (Ok Nothing) q = q ≡ p
-TakesStraight sig limits p at bytes (Ok (Took n)) q = TakesFront sig limits p at bytes n q
+TakesStraight sig limits p at bytes (Ok (Took n)) q = TakesTokenInFront sig limits p at bytes n q
 TakesStraight sig limits p at bytes (Ok (Completed point)) q = CompletesFront p at bytes point q
 TakesStraight sig limits p at bytes (Err fault) q = HaltsFrontBy sig limits p at bytes fault q
 
@@ -145,5 +145,5 @@ TakesWord sig p at bytes result q = (limits : Limits) → TakesStraight sig limi
 
 -- a timestamp of n bytes was taken, whatever the signature and the limits, or nothing was
 abbrev pub TakesStamp : Partial → ℕ → List ℕ → Option ℕ → Partial → Type 0
-TakesStamp p at bytes (Some n) q = (sig : List PredOf) (limits : Limits) → TakesFront sig limits p at bytes n q
+TakesStamp p at bytes (Some n) q = (sig : List PredOf) (limits : Limits) → TakesTokenInFront sig limits p at bytes n q
 TakesStamp p at bytes None q = q ≡ p

@@ -8,7 +8,7 @@ use Rattle.log_reader.specs.declared.next.Next.{Next}
 use Rattle.log_reader.specs.declared.next.Next.TheVariants.{Point}
 use Rattle.log_reader.specs.Partials.{Partial}
 use Rattle.log_reader.specs.Progress.{Progress}
-use Rattle.log_reader.specs.Soundness.{StandsFor}
+use Rattle.log_reader.specs.Soundness.{StandsForLog}
 use Rattle.log_reader.specs.Stretches.{Stretch}
 
 -- what a reader keeps for itself: `Reads` alone says what of
@@ -33,11 +33,11 @@ pub record Reader : Type 0 where
 
 -- what the reader keeps may be of a log whose bytes so far are these
 unfoldable pub Reads : Reader → List ℕ → Type 0
-Reads r bytes = StandsFor r.sig r.limits r.is_ended r.given r.kept.stretch r.kept.at r.kept.partial bytes
+Reads r bytes = StandsForLog r.sig r.limits r.is_ended r.given r.kept.stretch r.kept.at r.kept.partial bytes
 
 -- how many bytes it holds
-abbrev pub held : Reader → ℕ
-held r = length r.kept.stretch.bytes
+abbrev pub held_bytes : Reader → ℕ
+held_bytes r = length r.kept.stretch.bytes
 
 -- whatever bytes the reader may have been fed
 abbrev pub ForEach : Reader → (List ℕ → Type 0) → Type 0
@@ -63,6 +63,6 @@ Proceeds old new (Err Memory) = new.is_broken ≡ true
 Proceeds old new (Err fault) = new ≡ record old { kept = new.kept }
 
 -- it reads the bytes that it read before, unless memory was wanting
-abbrev pub ReadsOn : Reader → Reader → Result Next LogFault → Type 0
-ReadsOn old new (Err Memory) = Unit {0}
-ReadsOn old new answer = ForEach old (Reads new)
+abbrev pub ReadsSameBytes : Reader → Reader → Result Next LogFault → Type 0
+ReadsSameBytes old new (Err Memory) = Unit {0}
+ReadsSameBytes old new answer = ForEach old (Reads new)

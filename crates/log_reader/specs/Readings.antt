@@ -12,7 +12,7 @@ use Rattle.log_reader.specs.declared.limits.Limits.{Limits}
 use Rattle.log_reader.specs.declared.stage.Stage.{Stage}
 use Rattle.log_reader.specs.declared.stage.Stage.TheVariants.{Between}
 pub use Rattle.log_reader.specs.LogTexts.{is_long, place_at}
-use Rattle.log_reader.specs.Partials.{Partial, blank, point_of}
+use Rattle.log_reader.specs.Partials.{Partial, nothing_read, point_of}
 use Rattle.log_reader.specs.Stages.{is_whole}
 use Rattle.log_reader.specs.Steps.{step, completed}
 
@@ -27,8 +27,8 @@ pub record Reading : Type 0 where
   pub ending : Ending
 
 -- nothing but a fault
-abbrev pub stopped : LogFault → Reading
-stopped fault = record { points = []; ending = Fault fault }
+abbrev pub fault_only : LogFault → Reading
+fault_only fault = record { points = []; ending = Fault fault }
 
 -- a reading behind these time-points
 abbrev pub behind : List TimePoint → Reading → Reading
@@ -37,7 +37,7 @@ behind points r = record { points = points ++ r.points; ending = r.ending }
 -- what follows a step
 abbrev pub went_on : Result Partial LogFault → (Partial → Reading) → Reading
 went_on (Ok p) more = more p
-went_on (Err fault) more = stopped fault
+went_on (Err fault) more = fault_only fault
 
 -- tokens from p on, where `last` says what is shown behind them
 unfoldable pub run : List PredOf → Limits → (Partial → Reading) → Partial → List Lexeme → Reading
@@ -49,13 +49,13 @@ run sig limits last p (t ∷ ts) =
 abbrev pub finish_at : ℕ → Partial → Stage → Reading
 finish_at len p Between = record { points = []; ending = NoFault }
 finish_at len p stage =
-    if is_whole stage then record { points = point_of p ∷ []; ending = NoFault } else stopped (Syntax len)
+    if is_whole stage then record { points = point_of p ∷ []; ending = NoFault } else fault_only (Syntax len)
 
 -- what is shown where no whole token is left of `len` bytes: a byte at the limit, the end if it was told, or
 -- nothing
 abbrev pub nothing_behind : Limits → ℕ → Bool → Partial → Reading
 nothing_behind limits len ended p =
-    if nat_lt limits.bytes len then stopped (TooLong limits.bytes)
+    if nat_lt limits.bytes len then fault_only (TooLong limits.bytes)
     else if ended then finish_at len p p.stage
     else record { points = []; ending = NoFault }
 
@@ -65,7 +65,7 @@ nothing_left limits bytes ended p = nothing_behind limits (length bytes) ended p
 
 -- a lexical fault comes behind the whole tokens before it
 abbrev pub behind_tokens : Option LexFault → (Partial → Reading) → Partial → Reading
-behind_tokens (Some fault) last p = stopped (Lex fault)
+behind_tokens (Some fault) last p = fault_only (Lex fault)
 behind_tokens None last p = last p
 
 -- the tokens from a place on
@@ -76,7 +76,7 @@ run_from sig limits last p place =
 -- all bytes; `ended` says that no more come
 unfoldable pub reading : List PredOf → Limits → List ℕ → Bool → Reading
 reading sig limits bytes ended =
-    run_from sig limits (nothing_left limits bytes ended) blank (place_at limits bytes ended 0)
+    run_from sig limits (nothing_left limits bytes ended) nothing_read (place_at limits bytes ended 0)
 
 -- the time-points completed before the first fault, and that fault or the end
 abbrev pub accepted : List PredOf → Limits → List ℕ → Reading

@@ -7,12 +7,12 @@ use Rattle.log_reader.specs.declared.fault.LogFault.TheVariants.{Memory}
 use Rattle.log_reader.specs.declared.limits.Limits.{Limits}
 use Rattle.log_reader.specs.declared.next.Next.{Next}
 use Rattle.log_reader.specs.declared.next.Next.TheVariants.{Point, More}
-use Rattle.log_reader.specs.Cursors.{IsLater, IsCounted, given_of}
+use Rattle.log_reader.specs.Cursors.{MayComeLater, IsCounted, given_of}
 use Rattle.log_reader.specs.Given.{Gives}
 use Rattle.log_reader.specs.Partials.{Partial}
 use Rattle.log_reader.specs.Progress.{answer_of, skipped}
 use Rattle.log_reader.specs.Readings.{reading, run_from, nothing_left}
-use Rattle.log_reader.specs.Stretches.{Stretch, end_of, with_piece, looked_at, place_of}
+use Rattle.log_reader.specs.Stretches.{Stretch, stretch_end, with_piece, looked_at, stretch_place}
 
 -- what remains from a place on computes the rest of the reading
 pub record Remains (sig : List PredOf) (limits : Limits) (log : List ℕ) (ended : Bool)
@@ -22,43 +22,43 @@ pub record Remains (sig : List PredOf) (limits : Limits) (log : List ℕ) (ended
   pub few : given ≤ length (reading sig limits log ended).points
 
 -- what is kept may be of this log: what remains is the rest of its reading, whatever comes later
-pub record StandsFor (sig : List PredOf) (limits : Limits) (is_ended : Bool) (given : ℕ)
+pub record StandsForLog (sig : List PredOf) (limits : Limits) (is_ended : Bool) (given : ℕ)
     (s : Stretch) (at : ℕ) (p : Partial) (log : List ℕ) : Type 0 where
-  pub len : length log ≡ end_of s
-  pub remains : (more : List ℕ) (later : Bool) → IsLater is_ended more later
-      → Remains sig limits (log ++ more) later given p (place_of limits (with_piece s more) later at)
+  pub len : length log ≡ stretch_end s
+  pub remains : (more : List ℕ) (later : Bool) → MayComeLater is_ended more later
+      → Remains sig limits (log ++ more) later given p (stretch_place limits (with_piece s more) later at)
 
 -- the offset is within the bytes that are looked at, and a time-point that is begun counts
-pub record IsWithin (limits : Limits) (s : Stretch) (at : ℕ) (p : Partial) : Type 0 where
+pub record IsInStretch (limits : Limits) (s : Stretch) (at : ℕ) (p : Partial) : Type 0 where
   pub within : at ≤ length (looked_at limits s)
   pub counted : IsCounted p
 
 -- and what is kept is of some log
-pub record IsSound (sig : List PredOf) (limits : Limits) (is_ended : Bool)
+pub record StandsForSomeLog (sig : List PredOf) (limits : Limits) (is_ended : Bool)
     (s : Stretch) (at : ℕ) (p : Partial) : Type 0 where
-  pub inside : IsWithin limits s at p
+  pub inside : IsInStretch limits s at p
   pub log : List ℕ
-  pub stands : StandsFor sig limits is_ended (given_of p) s at p log
+  pub stands : StandsForLog sig limits is_ended (given_of p) s at p log
 
 -- what a reader keeps true: nothing is known of it where memory was wanting
-pub record IsKept (sig : List PredOf) (limits : Limits) (is_fed is_ended is_broken : Bool)
+pub record IsSoundUnlessBroken (sig : List PredOf) (limits : Limits) (is_fed is_ended is_broken : Bool)
     (s : Stretch) (at : ℕ) (p : Partial) : Type 0 where
   pub unfed : is_fed ≡ false → s ≡ record { from = 0; bytes = [] }
-  pub sound : is_broken ≡ false → IsSound sig limits is_ended s at p
+  pub sound : is_broken ≡ false → StandsForSomeLog sig limits is_ended s at p
 
 -- ---- an answer
 
 -- it is due, of whichever log the bytes are
 abbrev pub AnswersDue : List PredOf → Limits → Bool → Stretch → ℕ → Partial → Result Next LogFault → Type 0
 AnswersDue sig limits is_ended s at p result =
-    (log : List ℕ) → StandsFor sig limits is_ended (given_of p) s at p log
+    (log : List ℕ) → StandsForLog sig limits is_ended (given_of p) s at p log
     → Gives (λ next. next) result (answer_of is_ended (skipped (given_of p) (reading sig limits log is_ended)))
 
 -- behind it the bytes are of the same logs
 abbrev pub StandsOn : List PredOf → Limits → Bool → Stretch → ℕ → Partial → ℕ → Partial → Type 0
 StandsOn sig limits is_ended s at p at' q =
-    (log : List ℕ) → StandsFor sig limits is_ended (given_of p) s at p log
-    → StandsFor sig limits is_ended (given_of q) s at' q log
+    (log : List ℕ) → StandsForLog sig limits is_ended (given_of p) s at p log
+    → StandsForLog sig limits is_ended (given_of q) s at' q log
 
 -- memory was wanting
 abbrev pub is_wanting : Result Next LogFault → Bool

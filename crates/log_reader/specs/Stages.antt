@@ -8,23 +8,23 @@ use Rattle.log_reader.specs.declared.stage.Stage.TheVariants.{AfterValue, AfterC
 use Rattle.log_reader.specs.Symbols.{Symbol, AtSign, Opening, Closing, Separator, Terminator, Says, Bare, is_digits}
 
 -- the stage behind a symbol; none where the grammar can't go on with it
-abbrev pub goes : Stage → Symbol → Option Stage
-goes Between AtSign = Some AfterAt
-goes AfterAt (Says (Bare word)) = if is_digits word then Some AfterStamp else None
-goes AfterStamp (Says (Bare word)) = Some AfterName
-goes AfterStamp Terminator = Some Between
-goes AfterStamp AtSign = Some AfterAt
-goes AfterName Opening = Some AfterOpen
-goes AfterOpen (Says value) = Some AfterValue
-goes AfterOpen Closing = Some AfterClose
-goes AfterValue Separator = Some AfterComma
-goes AfterValue Closing = Some AfterClose
-goes AfterComma (Says value) = Some AfterValue
-goes AfterClose Opening = Some AfterOpen
-goes AfterClose (Says (Bare word)) = Some AfterName
-goes AfterClose Terminator = Some Between
-goes AfterClose AtSign = Some AfterAt
-goes _ _ = None
+abbrev pub stage_after : Stage → Symbol → Option Stage
+stage_after Between AtSign = Some AfterAt
+stage_after AfterAt (Says (Bare word)) = if is_digits word then Some AfterStamp else None
+stage_after AfterStamp (Says (Bare word)) = Some AfterName
+stage_after AfterStamp Terminator = Some Between
+stage_after AfterStamp AtSign = Some AfterAt
+stage_after AfterName Opening = Some AfterOpen
+stage_after AfterOpen (Says value) = Some AfterValue
+stage_after AfterOpen Closing = Some AfterClose
+stage_after AfterValue Separator = Some AfterComma
+stage_after AfterValue Closing = Some AfterClose
+stage_after AfterComma (Says value) = Some AfterValue
+stage_after AfterClose Opening = Some AfterOpen
+stage_after AfterClose (Says (Bare word)) = Some AfterName
+stage_after AfterClose Terminator = Some Between
+stage_after AfterClose AtSign = Some AfterAt
+stage_after _ _ = None
 
 -- whether the present time-point is whole, if nothing more of it comes
 abbrev pub is_whole : Stage → Bool

@@ -16,13 +16,13 @@ use Rattle.log_reader.specs.declared.stage.Stage.TheVariants.{Between, AfterAt, 
 use Rattle.log_reader.specs.declared.stage.Stage.TheVariants.{AfterValue, AfterComma, AfterClose}
 use Rattle.log_reader.specs.Partials.{Partial, point_of, finished}
 use Rattle.mfotl_lex.specs.FirstFault.{◌>>=◌}
-use Rattle.log_reader.specs.Stages.{goes, completes}
-use Rattle.log_reader.specs.Symbols.{Written, symbol, content, written}
+use Rattle.log_reader.specs.Stages.{stage_after, completes}
+use Rattle.log_reader.specs.Symbols.{Written, symbol, token_content, written}
 use Rattle.log_reader.specs.ValuesRead.{value_at, timestamp_of}
 
 -- behind the `@` of a time-point
-abbrev pub opened : Limits → ℕ → Partial → Result Partial LogFault
-opened limits at p =
+abbrev pub point_opened : Limits → ℕ → Partial → Result Partial LogFault
+point_opened limits at p =
     if nat_lt p.points limits.points
     then Ok (record p { stage = AfterAt; points = p.points + 1; events = []; groups = 0 })
     else Err (TooManyPoints at)
@@ -53,9 +53,9 @@ valued at written p (sort ∷ due) =
     value_at sort at written >>= λ v. Ok (record p { stage = AfterValue; due = due; args = p.args ++ v ∷ [] })
 
 -- behind the `)` of a group, by the sorts that the group lacks
-abbrev pub closed : ℕ → Partial → List Sort → Result Partial LogFault
-closed at p (sort ∷ due) = Err (WrongArity at)
-closed at p [] = Ok (record p {
+abbrev pub group_closed : ℕ → Partial → List Sort → Result Partial LogFault
+group_closed at p (sort ∷ due) = Err (WrongArity at)
+group_closed at p [] = Ok (record p {
   stage = AfterClose;
   events = insert_key event_cmp p.events (record { pred = p.pred; args = p.args });
   args = [];
@@ -64,18 +64,18 @@ closed at p [] = Ok (record p {
 -- behind the token at this offset that leads to a stage
 abbrev pub stepped : List PredOf → Limits → Partial → Lexeme → Option Stage → Result Partial LogFault
 stepped sig limits p t None = Err (Syntax t.at)
-stepped sig limits p t (Some AfterAt) = opened limits t.at p
-stepped sig limits p t (Some AfterStamp) = stamped t.at p (timestamp_of (content t))
-stepped sig limits p t (Some AfterName) = naming t.at p (named (content t) sig)
+stepped sig limits p t (Some AfterAt) = point_opened limits t.at p
+stepped sig limits p t (Some AfterStamp) = stamped t.at p (timestamp_of (token_content t))
+stepped sig limits p t (Some AfterName) = naming t.at p (named (token_content t) sig)
 stepped sig limits p t (Some AfterOpen) = grouped limits t.at p
 stepped sig limits p t (Some AfterValue) = valued t.at (written t) p p.due
 stepped sig limits p t (Some AfterComma) = Ok (record p { stage = AfterComma })
-stepped sig limits p t (Some AfterClose) = closed t.at p p.due
+stepped sig limits p t (Some AfterClose) = group_closed t.at p p.due
 stepped sig limits p t (Some Between) = Ok (finished p)
 
 -- what a token makes of what was read
 unfoldable pub step : List PredOf → Limits → Partial → Lexeme → Result Partial LogFault
-step sig limits p t = stepped sig limits p t (goes p.stage (symbol t))
+step sig limits p t = stepped sig limits p t (stage_after p.stage (symbol t))
 
 -- the time-point that a token completes, if it does: also one that shows a fault then
 unfoldable pub completed : Partial → Lexeme → List TimePoint

@@ -14,8 +14,8 @@ pub record Stretch : Type 0 where
   pub bytes : List ℕ
 
 -- the offset behind them: so many bytes the log has so far
-abbrev pub end_of : Stretch → ℕ
-end_of s = s.from + length s.bytes
+abbrev pub stretch_end : Stretch → ℕ
+stretch_end s = s.from + length s.bytes
 
 -- with a piece behind them
 abbrev pub with_piece : Stretch → List ℕ → Stretch
@@ -33,11 +33,11 @@ looked_at limits s = take (limits.bytes - s.from) s.bytes
 
 -- whether their end is the log's
 abbrev pub is_end_told : Limits → Stretch → Bool → Bool
-is_end_told limits s ended = ended && not (nat_lt limits.bytes (end_of s))
+is_end_told limits s ended = ended && not (nat_lt limits.bytes (stretch_end s))
 
 -- the offset `at` within them
-abbrev pub place_of : Limits → Stretch → Bool → ℕ → Place
-place_of limits s ended at = place_in s.from (looked_at limits s) (is_end_told limits s ended) at
+abbrev pub stretch_place : Limits → Stretch → Bool → ℕ → Place
+stretch_place limits s ended at = place_in s.from (looked_at limits s) (is_end_told limits s ended) at
 
 -- ---- what is done with
 
@@ -63,7 +63,7 @@ forgotten s at = shortened (behind s at)
 
 -- the reader waits there: no blank, and no whole token
 pub record Waits (limits : Limits) (s : Stretch) (at : ℕ) : Type 0 where
-  pub short : end_of s ≤ limits.bytes
+  pub short : stretch_end s ≤ limits.bytes
   pub within : at ≤ length s.bytes
   pub bare : blank_len false (drop at s.bytes) ≡ 0
   pub unshown : next_token (place_in s.from s.bytes false at) ≡ Ok None

@@ -34,8 +34,8 @@ symbol_of Semicolon content = Terminator
 symbol_of _ content = Stray
 
 -- what a token says
-abbrev pub content : Lexeme → List ℕ
-content t = content_of t.kind t.text
+abbrev pub token_content : Lexeme → List ℕ
+token_content t = content_of t.kind t.text
 
 -- a token as a value: only a Text is quoted
 abbrev pub written_of : Kind → List ℕ → Written
@@ -44,11 +44,11 @@ written_of _ content = Bare content
 
 -- the same of a token
 abbrev pub written : Lexeme → Written
-written t = written_of t.kind (content t)
+written t = written_of t.kind (token_content t)
 
 -- what the grammar sees of a token
 abbrev pub symbol : Lexeme → Symbol
-symbol t = symbol_of t.kind (content t)
+symbol t = symbol_of t.kind (token_content t)
 
 -- one digit or more, and nothing else
 abbrev pub is_digits : List ℕ → Bool

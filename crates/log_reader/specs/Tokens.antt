@@ -25,6 +25,6 @@ pub record IsInFront (bytes : List ℕ) (at : ℕ) (t : Lexeme) : Type 0 where
   pub last : t.at + length t.text ≤ at + length bytes
 
 -- what stands at a place of bytes, the first of which has the offset `from`
-abbrev pub Finds : ℕ → Place → Result Found LexFault → Type 0
-Finds from p (Ok f) = (next_token p ≡ Ok (option_map lexeme f.token)) × (f.behind ≡ (after p).at - from)
-Finds from p (Err fault) = next_token p ≡ Err fault
+abbrev pub FindsToken : ℕ → Place → Result Found LexFault → Type 0
+FindsToken from p (Ok f) = (next_token p ≡ Ok (option_map lexeme f.token)) × (f.behind ≡ (after p).at - from)
+FindsToken from p (Err fault) = next_token p ≡ Err fault

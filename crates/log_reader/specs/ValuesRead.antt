@@ -1,7 +1,7 @@
 -- What a written value stands for, by the sort of its place.
 use Rattle.std.specs.Prelude.{ℕ, List, Option, [], ◌∷◌, Bool, false, Result, Ok, Err, ◌==◌, if◌then◌else◌}
 use Rattle.mfotl_lex.specs.Bytes.{minus}
-use Rattle.mfotl_lex.specs.Numbers.{integer_value, is_int64, digits_value, at_most}
+use Rattle.mfotl_lex.specs.Numbers.{integer_value, is_int64, digits_value, within_limit}
 use Rattle.mfotl_model.specs.declared.policy.Sort.{Sort}
 use Rattle.mfotl_model.specs.declared.policy.Sort.TheVariants as sorts
 use Rattle.mfotl_model.specs.declared.value.Value.{Value}
@@ -32,4 +32,4 @@ value_at sorts.Text at (Quoted text) = Ok (values.Text text)
 
 -- the number that digits write, if it is no greater than a timestamp may be
 abbrev pub timestamp_of : List ℕ → Option ℕ
-timestamp_of digits = at_most last_timestamp (digits_value 0 digits)
+timestamp_of digits = within_limit last_timestamp (digits_value 0 digits)

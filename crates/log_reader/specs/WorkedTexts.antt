@@ -27,12 +27,12 @@ preds =
     ∷ record { number = 2; name = codes "note"; sorts = sorts.Text ∷ sorts.Int ∷ [] } ∷ []
 
 -- the limits of bytes, time-points and groups
-abbrev pub at_most : ℕ → ℕ → ℕ → Limits
-at_most bytes points events = record { bytes = bytes; points = points; events = events }
+abbrev pub limited_to : ℕ → ℕ → ℕ → Limits
+limited_to bytes points events = record { bytes = bytes; points = points; events = events }
 
 -- a log that is all there is, within wide limits
 abbrev pub read : List ℕ → Reading
-read text = accepted preds (at_most 99 9 9) text
+read text = accepted preds (limited_to 99 9 9) text
 
 -- the event `publish(n)`
 abbrev pub publish : ℕ → Event
@@ -63,8 +63,8 @@ pub record WorkedValues : Type 0 where
       ≡ whole (at 1 (record { pred = 0; args = Int (negsuc 9223372036854775807) ∷ [] } ∷ []) ∷ [])
   pub quoted_text : value_at sorts.Text 5 (Quoted (codes "a b")) ≡ Ok (Text (codes "a b"))
   pub last_time : read (codes "@4611686018427387904") ≡ whole (at 4611686018427387904 [] ∷ [])
-  pub full : accepted preds (at_most 9 3 0) (codes "@1;@2;@3;") ≡ whole (at 1 [] ∷ at 2 [] ∷ at 3 [] ∷ [])
-  pub full_point : accepted preds (at_most 99 9 2) (codes "@1 publish(1)(1)") ≡ whole (at 1 (publish 1 ∷ []) ∷ [])
+  pub full : accepted preds (limited_to 9 3 0) (codes "@1;@2;@3;") ≡ whole (at 1 [] ∷ at 2 [] ∷ at 3 [] ∷ [])
+  pub full_point : accepted preds (limited_to 99 9 2) (codes "@1 publish(1)(1)") ≡ whole (at 1 (publish 1 ∷ []) ∷ [])
 
 -- what isn't: each fault at its offset, behind the time-points that were completed
 pub record WorkedFaults : Type 0 where
@@ -87,15 +87,15 @@ pub record WorkedFaults : Type 0 where
   pub wide : read (codes "@1 publish(9223372036854775808)") ≡ stops [] (IntRange 11)
   pub late : read (codes "@4611686018427387905") ≡ stops [] (TimestampRange 1)
   pub falling : read (codes "@9 publish(1) @5 publish(2)") ≡ stops (at 9 (publish 1 ∷ []) ∷ []) (FallingTime 9 5 15)
-  pub groups : accepted preds (at_most 99 9 2) (codes "@1 publish(1)(1) publish(1)") ≡ stops [] (TooManyEvents 24)
-  pub points : accepted preds (at_most 99 2 9) (codes "@1;@2@3;") ≡ stops (at 1 [] ∷ at 2 [] ∷ []) (TooManyPoints 5)
-  pub long : accepted preds (at_most 8 9 9) (codes "@1;@2;@3;") ≡ stops (at 1 [] ∷ at 2 [] ∷ []) (TooLong 8)
+  pub groups : accepted preds (limited_to 99 9 2) (codes "@1 publish(1)(1) publish(1)") ≡ stops [] (TooManyEvents 24)
+  pub points : accepted preds (limited_to 99 2 9) (codes "@1;@2@3;") ≡ stops (at 1 [] ∷ at 2 [] ∷ []) (TooManyPoints 5)
+  pub long : accepted preds (limited_to 8 9 9) (codes "@1;@2;@3;") ≡ stops (at 1 [] ∷ at 2 [] ∷ []) (TooLong 8)
 
 -- what is shown of a log whose end wasn't told
 pub record WorkedFronts : Type 0 where
-  pub next_begun : shown preds (at_most 99 9 9) (codes "@1 publish(7) @") ≡ whole (at 1 (publish 7 ∷ []) ∷ [])
-  pub not_yet : shown preds (at_most 99 9 9) (codes "@1 publish(7)") ≡ whole []
-  pub fault : shown preds (at_most 99 9 9) (codes "@1; publish(") ≡ stops (at 1 [] ∷ []) (Syntax 4)
+  pub next_begun : shown preds (limited_to 99 9 9) (codes "@1 publish(7) @") ≡ whole (at 1 (publish 7 ∷ []) ∷ [])
+  pub not_yet : shown preds (limited_to 99 9 9) (codes "@1 publish(7)") ≡ whole []
+  pub fault : shown preds (limited_to 99 9 9) (codes "@1; publish(") ≡ stops (at 1 [] ∷ []) (Syntax 4)
 
 -- how faults are printed
 pub record WorkedPrints : Type 0 where

@@ -4,12 +4,12 @@ ghost use Rattle.mfotl_lex.specs.Lexemes.{lexeme};
 ghost use Rattle.log_reader.specs.declared.limits.Limits.{Limits as LimitsOf};
 ghost use Rattle.mfotl_sig.specs.Preds.{PredOf};
 ghost use Rattle.log_reader.specs.declared.next.Next.TheVariants.{More};
-ghost use Rattle.log_reader.specs.Partials.{blank};
-ghost use Rattle.log_reader.specs.Soundness.{IsWithin, AnswersDue, StandsOn, is_wanting, CountsOn};
-ghost use Rattle.log_reader.specs.Cursors.{StepsOver, TakesToken, Advances, IsCounted, Leads, given_of};
+ghost use Rattle.log_reader.specs.Partials.{nothing_read};
+ghost use Rattle.log_reader.specs.Soundness.{IsInStretch, AnswersDue, StandsOn, is_wanting, CountsOn};
+ghost use Rattle.log_reader.specs.Cursors.{StepsOver, TakesToken, AdvancesToPoint, IsCounted, Leads, given_of};
 ghost use Rattle.log_reader.specs.Groups.{LeadsOn};
 ghost use Rattle.log_reader.specs.Stretches.{Waits, place_in};
-ghost use Rattle.log_reader.specs.Tokens.{Finds};
+ghost use Rattle.log_reader.specs.Tokens.{FindsToken};
 
 use crate::fault::LogFault;
 use crate::grammar::read_on;
@@ -61,7 +61,7 @@ fn lexer_at<'b>(look: Look<'b>, at: usize) -> Lexer<'b>
 fn token_at<'b>(look: Look<'b>, at: usize) -> Result<Found<'b>, LexFault>
     requires within { at ≤ length look.bytes.now }
     requires small { look.from + length look.bytes.now < 2 ^ 63 }
-    ensures { Finds look.entry.from
+    ensures { FindsToken look.entry.from
         (place_in look.entry.from look.entry.bytes.now look.entry.ended at) result }
 {
     let (_, rest) = look.bytes.split_at(at);
@@ -77,7 +77,7 @@ fn token_at<'b>(look: Look<'b>, at: usize) -> Result<Found<'b>, LexFault>
 fn lexed_at<'b>(look: Look<'b>, at: usize) -> Result<Found<'b>, LexFault>
     requires within { at ≤ length look.bytes.now }
     requires small { look.from + length look.bytes.now < 2 ^ 63 }
-    ensures { Finds look.entry.from
+    ensures { FindsToken look.entry.from
         (place_in look.entry.from look.entry.bytes.now look.entry.ended at) result }
 {
     let mut lexer = lexer_at(look, at);
@@ -93,7 +93,7 @@ fn lexed_at<'b>(look: Look<'b>, at: usize) -> Result<Found<'b>, LexFault>
 impl<'a> Cursor<'a> {
     pub fn new(alloc: Global) -> Self
         ensures at { result.at ≡ 0 }
-        ensures partial { result.partial ≡ blank }
+        ensures partial { result.partial ≡ nothing_read }
     {
         Cursor {
             at: 0,
@@ -228,7 +228,7 @@ impl<'a> Cursor<'a> {
         requires within { self.old.at ≤ length look.bytes.now }
         requires small { look.from + length look.bytes.now < 2 ^ 63 }
         requires counted { IsCounted self.old.partial }
-        ensures { Advances sig.now limits.now look.entry.from look.entry.bytes.now look.entry.ended
+        ensures { AdvancesToPoint sig.now limits.now look.entry.from look.entry.bytes.now look.entry.ended
             self.old.at self.old.partial result self.new.at self.new.partial }
     {
         loop {
@@ -254,12 +254,12 @@ impl<'a> Cursor<'a> {
         sig: &'a Signature,
         limits: &Limits,
     ) -> Result<Next, LogFault>
-        requires { IsWithin limits.now kept.now self.old.at self.old.partial }
+        requires { IsInStretch limits.now kept.now self.old.at self.old.partial }
         ensures answer { AnswersDue sig.now limits.now ended kept.now self.old.at self.old.partial result }
         ensures stands { is_wanting result ≡ false → StandsOn sig.now limits.now ended kept.now
             self.old.at self.old.partial self.new.at self.new.partial }
         ensures within { is_wanting result ≡ false
-            → IsWithin limits.now kept.now self.new.at self.new.partial }
+            → IsInStretch limits.now kept.now self.new.at self.new.partial }
         ensures counts { CountsOn (given_of self.old.partial) result (given_of self.new.partial) }
         ensures waits { result ≡ Ok More → Waits limits.now kept.now self.new.at }
     {

@@ -3,7 +3,7 @@ ghost use Rattle.std.specs.Prelude.{◌≡◌};
 ghost use Rattle.std.specs.Char.{is_ascii_digit};
 ghost use Rattle.std.specs.List.{list_all};
 ghost use Rattle.log_reader.specs.Groups.{may_open};
-ghost use Rattle.log_reader.specs.Stages.{goes, is_whole, ends_point, read_on};
+ghost use Rattle.log_reader.specs.Stages.{stage_after, is_whole, ends_point, read_on};
 ghost use Rattle.log_reader.specs.Symbols.{symbol_of, is_digits};
 
 use crate::stage::Stage;
@@ -26,7 +26,7 @@ fn all_digits(text: &[u8]) -> bool
 
 /// The stage behind a token, if the grammar goes on with it.
 pub fn stage_behind(stage: Stage, kind: Kind, content: &[u8]) -> Option<Stage>
-    ensures { result ≡ goes stage (symbol_of kind content.now) }
+    ensures { result ≡ stage_after stage (symbol_of kind content.now) }
 {
     match (stage, kind) {
         (Stage::Between | Stage::AfterStamp | Stage::AfterClose, Kind::At) => Some(Stage::AfterAt),

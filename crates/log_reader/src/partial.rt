@@ -1,7 +1,7 @@
 //! The part of a log's time-point that has been read, and what the next token does to it.
 ghost use Rattle.std.specs.Prelude.{◌≡◌, ◌++◌, ◌∷◌, [], true, OnOk, Ok};
 ghost use Rattle.mfotl_lex.specs.Lexemes.{lexeme};
-ghost use Rattle.log_reader.specs.Given.{Moves};
+ghost use Rattle.log_reader.specs.Given.{StateMoves};
 ghost use Rattle.log_reader.specs.Quick.{TakesStraight, TakesInteger, TakesMark, TakesWord};
 ghost use Rattle.log_reader.specs.Stages.{completes, is_whole};
 ghost use Rattle.log_reader.specs.Symbols.{symbol, written};
@@ -66,15 +66,15 @@ impl<'a> Model for Partial<'a> {
 }
 
 impl<'a> Partial<'a> {
-    ghost use Rattle.log_reader.specs.Partials.{blank, point_of, finished};
+    ghost use Rattle.log_reader.specs.Partials.{nothing_read, point_of, finished};
     ghost use Rattle.log_reader.specs.Progress.{answer_of};
     ghost use Rattle.log_reader.specs.Readings.{nothing_behind};
     ghost use Rattle.log_reader.specs.Cursors.{behind_answer};
-    ghost use Rattle.log_reader.specs.Steps.{opened, stamped, naming, grouped, valued, closed, step};
+    ghost use Rattle.log_reader.specs.Steps.{point_opened, stamped, naming, grouped, valued, group_closed, step};
     ghost use Rattle.log_reader.specs.ValuesRead.{timestamp_of};
 
     pub fn new(alloc: Global) -> Self
-        ensures { result ≡ blank }
+        ensures { result ≡ nothing_read }
     {
         Partial {
             stage: Stage::Between,
@@ -103,7 +103,7 @@ impl<'a> Partial<'a> {
     }
 
     fn open(&mut self, alloc: Global, limits: &Limits, at: u64) -> Result<(), LogFault>
-        ensures { Moves self.old self.new result (opened limits.now at self.old) }
+        ensures { StateMoves self.old self.new result (point_opened limits.now at self.old) }
     {
         if self.points >= limits.points {
             return Err(LogFault::TooManyPoints(at));
@@ -125,7 +125,7 @@ impl<'a> Partial<'a> {
     }
 
     fn stamp(&mut self, at: u64, digits: &[u8]) -> Result<(), LogFault>
-        ensures { Moves self.old self.new result (stamped at self.old (timestamp_of digits.now)) }
+        ensures { StateMoves self.old self.new result (stamped at self.old (timestamp_of digits.now)) }
     {
         match timestamp_of(digits) {
             None => Err(LogFault::TimestampRange(at)),
@@ -143,7 +143,7 @@ impl<'a> Partial<'a> {
     }
 
     fn name(&mut self, sig: &'a Signature, at: u64, name: &[u8]) -> Result<(), LogFault>
-        ensures { Moves self.old self.new result (naming at self.old (named name.now sig.now)) }
+        ensures { StateMoves self.old self.new result (naming at self.old (named name.now sig.now)) }
     {
         match sig.find(name) {
             None => Err(LogFault::UnknownPredicate(at)),
@@ -157,7 +157,7 @@ impl<'a> Partial<'a> {
     }
 
     fn begin_group(&mut self, limits: &Limits, at: u64) -> Result<(), LogFault>
-        ensures { Moves self.old self.new result (grouped limits.now at self.old) }
+        ensures { StateMoves self.old self.new result (grouped limits.now at self.old) }
     {
         if self.groups >= limits.events {
             return Err(LogFault::TooManyEvents(at));
@@ -169,7 +169,7 @@ impl<'a> Partial<'a> {
     }
 
     fn take_value(&mut self, alloc: Global, token: &Token) -> Result<(), LogFault>
-        ensures { Moves self.old self.new result
+        ensures { StateMoves self.old self.new result
             (valued token.now.at (written (lexeme token.now)) self.old self.old.due) }
     {
         let at = token.at as u64;
@@ -295,7 +295,7 @@ impl<'a> Partial<'a> {
     }
 
     fn end_group(&mut self, at: u64) -> Result<(), LogFault>
-        ensures { Moves self.old self.new result (closed at self.old self.old.due) }
+        ensures { StateMoves self.old self.new result (group_closed at self.old self.old.due) }
     {
         if !self.due.is_empty() {
             return Err(LogFault::WrongArity(at));
@@ -325,7 +325,7 @@ impl<'a> Partial<'a> {
         limits: &Limits,
         token: &Token,
     ) -> Result<(), LogFault>
-        ensures { Moves self.old self.new result (step sig.now limits.now self.old (lexeme token.now)) }
+        ensures { StateMoves self.old self.new result (step sig.now limits.now self.old (lexeme token.now)) }
     {
         let at = token.at as u64;
         let content = token.content();
@@ -343,14 +343,14 @@ impl<'a> Partial<'a> {
     }
 
     fn separate(&mut self) -> Result<(), LogFault>
-        ensures { Moves self.old self.new result (Ok (record self.old { stage = Stage.AfterComma })) }
+        ensures { StateMoves self.old self.new result (Ok (record self.old { stage = Stage.AfterComma })) }
     {
         self.stage = Stage::AfterComma;
         Ok(())
     }
 
     fn leave(&mut self, alloc: Global) -> Result<(), LogFault>
-        ensures { Moves self.old self.new result (Ok (finished self.old)) }
+        ensures { StateMoves self.old self.new result (Ok (finished self.old)) }
     {
         let _ = self.finish(alloc);
         Ok(())

@@ -33,7 +33,7 @@ pub struct LogReader<'a> {
 impl<'a> Model for LogReader<'a> {
     ghost use Rattle.log_reader.specs.Readers.{Reader};
     ghost use Rattle.log_reader.specs.Cursors.{given_of};
-    ghost use Rattle.log_reader.specs.Soundness.{IsKept};
+    ghost use Rattle.log_reader.specs.Soundness.{IsSoundUnlessBroken};
 
     ghost Value = { Reader };
 
@@ -47,19 +47,19 @@ impl<'a> Model for LogReader<'a> {
       kept = record { stretch = r.kept; at = r.cursor.at; partial = r.cursor.partial };
     } };
 
-    ghost invariant = { λ r. IsKept r.sig.now r.limits
+    ghost invariant = { λ r. IsSoundUnlessBroken r.sig.now r.limits
         r.is_fed r.is_ended r.is_broken r.kept r.cursor.at r.cursor.partial };
 }
 
 impl<'a> LogReader<'a> {
     ghost use Rattle.log_reader.specs.GivenPoints.{GivesPoints};
     ghost use Rattle.log_reader.specs.Limits.{held_limit};
-    ghost use Rattle.log_reader.specs.Progress.{start, due};
-    ghost use Rattle.log_reader.specs.Readers.{Reads, ReadsOn, ForEach, Proceeds, progress, held};
+    ghost use Rattle.log_reader.specs.Progress.{nothing_fed, next_answer};
+    ghost use Rattle.log_reader.specs.Readers.{Reads, ReadsSameBytes, ForEach, Proceeds, progress, held_bytes};
 
     /// A reader of a log over these predicates. It takes no memory.
     pub fn new(alloc: Global, sig: &'a Signature, limits: Limits) -> Self
-        ensures start { progress result [] ≡ start sig.now limits }
+        ensures start { progress result [] ≡ nothing_fed sig.now limits }
         ensures reads { Reads result [] }
     {
         LogReader {
@@ -96,7 +96,7 @@ impl<'a> LogReader<'a> {
 
     /// How many bytes it holds. Where it asks for more these are the front of one token at most.
     pub fn held(&self) -> usize
-        ensures { result ≡ held self.now }
+        ensures { result ≡ held_bytes self.now }
     {
         self.kept.bytes().len()
     }
@@ -116,7 +116,7 @@ impl<'a> LogReader<'a> {
         ensures ok { OnOk result (self.new ≡ record self.old { is_fed = true; kept = self.new.kept }) }
         ensures reads { OnOk result (ForEach self.old (λ bytes. Reads self.new (bytes ++ piece.now))) }
         ensures err { OnErr result (self.new ≡ self.old) }
-        ensures held { held self.new ≤ held self.old + length piece.now }
+        ensures held { held_bytes self.new ≤ held_bytes self.old + length piece.now }
     {
         self.kept.append(piece)?;
         self.is_fed = true;
@@ -141,11 +141,11 @@ impl<'a> LogReader<'a> {
     pub fn next(&mut self, alloc: Global) -> Result<Next, LogFault>
         requires { self.old.is_broken ≡ false }
         ensures answer { ForEach self.old (λ bytes.
-            Gives (λ next. next) result (due (progress self.old bytes))) }
+            Gives (λ next. next) result (next_answer (progress self.old bytes))) }
         ensures after { Proceeds self.old self.new result }
-        ensures reads { ReadsOn self.old self.new result }
+        ensures reads { ReadsSameBytes self.old self.new result }
         ensures few { OnOk result (self.new.given ≤ self.new.limits.points) }
-        ensures held { result ≡ Ok More → held self.new ≤ held_limit }
+        ensures held { result ≡ Ok More → held_bytes self.new ≤ held_limit }
         ensures value { result ≡ Ok End → ForEach self.old (λ bytes. IsValue self.old.sig
             self.old.limits bytes (accepted self.old.sig self.old.limits bytes).points) }
         ensures points { ForEach self.old (λ bytes. GivesPoints (progress self.old bytes) result) }
@@ -158,11 +158,11 @@ impl<'a> LogReader<'a> {
     fn read_point(&mut self, alloc: Global) -> Result<Next, LogFault>
         requires { self.old.is_broken ≡ false }
         ensures answer { ForEach self.old (λ bytes.
-            Gives (λ next. next) result (due (progress self.old bytes))) }
+            Gives (λ next. next) result (next_answer (progress self.old bytes))) }
         ensures after { Proceeds self.old self.new result }
-        ensures reads { ReadsOn self.old self.new result }
+        ensures reads { ReadsSameBytes self.old self.new result }
         ensures few { OnOk result (self.new.given ≤ self.new.limits.points) }
-        ensures held { result ≡ Ok More → held self.new ≤ held_limit }
+        ensures held { result ≡ Ok More → held_bytes self.new ≤ held_limit }
     {
         let answer = self
             .cursor

@@ -1,6 +1,6 @@
 //! Short numbers, read without cutting a token.
 ghost use Rattle.std.specs.Prelude.{◌≡◌, IfSome};
-ghost use Rattle.log_reader.specs.Quick.{ends_number, digits_before, IsNumber, IsInteger};
+ghost use Rattle.log_reader.specs.Quick.{ends_number, digits_before, BeginsWithNumber, IsInteger};
 
 // A number below this has room for one more digit.
 const ROOM: u64 = 100_000_000_000_000_000;
@@ -39,7 +39,7 @@ fn digits_before(bytes: &[u8]) -> Option<(u64, usize)>
 /// The number of few digits at the front of bytes, and how many digits it has. None also where only a
 /// token says what stands there.
 pub fn number_before(bytes: &[u8]) -> Option<(u64, usize)>
-    ensures { IfSome result (λ x. IsNumber bytes.now x.0 x.1) }
+    ensures { IfSome result (λ x. BeginsWithNumber bytes.now x.0 x.1) }
 {
     match digits_before(bytes) {
         Some((number, count)) if count > 0 && count <= MOST_DIGITS => Some((number, count)),

@@ -28,7 +28,7 @@ impl Model for Stretch {
 
 impl Stretch {
     ghost use Rattle.std.specs.Prelude.{◌<◌, ◌^◌};
-    ghost use Rattle.log_reader.specs.Stretches.{end_of, with_piece, behind, shortened, forgotten};
+    ghost use Rattle.log_reader.specs.Stretches.{stretch_end, with_piece, behind, shortened, forgotten};
 
     /// The first bytes of a log.
     pub fn new(bytes: Vec<u8>) -> Self
@@ -52,7 +52,7 @@ impl Stretch {
 
     /// The offset behind the last byte.
     pub fn end(&self) -> usize
-        ensures is { result ≡ end_of self.now }
+        ensures is { result ≡ stretch_end self.now }
         ensures small { result < 2 ^ 63 }
     {
         self.from + self.bytes.len()

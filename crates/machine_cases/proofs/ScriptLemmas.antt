@@ -13,7 +13,7 @@ use Rattle.rescale_core.specs.Lines.{Spot, first_spot, spot_after}
 use Rattle.rescale_core.specs.Workers.{IsFor}
 use Rattle.rescale_core.specs.declared.item.Entry.{Entry}
 use Rattle.rescale_core.specs.declared.item.Entry.TheVariants.{Point, Change}
-use Rattle.machine_cases.specs.Scripts.{IsScript, RisesTo}
+use Rattle.machine_cases.specs.Scripts.{AreReadable, RisesTo}
 
 lowest : (least : ℕ) (ts : List ℕ) (last : ℕ) → RisesTo least ts last → (j : ℕ) → j < length ts → least ≤ time_at ts j
 lowest least [] last rises j within = absurd (omega arith)
@@ -44,7 +44,7 @@ points_same : (s : Strategy) (es : List Entry) (t : Strategy)
     → (spot_after (first_spot s) (es ++ Change t ∷ [])).points ≡ (spot_after (first_spot s) es).points
 points_same s es t = ap (λ (a : Spot). a.points) (spot_more (first_spot s) es (Change t ∷ []))
 
-module _ (core : CoreForm) (es : List Entry) (last : ℕ) (is : IsScript core es last) where
+module _ (core : CoreForm) (es : List Entry) (last : ℕ) (is : AreReadable core es last) where
   rises_more : (s : Strategy) (p : TimePoint) → last ≤ p.ts
       → RisesTo 0 (times ((spot_after (first_spot s) es).points ++ p ∷ [])) p.ts
   rises_more s p later =
@@ -53,7 +53,7 @@ module _ (core : CoreForm) (es : List Entry) (last : ℕ) (is : IsScript core es
       (one_more 0 (times ps) last p.ts (is.rises s) later)
 
   -- a time-point is put behind entries
-  pub script_reads : (p : TimePoint) → last ≤ p.ts → length es < 2 ^ 63 → IsScript core (es ++ Point p ∷ []) p.ts
+  pub script_reads : (p : TimePoint) → last ≤ p.ts → length es < 2 ^ 63 → AreReadable core (es ++ Point p ∷ []) p.ts
   script_reads p later room = record {
     sound = λ s. sound_more core (first_spot s) es (Point p) (is.sound s) (record {
       room = let few = is.few s in omega arith;
@@ -68,7 +68,7 @@ module _ (core : CoreForm) (es : List Entry) (last : ℕ) (is : IsScript core es
   }
 
   -- a change is put behind entries
-  pub script_changes : (t : Strategy) → IsFor core t → IsScript core (es ++ Change t ∷ []) last
+  pub script_changes : (t : Strategy) → IsFor core t → AreReadable core (es ++ Change t ∷ []) last
   script_changes t fits = record {
     sound = λ s. sound_more core (first_spot s) es (Change t) (is.sound s) fits;
     rises = λ s. subst (λ ps. RisesTo 0 (times ps) last) (sym (points_same s es t)) (is.rises s);

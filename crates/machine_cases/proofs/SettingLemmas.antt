@@ -9,7 +9,7 @@ use Rattle.mfotl_model.specs.declared.policy.Var.{Var}
 use Rattle.mfotl_parse.specs.WellSorted.{IsWellSorted}
 use Rattle.mfotl_sig.specs.Preds.{PredOf}
 use Rattle.monitorable.specs.CoreForms.{CoreForm, meaning}
-use Rattle.monitorable.specs.Fragment.{Fits}
+use Rattle.monitorable.specs.Fragment.{IsMonitorable}
 use Rattle.monitorable.specs.Renaming.{binders}
 use Rattle.rescale_core.specs.Workers.{IsFor}
 use Rattle.slice_strategy.specs.Entries.{HasWorkers}
@@ -20,7 +20,7 @@ pub columns : (sig : List PredOf) (vars : List Var) (policy : Form) (core : Core
 columns sig vars policy core sorted same = same ∙ sorted.free
 
 -- a strategy with an entry for each variable
-pub strategy_fits : (vars : List Var) (core : CoreForm) (s : Strategy) → Fits core
+pub strategy_fits : (vars : List Var) (core : CoreForm) (s : Strategy) → IsMonitorable core
     → all_apart (fv (meaning core) ++ binders core) ≡ true → fv (meaning core) ≡ range_with_len 0 (length vars)
     → length s ≡ length vars → HasWorkers s → IsFor core s
 strategy_fits vars core s fits apart variables sized workers = record {

@@ -12,7 +12,7 @@ RisesTo least [] last = least ≤ last
 RisesTo least (t ∷ ts) last = (least ≤ t) × RisesTo t ts last
 
 -- the entries may be read under each first strategy, and no time-point of them is later than `last`
-pub record IsScript (core : CoreForm) (entries : List Entry) (last : ℕ) : Type 0 where
+pub record AreReadable (core : CoreForm) (entries : List Entry) (last : ℕ) : Type 0 where
   pub sound : (s : Strategy) → AreSound core (first_spot s) entries
   pub rises : (s : Strategy) → RisesTo 0 (times (spot_after (first_spot s) entries).points) last
   pub few : (s : Strategy) → length (spot_after (first_spot s) entries).points ≤ length entries

@@ -4,7 +4,7 @@ ghost use Rattle.mfotl_model.specs.Strategies.{Strategy as StrategyOf};
 ghost use Rattle.monitorable.specs.Cores.{core_form};
 ghost use Rattle.rescale_core.specs.Lines.{AreSound, first_spot};
 ghost use Rattle.rescale_core.specs.Workers.{IsFor};
-ghost use Rattle.machine_cases.specs.Scripts.{IsScript};
+ghost use Rattle.machine_cases.specs.Scripts.{AreReadable};
 
 use crate::setting::Setting;
 use crate::texts::Stop;
@@ -37,8 +37,8 @@ fn put_entry(
     last: u64,
     text: &str,
 ) -> Result<u64, Stop>
-    requires { IsScript (core_form setting.now.core) entries.old.items last }
-    ensures { IfOk result (λ now. IsScript (core_form setting.now.core) entries.new.items now) }
+    requires { AreReadable (core_form setting.now.core) entries.old.items last }
+    ensures { IfOk result (λ now. AreReadable (core_form setting.now.core) entries.new.items now) }
 {
     match text.strip_prefix("change ") {
         Some(strategy) => {
@@ -59,9 +59,9 @@ fn put_change(
     last: u64,
     strategy: Strategy,
 ) -> Result<u64, Stop>
-    requires script { IsScript (core_form setting.now.core) entries.old.items last }
+    requires script { AreReadable (core_form setting.now.core) entries.old.items last }
     requires fits { IsFor (core_form setting.now.core) strategy }
-    ensures { IfOk result (λ now. IsScript (core_form setting.now.core) entries.new.items now) }
+    ensures { IfOk result (λ now. AreReadable (core_form setting.now.core) entries.new.items now) }
 {
     entries.push(Entry::Change(strategy))?;
     Ok(last)
@@ -74,8 +74,8 @@ fn put_point(
     last: u64,
     point: TimePoint,
 ) -> Result<u64, Stop>
-    requires { IsScript (core_form setting.now.core) entries.old.items last }
-    ensures { IfOk result (λ now. IsScript (core_form setting.now.core) entries.new.items now) }
+    requires { AreReadable (core_form setting.now.core) entries.old.items last }
+    ensures { IfOk result (λ now. AreReadable (core_form setting.now.core) entries.new.items now) }
 {
     let now = point.ts;
     if now < last || entries.len() >= MAX_ENTRIES {

@@ -2,7 +2,7 @@
 use Rattle.std.proofs.Common.{◌≡◌, ℕ, ◌+◌, ◌-◌, ◌*◌, ◌≤◌, ◌<◌, List, [], ◌∷◌, length, get_or, drop, None, refl, sym}
 use Rattle.std.proofs.Common.{◌∙◌, arith, add-one, drop-cons}
 use Rattle.std.proofs.lemmas.Bool.{lt-leb}
-use Rattle.mfotl_lex.specs.Numbers.{digits_value, at_most}
+use Rattle.mfotl_lex.specs.Numbers.{digits_value, within_limit}
 
 pub grows : (n : ℕ) (bytes : List ℕ) → n ≤ digits_value n bytes
 unfolding digits_value
@@ -19,7 +19,7 @@ digit_step n i bytes lt = rw (add-one, drop-cons bytes i 0) refl
 pub passes_limit : (limit n digit i : ℕ) (bytes : List ℕ) → i < length bytes
     → digit ≡ get_or bytes i 0 - 48
     → digits_value n (drop i bytes) ≡ digits_value 0 bytes → limit < 10 * n + digit
-    → None ≡ at_most limit (digits_value 0 bytes)
+    → None ≡ within_limit limit (digits_value 0 bytes)
 passes_limit limit n digit i bytes lt e so_far above =
     let next = 10 * n + (get_or bytes i 0 - 48) in
     let more : next ≤ digits_value next (drop (i + 1) bytes) = grows next (drop (i + 1) bytes) in

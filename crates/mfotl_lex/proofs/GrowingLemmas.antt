@@ -11,7 +11,7 @@ use Rattle.mfotl_lex.specs.Scans.{scan, IsWithin}
 use Rattle.mfotl_lex.specs.Places.{Place}
 use Rattle.mfotl_lex.specs.Lexemes.{Lexeme, Tokens, past_blanks, token_at, place_after, next_token, after, followed}
 use Rattle.mfotl_lex.specs.Lexemes.{tokens}
-use Rattle.mfotl_lex.specs.Growing.{grown, ReadsOn, stopped, joined_at, joined, MoreBytesChangeNothing}
+use Rattle.mfotl_lex.specs.Growing.{grown, ReadsOn, stopped, joined_at, tokens_joined, MoreBytesChangeNothing}
 use Rattle.mfotl_lex.proofs.BlankLoop.{blanks_within}
 use Rattle.mfotl_lex.proofs.BlankLemmas.{blank_len-append, blank_len-drop}
 use Rattle.mfotl_lex.proofs.ScanLemmas.{scan_within}
@@ -158,8 +158,8 @@ joined_cons t list (Some f) more = refl
 joined_step : (p : Place) (more : List ℕ) (ended : Bool) (r : Result (Option Lexeme) LexFault)
     → ReadsOn p more ended → next_token p ≡ r
     → ((t : Lexeme) → next_token p ≡ Ok (Some t) → tokens (grown (after p) more ended)
-    ≡ joined (tokens (after p)) (tokens (grown (stopped (after p)) more ended)))
-    → tokens (grown p more ended) ≡ joined (tokens p) (tokens (grown (stopped p) more ended))
+    ≡ tokens_joined (tokens (after p)) (tokens (grown (stopped (after p)) more ended)))
+    → tokens (grown p more ended) ≡ tokens_joined (tokens p) (tokens (grown (stopped p) more ended))
 joined_step p more ended (Ok (Some t)) on e behind =
     rw (
       tokens_token (grown p more ended) t (on.token t e),
@@ -174,7 +174,7 @@ joined_step p more ended (Err f) on e behind =
     tokens_fault (grown p more ended) f (on.fault f e) ∙ rw (tokens_fault p f e) refl
 
 joined_within : (n : ℕ) (p : Place) (more : List ℕ) (ended : Bool) → length p.rest < n → p.ended ≡ false
-    → tokens (grown p more ended) ≡ joined (tokens p) (tokens (grown (stopped p) more ended))
+    → tokens (grown p more ended) ≡ tokens_joined (tokens p) (tokens (grown (stopped p) more ended))
 joined_within zero p more ended lt e = absurd (omega arith)
 joined_within (suc n) p more ended lt e =
     joined_step p more ended (next_token p) (reads_on p more ended e) refl

@@ -21,7 +21,7 @@ use Rattle.mfotl_lex.specs.declared.scan.Scan.TheVariants.{Unshown, Takes, Fails
 use Rattle.mfotl_lex.specs.Bytes.{quote, hash, minus, equals_sign, begins_plain_word, in_plain_word, in_log_word}
 use Rattle.mfotl_lex.specs.Bytes.{in_text}
 use Rattle.mfotl_lex.specs.Numbers.{integer_value, is_int64}
-use Rattle.mfotl_lex.specs.Scans.{whole, word_scan, number_scan, minus_scan, closed_text, text_end, text_scan}
+use Rattle.mfotl_lex.specs.Scans.{whole_token, word_scan, number_scan, minus_scan, closed_text, text_end, text_scan}
 use Rattle.mfotl_lex.specs.Scans.{order_scan, plain_mark, log_mark, mark_scan, plain_scan, log_scan, scan, IsWithin}
 
 pub prefix_starts : (p : ℕ → Bool) (b : ℕ) (bytes : List ℕ) → p b ≡ true → 0 < prefix_len p (b ∷ bytes)
@@ -31,7 +31,7 @@ pub word_begins : (b : ℕ) → begins_plain_word b ≡ true → in_plain_word b
 word_begins b h = grind (arith, nat_tests)
 
 whole_within : (bytes : List ℕ) (ended : Bool) (count : ℕ) → 0 < count → count ≤ length bytes
-    → IsWithin bytes (whole ended Word count (length bytes))
+    → IsWithin bytes (whole_token ended Word count (length bytes))
 whole_within bytes ended count some le =
     cond_both (ended || nat_lt count (length bytes)) (Takes Word count) Unshown (IsWithin bytes)
     (λ _. (some, le, λ e. absurd cc)) (λ _. tt)
@@ -39,7 +39,7 @@ whole_within bytes ended count some le =
 word_within : (bytes : List ℕ) (ended : Bool) (limit count : ℕ) → 0 < count → count ≤ length bytes
     → IsWithin bytes (word_scan ended limit count (length bytes))
 word_within bytes ended limit count some le =
-    cond_both (nat_lt limit count) (Fails TextLong 0) (whole ended Word count (length bytes))
+    cond_both (nat_lt limit count) (Fails TextLong 0) (whole_token ended Word count (length bytes))
     (IsWithin bytes) (λ _. omega arith) (λ _. whole_within bytes ended count some le)
 
 number_within : (bytes : List ℕ) (ended : Bool) (count : ℕ) → 0 < count → count ≤ length bytes

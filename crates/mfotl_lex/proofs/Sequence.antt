@@ -7,7 +7,7 @@ use Rattle.mfotl_lex.specs.declared.scan.Scan.{Scan}
 use Rattle.mfotl_lex.specs.declared.scan.Scan.TheVariants.{Unshown, Takes, Fails}
 use Rattle.mfotl_lex.specs.Blanks.{blank_len}
 use Rattle.mfotl_lex.specs.Scans.{scan, IsWithin}
-use Rattle.mfotl_lex.specs.Places.{Place, MovesOn, moved, in_mode, mode_behind}
+use Rattle.mfotl_lex.specs.Places.{Place, MovesOn, further_on, in_mode, mode_behind}
 use Rattle.mfotl_lex.specs.Lexemes.{Lexeme, Tokens, past_blanks, token_at, place_after, ModesStay, next_token, after}
 use Rattle.mfotl_lex.specs.Lexemes.{followed, tokens_within, tokens}
 use Rattle.mfotl_lex.specs.Growing.{stop_or, stopped_within, stopped}
@@ -29,9 +29,9 @@ followed_same : (p q : Place) (s : Scan) (f g : Place → Tokens) → IsWithin q
     → followed (token_at q s) (f (place_after p q s)) ≡ followed (token_at q s) (g (place_after p q s))
 followed_same p q Unshown f g w le same = refl
 followed_same p q (Takes kind n) f g w le same =
-    let shorter : length (moved q n).rest < length p.rest =
+    let shorter : length (further_on q n).rest < length p.rest =
     omega (arith, w.0, w.1, length-drop n q.rest) in
-    rw (same (in_mode (mode_behind q.mode kind) (moved q n)) shorter) refl
+    rw (same (in_mode (mode_behind q.mode kind) (further_on q n)) shorter) refl
 followed_same p q (Fails fault n) f g w le same = refl
 
 stopped_same : (p q : Place) (s : Scan) (f g : Place → Place) → IsWithin q.rest s
@@ -41,9 +41,9 @@ stopped_same : (p q : Place) (s : Scan) (f g : Place → Place) → IsWithin q.r
     ≡ stop_or (token_at q s) (place_after p q s) (g (place_after p q s))
 stopped_same p q Unshown f g w le same = refl
 stopped_same p q (Takes kind n) f g w le same =
-    let shorter : length (moved q n).rest < length p.rest =
+    let shorter : length (further_on q n).rest < length p.rest =
     omega (arith, w.0, w.1, length-drop n q.rest) in
-    same (in_mode (mode_behind q.mode kind) (moved q n)) shorter
+    same (in_mode (mode_behind q.mode kind) (further_on q n)) shorter
 stopped_same p q (Fails fault n) f g w le same = refl
 
 -- ---- any fuel

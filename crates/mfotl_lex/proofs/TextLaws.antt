@@ -4,7 +4,7 @@ use Rattle.std.proofs.Common.{Result, Ok, Err, refl, sym, ap, ◌∙◌}
 use Rattle.mfotl_lex.specs.declared.fault.LexFault.{LexFault}
 use Rattle.mfotl_lex.specs.declared.kind.Mode.{Mode}
 use Rattle.mfotl_lex.specs.FirstFault.{◌>>=◌, Tail, More, run, reading, given}
-use Rattle.mfotl_lex.specs.Growing.{grown, stopped, joined}
+use Rattle.mfotl_lex.specs.Growing.{grown, stopped, tokens_joined}
 use Rattle.mfotl_lex.specs.Lexemes.{Lexeme, Tokens, next_token, after, tokens}
 use Rattle.mfotl_lex.specs.Places.{Place, beginning}
 use Rattle.mfotl_lex.specs.Texts.{tail_of, text_of, reading_on, given_on, StaysShown}
@@ -77,9 +77,9 @@ module _ {S E V : Type 0} (step : S → Lexeme → Result S E) (start : S) (at_t
   stays : (ts : Tokens) (more : Tokens) (end end' : ℕ) (ended : Bool) (fault : E)
       → ((s : S) → at_tail More s ≡ Err fault → ⊥) → (lexical : Option LexFault) → ts.fault ≡ lexical
       → (run step ts.list start >>= λ s. at_tail (tail_of false end lexical) s) ≡ Err fault
-      → (run step (joined (record { list = ts.list; fault = lexical }) more).list start
+      → (run step (tokens_joined (record { list = ts.list; fault = lexical }) more).list start
       >>= λ s. at_tail
-      (tail_of ended end' (joined (record { list = ts.list; fault = lexical }) more).fault) s) ≡ Err fault
+      (tail_of ended end' (tokens_joined (record { list = ts.list; fault = lexical }) more).fault) s) ≡ Err fault
   stays ts more end end' ended fault none (Some lexical) is e = e
   stays ts more end end' ended fault none None is e =
       shown_before ts.list more.list (tail_of ended end' more.fault) fault none (run step ts.list start) refl e

@@ -39,10 +39,11 @@ joined_at None list more = record { list = list ++ more.list; fault = more.fault
 joined_at (Some fault) list more = record { list = list; fault = Some fault }
 
 -- the same of all that a place shows
-abbrev pub joined : Tokens → Tokens → Tokens
-joined front more = joined_at front.fault front.list more
+abbrev pub tokens_joined : Tokens → Tokens → Tokens
+tokens_joined front more = joined_at front.fault front.list more
 
 -- the place reads on so, and its tokens stay
 abbrev pub MoreBytesChangeNothing : Type 0
 MoreBytesChangeNothing = (p : Place) (more : List ℕ) (ended : Bool) → p.ended ≡ false →
-    ReadsOn p more ended × (tokens (grown p more ended) ≡ joined (tokens p) (tokens (grown (stopped p) more ended)))
+    ReadsOn p more ended
+        × (tokens (grown p more ended) ≡ tokens_joined (tokens p) (tokens (grown (stopped p) more ended)))

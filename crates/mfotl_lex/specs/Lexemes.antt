@@ -7,7 +7,7 @@ use Rattle.mfotl_lex.specs.declared.scan.Scan.TheVariants.{Unshown, Takes, Fails
 use Rattle.mfotl_lex.specs.declared.token.Token.{Token}
 use Rattle.mfotl_lex.specs.Blanks.{blank_len}
 use Rattle.mfotl_lex.specs.Scans.{scan}
-use Rattle.mfotl_lex.specs.Places.{Place, moved, in_mode, mode_behind}
+use Rattle.mfotl_lex.specs.Places.{Place, further_on, in_mode, mode_behind}
 
 -- a token, without where it lies in memory
 pub record Lexeme : Type 0 where
@@ -27,7 +27,7 @@ seen (Err fault) = Err fault
 
 -- the place behind the blanks
 abbrev pub past_blanks : Place → Place
-past_blanks p = moved p (blank_len p.ended p.rest)
+past_blanks p = further_on p (blank_len p.ended p.rest)
 
 -- what was scanned at a place: a token is the slice that begins there
 abbrev pub token_at : Place → Scan → Result (Option Lexeme) LexFault
@@ -42,7 +42,7 @@ next_token p = token_at (past_blanks p) (scan p.mode p.ended (past_blanks p).res
 -- behind what was scanned, where the place behind the blanks is q
 abbrev pub place_after : Place → Place → Scan → Place
 place_after p q Unshown = q
-place_after p q (Takes kind n) = in_mode (mode_behind q.mode kind) (moved q n)
+place_after p q (Takes kind n) = in_mode (mode_behind q.mode kind) (further_on q n)
 place_after p q (Fails fault n) = p
 
 -- behind the next token; behind the blanks where none is shown; unchanged by a fault

@@ -25,5 +25,5 @@ abbrev pub int64_of : ℤ → Option ℤ
 int64_of z = if is_int64 z then Some z else None
 
 -- a number no greater than the limit, or none
-abbrev pub at_most : ℕ → ℕ → Option ℕ
-at_most limit n = if nat_le n limit then Some n else None
+abbrev pub within_limit : ℕ → ℕ → Option ℕ
+within_limit limit n = if nat_le n limit then Some n else None

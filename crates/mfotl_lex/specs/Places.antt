@@ -15,8 +15,8 @@ abbrev pub beginning : Mode → List ℕ → Place
 beginning mode bytes = record { mode = mode; at = 0; rest = bytes; ended = true }
 
 -- so many bytes further on
-abbrev pub moved : Place → ℕ → Place
-moved p n = record { mode = p.mode; at = p.at + n; rest = drop n p.rest; ended = p.ended }
+abbrev pub further_on : Place → ℕ → Place
+further_on p n = record { mode = p.mode; at = p.at + n; rest = drop n p.rest; ended = p.ended }
 
 -- the same place in another mode
 abbrev pub in_mode : Mode → Place → Place
@@ -30,4 +30,4 @@ mode_behind mode kind = mode
 pub record MovesOn (old new : Place) : Type 0 where
   pub count : ℕ
   pub within : count ≤ length old.rest
-  pub place : new ≡ in_mode new.mode (moved old count)
+  pub place : new ≡ in_mode new.mode (further_on old count)

@@ -22,13 +22,13 @@ use Rattle.mfotl_lex.specs.Limits.{max_word, max_log_word, max_text}
 use Rattle.mfotl_lex.specs.Numbers.{integer_value, is_int64}
 
 -- a token of `count` bytes out of `len`, where only the byte after it or the end makes it whole
-abbrev pub whole : Bool → Kind → ℕ → ℕ → Scan
-whole ended kind count len = if ended || nat_lt count len then Takes kind count else Unshown
+abbrev pub whole_token : Bool → Kind → ℕ → ℕ → Scan
+whole_token ended kind count len = if ended || nat_lt count len then Takes kind count else Unshown
 
 -- a Word is too long as soon as the first byte past the limit was seen
 abbrev pub word_scan : Bool → ℕ → ℕ → ℕ → Scan
 word_scan ended limit count len =
-    if nat_lt limit count then Fails TextLong 0 else whole ended Word count len
+    if nat_lt limit count then Fails TextLong 0 else whole_token ended Word count len
 
 -- an Integer of `count` bytes
 abbrev pub number_scan : Bool → ℕ → List ℕ → Scan

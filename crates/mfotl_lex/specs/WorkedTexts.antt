@@ -40,8 +40,8 @@ cut mode bytes = record {
 }
 
 -- each text is cut as worked out
-abbrev pub AreCut : Mode → List Worked → Type 0
-AreCut mode texts = map (λ (w : Worked). cut mode w.0) texts ≡ map (λ (w : Worked). w.1) texts
+abbrev pub TextsAreCut : Mode → List Worked → Type 0
+TextsAreCut mode texts = map (λ (w : Worked). cut mode w.0) texts ≡ map (λ (w : Worked). w.1) texts
 
 -- a token of these bytes
 abbrev pub token : Kind → ℕ → ℕ → Brief
@@ -52,8 +52,8 @@ abbrev pub whole : List Brief → Cut
 whole list = record { list = list; fault = None }
 
 -- tokens and a fault behind them
-abbrev pub broken : List Brief → LexFaultKind → ℕ → Cut
-broken list kind at = record { list = list; fault = Some (record { kind = kind; at = at }) }
+abbrev pub stops : List Brief → LexFaultKind → ℕ → Cut
+stops list kind at = record { list = list; fault = Some (record { kind = kind; at = at }) }
 
 -- word, Integer and marks, in Plain mode
 abbrev pub plain_words : List Worked
@@ -66,12 +66,12 @@ plain_words =
     (codes "a_9Z", whole (token Word 0 4 ∷ [])) ∷
     (codes "9a_", whole (token Integer 0 1 ∷ token Word 1 2 ∷ [])) ∷
     (codes "-5", whole (token Integer 0 2 ∷ [])) ∷
-    (codes "--5", broken [] BadByte 0) ∷
-    (codes "-", broken [] BadByte 0) ∷
-    (codes "- 5", broken [] BadByte 0) ∷
-    (codes "5-", broken (token Integer 0 1 ∷ []) BadByte 1) ∷
+    (codes "--5", stops [] BadByte 0) ∷
+    (codes "-", stops [] BadByte 0) ∷
+    (codes "- 5", stops [] BadByte 0) ∷
+    (codes "5-", stops (token Integer 0 1 ∷ []) BadByte 1) ∷
     (codes "5-3", whole (token Integer 0 1 ∷ token Integer 1 2 ∷ [])) ∷
-    (codes "x-y", broken (token Word 0 1 ∷ []) BadByte 1) ∷ (
+    (codes "x-y", stops (token Word 0 1 ∷ []) BadByte 1) ∷ (
       codes "[0,*)",
       whole (token OpenBracket 0 1 ∷ token Integer 1 1 ∷ token Comma 2 1 ∷ token Star 3 1 ∷ token CloseParen 4 1 ∷ []),
     ) ∷ (
@@ -93,39 +93,39 @@ plain_words =
 -- bytes that begin no token, in Plain mode
 abbrev pub plain_strays : List Worked
 plain_strays =
-    (codes "@", broken [] BadByte 0) ∷
-    (codes "p;", broken (token Word 0 1 ∷ []) BadByte 1) ∷
-    (codes "a/b", broken (token Word 0 1 ∷ []) BadByte 1) ∷
-    (codes "!", broken [] BadByte 0) ∷
-    ((0 ∷ []), broken [] BadByte 0) ∷
-    (codes "a" ++ (12 ∷ []), broken (token Word 0 1 ∷ []) BadByte 1) ∷
-    (codes "a" ++ (127 ∷ []), broken (token Word 0 1 ∷ []) BadByte 1) ∷
-    (codes "a" ++ (195 ∷ 169 ∷ []), broken (token Word 0 1 ∷ []) BadByte 1) ∷
+    (codes "@", stops [] BadByte 0) ∷
+    (codes "p;", stops (token Word 0 1 ∷ []) BadByte 1) ∷
+    (codes "a/b", stops (token Word 0 1 ∷ []) BadByte 1) ∷
+    (codes "!", stops [] BadByte 0) ∷
+    ((0 ∷ []), stops [] BadByte 0) ∷
+    (codes "a" ++ (12 ∷ []), stops (token Word 0 1 ∷ []) BadByte 1) ∷
+    (codes "a" ++ (127 ∷ []), stops (token Word 0 1 ∷ []) BadByte 1) ∷
+    (codes "a" ++ (195 ∷ 169 ∷ []), stops (token Word 0 1 ∷ []) BadByte 1) ∷
     []
 
 -- numbers, in Plain mode
 abbrev pub plain_numbers : List Worked
 plain_numbers =
     (codes "9223372036854775807", whole (token Integer 0 19 ∷ [])) ∷
-    (codes "9223372036854775808", broken [] NumberRange 0) ∷
+    (codes "9223372036854775808", stops [] NumberRange 0) ∷
     (codes "-9223372036854775808", whole (token Integer 0 20 ∷ [])) ∷
-    (codes "x -9223372036854775809", broken (token Word 0 1 ∷ []) NumberRange 2) ∷
-    (codes "18446744073709551617", broken [] NumberRange 0) ∷
-    (codes "340282366920938463463374607431768211457", broken [] NumberRange 0) ∷
+    (codes "x -9223372036854775809", stops (token Word 0 1 ∷ []) NumberRange 2) ∷
+    (codes "18446744073709551617", stops [] NumberRange 0) ∷
+    (codes "340282366920938463463374607431768211457", stops [] NumberRange 0) ∷
     (codes "00000000000000000000007", whole (token Integer 0 23 ∷ [])) ∷
     (codes "-0", whole (token Integer 0 2 ∷ [])) ∷
-    (codes "9223372036854775808d", broken [] NumberRange 0) ∷
+    (codes "9223372036854775808d", stops [] NumberRange 0) ∷
     []
 
 -- Texts that are not closed, in Plain mode
 abbrev pub plain_open_texts : List Worked
 plain_open_texts =
-    ((34 ∷ []) ++ codes "a", broken [] OpenText 0) ∷
-    (codes "x " ++ (34 ∷ []), broken (token Word 0 1 ∷ []) OpenText 2) ∷
-    ((34 ∷ []) ++ codes "a" ++ (10 ∷ []) ++ codes "b" ++ (34 ∷ []), broken [] BadByte 2) ∷
-    ((34 ∷ []) ++ codes "a" ++ (31 ∷ []), broken [] BadByte 2) ∷
-    ((34 ∷ 195 ∷ []), broken [] OpenText 0) ∷
-    ((34 ∷ 195 ∷ 1 ∷ 34 ∷ []), broken [] BadByte 2) ∷
+    ((34 ∷ []) ++ codes "a", stops [] OpenText 0) ∷
+    (codes "x " ++ (34 ∷ []), stops (token Word 0 1 ∷ []) OpenText 2) ∷
+    ((34 ∷ []) ++ codes "a" ++ (10 ∷ []) ++ codes "b" ++ (34 ∷ []), stops [] BadByte 2) ∷
+    ((34 ∷ []) ++ codes "a" ++ (31 ∷ []), stops [] BadByte 2) ∷
+    ((34 ∷ 195 ∷ []), stops [] OpenText 0) ∷
+    ((34 ∷ 195 ∷ 1 ∷ 34 ∷ []), stops [] BadByte 2) ∷
     []
 
 -- comments, in Plain mode
@@ -135,7 +135,7 @@ plain_comments =
     (codes "#" ++ (10 ∷ []) ++ codes "7", whole (token Integer 2 1 ∷ [])) ∷
     (codes "a#b" ++ (10 ∷ []) ++ codes "c", whole (token Word 0 1 ∷ token Word 4 1 ∷ [])) ∷
     (codes "#a" ++ (13 ∷ []) ++ codes "b", whole []) ∷
-    (codes "#" ++ (0 ∷ 255 ∷ 34 ∷ 10 ∷ []) ++ codes ";", broken [] BadByte 5) ∷
+    (codes "#" ++ (0 ∷ 255 ∷ 34 ∷ 10 ∷ []) ++ codes ";", stops [] BadByte 5) ∷
     (codes "##" ++ (10 ∷ []) ++ codes "#", whole []) ∷
     (codes "#" ++ (10 ∷ 10 ∷ []) ++ codes "#x" ++ (10 ∷ []) ++ codes "*", whole (token Star 6 1 ∷ [])) ∷
     []
@@ -164,29 +164,29 @@ log_words = (
 -- bytes that begin no token, in Log mode
 abbrev pub log_strays : List Worked
 log_strays =
-    (codes "?", broken [] BadByte 0) ∷
-    (codes "*", broken [] BadByte 0) ∷
-    (codes "a=b", broken (token Word 0 1 ∷ []) BadByte 1) ∷
-    (codes "<=", broken [] BadByte 0) ∷
-    (codes ">", broken [] BadByte 0) ∷
-    (codes "a?", broken (token Word 0 1 ∷ []) BadByte 1) ∷
-    (codes "{", broken [] BadByte 0) ∷
-    (codes "'", broken [] BadByte 0) ∷
-    (codes "a+b", broken (token Word 0 1 ∷ []) BadByte 1) ∷
-    ((92 ∷ []), broken [] BadByte 0) ∷
-    ((0 ∷ []), broken [] BadByte 0) ∷
-    (codes "a" ++ (11 ∷ []), broken (token Word 0 1 ∷ []) BadByte 1) ∷
-    (codes "a" ++ (127 ∷ []), broken (token Word 0 1 ∷ []) BadByte 1) ∷
-    ((128 ∷ []), broken [] BadByte 0) ∷
+    (codes "?", stops [] BadByte 0) ∷
+    (codes "*", stops [] BadByte 0) ∷
+    (codes "a=b", stops (token Word 0 1 ∷ []) BadByte 1) ∷
+    (codes "<=", stops [] BadByte 0) ∷
+    (codes ">", stops [] BadByte 0) ∷
+    (codes "a?", stops (token Word 0 1 ∷ []) BadByte 1) ∷
+    (codes "{", stops [] BadByte 0) ∷
+    (codes "'", stops [] BadByte 0) ∷
+    (codes "a+b", stops (token Word 0 1 ∷ []) BadByte 1) ∷
+    ((92 ∷ []), stops [] BadByte 0) ∷
+    ((0 ∷ []), stops [] BadByte 0) ∷
+    (codes "a" ++ (11 ∷ []), stops (token Word 0 1 ∷ []) BadByte 1) ∷
+    (codes "a" ++ (127 ∷ []), stops (token Word 0 1 ∷ []) BadByte 1) ∷
+    ((128 ∷ []), stops [] BadByte 0) ∷
     []
 
 -- Texts that are not closed, in Log mode
 abbrev pub log_open_texts : List Worked
 log_open_texts =
-    ((34 ∷ []), broken [] OpenText 0) ∷
-    (codes "@1 " ++ (34 ∷ []) ++ codes "abc", broken (token At 0 1 ∷ token Word 1 1 ∷ []) OpenText 3) ∷
-    ((34 ∷ []) ++ codes "a" ++ (9 ∷ []) ++ codes "b" ++ (34 ∷ []), broken [] BadByte 2) ∷
-    ((34 ∷ 128 ∷ 10 ∷ 34 ∷ []), broken [] BadByte 2) ∷
+    ((34 ∷ []), stops [] OpenText 0) ∷
+    (codes "@1 " ++ (34 ∷ []) ++ codes "abc", stops (token At 0 1 ∷ token Word 1 1 ∷ []) OpenText 3) ∷
+    ((34 ∷ []) ++ codes "a" ++ (9 ∷ []) ++ codes "b" ++ (34 ∷ []), stops [] BadByte 2) ∷
+    ((34 ∷ 128 ∷ 10 ∷ 34 ∷ []), stops [] BadByte 2) ∷
     []
 
 -- comments, in Log mode
@@ -200,12 +200,12 @@ log_comments =
 
 -- each of them
 pub record WorkedTexts : Type 0 where
-  pub plain_words : AreCut Plain plain_words
-  pub plain_strays : AreCut Plain plain_strays
-  pub plain_numbers : AreCut Plain plain_numbers
-  pub plain_open_texts : AreCut Plain plain_open_texts
-  pub plain_comments : AreCut Plain plain_comments
-  pub log_words : AreCut Log log_words
-  pub log_strays : AreCut Log log_strays
-  pub log_open_texts : AreCut Log log_open_texts
-  pub log_comments : AreCut Log log_comments
+  pub plain_words : TextsAreCut Plain plain_words
+  pub plain_strays : TextsAreCut Plain plain_strays
+  pub plain_numbers : TextsAreCut Plain plain_numbers
+  pub plain_open_texts : TextsAreCut Plain plain_open_texts
+  pub plain_comments : TextsAreCut Plain plain_comments
+  pub log_words : TextsAreCut Log log_words
+  pub log_strays : TextsAreCut Log log_strays
+  pub log_open_texts : TextsAreCut Log log_open_texts
+  pub log_comments : TextsAreCut Log log_comments

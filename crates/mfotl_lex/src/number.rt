@@ -1,14 +1,14 @@
 //! The 64-bit number that a token's digits write.
 ghost use Rattle.std.specs.Prelude.{◌≡◌, ◌≤◌, neg_ℤ, pos};
 ghost use Rattle.mfotl_lex.specs.Limits.{max_magnitude};
-ghost use Rattle.mfotl_lex.specs.Numbers.{digits_value, integer_value, int64_of, at_most};
+ghost use Rattle.mfotl_lex.specs.Numbers.{digits_value, integer_value, int64_of, within_limit};
 
 use crate::limits::MAX_MAGNITUDE;
 
 // The number that the digits write, if it is at most 2^63.
 #[tactic(auto, unfolding(crate::specs::Numbers::digits_value))]
 fn magnitude(digits: &[u8]) -> Option<u64>
-    ensures { result ≡ at_most max_magnitude (digits_value 0 digits.now) }
+    ensures { result ≡ within_limit max_magnitude (digits_value 0 digits.now) }
 {
     let mut value: u128 = 0;
     for b in digits {

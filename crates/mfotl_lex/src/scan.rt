@@ -3,7 +3,7 @@ ghost use Rattle.std.specs.Prelude.{◌≡◌, length, drop, ◌≤◌, slice_in
 ghost use Rattle.std.specs.Char.{is_ascii_digit};
 ghost use Rattle.std.specs.List.{prefix_len};
 ghost use Rattle.mfotl_lex.specs.Bytes.{minus};
-ghost use Rattle.mfotl_lex.specs.Scans.{whole, word_scan, number_scan, minus_scan, closed_text, text_end};
+ghost use Rattle.mfotl_lex.specs.Scans.{whole_token, word_scan, number_scan, minus_scan, closed_text, text_end};
 ghost use Rattle.mfotl_lex.specs.Scans.{text_scan, order_scan, plain_mark, log_mark, mark_scan, plain_scan};
 ghost use Rattle.mfotl_lex.specs.Scans.{log_scan, scan, IsWithin};
 
@@ -27,7 +27,7 @@ pub enum Scan {
 }
 
 fn whole(kind: Kind, count: usize, len: usize, ended: bool) -> Scan
-    ensures { result ≡ whole ended kind count len }
+    ensures { result ≡ whole_token ended kind count len }
 {
     if ended || count < len {
         Scan::Takes(kind, count)

@@ -7,7 +7,7 @@ use Rattle.std.specs.List.{list_any, list_all}
 use Rattle.std.specs.Ordering.{eq_by_cmp, is_eq, ordering_then, nat_cmp}
 use Rattle.std.specs.declared.cmp.Ordering.{Ordering}
 use Rattle.std.specs.declared.cmp.Ordering.TheVariants.{Less, Equal, Greater}
-use Rattle.mfotl_model.specs.Domains.{within}
+use Rattle.mfotl_model.specs.Domains.{in_domain}
 use Rattle.mfotl_model.specs.Events.{event_cmp}
 pub use Rattle.mfotl_model.specs.Hashes.{value_exact, row_exact}
 use Rattle.mfotl_model.specs.Values.{value_cmp, row_cmp}
@@ -72,9 +72,9 @@ and_moved false false c = refl
 
 -- a row is among the rows of n values of a domain exactly if it has n values, each in the domain
 pub member_all_rows : (n : ℕ) (dom : List Value) (q : List Value)
-    → list_any (eq_by_cmp row_cmp q) (all_rows n dom) ≡ (nat_eq (length q) n && list_all (within dom) q)
+    → list_any (eq_by_cmp row_cmp q) (all_rows n dom) ≡ (nat_eq (length q) n && list_all (in_domain dom) q)
 member_all_rows zero dom [] = refl
-member_all_rows zero dom (b ∷ s) = sym (ap (λ t. t && list_all (within dom) (b ∷ s)) (eqb-suc-zero (length s)))
+member_all_rows zero dom (b ∷ s) = sym (ap (λ t. t && list_all (in_domain dom) (b ∷ s)) (eqb-suc-zero (length s)))
 member_all_rows (suc n) dom [] =
     any_flat_map (eq_by_cmp row_cmp []) (λ a. map (λ row. a ∷ row) (all_rows n dom)) dom
     ∙ any_alike (λ a. list_any (eq_by_cmp row_cmp []) (map (λ row. a ∷ row) (all_rows n dom))) (λ a. false) dom
@@ -91,6 +91,6 @@ member_all_rows (suc n) dom (b ∷ s) =
     (λ row. eq_then (value_cmp b a) (row_cmp s row))
     ∙ any_and (eq_by_cmp value_cmp b a) (eq_by_cmp row_cmp s) (all_rows n dom))
     ∙ any_and_last (list_any (eq_by_cmp row_cmp s) (all_rows n dom)) (eq_by_cmp value_cmp b) dom
-    ∙ ap (λ t. within dom b && t) (member_all_rows n dom s)
-    ∙ and_moved (within dom b) (nat_eq (length s) n) (list_all (within dom) s)
-    ∙ sym (ap (λ t. t && (within dom b && list_all (within dom) s)) (eqb-suc-suc (length s) n))
+    ∙ ap (λ t. in_domain dom b && t) (member_all_rows n dom s)
+    ∙ and_moved (in_domain dom b) (nat_eq (length s) n) (list_all (in_domain dom) s)
+    ∙ sym (ap (λ t. t && (in_domain dom b && list_all (in_domain dom) s)) (eqb-suc-suc (length s) n))

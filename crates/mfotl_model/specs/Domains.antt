@@ -6,9 +6,9 @@ use Rattle.mfotl_model.specs.Values.{value_cmp}
 use Rattle.mfotl_model.specs.declared.value.Value.{Value}
 
 -- whether the value is in the domain
-abbrev pub within : List Value → Value → Bool
-within dom a = list_any (eq_by_cmp value_cmp a) dom
+abbrev pub in_domain : List Value → Value → Bool
+in_domain dom a = list_any (eq_by_cmp value_cmp a) dom
 
 -- the domain has each of the values
 abbrev pub Includes : List Value → List Value → Type 0
-Includes dom values = (a : Value) → within values a ≡ true → within dom a ≡ true
+Includes dom values = (a : Value) → in_domain values a ≡ true → in_domain dom a ≡ true

@@ -15,8 +15,8 @@ use Rattle.mfotl_model.specs.Formulas.{Form}
 use Rattle.mfotl_model.specs.Formulas.Form.{Atom}
 
 -- an interval whose ends are in order may be made
-pub between : (lo hi : ℕ) → lo ≤ hi → ForSome (Some hi) (λ h. lo ≤ h)
-between lo hi ordered = λ h e. let same : hi ≡ h = same_Some hi h e in omega (arith, same)
+pub ends_in_order : (lo hi : ℕ) → lo ≤ hi → ForSome (Some hi) (λ h. lo ≤ h)
+ends_in_order lo hi ordered = λ h e. let same : hi ≡ h = same_Some hi h e in omega (arith, same)
 
 -- one without an upper end may always be
 pub open_ended : (lo : ℕ) → ForSome None (λ h. lo ≤ h)
@@ -24,7 +24,7 @@ open_ended lo = λ h e. cc
 
 -- the interval from lo to hi, both included
 abbrev pub interval : (lo hi : ℕ) → lo ≤ hi → Interval
-interval lo hi ordered = record { lo = lo; hi = Some hi; ordered = between lo hi ordered }
+interval lo hi ordered = record { lo = lo; hi = Some hi; ordered = ends_in_order lo hi ordered }
 
 -- the interval from lo on
 abbrev pub from : ℕ → Interval

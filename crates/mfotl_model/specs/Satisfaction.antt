@@ -56,16 +56,16 @@ same_sort (Text a) (Text b) = true
 same_sort a b = false
 
 -- whether two values that stand in this order meet the sign
-abbrev pub meets : Sign → Ordering → Bool
-meets Equal order = is_eq order
-meets Less order = is_lt order
-meets LessEqual order = is_le order
-meets Greater order = is_gt order
-meets GreaterEqual order = is_ge order
+abbrev pub meets_sign : Sign → Ordering → Bool
+meets_sign Equal order = is_eq order
+meets_sign Less order = is_lt order
+meets_sign LessEqual order = is_le order
+meets_sign Greater order = is_gt order
+meets_sign GreaterEqual order = is_ge order
 
 -- whether two values compare so; values of different sorts do by no sign
 abbrev pub compares : Sign → Value → Value → Bool
-compares sign a b = same_sort a b && meets sign (value_cmp a b)
+compares sign a b = same_sort a b && meets_sign sign (value_cmp a b)
 
 -- the timestamp at a position
 abbrev pub time_at : List ℕ → ℕ → ℕ

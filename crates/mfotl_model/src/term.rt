@@ -99,7 +99,7 @@ pub enum Sign {
 }
 
 impl Sign {
-    ghost use Rattle.mfotl_model.specs.Satisfaction.{compares, meets};
+    ghost use Rattle.mfotl_model.specs.Satisfaction.{compares, meets_sign};
 
     /// Whether two values compare so. Values of different sorts do by no sign.
     pub fn compares(self, left: &Value, right: &Value) -> bool
@@ -109,7 +109,7 @@ impl Sign {
     }
 
     fn meets(self, order: Ordering) -> bool
-        ensures { result ≡ meets self order }
+        ensures { result ≡ meets_sign self order }
     {
         match self {
             Sign::Equal => order.is_eq(),

@@ -18,7 +18,7 @@ use Rattle.mfotl_parse.specs.Operands.{operand_move}
 use Rattle.mfotl_parse.specs.Operators.{have_move, joined_move, enclosed_move, around, is_parens, now_behind}
 use Rattle.mfotl_parse.specs.Reading.{transition, is_closed}
 use Rattle.mfotl_parse.specs.Reduction.{Reduced, reduce, hold}
-use Rattle.mfotl_parse.specs.States.{Frame, Parens, Negation, Moment, Binding, Left, SymbolTable, Context, start}
+use Rattle.mfotl_parse.specs.States.{Frame, Parens, Negation, Moment, Binding, Left, SymbolTable, Context, nothing_read}
 use Rattle.mfotl_parse.specs.Viability.{if_moved, accepts}
 use Rattle.mfotl_parse.proofs.SpelledMoves.{at_place}
 use Rattle.mfotl_parse.proofs.SpelledParts.{context_at}
@@ -359,7 +359,7 @@ module _ (sig : List PredOf) where
       ≡ m = omega (arith, e) in subst (λ (k : ℕ). HaveLater sig k × WantLater sig k) same (all n) in
       (have_all (suc n) later, want_all (suc n) later)
 
-  pub accepted_formula : (ts : List Lexeme) → accepts sig ts start ≡ true → IsFormula ts
+  pub accepted_formula : (ts : List Lexeme) → accepts sig ts nothing_read ≡ true → IsFormula ts
   unfolding WantLater
   accepted_formula ts h =
       (all (length ts)).1 [] ts (omega arith) tt

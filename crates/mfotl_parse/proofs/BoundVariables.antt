@@ -13,7 +13,7 @@ use Rattle.mfotl_model.proofs.LogicLemmas.{among_joined, among_without}
 use Rattle.mfotl_model.proofs.VariableLemmas.{variables_in-cons}
 use Rattle.mfotl_sig.specs.Preds.{PredOf, named}
 use Rattle.mfotl_parse.specs.declared.class.Quantifier.{Quantifier}
-use Rattle.mfotl_parse.specs.Arguments.{call_of, due, after_due, blanks}
+use Rattle.mfotl_parse.specs.Arguments.{call_of, due_sort, after_due, blanks}
 use Rattle.mfotl_parse.specs.Grammar.{WrittenTerm, Named, Number, Quoted, WrittenArgument, Given, Hidden}
 use Rattle.mfotl_parse.specs.Grammar.{WrittenArguments, LastArgument, MoreArguments, WrittenVariables, LastVariable}
 use Rattle.mfotl_parse.specs.Grammar.{MoreVariables, Tree, Truth, BareAtom, AtomOf, Comparison, Enclosed, Denied}
@@ -22,7 +22,7 @@ use Rattle.mfotl_parse.specs.Meanings.{Scope, no_scope, inside, operand_of, term
 use Rattle.mfotl_parse.specs.Meanings.{arguments_terms, arguments_names, atom, variables_names, variables_scope}
 use Rattle.mfotl_parse.specs.Meanings.{quantify, interval_of, names_behind, value}
 use Rattle.mfotl_parse.specs.Occurrences.{name_of, place_of_variable, place_of}
-use Rattle.mfotl_parse.specs.SymbolTable.{number_of, free_place, free_or_new, with_free, bound_or_free, met}
+use Rattle.mfotl_parse.specs.SymbolTable.{number_of, free_place, free_or_new, with_free, bound_or_free, occurring}
 use Rattle.mfotl_parse.specs.SymbolTable.{bound_more, inner_or, term_of}
 use Rattle.mfotl_parse.specs.States.{SymbolTable}
 use Rattle.mfotl_parse.specs.Limits.{max_free}
@@ -46,7 +46,7 @@ module _ (y : ℕ) (above : max_free ≤ y) where
   only x e = elim (or_cases (nat_eq y x) false e) [ inl here ↦ eqb-true y x here | inr none ↦ absurd cc ]
 
   name_escapes : (name : List ℕ) (at : ℕ) (n : SymbolTable) (bound : Option ℕ)
-      → length (met bound name at n).free ≤ max_free → y ≡ number_of (bound_or_free bound name n)
+      → length (occurring bound name at n).free ≤ max_free → y ≡ number_of (bound_or_free bound name n)
       → (k : ℕ) × (bound ≡ Some k) × (y ≡ max_free + k)
   name_escapes name at n (Some k) few e = (k, refl, e)
   name_escapes name at n None few e = absurd (by_place (free_place name n) refl few e)
@@ -97,12 +97,12 @@ module _ (y : ℕ) (above : max_free ≤ y) where
       → InScope scope ⊎ Blank (length n.bound_sorts) (length (arguments_names xs places scope n).bound_sorts)
   unfolding Occurs
   arguments_escape (LastArgument a) places scope n few e =
-      argument_escapes a (due places) scope n few
+      argument_escapes a (due_sort places) scope n few
       (sym (ap (λ (vs : List ℕ). among y vs) (last_only (argument_term a scope n))) ∙ e)
   arguments_escape (MoreArguments a comma rest) places scope n few e =
-      let between = argument_names a (due places) scope n in
+      let between = argument_names a (due_sort places) scope n in
       let later = arguments_grow rest (after_due places) scope between in
-      let first = argument_grows a (due places) scope n in
+      let first = argument_grows a (due_sort places) scope n in
       let split = sym
       (ap (λ (vs : List ℕ). among y vs)
       (variables_in-cons (argument_term a scope n) (arguments_terms rest (after_due places) scope between))
@@ -110,7 +110,7 @@ module _ (y : ℕ) (above : max_free ≤ y) where
       (variables_in (arguments_terms rest (after_due places) scope between))) ∙ e in
       elim (or_cases _ _ split) [
         | inl here ↦
-            elim (argument_escapes a (due places) scope n (fewer between _ later few) here) [
+            elim (argument_escapes a (due_sort places) scope n (fewer between _ later few) here) [
               | inl s ↦ inl s
               | inr b ↦ inr (wider _ _ _ _ (omega arith) later.bound b)
             ]

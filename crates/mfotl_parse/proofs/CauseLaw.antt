@@ -20,10 +20,10 @@ use Rattle.mfotl_parse.specs.GrammarLaws.{table_clash}
 use Rattle.mfotl_parse.specs.Limits.{max_free}
 use Rattle.mfotl_parse.specs.Meanings.{all_names}
 use Rattle.mfotl_parse.specs.Mentions.{sort_clash}
-use Rattle.mfotl_parse.specs.Reading.{PolicyOf, transition, step, sorted, ended, ended_at, is_closed, at_tail}
+use Rattle.mfotl_parse.specs.Reading.{PolicyOf, transition, step, sorted, closed_at_end, ended_at, is_closed, at_tail}
 use Rattle.mfotl_parse.specs.Reduction.{reduce}
 use Rattle.mfotl_parse.specs.Shows.{Showing, silent, shown_by}
-use Rattle.mfotl_parse.specs.States.{Stage, Context, SymbolTable, Partial, AfterOperand, start}
+use Rattle.mfotl_parse.specs.States.{Stage, Context, SymbolTable, Partial, AfterOperand, nothing_read}
 use Rattle.mfotl_parse.specs.SymbolTable.{uneven_pair, clash_or_pair}
 use Rattle.mfotl_parse.specs.Transitions.{Limit, Empty, Range, Unknown, Arity, Deep, Nodes, Transition, fault_of}
 use Rattle.mfotl_parse.specs.Transitions.{given}
@@ -66,7 +66,7 @@ given_shown at None fault others e = cc
 given_shown at (Some m) fault others e = kept_broken m.rules m.next fault others e
 
 module _ (sig : List PredOf) (front : List Lexeme) (s : Partial) (t : Lexeme)
-    (ran : run (step sig) front start ≡ Ok s) where
+    (ran : run (step sig) front nothing_read ≡ Ok s) where
   shown_first : (more : List Lexeme) → slice_get (trace sig (t ∷ more) s) 0 ≡ Some (shown_at t.at (transition sig s t))
   unfolding trace
   shown_first more = by_move (transition sig s t)
@@ -80,7 +80,7 @@ module _ (sig : List PredOf) (front : List Lexeme) (s : Partial) (t : Lexeme)
       → slice_get (shown_by sig tree) (length front) ≡ Some (shown_at t.at (transition sig s t))
   shown_there tree more fits spelled =
       ap (λ xs. slice_get xs (length front)) (sym (shows_whole sig tree fits)
-      ∙ ap (λ ts. trace sig ts start) spelled ∙ read_silent sig front (t ∷ more) start s ran)
+      ∙ ap (λ ts. trace sig ts nothing_read) spelled ∙ read_silent sig front (t ∷ more) nothing_read s ran)
       ∙ place_behind front (trace sig (t ∷ more) s) ∙ shown_first more
 
   -- where the grammar goes on with the token, some formula begins so
@@ -90,18 +90,20 @@ module _ (sig : List PredOf) (front : List Lexeme) (s : Partial) (t : Lexeme)
       let due = completes sig m.next in (
         due.0,
         accepted_formula sig (front ++ t ∷ due.0)
-            (accepts_read sig front (t ∷ due.0) start s ran ∙ ap (λ o. if_moved o (accepts sig due.0)) e ∙ due.1),
+            (accepts_read sig front (t ∷ due.0) nothing_read s ran ∙ ap (λ o. if_moved o (accepts sig due.0)) e
+                ∙ due.1),
       )
 
   -- where it doesn't, none does
   ends_so : transition sig s t ≡ None → BeginsFormula (front ++ t ∷ []) → ⊥
   unfolding accepts
   ends_so e b =
-      let all : accepts sig (front ++ t ∷ b.0) start ≡ true =
-      ap (λ ts. accepts sig ts start) (sym (append_assoc front (t ∷ []) b.0))
+      let all : accepts sig (front ++ t ∷ b.0) nothing_read ≡ true =
+      ap (λ ts. accepts sig ts nothing_read) (sym (append_assoc front (t ∷ []) b.0))
       ∙ formula_accepted sig ((front ++ t ∷ []) ++ b.0) b.1 in
       let none : false ≡ true =
-      ap (λ o. if_moved o (accepts sig b.0)) (sym e) ∙ sym (accepts_read sig front (t ∷ b.0) start s ran) ∙ all in
+      ap (λ o. if_moved o (accepts sig b.0)) (sym e) ∙ sym (accepts_read sig front (t ∷ b.0) nothing_read s ran)
+          ∙ all in
       absurd cc
 
   caused : (o : Option Transition) (fault : PolicyFault) → transition sig s t ≡ o → given t.at o ≡ Err fault
@@ -160,7 +162,7 @@ module _ (sig : List PredOf) (front : List Lexeme) (s : Partial) (t : Lexeme)
 
 -- not at the end of a formula
 shut_end : (n : SymbolTable) (f : Form) (closed : Bool) (end : ℕ) → closed ≡ false
-    → ended n f closed end ≡ Err (Syntax end)
+    → closed_at_end n f closed end ≡ Err (Syntax end)
 shut_end n f true end e = absurd cc
 shut_end n f false end e = refl
 
@@ -194,7 +196,7 @@ module _ (policy : PolicyOf) where
   sorted_many None None (Some known) at e f = cc
   sorted_many None None None at e f = absurd cc
 
-module _ (sig : List PredOf) (ts : List Lexeme) (s : Partial) (ran : run (step sig) ts start ≡ Ok s) where
+module _ (sig : List PredOf) (ts : List Lexeme) (s : Partial) (ran : run (step sig) ts nothing_read ≡ Ok s) where
   module _ (tree : Tree) (fits : Fits 1 tree) (spelled : ts ≡ spelling tree) (end : ℕ) where
     abbrev names : SymbolTable
     names = all_names sig tree
@@ -287,7 +289,7 @@ module _ (sig : List PredOf) (ts : List Lexeme) (s : Partial) (ran : run (step s
   last_shows tail Memory c = absurd c
 
 pub follows : (sig : List PredOf)
-    → FollowsGrammar (step sig) start at_tail BeginsFormula (IsCause sig) (IsLast sig)
+    → FollowsGrammar (step sig) nothing_read at_tail BeginsFormula (IsCause sig) (IsLast sig)
 follows sig = record {
   viable = λ ts s ran. read_viable sig ts s ran;
   token = λ front s t fault ran. (step_caused sig front s t ran fault, cause_shows sig front s t ran fault);

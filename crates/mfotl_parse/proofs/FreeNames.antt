@@ -9,7 +9,7 @@ use Rattle.mfotl_parse.specs.declared.term.Operand.{Operand}
 use Rattle.mfotl_parse.specs.declared.term.Operand.TheVariants as operands
 use Rattle.mfotl_parse.specs.declared.term.Variable.{Variable}
 use Rattle.mfotl_parse.specs.declared.term.Variable.TheVariants as variables
-use Rattle.mfotl_parse.specs.Arguments.{call_of, due, after_due}
+use Rattle.mfotl_parse.specs.Arguments.{call_of, due_sort, after_due}
 use Rattle.mfotl_parse.specs.Grammar.{WrittenVariable, WrittenTerm, Named, Number, Quoted, WrittenArgument, Given}
 use Rattle.mfotl_parse.specs.Grammar.{Hidden, WrittenArguments, LastArgument, MoreArguments, WrittenVariables}
 use Rattle.mfotl_parse.specs.Grammar.{LastVariable, MoreVariables, Tree, Truth, BareAtom, AtomOf, Comparison, Enclosed}
@@ -21,9 +21,9 @@ use Rattle.mfotl_parse.specs.Occurrences.{Occurrence, is_among, free_of, free_of
 use Rattle.mfotl_parse.specs.Occurrences.{free_of_arguments, names_bound, free_in, with_first, first_ones}
 use Rattle.mfotl_parse.specs.Occurrences.{free_variables, name_of, place_of_variable, place_of}
 use Rattle.mfotl_parse.specs.States.{SymbolTable, no_names}
-use Rattle.mfotl_parse.specs.SymbolTable.{free_place, with_free, met, bound_more, sort_of}
+use Rattle.mfotl_parse.specs.SymbolTable.{free_place, with_free, occurring, bound_more, sort_of}
 use Rattle.mfotl_parse.specs.SymbolTable.{clashed, agreed, occurred, require_sort, constrain_term}
-use Rattle.mfotl_parse.specs.SymbolTable.{compared, inner_or}
+use Rattle.mfotl_parse.specs.SymbolTable.{with_comparison, inner_or}
 use Rattle.mfotl_parse.specs.WellSorted.{sort_of_constant, same_sort}
 
 -- sorts change no names
@@ -47,7 +47,7 @@ placed_free (operands.Variable v) at sort n = occurs_free v at sort n
 placed_free (operands.Constant c) at sort n = agreed_free (sort_of_constant c) at sort n
 
 pub compared_free : (l : Operand) (left_at at : ℕ) (r : Operand) (right_at : ℕ) (n : SymbolTable)
-    → (compared l left_at at r right_at n).free ≡ n.free
+    → (with_comparison l left_at at r right_at n).free ≡ n.free
 compared_free (operands.Variable v) left_at at (operands.Variable w) right_at n = refl
 compared_free (operands.Variable v) left_at at (operands.Constant d) right_at n =
     occurs_free v left_at (sort_of_constant d) n
@@ -85,7 +85,7 @@ first_both before [] b = refl
 first_both before (one ∷ a) b = first_both (with_first before one) a b
 
 -- a name that nothing binds
-met_first : (name : List ℕ) (at : ℕ) (n : SymbolTable) → (met None name at n).free ≡ with_first n.free (name, at)
+met_first : (name : List ℕ) (at : ℕ) (n : SymbolTable) → (occurring None name at n).free ≡ with_first n.free (name, at)
 met_first name at n = by (free_place name n)
   where
     by : (place : Option ℕ) → (with_free place name at n).free
@@ -94,10 +94,10 @@ met_first name at n = by (free_place name n)
     by (Some place) = refl
 
 variable_free : (v : WrittenVariable) (scope : Scope) (bound : List (List ℕ)) (n : SymbolTable) → Binds scope bound
-    → (met (scope (name_of v)) (name_of v) (place_of_variable v) n).free ≡ first_ones n.free (free_of v bound)
+    → (occurring (scope (name_of v)) (name_of v) (place_of_variable v) n).free ≡ first_ones n.free (free_of v bound)
 variable_free v scope bound n binds = by (scope (name_of v)) (is_among (name_of v) bound) (binds (name_of v))
   where
-    by : (s : Option ℕ) (b : Bool) → is_some s ≡ b → (met s (name_of v) (place_of_variable v) n).free
+    by : (s : Option ℕ) (b : Bool) → is_some s ≡ b → (occurring s (name_of v) (place_of_variable v) n).free
         ≡ first_ones n.free (cond b [] ((name_of v, place_of_variable v) ∷ []))
     by None true e = absurd cc
     by None false e = met_first (name_of v) (place_of_variable v) n
@@ -118,10 +118,10 @@ argument_free (Hidden token) sort scope bound n binds = refl
 
 arguments_free : (xs : WrittenArguments) (sorts : List Sort) (scope : Scope) (bound : List (List ℕ)) (n : SymbolTable)
     → Binds scope bound → (arguments_names xs sorts scope n).free ≡ first_ones n.free (free_of_arguments xs bound)
-arguments_free (LastArgument a) sorts scope bound n binds = argument_free a (due sorts) scope bound n binds
+arguments_free (LastArgument a) sorts scope bound n binds = argument_free a (due_sort sorts) scope bound n binds
 arguments_free (MoreArguments a comma rest) sorts scope bound n binds =
-    arguments_free rest (after_due sorts) scope bound (argument_names a (due sorts) scope n) binds
-    ∙ ap (λ free. first_ones free (free_of_arguments rest bound)) (argument_free a (due sorts) scope bound n binds)
+    arguments_free rest (after_due sorts) scope bound (argument_names a (due_sort sorts) scope n) binds
+    ∙ ap (λ free. first_ones free (free_of_arguments rest bound)) (argument_free a (due_sort sorts) scope bound n binds)
     ∙ sym (first_both n.free (free_of_argument a bound) (free_of_arguments rest bound))
 
 tree_free : (sig : List PredOf) (tree : Tree) (scope : Scope) (bound : List (List ℕ)) (n : SymbolTable)

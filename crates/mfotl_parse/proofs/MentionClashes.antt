@@ -11,7 +11,7 @@ use Rattle.mfotl_parse.specs.declared.term.Pair.{Pair}
 use Rattle.mfotl_parse.specs.Grammar.{Tree}
 use Rattle.mfotl_parse.specs.GrammarLaws.{ClashesAgree}
 use Rattle.mfotl_parse.specs.Meanings.{all_names}
-use Rattle.mfotl_parse.specs.Mentions.{Binding, Mention, Occurs, Stands, Compares}
+use Rattle.mfotl_parse.specs.Mentions.{Binding, SortMention, Occurs, Stands, Compares}
 use Rattle.mfotl_parse.specs.Mentions.{quantified_count}
 use Rattle.mfotl_parse.specs.Mentions.{mentions, same_binding, ask_other, place_of_mention}
 use Rattle.mfotl_parse.specs.Mentions.{sorts_apart, is_of, is_uneven, first_uneven, or_else, sort_clash}
@@ -28,10 +28,10 @@ same_turned sorts.Int sorts.Text = refl
 same_turned sorts.Text sorts.Int = refl
 same_turned sorts.Text sorts.Text = refl
 
-module _ (all : List Mention) (count : ℕ) (n : SymbolTable) (f : Follows all count n) (unclashed : n.clash ≡ None)
+module _ (all : List SortMention) (count : ℕ) (n : SymbolTable) (f : Follows all count n) (unclashed : n.clash ≡ None)
   where
     -- whether an occurrence of the left differs from one of the right, by what the right was given
-    none_apart : (left right : Binding) → given_to right n ≡ None → (ms : List Mention)
+    none_apart : (left right : Binding) → given_to right n ≡ None → (ms : List SortMention)
         → list_any (λ one. is_of left one && sorts_apart all right one) ms ≡ false
     none_apart left right e [] = refl
     none_apart left right e (Occurs b at s ∷ ms) =
@@ -47,7 +47,7 @@ module _ (all : List Mention) (count : ℕ) (n : SymbolTable) (f : Follows all c
     none_apart left right e (Stands given at s ∷ ms) = none_apart left right e ms
     none_apart left right e (Compares l r at ∷ ms) = none_apart left right e ms
 
-    some_apart : (left right : Binding) (q : Sort) → given_to right n ≡ Some q → (ms : List Mention)
+    some_apart : (left right : Binding) (q : Sort) → given_to right n ≡ Some q → (ms : List SortMention)
         → list_any (λ one. is_of left one && sorts_apart all right one) ms ≡ ask_other left q ms
     some_apart left right q e [] = refl
     some_apart left right q e (Occurs b at s ∷ ms) =
@@ -72,7 +72,7 @@ module _ (all : List Mention) (count : ℕ) (n : SymbolTable) (f : Follows all c
         by_right (Some q) e = some_apart left right q e all ∙ f.sorts unclashed left q
 
     -- the first in the table is the first in the text
-    first_pair : (ms : List Mention) (ps : List Pair) → PairsOf n.free ms ps
+    first_pair : (ms : List SortMention) (ps : List Pair) → PairsOf n.free ms ps
         → option_map (λ (pair : Pair). pair.at) (find (λ pair. differ (sort_of pair.left n) (sort_of pair.right n)) ps)
         ≡ option_map place_of_mention (find (is_uneven all) ms)
     first_pair [] [] h = refl

@@ -10,11 +10,13 @@ use Rattle.mfotl_model.specs.declared.policy.Sort.{Sort}
 use Rattle.mfotl_parse.specs.declared.term.Pair.{Pair}
 use Rattle.mfotl_parse.specs.declared.term.Variable.{Variable}
 use Rattle.mfotl_parse.specs.declared.term.Variable.TheVariants as variables
-use Rattle.mfotl_parse.specs.Mentions.{Binding, Unbound, BoundAs, same_binding, Mention, Occurs, Stands, Compares}
+use Rattle.mfotl_parse.specs.Mentions.{Binding, Unbound, BoundAs, same_binding, SortMention, Occurs, Stands, Compares}
 use Rattle.mfotl_parse.specs.Mentions.{asks_other, ask_other, clashes, place_of_mention, first_clash, or_else}
 use Rattle.mfotl_parse.specs.States.{SymbolTable}
-use Rattle.mfotl_parse.specs.SymbolTable.{free_place, bound_or_free, free_or_new, with_free, met, bound_more, given_at}
-use Rattle.mfotl_parse.specs.SymbolTable.{sort_of, with_sort, first_of, clashed, agreed, occurred, require_sort, differ}
+use Rattle.mfotl_parse.specs.SymbolTable.{free_place, bound_or_free, free_or_new, with_free, occurring, bound_more}
+use Rattle.mfotl_parse.specs.SymbolTable.{given_at}
+use Rattle.mfotl_parse.specs.SymbolTable.{sort_of, with_sort, earlier_clash, clashed, agreed, occurred, require_sort}
+use Rattle.mfotl_parse.specs.SymbolTable.{differ}
 use Rattle.mfotl_parse.specs.WellSorted.{same_sort}
 use Rattle.mfotl_parse.proofs.NamesOrder.{HasPlace, never_first, same_sorts}
 use Rattle.mfotl_parse.proofs.PlaceLemmas.{place_of_name, stays_found, found_last, same_names, name_is, one_name}
@@ -133,14 +135,14 @@ BeginsWith First Rest [] = ⊥
 BeginsWith First Rest (pair ∷ ps) = First pair × Rest ps
 
 -- the table's pairs are those of the mentions
-abbrev pub PairsOf : List (List ℕ × ℕ) → List Mention → List Pair → Type 0
+abbrev pub PairsOf : List (List ℕ × ℕ) → List SortMention → List Pair → Type 0
 PairsOf free [] ps = ps ≡ []
 PairsOf free (Occurs b at s ∷ ms) ps = PairsOf free ms ps
 PairsOf free (Stands given at s ∷ ms) ps = PairsOf free ms ps
 PairsOf free (Compares left right at ∷ ms) ps =
     BeginsWith (λ pair. IsPair free left right at pair) (λ rest. PairsOf free ms rest) ps
 
-pairs_append : (free : List (List ℕ × ℕ)) (ms more : List Mention) (ps qs : List Pair) → PairsOf free ms ps
+pairs_append : (free : List (List ℕ × ℕ)) (ms more : List SortMention) (ps qs : List Pair) → PairsOf free ms ps
     → PairsOf free more qs → PairsOf free (ms ++ more) (ps ++ qs)
 pairs_append free [] more [] qs h k = k
 pairs_append free [] more (p ∷ ps) qs h k = absurd cc
@@ -150,7 +152,7 @@ pairs_append free (Compares left right at ∷ ms) more [] qs h k = absurd h
 pairs_append free (Compares left right at ∷ ms) more (p ∷ ps) qs h k = (h.0, pairs_append free ms more ps qs h.1 k)
 
 pairs_stay : (free later : List (List ℕ × ℕ)) → ((b : Binding) (v : Variable) → Refers b v free → Refers b v later)
-    → (ms : List Mention) (ps : List Pair) → PairsOf free ms ps → PairsOf later ms ps
+    → (ms : List SortMention) (ps : List Pair) → PairsOf free ms ps → PairsOf later ms ps
 pairs_stay free later stay [] ps h = h
 pairs_stay free later stay (Occurs b at s ∷ ms) ps h = pairs_stay free later stay ms ps h
 pairs_stay free later stay (Stands given at s ∷ ms) ps h = pairs_stay free later stay ms ps h
@@ -164,10 +166,10 @@ pairs_stay free later stay (Compares left right at ∷ ms) (p ∷ ps) h =
 
 -- ---- the first clash
 
-clash_more : (front ms : List Mention) (m : Mention) → first_clash front (ms ++ m ∷ [])
+clash_more : (front ms : List SortMention) (m : SortMention) → first_clash front (ms ++ m ∷ [])
     ≡ or_else (first_clash front ms) (cond (clashes (front ++ ms) m) (Some (place_of_mention m)) None)
 clash_more front [] m =
-    ap (λ (all : List Mention). cond (clashes all m) (Some (place_of_mention m)) None) (sym (append-nil front))
+    ap (λ (all : List SortMention). cond (clashes all m) (Some (place_of_mention m)) None) (sym (append-nil front))
 clash_more front (x ∷ ms) m = by_test (clash_more (front ++ x ∷ []) ms m) (clashes front x)
   where
     by_test : first_clash (front ++ x ∷ []) (ms ++ m ∷ [])
@@ -179,12 +181,12 @@ clash_more front (x ∷ ms) m = by_test (clash_more (front ++ x ∷ []) ms m) (c
     by_test later true = refl
     by_test later false =
         later
-        ∙ ap (λ (all : List Mention). or_else (first_clash (front ++ x ∷ []) ms)
+        ∙ ap (λ (all : List SortMention). or_else (first_clash (front ++ x ∷ []) ms)
         (cond (clashes all m) (Some (place_of_mention m)) None)) (append_assoc front (x ∷ []) ms)
 
 -- ---- what the table says behind mentions, where so many variables were quantified
 
-pub record Follows (before : List Mention) (count : ℕ) (n : SymbolTable) : Type 0 where
+pub record Follows (before : List SortMention) (count : ℕ) (n : SymbolTable) : Type 0 where
   pub counted : length n.bound_sorts ≡ count
   pub sized : length n.free_sorts ≡ length n.free
   pub clash : n.clash ≡ first_clash [] before
@@ -203,8 +205,8 @@ only_later : (b : Bool) → (false || (b || false)) ≡ b
 only_later true = refl
 only_later false = refl
 
-module _ (before : List Mention) (count : ℕ) (n : SymbolTable) (f : Follows before count n) where
-  clash_is : (m : Mention) (x : Bool) → (n.clash ≡ None → clashes before m ≡ x)
+module _ (before : List SortMention) (count : ℕ) (n : SymbolTable) (f : Follows before count n) where
+  clash_is : (m : SortMention) (x : Bool) → (n.clash ≡ None → clashes before m ≡ x)
       → or_else n.clash (cond x (Some (place_of_mention m)) None) ≡ first_clash [] (before ++ m ∷ [])
   clash_is m x test =
       by_clash n.clash refl
@@ -220,13 +222,13 @@ module _ (before : List Mention) (count : ℕ) (n : SymbolTable) (f : Follows be
   same_clash (Some at) = refl
   same_clash None = refl
 
-  pairs_same : (m : Mention) → PairsOf n.free (m ∷ []) [] → PairsOf n.free (before ++ m ∷ []) n.pairs
+  pairs_same : (m : SortMention) → PairsOf n.free (m ∷ []) [] → PairsOf n.free (before ++ m ∷ []) n.pairs
   pairs_same m none =
       subst (λ (ps : List Pair). PairsOf n.free (before ++ m ∷ []) ps) (append-nil n.pairs)
       (pairs_append n.free before (m ∷ []) n.pairs [] f.pairs none)
 
   -- nothing changes
-  kept : (m : Mention) → PairsOf n.free (m ∷ []) [] → (n.clash ≡ None → clashes before m ≡ false)
+  kept : (m : SortMention) → PairsOf n.free (m ∷ []) [] → (n.clash ≡ None → clashes before m ≡ false)
       → (n.clash ≡ None → (c : Binding) (t : Sort) → (differ (given_to c n) (Some t) || (asks_other c t m || false))
       ≡ differ (given_to c n) (Some t))
       → Follows (before ++ m ∷ []) count n
@@ -240,7 +242,7 @@ module _ (before : List Mention) (count : ℕ) (n : SymbolTable) (f : Follows be
   }
 
   -- it clashes
-  clashed_by : (m : Mention) → PairsOf n.free (m ∷ []) [] → (n.clash ≡ None → clashes before m ≡ true)
+  clashed_by : (m : SortMention) → PairsOf n.free (m ∷ []) [] → (n.clash ≡ None → clashes before m ≡ true)
       → Follows (before ++ m ∷ []) count (clashed (place_of_mention m) n)
   clashed_by m none test = record {
     counted = f.counted;
@@ -250,7 +252,7 @@ module _ (before : List Mention) (count : ℕ) (n : SymbolTable) (f : Follows be
     pairs = pairs_same m none;
   }
     where
-      first_is : (o : Option ℕ) → first_of o (place_of_mention m) ≡ or_else o (Some (place_of_mention m))
+      first_is : (o : Option ℕ) → earlier_clash o (place_of_mention m) ≡ or_else o (Some (place_of_mention m))
       first_is (Some at) = refl
       first_is None = refl
 
@@ -392,7 +394,7 @@ refers_more (BoundAs j) (variables.Free k) free one r = absurd r
 refers_more (BoundAs j) (variables.Bound k) free one r = r
 
 pub met_refers : (bound : Option ℕ) (name : List ℕ) (at : ℕ) (n : SymbolTable) (b : Binding) (v : Variable)
-    → Refers b v n.free → Refers b v (met bound name at n).free
+    → Refers b v n.free → Refers b v (occurring bound name at n).free
 met_refers (Some k) name at n b v r = r
 met_refers None name at n b v r = by_place (free_place name n)
   where
@@ -402,7 +404,7 @@ met_refers None name at n b v r = by_place (free_place name n)
 
 -- the name's variable is the one that binds it
 pub name_refers : (bound : Option ℕ) (name : List ℕ) (at : ℕ) (n : SymbolTable)
-    → Refers (from_scope bound name) (bound_or_free bound name n) (met bound name at n).free
+    → Refers (from_scope bound name) (bound_or_free bound name n) (occurring bound name at n).free
 name_refers (Some k) name at n = refl
 name_refers None name at n = by_place (free_place name n) refl
   where
@@ -413,8 +415,8 @@ name_refers None name at n = by_place (free_place name n) refl
         found_last (λ (known : List ℕ × ℕ). bytes_eq name known.0) n.free (name, at) e
         ∙ ap (λ (b : Bool). cond b (Some (length n.free)) None) (name_is name)
 
-pub met_follows : (before : List Mention) (count : ℕ) (n : SymbolTable) (bound : Option ℕ) (name : List ℕ) (at : ℕ)
-    → Follows before count n → Follows before count (met bound name at n)
+pub met_follows : (before : List SortMention) (count : ℕ) (n : SymbolTable) (bound : Option ℕ) (name : List ℕ) (at : ℕ)
+    → Follows before count n → Follows before count (occurring bound name at n)
 met_follows before count n (Some k) name at f = f
 met_follows before count n None name at f = by_place (free_place name n) refl
   where

@@ -7,21 +7,21 @@ use Rattle.mfotl_model.specs.declared.policy.Sort.{Sort}
 use Rattle.mfotl_model.specs.declared.policy.Sort.TheVariants as sorts
 use Rattle.mfotl_sig.specs.Preds.{PredOf, named}
 use Rattle.mfotl_parse.specs.declared.term.Variable.{Variable}
-use Rattle.mfotl_parse.specs.Arguments.{call_of, due, after_due}
+use Rattle.mfotl_parse.specs.Arguments.{call_of, due_sort, after_due}
 use Rattle.mfotl_parse.specs.Grammar.{WrittenVariable, WrittenTerm, Named, Number, Quoted, WrittenArgument, Given}
 use Rattle.mfotl_parse.specs.Grammar.{Hidden, WrittenArguments, LastArgument, MoreArguments, WrittenVariables}
 use Rattle.mfotl_parse.specs.Grammar.{LastVariable, MoreVariables, Tree, Truth, BareAtom, AtomOf, Comparison, Enclosed}
 use Rattle.mfotl_parse.specs.Grammar.{Denied, Timed, Quantified, Joined}
 use Rattle.mfotl_parse.specs.Meanings.{Scope, inside, operand_of, term_names, argument_names, arguments_names}
 use Rattle.mfotl_parse.specs.Meanings.{variables_names, variables_scope, names_behind, no_scope, all_names}
-use Rattle.mfotl_parse.specs.Mentions.{Binding, Unbound, BoundAs, Around, binding_of, Mention}
+use Rattle.mfotl_parse.specs.Mentions.{Binding, Unbound, BoundAs, Around, binding_of, SortMention}
 use Rattle.mfotl_parse.specs.Mentions.{term_mention, argument_mention, argument_mentions}
 use Rattle.mfotl_parse.specs.Mentions.{comparison_mention, inside_variables, quantified_count, places_of, mentions_in}
 use Rattle.mfotl_parse.specs.Mentions.{mentions}
 use Rattle.mfotl_parse.specs.Occurrences.{name_of, place_of_variable, place_of, hidden_count, blank_count}
 use Rattle.mfotl_parse.specs.Occurrences.{variable_count}
 use Rattle.mfotl_parse.specs.States.{SymbolTable, no_names}
-use Rattle.mfotl_parse.specs.SymbolTable.{bound_or_free, bound_more, inner_or, constrain_term, compared}
+use Rattle.mfotl_parse.specs.SymbolTable.{bound_or_free, bound_more, inner_or, constrain_term, with_comparison}
 use Rattle.mfotl_parse.specs.SymbolTable.{differ}
 use Rattle.mfotl_parse.proofs.NamesOrder.{Inside, inside_grows, inside_all, resolved_place, argument_grows}
 use Rattle.mfotl_parse.proofs.NamesOrder.{tree_grows, HasPlace}
@@ -34,10 +34,10 @@ abbrev Binds : Scope → Around → Type 0
 Binds scope around = (name : List ℕ) → from_scope (scope name) name ≡ binding_of name around
 
 -- the same list, and the same count
-follows_as : (ms later : List Mention) (i j : ℕ) (n : SymbolTable) → ms ≡ later → i ≡ j → Follows ms i n
+follows_as : (ms later : List SortMention) (i j : ℕ) (n : SymbolTable) → ms ≡ later → i ≡ j → Follows ms i n
     → Follows later j n
 follows_as ms later i j n e g f =
-    subst (λ (k : ℕ). Follows later k n) g (subst (λ (all : List Mention). Follows all i n) e f)
+    subst (λ (k : ℕ). Follows later k n) g (subst (λ (all : List SortMention). Follows all i n) e f)
 
 -- ---- terms
 
@@ -50,7 +50,7 @@ module _ (scope : Scope) (around : Around) (binds : Binds scope around) where
       (term_names (Named v) scope n).free) (binds (name_of v))
       (name_refers (scope (name_of v)) (name_of v) (place_of_variable v) n)
 
-  term_met : (t : WrittenTerm) (before : List Mention) (count : ℕ) (n : SymbolTable) → Follows before count n
+  term_met : (t : WrittenTerm) (before : List SortMention) (count : ℕ) (n : SymbolTable) → Follows before count n
       → Follows before count (term_names t scope n)
   term_met (Named v) before count n f =
       met_follows before count n (scope (name_of v)) (name_of v) (place_of_variable v) f
@@ -64,13 +64,13 @@ module _ (scope : Scope) (around : Around) (binds : Binds scope around) where
   term_refers (Quoted token) n b v r = r
 
   -- a variable that was met
-  variable_placed : (v : WrittenVariable) (n : SymbolTable) (before : List Mention) (count : ℕ) → Inside scope n
+  variable_placed : (v : WrittenVariable) (n : SymbolTable) (before : List SortMention) (count : ℕ) → Inside scope n
       → Follows before count n
       → HasPlace (bound_or_free (scope (name_of v)) (name_of v) n) (term_names (Named v) scope n)
   variable_placed v n before count within f =
       resolved_place (name_of v) (place_of_variable v) n (scope (name_of v)) (within (name_of v)) f.sized
 
-  term_follows : (t : WrittenTerm) (sort : Sort) (before : List Mention) (count : ℕ) (n : SymbolTable)
+  term_follows : (t : WrittenTerm) (sort : Sort) (before : List SortMention) (count : ℕ) (n : SymbolTable)
       → Inside scope n → Follows before count n
       → Follows (before ++ term_mention t sort around ∷ []) count
       (constrain_term (operand_of t scope n) (place_of t) sort (term_names t scope n))
@@ -81,7 +81,7 @@ module _ (scope : Scope) (around : Around) (binds : Binds scope around) where
   term_follows (Number token z) sort before count n within f = stands before count n f sorts.Int token.at sort
   term_follows (Quoted token) sort before count n within f = stands before count n f sorts.Text token.at sort
 
-  argument_follows : (a : WrittenArgument) (sort : Sort) (before : List Mention) (count : ℕ) (n : SymbolTable)
+  argument_follows : (a : WrittenArgument) (sort : Sort) (before : List SortMention) (count : ℕ) (n : SymbolTable)
       → Inside scope n → Follows before count n
       → Follows (before ++ argument_mention a sort around count ∷ []) (count + hidden_count a)
       (argument_names a sort scope n)
@@ -90,30 +90,30 @@ module _ (scope : Scope) (around : Around) (binds : Binds scope around) where
   argument_follows (Hidden token) sort before count n within f =
       follows_as _ _ (suc count) (count + 1) _ refl (omega arith) (blank before count n f token.at sort)
 
-  arguments_follow : (xs : WrittenArguments) (places : List Sort) (before : List Mention) (count : ℕ)
+  arguments_follow : (xs : WrittenArguments) (places : List Sort) (before : List SortMention) (count : ℕ)
       (n : SymbolTable) → Inside scope n → Follows before count n
       → Follows (before ++ argument_mentions xs places around count) (count + blank_count xs)
       (arguments_names xs places scope n)
   arguments_follow (LastArgument a) places before count n within f =
-      argument_follows a (due places) before count n within f
+      argument_follows a (due_sort places) before count n within f
   arguments_follow (MoreArguments a comma rest) places before count n within f =
-      let between = argument_names a (due places) scope n in
-      let one = argument_mention a (due places) around count in
+      let between = argument_names a (due_sort places) scope n in
+      let one = argument_mention a (due_sort places) around count in
       let later = argument_mentions rest (after_due places) around (count + hidden_count a) in
       let same : count + hidden_count a + blank_count rest ≡ count + (hidden_count a + blank_count rest) = omega
       arith in
       follows_as ((before ++ one ∷ []) ++ later) (before ++ one ∷ later) _ _ _ (append_assoc before (one ∷ []) later)
       same
       (arguments_follow rest (after_due places) (before ++ one ∷ []) (count + hidden_count a) between
-      (inside_grows scope n between within (argument_grows a (due places) scope n))
-      (argument_follows a (due places) before count n within f))
+      (inside_grows scope n between within (argument_grows a (due_sort places) scope n))
+      (argument_follows a (due_sort places) before count n within f))
 
   -- ---- comparisons
 
-  sides_follow : (left right : WrittenTerm) (at : ℕ) (before : List Mention) (count : ℕ) (n : SymbolTable)
+  sides_follow : (left right : WrittenTerm) (at : ℕ) (before : List SortMention) (count : ℕ) (n : SymbolTable)
       → Inside scope n → Follows before count n
       → Follows (before ++ comparison_mention left at right around ∷ []) count
-      (compared (operand_of left scope n) (place_of left) at (operand_of right scope (term_names left scope n))
+      (with_comparison (operand_of left scope n) (place_of left) at (operand_of right scope (term_names left scope n))
       (place_of right) (term_names right scope (term_names left scope n)))
   sides_follow (Named v) (Named w) at before count n within f =
       let first = term_names (Named v) scope n in
@@ -151,7 +151,7 @@ binds_one scope around bound k count same binds name = by_test (bytes_eq name bo
     by_test true = ap BoundAs same
     by_test false = binds name
 
-variables_bind : (vs : WrittenVariables) (before : List Mention) (count : ℕ) (n : SymbolTable) (scope : Scope)
+variables_bind : (vs : WrittenVariables) (before : List SortMention) (count : ℕ) (n : SymbolTable) (scope : Scope)
     (around : Around) → Follows before count n → Binds scope around
     → Binds (variables_scope vs n scope) (inside_variables vs count around)
 variables_bind (LastVariable v) before count n scope around f binds =
@@ -160,7 +160,7 @@ variables_bind (MoreVariables v comma rest) before count n scope around f binds 
     variables_bind rest before (suc count) (bound_more None n) _ _ (bound before count n f)
     (binds_one scope around (name_of v) _ count f.counted binds)
 
-variables_follow : (vs : WrittenVariables) (before : List Mention) (count : ℕ) (n : SymbolTable)
+variables_follow : (vs : WrittenVariables) (before : List SortMention) (count : ℕ) (n : SymbolTable)
     → Follows before count n → Follows before (count + variable_count vs) (variables_names vs n)
 variables_follow (LastVariable v) before count n f =
     follows_as before before (suc count) (count + 1) _ refl (omega arith) (bound before count n f)
@@ -176,7 +176,7 @@ call_places None = refl
 call_places (Some pred) = refl
 
 module _ (sig : List PredOf) where
-  tree_follows : (tree : Tree) (scope : Scope) (around : Around) (before : List Mention) (count : ℕ)
+  tree_follows : (tree : Tree) (scope : Scope) (around : Around) (before : List SortMention) (count : ℕ)
       (n : SymbolTable) → Binds scope around → Inside scope n → Follows before count n
       → Follows (before ++ mentions_in sig tree around count) (count + quantified_count tree)
       (names_behind sig tree scope n)

@@ -13,7 +13,7 @@ use Rattle.mfotl_parse.specs.declared.term.Operand.TheVariants as operands
 use Rattle.mfotl_parse.specs.declared.term.Pair.{Pair}
 use Rattle.mfotl_parse.specs.declared.term.Variable.{Variable}
 use Rattle.mfotl_parse.specs.declared.term.Variable.TheVariants as variables
-use Rattle.mfotl_parse.specs.Arguments.{call_of, due, after_due}
+use Rattle.mfotl_parse.specs.Arguments.{call_of, due_sort, after_due}
 use Rattle.mfotl_parse.specs.Grammar.{WrittenTerm, Named, Number, Quoted, WrittenArgument, Given, Hidden}
 use Rattle.mfotl_parse.specs.Grammar.{WrittenArguments, LastArgument, MoreArguments, WrittenVariables, LastVariable}
 use Rattle.mfotl_parse.specs.Grammar.{MoreVariables, Tree, Truth, BareAtom, AtomOf, Comparison, Enclosed, Denied}
@@ -21,9 +21,10 @@ use Rattle.mfotl_parse.specs.Grammar.{Timed, Quantified, Joined}
 use Rattle.mfotl_parse.specs.Meanings.{Scope, inside, operand_of, term_names, argument_names, arguments_names}
 use Rattle.mfotl_parse.specs.Meanings.{variables_names, variables_scope, names_behind}
 use Rattle.mfotl_parse.specs.Occurrences.{name_of, place_of_variable, place_of}
-use Rattle.mfotl_parse.specs.SymbolTable.{free_place, bound_or_free, free_or_new, with_free, met, bound_more, given_at}
-use Rattle.mfotl_parse.specs.SymbolTable.{sort_of, with_sort, first_of, clashed, agreed, occurred}
-use Rattle.mfotl_parse.specs.SymbolTable.{require_sort, constrain_term, compared, inner_or}
+use Rattle.mfotl_parse.specs.SymbolTable.{free_place, bound_or_free, free_or_new, with_free, occurring, bound_more}
+use Rattle.mfotl_parse.specs.SymbolTable.{given_at}
+use Rattle.mfotl_parse.specs.SymbolTable.{sort_of, with_sort, earlier_clash, clashed, agreed, occurred}
+use Rattle.mfotl_parse.specs.SymbolTable.{require_sort, constrain_term, with_comparison, inner_or}
 use Rattle.mfotl_parse.specs.States.{SymbolTable}
 use Rattle.mfotl_parse.specs.WellSorted.{sort_of_constant, same_sort}
 
@@ -88,7 +89,7 @@ given_last (y ∷ xs) s = given_last xs s
 
 -- ---- each step
 
-met_grows : (bound : Option ℕ) (name : List ℕ) (at : ℕ) (n : SymbolTable) → Grows n (met bound name at n)
+met_grows : (bound : Option ℕ) (name : List ℕ) (at : ℕ) (n : SymbolTable) → Grows n (occurring bound name at n)
 met_grows (Some variable) name at n = grows_not n
 met_grows None name at n = by_place (free_place name n)
   where
@@ -153,7 +154,7 @@ sort_grows (variables.Bound k) sort n none = record {
     by_variable (variables.Free j) s e = e
     by_variable (variables.Bound j) s e = given_set n.bound_sorts k j (Some sort) s none e
 
-pub never_first : (before : Option ℕ) (at : ℕ) → first_of before at ≡ None → ⊥
+pub never_first : (before : Option ℕ) (at : ℕ) → earlier_clash before at ≡ None → ⊥
 never_first (Some place) at e = absurd cc
 never_first None at e = absurd cc
 
@@ -207,7 +208,7 @@ pair_grows pair n = record {
     by_variable (variables.Bound j) s e = e
 
 pub compared_grows : (l : Operand) (left_at at : ℕ) (r : Operand) (right_at : ℕ) (n : SymbolTable)
-    → Grows n (compared l left_at at r right_at n)
+    → Grows n (with_comparison l left_at at r right_at n)
 compared_grows (operands.Variable v) left_at at (operands.Variable w) right_at n =
     pair_grows (record { at = at; left = v; right = w }) n
 compared_grows (operands.Variable v) left_at at (operands.Constant d) right_at n =
@@ -233,10 +234,10 @@ argument_grows (Hidden token) sort scope n = bound_grows (Some sort) n
 
 pub arguments_grow : (xs : WrittenArguments) (places : List Sort) (scope : Scope) (n : SymbolTable)
     → Grows n (arguments_names xs places scope n)
-arguments_grow (LastArgument a) places scope n = argument_grows a (due places) scope n
+arguments_grow (LastArgument a) places scope n = argument_grows a (due_sort places) scope n
 arguments_grow (MoreArguments a comma rest) places scope n =
-    let between = argument_names a (due places) scope n in
-    grows_then n between _ (argument_grows a (due places) scope n)
+    let between = argument_names a (due_sort places) scope n in
+    grows_then n between _ (argument_grows a (due_sort places) scope n)
     (arguments_grow rest (after_due places) scope between)
 
 pub variables_grow : (vs : WrittenVariables) (n : SymbolTable) → Grows n (variables_names vs n)
@@ -246,7 +247,7 @@ variables_grow (MoreVariables v comma rest) n =
 
 pub sides_grow : (left right : WrittenTerm) (at : ℕ) (scope : Scope) (n : SymbolTable)
     → Grows (term_names right scope (term_names left scope n))
-    (compared (operand_of left scope n) (place_of left) at (operand_of right scope (term_names left scope n))
+    (with_comparison (operand_of left scope n) (place_of left) at (operand_of right scope (term_names left scope n))
     (place_of right) (term_names right scope (term_names left scope n)))
 sides_grow left right at scope n =
     compared_grows (operand_of left scope n) (place_of left) at (operand_of right scope (term_names left scope n))
@@ -320,7 +321,7 @@ found_within name n place e = (position-Some (λ (known : List ℕ × ℕ). byte
 
 pub resolved_place : (name : List ℕ) (at : ℕ) (n : SymbolTable) (bound : Option ℕ)
     → ((k : ℕ) → bound ≡ Some k → k < length n.bound_sorts) → length n.free_sorts ≡ length n.free
-    → HasPlace (bound_or_free bound name n) (met bound name at n)
+    → HasPlace (bound_or_free bound name n) (occurring bound name at n)
 resolved_place name at n (Some k) inside sized = inside k refl
 resolved_place name at n None inside sized = by_place (free_place name n) refl
   where

@@ -26,11 +26,12 @@ use Rattle.mfotl_parse.specs.GrammarLaws.{SilentAreRead, ExactSoundness, IsShown
 use Rattle.mfotl_parse.specs.GrammarLaws.{ExactLex, StaysShown}
 use Rattle.mfotl_parse.specs.Limits.{max_free}
 use Rattle.mfotl_parse.specs.Meanings.{no_scope, all_names, value, node_count, KeepsRules, IsValue, policy_of}
-use Rattle.mfotl_parse.specs.Reading.{PolicyOf, step, sorted, finished, ended, ended_at, is_closed, at_tail, text_of}
+use Rattle.mfotl_parse.specs.Reading.{PolicyOf, step, sorted, checked_at_end, closed_at_end, ended_at, is_closed}
+use Rattle.mfotl_parse.specs.Reading.{at_tail, text_of}
 use Rattle.mfotl_parse.specs.Reading.{reading_on, reading}
 use Rattle.mfotl_parse.specs.Occurrences.{free_variables}
 use Rattle.mfotl_parse.specs.Reduction.{reduce}
-use Rattle.mfotl_parse.specs.States.{no_names, depth, Stage, Context, SymbolTable, Partial, AfterOperand, start}
+use Rattle.mfotl_parse.specs.States.{no_names, depth, Stage, Context, SymbolTable, Partial, AfterOperand, nothing_read}
 use Rattle.mfotl_parse.specs.SymbolTable.{uneven_pair}
 use Rattle.mfotl_parse.specs.Viability.{FirstFaults, is_whole}
 use Rattle.mfotl_parse.specs.Views.{policy_of as policy_seen, Gives}
@@ -51,7 +52,7 @@ use Rattle.mfotl_parse.proofs.WholeTrees.{finished_by}
 
 -- a policy is read only behind a whole formula, and where the text ends
 shut_reads : (n : SymbolTable) (f : Form) (closed : Bool) (end : ℕ) (policy : PolicyOf)
-    → ended n f closed end ≡ Ok policy → closed ≡ true
+    → closed_at_end n f closed end ≡ Ok policy → closed ≡ true
 shut_reads n f true end policy e = refl
 shut_reads n f false end policy e = absurd cc
 
@@ -86,7 +87,7 @@ at_most : (free : List (List ℕ × ℕ)) → slice_get free max_free ≡ None �
 at_most free e = elim ((slice_get_cases free max_free).1) [ inl some ↦ absurd (cc (some.2, e)) | inr past ↦ past.0 ]
 
 module _ (sig : List PredOf) (bytes : List ℕ) (policy : PolicyOf) (p : Partial)
-    (ran : run (step sig) (text_of bytes).list start ≡ Ok p) (ended : (text_of bytes).tail ≡ End (length bytes))
+    (ran : run (step sig) (text_of bytes).list nothing_read ≡ Ok p) (ended : (text_of bytes).tail ≡ End (length bytes))
     (tree : Tree) (fits : Fits 1 tree) (spelled : (text_of bytes).list ≡ spelling tree)
     (read : ended_at p.now p.context (length bytes) ≡ Ok policy) where
   value_by : IsValue bytes sig policy
@@ -118,13 +119,13 @@ pub read_is_spelled : ReadIsSpelled
 unfolding reading reading_on layer.reading
 read_is_spelled sig bytes policy e =
     let x = text_of bytes in
-    let r = bind_ok (run (step sig) x.list start) (λ p. at_tail x.tail p) policy e in
+    let r = bind_ok (run (step sig) x.list nothing_read) (λ p. at_tail x.tail p) policy e in
     let end = ends (length bytes) (tokens (beginning Plain bytes)).fault r.0 policy r.2 in
     let f = whole_formula sig x.list r.0 r.1 (whole_reads r.0.now r.0.context (length bytes) policy end.1) in
     value_by sig bytes policy r.0 r.1 end.0 f.0 f.1 f.2 end.1
 
 module _ (sig : List PredOf) (tree : Tree) (rules : KeepsRules sig tree) where
-  finishes : finished (all_names sig tree) (value sig tree no_scope no_names) ≡ Ok (policy_of sig tree)
+  finishes : checked_at_end (all_names sig tree) (value sig tree no_scope no_names) ≡ Ok (policy_of sig tree)
   finishes =
       let names = all_names sig tree in
       let policy = policy_of sig tree in
@@ -140,8 +141,8 @@ spelled_is_read sig bytes policy v =
     let t = whole sig v.tree v.fits in
     let kept = t.kept.0 (omega (arith, v.rules.few_nodes), omega (arith, v.rules.few_levels), v.rules.parts) in
     let there = at_place (AfterOperand t.form) t.stack (0 + node_count v.tree) (all_names sig v.tree) in
-    let ran = ap (λ ts. run (step sig) ts start) v.spelled
-    ∙ moves_read sig (spelling v.tree) start there t.rules t.reached kept in
+    let ran = ap (λ ts. run (step sig) ts nothing_read) v.spelled
+    ∙ moves_read sig (spelling v.tree) nothing_read there t.rules t.reached kept in
     ap (λ r. r >>= λ p. at_tail x.tail p) ran
     ∙ ap (λ tail. at_tail tail there) v.whole
     ∙ finished_by sig x.list there ran v.tree v.fits v.spelled (length bytes)
@@ -158,12 +159,12 @@ one_answer sig =
 pub each_fault_is_shown : EachFaultIsShown
 unfolding reading reading_on
 each_fault_is_shown bytes sig fault =
-    firsts.exact_faults (step sig) start at_tail BeginsFormula (IsCause sig) (IsLast sig) (follows sig)
+    firsts.exact_faults (step sig) nothing_read at_tail BeginsFormula (IsCause sig) (IsLast sig) (follows sig)
     (text_of bytes) fault
 
 pub exact_soundness : ExactSoundness
 exact_soundness sig =
-    firsts.exact_soundness (step sig) start at_tail BeginsFormula (IsCause sig) (IsLast sig) (follows sig)
+    firsts.exact_soundness (step sig) nothing_read at_tail BeginsFormula (IsCause sig) (IsLast sig) (follows sig)
 
 pub exact_syntax : ExactSyntax
 exact_syntax bytes sig at = each_fault_is_shown bytes sig (Syntax at)
@@ -179,7 +180,7 @@ none_shown : (p : Partial) (fault : PolicyFault) → at_tail More p ≡ Err faul
 none_shown p fault e = cc
 
 pub stays_shown : StaysShown
-stays_shown sig = texts.stays_shown (step sig) start at_tail none_shown
+stays_shown sig = texts.stays_shown (step sig) nothing_read at_tail none_shown
 
 pub syntax_exactly : SyntaxExactly
 syntax_exactly = record {
@@ -199,8 +200,8 @@ syntax_exactly = record {
 module _ (sig : List PredOf) (ts : List Lexeme) where
   are_read : IsSilent sig ts → AreRead sig ts
   are_read s =
-      silent_read sig ts s.more s.later start
-      (sym (ap (λ us. trace sig us start) s.spelled) ∙ shows_whole sig s.tree s.fits ∙ s.shown)
+      silent_read sig ts s.more s.later nothing_read
+      (sym (ap (λ us. trace sig us nothing_read) s.spelled) ∙ shows_whole sig s.tree s.fits ∙ s.shown)
 
   are_silent : AreRead sig ts → IsSilent sig ts
   are_silent (p, ran) =
@@ -211,8 +212,8 @@ module _ (sig : List PredOf) (ts : List Lexeme) where
         more = f.0;
         spelled = sym f.1.2;
         later = trace sig f.0 p;
-        shown = sym (shows_whole sig f.1.0 f.1.1) ∙ ap (λ us. trace sig us start) (sym f.1.2)
-            ∙ read_silent sig ts f.0 start p ran;
+        shown = sym (shows_whole sig f.1.0 f.1.1) ∙ ap (λ us. trace sig us nothing_read) (sym f.1.2)
+            ∙ read_silent sig ts f.0 nothing_read p ran;
       }
 
 pub silent_are_read : SilentAreRead
@@ -221,20 +222,20 @@ silent_are_read sig ts = (are_silent sig ts, are_read sig ts)
 -- ---- where the grammar goes on
 
 stays_behind : (sig : List PredOf) (tail : layer.Tail LexFault) (ts more : List Lexeme) (fault : PolicyFault)
-    → run (step sig) ts start ≡ Err fault
-    → layer.reading (step sig) start at_tail (record { list = ts ++ more; tail = tail }) ≡ Err fault
+    → run (step sig) ts nothing_read ≡ Err fault
+    → layer.reading (step sig) nothing_read at_tail (record { list = ts ++ more; tail = tail }) ≡ Err fault
 unfolding layer.reading
 stays_behind sig tail ts more fault e =
-    ap (λ r. r >>= λ p. at_tail tail p) (firsts.fault_stays (step sig) ts more start fault e)
+    ap (λ r. r >>= λ p. at_tail tail p) (firsts.fault_stays (step sig) ts more nothing_read fault e)
 
 pub first_faults : FirstFaults
 first_faults = record {
   viable = λ sig ts. (
     λ on.
-        let m = goes_on_moves sig ts start on in
+        let m = goes_on_moves sig ts nothing_read on in
         let due = completes sig m.1 in
-        (due.0, accepts_moves sig ts due.0 start m.1 m.0 m.2 ∙ due.1),
-    λ v. goes_on_front sig ts v.0 start v.1,
+        (due.0, accepts_moves sig ts due.0 nothing_read m.1 m.0 m.2 ∙ due.1),
+    λ v. goes_on_front sig ts v.0 nothing_read v.1,
   );
   syntax = λ sig ts p t ran. (
     λ e v. (syntax_exactly.token sig ts p t ran).0 e (viable sig (ts ++ t ∷ []) v),

@@ -10,7 +10,7 @@ use Rattle.mfotl_parse.specs.Reading.{transition, step}
 use Rattle.mfotl_parse.specs.Shows.{Showing, silent, if_broken}
 use Rattle.mfotl_parse.specs.States.{Partial}
 use Rattle.mfotl_parse.specs.Transitions.{Limit, Rule, Transition, goes, fault_of, kept, given}
-use Rattle.mfotl_parse.specs.Viability.{if_moved, accepts, goes_on}
+use Rattle.mfotl_parse.specs.Viability.{if_moved, accepts, goes_through}
 use Rattle.mfotl_parse.proofs.SpelledMoves.{moves, moves_nothing, moves_first, moves_cons, AreKept, kept_both}
 use Rattle.mfotl_parse.proofs.SpelledMoves.{kept_front, kept_back, same_next}
 use Rattle.mfotl_parse.proofs.TracedMoves.{broken, traced, trace, trace_move, trace_both}
@@ -198,16 +198,16 @@ module _ (sig : List PredOf) where
 
   -- ---- where the grammar goes on with each of them
 
-  pub goes_on_moves : (ts : List Lexeme) (p : Partial) → goes_on sig ts p ≡ true
+  pub goes_on_moves : (ts : List Lexeme) (p : Partial) → goes_through sig ts p ≡ true
       → (rules : List Rule) × (q : Partial) × (moves sig ts p ≡ goes rules q)
-  unfolding goes_on
+  unfolding goes_through
   goes_on_moves [] p on = ([], p, moves_nothing sig p)
   goes_on_moves (t ∷ ts) p on = by_move (transition sig p t) refl (λ n so. goes_on_moves ts n so) on
     where
       by_move : (o : Option Transition) → transition sig p t ≡ o
-          → ((n : Partial) → goes_on sig ts n ≡ true
+          → ((n : Partial) → goes_through sig ts n ≡ true
           → (rules : List Rule) × (q : Partial) × (moves sig ts n ≡ goes rules q))
-          → if_moved o (goes_on sig ts) ≡ true
+          → if_moved o (goes_through sig ts) ≡ true
           → (rules : List Rule) × (q : Partial) × (moves sig (t ∷ ts) p ≡ goes rules q)
       by_move None is further so = absurd cc
       by_move (Some m) is further so =
@@ -216,13 +216,13 @@ module _ (sig : List PredOf) where
 
   -- a front of what is accepted
   pub goes_on_front : (ts more : List Lexeme) (p : Partial) → accepts sig (ts ++ more) p ≡ true
-      → goes_on sig ts p ≡ true
-  unfolding goes_on accepts
+      → goes_through sig ts p ≡ true
+  unfolding goes_through accepts
   goes_on_front [] more p ends = refl
   goes_on_front (t ∷ ts) more p ends = by_move (transition sig p t) (λ n so. goes_on_front ts more n so) ends
     where
       by_move : (m : Option Transition)
-          → ((n : Partial) → accepts sig (ts ++ more) n ≡ true → goes_on sig ts n ≡ true)
-          → if_moved m (accepts sig (ts ++ more)) ≡ true → if_moved m (goes_on sig ts) ≡ true
+          → ((n : Partial) → accepts sig (ts ++ more) n ≡ true → goes_through sig ts n ≡ true)
+          → if_moved m (accepts sig (ts ++ more)) ≡ true → if_moved m (goes_through sig ts) ≡ true
       by_move None further so = absurd cc
       by_move (Some m) further so = further m.next so

@@ -31,10 +31,10 @@ use Rattle.mfotl_parse.specs.Meanings.{variables_scope, quantify, interval_of, n
 use Rattle.mfotl_parse.specs.Meanings.{PartsKeep}
 use Rattle.mfotl_parse.specs.Occurrences.{name_of, place_of_variable, place_of}
 use Rattle.mfotl_parse.specs.SymbolTable.{number_of, bound_or_free, bound_more, given_at, sort_of}
-use Rattle.mfotl_parse.specs.SymbolTable.{require_sort, constrain_term, compared}
+use Rattle.mfotl_parse.specs.SymbolTable.{require_sort, constrain_term, with_comparison}
 use Rattle.mfotl_parse.specs.SymbolTable.{term_of, differ, uneven_pair}
 use Rattle.mfotl_parse.specs.Operands.{truth}
-use Rattle.mfotl_parse.specs.Reduction.{momentary, joined, quantified}
+use Rattle.mfotl_parse.specs.Reduction.{momentary, operator_form, quantified}
 use Rattle.mfotl_parse.specs.States.{SymbolTable}
 use Rattle.mfotl_parse.specs.WellSorted.{Sorting, sort_of_constant, same_sort, HasSort, HaveSorts, SidesAgree}
 use Rattle.mfotl_parse.specs.WellSorted.{FitsSorts}
@@ -173,7 +173,7 @@ module _ (sig : List PredOf) (last : SymbolTable) (clash : last.clash ≡ None) 
   operand_place (Quoted token) scope n inside sized = tt
 
   pair_even : (v w : Variable) (at : ℕ) (m : SymbolTable) (left right : Sort)
-      → Grows (compared (operands.Variable v) at at (operands.Variable w) at m) last
+      → Grows (with_comparison (operands.Variable v) at at (operands.Variable w) at m) last
       → sort_of v last ≡ Some left → sort_of w last ≡ Some right → left ≡ right
   pair_even v w at m left right g e f =
       let pair : Pair = record { at = at; left = v; right = w } in
@@ -190,7 +190,7 @@ module _ (sig : List PredOf) (last : SymbolTable) (clash : last.clash ≡ None) 
 
   sides_sorted : (l r : Operand) (left_at at right_at : ℕ) (m : SymbolTable) → OperandPlace l m → OperandPlace r m
       → Sized m
-      → Grows (compared l left_at at r right_at m) last → SidesAgree (given_by last) (term_of l) (term_of r)
+      → Grows (with_comparison l left_at at r right_at m) last → SidesAgree (given_by last) (term_of l) (term_of r)
   unfolding OperandPlace
   sides_sorted (operands.Variable v) (operands.Variable w) left_at at right_at m p q sized g =
       let all = grows_then m _ last
@@ -257,7 +257,7 @@ module _ (sig : List PredOf) (last : SymbolTable) (clash : last.clash ≡ None) 
   moment_sorted temporals.Always i f h = h
 
   joined_sorted : (o : Operator) (i : Interval) (f g : Form) → FitsSorts sig (given_by last) f
-      → FitsSorts sig (given_by last) g → FitsSorts sig (given_by last) (joined o i f g)
+      → FitsSorts sig (given_by last) g → FitsSorts sig (given_by last) (operator_form o i f g)
   joined_sorted operators.And i f g h k = (h, k)
   joined_sorted operators.Or i f g h k = (h, k)
   joined_sorted operators.Implies i f g h k = (h, k)

@@ -19,7 +19,7 @@ use Rattle.mfotl_parse.specs.Comparisons.{compared_move, signed}
 use Rattle.mfotl_parse.specs.Lookahead.{maybe_move, maybe_number_move}
 use Rattle.mfotl_parse.specs.Operators.{joined_move, enclosed_move, around, deepening, now_behind}
 use Rattle.mfotl_parse.specs.Reading.{transition}
-use Rattle.mfotl_parse.specs.Reduction.{Reduced, reduce, hold, closed, joined}
+use Rattle.mfotl_parse.specs.Reduction.{Reduced, reduce, hold, closed, operator_form}
 use Rattle.mfotl_parse.specs.States.{Frame, Parens, Left, depth, SymbolTable, Stage, Context, Partial, ExpectOperand}
 use Rattle.mfotl_parse.specs.States.{AfterTemporal, AfterOperand, ExpectSign, AfterParen, AfterParenNumber}
 use Rattle.mfotl_parse.specs.Limits.{max_levels}
@@ -157,7 +157,7 @@ module _ (sig : List PredOf) where
       → Takes sig p ls base left v nodes names before
       → Takes sig (at_place (now_behind (is_timed o)) (Left o any_distance v ∷ base) (suc nodes) names) rs
       (Left o i v ∷ base) edge w more others behind
-      → Takes sig p (ls ++ t ∷ rs) base edge (joined o i v w) more others all
+      → Takes sig p (ls ++ t ∷ rs) base edge (operator_form o i v w) more others all
   takes_joined p ls rs t o i base left edge v w nodes more names others before behind all class apart tight loose b k
       h opens back l r =
       let there : reduce (precedence o) l.form l.stack
@@ -165,7 +165,7 @@ module _ (sig : List PredOf) where
       ∙ reduce_here (precedence o) v base loose in
       let whole : Takes sig
       (at_place (now_behind (is_timed o)) (Left o any_distance v ∷ base) (suc nodes) names) rs base edge
-      (joined o i v w) more others behind =
+      (operator_form o i v w) more others behind =
       takes_closed _ rs (Left o i v) base edge w more others behind tight r in
       let rules : List Rule = deepening (deepens o) t.at base (within_nodes t.at nodes ∷ []) in
       let front : moves sig (ls ++ t ∷ []) p
@@ -174,7 +174,8 @@ module _ (sig : List PredOf) where
       moves_both sig ls (t ∷ []) p _ _ l.rules rules l.reached
       (moves_one sig t _ _ rules (joins l.form l.stack base v nodes names o t class there)) in
       rw (← append_assoc ls (t ∷ []) rs)
-      (takes_behind p _ (ls ++ t ∷ []) rs base edge (joined o i v w) more others behind all (l.rules ++ rules) front
+      (takes_behind p _ (ls ++ t ∷ []) rs base edge (operator_form o i v w) more others behind all
+          (l.rules ++ rules) front
       (λ a. kept_both l.rules rules (l.kept.0 (b a)) (k a)) h
       (λ d a. opens d (kept_back l.rules rules a))
       (λ d a e. back (kept_back l.rules rules a) (l.kept.1 d (kept_front l.rules rules a)) e) whole)

@@ -18,7 +18,7 @@ use Rattle.mfotl_parse.specs.declared.class.Class.{Class}
 use Rattle.mfotl_parse.specs.declared.class.Class.TheVariants as classes
 use Rattle.mfotl_parse.specs.declared.term.Operand.TheVariants as operands
 use Rattle.mfotl_parse.specs.declared.term.Side.{Side}
-use Rattle.mfotl_parse.specs.Arguments.{call_of, known, due, after_due, with_argument, argument_move, first_move}
+use Rattle.mfotl_parse.specs.Arguments.{call_of, known, due_sort, after_due, with_argument, argument_move, first_move}
 use Rattle.mfotl_parse.specs.Arguments.{atom_of}
 use Rattle.mfotl_parse.specs.Classes.{class_of}
 use Rattle.mfotl_parse.specs.Grammar.{Bare, Asked, WrittenTerm, Named, Number, Quoted, WrittenArgument, Given, Hidden}
@@ -37,7 +37,7 @@ use Rattle.mfotl_parse.specs.Occurrences.{hidden_count, blank_count}
 use Rattle.mfotl_parse.specs.Meanings.{IntervalKeeps}
 use Rattle.mfotl_parse.specs.Occurrences.{place_of}
 use Rattle.mfotl_parse.specs.Transitions.{Rule, goes, within_nodes, one_due, none_due, is_empty}
-use Rattle.mfotl_parse.specs.SymbolTable.{binder_of, compared, term_of}
+use Rattle.mfotl_parse.specs.SymbolTable.{binder_of, with_comparison, term_of}
 use Rattle.mfotl_parse.specs.Reading.{transition, transition_at}
 use Rattle.mfotl_parse.specs.States.{Frame, Parens, Negation, Moment, Binding, Left, opens_level, depth, Call}
 use Rattle.mfotl_parse.specs.States.{SymbolTable, Stage, Context, Partial, ExpectOperand, AfterTemporal, AfterOperand}
@@ -111,7 +111,7 @@ module _ (sig : List PredOf) where
       → moves sig (argument_spelling a) (at_place now stack nodes names)
       ≡ goes (argument_rules a call.rest nodes)
       (at_place (AfterArgument (with_argument call (argument_term a (scope_of stack) names))) stack
-      (argument_nodes a nodes) (argument_names a (due call.rest) (scope_of stack) names))
+      (argument_nodes a nodes) (argument_names a (due_sort call.rest) (scope_of stack) names))
   argument_read now call (Given (Named (Bare name))) stack nodes names takes fits =
       moves_one sig name _ _ _ (takes name classes.Name fits (λ e. cc) stack nodes names)
   argument_read now call (Given (Named (Asked mark name))) stack nodes names takes fits =
@@ -155,7 +155,7 @@ module _ (sig : List PredOf) where
   arguments_read now call (MoreArguments a comma rest) stack nodes names takes fits =
       let scope = scope_of stack in
       let call2 = with_argument call (argument_term a scope names) in
-      let names2 = argument_names a (due call.rest) scope names in
+      let names2 = argument_names a (due_sort call.rest) scope names in
       let nodes2 = argument_nodes a nodes in
       let later = arguments_read (NextArgument call2) call2 rest stack nodes2 names2 (next_takes call2) fits.2 in
       let commas = first sig (at_place (AfterArgument call2) stack nodes2 names2)
@@ -477,7 +477,7 @@ module _ (sig : List PredOf) where
         right = term_of
             (operand_of right (scope_of stack) names);
       }))) stack nodes
-      (compared left.operand left.at at (operand_of right (scope_of stack) names) (place_of right)
+      (with_comparison left.operand left.at at (operand_of right (scope_of stack) names) (place_of right)
       (term_names right (scope_of stack) names)))
   right_read left at sign (Named (Bare name)) stack nodes names fits =
       one sig (at_place (AfterSign left at sign) stack nodes names) _ name classes.Name [] fits refl
@@ -504,7 +504,7 @@ module _ (sig : List PredOf) where
             (operand_of right (scope_of stack) (term_names left (scope_of stack) names));
       }))
       (suc nodes)
-      (compared (operand_of left (scope_of stack) names) (place_of left) token.at
+      (with_comparison (operand_of left (scope_of stack) names) (place_of left) token.at
       (operand_of right (scope_of stack) (term_names left (scope_of stack) names)) (place_of right)
       (term_names right (scope_of stack) (term_names left (scope_of stack) names)))
       (nodes < max_nodes)

@@ -15,7 +15,7 @@ use Rattle.mfotl_parse.specs.declared.class.Class.{Class}
 use Rattle.mfotl_parse.specs.declared.class.Class.TheVariants as classes
 use Rattle.mfotl_parse.specs.declared.term.Operand.TheVariants as operands
 use Rattle.mfotl_parse.specs.declared.term.Side.{Side}
-use Rattle.mfotl_parse.specs.Arguments.{call_of, due, after_due, with_argument}
+use Rattle.mfotl_parse.specs.Arguments.{call_of, due_sort, after_due, with_argument}
 use Rattle.mfotl_parse.specs.Classes.{class_of}
 use Rattle.mfotl_parse.specs.Grammar.{Bare, Asked, WrittenTerm, Named, Number, Quoted, WrittenArgument, Given, Hidden}
 use Rattle.mfotl_parse.specs.Grammar.{WrittenArguments, LastArgument, MoreArguments, WrittenBound, Count, Counted}
@@ -54,7 +54,7 @@ module _ (sig : List PredOf) where
       (names : SymbolTable) → TakesArgument sig now call → FitsArgument a
       → Leads sig (argument_spelling a) (at_place now stack nodes names)
       (at_place (AfterArgument (with_argument call (argument_term a (scope_of stack) names))) stack
-      (argument_nodes sig a nodes) (argument_names a (due call.rest) (scope_of stack) names))
+      (argument_nodes sig a nodes) (argument_names a (due_sort call.rest) (scope_of stack) names))
       (argument_shown a call.rest nodes)
   argument_leads now call (Given (Named (Bare name))) stack nodes names takes fits =
       leads_move sig name _ _ _ (takes name classes.Name fits (λ e. cc) stack nodes names)
@@ -80,7 +80,7 @@ module _ (sig : List PredOf) where
   arguments_leads now call (MoreArguments a comma rest) stack nodes names takes fits =
       let scope = scope_of stack in
       let call2 = with_argument call (argument_term a scope names) in
-      let names2 = argument_names a (due call.rest) scope names in
+      let names2 = argument_names a (due_sort call.rest) scope names in
       let nodes2 = argument_nodes sig a nodes in
       let ends : List Term → Partial = λ (read : List Term).
       at_place (AfterArgument

@@ -31,12 +31,13 @@ use Rattle.mfotl_parse.specs.Lookahead.{maybe_move, maybe_number_move}
 use Rattle.mfotl_parse.specs.Operators.{deepening, now_behind}
 use Rattle.mfotl_parse.specs.Reading.{transition}
 use Rattle.mfotl_parse.specs.Reduction.{reduce}
-use Rattle.mfotl_parse.specs.Shows.{Showing, level_first, postponed, is_number, begins_with_number, enclosed_shown}
+use Rattle.mfotl_parse.specs.Shows.{Showing, level_first, postponed, is_integer, begins_with_number, enclosed_shown}
 use Rattle.mfotl_parse.specs.Shows.{prefix_shown, variable_shown, variables_shown, joint_shown, levels_right}
 use Rattle.mfotl_parse.specs.Shows.{interval_shown, is_omitted, tree_shown, shown_by}
 use Rattle.mfotl_parse.specs.States.{Frame, Parens, Negation, Moment, Binding, Left, depth, SymbolTable, Context}
 use Rattle.mfotl_parse.specs.States.{Partial, ExpectOperand, AfterTemporal, AfterOperand, ExpectSign, ExpectVariable}
-use Rattle.mfotl_parse.specs.States.{AfterVariableMark, AfterVariable, AfterParen, AfterParenNumber, no_names, start}
+use Rattle.mfotl_parse.specs.States.{AfterVariableMark, AfterVariable, AfterParen, AfterParenNumber, no_names}
+use Rattle.mfotl_parse.specs.States.{nothing_read}
 use Rattle.mfotl_parse.proofs.SpelledMoves.{at_place, behind_move, then_moves, moves, moves_one, moves_both, no_move}
 use Rattle.mfotl_parse.proofs.SpelledMoves.{same_next}
 use Rattle.mfotl_parse.proofs.SpelledForms.{IsLoose, IsHave, reduce_here, enclosed, joins, fresh_too}
@@ -105,7 +106,7 @@ module _ (sig : List PredOf) (stack : List Frame) (nodes : ℕ) (names : SymbolT
   by_class : (at : ℕ) (t : Lexeme) (ts : List Lexeme) (rules : List Rule) (q : Partial) (c : Class) → IsHave q.now
       → then_moves (operand_move inside t c) (moves sig ts) ≡ goes rules q
       → traced t.at (maybe_move here at t c) (trace sig ts)
-      ≡ postponed at (depth stack) (is_number c) (traced t.at (operand_move inside t c) (trace sig ts))
+      ≡ postponed at (depth stack) (is_integer c) (traced t.at (operand_move inside t c) (trace sig ts))
   by_class at t ts rules q (classes.Integer z) have e =
       let there : Partial = record {
         context = inside;
@@ -346,7 +347,8 @@ module _ (sig : List PredOf) where
       ∙ ap (λ (s : Showing). interval_shown interval ++ s) behind))
 
 -- what each token of a whole formula shows
-pub shows_whole : (sig : List PredOf) (tree : Tree) → Fits 1 tree → trace sig (spelling tree) start ≡ shown_by sig tree
+pub shows_whole : (sig : List PredOf) (tree : Tree) → Fits 1 tree
+    → trace sig (spelling tree) nothing_read ≡ shown_by sig tree
 unfolding depth
 shows_whole sig tree fits =
     shows sig tree 1 1 fits (one_reaches 1 (omega arith)) (λ e. omega arith) false [] 0 no_names tt

@@ -23,7 +23,7 @@ use Rattle.mfotl_parse.specs.declared.class.Quantifier.{Quantifier}
 use Rattle.mfotl_parse.specs.declared.class.Quantifier.TheVariants as quantifiers
 use Rattle.mfotl_parse.specs.declared.class.Temporal.{Temporal}
 use Rattle.mfotl_parse.specs.declared.class.Temporal.TheVariants as temporals
-use Rattle.mfotl_parse.specs.Arguments.{call_of, due, after_due, blanks}
+use Rattle.mfotl_parse.specs.Arguments.{call_of, due_sort, after_due, blanks}
 use Rattle.mfotl_parse.specs.Grammar.{WrittenTerm, Named, Number, Quoted, WrittenArgument, Given}
 use Rattle.mfotl_parse.specs.Grammar.{Hidden, WrittenArguments, LastArgument, MoreArguments, WrittenVariables}
 use Rattle.mfotl_parse.specs.Grammar.{LastVariable, MoreVariables, Tree, Truth, BareAtom, AtomOf, Comparison, Enclosed}
@@ -32,11 +32,11 @@ use Rattle.mfotl_parse.specs.Meanings.{Scope, operand_of, term_names, argument_t
 use Rattle.mfotl_parse.specs.Meanings.{arguments_names, atom, variables_names, variables_scope, quantify, interval_of}
 use Rattle.mfotl_parse.specs.Meanings.{names_behind, value}
 use Rattle.mfotl_parse.specs.Occurrences.{name_of, place_of_variable, place_of}
-use Rattle.mfotl_parse.specs.SymbolTable.{number_of, free_place, free_or_new, with_free, bound_or_free, met}
+use Rattle.mfotl_parse.specs.SymbolTable.{number_of, free_place, free_or_new, with_free, bound_or_free, occurring}
 use Rattle.mfotl_parse.specs.SymbolTable.{bound_more}
 use Rattle.mfotl_parse.specs.SymbolTable.{term_of}
 use Rattle.mfotl_parse.specs.Operands.{truth}
-use Rattle.mfotl_parse.specs.Reduction.{momentary, joined as joined_form, quantified}
+use Rattle.mfotl_parse.specs.Reduction.{momentary, operator_form, quantified}
 use Rattle.mfotl_parse.specs.States.{SymbolTable}
 use Rattle.mfotl_parse.specs.Limits.{max_free}
 use Rattle.mfotl_parse.proofs.FreeNames.{placed_free, compared_free}
@@ -138,8 +138,8 @@ free_none k = ap (λ (b : Bool). cond b ((max_free + k) ∷ []) []) (le-ltb (max
 
 -- a name that was met
 name_order : (name : List ℕ) (at : ℕ) (n : SymbolTable) (bound : Option ℕ)
-    → length (met bound name at n).free ≤ max_free
-    → joined (seen n) (free_in (number_of (bound_or_free bound name n) ∷ [])) ≡ seen (met bound name at n)
+    → length (occurring bound name at n).free ≤ max_free
+    → joined (seen n) (free_in (number_of (bound_or_free bound name n) ∷ [])) ≡ seen (occurring bound name at n)
 name_order name at n (Some k) few = ap (joined (seen n)) (free_none k) ∙ joined_nothing (seen n)
 name_order name at n None few = by_place (free_place name n) refl few
   where
@@ -199,14 +199,14 @@ arguments_order : (xs : WrittenArguments) (places : List Sort) (scope : Scope) (
     ≡ seen (arguments_names xs places scope n)
 arguments_order (LastArgument a) places scope n few =
     ap (λ (vs : List ℕ). joined (seen n) (free_in vs)) (last_only (argument_term a scope n))
-    ∙ argument_order a (due places) scope n few
+    ∙ argument_order a (due_sort places) scope n few
 arguments_order (MoreArguments a comma rest) places scope n few =
-    let between = argument_names a (due places) scope n in
+    let between = argument_names a (due_sort places) scope n in
     ap (λ (vs : List ℕ). joined (seen n) (free_in vs))
     (variables_in-cons (argument_term a scope n) (arguments_terms rest (after_due places) scope between))
     ∙ one_then n between (arguments_names rest (after_due places) scope between)
     (variable_in (argument_term a scope n)) _
-    (argument_order a (due places) scope n
+    (argument_order a (due_sort places) scope n
     (fewer between (arguments_names rest (after_due places) scope between)
     (arguments_grow rest (after_due places) scope between) few))
     (arguments_order rest (after_due places) scope between few)
@@ -243,7 +243,7 @@ moment_order temporals.Historically i f = refl
 moment_order temporals.Eventually i f = refl
 moment_order temporals.Always i f = refl
 
-pub joined_order : (o : Operator) (i : Interval) (f g : Form) → fv (joined_form o i f g) ≡ joined (fv f) (fv g)
+pub joined_order : (o : Operator) (i : Interval) (f g : Form) → fv (operator_form o i f g) ≡ joined (fv f) (fv g)
 unfolding fv
 joined_order operators.And i f g = refl
 joined_order operators.Or i f g = refl

@@ -8,9 +8,9 @@ use Rattle.mfotl_sig.specs.Preds.{PredOf}
 use Rattle.mfotl_parse.specs.Grammar.{Tree, Fits, spelling, IsFormula, BeginsFormula}
 use Rattle.mfotl_parse.specs.GrammarLaws.{AcceptedExactly}
 use Rattle.mfotl_parse.specs.Meanings.{no_scope, all_names, value, node_count}
-use Rattle.mfotl_parse.specs.Reading.{step, finished, ended, ended_at, is_closed}
+use Rattle.mfotl_parse.specs.Reading.{step, checked_at_end, closed_at_end, ended_at, is_closed}
 use Rattle.mfotl_parse.specs.Reduction.{Reduced, reduce}
-use Rattle.mfotl_parse.specs.States.{no_names, depth, Partial, AfterOperand, start}
+use Rattle.mfotl_parse.specs.States.{no_names, depth, Partial, AfterOperand, nothing_read}
 use Rattle.mfotl_parse.specs.SymbolTable.{binder_of}
 use Rattle.mfotl_parse.specs.Transitions.{Rule, goes}
 use Rattle.mfotl_parse.specs.Viability.{is_whole, accepts, IsViable}
@@ -23,7 +23,7 @@ use Rattle.mfotl_parse.proofs.ViabilityLemmas.{completes}
 
 -- a formula is read from the start on
 pub whole : (sig : List PredOf) (tree : Tree) → Fits 1 tree
-    → Takes sig start (spelling tree) [] 1 (value sig tree no_scope no_names) (0 + node_count tree)
+    → Takes sig nothing_read (spelling tree) [] 1 (value sig tree no_scope no_names) (0 + node_count tree)
     (all_names sig tree) (Keeps sig tree 0 0)
 unfolding binder_of depth
 whole sig tree fits = reads sig tree 1 1 fits (one_reaches 1 (omega arith)) (λ e. omega arith) [] 0 no_names tt
@@ -39,16 +39,16 @@ accepts_nothing : (sig : List PredOf) (p : Partial) → accepts sig [] p ≡ is_
 unfolding accepts
 accepts_nothing sig p = refl
 
-accepted : (sig : List PredOf) (tree : Tree) → Fits 1 tree → accepts sig (spelling tree) start ≡ true
+accepted : (sig : List PredOf) (tree : Tree) → Fits 1 tree → accepts sig (spelling tree) nothing_read ≡ true
 accepted sig tree fits =
-    ap (λ ts. accepts sig ts start) (sym (append-nil (spelling tree)))
-    ∙ accepts_moves sig (spelling tree) [] start _ _ (whole sig tree fits).reached
+    ap (λ ts. accepts sig ts nothing_read) (sym (append-nil (spelling tree)))
+    ∙ accepts_moves sig (spelling tree) [] nothing_read _ _ (whole sig tree fits).reached
     ∙ accepts_nothing sig _
     ∙ ap (λ (r : Reduced). is_closed r.stack) (all_closed sig tree fits)
 
-pub formula_accepted : (sig : List PredOf) (ts : List Lexeme) → IsFormula ts → accepts sig ts start ≡ true
+pub formula_accepted : (sig : List PredOf) (ts : List Lexeme) → IsFormula ts → accepts sig ts nothing_read ≡ true
 formula_accepted sig ts formula =
-    ap (λ (xs : List Lexeme). accepts sig xs start) formula.2 ∙ accepted sig formula.0 formula.1
+    ap (λ (xs : List Lexeme). accepts sig xs nothing_read) formula.2 ∙ accepted sig formula.0 formula.1
 
 pub accepted_exactly : AcceptedExactly
 accepted_exactly sig ts = (accepted_formula sig ts, formula_accepted sig ts)
@@ -61,16 +61,16 @@ viable sig ts v = (v.0, accepted_formula sig (ts ++ v.0) v.1)
 pub begins : (sig : List PredOf) (ts : List Lexeme) → BeginsFormula ts → IsViable sig ts
 begins sig ts b = (b.0, formula_accepted sig (ts ++ b.0) b.1)
 
-module _ (sig : List PredOf) (ts : List Lexeme) (p : Partial) (ran : run (step sig) ts start ≡ Ok p) where
+module _ (sig : List PredOf) (ts : List Lexeme) (p : Partial) (ran : run (step sig) ts nothing_read ≡ Ok p) where
   -- tokens that show no fault begin a formula
   pub read_viable : BeginsFormula ts
   read_viable =
       let due = completes sig p in
-      (due.0, accepted_formula sig (ts ++ due.0) (accepts_read sig ts due.0 start p ran ∙ due.1))
+      (due.0, accepted_formula sig (ts ++ due.0) (accepts_read sig ts due.0 nothing_read p ran ∙ due.1))
 
-  stands_whole : accepts sig ts start ≡ is_whole p.now p.context.stack
+  stands_whole : accepts sig ts nothing_read ≡ is_whole p.now p.context.stack
   stands_whole =
-      ap (λ us. accepts sig us start) (sym (append-nil ts)) ∙ accepts_read sig ts [] start p ran
+      ap (λ us. accepts sig us nothing_read) (sym (append-nil ts)) ∙ accepts_read sig ts [] nothing_read p ran
       ∙ accepts_nothing sig p
 
   -- they are one where an operand was read and nothing is open
@@ -81,21 +81,22 @@ module _ (sig : List PredOf) (ts : List Lexeme) (p : Partial) (ran : run (step s
   formula_whole formula = sym stands_whole ∙ formula_accepted sig ts formula
 
   module _ (tree : Tree) (fits : Fits 1 tree) (spelled : ts ≡ spelling tree) where
-    reached : (rules : List Rule) → moves sig ts start ≡ goes rules p
+    reached : (rules : List Rule) → moves sig ts nothing_read ≡ goes rules p
         → goes (whole sig tree fits).rules (at_place (AfterOperand (whole sig tree fits).form)
         (whole sig tree fits).stack (0 + node_count tree) (all_names sig tree)) ≡ goes rules p
     reached rules e =
-        sym (whole sig tree fits).reached ∙ ap (λ us. moves sig us start) (sym spelled) ∙ e
+        sym (whole sig tree fits).reached ∙ ap (λ us. moves sig us nothing_read) (sym spelled) ∙ e
 
     -- all rules on the way were kept
     pub rules_kept : AreKept (whole sig tree fits).rules
-    rules_kept = let m = read_moves sig ts start p ran in subst AreKept (sym (same_rules (reached m.0 m.1))) m.2
+    rules_kept = let m = read_moves sig ts nothing_read p ran in subst AreKept (sym (same_rules (reached m.0 m.1))) m.2
 
     -- behind a whole formula the end shows what its names show
     pub finished_by : (end : ℕ) → ended_at p.now p.context end
-        ≡ finished (all_names sig tree) (value sig tree no_scope no_names)
+        ≡ checked_at_end (all_names sig tree) (value sig tree no_scope no_names)
     unfolding ended_at
     finished_by end =
-        let m = read_moves sig ts start p ran in
+        let m = read_moves sig ts nothing_read p ran in
         ap (λ (q : Partial). ended_at q.now q.context end) (sym (same_next (reached m.0 m.1)))
-        ∙ ap (λ (r : Reduced). ended (all_names sig tree) r.form (is_closed r.stack) end) (all_closed sig tree fits)
+        ∙ ap (λ (r : Reduced). closed_at_end (all_names sig tree) r.form (is_closed r.stack) end)
+            (all_closed sig tree fits)

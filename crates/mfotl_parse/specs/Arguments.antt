@@ -38,9 +38,9 @@ called sig p at name =
     (with_now (counted p) (FirstArgument (call_of found (length p.names.bound_sorts))))
 
 -- the sort of the argument that is due
-abbrev pub due : List Sort → Sort
-due [] = sorts.Int
-due (sort ∷ rest) = sort
+abbrev pub due_sort : List Sort → Sort
+due_sort [] = sorts.Int
+due_sort (sort ∷ rest) = sort
 
 -- the sorts of the arguments behind the one that is due
 abbrev pub after_due : List Sort → List Sort
@@ -55,7 +55,7 @@ with_argument call term =
 -- behind a term that stands at the offset
 abbrev pub term_taken : Context → Call → ℕ → Operand → Partial
 term_taken p call at operand =
-    with_now (with_names p (constrain_term operand at (due call.rest) p.names))
+    with_now (with_names p (constrain_term operand at (due_sort call.rest) p.names))
     (AfterArgument (with_argument call (term_of operand)))
 
 -- behind a variable's name; the variable stands at the offset
@@ -67,7 +67,7 @@ variable_taken p call at name =
 -- behind a `_`
 abbrev pub blank_taken : Context → Call → Partial
 blank_taken p call =
-    with_now (with_names (counted p) (bound_more (Some (due call.rest)) p.names))
+    with_now (with_names (counted p) (bound_more (Some (due_sort call.rest)) p.names))
     (AfterArgument (with_argument call (terms.Var (max_free + length p.names.bound_sorts))))
 
 -- where an argument is due

@@ -36,7 +36,7 @@ IsCause sig front t (TooManyNodes at) = ShowsFault sig front t (TooManyNodes at)
 IsCause sig front t _ = ⊥
 
 -- the tokens are this formula, and the text ends behind them
-pub record IsWhole (ts : List Lexeme) (tail : Tail LexFault) (tree : Tree) : Type 0 where
+pub record IsWholeFormula (ts : List Lexeme) (tail : Tail LexFault) (tree : Tree) : Type 0 where
   pub end : ℕ
   pub ended : tail ≡ End end
   pub fits : Fits 1 tree
@@ -49,13 +49,13 @@ ninth_variable tree = option_map (λ one. one.1) (slice_get (free_variables tree
 -- sorts clash in a whole formula
 pub record SortsClash (sig : List PredOf) (ts : List Lexeme) (tail : Tail LexFault) (at : ℕ) : Type 0 where
   pub tree : Tree
-  pub whole : IsWhole ts tail tree
+  pub whole : IsWholeFormula ts tail tree
   pub clash : sort_clash sig tree ≡ Some at
 
 -- a whole formula in which no sorts clash has a ninth free variable
 pub record HasNinthVariable (sig : List PredOf) (ts : List Lexeme) (tail : Tail LexFault) (at : ℕ) : Type 0 where
   pub tree : Tree
-  pub whole : IsWhole ts tail tree
+  pub whole : IsWholeFormula ts tail tree
   pub even : sort_clash sig tree ≡ None
   pub ninth : ninth_variable tree ≡ Some at
 

@@ -12,7 +12,7 @@ use Rattle.mfotl_parse.specs.declared.term.Operand.{Operand}
 use Rattle.mfotl_parse.specs.declared.term.Operand.TheVariants as operands
 use Rattle.mfotl_parse.specs.declared.term.Side.{Side}
 use Rattle.mfotl_parse.specs.Transitions.{Transition, goes, within_nodes}
-use Rattle.mfotl_parse.specs.SymbolTable.{resolved, noted, compared, term_of}
+use Rattle.mfotl_parse.specs.SymbolTable.{resolved, noted, with_comparison, term_of}
 use Rattle.mfotl_parse.specs.States.{Context, Partial, with_now, with_names, counted, AfterOperand, ExpectSign}
 use Rattle.mfotl_parse.specs.States.{AfterSign, AfterSignMark}
 
@@ -46,7 +46,7 @@ comparison left sign right = forms.Compare (record { sign = sign; left = term_of
 -- behind a comparison's right side, which stands at the offset
 abbrev pub comparison_done : Context → Side → ℕ → Sign → ℕ → Operand → Partial
 comparison_done p left at sign right_at right =
-    with_now (with_names p (compared left.operand left.at at right right_at p.names))
+    with_now (with_names p (with_comparison left.operand left.at at right right_at p.names))
     (AfterOperand (comparison left.operand sign right))
 
 -- behind a variable as the right side

@@ -82,8 +82,8 @@ pub record ClashExamples : Type 0 where
   pub before_many : FailsWith (codes "NOT (q(a,b,c,d,e,f,g,h) AND s(i) AND s(a))") (SortClash 39)
 
 -- the text spells this formula over these free variables
-abbrev pub Spells : List ℕ → Form → List Var → Type 0
-Spells text f vars = reading text preds ≡ Ok (record { formula = f; vars = vars })
+abbrev pub IsReadAs : List ℕ → Form → List Var → Type 0
+IsReadAs text f vars = reading text preds ≡ Ok (record { formula = f; vars = vars })
 
 -- p of this variable
 abbrev pub variable : ℕ → Form
@@ -123,21 +123,21 @@ free_x = integer (codes "x") ∷ []
 
 -- how operators group, and what intervals mean
 pub record FormulaExamples : Type 0 where
-  pub and_left : Spells (codes "TRUE AND FALSE AND TRUE") (forms.And (forms.And forms.True forms.False) forms.True) []
-  pub or_left : Spells (codes "TRUE OR FALSE OR TRUE") (forms.Or (forms.Or forms.True forms.False) forms.True) []
-  pub and_in_or : Spells (codes "TRUE OR FALSE AND TRUE") (forms.Or forms.True (forms.And forms.False forms.True)) []
-  pub implies_right : Spells (codes "TRUE IMPLIES FALSE IMPLIES TRUE")
+  pub and_left : IsReadAs (codes "TRUE AND FALSE AND TRUE") (forms.And (forms.And forms.True forms.False) forms.True) []
+  pub or_left : IsReadAs (codes "TRUE OR FALSE OR TRUE") (forms.Or (forms.Or forms.True forms.False) forms.True) []
+  pub and_in_or : IsReadAs (codes "TRUE OR FALSE AND TRUE") (forms.Or forms.True (forms.And forms.False forms.True)) []
+  pub implies_right : IsReadAs (codes "TRUE IMPLIES FALSE IMPLIES TRUE")
       (forms.Implies forms.True (forms.Implies forms.False forms.True)) []
-  pub not_first : Spells (codes "NOT TRUE SINCE FALSE")
+  pub not_first : IsReadAs (codes "NOT TRUE SINCE FALSE")
       (forms.Since any_distance (forms.Not forms.True) forms.False) []
-  pub body : Spells (codes "EXISTS x. p(x) AND p(x)")
+  pub body : IsReadAs (codes "EXISTS x. p(x) AND p(x)")
       (forms.Exists first_bound (forms.And (variable 8) (variable 8))) []
-  pub free_behind : Spells (codes "(EXISTS x. p(x)) AND p(x)")
+  pub free_behind : IsReadAs (codes "(EXISTS x. p(x)) AND p(x)")
       (forms.And (forms.Exists first_bound (variable 8)) (variable 0)) free_x
-  pub marked : Spells (codes "p(?x) OR p(x)") (forms.Or (variable 0) (variable 0)) free_x
-  pub blank : Spells (codes "p(_)") (forms.Exists (record { number = 8; name = codes "_" }) (variable 8)) []
-  pub between : Spells (codes "ONCE(1m,2h) TRUE") (forms.Once (distances 61 (Some 7199)) forms.True) []
-  pub no_interval : Spells (codes "ONCE (-5 < 3)")
+  pub marked : IsReadAs (codes "p(?x) OR p(x)") (forms.Or (variable 0) (variable 0)) free_x
+  pub blank : IsReadAs (codes "p(_)") (forms.Exists (record { number = 8; name = codes "_" }) (variable 8)) []
+  pub between : IsReadAs (codes "ONCE(1m,2h) TRUE") (forms.Once (distances 61 (Some 7199)) forms.True) []
+  pub no_interval : IsReadAs (codes "ONCE (-5 < 3)")
       (forms.Once any_distance
       (forms.Compare
       (record {
@@ -146,55 +146,56 @@ pub record FormulaExamples : Type 0 where
         right = terms.Const
             (values.Int (pos 3));
       }))) []
-  pub since_right : Spells (codes "TRUE SINCE FALSE UNTIL TRUE")
+  pub since_right : IsReadAs (codes "TRUE SINCE FALSE UNTIL TRUE")
       (forms.Since any_distance forms.True (forms.Until any_distance forms.False forms.True)) []
-  pub since_in_and : Spells (codes "TRUE AND FALSE SINCE TRUE AND FALSE")
+  pub since_in_and : IsReadAs (codes "TRUE AND FALSE SINCE TRUE AND FALSE")
       (forms.And (forms.And forms.True (forms.Since any_distance forms.False forms.True)) forms.False) []
-  pub equiv_left : Spells (codes "TRUE EQUIV FALSE EQUIV TRUE")
+  pub equiv_left : IsReadAs (codes "TRUE EQUIV FALSE EQUIV TRUE")
       (forms.Equiv (forms.Equiv forms.True forms.False) forms.True) []
-  pub implies_in_equiv : Spells (codes "TRUE IMPLIES FALSE EQUIV TRUE OR FALSE")
+  pub implies_in_equiv : IsReadAs (codes "TRUE IMPLIES FALSE EQUIV TRUE OR FALSE")
       (forms.Equiv (forms.Implies forms.True forms.False) (forms.Or forms.True forms.False)) []
-  pub one_operand : Spells (codes "PREVIOUS NEXT ONCE HISTORICALLY EVENTUALLY ALWAYS NOT TRUE")
+  pub one_operand : IsReadAs (codes "PREVIOUS NEXT ONCE HISTORICALLY EVENTUALLY ALWAYS NOT TRUE")
       (forms.Previous any_distance
       (forms.Next any_distance
       (forms.Once any_distance
       (forms.Historically any_distance
       (forms.Eventually any_distance (forms.Always any_distance (forms.Not forms.True))))))) []
-  pub each_sign : Spells (codes "1 = 2 OR 1 < 2 OR 1 <= 2 OR 1 > 2 OR 1 >= 2")
+  pub each_sign : IsReadAs (codes "1 = 2 OR 1 < 2 OR 1 <= 2 OR 1 > 2 OR 1 >= 2")
       (forms.Or (forms.Or
       (forms.Or (forms.Or (one_and_two signs.Equal) (one_and_two signs.Less)) (one_and_two signs.LessEqual))
       (one_and_two signs.Greater)) (one_and_two signs.GreaterEqual)) []
-  pub each_unit : Spells (codes "ONCE[1s,1m] ONCE[1h,1d] TRUE")
+  pub each_unit : IsReadAs (codes "ONCE[1s,1m] ONCE[1h,1d] TRUE")
       (forms.Once (distances 1 (Some 60)) (forms.Once (distances 3600 (Some 86400)) forms.True)) []
-  pub one_number : Spells (codes "ONCE[3,3] ONCE(3,4] TRUE")
+  pub one_number : IsReadAs (codes "ONCE[3,3] ONCE(3,4] TRUE")
       (forms.Once (distances 3 (Some 3)) (forms.Once (distances 4 (Some 4)) forms.True)) []
-  pub minus_zero : Spells (codes "ONCE[-0,3] TRUE") (forms.Once (distances 0 (Some 3)) forms.True) []
-  pub longest : Spells (codes "ONCE[0,53375995583650d] TRUE")
+  pub minus_zero : IsReadAs (codes "ONCE[-0,3] TRUE") (forms.Once (distances 0 (Some 3)) forms.True) []
+  pub longest : IsReadAs (codes "ONCE[0,53375995583650d] TRUE")
       (forms.Once (distances 0 (Some 4611686018427360000)) forms.True) []
-  pub past_longest : Spells (codes "ONCE(4611686018427387904,*) TRUE")
+  pub past_longest : IsReadAs (codes "ONCE(4611686018427387904,*) TRUE")
       (forms.Once (distances 4611686018427387905 None) forms.True) []
 
 -- which variable a name stands for, and its sort
 pub record NameExamples : Type 0 where
-  pub first_occurrence : Spells (codes "r(y,x) AND p(y)") (forms.And (pair 0 1) (variable 0))
+  pub first_occurrence : IsReadAs (codes "r(y,x) AND p(y)") (forms.And (pair 0 1) (variable 0))
       (integer (codes "y") ∷ integer (codes "x") ∷ [])
-  pub unsorted : Spells (codes "x = y")
+  pub unsorted : IsReadAs (codes "x = y")
       (forms.Compare (record { sign = signs.Equal; left = terms.Var 0; right = terms.Var 1 }))
       (integer (codes "x") ∷ integer (codes "y") ∷ [])
-  pub sorted : Spells (codes "x = y AND s(x)")
+  pub sorted : IsReadAs (codes "x = y AND s(x)")
       (forms.And (forms.Compare (record { sign = signs.Equal; left = terms.Var 0; right = terms.Var 1 }))
       (text_variable 0)) (record { name = codes "x"; sort = sorts.Text } ∷ integer (codes "y") ∷ [])
-  pub several : Spells (codes "FORALL x, y. r(x,y)")
+  pub several : IsReadAs (codes "FORALL x, y. r(x,y)")
       (forms.Forall first_bound (forms.Forall (record { number = 9; name = codes "y" }) (pair 8 9))) []
-  pub twice : Spells (codes "EXISTS x, x. p(x)") (forms.Exists first_bound (forms.Exists second_bound (variable 9))) []
-  pub apart : Spells (codes "p(x) AND EXISTS x. s(x)")
+  pub twice : IsReadAs (codes "EXISTS x, x. p(x)")
+      (forms.Exists first_bound (forms.Exists second_bound (variable 9))) []
+  pub apart : IsReadAs (codes "p(x) AND EXISTS x. s(x)")
       (forms.And (variable 0) (forms.Exists first_bound (text_variable 8))) free_x
-  pub hidden : Spells (codes "EXISTS x. (EXISTS x. p(x)) AND p(x)")
+  pub hidden : IsReadAs (codes "EXISTS x. (EXISTS x. p(x)) AND p(x)")
       (forms.Exists first_bound (forms.And (forms.Exists second_bound (variable 9)) (variable 8))) []
-  pub blanks : Spells (codes "r(_,_)")
+  pub blanks : IsReadAs (codes "r(_,_)")
       (forms.Exists (record { number = 8; name = codes "_" })
       (forms.Exists (record { number = 9; name = codes "_" }) (pair 8 9))) []
-  pub blank_name : Spells (codes "_(x)") (forms.Atom (record { pred = 4; args = terms.Var 0 ∷ [] })) free_x
+  pub blank_name : IsReadAs (codes "_(x)") (forms.Atom (record { pred = 4; args = terms.Var 0 ∷ [] })) free_x
 
 -- `NOT ` so many times, and then the text
 abbrev pub denied : ℕ → List ℕ → List ℕ
@@ -212,16 +213,16 @@ of_one = forms.Atom (record { pred = 0; args = int_term 1 ∷ [] })
 
 -- how much may be open at once
 pub record DepthExamples : Type 0 where
-  pub deepest : Spells (denied 64 (codes "p(1)")) (nots 64 of_one) []
+  pub deepest : IsReadAs (denied 64 (codes "p(1)")) (nots 64 of_one) []
   pub too_deep : FailsWith (denied 65 (codes "p(1)")) (TooDeep 256)
-  pub blank : Spells (denied 64 (codes "p(_)"))
+  pub blank : IsReadAs (denied 64 (codes "p(_)"))
       (nots 64 (forms.Exists (record { number = 8; name = codes "_" }) (variable 8))) []
   pub marked : FailsWith (denied 64 (codes "EXISTS ?x. p(x)")) (TooDeep 263)
   pub paren : FailsWith (denied 63 (codes "ONCE (p(1))")) (TooDeep 257)
   pub bad_in_paren : FailsWith (denied 63 (codes "ONCE ($")) (Lex (record { kind = BadByte; at = 258 }))
   pub bad_behind_number : FailsWith (denied 63 (codes "ONCE (5 $")) (Lex (record { kind = BadByte; at = 260 }))
   pub compared : FailsWith (denied 63 (codes "ONCE (5 < 6)")) (TooDeep 257)
-  pub interval : Spells (denied 63 (codes "ONCE (5,6] p(1)")) (nots 63 (forms.Once (distances 6 (Some 6)) of_one)) []
+  pub interval : IsReadAs (denied 63 (codes "ONCE (5,6] p(1)")) (nots 63 (forms.Once (distances 6 (Some 6)) of_one)) []
 
 -- where a bound is too long: by its number alone, by its unit, and behind `(` by the token that makes it a bound
 pub record BoundExamples : Type 0 where

@@ -14,13 +14,13 @@ use Rattle.mfotl_parse.specs.Meanings.{all_names, IsValue}
 use Rattle.mfotl_parse.specs.Mentions.{sort_clash}
 use Rattle.mfotl_parse.specs.Reading.{step, ended_at, at_tail, text_of, reading}
 use Rattle.mfotl_parse.specs.Shows.{Showing, silent, shown_by}
-use Rattle.mfotl_parse.specs.States.{Partial, start}
+use Rattle.mfotl_parse.specs.States.{Partial, nothing_read}
 use Rattle.mfotl_parse.specs.SymbolTable.{uneven_pair, clash_or_pair}
 use Rattle.mfotl_parse.specs.Viability.{accepts}
 
 -- the reader takes exactly the formulas of the grammar, the other rules apart
 abbrev pub AcceptedExactly : Type 0
-AcceptedExactly = (sig : List PredOf) (ts : List Lexeme) → IsTrue (accepts sig ts start) ↔ IsFormula ts
+AcceptedExactly = (sig : List PredOf) (ts : List Lexeme) → IsTrue (accepts sig ts nothing_read) ↔ IsFormula ts
 
 -- what is spelled and keeps the rules is read
 abbrev pub SpelledIsRead : Type 0
@@ -39,16 +39,16 @@ OneAnswer = (sig : List PredOf) → layer.OneAnswer (λ bytes. reading bytes sig
 -- tokens that show no fault begin a formula; behind them a token shows Syntax exactly where they begin none
 -- with it, and the text's end exactly where they are none
 pub record SyntaxExactly : Type 0 where
-  pub sound : (sig : List PredOf) (ts : List Lexeme) (p : Partial) → run (step sig) ts start ≡ Ok p
+  pub sound : (sig : List PredOf) (ts : List Lexeme) (p : Partial) → run (step sig) ts nothing_read ≡ Ok p
       → BeginsFormula ts
-  pub token : (sig : List PredOf) (ts : List Lexeme) (p : Partial) (t : Lexeme) → run (step sig) ts start ≡ Ok p
+  pub token : (sig : List PredOf) (ts : List Lexeme) (p : Partial) (t : Lexeme) → run (step sig) ts nothing_read ≡ Ok p
       → (step sig p t ≡ Err (Syntax t.at)) ↔ (BeginsFormula (ts ++ t ∷ []) → ⊥)
-  pub end : (sig : List PredOf) (ts : List Lexeme) (p : Partial) (at : ℕ) → run (step sig) ts start ≡ Ok p
+  pub end : (sig : List PredOf) (ts : List Lexeme) (p : Partial) (at : ℕ) → run (step sig) ts nothing_read ≡ Ok p
       → (ended_at p.now p.context at ≡ Err (Syntax at)) ↔ (IsFormula ts → ⊥)
 
 -- the reader goes on behind the tokens
 abbrev pub AreRead : List PredOf → List Lexeme → Type 0
-AreRead sig ts = (read : Partial) × (run (step sig) ts start ≡ Ok read)
+AreRead sig ts = (read : Partial) × (run (step sig) ts nothing_read ≡ Ok read)
 
 -- the tokens begin a formula, and none of them shows a fault
 pub record IsSilent (sig : List PredOf) (ts : List Lexeme) : Type 0 where
@@ -66,7 +66,7 @@ SilentAreRead = (sig : List PredOf) (ts : List Lexeme) → AreRead sig ts ↔ Is
 -- it goes on exactly behind tokens of which none is the cause of a fault
 abbrev pub ExactSoundness : Type 0
 ExactSoundness =
-    (sig : List PredOf) → layer.ExactSoundness (step sig) start at_tail BeginsFormula (IsCause sig) (IsLast sig)
+    (sig : List PredOf) → layer.ExactSoundness (step sig) nothing_read at_tail BeginsFormula (IsCause sig) (IsLast sig)
 
 -- where the reader's symbol table tells that sorts clash
 abbrev pub table_clash : List PredOf → Tree → Option ℕ
@@ -105,4 +105,4 @@ ExactLex =
 
 -- what bytes whose end isn't told show is shown by any that begin with them
 abbrev pub StaysShown : Type 0
-StaysShown = (sig : List PredOf) → StaysShownBy (step sig) start at_tail
+StaysShown = (sig : List PredOf) → StaysShownBy (step sig) nothing_read at_tail

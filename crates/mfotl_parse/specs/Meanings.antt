@@ -15,7 +15,7 @@ use Rattle.mfotl_sig.specs.Preds.{PredOf, named}
 use Rattle.mfotl_parse.specs.declared.class.Quantifier.{Quantifier}
 use Rattle.mfotl_parse.specs.declared.term.Operand.{Operand}
 use Rattle.mfotl_parse.specs.declared.term.Operand.TheVariants as operands
-use Rattle.mfotl_parse.specs.Arguments.{call_of, due, after_due, blanks}
+use Rattle.mfotl_parse.specs.Arguments.{call_of, due_sort, after_due, blanks}
 use Rattle.mfotl_parse.specs.Grammar.{WrittenTerm, Named, Number, Quoted}
 use Rattle.mfotl_parse.specs.Grammar.{WrittenArgument, Given, Hidden, WrittenArguments, LastArgument, MoreArguments}
 use Rattle.mfotl_parse.specs.Grammar.{WrittenVariables, LastVariable, MoreVariables, WrittenBound, Count, Counted}
@@ -23,14 +23,15 @@ use Rattle.mfotl_parse.specs.Grammar.{WrittenEnd, Included, Excluded, Unbounded,
 use Rattle.mfotl_parse.specs.Grammar.{Tree, Truth, BareAtom, AtomOf, Comparison, Enclosed, Denied, Timed, Quantified}
 use Rattle.mfotl_parse.specs.Grammar.{Joined, Fits, spelling, deepens}
 use Rattle.mfotl_parse.specs.Intervals.{distances, any_distance}
-use Rattle.mfotl_parse.specs.SymbolTable.{bound_or_free, met, bound_more, constrain_term, compared, term_of, inner_or}
+use Rattle.mfotl_parse.specs.SymbolTable.{bound_or_free, occurring, bound_more, constrain_term, with_comparison}
+use Rattle.mfotl_parse.specs.SymbolTable.{term_of, inner_or}
 use Rattle.mfotl_parse.specs.SymbolTable.{vars_of}
 use Rattle.mfotl_parse.specs.Mentions.{sort_clash}
 use Rattle.mfotl_parse.specs.Occurrences.{name_of, place_of_variable, place_of, free_variables}
 use Rattle.mfotl_parse.specs.Occurrences.{blank_count, variable_count}
 use Rattle.mfotl_parse.specs.Operands.{truth}
 use Rattle.mfotl_parse.specs.Reading.{PolicyOf, text_of}
-use Rattle.mfotl_parse.specs.Reduction.{momentary, joined, quantified}
+use Rattle.mfotl_parse.specs.Reduction.{momentary, operator_form, quantified}
 use Rattle.mfotl_parse.specs.States.{SymbolTable, no_names}
 use Rattle.mfotl_parse.specs.Limits.{max_levels, max_nodes, max_free, max_bound}
 
@@ -52,7 +53,8 @@ operand_of (Quoted token) scope n = operands.Constant (values.Text (content_of t
 
 -- after the term was met
 abbrev pub term_names : WrittenTerm → Scope → SymbolTable → SymbolTable
-term_names (Named variable) scope n = met (scope (name_of variable)) (name_of variable) (place_of_variable variable) n
+term_names (Named variable) scope n =
+    occurring (scope (name_of variable)) (name_of variable) (place_of_variable variable) n
 term_names (Number token value) scope n = n
 term_names (Quoted token) scope n = n
 
@@ -73,13 +75,13 @@ argument_names (Hidden token) sort scope n = bound_more (Some sort) n
 abbrev pub arguments_terms : WrittenArguments → List Sort → Scope → SymbolTable → List Term
 arguments_terms (LastArgument a) sorts scope n = argument_term a scope n ∷ []
 arguments_terms (MoreArguments a comma rest) sorts scope n =
-    argument_term a scope n ∷ arguments_terms rest (after_due sorts) scope (argument_names a (due sorts) scope n)
+    argument_term a scope n ∷ arguments_terms rest (after_due sorts) scope (argument_names a (due_sort sorts) scope n)
 
 -- after the arguments were met
 abbrev pub arguments_names : WrittenArguments → List Sort → Scope → SymbolTable → SymbolTable
-arguments_names (LastArgument a) sorts scope n = argument_names a (due sorts) scope n
+arguments_names (LastArgument a) sorts scope n = argument_names a (due_sort sorts) scope n
 arguments_names (MoreArguments a comma rest) sorts scope n =
-    arguments_names rest (after_due sorts) scope (argument_names a (due sorts) scope n)
+    arguments_names rest (after_due sorts) scope (argument_names a (due_sort sorts) scope n)
 
 -- the sorts behind those of the arguments
 abbrev pub sorts_behind : WrittenArguments → List Sort → List Sort
@@ -136,7 +138,8 @@ names_behind sig (BareAtom name opening closing) scope n = n
 names_behind sig (AtomOf name opening arguments closing) scope n =
     arguments_names arguments (call_of (named name.text sig) 0).rest scope n
 names_behind sig (Comparison left token sign right) scope n =
-    compared (operand_of left scope n) (place_of left) token.at (operand_of right scope (term_names left scope n))
+    with_comparison (operand_of left scope n) (place_of left) token.at
+        (operand_of right scope (term_names left scope n))
     (place_of right)
     (term_names right scope (term_names left scope n))
 names_behind sig (Enclosed opening body closing) scope n = names_behind sig body scope n
@@ -169,7 +172,7 @@ value sig (Timed token operator interval body) scope n =
 value sig (Quantified token quantifier variables dot body) scope n =
     quantify quantifier variables n (value sig body (variables_scope variables n scope) (variables_names variables n))
 value sig (Joined left token operator interval right) scope n =
-    joined operator (interval_of interval) (value sig left scope n)
+    operator_form operator (interval_of interval) (value sig left scope n)
     (value sig right scope (names_behind sig left scope n))
 
 -- ---- the other rules

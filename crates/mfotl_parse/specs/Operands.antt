@@ -24,8 +24,8 @@ truth true = forms.True
 truth false = forms.False
 
 -- an operator before its operand, behind which this may come
-abbrev pub before : ℕ → Context → Frame → Stage → Option Transition
-before at p frame now =
+abbrev pub prefix_operator : ℕ → Context → Frame → Stage → Option Transition
+prefix_operator at p frame now =
     goes (within_depth at p.stack ∷ within_nodes at p.nodes ∷ []) (with_now (pushed frame (counted p)) now)
 
 -- a Text as the left side of a comparison
@@ -33,22 +33,22 @@ abbrev pub quoted : Lexeme → Side
 quoted t = record { at = t.at; operand = operands.Constant (values.Text (content_of t.kind t.text)) }
 
 -- a formula's `(`
-abbrev pub opened : Context → ℕ → Option Transition
-opened p at = goes (within_depth at p.stack ∷ []) (with_now (pushed Parens p) ExpectOperand)
+abbrev pub parens_opened : Context → ℕ → Option Transition
+parens_opened p at = goes (within_depth at p.stack ∷ []) (with_now (pushed Parens p) ExpectOperand)
 
 -- where an operand is due
 abbrev pub operand_move : Context → Lexeme → Class → Option Transition
 operand_move p t (classes.Truth value) =
     goes (within_nodes t.at p.nodes ∷ []) (with_now (counted p) (AfterOperand (truth value)))
-operand_move p t classes.Not = before t.at p Negation ExpectOperand
-operand_move p t (classes.Temporal operator) = before t.at p (Moment operator any_distance) AfterTemporal
+operand_move p t classes.Not = prefix_operator t.at p Negation ExpectOperand
+operand_move p t (classes.Temporal operator) = prefix_operator t.at p (Moment operator any_distance) AfterTemporal
 operand_move p t (classes.Quantifier quantifier) = goes [] (with_now p (ExpectVariable quantifier))
 operand_move p t classes.Name = goes [] (with_now p (AfterWord t.at t.text))
 operand_move p t classes.Blank = goes [] (with_now p (AfterBlank t.at))
 operand_move p t (classes.Integer z) =
     goes [] (with_now p (ExpectSign (record { at = t.at; operand = operands.Constant (values.Int z) })))
 operand_move p t classes.Text = goes [] (with_now p (ExpectSign (quoted t)))
-operand_move p t classes.OpenParen = opened p t.at
+operand_move p t classes.OpenParen = parens_opened p t.at
 operand_move p t classes.Question = goes [] (with_now p (AfterMark t.at))
 operand_move p t _ = None
 

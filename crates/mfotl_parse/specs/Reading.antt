@@ -27,7 +27,8 @@ use Rattle.mfotl_parse.specs.Lookahead.{maybe_move, maybe_number_move}
 use Rattle.mfotl_parse.specs.Quantifiers.{binder_move, binder_marked_move, bound_move}
 use Rattle.mfotl_parse.specs.Operators.{have_move}
 use Rattle.mfotl_parse.specs.Reduction.{reduce}
-use Rattle.mfotl_parse.specs.States.{Frame, SymbolTable, Stage, Context, Partial, start, ExpectOperand, AfterTemporal}
+use Rattle.mfotl_parse.specs.States.{Frame, SymbolTable, Stage, Context, Partial, nothing_read, ExpectOperand}
+use Rattle.mfotl_parse.specs.States.{AfterTemporal}
 use Rattle.mfotl_parse.specs.States.{AfterOperand, AfterWord, AfterBlank, AfterMark, ExpectSign, AfterSign}
 use Rattle.mfotl_parse.specs.States.{AfterSignMark, FirstArgument, NextArgument, AfterArgument, AfterArgumentMark}
 use Rattle.mfotl_parse.specs.States.{ExpectVariable, AfterVariableMark, AfterVariable, AfterParen, AfterParenNumber}
@@ -99,8 +100,8 @@ abbrev pub sorted : Option ℕ → Option Pair → Option (List ℕ × ℕ) → 
 sorted clash uneven ninth policy = unless_refused (fault_of_names clash uneven ninth) policy
 
 -- the rules that are looked at when the whole text was read: sorts, and then the number of free variables
-abbrev pub finished : SymbolTable → Form → Result PolicyOf PolicyFault
-finished n f =
+abbrev pub checked_at_end : SymbolTable → Form → Result PolicyOf PolicyFault
+checked_at_end n f =
     sorted n.clash (uneven_pair n) (slice_get n.free max_free)
     (record { formula = f; vars = vars_of n.free n.free_sorts })
 
@@ -110,13 +111,14 @@ is_closed [] = true
 is_closed (frame ∷ stack) = false
 
 -- the end wants nothing to be open
-abbrev pub ended : SymbolTable → Form → Bool → ℕ → Result PolicyOf PolicyFault
-ended n f true end = finished n f
-ended n f false end = Err (Syntax end)
+abbrev pub closed_at_end : SymbolTable → Form → Bool → ℕ → Result PolicyOf PolicyFault
+closed_at_end n f true end = checked_at_end n f
+closed_at_end n f false end = Err (Syntax end)
 
 -- the end, by what may come next
 unfoldable pub ended_at : Stage → Context → ℕ → Result PolicyOf PolicyFault
-ended_at (AfterOperand f) p end = ended p.names (reduce 0 f p.stack).form (is_closed (reduce 0 f p.stack).stack) end
+ended_at (AfterOperand f) p end =
+    closed_at_end p.names (reduce 0 f p.stack).form (is_closed (reduce 0 f p.stack).stack) end
 ended_at _ p end = Err (Syntax end)
 
 -- what stands for a policy where more bytes may come
@@ -139,4 +141,4 @@ reading_on sig bytes p = layer.reading (step sig) p at_tail (text_of bytes)
 
 -- the policy that the bytes spell over these predicates, or the first fault
 unfoldable pub reading : List ℕ → List PredOf → Result PolicyOf PolicyFault
-reading bytes sig = reading_on sig bytes start
+reading bytes sig = reading_on sig bytes nothing_read

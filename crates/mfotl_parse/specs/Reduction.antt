@@ -34,22 +34,22 @@ momentary Eventually i f = forms.Eventually i f
 momentary Always i f = forms.Always i f
 
 -- an operator with its interval and operands
-abbrev pub joined : Operator → Interval → Form → Form → Form
-joined And i f g = forms.And f g
-joined Or i f g = forms.Or f g
-joined Implies i f g = forms.Implies f g
-joined Equiv i f g = forms.Equiv f g
-joined Since i f g = forms.Since i f g
-joined Until i f g = forms.Until i f g
+abbrev pub operator_form : Operator → Interval → Form → Form → Form
+operator_form And i f g = forms.And f g
+operator_form Or i f g = forms.Or f g
+operator_form Implies i f g = forms.Implies f g
+operator_form Equiv i f g = forms.Equiv f g
+operator_form Since i f g = forms.Since i f g
+operator_form Until i f g = forms.Until i f g
 
 -- a quantifier with its variable and body
-abbrev pub bound_by : Quantifier → Bound → Form → Form
-bound_by Exists bound f = forms.Exists bound f
-bound_by Forall bound f = forms.Forall bound f
+abbrev pub quantified_over : Quantifier → Bound → Form → Form
+quantified_over Exists bound f = forms.Exists bound f
+quantified_over Forall bound f = forms.Forall bound f
 
 -- the variable is numbered behind the free ones
 abbrev pub quantified : Quantifier → ℕ → List ℕ → Form → Form
-quantified q variable name f = bound_by q (record { number = max_free + variable; name = name }) f
+quantified q variable name f = quantified_over q (record { number = max_free + variable; name = name }) f
 
 -- a frame with its operand
 abbrev pub closed : Frame → Form → Form
@@ -57,7 +57,7 @@ closed Parens f = f
 closed Negation f = forms.Not f
 closed (Moment operator interval) f = momentary operator interval f
 closed (Binding quantifier variable name) f = quantified quantifier variable name f
-closed (Left operator interval left) f = joined operator interval left f
+closed (Left operator interval left) f = operator_form operator interval left f
 
 -- an operand, and the frames that are still open
 pub record Reduced : Type 0 where

@@ -119,14 +119,14 @@ is_omitted (Above opening low comma end) = false
 -- ---- parentheses and quantifiers
 
 -- the class of an Integer
-abbrev pub is_number : Class → Bool
-is_number (classes.Integer z) = true
-is_number _ = false
+abbrev pub is_integer : Class → Bool
+is_integer (classes.Integer z) = true
+is_integer _ = false
 
 -- the first token is an Integer
 abbrev pub begins_with_number : List Lexeme → Bool
 begins_with_number [] = false
-begins_with_number (t ∷ ts) = is_number (class_of t)
+begins_with_number (t ∷ ts) = is_integer (class_of t)
 
 -- the level of a `(` at the offset, shown by the first of these tokens
 abbrev pub level_first : (at levels : ℕ) → Showing → Showing

@@ -100,8 +100,8 @@ abbrev pub no_names : SymbolTable
 no_names = record { free = []; free_sorts = []; bound_sorts = []; clash = None; pairs = [] }
 
 -- nothing was read
-abbrev pub start : Partial
-start = record { context = record { stack = []; nodes = 0; names = no_names }; now = ExpectOperand }
+abbrev pub nothing_read : Partial
+nothing_read = record { context = record { stack = []; nodes = 0; names = no_names }; now = ExpectOperand }
 
 -- how many levels are open
 unfoldable pub depth : List Frame → ℕ

@@ -63,13 +63,13 @@ with_free (Some place) name at n = n
 with_free None name at n = record n { free = n.free ++ (name, at) ∷ []; free_sorts = n.free_sorts ++ None ∷ [] }
 
 -- after a name was met at the offset, whose binder is this one
-abbrev pub met : Option ℕ → List ℕ → ℕ → SymbolTable → SymbolTable
-met (Some variable) name at n = n
-met None name at n = with_free (free_place name n) name at n
+abbrev pub occurring : Option ℕ → List ℕ → ℕ → SymbolTable → SymbolTable
+occurring (Some variable) name at n = n
+occurring None name at n = with_free (free_place name n) name at n
 
 -- after the name was met at the offset
 abbrev pub noted : List ℕ → ℕ → List Frame → SymbolTable → SymbolTable
-noted name at stack n = met (binder_of name stack) name at n
+noted name at stack n = occurring (binder_of name stack) name at n
 
 -- one more bound variable
 abbrev pub bound_more : Option Sort → SymbolTable → SymbolTable
@@ -91,13 +91,13 @@ with_sort (variables.Free k) sort n = record n { free_sorts = slice_set n.free_s
 with_sort (variables.Bound k) sort n = record n { bound_sorts = slice_set n.bound_sorts k (Some sort) }
 
 -- the first clash stays
-abbrev pub first_of : Option ℕ → ℕ → Option ℕ
-first_of (Some before) at = Some before
-first_of None at = Some at
+abbrev pub earlier_clash : Option ℕ → ℕ → Option ℕ
+earlier_clash (Some before) at = Some before
+earlier_clash None at = Some at
 
 -- a clash; the first one counts
 abbrev pub clashed : ℕ → SymbolTable → SymbolTable
-clashed at n = record n { clash = first_of n.clash at }
+clashed at n = record n { clash = earlier_clash n.clash at }
 
 -- this sort where that one is due: it clashes unless it is the same
 abbrev pub agreed : Sort → ℕ → Sort → SymbolTable → SymbolTable
@@ -118,14 +118,14 @@ constrain_term (operands.Variable variable) at sort n = require_sort variable at
 constrain_term (operands.Constant value) at sort n = agreed (sort_of_constant value) at sort n
 
 -- the two sides of a comparison whose sign stands at the offset
-abbrev pub compared : Operand → ℕ → ℕ → Operand → ℕ → SymbolTable → SymbolTable
-compared (operands.Variable v) left_at at (operands.Variable w) right_at n =
+abbrev pub with_comparison : Operand → ℕ → ℕ → Operand → ℕ → SymbolTable → SymbolTable
+with_comparison (operands.Variable v) left_at at (operands.Variable w) right_at n =
     record n { pairs = n.pairs ++ record { at = at; left = v; right = w } ∷ [] }
-compared (operands.Variable v) left_at at (operands.Constant value) right_at n =
+with_comparison (operands.Variable v) left_at at (operands.Constant value) right_at n =
     require_sort v left_at (sort_of_constant value) n
-compared (operands.Constant value) left_at at (operands.Variable w) right_at n =
+with_comparison (operands.Constant value) left_at at (operands.Variable w) right_at n =
     require_sort w right_at (sort_of_constant value) n
-compared (operands.Constant c) left_at at (operands.Constant d) right_at n =
+with_comparison (operands.Constant c) left_at at (operands.Constant d) right_at n =
     agreed (sort_of_constant c) at (sort_of_constant d) n
 
 -- the term of an operand

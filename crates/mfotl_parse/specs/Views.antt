@@ -39,8 +39,8 @@ abbrev pub known_of : Vec ℕ × ℕ → List ℕ × ℕ
 known_of entry = (entry.0.items, entry.1)
 
 -- the names that were met
-abbrev pub names_of : TableValue → SymbolTable
-names_of n = record {
+abbrev pub names_met : TableValue → SymbolTable
+names_met n = record {
   free = map known_of n.free.entries;
   free_sorts = n.free_sorts.items;
   bound_sorts = n.bound_sorts.items;
@@ -50,7 +50,7 @@ names_of n = record {
 
 -- what is open and what was met
 abbrev pub context_of : ContextValue → Context
-context_of c = record { stack = stack_of c.frames.items; nodes = c.nodes; names = names_of c.names }
+context_of c = record { stack = stack_of c.frames.items; nodes = c.nodes; names = names_met c.names }
 
 -- an atom up to its last argument
 abbrev pub call_view : CallValue → Call
@@ -111,9 +111,9 @@ abbrev pub partial_of : ParserValue → Partial
 partial_of p = record { context = context_of p.context; now = stage_of p.now }
 
 -- a step leaves this behind
-abbrev pub Steps : Result (Unit {0}) PolicyFault → ParserValue → Result Partial PolicyFault → Type 0
-Steps (Ok u) parser read = read ≡ Ok (partial_of parser)
-Steps (Err fault) parser read = Fails fault read
+abbrev pub LeavesBehind : Result (Unit {0}) PolicyFault → ParserValue → Result Partial PolicyFault → Type 0
+LeavesBehind (Ok u) parser read = read ≡ Ok (partial_of parser)
+LeavesBehind (Err fault) parser read = Fails fault read
 
 -- a call took the next token, and gives whether there was one
 abbrev pub with_next : Bool → ParserValue → Option Partial

@@ -24,7 +24,7 @@ pub struct Call<'a> {
 impl<'a> Call<'a> {
     /// The sort of the argument that is due; `int` where none is.
     pub fn due(&self) -> Sort
-        ensures { result ≡ calls.due (call_view self.now).rest }
+        ensures { result ≡ calls.due_sort (call_view self.now).rest }
     {
         match self.rest {
             [] => Sort::Int,

@@ -2,11 +2,11 @@
 ghost use Rattle.std.specs.Prelude.{◌≡◌, slice_get};
 ghost use Rattle.mfotl_model.specs.Formulas.{Form, form};
 ghost use Rattle.mfotl_parse.specs.Limits.{max_free};
-ghost use Rattle.mfotl_parse.specs.Reading.{finished, is_closed};
+ghost use Rattle.mfotl_parse.specs.Reading.{checked_at_end, is_closed};
 ghost use Rattle.mfotl_parse.specs.Reading as reading_words;
 ghost use Rattle.mfotl_parse.specs.Reduction.{reduce};
 ghost use Rattle.mfotl_parse.specs.SymbolTable.{uneven_pair};
-ghost use Rattle.mfotl_parse.specs.Views.{context_of, names_of, policy_of, Gives};
+ghost use Rattle.mfotl_parse.specs.Views.{context_of, names_met, policy_of, Gives};
 
 use crate::fault::PolicyFault;
 use crate::stack;
@@ -22,7 +22,7 @@ pub fn close(
     formula: Box<Formula>,
     end: u64,
 ) -> Result<Policy, PolicyFault>
-    ensures { Gives policy_of result (reading_words.ended (context_of context.old).names
+    ensures { Gives policy_of result (reading_words.closed_at_end (context_of context.old).names
         (reduce 0 (form formula.value) (context_of context.old).stack).form
         (is_closed (reduce 0 (form formula.value) (context_of context.old).stack).stack) end) }
 {
@@ -37,7 +37,7 @@ fn with_columns(
     formula: Box<Formula>,
     end: u64,
 ) -> Result<Policy, PolicyFault>
-    ensures { Gives policy_of result (reading_words.ended (context_of context.now).names (form formula.value)
+    ensures { Gives policy_of result (reading_words.closed_at_end (context_of context.now).names (form formula.value)
         (is_closed (context_of context.now).stack) end) }
 {
     let vars = columns_at(alloc, context, end)?;
@@ -50,7 +50,7 @@ fn with_columns(
 /// The columns of any formula behind which the text ends here, where nothing may be open.
 fn columns_at(alloc: Global, context: &Context, end: u64) -> Result<Vars, PolicyFault>
     ensures { (f : Form) → Gives (λ vars. record { formula = f; vars = vars }) result
-        (reading_words.ended (context_of context.now).names f (is_closed (context_of context.now).stack) end) }
+        (reading_words.closed_at_end (context_of context.now).names f (is_closed (context_of context.now).stack) end) }
 {
     if stack::is_closed(&context.frames) {
         columns(alloc, &context.names)
@@ -61,8 +61,8 @@ fn columns_at(alloc: Global, context: &Context, end: u64) -> Result<Vars, Policy
 
 /// What sorts and free variables show, where they show a fault.
 fn fault_of_names(names: &SymbolTable) -> Option<PolicyFault>
-    ensures { result ≡ reading_words.fault_of_names (names_of names.now).clash (uneven_pair (names_of names.now))
-        (slice_get (names_of names.now).free max_free) }
+    ensures { result ≡ reading_words.fault_of_names (names_met names.now).clash (uneven_pair (names_met names.now))
+        (slice_get (names_met names.now).free max_free) }
 {
     if let Some(at) = names.clash {
         return Some(PolicyFault::SortClash(at));
@@ -79,7 +79,7 @@ fn fault_of_names(names: &SymbolTable) -> Option<PolicyFault>
 /// The columns of any formula, unless sorts clash or there are too many free variables.
 fn columns(alloc: Global, names: &SymbolTable) -> Result<Vars, PolicyFault>
     ensures { (f : Form) → Gives (λ vars. record { formula = f; vars = vars }) result
-        (finished (names_of names.now) f) }
+        (checked_at_end (names_met names.now) f) }
 {
     match fault_of_names(names) {
         Some(fault) => Err(fault),

@@ -2,7 +2,7 @@
 ghost use Rattle.std.specs.Prelude.{◌≡◌, ◌+◌, IfOk};
 ghost use Rattle.mfotl_model.specs.Formulas.{form};
 ghost use Rattle.mfotl_parse.specs.Limits.{max_free};
-ghost use Rattle.mfotl_parse.specs.Reduction.{momentary, joined, bound_by, quantified};
+ghost use Rattle.mfotl_parse.specs.Reduction.{momentary, operator_form, quantified_over, quantified};
 
 use crate::class::{Operator, Quantifier, Temporal};
 use crate::limits::MAX_FREE;
@@ -12,7 +12,7 @@ use std::alloc::{AllocError, Global};
 impl Operator {
     /// The formula of its two operands.
     pub fn join(self, interval: Interval, left: Box<Formula>, right: Box<Formula>) -> Formula
-        ensures { form result ≡ joined self interval (form left.value) (form right.value) }
+        ensures { form result ≡ operator_form self interval (form left.value) (form right.value) }
     {
         match self {
             Operator::And => Formula::And(left, right),
@@ -57,7 +57,7 @@ impl Quantifier {
     }
 
     fn apply(self, bound: Bound, inner: Box<Formula>) -> Formula
-        ensures { form result ≡ bound_by self bound (form inner.value) }
+        ensures { form result ≡ quantified_over self bound (form inner.value) }
     {
         match self {
             Quantifier::Exists => Formula::Exists(bound, inner),

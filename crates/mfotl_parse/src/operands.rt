@@ -136,7 +136,7 @@ impl Context {
 
     /// NOT before its operand.
     fn negation<'a>(&mut self, at: u64) -> Result<Stage<'a>, PolicyFault>
-        ensures { GoesOn result self.new (given 0 (operands.before at (context_of self.old) states.Negation
+        ensures { GoesOn result self.new (given 0 (operands.prefix_operator at (context_of self.old) states.Negation
             states.ExpectOperand)) }
     {
         self.enter(at)?;
@@ -146,7 +146,7 @@ impl Context {
 
     /// A temporal operator before its operand.
     fn moment<'a>(&mut self, at: u64, operator: Temporal) -> Result<Stage<'a>, PolicyFault>
-        ensures { GoesOn result self.new (given 0 (operands.before at (context_of self.old)
+        ensures { GoesOn result self.new (given 0 (operands.prefix_operator at (context_of self.old)
             (states.Moment operator any_distance) states.AfterTemporal)) }
     {
         self.enter(at)?;
@@ -182,7 +182,7 @@ impl Context {
     }
 
     fn parens<'a>(&mut self, at: u64) -> Result<Stage<'a>, PolicyFault>
-        ensures { GoesOn result self.new (given 0 (operands.opened (context_of self.old) at)) }
+        ensures { GoesOn result self.new (given 0 (operands.parens_opened (context_of self.old) at)) }
     {
         self.open(at)?;
         Ok(Stage::ExpectOperand)

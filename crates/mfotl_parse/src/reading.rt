@@ -7,10 +7,10 @@ ghost use Rattle.mfotl_parse.specs.Limits.{max_free};
 ghost use Rattle.mfotl_parse.specs.Meanings.{IsValue};
 ghost use Rattle.mfotl_parse.specs.declared.fault.PolicyFault.TheVariants.{Memory};
 ghost use Rattle.mfotl_parse.specs.Reading.{step, with_token, ended_at, reading_on, reading};
-ghost use Rattle.mfotl_parse.specs.States.{start};
+ghost use Rattle.mfotl_parse.specs.States.{nothing_read};
 ghost use Rattle.mfotl_parse.specs.WellSorted.{IsWellSorted};
 ghost use Rattle.mfotl_parse.specs.Views.{context_of, stage_of, partial_of, with_next, policy_of};
-ghost use Rattle.mfotl_parse.specs.Views.{GoesOn, Gives, Steps, ReadAll};
+ghost use Rattle.mfotl_parse.specs.Views.{GoesOn, Gives, LeavesBehind, ReadAll};
 
 use crate::class::class_of;
 use crate::ending::close;
@@ -25,7 +25,7 @@ use std::mem;
 impl<'a> Parser<'a> {
     #[tactic(auto, unfolding(crate::specs::Views::stage_of))]
     fn new(alloc: Global) -> Self
-        ensures { partial_of result ≡ start }
+        ensures { partial_of result ≡ nothing_read }
     {
         Parser {
             context: Context::new(alloc),
@@ -40,7 +40,7 @@ impl<'a> Parser<'a> {
         signature: &'a Signature,
         token: &Token<'a>,
     ) -> Result<(), PolicyFault>
-        ensures { Steps result self.new (step signature.now (partial_of self.old) (lexeme token.now)) }
+        ensures { LeavesBehind result self.new (step signature.now (partial_of self.old) (lexeme token.now)) }
     {
         let now = mem::replace(&mut self.now, Stage::ExpectOperand);
         match advance(alloc, &mut self.context, signature, now, token) {

@@ -2,7 +2,7 @@
 ghost use Rattle.std.specs.Prelude.{◌≡◌, OnOk, slice_get, slice_set, Some, find};
 ghost use Rattle.std.specs.Option.{option_copied};
 ghost use Rattle.mfotl_parse.specs.SymbolTable as sorting;
-ghost use Rattle.mfotl_parse.specs.Views.{names_of};
+ghost use Rattle.mfotl_parse.specs.Views.{names_met};
 ghost use Rattle.mfotl_parse.specs.WellSorted.{sort_of_constant, same_sort};
 
 use crate::symbol_table::SymbolTable;
@@ -12,7 +12,7 @@ use std::alloc::AllocError;
 
 impl SymbolTable {
     fn sort_of(&self, variable: Variable) -> Option<Sort>
-        ensures { result ≡ sorting.sort_of variable (names_of self.now) }
+        ensures { result ≡ sorting.sort_of variable (names_met self.now) }
     {
         match variable {
             Variable::Free(place) => given(&self.free_sorts, place),
@@ -21,7 +21,7 @@ impl SymbolTable {
     }
 
     fn give_sort(&mut self, variable: Variable, sort: Sort)
-        ensures { names_of self.new ≡ sorting.with_sort variable sort (names_of self.old) }
+        ensures { names_met self.new ≡ sorting.with_sort variable sort (names_met self.old) }
     {
         match variable {
             Variable::Free(place) => set(&mut self.free_sorts, place, sort),
@@ -30,7 +30,7 @@ impl SymbolTable {
     }
 
     fn clash_at(&mut self, at: u64)
-        ensures { names_of self.new ≡ sorting.clashed at (names_of self.old) }
+        ensures { names_met self.new ≡ sorting.clashed at (names_met self.old) }
     {
         if self.clash.is_none() {
             self.clash = Some(at);
@@ -38,7 +38,7 @@ impl SymbolTable {
     }
 
     fn agree(&mut self, before: Sort, at: u64, sort: Sort)
-        ensures { names_of self.new ≡ sorting.agreed before at sort (names_of self.old) }
+        ensures { names_met self.new ≡ sorting.agreed before at sort (names_met self.old) }
     {
         if !same_sort(before, sort) {
             self.clash_at(at);
@@ -46,7 +46,7 @@ impl SymbolTable {
     }
 
     fn occur(&mut self, variable: Variable, at: u64, sort: Sort)
-        ensures { names_of self.new ≡ sorting.require_sort variable at sort (names_of self.old) }
+        ensures { names_met self.new ≡ sorting.require_sort variable at sort (names_met self.old) }
     {
         match self.sort_of(variable) {
             None => self.give_sort(variable, sort),
@@ -56,7 +56,7 @@ impl SymbolTable {
 
     /// A term at the offset, where this sort is due.
     pub fn place(&mut self, operand: &Operand, at: u64, sort: Sort)
-        ensures { names_of self.new ≡ sorting.constrain_term operand.now at sort (names_of self.old) }
+        ensures { names_met self.new ≡ sorting.constrain_term operand.now at sort (names_met self.old) }
     {
         match operand {
             Operand::Variable(variable) => self.occur(*variable, at, sort),
@@ -66,8 +66,9 @@ impl SymbolTable {
 
     /// The sides of a comparison whose sign stands at the offset.
     pub fn compare(&mut self, left: &Side, at: u64, right: &Side) -> Result<(), AllocError>
-        ensures { OnOk result (names_of self.new
-            ≡ sorting.compared left.now.operand left.now.at at right.now.operand right.now.at (names_of self.old)) }
+        ensures { OnOk result (names_met self.new
+            ≡ sorting.with_comparison left.now.operand left.now.at at right.now.operand right.now.at
+                (names_met self.old)) }
     {
         match (&left.operand, &right.operand) {
             (Operand::Variable(left), Operand::Variable(right)) => {
@@ -92,7 +93,7 @@ impl SymbolTable {
 
     /// The first comparison of two variables that have different sorts.
     pub fn uneven_pair(&self) -> Option<&Pair>
-        ensures { option_copied result ≡ sorting.uneven_pair (names_of self.now) }
+        ensures { option_copied result ≡ sorting.uneven_pair (names_met self.now) }
     {
         self.pairs.iter().find(|pair| differ(self.sort_of(pair.left), self.sort_of(pair.right)))
     }

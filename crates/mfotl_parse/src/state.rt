@@ -4,7 +4,7 @@ ghost use Rattle.mfotl_lex.specs.Contents.{content_of};
 ghost use Rattle.mfotl_model.specs.declared.value.Value.TheVariants as values;
 ghost use Rattle.mfotl_parse.specs.SymbolTable.{resolved};
 ghost use Rattle.mfotl_parse.specs.Comparisons.{with_noted};
-ghost use Rattle.mfotl_parse.specs.States.{start, depth, pushed};
+ghost use Rattle.mfotl_parse.specs.States.{nothing_read, depth, pushed};
 ghost use Rattle.mfotl_parse.specs.Views.{context_of, frame_of};
 ghost use Rattle.mfotl_parse.specs.Limits.{max_levels, max_nodes};
 
@@ -92,7 +92,7 @@ pub struct Parser<'a> {
 impl Context {
     #[tactic(auto, unfolding(crate::specs::Views::stack_of))]
     pub fn new(alloc: Global) -> Self
-        ensures { context_of result ≡ start.context }
+        ensures { context_of result ≡ nothing_read.context }
     {
         Context {
             frames: Vec::new(alloc),

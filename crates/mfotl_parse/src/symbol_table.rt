@@ -6,7 +6,7 @@ ghost use Rattle.indexmap.specs.IndexMap.{get_by};
 ghost use Rattle.mfotl_parse.specs.SymbolTable as sorting;
 ghost use Rattle.mfotl_parse.specs.Limits.{max_free};
 ghost use Rattle.mfotl_parse.specs.States.{no_names};
-ghost use Rattle.mfotl_parse.specs.Views.{known_of, names_of, stack_of};
+ghost use Rattle.mfotl_parse.specs.Views.{known_of, names_met, stack_of};
 
 use crate::frame::Frame;
 use crate::limits::MAX_FREE;
@@ -55,7 +55,7 @@ fn add_free(
 
 impl SymbolTable {
     pub fn new(alloc: Global) -> Self
-        ensures { names_of result ≡ no_names }
+        ensures { names_met result ≡ no_names }
     {
         SymbolTable {
             free: IndexMap::new(alloc),
@@ -68,9 +68,9 @@ impl SymbolTable {
 
     fn meet_free(&mut self, alloc: Global, name: &[u8], at: u64) -> Result<Variable, AllocError>
         ensures variable { IfOk result (λ variable. variable
-            ≡ sorting.free_or_new (sorting.free_place name.now (names_of self.old)) (names_of self.old)) }
-        ensures noted { OnOk result (names_of self.new
-            ≡ sorting.with_free (sorting.free_place name.now (names_of self.old)) name.now at (names_of self.old)) }
+            ≡ sorting.free_or_new (sorting.free_place name.now (names_met self.old)) (names_met self.old)) }
+        ensures noted { OnOk result (names_met self.new
+            ≡ sorting.with_free (sorting.free_place name.now (names_met self.old)) name.now at (names_met self.old)) }
     {
         if let Some(place) = place_in(&self.free, name) {
             let Ok(place) = u32::try_from(place) else {
@@ -95,9 +95,9 @@ impl SymbolTable {
         frames: &[Frame],
     ) -> Result<Variable, AllocError>
         ensures variable { IfOk result (λ variable. variable
-            ≡ sorting.resolved name.now (stack_of frames.now) (names_of self.old)) }
-        ensures noted { OnOk result (names_of self.new
-            ≡ sorting.noted name.now at (stack_of frames.now) (names_of self.old)) }
+            ≡ sorting.resolved name.now (stack_of frames.now) (names_met self.old)) }
+        ensures noted { OnOk result (names_met self.new
+            ≡ sorting.noted name.now at (stack_of frames.now) (names_met self.old)) }
     {
         match binder_of(name, frames) {
             Some(variable) => Ok(Variable::Bound(variable)),
@@ -108,8 +108,8 @@ impl SymbolTable {
     /// One more bound variable.
     pub fn bind(&mut self, sort: Option<Sort>) -> Result<u32, AllocError>
         ensures place { IfOk result (λ place. place ≡ length self.old.bound_sorts.items) }
-        ensures bound { OnOk result (names_of self.new
-            ≡ sorting.bound_more sort (names_of self.old)) }
+        ensures bound { OnOk result (names_met self.new
+            ≡ sorting.bound_more sort (names_met self.old)) }
     {
         let Ok(place) = u32::try_from(self.bound_sorts.len()) else {
             return Err(AllocError);
@@ -121,7 +121,7 @@ impl SymbolTable {
     /// Where the ninth free variable first occurs.
     pub fn ninth_free(&self) -> Option<u64>
         ensures { result
-            ≡ option_map (λ known. known.1) (slice_get (names_of self.now).free max_free) }
+            ≡ option_map (λ known. known.1) (slice_get (names_met self.now).free max_free) }
     {
         match self.free.get_index(MAX_FREE as usize) {
             Some((_, at)) => Some(*at),
@@ -130,7 +130,7 @@ impl SymbolTable {
     }
 
     fn var(&self, alloc: Global, place: usize) -> Result<Var, AllocError>
-        ensures { IfOk result (λ var. sorting.var_of (slice_get (names_of self.now).free place)
+        ensures { IfOk result (λ var. sorting.var_of (slice_get (names_met self.now).free place)
             (slice_get self.now.free_sorts.items place) ≡ Some var) }
     {
         let Some((name, _)) = self.free.get_index(place) else {
@@ -148,7 +148,7 @@ impl SymbolTable {
     /// The free variables with their sorts.
     pub fn vars(&self, alloc: Global) -> Result<Vars, AllocError>
         ensures { IfOk result (λ vars. vars
-            ≡ sorting.vars_of (names_of self.now).free (names_of self.now).free_sorts) }
+            ≡ sorting.vars_of (names_met self.now).free (names_met self.now).free_sorts) }
     {
         let mut vars = Vec::new(alloc);
         for place in 0..self.free.len() {

@@ -5,6 +5,6 @@ use Rattle.mfotl_model.specs.Satisfaction.{Valuation, with_value}
 use Rattle.mfotl_model.specs.Violations.{valuation}
 
 -- the values of the row, and before them those that quantifiers gave
-abbrev pub values_of : Bindings → Valuation
-values_of (Row columns row) = valuation columns.now row.now
-values_of (With' x a p rest) = with_value (values_of rest) x a.now
+abbrev pub valuation_of : Bindings → Valuation
+valuation_of (Row columns row) = valuation columns.now row.now
+valuation_of (With' x a p rest) = with_value (valuation_of rest) x a.now

@@ -1,6 +1,6 @@
 //! Values for variables, kept on the stack.
 ghost use Rattle.std.specs.Prelude.{◌≡◌, IfOk, pos};
-ghost use Rattle.mfotl_plain.specs.Bindings.{values_of};
+ghost use Rattle.mfotl_plain.specs.Bindings.{valuation_of};
 ghost use Rattle.mfotl_model.specs.Satisfaction.{event_of, term_value};
 ghost use Rattle.mfotl_model.specs.Violations.{valuation};
 
@@ -17,7 +17,7 @@ pub enum Bindings<'a> {
 // The value of `x`, or `zero` where nothing gives it one.
 fn value_of<'a>(bindings: &'a Bindings<'a>, x: u32, zero: &'a Value) -> &'a Value
     requires { zero.now ≡ Value.Int (pos 0) }
-    ensures { result.now ≡ values_of bindings.now x }
+    ensures { result.now ≡ valuation_of bindings.now x }
 {
     match bindings {
         Bindings::Row(columns, row) => value_in(columns, row, x, zero),
@@ -50,7 +50,7 @@ fn value_in<'a>(columns: &[u32], row: &'a [Value], x: u32, zero: &'a Value) -> &
 
 pub fn term_value<'a>(term: &'a Term, bindings: &'a Bindings<'a>, zero: &'a Value) -> &'a Value
     requires { zero.now ≡ Value.Int (pos 0) }
-    ensures { result.now ≡ term_value (values_of bindings.now) term.now }
+    ensures { result.now ≡ term_value (valuation_of bindings.now) term.now }
 {
     match term {
         Term::Var(x) => value_of(bindings, *x, zero),
@@ -60,7 +60,7 @@ pub fn term_value<'a>(term: &'a Term, bindings: &'a Bindings<'a>, zero: &'a Valu
 
 /// The event that an atom stands for.
 pub fn event_of(alloc: Global, atom: &Atom, bindings: &Bindings<'_>) -> Result<Event, AllocError>
-    ensures { IfOk result (λ event. event ≡ event_of (values_of bindings.now) atom.now) }
+    ensures { IfOk result (λ event. event ≡ event_of (valuation_of bindings.now) atom.now) }
 {
     let zero = Value::Int(0);
     let mut args = Row::empty();

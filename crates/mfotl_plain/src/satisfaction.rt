@@ -1,7 +1,7 @@
 //! Whether a formula holds, by its recursion.
 ghost use Rattle.std.specs.Prelude.{◌≡◌, ◌<◌, not, length, IfOk};
 ghost use Rattle.std.specs.List.{list_all, list_any};
-ghost use Rattle.mfotl_plain.specs.Bindings.{values_of};
+ghost use Rattle.mfotl_plain.specs.Bindings.{valuation_of};
 ghost use Rattle.mfotl_plain.specs.Operators.{between, connected, in_time};
 ghost use Rattle.mfotl_model.specs.Formulas.{form};
 ghost use Rattle.mfotl_model.specs.Satisfaction.{compares, database_at, event_of, has_event, sat, term_value};
@@ -73,7 +73,7 @@ impl Interpretation<'_> {
     fn holds(&self, alloc: Global, formula: &Formula, at: usize) -> Result<bool, AllocError>
         requires { at < length self.now.log.now }
         ensures { IfOk result (λ held. held ≡ sat self.now.log.now self.now.dom.now
-            (values_of self.now.bindings.now) at (form formula.now)) }
+            (valuation_of self.now.bindings.now) at (form formula.now)) }
     {
         match formula {
             Formula::True => Ok(true),
@@ -104,7 +104,7 @@ impl Interpretation<'_> {
     fn fails(&self, alloc: Global, formula: &Formula, at: usize) -> Result<bool, AllocError>
         requires { at < length self.now.log.now }
         ensures { IfOk result (λ failed. failed ≡ not (sat self.now.log.now self.now.dom.now
-            (values_of self.now.bindings.now) at (form formula.now))) }
+            (valuation_of self.now.bindings.now) at (form formula.now))) }
     {
         Ok(!self.holds(alloc, formula, at)?)
     }
@@ -120,8 +120,8 @@ impl Interpretation<'_> {
     ) -> Result<bool, AllocError>
         requires { at < length self.now.log.now }
         ensures { IfOk result (λ held. held ≡ connected connective
-            (sat self.now.log.now self.now.dom.now (values_of self.now.bindings.now) at (form left.now))
-            (sat self.now.log.now self.now.dom.now (values_of self.now.bindings.now) at (form right.now))) }
+            (sat self.now.log.now self.now.dom.now (valuation_of self.now.bindings.now) at (form left.now))
+            (sat self.now.log.now self.now.dom.now (valuation_of self.now.bindings.now) at (form right.now))) }
     {
         let left = self.holds(alloc, left, at)?;
         let right = self.holds(alloc, right, at)?;
@@ -138,7 +138,7 @@ impl Interpretation<'_> {
     ) -> Result<bool, AllocError>
         requires { at < length self.now.log.now }
         ensures { IfOk result (λ held. held ≡ list_any (λ a. sat self.now.log.now self.now.dom.now
-            (with_value (values_of self.now.bindings.now) x a) at (form formula.now))
+            (with_value (valuation_of self.now.bindings.now) x a) at (form formula.now))
             self.now.dom.now) }
     {
         for value in self.dom {
@@ -164,7 +164,7 @@ impl Interpretation<'_> {
     ) -> Result<bool, AllocError>
         requires { at < length self.now.log.now }
         ensures { IfOk result (λ held. held ≡ list_all (λ a. sat self.now.log.now self.now.dom.now
-            (with_value (values_of self.now.bindings.now) x a) at (form formula.now))
+            (with_value (valuation_of self.now.bindings.now) x a) at (form formula.now))
             self.now.dom.now) }
     {
         for value in self.dom {
@@ -184,7 +184,7 @@ impl Interpretation<'_> {
     #[cycle(satisfaction)]
     fn truths(&self, alloc: Global, formula: &Formula) -> Result<Vec<bool>, AllocError>
         ensures { IfOk result (λ values. values.items ≡ truths (length self.now.log.now)
-            (λ j. sat self.now.log.now self.now.dom.now (values_of self.now.bindings.now) j
+            (λ j. sat self.now.log.now self.now.dom.now (valuation_of self.now.bindings.now) j
             (form formula.now))) }
     {
         let mut values = Vec::new(alloc);
@@ -206,7 +206,7 @@ impl Interpretation<'_> {
         requires { at < length self.now.log.now }
         ensures { IfOk result (λ held. held ≡ in_time modality interval.now self.now.log.now
             (truths (length self.now.log.now) (λ j. sat self.now.log.now self.now.dom.now
-            (values_of self.now.bindings.now) j (form formula.now))) at) }
+            (valuation_of self.now.bindings.now) j (form formula.now))) at) }
     {
         let truths = self.truths(alloc, formula)?;
         in_time(alloc, modality, interval, self.log, truths.as_slice(), at)
@@ -225,9 +225,9 @@ impl Interpretation<'_> {
         requires { at < length self.now.log.now }
         ensures { IfOk result (λ held. held ≡ between span interval.now self.now.log.now
             (truths (length self.now.log.now) (λ j. sat self.now.log.now self.now.dom.now
-            (values_of self.now.bindings.now) j (form left.now)))
+            (valuation_of self.now.bindings.now) j (form left.now)))
             (truths (length self.now.log.now) (λ j. sat self.now.log.now self.now.dom.now
-            (values_of self.now.bindings.now) j (form right.now))) at) }
+            (valuation_of self.now.bindings.now) j (form right.now))) at) }
     {
         let left = self.truths(alloc, left)?;
         let right = self.truths(alloc, right)?;
@@ -245,7 +245,7 @@ impl Interpretation<'_> {
 impl Interpretation<'_> {
     fn has_event(&self, alloc: Global, atom: &Atom, at: usize) -> Result<bool, AllocError>
         ensures { IfOk result (λ found. found ≡ has_event (database_at self.now.log.now at)
-            (event_of (values_of self.now.bindings.now) atom.now)) }
+            (event_of (valuation_of self.now.bindings.now) atom.now)) }
     {
         let event = event_of(alloc, atom, self.bindings)?;
         match self.log.get(at) {
@@ -256,8 +256,8 @@ impl Interpretation<'_> {
 
     fn compared(&self, comparison: &Comparison) -> bool
         ensures { result ≡ compares comparison.now.sign
-            (term_value (values_of self.now.bindings.now) comparison.now.left)
-            (term_value (values_of self.now.bindings.now) comparison.now.right) }
+            (term_value (valuation_of self.now.bindings.now) comparison.now.left)
+            (term_value (valuation_of self.now.bindings.now) comparison.now.right) }
     {
         let zero = Value::Int(0);
         let left = term_value(&comparison.left, self.bindings, &zero);

@@ -17,7 +17,7 @@ use Rattle.mfotl_sig.specs.declared.fault.SigFault.{SigFault}
 use Rattle.mfotl_sig.specs.declared.fault.SigFault.TheVariants.{Lex, Syntax, RepeatedName, UnknownSort, Arity, TooMany}
 use Rattle.mfotl_sig.specs.declared.fault.SigFault.TheVariants.{Memory}
 use Rattle.mfotl_sig.specs.Causes.{IsRepeated, IsOneTooMany, IsNinth, IsUnknownLabelled, IsUnknownOnly, IsCause, IsLast}
-use Rattle.mfotl_sig.specs.Grammar.{Written, Listed, IsAccepted, IsViable}
+use Rattle.mfotl_sig.specs.Grammar.{WrittenPredicate, Listed, IsAccepted, IsViable}
 use Rattle.mfotl_sig.specs.Limits.{max_predicates, max_arguments}
 use Rattle.mfotl_sig.specs.Preds.{PredOf}
 use Rattle.mfotl_sig.specs.Reading.{DraftOf, Partial, word_stage, step, at_end, at_tail, nothing_read}
@@ -94,7 +94,7 @@ module _ (front : List Lexeme) (p : Partial) (t : Lexeme) (ran : run step front 
       elim c.ends [ inl kind ↦ rw (is, kind, c.unknown, c.place) | inr kind ↦ rw (is, kind, c.unknown, c.place) ]
 
   -- what the grammar accepts shows no Syntax
-  judged_never : (at : ℕ) (ws : List Written) (r : Result (List PredOf) SigFault) → judge [] ws ≡ r
+  judged_never : (at : ℕ) (ws : List WrittenPredicate) (r : Result (List PredOf) SigFault) → judge [] ws ≡ r
       → (r >>= λ done. run step [] (between done)) ≡ Err (Syntax at) → ⊥
   unfolding run
   judged_never at ws (Ok done) e f = cc

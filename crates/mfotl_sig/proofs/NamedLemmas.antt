@@ -11,7 +11,7 @@ use Rattle.std.specs.Prelude.{IsNone, IfSome}
 use Rattle.std.specs.Str.{bytes_eq}
 use Rattle.mfotl_sig.specs.declared.pred.Pred.{Pred}
 use Rattle.mfotl_sig.specs.Preds.{PredOf, pred_of, named}
-use Rattle.mfotl_sig.specs.Grammar.{Written}
+use Rattle.mfotl_sig.specs.Grammar.{WrittenPredicate}
 use Rattle.mfotl_sig.specs.Rules.{names_of, numbered}
 
 -- the names of predicates
@@ -49,15 +49,15 @@ look_up name (p ∷ ps) = with_first name p ps (bytes_eq name p.name) refl (look
 
 -- ---- written predicates, numbered
 
-names_numbered : (ws : List Written) (n : ℕ) → names (numbered n ws) ≡ names_of ws
+names_numbered : (ws : List WrittenPredicate) (n : ℕ) → names (numbered n ws) ≡ names_of ws
 names_numbered [] n = refl
 names_numbered (w ∷ ws) n = ap (λ ns. w.name.text ∷ ns) (names_numbered ws (suc n))
 
-pub length-numbered : (ws : List Written) (n : ℕ) → length (numbered n ws) ≡ length ws
+pub length-numbered : (ws : List WrittenPredicate) (n : ℕ) → length (numbered n ws) ≡ length ws
 length-numbered [] n = refl
 length-numbered (w ∷ ws) n = ap suc (length-numbered ws (suc n))
 
-pub present : (name : List ℕ) (ws : List Written) → Finds name (numbered 0 ws) → Contains (names_of ws) name
+pub present : (name : List ℕ) (ws : List WrittenPredicate) → Finds name (numbered 0 ws) → Contains (names_of ws) name
 present name ws f =
     let preds = numbered 0 ws in
     let at = f.member in
@@ -69,7 +69,7 @@ present name ws f =
     ) in
     subst (Contains (names_of ws)) f.same (rw (names_numbered ws 0) at among)
 
-pub absent : (name : List ℕ) (ws : List Written) → Lacks name (numbered 0 ws) → Contains (names_of ws) name → ⊥
+pub absent : (name : List ℕ) (ws : List WrittenPredicate) → Lacks name (numbered 0 ws) → Contains (names_of ws) name → ⊥
 absent name ws l among =
     let preds = numbered 0 ws in
     All-contains (λ y. y ≢ name) (names preds) name (All-map (λ y. y ≢ name) (λ p. p.name) preds l.differ)

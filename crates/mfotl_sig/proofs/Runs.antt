@@ -13,11 +13,12 @@ use Rattle.mfotl_sig.specs.declared.arguments.Stage.TheVariants.{AfterOpen, Afte
 use Rattle.mfotl_sig.specs.declared.fault.SigFault.{SigFault}
 use Rattle.mfotl_sig.specs.declared.fault.SigFault.TheVariants.{RepeatedName, Arity, TooMany}
 use Rattle.mfotl_sig.specs.Causes.{Begun}
-use Rattle.mfotl_sig.specs.Grammar.{Argument, Only, Labelled, Listed, Written, FitsArgument, FitsListed, FitsLast, Fits}
+use Rattle.mfotl_sig.specs.Grammar.{Argument, Only, Labelled, Listed, WrittenPredicate, FitsArgument, FitsListed}
+use Rattle.mfotl_sig.specs.Grammar.{FitsLast, Fits}
 use Rattle.mfotl_sig.specs.Grammar.{spell_argument, spell_listed, spell_last, spell_pred, spell_preds}
 use Rattle.mfotl_sig.specs.Limits.{max_predicates, max_arguments}
 use Rattle.mfotl_sig.specs.Preds.{PredOf, named, with_pred}
-use Rattle.mfotl_sig.specs.Reading.{Partial, with_sort, step, nothing_read}
+use Rattle.mfotl_sig.specs.Reading.{Partial, with_argument_sort, step, nothing_read}
 use Rattle.mfotl_sig.specs.Rules.{sort_of, sort_word}
 
 -- ---- verdicts
@@ -30,7 +31,7 @@ first_token (Labelled label colon word) = label
 abbrev pub admit : List Sort → Argument → Result (List Sort) SigFault
 admit sorts a =
     cond (nat_le max_arguments (length sorts)) (Err (Arity (first_token a).at))
-    (with_sort sorts (sort_of (sort_word a).text) (sort_word a).at)
+    (with_argument_sort sorts (sort_of (sort_word a).text) (sort_word a).at)
 
 -- with those of all
 abbrev pub admit_all : List Sort → List Listed → Option Argument → Result (List Sort) SigFault
@@ -44,11 +45,11 @@ admit_name done t =
     (cond (nat_le max_predicates (length done)) (Err (TooMany t.at)) (Ok done))
 
 -- the predicates with one more
-abbrev pub judge_one : List PredOf → Written → Result (List PredOf) SigFault
+abbrev pub judge_one : List PredOf → WrittenPredicate → Result (List PredOf) SigFault
 judge_one done w =
     admit_name done w.name >>= λ fresh. admit_all [] w.listed w.last >>= λ all. Ok (with_pred fresh w.name.text all)
 
-abbrev pub judge : List PredOf → List Written → Result (List PredOf) SigFault
+abbrev pub judge : List PredOf → List WrittenPredicate → Result (List PredOf) SigFault
 judge done [] = Ok done
 judge done (w ∷ ws) = judge_one done w >>= λ more. judge more ws
 
@@ -145,7 +146,7 @@ begun_run : (done : List PredOf) (name opening : Lexeme) (ts : List Lexeme) → 
 unfolding run step
 begun_run done name opening ts named opens = rw (named, opens) (simp cond_bind)
 
-pred_run : (done : List PredOf) (w : Written) (ts : List Lexeme) → Fits w
+pred_run : (done : List PredOf) (w : WrittenPredicate) (ts : List Lexeme) → Fits w
     → run step (spell_pred w ts) (between done) ≡ (judge_one done w >>= λ more. run step ts (between more))
 pred_run done w ts fits =
     begun_run done w.name w.opening _ fits.named fits.opens
@@ -156,7 +157,7 @@ pred_run done w ts fits =
     )
 
 -- whole predicates, and what is behind them
-pub preds_run : (done : List PredOf) (ws : List Written) (ts : List Lexeme) → AllByRecursion Fits ws
+pub preds_run : (done : List PredOf) (ws : List WrittenPredicate) (ts : List Lexeme) → AllByRecursion Fits ws
     → run step (spell_preds ws ts) (between done) ≡ (judge done ws >>= λ more. run step ts (between more))
 preds_run done [] ts fits = refl
 preds_run done (w ∷ ws) ts fits =

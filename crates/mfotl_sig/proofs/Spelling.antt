@@ -4,7 +4,8 @@ use Rattle.std.specs.List.{AllByRecursion}
 use Rattle.mfotl_lex.specs.declared.kind.Kind.TheVariants.{CloseParen, Comma}
 use Rattle.mfotl_lex.specs.Lexemes.{Lexeme}
 use Rattle.mfotl_sig.specs.Causes.{Begun}
-use Rattle.mfotl_sig.specs.Grammar.{Argument, Only, Labelled, Listed, Written, FitsArgument, FitsListed, FitsLast, Fits}
+use Rattle.mfotl_sig.specs.Grammar.{Argument, Only, Labelled, Listed, WrittenPredicate, FitsArgument, FitsListed}
+use Rattle.mfotl_sig.specs.Grammar.{FitsLast, Fits}
 use Rattle.mfotl_sig.specs.Grammar.{spell_argument, spell_listed, spell_last, spell_begun, spell_pred, spell_preds}
 use Rattle.mfotl_sig.specs.Grammar.{IsAccepted}
 
@@ -20,7 +21,8 @@ last_behind : (last : Option Argument) (ts us : List Lexeme) → spell_last last
 last_behind None ts us = refl
 last_behind (Some a) ts us = argument_behind a ts us
 
-pub preds_behind : (ws : List Written) (ts us : List Lexeme) → spell_preds ws ts ++ us ≡ spell_preds ws (ts ++ us)
+pub preds_behind : (ws : List WrittenPredicate) (ts us : List Lexeme)
+    → spell_preds ws ts ++ us ≡ spell_preds ws (ts ++ us)
 preds_behind [] ts us = refl
 preds_behind (w ∷ ws) ts us = simp (listed_behind, last_behind, preds_behind ws ts us)
 
@@ -30,7 +32,7 @@ listed_more : (ls : List Listed) (l : Listed) (ts : List Lexeme)
 listed_more [] l ts = refl
 listed_more (m ∷ ls) l ts = rw (listed_more ls l ts)
 
-preds_more : (ws : List Written) (w : Written) (ts : List Lexeme)
+preds_more : (ws : List WrittenPredicate) (w : WrittenPredicate) (ts : List Lexeme)
     → spell_preds (ws ++ w ∷ []) ts ≡ spell_preds ws (spell_pred w ts)
 preds_more [] w ts = refl
 preds_more (v ∷ ws) w ts = rw (preds_more ws w ts)
@@ -76,7 +78,7 @@ module _ (front rest : List Lexeme) (t : Lexeme) (b : Begun front rest) where
   pub begun_closed : (last : Option Argument) → rest ≡ spell_last last [] → FitsLast b.listed last
       → t.kind ≡ CloseParen → IsAccepted (front ++ t ∷ [])
   begun_closed last is fits kind =
-      let w : Written =
+      let w : WrittenPredicate =
       record { name = b.name; opening = b.opening; listed = b.listed; last = last; closing = t } in
       let so : Fits w =
       record { named = b.named; opens = b.opens; listed = b.arguments; last = fits; closes = kind } in

@@ -17,12 +17,13 @@ use Rattle.mfotl_sig.specs.declared.arguments.Stage.TheVariants.{AfterComma}
 use Rattle.mfotl_sig.specs.declared.fault.SigFault.{SigFault}
 use Rattle.mfotl_sig.specs.declared.fault.SigFault.TheVariants.{Syntax, UnknownSort, Arity}
 use Rattle.mfotl_sig.specs.Causes.{Begun, IsCause}
-use Rattle.mfotl_sig.specs.Grammar.{Argument, Only, Labelled, Written, FitsArgument, spell_argument, FitsLast}
+use Rattle.mfotl_sig.specs.Grammar.{Argument, Only, Labelled, WrittenPredicate, FitsArgument, spell_argument, FitsLast}
 use Rattle.mfotl_sig.specs.Grammar.{spell_last, Spells, IsAccepted, IsViable}
 use Rattle.mfotl_sig.specs.Limits.{max_predicates, max_arguments}
 use Rattle.mfotl_sig.specs.Preds.{PredOf}
-use Rattle.mfotl_sig.specs.Reading.{ProgressOf, Open, Closed, DraftOf, Partial, with_sort, word_stage, goes_on}
-use Rattle.mfotl_sig.specs.Reading.{stage_step, begins, settled, step_from, step, nothing_read}
+use Rattle.mfotl_sig.specs.Reading.{ProgressOf, Open, Closed, DraftOf, Partial, with_argument_sort, word_stage}
+use Rattle.mfotl_sig.specs.Reading.{arguments_open}
+use Rattle.mfotl_sig.specs.Reading.{stage_step, begins, with_progress, step_from, step, nothing_read}
 use Rattle.mfotl_sig.specs.Rules.{sort_of, numbered, KeepsRules}
 use Rattle.mfotl_sig.proofs.NamedLemmas.{Finds, Lacks, look_up, absent, present, length-numbered}
 use Rattle.mfotl_sig.proofs.Runs.{between, within, stage_in, judge, admit_name, admit_all, preds_run, part_run}
@@ -35,12 +36,12 @@ use Rattle.mfotl_sig.proofs.Verdicts.{IsRule, judged, listed_count}
 pub at_once : (p q : Partial) → run step [] p ≡ Ok q → q ≡ p
 at_once p q e = cc (run_none step p)
 
-pub spelled_run : (ts : List Lexeme) (ws : List Written) → Spells ts ws
+pub spelled_run : (ts : List Lexeme) (ws : List WrittenPredicate) → Spells ts ws
     → run step ts nothing_read ≡ (judge [] ws >>= λ done. run step [] (between done))
 spelled_run ts ws s = ap (λ us. run step us nothing_read) s.spelled ∙ preds_run [] ws [] s.fits
 
 -- whole predicates
-pub spelled_read : (ts : List Lexeme) (ws : List Written) (p : Partial) → Spells ts ws
+pub spelled_read : (ts : List Lexeme) (ws : List WrittenPredicate) (p : Partial) → Spells ts ws
     → run step ts nothing_read ≡ Ok p
     → KeepsRules ws × (p ≡ between (numbered 0 ws))
 spelled_read ts ws p s ran =
@@ -148,23 +149,23 @@ Further front t r = layer.Further IsViable IsCause (Syntax t.at) StandsSo front 
 -- within a predicate
 module _ (front : List Lexeme) (t : Lexeme) (done : List PredOf) (name : List ℕ) where
   abbrev Moves : Result ProgressOf SigFault → Type 0
-  Moves r = Goes front t (r >>= λ progress. Ok (settled done name progress))
+  Moves r = Goes front t (r >>= λ progress. Ok (with_progress done name progress))
 
   abbrev Reaches : ProgressOf → Type 0
-  Reaches progress = StandsSo (front ++ t ∷ []) (settled done name progress)
+  Reaches progress = StandsSo (front ++ t ∷ []) (with_progress done name progress)
 
   reaches_viable : (progress : ProgressOf) → Reaches progress → IsViable (front ++ t ∷ [])
-  reaches_viable progress at = stands_viable (front ++ t ∷ []) (settled done name progress).draft at
+  reaches_viable progress at = stands_viable (front ++ t ∷ []) (with_progress done name progress).draft at
 
   moves : (progress : ProgressOf) → Reaches progress → Moves (Ok progress)
   moves progress at = record { viable = reaches_viable progress at; place = at; cause = tt }
 
-  to : (sorts : List Sort) (stage : Stage) → StandsAt (front ++ t ∷ []) stage → Moves (goes_on sorts stage)
+  to : (sorts : List Sort) (stage : Stage) → StandsAt (front ++ t ∷ []) stage → Moves (arguments_open sorts stage)
   to sorts stage at = moves (Open (record { sorts = sorts; stage = stage })) at
 
   with_sort_moves : (sorts : List Sort) (sort : Option Sort) (at : ℕ) (next : List Sort → ProgressOf)
       → ((more : List Sort) → Reaches (next more)) → (sort ≡ None → IsCause front t (UnknownSort at))
-      → Moves (with_sort sorts sort at >>= λ more. Ok (next more))
+      → Moves (with_argument_sort sorts sort at >>= λ more. Ok (next more))
   with_sort_moves sorts None at next place cause =
       record { viable = reaches_viable (next sorts) (place sorts); place = tt; cause = cause refl }
   with_sort_moves sorts (Some sort) at next place cause =
@@ -193,7 +194,7 @@ module _ (front : List Lexeme) (t : Lexeme) (done : List PredOf) (name : List �
   next_moves : (sorts : List Sort) (full : Bool) (b : Begun front []) → t.kind ≡ Word
       → (length sorts ≡ length b.listed) × (length b.listed ≤ max_arguments)
       → nat_le max_arguments (length sorts) ≡ full
-      → Moves (cond full (Err (Arity t.at)) (goes_on sorts (word_stage t)))
+      → Moves (cond full (Err (Arity t.at)) (arguments_open sorts (word_stage t)))
   next_moves sorts true b kind count e =
       let over = leb-true max_arguments (length sorts) e in
       record {
@@ -205,7 +206,7 @@ module _ (front : List Lexeme) (t : Lexeme) (done : List PredOf) (name : List �
 
   stage_further : (sorts : List Sort) (stage : Stage) (k : Kind) → t.kind ≡ k → StandsAt front stage
       → ((b : Begun front []) → (length sorts ≡ length b.listed) × (length b.listed ≤ max_arguments))
-      → Further front t (stage_step sorts t stage k >>= λ progress. Ok (settled done name progress))
+      → Further front t (stage_step sorts t stage k >>= λ progress. Ok (with_progress done name progress))
   stage_further sorts AfterName OpenParen kind at count = inr (to sorts AfterOpen (opened front t kind at))
   stage_further sorts AfterOpen Word kind o count = inr (to sorts (word_stage t) (worded front t kind o.0))
   stage_further sorts AfterOpen CloseParen kind o count =
@@ -231,7 +232,7 @@ module _ (front : List Lexeme) (t : Lexeme) (done : List PredOf) (name : List �
   stage_further sorts _ _ kind at count = inl refl
 
 -- a name
-module _ (front : List Lexeme) (t : Lexeme) (ws : List Written) (s : Spells front ws) where
+module _ (front : List Lexeme) (t : Lexeme) (ws : List WrittenPredicate) (s : Spells front ws) where
   name_moves : t.kind ≡ Word → Finds t.text (numbered 0 ws) ⊎ Lacks t.text (numbered 0 ws) → (full : Bool)
       → nat_le max_predicates (length (numbered 0 ws)) ≡ full
       → StandsAt (front ++ t ∷ []) AfterName → Goes front t (begins (numbered 0 ws) t Word)

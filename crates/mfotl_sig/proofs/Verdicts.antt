@@ -17,10 +17,10 @@ use Rattle.mfotl_lex.proofs.Verdicts.{breaks}
 use Rattle.mfotl_model.specs.declared.policy.Sort.{Sort}
 use Rattle.mfotl_sig.specs.declared.fault.SigFault.{SigFault}
 use Rattle.mfotl_sig.specs.declared.fault.SigFault.TheVariants.{RepeatedName, UnknownSort, Arity, TooMany}
-use Rattle.mfotl_sig.specs.Grammar.{Argument, Listed, Written}
+use Rattle.mfotl_sig.specs.Grammar.{Argument, Listed, WrittenPredicate}
 use Rattle.mfotl_sig.specs.Limits.{max_predicates, max_arguments}
 use Rattle.mfotl_sig.specs.Preds.{PredOf, named}
-use Rattle.mfotl_sig.specs.Reading.{with_sort}
+use Rattle.mfotl_sig.specs.Reading.{with_argument_sort}
 use Rattle.mfotl_sig.specs.Rules.{sort_of, sort_word, words_of, sort_words, names_of, AllKnown, KeepsRules, numbered}
 use Rattle.mfotl_sig.proofs.Runs.{first_token, admit, admit_all, admit_name, judge_one, judge}
 
@@ -70,7 +70,7 @@ one_judged sorts a = by (nat_le max_arguments (length sorts)) (sort_of (word_of 
   where
     by : (full : Bool) (sort : Option Sort) → nat_le max_arguments (length sorts) ≡ full
         → Judged ((length sorts < max_arguments) × IsSome sort)
-        (cond full (Err (Arity (first_token a).at)) (with_sort sorts sort (sort_word a).at))
+        (cond full (Err (Arity (first_token a).at)) (with_argument_sort sorts sort (sort_word a).at))
         (sorts ++ cons_option sort [])
     by true sort e =
         let over = leb-true max_arguments (length sorts) e in inr (breaks IsRule _ _ tt (λ k. omega (arith, k.0)))
@@ -127,23 +127,24 @@ name_judged done t = by (named t.text done) (nat_le max_predicates (length done)
     by None false e = inl ((refl, leb-false max_predicates (length done) e), refl)
 
 -- the predicate that is written behind others
-abbrev pred_behind : List PredOf → Written → PredOf
+abbrev pred_behind : List PredOf → WrittenPredicate → PredOf
 pred_behind done w = record { number = length done; name = w.name.text; sorts = sorts_of (sort_words w) }
 
-abbrev and_pred : List PredOf → Written → List PredOf
+abbrev and_pred : List PredOf → WrittenPredicate → List PredOf
 and_pred done w = done ++ pred_behind done w ∷ []
 
-abbrev PredKept : List PredOf → Written → Type 0
+abbrev PredKept : List PredOf → WrittenPredicate → Type 0
 PredKept done w = IsAdmitted done w.name.text × AllKept [] (sort_words w)
 
-pred_judged : (done : List PredOf) (w : Written) → Judged (PredKept done w) (judge_one done w) (and_pred done w)
+pred_judged : (done : List PredOf) (w : WrittenPredicate)
+    → Judged (PredKept done w) (judge_one done w) (and_pred done w)
 pred_judged done w =
     layer.then_judged IsRule _ (admit_name done w.name) _ _ _ _ _ (λ a b. (a, b)) (λ k. k) (name_judged done w.name)
     (λ new. layer.then_judged IsRule _ (admit_all [] w.listed w.last) _ (Unit {0}) _ _ _
     (λ a b. a) (λ k. (k, tt)) (all_judged [] w.listed w.last (omega arith)) (λ k. inl (tt, refl)))
 
 -- none of the names stands among the predicates
-abbrev Apart : List PredOf → List Written → Type 0
+abbrev Apart : List PredOf → List WrittenPredicate → Type 0
 Apart done ws = AllByRecursion (λ w. named w.name.text done ≡ None) ws
 
 absent_behind : (done : List PredOf) (name : List ℕ) (p : PredOf)
@@ -157,7 +158,7 @@ absent_behind done name p =
     by None true = (λ e. absurd cc, λ k. absurd (cc (k.1)))
     by None false = (λ e. (refl, refl), λ k. refl)
 
-apart_behind : (done : List PredOf) (p : PredOf) (ws : List Written)
+apart_behind : (done : List PredOf) (p : PredOf) (ws : List WrittenPredicate)
     → Apart (done ++ p ∷ []) ws ↔ (Apart done ws × AllByRecursion (λ y. bytes_eq p.name y ≡ false) (names_of ws))
 apart_behind done p [] = (λ a. (tt, tt), λ k. tt)
 apart_behind done p (w ∷ ws) =
@@ -167,15 +168,15 @@ apart_behind done p (w ∷ ws) =
       λ k. (first.1 (k.0.0, k.1.0), rest.1 (k.0.1, k.1.1)),
     )
 
-apart_from_none : (ws : List Written) → Apart [] ws
+apart_from_none : (ws : List WrittenPredicate) → Apart [] ws
 apart_from_none [] = tt
 apart_from_none (w ∷ ws) = (refl, apart_from_none ws)
 
 -- what predicates behind others keep
-abbrev KeptBehind : List PredOf → List Written → Type 0
+abbrev KeptBehind : List PredOf → List WrittenPredicate → Type 0
 KeptBehind done ws = Apart done ws × KeepsRules ws × (length done + length ws ≤ max_predicates)
 
-module _ (done : List PredOf) (w : Written) (ws : List Written) where
+module _ (done : List PredOf) (w : WrittenPredicate) (ws : List WrittenPredicate) where
   size : length (and_pred done w) ≡ length done + 1
   size = length-append done (pred_behind done w ∷ [])
 
@@ -211,7 +212,7 @@ module _ (done : List PredOf) (w : Written) (ws : List Written) where
       let next : length (and_pred done w) ≡ suc (length done) = omega (arith, size) in
       append_assoc done (pred_behind done w ∷ []) _ ∙ ap (λ n. done ++ pred_behind done w ∷ numbered n ws) next
 
-preds_judged : (done : List PredOf) (ws : List Written) → length done ≤ max_predicates
+preds_judged : (done : List PredOf) (ws : List WrittenPredicate) → length done ≤ max_predicates
     → Judged (KeptBehind done ws) (judge done ws) (done ++ numbered (length done) ws)
 unfolding IsDistinct
 preds_judged done [] room =
@@ -224,7 +225,7 @@ preds_judged done (w ∷ ws) room =
     (λ one. preds_judged (and_pred done w) ws (omega (arith, size done w ws, one.0.1))))
 
 -- predicates pass exactly where they keep the rules, and are numbered in order
-pub judged : (ws : List Written) → Judged (KeepsRules ws) (judge [] ws) (numbered 0 ws)
+pub judged : (ws : List WrittenPredicate) → Judged (KeepsRules ws) (judge [] ws) (numbered 0 ws)
 judged ws =
     layer.judged_as IsRule (KeptBehind [] ws) _ _ _ _ (λ k. k.1) (λ k. (apart_from_none ws, k, omega (arith, k.few)))
     refl (preds_judged [] ws (omega arith))

@@ -7,14 +7,15 @@ use Rattle.mfotl_lex.specs.FirstFault.{Tail, Broken, EndsViability, EndsTooEarly
 use Rattle.mfotl_lex.specs.Lexemes.{Lexeme}
 use Rattle.mfotl_sig.specs.declared.fault.SigFault.{SigFault}
 use Rattle.mfotl_sig.specs.declared.fault.SigFault.TheVariants.{Lex, Syntax, RepeatedName, UnknownSort, Arity, TooMany}
-use Rattle.mfotl_sig.specs.Grammar.{Listed, Written, Fits, FitsListed, spell_begun, spell_preds, Spells, IsAccepted}
+use Rattle.mfotl_sig.specs.Grammar.{Listed, WrittenPredicate, Fits, FitsListed, spell_begun, spell_preds, Spells}
+use Rattle.mfotl_sig.specs.Grammar.{IsAccepted}
 use Rattle.mfotl_sig.specs.Grammar.{IsViable}
 use Rattle.mfotl_sig.specs.Limits.{max_predicates, max_arguments}
 use Rattle.mfotl_sig.specs.Rules.{sort_of, names_of}
 
 -- behind whole predicates, a name, a bracket and arguments with their commas stand these tokens
 pub record Begun (front rest : List Lexeme) : Type 0 where
-  pub whole : List Written
+  pub whole : List WrittenPredicate
   pub name : Lexeme
   pub opening : Lexeme
   pub listed : List Listed
@@ -26,7 +27,7 @@ pub record Begun (front rest : List Lexeme) : Type 0 where
 
 -- the name of a predicate that stands further up
 pub record IsRepeated (front : List Lexeme) (t : Lexeme) (at : ℕ) : Type 0 where
-  pub preds : List Written
+  pub preds : List WrittenPredicate
   pub spelled : Spells front preds
   pub kind : t.kind ≡ Word
   pub among : Contains (names_of preds) t.text
@@ -34,7 +35,7 @@ pub record IsRepeated (front : List Lexeme) (t : Lexeme) (at : ℕ) : Type 0 whe
 
 -- a new name behind as many predicates as there may be
 pub record IsOneTooMany (front : List Lexeme) (t : Lexeme) (at : ℕ) : Type 0 where
-  pub preds : List Written
+  pub preds : List WrittenPredicate
   pub spelled : Spells front preds
   pub kind : t.kind ≡ Word
   pub new : Contains (names_of preds) t.text → ⊥

@@ -19,7 +19,7 @@ pub record Listed : Type 0 where
   pub comma : Lexeme
 
 -- a predicate: its arguments are those with a comma behind them, and the last one, if there is any
-pub record Written : Type 0 where
+pub record WrittenPredicate : Type 0 where
   pub name : Lexeme
   pub opening : Lexeme
   pub listed : List Listed
@@ -41,7 +41,7 @@ FitsLast listed None = listed ≡ []
 FitsLast listed (Some argument) = FitsArgument argument
 
 -- and a predicate's
-pub record Fits (pred : Written) : Type 0 where
+pub record Fits (pred : WrittenPredicate) : Type 0 where
   pub named : pred.name.kind ≡ Word
   pub opens : pred.opening.kind ≡ OpenParen
   pub listed : AllByRecursion FitsListed pred.listed
@@ -68,22 +68,22 @@ abbrev pub spell_begun : Lexeme → Lexeme → List Listed → List Lexeme → L
 spell_begun name opening listed rest = name ∷ opening ∷ spell_listed listed rest
 
 -- a predicate from its name to its closing bracket
-abbrev pub spell_pred : Written → List Lexeme → List Lexeme
+abbrev pub spell_pred : WrittenPredicate → List Lexeme → List Lexeme
 spell_pred p rest = spell_begun p.name p.opening p.listed (spell_last p.last (p.closing ∷ rest))
 
 -- predicates, one behind the other
-abbrev pub spell_preds : List Written → List Lexeme → List Lexeme
+abbrev pub spell_preds : List WrittenPredicate → List Lexeme → List Lexeme
 spell_preds [] rest = rest
 spell_preds (p ∷ preds) rest = spell_pred p (spell_preds preds rest)
 
 -- the tokens are these predicates
-pub record Spells (ts : List Lexeme) (preds : List Written) : Type 0 where
+pub record Spells (ts : List Lexeme) (preds : List WrittenPredicate) : Type 0 where
   pub fits : AllByRecursion Fits preds
   pub spelled : ts ≡ spell_preds preds []
 
 -- the grammar accepts the tokens, the other rules apart
 abbrev pub IsAccepted : List Lexeme → Type 0
-IsAccepted ts = (preds : List Written) × Spells ts preds
+IsAccepted ts = (preds : List WrittenPredicate) × Spells ts preds
 
 -- the tokens can go on to some that the grammar accepts
 abbrev pub IsViable : List Lexeme → Type 0

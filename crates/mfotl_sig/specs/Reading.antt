@@ -42,51 +42,51 @@ abbrev pub syntax_at : {A : Type 0} → Lexeme → Result A SigFault
 syntax_at t = Err (Syntax t.at)
 
 -- the arguments go on with a token of this place
-abbrev pub goes_on : List Sort → Stage → Result ProgressOf SigFault
-goes_on sorts stage = Ok (Open (record { sorts = sorts; stage = stage }))
+abbrev pub arguments_open : List Sort → Stage → Result ProgressOf SigFault
+arguments_open sorts stage = Ok (Open (record { sorts = sorts; stage = stage }))
 
 -- a Word, which a `:` may make a label
 abbrev pub word_stage : Lexeme → Stage
 word_stage t = AfterWord (sort_of t.text) t.at
 
 -- one more argument, whose sort's Word stands at the offset
-abbrev pub with_sort : List Sort → Option Sort → ℕ → Result (List Sort) SigFault
-with_sort sorts (Some sort) at = Ok (sorts ++ sort ∷ [])
-with_sort sorts None at = Err (UnknownSort at)
+abbrev pub with_argument_sort : List Sort → Option Sort → ℕ → Result (List Sort) SigFault
+with_argument_sort sorts (Some sort) at = Ok (sorts ++ sort ∷ [])
+with_argument_sort sorts None at = Err (UnknownSort at)
 
 -- behind a name stands a `(`
 abbrev pub after_name : List Sort → Lexeme → Kind → Result ProgressOf SigFault
-after_name sorts t OpenParen = goes_on sorts AfterOpen
+after_name sorts t OpenParen = arguments_open sorts AfterOpen
 after_name sorts t _ = syntax_at t
 
 -- behind a `(` the first argument, or a `)`
 abbrev pub after_open : List Sort → Lexeme → Kind → Result ProgressOf SigFault
-after_open sorts t Word = goes_on sorts (word_stage t)
+after_open sorts t Word = arguments_open sorts (word_stage t)
 after_open sorts t CloseParen = Ok (Closed sorts)
 after_open sorts t _ = syntax_at t
 
 -- a Word is a label where a `:` follows; else it is the sort, and its fault is shown only now
 abbrev pub after_word : List Sort → Option Sort → ℕ → Lexeme → Kind → Result ProgressOf SigFault
-after_word sorts sort at t Colon = goes_on sorts AfterLabel
-after_word sorts sort at t Comma = with_sort sorts sort at >>= λ more. goes_on more AfterComma
-after_word sorts sort at t CloseParen = with_sort sorts sort at >>= λ more. Ok (Closed more)
+after_word sorts sort at t Colon = arguments_open sorts AfterLabel
+after_word sorts sort at t Comma = with_argument_sort sorts sort at >>= λ more. arguments_open more AfterComma
+after_word sorts sort at t CloseParen = with_argument_sort sorts sort at >>= λ more. Ok (Closed more)
 after_word sorts sort at t _ = syntax_at t
 
 -- behind a label the Word of the sort
 abbrev pub after_label : List Sort → Lexeme → Kind → Result ProgressOf SigFault
-after_label sorts t Word = with_sort sorts (sort_of t.text) t.at >>= λ more. goes_on more AfterSort
+after_label sorts t Word = with_argument_sort sorts (sort_of t.text) t.at >>= λ more. arguments_open more AfterSort
 after_label sorts t _ = syntax_at t
 
 -- behind a labelled argument a comma or a `)`
 abbrev pub after_sort : List Sort → Lexeme → Kind → Result ProgressOf SigFault
-after_sort sorts t Comma = goes_on sorts AfterComma
+after_sort sorts t Comma = arguments_open sorts AfterComma
 after_sort sorts t CloseParen = Ok (Closed sorts)
 after_sort sorts t _ = syntax_at t
 
 -- behind a comma the next argument, if there is room for it
 abbrev pub after_comma : List Sort → Lexeme → Kind → Result ProgressOf SigFault
 after_comma sorts t Word =
-    if nat_le max_arguments (length sorts) then Err (Arity t.at) else goes_on sorts (word_stage t)
+    if nat_le max_arguments (length sorts) then Err (Arity t.at) else arguments_open sorts (word_stage t)
 after_comma sorts t _ = syntax_at t
 
 -- what the next token, of this kind, makes of arguments
@@ -114,15 +114,15 @@ begins done t Word =
 begins done t _ = syntax_at t
 
 -- a predicate that a `)` has ended is the last one
-abbrev pub settled : List PredOf → List ℕ → ProgressOf → Partial
-settled done name (Open arguments) =
+abbrev pub with_progress : List PredOf → List ℕ → ProgressOf → Partial
+with_progress done name (Open arguments) =
     record { done = done; draft = Some (record { name = name; arguments = arguments }) }
-settled done name (Closed sorts) = record { done = with_pred done name sorts; draft = None }
+with_progress done name (Closed sorts) = record { done = with_pred done name sorts; draft = None }
 
 -- a token within a predicate, or a name
 abbrev pub step_from : List PredOf → Option DraftOf → Lexeme → Result Partial SigFault
 step_from done None t = begins done t t.kind
-step_from done (Some p) t = arguments_step p.arguments t >>= λ progress. Ok (settled done p.name progress)
+step_from done (Some p) t = arguments_step p.arguments t >>= λ progress. Ok (with_progress done p.name progress)
 
 -- what the next token makes of what was read
 unfoldable pub step : Partial → Lexeme → Result Partial SigFault
@@ -157,6 +157,6 @@ unfoldable pub reading : List ℕ → Result (List PredOf) SigFault
 reading bytes = layer.reading step nothing_read at_tail (text_of bytes)
 
 -- the name of an open predicate is new, and there is room for it
-abbrev pub IsFresh : List PredOf → Option DraftOf → Type 0
-IsFresh done None = Unit {0}
-IsFresh done (Some p) = (named p.name done ≡ None) × (length done < max_predicates)
+abbrev pub HasNewName : List PredOf → Option DraftOf → Type 0
+HasNewName done None = Unit {0}
+HasNewName done (Some p) = (named p.name done ≡ None) × (length done < max_predicates)

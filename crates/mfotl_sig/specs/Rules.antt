@@ -11,7 +11,7 @@ use Rattle.mfotl_lex.specs.Lexemes.{Lexeme}
 use Rattle.mfotl_lex.specs.Texts as texts
 use Rattle.mfotl_model.specs.declared.policy.Sort.{Sort}
 use Rattle.mfotl_model.specs.declared.policy.Sort.TheVariants.{Int, Text}
-use Rattle.mfotl_sig.specs.Grammar.{Argument, Only, Labelled, Listed, Written, Spells}
+use Rattle.mfotl_sig.specs.Grammar.{Argument, Only, Labelled, Listed, WrittenPredicate, Spells}
 use Rattle.mfotl_sig.specs.Limits.{max_predicates, max_arguments}
 use Rattle.mfotl_sig.specs.Preds.{PredOf}
 
@@ -34,11 +34,11 @@ words_of [] (Some argument) = (sort_word argument).text ∷ []
 words_of (l ∷ listed) last = (sort_word l.argument).text ∷ words_of listed last
 
 -- and of a predicate
-abbrev pub sort_words : Written → List (List ℕ)
+abbrev pub sort_words : WrittenPredicate → List (List ℕ)
 sort_words p = words_of p.listed p.last
 
 -- the names of predicates
-abbrev pub names_of : List Written → List (List ℕ)
+abbrev pub names_of : List WrittenPredicate → List (List ℕ)
 names_of preds = map (λ p. p.name.text) preds
 
 -- each of the Words names a sort
@@ -46,7 +46,7 @@ abbrev pub AllKnown : List (List ℕ) → Type 0
 AllKnown words = AllByRecursion (λ word. IsSome (sort_of word)) words
 
 -- the rules that the grammar doesn't say
-pub record KeepsRules (preds : List Written) : Type 0 where
+pub record KeepsRules (preds : List WrittenPredicate) : Type 0 where
   -- no name stands twice
   pub distinct : IsDistinct bytes_eq (names_of preds)
   pub few : length preds ≤ max_predicates
@@ -54,7 +54,7 @@ pub record KeepsRules (preds : List Written) : Type 0 where
   pub known : AllByRecursion (λ p. AllKnown (sort_words p)) preds
 
 -- the predicates, numbered from n on
-abbrev pub numbered : ℕ → List Written → List PredOf
+abbrev pub numbered : ℕ → List WrittenPredicate → List PredOf
 numbered n [] = []
 numbered n (p ∷ preds) =
     record { number = n; name = p.name.text; sorts = filter_map sort_of (sort_words p) } ∷ numbered (suc n) preds
@@ -65,7 +65,7 @@ text_of bytes = texts.text_of Plain bytes
 
 -- the text is whole tokens that spell these predicates, and they keep the rules
 pub record IsValue (bytes : List ℕ) (preds : List PredOf) : Type 0 where
-  pub written : List Written
+  pub written : List WrittenPredicate
   pub whole : (text_of bytes).tail ≡ End (length bytes)
   pub spelled : Spells (text_of bytes).list written
   pub rules : KeepsRules written

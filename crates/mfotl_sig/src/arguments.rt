@@ -3,7 +3,7 @@
 ghost use Rattle.std.specs.Prelude.{◌≡◌, []};
 ghost use Rattle.mfotl_lex.specs.Lexemes.{lexeme};
 ghost use Rattle.mfotl_sig.specs.Answers.{Gives, arguments_of, progress_of};
-ghost use Rattle.mfotl_sig.specs.Reading.{with_sort, word_stage, arguments_step};
+ghost use Rattle.mfotl_sig.specs.Reading.{with_argument_sort, word_stage, arguments_step};
 ghost use Rattle.mfotl_sig.specs.Reading.{after_name, after_open, after_word, after_label, after_sort, after_comma};
 ghost use Rattle.mfotl_sig.specs.Rules.{sort_of};
 
@@ -62,7 +62,7 @@ fn word_stage(token: &Token) -> Stage
 
 /// The sorts with that of one more argument, whose Word stands at `at`.
 fn with_sort(mut sorts: Vec<Sort>, sort: Option<Sort>, at: u64) -> Result<Vec<Sort>, SigFault>
-    ensures { Gives (λ more. more.items) result (with_sort sorts.items sort at) }
+    ensures { Gives (λ more. more.items) result (with_argument_sort sorts.items sort at) }
 {
     match sort {
         Some(sort) => {

@@ -33,13 +33,13 @@ struct Reader<'a> {
 impl<'a> Model for Reader<'a> {
     ghost use Rattle.std.specs.Prelude.{option_map};
     ghost use Rattle.mfotl_sig.specs.Answers.{draft_of};
-    ghost use Rattle.mfotl_sig.specs.Reading.{Partial, IsFresh};
+    ghost use Rattle.mfotl_sig.specs.Reading.{Partial, HasNewName};
 
     ghost Value = { Partial };
 
     ghost view = { λ r. record { done = r.done; draft = option_map draft_of r.draft } };
 
-    ghost invariant = { λ r. IsFresh r.done (option_map draft_of r.draft) };
+    ghost invariant = { λ r. HasNewName r.done (option_map draft_of r.draft) };
 }
 
 impl<'a> Reader<'a> {

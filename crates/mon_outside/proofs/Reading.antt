@@ -2,11 +2,11 @@
 use Rattle.std.proofs.Common.{◌≡◌, ℕ, List, ◌++◌, take, None, Some, sym, ap, ◌∙◌, subst, IfSome}
 use Rattle.std.proofs.lemmas.List.{append-nil}
 use Rattle.std.specs.declared.option.Option.{Option}
-use Rattle.mon_outside.specs.Inputs.{Moves, Gave}
+use Rattle.mon_outside.specs.Inputs.{Moves, GaveBytes}
 
 -- A read of no byte was the last: all that was left has been given.
 pub gave_all : (old mid new : Option (List ℕ)) (before middle after buffer : List ℕ) (count : ℕ)
-    → Gave old mid before middle → Moves mid new buffer count → after ≡ middle ++ take count buffer → count ≡ 0
+    → GaveBytes old mid before middle → Moves mid new buffer count → after ≡ middle ++ take count buffer → count ≡ 0
     → IfSome old (λ all. after ≡ before ++ all)
 gave_all None mid new before middle after buffer count gave moves appended none = tt
 gave_all (Some all) None new before middle after buffer count gave moves appended none = absurd gave.taken

@@ -9,5 +9,5 @@ pub record Buffered (K : Type 0) : Type 0 where
   pub held : List ℕ
 
 -- The bytes written to both: those that the sink behind it got, where they are told, and then those held back.
-abbrev pub gathered : {K : Type 0} → (K → Option (List ℕ)) → Buffered K → Option (List ℕ)
-gathered written sink = append_known (written sink.inner) sink.held
+abbrev pub written_or_held : {K : Type 0} → (K → Option (List ℕ)) → Buffered K → Option (List ℕ)
+written_or_held written sink = append_known (written sink.inner) sink.held

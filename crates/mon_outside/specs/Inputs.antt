@@ -33,7 +33,7 @@ Moves None new buffer count = Unit {0}
 Moves (Some old) new buffer count = MovesFrom old new buffer count
 
 -- The reads between two moments gave bytes, which stand behind those that were there.
-pub record Gave (old new : Option (List ℕ)) (before after : List ℕ) : Type 0 where
+pub record GaveBytes (old new : Option (List ℕ)) (before after : List ℕ) : Type 0 where
   pub given : List ℕ
   pub appended : after ≡ before ++ given
   pub taken : Consumes old new given

@@ -6,8 +6,8 @@ use Rattle.mon_outside.specs.declared.mem_inputs.NamedFile.{NamedFile}
 use Rattle.mon_outside.specs.Files.{Files}
 
 -- the names and the bytes of these files
-abbrev pub named : List NamedFile → Files
-named = map (λ file. (string_bytes file.name, file.bytes.items))
+abbrev pub as_files : List NamedFile → Files
+as_files = map (λ file. (string_bytes file.name, file.bytes.items))
 
 -- one more, up to the last value of the count's type
 abbrev pub one_more : ℕ → ℕ

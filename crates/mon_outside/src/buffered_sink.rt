@@ -2,7 +2,7 @@
 
 ghost use Rattle.std.specs.Prelude.{◌≡◌, ◌≤◌, ◌++◌, [], drop, length, if◌then◌else◌, IfOk, OnOk};
 ghost use Rattle.mon_outside.specs.Causes.{HasCause};
-ghost use Rattle.mon_outside.specs.Buffered.{gathered};
+ghost use Rattle.mon_outside.specs.Buffered.{written_or_held};
 
 use crate::limits::BUFFER;
 use crate::{Failed, Sink};
@@ -47,7 +47,7 @@ impl<K: Sink + Drop> BufferedSink<K> {
 
     // Hands on what is held. Where that fails, what was not handed on is still held.
     fn hand_on(&mut self) -> Result<(), Failed>
-        ensures kept { gathered K.written self.new ≡ gathered K.written self.old }
+        ensures kept { written_or_held K.written self.new ≡ written_or_held K.written self.old }
         ensures handed_on { OnOk result (self.new.held ≡ []) }
         ensures cause { HasCause (K.faults self.old.inner) (K.faults self.new.inner) result }
     {
@@ -74,7 +74,7 @@ impl<K: Sink + Drop> BufferedSink<K> {
 }
 
 impl<K: Sink + Drop> Sink for BufferedSink<K> {
-    ghost written = { gathered K.written };
+    ghost written = { written_or_held K.written };
 
     ghost held = { λ b. K.held b.inner ++ b.held };
 

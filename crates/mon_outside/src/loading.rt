@@ -4,7 +4,7 @@ ghost use Rattle.std.specs.Prelude.{◌≡◌, ℕ, ◌<◌, ◌≤◌, ◌++◌
 ghost use Rattle.std.specs.Prelude.{OnOk, OnErr, IsErrOf};
 ghost use Rattle.mon_outside.specs.Causes.{Rose};
 ghost use Rattle.mon_outside.specs.Files.{ToldFiles, content};
-ghost use Rattle.mon_outside.specs.Inputs.{Moves, Gave, Loads, IsLonger, StopsIn, asked_more};
+ghost use Rattle.mon_outside.specs.Inputs.{Moves, GaveBytes, Loads, IsLonger, StopsIn, asked_more};
 
 use crate::limits::BUFFER;
 use crate::{Inputs, LoadFault, ReadFault};
@@ -55,7 +55,7 @@ pub fn read_to_end<I: Inputs>(
     ensures files { I.files inputs.new ≡ I.files inputs.old }
     ensures stays_open { I.is_open inputs.new ≡ I.is_open inputs.old }
     ensures asks_nothing { I.asked inputs.new ≡ I.asked inputs.old }
-    ensures gave { Gave (I.rest inputs.old) (I.rest inputs.new) bytes.old.items bytes.new.items }
+    ensures gave { GaveBytes (I.rest inputs.old) (I.rest inputs.new) bytes.old.items bytes.new.items }
     ensures whole { OnOk result (IfSome (I.rest inputs.old) (λ rest.
         bytes.new.items ≡ bytes.old.items ++ rest)) }
     ensures within { OnOk result (length bytes.new.items ≤ limit) }
@@ -106,7 +106,7 @@ fn read_through<I: Inputs>(
     ensures files { I.files inputs.new ≡ I.files inputs.old }
     ensures stays_open { I.is_open inputs.new ≡ I.is_open inputs.old }
     ensures asks_nothing { I.asked inputs.new ≡ I.asked inputs.old }
-    ensures gave { Gave (I.rest inputs.old) (I.rest inputs.new) bytes.old.items bytes.new.items }
+    ensures gave { GaveBytes (I.rest inputs.old) (I.rest inputs.new) bytes.old.items bytes.new.items }
     ensures whole { OnOk result (IfSome (I.rest inputs.old) (λ rest.
         bytes.new.items ≡ bytes.old.items ++ rest)) }
     ensures within { OnOk result (length bytes.new.items ≤ limit) }

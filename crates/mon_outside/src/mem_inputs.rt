@@ -6,7 +6,7 @@ ghost use Rattle.std.specs.Option.{option_copied};
 ghost use Rattle.mon_outside.specs.Causes.{HasCause};
 ghost use Rattle.mon_outside.specs.Files.{find_file};
 ghost use Rattle.mon_outside.specs.Inputs.{Opens, Moves};
-ghost use Rattle.mon_outside.specs.Memory.{named, fails_next, after_call};
+ghost use Rattle.mon_outside.specs.Memory.{as_files, fails_next, after_call};
 
 use crate::failing_calls::Calls;
 use crate::{Failed, Inputs};
@@ -21,7 +21,7 @@ pub struct NamedFile {
 
 // The bytes of the first file of this name.
 pub(crate) fn find_file<'a>(files: &'a [NamedFile], name: &str) -> Option<&'a [u8]>
-    ensures { option_copied result ≡ find_file (named files.now) name.now }
+    ensures { option_copied result ≡ find_file (as_files files.now) name.now }
 {
     for file in files {
         if file.name.as_str() == name {
@@ -43,12 +43,12 @@ pub struct MemInputs<'a> {
 impl<'a> Model for MemInputs<'a> {
     ghost use Rattle.std.specs.Prelude.{◌<◌};
     ghost use Rattle.std.specs.Option.{option_copied};
-    ghost use Rattle.mon_outside.specs.Memory.{named, MemoryFiles};
+    ghost use Rattle.mon_outside.specs.Memory.{as_files, MemoryFiles};
 
     ghost Value = { MemoryFiles };
 
     ghost view = { λ m.
-        record { files = named m.files.now; piece = m.piece; plan = m.calls; rest = option_copied m.rest } };
+        record { files = as_files m.files.now; piece = m.piece; plan = m.calls; rest = option_copied m.rest } };
 
     ghost invariant = { λ m. 0 < m.piece };
 }
@@ -60,7 +60,7 @@ impl<'a> MemInputs<'a> {
     pub fn new(files: &'a [NamedFile], piece: usize, fail: &'a [u64]) -> Self
         requires { 0 < piece }
         ensures { result ≡ record {
-          files = named files.now;
+          files = as_files files.now;
           piece = piece;
           rest = None;
           plan = record { fail = fail.now; calls = 0; faults = 0 };

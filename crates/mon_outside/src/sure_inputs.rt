@@ -5,7 +5,7 @@ ghost use Rattle.std.specs.Prelude.{IsTrue, OnOk, OnErr, IfSome};
 ghost use Rattle.mon_outside.specs.Causes.{HasCause};
 ghost use Rattle.mon_outside.specs.Files.{content};
 ghost use Rattle.mon_outside.specs.Inputs.{Opens, Moves};
-ghost use Rattle.mon_outside.specs.Memory.{named};
+ghost use Rattle.mon_outside.specs.Memory.{as_files};
 
 use crate::mem_inputs::find_file;
 use crate::{Failed, Inputs, NamedFile};
@@ -22,11 +22,11 @@ pub struct SureInputs<'a> {
 impl<'a> Model for SureInputs<'a> {
     ghost use Rattle.std.specs.Prelude.{◌<◌};
     ghost use Rattle.std.specs.Option.{option_copied};
-    ghost use Rattle.mon_outside.specs.Memory.{named, SureFiles};
+    ghost use Rattle.mon_outside.specs.Memory.{as_files, SureFiles};
 
     ghost Value = { SureFiles };
 
-    ghost view = { λ s. record { files = named s.files.now; piece = s.piece; rest = option_copied s.rest } };
+    ghost view = { λ s. record { files = as_files s.files.now; piece = s.piece; rest = option_copied s.rest } };
 
     ghost invariant = { λ s. 0 < s.piece };
 }
@@ -36,7 +36,7 @@ impl<'a> SureInputs<'a> {
     /// counts.
     pub fn new(files: &'a [NamedFile], piece: usize) -> Self
         requires { 0 < piece }
-        ensures { result ≡ record { files = named files.now; piece = piece; rest = None } }
+        ensures { result ≡ record { files = as_files files.now; piece = piece; rest = None } }
     {
         SureInputs {
             files,

@@ -11,7 +11,7 @@ use Rattle.log_reader.specs.declared.fault.LogFault.TheVariants as log
 use Rattle.worker_pool.specs.declared.end.End.TheVariants.{Finished, LogEnds}
 use Rattle.monitor_main.specs.declared.refusal.Refusal.{Refusal}
 use Rattle.monitor_main.specs.declared.refusal.Refusal.TheVariants.{Log, Read, Usage, Write, Memory}
-use Rattle.monitor_main.specs.Answer.{demo_answer, demo_ended, demo_line, demo_on, reading_of, refused}
+use Rattle.monitor_main.specs.Answer.{demo_answer, demo_ended, demo_line, demo_on, log_reading, refused}
 use Rattle.monitor_main.specs.CheckedPolicies.{Fails, IsInside}
 use Rattle.monitor_main.specs.Decisions.{ComesTo}
 use Rattle.monitor_main.specs.DemoRuns.{EndsDemo}
@@ -91,11 +91,11 @@ module _ (sig policy changes : List ℕ) where
 -- ---- what is told
 
 module _ (seed : ℕ) where
-  answer_is : (task : Task) → demo_task seed ≡ Ok task → (ending : Ending) → (reading_of task).ending ≡ ending
-      → demo_answer seed ≡ demo_ended seed task.policy.formula (reading_of task) ending
+  answer_is : (task : Task) → demo_task seed ≡ Ok task → (ending : Ending) → (log_reading task).ending ≡ ending
+      → demo_answer seed ≡ demo_ended seed task.policy.formula (log_reading task) ending
   unfolding demo_answer
   answer_is task is ending shows =
-      ap (demo_on seed) is ∙ ap (demo_ended seed task.policy.formula (reading_of task)) shows
+      ap (demo_on seed) is ∙ ap (demo_ended seed task.policy.formula (log_reading task)) shows
 
   module _ (old new : Option (List ℕ)) where
     -- all was counted, and the line is written

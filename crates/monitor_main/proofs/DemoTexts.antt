@@ -22,8 +22,9 @@ use Rattle.log_reader.specs.DemoTexts.{changes_text, log_text, policy_text, sign
 use Rattle.log_reader.specs.Readings.{NoFault, Reading}
 use Rattle.worker_pool.specs.Texts.{tally_on, text_on}
 use Rattle.monitor_main.specs.declared.refusal.Refusal.TheVariants as refusal
-use Rattle.monitor_main.specs.Answer.{Answer, demo_answer, demo_ended, demo_on, ended, command_answer, log_answer}
-use Rattle.monitor_main.specs.Answer.{reading_of, run_answer}
+use Rattle.monitor_main.specs.Answer.{Answer, demo_answer, demo_ended, demo_on, answer_by_ending, command_answer}
+use Rattle.monitor_main.specs.Answer.{log_answer}
+use Rattle.monitor_main.specs.Answer.{log_reading, run_answer}
 use Rattle.monitor_main.specs.DemoLaws.{DemoChangesAreAccepted, DemoIsAnswered, DemoIsDivided, DemoIsRun}
 use Rattle.monitor_main.specs.DemoLaws.{DemoPolicyIsAccepted, DemoPolicyIsMonitorable, DemoSignatureIsAccepted}
 use Rattle.monitor_main.specs.DemoLaws.{demo_changes, demo_checked, demo_points, demo_vars}
@@ -82,8 +83,8 @@ module _ (seed : ℕ) where
   abbrev whole : Reading
   whole = record { points = demo_points seed; ending = NoFault }
 
-  read : reading_of drawn ≡ whole
-  unfolding reading_of
+  read : log_reading drawn ≡ whole
+  unfolding log_reading
   read = demo_log_is_read seed
 
   task_is : demo_task seed ≡ Ok drawn
@@ -98,7 +99,7 @@ module _ (seed : ℕ) where
 
   written : (log_answer drawn).out ≡ text_on drawn.policy.formula whole
   unfolding log_answer
-  written = ap (λ (r : Reading). (ended drawn.policy.formula r r.ending).out) read
+  written = ap (λ (r : Reading). (answer_by_ending drawn.policy.formula r r.ending).out) read
 
 pub demo_answered : DemoIsAnswered
 unfolding tally_on

@@ -8,7 +8,7 @@ use Rattle.monitor_main.specs.declared.refusal.Refusal.TheVariants.{LongChanges,
 use Rattle.monitor_main.specs.declared.refusal.Refusal.TheVariants.{Log, Read, Write, Memory}
 use Rattle.monitor_main.specs.declared.status.Status.{Status}
 use Rattle.monitor_main.specs.declared.status.Status.TheVariants as status
-use Rattle.monitor_main.specs.Outcomes.{Reports, Tells, told_line}
+use Rattle.monitor_main.specs.Outcomes.{Reports, TellsLine, told_line}
 use Rattle.monitor_main.specs.Refusals.{line_of, status_of}
 
 told_under : (r : Refusal) → told_line (status_of r) r ≡ line_of r
@@ -29,7 +29,7 @@ told_under Memory = refl
 
 -- the refusal's line under its status
 pub reported : (r : Refusal) (s : Status) (line : List ℕ) (old new : Option (List ℕ)) (before now : ℕ)
-    → s ≡ status_of r → line ≡ line_of r → Tells old new before now line → Reports r s old new before now
+    → s ≡ status_of r → line ≡ line_of r → TellsLine old new before now line → Reports r s old new before now
 reported r s line old new before now is line_is t = record {
   status_is = inl is;
   told = rw (is, told_under r, ← line_is) t;
@@ -37,5 +37,5 @@ reported r s line old new before now is line_is t = record {
 
 -- memory was refused
 pub reported_memory : (r : Refusal) (old new : Option (List ℕ)) (before now : ℕ)
-    → Tells old new before now (line_of Memory) → Reports r status.Memory old new before now
+    → TellsLine old new before now (line_of Memory) → Reports r status.Memory old new before now
 reported_memory r old new before now t = record { status_is = inr refl; told = t }

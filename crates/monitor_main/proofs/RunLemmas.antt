@@ -19,7 +19,7 @@ use Rattle.monitor_main.specs.declared.refusal.InputFile.TheVariants as file
 use Rattle.monitor_main.specs.declared.refusal.Refusal.TheVariants.{Log, Read}
 use Rattle.mfotl_model.specs.Formulas.{Form}
 use Rattle.monitorable.specs.CoreForms.{CoreForm}
-use Rattle.monitor_main.specs.Answer.{ended, log_answer, reading_of}
+use Rattle.monitor_main.specs.Answer.{answer_by_ending, log_answer, log_reading}
 use Rattle.monitor_main.specs.Tasks.{CheckedPolicy, Task, task_on}
 use Rattle.monitor_main.specs.Unread.{seen_of}
 use Rattle.monitor_main.specs.Answer.{verdict_status}
@@ -31,7 +31,7 @@ use Rattle.worker_pool.specs.declared.end.End.{End}
 use Rattle.worker_pool.specs.declared.end.End.TheVariants.{Finished, LogEnds, ReadFailed, SinkFailed}
 use Rattle.worker_pool.specs.declared.end.End.TheVariants as end
 use Rattle.monitor_main.specs.Decisions.{ComesTo, Ends, FailsInLog, Finishes, HasCauses, MonitorsLog, Refuses}
-use Rattle.log_reader.specs.Growth.{Keeps}
+use Rattle.log_reader.specs.Growth.{ExtendsReading}
 use Rattle.monitor_main.specs.DemoRuns.{EndsOn}
 use Rattle.monitor_main.specs.LogRuns.{outcome_of}
 use Rattle.log_reader.proofs.GrowthLemmas.{front_stays}
@@ -52,7 +52,7 @@ pub record IsReadOf (all : List ℕ) (after : InputsView) (bytes : List ℕ) (en
   pub unopened : after.is_open ≡ false → bytes ≡ []
 
 -- the answer's output is the text in each case
-out_of_ended : (f : Form) (r : Reading) (ending : Ending) → (ended f r ending).out ≡ text_on f r
+out_of_ended : (f : Form) (r : Reading) (ending : Ending) → (answer_by_ending f r ending).out ≡ text_on f r
 out_of_ended f r NoFault = refl
 out_of_ended f r (Fault fault) = refl
 
@@ -81,20 +81,20 @@ module _ (task : Task) (core : CoreForm) (is : IsCoreOf core task.policy.formula
   abbrev whole_effect : Effect
   whole_effect = record { before = before; after = after; old = old; new = new }
 
-  out_is : (log_answer task).out ≡ text_on policy (reading_of task)
+  out_is : (log_answer task).out ≡ text_on policy (log_reading task)
   unfolding log_answer
-  out_is = out_of_ended policy (reading_of task) (reading_of task).ending
+  out_is = out_of_ended policy (log_reading task) (log_reading task).ending
 
   -- all was read
-  all_read : is_ended ≡ true → reading_of task ≡ reading task.sig standard bytes true
-  unfolding reading_of
+  all_read : is_ended ≡ true → log_reading task ≡ reading task.sig standard bytes true
+  unfolding log_reading
   all_read whole =
       ap (accepted task.sig standard)
       (is_read.all_is ∙ ap (λ (l : List ℕ). bytes ++ l) (is_read.whole whole) ∙ append-nil bytes)
 
   -- what was read stays
-  kept : (b : Bool) → is_ended ≡ b → Keeps (reading task.sig standard bytes b) (reading_of task)
-  unfolding reading_of
+  kept : (b : Bool) → is_ended ≡ b → ExtendsReading (reading task.sig standard bytes b) (log_reading task)
+  unfolding log_reading
   kept true whole = record {
     more = [];
     points = ap (λ (r : Reading). r.points) (all_read whole) ∙ sym (append-nil _);
@@ -102,12 +102,12 @@ module _ (task : Task) (core : CoreForm) (is : IsCoreOf core task.policy.formula
   }
   kept false cut = rw is_read.all_is (front_stays task.sig standard bytes is_read.left true)
 
-  keeps : Keeps given (reading_of task)
+  keeps : ExtendsReading given (log_reading task)
   keeps = kept is_ended refl
 
   finishes_by : (r : Reading) (ending : Ending) (violated : Bool) → ending ≡ NoFault
       → Appends old.written new.written (text_on policy r) → violated ≡ violated_on policy r
-      → Finishes (ended policy r ending) old.written new.written violated
+      → Finishes (answer_by_ending policy r ending) old.written new.written violated
   finishes_by r ending violated clear written some =
       rw clear (record { status = ap verdict_status (sym some); err = refl; out = written })
 
@@ -116,24 +116,25 @@ module _ (task : Task) (core : CoreForm) (is : IsCoreOf core task.policy.formula
       → violated ≡ violated_on policy given → Finishes (log_answer task) old.written new.written violated
   unfolding log_answer
   finishes violated whole h some =
-      let same : given ≡ reading_of task = ap (λ b. reading task.sig standard bytes b) whole ∙ sym (all_read whole) in
-      let here : WritesAll policy (reading_of task) NoFault inner =
+      let same : given ≡ log_reading task = ap (λ b. reading task.sig standard bytes b) whole ∙ sym (all_read whole) in
+      let here : WritesAll policy (log_reading task) NoFault inner =
       subst (λ r. WritesAll policy r NoFault inner) same h in
-      finishes_by (reading_of task) (reading_of task).ending violated here.shows here.written
+      finishes_by (log_reading task) (log_reading task).ending violated here.shows here.written
       (some ∙ ap (violated_on policy) same)
 
   refuses_by : (r : Reading) (ending : Ending) (fault : LogFault) → ending ≡ Fault fault
       → Appends old.written new.written (text_on policy r)
-      → Refuses (ended policy r ending) old.written new.written (Log fault)
+      → Refuses (answer_by_ending policy r ending) old.written new.written (Log fault)
   refuses_by r ending fault stops written = rw stops (record { status = refl; err = refl; out = written })
 
   -- the log ends in a fault
-  log_refused : (fault : LogFault) (r : Reading) → Keeps r (reading_of task) → WritesAll policy r (Fault fault) inner
+  log_refused : (fault : LogFault) (r : Reading) → ExtendsReading r (log_reading task)
+      → WritesAll policy r (Fault fault) inner
       → Refuses (log_answer task) old.written new.written (Log fault)
   unfolding log_answer
   log_refused fault r k h =
-      let same : r ≡ reading_of task = sym (k.stays fault h.shows) in
-      refuses_by (reading_of task) (reading_of task).ending fault
+      let same : r ≡ log_reading task = sym (k.stays fault h.shows) in
+      refuses_by (log_reading task) (log_reading task).ending fault
       (ap (λ (r : Reading). r.ending) (sym same) ∙ h.shows)
       (subst (λ r. Appends old.written new.written (text_on policy r)) same h.written)
 
@@ -164,10 +165,10 @@ module _ (task : Task) (core : CoreForm) (is : IsCoreOf core task.policy.formula
   -- what was written is a front of what is due
   due_front : AppendsFront old.written new.written (text_on policy given)
       → AppendsFront old.written new.written (log_answer task).out
-  unfolding reading_of text_on
+  unfolding log_reading text_on
   due_front part =
       let k = keeps in
-      let more = first_text core policy is (reading_of task) given.points k.more k.points
+      let more = first_text core policy is (log_reading task) given.points k.more k.points
       (read_never_falls task.sig standard task.log true) in
       rw (out_is ∙ more.1) (longer_front old.written new.written _ _ part)
 
@@ -198,7 +199,7 @@ module _ (task : Task) (core : CoreForm) (is : IsCoreOf core task.policy.formula
   pub ends_on : (end : End) → (Rose opened.faults after.faults → ⊥) → (Rose old.faults new.faults → ⊥)
       → EndsBy is_ended policy given inner end → EndsOn task end
   ends_on (Finished settled violated rows) no_read no_write h =
-      let same : given ≡ reading_of task = ap (λ b. reading task.sig standard bytes b) h.0 ∙ sym (all_read h.0) in
+      let same : given ≡ log_reading task = ap (λ b. reading task.sig standard bytes b) h.0 ∙ sym (all_read h.0) in
       (ap (λ (r : Reading). r.ending) (sym same) ∙ h.1.shows, ap (tally_on policy) (sym same) ∙ h.2)
   ends_on (LogEnds log.Memory) no_read no_write h = tt
   ends_on (LogEnds fault) no_read no_write h =

@@ -21,7 +21,7 @@ use Rattle.monitor_main.specs.Loading.{IsSource, IsStopped, LoadsSources, LoadsT
 use Rattle.monitor_main.specs.Tasks.{◌>>=◌, CheckedPolicy, changes_at, changes_in, checked_over, divided_at, policy_at}
 use Rattle.monitor_main.specs.Tasks.{signature_of, strategy_in, task_at, task_on}
 use Rattle.monitor_main.specs.Unread.{bytes_of, changes_bytes, ok_value, source_bytes, strategy_at, text_at_failure}
-use Rattle.monitor_main.specs.Words.{Command, RunOptions, Sources, Run, Check, named}
+use Rattle.monitor_main.specs.Words.{Command, RunOptions, Sources, Run, Check, name_if_any}
 use Rattle.monitor_main.proofs.DecideLemmas.{refuses_at, unwritten}
 use Rattle.monitor_main.proofs.LoadLemmas.{rose_later}
 use Rattle.worker_pool.proofs.SinkLemmas.{appends_none, no_front}
@@ -239,11 +239,11 @@ module _ (sources : Sources) (options : RunOptions) (before mid : InputsView) (c
 
   module _ (first : Strategy) (taken : strategy_in checked.policy.vars options.strategy ≡ Ok first)
       (same : mid.files ≡ before.files) (later : before.faults ≤ mid.faults) (after : InputsView)
-      (asked : after.asked ≡ asked_more mid.asked (named options.changes)) where
+      (asked : after.asked ≡ asked_more mid.asked (name_if_any options.changes)) where
     all_asked : after.asked ≡ asked_more before.asked (names_before_log sources options)
     all_asked =
-        asked ∙ ap (λ (a : Option (List Name)). asked_more a (named options.changes)) loads.asked
-        ∙ asked_twice before.asked (source_names sources file.Policy) (named options.changes)
+        asked ∙ ap (λ (a : Option (List Name)). asked_more a (name_if_any options.changes)) loads.asked
+        ∙ asked_twice before.asked (source_names sources file.Policy) (name_if_any options.changes)
 
     task_is : (files : Files) (changes : List Change) → policy_at sources files ≡ Ok checked
         → changes_at checked.policy.vars options.changes files ≡ Ok changes

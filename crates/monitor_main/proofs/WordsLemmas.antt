@@ -17,7 +17,8 @@ use Rattle.clap.proofs.ValueTestLemmas.{Accepts-accepts, accepts-Accepts}
 use Rattle.clap.specs.ValueTests.{is_unsigned_in}
 use Rattle.clap.specs.declared.builder.value_parser.ValueParser.TheVariants.{Unsigned}
 use Rattle.monitor_main.specs.Limits.{max_seed, max_threads}
-use Rattle.monitor_main.specs.Words.{IsThreadCount, check_app, demo_app, monitor_app, named, run_app, seed_by, seed_of}
+use Rattle.monitor_main.specs.Words.{IsThreadCount, check_app, demo_app, monitor_app, name_if_any, run_app, seed_by}
+use Rattle.monitor_main.specs.Words.{seed_option}
 use Rattle.monitor_main.specs.Words.{sources_app}
 use Rattle.clap.proofs.WalkLemmas.{first_value-rows, one_text-rows}
 
@@ -97,7 +98,7 @@ module _ (E : Type 0) (gives : List ℕ → Result ℕ E → Type 0)
   -- the seed that was read is the one among the rows
   pub seed_read : (result : Option ℕ) → (one_text f (codes "seed") ≡ None → result ≡ None)
       → ((text : Text) → one_text f (codes "seed") ≡ Some text → ReadsOne gives text result)
-      → result ≡ seed_of (rows_of f)
+      → result ≡ seed_option (rows_of f)
   seed_read result none some = by (one_of (codes "seed") (rows_of f)) (one_text-rows f (codes "seed"))
     where
       by : (o : Option Text) → one_text f (codes "seed") ≡ o → result ≡ seed_by o
@@ -106,9 +107,9 @@ module _ (E : Type 0) (gives : List ℕ → Result ℕ E → Type 0)
 
 -- more than one of a run's files: of two, of one that may be left out, and of another
 pub two_of_run : (p : List ℕ → Bool) (a b d : List ℕ) (o : Option (List ℕ))
-    → nat_lt 1 (count_by p (a ∷ b ∷ (named o ++ d ∷ [])))
-    ≡ (if p a then (p b || list_any p (named o)) || p d
-    else if p b then list_any p (named o) || p d else list_any p (named o) && p d)
+    → nat_lt 1 (count_by p (a ∷ b ∷ (name_if_any o ++ d ∷ [])))
+    ≡ (if p a then (p b || list_any p (name_if_any o)) || p d
+    else if p b then list_any p (name_if_any o) || p d else list_any p (name_if_any o) && p d)
 two_of_run p a b d None = go (p a) (p b) (p d) refl refl refl
   where
     go : (x y w : Bool) → p a ≡ x → p b ≡ y → p d ≡ w

@@ -32,19 +32,19 @@ verdict_status true = status.Violated
 verdict_status false = status.Clean
 
 -- the answer on a log that was read to this ending
-abbrev pub ended : Form → Reading → Ending → Answer
-ended policy r NoFault =
+abbrev pub answer_by_ending : Form → Reading → Ending → Answer
+answer_by_ending policy r NoFault =
     record { status = verdict_status (violated_on policy r); out = text_on policy r; err = [] }
-ended policy r (Fault fault) =
+answer_by_ending policy r (Fault fault) =
     record { status = status.Log; out = text_on policy r; err = line_of (refusal.Log fault) }
 
 -- what a task's log says
-unfoldable pub reading_of : Task → Reading
-reading_of task = accepted task.sig standard task.log
+unfoldable pub log_reading : Task → Reading
+log_reading task = accepted task.sig standard task.log
 
 -- the answer on a task
 unfoldable pub log_answer : Task → Answer
-log_answer task = ended task.policy.formula (reading_of task) (reading_of task).ending
+log_answer task = answer_by_ending task.policy.formula (log_reading task) (log_reading task).ending
 
 -- ---- of a demo
 
@@ -85,7 +85,7 @@ check_answer (Err r) = refused r
 
 -- the answer of `demo`
 abbrev pub demo_on : ℕ → Result Task Refusal → Answer
-demo_on seed (Ok task) = demo_ended seed task.policy.formula (reading_of task) (reading_of task).ending
+demo_on seed (Ok task) = demo_ended seed task.policy.formula (log_reading task) (log_reading task).ending
 demo_on seed (Err r) = refused r
 
 -- the same by the seed

@@ -8,18 +8,18 @@ use Rattle.worker_pool.specs.declared.end.End.{End}
 use Rattle.worker_pool.specs.declared.end.End.TheVariants as end
 use Rattle.monitor_main.specs.declared.refusal.Refusal.{Refusal}
 use Rattle.monitor_main.specs.declared.refusal.Refusal.TheVariants.{Usage, Read, Write}
-use Rattle.monitor_main.specs.Answer.{reading_of}
+use Rattle.monitor_main.specs.Answer.{log_reading}
 use Rattle.monitor_main.specs.Tasks.{Task, demo_task}
 
 -- A log of which no call fails was monitored to this end: all of it was counted, or it ends in this fault, or memory
 -- was refused.
 abbrev pub EndsOn : Task → End → Type 0
 EndsOn task (end.Finished settled violated rows) =
-    ((reading_of task).ending ≡ NoFault)
-    × (tally_on task.policy.formula (reading_of task)
+    ((log_reading task).ending ≡ NoFault)
+    × (tally_on task.policy.formula (log_reading task)
     ≡ record { settled = settled; violated = violated; rows = rows })
 EndsOn task (end.LogEnds log.Memory) = Unit {0}
-EndsOn task (end.LogEnds fault) = (reading_of task).ending ≡ Fault fault
+EndsOn task (end.LogEnds fault) = (log_reading task).ending ≡ Fault fault
 EndsOn task end.ReadFailed = ⊥
 EndsOn task end.SinkFailed = ⊥
 EndsOn task end.Memory = Unit {0}

@@ -6,7 +6,7 @@ use Rattle.mon_outside.specs.Views.{InputsView}
 use Rattle.monitor_main.specs.declared.refusal.InputFile.{InputFile}
 use Rattle.monitor_main.specs.declared.refusal.InputFile.TheVariants as file
 use Rattle.monitor_main.specs.Unread.{bytes_of}
-use Rattle.monitor_main.specs.Words.{Sources, RunOptions, Command, Run, Check, Demo, named}
+use Rattle.monitor_main.specs.Words.{Sources, RunOptions, Command, Run, Check, Demo, name_if_any}
 
 -- the names of the signature and the policy, up to this file
 abbrev pub source_names : Sources → InputFile → List Name
@@ -15,7 +15,7 @@ source_names sources name = sources.sig ∷ sources.policy ∷ []
 
 -- the names of a run's files before its log
 abbrev pub names_before_log : Sources → RunOptions → List Name
-names_before_log sources options = sources.sig ∷ sources.policy ∷ named options.changes
+names_before_log sources options = sources.sig ∷ sources.policy ∷ name_if_any options.changes
 
 -- the names of a command's files in their order, up to this file
 abbrev pub names_to : Command → InputFile → List Name

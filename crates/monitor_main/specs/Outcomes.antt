@@ -15,7 +15,7 @@ use Rattle.worker_pool.specs.Effects.{Effect}
 use Rattle.monitor_main.specs.Refusals.{line_of, status_of}
 
 -- a line was told: a front of it, and the whole where no call failed
-pub record Tells (old new : Option (List ℕ)) (before now : ℕ) (line : List ℕ) : Type 0 where
+pub record TellsLine (old new : Option (List ℕ)) (before now : ℕ) (line : List ℕ) : Type 0 where
   pub front : AppendsFront old new line
   pub whole : StoodStill before now → Appends old new line
 
@@ -31,14 +31,14 @@ pub record IsDecidedBy (a : Answer) (status : Status) (out_old out_new err_old e
     (before now : ℕ) : Type 0 where
   pub status_is : status ≡ a.status
   pub out : Appends out_old out_new a.out
-  pub err : Tells err_old err_new before now a.err
+  pub err : TellsLine err_old err_new before now a.err
 
 -- a file could not be read, and was told
 pub record FailsToRead (words : List Text) (files : Files) (e : Effect)
     (err_old err_new : Option (List ℕ)) (before now : ℕ) : Type 0 where
   pub name : InputFile
   pub fails : FailsAt words files e name
-  pub told : Tells err_old err_new before now (line_of (refusal.Read name))
+  pub told : TellsLine err_old err_new before now (line_of (refusal.Read name))
 
 -- the line that is told under a status: where memory is refused, that
 abbrev pub told_line : Status → Refusal → List ℕ
@@ -48,4 +48,4 @@ told_line status r = line_of r
 -- the refusal was told under its status, unless memory was refused
 pub record Reports (r : Refusal) (status : Status) (old new : Option (List ℕ)) (before now : ℕ) : Type 0 where
   pub status_is : (status ≡ status_of r) ⊎ (status ≡ Memory)
-  pub told : Tells old new before now (told_line status r)
+  pub told : TellsLine old new before now (told_line status r)

@@ -108,20 +108,20 @@ pub data Command : Type 0 where
   Demo : ℕ → Command
 
 -- the value of one option
-abbrev pub value_of : Text → List Row → List ℕ
-value_of name options = unwrap_or (first_of name options) []
+abbrev pub option_value : Text → List Row → List ℕ
+option_value name options = unwrap_or (first_of name options) []
 
 -- the signature's file and the policy's among the options
 abbrev pub sources_of : List Row → Sources
 sources_of options =
-    record { sig = value_of (codes "sig") options; policy = value_of (codes "policy") options }
+    record { sig = option_value (codes "sig") options; policy = option_value (codes "policy") options }
 
 -- the strategy's text, the change script's file and the log's among the options
 abbrev pub run_options_of : List Row → RunOptions
 run_options_of options = record {
-  strategy = value_of (codes "strategy") options;
+  strategy = option_value (codes "strategy") options;
   changes = first_of (codes "changes") options;
-  log = value_of (codes "log") options;
+  log = option_value (codes "log") options;
 }
 
 -- the number of threads is the one that the option's text writes, where that is a number from 0 to 64
@@ -137,8 +137,8 @@ seed_by (Some text) =
     if is_unsigned_in 0 max_seed text then Some (digits_value 10 (without_leading_plus text)) else None
 
 -- the seed among the options
-abbrev pub seed_of : List Row → Option ℕ
-seed_of options = seed_by (one_of (codes "seed") options)
+abbrev pub seed_option : List Row → Option ℕ
+seed_option options = seed_by (one_of (codes "seed") options)
 
 -- the subcommand of this name with these options
 abbrev pub command_named : Text → List Row → Option Command
@@ -146,7 +146,7 @@ command_named name options =
     if bytes_eq name (codes "run")
     then Some (Run (sources_of options) (run_options_of options))
     else if bytes_eq name (codes "check") then Some (Check (sources_of options))
-    else if bytes_eq name (codes "demo") then option_map Demo (seed_of options) else None
+    else if bytes_eq name (codes "demo") then option_map Demo (seed_option options) else None
 
 -- the command that was found, if there is one of this name
 abbrev pub command_found : Option (Text × List Row) → Option Command
@@ -162,13 +162,13 @@ abbrev pub is_input : List ℕ → Bool
 is_input name = bytes_eq name (codes "-")
 
 -- the name, if there is one
-abbrev pub named : Option Text → List Text
-named None = []
-named (Some name) = name ∷ []
+abbrev pub name_if_any : Option Text → List Text
+name_if_any None = []
+name_if_any (Some name) = name ∷ []
 
 -- the files that a command names, in the order in which they are read
 abbrev pub files_of : Command → List Text
-files_of (Run sources options) = sources.sig ∷ sources.policy ∷ (named options.changes ++ options.log ∷ [])
+files_of (Run sources options) = sources.sig ∷ sources.policy ∷ (name_if_any options.changes ++ options.log ∷ [])
 files_of (Check sources) = sources.sig ∷ sources.policy ∷ []
 files_of (Demo seed) = []
 

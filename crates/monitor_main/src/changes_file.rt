@@ -11,7 +11,7 @@ ghost use Rattle.monitor_main.specs.Divisions.{AreChangesAt};
 ghost use Rattle.monitor_main.specs.Limits.{max_file};
 ghost use Rattle.monitor_main.specs.Loading.{AreRefused, IsRefused};
 ghost use Rattle.monitor_main.specs.Tasks.{changes_at, changes_in};
-ghost use Rattle.monitor_main.specs.Words.{named};
+ghost use Rattle.monitor_main.specs.Words.{name_if_any};
 
 use crate::limits::MAX_FILE;
 use crate::refusal::{InputFile, Refusal};
@@ -93,7 +93,7 @@ pub fn load_changes<I: Inputs>(
 ) -> Result<Vec<Change>, Refusal>
     ensures files { I.files inputs.new ≡ I.files inputs.old }
     ensures later { I.faults inputs.old ≤ I.faults inputs.new }
-    ensures asks { I.asked inputs.new ≡ asked_more (I.asked inputs.old) (named (text_in name.entry)) }
+    ensures asks { I.asked inputs.new ≡ asked_more (I.asked inputs.old) (name_if_any (text_in name.entry)) }
     ensures ok { IfOk result (λ changes. ToldFiles (I.files inputs.old) (λ files.
         changes_at policy.now.vars (text_in name.entry) files ≡ Ok changes.items)) }
     ensures are { IfOk result (λ changes.

@@ -2,7 +2,7 @@
 ghost use Rattle.std.specs.Prelude.{◌≡◌};
 ghost use Rattle.std.specs.List.{list_any};
 ghost use Rattle.monitor_main.specs.CommandViews.{command_in, options_in, sources_in, text_in};
-ghost use Rattle.monitor_main.specs.Words.{Run, is_input, named, shares_input};
+ghost use Rattle.monitor_main.specs.Words.{Run, is_input, name_if_any, shares_input};
 
 use crate::run_options::RunOptions;
 
@@ -32,7 +32,7 @@ fn is_input(name: &str) -> bool
 
 // Whether this file is named, as standard input.
 fn names_input(name: Option<&str>) -> bool
-    ensures { result ≡ list_any is_input (named (text_in name.entry)) }
+    ensures { result ≡ list_any is_input (name_if_any (text_in name.entry)) }
 {
     match name {
         Some(name) => is_input(name),

@@ -1,7 +1,7 @@
 //! How a log is monitored by a task.
 ghost use Rattle.std.specs.Prelude.{◌≡◌, ◌≤◌, [], IsTrue};
 ghost use Rattle.log_reader.specs.Limits.{standard};
-ghost use Rattle.log_reader.specs.Progress.{start};
+ghost use Rattle.log_reader.specs.Progress.{nothing_fed};
 ghost use Rattle.log_reader.specs.Readers.{Reads, progress};
 ghost use Rattle.worker_pool.specs.Effects.{effect};
 ghost use Rattle.worker_pool.specs.Endings.{FollowsLog};
@@ -25,7 +25,7 @@ use worker_pool::{End, monitor};
 
 // A reader of a log to which nothing was fed.
 fn reader_over<'a>(alloc: Global, sig: &'a Signature) -> LogReader<'a>
-    ensures fresh { progress result [] ≡ start sig.now standard }
+    ensures fresh { progress result [] ≡ nothing_fed sig.now standard }
     ensures reads { Reads result [] }
 {
     LogReader::new(alloc, sig, Limits::standard())

@@ -7,7 +7,7 @@ ghost use Rattle.mon_outside.specs.Views.{inputs_view, sink_view};
 ghost use Rattle.monitor_main.specs.Answer.{answer};
 ghost use Rattle.monitor_main.specs.Decisions.{AsksByWords, HandsOn, Obeys};
 ghost use Rattle.worker_pool.specs.Effects.{effect};
-ghost use Rattle.monitor_main.specs.Outcomes.{FailsToRead, IsDecidedBy, IsGiven, Reports, Tells};
+ghost use Rattle.monitor_main.specs.Outcomes.{FailsToRead, IsDecidedBy, IsGiven, Reports, TellsLine};
 ghost use Rattle.monitor_main.specs.Refusals.{line_of};
 ghost use Rattle.monitor_main.specs.Words.{command_of, texts_of};
 
@@ -68,7 +68,7 @@ fn conclude<R: Threads + Wait + Sync, I: Inputs, O: Sink, G: Gate + Sync>(
 // Writes a line, as far as that can be done.
 #[tactic(auto, using(worker_pool::proofs::SinkLemmas::whole_front))]
 fn tell<E: Sink>(line: &[u8], err: &mut E)
-    ensures { Tells (E.written err.old) (E.written err.new)
+    ensures { TellsLine (E.written err.old) (E.written err.new)
         (E.faults err.old) (E.faults err.new) line.now }
 {
     match write_whole(err, line) {
@@ -80,7 +80,7 @@ fn tell<E: Sink>(line: &[u8], err: &mut E)
 // Tells that memory was refused. It takes none.
 #[tactic(auto, unfolding(crate::specs::Refusals::line_of))]
 fn tell_memory<E: Sink>(err: &mut E)
-    ensures { Tells (E.written err.old) (E.written err.new)
+    ensures { TellsLine (E.written err.old) (E.written err.new)
         (E.faults err.old) (E.faults err.new) (line_of Refusal.Memory) }
 {
     tell(b"memory\n", err);
@@ -149,9 +149,9 @@ pub fn run<R: Threads + Wait + Sync, I: Inputs, O: Sink, E: Sink, G: Gate + Sync
         (effect I.Inputs O.Sink inputs.old inputs.new out.old out.new)
         (E.written err.old) (E.written err.new) (E.faults err.old) (E.faults err.new)) }
     ensures write_cause { result ≡ Status.Write → Rose (O.faults out.old) (O.faults out.new) }
-    ensures write { result ≡ Status.Write → Tells (E.written err.old) (E.written err.new)
+    ensures write { result ≡ Status.Write → TellsLine (E.written err.old) (E.written err.new)
         (E.faults err.old) (E.faults err.new) (line_of Refusal.Write) }
-    ensures memory { result ≡ Status.Memory → Tells (E.written err.old) (E.written err.new)
+    ensures memory { result ≡ Status.Memory → TellsLine (E.written err.old) (E.written err.new)
         (E.faults err.old) (E.faults err.new) (line_of Refusal.Memory) }
     ensures files { I.files inputs.new ≡ I.files inputs.old }
 {

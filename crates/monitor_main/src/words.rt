@@ -6,8 +6,8 @@ ghost use Rattle.monitor_main.specs.CommandViews.{HasThreadsFound, HasThreadsOf,
 ghost use Rattle.monitor_main.specs.CommandViews.{options_in, sources_in, text_in};
 ghost use Rattle.monitor_main.specs.Limits.{max_threads};
 ghost use Rattle.monitor_main.specs.Words.{Demo, command_found, command_named, command_of};
-ghost use Rattle.monitor_main.specs.Words.{IsThreadCount, monitor_app, run_options_of, seed_of, sources_of};
-ghost use Rattle.monitor_main.specs.Words.{texts_of, value_of, words_fault};
+ghost use Rattle.monitor_main.specs.Words.{IsThreadCount, monitor_app, run_options_of, seed_option, sources_of};
+ghost use Rattle.monitor_main.specs.Words.{texts_of, option_value, words_fault};
 
 use crate::command::{Command, Sources};
 use crate::limits::{DEFAULT_THREADS, MAX_THREADS};
@@ -27,7 +27,7 @@ pub enum WordsFault {
 // The value of an option, and no text where it has none.
 #[tactic(auto, using(crate::proofs::WordsLemmas::first_value_rows))]
 fn value_in<'a>(options: &ArgMatches<'a>, name: &str) -> &'a str
-    ensures { result.now ≡ value_of name.now (rows_of (found_of options.now)) }
+    ensures { result.now ≡ option_value name.now (rows_of (found_of options.now)) }
 {
     match options.get_str(name) {
         Some(text) => text,
@@ -55,7 +55,7 @@ fn changes_given<'a>(options: &ArgMatches<'a>) -> Option<&'a str>
 
 // The seed of a demo.
 fn seed_given(options: &ArgMatches<'_>) -> Option<u64>
-    ensures { result ≡ seed_of (rows_of (found_of options.now)) }
+    ensures { result ≡ seed_option (rows_of (found_of options.now)) }
 {
     options.get_one::<u64>("seed")
 }
@@ -87,7 +87,7 @@ fn run_options_given<'a>(options: &ArgMatches<'a>) -> RunOptions<'a>
 // The demo of the seed among the options.
 fn demo_given<'a>(options: &ArgMatches<'_>) -> Option<Command<'a>>
     ensures command { option_map command_in result
-        ≡ option_map Demo (seed_of (rows_of (found_of options.now))) }
+        ≡ option_map Demo (seed_option (rows_of (found_of options.now))) }
     ensures threads { IfSome result (HasThreadsOf (rows_of (found_of options.now))) }
 {
     let seed = seed_given(options)?;

@@ -32,7 +32,8 @@ use Rattle.monitor_state.specs.Beginnings.{PreviousBegun, SinceBegun}
 use Rattle.monitor_state.specs.Constants.{stands_alone}
 use Rattle.monitor_state.specs.Nodes.{children, filters, left_operand, nodes_in, nodes_of, operands, true_in}
 use Rattle.monitor_state.specs.Nodes.{without_last}
-use Rattle.monitor_state.specs.Stands.{ChildrenStand, IsConstant, IsFor, IsJoin, IsOr, JoinStands, NextStands, OrStands}
+use Rattle.monitor_state.specs.Stands.{ChildrenStand, IsConstant, IsNodeFor, IsConjunction, IsOr, JoinStands}
+use Rattle.monitor_state.specs.Stands.{NextStands, OrStands}
 use Rattle.monitor_state.specs.Stands.{PreviousStands, bare, conjunct_as, NodeStands, NodesStand, StateOf}
 use Rattle.monitor_state.specs.SinceNode.{IsSince, IsSinceState, SinceStands, SinceStandsAt}
 use Rattle.monitor_state.specs.Views.{reached}
@@ -50,7 +51,7 @@ adds_then fs gs old mid new first second view empty =
       nodes_append view fs gs one.0 two.0 one.2 two.2,
     )
 
-pub adds_one : (f : CoreForm) (n : Node) (old new : List Node) → new ≡ old ++ n ∷ [] → IsFor f n
+pub adds_one : (f : CoreForm) (n : Node) (old new : List Node) → new ≡ old ++ n ∷ [] → IsNodeFor f n
     → ((view : View) → view.log ≡ [] → NodeStands view f n) → Adds (f ∷ []) old new
 adds_one f n old new is for stands view empty = (n ∷ [], is, (for, stands view empty, tt))
 
@@ -203,7 +204,7 @@ bare_begun (ChildPart f n ∷ ps) =
     ap (λ (ds : List ChildOf). record { columns = fv (meaning f); negated = n; tables = [] } ∷ ds) (bare_begun ps)
 bare_begun (TestPart c w ∷ ps) = bare_begun ps
 
-join_is : (f : CoreForm) (s : JoinOf) → operands f ≡ children (conjuncts_of f) → BeginsJoin f s → IsJoin f s
+join_is : (f : CoreForm) (s : JoinOf) → operands f ≡ children (conjuncts_of f) → BeginsJoin f s → IsConjunction f s
 join_is f s same begins =
     record {
       columns = ap (λ (x : JoinOf). x.columns) begins.begun;

@@ -20,7 +20,7 @@ use Rattle.mfotl_model.specs.declared.term.Term.{Term}
 use Rattle.mfotl_model.specs.declared.term.Term.TheVariants.{Var, Const}
 use Rattle.mfotl_model.specs.declared.value.Value.{Value}
 use Rattle.mfotl_model.specs.declared.value.Value.TheVariants.{Int, Text}
-use Rattle.eval_bool.specs.JoinView.{bound_columns, children_of, compared, conjunct_columns}
+use Rattle.eval_bool.specs.JoinView.{bound_columns, children_of, compared_variables, conjunct_columns}
 use Rattle.monitorable.proofs.ConjunctsLaw.{conjuncts_mean}
 use Rattle.monitorable.proofs.FragmentLemmas.{guarded}
 use Rattle.monitorable.specs.CoreForms.{CoreForm, meaning, Compare}
@@ -29,11 +29,11 @@ use Rattle.monitorable.specs.Conjuncts.PartForm.{Child as ChildPart, Test as Tes
 use Rattle.monitorable.specs.Fragment.{Names, binds, bound_by, fault_in, guards, is_equal, pairs_constant}
 use Rattle.monitorable.specs.declared.role.Role.{Role}
 use Rattle.monitorable.specs.declared.role.Role.TheVariants as role
-use Rattle.relations.specs.Operations.{chosen, binds as has_term}
+use Rattle.relations.specs.Operations.{chosen, covers_term}
 use Rattle.monitor_state.proofs.GuardLemmas.{bound_is}
 use Rattle.monitor_state.proofs.JoinSteps.{chosen_is, columns_are}
 use Rattle.monitor_state.specs.Beginnings.{Accepted, is_child}
-use Rattle.monitor_state.specs.Constants.{is_closed, is_closed_test, is_constant, is_fixed, passes_test, stands_alone}
+use Rattle.monitor_state.specs.Constants.{is_ground, is_ground_test, is_constant, is_fixed, passes_test, stands_alone}
 use Rattle.monitor_state.specs.Nodes.{children, operands}
 use Rattle.monitor_state.specs.Stands.{IsConstant, conjunct_as}
 
@@ -126,19 +126,19 @@ no_terms (Const a) (Const b) h = refl
 no_terms (Const a) (Var y) h = cc
 no_terms (Var x) r h = cc
 
-closed_term : (t : Term) → is_constant t ≡ true → (columns : List ℕ) → has_term columns t ≡ true
+closed_term : (t : Term) → is_constant t ≡ true → (columns : List ℕ) → covers_term columns t ≡ true
 closed_term (Const a) h columns = refl
 closed_term (Var x) h columns = cc
 
 -- such a comparison can be tested of any table
-pub closed_left : (c : Comparison) (columns : List ℕ) → is_closed c ≡ true → has_term columns c.left ≡ true
+pub closed_left : (c : Comparison) (columns : List ℕ) → is_ground c ≡ true → covers_term columns c.left ≡ true
 closed_left c columns h = closed_term c.left (and_parts (is_constant c.left) (is_constant c.right) h).0 columns
 
-pub closed_right : (c : Comparison) (columns : List ℕ) → is_closed c ≡ true → has_term columns c.right ≡ true
+pub closed_right : (c : Comparison) (columns : List ℕ) → is_ground c ≡ true → covers_term columns c.right ≡ true
 closed_right c columns h = closed_term c.right (and_parts (is_constant c.left) (is_constant c.right) h).1 columns
 
 -- the table of a comparison of constants
-pub closed_is : (c : Comparison) (all table : TableOf) → is_closed c ≡ true → all.columns ≡ []
+pub closed_is : (c : Comparison) (all table : TableOf) → is_ground c ≡ true → all.columns ≡ []
     → table.columns ≡ all.columns
     → ((v : Valuation) → has all v ≡ true) → ((v : Valuation) → has table v ≡ (has all v && chosen c true v))
     → IsConstant (Compare c) table
@@ -160,7 +160,7 @@ none_free (x ∷ xs) each =
     absurd (let e : false ≡ true = each x (or_left _ (among x xs) (same_number x)) in cc)
 
 guarded_closed : (names : Names) (c : Comparison) → guards names (Compare c) ≡ None → binds c ≡ false
-    → is_closed c ≡ true
+    → is_ground c ≡ true
 unfolding fv bound_by
 guarded_closed names c accepted loose =
     closed_terms c.left c.right
@@ -171,8 +171,8 @@ guarded_closed names c accepted loose =
 judged_fixed : (names : Names) (c : Comparison) → guards names (Compare c) ≡ None → is_fixed c ≡ true
 judged_fixed names c accepted =
     elim (cases_Bool (binds c)) [
-      | inl binding ↦ or_left (binds c) (is_closed c) binding
-      | inr loose ↦ or_right (binds c) (is_closed c) (guarded_closed names c accepted loose)
+      | inl binding ↦ or_left (binds c) (is_ground c) binding
+      | inr loose ↦ or_right (binds c) (is_ground c) (guarded_closed names c accepted loose)
     ]
 
 -- a comparison that is a node by itself has a table
@@ -181,7 +181,7 @@ pub alone_fixed : (r : Role) (c : Comparison) → Accepted r (Compare c) → sta
 unfolding fault_in
 alone_fixed role.Whole c a h = judged_fixed a.0 c a.1
 alone_fixed role.Left c a h = judged_fixed a.0 c a.1
-alone_fixed role.Part c a h = or_left (binds c) (is_closed c) h
+alone_fixed role.Part c a h = or_left (binds c) (is_ground c) h
 alone_fixed role.Negated c a h = cc
 
 no_child : (ps : List PartForm) → list_any is_child ps ≡ false → children ps ≡ []
@@ -207,17 +207,17 @@ joined_nothing [] ys h = (refl, sym (joined_none ys) ∙ h)
 joined_nothing (x ∷ xs) ys h = absurd (not_none x _ h)
 
 closed_tests : (ps : List PartForm) → list_any is_child ps ≡ false → conjunct_columns (map conjunct_as ps) ≡ []
-    → list_all is_closed_test ps ≡ true
+    → list_all is_ground_test ps ≡ true
 closed_tests [] none columns = refl
 closed_tests (ChildPart f n ∷ ps) none columns = absurd (let e : true ≡ false = none in cc)
 closed_tests (TestPart c w ∷ ps) none columns =
-    let both = joined_nothing (compared c) (conjunct_columns (map conjunct_as ps)) columns in
-    and_from (is_closed c) (list_all is_closed_test ps) (closed_terms c.left c.right both.0)
+    let both = joined_nothing (compared_variables c) (conjunct_columns (map conjunct_as ps)) columns in
+    and_from (is_ground c) (list_all is_ground_test ps) (closed_terms c.left c.right both.0)
     (closed_tests ps none both.1)
 
 -- its tests are of constants
 pub tests_closed : (names : Names) (f : CoreForm) → guards names f ≡ None → list_any is_child (conjuncts_of f) ≡ false
-    → list_all is_closed_test (conjuncts_of f) ≡ true
+    → list_all is_ground_test (conjuncts_of f) ≡ true
 tests_closed names f accepted none =
     closed_tests (conjuncts_of f) none (columns_are f ∙ tests_free names f accepted none)
 

@@ -19,7 +19,7 @@ use Rattle.mfotl_model.specs.declared.value.Value.{Value}
 use Rattle.monitorable.proofs.Coincidence.{coincidence}
 use Rattle.monitorable.specs.CoreForms.{CoreForm, meaning, True, Compare, Not, And, Since, Until}
 use Rattle.monitorable.specs.Fragment.{binds, bound_by}
-use Rattle.monitorable.specs.Soundness.{IsSound}
+use Rattle.monitorable.specs.Soundness.{IsWellFormedIn}
 use Rattle.relations.proofs.JoinLemmas.{member_of_all, read_own}
 use Rattle.relations.specs.Pushed.{turned}
 use Rattle.monitor_state.proofs.CountLemmas.{and_below, count_and, count_below}
@@ -28,7 +28,7 @@ use Rattle.monitor_state.proofs.RegionLemmas.{all_from_each, joined_inside, join
 use Rattle.monitor_state.proofs.RegionLemmas.{right_inside}
 use Rattle.monitor_state.proofs.SinceSteps.{free_operand, reached_operand}
 use Rattle.monitor_state.proofs.WindowSteps.{window_due_at, window_fed, window_gone, window_means, window_settled}
-use Rattle.monitor_state.specs.FilterFeeding.{FilterPulled, FilterStep, FilterStops, FilterTakes, Gives, Joins}
+use Rattle.monitor_state.specs.FilterFeeding.{FilterPulled, FilterStep, FilterStops, FilterTakes, FiltersOrJoins, Joins}
 use Rattle.monitor_state.specs.FilterFeeding.{Sifts}
 use Rattle.monitor_state.specs.FilterNode.{FilterStands, GivenAs, IsFilter}
 use Rattle.monitor_state.specs.Nodes.{adds_none, is_negated, left_operand, window_operands}
@@ -71,7 +71,7 @@ plain_operand (Not f) plain = absurd (let clash : true ≡ false = plain in cc)
 plain_operand f plain = refl
 
 -- the columns of a window's rows are its variables
-columns_within : (whole w : CoreForm) (s : Window) → IsSound whole w → IsWindow w s
+columns_within : (whole w : CoreForm) (s : Window) → IsWellFormedIn whole w → IsWindow w s
     → (all_among (window_columns s) (fv (meaning w)) ≡ true) × (all_among (fv (meaning w)) (window_columns s) ≡ true)
 unfolding fv
 columns_within whole (Since i f g) (window.Since s) sound is = (
@@ -120,7 +120,7 @@ record StandsAt (view : View) (f g : CoreForm) (p : ℕ) (s : FilterState) : Typ
   behind : WindowStands view p (left_operand g) s.window
 
 module _ (view : View) (rising : NeverFalls (times view.log)) (passes : Passes (fv view.whole) view.near)
-    (whole f g : CoreForm) (sound : IsSound whole (left_operand g)) where
+    (whole f g : CoreForm) (sound : IsWellFormedIn whole (left_operand g)) where
   -- a table without what the window filters out is exact for the conjunction
   sifted_exact : (p : ℕ) (s : Window) (negated : Bool) (table kept : TableOf) → adds_none f g ≡ true
       → negated ≡ is_negated g → IsWindow (left_operand g) s → WindowStands view p (left_operand g) s
@@ -196,7 +196,8 @@ module _ (view : View) (rising : NeverFalls (times view.log)) (passes : Passes (
 
   given_exact : (p : ℕ) (s : Window) (negated : Bool) (order : Option TableOf) (table kept : TableOf)
       → negated ≡ is_negated g → GivenAs f g order → IsWindow (left_operand g) s
-      → WindowStands view p (left_operand g) s → Exact view (meaning f) p table → Gives s negated order table kept
+      → WindowStands view p (left_operand g) s → Exact view (meaning f) p table
+      → FiltersOrJoins s negated order table kept
       → Exact view (meaning (And f g)) p kept
   given_exact p s negated None table kept turns none is stands exact gives =
       sifted_exact p s negated table kept none turns is stands exact gives.0 gives.1
@@ -275,7 +276,7 @@ module _ (view : View) (rising : NeverFalls (times view.log)) (passes : Passes (
 
 module _ (view : View) (point : TimePoint) (whole : CoreForm) (f g : CoreForm)
     (rising : NeverFalls (times (longer view point).log)) (passes : Passes (fv view.whole) view.near)
-    (sound : IsSound whole (left_operand g))
+    (sound : IsWellFormedIn whole (left_operand g))
     (old : FilterState) (is : IsFilter f g old) (stands : FilterStands view f g old)
     (ts : ℕ) (ts_is : ts ≡ point.ts) (fs ls rs : List TableOf) (news : News view point f fs)
     (operands_news : StackNews view point (window_operands (left_operand g)) (ls ∷ rs ∷ []))

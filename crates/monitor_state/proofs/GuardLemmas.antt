@@ -10,7 +10,8 @@ use Rattle.mfotl_model.specs.declared.formula.Bound.{Bound}
 use Rattle.mfotl_model.specs.declared.interval.Interval.{Interval}
 use Rattle.mfotl_model.specs.declared.term.Comparison.{Comparison}
 use Rattle.eval_bool.specs.OrView.{same_columns}
-use Rattle.eval_bool.specs.JoinView.{all_children, bound_columns, children_of, compared, conjunct_columns, is_guarded}
+use Rattle.eval_bool.specs.JoinView.{all_children, bound_columns, children_of, compared_variables, conjunct_columns}
+use Rattle.eval_bool.specs.JoinView.{is_guarded}
 use Rattle.eval_bool.specs.JoinView.{tests_of}
 use Rattle.monitorable.proofs.FragmentLemmas.{even_variables, guarded, no_first, right_variable}
 use Rattle.monitorable.proofs.FreeVariableLemmas.{fv_apart}
@@ -61,7 +62,7 @@ bound_is f = append-nil (fv (meaning f))
 parts_among : (ps : List PartForm) (bound : List ℕ)
     → ((y : ℕ) → among y (conjunct_columns (map conjunct_as ps)) ≡ true → among y bound ≡ true)
     → (all_children (λ columns. all_among columns bound) (children_of (map conjunct_as ps)) ≡ true)
-    × (list_all (λ t. all_among (compared t.comparison) bound) (tests_of (map conjunct_as ps)) ≡ true)
+    × (list_all (λ t. all_among (compared_variables t.comparison) bound) (tests_of (map conjunct_as ps)) ≡ true)
 parts_among [] bound each = (refl, refl)
 parts_among (ChildPart f n ∷ ps) bound each =
     let rest = parts_among ps bound
@@ -76,14 +77,14 @@ parts_among (ChildPart f n ∷ ps) bound each =
     )
 parts_among (TestPart c w ∷ ps) bound each =
     let rest = parts_among ps bound
-    (λ y m. each y (among_joined y (compared c) (conjunct_columns (map conjunct_as ps))
-    ∙ or_right (among y (compared c)) (among y (conjunct_columns (map conjunct_as ps))) m)) in (
+    (λ y m. each y (among_joined y (compared_variables c) (conjunct_columns (map conjunct_as ps))
+    ∙ or_right (among y (compared_variables c)) (among y (conjunct_columns (map conjunct_as ps))) m)) in (
       rest.0,
-      and_from (all_among (compared c) bound)
-          (list_all (λ t. all_among (compared t.comparison) bound) (tests_of (map conjunct_as ps)))
-          (all_from_each (compared c) bound
-          (λ y m. each y (among_joined y (compared c) (conjunct_columns (map conjunct_as ps))
-          ∙ or_left (among y (compared c)) (among y (conjunct_columns (map conjunct_as ps))) m))) rest.1,
+      and_from (all_among (compared_variables c) bound)
+          (list_all (λ t. all_among (compared_variables t.comparison) bound) (tests_of (map conjunct_as ps)))
+          (all_from_each (compared_variables c) bound
+          (λ y m. each y (among_joined y (compared_variables c) (conjunct_columns (map conjunct_as ps))
+          ∙ or_left (among y (compared_variables c)) (among y (conjunct_columns (map conjunct_as ps))) m))) rest.1,
     )
 
 -- a guarded conjunction can be joined
@@ -94,7 +95,8 @@ join_guarded names f accepted =
     let both = parts_among (conjuncts_of f) bound
     (λ y m. ap (among y) (bound_is f) ∙ guarded names f y accepted (ap (among y) (sym (columns_are f)) ∙ m)) in
     and_from (all_children (λ columns. all_among columns bound) (children_of (map conjunct_as (conjuncts_of f))))
-    (list_all (λ t. all_among (compared t.comparison) bound) (tests_of (map conjunct_as (conjuncts_of f)))) both.0
+    (list_all (λ t. all_among (compared_variables t.comparison) bound)
+        (tests_of (map conjunct_as (conjuncts_of f)))) both.0
     both.1
 
 -- no child has a column twice

@@ -35,7 +35,7 @@ use Rattle.monitor_state.proofs.ExactLemmas.{all_stay, exact_append, exact_drop,
 use Rattle.monitor_state.proofs.RegionLemmas.{near_left, near_right}
 use Rattle.monitor_state.specs.JoinFeeding.{JoinTakes, child_dropped, children_fed, join_fed, join_pulled}
 use Rattle.monitor_state.specs.Nodes.{children, operands}
-use Rattle.monitor_state.specs.Stands.{ChildrenStand, IsJoin, JoinStands, bare, conjunct_as}
+use Rattle.monitor_state.specs.Stands.{ChildrenStand, IsConjunction, JoinStands, bare, conjunct_as}
 use Rattle.monitor_state.specs.Steps.{News, StackNews, longer}
 use Rattle.monitor_state.specs.Views.{reached}
 
@@ -337,7 +337,8 @@ module _ (view : View) (point : TimePoint) (rising : NeverFalls (times (longer v
   fed_stand i (f ∷ fs) [] lists stand news = absurd stand
   fed_stand i (f ∷ fs) (c ∷ cs) [] stand news = absurd news
 
-  module _ (f : CoreForm) (old new : JoinOf) (lists : List (List TableOf)) (tables : List TableOf) (is : IsJoin f old)
+  module _ (f : CoreForm) (old new : JoinOf) (lists : List (List TableOf)) (tables : List TableOf)
+      (is : IsConjunction f old)
       (same : operands f ≡ children (conjuncts_of f)) (stands : JoinStands view f old)
       (news : StackNews view point (operands f) lists) (takes : JoinTakes old lists new tables) where
     fed : List ChildOf
@@ -398,7 +399,7 @@ module _ (view : View) (point : TimePoint) (rising : NeverFalls (times (longer v
         (λ k table. has table v ≡ sat (longer view point).log dom v k (meaning f)) old.pulled 0 tables
         (λ k table low high row. row ∙ row_means dom v covers near k (omega arith)) (takes.pulls.rows v)))
 
-    pub join_is : IsJoin f new
+    pub join_is : IsConjunction f new
     join_is =
         record {
           columns = ap (λ (x : JoinOf). x.columns) takes.pulls.state ∙ is.columns;

@@ -8,7 +8,7 @@ use Rattle.mfotl_model.specs.Times.{NeverFalls}
 use Rattle.eval_since.specs.SinceView.{Advances, Follows, SinceOf}
 use Rattle.eval_until.specs.UntilView.{Follows as FollowsUntil, UntilOf}
 use Rattle.monitor_state.specs.FilterFeeding.{Finds, Joins}
-use Rattle.monitor_state.specs.WindowNode.{Answers, window_columns}
+use Rattle.monitor_state.specs.WindowNode.{WindowHolds, window_columns}
 use Rattle.monitor_state.specs.declared.window.Window.{Window}
 use Rattle.monitor_state.specs.declared.window.Window.TheVariants as window
 
@@ -66,7 +66,7 @@ found_joins w order table keys found both kept asked finds over rows ordered sam
     }
   where
     by : (b : Bool) (v : Valuation) → has table v ≡ b → (holds : Bool)
-        → ((answer : Bool) → Answers w v answer → answer ≡ holds)
+        → ((answer : Bool) → WindowHolds w v answer → answer ≡ holds)
         → (b && has found v) ≡ (b && holds)
     by true v there holds answers = answers (has found v) (finds.rows v (asked v there))
     by false v there holds answers = refl

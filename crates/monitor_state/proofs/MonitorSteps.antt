@@ -25,7 +25,7 @@ use Rattle.monitor_state.specs.Nodes.{children, filters, left_operand, nodes_in,
 use Rattle.monitor_state.specs.Nodes.{posed, without_last}
 use Rattle.monitor_state.specs.Stacks.{Pops}
 use Rattle.monitor_state.specs.Stands.{NodesStand}
-use Rattle.monitor_state.specs.Steps.{Advances, News, Premises, StackNews, longer}
+use Rattle.monitor_state.specs.Steps.{TakesPoint, News, Premises, StackNews, longer}
 use Rattle.monitor_state.specs.declared.node.Node.{Node}
 
 -- what a core in its role puts on the stack
@@ -553,7 +553,7 @@ turn : (view : View) (point given : TimePoint) (whole : CoreForm) (done todo : L
     (node new : Node) (old next pending : List CoreForm) → nodes_of whole ≡ old ++ next
     → NodesStand (longer view point) old done → NodesStand view next (node ∷ todo)
     → Works (posed whole) pending next → AllPremises view point given whole next → StackNews view point pending stack
-    → Advances node given stack new rest tables → items ≡ rest ++ tables ∷ []
+    → TakesPoint node given stack new rest tables → items ≡ rest ++ tables ∷ []
     → Going view point given whole (done ++ new ∷ []) todo items
 turn view point given whole done todo stack rest items tables node new old [] pending all took take works premises news
     advances is =
@@ -581,7 +581,7 @@ pub going_turns : (view : View) (point given : TimePoint) (whole : CoreForm) (no
     (stack rest items : List (List TableOf))
     (tables : List TableOf) (default new : Node) → n < length nodes
     → Going view point given whole (take n nodes) (drop n nodes) stack
-    → Advances (get_or nodes n default) given stack new rest tables → items ≡ rest ++ tables ∷ []
+    → TakesPoint (get_or nodes n default) given stack new rest tables → items ≡ rest ++ tables ∷ []
     → Going view point given whole (take (n + 1) (set nodes n new)) (drop (n + 1) (set nodes n new)) items
 going_turns view point given whole nodes n stack rest items tables default new inside going advances pushed =
     let node : Node = get_or nodes n default in

@@ -10,7 +10,7 @@ use Rattle.std.specs.List.{list_any}
 use Rattle.mfotl_model.proofs.LogicLemmas.{among_without, same_number}
 use Rattle.mfotl_model.specs.ActiveDomain.{adom, constants}
 use Rattle.mfotl_model.specs.Counts.{settled_count}
-use Rattle.mfotl_model.specs.Domains.{within, Includes}
+use Rattle.mfotl_model.specs.Domains.{in_domain, Includes}
 use Rattle.mfotl_model.specs.Exact.{View, Covers, Exact, AllExact}
 use Rattle.mfotl_model.specs.FreeVariables.{fv, among, without, variables_in}
 use Rattle.mfotl_model.specs.Formulas.{Form}
@@ -59,11 +59,11 @@ use Rattle.monitor_state.specs.Nodes.{window_operands}
 use Rattle.monitor_state.proofs.FilterSteps.{filter_is, filter_news, filter_stands}
 use Rattle.monitor_state.specs.FilterFeeding.{FilterTakes}
 use Rattle.monitor_state.specs.declared.filter.FilterState.{FilterState}
-use Rattle.monitorable.specs.Soundness.{IsSound}
+use Rattle.monitorable.specs.Soundness.{IsWellFormedIn}
 use Rattle.monitor_state.specs.Quantified.{IsWithout, Quantifies}
 use Rattle.monitor_state.specs.Stacks.{Pops, PopsMany}
-use Rattle.monitor_state.specs.Stands.{ChildrenStand, IsConstant, IsJoin, JoinStands}
-use Rattle.monitor_state.specs.Steps.{Advances, News, Premises, StackNews, longer}
+use Rattle.monitor_state.specs.Stands.{ChildrenStand, IsConstant, IsConjunction, JoinStands}
+use Rattle.monitor_state.specs.Steps.{TakesPoint, News, Premises, StackNews, longer}
 use Rattle.monitor_state.specs.Views.{reached}
 use Rattle.monitor_state.specs.declared.node.Node.TheVariants as node
 
@@ -198,7 +198,7 @@ constant_one view point given whole f below table stack tables made premises is 
 )
 
 pub constant_advances : (table : TableOf) (given : TimePoint) (stack : List (List TableOf)) (tables : List TableOf)
-    → tables ≡ table ∷ [] → Advances (node.Constant table) given stack (node.Constant table) stack tables
+    → tables ≡ table ∷ [] → TakesPoint (node.Constant table) given stack (node.Constant table) stack tables
 constant_advances table given stack tables made view point whole True below premises is stands stacked =
     let one = constant_one view point given whole True below table stack tables made premises is true_all stacked in
     (is, tt, one.0, one.1)
@@ -231,7 +231,7 @@ pub atom_advances : (atom : OneAtom) (given : TimePoint) (stack : List (List Tab
     → table.columns ≡ variables_in atom.args
     → ((v : Valuation) → has table v ≡ has_event given.db (event_of v atom))
     → tables ≡ table ∷ []
-    → Advances (node.Atom atom) given stack (node.Atom atom) stack tables
+    → TakesPoint (node.Atom atom) given stack (node.Atom atom) stack tables
 unfolding sat fv
 atom_advances atom given stack table tables columns rows made view point whole (Atom a) below premises is stands
     stacked = (
@@ -275,15 +275,15 @@ module _ (view : View) (x : Bound) (f whole : CoreForm) (passes : Passes (fv vie
 
   -- what satisfies the operand has its value in the domain
   ranges : (dom : List Value) (v : Valuation) (i : ℕ) (a : Value) → Covers view dom
-      → sat view.log dom (with_value v x.number a) i (meaning f) ≡ true → within dom a ≡ true
+      → sat view.log dom (with_value v x.number a) i (meaning f) ≡ true → in_domain dom a ≡ true
   ranges dom v i a covers h =
       let base : List Value = adom view.log view.whole in
-      let own : within base (with_value v x.number a x.number) ≡ true =
+      let own : in_domain base (with_value v x.number a x.number) ≡ true =
       (domain view.log base names f accepted (has_log view.log view.whole)
       (λ c m. has_constants view.log view.whole c
-      (ap (λ w. within (constants w) c) whole_is ∙ constant c m)) (with_value v x.number a) i).0
+      (ap (λ w. in_domain (constants w) c) whole_is ∙ constant c m)) (with_value v x.number a) i).0
       dom x.number h used in
-      ap (within dom) (sym (with_itself v a)) ∙ covers (with_value v x.number a x.number) own
+      ap (in_domain dom) (sym (with_itself v a)) ∙ covers (with_value v x.number a x.number) own
 
   exists_exact : (i : ℕ) (table quantified : TableOf) → IsWithout x.number table quantified
       → Exact view (meaning f) i table
@@ -333,7 +333,7 @@ exists_count t x f = refl
 
 pub exists_advances : (var : ℕ) (given : TimePoint) (stack rest : List (List TableOf)) (tables qs : List TableOf)
     → Pops stack rest tables → Quantifies var tables qs
-    → Advances (node.Exists var) given stack (node.Exists var) rest qs
+    → TakesPoint (node.Exists var) given stack (node.Exists var) rest qs
 exists_advances var given stack rest tables qs pops q view point whole (Exists x f) below premises is stands stacked =
     let news = pops_top view point below f stack rest tables stacked pops in
     let sound = premises.sound in
@@ -359,7 +359,7 @@ exists_advances var given stack rest tables qs pops q view point whole f below p
 pub since_advances : (old new : SinceOf) (order : TableOf) (given : TimePoint) (stack mid rest : List (List TableOf))
     (ls rs tables : List TableOf)
     → Pops stack mid rs → Pops mid rest ls → SinceTakes order.columns old given.ts ls rs new tables
-    → Advances (node.Since old order) given stack (node.Since new order) rest tables
+    → TakesPoint (node.Since old order) given stack (node.Since new order) rest tables
 since_advances old new order given stack mid rest ls rs tables last first takes view point whole (Since i f g) below
     premises is stands stacked =
     let news = pops_two view point below (left_operand f) g stack mid rest ls rs stacked last first in (
@@ -377,7 +377,7 @@ since_advances old new order given stack mid rest ls rs tables last first takes 
 pub until_advances : (old new : UntilOf) (order : TableOf) (given : TimePoint) (stack mid rest : List (List TableOf))
     (ls rs tables : List TableOf)
     → Pops stack mid rs → Pops mid rest ls → UntilTakes order.columns old given.ts ls rs new tables
-    → Advances (node.Until old order) given stack (node.Until new order) rest tables
+    → TakesPoint (node.Until old order) given stack (node.Until new order) rest tables
 until_advances old new order given stack mid rest ls rs tables last first takes view point whole (Until i f g) below
     premises is stands stacked =
     let news = pops_two view point below (left_operand f) g stack mid rest ls rs stacked last first in (
@@ -427,10 +427,11 @@ children_length view i (f ∷ fs) [] stand = absurd stand
 
 join_taken : (view : View) (point given : TimePoint) (whole f : CoreForm) (below : List CoreForm) (old new : JoinOf)
     (stack rest lists : List (List TableOf)) (tables : List TableOf) → operands f ≡ children (conjuncts_of f)
-    → Premises view point given whole f → IsJoin f old → JoinStands view f old
+    → Premises view point given whole f → IsConjunction f old → JoinStands view f old
     → StackNews view point (below ++ operands f) stack
     → PopsMany (length old.children) stack rest lists → JoinTakes old lists new tables
-    → IsJoin f new × JoinStands (longer view point) f new × StackNews view point below rest × News view point f tables
+    → IsConjunction f new × JoinStands (longer view point) f new × StackNews view point below rest
+    × News view point f tables
 join_taken view point given whole f below old new stack rest lists tables same premises is stands stacked pops takes =
     let news = pops_many view point below (operands f) (length old.children) stack rest lists
     (children_length view old.pulled (operands f) old.children stands.children) stacked pops in (
@@ -443,7 +444,7 @@ join_taken view point given whole f below old new stack rest lists tables same p
 pub join_advances : (old new : JoinOf) (given : TimePoint) (stack rest lists : List (List TableOf))
     (tables : List TableOf)
     → PopsMany (length old.children) stack rest lists → JoinTakes old lists new tables
-    → Advances (node.Join old) given stack (node.Join new) rest tables
+    → TakesPoint (node.Join old) given stack (node.Join new) rest tables
 join_advances old new given stack rest lists tables pops takes view point whole (And f g) below premises is stands
     stacked =
     join_taken view point given whole (And f g) below old new stack rest lists tables is.whole premises is stands
@@ -458,7 +459,7 @@ join_advances old new given stack rest lists tables pops takes view point whole 
 pub or_advances : (old new : OrOf) (given : TimePoint) (stack mid rest : List (List TableOf))
     (ls rs tables : List TableOf)
     → Pops stack mid rs → Pops mid rest ls → OrTakes old ls rs new tables
-    → Advances (node.Or old) given stack (node.Or new) rest tables
+    → TakesPoint (node.Or old) given stack (node.Or new) rest tables
 or_advances old new given stack mid rest ls rs tables last first takes view point whole (Or f g) below premises is
     stands stacked =
     let news = pops_two view point below f g stack mid rest ls rs stacked last first in (
@@ -473,7 +474,7 @@ or_advances old new given stack mid rest ls rs tables last first takes view poin
 pub previous_advances : (old new : PrevOf) (given : TimePoint) (stack rest : List (List TableOf))
     (operand tables : List TableOf)
     → Pops stack rest operand → PreviousTakes old given.ts operand new tables
-    → Advances (node.Previous old) given stack (node.Previous new) rest tables
+    → TakesPoint (node.Previous old) given stack (node.Previous new) rest tables
 previous_advances old new given stack rest operand tables pops takes view point whole (Previous i f) below premises is
     stands stacked =
     let news = pops_top view point below f stack rest operand stacked pops in (
@@ -488,7 +489,7 @@ previous_advances old new given stack rest operand tables pops takes view point 
 pub next_advances : (old new : NextOf) (given : TimePoint) (stack rest : List (List TableOf))
     (operand tables : List TableOf)
     → Pops stack rest operand → NextTakes old given.ts operand new tables
-    → Advances (node.Next old) given stack (node.Next new) rest tables
+    → TakesPoint (node.Next old) given stack (node.Next new) rest tables
 next_advances old new given stack rest operand tables pops takes view point whole (Next i f) below premises is stands
     stacked =
     let news = pops_top view point below f stack rest operand stacked pops in (
@@ -500,7 +501,7 @@ next_advances old new given stack rest operand tables pops takes view point whol
 next_advances old new given stack rest operand tables pops takes view point whole f below premises is stands stacked =
     absurd is
 
-sound_operand : (whole g : CoreForm) → IsSound whole g → IsSound whole (left_operand g)
+sound_operand : (whole g : CoreForm) → IsWellFormedIn whole g → IsWellFormedIn whole (left_operand g)
 sound_operand whole (Not f) sound = sound
 sound_operand whole f sound = sound
 
@@ -528,7 +529,7 @@ pops_filtered view point below f w stack high mid rest fs ls rs is news last sec
 pub filter_advances : (old new : FilterState) (given : TimePoint) (stack high mid rest : List (List TableOf))
     (fs ls rs tables : List TableOf)
     → Pops stack high rs → Pops high mid ls → Pops mid rest fs → FilterTakes old given.ts fs ls rs new tables
-    → Advances (node.Filter old) given stack (node.Filter new) rest tables
+    → TakesPoint (node.Filter old) given stack (node.Filter new) rest tables
 filter_advances old new given stack high mid rest fs ls rs tables last second first takes view point whole (And f g)
     below
     premises is stands stacked =

@@ -10,7 +10,7 @@ use Rattle.eval_since.specs.declared.recalled.SinceData.{SinceData}
 use Rattle.eval_until.specs.declared.recalled.UntilData.{UntilData}
 use Rattle.monitorable.specs.CoreForms.{CoreForm, meaning, Not, And, Or, Previous, Next, Since, Until}
 use Rattle.monitor_state.specs.Nodes.{left_operand, nodes_of}
-use Rattle.monitor_state.specs.StateLaws.{IsPart, PartStands, seen_in}
+use Rattle.monitor_state.specs.StateLaws.{IsSubregion, PartStands, seen_in}
 use Rattle.monitor_state.specs.StateStands.{NodeDataStands, NodesDataStand, SinceDataStands, TablesStand}
 use Rattle.monitor_state.specs.StateStands.{UntilDataStands, WindowDataStands}
 use Rattle.monitor_state.specs.declared.state.NodeData.{NodeData}
@@ -18,7 +18,7 @@ use Rattle.monitor_state.specs.declared.state.NodeData.TheVariants as kept
 use Rattle.monitor_state.specs.declared.state.WindowData.{WindowData}
 use Rattle.monitor_state.specs.declared.state.WindowData.TheVariants as window
 
-module _ (view : View) (small : Region) (part : IsPart small view.near) where
+module _ (view : View) (small : Region) (part : IsSubregion small view.near) where
   exact_part : (f : Form) (i : ℕ) (t : TableOf) → Exact view f i t → Exact (seen_in view small) f i t
   exact_part f i t e = record { columns = e.columns; rows = λ dom v covers n. e.rows dom v covers (part (fv f) v n) }
 

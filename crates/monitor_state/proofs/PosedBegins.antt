@@ -8,7 +8,7 @@ use Rattle.std.specs.List.{list_any}
 use Rattle.std.specs.Ordering.{eq_by_cmp}
 use Rattle.mfotl_model.proofs.LogicLemmas.{among_without, same_number}
 use Rattle.mfotl_model.specs.ActiveDomain.{constants}
-use Rattle.mfotl_model.specs.Domains.{Includes, within}
+use Rattle.mfotl_model.specs.Domains.{Includes, in_domain}
 use Rattle.mfotl_model.specs.Exact.{View}
 use Rattle.mfotl_model.specs.FreeVariables.{among, fv, without}
 use Rattle.mfotl_model.specs.Values.{value_cmp}
@@ -18,8 +18,8 @@ use Rattle.mfotl_model.specs.declared.value.Value.{Value}
 use Rattle.monitorable.proofs.FragmentLemmas.{no_first, no_variable, none_first, none_outside}
 use Rattle.monitorable.specs.CoreForms.{CoreForm, meaning, Atom, And, Exists, Not, Since, Until}
 use Rattle.monitorable.specs.Fragment.{Names, at_variable, bound_by, fault_in, first, first_outside, guards, needed_by}
-use Rattle.monitorable.specs.Fragment.{named, uses, with_name}
-use Rattle.monitorable.specs.Soundness.{IsSound}
+use Rattle.monitorable.specs.Fragment.{named_variable, uses, with_name}
+use Rattle.monitorable.specs.Soundness.{IsWellFormedIn}
 use Rattle.monitorable.specs.declared.fault.FragmentFault.TheVariants.{UnusedBound, Unguarded}
 use Rattle.monitorable.specs.declared.role.Role.TheVariants as role
 use Rattle.monitor_state.proofs.PosedLemmas.{among_led}
@@ -75,7 +75,7 @@ led_guarded names a g is guard =
     (λ y m.
     bound_led a g y
     (none_outside (bound_by g) (needed_by g) y
-    (no_variable (λ z. Unguarded (named names z)) (first_outside (bound_by g) (needed_by g)) guard)
+    (no_variable (λ z. Unguarded (named_variable names z)) (first_outside (bound_by g) (needed_by g)) guard)
     (ap (among y) (sym (needed_led a g is)) ∙ m)))
 
 -- a window alone needs nothing
@@ -122,30 +122,32 @@ used x g e =
     (first_outside (fv (meaning g)) (x.number ∷ [])) e)
     (or_left (nat_eq x.number x.number) false (same_number x.number))
 
-within_both : (b : Value) (xs ys : List Value) → within (xs ++ ys) b ≡ (within xs b || within ys b)
+within_both : (b : Value) (xs ys : List Value) → in_domain (xs ++ ys) b ≡ (in_domain xs b || in_domain ys b)
 within_both b xs ys = list_any-append (eq_by_cmp value_cmp b) xs ys
 
-constants_led : (a g : CoreForm) (b : Value) → within (constants (meaning (led a g))) b ≡ true
-    → (within (constants (meaning a)) b || within (constants (meaning g)) b) ≡ true
+constants_led : (a g : CoreForm) (b : Value) → in_domain (constants (meaning (led a g))) b ≡ true
+    → (in_domain (constants (meaning a)) b || in_domain (constants (meaning g)) b) ≡ true
 unfolding constants
 constants_led a (And g h) b m =
-    elim (or_cases (within (constants (meaning (led a g))) b) (within (constants (meaning h)) b)
+    elim (or_cases (in_domain (constants (meaning (led a g))) b) (in_domain (constants (meaning h)) b)
     (sym (within_both b (constants (meaning (led a g))) (constants (meaning h))) ∙ m)) [
       | inl left ↦
-          elim (or_cases (within (constants (meaning a)) b) (within (constants (meaning g)) b)
+          elim (or_cases (in_domain (constants (meaning a)) b) (in_domain (constants (meaning g)) b)
           (constants_led a g b left)) [
             | inl one ↦
-                or_left (within (constants (meaning a)) b) (within (constants (meaning g) ++ constants (meaning h)) b)
+                or_left (in_domain (constants (meaning a)) b)
+                    (in_domain (constants (meaning g) ++ constants (meaning h)) b)
                 one
             | inr two ↦
-                or_right (within (constants (meaning a)) b) (within (constants (meaning g) ++ constants (meaning h)) b)
+                or_right (in_domain (constants (meaning a)) b)
+                    (in_domain (constants (meaning g) ++ constants (meaning h)) b)
                 (within_both b (constants (meaning g)) (constants (meaning h))
-                ∙ or_left (within (constants (meaning g)) b) (within (constants (meaning h)) b) two)
+                ∙ or_left (in_domain (constants (meaning g)) b) (in_domain (constants (meaning h)) b) two)
           ]
       | inr right ↦
-          or_right (within (constants (meaning a)) b) (within (constants (meaning g) ++ constants (meaning h)) b)
+          or_right (in_domain (constants (meaning a)) b) (in_domain (constants (meaning g) ++ constants (meaning h)) b)
           (within_both b (constants (meaning g)) (constants (meaning h))
-          ∙ or_right (within (constants (meaning g)) b) (within (constants (meaning h)) b) right)
+          ∙ or_right (in_domain (constants (meaning g)) b) (in_domain (constants (meaning h)) b) right)
     ]
 constants_led a g b m = sym (within_both b (constants (meaning a)) (constants (meaning g))) ∙ m
 
@@ -153,25 +155,25 @@ first_constants : (f : CoreForm) → Includes (constants (meaning f)) (constants
 unfolding constants
 first_constants (And f g) b m =
     within_both b (constants (meaning f)) (constants (meaning g))
-    ∙ or_left (within (constants (meaning f)) b) (within (constants (meaning g)) b) (first_constants f b m)
+    ∙ or_left (in_domain (constants (meaning f)) b) (in_domain (constants (meaning g)) b) (first_constants f b m)
 first_constants f b m = m
 
 led_constants : (f g : CoreForm)
     → Includes (constants (meaning f) ++ constants (meaning g)) (constants (meaning (led (first_conjunct f) g)))
 led_constants f g b m =
     within_both b (constants (meaning f)) (constants (meaning g))
-    ∙ elim (or_cases (within (constants (meaning (first_conjunct f))) b) (within (constants (meaning g)) b)
+    ∙ elim (or_cases (in_domain (constants (meaning (first_conjunct f))) b) (in_domain (constants (meaning g)) b)
     (constants_led (first_conjunct f) g b m)) [
       | inl one ↦
-          or_left (within (constants (meaning f)) b) (within (constants (meaning g)) b) (first_constants f b one)
-      | inr two ↦ or_right (within (constants (meaning f)) b) (within (constants (meaning g)) b) two
+          or_left (in_domain (constants (meaning f)) b) (in_domain (constants (meaning g)) b) (first_constants f b one)
+      | inr two ↦ or_right (in_domain (constants (meaning f)) b) (in_domain (constants (meaning g)) b) two
     ]
 
-led_sound : (whole a g : CoreForm) → IsSound whole a → IsSound whole g → IsSound whole (led a g)
+led_sound : (whole a g : CoreForm) → IsWellFormedIn whole a → IsWellFormedIn whole g → IsWellFormedIn whole (led a g)
 led_sound whole a (And g h) first second = (led_sound whole a g first second.0, second.1)
 led_sound whole a g first second = (first, second)
 
-first_sound : (whole f : CoreForm) → IsSound whole f → IsSound whole (first_conjunct f)
+first_sound : (whole f : CoreForm) → IsWellFormedIn whole f → IsWellFormedIn whole (first_conjunct f)
 first_sound whole (And f g) sound = first_sound whole f sound.0
 first_sound whole f sound = sound
 
@@ -212,14 +214,14 @@ same_posed view (And f (Not (Exists x g))) given db same =
     ]
 same_posed view f given db same = same
 
-pub sound_posed : (f : CoreForm) → IsSound f f → IsSound f (posed f)
+pub sound_posed : (f : CoreForm) → IsWellFormedIn f f → IsWellFormedIn f (posed f)
 unfolding constants fault_in
 sound_posed (And f (Not (Exists x g))) sound =
     let whole : CoreForm = And f (Not (Exists x g)) in
     elim (cases_Bool (leads (first_conjunct f) x.number g)) [
       | inl on ↦
           let asks = leads_parts (first_conjunct f) x.number g on in
-          subst (λ h. IsSound whole (And f (Not (Exists x h))))
+          subst (λ h. IsWellFormedIn whole (And f (Not (Exists x h))))
           (sym (cond-true (leads (first_conjunct f) x.number g) (led (first_conjunct f) g) g on)) (
             sound.0,
             (
@@ -233,7 +235,7 @@ sound_posed (And f (Not (Exists x g))) sound =
             ),
           )
       | inr off ↦
-          subst (λ h. IsSound whole (And f (Not (Exists x h))))
+          subst (λ h. IsWellFormedIn whole (And f (Not (Exists x h))))
           (sym (cond-false (leads (first_conjunct f) x.number g) (led (first_conjunct f) g) g off)) sound
     ]
 sound_posed f sound = sound
@@ -280,7 +282,7 @@ asked_guarded names f x g is guard =
         → among y (bound_by f ++ []) ≡ true
     inside y m =
         none_outside (bound_by f ++ []) (needed_by f ++ without x.number (fv (meaning g))) y
-        (no_variable (λ z. Unguarded (named names z))
+        (no_variable (λ z. Unguarded (named_variable names z))
         (first_outside (bound_by f ++ []) (needed_by f ++ without x.number (fv (meaning g)))) guard) m
 
 asked_accepted : (f : CoreForm) (x : Bound) (g : CoreForm) → leads (first_conjunct f) x.number g ≡ true

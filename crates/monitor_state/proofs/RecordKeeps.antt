@@ -31,7 +31,7 @@ use Rattle.monitor_state.proofs.StampLemmas.{stamps_rest}
 use Rattle.monitor_state.specs.Nodes.{left_operand}
 use Rattle.monitor_state.specs.Recording.{NodeRecorded, NodesRecorded, WindowRecorded}
 use Rattle.monitor_state.specs.Resuming.{Reach}
-use Rattle.monitor_state.specs.Stands.{IsFor, IsJoin, NodeStands, NodesStand, bare, conjunct_as}
+use Rattle.monitor_state.specs.Stands.{IsNodeFor, IsConjunction, NodeStands, NodesStand, bare, conjunct_as}
 use Rattle.monitor_state.specs.StateRules.{JoinKeeps, NodeKeeps, NodesKeep, WindowKeeps}
 use Rattle.monitor_state.specs.StateTimes.{KeptTimes, earliest, node_asks, times_from, window_asks}
 use Rattle.monitor_state.specs.Views.{reached}
@@ -67,7 +67,7 @@ alike_parts (x ∷ xs) (y ∷ ys) same =
     first_negated [] = true
     first_negated (c ∷ cs) = c.negated
 
-join_keeps : (f : CoreForm) (s : JoinOf) (k : JoinData) → IsJoin f s → JoinRule s.children k → JoinKeeps f k
+join_keeps : (f : CoreForm) (s : JoinOf) (k : JoinData) → IsConjunction f s → JoinRule s.children k → JoinKeeps f k
 join_keeps f s k is rule =
     record {
       some = is.some;
@@ -88,7 +88,7 @@ window_keeps view k p (Until i f g) (window.Until s) (data_of.Since d) reach is 
 window_keeps view k p w s d reach is stands rec = absurd is
 
 keeps_filter : (view : View) (k : KeptTimes) (f : CoreForm) (s : FilterState) (d : NodeData)
-    → Reach view k (node_asks k.first d) → IsFor f (node.Filter s) → NodeStands view f (node.Filter s)
+    → Reach view k (node_asks k.first d) → IsNodeFor f (node.Filter s) → NodeStands view f (node.Filter s)
     → NodeRecorded (node.Filter s) d → NodeKeeps k f d
 keeps_filter view k (And f g) s (kept.Filter tables w) reach is stands rec = (
   is.only,
@@ -99,7 +99,7 @@ keeps_filter view k (And f g) s (kept.Filter tables w) reach is stands rec = (
 keeps_filter view k (And f g) s d reach is stands rec = absurd rec
 keeps_filter view k f s d reach is stands rec = absurd is
 
-keeps_join : (k : KeptTimes) (f : CoreForm) (s : JoinOf) (d : NodeData) → IsFor f (node.Join s)
+keeps_join : (k : KeptTimes) (f : CoreForm) (s : JoinOf) (d : NodeData) → IsNodeFor f (node.Join s)
     → NodeRecorded (node.Join s) d → NodeKeeps k f d
 keeps_join k (Not f) s (kept.Join d) is rec = join_keeps (Not f) s d is rec.1
 keeps_join k (And f g) s (kept.Join d) is rec = join_keeps (And f g) s d is rec.1
@@ -107,7 +107,8 @@ keeps_join k (Not f) s d is rec = absurd rec
 keeps_join k (And f g) s d is rec = absurd rec
 keeps_join k f s d is rec = absurd is
 
-keeps_or : (k : KeptTimes) (f : CoreForm) (s : OrOf) (d : NodeData) → IsFor f (node.Or s) → NodeRecorded (node.Or s) d
+keeps_or : (k : KeptTimes) (f : CoreForm) (s : OrOf) (d : NodeData) → IsNodeFor f (node.Or s)
+    → NodeRecorded (node.Or s) d
     → NodeKeeps k f d
 keeps_or k (Or f g) s (kept.Or d) is rec =
     subst (λ cols. OrRule cols (fv (meaning g)) d) is.columns (subst (λ cols. OrRule s.left cols d) is.right rec.1)
@@ -115,7 +116,7 @@ keeps_or k (Or f g) s d is rec = absurd rec
 keeps_or k f s d is rec = absurd is
 
 keeps_previous : (view : View) (k : KeptTimes) (f : CoreForm) (s : PrevOf) (d : NodeData)
-    → Reach view k (node_asks k.first d) → IsFor f (node.Previous s) → NodeStands view f (node.Previous s)
+    → Reach view k (node_asks k.first d) → IsNodeFor f (node.Previous s) → NodeStands view f (node.Previous s)
     → NodeRecorded (node.Previous s) d → NodeKeeps k f d
 keeps_previous view k (Previous i f) s (kept.Previous d) reach is stands rec =
     let same : d.pulled ≡ s.pulled = ap (λ (x : PrevOf). x.pulled) rec.0 in
@@ -129,7 +130,7 @@ keeps_previous view k (Previous i f) s d reach is stands rec = absurd rec
 keeps_previous view k f s d reach is stands rec = absurd is
 
 keeps_next : (view : View) (k : KeptTimes) (f : CoreForm) (s : NextOf) (d : NodeData)
-    → Reach view k (node_asks k.first d) → IsFor f (node.Next s) → NodeStands view f (node.Next s)
+    → Reach view k (node_asks k.first d) → IsNodeFor f (node.Next s) → NodeStands view f (node.Next s)
     → NodeRecorded (node.Next s) d → NodeKeeps k f d
 keeps_next view k (Next i f) s (kept.Next d) reach is stands rec =
     let same : d.pulled ≡ s.pulled = ap (λ (x : NextOf). x.pulled) rec.0 in
@@ -141,7 +142,7 @@ keeps_next view k (Next i f) s d reach is stands rec = absurd rec
 keeps_next view k f s d reach is stands rec = absurd is
 
 keeps_since : (view : View) (k : KeptTimes) (f : CoreForm) (s : SinceOf) (order : TableOf) (d : NodeData)
-    → Reach view k (node_asks k.first d) → IsFor f (node.Since s order) → NodeStands view f (node.Since s order)
+    → Reach view k (node_asks k.first d) → IsNodeFor f (node.Since s order) → NodeStands view f (node.Since s order)
     → NodeRecorded (node.Since s order) d → NodeKeeps k f d
 keeps_since view k (Since i f g) s order (kept.Window w) reach is stands rec =
     window_keeps view k (reached view (Since i f g)) (Since i f g) (window.Since s) w reach is.state stands rec
@@ -149,14 +150,14 @@ keeps_since view k (Since i f g) s order d reach is stands rec = absurd rec
 keeps_since view k f s order d reach is stands rec = absurd is
 
 keeps_until : (view : View) (k : KeptTimes) (f : CoreForm) (s : UntilOf) (order : TableOf) (d : NodeData)
-    → Reach view k (node_asks k.first d) → IsFor f (node.Until s order) → NodeStands view f (node.Until s order)
+    → Reach view k (node_asks k.first d) → IsNodeFor f (node.Until s order) → NodeStands view f (node.Until s order)
     → NodeRecorded (node.Until s order) d → NodeKeeps k f d
 keeps_until view k (Until i f g) s order (kept.Window w) reach is stands rec =
     window_keeps view k (reached view (Until i f g)) (Until i f g) (window.Until s) w reach is.state stands.at rec
 keeps_until view k (Until i f g) s order d reach is stands rec = absurd rec
 keeps_until view k f s order d reach is stands rec = absurd is
 
-keeps_constant : (k : KeptTimes) (f : CoreForm) (table : TableOf) → IsFor f (node.Constant table)
+keeps_constant : (k : KeptTimes) (f : CoreForm) (table : TableOf) → IsNodeFor f (node.Constant table)
     → NodeKeeps k f kept.Bare
 keeps_constant k True table is = tt
 keeps_constant k False table is = tt
@@ -165,16 +166,16 @@ keeps_constant k (Not f) table is = is.alone
 keeps_constant k (And f g) table is = is.alone
 keeps_constant k f table is = absurd is
 
-keeps_atom : (k : KeptTimes) (f : CoreForm) (a : OneAtom) → IsFor f (node.Atom a) → NodeKeeps k f kept.Bare
+keeps_atom : (k : KeptTimes) (f : CoreForm) (a : OneAtom) → IsNodeFor f (node.Atom a) → NodeKeeps k f kept.Bare
 keeps_atom k (Atom b) a is = tt
 keeps_atom k f a is = absurd is
 
-keeps_exists : (k : KeptTimes) (f : CoreForm) (x : ℕ) → IsFor f (node.Exists x) → NodeKeeps k f kept.Bare
+keeps_exists : (k : KeptTimes) (f : CoreForm) (x : ℕ) → IsNodeFor f (node.Exists x) → NodeKeeps k f kept.Bare
 keeps_exists k (Exists y f) x is = tt
 keeps_exists k f x is = absurd is
 
 node_keeps : (view : View) (k : KeptTimes) (f : CoreForm) (n : Node) (d : NodeData)
-    → Reach view k (node_asks k.first d) → IsFor f n → NodeStands view f n → NodeRecorded n d → NodeKeeps k f d
+    → Reach view k (node_asks k.first d) → IsNodeFor f n → NodeStands view f n → NodeRecorded n d → NodeKeeps k f d
 node_keeps view k f (node.Join s) d reach is stands rec = keeps_join k f s d is rec
 node_keeps view k f (node.Filter s) d reach is stands rec = keeps_filter view k f s d reach is stands rec
 node_keeps view k f (node.Or s) d reach is stands rec = keeps_or k f s d is rec

@@ -20,7 +20,7 @@ use Rattle.monitor_state.proofs.ExactLemmas.{reached_within}
 use Rattle.monitor_state.proofs.RecordLemmas.{since_recorded, until_recorded}
 use Rattle.monitor_state.specs.Nodes.{left_operand, operands}
 use Rattle.monitor_state.specs.Recording.{NodeRecorded, NodesRecorded, WindowRecorded}
-use Rattle.monitor_state.specs.Stands.{ChildrenStand, IsFor, JoinStands, NodeStands, NodesStand}
+use Rattle.monitor_state.specs.Stands.{ChildrenStand, IsNodeFor, JoinStands, NodeStands, NodesStand}
 use Rattle.monitor_state.specs.StateStands.{JoinDataStands, NodeDataStands, NodesDataStand, TablesStand}
 use Rattle.monitor_state.specs.StateStands.{WindowDataStands}
 use Rattle.monitor_state.specs.UntilNode.{UntilStandsAt}
@@ -82,7 +82,7 @@ join_recorded view f s k stands same rule =
           (subst (λ (x : JoinOf). ChildrenStand view x.pulled (operands f) x.children) (sym same) stands.children);
     }
 
-node_join : (view : View) (f : CoreForm) (s : JoinOf) (k : NodeData) → IsFor f (node.Join s)
+node_join : (view : View) (f : CoreForm) (s : JoinOf) (k : NodeData) → IsNodeFor f (node.Join s)
     → NodeStands view f (node.Join s) → NodeRecorded (node.Join s) k → NodeDataStands view f k
 node_join view (Not f) s (kept.Join k) is stands rec = join_recorded view (Not f) s k stands rec.0 rec.1
 node_join view (And f g) s (kept.Join k) is stands rec = join_recorded view (And f g) s k stands rec.0 rec.1
@@ -90,7 +90,7 @@ node_join view (Not f) s k is stands rec = absurd rec
 node_join view (And f g) s k is stands rec = absurd rec
 node_join view f s k is stands rec = absurd is
 
-node_or : (view : View) (f : CoreForm) (s : OrOf) (k : NodeData) → IsFor f (node.Or s)
+node_or : (view : View) (f : CoreForm) (s : OrOf) (k : NodeData) → IsNodeFor f (node.Or s)
     → NodeStands view f (node.Or s) → NodeRecorded (node.Or s) k → NodeDataStands view f k
 node_or view (Or f g) s (kept.Or k) is stands rec =
     record {
@@ -103,7 +103,7 @@ node_or view (Or f g) s (kept.Or k) is stands rec =
 node_or view (Or f g) s k is stands rec = absurd rec
 node_or view f s k is stands rec = absurd is
 
-node_previous : (view : View) (f : CoreForm) (s : PrevOf) (k : NodeData) → IsFor f (node.Previous s)
+node_previous : (view : View) (f : CoreForm) (s : PrevOf) (k : NodeData) → IsNodeFor f (node.Previous s)
     → NodeStands view f (node.Previous s) → NodeRecorded (node.Previous s) k → NodeDataStands view f k
 node_previous view (Previous i f) s (kept.Previous k) is stands rec =
     record {
@@ -114,7 +114,7 @@ node_previous view (Previous i f) s (kept.Previous k) is stands rec =
 node_previous view (Previous i f) s k is stands rec = absurd rec
 node_previous view f s k is stands rec = absurd is
 
-node_next : (view : View) (f : CoreForm) (s : NextOf) (k : NodeData) → IsFor f (node.Next s)
+node_next : (view : View) (f : CoreForm) (s : NextOf) (k : NodeData) → IsNodeFor f (node.Next s)
     → NodeStands view f (node.Next s) → NodeRecorded (node.Next s) k → NodeDataStands view f k
 node_next view (Next i f) s (kept.Next k) is stands rec =
     record {
@@ -128,21 +128,23 @@ node_next view (Next i f) s (kept.Next k) is stands rec =
 node_next view (Next i f) s k is stands rec = absurd rec
 node_next view f s k is stands rec = absurd is
 
-node_since : (view : View) (f : CoreForm) (s : SinceOf) (order : TableOf) (k : NodeData) → IsFor f (node.Since s order)
+node_since : (view : View) (f : CoreForm) (s : SinceOf) (order : TableOf) (k : NodeData)
+    → IsNodeFor f (node.Since s order)
     → NodeStands view f (node.Since s order) → NodeRecorded (node.Since s order) k → NodeDataStands view f k
 node_since view (Since i f g) s order (kept.Window (data_of.Since k)) is stands rec =
     since_recorded view (reached view (Since i f g)) i f g s k is.state stands rec
 node_since view (Since i f g) s order k is stands rec = absurd rec
 node_since view f s order k is stands rec = absurd is
 
-node_until : (view : View) (f : CoreForm) (s : UntilOf) (order : TableOf) (k : NodeData) → IsFor f (node.Until s order)
+node_until : (view : View) (f : CoreForm) (s : UntilOf) (order : TableOf) (k : NodeData)
+    → IsNodeFor f (node.Until s order)
     → NodeStands view f (node.Until s order) → NodeRecorded (node.Until s order) k → NodeDataStands view f k
 node_until view (Until i f g) s order (kept.Window (data_of.Until k)) is stands rec =
     until_recorded view (reached view (Until i f g)) i f g s k is.state stands.at stands.taken rec
 node_until view (Until i f g) s order k is stands rec = absurd rec
 node_until view f s order k is stands rec = absurd is
 
-node_filter : (view : View) (f : CoreForm) (s : FilterState) (k : NodeData) → IsFor f (node.Filter s)
+node_filter : (view : View) (f : CoreForm) (s : FilterState) (k : NodeData) → IsNodeFor f (node.Filter s)
     → NodeStands view f (node.Filter s) → NodeRecorded (node.Filter s) k → NodeDataStands view f k
 node_filter view (And f g) s (kept.Filter tables w) is stands rec =
     record {
@@ -159,7 +161,7 @@ bare_stands : (view : View) (f : CoreForm) → NodeDataStands view f kept.Bare
 bare_stands view f = tt
 
 -- a node's data stands where the node does
-pub node_recorded : (view : View) (f : CoreForm) (n : Node) (k : NodeData) → IsFor f n → NodeStands view f n
+pub node_recorded : (view : View) (f : CoreForm) (n : Node) (k : NodeData) → IsNodeFor f n → NodeStands view f n
     → NodeRecorded n k → NodeDataStands view f k
 node_recorded view f (node.Join s) k is stands rec = node_join view f s k is stands rec
 node_recorded view f (node.Filter s) k is stands rec = node_filter view f s k is stands rec

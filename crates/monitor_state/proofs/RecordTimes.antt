@@ -15,7 +15,7 @@ use Rattle.monitor_state.proofs.ExactLemmas.{reached_within}
 use Rattle.monitor_state.specs.Nodes.{left_operand}
 use Rattle.monitor_state.specs.Recording.{NodeRecorded, NodesRecorded, WindowRecorded, longer_of, longest, node_stamps}
 use Rattle.monitor_state.specs.Recording.{window_stamps}
-use Rattle.monitor_state.specs.Stands.{IsFor, NodeStands, NodesStand}
+use Rattle.monitor_state.specs.Stands.{IsNodeFor, NodeStands, NodesStand}
 use Rattle.monitor_state.specs.StateTimes.{earliest, node_asks, window_asks}
 use Rattle.monitor_state.specs.Views.{reached}
 use Rattle.monitor_state.specs.WindowNode.{IsWindow, WindowStands}
@@ -110,7 +110,7 @@ nothing_more view place own is =
         by false h = refl
 
 filter_more : (view : View) (f : CoreForm) (s : FilterState) (k : NodeData) (place : ℕ) (own : List ℕ)
-    → place ≤ length (times view.log) → own ≡ drop place (times view.log) → IsFor f (node.Filter s)
+    → place ≤ length (times view.log) → own ≡ drop place (times view.log) → IsNodeFor f (node.Filter s)
     → NodeStands view f (node.Filter s) → NodeRecorded (node.Filter s) k → Lengthens view place (node.Filter s) k own
 filter_more view (And f g) s (kept.Filter tables w) place own inside is for stands rec =
     knows_more view place (window_asks w) own (window_stamps s.window) inside is
@@ -120,7 +120,7 @@ filter_more view (And f g) s k place own inside is for stands rec = absurd rec
 filter_more view f s k place own inside is for stands rec = absurd for
 
 previous_more : (view : View) (f : CoreForm) (s : PrevOf) (k : NodeData) (place : ℕ) (own : List ℕ)
-    → place ≤ length (times view.log) → own ≡ drop place (times view.log) → IsFor f (node.Previous s)
+    → place ≤ length (times view.log) → own ≡ drop place (times view.log) → IsNodeFor f (node.Previous s)
     → NodeStands view f (node.Previous s) → NodeRecorded (node.Previous s) k
     → Lengthens view place (node.Previous s) k own
 previous_more view (Previous i f) s (kept.Previous k) place own inside is for stands rec =
@@ -137,7 +137,7 @@ previous_more view (Previous i f) s k place own inside is for stands rec = absur
 previous_more view f s k place own inside is for stands rec = absurd for
 
 next_more : (view : View) (f : CoreForm) (s : NextOf) (k : NodeData) (place : ℕ) (own : List ℕ)
-    → place ≤ length (times view.log) → own ≡ drop place (times view.log) → IsFor f (node.Next s)
+    → place ≤ length (times view.log) → own ≡ drop place (times view.log) → IsNodeFor f (node.Next s)
     → NodeStands view f (node.Next s) → NodeRecorded (node.Next s) k → Lengthens view place (node.Next s) k own
 next_more view (Next i f) s (kept.Next k) place own inside is for stands rec =
     let size : length (times view.log) ≡ length view.log = logged view in
@@ -150,7 +150,7 @@ next_more view (Next i f) s k place own inside is for stands rec = absurd rec
 next_more view f s k place own inside is for stands rec = absurd for
 
 since_more : (view : View) (f : CoreForm) (s : SinceOf) (order : TableOf) (k : NodeData) (place : ℕ) (own : List ℕ)
-    → place ≤ length (times view.log) → own ≡ drop place (times view.log) → IsFor f (node.Since s order)
+    → place ≤ length (times view.log) → own ≡ drop place (times view.log) → IsNodeFor f (node.Since s order)
     → NodeStands view f (node.Since s order) → NodeRecorded (node.Since s order) k
     → Lengthens view place (node.Since s order) k own
 since_more view (Since i f g) s order (kept.Window w) place own inside is for stands rec =
@@ -161,7 +161,7 @@ since_more view (Since i f g) s order k place own inside is for stands rec = abs
 since_more view f s order k place own inside is for stands rec = absurd for
 
 until_more : (view : View) (f : CoreForm) (s : UntilOf) (order : TableOf) (k : NodeData) (place : ℕ) (own : List ℕ)
-    → place ≤ length (times view.log) → own ≡ drop place (times view.log) → IsFor f (node.Until s order)
+    → place ≤ length (times view.log) → own ≡ drop place (times view.log) → IsNodeFor f (node.Until s order)
     → NodeStands view f (node.Until s order) → NodeRecorded (node.Until s order) k
     → Lengthens view place (node.Until s order) k own
 until_more view (Until i f g) s order (kept.Window w) place own inside is for stands rec =
@@ -172,7 +172,7 @@ until_more view (Until i f g) s order k place own inside is for stands rec = abs
 until_more view f s order k place own inside is for stands rec = absurd for
 
 node_more : (view : View) (f : CoreForm) (n : Node) (k : NodeData) (place : ℕ) (own : List ℕ)
-    → place ≤ length (times view.log) → own ≡ drop place (times view.log) → IsFor f n → NodeStands view f n
+    → place ≤ length (times view.log) → own ≡ drop place (times view.log) → IsNodeFor f n → NodeStands view f n
     → NodeRecorded n k → Lengthens view place n k own
 node_more view f (node.Filter s) k place own inside is for stands rec =
     filter_more view f s k place own inside is for stands rec

@@ -37,8 +37,8 @@ use Rattle.monitor_state.proofs.ResumeWindows.{since_resumed_is, since_resumed_s
 use Rattle.monitor_state.proofs.ResumeWindows.{until_resumed_is, until_resumed_stands, until_resumed_taken}
 use Rattle.monitor_state.specs.FilterNode.{GivenAs}
 use Rattle.monitor_state.specs.Nodes.{left_operand, operands}
-use Rattle.monitor_state.specs.Resuming.{NodeResumed, Reach, SinceResumed, Suits, UntilResumed, WindowResumed}
-use Rattle.monitor_state.specs.Stands.{ChildrenStand, IsFor, IsJoin, IsPrevious, JoinStands, NextStands}
+use Rattle.monitor_state.specs.Resuming.{NodeResumed, Reach, SinceResumed, SuitsEvaluation, UntilResumed, WindowResumed}
+use Rattle.monitor_state.specs.Stands.{ChildrenStand, IsNodeFor, IsConjunction, IsPrevious, JoinStands, NextStands}
 use Rattle.monitor_state.specs.Stands.{PreviousStands, bare, conjunct_as}
 use Rattle.monitor_state.specs.StateRules.{JoinKeeps, NodeKeeps, SinceKeeps, UntilKeeps, WindowKeeps}
 use Rattle.monitor_state.specs.StateStands.{JoinDataStands, NextDataStands, PreviousDataStands}
@@ -82,13 +82,13 @@ alike_back (x ∷ xs) (y ∷ ys) same = (sym same.0, sym same.1, alike_back xs y
 alike_back [] (y ∷ ys) same = absurd same
 alike_back (x ∷ xs) [] same = absurd same
 
-pub join_rule : (f : CoreForm) (s : JoinOf) (d : JoinData) → IsJoin f s → JoinKeeps f d → JoinRule s.children d
+pub join_rule : (f : CoreForm) (s : JoinOf) (d : JoinData) → IsConjunction f s → JoinKeeps f d → JoinRule s.children d
 join_rule f s d is keeps =
     rule_alike (children_of (map conjunct_as (conjuncts_of f))) s.children d
     (alike_back s.children (children_of (map conjunct_as (conjuncts_of f)))
     (alike_parts s.children (children_of (map conjunct_as (conjuncts_of f))) is.parts)) keeps.rule
 
-join_is : (f : CoreForm) (s new : JoinOf) (d : JoinData) → IsJoin f s → new ≡ join_of s d → IsJoin f new
+join_is : (f : CoreForm) (s new : JoinOf) (d : JoinData) → IsConjunction f s → new ≡ join_of s d → IsConjunction f new
 join_is f s new d is made =
     record {
       columns = ap (λ (x : JoinOf). x.columns) made ∙ is.columns;
@@ -120,7 +120,7 @@ join_resumed k s new d made (And f g) is keeps = (
 )
 join_resumed k s new d made f is keeps = absurd is
 
-pub join_fits : (k : KeptTimes) (s : JoinOf) (d : JoinData) (f : CoreForm) → IsFor f (node.Join s)
+pub join_fits : (k : KeptTimes) (s : JoinOf) (d : JoinData) (f : CoreForm) → IsNodeFor f (node.Join s)
     → NodeKeeps k f (kept.Join d) → JoinRule s.children d
 join_fits k s d (Not f) is keeps = join_rule (Not f) s d is keeps
 join_fits k s d (And f g) is keeps = join_rule (And f g) s d is keeps
@@ -185,7 +185,7 @@ previous_resumed k s new d made (Previous i f) is keeps = (
 )
 previous_resumed k s new d made f is keeps = absurd is
 
-pub next_fits : (k : KeptTimes) (s : NextOf) (d : NextData) (f : CoreForm) → IsFor f (node.Next s)
+pub next_fits : (k : KeptTimes) (s : NextOf) (d : NextData) (f : CoreForm) → IsNodeFor f (node.Next s)
     → NodeKeeps k f (kept.Next d) → NextRule s.columns (times_from k d.pulled) d
 next_fits k s d (Next i f) is keeps = subst (λ cols. NextRule cols (times_from k d.pulled) d) (sym is.columns) keeps
 next_fits k s d f is keeps = absurd is
@@ -304,13 +304,14 @@ until_resumed_node k s new order d res f is keeps = absurd is
 -- ---- conjunctions whose right side is asked for the left one's rows
 
 pub filter_fits : (k : KeptTimes) (s : FilterState) (tables : Vec TableOf) (w : WindowData) (f : CoreForm)
-    → IsFor f (node.Filter s) → NodeKeeps k f (kept.Filter tables w)
+    → IsNodeFor f (node.Filter s) → NodeKeeps k f (kept.Filter tables w)
     → (g : CoreForm) × IsWindow g s.window × WindowKeeps k g w
 filter_fits k s tables w (And f g) is keeps = (left_operand g, is.asks, keeps.2)
 filter_fits k s tables w f is keeps = absurd is
 
 -- the window is one of the right side, which has all that evaluating it relies on
-suits_window : (view : View) (whole f g : CoreForm) → Suits view whole (And f g) → Suits view whole (left_operand g)
+suits_window : (view : View) (whole f g : CoreForm) → SuitsEvaluation view whole (And f g)
+    → SuitsEvaluation view whole (left_operand g)
 suits_window view whole f (Not g) suits = record { passes = suits.passes; sound = suits.sound.1 }
 suits_window view whole f g suits = record { passes = suits.passes; sound = suits.sound.1 }
 

@@ -20,7 +20,7 @@ use Rattle.monitor_state.proofs.ResumeTimes.{log_size}
 use Rattle.monitor_state.specs.Beginnings.{Adds}
 use Rattle.monitor_state.specs.Going.{AllPremises}
 use Rattle.monitor_state.specs.Nodes.{nodes_of, posed}
-use Rattle.monitor_state.specs.Resuming.{AllMatch, HalfResumed, Matches, NodeResumed, NodesResumed, Suits}
+use Rattle.monitor_state.specs.Resuming.{AllMatch, HalfResumed, Matches, NodeResumed, NodesResumed, SuitsEvaluation}
 use Rattle.monitor_state.specs.Resuming.{SuitsWhole}
 use Rattle.monitor_state.specs.Stands.{NodesStand, StateOf, Stands}
 use Rattle.monitor_state.specs.StateRules.{NodesKeep, StateRule}
@@ -46,7 +46,7 @@ all_match view k (f ∷ fs) (n ∷ ns) [] stand keep = absurd keep
 
 -- what is taken for granted of each of the cores
 abbrev pub AllSuit : View → CoreForm → List CoreForm → Type 0
-AllSuit view whole fs = AllByRecursion (Suits view whole) fs
+AllSuit view whole fs = AllByRecursion (SuitsEvaluation view whole) fs
 
 premises_suit : (view : View) (point given : TimePoint) (whole : CoreForm) (fs : List CoreForm)
     → (seen : View) → seen.near ≡ view.near → seen.whole ≡ view.whole

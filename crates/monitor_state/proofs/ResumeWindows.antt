@@ -15,7 +15,7 @@ use Rattle.eval_since.specs.SinceBefore.{since_before}
 use Rattle.eval_since.specs.SinceData.{FollowsData, SinceSetting, setting_of}
 use Rattle.eval_since.specs.SinceView.{SinceOf}
 use Rattle.eval_since.specs.Times.{reaches}
-use Rattle.eval_until.specs.Entries.{entries_of, met_by}
+use Rattle.eval_until.specs.Entries.{entries_for, met_by}
 use Rattle.eval_until.specs.Recalled.{entries_kept, starts_kept}
 use Rattle.eval_until.specs.Starts.{start_of}
 use Rattle.eval_until.specs.UntilBefore.{until_before}
@@ -28,7 +28,7 @@ use Rattle.monitor_state.proofs.MarkLemmas.{met_is}
 use Rattle.monitor_state.proofs.RegionLemmas.{near_part}
 use Rattle.monitor_state.proofs.ResumeTimes.{known_from, last_dates, rest_dates, rest_is, rest_size}
 use Rattle.monitor_state.proofs.SinceSteps.{free_operand, left_tell}
-use Rattle.monitor_state.specs.Resuming.{Reach, SinceResumed, Suits, UntilResumed}
+use Rattle.monitor_state.specs.Resuming.{Reach, SinceResumed, SuitsEvaluation, UntilResumed}
 use Rattle.monitor_state.specs.SinceNode.{IsSinceState, SinceStandsAt}
 use Rattle.monitor_state.specs.Stamps.{stamps}
 use Rattle.monitor_state.specs.StateRules.{SinceKeeps, UntilKeeps}
@@ -51,7 +51,7 @@ module _ (k : KeptTimes) (i : Interval) (f g : CoreForm) (old new : SinceOf) (d 
         right = ap (λ (c : SinceSetting). c.right) res.setting ∙ is.right;
       }
 
-  module _ (view : View) (whole : CoreForm) (p : ℕ) (suits : Suits view whole (Since i f g))
+  module _ (view : View) (whole : CoreForm) (p : ℕ) (suits : SuitsEvaluation view whole (Since i f g))
       (reach : Reach view k (d.kept.pulled - 1)) (stands : SinceDataStands view p i f g d.kept) where
     in_log : d.kept.pulled ≤ length view.log
     in_log =
@@ -131,7 +131,7 @@ module _ (k : KeptTimes) (i : Interval) (f g : CoreForm) (old new : UntilOf) (d 
         right = ap (λ (c : UntilSetting). c.right) res.setting ∙ is.right;
       }
 
-  module _ (view : View) (whole : CoreForm) (p : ℕ) (suits : Suits view whole (Until i f g))
+  module _ (view : View) (whole : CoreForm) (p : ℕ) (suits : SuitsEvaluation view whole (Until i f g))
       (reach : Reach view k d.kept.pulled) (stands : UntilDataStands view p i f g d.kept) where
     abbrev described : UntilOf
     described = until_of (until_setting_of old) (times_from k d.kept.pulled) d.kept
@@ -192,7 +192,7 @@ module _ (k : KeptTimes) (i : Interval) (f g : CoreForm) (old new : UntilOf) (d 
               stands.rights;
           window = λ j low.
               ap₂ (λ c cols. met_by c j (time_at t j)
-              (entries_of (entries_kept d.kept.pulled (times_from k d.kept.pulled) d.kept.rows.items) (map v cols)))
+              (entries_for (entries_kept d.kept.pulled (times_from k d.kept.pulled) d.kept.rows.items) (map v cols)))
               is.interval is.right
               ∙ met_is i j d.kept.pulled d.kept.taken t (times_from k d.kept.pulled) d.kept.rows.items
               (map v (fv (meaning g))) (λ q behind below. known t dates q behind below) keeps.rule.waiting

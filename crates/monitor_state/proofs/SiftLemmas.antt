@@ -15,7 +15,7 @@ use Rattle.mfotl_model.specs.declared.value.Value.{Value}
 use Rattle.relations.specs.Pushed.{turned}
 use Rattle.relations.specs.Tables.{IsTable}
 use Rattle.monitor_state.specs.FilterFeeding.{FilterPulled, FilterStep, Sifts}
-use Rattle.monitor_state.specs.WindowNode.{Answers}
+use Rattle.monitor_state.specs.WindowNode.{WindowHolds}
 use Rattle.monitor_state.specs.declared.filter.FilterState.{FilterState}
 use Rattle.monitor_state.specs.declared.window.Window.{Window}
 
@@ -110,7 +110,7 @@ has_chosen false row u = refl
 
 pub sift_more : (w : Window) (negated answer stays : Bool) (columns : List ℕ) (done kept new : List (List Value))
     (row : List Value)
-    → Sifts w negated columns done kept → Answers w (valuation columns row) answer → stays ≡ turned negated answer
+    → Sifts w negated columns done kept → WindowHolds w (valuation columns row) answer → stays ≡ turned negated answer
     → new ≡ kept ++ cond stays (row ∷ []) []
     → Sifts w negated columns (done ++ row ∷ []) new
 sift_more w negated answer stays columns done kept new row before told is same u holds answers =
@@ -122,5 +122,6 @@ sift_more w negated answer stays columns done kept new row before told is same u
     (λ e.
     is
     ∙ ap (turned negated)
-    (answers answer (subst (λ r. Answers w (valuation columns r) answer) (sym (tells_apart row_exact u row e)) told)))
+    (answers answer
+        (subst (λ r. WindowHolds w (valuation columns r) answer) (sym (tells_apart row_exact u row e)) told)))
     ∙ ap (λ b. b && turned negated holds) (sym (list_any-append (eq_by_cmp row_cmp u) done (row ∷ [])))

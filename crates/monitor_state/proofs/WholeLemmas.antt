@@ -11,7 +11,7 @@ use Rattle.mfotl_model.specs.Tables.{all_among}
 use Rattle.monitorable.proofs.FragmentLemmas.{no_first, no_variable, none_first, none_outside}
 use Rattle.monitorable.specs.CoreForms.{CoreForm, meaning, Compare, Not, And}
 use Rattle.monitorable.specs.Fragment.{Names, at_variable, binds, bound_by, fault_in, first, first_outside}
-use Rattle.monitorable.specs.Fragment.{guards, named}
+use Rattle.monitorable.specs.Fragment.{guards, named_variable}
 use Rattle.monitorable.specs.Fragment.{needed_by}
 use Rattle.monitorable.specs.declared.fault.FragmentFault.{FragmentFault}
 use Rattle.monitorable.specs.declared.fault.FragmentFault.TheVariants.{Unguarded}
@@ -28,7 +28,8 @@ at_none p q (Some y) e = absurd (let clash : Some (p y) ≡ None = e in cc)
 
 guards_named : (names other : Names) (f : CoreForm) → guards names f ≡ None → guards other f ≡ None
 guards_named names other f e =
-    at_none (λ y. Unguarded (named names y)) (λ y. Unguarded (named other y)) (first_outside (bound_by f) (needed_by f))
+    at_none (λ y. Unguarded (named_variable names y)) (λ y. Unguarded (named_variable other y))
+        (first_outside (bound_by f) (needed_by f))
     e
 
 pub inside_all : (xs ys : List ℕ) → ((y : ℕ) → among y ys ≡ true → among y xs ≡ true) → first_outside xs ys ≡ None
@@ -41,7 +42,7 @@ inside_all xs (y ∷ ys) each =
 pub guarded : (f : CoreForm) (names : Names)
     → ((y : ℕ) → among y (needed_by f) ≡ true → among y (bound_by f) ≡ true) → guards names f ≡ None
 guarded f names each =
-    ap (at_variable (λ y. Unguarded (named names y))) (inside_all (bound_by f) (needed_by f) each)
+    ap (at_variable (λ y. Unguarded (named_variable names y))) (inside_all (bound_by f) (needed_by f) each)
 
 -- what the first conjunct needs it binds itself
 guards_alone : (f g : CoreForm) (names : Names) → all_among (fv (meaning g)) (bound_by f) ≡ true
@@ -53,7 +54,7 @@ guards_alone f g names inside guard =
     elim (or_cases (among y (bound_by f)) (among y (bound_by g))
     (sym (list_any-append (λ z. nat_eq y z) (bound_by f) (bound_by g))
     ∙ none_outside (bound_by f ++ bound_by g) (needed_by f ++ needed_by g) y
-    (no_variable (λ z. Unguarded (named names z))
+    (no_variable (λ z. Unguarded (named_variable names z))
     (first_outside (bound_by f ++ bound_by g) (needed_by f ++ needed_by g)) guard)
     (list_any-append (λ z. nat_eq y z) (needed_by f) (needed_by g)
     ∙ or_left (among y (needed_by f)) (among y (needed_by g)) m))) [

@@ -17,7 +17,7 @@ use Rattle.eval_since.specs.SinceView.{SinceOf, due}
 use Rattle.eval_until.specs.UntilView.{UntilOf, to_take}
 use Rattle.monitorable.proofs.DomainLemmas.{same_truth}
 use Rattle.monitorable.specs.CoreForms.{CoreForm, meaning, Since, Until}
-use Rattle.monitorable.specs.Soundness.{IsSound}
+use Rattle.monitorable.specs.Soundness.{IsWellFormedIn}
 use Rattle.monitor_state.proofs.CountLemmas.{since_counted}
 use Rattle.monitor_state.proofs.ExactLemmas.{reached_within}
 use Rattle.monitor_state.proofs.RegionLemmas.{near_right}
@@ -31,14 +31,14 @@ use Rattle.monitor_state.specs.SinceNode.{IsSinceState, SinceStandsAt}
 use Rattle.monitor_state.specs.Steps.{StackNews, longer}
 use Rattle.monitor_state.specs.UntilNode.{UntilStandsAt}
 use Rattle.monitor_state.specs.Views.{reached}
-use Rattle.monitor_state.specs.WindowNode.{Answers, IsWindow, WindowStands, window_due}
+use Rattle.monitor_state.specs.WindowNode.{WindowHolds, IsWindow, WindowStands, window_due}
 use Rattle.monitor_state.specs.declared.window.Window.{Window}
 use Rattle.monitor_state.specs.declared.window.Window.TheVariants as window
 
 -- a time and the operands' tables were pushed
 pub window_fed : (view : View) (point : TimePoint) (whole w : CoreForm) (old fed : Window) (p ts : ℕ)
     (ls rs : List TableOf)
-    → NeverFalls (times (longer view point).log) → Passes (fv view.whole) view.near → IsSound whole w
+    → NeverFalls (times (longer view point).log) → Passes (fv view.whole) view.near → IsWellFormedIn whole w
     → p ≤ length view.log → ts ≡ point.ts
     → IsWindow w old → WindowStands view p w old → StackNews view point (window_operands w) (ls ∷ rs ∷ [])
     → WindowFeeds old ts ls rs fed → IsWindow w fed × WindowStands (longer view point) p w fed
@@ -168,7 +168,7 @@ window_due_at view rising w s p inside is stands = absurd is
 pub window_means : (view : View) → NeverFalls (times view.log) → Passes (fv view.whole) view.near
     → (w : CoreForm) (s : Window) (p : ℕ) → IsWindow w s → WindowStands view p w s
     → (dom : List Value) (v : Valuation) → Covers view dom → view.near (fv (meaning w)) v ≡ true
-    → (answer : Bool) → Answers s v answer → answer ≡ sat view.log dom v p (meaning w)
+    → (answer : Bool) → WindowHolds s v answer → answer ≡ sat view.log dom v p (meaning w)
 unfolding fv sat
 window_means view rising passes (Since i f g) (window.Since s) p is stands dom v covers near answer answers =
     let t : List ℕ = times view.log in

@@ -17,7 +17,7 @@ use Rattle.monitorable.specs.Conjuncts.PartForm.{Child, Test}
 use Rattle.monitorable.specs.Fragment.{Names, fault_in, guards}
 use Rattle.monitorable.specs.declared.role.Role.{Role}
 use Rattle.monitor_state.specs.Nodes.{children, is_negated, operands}
-use Rattle.monitor_state.specs.Stands.{IsFor, NodeStands, NodesStand, Stands, StateOf, conjunct_as}
+use Rattle.monitor_state.specs.Stands.{IsNodeFor, NodeStands, NodesStand, Stands, StateOf, conjunct_as}
 use Rattle.monitor_state.specs.declared.node.Node.{Node}
 use Rattle.monitor_state.specs.declared.window.Window.{Window}
 use Rattle.monitor_state.specs.declared.window.Window.TheVariants as window
@@ -37,7 +37,7 @@ is_child (Test c wanted) = false
 
 -- the node is one for the core, and stands for the empty log in each region
 abbrev pub BeginsNode : CoreForm → Node → Type 0
-BeginsNode f node = IsFor f node × ((view : View) → view.log ≡ [] → NodeStands view f node)
+BeginsNode f node = IsNodeFor f node × ((view : View) → view.log ≡ [] → NodeStands view f node)
 
 -- nodes for these cores were added, which stand for the empty log in each region
 abbrev pub Adds : List CoreForm → List Node → List Node → Type 0

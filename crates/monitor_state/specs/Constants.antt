@@ -17,12 +17,12 @@ is_constant (Var x) = false
 is_constant (Const a) = true
 
 -- whether a comparison is one of constants
-abbrev pub is_closed : Comparison → Bool
-is_closed c = is_constant c.left && is_constant c.right
+abbrev pub is_ground : Comparison → Bool
+is_ground c = is_constant c.left && is_constant c.right
 
 -- whether a comparison has a table by itself: an equation of a variable with a constant, or one of constants
 abbrev pub is_fixed : Comparison → Bool
-is_fixed c = binds c || is_closed c
+is_fixed c = binds c || is_ground c
 
 -- whether a comparison is a node by itself: one that is judged so, and an equation with a constant among
 -- conjuncts
@@ -33,9 +33,9 @@ stands_alone Negated binding = false
 stands_alone Left binding = true
 
 -- whether a conjunct is a test of constants
-abbrev pub is_closed_test : PartForm → Bool
-is_closed_test (Child f negated) = false
-is_closed_test (Test c wanted) = is_closed c
+abbrev pub is_ground_test : PartForm → Bool
+is_ground_test (Child f negated) = false
+is_ground_test (Test c wanted) = is_ground c
 
 -- whether a test comes out as wanted; a child is none
 abbrev pub passes_test : Valuation → PartForm → Bool

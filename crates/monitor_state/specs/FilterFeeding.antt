@@ -11,7 +11,7 @@ use Rattle.eval_until.specs.UntilView.{to_take, took_all}
 use Rattle.relations.specs.Pushed.{turned}
 use Rattle.monitor_state.specs.Feeding.{SinceFeeds}
 use Rattle.monitor_state.specs.UntilFeeding.{UntilFeeds}
-use Rattle.monitor_state.specs.WindowNode.{Answers, window_columns, window_due, window_took_all}
+use Rattle.monitor_state.specs.WindowNode.{WindowHolds, window_columns, window_due, window_took_all}
 use Rattle.monitor_state.specs.declared.filter.FilterState.{FilterState}
 use Rattle.monitor_state.specs.declared.window.Window.{Window}
 use Rattle.monitor_state.specs.declared.window.Window.TheVariants as window
@@ -48,33 +48,34 @@ WindowGoes old new = ⊥
 -- of the rows over these columns those are kept of which the window holds, or doesn't where it is negated
 abbrev pub Sifts : Window → Bool → List ℕ → List (List Value) → List (List Value) → Type 0
 Sifts w negated columns rows kept =
-    (row : List Value) (holds : Bool) → ((answer : Bool) → Answers w (valuation columns row) answer → answer ≡ holds)
+    (row : List Value) (holds : Bool)
+        → ((answer : Bool) → WindowHolds w (valuation columns row) answer → answer ≡ holds)
     → has_row kept row ≡ (has_row rows row && turned negated holds)
 
 -- one row more was asked of: it is kept or left out
 abbrev pub RowSifted : Window → Bool → List ℕ → List Value → List (List Value) → List (List Value) → Type 0
 RowSifted w negated columns row old new =
-    (answer : Bool) × Answers w (valuation columns row) answer
+    (answer : Bool) × WindowHolds w (valuation columns row) answer
     × (new ≡ old ++ cond (turned negated answer) (row ∷ []) [])
 
 -- of a window's rows these were given: of those whose part is one of the keys all of which the window holds
 pub record Finds (w : Window) (keys found : TableOf) : Type 0 where
   pub over : found.columns ≡ window_columns w
-  pub rows : (v : Valuation) → has keys v ≡ true → Answers w v (has found v)
+  pub rows : (v : Valuation) → has keys v ≡ true → WindowHolds w v (has found v)
 
 -- a table's rows were joined with those of which the window holds, where the columns of both are those of `order`
 pub record Joins (w : Window) (order table kept : TableOf) : Type 0 where
   pub over : kept.columns ≡ order.columns
   pub rows : all_among order.columns (joined table.columns (window_columns w)) ≡ true
       → all_among (joined table.columns (window_columns w)) order.columns ≡ true
-      → (v : Valuation) (holds : Bool) → ((answer : Bool) → Answers w v answer → answer ≡ holds)
+      → (v : Valuation) (holds : Bool) → ((answer : Bool) → WindowHolds w v answer → answer ≡ holds)
       → has kept v ≡ (has table v && holds)
 
 -- the rows of a table were filtered, or joined with more columns
-abbrev pub Gives : Window → Bool → Option TableOf → TableOf → TableOf → Type 0
-Gives w negated None table kept =
+abbrev pub FiltersOrJoins : Window → Bool → Option TableOf → TableOf → TableOf → Type 0
+FiltersOrJoins w negated None table kept =
     (kept.columns ≡ table.columns) × Sifts w negated table.columns table.rows kept.rows
-Gives w negated (Some order) table kept = Joins w order table kept
+FiltersOrJoins w negated (Some order) table kept = Joins w order table kept
 
 -- one table was pulled: the rows of the left side's first one of which the window holds
 pub record FilterStep (old new : FilterState) (kept : TableOf) : Type 0 where
@@ -85,7 +86,7 @@ pub record FilterStep (old new : FilterState) (kept : TableOf) : Type 0 where
   pub orders : new.order ≡ old.order
   pub settles : WindowSettles old.window ready
   pub was_due : window_due ready ≡ true
-  pub gives : Gives ready old.negated old.order table kept
+  pub gives : FiltersOrJoins ready old.negated old.order table kept
   pub goes : WindowGoes ready new.window
 
 -- tables were pulled, one after the other

@@ -13,7 +13,7 @@ use Rattle.mfotl_model.specs.declared.event.Event.{Event}
 use Rattle.mfotl_model.specs.declared.event.TimePoint.{TimePoint}
 use Rattle.monitorable.specs.Atoms.{atoms_of}
 use Rattle.monitorable.specs.CoreForms.{CoreForm, meaning}
-use Rattle.monitorable.specs.Fragment.{Fits}
+use Rattle.monitorable.specs.Fragment.{IsMonitorable}
 use Rattle.monitorable.specs.Laws.{whole_view}
 use Rattle.monitorable.specs.Renaming.{binders}
 use Rattle.monitorable.specs.SatisfyingRows.{HasViolationsOf}
@@ -32,7 +32,7 @@ SliceIsEnough =
 abbrev pub LoneWorkerSteps : Type 0
 LoneWorkerSteps =
     (log : List TimePoint) (point : TimePoint) (core : CoreForm)
-    → Fits core → all_apart (fv (meaning core) ++ binders core) ≡ true
+    → IsMonitorable core → all_apart (fv (meaning core) ++ binders core) ≡ true
     → NeverFalls (times (log ++ point ∷ []))
     → Premises (whole_view log core) point point core core
 
@@ -40,6 +40,6 @@ LoneWorkerSteps =
 abbrev pub TablesAreViolations : Type 0
 TablesAreViolations =
     (log : List TimePoint) (policy : Form) (core : CoreForm) (i : ℕ) (table : TableOf)
-    → HasViolationsOf core policy → Fits core
+    → HasViolationsOf core policy → IsMonitorable core
     → Exact (whole_view log core) (meaning core) i table → IsTable table.columns table.rows
     → table.rows ≡ viol log policy i

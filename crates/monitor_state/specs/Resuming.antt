@@ -12,8 +12,8 @@ use Rattle.eval_until.specs.UntilData.{setting_of as until_setting_of, until_of}
 use Rattle.eval_until.specs.UntilView.{Follows as FollowsUntil, FollowsLeft, UntilOf}
 use Rattle.eval_until.specs.declared.recalled.UntilData.{UntilData}
 use Rattle.monitorable.specs.CoreForms.{CoreForm, meaning}
-use Rattle.monitorable.specs.Soundness.{IsSound}
-use Rattle.monitor_state.specs.Stands.{IsFor, NodeStands, Stands, StateOf}
+use Rattle.monitorable.specs.Soundness.{IsWellFormedIn}
+use Rattle.monitor_state.specs.Stands.{IsNodeFor, NodeStands, Stands, StateOf}
 use Rattle.monitor_state.specs.StateRules.{NodeKeeps, WindowKeeps}
 use Rattle.monitor_state.specs.StateStands.{NodeDataStands, StateStands, WindowDataStands}
 use Rattle.monitor_state.specs.StateTimes.{KeptTimes, node_asks, time_before, times_from, window_asks}
@@ -26,9 +26,9 @@ use Rattle.monitor_state.specs.declared.window.Window.{Window}
 
 -- what is taken for granted of a region and a part of the core: near passes to parts of a row, and the part has all
 -- that evaluating it relies on
-pub record Suits (view : View) (whole f : CoreForm) : Type 0 where
+pub record SuitsEvaluation (view : View) (whole f : CoreForm) : Type 0 where
   pub passes : Passes (fv view.whole) view.near
-  pub sound : IsSound whole f
+  pub sound : IsWellFormedIn whole f
 
 -- timestamps are the log's from a place on, at which a node, or an earlier one, asks for them
 pub record Reach (view : View) (k : KeptTimes) (asked : ℕ) : Type 0 where
@@ -65,14 +65,16 @@ pub record UntilResumed (k : KeptTimes) (old : UntilOf) (data_of : UntilData) (n
 abbrev pub WindowResumed : KeptTimes → Window → WindowData → Window → Type 0
 WindowResumed k old kept new =
     (w : CoreForm) → IsWindow w old → WindowKeeps k w kept
-    → IsWindow w new × ((view : View) (whole : CoreForm) (p : ℕ) → Suits view whole w → Reach view k (window_asks kept)
+    → IsWindow w new
+    × ((view : View) (whole : CoreForm) (p : ℕ) → SuitsEvaluation view whole w → Reach view k (window_asks kept)
     → WindowDataStands view p w kept → WindowStands view p w new × (window_took_all new ≡ true))
 
 -- data was put into a node
 abbrev pub NodeResumed : KeptTimes → Node → NodeData → Node → Type 0
 NodeResumed k old kept new =
-    (f : CoreForm) → IsFor f old → NodeKeeps k f kept
-    → IsFor f new × ((view : View) (whole : CoreForm) → Suits view whole f → Reach view k (node_asks k.first kept)
+    (f : CoreForm) → IsNodeFor f old → NodeKeeps k f kept
+    → IsNodeFor f new
+    × ((view : View) (whole : CoreForm) → SuitsEvaluation view whole f → Reach view k (node_asks k.first kept)
     → NodeDataStands view f kept → NodeStands view f new)
 
 -- node by node
@@ -83,7 +85,7 @@ NodesResumed k os ds ns = ⊥
 
 -- the node is one of a core, whose data the other is
 abbrev pub Matches : KeptTimes → Node → NodeData → Type 0
-Matches k n kept = (f : CoreForm) × IsFor f n × NodeKeeps k f kept
+Matches k n kept = (f : CoreForm) × IsNodeFor f n × NodeKeeps k f kept
 
 -- node by node
 abbrev pub AllMatch : KeptTimes → List Node → List NodeData → Type 0
@@ -104,7 +106,7 @@ pub record HalfResumed (k : KeptTimes) (nodes : List Node) (kept : List NodeData
 -- what is taken for granted of a region and the whole core
 pub record SuitsWhole (view : View) (core : CoreForm) : Type 0 where
   pub whole : view.whole ≡ meaning core
-  pub suits : Suits view core core
+  pub suits : SuitsEvaluation view core core
 
 -- where the data stands for a log, so does the state
 abbrev pub Resumes : CoreForm → State → StateOf → Type 0

@@ -54,7 +54,7 @@ abbrev pub bare : ChildOf → ChildOf
 bare c = record c { tables = [] }
 
 -- the state is one of the core's conjunction, which has a child and no conjunct that is only asked
-pub record IsJoin (f : CoreForm) (s : JoinOf) : Type 0 where
+pub record IsConjunction (f : CoreForm) (s : JoinOf) : Type 0 where
   pub columns : s.columns ≡ conjunct_columns (map conjunct_as (conjuncts_of f))
   pub tests : s.tests ≡ tests_of (map conjunct_as (conjuncts_of f))
   pub parts : map bare s.children ≡ children_of (map conjunct_as (conjuncts_of f))
@@ -67,23 +67,23 @@ pub record IsOr (f g : CoreForm) (s : OrOf) : Type 0 where
   pub right : s.right ≡ fv (meaning g)
 
 -- the node is one for the core
-abbrev pub IsFor : CoreForm → Node → Type 0
-IsFor True (node.Constant table) = IsConstant True table
-IsFor False (node.Constant table) = IsConstant False table
-IsFor (Compare c) (node.Constant table) = IsConstant (Compare c) table
-IsFor (Not f) (node.Constant table) = IsConstant (Not f) table
-IsFor (And f g) (node.Constant table) = IsConstant (And f g) table
-IsFor (Atom atom) (node.Atom a) = a ≡ atom
-IsFor (Not f) (node.Join s) = IsJoin (Not f) s
-IsFor (And f g) (node.Join s) = IsJoin (And f g) s
-IsFor (And f g) (node.Filter s) = IsFilter f g s
-IsFor (Or f g) (node.Or s) = IsOr f g s
-IsFor (Exists x f) (node.Exists y) = y ≡ x.number
-IsFor (Previous i f) (node.Previous s) = IsPrevious i f s
-IsFor (Next i f) (node.Next s) = IsNext i f s
-IsFor (Since i f g) (node.Since s order) = IsSince i f g s order
-IsFor (Until i f g) (node.Until s order) = IsUntil i f g s order
-IsFor f other = ⊥
+abbrev pub IsNodeFor : CoreForm → Node → Type 0
+IsNodeFor True (node.Constant table) = IsConstant True table
+IsNodeFor False (node.Constant table) = IsConstant False table
+IsNodeFor (Compare c) (node.Constant table) = IsConstant (Compare c) table
+IsNodeFor (Not f) (node.Constant table) = IsConstant (Not f) table
+IsNodeFor (And f g) (node.Constant table) = IsConstant (And f g) table
+IsNodeFor (Atom atom) (node.Atom a) = a ≡ atom
+IsNodeFor (Not f) (node.Join s) = IsConjunction (Not f) s
+IsNodeFor (And f g) (node.Join s) = IsConjunction (And f g) s
+IsNodeFor (And f g) (node.Filter s) = IsFilter f g s
+IsNodeFor (Or f g) (node.Or s) = IsOr f g s
+IsNodeFor (Exists x f) (node.Exists y) = y ≡ x.number
+IsNodeFor (Previous i f) (node.Previous s) = IsPrevious i f s
+IsNodeFor (Next i f) (node.Next s) = IsNext i f s
+IsNodeFor (Since i f g) (node.Since s order) = IsSince i f g s order
+IsNodeFor (Until i f g) (node.Until s order) = IsUntil i f g s order
+IsNodeFor f other = ⊥
 
 -- A child's tables: those not yet used are kept, up to the last one of a settled position, and are exact.
 pub record ChildStands (view : View) (pulled : ℕ) (f : CoreForm) (c : ChildOf) : Type 0 where
@@ -152,7 +152,7 @@ NodeStands view f other = Unit {0}
 -- each node is one for its core, and stands for the log
 abbrev pub NodesStand : View → List CoreForm → List Node → Type 0
 NodesStand view [] [] = Unit {0}
-NodesStand view (f ∷ fs) (n ∷ ns) = IsFor f n × NodeStands view f n × NodesStand view fs ns
+NodesStand view (f ∷ fs) (n ∷ ns) = IsNodeFor f n × NodeStands view f n × NodesStand view fs ns
 NodesStand view fs ns = ⊥
 
 -- What a monitor keeps: how many time-points it took and how many tables it gave, the timestamps from

@@ -21,18 +21,18 @@ abbrev pub seen_in : View → Region → View
 seen_in view near = record view { near = near }
 
 -- the first region is a part of the second one
-abbrev pub IsPart : Region → Region → Type 0
-IsPart small large = (vs : List ℕ) (v : Valuation) → small vs v ≡ true → large vs v ≡ true
+abbrev pub IsSubregion : Region → Region → Type 0
+IsSubregion small large = (vs : List ℕ) (v : Valuation) → small vs v ≡ true → large vs v ≡ true
 
 -- a state stands for each part of its region
 abbrev pub PartStands : Type 0
-PartStands = (view : View) (core : CoreForm) (small : Region) (s : State) → IsPart small view.near
+PartStands = (view : View) (core : CoreForm) (small : Region) (s : State) → IsSubregion small view.near
     → StateStands view core s → StateStands (seen_in view small) core s
 
 -- a state cut to a part of its region stands for that part, and has nothing outside it
 abbrev pub CutStands : Type 0
 CutStands = (view : View) (core : CoreForm) (small : Region) (old new : State) → view.whole ≡ meaning core
-    → Passes (fv view.whole) small → IsPart small view.near → StateRule core old → StateStands view core old
+    → Passes (fv view.whole) small → IsSubregion small view.near → StateRule core old → StateStands view core old
     → StateCut small old new → StandsInside (seen_in view small) core new
 
 -- united states stand for both regions together

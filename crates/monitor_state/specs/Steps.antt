@@ -11,9 +11,9 @@ use Rattle.mfotl_model.specs.declared.event.Event.{Event}
 use Rattle.mfotl_model.specs.declared.event.TimePoint.{TimePoint}
 use Rattle.monitorable.specs.CoreForms.{CoreForm, meaning, True, False, Atom, Compare, Not, And, Or, Exists, Previous}
 use Rattle.monitorable.specs.CoreForms.{Next, Since, Until}
-use Rattle.monitorable.specs.Soundness.{IsSound}
+use Rattle.monitorable.specs.Soundness.{IsWellFormedIn}
 use Rattle.monitor_state.specs.Nodes.{operands}
-use Rattle.monitor_state.specs.Stands.{IsFor, NodeStands, Stands, StateOf}
+use Rattle.monitor_state.specs.Stands.{IsNodeFor, NodeStands, Stands, StateOf}
 use Rattle.monitor_state.specs.Views.{reached}
 use Rattle.monitor_state.specs.declared.node.Node.{Node}
 
@@ -50,7 +50,7 @@ pub record Premises (view : View) (point given : TimePoint) (whole f : CoreForm)
   pub rising : NeverFalls (times (longer view point).log)
   pub passes : Passes (fv view.whole) view.near
   pub whole_is : view.whole ≡ meaning whole
-  pub sound : IsSound whole f
+  pub sound : IsWellFormedIn whole f
   pub ts : given.ts ≡ point.ts
   pub same : SameNear view f given.db point.db
 
@@ -62,12 +62,13 @@ StackNews view point fs stack = ⊥
 
 -- a node takes a time-point: its operands' new tables leave the stack, its own are given, and it stands
 -- for the longer log
-abbrev pub Advances : Node → TimePoint → List (List TableOf) → Node → List (List TableOf) → List TableOf → Type 0
-Advances old given stack new rest tables =
+abbrev pub TakesPoint : Node → TimePoint → List (List TableOf) → Node → List (List TableOf) → List TableOf → Type 0
+TakesPoint old given stack new rest tables =
     (view : View) (point : TimePoint) (whole f : CoreForm) (below : List CoreForm)
-    → Premises view point given whole f → IsFor f old → NodeStands view f old
+    → Premises view point given whole f → IsNodeFor f old → NodeStands view f old
     → StackNews view point (below ++ operands f) stack
-    → IsFor f new × NodeStands (longer view point) f new × StackNews view point below rest × News view point f tables
+    → IsNodeFor f new × NodeStands (longer view point) f new × StackNews view point below rest
+    × News view point f tables
 
 -- One step: a state that stood for the log stands for the longer one, for each region, log and database
 -- between the region's slice and the whole, and the tables are those of the newly settled positions.

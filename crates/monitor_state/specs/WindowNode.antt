@@ -39,9 +39,9 @@ window_took_all (window.Since s) = true
 window_took_all (window.Until s) = took_all s
 
 -- whether the window holds of a valuation at the next position, as far as its state is right for it
-abbrev pub Answers : Window → Valuation → Bool → Type 0
-Answers (window.Since s) v answer =
+abbrev pub WindowHolds : Window → Valuation → Bool → Type 0
+WindowHolds (window.Since s) v answer =
     (t : List ℕ) (a b : List Bool) → Follows s t a b v → answer ≡ since s.window.interval t a b s.pulled
-Answers (window.Until s) v answer =
+WindowHolds (window.Until s) v answer =
     (t : List ℕ) (a b : List Bool) → FollowsUntil s t a b v → NeverFalls t
     → answer ≡ until s.ahead.interval t a b s.ahead.pulled

@@ -9,7 +9,7 @@ ghost use Rattle.monitorable.specs.CoreForms.{Compare, False};
 ghost use Rattle.monitorable.specs.Fragment.{binds};
 ghost use Rattle.monitorable.specs.PartView.{part_form};
 ghost use Rattle.monitor_state.specs.Beginnings.{Accepted, Adds, AddsIf};
-ghost use Rattle.monitor_state.specs.Constants.{is_closed, is_closed_test, is_fixed, passes_test, stands_alone};
+ghost use Rattle.monitor_state.specs.Constants.{is_ground, is_ground_test, is_fixed, passes_test, stands_alone};
 ghost use Rattle.monitor_state.specs.Nodes.{true_in};
 ghost use Rattle.monitor_state.specs.Stands.{IsConstant};
 
@@ -111,7 +111,7 @@ fn row_of(alloc: Global, value: &Value) -> Result<Row, AllocError>
 
 // The table of a comparison of constants.
 fn closed_table(alloc: Global, comparison: &Comparison) -> Result<Table, AllocError>
-    requires { IsTrue (is_closed comparison.now) }
+    requires { IsTrue (is_ground comparison.now) }
     ensures { IfOk result (IsConstant (Compare comparison.now)) }
 {
     let table = Table::unit(alloc)?;
@@ -121,7 +121,7 @@ fn closed_table(alloc: Global, comparison: &Comparison) -> Result<Table, AllocEr
 /// The table without columns that has its row where all of the tests, which are of constants, come out as
 /// wanted.
 pub fn tested(alloc: Global, parts: &[Part]) -> Result<Table, AllocError>
-    requires { IsTrue (list_all (λ part. is_closed_test (part_form part)) parts.now) }
+    requires { IsTrue (list_all (λ part. is_ground_test (part_form part)) parts.now) }
     ensures columns { IfOk result (λ table. table.columns ≡ []) }
     ensures has { IfOk result (λ table. (v : Valuation) →
         has table v ≡ list_all (λ part. passes_test v (part_form part)) parts.now) }
@@ -135,7 +135,7 @@ pub fn tested(alloc: Global, parts: &[Part]) -> Result<Table, AllocError>
 
 fn narrowed(table: Table, part: &Part) -> Table
     requires columns { table.columns ≡ [] }
-    requires closed { IsTrue (is_closed_test (part_form part.now)) }
+    requires closed { IsTrue (is_ground_test (part_form part.now)) }
     ensures columns { result.columns ≡ [] }
     ensures has { (v : Valuation) → has result v ≡ (has table v && passes_test v (part_form part.now)) }
 {

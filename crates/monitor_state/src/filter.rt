@@ -4,7 +4,7 @@ ghost use Rattle.mfotl_model.specs.Tables.{TableOf};
 ghost use Rattle.relations.specs.Pushed.{turned};
 ghost use Rattle.relations.specs.Tables.{IsTable};
 ghost use Rattle.monitor_state.specs.FilterFeeding.{FilterPulled, FilterStep, FilterStops, FilterTakes, RowSifted};
-ghost use Rattle.monitor_state.specs.FilterFeeding.{Gives, Sifts, WindowGoes};
+ghost use Rattle.monitor_state.specs.FilterFeeding.{FiltersOrJoins, Sifts, WindowGoes};
 ghost use Rattle.monitor_state.specs.WindowNode.{window_due, window_took_all};
 
 use crate::lookup::joined;
@@ -88,7 +88,7 @@ fn given(
     requires due { IsTrue (window_due window.old) }
     requires all { IsTrue (window_took_all window.old) }
     ensures goes { OnOk result (WindowGoes window.old window.new) }
-    ensures gives { IfOk result (Gives window.old negated order.now table) }
+    ensures gives { IfOk result (FiltersOrJoins window.old negated order.now table) }
 {
     match order {
         None => filtered(alloc, window, negated, table),
@@ -105,7 +105,7 @@ fn filtered(
     requires due { IsTrue (window_due window.old) }
     requires all { IsTrue (window_took_all window.old) }
     ensures goes { OnOk result (WindowGoes window.old window.new) }
-    ensures gives { IfOk result (Gives window.old negated None table) }
+    ensures gives { IfOk result (FiltersOrJoins window.old negated None table) }
 {
     let kept = sifted(alloc, window, negated, table)?;
     go_on(alloc, window)?;

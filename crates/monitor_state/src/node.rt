@@ -1,7 +1,7 @@
 //! The nodes of a monitor.
 ghost use Rattle.std.specs.Prelude.{◌≡◌, ◌++◌, ◌∷◌, [], IfOk, OnOk};
 ghost use Rattle.monitor_state.specs.Quantified.{Quantifies};
-ghost use Rattle.monitor_state.specs.Steps.{Advances};
+ghost use Rattle.monitor_state.specs.Steps.{TakesPoint};
 
 use crate::filter::{FilterState, take_filter};
 use crate::join::take_join;
@@ -50,7 +50,7 @@ impl Node {
         stack: &mut Vec<Tables>,
     ) -> Result<Tables, AllocError>
         ensures { IfOk result (λ tables.
-            Advances self.old point.now stack.old.items self.new stack.new.items tables) }
+            TakesPoint self.old point.now stack.old.items self.new stack.new.items tables) }
     {
         match self {
             Node::Constant(table) => advance_constant(alloc, table, point, stack),
@@ -73,7 +73,7 @@ fn advance_constant(
     _point: &TimePoint,
     _stack: &Vec<Tables>,
 ) -> Result<Tables, AllocError>
-    ensures { IfOk result (λ tables. Advances (Node.Constant table.now) _point.now _stack.now.items
+    ensures { IfOk result (λ tables. TakesPoint (Node.Constant table.now) _point.now _stack.now.items
         (Node.Constant table.now) _stack.now.items tables) }
 {
     match table.copy(alloc) {
@@ -88,7 +88,7 @@ fn advance_atom(
     point: &TimePoint,
     _stack: &Vec<Tables>,
 ) -> Result<Tables, AllocError>
-    ensures { IfOk result (λ tables. Advances (Node.Atom reader.now) point.now _stack.now.items
+    ensures { IfOk result (λ tables. TakesPoint (Node.Atom reader.now) point.now _stack.now.items
         (Node.Atom reader.now) _stack.now.items tables) }
 {
     match reader.table(alloc, point) {
@@ -103,7 +103,7 @@ fn advance_exists(
     _point: &TimePoint,
     stack: &mut Vec<Tables>,
 ) -> Result<Tables, AllocError>
-    ensures { IfOk result (λ tables. Advances (Node.Exists var) _point.now stack.old.items
+    ensures { IfOk result (λ tables. TakesPoint (Node.Exists var) _point.now stack.old.items
         (Node.Exists var) stack.new.items tables) }
 {
     let tables = popped(alloc, stack);
@@ -126,7 +126,7 @@ fn advance_join(
     _point: &TimePoint,
     stack: &mut Vec<Tables>,
 ) -> Result<Tables, AllocError>
-    ensures { IfOk result (λ tables. Advances (Node.Join state.old) _point.now stack.old.items
+    ensures { IfOk result (λ tables. TakesPoint (Node.Join state.old) _point.now stack.old.items
         (Node.Join state.new) stack.new.items tables) }
 {
     let children = state.children();
@@ -143,7 +143,7 @@ fn advance_filter(
     point: &TimePoint,
     stack: &mut Vec<Tables>,
 ) -> Result<Tables, AllocError>
-    ensures { IfOk result (λ tables. Advances (Node.Filter state.old) point.now stack.old.items
+    ensures { IfOk result (λ tables. TakesPoint (Node.Filter state.old) point.now stack.old.items
         (Node.Filter state.new) stack.new.items tables) }
 {
     let right = popped(alloc, stack);
@@ -158,7 +158,7 @@ fn advance_or(
     _point: &TimePoint,
     stack: &mut Vec<Tables>,
 ) -> Result<Tables, AllocError>
-    ensures { IfOk result (λ tables. Advances (Node.Or state.old) _point.now stack.old.items
+    ensures { IfOk result (λ tables. TakesPoint (Node.Or state.old) _point.now stack.old.items
         (Node.Or state.new) stack.new.items tables) }
 {
     let right = popped(alloc, stack);
@@ -172,7 +172,7 @@ fn advance_previous(
     point: &TimePoint,
     stack: &mut Vec<Tables>,
 ) -> Result<Tables, AllocError>
-    ensures { IfOk result (λ tables. Advances (Node.Previous state.old) point.now stack.old.items
+    ensures { IfOk result (λ tables. TakesPoint (Node.Previous state.old) point.now stack.old.items
         (Node.Previous state.new) stack.new.items tables) }
 {
     let operand = popped(alloc, stack);
@@ -185,7 +185,7 @@ fn advance_next(
     point: &TimePoint,
     stack: &mut Vec<Tables>,
 ) -> Result<Tables, AllocError>
-    ensures { IfOk result (λ tables. Advances (Node.Next state.old) point.now stack.old.items
+    ensures { IfOk result (λ tables. TakesPoint (Node.Next state.old) point.now stack.old.items
         (Node.Next state.new) stack.new.items tables) }
 {
     let operand = popped(alloc, stack);
@@ -199,7 +199,7 @@ fn advance_since(
     point: &TimePoint,
     stack: &mut Vec<Tables>,
 ) -> Result<Tables, AllocError>
-    ensures { IfOk result (λ tables. Advances (Node.Since state.old order.now) point.now stack.old.items
+    ensures { IfOk result (λ tables. TakesPoint (Node.Since state.old order.now) point.now stack.old.items
         (Node.Since state.new order.now) stack.new.items tables) }
 {
     let right = popped(alloc, stack);
@@ -214,7 +214,7 @@ fn advance_until(
     point: &TimePoint,
     stack: &mut Vec<Tables>,
 ) -> Result<Tables, AllocError>
-    ensures { IfOk result (λ tables. Advances (Node.Until state.old order.now) point.now stack.old.items
+    ensures { IfOk result (λ tables. TakesPoint (Node.Until state.old order.now) point.now stack.old.items
         (Node.Until state.new order.now) stack.new.items tables) }
 {
     let right = popped(alloc, stack);

@@ -2,7 +2,7 @@
 ghost use Rattle.std.specs.Prelude.{◌≡◌, IfOk, IsTrue, OnOk};
 ghost use Rattle.mfotl_model.specs.Tables.{TableOf, all_among, valuation};
 ghost use Rattle.monitor_state.specs.FilterFeeding.{Finds, WindowFeeds, WindowGoes, WindowSettles};
-ghost use Rattle.monitor_state.specs.WindowNode.{Answers, window_columns, window_due, window_took_all};
+ghost use Rattle.monitor_state.specs.WindowNode.{WindowHolds, window_columns, window_due, window_took_all};
 
 use crate::since::feed_since;
 use crate::tables::Tables;
@@ -60,7 +60,7 @@ pub fn is_due(window: &Window) -> bool
 pub fn holds(alloc: Global, window: &Window, columns: &[u32], row: &Row) -> Result<bool, AllocError>
     requires due { IsTrue (window_due window.now) }
     requires all { IsTrue (window_took_all window.now) }
-    ensures { IfOk result (Answers window.now (valuation columns.now row.now)) }
+    ensures { IfOk result (WindowHolds window.now (valuation columns.now row.now)) }
 {
     match window {
         Window::Since(state) => state.holds(alloc, columns, row),

@@ -9,7 +9,7 @@ use Rattle.monitorable.proofs.RenamedConstants.{apart_constants}
 use Rattle.monitorable.proofs.RenamedMeaning.{apart_means_the_same}
 use Rattle.monitorable.proofs.RenamedVariables.{apart_variables}
 use Rattle.monitorable.specs.CoreForms.{CoreForm, meaning}
-use Rattle.mfotl_model.specs.Domains.{within}
+use Rattle.mfotl_model.specs.Domains.{in_domain}
 use Rattle.monitorable.specs.Fragment.{Names, frag, frag_fault}
 use Rattle.monitorable.specs.Limits.{node_limit}
 use Rattle.monitorable.specs.Negation.{HasConstantsOf, Negates, SettlesWith}
@@ -35,7 +35,7 @@ pub same_variables : (f : Form) → fv (meaning (core_of f)) ≡ fv f
 same_variables f = (apart_variables (negative f)).0 ∙ (normal_form_variables f).1
 
 pub same_constants : (f : Form) → HasConstantsOf (core_of f) f
-same_constants f a = ap (λ values. within values a) (apart_constants (negative f)) ∙ (normal_form_constants f a).1
+same_constants f a = ap (λ values. in_domain values a) (apart_constants (negative f)) ∙ (normal_form_constants f a).1
 
 small : (b : Bool) (fault : Option FragmentFault) → cond b (Some TooLarge) fault ≡ None → fault ≡ None
 small true fault h = cc

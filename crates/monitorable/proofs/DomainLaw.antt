@@ -14,7 +14,7 @@ use Rattle.monitorable.specs.CoreForms.{CoreForm, meaning, True, False, Atom, Co
 use Rattle.monitorable.specs.CoreForms.{Previous, Next, Since, Until}
 use Rattle.mfotl_model.specs.Log.{times}
 use Rattle.mfotl_model.specs.Satisfaction.{Valuation, sat, term_value, with_value, event_of, compares, same_sort}
-use Rattle.mfotl_model.specs.Satisfaction.{meets, since, until, previous, next, truths}
+use Rattle.mfotl_model.specs.Satisfaction.{meets_sign, since, until, previous, next, truths}
 use Rattle.mfotl_model.specs.Values.{value_cmp}
 use Rattle.mfotl_model.specs.declared.event.TimePoint.{TimePoint}
 use Rattle.mfotl_model.specs.declared.term.Comparison.{Comparison}
@@ -28,7 +28,7 @@ use Rattle.monitorable.proofs.DomainLemmas.{event_value, since_witness, until_wi
 use Rattle.monitorable.proofs.DomainLemmas.{next_witness, value_itself}
 use Rattle.monitorable.proofs.FragmentLemmas.{no_first, covered, part_of_whole, even_variables, used_variable}
 use Rattle.monitorable.proofs.FragmentLemmas.{right_variable}
-use Rattle.mfotl_model.specs.Domains.{within, Includes}
+use Rattle.mfotl_model.specs.Domains.{in_domain, Includes}
 use Rattle.monitorable.specs.Fragment.{Names, with_name, first, is_equal, pairs_constant, binds, bound_by, guards}
 use Rattle.monitorable.specs.Fragment.{evens, uses, covers, asked, looks_within, under_not, is_conjunction}
 use Rattle.monitorable.specs.Fragment.{judges_not, fault_in}
@@ -38,7 +38,7 @@ use Rattle.monitorable.specs.declared.role.Role.TheVariants.{Whole, Part, Left}
 
 -- a variable that equals a constant has its value
 equal_value : (a b : Value) → compares Equal a b ≡ true → a ≡ b
-equal_value a b h = tells_apart value_exact a b (and_parts (same_sort a b) (meets Equal (value_cmp a b)) h).1
+equal_value a b h = tells_apart value_exact a b (and_parts (same_sort a b) (meets_sign Equal (value_cmp a b)) h).1
 
 own_variable : (y x : ℕ) → among y (variables_in (Var x ∷ [])) ≡ true → y ≡ x
 own_variable y x h =
@@ -52,14 +52,14 @@ equation : (base : List Value) (sign : Sign) (left right : Term) (v : Valuation)
     → (is_equal sign && pairs_constant left right) ≡ true
     → Includes base (constant_in left ++ constant_in right)
     → compares sign (term_value v left) (term_value v right) ≡ true
-    → among y (variables_in (left ∷ right ∷ [])) ≡ true → within base (v y) ≡ true
+    → among y (variables_in (left ∷ right ∷ [])) ≡ true → in_domain base (v y) ≡ true
 equation base Equal (Var x) (Const a) v y b has h m =
     let same : y ≡ x = own_variable y x m in
-    ap (within base) (ap v same ∙ equal_value (v x) a h)
+    ap (in_domain base) (ap v same ∙ equal_value (v x) a h)
     ∙ has a (or_left (eq_by_cmp value_cmp a a) false (value_itself a))
 equation base Equal (Const a) (Var x) v y b has h m =
     let same : y ≡ x = own_variable y x m in
-    ap (within base) (ap v same ∙ sym (equal_value a (v x) h))
+    ap (in_domain base) (ap v same ∙ sym (equal_value a (v x) h))
     ∙ has a (or_left (eq_by_cmp value_cmp a a) false (value_itself a))
 equation base Equal (Var x) (Var z) v y b has h m = cc
 equation base Equal (Const a) (Const c) v y b has h m = cc
@@ -71,7 +71,7 @@ equation base GreaterEqual left right v y b has h m = cc
 equation_if : (base : List Value) (c : Comparison) (v : Valuation) (y : ℕ) (b : Bool) → binds c ≡ b
     → Includes base (constant_in c.left ++ constant_in c.right)
     → compares c.sign (term_value v c.left) (term_value v c.right) ≡ true
-    → among y (cond b (variables_in (c.left ∷ c.right ∷ [])) []) ≡ true → within base (v y) ≡ true
+    → among y (cond b (variables_in (c.left ∷ c.right ∷ [])) []) ≡ true → in_domain base (v y) ≡ true
 equation_if base c v y true e has h m = equation base c.sign c.left c.right v y e has h m
 equation_if base c v y false e has h m = cc
 
@@ -80,7 +80,7 @@ module _ (log : List TimePoint) (base : List Value) (logged : Includes base (log
   range : (names : Names) (f : CoreForm) → fault_in names Part f ≡ None → Includes base (constants (meaning f))
       → (dom : List Value) (v : Valuation) (i : ℕ) (y : ℕ) → sat log dom v i (meaning f) ≡ true
       → among y (bound_by f) ≡ true
-      → within base (v y) ≡ true
+      → in_domain base (v y) ≡ true
   unfolding sat fv fault_in bound_by constants
   range names True h c dom v i y s m = cc
   range names False h c dom v i y s m = cc
@@ -122,7 +122,7 @@ module _ (log : List TimePoint) (base : List Value) (logged : Includes base (log
       and_parts (not (nat_eq y x.number)) (among y (fv (meaning f)))
       (sym (among_without y x.number (fv (meaning f))) ∙ m) in
       let other : nat_eq y x.number ≡ false = not-true (nat_eq y x.number) free.0 in
-      sym (ap (within base) (cond-false (nat_eq y x.number) w.0 (v y) other))
+      sym (ap (in_domain base) (cond-false (nat_eq y x.number) w.0 (v y) other))
       ∙ range (with_name names x) f (part_of_whole (with_name names x) f parts.0) c dom
       (with_value v x.number w.0) i y w.1
       (covered (with_name names x) f y parts.0 free.1)
@@ -191,7 +191,7 @@ module _ (log : List TimePoint) (base : List Value) (logged : Includes base (log
         (λ d. sat log b (with_value v x.number d) i (meaning f))
         (λ d. alike (with_name names x) Whole f parts.0 c (with_value v x.number d) i))
         ∙ any_in_domains (λ d. sat log b (with_value v x.number d) i (meaning f)) a b base
-        (λ d s. sym (ap (within base) (own d))
+        (λ d s. sym (ap (in_domain base) (own d))
         ∙ range (with_name names x) f (part_of_whole (with_name names x) f parts.0) c b
         (with_value v x.number d) i x.number s
         (covered (with_name names x) f x.number parts.0 (used_variable x f parts.1)))

@@ -24,7 +24,7 @@ use Rattle.mfotl_model.specs.declared.interval.Interval.{Interval}
 use Rattle.mfotl_model.specs.declared.term.Term.{Term}
 use Rattle.mfotl_model.specs.declared.term.Term.TheVariants.{Var, Const}
 use Rattle.mfotl_model.specs.declared.value.Value.{Value}
-use Rattle.mfotl_model.specs.Domains.{within, Includes}
+use Rattle.mfotl_model.specs.Domains.{in_domain, Includes}
 
 -- where a test finds something in a list, a member passes it
 pub any_member : {X : Type 0} (p q : X → Bool) (xs : List X) → ((x : X) → p x ≡ true → q x ≡ true)
@@ -41,17 +41,17 @@ pub value_itself : (a : Value) → eq_by_cmp value_cmp a a ≡ true
 value_itself a = ap is_eq (tied_itself value_total a)
 
 pub any_witness : (q : Value → Bool) (dom : List Value) → list_any q dom ≡ true
-    → (a : Value) × (q a ≡ true) × (within dom a ≡ true)
+    → (a : Value) × (q a ≡ true) × (in_domain dom a ≡ true)
 any_witness q [] h = cc
 any_witness q (a ∷ dom) h =
     elim (or_cases (q a) (list_any q dom) h) [
-      | inl here ↦ (a, here, or_left (eq_by_cmp value_cmp a a) (within dom a) (value_itself a))
+      | inl here ↦ (a, here, or_left (eq_by_cmp value_cmp a a) (in_domain dom a) (value_itself a))
       | inr there ↦
           let w = any_witness q dom there in
-          (w.0, w.1, or_right (eq_by_cmp value_cmp w.0 a) (within dom w.0) w.2)
+          (w.0, w.1, or_right (eq_by_cmp value_cmp w.0 a) (in_domain dom w.0) w.2)
     ]
 
-pub any_with : (q : Value → Bool) (a : Value) (dom : List Value) → q a ≡ true → within dom a ≡ true
+pub any_with : (q : Value → Bool) (a : Value) (dom : List Value) → q a ≡ true → in_domain dom a ≡ true
     → list_any q dom ≡ true
 any_with q a dom h m =
     any_member (eq_by_cmp value_cmp a) q dom
@@ -63,7 +63,7 @@ same_truth false true h k = k refl
 same_truth false false h k = refl
 
 -- a test that only values of the base pass finds alike in all domains that include the base
-pub any_in_domains : (q : Value → Bool) (a b base : List Value) → ((c : Value) → q c ≡ true → within base c ≡ true)
+pub any_in_domains : (q : Value → Bool) (a b base : List Value) → ((c : Value) → q c ≡ true → in_domain base c ≡ true)
     → Includes a base → Includes b base → list_any q a ≡ list_any q b
 any_in_domains q a b base h left right =
     same_truth (list_any q a) (list_any q b) (moved a b right) (moved b a left)
@@ -76,23 +76,23 @@ any_in_domains q a b base h left right =
 -- what the parts of a list of values include
 pub includes_left : (base xs ys : List Value) → Includes base (xs ++ ys) → Includes base xs
 includes_left base xs ys h a m =
-    h a (list_any-append (eq_by_cmp value_cmp a) xs ys ∙ or_left (within xs a) (within ys a) m)
+    h a (list_any-append (eq_by_cmp value_cmp a) xs ys ∙ or_left (in_domain xs a) (in_domain ys a) m)
 
 pub includes_right : (base xs ys : List Value) → Includes base (xs ++ ys) → Includes base ys
 includes_right base xs ys h a m =
-    h a (list_any-append (eq_by_cmp value_cmp a) xs ys ∙ or_right (within xs a) (within ys a) m)
+    h a (list_any-append (eq_by_cmp value_cmp a) xs ys ∙ or_right (in_domain xs a) (in_domain ys a) m)
 
 -- a variable's value is among the values of the terms that it occurs in
 pub value_among : (v : Valuation) (y : ℕ) (terms : List Term) → among y (flat_map variable_in terms) ≡ true
-    → within (map (term_value v) terms) (v y) ≡ true
+    → in_domain (map (term_value v) terms) (v y) ≡ true
 value_among v y [] h = h
 value_among v y (t ∷ terms) h =
     elim (or_cases (among y (variable_in t)) (among y (flat_map variable_in terms))
     (sym (list_any-append (nat_eq y) (variable_in t) (flat_map variable_in terms)) ∙ h)) [
       | inl here ↦
-          or_left (eq_by_cmp value_cmp (v y) (term_value v t)) (within (map (term_value v) terms) (v y)) (own t here)
+          or_left (eq_by_cmp value_cmp (v y) (term_value v t)) (in_domain (map (term_value v) terms) (v y)) (own t here)
       | inr there ↦
-          or_right (eq_by_cmp value_cmp (v y) (term_value v t)) (within (map (term_value v) terms) (v y))
+          or_right (eq_by_cmp value_cmp (v y) (term_value v t)) (in_domain (map (term_value v) terms) (v y))
           (value_among v y terms there)
     ]
   where
@@ -113,7 +113,7 @@ at_position q (p ∷ log) (suc i) none h =
     or_right (q p.db) (list_any (λ point. q point.db) log) (at_position q log i none h)
 
 any_any : (a : Value) (log : List TimePoint)
-    → list_any (λ point. list_any (λ event. within event.args a) point.db) log ≡ within (log_values log) a
+    → list_any (λ point. list_any (λ event. in_domain event.args a) point.db) log ≡ in_domain (log_values log) a
 any_any a [] = refl
 any_any a (p ∷ log) =
     ap₂ (λ x y. x || y) (sym (any_flat_map (eq_by_cmp value_cmp a) (λ event. event.args) p.db)) (any_any a log)
@@ -121,12 +121,12 @@ any_any a (p ∷ log) =
 
 pub event_value : (log : List TimePoint) (i : ℕ) (event : Event) (a : Value)
     → has_event (database_at log i) event ≡ true
-    → within event.args a ≡ true → within (log_values log) a ≡ true
+    → in_domain event.args a ≡ true → in_domain (log_values log) a ≡ true
 event_value log i event a h m =
     sym (any_any a log)
-    ∙ at_position (λ db. list_any (λ e. within e.args a) db) log i refl
-    (any_member (eq_by_cmp event_cmp event) (λ e. within e.args a) (database_at log i)
-    (λ e s. ap (λ z. within z.args a) (sym (tells_apart event_exact event e s)) ∙ m) h)
+    ∙ at_position (λ db. list_any (λ e. in_domain e.args a) db) log i refl
+    (any_member (eq_by_cmp event_cmp event) (λ e. in_domain e.args a) (database_at log i)
+    (λ e s. ap (λ z. in_domain z.args a) (sym (tells_apart event_exact event e s)) ∙ m) h)
 
 -- a truth value that is listed as true is true
 pub truth_holds : (p : ℕ → Bool) (n j : ℕ) → truth_at (truths n p) j ≡ true → p j ≡ true

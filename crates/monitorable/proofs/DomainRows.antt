@@ -20,32 +20,32 @@ use Rattle.mfotl_model.specs.Values.{value_cmp, value_total, row_cmp}
 use Rattle.mfotl_model.specs.Violations.{all_rows}
 use Rattle.mfotl_model.specs.declared.event.TimePoint.{TimePoint}
 use Rattle.mfotl_model.specs.declared.value.Value.{Value}
-use Rattle.mfotl_model.specs.Domains.{within, Includes}
+use Rattle.mfotl_model.specs.Domains.{in_domain, Includes}
 
 -- the active domain has the values of the log and of the policy
 pub adom_has : (log : List TimePoint) (f : Form) (a : Value)
-    → within (adom log f) a ≡ within (log_values log ++ constants f) a
+    → in_domain (adom log f) a ≡ in_domain (log_values log ++ constants f) a
 adom_has log f a = any_ascending value_total value_exact (eq_by_cmp value_cmp a) (log_values log ++ constants f)
 
 pub has_log : (log : List TimePoint) (f : Form) → Includes (adom log f) (log_values log)
 has_log log f a h =
     adom_has log f a ∙ list_any-append (eq_by_cmp value_cmp a) (log_values log) (constants f)
-    ∙ or_left (within (log_values log) a) (within (constants f) a) h
+    ∙ or_left (in_domain (log_values log) a) (in_domain (constants f) a) h
 
 pub has_constants : (log : List TimePoint) (f : Form) → Includes (adom log f) (constants f)
 has_constants log f a h =
     adom_has log f a ∙ list_any-append (eq_by_cmp value_cmp a) (log_values log) (constants f)
-    ∙ or_right (within (log_values log) a) (within (constants f) a) h
+    ∙ or_right (in_domain (log_values log) a) (in_domain (constants f) a) h
 
 -- a longer log has no smaller active domain
 pub grows : (log more : List TimePoint) (f : Form) → Includes (adom (log ++ more) f) (adom log f)
 grows log more f a h =
     adom_has (log ++ more) f a
     ∙ list_any-append (eq_by_cmp value_cmp a) (log_values (log ++ more)) (constants f)
-    ∙ ap (λ b. b || within (constants f) a)
-    (ap (λ values. within values a) (flat_map-append (λ point. flat_map (λ event. event.args) point.db) log more)
+    ∙ ap (λ b. b || in_domain (constants f) a)
+    (ap (λ values. in_domain values a) (flat_map-append (λ point. flat_map (λ event. event.args) point.db) log more)
     ∙ list_any-append (eq_by_cmp value_cmp a) (log_values log) (log_values more))
-    ∙ kept (within (log_values log) a) (within (log_values more) a) (within (constants f) a)
+    ∙ kept (in_domain (log_values log) a) (in_domain (log_values more) a) (in_domain (constants f) a)
     (sym (list_any-append (eq_by_cmp value_cmp a) (log_values log) (constants f)) ∙ sym (adom_has log f a) ∙ h)
   where
     kept : (b c d : Bool) → (b || d) ≡ true → ((b || c) || d) ≡ true
@@ -92,16 +92,16 @@ all_read p v (x ∷ columns) h =
 -- a row has its values in the domain where each column's value lies there
 pub row_within : (columns : List ℕ) (row : List Value) (dom : List Value) → all_apart columns ≡ true
     → nat_eq (length row) (length columns) ≡ true
-    → ((y : ℕ) → among y columns ≡ true → within dom (valuation columns row y) ≡ true)
-    → list_all (within dom) row ≡ true
+    → ((y : ℕ) → among y columns ≡ true → in_domain dom (valuation columns row y) ≡ true)
+    → list_all (in_domain dom) row ≡ true
 row_within columns row dom apart size h =
-    ap (list_all (within dom)) (sym (row_kept columns row apart (eqb-true (length row) (length columns) size)))
-    ∙ all_read (within dom) (valuation columns row) columns h
+    ap (list_all (in_domain dom)) (sym (row_kept columns row apart (eqb-true (length row) (length columns) size)))
+    ∙ all_read (in_domain dom) (valuation columns row) columns h
 
 -- a row is found exactly if it passes the test and has n values, all in the domain
 pub found : (p : List Value → Bool) (n : ℕ) (dom : List Value) (row : List Value)
     → list_any (eq_by_cmp row_cmp row) (filter p (all_rows n dom))
-    ≡ (p row && (nat_eq (length row) n && list_all (within dom) row))
+    ≡ (p row && (nat_eq (length row) n && list_all (in_domain dom) row))
 found p n dom row =
     any-filter_same (eq_by_cmp row_cmp row) p (p row)
     (λ r e. ap p (sym (tells_apart row_exact row r e))) (all_rows n dom)

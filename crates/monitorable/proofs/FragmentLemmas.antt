@@ -8,7 +8,8 @@ use Rattle.mfotl_model.specs.FreeVariables.{fv, among, joined}
 use Rattle.monitorable.specs.CoreForms.{CoreForm, meaning, True, False, Atom, Compare, Not, And, Or, Exists}
 use Rattle.monitorable.specs.CoreForms.{Previous, Next, Since, Until}
 use Rattle.mfotl_model.specs.declared.formula.Bound.{Bound}
-use Rattle.monitorable.specs.Fragment.{Names, named, first, first_outside, at_variable, binds, bound_by, needed_by}
+use Rattle.monitorable.specs.Fragment.{Names, named_variable, first, first_outside, at_variable, binds, bound_by}
+use Rattle.monitorable.specs.Fragment.{needed_by}
 use Rattle.monitorable.specs.Fragment.{guards, evens, uses, covers, fault_in}
 use Rattle.monitorable.specs.declared.fault.FragmentFault.{FragmentFault}
 use Rattle.monitorable.specs.declared.fault.FragmentFault.TheVariants.{Uneven, Unguarded, UnusedBound, LooseLeft}
@@ -97,7 +98,7 @@ guarded names f y h m =
       | inl e ↦ e
       | inr e ↦
           none_outside (bound_by f) (needed_by f) y
-          (no_variable (λ z. Unguarded (named names z)) (first_outside (bound_by f) (needed_by f)) h) e
+          (no_variable (λ z. Unguarded (named_variable names z)) (first_outside (bound_by f) (needed_by f)) h) e
     ]
 
 -- each free variable of a formula that stands by itself is bound by a conjunct of it
@@ -175,6 +176,6 @@ right_variable names f g y h m =
     (sym (among_joined y (fv (meaning f)) (fv (meaning g))) ∙ m)) [
       | inl e ↦
           none_outside (fv (meaning g)) (fv (meaning f)) y
-          (no_variable (λ z. LooseLeft (named names z)) (first_outside (fv (meaning g)) (fv (meaning f))) h) e
+          (no_variable (λ z. LooseLeft (named_variable names z)) (first_outside (fv (meaning g)) (fv (meaning f))) h) e
       | inr e ↦ e
     ]

@@ -13,7 +13,7 @@ use Rattle.mfotl_model.specs.declared.term.Term.{Term}
 use Rattle.mfotl_model.specs.declared.term.Term.TheVariants.{Var, Const}
 use Rattle.monitorable.proofs.FragmentLemmas.{no_first, none_first, no_variable}
 use Rattle.monitorable.proofs.RenamedVariables.{Spread, left, right, bound, renamed_fv, same_numbers}
-use Rattle.monitorable.specs.Fragment.{Names, with_name, named, first, first_outside, at_variable, is_equal}
+use Rattle.monitorable.specs.Fragment.{Names, with_name, named_variable, first, first_outside, at_variable, is_equal}
 use Rattle.monitorable.specs.Fragment.{pairs_constant, binds, bound_by, needed_by, guards, evens, uses, covers}
 use Rattle.monitorable.specs.Fragment.{asked, looks_within, under_not, is_conjunction, judges_not}
 use Rattle.monitorable.specs.Fragment.{judges_comparison, fault_in}
@@ -115,7 +115,8 @@ guards_new : (names names' : Names) (p : Numbers) (n : ℕ) (f : CoreForm) → S
     → guards names' (renamed p n f) ≡ None
 guards_new names names' p n f s h =
     no_fault p (bound_by f) (needed_by f) (bound_by (renamed p n f)) (needed_by (renamed p n f))
-    (λ y. Unguarded (named names y)) (λ y. Unguarded (named names' y)) (bound_new p n f s) (needed_new p n f s) h
+    (λ y. Unguarded (named_variable names y)) (λ y. Unguarded (named_variable names' y)) (bound_new p n f s)
+        (needed_new p n f s) h
 
 asked_new : (b : Bool) (x y : Option FragmentFault) → (x ≡ None → y ≡ None) → asked b x ≡ None → asked b y ≡ None
 asked_new true x y h e = h e
@@ -139,8 +140,9 @@ covers_new : (names names' : Names) (p : Numbers) (f g f' g' : CoreForm) → fv 
     → fv (meaning g') ≡ map p (fv (meaning g))
     → covers names f g ≡ None → covers names' f' g' ≡ None
 covers_new names names' p f g f' g' e k h =
-    no_fault p (fv (meaning g)) (fv (meaning f)) (fv (meaning g')) (fv (meaning f')) (λ z. LooseLeft (named names z))
-    (λ z. LooseLeft (named names' z)) k e h
+    no_fault p (fv (meaning g)) (fv (meaning f)) (fv (meaning g')) (fv (meaning f'))
+        (λ z. LooseLeft (named_variable names z))
+    (λ z. LooseLeft (named_variable names' z)) k e h
 
 uses_new : (p : Numbers) (n : ℕ) (x : Bound) (f f' : CoreForm)
     → fv (meaning f') ≡ map (with_number p x.number n) (fv (meaning f))

@@ -14,7 +14,7 @@ use Rattle.mfotl_model.specs.Formulas.Form.{Forall, Previous, Next, Once, Histor
 use Rattle.mfotl_model.specs.Formulas.Form.{Until}
 use Rattle.mfotl_model.specs.Values.{value_cmp}
 use Rattle.mfotl_model.specs.declared.value.Value.{Value}
-use Rattle.mfotl_model.specs.Domains.{within}
+use Rattle.mfotl_model.specs.Domains.{in_domain}
 use Rattle.monitorable.specs.Laws.{NormalFormVariables, NormalFormConstants}
 use Rattle.monitorable.specs.NormalForm.{positive, negative}
 
@@ -79,8 +79,9 @@ normal_form_variables (Since interval f g) =
 normal_form_variables (Until interval f g) =
     let e = ap₂ joined (normal_form_variables f).0 (normal_form_variables g).0 in (e, e)
 
-joined_within : (a : Value) (xs ys us vs : List Value) → within us a ≡ within xs a → within vs a ≡ within ys a
-    → within (us ++ vs) a ≡ within (xs ++ ys) a
+joined_within : (a : Value) (xs ys us vs : List Value) → in_domain us a ≡ in_domain xs a
+    → in_domain vs a ≡ in_domain ys a
+    → in_domain (us ++ vs) a ≡ in_domain (xs ++ ys) a
 joined_within a xs ys us vs e h =
     list_any-append (eq_by_cmp value_cmp a) us vs ∙ ap₂ (λ b c. b || c) e h
     ∙ sym (list_any-append (eq_by_cmp value_cmp a) xs ys)
@@ -90,12 +91,12 @@ both_over true c = refl
 both_over false true = refl
 both_over false false = refl
 
-twice_within : (a : Value) (xs ys : List Value) → within ((xs ++ ys) ++ (ys ++ xs)) a ≡ within (xs ++ ys) a
+twice_within : (a : Value) (xs ys : List Value) → in_domain ((xs ++ ys) ++ (ys ++ xs)) a ≡ in_domain (xs ++ ys) a
 twice_within a xs ys =
     list_any-append (eq_by_cmp value_cmp a) (xs ++ ys) (ys ++ xs)
     ∙ ap₂ (λ b c. b || c) (list_any-append (eq_by_cmp value_cmp a) xs ys)
     (list_any-append (eq_by_cmp value_cmp a) ys xs)
-    ∙ both_over (within xs a) (within ys a)
+    ∙ both_over (in_domain xs a) (in_domain ys a)
     ∙ sym (list_any-append (eq_by_cmp value_cmp a) xs ys)
 
 pub normal_form_constants : NormalFormConstants

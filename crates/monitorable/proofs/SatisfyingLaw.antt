@@ -16,7 +16,7 @@ use Rattle.mfotl_model.specs.Violations.{all_rows, violates, viol}
 use Rattle.mfotl_model.specs.declared.event.TimePoint.{TimePoint}
 use Rattle.mfotl_model.specs.declared.value.Value.{Value}
 use Rattle.monitorable.specs.CoreForms.{CoreForm, meaning}
-use Rattle.mfotl_model.specs.Domains.{within}
+use Rattle.mfotl_model.specs.Domains.{in_domain}
 use Rattle.monitorable.specs.Laws.{ViolationsSatisfy}
 use Rattle.monitorable.specs.Negation.{HasConstantsOf, Negates}
 use Rattle.monitorable.specs.SatisfyingRows.{core_domain, satisfies, satisfying_rows}
@@ -29,7 +29,7 @@ module _ (f : Form) (g : CoreForm) (negates : Negates g f) (variables : fv (mean
       same_ascending value_total value_exact (log_values log ++ constants (meaning g)) (log_values log ++ constants f)
       (λ a.
       list_any-append (eq_by_cmp value_cmp a) (log_values log) (constants (meaning g))
-      ∙ ap (λ b. within (log_values log) a || b) (same_constants a)
+      ∙ ap (λ b. in_domain (log_values log) a || b) (same_constants a)
       ∙ sym (list_any-append (eq_by_cmp value_cmp a) (log_values log) (constants f)))
 
   -- a row satisfies the core exactly where the formula fails of it

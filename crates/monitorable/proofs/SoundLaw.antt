@@ -16,7 +16,7 @@ use Rattle.monitorable.specs.Fragment.{Names, fault_in, first, guards, evens, us
 use Rattle.monitorable.specs.Fragment.{under_not, is_conjunction, judges_not, with_name}
 use Rattle.monitorable.specs.Laws.{PartsAreSound}
 use Rattle.monitorable.specs.Renaming.{binders}
-use Rattle.monitorable.specs.Soundness.{IsSound}
+use Rattle.monitorable.specs.Soundness.{IsWellFormedIn}
 use Rattle.monitorable.specs.declared.role.Role.{Role}
 use Rattle.monitorable.specs.declared.role.Role.TheVariants as role
 
@@ -53,7 +53,7 @@ module _ (whole : CoreForm) where
     binds_none = none_right free (binders f) (binders g) b;
   }
 
-  sound_in : (names : Names) (r : Role) (f : CoreForm) → fault_in names r f ≡ None → Within f → IsSound whole f
+  sound_in : (names : Names) (r : Role) (f : CoreForm) → fault_in names r f ≡ None → Within f → IsWellFormedIn whole f
   unfolding fault_in constants binders fv
   sound_in names r True h w = tt
   sound_in names r False h w = tt

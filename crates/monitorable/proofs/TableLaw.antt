@@ -22,7 +22,7 @@ use Rattle.monitorable.proofs.DomainLemmas.{same_truth}
 use Rattle.monitorable.proofs.DomainRows.{found, has_constants, has_log, row_kept, row_within}
 use Rattle.monitorable.proofs.FreeVariableLemmas.{fv_apart}
 use Rattle.monitorable.specs.CoreForms.{CoreForm, meaning}
-use Rattle.mfotl_model.specs.Domains.{within}
+use Rattle.mfotl_model.specs.Domains.{in_domain}
 use Rattle.monitorable.specs.Fragment.{Names, frag}
 use Rattle.monitorable.specs.Laws.{TablesSatisfy, whole_view}
 use Rattle.monitorable.specs.SatisfyingRows.{core_domain, satisfies, satisfying_rows}
@@ -60,7 +60,7 @@ module _ (log : List TimePoint) (names : Names) (g : CoreForm) (i : ℕ) (table 
 
   -- and where it holds, the values lie in the domain
   inside : (row : List Value) → nat_eq (length row) (length vars) ≡ true → satisfies log g i row ≡ true
-      → list_all (within (core_domain log g)) row ≡ true
+      → list_all (in_domain (core_domain log g)) row ≡ true
   inside row size holds =
       row_within vars row (core_domain log g) (fv_apart (meaning g)) size
       (λ y m.
@@ -69,7 +69,7 @@ module _ (log : List TimePoint) (names : Names) (g : CoreForm) (i : ℕ) (table 
 
   member : (row : List Value)
       → has_row (satisfying_rows log g i) row
-      ≡ (satisfies log g i row && (nat_eq (length row) (length vars) && list_all (within (core_domain log g)) row))
+      ≡ (satisfies log g i row && (nat_eq (length row) (length vars) && list_all (in_domain (core_domain log g)) row))
   member row =
       any_ascending row_total row_exact (eq_by_cmp row_cmp row)
       (filter (satisfies log g i) (all_rows (length vars) (core_domain log g)))
@@ -82,15 +82,15 @@ module _ (log : List TimePoint) (names : Names) (g : CoreForm) (i : ℕ) (table 
       let holds : satisfies log g i row ≡ true = sym (alike row size) ∙ h in
       member row
       ∙ and_from (satisfies log g i row)
-      (nat_eq (length row) (length vars) && list_all (within (core_domain log g)) row) holds
-      (and_from (nat_eq (length row) (length vars)) (list_all (within (core_domain log g)) row) size
+      (nat_eq (length row) (length vars) && list_all (in_domain (core_domain log g)) row) holds
+      (and_from (nat_eq (length row) (length vars)) (list_all (in_domain (core_domain log g)) row) size
       (inside row size holds))
 
   back : (row : List Value) → has_row (satisfying_rows log g i) row ≡ true → has_row table.rows row ≡ true
   back row h =
       let parts = and_parts (satisfies log g i row)
-      (nat_eq (length row) (length vars) && list_all (within (core_domain log g)) row) (sym (member row) ∙ h) in
-      let rest = and_parts (nat_eq (length row) (length vars)) (list_all (within (core_domain log g)) row) parts.1 in
+      (nat_eq (length row) (length vars) && list_all (in_domain (core_domain log g)) row) (sym (member row) ∙ h) in
+      let rest = and_parts (nat_eq (length row) (length vars)) (list_all (in_domain (core_domain log g)) row) parts.1 in
       alike row rest.0 ∙ parts.0
 
   same_rows : table.rows ≡ satisfying_rows log g i

@@ -21,7 +21,7 @@ use Rattle.monitorable.proofs.FinalityLaw.{finality}
 use Rattle.monitorable.proofs.NormalFormLaws.{normal_form_holds, normal_form_settled}
 use Rattle.monitorable.proofs.NormalFormVariables.{normal_form_variables, normal_form_constants}
 use Rattle.monitorable.proofs.FreeVariableLemmas.{fv_apart}
-use Rattle.mfotl_model.specs.Domains.{within, Includes}
+use Rattle.mfotl_model.specs.Domains.{in_domain, Includes}
 use Rattle.monitorable.specs.Fragment.{Names, frag}
 use Rattle.monitorable.specs.Laws.{ViolationsFinal}
 use Rattle.monitorable.specs.CoreForms.{meaning}
@@ -58,7 +58,7 @@ module _ (log more : List TimePoint) (names : Names) (f : Form) (i : ℕ) (risin
       ∙ (normal_form_holds (log ++ more) (adom (log ++ more) f) f v i).1
 
   values_within : (q : List Value) → violates log f i q ≡ true → nat_eq (length q) (length (fv f)) ≡ true
-      → (list_all (within (adom log f)) q ≡ true) × (list_all (within (adom (log ++ more) f)) q ≡ true)
+      → (list_all (in_domain (adom log f)) q ≡ true) × (list_all (in_domain (adom (log ++ more) f)) q ≡ true)
   values_within q h len =
       let v : Valuation = valuation (fv f) q in
       let inside = λ (y : ℕ) (m : among y (fv f) ≡ true).
@@ -77,7 +77,7 @@ module _ (log more : List TimePoint) (names : Names) (f : Form) (i : ℕ) (risin
       (λ q.
       found (violates log f i) (length (fv f)) (adom log f) q
       ∙ agreeing (violates log f i q) (violates (log ++ more) f i q) (nat_eq (length q) (length (fv f)))
-      (list_all (within (adom log f)) q) (list_all (within (adom (log ++ more) f)) q)
+      (list_all (in_domain (adom log f)) q) (list_all (in_domain (adom (log ++ more) f)) q)
       (violates_same q) (values_within q)
       ∙ sym (found (violates (log ++ more) f i) (length (fv f)) (adom (log ++ more) f) q))
 

@@ -22,8 +22,8 @@ abbrev pub free : List ℕ → FreeVar
 free name = record { name = name; sort = Int }
 
 -- the first fault of a formula over the free variables x, y and z
-abbrev pub fault_of : Form → Option FragmentFault
-fault_of f = frag_fault (free_names (free (codes "x") ∷ free (codes "y") ∷ free (codes "z") ∷ [])) f
+abbrev pub first_fault_of : Form → Option FragmentFault
+first_fault_of f = frag_fault (free_names (free (codes "x") ∷ free (codes "y") ∷ free (codes "z") ∷ [])) f
 
 -- the first variable as a fault tells it
 abbrev pub x : Variable
@@ -50,8 +50,8 @@ abbrev pub q : ℕ → Form
 q number = at 1 (Var number ∷ [])
 
 -- p of a constant
-abbrev pub closed : Form
-closed = at 0 (Const (int 1) ∷ [])
+abbrev pub ground : Form
+ground = at 0 (Const (int 1) ∷ [])
 
 -- a variable compared with a constant
 abbrev pub compared : Sign → ℕ → Form
@@ -66,46 +66,46 @@ abbrev pub y_above_x : Form
 y_above_x = forms.Compare (record { sign = Greater; left = Var 1; right = Var 0 })
 
 -- PREVIOUS so many times
-abbrev pub earlier : ℕ → Form → Form
-earlier zero f = f
-earlier (suc times) f = forms.Previous (from 0) (earlier times f)
+abbrev pub previous_times : ℕ → Form → Form
+previous_times zero f = f
+previous_times (suc times) f = forms.Previous (from 0) (previous_times times f)
 
 -- NOT f has this first fault
-abbrev pub FailsWith : Form → FragmentFault → Type 0
-FailsWith f fault = fault_of (forms.Not f) ≡ Some fault
+abbrev pub NegationFails : Form → FragmentFault → Type 0
+NegationFails f fault = first_fault_of (forms.Not f) ≡ Some fault
 
 -- NOT f can be monitored
-abbrev pub Fits : Form → Type 0
-Fits f = fault_of (forms.Not f) ≡ None
+abbrev pub NegationIsMonitorable : Form → Type 0
+NegationIsMonitorable f = first_fault_of (forms.Not f) ≡ None
 
 -- of two faults, the one that is told
-pub record FirstFaults : Type 0 where
-  pub unbounded_before_loose : FailsWith (forms.Until (from 0) (p 0) (q 1)) UnboundedFuture
-  pub right_before_unbounded : FailsWith (forms.Until (from 0) (p 0) (forms.Not (q 1))) (Unguarded y)
-  pub left_of_until_first : FailsWith (forms.Until (from 0) (above 0) (forms.Not (q 1))) (Unguarded x)
-  pub left_of_since_first : FailsWith (forms.Since (from 0) (above 0) (forms.Not (q 1))) (Unguarded x)
-  pub right_before_loose : FailsWith (forms.Since (from 0) (p 0) (forms.Not (q 1))) (Unguarded y)
-  pub left_of_or_first : FailsWith (forms.Or (above 0) (above 1)) (Unguarded x)
-  pub right_before_uneven : FailsWith (forms.Or (p 0) (forms.Not (q 1))) (Unguarded y)
-  pub left_of_and_first : FailsWith (forms.And (forms.Or (p 0) (q 1)) (above 2)) Uneven
-  pub right_of_and_first : FailsWith (forms.And (above 2) (forms.Or (p 0) (q 1))) Uneven
-  pub inside_before_unused : FailsWith (forms.Exists w (forms.Not (p 0))) (Unguarded x)
-  pub first_in_the_text : FailsWith (forms.And closed y_above_x) (Unguarded y)
-  pub first_loose : FailsWith (forms.Since (from 0) (forms.And (p 1) (q 0)) closed) (LooseLeft y)
-  pub too_large_first : FailsWith (earlier 1024 (above 0)) TooLarge
+pub record FirstOfTwoFaults : Type 0 where
+  pub unbounded_before_loose : NegationFails (forms.Until (from 0) (p 0) (q 1)) UnboundedFuture
+  pub right_before_unbounded : NegationFails (forms.Until (from 0) (p 0) (forms.Not (q 1))) (Unguarded y)
+  pub left_of_until_first : NegationFails (forms.Until (from 0) (above 0) (forms.Not (q 1))) (Unguarded x)
+  pub left_of_since_first : NegationFails (forms.Since (from 0) (above 0) (forms.Not (q 1))) (Unguarded x)
+  pub right_before_loose : NegationFails (forms.Since (from 0) (p 0) (forms.Not (q 1))) (Unguarded y)
+  pub left_of_or_first : NegationFails (forms.Or (above 0) (above 1)) (Unguarded x)
+  pub right_before_uneven : NegationFails (forms.Or (p 0) (forms.Not (q 1))) (Unguarded y)
+  pub left_of_and_first : NegationFails (forms.And (forms.Or (p 0) (q 1)) (above 2)) Uneven
+  pub right_of_and_first : NegationFails (forms.And (above 2) (forms.Or (p 0) (q 1))) Uneven
+  pub inside_before_unused : NegationFails (forms.Exists w (forms.Not (p 0))) (Unguarded x)
+  pub first_in_the_text : NegationFails (forms.And ground y_above_x) (Unguarded y)
+  pub first_loose : NegationFails (forms.Since (from 0) (forms.And (p 1) (q 0)) ground) (LooseLeft y)
+  pub too_large_first : NegationFails (previous_times 1024 (above 0)) TooLarge
 
 -- one fault alone, and what has none
-pub record Accepted : Type 0 where
-  pub ordered : FailsWith (compared LessEqual 0) (Unguarded x)
-  pub denied_on_the_left : FailsWith (forms.Since (from 0) (forms.Not (above 0)) (p 0)) (Unguarded x)
-  pub loose : FailsWith (forms.Since (from 0) (p 0) (q 1)) (LooseLeft x)
-  pub uneven_left : FailsWith (forms.Or (p 0) closed) Uneven
-  pub uneven_right : FailsWith (forms.Or closed (p 0)) Uneven
-  pub unused : FailsWith (forms.Exists w (p 0)) (UnusedBound (record { number = 8; name = codes "w" }))
-  pub equation : Fits (compared Equal 0)
-  pub denied_comparison : Fits (forms.And (p 0) (forms.Not (above 0)))
-  pub not_on_the_left : Fits (forms.Since (from 0) (forms.Not (p 0)) (q 0))
-  pub covered : Fits (forms.Since (from 0) (p 0) (forms.And (q 1) (q 0)))
+pub record OneFaultOrNone : Type 0 where
+  pub ordered : NegationFails (compared LessEqual 0) (Unguarded x)
+  pub denied_on_the_left : NegationFails (forms.Since (from 0) (forms.Not (above 0)) (p 0)) (Unguarded x)
+  pub loose : NegationFails (forms.Since (from 0) (p 0) (q 1)) (LooseLeft x)
+  pub uneven_left : NegationFails (forms.Or (p 0) ground) Uneven
+  pub uneven_right : NegationFails (forms.Or ground (p 0)) Uneven
+  pub unused : NegationFails (forms.Exists w (p 0)) (UnusedBound (record { number = 8; name = codes "w" }))
+  pub equation : NegationIsMonitorable (compared Equal 0)
+  pub denied_comparison : NegationIsMonitorable (forms.And (p 0) (forms.Not (above 0)))
+  pub not_on_the_left : NegationIsMonitorable (forms.Since (from 0) (forms.Not (p 0)) (q 0))
+  pub covered : NegationIsMonitorable (forms.Since (from 0) (p 0) (forms.And (q 1) (q 0)))
 
 -- what counts as a node, and how many there may be
 pub record Counted : Type 0 where
@@ -124,5 +124,5 @@ pub record Counted : Type 0 where
   pub once : nodes (positive (forms.Once (from 0) (p 0))) ≡ 3
   pub since : nodes (positive (forms.Since (from 0) (p 0) (q 0))) ≡ 3
   pub until : nodes (positive (forms.Until (from 0) (p 0) (q 0))) ≡ 3
-  pub most : Fits (earlier 1023 closed)
-  pub one_more : FailsWith (earlier 1024 closed) TooLarge
+  pub most : NegationIsMonitorable (previous_times 1023 ground)
+  pub one_more : NegationFails (previous_times 1024 ground) TooLarge

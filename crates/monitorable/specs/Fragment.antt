@@ -37,8 +37,8 @@ abbrev pub with_name : Names → Bound → Names
 with_name names x y = cond (nat_eq y x.number) x.name (names y)
 
 -- a variable by its number and its name
-abbrev pub named : Names → ℕ → Variable
-named names y = record { number = y; name = names y }
+abbrev pub named_variable : Names → ℕ → Variable
+named_variable names y = record { number = y; name = names y }
 
 -- the first of two faults
 abbrev pub first : Option FragmentFault → Option FragmentFault → Option FragmentFault
@@ -91,7 +91,7 @@ needed_by f = []
 
 -- whether each variable of the conjuncts that bind none is bound by another conjunct
 abbrev pub guards : Names → CoreForm → Option FragmentFault
-guards names f = at_variable (λ y. Unguarded (named names y)) (first_outside (bound_by f) (needed_by f))
+guards names f = at_variable (λ y. Unguarded (named_variable names y)) (first_outside (bound_by f) (needed_by f))
 
 -- whether two cores have the same free variables
 abbrev pub evens : CoreForm → CoreForm → Option FragmentFault
@@ -107,7 +107,8 @@ uses x f =
 
 -- whether the left operand's variables are free in the right operand
 abbrev pub covers : Names → CoreForm → CoreForm → Option FragmentFault
-covers names f g = at_variable (λ y. LooseLeft (named names y)) (first_outside (fv (meaning g)) (fv (meaning f)))
+covers names f g =
+    at_variable (λ y. LooseLeft (named_variable names y)) (first_outside (fv (meaning g)) (fv (meaning f)))
 
 -- whether an interval that looks ahead has a greatest distance
 abbrev pub looks_within : Option ℕ → Option FragmentFault
@@ -176,8 +177,8 @@ abbrev pub frag : Names → CoreForm → Option FragmentFault
 frag names f = fault_in names Whole f
 
 -- the fragment accepts a core, whatever the names of its variables
-abbrev pub Fits : CoreForm → Type 0
-Fits f = (names : Names) → frag names f ≡ None
+abbrev pub IsMonitorable : CoreForm → Type 0
+IsMonitorable f = (names : Names) → frag names f ≡ None
 
 -- why a formula, whose free variables have these names, can't be monitored
 abbrev pub frag_fault : Names → Form → Option FragmentFault

@@ -18,12 +18,12 @@ use Rattle.mfotl_model.specs.declared.event.TimePoint.{TimePoint}
 use Rattle.mfotl_model.specs.declared.value.Value.{Value}
 use Rattle.monitorable.specs.Conjuncts.{conjuncts_of, part_holds}
 use Rattle.monitorable.specs.CoreForms.{CoreForm, meaning}
-use Rattle.mfotl_model.specs.Domains.{Includes, within}
+use Rattle.mfotl_model.specs.Domains.{Includes, in_domain}
 use Rattle.monitorable.specs.Fragment.{Names, frag, frag_fault}
 use Rattle.monitorable.specs.Negation.{HasConstantsOf, Negates}
 use Rattle.monitorable.specs.NormalForm.{positive, negative}
 use Rattle.monitorable.specs.Renaming.{apart_form, binders}
-use Rattle.monitorable.specs.Soundness.{IsSound}
+use Rattle.monitorable.specs.Soundness.{IsWellFormedIn}
 use Rattle.monitorable.specs.SatisfyingRows.{HasViolationsOf, satisfying_rows}
 use Rattle.mfotl_model.specs.Times.{NeverFalls}
 
@@ -71,8 +71,8 @@ NormalFormVariables = (f : Form) → (fv (meaning (positive f)) ≡ fv f) × (fv
 abbrev pub NormalFormConstants : Type 0
 NormalFormConstants =
     (f : Form) (a : Value)
-    → (within (constants (meaning (positive f))) a ≡ within (constants f) a)
-    × (within (constants (meaning (negative f))) a ≡ within (constants f) a)
+    → (in_domain (constants (meaning (positive f))) a ≡ in_domain (constants f) a)
+    × (in_domain (constants (meaning (negative f))) a ≡ in_domain (constants f) a)
 
 -- what is settled holds or fails so in every longer log whose timestamps never fall
 abbrev pub Finality : Type 0
@@ -96,7 +96,7 @@ Domain =
     → frag names f ≡ None → Includes base (log_values log) → Includes base (constants (meaning f))
     → (v : Valuation) (i : ℕ)
     → ((dom : List Value) (y : ℕ)
-    → sat log dom v i (meaning f) ≡ true → among y (fv (meaning f)) ≡ true → within base (v y) ≡ true)
+    → sat log dom v i (meaning f) ≡ true → among y (fv (meaning f)) ≡ true → in_domain base (v y) ≡ true)
     × ((a b : List Value) → Includes a base → Includes b base
     → sat log a v i (meaning f) ≡ sat log b v i (meaning f))
 
@@ -169,4 +169,4 @@ TablesSatisfy =
 abbrev pub PartsAreSound : Type 0
 PartsAreSound =
     (names : Names) (f : CoreForm)
-    → frag names f ≡ None → all_apart (fv (meaning f) ++ binders f) ≡ true → IsSound f f
+    → frag names f ≡ None → all_apart (fv (meaning f) ++ binders f) ≡ true → IsWellFormedIn f f

@@ -7,7 +7,7 @@ use Rattle.mfotl_model.specs.Settled.{settled}
 use Rattle.mfotl_model.specs.declared.event.TimePoint.{TimePoint}
 use Rattle.mfotl_model.specs.declared.value.Value.{Value}
 use Rattle.monitorable.specs.CoreForms.{CoreForm, meaning}
-use Rattle.mfotl_model.specs.Domains.{within}
+use Rattle.mfotl_model.specs.Domains.{in_domain}
 
 -- g holds exactly where f doesn't
 abbrev pub Negates : CoreForm → Form → Type 0
@@ -21,4 +21,4 @@ SettlesWith g f = (times : List ℕ) (i : ℕ) → settled times (meaning g) i �
 
 -- g has the constants of f
 abbrev pub HasConstantsOf : CoreForm → Form → Type 0
-HasConstantsOf g f = (a : Value) → within (constants (meaning g)) a ≡ within (constants f) a
+HasConstantsOf g f = (a : Value) → in_domain (constants (meaning g)) a ≡ in_domain (constants f) a

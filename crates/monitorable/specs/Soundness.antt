@@ -14,22 +14,22 @@ HasVariablesOf g f = (y : ℕ) → among y (fv (meaning f)) ≡ true → among y
 -- Of a part f of the whole core, and of each part of it: the sides of OR have the same variables; EXISTS binds no
 -- free variable of the whole and one of what follows, which the fragment accepts, and whose constants are the
 -- whole's; the right operand of SINCE and UNTIL has the variables of the left one.
-abbrev pub IsSound : CoreForm → CoreForm → Type 0
-IsSound whole True = Unit {0}
-IsSound whole False = Unit {0}
-IsSound whole (Atom atom) = Unit {0}
-IsSound whole (Compare c) = Unit {0}
-IsSound whole (Not f) = IsSound whole f
-IsSound whole (And f g) = IsSound whole f × IsSound whole g
-IsSound whole (Or f g) =
-    HasVariablesOf g f × HasVariablesOf f g × IsSound whole f × IsSound whole g
-IsSound whole (Exists x f) =
+abbrev pub IsWellFormedIn : CoreForm → CoreForm → Type 0
+IsWellFormedIn whole True = Unit {0}
+IsWellFormedIn whole False = Unit {0}
+IsWellFormedIn whole (Atom atom) = Unit {0}
+IsWellFormedIn whole (Compare c) = Unit {0}
+IsWellFormedIn whole (Not f) = IsWellFormedIn whole f
+IsWellFormedIn whole (And f g) = IsWellFormedIn whole f × IsWellFormedIn whole g
+IsWellFormedIn whole (Or f g) =
+    HasVariablesOf g f × HasVariablesOf f g × IsWellFormedIn whole f × IsWellFormedIn whole g
+IsWellFormedIn whole (Exists x f) =
     (among x.number (fv (meaning whole)) ≡ false)
     × (among x.number (fv (meaning f)) ≡ true)
     × ((names : Names) × (frag names f ≡ None))
     × Includes (constants (meaning whole)) (constants (meaning f))
-    × IsSound whole f
-IsSound whole (Previous interval f) = IsSound whole f
-IsSound whole (Next interval f) = IsSound whole f
-IsSound whole (Since interval f g) = HasVariablesOf g f × IsSound whole f × IsSound whole g
-IsSound whole (Until interval f g) = HasVariablesOf g f × IsSound whole f × IsSound whole g
+    × IsWellFormedIn whole f
+IsWellFormedIn whole (Previous interval f) = IsWellFormedIn whole f
+IsWellFormedIn whole (Next interval f) = IsWellFormedIn whole f
+IsWellFormedIn whole (Since interval f g) = HasVariablesOf g f × IsWellFormedIn whole f × IsWellFormedIn whole g
+IsWellFormedIn whole (Until interval f g) = HasVariablesOf g f × IsWellFormedIn whole f × IsWellFormedIn whole g

@@ -4,7 +4,7 @@ ghost use Rattle.mfotl_model.specs.FreeVariables.{fv};
 ghost use Rattle.mfotl_model.specs.Tables.{all_apart};
 ghost use Rattle.monitorable.specs.CoreForms.{meaning, node_form};
 ghost use Rattle.monitorable.specs.Cores.{core_form, policy_fault, policy_form};
-ghost use Rattle.monitorable.specs.Fragment.{Fits, Names, frag};
+ghost use Rattle.monitorable.specs.Fragment.{IsMonitorable, Names, frag};
 ghost use Rattle.monitorable.specs.Judging.{Judges};
 ghost use Rattle.monitorable.specs.Negation.{HasConstantsOf, Negates, SettlesWith};
 ghost use Rattle.monitorable.specs.NormalForm.{negative};
@@ -32,7 +32,7 @@ pub fn to_core(alloc: Global, policy: &Policy) -> Result<Core, FragmentFault>
     ensures core { IfOk result (λ core. core_form core ≡ apart_form (negative (policy_form policy.now))) }
     ensures negates { IfOk result (λ core. Negates (core_form core) (policy_form policy.now)) }
     ensures settles { IfOk result (λ core. SettlesWith (core_form core) (policy_form policy.now)) }
-    ensures fits { IfOk result (λ core. Fits (core_form core)) }
+    ensures fits { IfOk result (λ core. IsMonitorable (core_form core)) }
     ensures variables { IfOk result (λ core. fv (meaning (core_form core)) ≡ fv (policy_form policy.now)) }
     ensures constants { IfOk result (λ core. HasConstantsOf (core_form core) (policy_form policy.now)) }
     ensures apart { IfOk result (λ core. IsTrue

@@ -1,15 +1,15 @@
 //! Examples that were worked out by hand, as theorems on the definitions. Each call does nothing: its
 //! clauses are the examples.
-ghost use Rattle.monitorable.specs.Examples.{Accepted, Counted, FirstFaults};
+ghost use Rattle.monitorable.specs.Examples.{OneFaultOrNone, Counted, FirstOfTwoFaults};
 
 /// Of two faults, the one that is told.
 pub fn first_faults()
-    ensures { FirstFaults }
+    ensures { FirstOfTwoFaults }
 {}
 
 /// What the fragment accepts, and what it doesn't.
 pub fn accepted()
-    ensures { Accepted }
+    ensures { OneFaultOrNone }
 {}
 
 /// How many nodes formulas have, and how many they may have.

@@ -4,7 +4,7 @@ ghost use Rattle.mfotl_model.specs.FreeVariables.{fv};
 ghost use Rattle.mfotl_model.specs.Tables.{all_apart};
 ghost use Rattle.monitorable.specs.Atoms.{atoms_of};
 ghost use Rattle.monitorable.specs.CoreForms.{meaning, node_form};
-ghost use Rattle.monitorable.specs.Fragment.{Fits};
+ghost use Rattle.monitorable.specs.Fragment.{IsMonitorable};
 ghost use Rattle.monitorable.specs.Renaming.{binders};
 
 use crate::atoms::atoms_of;
@@ -21,7 +21,7 @@ pub struct Core {
     atoms: Vec<Atom>,
     ghost has_vars: { vars.items ≡ fv (meaning (node_form root)) },
     ghost has_atoms: { atoms.items ≡ atoms_of (node_form root) },
-    pub ghost in_fragment: { Fits (node_form root) },
+    pub ghost in_fragment: { IsMonitorable (node_form root) },
     pub ghost is_apart: { IsTrue (all_apart (fv (meaning (node_form root)) ++ binders (node_form root))) },
 }
 
@@ -29,7 +29,7 @@ impl Core {
     ghost use Rattle.monitorable.specs.Cores.{core_form};
 
     pub(crate) fn new(alloc: Global, root: Node) -> Result<Self, AllocError>
-        requires in_fragment { Fits (node_form root) }
+        requires in_fragment { IsMonitorable (node_form root) }
         requires is_apart { IsTrue (all_apart (fv (meaning (node_form root)) ++ binders (node_form root))) }
         ensures { IfOk result (λ core. core_form core ≡ node_form root) }
     {

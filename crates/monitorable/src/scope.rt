@@ -1,6 +1,6 @@
 //! The names of a policy's variables.
 ghost use Rattle.std.specs.Prelude.{◌≡◌, IfOk};
-ghost use Rattle.monitorable.specs.Fragment.{free_names, named};
+ghost use Rattle.monitorable.specs.Fragment.{free_names, named_variable};
 ghost use Rattle.monitorable.specs.Scope.{scope_names};
 
 use crate::fault::Variable;
@@ -17,7 +17,7 @@ pub enum Scope<'a> {
 impl Scope<'_> {
     /// The variable with its name.
     pub fn variable(&self, alloc: Global, number: u32) -> Result<Variable, AllocError>
-        ensures { IfOk result (λ variable. variable ≡ named (scope_names self.now) number) }
+        ensures { IfOk result (λ variable. variable ≡ named_variable (scope_names self.now) number) }
     {
         match self {
             Scope::Under(bound, _) if bound.number == number => Ok(Variable {
@@ -31,7 +31,7 @@ impl Scope<'_> {
 }
 
 fn free_variable(alloc: Global, vars: &[Var], number: u32) -> Result<Variable, AllocError>
-    ensures { IfOk result (λ variable. variable ≡ named (free_names vars.now) number) }
+    ensures { IfOk result (λ variable. variable ≡ named_variable (free_names vars.now) number) }
 {
     let name = match vars.get(number as usize) {
         Some(var) => var.name.copy(alloc)?,

@@ -11,28 +11,28 @@ use Rattle.std.specs.declared.cmp.Ordering.TheVariants.{Less, Equal, Greater}
 use Rattle.mfotl_model.specs.Values.{row_cmp}
 use Rattle.mfotl_model.specs.declared.value.Value.{Value}
 use Rattle.mfotl_model.specs.Tables.{part}
-use Rattle.relations.specs.Entries.{entry_cmp, entry_of}
+use Rattle.relations.specs.Entries.{entry_cmp, keyed_entry}
 use Rattle.relations.specs.Indexes.{index_cmp}
 use Rattle.relations.specs.declared.entry.Entry.{Entry}
 
 rows_back : (columns key_columns : List ℕ) (rows : List (List Value))
-    → map (λ (e : Entry). e.row) (map (entry_of columns key_columns) rows) ≡ rows
+    → map (λ (e : Entry). e.row) (map (keyed_entry columns key_columns) rows) ≡ rows
 rows_back columns key_columns [] = refl
 rows_back columns key_columns (row ∷ rows) = ap (λ r. row ∷ r) (rows_back columns key_columns rows)
 
 pub rows_moved : (columns key_columns : List ℕ) (rows : List (List Value)) (es : List Entry)
-    → IsPermutation (map (entry_of columns key_columns) rows) es
+    → IsPermutation (map (keyed_entry columns key_columns) rows) es
     → IsPermutation rows (map (λ (e : Entry). e.row) es)
 rows_moved columns key_columns rows es p =
     subst (λ rs. IsPermutation rs (map (λ (e : Entry). e.row) es)) (rows_back columns key_columns rows)
-    (IsPermutation-map (λ (e : Entry). e.row) (map (entry_of columns key_columns) rows) es p)
+    (IsPermutation-map (λ (e : Entry). e.row) (map (keyed_entry columns key_columns) rows) es p)
 
 keyed : (columns key_columns : List ℕ) (rows : List (List Value))
-    → All (λ (e : Entry). e.key ≡ part columns key_columns e.row) (map (entry_of columns key_columns) rows)
+    → All (λ (e : Entry). e.key ≡ part columns key_columns e.row) (map (keyed_entry columns key_columns) rows)
 keyed columns key_columns [] = All-nil (λ (e : Entry). e.key ≡ part columns key_columns e.row)
 keyed columns key_columns (row ∷ rows) =
-    All-cons (λ (e : Entry). e.key ≡ part columns key_columns e.row) (entry_of columns key_columns row)
-    (map (entry_of columns key_columns) rows) refl
+    All-cons (λ (e : Entry). e.key ≡ part columns key_columns e.row) (keyed_entry columns key_columns row)
+    (map (keyed_entry columns key_columns) rows) refl
     (keyed columns key_columns rows)
 
 by_rows : (columns key_columns : List ℕ) (es : List Entry)
@@ -44,14 +44,14 @@ by_rows columns key_columns (e ∷ es) h =
     (by_rows columns key_columns es (All-tail (λ (x : Entry). x.key ≡ part columns key_columns x.row) e es h))
 
 all_keyed : (columns key_columns : List ℕ) (rows : List (List Value)) (es : List Entry)
-    → IsPermutation (map (entry_of columns key_columns) rows) es
+    → IsPermutation (map (keyed_entry columns key_columns) rows) es
     → All (λ (e : Entry). e.key ≡ part columns key_columns e.row) es
 all_keyed columns key_columns rows es p =
     All-permutation (λ (e : Entry). e.key ≡ part columns key_columns e.row)
-    (map (entry_of columns key_columns) rows) es p (keyed columns key_columns rows)
+    (map (keyed_entry columns key_columns) rows) es p (keyed columns key_columns rows)
 
 pub keys_kept : (columns key_columns : List ℕ) (rows : List (List Value)) (es : List Entry)
-    → IsPermutation (map (entry_of columns key_columns) rows) es
+    → IsPermutation (map (keyed_entry columns key_columns) rows) es
     → map (λ (e : Entry). e.key) es ≡ map (part columns key_columns) (map (λ (e : Entry). e.row) es)
 keys_kept columns key_columns rows es p = by_rows columns key_columns es (all_keyed columns key_columns rows es p)
 
@@ -90,7 +90,7 @@ keys_rise es sorted k d a l =
     (sorted k e a (omega arith))
 
 pub rows_rise : (columns key_columns : List ℕ) (rows : List (List Value)) (es : List Entry)
-    → IsPermutation (map (entry_of columns key_columns) rows) es
+    → IsPermutation (map (keyed_entry columns key_columns) rows) es
     → IsSorted entry_cmp es → IsSorted (index_cmp columns key_columns) (map (λ (e : Entry). e.row) es)
 rows_rise columns key_columns rows es p sorted k d a l =
     let e : Entry = record { key = part columns key_columns d; row = d } in

@@ -25,7 +25,7 @@ use Rattle.mfotl_model.specs.declared.term.Term.{Term}
 use Rattle.mfotl_model.specs.declared.term.Term.TheVariants.{Var, Const}
 use Rattle.mfotl_model.specs.declared.value.Value.{Value}
 use Rattle.mfotl_model.specs.Tables.{TableOf, all_among, all_apart, all_sized, has, has_row, part, valuation}
-use Rattle.relations.specs.Operations.{agree, binds, chosen, chosen_rows, combined, joined_rows, others, pairs}
+use Rattle.relations.specs.Operations.{agree, covers_term, chosen, chosen_rows, combined, joined_rows, others, pairs}
 use Rattle.relations.specs.Operations.{pairs_of, unmatched_rows}
 use Rattle.relations.specs.Tables.{IsTable}
 use Rattle.relations.proofs.AscendingRows.{has_ascending, sized_ascending, sized_inserted}
@@ -119,14 +119,14 @@ has_antijoin v ca cb as_ bs all =
     filtered_has (map v ca) (λ row. not (has_row bs (part ca cb row))) as_
     ∙ ap (λ row. has_row as_ (map v ca) && not (has_row bs row)) (part_of_own v ca cb all)
 
-term_of_own : (v : Valuation) (columns : List ℕ) (term : Term) → binds columns term ≡ true
+term_of_own : (v : Valuation) (columns : List ℕ) (term : Term) → covers_term columns term ≡ true
     → term_value (valuation columns (map v columns)) term ≡ term_value v term
 term_of_own v columns (Var x) bound = read_own v columns x bound
 term_of_own v columns (Const a) bound = refl
 
 pub has_selected : (v : Valuation) (columns : List ℕ) (comparison : Comparison) (wanted : Bool)
     (rows : List (List Value))
-    → binds columns comparison.left ≡ true → binds columns comparison.right ≡ true
+    → covers_term columns comparison.left ≡ true → covers_term columns comparison.right ≡ true
     → has_row (filter (λ row. chosen comparison wanted (valuation columns row)) rows) (map v columns)
     ≡ (has_row rows (map v columns) && chosen comparison wanted v)
 unfolding chosen
@@ -273,7 +273,7 @@ unfolding has
 has_unmatched a b v inside = has_antijoin v a.columns b.columns a.rows b.rows inside
 
 pub has_chosen : (a : TableOf) (comparison : Comparison) (wanted : Bool) (v : Valuation)
-    → binds a.columns comparison.left ≡ true → binds a.columns comparison.right ≡ true
+    → covers_term a.columns comparison.left ≡ true → covers_term a.columns comparison.right ≡ true
     → has_row (chosen_rows comparison wanted a) (map v a.columns) ≡ (has a v && chosen comparison wanted v)
 unfolding has
 has_chosen a comparison wanted v left right = has_selected v a.columns comparison wanted a.rows left right

@@ -17,5 +17,5 @@ pub entry_total : IsTotalOrder entry_cmp
 entry_total = then_total (on_total (λ e. e.key) row_total) (on_total (λ e. e.row) row_total)
 
 -- a row behind its part at the key's columns
-abbrev pub entry_of : List ℕ → List ℕ → List Value → Entry
-entry_of columns key_columns row = record { key = part columns key_columns row; row = row }
+abbrev pub keyed_entry : List ℕ → List ℕ → List Value → Entry
+keyed_entry columns key_columns row = record { key = part columns key_columns row; row = row }

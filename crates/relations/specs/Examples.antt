@@ -6,7 +6,7 @@ use Rattle.mfotl_model.specs.declared.term.Sign.TheVariants.{Greater}
 use Rattle.mfotl_model.specs.declared.term.Term.TheVariants.{Var, Const}
 use Rattle.mfotl_model.specs.declared.value.Value.{Value}
 use Rattle.mfotl_model.specs.declared.value.Value.TheVariants.{Int}
-use Rattle.relations.specs.Indexes.{IndexOf, matching_rows}
+use Rattle.relations.specs.Indexes.{IndexOf, rows_with_key}
 use Rattle.relations.specs.Operations.{chosen_rows, joined_rows, projected_rows, united_rows, unmatched_rows}
 
 -- a row of one number
@@ -67,8 +67,8 @@ by_second = record { columns = 0 ∷ 1 ∷ []; key_columns = 1 ∷ []; rows = tw
 
 -- all rows with the key's value are found
 abbrev pub KeyFindsBoth : Type 0
-KeyFindsBoth = matching_rows by_second (one 2) ≡ two 1 2 ∷ two 3 2 ∷ []
+KeyFindsBoth = rows_with_key by_second (one 2) ≡ two 1 2 ∷ two 3 2 ∷ []
 
 -- a key that no row has finds none
 abbrev pub KeyFindsNone : Type 0
-KeyFindsNone = matching_rows by_second (one 9) ≡ []
+KeyFindsNone = rows_with_key by_second (one 9) ≡ []

@@ -23,8 +23,8 @@ abbrev pub index_cmp : List ℕ → List ℕ → List Value → List Value → O
 index_cmp columns key_columns = then_cmp (on (part columns key_columns) row_cmp) row_cmp
 
 -- the rows that have the key's values in the key's columns
-abbrev pub matching_rows : IndexOf → List Value → List (List Value)
-matching_rows index key =
+abbrev pub rows_with_key : IndexOf → List Value → List (List Value)
+rows_with_key index key =
     filter (λ row. eq_by_cmp row_cmp key (part index.columns index.key_columns row)) index.rows
 
 -- these rows, behind these keys, are an index

@@ -73,9 +73,9 @@ chosen comparison wanted v =
     beq wanted (compares comparison.sign (term_value v comparison.left) (term_value v comparison.right))
 
 -- whether a term is a constant, or the variable of one of the columns
-abbrev pub binds : List ℕ → Term → Bool
-binds columns (Var x) = among x columns
-binds columns (Const a) = true
+abbrev pub covers_term : List ℕ → Term → Bool
+covers_term columns (Var x) = among x columns
+covers_term columns (Const a) = true
 
 -- the rows at which a comparison of columns comes out as wanted
 abbrev pub chosen_rows : Comparison → Bool → TableOf → List (List Value)

@@ -3,7 +3,7 @@ ghost use Rattle.std.specs.Prelude.{◌≡◌, ◌&&◌, IfOk, IsTrue, pos};
 ghost use Rattle.std.specs.List.{filter};
 ghost use Rattle.mfotl_model.specs.Satisfaction.{Valuation, term_value};
 ghost use Rattle.mfotl_model.specs.Tables.{has, valuation};
-ghost use Rattle.relations.specs.Operations.{binds, chosen, chosen_rows};
+ghost use Rattle.relations.specs.Operations.{covers_term, chosen, chosen_rows};
 
 use crate::columns::{Columns, value_at};
 use crate::table::Table;
@@ -64,8 +64,8 @@ impl Table {
         comparison: &Comparison,
         wanted: bool,
     ) -> Result<Self, AllocError>
-        requires left { IsTrue (binds self.now.columns comparison.now.left) }
-        requires right { IsTrue (binds self.now.columns comparison.now.right) }
+        requires left { IsTrue (covers_term self.now.columns comparison.now.left) }
+        requires right { IsTrue (covers_term self.now.columns comparison.now.right) }
         ensures columns { IfOk result (λ table. table.columns ≡ self.now.columns) }
         ensures rows { IfOk result (λ table.
             table.rows ≡ chosen_rows comparison.now wanted self.now) }
@@ -79,8 +79,8 @@ impl Table {
 
     /// What `select` gives, without copies of the rows that stay and without memory.
     pub fn selected(self, comparison: &Comparison, wanted: bool) -> Self
-        requires left { IsTrue (binds self.columns comparison.now.left) }
-        requires right { IsTrue (binds self.columns comparison.now.right) }
+        requires left { IsTrue (covers_term self.columns comparison.now.left) }
+        requires right { IsTrue (covers_term self.columns comparison.now.right) }
         ensures columns { result.columns ≡ self.columns }
         ensures rows { result.rows ≡ chosen_rows comparison.now wanted self }
         ensures has { (v : Valuation) →

@@ -5,8 +5,8 @@ ghost use Rattle.std.specs.List.Sorted.{IsPermutation, IsSorted};
 ghost use Rattle.std.specs.Ordering.{eq_by_cmp};
 ghost use Rattle.mfotl_model.specs.Tables.{all_apart, all_sized, has_row, part};
 ghost use Rattle.mfotl_model.specs.Values.{row_cmp};
-ghost use Rattle.relations.specs.Entries.{entry_of};
-ghost use Rattle.relations.specs.Indexes.{index_cmp, matching_rows};
+ghost use Rattle.relations.specs.Entries.{keyed_entry};
+ghost use Rattle.relations.specs.Indexes.{index_cmp, rows_with_key};
 
 use crate::columns::{Columns, part_of};
 use crate::entry::Entry;
@@ -24,7 +24,7 @@ fn entries(
     rows: &[Row],
 ) -> Result<Vec<Entry>, AllocError>
     ensures { IfOk result (λ entries.
-        entries.items ≡ map (entry_of columns.now key_columns.now) rows.now) }
+        entries.items ≡ map (keyed_entry columns.now key_columns.now) rows.now) }
 {
     let mut entries = Vec::with_capacity(alloc, rows.len())?;
     for row in rows {
@@ -172,7 +172,7 @@ impl Index {
 
     /// The rows that have the key's values in the key's columns, in that order, by two searches.
     pub fn matches<L: Ledger>(&self, key: &Row, steps: &mut Steps<L>) -> &[Row]
-        ensures rows { result.now ≡ matching_rows self.now key.now }
+        ensures rows { result.now ≡ rows_with_key self.now key.now }
         ensures cost { (d : ℕ) → length self.now.rows < 2 ^ d → steps.new ≤ steps.old + 2 * d }
     {
         let keys = self.keys();

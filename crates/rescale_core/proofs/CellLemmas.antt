@@ -17,7 +17,7 @@ use Rattle.rescale_core.specs.Soundly.{IsSound}
 use Rattle.rescale_core.specs.Phases.{Answers}
 use Rattle.rescale_core.specs.Working.{Has, May, StandsFor}
 use Rattle.rescale_core.specs.Handing.{nth}
-use Rattle.rescale_core.specs.Worlds.{World, Allowed, Seat, after, all_collected, fed_more, line_in}
+use Rattle.rescale_core.specs.Worlds.{World, Allowed, Seat, world_after, all_collected, fed_more, line_in}
 use Rattle.rescale_core.specs.Worlds.{set_seat, took_one}
 use Rattle.rescale_core.specs.Worlds.Step.{Feed, Take, Collect}
 use Rattle.rescale_core.specs.declared.cell.Cell.{Cell}
@@ -106,7 +106,7 @@ may_take w k before item rest r e =
 pub took : (w : World) (k : ℕ) (old new : Cell) (item : Item) (gave : List Out) → IsSound w
     → IsCellOf w k old → old.items.items ≡ item ∷ new.items.items → new.taken ≡ old.taken + 1
     → new.outs.items ≡ old.outs.items ++ gave → Leads StandsFor May old.worker (item ∷ []) new.worker gave
-    → Allowed w (Take k gave) × IsCellOf (after w (Take k gave)) k new
+    → Allowed w (Take k gave) × IsCellOf (world_after w (Take k gave)) k new
 took w k old new item gave r is first taken outs leads =
     let seat : Seat = w.seats k in
     let rest : List Item = new.items.items in
@@ -137,7 +137,7 @@ took w k old new item gave r is first taken outs leads =
 -- a cell that is handed an item
 pub fed_cell : (w : World) (k : ℕ) (old new : Cell) (item : Item) → IsCellOf w k old
     → new.items.items ≡ old.items.items ++ item ∷ [] → new.worker ≡ old.worker → new.taken ≡ old.taken
-    → new.outs.items ≡ old.outs.items → IsCellOf (after w (Feed k item)) k new
+    → new.outs.items ≡ old.outs.items → IsCellOf (world_after w (Feed k item)) k new
 fed_cell w k old new item is items worker taken outs =
     subst (λ (s : Seat). IsCellAt (seed_in w k) s new) (sym (seat_here w k (fed_more (w.seats k) item))) (record {
       before = is.before;
@@ -151,7 +151,7 @@ fed_cell w k old new item is items worker taken outs =
 
 -- a cell of which all is collected
 pub back_cell : (w : World) (k : ℕ) (old new : Cell) → IsCellOf w k old → new.items.items ≡ old.items.items
-    → new.worker ≡ old.worker → new.taken ≡ 0 → new.outs.items ≡ [] → IsCellOf (after w (Collect k)) k new
+    → new.worker ≡ old.worker → new.taken ≡ 0 → new.outs.items ≡ [] → IsCellOf (world_after w (Collect k)) k new
 back_cell w k old new is items worker taken outs =
     let seat : Seat = w.seats k in
     subst (λ (s : Seat). IsCellAt (seed_in w k) s new) (sym (seat_here w k (all_collected seat))) (record {

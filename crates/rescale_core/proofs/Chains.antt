@@ -8,7 +8,7 @@ use Rattle.std.proofs.lemmas.Bool.Decides.{leb_tells}
 use Rattle.mfotl_model.specs.Strategies.{Strategy, workers_of}
 use Rattle.rescale_core.specs.Lines.{ChangeOfStrategy, Spot, Due, change_at, moved, if_below, place, dues, line}
 use Rattle.rescale_core.specs.Lines.{AreSound}
-use Rattle.rescale_core.specs.Phases.{PhaseOf, froms_of, Meets, from_of, phase_after, Fits, phase_at, Follows}
+use Rattle.rescale_core.specs.Phases.{PhaseOf, froms_of, Meets, from_of, phase_after, AllMeet, phase_at, FitsPhase}
 use Rattle.rescale_core.specs.Workers.{MayFollow, IsFor}
 use Rattle.monitorable.specs.CoreForms.{CoreForm}
 use Rattle.mfotl_model.specs.declared.event.TimePoint.{TimePoint}
@@ -21,7 +21,7 @@ use Rattle.rescale_core.specs.Phases.PhaseOf.{Active, Vacant, Waiting}
 -- whatever meets what is due, the next belongs to the phase after it
 abbrev pub Chain : CoreForm → ℕ → PhaseOf → List Due → Type 0
 Chain c k ph [] = Unit {0}
-Chain c k ph (d ∷ ds) = Follows c k ph d × ((i : Item) → Meets c k ph d i → Chain c k (phase_after ph d i) ds)
+Chain c k ph (d ∷ ds) = FitsPhase c k ph d × ((i : Item) → Meets c k ph d i → Chain c k (phase_after ph d i) ds)
 
 -- one is below the other, or not
 pub below : (k n : ℕ) → (k < n) ⊎ (n ≤ k)
@@ -136,7 +136,7 @@ module _ (c : CoreForm) (k : ℕ) where
       (λ h. chained es (moved a (Change n)) Vacant s.0 s.1 (agrees_vacant k (moved a (Change n)) h))))
 
   -- the first items fit
-  pub fits_front : (a b : List Item) (ph : PhaseOf) (ds : List Due) → Fits c k ph ds (a ++ b) → Fits c k ph ds a
+  pub fits_front : (a b : List Item) (ph : PhaseOf) (ds : List Due) → AllMeet c k ph ds (a ++ b) → AllMeet c k ph ds a
   fits_front [] b ph ds f = tt
   fits_front (i ∷ a) b ph [] f = f
   fits_front (i ∷ a) b ph (d ∷ ds) f = (f.0, fits_front a b (phase_after ph d i) ds f.1)
@@ -144,13 +144,13 @@ module _ (c : CoreForm) (k : ℕ) where
   -- what is known of an item behind those taken
   pub record Turned (ph : PhaseOf) (ds : List Due) (t : List Item) (i : Item) : Type 0 where
     pub due : Due
-    pub follows : Follows c k (phase_at ph ds t) due
+    pub follows : FitsPhase c k (phase_at ph ds t) due
     pub meets : Meets c k (phase_at ph ds t) due i
     pub next : phase_at ph ds (t ++ i ∷ []) ≡ phase_after (phase_at ph ds t) due i
     pub front : take (length (t ++ i ∷ [])) ds ≡ take (length t) ds ++ due ∷ []
 
   pub turned : (t : List Item) (i : Item) (ph : PhaseOf) (ds : List Due) → Chain c k ph ds
-      → Fits c k ph ds (t ++ i ∷ []) → Turned ph ds t i
+      → AllMeet c k ph ds (t ++ i ∷ []) → Turned ph ds t i
   turned [] i ph [] ch f = absurd f
   turned [] i ph (d ∷ ds) ch f = record { due = d; follows = ch.0; meets = f.0; next = refl; front = refl }
   turned (j ∷ t) i ph [] ch f = absurd f

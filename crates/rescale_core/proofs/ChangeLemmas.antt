@@ -26,7 +26,7 @@ use Rattle.rescale_core.specs.Slots.{chance_of, standing_of}
 use Rattle.rescale_core.specs.Soundly.{Known, change_of}
 use Rattle.rescale_core.specs.Handing.{chance, chance_from, for_place, nth, standing}
 use Rattle.rescale_core.specs.Workers.{IsFor}
-use Rattle.rescale_core.specs.Worlds.{World, after, queue_in, spot_in, standings_in}
+use Rattle.rescale_core.specs.Worlds.{World, world_after, queue_in, spot_in, standings_in}
 use Rattle.rescale_core.specs.Worlds.Step.{Read}
 use Rattle.rescale_core.specs.declared.item.Entry.{Entry}
 use Rattle.rescale_core.specs.declared.item.Entry.TheVariants.{Point, Change}
@@ -171,7 +171,7 @@ module _ (r x : Router) (w : World) (is : IsRouterOf r w) (s : Strategy) (may : 
     abbrev a : Spot
     a = spot_in w
 
-    change_is : spot_in (after w (Read (Change s))) ≡ moved a (Change s)
+    change_is : spot_in (world_after w (Read (Change s))) ≡ moved a (Change s)
     change_is = spot_more (first_spot w.first) w.read (Change s ∷ [])
 
     none_here : (q : ℕ) → for_place (a.generation + 1) q w.pieces ≡ []
@@ -191,14 +191,14 @@ module _ (r x : Router) (w : World) (is : IsRouterOf r w) (s : Strategy) (may : 
         (part_below q (workers_of a.strategy) (a.generation + 1) a.strategy s)
         (place_below q (workers_of s) (a.generation + 1) s (workers_of a.strategy))
 
-    queue_is : (q : ℕ) → (chances (queue_at x.queues.items q) ≡ queue_in (after w (Read (Change s))) q)
-        × (map standing_of (queue_at x.queues.items q) ≡ standings_in (after w (Read (Change s))) q)
+    queue_is : (q : ℕ) → (chances (queue_at x.queues.items q) ≡ queue_in (world_after w (Read (Change s))) q)
+        × (map standing_of (queue_at x.queues.items q) ≡ standings_in (world_after w (Read (Change s))) q)
     queue_is q =
         reads_on w (Change s) q (queue_at r.queues.items q) (changes_for q a s) (queue_at x.queues.items q) is.sound
         (queued_in q) (is.queues q) (is.standings q) (change_chances w.core q w.pieces a s (none_here q))
         (change_standings q a s)
 
-    pub change_read : IsRouterOf x (after w (Read (Change s)))
+    pub change_read : IsRouterOf x (world_after w (Read (Change s)))
     change_read = record {
       core = core ∙ is.core;
       generation = generation ∙ ap (λ n. n + 1) is.generation ∙ sym (ap (λ (b : Spot). b.generation) change_is);

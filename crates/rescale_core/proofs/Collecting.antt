@@ -20,7 +20,7 @@ use Rattle.rescale_core.specs.Workers.{settled_in}
 use Rattle.rescale_core.specs.Handing.{for_place}
 use Rattle.rescale_core.specs.Worlds.{pieces_in, World, Seat, line_in}
 use Rattle.rescale_core.specs.Worlds.{set_seat}
-use Rattle.rescale_core.specs.Worlds.{all_collected, after}
+use Rattle.rescale_core.specs.Worlds.{all_collected, world_after}
 use Rattle.rescale_core.specs.Worlds.{slice_at, rows_in}
 use Rattle.std.specs.List.{AllByRecursion}
 use Rattle.verdict_merge.specs.Gathers.{rows_at}
@@ -278,7 +278,7 @@ module _ (w : World) (k : ℕ) (r : IsSound w) where
   rows_split : (q : ℕ) → by_worker q (w.rows ++ rs) ≡ by_worker q w.rows ++ by_worker q rs
   rows_split q = filter-append (λ (r : Rows). nat_eq r.worker q) w.rows rs
 
-  seated_kept : (q : ℕ) → nat_eq q k ≡ false → IsSeated (after w (Collect k)) q (w.seats q)
+  seated_kept : (q : ℕ) → nat_eq q k ≡ false → IsSeated (world_after w (Collect k)) q (w.seats q)
   seated_kept q other = let s = r.seated q in record {
     supplied = supplies_pieces w.core q w.pieces ps (line_in w q) (w.seats q).fed s.supplied;
     taken = s.taken;
@@ -292,7 +292,7 @@ module _ (w : World) (k : ℕ) (r : IsSound w) where
         ∙ append-nil (by_from q w.pieces) ∙ s.pieces;
   }
 
-  seated_collected : IsSeated (after w (Collect k)) k (all_collected st)
+  seated_collected : IsSeated (world_after w (Collect k)) k (all_collected st)
   seated_collected = let s = r.seated k in record {
     supplied = supplies_pieces w.core k w.pieces ps ds st.fed s.supplied;
     taken = s.taken;
@@ -308,11 +308,12 @@ module _ (w : World) (k : ℕ) (r : IsSound w) where
         ∙ sym (ap pieces_in s.more.1 ∙ pieces_more st.back more);
   }
 
-  pub collect_sound : IsSound (after w (Collect k))
+  pub collect_sound : IsSound (world_after w (Collect k))
   collect_sound = record {
     first = r.first;
     read = r.read;
-    seated = at_seat_else (IsSeated (after w (Collect k))) w.seats k (all_collected st) seated_kept seated_collected;
+    seated =
+        at_seat_else (IsSeated (world_after w (Collect k))) w.seats k (all_collected st) seated_kept seated_collected;
     known = every_more (Known f w.core) w.pieces ps r.known
         (every_map (Came f w.core k lo (last_part lo seg)) (Known f w.core) ps (λ p h. h.known) came);
     distinct = λ g q. subst (λ x. Apart (map (λ (p : Piece). p.from) x))

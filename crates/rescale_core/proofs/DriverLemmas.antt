@@ -18,7 +18,7 @@ use Rattle.rescale_core.specs.Soundly.{IsSound}
 use Rattle.rescale_core.specs.Phases.{Answers}
 use Rattle.rescale_core.specs.Working.{May, Told}
 use Rattle.rescale_core.specs.Works.{MayBy, ToldBy}
-use Rattle.rescale_core.specs.Worlds.{World, Allowed, Seat, after, line_in}
+use Rattle.rescale_core.specs.Worlds.{World, Allowed, Seat, world_after, line_in}
 use Rattle.rescale_core.specs.Worlds.Step.{Read, Emit}
 use Rattle.rescale_core.specs.declared.driver.Driver.{Driver}
 use Rattle.rescale_core.specs.declared.item.Entry.{Entry}
@@ -132,32 +132,32 @@ may_nothing d k items e near w is =
 -- ---- reading, emitting and the end
 
 pub driver_read : (d e : Driver) (w : World) (x : Entry) → IsDriverOf d w → e.main ≡ d.main
-    → IsRouterOf e.router (after w (Read x)) → IsDriverOf e (after w (Read x))
+    → IsRouterOf e.router (world_after w (Read x)) → IsDriverOf e (world_after w (Read x))
 driver_read d e w x is same router =
     let m : lines_of e ≡ lines_of d = ap (λ z. (main_view z).lines) same in
     record {
       router = router;
       lines = λ k l at.
-          line_kept w (after w (Read x)) k l refl refl refl
+          line_kept w (world_after w (Read x)) k l refl refl refl
           (is.lines k l (ap (λ z. get_elem? z k) (sym m) ∙ at));
       beyond = λ k high. is.beyond k (subst (λ (z : List CellLine). length z ≤ k) m high);
     }
 
 driver_emitted : (d e : Driver) (w : World) (v : Verdict) → IsDriverOf d w → e.main ≡ d.main
-    → IsRouterOf e.router (after w (Emit v)) → IsDriverOf e (after w (Emit v))
+    → IsRouterOf e.router (world_after w (Emit v)) → IsDriverOf e (world_after w (Emit v))
 driver_emitted d e w v is same router =
     let m : lines_of e ≡ lines_of d = ap (λ z. (main_view z).lines) same in
     record {
       router = router;
       lines = λ k l at.
-          line_kept w (after w (Emit v)) k l refl refl refl (is.lines k l (ap (λ z. get_elem? z k) (sym m) ∙ at));
+          line_kept w (world_after w (Emit v)) k l refl refl refl (is.lines k l (ap (λ z. get_elem? z k) (sym m) ∙ at));
       beyond = λ k high. is.beyond k (subst (λ (z : List CellLine). length z ≤ k) m high);
     }
 
 pub driver_emits : (d e : Driver) (o : Option Verdict) → e.main ≡ d.main
     → IfSome o (λ v. (w : World) → IsRouterOf d.router w
-    → Allowed w (Emit v) × IsRouterOf e.router (after w (Emit v)))
-    → IfSome o (λ v. (w : World) → IsDriverOf d w → Allowed w (Emit v) × IsDriverOf e (after w (Emit v)))
+    → Allowed w (Emit v) × IsRouterOf e.router (world_after w (Emit v)))
+    → IfSome o (λ v. (w : World) → IsDriverOf d w → Allowed w (Emit v) × IsDriverOf e (world_after w (Emit v)))
 driver_emits d e None m h = tt
 driver_emits d e (Some v) m h = λ w is.
     let r = h w is.router in

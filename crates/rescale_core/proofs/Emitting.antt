@@ -20,7 +20,7 @@ use Rattle.monitorable.specs.SatisfyingRows.{core_domain, satisfies}
 use Rattle.slice_strategy.specs.Slicers.{full_row}
 use Rattle.slice_strategy.specs.SlicerLemmas.{owner_below}
 use Rattle.verdict_merge.proofs.OwnerLemmas.{owners_merge}
-use Rattle.verdict_merge.specs.Gathers.{GatherOf, all_rows, at_point, complete_ts, rows_at, ts_among, workers_in}
+use Rattle.verdict_merge.specs.Gathers.{GatherOf, gathered_rows, at_point, complete_ts, rows_at, ts_among, workers_in}
 use Rattle.verdict_merge.specs.Laws.{IsPartition}
 use Rattle.verdict_merge.specs.declared.rows.Rows.{Rows}
 use Rattle.verdict_merge.specs.declared.rows.Verdict.{Verdict}
@@ -206,7 +206,7 @@ module _ (w : World) (sound : IsSound w) (i : ℕ) where
       → count g ≡ workers_of s)
       → (first : Rows) (rest : List Rows) → rows_at i w.rows ≡ first ∷ rest
       → length (rows_at i w.rows) ≡ count first.generation
-      → v ≡ record { point = i; ts = first.ts; rows = ascending row_cmp (all_rows (rows_at i w.rows)) }
+      → v ≡ record { point = i; ts = first.ts; rows = ascending row_cmp (gathered_rows (rows_at i w.rows)) }
       → (v ≡ verdict_on w.core points i) × IsGathered w i
   merged_due v count counts first rest is whole made =
       let known = known_first first rest is in
@@ -222,12 +222,12 @@ module _ (w : World) (sound : IsSound w) (i : ℕ) where
       whole ∙ counts (length k.log) first.generation s k.log k.point k.is in
       let rows : List (List Value) = violations_at w.core points i in
       let gathered : IsGathered w i = (first.generation, s, k.log, k.point, k.is, low, high, n) in
-      let one : ascending row_cmp (all_rows (rows_at i w.rows)) ≡ rows =
+      let one : ascending row_cmp (gathered_rows (rows_at i w.rows)) ≡ rows =
       owners_merge (owner s) (workers_of s) (rows_at i w.rows) rows (violations_ascend w.core points i)
       (gathered_partition gathered) in
       let time : first.ts ≡ slice_index (times points) i = (subst (AllByRecursion D) is all).0.ts in (
         made
-            ∙ ap (λ t. record { point = i; ts = t; rows = ascending row_cmp (all_rows (rows_at i w.rows)) }) time
+            ∙ ap (λ t. record { point = i; ts = t; rows = ascending row_cmp (gathered_rows (rows_at i w.rows)) }) time
             ∙ ap (λ y. record { point = i; ts = slice_index (times points) i; rows = y }) one,
         gathered,
       )

@@ -21,8 +21,8 @@ use Rattle.rescale_core.specs.Routing.{IsGatherOf, IsRouterOf, feeds}
 use Rattle.rescale_core.specs.Slots.{chance_of, standing_of}
 use Rattle.rescale_core.specs.Soundly.{IsSound}
 use Rattle.rescale_core.specs.Handing.{chance, standing}
-use Rattle.rescale_core.specs.Worlds.{World, Allowed, AreAllowed, Seat, after}
-use Rattle.rescale_core.specs.Worlds.{fed_more, line_in, queue_in, run}
+use Rattle.rescale_core.specs.Worlds.{World, Allowed, AreAllowed, Seat, world_after}
+use Rattle.rescale_core.specs.Worlds.{fed_more, line_in, queue_in, run_steps}
 use Rattle.rescale_core.specs.Worlds.{set_seat, spot_in, standings_in}
 use Rattle.rescale_core.specs.Worlds.Step.{Feed}
 use Rattle.rescale_core.specs.declared.item.Entry.{Entry}
@@ -41,12 +41,12 @@ module _ (w : World) (k : ℕ) (i : Item) (rest : List Chance) (e : queue_in w k
   seat_here : set_seat w.seats k (fed_more (w.seats k) i) k ≡ fed_more (w.seats k) i
   seat_here = ap (λ b. cond b (fed_more (w.seats k) i) (w.seats k)) (eq-eqb k k refl)
 
-  queue_fed : queue_in (after w (Feed k i)) k ≡ rest
+  queue_fed : queue_in (world_after w (Feed k i)) k ≡ rest
   queue_fed = ap (λ (s : Seat). map (chance w.core k w.pieces) (drop (length s.fed) (line_in w k))) seat_here
       ∙ ap (λ n. map (chance w.core k w.pieces) (drop n (line_in w k))) (length-append (w.seats k).fed (i ∷ []))
       ∙ tail_of w.core k (length (w.seats k).fed) w.pieces (line_in w k) i rest e
 
-  queue_other : (q : ℕ) → q ≢ k → queue_in (after w (Feed k i)) q ≡ queue_in w q
+  queue_other : (q : ℕ) → q ≢ k → queue_in (world_after w (Feed k i)) q ≡ queue_in w q
   queue_other q n =
       ap (λ b. map (chance w.core q w.pieces)
       (drop (length (cond b (fed_more (w.seats k) i) (w.seats q)).fed) (line_in w q))) (ne_eqb q k n)
@@ -87,7 +87,7 @@ no_longer a false = omega arith
 
 pub fed_all : (items : List Item) (w : World) (k : ℕ) (rest : List Chance) → IsSound w
     → queue_in w k ≡ map (λ i. Sure i) items ++ rest → AreAllowed w (feeds k items)
-    × Fed w (run w (feeds k items)) k (length items) rest
+    × Fed w (run_steps w (feeds k items)) k (length items) rest
 fed_all [] w k rest r e = (
   tt,
   record {
@@ -107,7 +107,7 @@ fed_all [] w k rest r e = (
 fed_all (i ∷ items) w k rest r e = let more : List Chance = map (λ i. Sure i) items ++ rest in
     let a : Allowed w (Feed k i) =
     queue_ready w.core k w.pieces (drop (length (w.seats k).fed) (line_in w k)) i more e in
-    let h = fed_all items (after w (Feed k i)) k rest (step_sound w (Feed k i) r a) (queue_fed w k i more e) in (
+    let h = fed_all items (world_after w (Feed k i)) k rest (step_sound w (Feed k i) r a) (queue_fed w k i more e) in (
       (a, h.0),
       record {
         core = h.1.core;
@@ -151,11 +151,11 @@ module _ (r x : Router) (w : World) (is : IsRouterOf r w) (k : ℕ) (items : Lis
   queue_before =
       sym (is.queues k) ∙ ap chances here ∙ map-append chance_of front rest ∙ ap (λ cs. cs ++ chances rest) sure
 
-  pub all_fed : AreAllowed w (feeds k items) × Fed w (run w (feeds k items)) k (length items) (chances rest)
+  pub all_fed : AreAllowed w (feeds k items) × Fed w (run_steps w (feeds k items)) k (length items) (chances rest)
   all_fed = fed_all items w k (chances rest) is.sound queue_before
 
   abbrev y : World
-  y = run w (feeds k items)
+  y = run_steps w (feeds k items)
 
   queue_now : (q : ℕ) → Dec (q ≡ k) → chances (queue_at x.queues.items q) ≡ queue_in y q
   queue_now q (yes e) =
@@ -177,7 +177,7 @@ module _ (r x : Router) (w : World) (is : IsRouterOf r w) (k : ℕ) (items : Lis
       ∙ sym (standings_left w y q 0 all_fed.1.first all_fed.1.read
       (all_fed.1.longer q ∙ ap (λ b. length (w.seats q).fed + cond b (length items) 0) (ne_eqb q k n)))
 
-  pub items_taken : AreAllowed w (feeds k items) × IsRouterOf x (run w (feeds k items))
+  pub items_taken : AreAllowed w (feeds k items) × IsRouterOf x (run_steps w (feeds k items))
   items_taken = (
     all_fed.0,
     record {
@@ -196,9 +196,9 @@ module _ (r x : Router) (w : World) (is : IsRouterOf r w) (k : ℕ) (items : Lis
           let o = is.outstanding q in
           omega arith;
       sound = all_fed.1.sound;
-      gather = subst (λ g. IsGatherOf g (run w (feeds k items))) (sym gather)
+      gather = subst (λ g. IsGatherOf g (run_steps w (feeds k items))) (sym gather)
           (gather_kept r.gather w
-          (run w (feeds k items)) all_fed.1.core all_fed.1.first all_fed.1.read all_fed.1.rows all_fed.1.emitted
+          (run_steps w (feeds k items)) all_fed.1.core all_fed.1.first all_fed.1.read all_fed.1.rows all_fed.1.emitted
           is.gather);
     },
   )

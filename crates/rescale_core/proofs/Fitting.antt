@@ -6,7 +6,7 @@ use Rattle.rescale_core.proofs.Chains.{Chain}
 use Rattle.rescale_core.proofs.WorldLemmas.{mapped, AreChanges}
 use Rattle.rescale_core.specs.Lines.{ChangeOfStrategy, Due}
 use Rattle.rescale_core.specs.Soundly.{Supplies, Known}
-use Rattle.rescale_core.specs.Phases.{NotIn, PhaseOf, froms_of, IsPieceFor, Meets, phase_after, Fits, Follows}
+use Rattle.rescale_core.specs.Phases.{NotIn, PhaseOf, froms_of, IsPieceFor, Meets, phase_after, AllMeet, FitsPhase}
 use Rattle.rescale_core.specs.Handing.{nth, for_place, item_of}
 use Rattle.std.specs.List.{AllByRecursion}
 use Rattle.verdict_merge.specs.Laws.{Apart}
@@ -110,7 +110,7 @@ module _ (c : CoreForm) (k : ℕ) (pieces : List Piece) (f : ℕ → Option Chan
       subst (λ (x : ℕ). IsPieceFor c t x p) to_is
       (subst (λ (x : ChangeOfStrategy). IsPieceFor c x p.to p) t_is r.0.piece_for)
 
-  froms_here : (ph : PhaseOf) (t : ChangeOfStrategy) (j : ℕ) → Follows c k ph (Hole t j) → Tied ph
+  froms_here : (ph : PhaseOf) (t : ChangeOfStrategy) (j : ℕ) → FitsPhase c k ph (Hole t j) → Tied ph
       → froms_of ph ≡ froms_before j (for_place t.generation k pieces) []
   froms_here ph t j fo tied = ⊎_elim
       (λ vacant. let j_is : j ≡ 0 = fo.0 ∙ ap (λ x. length (froms_of x)) vacant in
@@ -119,7 +119,7 @@ module _ (c : CoreForm) (k : ℕ) (pieces : List Piece) (f : ℕ → Option Chan
       ∙ ap (λ x. froms_before x (for_place t.generation k pieces) []) (sym fo.0))
       fo.2
 
-  tied_next : (ph : PhaseOf) (t : ChangeOfStrategy) (j : ℕ) (p : Piece) → Follows c k ph (Hole t j) → Tied ph
+  tied_next : (ph : PhaseOf) (t : ChangeOfStrategy) (j : ℕ) (p : Piece) → FitsPhase c k ph (Hole t j) → Tied ph
       → nth (for_place t.generation k pieces) j ≡ Some p → Tied (phase_after ph (Hole t j) (Adopt p t.new))
   tied_next ph t j p fo tied e = by_test (nat_eq (j + 1) (workers_of t.old))
     where
@@ -134,7 +134,7 @@ module _ (c : CoreForm) (k : ℕ) (pieces : List Piece) (f : ℕ → Option Chan
           sym b ∙ longer ∙ ap (λ x. froms_before (length x) (for_place t.generation k pieces) []) b
           ∙ ap (λ (x : ChangeOfStrategy). froms_before (length froms) (for_place x.generation k pieces) []) a
 
-  meets_due : (ph : PhaseOf) (d : Due) (i : Item) → Follows c k ph d → Tied ph → AreChanges f (d ∷ [])
+  meets_due : (ph : PhaseOf) (d : Due) (i : Item) → FitsPhase c k ph d → Tied ph → AreChanges f (d ∷ [])
       → item_of c k pieces d ≡ Some i → Meets c k ph d i × Tied (phase_after ph d i)
   meets_due ph (Slicing g s log p) i fo tied changes e = (cc, tied_active s _)
   meets_due ph (Parting t) i fo tied changes e = (cc, tied_vacant)
@@ -158,7 +158,7 @@ module _ (c : CoreForm) (k : ℕ) (pieces : List Piece) (f : ℕ → Option Chan
   one_change (Hole t j) ds a = ((a.0, tt), a.1)
 
   pub fits_of : (ds : List Due) (is : List Item) (ph : PhaseOf) → Chain c k ph ds → Tied ph → AreChanges f ds
-      → Supplies c k pieces ds is → Fits c k ph ds is
+      → Supplies c k pieces ds is → AllMeet c k ph ds is
   fits_of ds [] ph ch tied changes s = tt
   fits_of [] (i ∷ is) ph ch tied changes s = s
   fits_of (d ∷ ds) (i ∷ is) ph ch tied changes s = let u = one_change d ds changes in

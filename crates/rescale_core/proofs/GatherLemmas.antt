@@ -17,10 +17,10 @@ use Rattle.rescale_core.specs.Lines.{Spot, Due, moved, spot_after, first_spot}
 use Rattle.rescale_core.specs.Routing.{IsGatherIn, IsGatherOf, MayAdd}
 use Rattle.rescale_core.specs.Soundly.{IsSound, KnownRow}
 use Rattle.rescale_core.specs.Phases.{NotIn}
-use Rattle.rescale_core.specs.Worlds.{World, IsGathered, not_back, slice_at, spot_in, rows_in, Allowed, after}
+use Rattle.rescale_core.specs.Worlds.{World, IsGathered, not_back, slice_at, spot_in, rows_in, Allowed, world_after}
 use Rattle.std.specs.List.{AllByRecursion, find, list_any}
 use Rattle.verdict_merge.specs.Emitted.{Emits}
-use Rattle.verdict_merge.specs.Gathers.{GatherOf, all_rows, complete_ts, is_from, is_generation, rows_at}
+use Rattle.verdict_merge.specs.Gathers.{GatherOf, gathered_rows, complete_ts, is_from, is_generation, rows_at}
 use Rattle.verdict_merge.specs.Gathers.{workers_found, workers_in}
 use Rattle.verdict_merge.specs.Laws.{Apart}
 use Rattle.mfotl_model.specs.Ascending.{ascending}
@@ -91,8 +91,8 @@ gather_kept g w x c f r rows e is =
     (subst (λ z. IsGatherIn g w.core w.first w.read w.rows z) (sym e) is))))
 
 pub gather_point : (g : GatherOf) (w : World) (p : TimePoint) → IsSound w → Allowed w (Read (Point p))
-    → IsGatherOf g w → IsGatherOf g (after w (Read (Point p)))
-gather_point g w p r a is = let spot : spot_in (after w (Read (Point p))) ≡ moved (spot_in w) (Point p) =
+    → IsGatherOf g w → IsGatherOf g (world_after w (Read (Point p)))
+gather_point g w p r a is = let spot : spot_in (world_after w (Read (Point p))) ≡ moved (spot_in w) (Point p) =
     spot_more (first_spot w.first) w.read (Point p ∷ []) in record {
       next = is.next;
       added = is.added;
@@ -147,13 +147,13 @@ pub gather_change : (g h : GatherOf) (w : World) (s : Strategy) → IsSound w �
       begun = g.begun ++ one_begun ((spot_in w).generation + 1) (workers_of s) ∷ [];
       next = g.next;
       added = g.added;
-    } → IsGatherOf g w → IsGatherOf h (after w (Read (Change s)))
+    } → IsGatherOf g w → IsGatherOf h (world_after w (Read (Change s)))
 gather_change g h w s r a e is =
-    let spot : spot_in (after w (Read (Change s))) ≡ moved (spot_in w) (Change s) =
+    let spot : spot_in (world_after w (Read (Change s))) ≡ moved (spot_in w) (Change s) =
     spot_more (first_spot w.first) w.read (Change s ∷ []) in
     let top : ℕ = (spot_in w).generation in
     let begun : List Begun = g.begun ++ one_begun (top + 1) (workers_of s) ∷ [] in
-    subst (λ x. IsGatherOf x (after w (Read (Change s)))) (sym e) (record {
+    subst (λ x. IsGatherOf x (world_after w (Read (Change s)))) (sym e) (record {
       next = is.next;
       added = is.added;
       workers = λ n x t log q at. ⊎_elim
@@ -290,7 +290,7 @@ pub rows_may_add : (g : GatherOf) (w : World) (k : ℕ) → IsSound w → IsGath
     → MayAdd g (rows_in (not_back (w.seats k)))
 rows_may_add g w k r is =
     let rs : List Rows = rows_in (not_back (w.seats k)) in
-    let sound : IsSound (after w (Collect k)) = collect_sound w k r in
+    let sound : IsSound (world_after w (Collect k)) = collect_sound w k r in
     let n : ℕ = length w.emitted in
     may_add g rs
     (both_of (λ (r : Rows). r.worker < workers_in g.begun r.generation) (λ (r : Rows). g.next ≤ r.point) rs
@@ -314,11 +314,11 @@ rows_may_add g w k r is =
 
 pub gather_collected : (g h : GatherOf) (w : World) (k : ℕ) → IsSound w → Allowed w (Collect k)
     → h ≡ record { begun = g.begun; next = g.next; added = g.added ++ rows_in (not_back (w.seats k)) }
-    → IsGatherOf g w → IsGatherOf h (after w (Collect k))
+    → IsGatherOf g w → IsGatherOf h (world_after w (Collect k))
 gather_collected g h w k r a e is =
     let rs : List Rows = rows_in (not_back (w.seats k)) in
     let n : ℕ = length w.emitted in
-    subst (λ x. IsGatherOf x (after w (Collect k))) (sym e) (record {
+    subst (λ x. IsGatherOf x (world_after w (Collect k))) (sym e) (record {
       next = is.next;
       added = ap (λ x. x ++ rs) is.added
           ∙ ap (λ x. filter (λ r. nat_le n r.point) w.rows ++ x)
@@ -385,21 +385,22 @@ rows_are g w is =
     ∙ at_kept (length w.emitted) (length w.emitted) w.rows (omega arith)
 
 pub gather_emitted : (g h : GatherOf) (w : World) (v : Verdict) → IsSound w → Emits g (Some v) h → IsGatherOf g w
-    → Allowed w (Emit v) × IsGatherOf h (after w (Emit v))
+    → Allowed w (Emit v) × IsGatherOf h (world_after w (Emit v))
 gather_emitted g h w v r e is =
     let n : ℕ = length w.emitted in
     let same = rows_are g w is in
     let c = complete_some g e.0 e.1 in
-    let made : v ≡ record { point = n; ts = c.first.ts; rows = ascending row_cmp (all_rows (rows_at n w.rows)) } =
-    e.2 ∙ ap (λ m. record { point = m; ts = e.0; rows = ascending row_cmp (all_rows (rows_at g.next g.added)) })
+    let made : v ≡ record { point = n; ts = c.first.ts; rows = ascending row_cmp (gathered_rows (rows_at n w.rows)) } =
+    e.2 ∙ ap (λ m. record { point = m; ts = e.0; rows = ascending row_cmp (gathered_rows (rows_at g.next g.added)) })
     is.next
-    ∙ ap (λ t. record { point = n; ts = t; rows = ascending row_cmp (all_rows (rows_at g.next g.added)) }) (sym c.time)
-    ∙ ap (λ (x : List Rows). record { point = n; ts = c.first.ts; rows = ascending row_cmp (all_rows x) }) same in
+    ∙ ap (λ t. record { point = n; ts = t; rows = ascending row_cmp (gathered_rows (rows_at g.next g.added)) })
+        (sym c.time)
+    ∙ ap (λ (x : List Rows). record { point = n; ts = c.first.ts; rows = ascending row_cmp (gathered_rows x) }) same in
     let due = merged_due w r n v (workers_in g.begun) is.workers c.first c.rest (sym same ∙ c.rows)
     (sym (ap length same) ∙ c.all) made in
     let l : length (w.emitted ++ v ∷ []) ≡ n + 1 = length-append w.emitted (v ∷ []) in (
       due,
-      subst (λ x. IsGatherOf x (after w (Emit v))) (sym e.3) (record {
+      subst (λ x. IsGatherOf x (world_after w (Emit v))) (sym e.3) (record {
         next = ap (λ m. m + 1) is.next ∙ sym l;
         added = ap (λ m. filter (λ (r : Rows). not (nat_eq r.point m)) g.added) is.next
             ∙ ap (filter (λ (r : Rows). not (nat_eq r.point n))) is.added ∙ drops_emitted n w.rows

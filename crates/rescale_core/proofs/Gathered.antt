@@ -11,7 +11,7 @@ use Rattle.rescale_core.proofs.Settling.{slice_more}
 use Rattle.rescale_core.proofs.Collecting.{collect_sound}
 use Rattle.rescale_core.specs.Lines.{first_spot}
 use Rattle.rescale_core.specs.Soundly.{IsSound}
-use Rattle.rescale_core.specs.Worlds.{World, Step, not_back, rows_in, Allowed, IsGathered, after}
+use Rattle.rescale_core.specs.Worlds.{World, Step, not_back, rows_in, Allowed, IsGathered, world_after}
 use Rattle.verdict_merge.proofs.CountLemmas.{at_most}
 use Rattle.verdict_merge.specs.Gathers.{rows_at}
 use Rattle.verdict_merge.specs.declared.rows.Rows.{Rows}
@@ -29,12 +29,12 @@ module _ (w : World) (k : ℕ) (r : IsSound w) where
 
   -- no more rows come for a position for which all are there
   pub none_more : (i : ℕ) → IsGathered w i → rows_at i rs ≡ []
-  none_more i g = let sound : IsSound (after w (Collect k)) = collect_sound w k r in
-      let all = due_all (after w (Collect k)) sound i g.0 g.1 g.2 g.3 g.4 g.5 g.6 in
+  none_more i g = let sound : IsSound (world_after w (Collect k)) = collect_sound w k r in
+      let all = due_all (world_after w (Collect k)) sound i g.0 g.1 g.2 g.3 g.4 g.5 g.6 in
       let few : length (map (λ (r : Rows). r.worker) (rows_at i (w.rows ++ rs))) ≤ workers_of g.1 =
       at_most (workers_of g.1) (map (λ (r : Rows). r.worker) (rows_at i (w.rows ++ rs))) (sound.rows_apart i)
       (below_of (workers_of g.1) (rows_at i (w.rows ++ rs))
-      (every_map (DueRow (after w (Collect k)) sound i g.0 g.1 g.2 g.3) (λ (r : Rows). r.worker < workers_of g.1)
+      (every_map (DueRow (world_after w (Collect k)) sound i g.0 g.1 g.2 g.3) (λ (r : Rows). r.worker < workers_of g.1)
       (rows_at i (w.rows ++ rs)) (λ x d. d.near) all)) in
       let same : length (map (λ (r : Rows). r.worker) (rows_at i (w.rows ++ rs))) ≡ length
       (rows_at i (w.rows ++ rs)) = length-map (rows_at i (w.rows ++ rs)) (λ (r : Rows). r.worker) in
@@ -48,7 +48,7 @@ module _ (w : World) (k : ℕ) (r : IsSound w) where
       no_length [] e = refl
       no_length (x ∷ xs) e = absurd (omega arith)
 
-pub step_gathered : (w : World) (s : Step) → IsSound w → Allowed w s → AllGathered w → AllGathered (after w s)
+pub step_gathered : (w : World) (s : Step) → IsSound w → Allowed w s → AllGathered w → AllGathered (world_after w s)
 step_gathered w (Read e) r a g i h = let x = g i h in (
   x.0,
   x.1,

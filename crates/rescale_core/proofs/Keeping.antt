@@ -5,7 +5,7 @@ use Rattle.rescale_core.specs.Laws.{EmitsVerdicts}
 use Rattle.rescale_core.specs.Moving.{IsDriverOf, StepKind, Reaches, StepsBy, TurnsTo, collects}
 use Rattle.rescale_core.specs.Moving.StepKind.{Reads, Feeds, Takes, Collects, Emits}
 use Rattle.rescale_core.specs.Soundly.{IsSound}
-use Rattle.rescale_core.specs.Worlds.{World, Allowed, Step, after}
+use Rattle.rescale_core.specs.Worlds.{World, Allowed, Step, world_after}
 use Rattle.rescale_core.specs.Worlds.Step.{Read, Feed, Take, Collect, Emit}
 use Rattle.rescale_core.specs.declared.driver.Driver.{Driver}
 use Rattle.rescale_core.specs.declared.driver.Turn.{Turn}
@@ -14,9 +14,9 @@ use Rattle.rescale_core.proofs.Soundness.{step_sound}
 use Rattle.rescale_core.proofs.Taking.{reaches_on}
 use Rattle.rescale_core.proofs.Verdicts.{step_verdicts}
 use Rattle.rescale_core.proofs.Waits.{waits_for}
-use Rattle.rescale_core.specs.Waiting.{added, waiting_in}
+use Rattle.rescale_core.specs.Waiting.{added_waiting, waiting_in}
 
-by_step : (w x : World) (s : Step) → IsSound w → EmitsVerdicts w → Allowed w s → x ≡ after w s
+by_step : (w x : World) (s : Step) → IsSound w → EmitsVerdicts w → Allowed w s → x ≡ world_after w s
     → IsSound x × EmitsVerdicts x
 by_step w x s sound verdicts may e =
     subst (λ y. IsSound y × EmitsVerdicts y) (sym e) (step_sound w s sound may, step_verdicts w s sound may verdicts)
@@ -64,11 +64,11 @@ kept_on w x y a b = record {
 keeps_kind : (w x : World) (s : StepKind) → IsInner s → StepsBy w s x → Keeps w x
 keeps_kind w x (Reads e) i h = absurd i
 keeps_kind w x (Feeds k) i h =
-    kept_to w (after w (Feed k h.0)) x h.2 (record { core = refl; first = refl; read = refl; emitted = refl })
+    kept_to w (world_after w (Feed k h.0)) x h.2 (record { core = refl; first = refl; read = refl; emitted = refl })
 keeps_kind w x (Takes k) i h =
-    kept_to w (after w (Take k h.0)) x h.2 (record { core = refl; first = refl; read = refl; emitted = refl })
+    kept_to w (world_after w (Take k h.0)) x h.2 (record { core = refl; first = refl; read = refl; emitted = refl })
 keeps_kind w x (Collects k) i h =
-    kept_to w (after w (Collect k)) x h.1 (record { core = refl; first = refl; read = refl; emitted = refl })
+    kept_to w (world_after w (Collect k)) x h.1 (record { core = refl; first = refl; read = refl; emitted = refl })
 keeps_kind w x Emits i h = absurd i
 
 keeps_steps : (steps : List StepKind) (w x : World) → AllByRecursion IsInner steps → Reaches w steps x → Keeps w x
@@ -77,7 +77,7 @@ keeps_steps (s ∷ steps) w x i h =
     kept_on w h.0 x (keeps_kind w h.0 s i.0 h.1) (keeps_steps steps h.0 x i.1 h.2)
 
 -- nor does more wait
-waits_step : (w x : World) (s : Step) (q : ℕ) → IsSound w → Allowed w s → added s ≡ 0 → x ≡ after w s
+waits_step : (w x : World) (s : Step) (q : ℕ) → IsSound w → Allowed w s → added_waiting s ≡ 0 → x ≡ world_after w s
     → waiting_in x q ≤ waiting_in w q
 waits_step w x s q sound may none e =
     let h = waits_for w s q sound may in

@@ -5,10 +5,10 @@ use Rattle.mfotl_model.specs.Strategies.{workers_of}
 use Rattle.monitorable.specs.Cores.{core_form}
 use Rattle.rescale_core.proofs.Chains.{Agrees, agrees_active, agrees_vacant, below, chained, fits_front, Turned, turned}
 use Rattle.rescale_core.specs.Lines.{Due, first_spot}
-use Rattle.rescale_core.specs.Phases.{PhaseOf, Meets, phase_at, phase_after, Follows, Gives, Answers}
+use Rattle.rescale_core.specs.Phases.{PhaseOf, Meets, phase_at, phase_after, FitsPhase, AnswersOne, Answers}
 use Rattle.rescale_core.specs.Seeds.{SeedOf}
 use Rattle.rescale_core.specs.Workers.{IsFor}
-use Rattle.rescale_core.specs.Working.{IsAt, StandsFor, May, Has, first_phase, line_of, CanTake, TakesItem}
+use Rattle.rescale_core.specs.Working.{IsAt, StandsFor, May, Has, first_phase, seed_line, CanTake, TakesItem}
 use Rattle.rescale_core.specs.Works.{MayBy, StandsBy, seen}
 use Rattle.turn_hub.specs.Work.{Takes, Leads}
 use Rattle.monitorable.specs.CoreForms.{CoreForm}
@@ -30,7 +30,7 @@ first_agrees s = ⊎_elim
     (below s.number (workers_of s.first))
 
 pub answers_more : (c : CoreForm) (k : ℕ) (ds : List Due) (d : Due) (outs more : List Out) → Answers c k ds outs
-    → Gives c k d more → Answers c k (ds ++ d ∷ []) (outs ++ more)
+    → AnswersOne c k d more → Answers c k (ds ++ d ∷ []) (outs ++ more)
 answers_more c k [] d outs more a g = (more, [], ap (λ x. x ++ more) a ∙ sym (append-nil more), g, refl)
 answers_more c k (e ∷ ds) d outs more a g = (
   a.0,
@@ -43,29 +43,31 @@ answers_more c k (e ∷ ds) d outs more a g = (
 
 -- what the next item is, for any entries that make it due
 pub turned_in : (s : SeedOf) (t : List Item) (i : Item) (es : List Entry) → IsFor s.core s.first
-    → Has s es (t ++ i ∷ []) → Turned s.core s.number (first_phase s) (line_of s es) t i
+    → Has s es (t ++ i ∷ []) → Turned s.core s.number (first_phase s) (seed_line s es) t i
 turned_in s t i es f h =
-    turned s.core s.number t i (first_phase s) (line_of s es)
+    turned s.core s.number t i (first_phase s) (seed_line s es)
     (chained s.core s.number es (first_spot s.first) (first_phase s) f h.0 (first_agrees s)) h.1
 
 pub has_front : (s : SeedOf) (a b : List Item) (es : List Entry) → Has s es (a ++ b) → Has s es a
-has_front s a b es h = (h.0, fits_front s.core s.number a b (first_phase s) (line_of s es) h.1)
+has_front s a b es h = (h.0, fits_front s.core s.number a b (first_phase s) (seed_line s es) h.1)
 
 can_take_in : (s : SeedOf) (t : List Item) (g : List Out) (w : Worker) (i : Item) → StandsFor s t g w
     → (es : List Entry) → Has s es (t ++ i ∷ []) → CanTake w i
 can_take_in s t g w i st es h = let r = turned_in s t i es st.first h in
-    let at : IsAt s.core s.number (phase_at (first_phase s) (line_of s es) t) w.phase =
+    let at : IsAt s.core s.number (phase_at (first_phase s) (seed_line s es) t) w.phase =
     st.at es (has_front s t (i ∷ []) es h) in (
-      phase_at (first_phase s) (line_of s es) t,
+      phase_at (first_phase s) (seed_line s es) t,
       r.due,
-      subst (λ (k : ℕ). IsAt (core_form w.core) k (phase_at (first_phase s) (line_of s es) t) w.phase) (sym st.number)
-          (subst (λ (c : CoreForm). IsAt c s.number (phase_at (first_phase s) (line_of s es) t) w.phase)
+      subst (λ (k : ℕ). IsAt (core_form w.core) k (phase_at (first_phase s) (seed_line s es) t) w.phase) (sym st.number)
+          (subst (λ (c : CoreForm). IsAt c s.number (phase_at (first_phase s) (seed_line s es) t) w.phase)
           (sym st.core) at),
-      subst (λ (k : ℕ). Follows (core_form w.core) k (phase_at (first_phase s) (line_of s es) t) r.due) (sym st.number)
-          (subst (λ (c : CoreForm). Follows c s.number (phase_at (first_phase s) (line_of s es) t) r.due)
+      subst (λ (k : ℕ). FitsPhase (core_form w.core) k (phase_at (first_phase s) (seed_line s es) t) r.due)
+          (sym st.number)
+          (subst (λ (c : CoreForm). FitsPhase c s.number (phase_at (first_phase s) (seed_line s es) t) r.due)
           (sym st.core) r.follows),
-      subst (λ (k : ℕ). Meets (core_form w.core) k (phase_at (first_phase s) (line_of s es) t) r.due i) (sym st.number)
-          (subst (λ (c : CoreForm). Meets c s.number (phase_at (first_phase s) (line_of s es) t) r.due i)
+      subst (λ (k : ℕ). Meets (core_form w.core) k (phase_at (first_phase s) (seed_line s es) t) r.due i)
+          (sym st.number)
+          (subst (λ (c : CoreForm). Meets c s.number (phase_at (first_phase s) (seed_line s es) t) r.due i)
           (sym st.core) r.meets),
     )
 
@@ -75,25 +77,25 @@ can_take w i t = can_take_in t.0 t.1 t.2 w i t.3 t.4.0 t.4.1
 -- a step in the seed's own words
 takes_in : (s : SeedOf) (w : Worker) (i : Item) (x : Worker) (gave : List Out) → core_form w.core ≡ s.core
     → w.number ≡ s.number → TakesItem w i x gave → (ph : PhaseOf) (d : Due)
-    → IsAt s.core s.number ph w.phase → Follows s.core s.number ph d → Meets s.core s.number ph d i
-    → Gives s.core s.number d gave
+    → IsAt s.core s.number ph w.phase → FitsPhase s.core s.number ph d → Meets s.core s.number ph d i
+    → AnswersOne s.core s.number d gave
     × IsAt s.core s.number (phase_after ph d i) x.phase
 takes_in s w i x gave core number takes ph d =
-    subst (λ (k : ℕ). IsAt s.core k ph w.phase → Follows s.core k ph d → Meets s.core k ph d i
-    → Gives s.core k d gave × IsAt s.core k (phase_after ph d i) x.phase) number
-    (subst (λ (c : CoreForm). IsAt c w.number ph w.phase → Follows c w.number ph d → Meets c w.number ph d i
-    → Gives c w.number d gave × IsAt c w.number (phase_after ph d i) x.phase) core (takes.in_phase ph d))
+    subst (λ (k : ℕ). IsAt s.core k ph w.phase → FitsPhase s.core k ph d → Meets s.core k ph d i
+    → AnswersOne s.core k d gave × IsAt s.core k (phase_after ph d i) x.phase) number
+    (subst (λ (c : CoreForm). IsAt c w.number ph w.phase → FitsPhase c w.number ph d → Meets c w.number ph d i
+    → AnswersOne c w.number d gave × IsAt c w.number (phase_after ph d i) x.phase) core (takes.in_phase ph d))
 
 module _ (s : SeedOf) (t : List Item) (g : List Out) (w : Worker) (i : Item) (x : Worker) (gave : List Out)
     (st : StandsFor s t g w) (takes : TakesItem w i x gave) where
   does : (es : List Entry) → Has s es (t ++ i ∷ [])
-      → Answers s.core s.number (take (length (t ++ i ∷ [])) (line_of s es)) (g ++ gave)
-      × IsAt s.core s.number (phase_at (first_phase s) (line_of s es) (t ++ i ∷ [])) x.phase
+      → Answers s.core s.number (take (length (t ++ i ∷ [])) (seed_line s es)) (g ++ gave)
+      × IsAt s.core s.number (phase_at (first_phase s) (seed_line s es) (t ++ i ∷ [])) x.phase
   does es h = let front = has_front s t (i ∷ []) es h in let r = turned_in s t i es st.first h in
-      let done = takes_in s w i x gave st.core st.number takes (phase_at (first_phase s) (line_of s es) t) r.due
+      let done = takes_in s w i x gave st.core st.number takes (phase_at (first_phase s) (seed_line s es) t) r.due
       (st.at es front) r.follows r.meets in (
         subst (λ (ds : List Due). Answers s.core s.number ds (g ++ gave)) (sym r.front)
-            (answers_more s.core s.number (take (length t) (line_of s es)) r.due g gave (st.told es front) done.0),
+            (answers_more s.core s.number (take (length t) (seed_line s es)) r.due g gave (st.told es front) done.0),
         subst (λ (y : PhaseOf). IsAt s.core s.number y x.phase) (sym r.next) done.1,
       )
 

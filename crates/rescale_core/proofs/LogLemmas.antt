@@ -7,7 +7,7 @@ use Rattle.std.specs.List.{list_all, filter}
 use Rattle.mfotl_model.proofs.AscendingLemmas.{same_ascending}
 use Rattle.mfotl_model.proofs.CountLemmas.{counted_settled}
 use Rattle.mfotl_model.proofs.RowLemmas.{row_exact}
-use Rattle.mfotl_model.specs.Domains.{Includes, within}
+use Rattle.mfotl_model.specs.Domains.{Includes, in_domain}
 use Rattle.mfotl_model.specs.FreeVariables.{fv, among}
 use Rattle.mfotl_model.specs.Log.{times}
 use Rattle.mfotl_model.specs.Satisfaction.{Valuation}
@@ -24,7 +24,7 @@ use Rattle.monitorable.proofs.DomainRows.{found, grows, has_constants, has_log, 
 use Rattle.monitorable.proofs.FinalityLaw.{finality}
 use Rattle.monitorable.proofs.FreeVariableLemmas.{fv_apart}
 use Rattle.monitorable.specs.CoreForms.{CoreForm, meaning}
-use Rattle.monitorable.specs.Fragment.{Fits}
+use Rattle.monitorable.specs.Fragment.{IsMonitorable}
 use Rattle.monitorable.specs.SatisfyingRows.{core_domain, satisfies, satisfying_rows}
 use Rattle.rescale_core.specs.Laws.{PolicyViolations}
 use Rattle.rescale_core.specs.Workers.{MayFollow, settled_in, violations_at}
@@ -56,7 +56,8 @@ agreeing true t true l m e h = (h refl refl).0 ∙ ap₂ (λ x y. x && y) e (sym
 agreeing true t false l m e h = ap (λ x. x && false) e
 agreeing false t len l m e h = ap (λ x. x && (len && m)) e
 
-module _ (g : CoreForm) (log more : List TimePoint) (i : ℕ) (fits : Fits g) (rising : NeverFalls (times (log ++ more)))
+module _ (g : CoreForm) (log more : List TimePoint) (i : ℕ) (fits : IsMonitorable g)
+    (rising : NeverFalls (times (log ++ more)))
     (set : settled (times log) (meaning g) i ≡ true) where
   abbrev vars : List ℕ
   vars = fv (meaning g)
@@ -75,7 +76,7 @@ module _ (g : CoreForm) (log more : List TimePoint) (i : ℕ) (fits : Fits g) (r
       ∙ finality log more longer_dom (meaning g) v i rising set
 
   values_within : (q : List Value) → satisfies log g i q ≡ true → nat_eq (length q) (length vars) ≡ true
-      → (list_all (within dom) q ≡ true) × (list_all (within longer_dom) q ≡ true)
+      → (list_all (in_domain dom) q ≡ true) × (list_all (in_domain longer_dom) q ≡ true)
   values_within q h len =
       let v : Valuation = valuation vars q in
       let inside = λ (y : ℕ) (m : among y vars ≡ true).
@@ -93,11 +94,11 @@ module _ (g : CoreForm) (log more : List TimePoint) (i : ℕ) (fits : Fits g) (r
       (λ q.
       found (satisfies log g i) (length vars) dom q
       ∙ agreeing (satisfies log g i q) (satisfies (log ++ more) g i q) (nat_eq (length q) (length vars))
-      (list_all (within dom) q) (list_all (within longer_dom) q)
+      (list_all (in_domain dom) q) (list_all (in_domain longer_dom) q)
       (satisfies_same q) (values_within q)
       ∙ sym (found (satisfies (log ++ more) g i) (length vars) longer_dom q))
 
-pub viol_final : (c : CoreForm) (log : List TimePoint) (p : TimePoint) (i : ℕ) → Fits c → MayFollow log p
+pub viol_final : (c : CoreForm) (log : List TimePoint) (p : TimePoint) (i : ℕ) → IsMonitorable c → MayFollow log p
     → i < settled_in c log → violations_at c log i ≡ violations_at c (log ++ p ∷ []) i
 unfolding violations_at
 viol_final c log p i fits m h =

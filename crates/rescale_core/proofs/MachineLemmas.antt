@@ -11,11 +11,11 @@ use Rattle.verdict_merge.specs.declared.rows.Verdict.{Verdict}
 use Rattle.rescale_core.proofs.Soundness.{step_sound}
 use Rattle.rescale_core.proofs.Verdicts.{step_verdicts}
 use Rattle.rescale_core.proofs.WorldLemmas.{spot_more, supplies_length}
-use Rattle.rescale_core.specs.Cells.{Applies, AreWithin, IsCellAt, IsCellOf, IsMachineOf, Takes}
+use Rattle.rescale_core.specs.Cells.{Applies, AreWithin, IsCellAt, IsCellOf, IsMachineOf, CellTakes}
 use Rattle.rescale_core.specs.Lines.{AreSound, Due, MayRead, Spot, first_spot, moved}
 use Rattle.rescale_core.specs.Routing.{HasTaken, IsRouterOf}
 use Rattle.rescale_core.specs.Handing.{chance, nth, ready_items, standing}
-use Rattle.rescale_core.specs.Worlds.{World, Allowed, Seat, after, all_collected, fed_more, line_in}
+use Rattle.rescale_core.specs.Worlds.{World, Allowed, Seat, world_after, all_collected, fed_more, line_in}
 use Rattle.rescale_core.specs.Worlds.{ready_in, set_seat, spot_in, took_one}
 use Rattle.rescale_core.specs.Worlds.Step.{Read, Feed, Take, Collect, Emit}
 use Rattle.rescale_core.specs.declared.step.Applied.{Applied}
@@ -65,8 +65,8 @@ module _ (m n : Machine) (entries : List Entry) (w : World) (is : IsMachineOf m 
   at_seat_here : (s : Seat) → IsCellAt (seed_in w k) (set_seat w.seats k s k) new → IsCellAt (seed_in w k) s new
   at_seat_here s h = subst (λ (x : Seat). IsCellAt (seed_in w k) x new) (seat_here w k s) h
 
-  pub machine_fed : (item : Item) → Allowed w (Feed k item) → IsCellOf (after w (Feed k item)) k new
-      → IsRouterOf n.router (after w (Feed k item)) → IsMachineOf n entries (after w (Feed k item))
+  pub machine_fed : (item : Item) → Allowed w (Feed k item) → IsCellOf (world_after w (Feed k item)) k new
+      → IsRouterOf n.router (world_after w (Feed k item)) → IsMachineOf n entries (world_after w (Feed k item))
   machine_fed item may cell router = record {
     entries_are = ap (λ x. w.read ++ x) left ∙ is.entries_are;
     left = subst (AreSound w.core (spot_in w)) (sym left) is.left;
@@ -78,8 +78,8 @@ module _ (m n : Machine) (entries : List Entry) (w : World) (is : IsMachineOf m 
     verdicts = step_verdicts w (Feed k item) is.router.sound may is.verdicts;
   }
 
-  pub machine_took : (gave : List Out) → Allowed w (Take k gave) → IsCellOf (after w (Take k gave)) k new
-      → IsRouterOf n.router (after w (Take k gave)) → IsMachineOf n entries (after w (Take k gave))
+  pub machine_took : (gave : List Out) → Allowed w (Take k gave) → IsCellOf (world_after w (Take k gave)) k new
+      → IsRouterOf n.router (world_after w (Take k gave)) → IsMachineOf n entries (world_after w (Take k gave))
   machine_took gave may cell router = record {
     entries_are = ap (λ x. w.read ++ x) left ∙ is.entries_are;
     left = subst (AreSound w.core (spot_in w)) (sym left) is.left;
@@ -91,8 +91,8 @@ module _ (m n : Machine) (entries : List Entry) (w : World) (is : IsMachineOf m 
     verdicts = step_verdicts w (Take k gave) is.router.sound may is.verdicts;
   }
 
-  pub machine_collected : Allowed w (Collect k) → IsCellOf (after w (Collect k)) k new
-      → IsRouterOf n.router (after w (Collect k)) → IsMachineOf n entries (after w (Collect k))
+  pub machine_collected : Allowed w (Collect k) → IsCellOf (world_after w (Collect k)) k new
+      → IsRouterOf n.router (world_after w (Collect k)) → IsMachineOf n entries (world_after w (Collect k))
   machine_collected may cell router = record {
     entries_are = ap (λ x. w.read ++ x) left ∙ is.entries_are;
     left = subst (AreSound w.core (spot_in w)) (sym left) is.left;
@@ -128,7 +128,7 @@ module _ (m n : Machine) (entries : List Entry) (w : World) (is : IsMachineOf m 
 
 -- a router stands for the world in which a worker took an item
 pub router_took : (r : Router) (w : World) (k : ℕ) (gave : List Out) → IsRouterOf r w → Allowed w (Take k gave)
-    → IsRouterOf r (after w (Take k gave))
+    → IsRouterOf r (world_after w (Take k gave))
 router_took r w k gave is may =
     record {
       core = is.core;
@@ -161,13 +161,13 @@ router_took r w k gave is may =
 -- a worker's cell that has nothing to take, or takes one
 pub machine_takes : (m n : Machine) (k : ℕ) (old new : Cell) (applied : Applied) → nth m.cells.items k ≡ Some old
     → n.cells.items ≡ set m.cells.items k new → n.left.items ≡ m.left.items → n.verdicts.items ≡ m.verdicts.items
-    → n.router ≡ m.router → Takes old applied new → Applies m (step.Take k) applied n
+    → n.router ≡ m.router → CellTakes old applied new → Applies m (step.Take k) applied n
 machine_takes m n k old new Did at cells left verdicts router t = λ entries w is.
     let r = t w k is.router.sound (is.cells k old at) in (
-      after w (Take k r.0),
+      world_after w (Take k r.0),
       (r.0, r.1, refl),
       machine_took m n entries w is k new cells left verdicts r.0 r.1 r.2
-          (subst (λ (x : Router). IsRouterOf x (after w (Take k r.0))) (sym router)
+          (subst (λ (x : Router). IsRouterOf x (world_after w (Take k r.0))) (sym router)
           (router_took m.router w k r.0 is.router r.1)),
     )
 machine_takes m n k old new NotEnabled at cells left verdicts router t = λ entries w is.
@@ -207,7 +207,7 @@ pub machine_collects : (m n : Machine) (k : ℕ) (old new : Cell) (taken : ℕ) 
     → nth m.cells.items k ≡ Some old → n.cells.items ≡ set m.cells.items k new → n.left.items ≡ m.left.items
     → n.verdicts.items ≡ m.verdicts.items → (taken ≡ 0 → ⊥) → taken ≡ old.taken → outs ≡ old.outs.items
     → new.items.items ≡ old.items.items → new.worker ≡ old.worker → new.taken ≡ 0 → new.outs.items ≡ []
-    → ((w : World) → IsRouterOf m.router w → HasTaken w k taken outs → IsRouterOf n.router (after w (Collect k)))
+    → ((w : World) → IsRouterOf m.router w → HasTaken w k taken outs → IsRouterOf n.router (world_after w (Collect k)))
     → Applies m (step.Collect k) Did n
 machine_collects m n k old new taken outs at cells left verdicts some has given items worker none empty router =
     λ entries w is.
@@ -215,7 +215,7 @@ machine_collects m n k old new taken outs at cells left verdicts some has given 
     let h = cell_has_taken w k old taken outs c has given in
     let may : Allowed w (Collect k) =
     (let t = h.taken in more_than (w.seats k).collected taken (w.seats k).taken t some) in (
-      after w (Collect k),
+      world_after w (Collect k),
       (may, refl),
       machine_collected m n entries w is k new cells left verdicts may
           (back_cell w k old new c items worker none empty) (router w is.router h),
@@ -229,12 +229,13 @@ machine_collects m n k old new taken outs at cells left verdicts some has given 
 
 pub machine_read : (m n : Machine) (entries : List Entry) (w : World) (e : Entry) → IsMachineOf m entries w
     → m.left.items ≡ e ∷ n.left.items → n.cells.items ≡ m.cells.items → n.verdicts.items ≡ m.verdicts.items
-    → (MayRead w.core (spot_in w) e → IsRouterOf n.router (after w (Read e)))
-    → Allowed w (Read e) × IsMachineOf n entries (after w (Read e))
+    → (MayRead w.core (spot_in w) e → IsRouterOf n.router (world_after w (Read e)))
+    → Allowed w (Read e) × IsMachineOf n entries (world_after w (Read e))
 machine_read m n entries w e is left cells verdicts router =
     let sound : AreSound w.core (spot_in w) (e ∷ n.left.items) =
     subst (AreSound w.core (spot_in w)) left is.left in
-    let spot : spot_in (after w (Read e)) ≡ moved (spot_in w) e = spot_more (first_spot w.first) w.read (e ∷ []) in (
+    let spot : spot_in (world_after w (Read e)) ≡ moved (spot_in w) e =
+        spot_more (first_spot w.first) w.read (e ∷ []) in (
       sound.0,
       record {
         entries_are = append_assoc w.read (e ∷ []) n.left.items ∙ ap (λ x. w.read ++ x) (sym left)
@@ -256,7 +257,7 @@ next_may m entries w e rest is left = (subst (AreSound w.core (spot_in w)) left 
 
 pub machine_emitted : (m n : Machine) (entries : List Entry) (w : World) (v : Verdict) → IsMachineOf m entries w
     → n.left.items ≡ m.left.items → n.cells.items ≡ m.cells.items → n.verdicts.items ≡ m.verdicts.items ++ v ∷ []
-    → Allowed w (Emit v) → IsRouterOf n.router (after w (Emit v)) → IsMachineOf n entries (after w (Emit v))
+    → Allowed w (Emit v) → IsRouterOf n.router (world_after w (Emit v)) → IsMachineOf n entries (world_after w (Emit v))
 machine_emitted m n entries w v is left cells verdicts may router =
     record {
       entries_are = ap (λ x. w.read ++ x) left ∙ is.entries_are;

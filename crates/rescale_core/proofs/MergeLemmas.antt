@@ -14,20 +14,20 @@ use Rattle.monitor_state.specs.Stands.{Stands}
 use Rattle.monitor_state.specs.declared.monitor.Monitor.{Monitor}
 use Rattle.monitor_state.specs.declared.state.Piece.{Piece}
 use Rattle.monitor_state.specs.declared.state.State.{State}
-use Rattle.slice_strategy.specs.SlicerLemmas.{covers}
+use Rattle.slice_strategy.specs.SlicerLemmas.{strategy_covers}
 use Rattle.slice_strategy.specs.Slicers.{BindsAll}
 use Rattle.state_merge.proofs.FitLemmas.{pieces_fit}
 use Rattle.state_merge.specs.Finishing.{AllAdopted, IsWhole}
-use Rattle.state_merge.specs.Fits.{Fits}
+use Rattle.state_merge.specs.Fits.{CanBeUnited}
 use Rattle.state_merge.specs.MergingView.{merging_of}
 use Rattle.state_merge.specs.declared.merging.Merging.{Merging}
 use Rattle.state_split.proofs.CutLaw.{strategies_cut}
-use Rattle.state_split.specs.Splits.{AreNumbered, StandEach}
+use Rattle.state_split.specs.Splits.{AreNumbered, PiecesStand}
 use Rattle.verdict_merge.proofs.CountLemmas.{at_most}
 use Rattle.verdict_merge.specs.Laws.{Apart}
 use Rattle.rescale_core.proofs.OwnedLemmas.{among_range}
 use Rattle.rescale_core.proofs.SliceLemmas.{region_passes}
-use Rattle.rescale_core.specs.States.{Adopted, CanAdopt, Finishes, IsFull, MergesMore, Splits}
+use Rattle.rescale_core.specs.States.{Adopted, CanAdopt, FinishesMerging, IsFull, MergesMore, Splits}
 use Rattle.rescale_core.specs.Workers.{IsFor}
 
 -- ---- splitting
@@ -41,12 +41,12 @@ pub splits : (m : Monitor) (s : Strategy) (k : ℕ) (s2 : Strategy) (g : ℕ) (p
     → ((log : List TimePoint) → BindsAll (length s) (fv (meaning (monitor_of m).core))
     → BindsAll (length s2) (fv (meaning (monitor_of m).core))
     → Stands (view_of (monitor_of m).core (near_of s k) log) (monitor_of m).core (monitor_of m).state
-    → StandEach (monitor_of m).core (near_of s k) (near_of s2) log pieces)
+    → PiecesStand (monitor_of m).core (near_of s k) (near_of s2) log pieces)
     → Splits m s k s2 g pieces
 splits m s k s2 g pieces size numbers stands = (
   size,
   λ core log is is2 at. strategies_cut core s k s2 log g pieces numbers
-      (subst (λ c. StandEach c (near_of s k) (near_of s2) log pieces) at.of
+      (subst (λ c. PiecesStand c (near_of s k) (near_of s2) log pieces) at.of
       (stands log (subst (λ c. BindsAll (length s) (fv (meaning c))) (sym at.of) (binds_all core s is))
       (subst (λ c. BindsAll (length s2) (fv (meaning c))) (sym at.of) (binds_all core s2 is2))
       (subst (λ c. Stands (view_of c (near_of s k) log) c (monitor_of m).state) (sym at.of) at.stands))),
@@ -56,11 +56,11 @@ splits m s k s2 g pieces size numbers stands = (
 
 -- a piece that may be adopted fits what was merged
 pub adopt_fits : (merging : Merging) (piece : Piece) → CanAdopt merging piece
-    → IfSome (merging_of merging).merged (λ state. Fits state piece.state)
+    → IfSome (merging_of merging).merged (λ state. CanBeUnited state piece.state)
 adopt_fits merging piece can = by (merging_of merging).merged can.8.merged
   where
     by : (merged : Option State) → HasMerged can.0 can.1 can.2 can.3 can.4 can.5 merged
-        → IfSome merged (λ state. Fits state piece.state)
+        → IfSome merged (λ state. CanBeUnited state piece.state)
     by None has = tt
     by (Some state) has = pieces_fit can.0 can.1 can.2 can.3 can.4 can.5 piece.from state piece has can.9
 
@@ -98,7 +98,7 @@ all_adopted : (core : CoreForm) (s : Strategy) (froms : List ℕ) → IsFor core
     → length froms ≡ workers_of s → AllAdopted s froms
 all_adopted core s froms is adopted size =
     record {
-      covers = λ vs v. covers s vs v is.workers.some;
+      covers = λ vs v. strategy_covers s vs v is.workers.some;
       some = is.workers.some;
       differ = differ froms adopted.distinct;
       below = adopted.near;
@@ -135,7 +135,7 @@ pub finishes : (merging : Merging) (m : Monitor) → (monitor_of m).core ≡ (me
     → HasMerged (merging_of merging).core s s2 k2 log ks (merging_of merging).merged
     → SuitsWhole (view_of (merging_of merging).core (near_of s2 k2) log) (merging_of merging).core
     → Stands (view_of (merging_of merging).core (near_of s2 k2) log) (merging_of merging).core (monitor_of m).state)
-    → Finishes merging m
+    → FinishesMerging merging m
 finishes merging m same stands core s s2 k2 log froms is is2 merges adopted size =
     record {
       of = same ∙ merges.of;

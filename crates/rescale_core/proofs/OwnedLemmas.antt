@@ -22,7 +22,7 @@ use Rattle.mfotl_model.specs.Values.{row_cmp, row_total}
 use Rattle.mfotl_model.specs.Violations.{all_rows}
 use Rattle.mfotl_model.specs.declared.event.TimePoint.{TimePoint}
 use Rattle.mfotl_model.specs.declared.value.Value.{Value}
-use Rattle.mfotl_model.specs.Domains.{within}
+use Rattle.mfotl_model.specs.Domains.{in_domain}
 use Rattle.monitorable.proofs.DomainLaw.{domain}
 use Rattle.monitorable.proofs.DomainLemmas.{same_truth}
 use Rattle.monitorable.proofs.DomainRows.{found, has_constants, has_log, row_kept, row_within}
@@ -134,7 +134,7 @@ module _ (c : CoreForm) (s : Strategy) (k : ℕ) (log : List TimePoint) (i : ℕ
 
   -- and where it holds, the values lie in the domain
   inside : (row : List Value) → nat_eq (length row) (length vars) ≡ true → satisfies log c i row ≡ true
-      → list_all (within dom) row ≡ true
+      → list_all (in_domain dom) row ≡ true
   inside row size holds =
       row_within vars row dom (fv_apart (meaning c)) size
       (λ y m.
@@ -143,7 +143,7 @@ module _ (c : CoreForm) (s : Strategy) (k : ℕ) (log : List TimePoint) (i : ℕ
 
   member : (row : List Value)
       → has_row (satisfying_rows log c i) row
-      ≡ (satisfies log c i row && (nat_eq (length row) (length vars) && list_all (within dom) row))
+      ≡ (satisfies log c i row && (nat_eq (length row) (length vars) && list_all (in_domain dom) row))
   member row =
       any_ascending row_total row_exact (eq_by_cmp row_cmp row)
       (filter (satisfies log c i) (all_rows (length vars) dom))
@@ -159,16 +159,16 @@ module _ (c : CoreForm) (s : Strategy) (k : ℕ) (log : List TimePoint) (i : ℕ
       and_from (mine row) (has_row (satisfying_rows log c i) row) both.0
       (member row
       ∙ and_from (satisfies log c i row)
-      (nat_eq (length row) (length vars) && list_all (within dom) row) holds
-      (and_from (nat_eq (length row) (length vars)) (list_all (within dom) row) size (inside row size holds)))
+      (nat_eq (length row) (length vars) && list_all (in_domain dom) row) holds
+      (and_from (nat_eq (length row) (length vars)) (list_all (in_domain dom) row) size (inside row size holds)))
 
   back : (row : List Value) → (mine row && has_row (satisfying_rows log c i) row) ≡ true
       → (mine row && has_row table.rows row) ≡ true
   back row h =
       let both = and_parts (mine row) (has_row (satisfying_rows log c i) row) h in
       let parts = and_parts (satisfies log c i row)
-      (nat_eq (length row) (length vars) && list_all (within dom) row) (sym (member row) ∙ both.1) in
-      let rest = and_parts (nat_eq (length row) (length vars)) (list_all (within dom) row) parts.1 in
+      (nat_eq (length row) (length vars) && list_all (in_domain dom) row) (sym (member row) ∙ both.1) in
+      let rest = and_parts (nat_eq (length row) (length vars)) (list_all (in_domain dom) row) parts.1 in
       and_from (mine row) (has_row table.rows row) both.0 (alike row rest.0 both.0 ∙ parts.0)
 
   same_owned : owned_by s k table.rows ≡ owned_by s k (satisfying_rows log c i)

@@ -11,11 +11,12 @@ use Rattle.rescale_core.proofs.SliceLemmas.{active_at}
 use Rattle.rescale_core.specs.Lines.{Due, ChangeOfStrategy}
 use Rattle.rescale_core.specs.Lines.Due.{Slicing, Parting, Hole}
 use Rattle.monitor_state.specs.Pieces.{AreCuts, PieceStands}
-use Rattle.rescale_core.specs.States.{Adopted, CanAdopt, IsFull, Merges, MergesMore, Splits}
-use Rattle.rescale_core.specs.Phases.{Follows, Gives, IsPieceFor, Meets, NotIn, Parts, PhaseOf, froms_of, phase_after}
+use Rattle.rescale_core.specs.States.{Adopted, CanAdopt, IsFull, MergesPieces, MergesMore, Splits}
+use Rattle.rescale_core.specs.Phases.{FitsPhase, AnswersOne, IsPieceFor, Meets, NotIn, Parts, PhaseOf, froms_of}
+use Rattle.rescale_core.specs.Phases.{phase_after}
 use Rattle.rescale_core.specs.Phases.PhaseOf.{Active, Vacant, Waiting}
 use Rattle.rescale_core.specs.Workers.{IsFor}
-use Rattle.rescale_core.specs.Working.{CanTake, GoesOn, IsAt, Settles, TakesItem}
+use Rattle.rescale_core.specs.Working.{CanTake, ResumesMerging, IsAt, Settles, TakesItem}
 use Rattle.rescale_core.specs.declared.item.Item.TheVariants.{Adopt, Part}
 use Rattle.rescale_core.specs.declared.item.Out.TheVariants.{Piece as OfPiece}
 use Rattle.state_merge.specs.MergingView.{MergingOf}
@@ -55,8 +56,8 @@ module _ (w : Worker) (m : Monitor) (s : Strategy) (g : ℕ) (old new : Strategy
   abbrev k : ℕ
   k = w.number
 
-  parts_due : (ph : PhaseOf) (d : Due) → IsAt c k ph w.phase → Follows c k ph d → Meets c k ph d (Part g old new)
-      → Gives c k d (map (λ p. OfPiece p) pieces) × IsAt c k (phase_after ph d (Part g old new)) x.phase
+  parts_due : (ph : PhaseOf) (d : Due) → IsAt c k ph w.phase → FitsPhase c k ph d → Meets c k ph d (Part g old new)
+      → AnswersOne c k d (map (λ p. OfPiece p) pieces) × IsAt c k (phase_after ph d (Part g old new)) x.phase
   parts_due ph (Slicing g' s' log q) at f meets = cc
   parts_due ph (Parting t) at f meets =
       let l = active_at c k ph s t.old t.before m w.phase f.0 at active in
@@ -83,7 +84,7 @@ pub part_below : (w : Worker) (m : Monitor) (s : Strategy) (g : ℕ) (old new : 
 part_below w m s g old new active can = by can.0 can.1 can.2 can.3 can.4
   where
     by : (ph : PhaseOf) (d : Due) → IsAt (core_form w.core) w.number ph w.phase
-        → Follows (core_form w.core) w.number ph d → Meets (core_form w.core) w.number ph d (Part g old new)
+        → FitsPhase (core_form w.core) w.number ph d → Meets (core_form w.core) w.number ph d (Part g old new)
         → w.number < workers_of s
     by ph (Slicing g' s' log q) at f meets = cc
     by ph (Parting t) at f meets =
@@ -96,7 +97,7 @@ part_below w m s g old new active can = by can.0 can.1 can.2 can.3 can.4
 -- the merge has just the pieces of these workers
 record Carries (c : CoreForm) (k : ℕ) (t : ChangeOfStrategy) (froms : List ℕ) (merging : Merging)
     (missing : ℕ) : Type 0 where
-  merges : Merges c t.old t.new k t.before froms merging
+  merges : MergesPieces c t.old t.new k t.before froms merging
   left : missing + length froms ≡ workers_of t.old
   some : 0 < missing
   adopted : Adopted t.old froms
@@ -104,11 +105,11 @@ record Carries (c : CoreForm) (k : ℕ) (t : ChangeOfStrategy) (froms : List ℕ
 carries_none : (c : CoreForm) (k : ℕ) (t : ChangeOfStrategy) (ph : PhaseOf) (phase : Phase) (count : ℕ)
     (merging : Merging)
     (missing : ℕ) → ph ≡ Vacant → 0 < workers_of t.old → IsAt c k ph phase → count ≡ workers_of t.old
-    → GoesOn phase c count merging missing → Carries c k t (froms_of ph) merging missing
+    → ResumesMerging phase c count merging missing → Carries c k t (froms_of ph) merging missing
 carries_none c k t ph phase count merging missing none few at counts on =
     let vacant : phase ≡ held.Vacant = subst (λ (y : PhaseOf). IsAt c k y phase) none at in
-    let g : GoesOn held.Vacant c count merging missing =
-    subst (λ (y : Phase). GoesOn y c count merging missing) vacant on in
+    let g : ResumesMerging held.Vacant c count merging missing =
+    subst (λ (y : Phase). ResumesMerging y c count merging missing) vacant on in
     subst (λ (y : PhaseOf). Carries c k t (froms_of y) merging missing) (sym none) record {
       merges = record {
         of = ap (λ (m : MergingOf). m.core) g.0;
@@ -123,13 +124,13 @@ carries_none c k t ph phase count merging missing none few at counts on =
 
 carries_some : (c : CoreForm) (k : ℕ) (t : ChangeOfStrategy) (ph : PhaseOf) (froms : List ℕ) (phase : Phase) (count : ℕ)
     (merging : Merging) (missing : ℕ) → ph ≡ Waiting t froms → IsAt c k ph phase
-    → GoesOn phase c count merging missing → Carries c k t froms merging missing
+    → ResumesMerging phase c count merging missing → Carries c k t froms merging missing
 carries_some c k t ph froms phase count merging missing waiting at on =
     let a : IsAt c k (Waiting t froms) phase = subst (λ (y : PhaseOf). IsAt c k y phase) waiting at in
-    let g : GoesOn (held.Waiting a.0 t.new a.1) c count merging missing =
-    subst (λ (y : Phase). GoesOn y c count merging missing) a.2 on in
+    let g : ResumesMerging (held.Waiting a.0 t.new a.1) c count merging missing =
+    subst (λ (y : Phase). ResumesMerging y c count merging missing) a.2 on in
     record {
-      merges = subst (λ (y : Merging). Merges c t.old t.new k t.before froms y) (sym g.0) a.3;
+      merges = subst (λ (y : Merging). MergesPieces c t.old t.new k t.before froms y) (sym g.0) a.3;
       left = let e = g.1 in let l = a.4 in omega arith;
       some = let e = g.1 in let l = a.5 in omega arith;
       adopted = a.6;
@@ -137,8 +138,8 @@ carries_some c k t ph froms phase count merging missing waiting at on =
 
 carries : (c : CoreForm) (k : ℕ) (t : ChangeOfStrategy) (j : ℕ) (ph : PhaseOf) (phase : Phase) (count : ℕ)
     (merging : Merging)
-    (missing : ℕ) → Follows c k ph (Hole t j) → IsAt c k ph phase → count ≡ workers_of t.old
-    → GoesOn phase c count merging missing → Carries c k t (froms_of ph) merging missing
+    (missing : ℕ) → FitsPhase c k ph (Hole t j) → IsAt c k ph phase → count ≡ workers_of t.old
+    → ResumesMerging phase c count merging missing → Carries c k t (froms_of ph) merging missing
 carries c k t j ph phase count merging missing f at counts on = ⊎_elim
     (λ none. carries_none c k t ph phase count merging missing none (let h = f.1 in omega arith) at counts on)
     (λ waiting. carries_some c k t ph (froms_of ph) phase count merging missing waiting at on)
@@ -155,7 +156,7 @@ record DuePiece (w : Worker) (piece : Piece) (now : Strategy) (merging : Merging
   new_for : IsFor (core_form w.core) t.new
 
 module _ (w : Worker) (piece : Piece) (now : Strategy) (merging : Merging) (missing : ℕ)
-    (on : GoesOn w.phase (core_form w.core) piece.count merging missing) where
+    (on : ResumesMerging w.phase (core_form w.core) piece.count merging missing) where
   abbrev own : CoreForm
   own = core_form w.core
 
@@ -163,7 +164,7 @@ module _ (w : Worker) (piece : Piece) (now : Strategy) (merging : Merging) (miss
   number_of = w.number
 
   due_piece : (ph : PhaseOf) (t : ChangeOfStrategy) (j : ℕ) → IsAt own number_of ph w.phase
-      → Follows own number_of ph (Hole t j)
+      → FitsPhase own number_of ph (Hole t j)
       → Meets own number_of ph (Hole t j) (Adopt piece now) → DuePiece w piece now merging missing t (froms_of ph)
   due_piece ph t j at f meets =
       let p : Piece = meets.0 in
@@ -188,7 +189,7 @@ module _ (w : Worker) (piece : Piece) (now : Strategy) (merging : Merging) (miss
         near = (d.piece_for.near, d.carried.adopted.near);
       }
 
-  adopts_due : (ph : PhaseOf) (d : Due) → IsAt own number_of ph w.phase → Follows own number_of ph d
+  adopts_due : (ph : PhaseOf) (d : Due) → IsAt own number_of ph w.phase → FitsPhase own number_of ph d
       → Meets own number_of ph d (Adopt piece now)
       → CanAdopt merging piece × (0 < missing)
   adopts_due ph (Slicing g s log q) at f meets = cc
@@ -218,11 +219,11 @@ module _ (w : Worker) (piece : Piece) (now : Strategy) (merging : Merging) (miss
   module _ (merging2 : Merging) (more : MergesMore merging piece merging2) where
     -- the merge with the piece
     merges_piece : (t : ChangeOfStrategy) (froms : List ℕ) → DuePiece w piece now merging missing t froms
-        → Merges own t.old t.new number_of t.before (piece.from ∷ froms) merging2
+        → MergesPieces own t.old t.new number_of t.before (piece.from ∷ froms) merging2
     merges_piece t froms d =
         more own t.old t.new number_of t.before froms d.old_for d.new_for d.carried.merges d.piece_for.stands
 
-    fills_due : (ph : PhaseOf) (d : Due) → IsAt own number_of ph w.phase → Follows own number_of ph d
+    fills_due : (ph : PhaseOf) (d : Due) → IsAt own number_of ph w.phase → FitsPhase own number_of ph d
         → Meets own number_of ph d (Adopt piece now)
         → missing ≡ 1 → IsFull merging2
     fills_due ph (Slicing g s log q) at f meets one = cc
@@ -286,9 +287,9 @@ module _ (w : Worker) (piece : Piece) (now : Strategy) (merging : Merging) (miss
           (sym (ap (λ b. cond b (Active t.new t.before) (Waiting t (piece.from ∷ froms)))
           (ne_eqb (j + 1) (workers_of t.old) other))) (before_last t froms d (λ one. other (omega arith)))
 
-      adopted_due : (ph : PhaseOf) (d : Due) → IsAt own number_of ph w.phase → Follows own number_of ph d
+      adopted_due : (ph : PhaseOf) (d : Due) → IsAt own number_of ph w.phase → FitsPhase own number_of ph d
           → Meets own number_of ph d (Adopt piece now)
-          → Gives own number_of d [] × IsAt own number_of (phase_after ph d (Adopt piece now)) x.phase
+          → AnswersOne own number_of d [] × IsAt own number_of (phase_after ph d (Adopt piece now)) x.phase
       adopted_due ph (Slicing g s log q) at f meets = cc
       adopted_due ph (Parting t) at f meets = cc
       adopted_due ph (Hole t j) at f meets =

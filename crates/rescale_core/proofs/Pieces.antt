@@ -11,7 +11,7 @@ use Rattle.rescale_core.proofs.Fitting.{and_right, every_more, every_map}
 use Rattle.rescale_core.proofs.WorldLemmas.{AreChanges, Rises}
 use Rattle.rescale_core.specs.Lines.{ChangeOfStrategy, Due}
 use Rattle.rescale_core.specs.Soundly.{Known, last_part}
-use Rattle.rescale_core.specs.Phases.{NotIn, IsPieceFor, Gives, Parts, Answers, rows_for}
+use Rattle.rescale_core.specs.Phases.{NotIn, IsPieceFor, AnswersOne, Parts, Answers, rows_for}
 use Rattle.rescale_core.specs.Workers.{newly}
 use Rattle.rescale_core.specs.Handing.{for_place}
 use Rattle.rescale_core.specs.Worlds.{pieces_in}
@@ -51,7 +51,7 @@ outs_for c k (Slicing g s log p) = length (newly c log p)
 outs_for c k (Parting t) = workers_of t.new
 outs_for c k (Hole t j) = 0
 
-gives_length : (c : CoreForm) (k : ℕ) (d : Due) (a : List Out) → Gives c k d a → length a ≡ outs_for c k d
+gives_length : (c : CoreForm) (k : ℕ) (d : Due) (a : List Out) → AnswersOne c k d a → length a ≡ outs_for c k d
 gives_length c k (Slicing g s log p) a e = ap length e ∙ length-map (newly c log p) (rows_for c k g s log p)
 gives_length c k (Parting t) a e = e.0
 gives_length c k (Hole t j) a e = ap length e
@@ -243,7 +243,7 @@ place_more g q a b = ap (for_place g q) (pieces_more a b)
 
 by_generation : (f : ℕ → Option ChangeOfStrategy) (c : CoreForm) (k g q : ℕ) (u : ChangeOfStrategy) (ds : List Due)
     (a b : List Out)
-    → Rises u.generation ds → AreChanges f ds → Gives c k (Parting u) a → Answers c k ds b
+    → Rises u.generation ds → AreChanges f ds → AnswersOne c k (Parting u) a → Answers c k ds b
     → Lone (for_place g q (pieces_in b))
     → Dec (u.generation ≡ g) → Lone (for_place g q (pieces_in a) ++ for_place g q (pieces_in b))
 by_generation f c k g q u ds a b r t gives answers rest (yes is) =

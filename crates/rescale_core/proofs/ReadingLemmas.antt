@@ -25,7 +25,7 @@ use Rattle.rescale_core.specs.Slots.{chance_of, standing_of}
 use Rattle.rescale_core.specs.Soundly.{IsSound}
 use Rattle.rescale_core.specs.Handing.{chance, standing}
 use Rattle.rescale_core.specs.Workers.{MayFollow, slice_for}
-use Rattle.rescale_core.specs.Worlds.{World, after, line_in, queue_in, spot_in, standings_in}
+use Rattle.rescale_core.specs.Worlds.{World, world_after, line_in, queue_in, spot_in, standings_in}
 use Rattle.rescale_core.specs.Worlds.Step.{Read}
 use Rattle.rescale_core.specs.declared.item.Entry.{Entry}
 use Rattle.rescale_core.specs.declared.item.Entry.TheVariants.{Point}
@@ -111,21 +111,21 @@ slices_len c s p = length-map-range_with_len (λ k. slice_for c s k p) 0 (worker
 
 module _ (w : World) (r : IsSound w) (e : Entry) (k : ℕ) where
   -- the line gets what the entry makes due
-  line_longer : drop (length (w.seats k).fed) (line_in (after w (Read e)) k)
+  line_longer : drop (length (w.seats k).fed) (line_in (world_after w (Read e)) k)
       ≡ drop (length (w.seats k).fed) (line_in w k) ++ (dues k (spot_in w) e ++ [])
   line_longer =
       let l = supplies_length w.core k w.pieces (line_in w k) (w.seats k).fed (r.seated k).supplied in
       ap (drop (length (w.seats k).fed)) (line_more k (first_spot w.first) w.read (e ∷ []))
       ∙ drop-append-le (length (w.seats k).fed) (line_in w k) (line k (spot_in w) (e ∷ [])) l
 
-  pub queue_longer : queue_in (after w (Read e)) k
+  pub queue_longer : queue_in (world_after w (Read e)) k
       ≡ queue_in w k ++ map (chance w.core k w.pieces) (dues k (spot_in w) e ++ [])
   queue_longer =
       ap (map (chance w.core k w.pieces)) line_longer
       ∙ map-append (chance w.core k w.pieces) (drop (length (w.seats k).fed) (line_in w k))
       (dues k (spot_in w) e ++ [])
 
-  pub standings_longer : standings_in (after w (Read e)) k
+  pub standings_longer : standings_in (world_after w (Read e)) k
       ≡ standings_in w k ++ map standing (dues k (spot_in w) e ++ [])
   standings_longer =
       ap (map standing) line_longer
@@ -136,7 +136,8 @@ pub reads_on : (w : World) (e : Entry) (k : ℕ) (old more new : List Slot) → 
     → chances old ≡ queue_in w k → map standing_of old ≡ standings_in w k
     → chances more ≡ map (chance w.core k w.pieces) (dues k (spot_in w) e ++ [])
     → map standing_of more ≡ map standing (dues k (spot_in w) e ++ [])
-    → (chances new ≡ queue_in (after w (Read e)) k) × (map standing_of new ≡ standings_in (after w (Read e)) k)
+    → (chances new ≡ queue_in (world_after w (Read e)) k)
+    × (map standing_of new ≡ standings_in (world_after w (Read e)) k)
 reads_on w e k old more new r pushed queue standings due counts = (
   ap chances pushed ∙ map-append chance_of old more ∙ ap (λ x. x ++ chances more) queue
       ∙ ap (λ x. queue_in w k ++ x) due ∙ sym (queue_longer w r e k),
@@ -152,7 +153,7 @@ module _ (r x : Router) (w : World) (is : IsRouterOf r w) (p : TimePoint) (may :
     (queued : (q : ℕ)
     → queue_at x.queues.items q ≡ queue_at r.queues.items q ++ slices_for r.generation r.points 0 slices q)
     (outstanding : x.outstanding ≡ r.outstanding) (gather : x.gather ≡ r.gather) where
-  spot_is : spot_in (after w (Read (Point p))) ≡ moved (spot_in w) (Point p)
+  spot_is : spot_in (world_after w (Read (Point p))) ≡ moved (spot_in w) (Point p)
   spot_is = spot_more (first_spot w.first) w.read (Point p ∷ [])
 
   -- the slices in the world's words
@@ -164,8 +165,8 @@ module _ (r x : Router) (w : World) (is : IsRouterOf r w) (p : TimePoint) (may :
       ∙ ap (λ y. slices_for (spot_in w).generation r.points 0 (all_slices y r.strategy p) q) is.core
       ∙ ap (λ y. slices_for (spot_in w).generation r.points 0 (all_slices w.core y p) q) is.strategy
 
-  queue_is : (q : ℕ) → (chances (queue_at x.queues.items q) ≡ queue_in (after w (Read (Point p))) q)
-      × (map standing_of (queue_at x.queues.items q) ≡ standings_in (after w (Read (Point p))) q)
+  queue_is : (q : ℕ) → (chances (queue_at x.queues.items q) ≡ queue_in (world_after w (Read (Point p))) q)
+      × (map standing_of (queue_at x.queues.items q) ≡ standings_in (world_after w (Read (Point p))) q)
   queue_is q =
       let a : Spot = spot_in w in
       reads_on w (Point p) q (queue_at r.queues.items q) (slices_for r.generation r.points 0 slices q)
@@ -175,7 +176,7 @@ module _ (r x : Router) (w : World) (is : IsRouterOf r w) (p : TimePoint) (may :
       (ap (map standing_of) (slices_in q)
       ∙ slice_standings w.core a.generation r.points a.strategy a.points p q a.generation)
 
-  pub point_read : IsRouterOf x (after w (Read (Point p)))
+  pub point_read : IsRouterOf x (world_after w (Read (Point p)))
   point_read = record {
     core = core ∙ is.core;
     generation = generation ∙ is.generation ∙ sym (ap (λ (a : Spot). a.generation) spot_is);
@@ -188,6 +189,6 @@ module _ (r x : Router) (w : World) (is : IsRouterOf r w) (p : TimePoint) (may :
     counted = ap (λ v. length v.items) outstanding ∙ is.counted ∙ sym len;
     outstanding = λ k. ap (λ v. (w.seats k).collected + get_or v.items k 0) outstanding ∙ is.outstanding k;
     sound = step_sound w (Read (Point p)) is.sound may;
-    gather = subst (λ g. IsGatherOf g (after w (Read (Point p)))) (sym gather)
+    gather = subst (λ g. IsGatherOf g (world_after w (Read (Point p)))) (sym gather)
         (gather_point r.gather w p is.sound may is.gather);
   }

@@ -18,7 +18,7 @@ use Rattle.rescale_core.specs.Queues.{all_put, chances, queue_at}
 use Rattle.rescale_core.specs.Routing.{HasTaken, IsGatherOf, IsRouterOf, MayAdd}
 use Rattle.rescale_core.specs.Slots.{standing_of}
 use Rattle.rescale_core.specs.Handing.{chance, standing}
-use Rattle.rescale_core.specs.Worlds.{World, Allowed, IsGathered, after, all_collected}
+use Rattle.rescale_core.specs.Worlds.{World, Allowed, IsGathered, world_after, all_collected}
 use Rattle.rescale_core.specs.Worlds.{line_in, not_back, pieces_in, queue_in, rows_in, standings_in}
 use Rattle.rescale_core.specs.Worlds.Step.{Collect, Emit}
 use Rattle.rescale_core.specs.declared.item.Item.{Item}
@@ -59,18 +59,18 @@ module _ (r x : Router) (w : World) (is : IsRouterOf r w) (k n : ℕ) (outs : Li
     fed_same q true e = ap (λ y. (w.seats y).fed) (sym (eqb-true q k e))
     fed_same q false e = refl
 
-    queue_collected : (q : ℕ) → queue_in (after w (Collect k)) q ≡ fillings q ps (queue_in w q)
+    queue_collected : (q : ℕ) → queue_in (world_after w (Collect k)) q ≡ fillings q ps (queue_in w q)
     queue_collected q =
         ap (λ is. map (chance w.core q (w.pieces ++ ps)) (drop (length is) (line_in w q)))
         (fed_same q (nat_eq q k) refl)
         ∙ all_filled w.core q ps w.pieces (drop (length (w.seats q).fed) (line_in w q)) (are_next w q is.sound)
 
-    queue_is : (q : ℕ) → chances (queue_at x.queues.items q) ≡ queue_in (after w (Collect k)) q
+    queue_is : (q : ℕ) → chances (queue_at x.queues.items q) ≡ queue_in (world_after w (Collect k)) q
     queue_is q =
         ap chances (filled q ∙ ap (λ y. all_put q y (queue_at r.queues.items q)) ps_are)
         ∙ put_chances q ps (queue_at r.queues.items q) ∙ ap (fillings q ps) (is.queues q) ∙ sym (queue_collected q)
 
-    standings_are : (q : ℕ) → map standing_of (queue_at x.queues.items q) ≡ standings_in (after w (Collect k)) q
+    standings_are : (q : ℕ) → map standing_of (queue_at x.queues.items q) ≡ standings_in (world_after w (Collect k)) q
     standings_are q =
         ap (map standing_of) (filled q) ∙ put_standings q (pieces_in outs) (queue_at r.queues.items q) ∙ is.standings q
         ∙ sym (ap (λ (is : List Item). map standing (drop (length is) (line_in w q))) (fed_same q (nat_eq q k) refl))
@@ -90,7 +90,7 @@ module _ (r x : Router) (w : World) (is : IsRouterOf r w) (k n : ℕ) (outs : Li
         let o = is.outstanding q in
         omega arith
 
-    pub outs_collected : IsRouterOf x (after w (Collect k))
+    pub outs_collected : IsRouterOf x (world_after w (Collect k))
     outs_collected = record {
       core = core ∙ is.core;
       generation = generation ∙ is.generation;
@@ -142,7 +142,7 @@ taken_low r w k n outs is taken some =
 pub verdict_emitted : (r x : Router) (w : World) (v : Verdict) → IsRouterOf r w
     → core_form x.core ≡ core_form r.core → x.strategy ≡ r.strategy → x.generation ≡ r.generation
     → x.points ≡ r.points → x.queues ≡ r.queues → x.outstanding ≡ r.outstanding → Emits r.gather (Some v) x.gather
-    → Allowed w (Emit v) × IsRouterOf x (after w (Emit v))
+    → Allowed w (Emit v) × IsRouterOf x (world_after w (Emit v))
 verdict_emitted r x w v is core strategy generation points queues outstanding e = let g =
     gather_emitted r.gather x.gather w v is.sound e is.gather in (
       g.0,
@@ -165,7 +165,7 @@ verdict_emitted r x w v is core strategy generation points queues outstanding e 
 pub emitted_if : (r x : Router) (o : Option Verdict) → core_form x.core ≡ core_form r.core
     → x.strategy ≡ r.strategy → x.generation ≡ r.generation → x.points ≡ r.points → x.queues ≡ r.queues
     → x.outstanding ≡ r.outstanding → Emits r.gather o x.gather
-    → IfSome o (λ v. (w : World) → IsRouterOf r w → Allowed w (Emit v) × IsRouterOf x (after w (Emit v)))
+    → IfSome o (λ v. (w : World) → IsRouterOf r w → Allowed w (Emit v) × IsRouterOf x (world_after w (Emit v)))
 emitted_if r x (Some v) a b c d e o h = λ w is. verdict_emitted r x w v is a b c d e o h
 emitted_if r x None a b c d e o h = tt
 

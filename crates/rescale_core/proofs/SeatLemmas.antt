@@ -17,7 +17,7 @@ use Rattle.rescale_core.specs.Phases.{Answers}
 use Rattle.rescale_core.specs.Workers.{IsFor}
 use Rattle.rescale_core.specs.Worlds.{first_world, World, Seat, line_in}
 use Rattle.rescale_core.specs.Worlds.{spot_in, set_seat}
-use Rattle.rescale_core.specs.Worlds.{fed_more, took_one, after}
+use Rattle.rescale_core.specs.Worlds.{fed_more, took_one, world_after}
 use Rattle.rescale_core.specs.Worlds.{ready_in, slice_at}
 use Rattle.std.specs.List.{AllByRecursion}
 use Rattle.monitorable.specs.CoreForms.{CoreForm}
@@ -113,16 +113,16 @@ other_pieces k q (p ∷ ps) other a =
 -- ---- reading
 
 module _ (w : World) (e : Entry) (r : IsSound w) (may : MayRead w.core (spot_in w) e) where
-  longer : (k : ℕ) → line_in (after w (Read e)) k ≡ line_in w k ++ line k (spot_in w) (e ∷ [])
+  longer : (k : ℕ) → line_in (world_after w (Read e)) k ≡ line_in w k ++ line k (spot_in w) (e ∷ [])
   longer k = line_more k (first_spot w.first) w.read (e ∷ [])
 
-  same_front : (k n : ℕ) → n ≤ length (line_in w k) → take n (line_in (after w (Read e)) k) ≡ take n (line_in w k)
+  same_front : (k n : ℕ) → n ≤ length (line_in w k) → take n (line_in (world_after w (Read e)) k) ≡ take n (line_in w k)
   same_front k n h = ap (take n) (longer k) ∙ take-append-le n (line_in w k) (line k (spot_in w) (e ∷ [])) h
 
   long : (k : ℕ) → length (w.seats k).fed ≤ length (line_in w k)
   long k = supplies_length w.core k w.pieces (line_in w k) (w.seats k).fed (r.seated k).supplied
 
-  seated_read : (k : ℕ) → IsSeated (after w (Read e)) k (w.seats k)
+  seated_read : (k : ℕ) → IsSeated (world_after w (Read e)) k (w.seats k)
   seated_read k = let s = r.seated k in let l = long k in let t = s.taken in let col = s.collected in record {
     supplied = subst (λ ds. Supplies w.core k w.pieces ds (w.seats k).fed) (sym (longer k))
         (supplies_line w.core k w.pieces (line_in w k) (line k (spot_in w) (e ∷ [])) (w.seats k).fed s.supplied);
@@ -137,7 +137,7 @@ module _ (w : World) (e : Entry) (r : IsSound w) (may : MayRead w.core (spot_in 
     pieces = s.pieces;
   }
 
-  pub read_sound : IsSound (after w (Read e))
+  pub read_sound : IsSound (world_after w (Read e))
   read_sound = record {
     first = r.first;
     read = sound_more w.core (first_spot w.first) w.read e r.read may;
@@ -168,14 +168,14 @@ module _ (w : World) (e : Entry) (r : IsSound w) (may : MayRead w.core (spot_in 
     rows_past = every_map
         (λ (p : Rows). p.point < last_level w.core 0 (take (w.seats p.worker).collected (line_in w p.worker)))
         (λ (p : Rows). p.point < last_level w.core 0
-        (take (w.seats p.worker).collected (line_in (after w (Read e)) p.worker))) w.rows
+        (take (w.seats p.worker).collected (line_in (world_after w (Read e)) p.worker))) w.rows
         (λ p h. let s = r.seated p.worker in let l = long p.worker in let t = s.taken in let col = s.collected in
         subst (λ ds. p.point < last_level w.core 0 ds)
         (sym (same_front p.worker (w.seats p.worker).collected (omega arith))) h) r.rows_past;
     past = every_map
         (λ (p : Piece). p.generation ≤ last_part 0 (take (w.seats p.from).collected (line_in w p.from)))
         (λ (p : Piece). p.generation ≤ last_part 0
-        (take (w.seats p.from).collected (line_in (after w (Read e)) p.from))) w.pieces
+        (take (w.seats p.from).collected (line_in (world_after w (Read e)) p.from))) w.pieces
         (λ p h. let s = r.seated p.from in let l = long p.from in let t = s.taken in let col = s.collected in
         subst (λ ds. p.generation ≤ last_part 0 ds)
         (sym (same_front p.from (w.seats p.from).collected (omega arith))) h) r.past;
@@ -184,7 +184,7 @@ module _ (w : World) (e : Entry) (r : IsSound w) (may : MayRead w.core (spot_in 
 -- ---- handing over
 
 module _ (w : World) (k : ℕ) (i : Item) (r : IsSound w) (rest : List Item) (next : ready_in w k ≡ i ∷ rest) where
-  seated_fed : IsSeated (after w (Feed k i)) k (fed_more (w.seats k) i)
+  seated_fed : IsSeated (world_after w (Feed k i)) k (fed_more (w.seats k) i)
   seated_fed = let s = r.seated k in
       let d = first_due w.core k w.pieces (drop (length (w.seats k).fed) (line_in w k)) i rest next in record {
         supplied = supplies_next w.core k w.pieces (line_in w k) (w.seats k).fed d.0 d.1 i s.supplied d.2 d.3;
@@ -197,7 +197,7 @@ module _ (w : World) (k : ℕ) (i : Item) (r : IsSound w) (rest : List Item) (ne
         pieces = s.pieces;
       }
 
-  other_fed : (q : ℕ) → IsSeated (after w (Feed k i)) q (w.seats q)
+  other_fed : (q : ℕ) → IsSeated (world_after w (Feed k i)) q (w.seats q)
   other_fed q = let s = r.seated q in
       record {
         supplied = s.supplied;
@@ -210,11 +210,11 @@ module _ (w : World) (k : ℕ) (i : Item) (r : IsSound w) (rest : List Item) (ne
         pieces = s.pieces;
       }
 
-  pub feed_sound : IsSound (after w (Feed k i))
+  pub feed_sound : IsSound (world_after w (Feed k i))
   feed_sound = record {
     first = r.first;
     read = r.read;
-    seated = at_seat (IsSeated (after w (Feed k i))) w.seats k (fed_more (w.seats k) i) other_fed seated_fed;
+    seated = at_seat (IsSeated (world_after w (Feed k i))) w.seats k (fed_more (w.seats k) i) other_fed seated_fed;
     known = r.known;
     distinct = r.distinct;
     rows_known = r.rows_known;
@@ -244,7 +244,7 @@ module _ (w : World) (k : ℕ) (i : Item) (r : IsSound w) (rest : List Item) (ne
 
 module _ (w : World) (k : ℕ) (gave : List Out) (r : IsSound w) (room : (w.seats k).taken < length (w.seats k).fed)
     (answers : Answers w.core k (take ((w.seats k).taken + 1) (line_in w k)) ((w.seats k).outs ++ gave)) where
-  seated_took : IsSeated (after w (Take k gave)) k (took_one (w.seats k) gave)
+  seated_took : IsSeated (world_after w (Take k gave)) k (took_one (w.seats k) gave)
   seated_took = let s = r.seated k in record {
     supplied = s.supplied;
     taken = omega arith;
@@ -256,7 +256,7 @@ module _ (w : World) (k : ℕ) (gave : List Out) (r : IsSound w) (room : (w.seat
     pieces = s.pieces;
   }
 
-  other_took : (q : ℕ) → IsSeated (after w (Take k gave)) q (w.seats q)
+  other_took : (q : ℕ) → IsSeated (world_after w (Take k gave)) q (w.seats q)
   other_took q = let s = r.seated q in
       record {
         supplied = s.supplied;
@@ -269,11 +269,12 @@ module _ (w : World) (k : ℕ) (gave : List Out) (r : IsSound w) (room : (w.seat
         pieces = s.pieces;
       }
 
-  pub take_sound : IsSound (after w (Take k gave))
+  pub take_sound : IsSound (world_after w (Take k gave))
   take_sound = record {
     first = r.first;
     read = r.read;
-    seated = at_seat (IsSeated (after w (Take k gave))) w.seats k (took_one (w.seats k) gave) other_took seated_took;
+    seated =
+        at_seat (IsSeated (world_after w (Take k gave))) w.seats k (took_one (w.seats k) gave) other_took seated_took;
     known = r.known;
     distinct = r.distinct;
     rows_known = r.rows_known;

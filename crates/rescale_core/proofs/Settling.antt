@@ -6,7 +6,7 @@ use Rattle.mfotl_model.specs.Log.{times}
 use Rattle.mfotl_model.specs.Strategies.{Strategy}
 use Rattle.rescale_core.proofs.LogLemmas.{settled_more, settled_within, viol_final}
 use Rattle.rescale_core.specs.Lines.{Spot, Due, moved, spot_after, AreSound}
-use Rattle.monitorable.specs.Fragment.{Fits}
+use Rattle.monitorable.specs.Fragment.{IsMonitorable}
 use Rattle.rescale_core.specs.Workers.{violations_at, settled_in}
 use Rattle.rescale_core.specs.Worlds.{slice_at}
 use Rattle.monitorable.specs.CoreForms.{CoreForm}
@@ -24,7 +24,7 @@ level_rises c (Point p ∷ es) a s = let h = level_rises c es (moved a (Point p)
 level_rises c (Change x ∷ es) a s = level_rises c es (moved a (Change x)) s.1
 
 -- and has the same violations
-pub viol_stays : (c : CoreForm) → Fits c → (es : List Entry) (a : Spot) (i : ℕ) → AreSound c a es
+pub viol_stays : (c : CoreForm) → IsMonitorable c → (es : List Entry) (a : Spot) (i : ℕ) → AreSound c a es
     → i < settled_in c a.points → violations_at c a.points i ≡ violations_at c (spot_after a es).points i
 viol_stays c fits [] a i s h = refl
 viol_stays c fits (Point p ∷ es) a i s h = let m = settled_more c a.points p s.0 in
@@ -100,7 +100,7 @@ one_slice_settles c (Point z ∷ es) a i n m g h s t log log2 p q sound e f x y 
     (head_or_tail a z es n (Slicing g s log p) e)
 
 -- what a slice settles is final
-pub slice_final : (c : CoreForm) → Fits c
+pub slice_final : (c : CoreForm) → IsMonitorable c
     → (es : List Entry) (a : Spot) (i n g : ℕ) (s : Strategy) (log : List TimePoint) (p : TimePoint)
     → AreSound c a es → IsSlice a es n g s log p → i < settled_in c (log ++ p ∷ [])
     → (violations_at c (log ++ p ∷ []) i ≡ violations_at c (spot_after a es).points i)

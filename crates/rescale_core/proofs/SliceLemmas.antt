@@ -32,7 +32,7 @@ use Rattle.rescale_core.specs.Lines.Due.{Slicing, Parting, Hole}
 use Rattle.rescale_core.specs.Monitors.{IsMonitor}
 use Rattle.monitor_state.specs.Pieces.{view_of}
 use Rattle.rescale_core.specs.Settlings.{HasWidth, IsKept, IsTabled, all_settled, row_out}
-use Rattle.rescale_core.specs.Phases.{PhaseOf, Follows, Gives, Meets, rows_for, phase_after}
+use Rattle.rescale_core.specs.Phases.{PhaseOf, FitsPhase, AnswersOne, Meets, rows_for, phase_after}
 use Rattle.rescale_core.specs.Phases.PhaseOf.{Active, Vacant}
 use Rattle.rescale_core.specs.Workers.{IsFor, MayFollow, settled_in, slice_for}
 use Rattle.rescale_core.specs.Working.{CanTake, IsAt, TakesItem, first_phase}
@@ -147,7 +147,7 @@ pub record DueSlice (c : CoreForm) (k : ℕ) (m : Monitor) (s : Strategy) (g n :
   pub fits : IsFor c s
 
 pub due_slice : (c : CoreForm) (k : ℕ) (m : Monitor) (s : Strategy) (g n : ℕ) (p : TimePoint) (phase : Phase)
-    → phase ≡ held.Active m s → (ph : PhaseOf) (d : Due) → IsAt c k ph phase → Follows c k ph d
+    → phase ≡ held.Active m s → (ph : PhaseOf) (d : Due) → IsAt c k ph phase → FitsPhase c k ph d
     → Meets c k ph d (Slice g n p)
     → DueSlice c k m s g n p ph d
 due_slice c k m s g n p phase active ph (Slicing g' s' log q) at f meets =
@@ -216,7 +216,7 @@ module _ (c : CoreForm) (k : ℕ) (m : Monitor) (s : Strategy) (g n : ℕ) (p : 
     pub gives : (phase : Phase) → phase ≡ held.Active m2 s → (gave : List Out)
         → gave ≡ map (row_out s k g) (all_settled new old.given tables)
         → AllByRecursion IsTabled (all_settled new old.given tables)
-        → Gives c k d gave × IsAt c k (phase_after ph d (Slice g n p)) phase
+        → AnswersOne c k d gave × IsAt c k (phase_after ph d (Slice g n p)) phase
     gives phase active gave rows tabled =
         let count : settled_in c due.log + length tables ≡ settled_in c (due.log ++ due.point ∷ []) =
         stepped.1.count in
@@ -224,7 +224,7 @@ module _ (c : CoreForm) (k : ℕ) (m : Monitor) (s : Strategy) (g n : ℕ) (p : 
         let exact : AllExact (longer near due.point) (meaning c) old.given tables =
         subst (λ i. AllExact (longer near due.point) (meaning c) i tables) (sym given_is) stepped.1.exact in
         let low : new.first ≤ old.given = omega (arith, first) in
-        subst (λ (x : Due). Gives c k x gave × IsAt c k (phase_after ph x (Slice g n p)) phase) (sym due.due) (
+        subst (λ (x : Due). AnswersOne c k x gave × IsAt c k (phase_after ph x (Slice g n p)) phase) (sym due.due) (
           rows
               ∙ rows_due c k g s due.log due.point new old.given tables due.fits low stepped.0.times exact tabled
               ∙ ap (λ i. map (rows_for c k g s due.log due.point) (range_with_len i (length tables))) given_is

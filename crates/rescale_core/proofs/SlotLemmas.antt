@@ -13,8 +13,9 @@ use Rattle.mfotl_model.specs.Strategies.{Strategy}
 use Rattle.rescale_core.specs.Chances.{Chance}
 use Rattle.rescale_core.specs.Chances.Chance.{Sure, Open}
 use Rattle.rescale_core.specs.Chances.Standing.{Last, Outside, Within}
-use Rattle.rescale_core.specs.Queues.{all_put, chances, filled}
-use Rattle.rescale_core.specs.Slots.{chance_of, ends_place, first_ends, first_rooms, is_there, lacks, put_in, ready_of}
+use Rattle.rescale_core.specs.Queues.{all_put, chances, queue_filled}
+use Rattle.rescale_core.specs.Slots.{chance_of, ends_place, first_ends, first_rooms, is_there, lacks, slot_filled}
+use Rattle.rescale_core.specs.Slots.{ready_of}
 use Rattle.rescale_core.specs.Slots.{standing_of, weight_of}
 use Rattle.rescale_core.specs.declared.item.Item.{Item}
 use Rattle.rescale_core.specs.declared.item.Item.TheVariants.{Adopt}
@@ -147,27 +148,27 @@ abbrev place : Piece → List Slot → ℕ
 place p xs = position_or_len (lacks p.generation) xs
 
 fills_at : (p : Piece) (xs : List Slot) (d : Slot) → place p xs < length xs
-    → filled p xs ≡ set xs (place p xs) (put_in p (get_or xs (place p xs) d))
+    → queue_filled p xs ≡ set xs (place p xs) (slot_filled p (get_or xs (place p xs) d))
 fills_at p [] d h = absurd (omega arith)
 fills_at p (x ∷ xs) d h = at (lacks p.generation x) h (fills_at p xs d)
   where
     at : (b : Bool) → cond (not b) (1 + place p xs) 0 < suc (length xs)
-        → (place p xs < length xs → filled p xs ≡ set xs (place p xs) (put_in p (get_or xs (place p xs) d)))
-        → cond b (put_in p x ∷ xs) (x ∷ filled p xs)
+        → (place p xs < length xs → queue_filled p xs ≡ set xs (place p xs) (slot_filled p (get_or xs (place p xs) d)))
+        → cond b (slot_filled p x ∷ xs) (x ∷ queue_filled p xs)
         ≡ set (x ∷ xs) (cond (not b) (1 + place p xs) 0)
-        (put_in p (get_or (x ∷ xs) (cond (not b) (1 + place p xs) 0) d))
+        (slot_filled p (get_or (x ∷ xs) (cond (not b) (1 + place p xs) 0) d))
     at true h rest = refl
     at false h rest =
         ap (λ y. x ∷ y) (rest (omega arith))
-        ∙ ap (λ n. set (x ∷ xs) n (put_in p (get_or (x ∷ xs) n d))) (one_more (place p xs))
+        ∙ ap (λ n. set (x ∷ xs) n (slot_filled p (get_or (x ∷ xs) n d))) (one_more (place p xs))
 
-fills_none : (p : Piece) (xs : List Slot) → length xs ≤ place p xs → filled p xs ≡ xs
+fills_none : (p : Piece) (xs : List Slot) → length xs ≤ place p xs → queue_filled p xs ≡ xs
 fills_none p [] h = refl
 fills_none p (x ∷ xs) h = at (lacks p.generation x) h (fills_none p xs)
   where
     at : (b : Bool) → suc (length xs) ≤ cond (not b) (1 + place p xs) 0
-        → (length xs ≤ place p xs → filled p xs ≡ xs)
-        → cond b (put_in p x ∷ xs) (x ∷ filled p xs) ≡ x ∷ xs
+        → (length xs ≤ place p xs → queue_filled p xs ≡ xs)
+        → cond b (slot_filled p x ∷ xs) (x ∷ queue_filled p xs) ≡ x ∷ xs
     at true h rest = absurd (omega arith)
     at false h rest = ap (λ y. x ∷ y) (rest (omega arith))
 
@@ -186,14 +187,14 @@ found_none a n e = at (nat_lt a n) refl e
     at false l e = ltb-false a n l
 
 pub filled_at : (p : Piece) (xs : List Slot) (i : ℕ) (x : Slot) → position (lacks p.generation) xs ≡ Some i
-    → x ≡ get_or xs i x → set xs i (put_in p x) ≡ filled p xs
+    → x ≡ get_or xs i x → set xs i (slot_filled p x) ≡ queue_filled p xs
 filled_at p xs i x e here =
     let f = found_at (position_or_len (lacks p.generation) xs) (length xs) i e in
-    ap (λ y. set xs i (put_in p y)) here
-    ∙ ap (λ n. set xs n (put_in p (get_or xs n x))) (sym f.1)
+    ap (λ y. set xs i (slot_filled p y)) here
+    ∙ ap (λ n. set xs n (slot_filled p (get_or xs n x))) (sym f.1)
     ∙ sym (fills_at p xs x f.0)
 
-pub unfilled : (p : Piece) (xs : List Slot) → position (lacks p.generation) xs ≡ None → xs ≡ filled p xs
+pub unfilled : (p : Piece) (xs : List Slot) → position (lacks p.generation) xs ≡ None → xs ≡ queue_filled p xs
 unfilled p xs e = sym (fills_none p xs (found_none (position_or_len (lacks p.generation) xs) (length xs) e))
 
 -- one room more
@@ -223,26 +224,26 @@ abbrev pub fillings : ℕ → List Piece → List Chance → List Chance
 fillings q [] cs = cs
 fillings q (p ∷ ps) cs = fillings q ps (cond (nat_eq p.to q) (filling p cs) cs)
 
-filled_chances : (p : Piece) (xs : List Slot) → chances (filled p xs) ≡ filling p (chances xs)
+filled_chances : (p : Piece) (xs : List Slot) → chances (queue_filled p xs) ≡ filling p (chances xs)
 filled_chances p [] = refl
 filled_chances p (Ready i ∷ xs) = ap (λ cs. Sure i ∷ cs) (filled_chances p xs)
 filled_chances p (Room g now last (Some q) ∷ xs) = ap (λ cs. Sure (Adopt q now) ∷ cs) (filled_chances p xs)
 filled_chances p (Room g now last None ∷ xs) = at (nat_eq g p.generation) (filled_chances p xs)
   where
-    at : (b : Bool) → chances (filled p xs) ≡ filling p (chances xs)
-        → chances (cond b (Room g now last (Some p) ∷ xs) (Room g now last None ∷ filled p xs))
+    at : (b : Bool) → chances (queue_filled p xs) ≡ filling p (chances xs)
+        → chances (cond b (Room g now last (Some p) ∷ xs) (Room g now last None ∷ queue_filled p xs))
         ≡ cond b (Sure (Adopt p now) ∷ chances xs) (Open g now ∷ filling p (chances xs))
     at true rest = refl
     at false rest = ap (λ cs. Open g now ∷ cs) rest
 
-filled_standings : (p : Piece) (xs : List Slot) → map standing_of (filled p xs) ≡ map standing_of xs
+filled_standings : (p : Piece) (xs : List Slot) → map standing_of (queue_filled p xs) ≡ map standing_of xs
 filled_standings p [] = refl
 filled_standings p (Ready i ∷ xs) = ap (λ ss. Outside ∷ ss) (filled_standings p xs)
 filled_standings p (Room g now last (Some q) ∷ xs) = ap (λ ss. cond last Last Within ∷ ss) (filled_standings p xs)
 filled_standings p (Room g now last None ∷ xs) = at (nat_eq g p.generation) (filled_standings p xs)
   where
-    at : (b : Bool) → map standing_of (filled p xs) ≡ map standing_of xs
-        → map standing_of (cond b (Room g now last (Some p) ∷ xs) (Room g now last None ∷ filled p xs))
+    at : (b : Bool) → map standing_of (queue_filled p xs) ≡ map standing_of xs
+        → map standing_of (cond b (Room g now last (Some p) ∷ xs) (Room g now last None ∷ queue_filled p xs))
         ≡ cond last Last Within ∷ map standing_of xs
     at true rest = refl
     at false rest = ap (λ ss. cond last Last Within ∷ ss) rest
@@ -250,9 +251,9 @@ filled_standings p (Room g now last None ∷ xs) = at (nat_eq g p.generation) (f
 pub put_chances : (q : ℕ) (ps : List Piece) (xs : List Slot) → chances (all_put q ps xs) ≡ fillings q ps (chances xs)
 put_chances q [] xs = refl
 put_chances q (p ∷ ps) xs =
-    put_chances q ps (cond (nat_eq p.to q) (filled p xs) xs) ∙ ap (fillings q ps) (at (nat_eq p.to q))
+    put_chances q ps (cond (nat_eq p.to q) (queue_filled p xs) xs) ∙ ap (fillings q ps) (at (nat_eq p.to q))
   where
-    at : (b : Bool) → chances (cond b (filled p xs) xs) ≡ cond b (filling p (chances xs)) (chances xs)
+    at : (b : Bool) → chances (cond b (queue_filled p xs) xs) ≡ cond b (filling p (chances xs)) (chances xs)
     at true = filled_chances p xs
     at false = refl
 
@@ -260,8 +261,8 @@ pub put_standings : (q : ℕ) (ps : List Piece) (xs : List Slot)
     → map standing_of (all_put q ps xs) ≡ map standing_of xs
 put_standings q [] xs = refl
 put_standings q (p ∷ ps) xs =
-    put_standings q ps (cond (nat_eq p.to q) (filled p xs) xs) ∙ at (nat_eq p.to q)
+    put_standings q ps (cond (nat_eq p.to q) (queue_filled p xs) xs) ∙ at (nat_eq p.to q)
   where
-    at : (b : Bool) → map standing_of (cond b (filled p xs) xs) ≡ map standing_of xs
+    at : (b : Bool) → map standing_of (cond b (queue_filled p xs) xs) ≡ map standing_of xs
     at true = filled_standings p xs
     at false = refl

@@ -13,8 +13,8 @@ use Rattle.rescale_core.specs.Soundly.{change_of, IsSound}
 use Rattle.rescale_core.specs.Working.{Has, first_phase}
 use Rattle.rescale_core.specs.Handing.{for_place}
 use Rattle.rescale_core.specs.Worlds.{World, Step, line_in}
-use Rattle.rescale_core.specs.Worlds.{after, Allowed}
-use Rattle.rescale_core.specs.Worlds.{run, AreAllowed}
+use Rattle.rescale_core.specs.Worlds.{world_after, Allowed}
+use Rattle.rescale_core.specs.Worlds.{run_steps, AreAllowed}
 use Rattle.rescale_core.specs.Worlds.Step.{Read, Feed, Take, Collect, Emit}
 use Rattle.rescale_core.specs.Phases.PhaseOf.{Active, Vacant, Waiting}
 use Rattle.rescale_core.proofs.SeatLemmas.{read_sound, feed_sound, take_sound}
@@ -22,7 +22,7 @@ use Rattle.rescale_core.proofs.Collecting.{collect_sound}
 
 -- ---- all steps
 
-emit_sound : (w : World) (v : _) → IsSound w → IsSound (after w (Emit v))
+emit_sound : (w : World) (v : _) → IsSound w → IsSound (world_after w (Emit v))
 emit_sound w v r =
     record {
       first = r.first;
@@ -46,16 +46,16 @@ emit_sound w v r =
       rows_past = r.rows_past;
     }
 
-pub step_sound : (w : World) (s : Step) → IsSound w → Allowed w s → IsSound (after w s)
+pub step_sound : (w : World) (s : Step) → IsSound w → Allowed w s → IsSound (world_after w s)
 step_sound w (Read e) r a = read_sound w e r a
 step_sound w (Feed k i) r a = feed_sound w k i r a.0 a.1
 step_sound w (Take k gave) r a = take_sound w k gave r a.0 a.1
 step_sound w (Collect k) r a = collect_sound w k r
 step_sound w (Emit v) r a = emit_sound w v r
 
-pub run_sound : (w : World) (ss : List Step) → IsSound w → AreAllowed w ss → IsSound (run w ss)
+pub run_sound : (w : World) (ss : List Step) → IsSound w → AreAllowed w ss → IsSound (run_steps w ss)
 run_sound w [] r a = r
-run_sound w (s ∷ ss) r a = run_sound (after w s) ss (step_sound w s r a.0) a.1
+run_sound w (s ∷ ss) r a = run_sound (world_after w s) ss (step_sound w s r a.0) a.1
 
 -- ---- what workers are told
 

@@ -2,7 +2,7 @@
 use Rattle.std.proofs.Common.{◌≡◌, ◌+◌, ◌<◌, false, List, [], ◌∷◌, ◌++◌, length, map, sum_by, refl, ap, arith}
 use Rattle.std.proofs.lemmas.List.Sums.{sum_by-cons}
 use Rattle.rescale_core.specs.Chances.Chance.{Sure}
-use Rattle.rescale_core.specs.Queues.{chances, filled}
+use Rattle.rescale_core.specs.Queues.{chances, queue_filled}
 use Rattle.rescale_core.specs.Slots.{first_ends, ready_of, sure, weight_of}
 use Rattle.rescale_core.specs.declared.item.Item.{Item}
 use Rattle.monitor_state.specs.declared.state.Piece.{Piece}
@@ -19,7 +19,8 @@ sure_ready [] xs = refl
 sure_ready (i ∷ is) xs = ap (λ ys. i ∷ ys) (sure_ready is xs)
 
 -- no piece is missing there
-pub sure_filled : (p : Piece) (is : List Item) (xs : List Slot) → sure is ++ filled p xs ≡ filled p (sure is ++ xs)
+pub sure_filled : (p : Piece) (is : List Item) (xs : List Slot)
+    → sure is ++ queue_filled p xs ≡ queue_filled p (sure is ++ xs)
 sure_filled p [] xs = refl
 sure_filled p (i ∷ is) xs = ap (λ ys. Ready i ∷ ys) (sure_filled p is xs)
 

@@ -10,13 +10,13 @@ use Rattle.rescale_core.proofs.Leading.{answers_more}
 use Rattle.rescale_core.proofs.Soundness.{step_sound}
 use Rattle.rescale_core.proofs.WorldLemmas.{supplies_length}
 use Rattle.rescale_core.specs.Lines.{Spot, Due, first_spot, line, spot_after}
-use Rattle.rescale_core.specs.Moving.{CellLine, StepKind, Moves, Reaches, lines_of}
+use Rattle.rescale_core.specs.Moving.{CellLine, StepKind, DriverMoves, Reaches, lines_of}
 use Rattle.rescale_core.specs.Moving.StepKind.{Takes}
 use Rattle.rescale_core.specs.Routing.{IsRouterOf}
 use Rattle.rescale_core.specs.Soundly.{IsSound}
 use Rattle.rescale_core.specs.Phases.{Answers}
 use Rattle.rescale_core.specs.Handing.{chance, standing}
-use Rattle.rescale_core.specs.Worlds.{World, Allowed, Seat, after, line_in, spot_in, took_one}
+use Rattle.rescale_core.specs.Worlds.{World, Allowed, Seat, world_after, line_in, spot_in, took_one}
 use Rattle.rescale_core.specs.Worlds.Step.{Take}
 use Rattle.rescale_core.specs.declared.driver.Driver.{Driver}
 use Rattle.rescale_core.specs.declared.item.Entry.{Entry}
@@ -30,7 +30,7 @@ pub reaches_on : (a b : List StepKind) (w x y : World) → Reaches w a x → Rea
 reaches_on [] b w x y r s = subst (λ z. Reaches z b y) (sym r) s
 reaches_on (k ∷ a) b w x y r s = (r.0, r.1, reaches_on a b r.0 x y r.2 s)
 
-pub moves_none : (d e : Driver) → e.router ≡ d.router → lines_of e ≡ lines_of d → Moves d [] e
+pub moves_none : (d e : Driver) → e.router ≡ d.router → lines_of e ≡ lines_of d → DriverMoves d [] e
 moves_none d e r m = λ w is. (
   w,
   refl,
@@ -77,7 +77,7 @@ next_due (suc t) (x ∷ xs) h = next_due t xs (omega arith)
 
 module _ (w : World) (k : ℕ) (a : List Out) where
   abbrev one : World
-  one = after w (Take k a)
+  one = world_after w (Take k a)
 
   fed_same : (q : ℕ) (b : Bool) → nat_eq q k ≡ b → (cond b (took_one (w.seats k) a) (w.seats q)).fed ≡ (w.seats q).fed
   fed_same q true e = ap (λ y. (w.seats y).fed) (sym (eqb-true q k e))
@@ -153,7 +153,7 @@ takes_all (suc n) w k outs r room a =
           (answers_more w.core k (take (w.seats k).taken (line_in w k)) d (w.seats k).outs first
           (r.seated k).answers cut.3),
     ) in
-    let next : World = after w (Take k first) in
+    let next : World = world_after w (Take k first) in
     let here : next.seats k ≡ took_one (w.seats k) first = seat_here w k first in
     let room2 : (next.seats k).taken + n ≤ length (next.seats k).fed =
     subst (λ (y : Seat). y.taken + n ≤ length y.fed) (sym here) (omega arith) in

@@ -12,7 +12,7 @@ use Rattle.rescale_core.proofs.DriverLemmas.{answered_last, get_below, get_here,
 use Rattle.rescale_core.proofs.DriverLemmas.{seed_in}
 use Rattle.rescale_core.proofs.DriverLemmas.{some_is}
 use Rattle.rescale_core.proofs.Taking.{Took, reaches_on, takes_all, took_router}
-use Rattle.rescale_core.specs.Moving.{CellLine, HasTurn, IsDriverOf, IsLineOf, Moves, Reaches, collects, lines_of}
+use Rattle.rescale_core.specs.Moving.{CellLine, HasTurn, IsDriverOf, IsLineOf, DriverMoves, Reaches, collects, lines_of}
 use Rattle.rescale_core.specs.Moving.StepKind.{Feeds, Takes}
 use Rattle.rescale_core.specs.Routing.{HasTaken, IsRouterOf, feeds}
 use Rattle.rescale_core.specs.Seeds.{SeedOf}
@@ -20,8 +20,9 @@ use Rattle.rescale_core.specs.Soundly.{IsSound}
 use Rattle.rescale_core.specs.Phases.{Answers}
 use Rattle.rescale_core.specs.Working.{May}
 use Rattle.rescale_core.specs.Works.{MayBy, ToldBy, seen}
-use Rattle.rescale_core.specs.Worlds.{World, Allowed, AreAllowed, Seat, after, all_collected, fed_more, first_seat}
-use Rattle.rescale_core.specs.Worlds.{line_in, run}
+use Rattle.rescale_core.specs.Worlds.{World, Allowed, AreAllowed, Seat, world_after, all_collected, fed_more}
+use Rattle.rescale_core.specs.Worlds.{first_seat}
+use Rattle.rescale_core.specs.Worlds.{line_in, run_steps}
 use Rattle.rescale_core.specs.Worlds.Step.{Feed, Collect}
 use Rattle.rescale_core.specs.declared.driver.Driver.{Driver}
 use Rattle.rescale_core.specs.declared.item.Item.{Item}
@@ -99,12 +100,12 @@ module _ (d e : Driver) (k n : ℕ) (outs : List Out) (l : CellLine) (at : get_e
         )
 
     -- it is collected
-    some_back : (m : ℕ) → n ≡ suc m → IsRouterOf e.router (after taken_back.0 (Collect k))
+    some_back : (m : ℕ) → n ≡ suc m → IsRouterOf e.router (world_after taken_back.0 (Collect k))
         → (x : World) × Reaches w (replicate n (Takes k) ++ collects k n) x × IsDriverOf e x
     some_back m z router =
         let x : World = taken_back.0 in
         let t : Took w x k n outs = taken_back.2 in
-        let y : World = after x (Collect k) in
+        let y : World = world_after x (Collect k) in
         let here : y.seats k ≡ all_collected (x.seats k) =
         ap (λ b. cond b (all_collected (x.seats k)) (x.seats k)) (eq-eqb k k refl) in
         let other : (q : ℕ) → q ≢ k → y.seats q ≡ w.seats q = λ q not_k.
@@ -138,12 +139,12 @@ module _ (d e : Driver) (k n : ℕ) (outs : List Out) (l : CellLine) (at : get_e
         )
 
   pub moves_none_back : n ≡ 0 → e.router ≡ d.router
-      → Moves d (replicate n (Takes k) ++ collects k n) e × HasTurn (lines_of e) k
+      → DriverMoves d (replicate n (Takes k) ++ collects k n) e × HasTurn (lines_of e) k
   moves_none_back z same = ((λ w is. none_back w is z same), has_turn)
 
   pub moves_back : (n ≡ 0 → ⊥)
-      → ((w : World) → IsRouterOf d.router w → HasTaken w k n outs → IsRouterOf e.router (after w (Collect k)))
-      → Moves d (replicate n (Takes k) ++ collects k n) e × HasTurn (lines_of e) k
+      → ((w : World) → IsRouterOf d.router w → HasTaken w k n outs → IsRouterOf e.router (world_after w (Collect k)))
+      → DriverMoves d (replicate n (Takes k) ++ collects k n) e × HasTurn (lines_of e) k
   moves_back z collected = (
     (λ w is.
         some_back w is (n - 1) (let some_n : n ≢ 0 = z in omega arith)
@@ -163,7 +164,7 @@ record Handed (w x : World) (k : ℕ) (items : List Item) : Type 0 where
   back : (x.seats k).back ≡ (w.seats k).back
   others : (q : ℕ) → q ≢ k → x.seats q ≡ w.seats q
 
-handed_all : (items : List Item) (w : World) (k : ℕ) → Handed w (run w (feeds k items)) k items
+handed_all : (items : List Item) (w : World) (k : ℕ) → Handed w (run_steps w (feeds k items)) k items
 handed_all [] w k = record {
   core = refl;
   first = refl;
@@ -175,8 +176,8 @@ handed_all [] w k = record {
   others = λ q n. refl;
 }
 handed_all (i ∷ items) w k =
-    let r = handed_all items (after w (Feed k i)) k in
-    let here : (after w (Feed k i)).seats k ≡ fed_more (w.seats k) i =
+    let r = handed_all items (world_after w (Feed k i)) k in
+    let here : (world_after w (Feed k i)).seats k ≡ fed_more (w.seats k) i =
     ap (λ b. cond b (fed_more (w.seats k) i) (w.seats k)) (eq-eqb k k refl) in
     record {
       core = r.core;
@@ -191,18 +192,18 @@ handed_all (i ∷ items) w k =
     }
 
 reaches_feeds : (items : List Item) (w : World) (k : ℕ) → AreAllowed w (feeds k items)
-    → Reaches w (replicate (length items) (Feeds k)) (run w (feeds k items))
+    → Reaches w (replicate (length items) (Feeds k)) (run_steps w (feeds k items))
 reaches_feeds [] w k a = refl
 reaches_feeds (i ∷ items) w k a =
-    (after w (Feed k i), (i, a.0, refl), reaches_feeds items (after w (Feed k i)) k a.1)
+    (world_after w (Feed k i), (i, a.0, refl), reaches_feeds items (world_after w (Feed k i)) k a.1)
 
 module _ (d : Driver) (router : Router) (k : ℕ) (items : List Item) (turn : HasTurn (lines_of d) k)
     (moves : (w : World) → IsRouterOf d.router w
-    → AreAllowed w (feeds k items) × IsRouterOf router (run w (feeds k items))) where
+    → AreAllowed w (feeds k items) × IsRouterOf router (run_steps w (feeds k items))) where
   pub may_items : (w : World) → IsDriverOf d w → MayHand MayBy (main_view d.main) k items
   may_items w is =
       let m = moves w is.router in
-      let x : World = run w (feeds k items) in
+      let x : World = run_steps w (feeds k items) in
       let h = handed_all items w k in
       let il = is.lines k turn.0 turn.1 in
       let seed : seed_in x k ≡ seen turn.0.seed =
@@ -219,10 +220,10 @@ module _ (d : Driver) (router : Router) (k : ℕ) (items : List Item) (turn : Ha
   module _ (e : Driver) (is_router : e.router ≡ router) (l : CellLine) (outs : List Out)
       (at : get_elem? (lines_of d) k ≡ some l) (told : ToldBy l.seed l.handed (l.back ++ outs))
       (main : lines_of e ≡ slice_set (lines_of d) k (swapped_line l outs items)) where
-    pub moves_over : Moves d (replicate (length items) (Feeds k)) e
+    pub moves_over : DriverMoves d (replicate (length items) (Feeds k)) e
     moves_over w is =
         let m = moves w is.router in
-        let x : World = run w (feeds k items) in
+        let x : World = run_steps w (feeds k items) in
         let h = handed_all items w k in
         let il = is.lines k l at in
         let same : l ≡ turn.0 = some_is l turn.0 (sym at ∙ turn.1) in

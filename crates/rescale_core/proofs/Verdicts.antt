@@ -15,7 +15,8 @@ use Rattle.mfotl_model.specs.Strategies.{Strategy}
 use Rattle.monitorable.specs.CoreForms.{CoreForm}
 use Rattle.rescale_core.specs.Laws.{EmitsVerdicts}
 use Rattle.rescale_core.specs.Workers.{violations_at, settled_in}
-use Rattle.rescale_core.specs.Worlds.{World, first_world, Step, spot_in, verdict_on, Allowed, AreAllowed, after, run}
+use Rattle.rescale_core.specs.Worlds.{World, first_world, Step, spot_in, verdict_on, Allowed, AreAllowed, world_after}
+use Rattle.rescale_core.specs.Worlds.{run_steps}
 use Rattle.rescale_core.specs.declared.item.Entry.{Entry}
 use Rattle.verdict_merge.specs.declared.rows.Verdict.{Verdict}
 use Rattle.rescale_core.specs.Worlds.Step.{Read, Feed, Take, Collect, Emit}
@@ -29,9 +30,10 @@ map_same f g j (suc n) h = let x : f j ≡ g j = h j (omega arith) in
 -- the verdicts on what was read stay where more is read
 verdict_stays : (w : World) (e : Entry) (i : ℕ) → IsSound w → Allowed w (Read e)
     → i < settled_in w.core (spot_in w).points
-    → verdict_on w.core (spot_in w).points i ≡ verdict_on w.core (spot_in (after w (Read e))).points i
+    → verdict_on w.core (spot_in w).points i ≡ verdict_on w.core (spot_in (world_after w (Read e))).points i
 verdict_stays w e i r may h =
-    let more : spot_in (after w (Read e)) ≡ moved (spot_in w) e = spot_more (first_spot w.first) w.read (e ∷ []) in
+    let more : spot_in (world_after w (Read e)) ≡ moved (spot_in w) e =
+        spot_more (first_spot w.first) w.read (e ∷ []) in
     let v : violations_at w.core (spot_in w).points i ≡ violations_at w.core (moved (spot_in w) e).points i =
     viol_stays w.core r.first.fits (e ∷ []) (spot_in w) i (may, tt) h in
     let n = settled_within w.core (spot_in w).points in
@@ -44,11 +46,11 @@ verdict_stays w e i r may h =
     verdict_of i a rows = record { point = i; ts = slice_index (times a.points) i; rows = rows }
 
 read_verdicts : (w : World) (e : Entry) → IsSound w → Allowed w (Read e) → EmitsVerdicts w
-    → EmitsVerdicts (after w (Read e))
-read_verdicts w e r may v = let more : spot_in (after w (Read e)) ≡ moved (spot_in w) e =
+    → EmitsVerdicts (world_after w (Read e))
+read_verdicts w e r may v = let more : spot_in (world_after w (Read e)) ≡ moved (spot_in w) e =
     spot_more (first_spot w.first) w.read (e ∷ []) in record {
       are = v.are ∙ map_same (verdict_on w.core (spot_in w).points)
-          (verdict_on w.core (spot_in (after w (Read e))).points) 0 (length w.emitted)
+          (verdict_on w.core (spot_in (world_after w (Read e))).points) 0 (length w.emitted)
           (λ i h. (let s = v.settled in verdict_stays w e i r may (omega arith)));
       settled = let s = v.settled in
           let up : settled_in w.core (spot_in w).points ≤ settled_in w.core (moved (spot_in w) e).points =
@@ -56,7 +58,7 @@ read_verdicts w e r may v = let more : spot_in (after w (Read e)) ≡ moved (spo
           subst (λ (a : Spot). length w.emitted ≤ settled_in w.core a.points) (sym more) (omega arith);
     }
 
-pub step_verdicts : (w : World) (s : Step) → IsSound w → Allowed w s → EmitsVerdicts w → EmitsVerdicts (after w s)
+pub step_verdicts : (w : World) (s : Step) → IsSound w → Allowed w s → EmitsVerdicts w → EmitsVerdicts (world_after w s)
 step_verdicts w (Read e) r a v = read_verdicts w e r a v
 step_verdicts w (Feed k i) r a v = record { are = v.are; settled = v.settled }
 step_verdicts w (Take k gave) r a v = record { are = v.are; settled = v.settled }
@@ -72,9 +74,9 @@ step_verdicts w (Emit x) r a v = let n : ℕ = length w.emitted in let f = verdi
     }
 
 pub run_verdicts : (w : World) (ss : List Step) → IsSound w → AreAllowed w ss → EmitsVerdicts w
-    → EmitsVerdicts (run w ss)
+    → EmitsVerdicts (run_steps w ss)
 run_verdicts w [] r a v = v
-run_verdicts w (s ∷ ss) r a v = run_verdicts (after w s) ss (step_sound w s r a.0) a.1 (step_verdicts w s r a.0 v)
+run_verdicts w (s ∷ ss) r a v = run_verdicts (world_after w s) ss (step_sound w s r a.0) a.1 (step_verdicts w s r a.0 v)
 
 pub first_verdicts : (c : CoreForm) (s : Strategy) → EmitsVerdicts (first_world c s)
 first_verdicts c s = record { are = refl; settled = omega arith }

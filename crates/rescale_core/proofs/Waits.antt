@@ -17,8 +17,8 @@ use Rattle.rescale_core.specs.Handing.{standing}
 use Rattle.rescale_core.specs.Slots.{standing_of, weight_of}
 use Rattle.rescale_core.specs.Routing.{IsRouterOf}
 use Rattle.rescale_core.specs.Soundly.{IsSound}
-use Rattle.rescale_core.specs.Waiting.{HasRoom, added, is_short, most_waiting, waiting_in, weight}
-use Rattle.rescale_core.specs.Worlds.{World, Allowed, Step, Seat, after, all_collected, fed_more, line_in}
+use Rattle.rescale_core.specs.Waiting.{HasRoom, added_waiting, is_short, most_waiting, waiting_in, weight}
+use Rattle.rescale_core.specs.Worlds.{World, Allowed, Step, Seat, world_after, all_collected, fed_more, line_in}
 use Rattle.rescale_core.specs.Worlds.{spot_in, took_one}
 use Rattle.rescale_core.specs.Worlds.Step.{Read, Feed, Take, Collect, Emit}
 use Rattle.rescale_core.specs.declared.item.Entry.{Entry}
@@ -118,7 +118,7 @@ holes_weigh t (suc (suc m)) i e =
     earlier true h = let l = eqb-true (i + 1) (workers_of t.old) h in absurd (omega arith)
     earlier false h = omega arith
 
-dues_weigh : (k : ℕ) (a : Spot) (e : Entry) → sum_by weight (line k a (e ∷ [])) ≤ added (Read e)
+dues_weigh : (k : ℕ) (a : Spot) (e : Entry) → sum_by weight (line k a (e ∷ [])) ≤ added_waiting (Read e)
 dues_weigh k a (Point p) =
     let slice : List Due = Slicing a.generation a.strategy a.points p ∷ [] in
     let h : sum_by weight (if_below k (workers_of a.strategy) slice) ≤ 1 =
@@ -144,19 +144,19 @@ more_dropped (suc n) [] = omega arith
 more_dropped (suc n) (d ∷ ds) = more_dropped n ds
 
 read_waits : (w : World) (e : Entry) (k : ℕ) → IsSound w
-    → waiting_in (after w (Read e)) k ≤ waiting_in w k + added (Read e)
+    → waiting_in (world_after w (Read e)) k ≤ waiting_in w k + added_waiting (Read e)
 read_waits w e k sound =
     let n : ℕ = length (w.seats k).fed in
     let more : List Due = line k (spot_in w) (e ∷ []) in
     let long = supplies_length w.core k w.pieces (line_in w k) (w.seats k).fed (sound.seated k).supplied in
-    let same : drop n (line_in (after w (Read e)) k) ≡ drop n (line_in w k) ++ more =
+    let same : drop n (line_in (world_after w (Read e)) k) ≡ drop n (line_in w k) ++ more =
     ap (drop n) (line_more k (first_spot w.first) w.read (e ∷ [])) ∙ drop-append-le n (line_in w k) more long in
-    let split : sum_by weight (drop n (line_in (after w (Read e)) k)) ≡ waiting_in w k + sum_by weight more =
+    let split : sum_by weight (drop n (line_in (world_after w (Read e)) k)) ≡ waiting_in w k + sum_by weight more =
     ap (sum_by weight) same ∙ sum_by-append weight (drop n (line_in w k)) more in
     let h = dues_weigh k (spot_in w) e in
     omega arith
 
-fed_waits : (w : World) (q : ℕ) (i : Item) (k : ℕ) → waiting_in (after w (Feed q i)) k ≤ waiting_in w k
+fed_waits : (w : World) (q : ℕ) (i : Item) (k : ℕ) → waiting_in (world_after w (Feed q i)) k ≤ waiting_in w k
 fed_waits w q i k = at (nat_eq k q) refl
   where
     at : (b : Bool) → nat_eq k q ≡ b
@@ -185,15 +185,15 @@ same_waits w q s k fed = at (nat_eq k q) refl
     at false e = omega arith
 
 pub waits_for : (w : World) (s : Step) (k : ℕ) → IsSound w → Allowed w s
-    → waiting_in (after w s) k ≤ waiting_in w k + added s
+    → waiting_in (world_after w s) k ≤ waiting_in w k + added_waiting s
 waits_for w (Read e) k sound may = read_waits w e k sound
 waits_for w (Feed q i) k sound may = let h = fed_waits w q i k in omega arith
 waits_for w (Take q gave) k sound may =
-    let h : waiting_in (after w (Take q gave)) k ≤ waiting_in w k =
+    let h : waiting_in (world_after w (Take q gave)) k ≤ waiting_in w k =
     same_waits w q (took_one (w.seats q) gave) k refl in
     omega arith
 waits_for w (Collect q) k sound may =
-    let h : waiting_in (after w (Collect q)) k ≤ waiting_in w k =
+    let h : waiting_in (world_after w (Collect q)) k ≤ waiting_in w k =
     same_waits w q (all_collected (w.seats q)) k refl in
     omega arith
 waits_for w (Emit v) k sound may = omega arith

@@ -9,7 +9,7 @@ use Rattle.rescale_core.specs.Seeds.{SeedOf}
 use Rattle.rescale_core.specs.Soundly.{IsSound}
 use Rattle.rescale_core.specs.Working.{StandsFor}
 use Rattle.rescale_core.specs.Handing.{nth}
-use Rattle.rescale_core.specs.Worlds.{World, Allowed, IsGathered, Seat, after, spot_in}
+use Rattle.rescale_core.specs.Worlds.{World, Allowed, IsGathered, Seat, world_after, spot_in}
 use Rattle.rescale_core.specs.Worlds.Step.{Read, Feed, Take, Collect, Emit}
 use Rattle.rescale_core.specs.declared.step.Applied.{Applied}
 use Rattle.rescale_core.specs.declared.step.Applied.TheVariants.{Did, NotEnabled}
@@ -42,11 +42,11 @@ abbrev pub MayTake : Cell → Type 0
 MayTake cell = (w : World) × (k : ℕ) × IsSound w × IsCellOf w k cell
 
 -- the cell's worker takes an item, or there is none
-abbrev pub Takes : Cell → Applied → Cell → Type 0
-Takes old Did new =
+abbrev pub CellTakes : Cell → Applied → Cell → Type 0
+CellTakes old Did new =
     (w : World) (k : ℕ) → IsSound w → IsCellOf w k old
-    → (gave : List Out) × Allowed w (Take k gave) × IsCellOf (after w (Take k gave)) k new
-Takes old NotEnabled new =
+    → (gave : List Out) × Allowed w (Take k gave) × IsCellOf (world_after w (Take k gave)) k new
+CellTakes old NotEnabled new =
     (old.items.items ≡ []) × ((w : World) (k : ℕ) → IsCellOf w k old → IsCellOf w k new)
 
 -- how many workers the strategy has that an entry changes to
@@ -72,11 +72,11 @@ pub record IsMachineOf (m : Machine) (entries : List Entry) (w : World) : Type 0
 
 -- the step leads from one world to another
 abbrev pub StepsTo : World → MachineStep → World → Type 0
-StepsTo w step.Read x = (e : Entry) × Allowed w (Read e) × (x ≡ after w (Read e))
-StepsTo w (step.Feed k) x = (i : Item) × Allowed w (Feed k i) × (x ≡ after w (Feed k i))
-StepsTo w (step.Take k) x = (gave : List Out) × Allowed w (Take k gave) × (x ≡ after w (Take k gave))
-StepsTo w (step.Collect k) x = Allowed w (Collect k) × (x ≡ after w (Collect k))
-StepsTo w step.Emit x = (v : Verdict) × Allowed w (Emit v) × (x ≡ after w (Emit v))
+StepsTo w step.Read x = (e : Entry) × Allowed w (Read e) × (x ≡ world_after w (Read e))
+StepsTo w (step.Feed k) x = (i : Item) × Allowed w (Feed k i) × (x ≡ world_after w (Feed k i))
+StepsTo w (step.Take k) x = (gave : List Out) × Allowed w (Take k gave) × (x ≡ world_after w (Take k gave))
+StepsTo w (step.Collect k) x = Allowed w (Collect k) × (x ≡ world_after w (Collect k))
+StepsTo w step.Emit x = (v : Verdict) × Allowed w (Emit v) × (x ≡ world_after w (Emit v))
 
 -- the step's guard holds, where these entries are left
 abbrev pub Enabled : World → List Entry → MachineStep → Type 0

@@ -8,7 +8,7 @@ use Rattle.monitor_state.specs.declared.state.Piece.{Piece}
 use Rattle.monitor_state.specs.declared.state.State.{State}
 use Rattle.rescale_core.specs.Waiting.{is_short}
 use Rattle.rescale_core.specs.Workers.{slice_for}
-use Rattle.rescale_core.specs.Worlds.{Step, first_world, ready_in, run}
+use Rattle.rescale_core.specs.Worlds.{Step, first_world, ready_in, run_steps}
 use Rattle.rescale_core.specs.Worlds.Step.{Collect, Feed, Read, Take}
 use Rattle.rescale_core.specs.declared.item.Entry.TheVariants.{Change, Point}
 use Rattle.rescale_core.specs.declared.item.Item.{Item}
@@ -31,7 +31,7 @@ piece_of from state = record { generation = 1; from = from; to = 0; count = 2; s
 -- what is ready for worker k where a time-point, the change and another time-point were read, and then this happened
 abbrev pub ready_behind : CoreForm → TimePoint → TimePoint → ℕ → List Step → List Item
 ready_behind core a b k steps =
-    ready_in (run (first_world core two) (Read (Point a) ∷ Read (Change one) ∷ Read (Point b) ∷ steps)) k
+    ready_in (run_steps (first_world core two) (Read (Point a) ∷ Read (Change one) ∷ Read (Point b) ∷ steps)) k
 
 -- worker k is handed its slice and its part, takes both and gives its piece, which is collected
 abbrev pub parts : CoreForm → TimePoint → ℕ → State → List Step

@@ -10,7 +10,7 @@ use Rattle.monitorable.specs.SatisfyingRows.{HasViolationsOf}
 use Rattle.rescale_core.specs.Workers.{IsFor, settled_in, violations_at}
 use Rattle.rescale_core.specs.Phases.{Answers}
 use Rattle.rescale_core.specs.Working.{Has}
-use Rattle.rescale_core.specs.Worlds.{World, Step, first_world, run, AreAllowed, line_in, spot_in, verdict_on}
+use Rattle.rescale_core.specs.Worlds.{World, Step, first_world, run_steps, AreAllowed, line_in, spot_in, verdict_on}
 
 -- what worker k was handed fits, and what it gave answers what it took
 abbrev pub FitsAndAnswers : World → ℕ → Type 0
@@ -27,7 +27,8 @@ pub record EmitsVerdicts (w : World) : Type 0 where
 abbrev pub ReachedWorlds : Type 0
 ReachedWorlds =
     (core : CoreForm) (s : Strategy) (steps : List Step) → IsFor core s → AreAllowed (first_world core s) steps
-    → ((k : ℕ) → FitsAndAnswers (run (first_world core s) steps) k) × EmitsVerdicts (run (first_world core s) steps)
+    → ((k : ℕ) → FitsAndAnswers (run_steps (first_world core s) steps) k)
+    × EmitsVerdicts (run_steps (first_world core s) steps)
 
 -- the violations that are spoken of are those of each policy that the core negates
 abbrev pub PolicyViolations : Type 0

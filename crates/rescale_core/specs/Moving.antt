@@ -13,7 +13,7 @@ use Rattle.turn_hub.specs.declared.view.Line.{Line}
 use Rattle.verdict_merge.specs.declared.rows.Verdict.{Verdict}
 use Rattle.rescale_core.specs.Routing.{IsRouterOf}
 use Rattle.rescale_core.specs.Works.{seen}
-use Rattle.rescale_core.specs.Worlds.{World, Allowed, after, first_seat, ready_in}
+use Rattle.rescale_core.specs.Worlds.{World, Allowed, world_after, first_seat, ready_in}
 use Rattle.rescale_core.specs.Worlds.Step.{Read, Feed, Take, Collect, Emit}
 use Rattle.rescale_core.specs.declared.item.Entry.{Entry}
 use Rattle.rescale_core.specs.declared.item.Item.{Item}
@@ -47,11 +47,11 @@ pub data StepKind : Type 0 where
 
 -- a step of the kind leads from one world to another
 abbrev pub StepsBy : World → StepKind → World → Type 0
-StepsBy w (Reads e) x = Allowed w (Read e) × (x ≡ after w (Read e))
-StepsBy w (Feeds k) x = (i : Item) × Allowed w (Feed k i) × (x ≡ after w (Feed k i))
-StepsBy w (Takes k) x = (gave : List Out) × Allowed w (Take k gave) × (x ≡ after w (Take k gave))
-StepsBy w (Collects k) x = Allowed w (Collect k) × (x ≡ after w (Collect k))
-StepsBy w Emits x = (v : Verdict) × Allowed w (Emit v) × (x ≡ after w (Emit v))
+StepsBy w (Reads e) x = Allowed w (Read e) × (x ≡ world_after w (Read e))
+StepsBy w (Feeds k) x = (i : Item) × Allowed w (Feed k i) × (x ≡ world_after w (Feed k i))
+StepsBy w (Takes k) x = (gave : List Out) × Allowed w (Take k gave) × (x ≡ world_after w (Take k gave))
+StepsBy w (Collects k) x = Allowed w (Collect k) × (x ≡ world_after w (Collect k))
+StepsBy w Emits x = (v : Verdict) × Allowed w (Emit v) × (x ≡ world_after w (Emit v))
 
 -- steps of these kinds, one after the other
 abbrev pub Reaches : World → List StepKind → World → Type 0
@@ -84,8 +84,8 @@ IsOpened c s main =
     × (l.handed ≡ []) × (l.back ≡ []) × (l.last ≡ 0) × (l.mine ≡ true)
 
 -- from each world for which the one driver stands, steps of these kinds lead to one for which the other stands
-abbrev pub Moves : Driver → List StepKind → Driver → Type 0
-Moves d steps e = (w : World) → IsDriverOf d w → (x : World) × Reaches w steps x × IsDriverOf e x
+abbrev pub DriverMoves : Driver → List StepKind → Driver → Type 0
+DriverMoves d steps e = (w : World) → IsDriverOf d w → (x : World) × Reaches w steps x × IsDriverOf e x
 
 -- collecting is a step only where something was taken
 abbrev pub collects : ℕ → ℕ → List StepKind
@@ -103,8 +103,8 @@ abbrev pub TurnsTo : Driver → ℕ → Turn → Driver → Type 0
 TurnsTo d k (Moved n m) e =
     (w : World) → IsDriverOf d w
     → (x : World) × Reaches w (replicate n (Takes k) ++ collects k n) x × HandsOver x k m e
-TurnsTo d k NotYet e = Moves d [] e × LooksOnce (main_view d.main) k hand_turn (main_view e.main)
-TurnsTo d k Broken e = Moves d [] e × LooksOnce (main_view d.main) k broken (main_view e.main)
+TurnsTo d k NotYet e = DriverMoves d [] e × LooksOnce (main_view d.main) k hand_turn (main_view e.main)
+TurnsTo d k Broken e = DriverMoves d [] e × LooksOnce (main_view d.main) k broken (main_view e.main)
 
 -- main left the turn of this cell with itself, with nothing handed over last
 abbrev pub HasTurn : List CellLine → ℕ → Type 0
@@ -112,6 +112,6 @@ HasTurn lines k = (l : CellLine) × (get_elem? lines k ≡ some l) × (l.mine �
 
 -- the worker took the n items that it had, which was collected, and main has the turn; or nothing happened
 abbrev pub TakesBack : Driver → ℕ → Turn → Driver → Type 0
-TakesBack d k (Moved n m) e = Moves d (replicate n (Takes k) ++ collects k n) e × HasTurn (lines_of e) k
-TakesBack d k NotYet e = Moves d [] e × LooksOnce (main_view d.main) k hand_turn (main_view e.main)
-TakesBack d k Broken e = Moves d [] e × LooksOnce (main_view d.main) k broken (main_view e.main)
+TakesBack d k (Moved n m) e = DriverMoves d (replicate n (Takes k) ++ collects k n) e × HasTurn (lines_of e) k
+TakesBack d k NotYet e = DriverMoves d [] e × LooksOnce (main_view d.main) k hand_turn (main_view e.main)
+TakesBack d k Broken e = DriverMoves d [] e × LooksOnce (main_view d.main) k broken (main_view e.main)

@@ -62,10 +62,10 @@ phase_after ph (Hole t j) i =
     cond (nat_eq (j + 1) (workers_of t.old)) (Active t.new t.before) (Waiting t (from_of i ∷ froms_of ph))
 
 -- the items are what is due, one by one, as far as they go
-abbrev pub Fits : CoreForm → ℕ → PhaseOf → List Due → List Item → Type 0
-Fits core k ph ds [] = Unit {0}
-Fits core k ph [] (i ∷ is) = ⊥
-Fits core k ph (d ∷ ds) (i ∷ is) = Meets core k ph d i × Fits core k (phase_after ph d i) ds is
+abbrev pub AllMeet : CoreForm → ℕ → PhaseOf → List Due → List Item → Type 0
+AllMeet core k ph ds [] = Unit {0}
+AllMeet core k ph [] (i ∷ is) = ⊥
+AllMeet core k ph (d ∷ ds) (i ∷ is) = Meets core k ph d i × AllMeet core k (phase_after ph d i) ds is
 
 -- the phase after these items
 abbrev pub phase_at : PhaseOf → List Due → List Item → PhaseOf
@@ -74,12 +74,12 @@ phase_at ph [] (i ∷ is) = ph
 phase_at ph (d ∷ ds) (i ∷ is) = phase_at (phase_after ph d i) ds is
 
 -- the phase and what is due next belong together
-abbrev pub Follows : CoreForm → ℕ → PhaseOf → Due → Type 0
-Follows core k ph (Slicing g s log p) =
+abbrev pub FitsPhase : CoreForm → ℕ → PhaseOf → Due → Type 0
+FitsPhase core k ph (Slicing g s log p) =
     (ph ≡ Active s log) × MayFollow log p × IsFor core s × (k < workers_of s)
-Follows core k ph (Parting t) =
+FitsPhase core k ph (Parting t) =
     (ph ≡ Active t.old t.before) × IsFor core t.old × IsFor core t.new × (k < workers_of t.old)
-Follows core k ph (Hole t j) =
+FitsPhase core k ph (Hole t j) =
     (j ≡ length (froms_of ph)) × (j < workers_of t.old)
     × ((ph ≡ Vacant) ⊎ (ph ≡ Waiting t (froms_of ph))) × (j ≢ 0 → ph ≡ Waiting t (froms_of ph))
     × IsFor core t.old × IsFor core t.new
@@ -106,13 +106,13 @@ Parts core k t k2 (o ∷ os) =
     ((p : Piece) × (o ≡ OfPiece p) × (p.from ≡ k) × IsPieceFor core t k2 p) × Parts core k t (k2 + 1) os
 
 -- the outs answer what was due
-abbrev pub Gives : CoreForm → ℕ → Due → List Out → Type 0
-Gives core k (Slicing g s log p) outs = outs ≡ map (rows_for core k g s log p) (newly core log p)
-Gives core k (Parting t) outs = (length outs ≡ workers_of t.new) × Parts core k t 0 outs
-Gives core k (Hole t j) outs = outs ≡ []
+abbrev pub AnswersOne : CoreForm → ℕ → Due → List Out → Type 0
+AnswersOne core k (Slicing g s log p) outs = outs ≡ map (rows_for core k g s log p) (newly core log p)
+AnswersOne core k (Parting t) outs = (length outs ≡ workers_of t.new) × Parts core k t 0 outs
+AnswersOne core k (Hole t j) outs = outs ≡ []
 
 -- the outs answer all that was due
 abbrev pub Answers : CoreForm → ℕ → List Due → List Out → Type 0
 Answers core k [] outs = outs ≡ []
 Answers core k (d ∷ ds) outs =
-    (a : List Out) × (b : List Out) × (outs ≡ a ++ b) × Gives core k d a × Answers core k ds b
+    (a : List Out) × (b : List Out) × (outs ≡ a ++ b) × AnswersOne core k d a × Answers core k ds b

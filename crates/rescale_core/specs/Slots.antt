@@ -63,9 +63,9 @@ ready_of (Room g now last None ∷ xs) = []
 ready_of (Room g now last (Some p) ∷ xs) = Adopt p now ∷ cond last [] (ready_of xs)
 
 -- the slot with the piece in its room
-abbrev pub put_in : Piece → Slot → Slot
-put_in p (Ready item) = Ready item
-put_in p (Room g now last piece) = Room g now last (Some p)
+abbrev pub slot_filled : Piece → Slot → Slot
+slot_filled p (Ready item) = Ready item
+slot_filled p (Room g now last piece) = Room g now last (Some p)
 
 -- the first item and the rest; or none, where there is no first one or it is missing
 abbrev pub TakesOut : List Slot → Option Item → List Slot → Type 0

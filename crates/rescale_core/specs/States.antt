@@ -26,7 +26,7 @@ pub record Adopted (s : Strategy) (froms : List ℕ) : Type 0 where
   pub near : AllByRecursion (λ x. x < workers_of s) froms
 
 -- the merge has just the pieces of these workers for worker k2
-pub record Merges (core : CoreForm) (s s2 : Strategy) (k2 : ℕ) (log : List TimePoint) (froms : List ℕ)
+pub record MergesPieces (core : CoreForm) (s s2 : Strategy) (k2 : ℕ) (log : List TimePoint) (froms : List ℕ)
     (merging : Merging) : Type 0 where
   pub of : (merging_of merging).core ≡ core
   pub count : (merging_of merging).count ≡ workers_of s
@@ -42,26 +42,27 @@ MergesNone core count merging =
 abbrev pub MergesMore : Merging → Piece → Merging → Type 0
 MergesMore old piece new =
     (core : CoreForm) (s s2 : Strategy) (k2 : ℕ) (log : List TimePoint) (froms : List ℕ)
-    → IsFor core s → IsFor core s2 → Merges core s s2 k2 log froms old → PieceStands core s piece.from s2 k2 log piece
-    → Merges core s s2 k2 log (piece.from ∷ froms) new
+    → IsFor core s → IsFor core s2 → MergesPieces core s s2 k2 log froms old
+    → PieceStands core s piece.from s2 k2 log piece
+    → MergesPieces core s s2 k2 log (piece.from ∷ froms) new
 
 -- the piece may be adopted: it is of the same change, and none of its worker was
 abbrev pub CanAdopt : Merging → Piece → Type 0
 CanAdopt merging piece =
     (core : CoreForm) × (s s2 : Strategy) × (k2 : ℕ) × (log : List TimePoint) × (froms : List ℕ)
-    × IsFor core s × IsFor core s2 × Merges core s s2 k2 log froms merging
+    × IsFor core s × IsFor core s2 × MergesPieces core s s2 k2 log froms merging
     × PieceStands core s piece.from s2 k2 log piece × Adopted s (piece.from ∷ froms) × (piece.count ≡ workers_of s)
 
 -- all pieces of a change were adopted
 abbrev pub IsFull : Merging → Type 0
 IsFull merging =
     (core : CoreForm) × (s s2 : Strategy) × (k2 : ℕ) × (log : List TimePoint) × (froms : List ℕ)
-    × IsFor core s × IsFor core s2 × Merges core s s2 k2 log froms merging × Adopted s froms
+    × IsFor core s × IsFor core s2 × MergesPieces core s s2 k2 log froms merging × Adopted s froms
     × (length froms ≡ workers_of s)
 
 -- the monitor stands for what the merge of all pieces does
-abbrev pub Finishes : Merging → Monitor → Type 0
-Finishes merging monitor =
+abbrev pub FinishesMerging : Merging → Monitor → Type 0
+FinishesMerging merging monitor =
     (core : CoreForm) (s s2 : Strategy) (k2 : ℕ) (log : List TimePoint) (froms : List ℕ)
-    → IsFor core s → IsFor core s2 → Merges core s s2 k2 log froms merging → Adopted s froms
+    → IsFor core s → IsFor core s2 → MergesPieces core s s2 k2 log froms merging → Adopted s froms
     → length froms ≡ workers_of s → IsMonitor core s2 k2 log monitor

@@ -5,7 +5,7 @@ use Rattle.rescale_core.specs.Lines.{Due}
 use Rattle.rescale_core.specs.Lines.Due.{Slicing, Parting, Hole}
 use Rattle.rescale_core.specs.Slots.{weight_of}
 use Rattle.rescale_core.specs.Soundly.{IsSound}
-use Rattle.rescale_core.specs.Worlds.{World, Step, Allowed, after, line_in}
+use Rattle.rescale_core.specs.Worlds.{World, Step, Allowed, world_after, line_in}
 use Rattle.rescale_core.specs.Worlds.Step.{Read, Feed, Take, Collect, Emit}
 use Rattle.rescale_core.specs.declared.item.Entry.TheVariants.{Point, Change}
 use Rattle.rescale_core.specs.declared.slot.Slot.{Slot}
@@ -33,15 +33,16 @@ abbrev pub is_short : List Slot → Bool
 is_short slots = nat_lt (sum_by weight_of slots) most_waiting
 
 -- how many more a step may make wait for one worker
-abbrev pub added : Step → ℕ
-added (Read (Point p)) = 1
-added (Read (Change s)) = 2
-added (Feed k i) = 0
-added (Take k gave) = 0
-added (Collect k) = 0
-added (Emit v) = 0
+abbrev pub added_waiting : Step → ℕ
+added_waiting (Read (Point p)) = 1
+added_waiting (Read (Change s)) = 2
+added_waiting (Feed k i) = 0
+added_waiting (Take k gave) = 0
+added_waiting (Collect k) = 0
+added_waiting (Emit v) = 0
 
 -- a time-point makes at most one more wait for a worker, a change two, and nothing else makes more wait
 abbrev pub WaitsFor : Type 0
 WaitsFor =
-    (w : World) (s : Step) (k : ℕ) → IsSound w → Allowed w s → waiting_in (after w s) k ≤ waiting_in w k + added s
+    (w : World) (s : Step) (k : ℕ) → IsSound w → Allowed w s
+        → waiting_in (world_after w s) k ≤ waiting_in w k + added_waiting s

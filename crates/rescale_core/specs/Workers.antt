@@ -12,7 +12,7 @@ use Rattle.mfotl_model.specs.declared.event.TimePoint.{TimePoint}
 use Rattle.mfotl_model.specs.declared.value.Value.{Value}
 use Rattle.monitorable.specs.Atoms.{atoms_of}
 use Rattle.monitorable.specs.CoreForms.{CoreForm, meaning}
-use Rattle.monitorable.specs.Fragment.{Fits}
+use Rattle.monitorable.specs.Fragment.{IsMonitorable}
 use Rattle.monitorable.specs.Renaming.{binders}
 use Rattle.monitorable.specs.SatisfyingRows.{satisfying_rows}
 use Rattle.slice_strategy.specs.Entries.{HasWorkers}
@@ -21,7 +21,7 @@ use Rattle.event_splitter.specs.Parts.{part_for}
 
 -- the core can be monitored, and the strategy divides the rows over its free variables among workers
 pub record IsFor (core : CoreForm) (strategy : Strategy) : Type 0 where
-  pub fits : Fits core
+  pub fits : IsMonitorable core
   pub apart : all_apart (fv (meaning core) ++ binders core) ≡ true
   pub variables : fv (meaning core) ≡ range_with_len 0 (length strategy)
   pub workers : HasWorkers strategy

@@ -129,17 +129,17 @@ abbrev pub not_back : Seat → List Out
 not_back s = drop (length s.back) s.outs
 
 -- the world after a step
-abbrev pub after : World → Step → World
-after w (Read e) = record w { read = w.read ++ e ∷ [] }
-after w (Feed k i) = record w { seats = set_seat w.seats k (fed_more (w.seats k) i) }
-after w (Take k gave) = record w { seats = set_seat w.seats k (took_one (w.seats k) gave) }
-after w (Collect k) =
+abbrev pub world_after : World → Step → World
+world_after w (Read e) = record w { read = w.read ++ e ∷ [] }
+world_after w (Feed k i) = record w { seats = set_seat w.seats k (fed_more (w.seats k) i) }
+world_after w (Take k gave) = record w { seats = set_seat w.seats k (took_one (w.seats k) gave) }
+world_after w (Collect k) =
     record w {
       seats = set_seat w.seats k (all_collected (w.seats k));
       pieces = w.pieces ++ pieces_in (not_back (w.seats k));
       rows = w.rows ++ rows_in (not_back (w.seats k));
     }
-after w (Emit v) = record w { emitted = w.emitted ++ v ∷ [] }
+world_after w (Emit v) = record w { emitted = w.emitted ++ v ∷ [] }
 
 -- the verdict on a position
 abbrev pub verdict_on : CoreForm → List TimePoint → ℕ → Verdict
@@ -170,11 +170,11 @@ Allowed w (Collect k) = (w.seats k).collected < (w.seats k).taken
 Allowed w (Emit v) = (v ≡ verdict_on w.core (spot_in w).points (length w.emitted)) × IsGathered w (length w.emitted)
 
 -- the world after these steps
-abbrev pub run : World → List Step → World
-run w [] = w
-run w (s ∷ ss) = run (after w s) ss
+abbrev pub run_steps : World → List Step → World
+run_steps w [] = w
+run_steps w (s ∷ ss) = run_steps (world_after w s) ss
 
 -- the steps may come one after the other
 abbrev pub AreAllowed : World → List Step → Type 0
 AreAllowed w [] = Unit {0}
-AreAllowed w (s ∷ ss) = Allowed w s × AreAllowed (after w s) ss
+AreAllowed w (s ∷ ss) = Allowed w s × AreAllowed (world_after w s) ss

@@ -1,6 +1,6 @@
 //! A worker, and what lies between it and the router.
 ghost use Rattle.std.specs.Prelude.{◌≡◌, ◌+◌, IfOk};
-ghost use Rattle.rescale_core.specs.Cells.{MayTake, Takes};
+ghost use Rattle.rescale_core.specs.Cells.{MayTake, CellTakes};
 
 use crate::item::{Item, Out};
 use crate::step::Applied;
@@ -23,7 +23,7 @@ impl Cell {
     /// The worker takes the next item, if it was handed one.
     pub(crate) fn take(&mut self, alloc: Global) -> Result<Applied, AllocError>
         requires { MayTake self.old }
-        ensures { IfOk result (λ applied. Takes self.old applied self.new) }
+        ensures { IfOk result (λ applied. CellTakes self.old applied self.new) }
     {
         let Some(item) = self.items.pop_front() else {
             return Ok(Applied::NotEnabled);

@@ -8,7 +8,7 @@ ghost use Rattle.rescale_core.specs.Moving.{Reaches, TakesBack, TurnsTo};
 ghost use Rattle.rescale_core.specs.Moving.StepKind.{Reads};
 ghost use Rattle.rescale_core.specs.Routing.{HasEnded, IsRouterOf};
 ghost use Rattle.rescale_core.specs.Workers.{IsFor, MayFollow};
-ghost use Rattle.rescale_core.specs.Worlds.{World, Allowed, IsGathered, after, first_world, spot_in};
+ghost use Rattle.rescale_core.specs.Worlds.{World, Allowed, IsGathered, world_after, first_world, spot_in};
 ghost use Rattle.rescale_core.specs.Worlds.Step.{Emit};
 ghost use Rattle.rescale_core.specs.declared.item.Entry.TheVariants.{Change, Point};
 
@@ -76,7 +76,7 @@ impl Driver {
     /// The next verdict, once all its Rows were collected.
     pub fn emit(&mut self, alloc: Global) -> Result<Option<Verdict>, AllocError>
         ensures emitted { IfOk result (λ o. IfSome o (λ v. (w : World) → IsDriverOf self.old w
-            → Allowed w (Emit v) × IsDriverOf self.new (after w (Emit v)))) }
+            → Allowed w (Emit v) × IsDriverOf self.new (world_after w (Emit v)))) }
         ensures none { IfOk result (λ o. IfNone o ((w : World) → IsDriverOf self.old w
             → (IsGathered w (length w.emitted) → ⊥) × IsDriverOf self.new w)) }
         ensures main { IfOk result (λ _. self.new.main ≡ self.old.main) }

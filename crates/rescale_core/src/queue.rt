@@ -1,7 +1,7 @@
 //! What waits for one worker.
 ghost use Rattle.std.specs.Prelude.{◌≡◌, ◌++◌, ◌∷◌, ◌≤◌, [], IfOk, length, sum_by};
 ghost use Rattle.std.specs.List.{list_all, position};
-ghost use Rattle.rescale_core.specs.Queues.{filled, is_clear};
+ghost use Rattle.rescale_core.specs.Queues.{queue_filled, is_clear};
 ghost use Rattle.rescale_core.specs.Slots.{TakesOut, first_ends, lacks, ready_of, rooms, sure, weight_of};
 ghost use Rattle.rescale_core.specs.Waiting.{is_short};
 ghost use Rattle.rescale_core.specs.declared.slot.Slot.TheVariants.{Ready};
@@ -123,7 +123,7 @@ impl Queue {
 
     /// Puts the piece where the first of its generation is missing.
     pub(crate) fn fill(&mut self, piece: BoxedPiece)
-        ensures { self.new ≡ filled piece self.old }
+        ensures { self.new ≡ queue_filled piece self.old }
     {
         let found = first_lacking(&self.slots, piece.get().generation);
         let Some(at) = found else {

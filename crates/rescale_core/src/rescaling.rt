@@ -3,7 +3,7 @@
 ghost use Rattle.std.specs.Prelude.{◌≡◌, ◌++◌, [], ◌<◌, IfOk, map};
 ghost use Rattle.monitorable.specs.Cores.{core_form};
 ghost use Rattle.rescale_core.specs.States.{IsFull};
-ghost use Rattle.rescale_core.specs.Working.{CanTake, Gave, GoesOn, IsOpen, Settles, TakesItem};
+ghost use Rattle.rescale_core.specs.Working.{CanTake, Gave, ResumesMerging, HasNoState, Settles, TakesItem};
 
 use crate::boxed::BoxedPiece;
 use crate::item::{Item, Out};
@@ -95,8 +95,8 @@ fn merging_for(
     phase: Phase,
     count: u32,
 ) -> Result<(Merging, u32), AllocError>
-    requires { IsOpen phase }
-    ensures { IfOk result (λ parts. GoesOn phase (core_form core.now) count parts.0 parts.1) }
+    requires { HasNoState phase }
+    ensures { IfOk result (λ parts. ResumesMerging phase (core_form core.now) count parts.0 parts.1) }
 {
     match phase {
         Phase::Vacant => {

@@ -3,7 +3,7 @@ ghost use Rattle.std.specs.Prelude.{◌≡◌, ◌++◌, ◌∷◌, ◌+◌, [],
 ghost use Rattle.rescale_core.specs.Queues.{all_put, queue_at};
 ghost use Rattle.rescale_core.specs.Routing.{HasEnded, HasTaken, IsRouterOf, MayAdd, TakesFront, feeds};
 ghost use Rattle.rescale_core.specs.Workers.{IsFor, MayFollow};
-ghost use Rattle.rescale_core.specs.Worlds.{World, Allowed, AreAllowed, IsGathered, after, run, spot_in};
+ghost use Rattle.rescale_core.specs.Worlds.{World, Allowed, AreAllowed, IsGathered, world_after, run_steps, spot_in};
 ghost use Rattle.rescale_core.specs.Worlds.{pieces_in, ready_in, rows_in};
 ghost use Rattle.rescale_core.specs.Worlds.Step.{Read, Collect, Emit};
 ghost use Rattle.rescale_core.specs.declared.item.Entry.TheVariants.{Change, Point};
@@ -37,7 +37,7 @@ impl Router {
     pub fn read_point(&mut self, alloc: Global, point: TimePoint) -> Result<(), AllocError>
         requires { (w : World) × IsRouterOf self.old w × MayFollow (spot_in w).points point }
         ensures { IfOk result (λ _. (w : World) → IsRouterOf self.old w → MayFollow (spot_in w).points point
-            → IsRouterOf self.new (after w (Read (Point point)))) }
+            → IsRouterOf self.new (world_after w (Read (Point point)))) }
     {
         push_point(
             alloc,
@@ -57,7 +57,7 @@ impl Router {
     pub fn read_change(&mut self, alloc: Global, strategy: Strategy) -> Result<(), AllocError>
         requires { (w : World) × IsRouterOf self.old w × IsFor w.core strategy }
         ensures { IfOk result (λ _. (w : World) → IsRouterOf self.old w → IsFor w.core strategy
-            → IsRouterOf self.new (after w (Read (Change strategy)))) }
+            → IsRouterOf self.new (world_after w (Read (Change strategy)))) }
     {
         let generation = next(self.generation)?;
         let count = self.strategy.workers();
@@ -97,7 +97,7 @@ impl Router {
         most: u64,
     ) -> Result<Vec<Item>, AllocError>
         ensures moves { IfOk result (λ items. (w : World) → IsRouterOf self.old w
-            → AreAllowed w (feeds worker items.items) × IsRouterOf self.new (run w (feeds worker items.items))) }
+            → AreAllowed w (feeds worker items.items) × IsRouterOf self.new (run_steps w (feeds worker items.items))) }
         ensures few { IfOk result (λ items. length items.items ≤ most) }
         ensures first { IfOk result (λ items. (w : World) → IsRouterOf self.old w
             → items.items ≡ take most (ready_in w worker)) }
@@ -116,7 +116,7 @@ impl Router {
         requires taken { (w : World) × IsRouterOf self.old w × HasTaken w worker taken outs.items }
         requires some { 0 < taken }
         ensures { IfOk result (λ _. (w : World) → IsRouterOf self.old w → HasTaken w worker taken outs.items
-            → IsRouterOf self.new (after w (Collect worker))) }
+            → IsRouterOf self.new (world_after w (Collect worker))) }
     {
         collect_all(&mut self.queues, &mut self.gather, outs)?;
         lower(&mut self.outstanding, worker, taken);
@@ -126,7 +126,7 @@ impl Router {
     /// The next verdict, once all its Rows were collected.
     pub fn emit(&mut self, alloc: Global) -> Result<Option<Verdict>, AllocError>
         ensures emitted { IfOk result (λ o. IfSome o (λ v. (w : World) → IsRouterOf self.old w
-            → Allowed w (Emit v) × IsRouterOf self.new (after w (Emit v)))) }
+            → Allowed w (Emit v) × IsRouterOf self.new (world_after w (Emit v)))) }
         ensures none { IfOk result (λ o. IfNone o ((w : World) → IsRouterOf self.old w
             → (IsGathered w (length w.emitted) → ⊥) × IsRouterOf self.new w)) }
     {

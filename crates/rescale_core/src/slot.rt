@@ -1,6 +1,6 @@
 //! What stands in a queue.
 ghost use Rattle.std.specs.Prelude.{◌≡◌};
-ghost use Rattle.rescale_core.specs.Slots.{ends_place, is_there, item_in, lacks, put_in, weight_of};
+ghost use Rattle.rescale_core.specs.Slots.{ends_place, is_there, item_in, lacks, slot_filled, weight_of};
 
 use crate::boxed::{BoxedPiece, BoxedStrategy};
 use crate::item::Item;
@@ -78,7 +78,7 @@ impl Slot {
 
     /// Puts the piece where there is room.
     pub(crate) fn put(&mut self, piece: BoxedPiece)
-        ensures { self.new ≡ put_in piece self.old }
+        ensures { self.new ≡ slot_filled piece self.old }
     {
         match self {
             Slot::Ready(_) => {}

@@ -29,7 +29,7 @@ use Rattle.slice_strategy.specs.Grammar.{IsAccepted, IsViable, FitsIntegers}
 use Rattle.slice_strategy.specs.Limits.{max_workers}
 use Rattle.slice_strategy.specs.Reading.{Between, Behind, Divided, Partial, StageOf, opened, is_above}
 use Rattle.slice_strategy.specs.Reading.{complete, ended}
-use Rattle.slice_strategy.specs.Reading.{moved, named, stage_step, step, nothing_read, at_tail, syntax_at}
+use Rattle.slice_strategy.specs.Reading.{with_stage, entry_named, stage_step, step, nothing_read, at_tail, syntax_at}
 use Rattle.slice_strategy.specs.Rules.{variable_of, holds_text, number_of, number, entry_by, strategy_of}
 use Rattle.slice_strategy.proofs.EntryLaws.{had_or_free, named_low, last_number}
 use Rattle.slice_strategy.proofs.Moves.{IsRule, AreFew, head_of, so_far, behind, step_by, stepped, settled_other}
@@ -130,16 +130,16 @@ module _ (vars : List Var) where
 
   name_step : (es : Entries) (t : Lexeme) → Fits es → AreFew vars es → t.kind ≡ Word
       → step vars (behind vars (Whole es)) t
-      ≡ moved (strategy_of vars es) (named (strategy_of vars es) (variable_of vars t.text) t)
+      ≡ with_stage (strategy_of vars es) (entry_named (strategy_of vars es) (variable_of vars t.text) t)
   name_step es t fits few kind =
       stepped vars (behind vars (Whole es)) t Word kind
-      ∙ ap (λ r. r >>= λ q. moved q.entries (stage_step vars q.entries q.stage t Word)) (few_closed es fits few)
+      ∙ ap (λ r. r >>= λ q. with_stage q.entries (stage_step vars q.entries q.stage t Word)) (few_closed es fits few)
 
   over_step : (front : List Lexeme) (s : Partial) (t : Lexeme) (at : ℕ) → Ran front s → IsOver vars front at
       → t.kind ≢ Comma → step vars s t ≡ Err (TooManyWorkers at)
   unfolding step
   over_step front s t at ran o other =
-      ap (λ r. r >>= λ q. moved q.entries (stage_step vars q.entries q.stage t t.kind))
+      ap (λ r. r >>= λ q. with_stage q.entries (stage_step vars q.entries q.stage t t.kind))
       (settled_other vars s t.kind other ∙ over_closed front s at ran o)
 
   -- ---- the grammar goes on
@@ -214,7 +214,7 @@ module _ (vars : List Var) where
     unknown at c =
         at_part (Whole c.entries) _ c.spelled
         (name_step c.entries t c.spelled.fits c.few c.kind
-        ∙ ap (λ o. moved (strategy_of vars c.entries) (named (strategy_of vars c.entries) o t)) c.unknown
+        ∙ ap (λ o. with_stage (strategy_of vars c.entries) (entry_named (strategy_of vars c.entries) o t)) c.unknown
         ∙ ap (λ n. Err (UnknownVariable n)) (sym c.place))
 
     repeated : (at : ℕ) → IsRepeated vars front t at → step vars s t ≡ Err (RepeatedVariable at)
@@ -223,10 +223,10 @@ module _ (vars : List Var) where
         let here = part_stands front s (Whole es) ran c.spelled in
         at_part (Whole es) _ c.spelled
         (name_step es t c.spelled.fits c.few c.kind
-        ∙ ap (λ o. moved (strategy_of vars es) (named (strategy_of vars es) o t)) c.free
+        ∙ ap (λ o. with_stage (strategy_of vars es) (entry_named (strategy_of vars es) o t)) c.free
         ∙ (elim (had_or_free vars es c.variable (known_whole vars es here.0)
         (named_low vars t.text c.variable c.free)) [
-          | inl h ↦ ap (λ r. moved (strategy_of vars es) r) (h.repeats t)
+          | inl h ↦ ap (λ r. with_stage (strategy_of vars es) r) (h.repeats t)
               ∙ ap (λ n. Err (RepeatedVariable n)) (sym c.place)
           | inr f ↦ absurd (f.first c.had)
         ]))
@@ -237,7 +237,7 @@ module _ (vars : List Var) where
         at_part p _ c.spelled
         (stepped vars (behind vars p) t Integer c.kind
         ∙ ap (λ m. step_by vars (so_far vars c.entries (opened (head_of vars c.opening.name) m)) t Integer) c.hash
-        ∙ ap (λ enough. moved (strategy_of vars c.entries)
+        ∙ ap (λ enough. with_stage (strategy_of vars c.entries)
         (if enough then Ok (Behind (head_of vars c.opening.name) (entry_by method.Hash (First t))) else Err
         (BadCount t.at)))
         c.low
@@ -255,7 +255,7 @@ module _ (vars : List Var) where
         by : (hash cut string : Bool)
             → (if hash then Some method.Hash else if cut then Some method.Cut else None) ≡ Some method.Cut
             → string ≡ true
-            → moved (strategy_of vars c.entries)
+            → with_stage (strategy_of vars c.entries)
             (if hash then Ok (Divided (head_of vars c.name) method.Hash) else if cut then
             (if string then Err (CutSort t.at) else Ok (Divided (head_of vars c.name) method.Cut)) else syntax_at t)
             ≡ Err (CutSort t.at)
@@ -268,7 +268,7 @@ module _ (vars : List Var) where
     not_above at c =
         let p = ToComma c.entries c.opening c.integers c.comma in
         let due =
-        λ (above : Bool). moved (strategy_of vars c.entries)
+        λ (above : Bool). with_stage (strategy_of vars c.entries)
         (if above then Ok (Behind (head_of vars c.opening.name) (entry_by method.Cut (Next c.integers c.comma t)))
         else Err (CutOrder t.at)) in
         at_part p _ c.spelled

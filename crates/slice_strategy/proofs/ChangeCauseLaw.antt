@@ -24,7 +24,7 @@ use Rattle.slice_strategy.specs.declared.stage.Method.{Method}
 use Rattle.slice_strategy.specs.declared.stage.Method.TheVariants as method
 use Rattle.slice_strategy.specs.Causes as strategy_causes
 use Rattle.slice_strategy.specs.Causes.{IsTold}
-use Rattle.slice_strategy.specs.ChangeCauses.{InChange, IsInterrupted, IsOverIn, IsClear, IsWithin}
+use Rattle.slice_strategy.specs.ChangeCauses.{InChange, IsInterrupted, IsOverIn, IsClear, IsCauseWithin}
 use Rattle.slice_strategy.specs.ChangeCauses.{IsByEqual, IsFalling}
 use Rattle.slice_strategy.specs.ChangeCauses.{IsOneTooMany, IsSyntax, IsCause, IsLast, StopsAt}
 use Rattle.slice_strategy.specs.ChangeGrammar.{Script, NoChange, Change, is_before, IsNumber, spell_script, IsScript}
@@ -32,7 +32,7 @@ use Rattle.slice_strategy.specs.ChangeGrammar.{SpellsScript}
 use Rattle.slice_strategy.specs.ChangeGrammar.{IsViableScript}
 use Rattle.slice_strategy.specs.ChangeReading.{ScriptOf, lifted, may_begin, interrupted, falls, last_change, step}
 use Rattle.slice_strategy.specs.ChangeReading.{nothing_read, at_tail}
-use Rattle.slice_strategy.specs.ChangeRules.{point, changes_of, IsNotBelow}
+use Rattle.slice_strategy.specs.ChangeRules.{point_number, changes_of, IsNotBelow}
 use Rattle.slice_strategy.specs.Grammar.{Entries, Then, Part, Whole, ToEqual, ToColon, ToComma}
 use Rattle.slice_strategy.specs.Grammar.{FitsPart, spell, spell_part, IsPart, IsAccepted, Opening}
 use Rattle.slice_strategy.specs.Limits.{max_changes}
@@ -139,8 +139,8 @@ module _ (vars : List Var) where
     own_shows inner c p is own fault cause other =
         let done = changes_of vars c.whole in
         at_place_of (Inside c.whole c.word c.count p) _ (in_change front inner c p is own)
-        (else_step vars done (point c.count) (behind vars p) t other
-        ∙ ap (within_of vars done (point c.count)) (inner_shows inner c p is own fault cause))
+        (else_step vars done (point_number c.count) (behind vars p) t other
+        ∙ ap (within_of vars done (point_number c.count)) (inner_shows inner c p is own fault cause))
 
     of_kind : (k : Kind) (b : Bool) → t.kind ≡ k → k ≢ Word → (is_before t.kind t.text && b) ≡ false
     of_kind k b kind other = ap (λ x. x && b) (word_only t.kind t.text (λ word. other (sym kind ∙ word)))
@@ -160,8 +160,8 @@ module _ (vars : List Var) where
             let done = changes_of vars c.place.whole in
             at_place_of (Inside c.place.whole c.place.word c.place.count q) _
             (in_change front c.inner c.place q c.over.spelled tt)
-            (before_step vars done (point c.place.count) (behind vars q) t each.0 each.1
-            ∙ ap (λ r. lifted r >>= λ x. Ok (interrupted done (point c.place.count) t x))
+            (before_step vars done (point_number c.place.count) (behind vars q) t each.0 each.1
+            ∙ ap (λ r. lifted r >>= λ x. Ok (interrupted done (point_number c.place.count) t x))
             (over_here vars c.over.before c.over.opening c.over.integers c.over.many)
             ∙ ap (λ n. Err (Strategy (TooManyWorkers n))) (sym c.over.place))
         by false other_kind =
@@ -173,7 +173,7 @@ module _ (vars : List Var) where
     colon_never o method.Hash = refl
     colon_never o method.Cut = refl
 
-    within_shows : (fault : StrategyFault) → IsWithin vars front t fault → strategies.IsRule fault
+    within_shows : (fault : StrategyFault) → IsCauseWithin vars front t fault → strategies.IsRule fault
         → step vars s t ≡ Err (Strategy fault)
     within_shows (Syntax at) c rule = absurd rule
     within_shows (UnknownVariable at) c rule =
@@ -212,9 +212,9 @@ module _ (vars : List Var) where
         law.shows vars (spell [] es) (behind vars (Whole es)) c.word
         (kept_reads vars (Whole es) fits (kept_whole vars es kept.3)) fault c.cause in
         at_place_of (ToBefore whole c.word) _ is
-        (equal_step vars done (point c.count) (so_far vars es Between) c.word t c.equal
-        ∙ ap (λ r. within_of vars done (point c.count) (r >>= λ q. strategy.step vars q t))
-        (sym (name_again vars done (point c.count) es c.word (so_far vars es Between) fits
+        (equal_step vars done (point_number c.count) (so_far vars es Between) c.word t c.equal
+        ∙ ap (λ r. within_of vars done (point_number c.count) (r >>= λ q. strategy.step vars q t))
+        (sym (name_again vars done (point_number c.count) es c.word (so_far vars es Between) fits
         (λ comma. cc (word, comma)) (few_closed vars es fits (few_of vars es kept.3)))
         ∙ stop))
 
@@ -224,12 +224,12 @@ module _ (vars : List Var) where
         at_place_of (ToBefore whole c.word) _ (interrupted_place whole c.word c.spelled)
         (number_due vars whole c.word t c.numbered
         ∙ ap (λ low. due_by vars whole c.word t low (nat_le max_changes (length (changes_of vars whole))))
-        (lt-ltb (point t) (point c.count) c.low)
+        (lt-ltb (point_number t) (point_number c.count) c.low)
         ∙ ap (λ n. Err (FallingChange n)) (sym c.place))
 
-    no_fall : (script : Script) → IsNotBelow script t → falls (current_of vars script) (point t) ≡ false
+    no_fall : (script : Script) → IsNotBelow script t → falls (current_of vars script) (point_number t) ≡ false
     no_fall NoChange above = refl
-    no_fall (Change r v n es) above = le-ltb (point t) (point n) above
+    no_fall (Change r v n es) above = le-ltb (point_number t) (point_number n) above
 
     one_too_many : (at : ℕ) → IsOneTooMany vars front t at → step vars s t ≡ Err (TooManyChanges at)
     one_too_many at c =
@@ -277,7 +277,7 @@ module _ (vars : List Var) where
 
     -- ---- Syntax
 
-    within_goes : (fault : StrategyFault) → strategies.IsRule fault → IsWithin vars front t fault
+    within_goes : (fault : StrategyFault) → strategies.IsRule fault → IsCauseWithin vars front t fault
         → IsViableScript (front ++ t ∷ []) ⊎ ((at : ℕ) × IsOverIn vars front at × (t.kind ≢ Comma))
     within_goes fault rule c =
         elim (goes_on_or_over vars c.inner t fault rule c.cause) [
@@ -381,13 +381,13 @@ module _ (vars : List Var) where
             → at_tail tail (inside_of vars c.place.whole c.place.count
             (Whole (Then c.over.before c.over.opening c.over.integers))) ≡ Err (Strategy (TooManyWorkers at))
         by (Broken x) told e =
-            ap (λ r. last_change (changes_of vars c.place.whole) (point c.place.count)
+            ap (λ r. last_change (changes_of vars c.place.whole) (point_number c.place.count)
             (r >>= λ (q : Partial). syntax x.at)) e
           where
             syntax : ℕ → Result StrategyOf StrategyFault
             syntax n = Err (Syntax n)
         by (End end) told e =
-            ap (λ r. last_change (changes_of vars c.place.whole) (point c.place.count)
+            ap (λ r. last_change (changes_of vars c.place.whole) (point_number c.place.count)
             (r >>= λ (q : Partial). strategy.complete end q.entries q.stage)) e
         by More told e = absurd told
 
@@ -452,7 +452,7 @@ module _ (vars : List Var) where
         begins (Change r' w' n' es) is =
             ap (λ (x : ScriptOf). may_of x.current) (here_of (Inside r' w' n' (Whole es))
             (record { fits = (is.fits.0, is.fits.1, is.fits.2, is.fits.3, tt); spelled = is.spelled }))
-            ∙ whole_begins vars (changes_of vars r') (point n') es
+            ∙ whole_begins vars (changes_of vars r') (point_number n') es
 
     place_in : (r : Script) (w n : Lexeme) (p : Part) → IsPlace ts (Inside r w n p) → InChange ts (spell_part p)
     place_in r w n p is = record {
@@ -470,7 +470,7 @@ module _ (vars : List Var) where
     inner_ran r w n p is = kept_reads vars p is.fits.3 (place_stands ts s (Inside r w n p) ran is).0.2
 
     abbrev with_change : Script → Lexeme → Result StrategyOf StrategyFault → Result (List ChangeOf) ChangeFault
-    with_change r n x = last_change (changes_of vars r) (point n) x
+    with_change r n x = last_change (changes_of vars r) (point_number n) x
 
     inner_fault : (r : Script) (n : Lexeme) (x : Result StrategyOf StrategyFault) (fault : ChangeFault)
         → with_change r n x ≡ Err fault → (f : StrategyFault) × (x ≡ Err f) × (Strategy f ≡ fault)

@@ -21,13 +21,13 @@ use Rattle.slice_strategy.specs.declared.fault.StrategyFault.TheVariants.{TooMan
 use Rattle.slice_strategy.specs.declared.stage.Method.{Method}
 use Rattle.slice_strategy.specs.declared.stage.Method.TheVariants as method
 use Rattle.slice_strategy.specs.Causes as strategy_causes
-use Rattle.slice_strategy.specs.ChangeCauses.{InChange, IsOwn, IsWithin, IsByEqual, IsCause}
+use Rattle.slice_strategy.specs.ChangeCauses.{InChange, IsOwn, IsCauseWithin, IsByEqual, IsCause}
 use Rattle.slice_strategy.specs.ChangeGrammar.{Script, NoChange, Change, is_before, IsBefore, IsNumber, FitsScript}
 use Rattle.slice_strategy.specs.ChangeGrammar.{spell_script, IsScript, IsViableScript}
-use Rattle.slice_strategy.specs.ChangeReading.{ScriptOf, lifted, may_begin, within, interrupted, opened}
+use Rattle.slice_strategy.specs.ChangeReading.{ScriptOf, lifted, may_begin, change_goes_on, interrupted, change_opened}
 use Rattle.slice_strategy.specs.ChangeReading.{decided, step}
 use Rattle.slice_strategy.specs.ChangeReading.{nothing_read}
-use Rattle.slice_strategy.specs.ChangeRules.{point, changes_of}
+use Rattle.slice_strategy.specs.ChangeRules.{point_number, changes_of}
 use Rattle.slice_strategy.specs.Grammar.{Opening, Entries, NoEntry, Then, Part, Whole, ToName, ToEqual}
 use Rattle.slice_strategy.specs.Grammar.{ToMethod, ToColon}
 use Rattle.slice_strategy.specs.Grammar.{ToComma, FitsPart, spell, spell_part, IsPart, IsViable}
@@ -128,7 +128,7 @@ module _ (vars : List Var) where
 
   -- a fault of a strategy's rules, in the script
   strategy_shows : (p : Place) (t : Lexeme) (fault : StrategyFault) → strategies.IsRule fault
-      → IsWithin vars (spell_place p) t fault ⊎ IsByEqual vars (spell_place p) t fault → Shows p t (Strategy fault)
+      → IsCauseWithin vars (spell_place p) t fault ⊎ IsByEqual vars (spell_place p) t fault → Shows p t (Strategy fault)
   strategy_shows p t (Syntax at) rule c = absurd rule
   strategy_shows p t Memory rule (inl c) = absurd c.cause
   strategy_shows p t Memory rule (inr c) = absurd c.cause
@@ -155,7 +155,8 @@ module _ (vars : List Var) where
   negative s w t kind low =
       let c = stopped vars s w in
       ap (decided vars c.done c.current w t) kind
-      ∙ ap (λ b. if b then Err (Strategy (Syntax t.at)) else opened vars c.done c.current w.at t.at (point t)) low
+      ∙ ap (λ b. if b then Err (Strategy (Syntax t.at)) else change_opened vars c.done c.current w.at t.at
+          (point_number t)) low
 
   -- a token of this kind
   stopped_step : (s : Script) (w t : Lexeme) (k : Kind) → t.kind ≡ k
@@ -188,12 +189,12 @@ module _ (vars : List Var) where
       word = before_word w.kind w.text fits.1
 
       stepped_so : step vars (stopped vars (Change s v n es) w) t
-          ≡ within_of vars (changes_of vars s) (point n)
+          ≡ within_of vars (changes_of vars s) (point_number n)
           (strategy.step vars (behind vars (Whole es)) w >>= λ q. strategy.step vars q t)
       stepped_so =
-          equal_step vars (changes_of vars s) (point n) (so_far vars es Between) w t kind
-          ∙ ap (λ r. within_of vars (changes_of vars s) (point n) (r >>= λ q. strategy.step vars q t))
-          (sym (name_again vars (changes_of vars s) (point n) es w (so_far vars es Between) fits.0.3
+          equal_step vars (changes_of vars s) (point_number n) (so_far vars es Between) w t kind
+          ∙ ap (λ r. within_of vars (changes_of vars s) (point_number n) (r >>= λ q. strategy.step vars q t))
+          (sym (name_again vars (changes_of vars s) (point_number n) es w (so_far vars es Between) fits.0.3
           (λ comma. cc (word, comma)) (few_closed vars es fits.0.3 (few_of vars es kept.3))))
 
       spelled_so : spell_place (Inside s v n (ToEqual es w t)) ≡ spell_place (ToBefore (Change s v n es) w) ++ t ∷ []
@@ -205,19 +206,19 @@ module _ (vars : List Var) where
           → layer.Judged (strategies.IsCaused vars (spell_part (Whole es)) w) (AreFew vars es × IsNew vars es w)
           (strategies.step_by vars (behind vars (Whole es)) w Word) (behind vars (ToName es w))
           → Moves (ToBefore (Change s v n es) w) t
-          (within_of vars (changes_of vars s) (point n) (r >>= λ q. strategy.step vars q t))
+          (within_of vars (changes_of vars s) (point_number n) (r >>= λ q. strategy.step vars q t))
       by r is (inl kept) =
           let same = sym is ∙ stepped vars (behind vars (Whole es)) w Word word ∙ kept.1 in
           subst (λ r. Moves (ToBefore (Change s v n es) w) t
-          (within_of vars (changes_of vars s) (point n) (r >>= λ q. strategy.step vars q t))) (sym same)
-          (subst (λ r. Moves (ToBefore (Change s v n es) w) t (within_of vars (changes_of vars s) (point n) r))
+          (within_of vars (changes_of vars s) (point_number n) (r >>= λ q. strategy.step vars q t))) (sym same)
+          (subst (λ r. Moves (ToBefore (Change s v n es) w) t (within_of vars (changes_of vars s) (point_number n) r))
           (sym (stepped vars (behind vars (ToName es w)) t Equal kind))
           (leads_to (ToBefore (Change s v n es) w) (Inside s v n (ToEqual es w t)) t
           (fits.0.0, fits.0.1, fits.0.2, (fits.0.3, word, kind), tt) spelled_so))
       by r is (inr b) =
           let same = sym is ∙ stepped vars (behind vars (Whole es)) w Word word ∙ b.shown in
           subst (λ r. Moves (ToBefore (Change s v n es) w) t
-          (within_of vars (changes_of vars s) (point n) (r >>= λ q. strategy.step vars q t))) (sym same)
+          (within_of vars (changes_of vars s) (point_number n) (r >>= λ q. strategy.step vars q t))) (sym same)
           (strategy_shows (ToBefore (Change s v n es) w) t b.fault b.is_rule.0
           (inr (record {
             script = s;
@@ -263,7 +264,7 @@ module _ (vars : List Var) where
     stop_moves : (es : Entries) (t : Lexeme) → FitsPlace (Here (Whole es)) → IsBefore t
         → Moves (Here (Whole es)) t
         (lifted (ended (behind vars (Whole es)).entries (behind vars (Whole es)).stage)
-        >>= λ q. Ok (interrupted done (point n) t q))
+        >>= λ q. Ok (interrupted done (point_number n) t q))
     stop_moves NoEntry t fits is =
         leads_to (Here (Whole NoEntry)) (ToBefore (Change s w n NoEntry) t) t
         ((fits.0, fits.1, fits.2, tt), is) refl
@@ -273,7 +274,7 @@ module _ (vars : List Var) where
         by : (few : Bool) → nat_le (workers_of (strategy_of vars (Then es o is))) max_workers ≡ few
             → Moves (Here (Whole (Then es o is))) t
             (lifted (if few then Ok (so_far vars (Then es o is) Between) else Err (TooManyWorkers o.name.at))
-            >>= λ q. Ok (interrupted done (point n) t q))
+            >>= λ q. Ok (interrupted done (point_number n) t q))
         by true e =
             leads_to (Here (Whole (Then es o is))) (ToBefore (Change s w n (Then es o is)) t) t
             ((fits.0, fits.1, fits.2, fits.3), before) refl
@@ -302,7 +303,8 @@ module _ (vars : List Var) where
 
     before_moves : (p : Part) (t : Lexeme) → FitsPlace (Here p) → IsBefore t → may_begin (behind vars p).stage ≡ true
         → Moves (Here p) t
-        (lifted (ended (behind vars p).entries (behind vars p).stage) >>= λ q. Ok (interrupted done (point n) t q))
+        (lifted (ended (behind vars p).entries (behind vars p).stage) >>= λ q. Ok
+            (interrupted done (point_number n) t q))
     before_moves (Whole es) t fits is begins = stop_moves es t fits is
     before_moves (ToName es m) t fits is begins = absurd cc
     before_moves (ToEqual es m e) t fits is begins = absurd cc
@@ -316,7 +318,7 @@ module _ (vars : List Var) where
     own_by p t es fits kept is other =
         let same = (part_stands vars (spell_part p) (behind vars p) (Whole es) (kept_reads vars p fits kept) is).1 in
         begins_false (is_before t.kind t.text) (may_begin (behind vars p).stage)
-        (ap (λ (x : Partial). may_begin x.stage) same ∙ whole_begins vars done (point n) es) other
+        (ap (λ (x : Partial). may_begin x.stage) same ∙ whole_begins vars done (point_number n) es) other
       where
         begins_false : (a b : Bool) → b ≡ true → (a && b) ≡ false → a ≡ false
         begins_false true b is e = absurd (cc (is, e))
@@ -334,7 +336,7 @@ module _ (vars : List Var) where
     named_own p (ToName es m) t name other =
         ap (λ (x : Lexeme). is_before x.kind x.text) name.1
         ∙ begins_false (is_before t.kind t.text) (may_begin (behind vars p).stage)
-        (ap (λ x. may_begin (behind vars x).stage) name.0 ∙ whole_begins vars done (point n) es) other
+        (ap (λ x. may_begin (behind vars x).stage) name.0 ∙ whole_begins vars done (point_number n) es) other
       where
         begins_false : (a b : Bool) → b ≡ true → (a && b) ≡ false → a ≡ false
         begins_false true b is e = absurd (cc (is, e))
@@ -344,14 +346,14 @@ module _ (vars : List Var) where
     other_moves : (p : Part) (t : Lexeme) → FitsPlace (Here p) → KeepsPlace vars (Here p)
         → (is_before t.kind t.text && may_begin (behind vars p).stage) ≡ false
         → (r : Result Partial StrategyFault) → parts.Moves vars p t r → Moves (Here p) t (within_of vars done
-        (point n) r)
+        (point_number n) r)
     other_moves p t fits kept other (Ok q) leads = record {
       place = Here leads.part;
       fits = (fits.0, fits.1, fits.2, leads.fits, named_own p leads.part t leads.name other);
       spelled =
           ap (λ ts. spell_number s w n ++ ts) leads.spelled
           ∙ sym (append_assoc (spell_number s w n) (spell_part p) (t ∷ []));
-      stands = ap (within done (point n)) leads.stands;
+      stands = ap (change_goes_on done (point_number n)) leads.stands;
     }
     other_moves p t fits kept other (Err (Syntax at)) place = place
     other_moves p t fits kept other (Err fault) cause =
@@ -371,10 +373,10 @@ module _ (vars : List Var) where
             → Moves (Here p) t (step vars (inside_of vars s n p) t)
         by true both =
             let each = and_parts (is_before t.kind t.text) (may_begin (behind vars p).stage) both in
-            subst (Moves (Here p) t) (sym (before_step vars done (point n) (behind vars p) t each.0 each.1))
+            subst (Moves (Here p) t) (sym (before_step vars done (point_number n) (behind vars p) t each.0 each.1))
             (before_moves p t fits each.0 each.1)
         by false other =
-            subst (Moves (Here p) t) (sym (else_step vars done (point n) (behind vars p) t other))
+            subst (Moves (Here p) t) (sym (else_step vars done (point_number n) (behind vars p) t other))
             (other_moves p t fits kept other (strategy.step vars (behind vars p) t)
             (parts.moves vars p t fits.3 kept.2))
 

@@ -19,9 +19,10 @@ use Rattle.slice_strategy.specs.declared.script.Current.{Current}
 use Rattle.slice_strategy.specs.ChangeCauses.{IsCause}
 use Rattle.slice_strategy.specs.ChangeGrammar.{Script, NoChange, Change, IsBefore, IsNumber, FitsScript}
 use Rattle.slice_strategy.specs.ChangeGrammar.{spell_script}
-use Rattle.slice_strategy.specs.ChangeReading.{ScriptOf, lifted, within, interrupted, with_current, falls, opened}
+use Rattle.slice_strategy.specs.ChangeReading.{ScriptOf, lifted, change_goes_on, interrupted, with_current, falls}
+use Rattle.slice_strategy.specs.ChangeReading.{change_opened}
 use Rattle.slice_strategy.specs.ChangeReading.{decided, step, nothing_read}
-use Rattle.slice_strategy.specs.ChangeRules.{point, changes_of, IsNotBelow, KeepsScript}
+use Rattle.slice_strategy.specs.ChangeRules.{point_number, changes_of, IsNotBelow, KeepsScript}
 use Rattle.slice_strategy.specs.Grammar.{Entries, NoEntry, Part, Whole, FitsPart, spell_part}
 use Rattle.slice_strategy.specs.Limits.{max_changes}
 use Rattle.slice_strategy.specs.Reading as strategy
@@ -64,13 +65,13 @@ module _ (vars : List Var) where
 
   abbrev pub current_of : Script → Option Current
   current_of NoChange = None
-  current_of (Change s w n es) = Some (record { number = point n; reader = so_far vars es Between })
+  current_of (Change s w n es) = Some (record { number = point_number n; reader = so_far vars es Between })
 
   abbrev pub stopped : Script → Lexeme → ScriptOf
   stopped s w = record { done = done_of s; current = current_of s; before = Some w }
 
   abbrev pub inside_of : Script → Lexeme → Part → ScriptOf
-  inside_of s n p = within (changes_of vars s) (point n) (behind vars p)
+  inside_of s n p = change_goes_on (changes_of vars s) (point_number n) (behind vars p)
 
   -- where the reader stands
   abbrev pub at_place : Place → ScriptOf
@@ -174,9 +175,9 @@ module _ (vars : List Var) where
       let p = behind vars (Whole es) in
       let t : Lexeme = record { kind = Word; at = 0; text = [] } in
       subst (λ r. Judged (AreFew vars es) r (stopped (Change s v n es) w))
-      (sym (before_step vars done (point n) p w is (whole_begins vars done (point n) es)))
+      (sym (before_step vars done (point_number n) p w is (whole_begins vars done (point_number n) es)))
       (lifted_judged (AreFew vars es) (ended p.entries p.stage) (so_far vars es Between)
-      (interrupted done (point n) w)
+      (interrupted done (point_number n) w)
       (strategies_told t es (ended_judged vars es fits.3 t (λ comma. cc))))
     where
       strategies_told : (t : Lexeme) (es : Entries)
@@ -197,16 +198,16 @@ module _ (vars : List Var) where
 
   pub number_due : (s : Script) (w t : Lexeme) → IsNumber t
       → step vars (stopped s w) t
-      ≡ due_by s w t (falls (current_of s) (point t)) (nat_le max_changes (length (changes_of vars s)))
+      ≡ due_by s w t (falls (current_of s) (point_number t)) (nat_le max_changes (length (changes_of vars s)))
   unfolding step
   number_due s w t is =
       ap (decided vars (done_of s) (current_of s) w t) is.0
-      ∙ ap (λ b. if b then Err (Strategy (Syntax t.at)) else opened vars (done_of s) (current_of s) w.at t.at
-      (point t))
+      ∙ ap (λ b. if b then Err (Strategy (Syntax t.at)) else change_opened vars (done_of s) (current_of s) w.at t.at
+      (point_number t))
       is.1
-      ∙ ap (λ all. if falls (current_of s) (point t) then Err (FallingChange t.at)
+      ∙ ap (λ all. if falls (current_of s) (point_number t) then Err (FallingChange t.at)
       else if nat_le max_changes (length all) then Err (TooManyChanges w.at)
-      else Ok (within all (point t) (strategy.nothing_read vars))) (with_last s)
+      else Ok (change_goes_on all (point_number t) (strategy.nothing_read vars))) (with_last s)
 
   pub number_judged : (s : Script) (w t : Lexeme) → FitsScript s → IsBefore w → IsNumber t
       → layer.Judged (IsCaused (spell_script s ++ w ∷ []) t) (MayCome s t) (step vars (stopped s w) t)
@@ -240,12 +241,12 @@ module _ (vars : List Var) where
           inl ((above, leb-false max_changes (length (changes_of vars s)) e), refl)
 
       fall_by : (s : Script) (v n : Lexeme) (es : Entries) → FitsScript (Change s v n es) → (low : Bool)
-          → nat_lt (point t) (point n) ≡ low
+          → nat_lt (point_number t) (point_number n) ≡ low
           → layer.Judged (IsCaused (spell_script (Change s v n es) ++ w ∷ []) t) (MayCome (Change s v n es) t)
           (due_by (Change s v n es) w t low (nat_le max_changes (length (changes_of vars (Change s v n es)))))
           (inside_of (Change s v n es) t (Whole NoEntry))
       fall_by s v n es fits true e =
-          let low = ltb-true (point t) (point n) e in
+          let low = ltb-true (point_number t) (point_number n) e in
           inr (breaks _ (MayCome (Change s v n es) t) (FallingChange t.at) (
             tt,
             record {
@@ -262,15 +263,15 @@ module _ (vars : List Var) where
           )
           (λ may. omega (arith, low, may.0)))
       fall_by s v n es fits false e =
-          full_by (Change s v n es) fits (ltb-false (point t) (point n) e)
+          full_by (Change s v n es) fits (ltb-false (point_number t) (point_number n) e)
           (nat_le max_changes (length (changes_of vars (Change s v n es)))) refl
 
       by_script : (s : Script) → FitsScript s
           → layer.Judged (IsCaused (spell_script s ++ w ∷ []) t) (MayCome s t)
-          (due_by s w t (falls (current_of s) (point t)) (nat_le max_changes (length (changes_of vars s))))
+          (due_by s w t (falls (current_of s) (point_number t)) (nat_le max_changes (length (changes_of vars s))))
           (inside_of s t (Whole NoEntry))
       by_script NoChange fits = full_by NoChange fits tt (nat_le max_changes 0) refl
-      by_script (Change s v n es) fits = fall_by s v n es fits (nat_lt (point t) (point n)) refl
+      by_script (Change s v n es) fits = fall_by s v n es fits (nat_lt (point_number t) (point_number n)) refl
 
   then_token : (front : List Lexeme) (t : Lexeme) (rules more all : Type 0) (p q : ScriptOf)
       → (rules → more → all) → (all → rules × more) → Judged rules (Told front) p
@@ -309,9 +310,9 @@ module _ (vars : List Var) where
       (KeepsPlace (Inside s w n p)) (λ q. run (step vars) (spell_part p) q) (inside_of s n p)
       (λ a b. (a.0, a.1, b)) (λ k. ((k.0, k.1), k.2)) number
       (λ a. subst (λ r. Judged (KeepsPart vars p) r (inside_of s n p)) (sym (alike vars done
-      (point n) p fits.3 fits.4))
+      (point_number n) p fits.3 fits.4))
       (lifted_judged (KeepsPart vars p) (run (strategy.step vars) (spell_part p) (strategy.nothing_read vars))
-      (behind vars p) (within done (point n)) (part_read vars p fits.3))))
+      (behind vars p) (change_goes_on done (point_number n)) (part_read vars p fits.3))))
 
   pub script_read : (s : Script) → FitsScript s → Judged (KeepsWhole s) (Told (spell_script s)) (at_whole s)
   script_read NoChange fits = inl (tt, run_none (step vars) nothing_read)

@@ -14,12 +14,12 @@ use Rattle.slice_strategy.specs.declared.stage.Method.{Method}
 use Rattle.slice_strategy.specs.declared.stage.Method.TheVariants as method
 use Rattle.slice_strategy.specs.ChangeGrammar.{is_before, IsBefore}
 use Rattle.slice_strategy.specs.ChangeReading as script
-use Rattle.slice_strategy.specs.ChangeReading.{ScriptOf, lifted, may_begin, within, interrupted}
+use Rattle.slice_strategy.specs.ChangeReading.{ScriptOf, lifted, may_begin, change_goes_on, interrupted}
 use Rattle.slice_strategy.specs.Grammar.{Integers, First, Next, Opening, Entries, NoEntry, Then, Part, Whole, ToName}
 use Rattle.slice_strategy.specs.Grammar.{ToEqual, ToMethod, ToColon, ToComma, FitsPart, Fits, FitsOpening}
 use Rattle.slice_strategy.specs.Grammar.{FitsIntegers}
 use Rattle.slice_strategy.specs.Grammar.{spell_part}
-use Rattle.slice_strategy.specs.Reading.{Partial, Between, ended, moved, stage_step, step, nothing_read}
+use Rattle.slice_strategy.specs.Reading.{Partial, Between, ended, with_stage, stage_step, step, nothing_read}
 use Rattle.slice_strategy.proofs.CauseLaw.{closed_few}
 use Rattle.slice_strategy.proofs.Moves.{behind, settled_other}
 use Rattle.slice_strategy.proofs.PartReads.{stands_behind}
@@ -44,14 +44,14 @@ IsNoBefore _ = Unit {0}
 module _ (vars : List Var) (done : List Change) (number : ℕ) where
   -- the same of a script
   abbrev pub within_of : Result Partial StrategyFault → Result ScriptOf ChangeFault
-  within_of r = lifted r >>= λ q. Ok (within done number q)
+  within_of r = lifted r >>= λ q. Ok (change_goes_on done number q)
 
   abbrev pub fresh : ScriptOf
-  fresh = within done number (nothing_read vars)
+  fresh = change_goes_on done number (nothing_read vars)
 
   -- a token that is no `before`, or not where an entry may begin
   pub else_step : (p : Partial) (t : Lexeme) → (is_before t.kind t.text && may_begin p.stage) ≡ false
-      → script.step vars (within done number p) t ≡ within_of (step vars p t)
+      → script.step vars (change_goes_on done number p) t ≡ within_of (step vars p t)
   unfolding script.step
   else_step p t other =
       ap (λ b. if b then (lifted (ended p.entries p.stage) >>= λ q. Ok (interrupted done number t q))
@@ -59,7 +59,7 @@ module _ (vars : List Var) (done : List Change) (number : ℕ) where
 
   -- a `before` where an entry may begin
   pub before_step : (p : Partial) (t : Lexeme) → IsBefore t → may_begin p.stage ≡ true
-      → script.step vars (within done number p) t
+      → script.step vars (change_goes_on done number p) t
       ≡ (lifted (ended p.entries p.stage) >>= λ q. Ok (interrupted done number t q))
   unfolding script.step
   before_step p t is begins =
@@ -113,13 +113,14 @@ module _ (vars : List Var) (done : List Change) (number : ℕ) where
   Alike ts = Told ts ≡ within_of (Ran ts)
 
   then_by : (t : Lexeme) (r : Result Partial StrategyFault)
-      → ((p : Partial) → r ≡ Ok p → script.step vars (within done number p) t ≡ within_of (step vars p t))
+      → ((p : Partial) → r ≡ Ok p → script.step vars (change_goes_on done number p) t ≡ within_of (step vars p t))
       → (within_of r >>= λ s. script.step vars s t) ≡ within_of (r >>= λ p. step vars p t)
   then_by t (Ok p) same = same p refl
   then_by t (Err fault) same = refl
 
   then_alike : (front : List Lexeme) (t : Lexeme) → Alike front
-      → ((p : Partial) → Ran front ≡ Ok p → script.step vars (within done number p) t ≡ within_of (step vars p t))
+      → ((p : Partial) → Ran front ≡ Ok p
+      → script.step vars (change_goes_on done number p) t ≡ within_of (step vars p t))
       → Alike (front ++ t ∷ [])
   then_alike front t alike same =
       more_told front t ∙ ap (λ r. r >>= λ s. script.step vars s t) alike ∙ then_by t (Ran front) same
@@ -139,19 +140,19 @@ module _ (vars : List Var) (done : List Change) (number : ℕ) where
 
   -- a name and its `=`, where the name is a `before`
   between_step : (q : Partial) (n : Lexeme) → q.stage ≡ Between → n.kind ≢ Comma
-      → step vars q n ≡ moved q.entries (stage_step vars q.entries q.stage n n.kind)
+      → step vars q n ≡ with_stage q.entries (stage_step vars q.entries q.stage n n.kind)
   unfolding step
   between_step q n between other =
-      ap (λ r. r >>= λ x. moved x.entries (stage_step vars x.entries x.stage n n.kind))
+      ap (λ r. r >>= λ x. with_stage x.entries (stage_step vars x.entries x.stage n n.kind))
       (settled_other vars q n.kind other
       ∙ ap (ended q.entries) between ∙ ap (λ stage. Ok (record { entries = q.entries; stage = stage })) (sym between))
 
   ended_step : (p : Partial) (n : Lexeme) → n.kind ≢ Comma
-      → step vars p n ≡ (ended p.entries p.stage >>= λ q. moved q.entries
+      → step vars p n ≡ (ended p.entries p.stage >>= λ q. with_stage q.entries
       (stage_step vars q.entries q.stage n n.kind))
   unfolding step
   ended_step p n other =
-      ap (λ r. r >>= λ x. moved x.entries (stage_step vars x.entries x.stage n n.kind))
+      ap (λ r. r >>= λ x. with_stage x.entries (stage_step vars x.entries x.stage n n.kind))
       (settled_other vars p n.kind other)
 
   -- a name is read behind the end of the last entry as behind the entry
@@ -161,7 +162,7 @@ module _ (vars : List Var) (done : List Change) (number : ℕ) where
   name_again es n q fits other closed =
       let at = (closed_few vars es fits q closed).1 in
       ended_step (behind vars (Whole es)) n other
-      ∙ ap (λ r. r >>= λ x. moved x.entries (stage_step vars x.entries x.stage n n.kind)) closed
+      ∙ ap (λ r. r >>= λ x. with_stage x.entries (stage_step vars x.entries x.stage n n.kind)) closed
       ∙ sym (between_step q n (ap (λ (x : Partial). x.stage) at) other)
 
   unit_by : (es : Entries) (n e : Lexeme) → Fits es → n.kind ≢ Comma → e.kind ≡ Equal
@@ -174,7 +175,7 @@ module _ (vars : List Var) (done : List Change) (number : ℕ) where
       ∙ ap (λ r. within_of (r >>= λ x. step vars x e)) (sym (name_again es n q fits other closed))
   unit_by es n e fits other kind (Err fault) closed =
       sym (ap (λ r. within_of (r >>= λ x. step vars x e)) (ended_step (behind vars (Whole es)) n other
-      ∙ ap (λ r. r >>= λ x. moved x.entries (stage_step vars x.entries x.stage n n.kind)) closed))
+      ∙ ap (λ r. r >>= λ x. with_stage x.entries (stage_step vars x.entries x.stage n n.kind)) closed))
 
   two_by : (es : Entries) (n e : Lexeme) → Fits es → IsBefore n → e.kind ≡ Equal
       → (r : Result Partial StrategyFault) → (Ran (spell_part (Whole es)) ≡ r)
@@ -185,7 +186,7 @@ module _ (vars : List Var) (done : List Change) (number : ℕ) where
       let at = (stands_behind vars (Whole es) s fits ran).1 in
       let p = behind vars (Whole es) in
       let word = before_word n.kind n.text before in
-      ap (λ x. script.step vars (within done number x) n >>= λ s. script.step vars s e) at
+      ap (λ x. script.step vars (change_goes_on done number x) n >>= λ s. script.step vars s e) at
       ∙ ap (λ r. r >>= λ s. script.step vars s e) (before_step p n before (whole_begins es))
       ∙ unit_by es n e fits (λ comma. cc (word, comma)) kind (ended p.entries p.stage) refl
       ∙ sym (ap (λ x. within_of (step vars x n >>= λ q. step vars q e)) at)

@@ -26,7 +26,7 @@ use Rattle.slice_strategy.specs.ChangeCauses.{IsCause, IsLast}
 use Rattle.slice_strategy.specs.ChangeGrammar.{Script, NoChange, Change, FitsScript, spell_script, IsViableScript}
 use Rattle.slice_strategy.specs.ChangeLaws.{OneAnswer, IsShown, ExactFaults, ExactSoundness, StaysShown}
 use Rattle.slice_strategy.specs.ChangeReading.{ScriptOf, last_change, step, nothing_read, at_tail, reading}
-use Rattle.slice_strategy.specs.ChangeRules.{point, changes_of, KeepsScript, IsValue}
+use Rattle.slice_strategy.specs.ChangeRules.{point_number, changes_of, KeepsScript, IsValue}
 use Rattle.slice_strategy.specs.Grammar.{Whole, spell_part}
 use Rattle.slice_strategy.specs.Reading as strategy
 use Rattle.slice_strategy.specs.Reading.{Partial, complete, ended}
@@ -76,7 +76,7 @@ module _ (vars : List Var) (bytes : List ℕ) where
       }
   place_value s ran whole (ToBefore r w) is changes e = absurd cc
   place_value s ran whole (Inside r w n p) is changes e =
-      let last = last_is (changes_of vars r) (point n) (strategy.at_end end (behind vars p)) changes e in
+      let last = last_is (changes_of vars r) (point_number n) (strategy.at_end end (behind vars p)) changes e in
       let q =
       bind_ok (ended (behind vars p).entries (behind vars p).stage)
       (λ q. complete end q.entries q.stage) last.0 last.1 in
@@ -99,7 +99,7 @@ module _ (vars : List Var) (bytes : List ℕ) where
           spelled = is.spelled ∙ ap (λ us. spell_number r w n ++ us) accepted.1.spelled;
         };
         rules = (kept.0, kept.1.0, kept.1.1, few_kept vars es at.0 few.0);
-        value = sym last.2 ∙ ap (λ v. changes_of vars r ++ record { before = point n; strategy = v } ∷ []) value;
+        value = sym last.2 ∙ ap (λ v. changes_of vars r ++ record { before = point_number n; strategy = v } ∷ []) value;
       }
 
   broken_never : (x : LexFault) (p : Place) (changes : List ChangeOf)
@@ -107,7 +107,7 @@ module _ (vars : List Var) (bytes : List ℕ) where
   broken_never x Outside changes e = cc
   broken_never x (ToBefore r w) changes e = cc
   broken_never x (Inside r w n p) changes e =
-      let last = last_is (changes_of vars r) (point n) (strategy.broken (behind vars p) x.at) changes e in
+      let last = last_is (changes_of vars r) (point_number n) (strategy.broken_at (behind vars p) x.at) changes e in
       let q = bind_ok (ended (behind vars p).entries (behind vars p).stage) (λ q. syntax x.at) last.0 last.1 in
       cc (q.2)
     where
@@ -137,7 +137,7 @@ module _ (vars : List Var) (bytes : List ℕ) where
       → at_tail (End end) (at_whole vars s) ≡ Ok (changes_of vars s)
   whole_given NoChange fits kept = refl
   whole_given (Change s w n es) fits kept =
-      ap (λ r. last_change (changes_of vars s) (point n) (r >>= λ (q : Partial). complete end q.entries q.stage))
+      ap (λ r. last_change (changes_of vars s) (point_number n) (r >>= λ (q : Partial). complete end q.entries q.stage))
       (few_closed vars es fits.3 (few_of vars es kept.3))
 
   pub spelled_is_read : (changes : List ChangeOf) → IsValue vars bytes changes → reading vars bytes ≡ Ok changes

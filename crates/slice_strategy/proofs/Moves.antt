@@ -24,8 +24,8 @@ use Rattle.slice_strategy.specs.Grammar.{Integers, First, Next, Opening, Entries
 use Rattle.slice_strategy.specs.Grammar.{ToEqual, ToMethod, ToColon, ToComma, FitsPart, Fits, spell_part, method_of}
 use Rattle.slice_strategy.specs.Limits.{max_workers}
 use Rattle.slice_strategy.specs.Reading.{StageOf, Between, Named, Chosen, Divided, Cutting, Behind, Partial}
-use Rattle.slice_strategy.specs.Reading.{fresh, named}
-use Rattle.slice_strategy.specs.Reading.{opened, is_above, stage_step, ended, settled, moved, step}
+use Rattle.slice_strategy.specs.Reading.{fresh, entry_named}
+use Rattle.slice_strategy.specs.Reading.{opened, is_above, stage_step, ended, entry_settled, with_stage, step}
 use Rattle.slice_strategy.specs.Reading.{nothing_read, syntax_at}
 use Rattle.slice_strategy.specs.Rules.{variable_of, holds_text, number_of, number, numbers, last_of, entry_by}
 use Rattle.slice_strategy.specs.Rules.{strategy_of, HasEntry, IsNew, SuitsSort, AreInOrder}
@@ -59,7 +59,7 @@ module _ (vars : List Var) where
 
   -- a token of this kind
   abbrev pub step_by : Partial → Lexeme → Kind → Result Partial StrategyFault
-  step_by p t k = settled p k >>= λ q. moved q.entries (stage_step vars q.entries q.stage t k)
+  step_by p t k = entry_settled p k >>= λ q. with_stage q.entries (stage_step vars q.entries q.stage t k)
 
   pub stepped : (p : Partial) (t : Lexeme) (k : Kind) → t.kind ≡ k → step vars p t ≡ step_by p t k
   unfolding step
@@ -68,7 +68,7 @@ module _ (vars : List Var) where
   abbrev pub Judged : List Lexeme → Lexeme → Type 0 → Result Partial StrategyFault → Partial → Type 0
   Judged front t rules r q = layer.Judged (IsCaused vars front t) rules r q
 
-  pub settled_other : (p : Partial) (k : Kind) → k ≢ Comma → settled p k ≡ ended p.entries p.stage
+  pub settled_other : (p : Partial) (k : Kind) → k ≢ Comma → entry_settled p k ≡ ended p.entries p.stage
   settled_other p Comma other = absurd (other refl)
   settled_other p _ other = refl
 
@@ -110,12 +110,13 @@ module _ (vars : List Var) where
   -- a name where an entry may begin
   new_judged : (es : Entries) → Fits es → AreKnown vars es → AreFew es → (t : Lexeme) → t.kind ≡ Word
       → Judged (spell_part (Whole es)) t (IsNew vars es t)
-      (moved (strategy_of vars es) (named (strategy_of vars es) (variable_of vars t.text) t)) (behind (ToName es t))
+      (with_stage (strategy_of vars es) (entry_named (strategy_of vars es) (variable_of vars t.text) t))
+          (behind (ToName es t))
   new_judged es fits known few t kind = by (variable_of vars t.text) refl
     where
       by : (found : Option ℕ) → variable_of vars t.text ≡ found
           → Judged (spell_part (Whole es)) t (IsNew vars es t)
-          (moved (strategy_of vars es) (named (strategy_of vars es) found t)) (behind (ToName es t))
+          (with_stage (strategy_of vars es) (entry_named (strategy_of vars es) found t)) (behind (ToName es t))
       by None e =
           inr (breaks _ (IsNew vars es t) (UnknownVariable t.at) (
             tt,
@@ -132,7 +133,7 @@ module _ (vars : List Var) where
       by (Some x) e =
           elim (had_or_free vars es x known (named_low vars t.text x e)) [
             | inl h ↦ subst (λ r. Judged (spell_part (Whole es)) t (IsNew vars es t)
-                (moved (strategy_of vars es) r) (behind (ToName es t))) (sym (h.repeats t))
+                (with_stage (strategy_of vars es) r) (behind (ToName es t))) (sym (h.repeats t))
                 (inr (breaks _ (IsNew vars es t) (RepeatedVariable t.at) (
                   tt,
                   record {
@@ -150,7 +151,7 @@ module _ (vars : List Var) where
                 ∙ new.free)) h.had))))
             | inr f ↦ inl (
               record { variable = x; free = e; first = f.first },
-              ap (λ o. moved (strategy_of vars es) (fresh o x t)) f.uncut
+              ap (λ o. with_stage (strategy_of vars es) (fresh o x t)) f.uncut
                   ∙ ap (λ n. Ok (so_far es (Named (record { variable = n; at = t.at }))))
                   (sym (number_named vars t x e)),
             )
@@ -164,7 +165,7 @@ module _ (vars : List Var) where
       → Judged (spell_part (Whole es)) t (AreFew es × IsNew vars es t) (step_by (behind (Whole es)) t Word)
       (behind (ToName es t))
   name_judged es fits known t kind =
-      let next = λ (q : Partial). moved q.entries (stage_step vars q.entries q.stage t Word) in
+      let next = λ (q : Partial). with_stage q.entries (stage_step vars q.entries q.stage t Word) in
       then_judged _ (AreFew es) (ended (behind (Whole es)).entries (behind (Whole es)).stage) (so_far es Between)
       (IsNew vars es t) (AreFew es × IsNew vars es t) next (behind (ToName es t))
       (λ few new. (few, new)) (λ both. both)
@@ -185,7 +186,7 @@ module _ (vars : List Var) where
           → holds_text (slice_get vars (number_of vars n)) ≡ string
           → (if hash then Some method.Hash else if cut then Some method.Cut else None) ≡ Some m
           → Judged (spell_part (ToEqual es n e)) t (SuitsSort vars n m)
-          (moved (strategy_of vars es)
+          (with_stage (strategy_of vars es)
           (if hash then Ok (Divided (head_of n) method.Hash) else if cut then
           (if string then Err (CutSort t.at) else Ok (Divided (head_of n) method.Cut)) else syntax_at t))
           (behind (ToMethod es n e t m))
@@ -222,7 +223,7 @@ module _ (vars : List Var) where
     where
       count_by : (enough : Bool) → o.method ≡ method.Hash → int_le (pos 1) (number t) ≡ enough
           → Judged (spell_part (ToColon es o)) t (int_le (pos 1) (number t) ≡ true)
-          (moved (strategy_of vars es)
+          (with_stage (strategy_of vars es)
           (if enough then Ok (Behind (head_of o.name) (entry_by method.Hash (First t))) else Err (BadCount t.at)))
           (so_far es (Behind (head_of o.name) (entry_by method.Hash (First t))))
       count_by true is e = inl (e, refl)
@@ -255,7 +256,7 @@ module _ (vars : List Var) where
       (step_by (behind (ToComma es o is c)) t Integer) (behind (Whole (Then es o (Next is c t))))
   next_judged es o is c fits t kind =
       subst (λ last. Judged (spell_part (ToComma es o is c)) t (int_lt (last_of is) (number t) ≡ true)
-      (moved (strategy_of vars es) (due (is_above last (number t)))) (behind (Whole (Then es o (Next is c t)))))
+      (with_stage (strategy_of vars es) (due (is_above last (number t)))) (behind (Whole (Then es o (Next is c t)))))
       (sym (last_number is)) (by (int_lt (last_of is) (number t)) refl)
     where
       due : Bool → Result StageOf StrategyFault
@@ -264,7 +265,7 @@ module _ (vars : List Var) where
 
       by : (above : Bool) → int_lt (last_of is) (number t) ≡ above
           → Judged (spell_part (ToComma es o is c)) t (int_lt (last_of is) (number t) ≡ true)
-          (moved (strategy_of vars es) (due above)) (behind (Whole (Then es o (Next is c t))))
+          (with_stage (strategy_of vars es) (due above)) (behind (Whole (Then es o (Next is c t))))
       by true e =
           inl (e, ap (λ m. Ok (so_far es (Behind (head_of o.name) (entry_by m (Next is c t))))) (sym fits.2))
       by false e =

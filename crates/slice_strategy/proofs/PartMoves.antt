@@ -18,7 +18,7 @@ use Rattle.slice_strategy.specs.Causes.{IsCause}
 use Rattle.slice_strategy.specs.Grammar.{Integers, First, Next, Opening, Entries, NoEntry, Then, Part, Whole, ToName}
 use Rattle.slice_strategy.specs.Grammar.{ToEqual, ToMethod, ToColon, ToComma, FitsPart, Fits, FitsIntegers}
 use Rattle.slice_strategy.specs.Grammar.{spell_part, method_of, IsAccepted, IsViable}
-use Rattle.slice_strategy.specs.Reading.{Between, Behind, Divided, Partial, opened, ended, moved, stage_step}
+use Rattle.slice_strategy.specs.Reading.{Between, Behind, Divided, Partial, opened, ended, with_stage, stage_step}
 use Rattle.slice_strategy.specs.Reading.{step, syntax_at}
 use Rattle.slice_strategy.specs.Rules.{holds_text, number_of, entry_by, strategy_of}
 use Rattle.slice_strategy.proofs.Moves.{IsCaused, head_of, so_far, behind, step_by, stepped}
@@ -168,7 +168,7 @@ module _ (vars : List Var) where
   whole_moves es t Comma kind fits kept = comma_moves es t fits kind
   whole_moves es t k kind fits kept =
       ends_moves es t fits (λ comma. cc (kind, comma))
-      (λ q. moved q.entries (stage_step vars q.entries q.stage t k)) refl
+      (λ q. with_stage q.entries (stage_step vars q.entries q.stage t k)) refl
 
   name_moves : (es : Entries) (n t : Lexeme) (k : Kind) → t.kind ≡ k → FitsPart (ToName es n)
       → Moves (ToName es n) t (step_by vars (behind vars (ToName es n)) t k)
@@ -182,7 +182,7 @@ module _ (vars : List Var) where
       none : (hash cut string : Bool)
           → (if hash then Some method.Hash else if cut then Some method.Cut else None) ≡ None
           → Moves (ToEqual es n e) t
-          (moved (strategy_of vars es)
+          (with_stage (strategy_of vars es)
           (if hash then Ok (Divided (head_of vars n) method.Hash) else if cut then
           (if string then Err (CutSort t.at) else Ok (Divided (head_of vars n) method.Cut)) else syntax_at t))
       none true cut string is = absurd cc

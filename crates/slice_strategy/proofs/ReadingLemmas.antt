@@ -14,7 +14,7 @@ use Rattle.slice_strategy.specs.declared.fault.StrategyFault.{StrategyFault}
 use Rattle.slice_strategy.specs.declared.fault.StrategyFault.TheVariants.{Memory, Syntax}
 use Rattle.slice_strategy.specs.Answers.{Fails}
 use Rattle.slice_strategy.specs.Laws.{StaysShown}
-use Rattle.slice_strategy.specs.Reading.{Partial, step, at_end, at_tail, broken, ended, nothing_read, reading}
+use Rattle.slice_strategy.specs.Reading.{Partial, step, at_end, at_tail, broken_at, ended, nothing_read, reading}
 
 -- behind the tokens before this place the text reads on like this
 abbrev pub Leads : List Var → List ℕ → Place → Partial → Type 0
@@ -31,12 +31,12 @@ syntax_fault at = Err (Syntax at)
 
 -- where the lexer has a fault an entry may be behind which there are too many workers
 module _ (p : Partial) (at : ℕ) where
-  pub broken_in : (fault : StrategyFault) → Fails fault (ended p.entries p.stage) → Fails fault (broken p at)
+  pub broken_in : (fault : StrategyFault) → Fails fault (ended p.entries p.stage) → Fails fault (broken_at p at)
   broken_in fault failed =
-      fails_on fault (ended p.entries p.stage) (broken p at)
+      fails_on fault (ended p.entries p.stage) (broken_at p at)
       (λ e. ap (λ r. r >>= λ q. syntax_fault at) e) failed
 
-  pub broken_behind : (q : Partial) → ended p.entries p.stage ≡ Ok q → Fails (Syntax at) (broken p at)
+  pub broken_behind : (q : Partial) → ended p.entries p.stage ≡ Ok q → Fails (Syntax at) (broken_at p at)
   broken_behind q e = ap (λ r. r >>= λ q. syntax_fault at) e
 
 module _ (vars : List Var) (bytes : List ℕ) where
@@ -56,7 +56,7 @@ module _ (vars : List Var) (bytes : List ℕ) where
         fails_on fault (step vars p t) (reading vars bytes)
         (λ stop. sym leads ∙ on_stop (step vars) at_tail (tail_of true (length bytes)) place p t fault next stop) failed
 
-    pub lex_fails : (fault : LexFault) → next_token place ≡ Err fault → reading vars bytes ≡ broken p fault.at
+    pub lex_fails : (fault : LexFault) → next_token place ≡ Err fault → reading vars bytes ≡ broken_at p fault.at
     lex_fails fault next =
         sym leads ∙ on_fault (step vars) at_tail (tail_of true (length bytes)) place p fault next
 

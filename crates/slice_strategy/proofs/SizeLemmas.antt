@@ -17,7 +17,8 @@ use Rattle.slice_strategy.specs.declared.fault.StrategyFault.TheVariants.{Syntax
 use Rattle.slice_strategy.specs.Answers.{Gives}
 use Rattle.slice_strategy.specs.Limits.{max_workers}
 use Rattle.slice_strategy.specs.Reading.{StageOf, Between, Named, Chosen, Divided, Counting, Cutting, Behind, Partial}
-use Rattle.slice_strategy.specs.Reading.{ended, settled, moved, stage_step, step, complete, at_tail, nothing_read}
+use Rattle.slice_strategy.specs.Reading.{ended, entry_settled, with_stage, stage_step, step, complete, at_tail}
+use Rattle.slice_strategy.specs.Reading.{nothing_read}
 use Rattle.slice_strategy.specs.Reading.{reading}
 use Rattle.slice_strategy.specs.Rules.{text_of}
 
@@ -53,15 +54,17 @@ ended_size entries (Behind head entry) q is =
     (nat_le (workers_of (slice_set entries head.variable entry)) max_workers)
     (length-set entries head.variable entry) is
 
-settled_size : (p : Partial) (kind : Kind) (q : Partial) → settled p kind ≡ Ok q → length q.entries ≡ length p.entries
-settled_size p Comma q is = ok_size p q (settled p Comma) refl is
+settled_size : (p : Partial) (kind : Kind) (q : Partial) → entry_settled p kind ≡ Ok q
+    → length q.entries ≡ length p.entries
+settled_size p Comma q is = ok_size p q (entry_settled p Comma) refl is
 settled_size p _ q is = ended_size p.entries p.stage q is
 
 step_size : (vars : List Var) (p : Partial) (t : Lexeme) (q : Partial) → step vars p t ≡ Ok q
     → length q.entries ≡ length p.entries
 unfolding step
 step_size vars p t q is =
-    let r = bind_ok (settled p t.kind) (λ m. moved m.entries (stage_step vars m.entries m.stage t t.kind)) q is in
+    let r = bind_ok (entry_settled p t.kind)
+        (λ m. with_stage m.entries (stage_step vars m.entries m.stage t t.kind)) q is in
     let entries = r.0.entries in
     let n = bind_ok (stage_step vars entries r.0.stage t t.kind) (λ next. Ok (with entries next)) q r.2 in
     same_size entries n.0 q (Ok (with entries n.0)) refl n.2 ∙ settled_size p t.kind r.0 r.1

@@ -25,8 +25,8 @@ use Rattle.slice_strategy.specs.declared.stage.Method.TheVariants as method
 use Rattle.slice_strategy.specs.Entries.{entries_of, entry_of}
 use Rattle.slice_strategy.specs.Limits.{max_workers}
 use Rattle.slice_strategy.specs.Reading.{StageOf, Between, Named, Chosen, Divided, Counting, Cutting, Behind, Partial}
-use Rattle.slice_strategy.specs.Reading.{StageFits, IsSound, fresh, named, begins, after_name}
-use Rattle.slice_strategy.specs.Reading.{after_equal, after_method, counted, count_step, is_above, cut_step}
+use Rattle.slice_strategy.specs.Reading.{StageFits, PartialFits, fresh, entry_named, begins, after_name}
+use Rattle.slice_strategy.specs.Reading.{after_equal, after_method, with_count, count_step, is_above, cut_step}
 use Rattle.slice_strategy.specs.Reading.{goes_on, stage_step, syntax_at, ended}
 use Rattle.slice_strategy.specs.Rules.{variable_of, holds_text}
 use Rattle.slice_strategy.specs.SlicerLemmas.{both_some}
@@ -40,7 +40,7 @@ fresh_fits (Some Uncut) n variable t s within is =
     subst (λ x. StageFits n x) same (within Uncut refl)
 fresh_fits _ n variable t s within is = absurd cc
 
-named_fits : (entries : Strategy) (found : Option ℕ) (t : Lexeme) (s : StageOf) → named entries found t ≡ Ok s
+named_fits : (entries : Strategy) (found : Option ℕ) (t : Lexeme) (s : StageOf) → entry_named entries found t ≡ Ok s
     → StageFits (length entries) s
 named_fits entries None t s is = absurd cc
 named_fits entries (Some variable) t s is =
@@ -83,7 +83,7 @@ module _ (n : ℕ) (head : Head) (low : head.variable < n) (t : Lexeme) (s : Sta
       let same : Behind head (Hash m) ≡ s = cc in subst (λ x. StageFits n x) same (low, leb-true 1 m enough)
   counted_by m false few is = absurd cc
 
-  counted_fits : (v : ℤ) → counted head v t.at ≡ Ok s → StageFits n s
+  counted_fits : (v : ℤ) → with_count head v t.at ≡ Ok s → StageFits n s
   counted_fits (pos m) is = counted_by m (nat_le 1 m) refl is
   counted_fits (negsuc k) is = absurd cc
 
@@ -125,7 +125,7 @@ uncut_one zero = refl
 uncut_one (suc n) = one-mul (workers_of (replicate n Uncut)) ∙ uncut_one n
 
 -- where no entry is settled there is one worker
-pub nothing_sound : (n : ℕ) → IsSound (record { entries = replicate n Uncut; stage = Between })
+pub nothing_sound : (n : ℕ) → PartialFits (record { entries = replicate n Uncut; stage = Between })
 nothing_sound n =
     let one = uncut_one n in
     record { within = record { some = omega (arith, one); few = omega (arith, one) }; fits = tt }
@@ -170,10 +170,10 @@ module _ (items : List Item) (head : Head) (entry : Item) (slice : List Item) (n
       ∙ ap (λ es. Ok (record { entries = es; stage = Between })) (sym same)
 
   pub set_sound : n ≤ max_workers
-      → IsSound (record { entries = entries_of items; stage = Behind head (entry_of entry) })
-      → IsSound (record { entries = entries_of (slice_set items head.variable entry); stage = Between })
+      → PartialFits (record { entries = entries_of items; stage = Behind head (entry_of entry) })
+      → PartialFits (record { entries = entries_of (slice_set items head.variable entry); stage = Between })
   set_sound few sound =
-      subst (λ es. IsSound (record { entries = es; stage = Between })) (sym same)
+      subst (λ es. PartialFits (record { entries = es; stage = Between })) (sym same)
       (record {
         within = record {
           some = some_set (entries_of items) head.variable (entry_of entry) sound.fits.1 sound.within.some;

@@ -14,7 +14,7 @@ use Rattle.slice_strategy.specs.Causes as strategy
 use Rattle.slice_strategy.specs.Causes.{IsOver, IsTold}
 use Rattle.slice_strategy.specs.ChangeGrammar.{Script, Change, is_before, IsBefore, IsNumber, FitsScript, spell_script}
 use Rattle.slice_strategy.specs.ChangeGrammar.{IsScript, IsViableScript}
-use Rattle.slice_strategy.specs.ChangeRules.{point, changes_of, IsNotBelow}
+use Rattle.slice_strategy.specs.ChangeRules.{point_number, changes_of, IsNotBelow}
 use Rattle.slice_strategy.specs.Grammar.{Entries, spell}
 use Rattle.slice_strategy.specs.Limits.{max_changes}
 
@@ -51,7 +51,7 @@ IsOwn t (RepeatedVariable at) = is_before t.kind t.text ≡ false
 IsOwn t _ = Unit {0}
 
 -- in the last strategy the token shows the fault
-pub record IsWithin (vars : List Var) (front : List Lexeme) (t : Lexeme) (fault : StrategyFault) : Type 0 where
+pub record IsCauseWithin (vars : List Var) (front : List Lexeme) (t : Lexeme) (fault : StrategyFault) : Type 0 where
   pub inner : List Lexeme
   pub place : InChange front inner
   pub cause : strategy.IsCause vars inner t fault
@@ -77,7 +77,7 @@ pub record IsFalling (front : List Lexeme) (t : Lexeme) (at : ℕ) : Type 0 wher
   pub word : Lexeme
   pub spelled : IsInterrupted front (Change script first count entries) word
   pub numbered : IsNumber t
-  pub low : point t < point count
+  pub low : point_number t < point_number count
   pub place : at ≡ t.at
 
 -- the number of one more change than there may be; the fault stands at its `before`
@@ -99,7 +99,7 @@ pub record IsSyntax (vars : List Var) (front : List Lexeme) (t : Lexeme) (at : �
 abbrev pub IsCause : List Var → List Lexeme → Lexeme → ChangeFault → Type 0
 IsCause vars front t (Strategy (Syntax at)) = IsSyntax vars front t at
 IsCause vars front t (Strategy Memory) = ⊥
-IsCause vars front t (Strategy fault) = IsWithin vars front t fault ⊎ IsByEqual vars front t fault
+IsCause vars front t (Strategy fault) = IsCauseWithin vars front t fault ⊎ IsByEqual vars front t fault
 IsCause vars front t (FallingChange at) = IsFalling front t at
 IsCause vars front t (TooManyChanges at) = IsOneTooMany vars front t at
 

@@ -20,7 +20,7 @@ use Rattle.slice_strategy.specs.declared.script.Current.{Current}
 use Rattle.slice_strategy.specs.ChangeGrammar.{is_before}
 use Rattle.slice_strategy.specs.Limits.{max_changes}
 use Rattle.slice_strategy.specs.Reading as strategy
-use Rattle.slice_strategy.specs.Reading.{Partial, StageOf, Between, Behind, ended, at_end, broken}
+use Rattle.slice_strategy.specs.Reading.{Partial, StageOf, Between, Behind, ended, at_end, broken_at}
 use Rattle.slice_strategy.specs.Rules.{text_of}
 
 -- whole changes, a part of the one behind them, and a Word `before` that may begin the next one
@@ -50,8 +50,8 @@ starts done t =
     if is_before t.kind t.text then Ok (record { done = done; current = None; before = Some t }) else syntax_at t
 
 -- the change of this number goes on with what was read
-abbrev pub within : List Change → ℕ → Partial → ScriptOf
-within done number p =
+abbrev pub change_goes_on : List Change → ℕ → Partial → ScriptOf
+change_goes_on done number p =
     record { done = done; current = Some (record { number = number; reader = p }); before = None }
 
 -- the same, and behind it stands a `before`
@@ -60,27 +60,27 @@ interrupted done number t p =
     record { done = done; current = Some (record { number = number; reader = p }); before = Some t }
 
 -- in the strategy of a change
-abbrev pub inside : List Var → List Change → ℕ → Partial → Lexeme → Result ScriptOf ChangeFault
-inside vars done number p t =
+abbrev pub within_change : List Var → List Change → ℕ → Partial → Lexeme → Result ScriptOf ChangeFault
+within_change vars done number p t =
     if is_before t.kind t.text && may_begin p.stage
     then (lifted (ended p.entries p.stage) >>= λ q. Ok (interrupted done number t q))
-    else (lifted (strategy.step vars p t) >>= λ q. Ok (within done number q))
+    else (lifted (strategy.step vars p t) >>= λ q. Ok (change_goes_on done number q))
 
 -- the `before` is an entry's name, as a `=` shows
-abbrev pub renamed : List Var → List Change → Option Current → Lexeme → Lexeme → Result ScriptOf ChangeFault
-renamed vars done None word t = syntax_at t
-renamed vars done (Some c) word t =
+abbrev pub named_before : List Var → List Change → Option Current → Lexeme → Lexeme → Result ScriptOf ChangeFault
+named_before vars done None word t = syntax_at t
+named_before vars done (Some c) word t =
     lifted (strategy.step vars c.reader word >>= λ q. strategy.step vars q t)
-    >>= λ q. Ok (within done c.number q)
+    >>= λ q. Ok (change_goes_on done c.number q)
 
 -- a change as it is given
-abbrev pub change : Current → Change
-change c = record { before = c.number; strategy = c.reader.entries }
+abbrev pub given_change : Current → Change
+given_change c = record { before = c.number; strategy = c.reader.entries }
 
 -- the whole changes with the one that was open
 abbrev pub with_current : List Change → Option Current → List Change
 with_current done None = done
-with_current done (Some c) = done ++ change c ∷ []
+with_current done (Some c) = done ++ given_change c ∷ []
 
 -- whether a number is below that of the change before
 abbrev pub falls : Option Current → ℕ → Bool
@@ -88,28 +88,28 @@ falls None n = false
 falls (Some c) n = nat_lt n c.number
 
 -- a change of this number, which stands at the second offset, and its `before` at the first
-abbrev pub opened : List Var → List Change → Option Current → ℕ → ℕ → ℕ → Result ScriptOf ChangeFault
-opened vars done current word at n =
+abbrev pub change_opened : List Var → List Change → Option Current → ℕ → ℕ → ℕ → Result ScriptOf ChangeFault
+change_opened vars done current word at n =
     if falls current n then Err (FallingChange at)
     else if nat_le max_changes (length (with_current done current)) then Err (TooManyChanges word)
-    else Ok (within (with_current done current) n (strategy.nothing_read vars))
+    else Ok (change_goes_on (with_current done current) n (strategy.nothing_read vars))
 
 -- no number is negative
-abbrev pub numbered : List Var → List Change → Option Current → ℕ → Lexeme → ℤ → Result ScriptOf ChangeFault
-numbered vars done current word t n =
-    if int_lt n (pos 0) then syntax_at t else opened vars done current word t.at (unsigned_abs n)
+abbrev pub numbered_change : List Var → List Change → Option Current → ℕ → Lexeme → ℤ → Result ScriptOf ChangeFault
+numbered_change vars done current word t n =
+    if int_lt n (pos 0) then syntax_at t else change_opened vars done current word t.at (unsigned_abs n)
 
 -- behind a `before`
 abbrev pub decided : List Var → List Change → Option Current → Lexeme → Lexeme → Kind → Result ScriptOf ChangeFault
-decided vars done current word t Integer = numbered vars done current word.at t (integer_value t.text)
-decided vars done current word t Equal = renamed vars done current word t
+decided vars done current word t Integer = numbered_change vars done current word.at t (integer_value t.text)
+decided vars done current word t Equal = named_before vars done current word t
 decided vars done current word t _ = syntax_at t
 
 -- what the next token makes of what was read
 abbrev pub step_from : List Var → List Change → Option Current → Option Lexeme → Lexeme → Result ScriptOf ChangeFault
 step_from vars done current (Some word) t = decided vars done current word t t.kind
 step_from vars done None None t = starts done t
-step_from vars done (Some c) None t = inside vars done c.number c.reader t
+step_from vars done (Some c) None t = within_change vars done c.number c.reader t
 
 unfoldable pub step : List Var → ScriptOf → Lexeme → Result ScriptOf ChangeFault
 step vars s t = step_from vars s.done s.current s.before t
@@ -128,7 +128,7 @@ ends end done (Some c) None = last_change done c.number (at_end end c.reader)
 abbrev pub breaks : ℕ → List Change → Option Current → Option Lexeme → Result (List Change) ChangeFault
 breaks at done current (Some word) = Err (Within (Syntax at))
 breaks at done None None = Err (Within (Syntax at))
-breaks at done (Some c) None = last_change done c.number (broken c.reader at)
+breaks at done (Some c) None = last_change done c.number (broken_at c.reader at)
 
 -- behind the whole tokens; where more may come, the whole changes
 abbrev pub at_tail : Tail LexFault → ScriptOf → Result (List Change) ChangeFault

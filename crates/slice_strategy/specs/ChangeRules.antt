@@ -9,19 +9,19 @@ use Rattle.slice_strategy.specs.Limits.{max_changes}
 use Rattle.slice_strategy.specs.Rules.{number, strategy_of, KeepsRules, text_of}
 
 -- the number of a time-point
-abbrev pub point : Lexeme → ℕ
-point n = unsigned_abs (number n)
+abbrev pub point_number : Lexeme → ℕ
+point_number n = unsigned_abs (number n)
 
 -- what is written, in its order
 abbrev pub changes_of : List Var → Script → List ChangeOf
 changes_of vars NoChange = []
 changes_of vars (Change s word n es) =
-    changes_of vars s ++ record { before = point n; strategy = strategy_of vars es } ∷ []
+    changes_of vars s ++ record { before = point_number n; strategy = strategy_of vars es } ∷ []
 
 -- the number isn't below that of the last change
 abbrev pub IsNotBelow : Script → Lexeme → Type 0
 IsNotBelow NoChange n = Unit {0}
-IsNotBelow (Change s word m es) n = point m ≤ point n
+IsNotBelow (Change s word m es) n = point_number m ≤ point_number n
 
 -- the numbers don't fall, there are not too many changes, and each strategy keeps its own rules
 abbrev pub KeepsScript : List Var → Script → Type 0

@@ -9,7 +9,7 @@ use Rattle.slice_strategy.specs.declared.change.ChangeFault.TheVariants.{Strateg
 use Rattle.slice_strategy.specs.declared.change.ChangeFault.TheVariants.{TooManyChanges}
 use Rattle.slice_strategy.specs.declared.fault.StrategyFault.TheVariants.{Syntax, UnknownVariable, RepeatedVariable}
 use Rattle.slice_strategy.specs.declared.fault.StrategyFault.TheVariants.{BadCount, CutSort, CutOrder, TooManyWorkers}
-use Rattle.slice_strategy.specs.ChangeReading.{ScriptOf, opened, reading}
+use Rattle.slice_strategy.specs.ChangeReading.{ScriptOf, change_opened, reading}
 use Rattle.slice_strategy.specs.Reading.{nothing_read}
 use Rattle.slice_strategy.specs.WorkedTexts.{vars, var}
 
@@ -20,7 +20,8 @@ change n strategy = record { before = n; strategy = strategy }
 -- a number where so many changes stand before an open one of the number 6; its `before` is at 7, itself at 14
 abbrev pub next_number : ℕ → ℕ → Result ScriptOf ChangeFault
 next_number before n =
-    opened vars (replicate before (change 6 [])) (Some (record { number = 6; reader = nothing_read vars })) 7 14 n
+    change_opened vars (replicate before (change 6 []))
+        (Some (record { number = 6; reader = nothing_read vars })) 7 14 n
 
 -- what is read
 pub record WorkedChanges : Type 0 where

@@ -52,13 +52,13 @@ fresh (Some Uncut) variable t = Ok (Named (record { variable = variable; at = t.
 fresh _ variable t = Err (RepeatedVariable t.at)
 
 -- a Word where an entry may begin
-abbrev pub named : Strategy → Option ℕ → Lexeme → Result StageOf StrategyFault
-named entries None t = Err (UnknownVariable t.at)
-named entries (Some variable) t = fresh (slice_get entries variable) variable t
+abbrev pub entry_named : Strategy → Option ℕ → Lexeme → Result StageOf StrategyFault
+entry_named entries None t = Err (UnknownVariable t.at)
+entry_named entries (Some variable) t = fresh (slice_get entries variable) variable t
 
 -- where an entry may begin
 abbrev pub begins : List Var → Strategy → Lexeme → Kind → Result StageOf StrategyFault
-begins vars entries t Word = named entries (variable_of vars t.text) t
+begins vars entries t Word = entry_named entries (variable_of vars t.text) t
 begins vars entries t _ = syntax_at t
 
 -- behind a variable stands a `=`
@@ -67,8 +67,8 @@ after_name head t Equal = Ok (Chosen head)
 after_name head t _ = syntax_at t
 
 -- a method, which for a string is no cut
-abbrev pub chosen : List Var → Head → Lexeme → Result StageOf StrategyFault
-chosen vars head t =
+abbrev pub chosen_method : List Var → Head → Lexeme → Result StageOf StrategyFault
+chosen_method vars head t =
     if bytes_eq t.text (codes "hash") then Ok (Divided head method.Hash)
     else if bytes_eq t.text (codes "cut") then
     (if holds_text (slice_get vars head.variable) then Err (CutSort t.at) else Ok (Divided head method.Cut))
@@ -76,7 +76,7 @@ chosen vars head t =
 
 -- behind the `=` stands a method
 abbrev pub after_equal : List Var → Head → Lexeme → Kind → Result StageOf StrategyFault
-after_equal vars head t Word = chosen vars head t
+after_equal vars head t Word = chosen_method vars head t
 after_equal vars head t _ = syntax_at t
 
 -- where the integers begin
@@ -90,11 +90,11 @@ after_method head m t Colon = Ok (opened head m)
 after_method head m t _ = syntax_at t
 
 -- a count of parts is at least 1
-abbrev pub counted : Head → ℤ → ℕ → Result StageOf StrategyFault
-counted head n at = if int_le (pos 1) n then Ok (Behind head (Hash (unsigned_abs n))) else Err (BadCount at)
+abbrev pub with_count : Head → ℤ → ℕ → Result StageOf StrategyFault
+with_count head n at = if int_le (pos 1) n then Ok (Behind head (Hash (unsigned_abs n))) else Err (BadCount at)
 
 abbrev pub count_step : Head → Lexeme → Kind → Result StageOf StrategyFault
-count_step head t Integer = counted head (integer_value t.text) t.at
+count_step head t Integer = with_count head (integer_value t.text) t.at
 count_step head t _ = syntax_at t
 
 -- a cut is above the one before it
@@ -138,16 +138,16 @@ ended entries (Behind head entry) = with_entry entries head entry
 ended entries stage = Ok (record { entries = entries; stage = stage })
 
 -- only a comma leaves the entry open
-abbrev pub settled : Partial → Kind → Result Partial StrategyFault
-settled p Comma = Ok p
-settled p _ = ended p.entries p.stage
+abbrev pub entry_settled : Partial → Kind → Result Partial StrategyFault
+entry_settled p Comma = Ok p
+entry_settled p _ = ended p.entries p.stage
 
-abbrev pub moved : Strategy → Result StageOf StrategyFault → Result Partial StrategyFault
-moved entries stage = stage >>= λ next. Ok (record { entries = entries; stage = next })
+abbrev pub with_stage : Strategy → Result StageOf StrategyFault → Result Partial StrategyFault
+with_stage entries stage = stage >>= λ next. Ok (record { entries = entries; stage = next })
 
 -- what the next token makes of what was read
 unfoldable pub step : List Var → Partial → Lexeme → Result Partial StrategyFault
-step vars p t = settled p t.kind >>= λ q. moved q.entries (stage_step vars q.entries q.stage t t.kind)
+step vars p t = entry_settled p t.kind >>= λ q. with_stage q.entries (stage_step vars q.entries q.stage t t.kind)
 
 -- the input's end stands at the offset `end`: behind an entry, or too early
 abbrev pub complete : ℕ → Strategy → StageOf → Result Strategy StrategyFault
@@ -158,12 +158,12 @@ abbrev pub at_end : ℕ → Partial → Result Strategy StrategyFault
 at_end end p = ended p.entries p.stage >>= λ q. complete end q.entries q.stage
 
 -- a fault of the lexer stands at this offset
-abbrev pub broken : Partial → ℕ → Result Strategy StrategyFault
-broken p at = ended p.entries p.stage >>= λ q. Err (Syntax at)
+abbrev pub broken_at : Partial → ℕ → Result Strategy StrategyFault
+broken_at p at = ended p.entries p.stage >>= λ q. Err (Syntax at)
 
 -- behind the whole tokens: a fault of the lexer, the end, or the entries so far where more may come
 abbrev pub at_tail : Tail LexFault → Partial → Result Strategy StrategyFault
-at_tail (Broken fault) p = broken p fault.at
+at_tail (Broken fault) p = broken_at p fault.at
 at_tail (End end) p = at_end end p
 at_tail More p = Ok p.entries
 
@@ -186,6 +186,6 @@ StageFits n (Cutting head cuts) = head.variable < n
 StageFits n (Behind head entry) = (head.variable < n) × (0 < parts_of entry)
 
 -- what is true of all that a reader has read
-pub record IsSound (p : Partial) : Type 0 where
+pub record PartialFits (p : Partial) : Type 0 where
   pub within : HasWorkers p.entries
   pub fits : StageFits (length p.entries) p.stage

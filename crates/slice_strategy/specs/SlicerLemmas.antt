@@ -27,13 +27,13 @@ some_pass p (x ∷ xs) = by (p x) (some_pass p xs)
     by false h = omega arith
 
 -- a value is in one of the parts
-pub part_below : (e : Entry) (a : Value) → 0 < parts_of e → strategy_part e a < parts_of e
-part_below Uncut a some = omega arith
-part_below (Hash count) (Int (pos n)) some = mod_below n count some
-part_below (Hash count) (Int (negsuc n)) some = mod_below _ count some
-part_below (Hash count) (Text bytes) some = mod_below (sum bytes) count some
-part_below (Cut cuts) (Int n) some = let few = some_pass (λ c. is_le (int_cmp c n)) cuts in omega (arith, few)
-part_below (Cut cuts) (Text bytes) some = omega arith
+pub strategy_part_below : (e : Entry) (a : Value) → 0 < parts_of e → strategy_part e a < parts_of e
+strategy_part_below Uncut a some = omega arith
+strategy_part_below (Hash count) (Int (pos n)) some = mod_below n count some
+strategy_part_below (Hash count) (Int (negsuc n)) some = mod_below _ count some
+strategy_part_below (Hash count) (Text bytes) some = mod_below (sum bytes) count some
+strategy_part_below (Cut cuts) (Int n) some = let few = some_pass (λ c. is_le (int_cmp c n)) cuts in omega (arith, few)
+strategy_part_below (Cut cuts) (Text bytes) some = omega arith
 
 -- a product has no factor 0 unless it is 0
 pub both_some : (a b : ℕ) → 0 < a * b → (0 < a) × (0 < b)
@@ -52,7 +52,7 @@ owner_below y [] v some = some
 owner_below y (e ∷ es) v some =
     let parts = both_some (parts_of e) (workers_of es) some in
     below_product (strategy_part e (v y)) (parts_of e) (workers_of es) (owner_from (y + 1) es v)
-    (part_below e (v y) parts.0) (owner_below (y + 1) es v parts.1)
+    (strategy_part_below e (v y) parts.0) (owner_below (y + 1) es v parts.1)
 
 -- ---- near passes on
 
@@ -84,7 +84,8 @@ covers_from y (e ∷ es) some vs v =
     let a : ℕ = cond (among y vs) (strategy_part e (v y)) 0 in (
       a * workers_of es + rest.0,
       below_product a (parts_of e) (workers_of es) rest.0
-          (low_bound (among y vs) (strategy_part e (v y)) (parts_of e) parts.0 (part_below e (v y) parts.0)) rest.1,
+          (low_bound (among y vs) (strategy_part e (v y)) (parts_of e) parts.0
+              (strategy_part_below e (v y) parts.0)) rest.1,
       and_from (not (among y vs) || nat_eq (strategy_part e (v y)) ((a * workers_of es + rest.0) / workers_of es))
           (near_from (y + 1) es ((a * workers_of es + rest.0) % workers_of es) vs v)
           (ap (λ q. not (among y vs) || nat_eq (strategy_part e (v y)) q) (div-mul-add a (workers_of es) rest.0 rest.1)
@@ -92,8 +93,8 @@ covers_from y (e ∷ es) some vs v =
           (ap (λ q. near_from (y + 1) es q vs v) (mod-mul-add a (workers_of es) rest.0 rest.1) ∙ rest.2),
     )
 
-pub covers : Covers workers_of near_of
-covers s vs v some = covers_from 0 s some vs v
+pub strategy_covers : Covers workers_of near_of
+strategy_covers s vs v some = covers_from 0 s some vs v
 
 -- ---- near is owner
 

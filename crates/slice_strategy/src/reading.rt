@@ -8,7 +8,7 @@ ghost use Rattle.slice_strategy.specs.declared.fault.StrategyFault.TheVariants.{
 ghost use Rattle.slice_strategy.specs.ChangeReading.{may_begin};
 ghost use Rattle.slice_strategy.specs.Laws.{IsShown};
 ghost use Rattle.slice_strategy.specs.Rules.{IsValue};
-ghost use Rattle.slice_strategy.specs.Reading.{step, settled, ended, at_end, broken, nothing_read, reading};
+ghost use Rattle.slice_strategy.specs.Reading.{step, entry_settled, ended, at_end, broken_at, nothing_read, reading};
 
 use crate::entry::{Entry, count_workers};
 use crate::fault::StrategyFault;
@@ -30,13 +30,13 @@ pub struct Reader {
 impl Model for Reader {
     ghost use Rattle.slice_strategy.specs.Answers.{stage_of};
     ghost use Rattle.slice_strategy.specs.Entries.{entries_of};
-    ghost use Rattle.slice_strategy.specs.Reading.{Partial, IsSound};
+    ghost use Rattle.slice_strategy.specs.Reading.{Partial, PartialFits};
 
     ghost Value = { Partial };
 
     ghost view = { λ r. record { entries = entries_of r.entries.items; stage = stage_of r.stage } };
 
-    ghost invariant = { λ r. IsSound (record { entries = entries_of r.entries.items; stage = stage_of r.stage }) };
+    ghost invariant = { λ r. PartialFits (record { entries = entries_of r.entries.items; stage = stage_of r.stage }) };
 }
 
 fn uncut(alloc: Global, count: usize) -> Result<Vec<Entry>, AllocError>
@@ -76,7 +76,7 @@ impl Reader {
 
     /// Only a comma leaves an entry open that is behind an integer.
     fn settled(self, kind: Kind) -> Result<Self, StrategyFault>
-        ensures { Gives (λ reader. reader) result (settled self kind) }
+        ensures { Gives (λ reader. reader) result (entry_settled self kind) }
     {
         match kind {
             Kind::Comma => Ok(self),
@@ -130,7 +130,7 @@ impl Reader {
 
     /// Where the lexer has a fault at this offset.
     pub(crate) fn broken(self, at: u64) -> StrategyFault
-        ensures { Fails result (broken self at) }
+        ensures { Fails result (broken_at self at) }
     {
         match self.ended() {
             Ok(_) => StrategyFault::Syntax(at),

@@ -3,7 +3,8 @@ ghost use Rattle.std.specs.Prelude.{◌≡◌};
 ghost use Rattle.mfotl_lex.specs.Lexemes.{lexeme};
 ghost use Rattle.slice_strategy.specs.ChangeAnswers.{Gives};
 ghost use Rattle.slice_strategy.specs.ChangeGrammar.{is_before};
-ghost use Rattle.slice_strategy.specs.ChangeReading.{decided, falls, inside, opened, renamed, starts, with_current};
+ghost use Rattle.slice_strategy.specs.ChangeReading.{decided, falls, within_change, change_opened, named_before};
+ghost use Rattle.slice_strategy.specs.ChangeReading.{starts, with_current};
 
 use crate::change::{Change, ChangeFault};
 use crate::fault::StrategyFault;
@@ -47,7 +48,7 @@ pub(crate) fn go_on<'a>(
     token: &Token<'a>,
 ) -> Result<Script<'a>, ChangeFault>
     ensures { Gives (λ s. s) result
-        (inside vars.now done.items current.number current.reader (lexeme token.now)) }
+        (within_change vars.now done.items current.number current.reader (lexeme token.now)) }
 {
     let Current { number, reader } = current;
     if is_before(token) && reader.may_begin() {
@@ -76,7 +77,7 @@ fn rename<'a>(
     token: &Token<'a>,
 ) -> Result<Script<'a>, ChangeFault>
     ensures { Gives (λ s. s) result
-        (renamed vars.now done.items current (lexeme word.now) (lexeme token.now)) }
+        (named_before vars.now done.items current (lexeme word.now) (lexeme token.now)) }
 {
     let Some(Current { number, reader }) = current else {
         return Err(ChangeFault::Strategy(StrategyFault::Syntax(token.at as u64)));
@@ -122,7 +123,7 @@ fn open_change<'a>(
     at: u64,
     number: u64,
 ) -> Result<Script<'a>, ChangeFault>
-    ensures { Gives (λ s. s) result (opened vars.now done.items current word at number) }
+    ensures { Gives (λ s. s) result (change_opened vars.now done.items current word at number) }
 {
     if falls(&current, number) {
         return Err(ChangeFault::FallingChange(at));

@@ -86,7 +86,7 @@ impl Slicer for Strategy {
 
     ghost passes = { lemmas.passes_on };
 
-    ghost covers = { lemmas.covers };
+    ghost covers = { lemmas.strategy_covers };
 
     ghost near_is_owner = { lemmas.near_is_owner };
 

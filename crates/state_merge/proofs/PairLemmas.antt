@@ -15,7 +15,7 @@ use Rattle.itertools.specs.List.{by_ordering, merge_join_by}
 use Rattle.itertools.specs.declared.either_or_both.EitherOrBoth.{EitherOrBoth}
 use Rattle.itertools.specs.declared.either_or_both.EitherOrBoth.TheVariants.{Both, Left, Right}
 use Rattle.monitor_state.specs.JoinedRows.{either}
-use Rattle.state_merge.specs.Pairs.{InPair, all_joined}
+use Rattle.state_merge.specs.Pairs.{InPair, joined_pairs}
 
 module _ {I K X : Type 0} {cmp : K → K → Ordering} (total : IsTotalOrder cmp) (exact : CmpEqualImpliesEq cmp)
     (key : I → K) (value : I → X) (both : X → X → X) where
@@ -26,7 +26,7 @@ module _ {I K X : Type 0} {cmp : K → K → Ordering} (total : IsTotalOrder cmp
   pairs xs ys = merge_join_by (λ a b. cmp (key a) (key b)) xs ys
 
   abbrev merged : List I → List I → List (K × X)
-  merged xs ys = all_joined key value both (pairs xs ys)
+  merged xs ys = joined_pairs key value both (pairs xs ys)
 
   abbrev found : List (K × X) → K → Option X
   found es k = lookup (is_at (cmp k)) es
@@ -53,7 +53,7 @@ module _ {I K X : Type 0} {cmp : K → K → Ordering} (total : IsTotalOrder cmp
   rights [] = refl
   rights (y ∷ ys) = ap (λ es. (key y, value y) ∷ es) (rights ys)
 
-  lefts : (xs : List I) → all_joined key value both (map (λ x. Left x) xs) ≡ entries xs
+  lefts : (xs : List I) → joined_pairs key value both (map (λ x. Left x) xs) ≡ entries xs
   lefts [] = refl
   lefts (x ∷ xs) = ap (λ es. (key x, value x) ∷ es) (lefts xs)
 
@@ -73,7 +73,7 @@ module _ {I K X : Type 0} {cmp : K → K → Ordering} (total : IsTotalOrder cmp
       (merged_behind k (x ∷ xs) ys ax ay.1)
     where
       by : (o : Ordering) → Behind k (merged xs (y ∷ ys)) → Behind k (merged xs ys) → Behind k (merged (x ∷ xs) ys)
-          → Behind k (all_joined key value both
+          → Behind k (joined_pairs key value both
           (by_ordering o (Left x ∷ pairs xs (y ∷ ys)) (Both x y ∷ pairs xs ys) (Right y ∷ pairs (x ∷ xs) ys)))
       by Less a b c = (ax.0, a)
       by Equal a b c = (ax.0, b)
@@ -89,7 +89,7 @@ module _ {I K X : Type 0} {cmp : K → K → Ordering} (total : IsTotalOrder cmp
       (merged_ascends (x ∷ xs) ys ax ay.1)
     where
       by : (o : Ordering) → cmp (key x) (key y) ≡ o → Ascend (merged xs (y ∷ ys)) → Ascend (merged xs ys)
-          → Ascend (merged (x ∷ xs) ys) → Ascend (all_joined key value both
+          → Ascend (merged (x ∷ xs) ys) → Ascend (joined_pairs key value both
           (by_ordering o (Left x ∷ pairs xs (y ∷ ys)) (Both x y ∷ pairs xs ys) (Right y ∷ pairs (x ∷ xs) ys)))
       by Less e a b c = (merged_behind (key x) xs (y ∷ ys) ax.0 (e, further (key x) (key y) (entries ys) e ay.0), a)
       by Equal e a b c = (
@@ -144,7 +144,7 @@ module _ {I K X : Type 0} {cmp : K → K → Ordering} (total : IsTotalOrder cmp
           → found (merged xs (y ∷ ys)) k ≡ either both (found (entries xs) k) (found (entries (y ∷ ys)) k)
           → found (merged xs ys) k ≡ either both (found (entries xs) k) (found (entries ys) k)
           → found (merged (x ∷ xs) ys) k ≡ either both (found (entries (x ∷ xs)) k) (found (entries ys) k)
-          → found (all_joined key value both
+          → found (joined_pairs key value both
           (by_ordering o (Left x ∷ pairs xs (y ∷ ys)) (Both x y ∷ pairs xs ys) (Right y ∷ pairs (x ∷ xs) ys))) k
           ≡ either both (found (entries (x ∷ xs)) k) (found (entries (y ∷ ys)) k)
       by Less e a b c = first e (is_at (cmp k) (key x)) refl a

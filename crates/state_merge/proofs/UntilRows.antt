@@ -17,7 +17,7 @@ use Rattle.mfotl_model.specs.Values.{row_cmp}
 use Rattle.mfotl_model.specs.declared.value.Value.{Value}
 use Rattle.relations.specs.KeptRows.{RowsAscend, kept_for}
 use Rattle.relations.proofs.KeptLemmas.{each_kept}
-use Rattle.eval_until.specs.Entries.{entries_of}
+use Rattle.eval_until.specs.Entries.{entries_for}
 use Rattle.eval_until.specs.Keeping.{Sized}
 use Rattle.eval_until.specs.Recalled.{entries_kept, entry_at}
 use Rattle.eval_until.specs.Rules.{Ascending, PlacesAscend, StartsAbove, StartsBelow, Waiting}
@@ -46,11 +46,11 @@ pub record MarksRow (n pulled taken : ℕ) (u : List Value) (ms : List Mark) : T
 
 module _ (pulled : ℕ) (next : List ℕ) where
   pub entries_found : (rows : List KeptMarks) (u : List Value)
-      → entries_of (entries_kept pulled next rows) u ≡ map (entry_at pulled next) (marks_for rows u)
+      → entries_for (entries_kept pulled next rows) u ≡ map (entry_at pulled next) (marks_for rows u)
   entries_found [] u = refl
   entries_found (k ∷ ks) u = by (is_at (row_cmp u) k.row) (entries_found ks u)
     where
-      by : (b : Bool) → entries_of (entries_kept pulled next ks) u ≡ map (entry_at pulled next) (marks_for ks u)
+      by : (b : Bool) → entries_for (entries_kept pulled next ks) u ≡ map (entry_at pulled next) (marks_for ks u)
           → unwrap_or (cond b (Some (map (entry_at pulled next) k.marks.items)) (kept_for
           (entries_kept pulled next ks) u)) []
           ≡ map (entry_at pulled next) (unwrap_or (cond b (Some k.marks.items) (kept_for (marks_kept ks) u)) [])
@@ -128,7 +128,7 @@ module _ (pulled : ℕ) (next : List ℕ) where
       → Waiting pulled taken (entries_kept pulled next rows) → Ascending (entries_kept pulled next rows)
       → AllKept (MarksRow n pulled taken) (marks_kept rows)
   marks_rows n taken rows sized some waiting ascend u ms is =
-      let here : entries_of (entries_kept pulled next rows) u ≡ map (entry_at pulled next) ms =
+      let here : entries_for (entries_kept pulled next rows) u ≡ map (entry_at pulled next) ms =
       entries_found rows u ∙ ap (λ o. map (entry_at pulled next) (unwrap_or o [])) is in
       let filled : 0 < length ms =
       found_each (λ (u : List Value) (x : List Mark). 0 < length x) (marks_kept rows) (some_marks rows some) u ms is in

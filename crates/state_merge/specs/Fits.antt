@@ -80,5 +80,5 @@ AllAlike (a ∷ xs) (b ∷ ys) = NodesAlike a b × AllAlike xs ys
 AllAlike xs ys = ⊥
 
 -- the states can be united
-abbrev pub Fits : State → State → Type 0
-Fits a b = AllAlike a.nodes.items b.nodes.items
+abbrev pub CanBeUnited : State → State → Type 0
+CanBeUnited a b = AllAlike a.nodes.items b.nodes.items

@@ -10,7 +10,7 @@ ghost use Rattle.monitor_state.specs.Pieces.{Adopts, Merges, PieceStands, view_o
 ghost use Rattle.monitor_state.specs.Resuming.{SuitsWhole};
 ghost use Rattle.monitor_state.specs.Stands.{Stands};
 ghost use Rattle.state_merge.specs.Finishing.{AllAdopted, IsWhole};
-ghost use Rattle.state_merge.specs.Fits.{Fits};
+ghost use Rattle.state_merge.specs.Fits.{CanBeUnited};
 ghost use Rattle.state_merge.specs.MergingView.{merging_of};
 
 use crate::states::united_states;
@@ -30,7 +30,7 @@ pub struct Merging {
 
 // the first piece as it is, a later one united with what was merged
 fn with_piece(alloc: Global, merged: Option<State>, piece: State) -> Result<State, AllocError>
-    requires { IfSome merged (λ state. Fits state piece) }
+    requires { IfSome merged (λ state. CanBeUnited state piece) }
     ensures { IfOk result (λ state. Adopts merged piece (Some state)) }
 {
     match merged {
@@ -62,7 +62,7 @@ impl Merging {
 
     /// Adopts a piece. After an error the merge is of no further use.
     pub fn adopt(&mut self, alloc: Global, piece: Piece) -> Result<(), AllocError>
-        requires fits { IfSome (merging_of self.old).merged (λ state. Fits state piece.state) }
+        requires fits { IfSome (merging_of self.old).merged (λ state. CanBeUnited state piece.state) }
         requires due { (merging_of self.old).adopted < (merging_of self.old).count }
         ensures core { (merging_of self.new).core ≡ (merging_of self.old).core }
         ensures count { (merging_of self.new).count ≡ (merging_of self.old).count }

@@ -1,7 +1,7 @@
 //! States united.
 ghost use Rattle.std.specs.Prelude.{IfOk};
 ghost use Rattle.monitor_state.specs.StateUnions.{StateUnion};
-ghost use Rattle.state_merge.specs.Fits.{Fits};
+ghost use Rattle.state_merge.specs.Fits.{CanBeUnited};
 
 use crate::nodes::united_nodes;
 use monitor_state::State;
@@ -9,7 +9,7 @@ use std::alloc::{AllocError, Global};
 
 /// What both states keep, row by row. They are of one log and one core.
 pub fn united_states(alloc: Global, first: State, second: State) -> Result<State, AllocError>
-    requires { Fits first second }
+    requires { CanBeUnited first second }
     ensures { IfOk result (StateUnion first second) }
 {
     let State {

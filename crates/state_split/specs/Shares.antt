@@ -9,7 +9,7 @@ pub record OneEach {X : Type 0} (count : ℕ) (P : ℕ → X → Type 0) (xs : L
   pub each : StandFrom P 0 xs
 
 -- what was found is the first number from `from` on, below count, that passes the test; None where none does
-pub record IsNext (test : ℕ → Bool) (from count : ℕ) (found : Option ℕ) : Type 0 where
+pub record IsFirst (test : ℕ → Bool) (from count : ℕ) (found : Option ℕ) : Type 0 where
   pub reached : IfSome found (λ k. (from ≤ k) × (k < count))
   pub passes : IfSome found (λ k. test k ≡ true)
   pub first : NoneFrom from (end_of count found) test

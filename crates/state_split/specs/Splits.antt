@@ -45,8 +45,8 @@ pub record IsSplit (monitor : MonitorOf) (near : Region) (next : ℕ → Region)
   pub cut : StateRule monitor.core state → AreCut near next state pieces
 
 -- each piece stands for the log, for the rows in the first region and in that of its own worker, and has no others
-abbrev pub StandEach : CoreForm → Region → (ℕ → Region) → List TimePoint → List Piece → Type 0
-StandEach core near next log pieces =
+abbrev pub PiecesStand : CoreForm → Region → (ℕ → Region) → List TimePoint → List Piece → Type 0
+PiecesStand core near next log pieces =
     StandFrom (λ to piece. StandsInside (view_of core (in_both near (next to)) log) core piece.state) 0 pieces
 
 -- pieces that go from worker k under s to the workers under s2, and stand for the log each, are worker k's cuts
@@ -54,7 +54,7 @@ abbrev pub StrategiesCut : Type 0
 StrategiesCut =
     (core : CoreForm) (s : Strategy) (k : ℕ) (s2 : Strategy) (log : List TimePoint) (generation : ℕ)
     (pieces : List Piece) → AreNumbered generation k (workers_of s) pieces
-    → StandEach core (near_of s k) (near_of s2) log pieces → AreCuts core s k s2 log generation 0 pieces
+    → PiecesStand core (near_of s k) (near_of s2) log pieces → AreCuts core s k s2 log generation 0 pieces
 
 -- the pieces of what a monitor keeps stand each for the log that the monitor stands for
 abbrev pub SplitsStand : Type 0
@@ -62,4 +62,4 @@ SplitsStand =
     (monitor : MonitorOf) (near : Region) (next : ℕ → Region) (log : List TimePoint) (pieces : List Piece)
     → Passes (fv (meaning monitor.core)) near → ((k : ℕ) → Passes (fv (meaning monitor.core)) (next k))
     → IsSplit monitor near next pieces → Stands (view_of monitor.core near log) monitor.core monitor.state
-    → StandEach monitor.core near next log pieces
+    → PiecesStand monitor.core near next log pieces

@@ -1,7 +1,7 @@
 //! What tells the workers that a row goes to.
 ghost use Rattle.std.specs.Prelude.{◌≡◌, ◌≤◌};
 ghost use Rattle.slice_strategy.specs.Limits.{max_workers};
-ghost use Rattle.state_split.specs.Shares.{IsNext};
+ghost use Rattle.state_split.specs.Shares.{IsFirst};
 ghost use Rattle.state_split.specs.Sieves.{is_kept};
 
 use mfotl_model::Row;
@@ -29,5 +29,5 @@ pub(crate) trait Sorter {
     /// column.
     fn next_worker(&self, from: u32, columns: &[u32], row: &Row) -> Option<u32>
         requires { tells self.now }
-        ensures { IsNext (λ k. is_kept (region self.now k) columns.now row.now) from (count self.now) result };
+        ensures { IsFirst (λ k. is_kept (region self.now k) columns.now row.now) from (count self.now) result };
 }

@@ -8,7 +8,7 @@ ghost use Rattle.monitor_state.specs.Pieces.{view_of};
 ghost use Rattle.monitor_state.specs.Stands.{Stands};
 ghost use Rattle.slice_strategy.specs.Slicers.{BindsAll};
 ghost use Rattle.state_split.specs.Fits.{NodesFit};
-ghost use Rattle.state_split.specs.Splits.{AreCut, AreNumbered, IsSplit, StandEach};
+ghost use Rattle.state_split.specs.Splits.{AreCut, AreNumbered, IsSplit, PiecesStand};
 
 use crate::both::Both;
 use crate::nodes::cut_nodes;
@@ -99,7 +99,7 @@ pub fn split_state<S: Slicer, S2: Slicer>(
         BindsAll (S2.width next.now) (fv (meaning (monitor_of monitor.now).core)) →
         Stands (view_of (monitor_of monitor.now).core (S.region strategy.now from) log)
         (monitor_of monitor.now).core (monitor_of monitor.now).state →
-        StandEach (monitor_of monitor.now).core (S.region strategy.now from) (S2.region next.now) log pieces.items) }
+        PiecesStand (monitor_of monitor.now).core (S.region strategy.now from) (S2.region next.now) log pieces.items) }
 {
     let state = monitor.state(alloc)?;
     let pieces = pieces_of(alloc, state, strategy, from, next, generation)?;

@@ -3,8 +3,8 @@ use Rattle.std.specs.Prelude.{◌≡◌, ℕ, List, [], ◌++◌}
 use Rattle.thread_cases.specs.declared.echo.Echo.{Echo}
 
 -- it gave what it took, and has the name that it began with
-abbrev pub Stands : ℕ → List ℕ → List ℕ → Echo → Type 0
-Stands name took gave w = (gave ≡ took) × (w.name ≡ name)
+abbrev pub StandsFor : ℕ → List ℕ → List ℕ → Echo → Type 0
+StandsFor name took gave w = (gave ≡ took) × (w.name ≡ name)
 
 -- so is it known
 abbrev pub Told : ℕ → List ℕ → List ℕ → Type 0
@@ -15,7 +15,7 @@ abbrev pub May : ℕ → List ℕ → Type 0
 May name items = Unit {0}
 
 -- what stands is told
-pub tells : (name : ℕ) (took gave : List ℕ) (w : Echo) → Stands name took gave w → Told name took gave
+pub tells : (name : ℕ) (took gave : List ℕ) (w : Echo) → StandsFor name took gave w → Told name took gave
 tells name took gave w s = s.0
 
 -- nothing may be handed over

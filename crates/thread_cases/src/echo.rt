@@ -15,7 +15,7 @@ pub struct Echo {
 }
 
 impl Work for Echo {
-    ghost use Rattle.thread_cases.specs.Echoes.{May, Stands, Told, less, none, tells};
+    ghost use Rattle.thread_cases.specs.Echoes.{May, StandsFor, Told, less, none, tells};
 
     type Item = u32;
 
@@ -25,7 +25,7 @@ impl Work for Echo {
 
     ghost seed = { λ w. w.name };
 
-    ghost stands = { Stands };
+    ghost stands = { StandsFor };
 
     ghost told = { Told };
 

@@ -69,10 +69,10 @@ IsFresh {W} {I} {O} slots k w = (c : Cell W I O) × (get_elem? slots k ≡ some 
     × (c.count ≡ 0) × (c.outs.items ≡ [])
 
 -- each slot has a cell
-abbrev pub Closes : {W I O : Type 0} → List (Option (Cell W I O)) → Type 0
-Closes {W} {I} {O} slots = (k : ℕ) → k < length slots → (c : Cell W I O) × (get_elem? slots k ≡ some (Some c))
+abbrev pub AllHaveCells : {W I O : Type 0} → List (Option (Cell W I O)) → Type 0
+AllHaveCells {W} {I} {O} slots = (k : ℕ) → k < length slots → (c : Cell W I O) × (get_elem? slots k ≡ some (Some c))
 
 -- each slot's work
-abbrev pub Works : {W I O : Type 0} → List (Option (Cell W I O)) → List W → Type 0
-Works {W} {I} {O} slots works = (length works ≡ length slots)
+abbrev pub HaveWorks : {W I O : Type 0} → List (Option (Cell W I O)) → List W → Type 0
+HaveWorks {W} {I} {O} slots works = (length works ≡ length slots)
     × ((k : ℕ) (c : Cell W I O) → get_elem? slots k ≡ some (Some c) → get_elem? works k ≡ some c.work)

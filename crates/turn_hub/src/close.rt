@@ -2,7 +2,7 @@
 
 ghost use Rattle.std.specs.Prelude.{◌≡◌, ◌≤◌, [], vec_capacity, All, IfOk};
 ghost use Rattle.std.specs.Mem.Slots.{slots_items, slots_len, IsFull};
-ghost use Rattle.turn_hub.specs.Ends.{IsMainOf, IsHandOf, AllMine, Closes, Works, StandEach, main_view};
+ghost use Rattle.turn_hub.specs.Ends.{IsMainOf, IsHandOf, AllMine, AllHaveCells, HaveWorks, StandEach, main_view};
 
 use crate::hub::{Hand, Hub, Main};
 use crate::plays::{JoinHand, Place};
@@ -12,9 +12,9 @@ use std::alloc::{AllocError, Global};
 
 // Takes the work out of each slot.
 fn works_of<W: Work>(mut closed: Closed<Place<W>, Global>, works: &mut Vec<W>)
-    requires full { IsFull closed.slots × Closes (slots_items closed.slots) }
+    requires full { IsFull closed.slots × AllHaveCells (slots_items closed.slots) }
     requires room { (works.old.items ≡ []) × (slots_len closed.slots ≤ vec_capacity works.old) }
-    ensures { Works (slots_items closed.slots) works.new.items }
+    ensures { HaveWorks (slots_items closed.slots) works.new.items }
 {
     for k in 0..closed.slot_count() {
         match closed.take(k) {

@@ -6,7 +6,7 @@ use Rattle.std.proofs.lemmas.List.Elements.{filter-append}
 use Rattle.std.specs.List.{AllByRecursion}
 use Rattle.verdict_merge.specs.declared.arrived.Arrived.{Arrived}
 use Rattle.verdict_merge.specs.declared.rows.Rows.{Rows}
-use Rattle.verdict_merge.specs.Slots.{in_order, numbered}
+use Rattle.verdict_merge.specs.Slots.{by_numbers, rows_of_number}
 
 module _ {X : Type 0} (f : X → Bool) where
   pub all_kept : (xs : List X) → AllByRecursion (λ x. f x ≡ true) xs → filter f xs ≡ xs
@@ -58,55 +58,57 @@ kept_map g f (x ∷ xs) = at (f (g x)) (kept_map g f xs)
     at true h = ap (λ ys. g x ∷ ys) h
     at false h = h
 
-pub none_numbered : (n : ℕ) (all : List Arrived) → AllByRecursion (λ a. a.number < n) all → numbered n all ≡ []
+pub none_numbered : (n : ℕ) (all : List Arrived) → AllByRecursion (λ a. a.number < n) all → rows_of_number n all ≡ []
 none_numbered n all below =
     ap (map (λ a. a.rows)) (none_kept (λ a. nat_eq a.number n) all
     (each (λ a. a.number < n) (λ a. nat_eq a.number n ≡ false)
     (λ a low. ne_eqb a.number n (λ e. omega (arith, e, low))) all below))
 
-pub none_in_order : (n : ℕ) → in_order n [] ≡ []
+pub none_in_order : (n : ℕ) → by_numbers n [] ≡ []
 none_in_order zero = refl
 none_in_order (suc n) = ap (λ rs. rs ++ []) (none_in_order n)
 
 -- those Rows that a test keeps, by their numbers
 pub kept_in_order : (f : Rows → Bool) (n : ℕ) (all : List Arrived)
-    → filter f (in_order n all) ≡ in_order n (filter (λ a. f a.rows) all)
+    → filter f (by_numbers n all) ≡ by_numbers n (filter (λ a. f a.rows) all)
 kept_in_order f zero all = refl
 kept_in_order f (suc n) all =
     let kept = filter (λ a. f a.rows) all in
-    let same : filter f (numbered n all) ≡ numbered n kept =
+    let same : filter f (rows_of_number n all) ≡ rows_of_number n kept =
     kept_map (λ a. a.rows) f (filter (λ a. nat_eq a.number n) all)
     ∙ ap (map (λ a. a.rows)) (kept_twice (λ a. f a.rows) (λ a. nat_eq a.number n) all) in
-    filter-append f (in_order n all) (numbered n all)
-    ∙ ap (λ rs. rs ++ filter f (numbered n all)) (kept_in_order f n all)
-    ∙ ap (λ rs. in_order n kept ++ rs) same
+    filter-append f (by_numbers n all) (rows_of_number n all)
+    ∙ ap (λ rs. rs ++ filter f (rows_of_number n all)) (kept_in_order f n all)
+    ∙ ap (λ rs. by_numbers n kept ++ rs) same
 
-numbered_both : (n : ℕ) (xs ys : List Arrived) → numbered n (xs ++ ys) ≡ numbered n xs ++ numbered n ys
+numbered_both : (n : ℕ) (xs ys : List Arrived)
+    → rows_of_number n (xs ++ ys) ≡ rows_of_number n xs ++ rows_of_number n ys
 numbered_both n xs ys =
     ap (map (λ a. a.rows)) (filter-append (λ a. nat_eq a.number n) xs ys)
     ∙ map-append (λ a. a.rows) (filter (λ a. nat_eq a.number n) xs) (filter (λ a. nat_eq a.number n) ys)
 
 module _ (a : Arrived) (xs ys : List Arrived) where
   -- Rows of a number that isn't asked for
-  passed_over : (n : ℕ) → n ≤ a.number → in_order n (xs ++ a ∷ ys) ≡ in_order n (xs ++ ys)
+  passed_over : (n : ℕ) → n ≤ a.number → by_numbers n (xs ++ a ∷ ys) ≡ by_numbers n (xs ++ ys)
   passed_over zero low = refl
   passed_over (suc n) low =
       let other : nat_eq a.number n ≡ false = ne_eqb a.number n (λ e. omega (arith, e, low)) in
-      let same : numbered n (a ∷ ys) ≡ numbered n ys =
+      let same : rows_of_number n (a ∷ ys) ≡ rows_of_number n ys =
       ap (λ b. map (λ c. c.rows) (cond b (a ∷ filter (λ c. nat_eq c.number n) ys)
       (filter (λ c. nat_eq c.number n) ys))) other in
-      ap (λ rs. rs ++ numbered n (xs ++ a ∷ ys)) (passed_over n (omega (arith, low)))
-      ∙ ap (λ rs. in_order n (xs ++ ys) ++ rs)
-      (numbered_both n xs (a ∷ ys) ∙ ap (λ rs. numbered n xs ++ rs) same ∙ sym (numbered_both n xs ys))
+      ap (λ rs. rs ++ rows_of_number n (xs ++ a ∷ ys)) (passed_over n (omega (arith, low)))
+      ∙ ap (λ rs. by_numbers n (xs ++ ys) ++ rs)
+      (numbered_both n xs (a ∷ ys) ∙ ap (λ rs. rows_of_number n xs ++ rs) same ∙ sym (numbered_both n xs ys))
 
   -- Rows of the next number come last
   pub comes_last : (n : ℕ) → a.number ≡ n → AllByRecursion (λ c. c.number < n) xs
-      → AllByRecursion (λ c. c.number < n) ys → in_order (suc n) (xs ++ a ∷ ys) ≡ in_order n (xs ++ ys) ++ a.rows ∷ []
+      → AllByRecursion (λ c. c.number < n) ys
+      → by_numbers (suc n) (xs ++ a ∷ ys) ≡ by_numbers n (xs ++ ys) ++ a.rows ∷ []
   comes_last n is before after =
-      let here : numbered n (a ∷ ys) ≡ a.rows ∷ numbered n ys =
+      let here : rows_of_number n (a ∷ ys) ≡ a.rows ∷ rows_of_number n ys =
       ap (λ b. map (λ c. c.rows) (cond b (a ∷ filter (λ c. nat_eq c.number n) ys)
       (filter (λ c. nat_eq c.number n) ys))) (eq-eqb a.number n is) in
-      ap (λ rs. rs ++ numbered n (xs ++ a ∷ ys)) (passed_over n (omega (arith, is)))
-      ∙ ap (λ rs. in_order n (xs ++ ys) ++ rs)
-      (numbered_both n xs (a ∷ ys) ∙ ap (λ rs. rs ++ numbered n (a ∷ ys)) (none_numbered n xs before) ∙ here
+      ap (λ rs. rs ++ rows_of_number n (xs ++ a ∷ ys)) (passed_over n (omega (arith, is)))
+      ∙ ap (λ rs. by_numbers n (xs ++ ys) ++ rs)
+      (numbered_both n xs (a ∷ ys) ∙ ap (λ rs. rs ++ rows_of_number n (a ∷ ys)) (none_numbered n xs before) ∙ here
       ∙ ap (λ rs. a.rows ∷ rs) (none_numbered n ys after))

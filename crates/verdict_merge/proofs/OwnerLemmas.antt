@@ -14,7 +14,7 @@ use Rattle.mfotl_model.specs.Values.{row_cmp, row_total}
 use Rattle.mfotl_model.specs.declared.value.Value.{Value}
 use Rattle.verdict_merge.proofs.CountLemmas.{at_most}
 use Rattle.verdict_merge.proofs.MergeLemmas.{both_ways}
-use Rattle.verdict_merge.specs.Gathers.{all_rows}
+use Rattle.verdict_merge.specs.Gathers.{gathered_rows}
 use Rattle.verdict_merge.specs.Laws.{EveryWorker, IsPartition, OwnersMerge}
 use Rattle.verdict_merge.specs.declared.rows.Rows.{Rows}
 
@@ -72,35 +72,35 @@ module _ (p : List Value → Bool) where
       abbrev workers : List Rows → List ℕ
       workers given = map (λ (r : Rows). r.worker) given
 
-      in_all : (given : List Rows) → Parts given → list_any p (all_rows given) ≡ true → list_any p all ≡ true
+      in_all : (given : List Rows) → Parts given → list_any p (gathered_rows given) ≡ true → list_any p all ≡ true
       in_all [] parts h = cc
       in_all (r ∷ rs) parts h =
-          at (list_any p r.rows) refl (in_all rs parts.1) (sym (list_any-append p r.rows (all_rows rs)) ∙ h)
+          at (list_any p r.rows) refl (in_all rs parts.1) (sym (list_any-append p r.rows (gathered_rows rs)) ∙ h)
         where
-          at : (b : Bool) → list_any p r.rows ≡ b → (list_any p (all_rows rs) ≡ true → list_any p all ≡ true)
-              → (b || list_any p (all_rows rs)) ≡ true → list_any p all ≡ true
+          at : (b : Bool) → list_any p r.rows ≡ b → (list_any p (gathered_rows rs) ≡ true → list_any p all ≡ true)
+              → (b || list_any p (gathered_rows rs)) ≡ true → list_any p all ≡ true
           at true e next h = kept (λ row. nat_eq (owner row) r.worker) all (sym (ap (list_any p) parts.0) ∙ e)
           at false e next h = next h
 
       found : (k : ℕ) (given : List Rows) → Parts given → list_any p (part k all) ≡ true
-          → (list_any p (all_rows given) ≡ true) ⊎ AllByRecursion (λ j. k ≢ j) (workers given)
+          → (list_any p (gathered_rows given) ≡ true) ⊎ AllByRecursion (λ j. k ≢ j) (workers given)
       found k [] parts h = inr tt
       found k (r ∷ rs) parts h = at (ℕ_discrete k r.worker) (found k rs parts.1 h)
         where
-          at : Dec (k ≡ r.worker) → (list_any p (all_rows rs) ≡ true) ⊎ AllByRecursion (λ j. k ≢ j) (workers rs)
-              → (list_any p (r.rows ++ all_rows rs) ≡ true)
+          at : Dec (k ≡ r.worker) → (list_any p (gathered_rows rs) ≡ true) ⊎ AllByRecursion (λ j. k ≢ j) (workers rs)
+              → (list_any p (r.rows ++ gathered_rows rs) ≡ true)
               ⊎ ((k ≢ r.worker) × AllByRecursion (λ j. k ≢ j) (workers rs))
           at (yes e) next =
               let here : list_any p r.rows ≡ true =
               ap (list_any p) parts.0 ∙ subst (λ j. list_any p (part j all) ≡ true) e h in
-              inl (list_any-append p r.rows (all_rows rs) ∙ ap (λ b. b || list_any p (all_rows rs)) here)
+              inl (list_any-append p r.rows (gathered_rows rs) ∙ ap (λ b. b || list_any p (gathered_rows rs)) here)
           at (no ne) (inl t) =
-              inl (list_any-append p r.rows (all_rows rs)
+              inl (list_any-append p r.rows (gathered_rows rs)
               ∙ ap (λ b. list_any p r.rows || b) t ∙ or_true (list_any p r.rows))
           at (no ne) (inr none) = inr (ne, none)
 
       in_given : (n : ℕ) (given : List Rows) → IsPartition owner n given all → list_any p all ≡ true
-          → list_any p (all_rows given) ≡ true
+          → list_any p (gathered_rows given) ≡ true
       in_given n given is h =
           let (k, low, t) = some_part n all is.owned h in
           ⊎_elim (λ e. e)
@@ -110,11 +110,11 @@ module _ (p : List Value → Bool) where
 
 pub owners_merge : OwnersMerge
 owners_merge owner n given all sorted is =
-    let left : BTreeSet (List Value) = record { keys = ascending row_cmp (all_rows given) } in
+    let left : BTreeSet (List Value) = record { keys = ascending row_cmp (gathered_rows given) } in
     let right : BTreeSet (List Value) = record { keys = all } in
-    btree_set_from_contains row_total left right (sorted_ascending row_total row_exact (all_rows given)) sorted
-    (λ q. any_ascending row_total row_exact (eq_by_cmp row_cmp q) (all_rows given)
-    ∙ both_ways (list_any (eq_by_cmp row_cmp q) (all_rows given)) (list_any (eq_by_cmp row_cmp q) all)
+    btree_set_from_contains row_total left right (sorted_ascending row_total row_exact (gathered_rows given)) sorted
+    (λ q. any_ascending row_total row_exact (eq_by_cmp row_cmp q) (gathered_rows given)
+    ∙ both_ways (list_any (eq_by_cmp row_cmp q) (gathered_rows given)) (list_any (eq_by_cmp row_cmp q) all)
     (in_all (eq_by_cmp row_cmp q) owner all given is.parts) (in_given (eq_by_cmp row_cmp q) owner all n given is))
     row_exact
 

@@ -3,11 +3,11 @@ use Rattle.std.specs.Prelude.{ℕ, ◌≡◌, ◌+◌, Option, Some, None}
 use Rattle.mfotl_model.specs.Ascending.{ascending}
 use Rattle.mfotl_model.specs.Values.{row_cmp}
 use Rattle.verdict_merge.specs.declared.rows.Verdict.{Verdict}
-use Rattle.verdict_merge.specs.Gathers.{GatherOf, all_rows, complete_ts, rows_after, rows_at}
+use Rattle.verdict_merge.specs.Gathers.{GatherOf, gathered_rows, complete_ts, rows_after, rows_at}
 
 -- the verdict on the next time-point: all rows of its Rows in ascending order, each once
 abbrev pub merged : GatherOf → ℕ → Verdict
-merged g ts = record { point = g.next; ts = ts; rows = ascending row_cmp (all_rows (rows_at g.next g.added)) }
+merged g ts = record { point = g.next; ts = ts; rows = ascending row_cmp (gathered_rows (rows_at g.next g.added)) }
 
 -- what is gathered when the next time-point has its verdict
 abbrev pub after_emit : GatherOf → GatherOf

@@ -44,8 +44,8 @@ abbrev pub BothAreThere : Type 0
 BothAreThere = complete_ts (gathered 5 all_three) ≡ Some 70
 
 -- the rows of 5 come out in ascending order, whoever said them first
-abbrev pub RowsInOrder : Type 0
-RowsInOrder = merged (gathered 5 all_three) 70
+abbrev pub MergedRowsInOrder : Type 0
+MergedRowsInOrder = merged (gathered 5 all_three) 70
     ≡ record { point = 5; ts = 70; rows = (int 1 ∷ []) ∷ (int 2 ∷ []) ∷ (int 3 ∷ []) ∷ [] }
 
 -- and those of 6 wait

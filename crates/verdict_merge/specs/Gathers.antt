@@ -43,8 +43,8 @@ is_from one other =
     nat_eq one.point other.point && (nat_eq one.generation other.generation && nat_eq one.worker other.worker)
 
 -- all rows of all Rows
-abbrev pub all_rows : List Rows → List (List Value)
-all_rows given = flat_map (λ (r : Rows). r.rows) given
+abbrev pub gathered_rows : List Rows → List (List Value)
+gathered_rows given = flat_map (λ (r : Rows). r.rows) given
 
 -- the timestamp of a time-point that has as many Rows as its generation has workers
 abbrev pub ts_among : GatherOf → Option Rows → Option ℕ

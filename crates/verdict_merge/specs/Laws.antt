@@ -8,13 +8,13 @@ use Rattle.mfotl_model.specs.declared.value.Value.{Value}
 use Rattle.verdict_merge.specs.declared.rows.Rows.{Rows}
 use Rattle.verdict_merge.specs.declared.rows.Verdict.{Verdict}
 use Rattle.verdict_merge.specs.Emitted.{Emits}
-use Rattle.verdict_merge.specs.Gathers.{GatherOf, all_rows}
+use Rattle.verdict_merge.specs.Gathers.{GatherOf, gathered_rows}
 
 -- where the Rows are a partition of an ascending list, the merged rows are that list
 abbrev pub PartitionMerges : Type 0
 PartitionMerges =
     (given : List Rows) (all : List (List Value)) → IsStrictlySortedBy row_cmp all
-    → IsPermutation (all_rows given) all → ascending row_cmp (all_rows given) ≡ all
+    → IsPermutation (gathered_rows given) all → ascending row_cmp (gathered_rows given) ≡ all
 
 -- no number stands twice
 abbrev pub Apart : List ℕ → Type 0
@@ -34,7 +34,7 @@ pub record IsPartition (owner : List Value → ℕ) (count : ℕ) (given : List 
 abbrev pub OwnersMerge : Type 0
 OwnersMerge =
     (owner : List Value → ℕ) (count : ℕ) (given : List Rows) (all : List (List Value)) → IsStrictlySortedBy row_cmp all
-    → IsPartition owner count given all → ascending row_cmp (all_rows given) ≡ all
+    → IsPartition owner count given all → ascending row_cmp (gathered_rows given) ≡ all
 
 -- so many Rows of workers below a number as the number, no worker's twice, are the Rows of every one of them
 abbrev pub EveryWorker : Type 0

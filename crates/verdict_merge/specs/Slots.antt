@@ -20,9 +20,9 @@ held None = []
 held (Some group) = group
 
 -- all that is held
-abbrev pub joined : List (List Arrived) → List Arrived
-joined [] = []
-joined (all ∷ more) = all ++ joined more
+abbrev pub all_held : List (List Arrived) → List Arrived
+all_held [] = []
+all_held (all ∷ more) = all ++ all_held more
 
 -- what the first slot holds
 abbrev pub first_held : List (List Arrived) → List Arrived
@@ -30,13 +30,13 @@ first_held [] = []
 first_held (all ∷ more) = all
 
 -- the Rows of a number
-abbrev pub numbered : ℕ → List Arrived → List Rows
-numbered n all = map (λ a. a.rows) (filter (λ a. nat_eq a.number n) all)
+abbrev pub rows_of_number : ℕ → List Arrived → List Rows
+rows_of_number n all = map (λ a. a.rows) (filter (λ a. nat_eq a.number n) all)
 
 -- the Rows of the numbers below a bound, by their numbers
-abbrev pub in_order : ℕ → List Arrived → List Rows
-in_order zero all = []
-in_order (suc n) all = in_order n all ++ numbered n all
+abbrev pub by_numbers : ℕ → List Arrived → List Rows
+by_numbers zero all = []
+by_numbers (suc n) all = by_numbers n all ++ rows_of_number n all
 
 -- the slots once Rows were put into one
 abbrev pub put_in : ℕ → Arrived → List (List Arrived) → List (List Arrived)
@@ -49,7 +49,7 @@ put_in (suc i) a (all ∷ more) = all ∷ put_in i a more
 pub record IsSlot (count point : ℕ) (all : List Arrived) : Type 0 where
   pub points : AllByRecursion (λ a. a.rows.point ≡ point) all
   pub numbers : AllByRecursion (λ a. a.number < count) all
-  pub order : in_order count all ≡ map (λ a. a.rows) all
+  pub order : by_numbers count all ≡ map (λ a. a.rows) all
 
 -- the slots are those of the time-points from a first on
 abbrev pub AreSlots : ℕ → ℕ → List (List Arrived) → Type 0

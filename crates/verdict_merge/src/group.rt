@@ -3,7 +3,7 @@ ghost use Rattle.std.specs.Prelude.{◌≡◌, ◌++◌, ◌∷◌, [], IfOk, On
 ghost use Rattle.std.specs.List.{flat_map};
 ghost use Rattle.mfotl_model.specs.Ascending.{ascending};
 ghost use Rattle.mfotl_model.specs.Values.{row_cmp};
-ghost use Rattle.verdict_merge.specs.Gathers.{all_rows};
+ghost use Rattle.verdict_merge.specs.Gathers.{gathered_rows};
 ghost use Rattle.verdict_merge.specs.Slots.{first_of};
 
 use crate::arrived::Arrived;
@@ -63,7 +63,7 @@ impl Group {
 
     // All their rows, merged. Those that are alone are handed on as they are.
     pub(crate) fn into_rows(self, alloc: Global) -> Result<RowList, AllocError>
-        ensures { IfOk result (λ rows. rows ≡ ascending row_cmp (all_rows (map (λ a. a.rows) self))) }
+        ensures { IfOk result (λ rows. rows ≡ ascending row_cmp (gathered_rows (map (λ a. a.rows) self))) }
     {
         let first = self.first.rows.rows.into_vec();
         if self.more.is_empty() {
@@ -81,7 +81,7 @@ fn all_lists(
     more: Vec<Arrived>,
 ) -> Result<Vec<Vec<Row>>, AllocError>
     ensures { IfOk result (λ lists. flat_map (λ list. list.items) lists.items
-        ≡ first.items ++ all_rows (map (λ a. a.rows) more.items)) }
+        ≡ first.items ++ gathered_rows (map (λ a. a.rows) more.items)) }
 {
     let mut lists = Vec::new(alloc);
     push_some(&mut lists, first)?;

@@ -2,7 +2,7 @@
 ghost use Rattle.std.specs.Prelude.{◌≡◌, ◌++◌, ◌∷◌, [], ◌≤◌, IfOk, OnOk, drop, length, map, option_copied};
 ghost use Rattle.mfotl_model.specs.Ascending.{ascending};
 ghost use Rattle.mfotl_model.specs.Values.{row_cmp};
-ghost use Rattle.verdict_merge.specs.Gathers.{all_rows};
+ghost use Rattle.verdict_merge.specs.Gathers.{gathered_rows};
 ghost use Rattle.verdict_merge.specs.Slots.{first_held, held, put_in};
 
 use crate::arrived::Arrived;
@@ -28,7 +28,7 @@ pub(crate) fn pop(slots: &mut VecDeque<Option<Group>>) -> Option<Group>
 
 // All rows of a slot in ascending order, each once.
 pub(crate) fn slot_rows(alloc: Global, slot: Option<Group>) -> Result<RowList, AllocError>
-    ensures { IfOk result (λ rows. rows ≡ ascending row_cmp (all_rows (map (λ a. a.rows) (held slot)))) }
+    ensures { IfOk result (λ rows. rows ≡ ascending row_cmp (gathered_rows (map (λ a. a.rows) (held slot)))) }
 {
     match slot {
         Some(group) => group.into_rows(alloc),

@@ -3,7 +3,7 @@ ghost use Rattle.std.specs.Prelude.{◌≡◌, ◌++◌, ◌∷◌, [], ◌+◌,
 ghost use Rattle.std.specs.List.{find};
 ghost use Rattle.mfotl_model.specs.Ascending.{ascending};
 ghost use Rattle.mfotl_model.specs.Values.{row_cmp};
-ghost use Rattle.verdict_merge.specs.Gathers.{all_rows, at_point, rows_after, rows_at};
+ghost use Rattle.verdict_merge.specs.Gathers.{gathered_rows, at_point, rows_after, rows_at};
 
 use crate::arrived::Arrived;
 use crate::group::Group;
@@ -26,11 +26,11 @@ pub(crate) struct Waiting {
 
 impl Model for Waiting {
     ghost use Rattle.std.specs.Prelude.{map};
-    ghost use Rattle.verdict_merge.specs.Slots.{AreSlots, WaitingOf, held, in_order, joined};
+    ghost use Rattle.verdict_merge.specs.Slots.{AreSlots, WaitingOf, held, by_numbers, all_held};
 
     ghost Value = { WaitingOf };
 
-    ghost view = { λ w. record { next = w.next; added = in_order w.came (joined (map held w.slots.items)) } };
+    ghost view = { λ w. record { next = w.next; added = by_numbers w.came (all_held (map held w.slots.items)) } };
 
     ghost invariant = { λ w. AreSlots w.came w.next (map held w.slots.items) };
 }
@@ -99,7 +99,7 @@ impl Waiting {
     // Takes the Rows of the next time-point out: all their rows in ascending order, each once.
     pub(crate) fn take(&mut self, alloc: Global) -> Result<RowList, AllocError>
         ensures rows { IfOk result (λ rows.
-            rows ≡ ascending row_cmp (all_rows (rows_at self.old.next self.old.added))) }
+            rows ≡ ascending row_cmp (gathered_rows (rows_at self.old.next self.old.added))) }
         ensures left { IfOk result (λ _. self.new ≡ record {
           next = self.old.next + 1;
           added = rows_after self.old.next self.old.added;

@@ -18,7 +18,7 @@ use Rattle.slice_strategy.specs.declared.change.Change.{Change}
 use Rattle.worker_pool.specs.Changes.{AllSuit, HaveCells, IsDue, NoneDue, Suits, TakesDue, changes_due, changes_later}
 use Rattle.worker_pool.specs.Changes.{points_in}
 use Rattle.worker_pool.specs.Laws.{DueAtItsNumber}
-use Rattle.worker_pool.specs.Writing.{Adds, AddsPoint, ChangesIn, Falls, FallsShort, Keeps, ReadsIn, Runs}
+use Rattle.worker_pool.specs.Writing.{AddsEntries, AddsPoint, ChangesIn, Falls, FallsShort, WritesOnly, ReadsIn, Runs}
 use Rattle.worker_pool.specs.Writing.{RunsTo, Writes}
 use Rattle.worker_pool.specs.declared.schedule.Schedule.{Schedule}
 use Rattle.worker_pool.specs.declared.tally.Tally.{Tally}
@@ -48,20 +48,21 @@ both_suit d old new s due suits = subst (λ cs. AllSuit (core_of d) cs) due.0.fi
 
 -- so what is left suits once the first was read
 pub suits_later : {d e : Driver} {a b : Option (List ℕ)} {t u : Tally} {entries : List Entry} (old new : Schedule)
-    (s : Strategy) → TakesDue old (Some s) new → Runs d a t → Adds d a t entries e b u → Suits d old → Suits e new
+    (s : Strategy) → TakesDue old (Some s) new → Runs d a t → AddsEntries d a t entries e b u → Suits d old
+        → Suits e new
 suits_later {d} {e} old new s due r adds suits =
     suits_by d e new (core_kept r.3 (adds r.0 r.1 r.2 r.3))
     (subst (λ cs. AllSuit (core_of d) cs) (sym due.2) (both_suit d old new s due suits).1)
 
 -- whether it went well or not
 pub suits_drained : {T E : Type 0} (r : Result T E) (d e : Driver) (a b : Option (List ℕ)) (t u : Tally)
-    (s : Schedule) → Runs d a t → OnOk r (Keeps d a t e b u) → Suits d s → OnOk r (Suits e s)
+    (s : Schedule) → Runs d a t → OnOk r (WritesOnly d a t e b u) → Suits d s → OnOk r (Suits e s)
 suits_drained (Ok x) d e a b t u s r k suits = suits_by d e s (core_kept r.3 (k r.0 r.1 r.2 r.3)) suits
 suits_drained (Err x) d e a b t u s r k suits = tt
 
 -- what suited before room was made does so behind the time-point
 pub suits_routed : {d e f : Driver} {a b c : Option (List ℕ)} {t u v : Tally} {changes : List Entry} {p : TimePoint}
-    (entries : List Entry) (s s2 : Schedule) → RunsTo d a t p → Adds d a t changes e b u
+    (entries : List Entry) (s s2 : Schedule) → RunsTo d a t p → AddsEntries d a t changes e b u
     → AddsPoint d a t entries p f c v
     → s2.changes ≡ s.changes → Suits e s → Suits f s2
 suits_routed {e} {f} entries s s2 r adds more same suits =
@@ -124,14 +125,15 @@ due_at_its_number = record {
 -- ---- a change
 
 -- it may be read where nothing was read since the strategy was for the core
-pub may_change : {d e : Driver} {a b : Option (List ℕ)} {t u : Tally} {s : Strategy} → Keeps d a t e b u → Runs d a t
+pub may_change : {d e : Driver} {a b : Option (List ℕ)} {t u : Tally} {s : Strategy} → WritesOnly d a t e b u
+    → Runs d a t
     → IsFor (core_of d) s → (w : World) × IsDriverOf e w × IsFor w.core s
 may_change {e} {s} k r is =
     let w = k r.0 r.1 r.2 r.3 in
     (w.world, w.stands, subst (λ c. IsFor c s) (sym (core_kept r.3 w) ∙ core_same e w.world w.stands) is)
 
-pub change_adds : {d e f : Driver} {a b : Option (List ℕ)} {t u : Tally} {s : Strategy} → Keeps d a t e b u
-    → IsFor (core_of d) s → ChangesIn e s f → Adds d a t (ToStrategy s ∷ []) f b u
+pub change_adds : {d e f : Driver} {a b : Option (List ℕ)} {t u : Tally} {s : Strategy} → WritesOnly d a t e b u
+    → IsFor (core_of d) s → ChangesIn e s f → AddsEntries d a t (ToStrategy s ∷ []) f b u
 change_adds {e} {s} k is changes core read start w0 =
     let w = k core read start w0 in
     one_read (ToStrategy s) w (changes w.world
@@ -139,7 +141,7 @@ change_adds {e} {s} k is changes core read start w0 =
 
 -- what falls short behind changes does so before them
 pub adds_falls : {d e : Driver} {a b c : Option (List ℕ)} {t u : Tally} {entries : List Entry} → points_in entries ≡ []
-    → Adds d a t entries e b u → FallsShort e b u c → FallsShort d a t c
+    → AddsEntries d a t entries e b u → FallsShort e b u c → FallsShort d a t c
 adds_falls {c} {entries} none adds falls core read start w =
     subst (λ ps. Falls core ps start c) (points_with read entries none)
     (falls core (read ++ entries) start (adds core read start w))
@@ -151,7 +153,7 @@ pub record Made (old now : Schedule) (d : Driver) (a : Option (List ℕ)) (t : T
     (u : Tally) : Type 0 where
   pub made : List Entry
   pub none : points_in made ≡ []
-  pub adds : Adds d a t made e b u
+  pub adds : AddsEntries d a t made e b u
   pub routed : now.routed ≡ old.routed
   pub due : changes_due old.routed old.changes.items ≡ made ++ changes_due now.routed now.changes.items
   pub later : changes_later old.routed old.changes.items ≡ changes_later now.routed now.changes.items
@@ -169,7 +171,7 @@ none_made s d a t = record {
 
 -- the next one
 pub one_made : {old now new : Schedule} {d e f : Driver} {a b c : Option (List ℕ)} {t u v : Tally} {s : Strategy}
-    → Made old now d a t e b u → TakesDue now (Some s) new → Adds e b u (ToStrategy s ∷ []) f c v
+    → Made old now d a t e b u → TakesDue now (Some s) new → AddsEntries e b u (ToStrategy s ∷ []) f c v
     → Made old new d a t f c v
 one_made {old} {now} {new} {f} {c} {v} {s} m due adds =
     let n = now.routed in
@@ -193,19 +195,19 @@ one_made {old} {now} {new} {f} {c} {v} {s} m due adds =
 
 -- all of them, once none is due
 pub all_made : {old now : Schedule} {d e : Driver} {a b : Option (List ℕ)} {t u : Tally} → Made old now d a t e b u
-    → NoneDue now → Adds d a t (changes_due old.routed old.changes.items) e b u
+    → NoneDue now → AddsEntries d a t (changes_due old.routed old.changes.items) e b u
     × (now.changes.items ≡ changes_later old.routed old.changes.items)
 all_made {old} {now} {d} {e} {a} {b} {t} {u} m none =
     let left = none_due now.routed now.changes.items none in
     let all : changes_due old.routed old.changes.items ≡ m.made =
     m.due ∙ ap (λ es. m.made ++ es) left.0 ∙ append-nil m.made in
-    (subst (λ es. Adds d a t es e b u) (sym all) m.adds, sym left.1 ∙ sym m.later)
+    (subst (λ es. AddsEntries d a t es e b u) (sym all) m.adds, sym left.1 ∙ sym m.later)
 
 -- ---- a time-point behind them
 
 -- it may follow where those before were read, and changes
 pub may_point : {d e : Driver} {a b : Option (List ℕ)} {t u : Tally} {p : TimePoint} (n : ℕ) (changes : List Change)
-    → Adds d a t (changes_due n changes) e b u → RunsTo d a t p
+    → AddsEntries d a t (changes_due n changes) e b u → RunsTo d a t p
     → (w : World) × IsDriverOf e w × MayFollow (spot_in w).points p
 may_point {p} n changes adds r =
     let w = adds r.0 r.1 r.2 r.3 in (
@@ -216,7 +218,7 @@ may_point {p} n changes adds r =
     )
 
 pub point_adds : {d e f : Driver} {a b : Option (List ℕ)} {t u : Tally} {p : TimePoint} (n : ℕ) (changes : List Change)
-    → Adds d a t (changes_due n changes) e b u → ReadsIn e p f → AddsPoint d a t (changes_due n changes) p f b u
+    → AddsEntries d a t (changes_due n changes) e b u → ReadsIn e p f → AddsPoint d a t (changes_due n changes) p f b u
 point_adds {f} {b} {u} {p} n changes adds reads core read start may w0 =
     let w = adds core read start w0 in
     subst (λ es. Writes core es start f b u) (append_assoc read (changes_due n changes) (Point p ∷ []))

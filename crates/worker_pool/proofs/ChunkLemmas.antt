@@ -13,9 +13,9 @@ use Rattle.mfotl_model.specs.Formulas.{Form}
 use Rattle.mfotl_model.specs.VerdictText.{verdicts}
 use Rattle.mfotl_sig.specs.Preds.{PredOf}
 use Rattle.log_reader.proofs.GrowthLemmas.{front_stays}
-use Rattle.log_reader.specs.Growth.{Keeps}
+use Rattle.log_reader.specs.Growth.{ExtendsReading}
 use Rattle.log_reader.specs.Limits.{standard}
-use Rattle.log_reader.specs.Progress.{Progress, read, start}
+use Rattle.log_reader.specs.Progress.{Progress, read, nothing_fed}
 use Rattle.log_reader.specs.Readers.{ForEach, Reader, Reads, progress}
 use Rattle.log_reader.specs.Readings.{NoFault, Reading, reading, shown}
 use Rattle.log_reader.specs.declared.limits.Limits.{Limits}
@@ -24,12 +24,12 @@ use Rattle.monitorable.specs.Laws.{open_log}
 use Rattle.rescale_core.specs.declared.driver.Driver.{Driver}
 use Rattle.slice_strategy.specs.declared.change.Change.{Change}
 use Rattle.worker_pool.specs.Changes.{entries_by, left_by}
-use Rattle.worker_pool.specs.Chunks.{Feeds, IsChunkStop, ReadsChunk, ReadsPlan, SoFar, StopsLines, TakesAll, end_of}
+use Rattle.worker_pool.specs.Chunks.{Feeds, IsChunkStop, ReadsChunk, ReadsPlan, SoFar, StopsLines, TakesAll, run_end}
 use Rattle.worker_pool.specs.Effects.{Effect}
 use Rattle.worker_pool.specs.Endings.{EndsBy, FollowsLog}
 use Rattle.worker_pool.specs.Policies.{IsCoreOf}
 use Rattle.worker_pool.specs.Texts.{lines, tally_of, tally_on, text_on}
-use Rattle.worker_pool.specs.Writing.{Begins, Writes, all_verdicts}
+use Rattle.worker_pool.specs.Writing.{HasReadNothing, Writes, all_verdicts}
 use Rattle.worker_pool.specs.declared.stop.Stop.{Stop}
 use Rattle.worker_pool.specs.declared.stop.Stop.TheVariants.{Log, Read, Sink, Memory}
 use Rattle.worker_pool.specs.declared.tally.Tally.{Tally}
@@ -40,7 +40,7 @@ use Rattle.worker_pool.proofs.VerdictLemmas.{policy_verdicts}
 use Rattle.worker_pool.proofs.WritingLemmas.{nothing_read}
 
 -- the first time-points stay where more comes behind them
-front_same : (n : ℕ) (s a : Reading) → Keeps s a → n ≡ length s.points → take n a.points ≡ take n s.points
+front_same : (n : ℕ) (s a : Reading) → ExtendsReading s a → n ≡ length s.points → take n a.points ≡ take n s.points
 front_same n s a k count = rw k.points (take-append-le n s.points k.more (omega (arith, count)))
 
 -- the reader's reading, by its signature and its limits
@@ -63,7 +63,7 @@ moved (Some all) after buffer count m = rw m.new_is m.next
 -- the lines stopped
 stops_end : (policy : Form) (e : Effect) (ended : Bool) (r : Reading) (before : ℕ) (why : Stop) → e.old.faults ≤ before
     → StopsLines policy r e.old.written e.new.written before e.new.faults why
-    → EndsBy ended policy r e (end_of (Err why))
+    → EndsBy ended policy r e (run_end (Err why))
 stops_end policy e ended r before (Log fault) later h = record { shows = h.0; written = h.1 }
 stops_end policy e ended r before Read later h = absurd h
 stops_end policy e ended r before Sink later h = rose_later e.old.faults before e.new.faults later h
@@ -106,8 +106,9 @@ pub record Settled (core : CoreForm) (sig : List PredOf) (plan : List Change) (f
 
 -- nothing was read
 pub course_begins : {core : CoreForm} {sig : List PredOf} {tally : Tally} {driver : Driver} {reader : Reader}
-    (plan : List Change) (first old : Option (List ℕ)) → progress reader [] ≡ start sig standard → Reads reader []
-    → Begins core driver → tally ≡ tally_of [] → Course core sig plan first first reader driver plan old old tally
+    (plan : List Change) (first old : Option (List ℕ)) → progress reader [] ≡ nothing_fed sig standard → Reads reader []
+    → HasReadNothing core driver → tally ≡ tally_of []
+    → Course core sig plan first first reader driver plan old old tally
 course_begins {core} {sig} {tally} {driver} {reader} plan first old fresh reads begun none = record {
   bytes = [];
   reads = reads;
@@ -247,7 +248,7 @@ module _ {core : CoreForm} {sig : List PredOf} {plan : List Change} (policy : Fo
     (e : Effect) {reader : Reader} {driver : Driver} {changes : List Change} {t : Tally} where
   -- at the end of the log
   pub finished : (s : Settled core sig plan e.before.rest e.after.rest reader driver changes e.old.written e.new.written
-      t) → reader.is_ended ≡ true → FollowsLog sig policy e (end_of (Ok t))
+      t) → reader.is_ended ≡ true → FollowsLog sig policy e (run_end (Ok t))
   finished s told =
       let all = settled_text policy is s in
       record {
@@ -265,7 +266,7 @@ module _ {core : CoreForm} {sig : List PredOf} {plan : List Change} (policy : Fo
       → (why : Stop) (before : ℕ) → e.old.faults ≤ before
       → StopsLines policy (read (progress reader c.bytes)) e.old.written e.new.written before e.new.faults why
       → AppendsFront e.old.written e.new.written (text_on policy (read (progress reader c.bytes)))
-      → FollowsLog sig policy e (end_of (Err why))
+      → FollowsLog sig policy e (run_end (Err why))
   lines_stop c why before later stops part =
       let same = read_is sig reader c.bytes c.sig_is c.limits_is in
       record {
@@ -282,7 +283,7 @@ module _ {core : CoreForm} {sig : List PredOf} {plan : List Change} (policy : Fo
   -- the output failed behind the lines
   pub output_failed : {mid : Option (List ℕ)} → e.new.written ≡ mid
       → (s : Settled core sig plan e.before.rest e.after.rest reader driver changes e.old.written mid t)
-      → Rose e.old.faults e.new.faults → FollowsLog sig policy e (end_of (Err Sink))
+      → Rose e.old.faults e.new.faults → FollowsLog sig policy e (run_end (Err Sink))
   output_failed same s rose = record {
     bytes = s.course.bytes;
     ended = reader.is_ended;
@@ -298,7 +299,7 @@ module _ {core : CoreForm} {sig : List PredOf} {plan : List Change} (policy : Fo
       (untold : reader.is_ended ≡ false) where
     chunk_ends : (chunk : List ℕ) (before : ℕ) (why : Stop) → e.before.faults ≤ before
         → IsChunkStop chunk before e.after.faults why
-        → EndsBy false policy (shown sig standard (s.course.bytes ++ chunk)) e (end_of (Err why))
+        → EndsBy false policy (shown sig standard (s.course.bytes ++ chunk)) e (run_end (Err why))
     chunk_ends chunk before (Log fault) later h = absurd h
     chunk_ends chunk before Read later h =
         let bytes : s.course.bytes ++ chunk ≡ s.course.bytes =
@@ -317,7 +318,7 @@ module _ {core : CoreForm} {sig : List PredOf} {plan : List Change} (policy : Fo
 
     pub chunk_failed : {next : Reader} (before : ℕ) (why : Stop) → e.before.faults ≤ before
         → ReadsChunk reader next rest e.after.rest before e.after.faults (Err why)
-        → FollowsLog sig policy e (end_of (Err why))
+        → FollowsLog sig policy e (run_end (Err why))
     chunk_failed before why later p = record {
       bytes = s.course.bytes ++ p.chunk;
       ended = false;

@@ -13,7 +13,7 @@ use Rattle.mfotl_model.specs.Times.{NeverFalls}
 use Rattle.mfotl_model.specs.VerdictText.{verdicts}
 use Rattle.mfotl_model.specs.declared.event.TimePoint.{TimePoint}
 use Rattle.log_reader.specs.Given.{Fails}
-use Rattle.log_reader.specs.Progress.{Progress, answer_by, due, read}
+use Rattle.log_reader.specs.Progress.{Progress, answer_by, next_answer, read}
 use Rattle.log_reader.specs.Readers.{Reader, Reads, progress}
 use Rattle.log_reader.specs.Readings.{NoFault, Ending, Fault, Reading}
 use Rattle.log_reader.specs.declared.fault.LogFault.{LogFault}
@@ -31,7 +31,7 @@ use Rattle.worker_pool.specs.Changes.{changes_due, changes_later, entries_by, le
 use Rattle.worker_pool.specs.Chunks.{ForEachRun, IsUnderWay, SoFar, StopsLines, TakesAll, stop_for}
 use Rattle.worker_pool.specs.Policies.{ForEachPolicy, IsCoreOf}
 use Rattle.worker_pool.specs.Texts.{lines, tally_of, text_on}
-use Rattle.worker_pool.specs.Writing.{AddsPoint, Falls, FallsShort, IsOver, Keeps, Runs, Writes}
+use Rattle.worker_pool.specs.Writing.{AddsPoint, Falls, FallsShort, AllEmitted, WritesOnly, Runs, Writes}
 use Rattle.worker_pool.specs.Writing.{all_verdicts}
 use Rattle.worker_pool.specs.declared.stop.Stop.{Stop}
 use Rattle.worker_pool.specs.declared.tally.Tally.{Tally}
@@ -158,9 +158,9 @@ under {first} {reader} u runs =
 module _ {core : CoreForm} {plan : List Change} {start : Progress} {reader : Reader} {driver : Driver}
     {changes : List Change} {old mid : Option (List ℕ)} {tally : Tally}
     (takes : Takes core plan start reader driver changes old mid tally) where
-  due_is : (answer : Result Next LogFault) → due (progress reader start.bytes) ≡ answer
-      → due (record start { given = reader.given }) ≡ answer
-  due_is answer e = subst (λ (p : Progress). due p ≡ answer) takes.reader_is e
+  due_is : (answer : Result Next LogFault) → next_answer (progress reader start.bytes) ≡ answer
+      → next_answer (record start { given = reader.given }) ≡ answer
+  due_is answer e = subst (λ (p : Progress). next_answer p ≡ answer) takes.reader_is e
 
   -- what was written then is a front of what is due
   pub short : (new : Option (List ℕ)) → FallsShort driver mid tally new
@@ -177,7 +177,7 @@ module _ {core : CoreForm} {plan : List Change} {start : Progress} {reader : Rea
   front = short mid (stops driver mid tally)
 
   -- ---- one time-point more
-  module _ (point : TimePoint) (gives : due (progress reader start.bytes) ≡ Ok (Point point)) where
+  module _ (point : TimePoint) (gives : next_answer (progress reader start.bytes) ≡ Ok (Point point)) where
     given : GivesPoint (drop reader.given (read start).points) point
     given = gives_point start.is_ended (drop reader.given (read start).points) (read start).ending point
         (due_is (Ok (Point point)) gives)
@@ -233,8 +233,8 @@ module _ {core : CoreForm} {plan : List Change} {start : Progress} {reader : Rea
 
   -- the lines on all of them were written, once no verdict is left
   module _ {ending : Ending} (g : GivesEnding (drop reader.given (read start).points) (read start).ending ending)
-      {after : Driver} {new : Option (List ℕ)} {more : Tally} (keeps : Keeps driver mid tally after new more)
-      (over : IsOver after) where
+      {after : Driver} {new : Option (List ℕ)} {more : Tally} (keeps : WritesOnly driver mid tally after new more)
+      (over : AllEmitted after) where
     none_left : take reader.given (read start).points ≡ (read start).points
     none_left = take_none_left reader.given (read start).points g.none
 
@@ -250,7 +250,7 @@ module _ {core : CoreForm} {plan : List Change} {start : Progress} {reader : Rea
   takes_all : {next : Reader} {after : Driver} {new : Option (List ℕ)} {more : Tally}
       → next ≡ record reader { kept = next.kept } → Reads next start.bytes
       → GivesEnding (drop reader.given (read start).points) (read start).ending NoFault
-      → Keeps driver mid tally after new more → IsOver after
+      → WritesOnly driver mid tally after new more → AllEmitted after
       → TakesAll core plan next start.bytes after changes old new more
   takes_all {next} {after} {new} {more} next_is reads g keeps over =
       let is : progress next start.bytes ≡ record start { given = reader.given } =
@@ -275,21 +275,24 @@ module _ {core : CoreForm} {plan : List Change} {start : Progress} {reader : Rea
 
   pub ends_more : {next : Reader} {after : Driver} {new : Option (List ℕ)} {more : Tally}
       → next ≡ record reader { kept = next.kept } → Reads next start.bytes
-      → due (progress reader start.bytes) ≡ Ok More → Keeps driver mid tally after new more → IsOver after
+      → next_answer (progress reader start.bytes) ≡ Ok More → WritesOnly driver mid tally after new more
+      → AllEmitted after
       → TakesAll core plan next start.bytes after changes old new more
   ends_more next_is reads e = takes_all next_is reads
       (gives_more start.is_ended (drop reader.given (read start).points) (read start).ending (due_is (Ok More) e))
 
   pub ends_end : {next : Reader} {after : Driver} {new : Option (List ℕ)} {more : Tally}
       → next ≡ record reader { kept = next.kept } → Reads next start.bytes
-      → due (progress reader start.bytes) ≡ Ok End → Keeps driver mid tally after new more → IsOver after
+      → next_answer (progress reader start.bytes) ≡ Ok End → WritesOnly driver mid tally after new more
+      → AllEmitted after
       → TakesAll core plan next start.bytes after changes old new more
   ends_end next_is reads e = takes_all next_is reads
       (gives_end start.is_ended (drop reader.given (read start).points) (read start).ending (due_is (Ok End) e))
 
   -- the fault stands behind all lines
   stops_by : {after : Driver} {new : Option (List ℕ)} {more : Tally} (fault : LogFault)
-      → due (progress reader start.bytes) ≡ Err fault → Keeps driver mid tally after new more → IsOver after
+      → next_answer (progress reader start.bytes) ≡ Err fault → WritesOnly driver mid tally after new more
+      → AllEmitted after
       → ForEachPolicy core (λ policy.
       ((read start).ending ≡ Fault fault) × Appends old new (text_on policy (read start)))
   unfolding text_on
@@ -303,8 +306,8 @@ module _ {core : CoreForm} {plan : List Change} {start : Progress} {reader : Rea
 
   -- the fault stops the lines
   pub stops_with : {after : Driver} {new : Option (List ℕ)} {more : Tally} (fault : LogFault) (why : Stop)
-      → why ≡ stop_for fault → Fails fault (due (progress reader start.bytes))
-      → Keeps driver mid tally after new more → IsOver after → (before now : ℕ)
+      → why ≡ stop_for fault → Fails fault (next_answer (progress reader start.bytes))
+      → WritesOnly driver mid tally after new more → AllEmitted after → (before now : ℕ)
       → ForEachPolicy core (λ policy. StopsLines policy (read start) old new before now why)
   stops_with log.Memory why is e keeps over before now policy core_is = rw is tt
   stops_with fault why is e keeps over before now policy core_is = rw is (stops_by fault e keeps over policy core_is)

@@ -6,20 +6,20 @@ use Rattle.std.proofs.lemmas.List.Sums.{length-filter}
 use Rattle.std.specs.List.{filter}
 use Rattle.mfotl_model.specs.VerdictText.{VerdictOf, verdicts}
 use Rattle.worker_pool.specs.Laws.{ViolationsCounted}
-use Rattle.worker_pool.specs.Texts.{has_row, log_in, some_rows, tally_of, tally_on, violated_on}
+use Rattle.worker_pool.specs.Texts.{has_some_row, log_in, some_rows, tally_of, tally_on, violated_on}
 
 some_by : (b c : Bool) (v : VerdictOf) (vs : List VerdictOf) → c ≡ nat_lt 0 (length vs)
     → (b || c) ≡ nat_lt 0 (length (cond b (v ∷ vs) vs))
 some_by true c v vs e = sym (lt-ltb 0 (length (v ∷ vs)) (omega arith))
 some_by false c v vs e = e
 
-some_left : (vs : List VerdictOf) → some_rows vs ≡ nat_lt 0 (length (filter has_row vs))
+some_left : (vs : List VerdictOf) → some_rows vs ≡ nat_lt 0 (length (filter has_some_row vs))
 some_left [] = refl
-some_left (v ∷ vs) = some_by (has_row v) (some_rows vs) v (filter has_row vs) (some_left vs)
+some_left (v ∷ vs) = some_by (has_some_row v) (some_rows vs) v (filter has_some_row vs) (some_left vs)
 
 -- some verdict has a row exactly where one that has is counted
 some_counted : (vs : List VerdictOf) → some_rows vs ≡ nat_lt 0 (tally_of vs).violated
-some_counted vs = some_left vs ∙ ap (nat_lt 0) (length-filter has_row vs)
+some_counted vs = some_left vs ∙ ap (nat_lt 0) (length-filter has_some_row vs)
 
 pub violations_counted : ViolationsCounted
 unfolding violated_on tally_on

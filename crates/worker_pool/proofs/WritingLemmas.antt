@@ -19,7 +19,7 @@ use Rattle.rescale_core.specs.Moving.{IsDriverOf, Reaches, TurnsTo}
 use Rattle.rescale_core.specs.Moving.StepKind.{Emits, Reads}
 use Rattle.rescale_core.specs.Routing.{HasEnded}
 use Rattle.rescale_core.specs.Workers.{settled_in}
-use Rattle.rescale_core.specs.Worlds.{World, Allowed, after, first_world, spot_in, verdict_on}
+use Rattle.rescale_core.specs.Worlds.{World, Allowed, world_after, first_world, spot_in, verdict_on}
 use Rattle.rescale_core.specs.Worlds.Step.{Emit, Read}
 use Rattle.rescale_core.specs.declared.driver.Driver.{Driver}
 use Rattle.rescale_core.specs.declared.driver.Turn.{Turn}
@@ -28,7 +28,8 @@ use Rattle.rescale_core.specs.declared.item.Entry.TheVariants.{Point, Change as 
 use Rattle.verdict_merge.specs.declared.rows.Verdict.{Verdict}
 use Rattle.worker_pool.specs.Changes.{points_in}
 use Rattle.worker_pool.specs.Texts.{lines, tally_of}
-use Rattle.worker_pool.specs.Writing.{Adds, Begins, FallsShort, IsOver, Keeps, Runs, RunsTo, Writes}
+use Rattle.worker_pool.specs.Writing.{AddsEntries, HasReadNothing, FallsShort, AllEmitted, WritesOnly, Runs, RunsTo}
+use Rattle.worker_pool.specs.Writing.{Writes}
 use Rattle.worker_pool.specs.Writing.{all_verdicts, first_verdicts, seen}
 use Rattle.worker_pool.specs.declared.tally.Tally.{Tally}
 use Rattle.worker_pool.proofs.SinkLemmas.{appends_more, appends_none, front_behind, whole_front}
@@ -43,23 +44,25 @@ on_ok_both (Err e) P Q R f p q = tt
 
 -- ---- one after the other
 
-pub keeps_on : {d e f : Driver} {a b c : Option (List ℕ)} {t u v : Tally} → Keeps d a t e b u → Keeps e b u f c v
-    → Keeps d a t f c v
+pub keeps_on : {d e f : Driver} {a b c : Option (List ℕ)} {t u v : Tally} → WritesOnly d a t e b u
+    → WritesOnly e b u f c v
+    → WritesOnly d a t f c v
 keeps_on h k core read start w = k core read start (h core read start w)
 
-pub runs_on : {d e : Driver} {a b : Option (List ℕ)} {t u : Tally} → Keeps d a t e b u → Runs d a t → Runs e b u
+pub runs_on : {d e : Driver} {a b : Option (List ℕ)} {t u : Tally} → WritesOnly d a t e b u → Runs d a t → Runs e b u
 runs_on k r = (r.0, r.1, r.2, k r.0 r.1 r.2 r.3)
 
-pub falls_on : {d e : Driver} {a b c : Option (List ℕ)} {t u : Tally} → Keeps d a t e b u → FallsShort e b u c
+pub falls_on : {d e : Driver} {a b c : Option (List ℕ)} {t u : Tally} → WritesOnly d a t e b u → FallsShort e b u c
     → FallsShort d a t c
 falls_on k f core read start w = f core read start (k core read start w)
 
 -- the entries were read before, and nothing behind them
 pub adds_keeps : {d e f : Driver} {a b c : Option (List ℕ)} {t u v : Tally} {entries : List Entry}
-    → Adds d a t entries e b u → Keeps e b u f c v → Adds d a t entries f c v
+    → AddsEntries d a t entries e b u → WritesOnly e b u f c v → AddsEntries d a t entries f c v
 adds_keeps {entries} h k core read start w = k core (read ++ entries) start (h core read start w)
 
-pub runs_with : {d e : Driver} {a b : Option (List ℕ)} {t u : Tally} {entries : List Entry} → Adds d a t entries e b u
+pub runs_with : {d e : Driver} {a b : Option (List ℕ)} {t u : Tally} {entries : List Entry}
+    → AddsEntries d a t entries e b u
     → Runs d a t → Runs e b u
 runs_with {entries} k r = (r.0, r.1 ++ entries, r.2, k r.0 r.1 r.2 r.3)
 
@@ -72,7 +75,7 @@ world_of r = (r.3.world, r.3.stands)
 
 -- nothing was done
 pub same_keeps : {d e : Driver} (now : Option (List ℕ)) (t : Tally) → ((w : World) → IsDriverOf d w → IsDriverOf e w)
-    → Keeps d now t e now t
+    → WritesOnly d now t e now t
 same_keeps now t go core read start w = record {
   world = w.world;
   stands = go w.world w.stands;
@@ -98,7 +101,7 @@ points_are w = spot_reads (first_spot w.world.first) w.world.read ∙ ap points_
 
 -- a turn reads and writes nothing
 pub turn_written : (d e : Driver) (now : Option (List ℕ)) (t : Tally) (k : ℕ) (turn : Turn) → TurnsTo d k turn e
-    → Keeps d now t e now t
+    → WritesOnly d now t e now t
 turn_written d e now t k turn to core read start w =
     let x = turn_keeps d e k turn w.world to w.stands w.verdicts in
     record {
@@ -115,7 +118,7 @@ turn_written d e now t k turn to core read start w =
 
 -- a verdict may be emitted, and the driver stands for the world in which it is
 abbrev pub EmitsIn : Driver → Verdict → Driver → Type 0
-EmitsIn d v e = (w : World) → IsDriverOf d w → Allowed w (Emit v) × IsDriverOf e (after w (Emit v))
+EmitsIn d v e = (w : World) → IsDriverOf d w → Allowed w (Emit v) × IsDriverOf e (world_after w (Emit v))
 
 lines_more : (vs : List Verdict) (v : Verdict)
     → lines (map seen (vs ++ v ∷ [])) ≡ lines (map seen vs) ++ line_of (seen v)
@@ -125,18 +128,18 @@ lines_more vs v =
     ∙ ap (λ l. lines (map seen vs) ++ l) (append-nil (line_of (seen v)))
 
 emitted_next : (w : World) (d : Driver) (v : Verdict) → IsDriverOf d w → EmitsVerdicts w → Allowed w (Emit v)
-    → EmitsVerdicts (after w (Emit v))
+    → EmitsVerdicts (world_after w (Emit v))
 emitted_next w d v is verdicts may =
-    (by_steps (Emits ∷ []) w (after w (Emit v)) is.router.sound verdicts
-    (after w (Emit v), (v, may, refl), refl)).1
+    (by_steps (Emits ∷ []) w (world_after w (Emit v)) is.router.sound verdicts
+    (world_after w (Emit v), (v, may, refl), refl)).1
 
 pub wrote_one : {d e : Driver} {v : Verdict} {a b : Option (List ℕ)} {t u : Tally} → EmitsIn d v e
     → Appends a b (line_of (seen v))
-    → ((vs : List VerdictOf) → t ≡ tally_of vs → u ≡ tally_of (vs ++ seen v ∷ [])) → Keeps d a t e b u
+    → ((vs : List VerdictOf) → t ≡ tally_of vs → u ≡ tally_of (vs ++ seen v ∷ [])) → WritesOnly d a t e b u
 wrote_one {d} {e} {v} {a} {b} emits line counts core read start w =
     let one = emits w.world w.stands in
     record {
-      world = after w.world (Emit v);
+      world = world_after w.world (Emit v);
       stands = one.1;
       core_is = w.core_is;
       read_is = w.read_is;
@@ -177,7 +180,7 @@ stops d now t core read start w = record {
 
 -- whether it went well or not
 pub falls_either : {T E : Type 0} (r : Result T E) (d e : Driver) (a b : Option (List ℕ)) (t u : Tally)
-    → OnOk r (Keeps d a t e b u) → OnErr r (FallsShort d a t b) → FallsShort d a t b
+    → OnOk r (WritesOnly d a t e b u) → OnErr r (FallsShort d a t b) → FallsShort d a t b
 falls_either (Ok x) d e a b t u keeps falls = falls_on keeps (stops e b u)
 falls_either (Err x) d e a b t u keeps falls = falls
 
@@ -186,7 +189,7 @@ pub cut_short : {d e : Driver} {v : Verdict} {a b : Option (List ℕ)} {t : Tall
     → AppendsFront a b (line_of (seen v)) → FallsShort d a t b
 cut_short {d} {e} {v} {a} {b} emits part core read start w =
     let one = emits w.world w.stands in
-    let x : World = after w.world (Emit v) in
+    let x : World = world_after w.world (Emit v) in
     let verdicts = emitted_next w.world d v w.stands w.verdicts one.0 in
     record {
       count = length x.emitted;
@@ -201,14 +204,14 @@ cut_short {d} {e} {v} {a} {b} emits part core read start w =
 
 -- all verdicts were emitted
 pub is_over : (d : Driver) (b : Bool) → b ≡ true
-    → ((w : World) → IsDriverOf d w → b ≡ true → HasEnded w) → IsOver d
+    → ((w : World) → IsDriverOf d w → b ≡ true → HasEnded w) → AllEmitted d
 is_over d b told ended w is verdicts =
     emitted_first w.core (spot_in w).points w refl refl verdicts
     ∙ ap (first_verdicts w.core (spot_in w).points) (world_emitted w is.router.sound verdicts (ended w is told))
 
 -- so their lines were written
 pub over_written : {core : CoreForm} {read : List Entry} {start now : Option (List ℕ)} {d : Driver} {t : Tally}
-    → Writes core read start d now t → IsOver d
+    → Writes core read start d now t → AllEmitted d
     → Appends start now (lines (all_verdicts core (points_in read)))
     × (t ≡ tally_of (all_verdicts core (points_in read)))
 over_written {core} {read} {start} {now} w over =
@@ -224,7 +227,7 @@ pub one_read : {core : CoreForm} {read : List Entry} {start now : Option (List �
     → (x : World) × Reaches w.world (Reads entry ∷ []) x × IsDriverOf e x
     → Writes core (read ++ entry ∷ []) start e now t
 one_read {start} {now} entry w r =
-    let is : r.0 ≡ after w.world (Read entry) = sym r.1.2 ∙ r.1.1.1 in
+    let is : r.0 ≡ world_after w.world (Read entry) = sym r.1.2 ∙ r.1.1.1 in
     record {
       world = r.0;
       stands = r.2;
@@ -238,7 +241,7 @@ one_read {start} {now} entry w r =
 -- ---- the beginning
 
 -- nothing was read
-pub nothing_read : (core : CoreForm) (d : Driver) (start : Option (List ℕ)) (t : Tally) → Begins core d
+pub nothing_read : (core : CoreForm) (d : Driver) (start : Option (List ℕ)) (t : Tally) → HasReadNothing core d
     → t ≡ tally_of [] → Writes core [] start d start t
 nothing_read core d start t begins none = record {
   world = first_world core begins.first;

@@ -29,12 +29,12 @@ use Rattle.worker_pool.specs.declared.stop.Stop.TheVariants.{Log, Read, Sink, Me
 use Rattle.worker_pool.specs.declared.tally.Tally.{Tally}
 
 -- the end of a run that stopped, or that counted all lines
-abbrev pub end_of : Result Tally Stop → End
-end_of (Ok tally) = Finished tally.settled tally.violated tally.rows
-end_of (Err (Log fault)) = LogEnds fault
-end_of (Err Read) = ReadFailed
-end_of (Err Sink) = SinkFailed
-end_of (Err Memory) = end.Memory
+abbrev pub run_end : Result Tally Stop → End
+run_end (Ok tally) = Finished tally.settled tally.violated tally.rows
+run_end (Err (Log fault)) = LogEnds fault
+run_end (Err Read) = ReadFailed
+run_end (Err Sink) = SinkFailed
+run_end (Err Memory) = end.Memory
 
 -- what stops the loop at a fault of the log
 abbrev pub stop_for : LogFault → Stop

@@ -5,21 +5,21 @@ use Rattle.rescale_core.specs.declared.driver.Driver.{Driver}
 use Rattle.turn_hub.specs.Ends.{IsMainOf}
 use Rattle.worker_pool.specs.Changes.{HaveCells, NoneDue, Suits, changes_due, changes_later}
 use Rattle.worker_pool.specs.Hands.{AreHandsOf, WorkerHand, WorkerHub}
-use Rattle.worker_pool.specs.Writing.{Adds, FallsShort, IsOutputStop, IsRoomy, Keeps}
+use Rattle.worker_pool.specs.Writing.{AddsEntries, FallsShort, IsOutputStop, IsRoomy, WritesOnly}
 use Rattle.worker_pool.specs.declared.schedule.Schedule.{Schedule}
 use Rattle.worker_pool.specs.declared.stop.Stop.{Stop}
 use Rattle.worker_pool.specs.declared.tally.Tally.{Tally}
 
 -- How main stands before or behind a step: its driver, what was written and counted, and how often the output failed.
-pub record Standing : Type 0 where
+pub record MainState : Type 0 where
   pub driver : Driver
   pub written : Option (List ℕ)
   pub tally : Tally
   pub faults : ℕ
 
 -- main with this driver, output and count
-abbrev pub standing : {K : Type 0} → SinkGhosts K → Driver → K → Tally → Standing
-standing outs driver out tally = record {
+abbrev pub main_state : {K : Type 0} → SinkGhosts K → Driver → K → Tally → MainState
+main_state outs driver out tally = record {
   driver = driver;
   written = outs.written out;
   tally = tally;
@@ -28,12 +28,12 @@ standing outs driver out tally = record {
 
 -- Each worker's queue has room for an item, and nothing was read since; or main stopped, and what was written is a
 -- front of the lines due. What main serves behind it are hands of the hub still.
-pub record MakesRoom (hub : WorkerHub) (own : List WorkerHand) (old new : Standing) (result : Result Unit Stop)
+pub record MakesRoom (hub : WorkerHub) (own : List WorkerHand) (old new : MainState) (result : Result Unit Stop)
     : Type 0 where
   pub hands : AreHandsOf hub own
   pub main : OnOk result (IsMainOf hub new.driver.main)
   pub room : OnOk result (IsRoomy new.driver)
-  pub ok : OnOk result (Keeps old.driver old.written old.tally new.driver new.written new.tally)
+  pub ok : OnOk result (WritesOnly old.driver old.written old.tally new.driver new.written new.tally)
   pub err : OnErr result (FallsShort old.driver old.written old.tally new.written)
   pub stop : IfErr result (λ stop. IsOutputStop old.faults new.faults stop)
   pub later : old.faults ≤ new.faults
@@ -42,7 +42,7 @@ pub record MakesRoom (hub : WorkerHub) (own : List WorkerHand) (old new : Standi
 -- written is a front of the lines due. What is to come suits main and its cells, and what main serves are hands of the
 -- hub still.
 pub record MakesDue (hub : WorkerHub) (cells : ℕ) (own : List WorkerHand) (before after : Schedule)
-    (old new : Standing) (result : Result Unit Stop) : Type 0 where
+    (old new : MainState) (result : Result Unit Stop) : Type 0 where
   pub hands : AreHandsOf hub own
   pub main : OnOk result (IsMainOf hub new.driver.main)
   pub suits : OnOk result (Suits new.driver after)
@@ -50,7 +50,7 @@ pub record MakesDue (hub : WorkerHub) (cells : ℕ) (own : List WorkerHand) (bef
   pub all : OnOk result (NoneDue after)
   pub left : OnOk result (after.changes.items ≡ changes_later before.routed before.changes.items)
   pub routed : after.routed ≡ before.routed
-  pub ok : OnOk result (Adds old.driver old.written old.tally (changes_due before.routed before.changes.items)
+  pub ok : OnOk result (AddsEntries old.driver old.written old.tally (changes_due before.routed before.changes.items)
       new.driver new.written new.tally)
   pub err : OnErr result (FallsShort old.driver old.written old.tally new.written)
   pub stop : IfErr result (λ stop. IsOutputStop old.faults new.faults stop)

@@ -13,8 +13,8 @@ is_empty [] = true
 is_empty (x ∷ xs) = false
 
 -- whether a verdict has a row
-abbrev pub has_row : VerdictOf → Bool
-has_row v = not (is_empty v.rows)
+abbrev pub has_some_row : VerdictOf → Bool
+has_some_row v = not (is_empty v.rows)
 
 -- some verdict has a row
 abbrev pub some_rows : List VerdictOf → Bool
@@ -28,7 +28,7 @@ lines verdicts = flat_map line_of verdicts
 abbrev pub tally_of : List VerdictOf → Tally
 tally_of verdicts = record {
   settled = length verdicts;
-  violated = count_by has_row verdicts;
+  violated = count_by has_some_row verdicts;
   rows = sum_by (λ v. length v.rows) verdicts;
 }
 

@@ -48,7 +48,7 @@ pub record Writes (core : CoreForm) (read : List Entry) (start : Option (List �
   pub counts : tally ≡ tally_of (map seen world.emitted)
 
 -- nothing was read as yet in the world of this core
-pub record Begins (core : CoreForm) (driver : Driver) : Type 0 where
+pub record HasReadNothing (core : CoreForm) (driver : Driver) : Type 0 where
   pub first : Strategy
   pub stands : IsDriverOf driver (first_world core first)
 
@@ -64,14 +64,14 @@ RunsTo driver now tally point =
     × MayFollow (points_in read) point
 
 -- whatever was read and written before, nothing was read since, and the verdicts emitted since were written
-abbrev pub Keeps : Driver → Option (List ℕ) → Tally → Driver → Option (List ℕ) → Tally → Type 0
-Keeps d now t e then u =
+abbrev pub WritesOnly : Driver → Option (List ℕ) → Tally → Driver → Option (List ℕ) → Tally → Type 0
+WritesOnly d now t e then u =
     (core : CoreForm) (read : List Entry) (start : Option (List ℕ)) → Writes core read start d now t
     → Writes core read start e then u
 
 -- just these entries were read since
-abbrev pub Adds : Driver → Option (List ℕ) → Tally → List Entry → Driver → Option (List ℕ) → Tally → Type 0
-Adds d now t entries e then u =
+abbrev pub AddsEntries : Driver → Option (List ℕ) → Tally → List Entry → Driver → Option (List ℕ) → Tally → Type 0
+AddsEntries d now t entries e then u =
     (core : CoreForm) (read : List Entry) (start : Option (List ℕ)) → Writes core read start d now t
     → Writes core (read ++ entries) start e then u
 
@@ -111,8 +111,8 @@ ChangesIn d s e =
     → (x : World) × Reaches w (Reads (ToStrategy s) ∷ []) x × IsDriverOf e x
 
 -- all verdicts on what was read were emitted
-abbrev pub IsOver : Driver → Type 0
-IsOver d =
+abbrev pub AllEmitted : Driver → Type 0
+AllEmitted d =
     (w : World) → IsDriverOf d w → EmitsVerdicts w
     → map seen w.emitted ≡ all_verdicts w.core (spot_in w).points
 

@@ -8,8 +8,9 @@ ghost use Rattle.turn_hub.specs.Ends.{IsMainOf, cell_count};
 ghost use Rattle.rescale_core.specs.declared.item.Entry.TheVariants.{Change as ToStrategy};
 ghost use Rattle.worker_pool.specs.Changes.{HaveCells, NoneDue, Suits, changes_due, changes_later};
 ghost use Rattle.worker_pool.specs.Hands.{AreHandsOf};
-ghost use Rattle.worker_pool.specs.Steps.{MakesDue, standing};
-ghost use Rattle.worker_pool.specs.Writing.{Adds, AddsPoint, ChangesIn, FallsShort, IsOutputStop, IsRoomy, ReadsIn};
+ghost use Rattle.worker_pool.specs.Steps.{MakesDue, main_state};
+ghost use Rattle.worker_pool.specs.Writing.{AddsEntries, AddsPoint, ChangesIn, FallsShort, IsOutputStop, IsRoomy};
+ghost use Rattle.worker_pool.specs.Writing.{ReadsIn};
 ghost use Rattle.worker_pool.specs.Writing.{Runs, RunsTo};
 
 use crate::hands::WorkerHand;
@@ -68,7 +69,7 @@ fn make_change<R: Wait, O: Sink, G: Gate>(
     requires hands { AreHandsOf context.now.hub.now own.old.items }
     ensures hands { AreHandsOf context.now.hub.now own.new.items }
     ensures main { OnOk result (IsMainOf context.now.hub.now driver.new.main) }
-    ensures ok { OnOk result (Adds driver.old (O.written out.old) writer.old.tally (ToStrategy strategy ∷ [])
+    ensures ok { OnOk result (AddsEntries driver.old (O.written out.old) writer.old.tally (ToStrategy strategy ∷ [])
         driver.new (O.written out.new) writer.new.tally) }
     ensures err { OnErr result (FallsShort driver.old (O.written out.old) writer.old.tally (O.written out.new)) }
     ensures stop { IfErr result (λ stop. IsOutputStop (O.faults out.old) (O.faults out.new) stop) }
@@ -95,8 +96,8 @@ fn make_due<R: Wait, O: Sink, G: Gate>(
     requires cells { context.now.cells ≤ cell_count context.now.hub.now }
     requires hands { AreHandsOf context.now.hub.now own.old.items }
     ensures { MakesDue context.now.hub.now context.now.cells own.new.items schedule.old schedule.new
-        (standing O.Sink driver.old out.old writer.old.tally)
-        (standing O.Sink driver.new out.new writer.new.tally) result }
+        (main_state O.Sink driver.old out.old writer.old.tally)
+        (main_state O.Sink driver.new out.new writer.new.tally) result }
 {
     for _ in context.rt.forever() {
         match schedule.next_due() {
@@ -123,8 +124,8 @@ fn make_changes<R: Wait, O: Sink, G: Gate>(
     requires cells { context.now.cells ≤ cell_count context.now.hub.now }
     requires hands { AreHandsOf context.now.hub.now own.old.items }
     ensures { MakesDue context.now.hub.now context.now.cells own.new.items schedule.old schedule.new
-        (standing O.Sink driver.old out.old writer.old.tally)
-        (standing O.Sink driver.new out.new writer.new.tally) result }
+        (main_state O.Sink driver.old out.old writer.old.tally)
+        (main_state O.Sink driver.new out.new writer.new.tally) result }
 {
     if schedule.is_due() {
         return make_due(context, own, driver, schedule, writer, out);

@@ -1,17 +1,17 @@
 //! The log in chunks: all lines of a chunk are written and handed on before the next chunk is read.
 ghost use Rattle.std.specs.Prelude.{◌≡◌, ◌<◌, ◌≤◌, IsTrue, OnOk, length, [], false};
 ghost use Rattle.log_reader.specs.Limits.{standard};
-ghost use Rattle.log_reader.specs.Progress.{start};
+ghost use Rattle.log_reader.specs.Progress.{nothing_fed};
 ghost use Rattle.log_reader.specs.Readers.{Reads, progress};
 ghost use Rattle.monitorable.specs.CoreForms.{CoreForm};
 ghost use Rattle.turn_hub.specs.Ends.{IsMainOf, cell_count};
 ghost use Rattle.worker_pool.specs.Changes.{HaveCells, Suits};
-ghost use Rattle.worker_pool.specs.Chunks.{ReadsChunk, ReadsPlan, end_of};
+ghost use Rattle.worker_pool.specs.Chunks.{ReadsChunk, ReadsPlan, run_end};
 ghost use Rattle.worker_pool.specs.Effects.{effect};
 ghost use Rattle.worker_pool.specs.Endings.{FollowsLog};
 ghost use Rattle.worker_pool.specs.Hands.{AreHandsOf};
 ghost use Rattle.worker_pool.specs.Policies.{ForEachPolicy};
-ghost use Rattle.worker_pool.specs.Writing.{Begins};
+ghost use Rattle.worker_pool.specs.Writing.{HasReadNothing};
 
 use crate::hands::WorkerHand;
 use crate::line_writer::LineWriter;
@@ -74,9 +74,9 @@ pub(crate) fn follow<R: Wait, I: Inputs, O: Sink, G: Gate>(
 ) -> Result<Tally, Stop>
     requires room { 0 < length buffer.old }
     requires opened { IsTrue (I.is_open inputs.old) }
-    requires fresh { progress reader.old [] ≡ start reader.old.sig standard }
+    requires fresh { progress reader.old [] ≡ nothing_fed reader.old.sig standard }
     requires reads { Reads reader.old [] }
-    requires begins { (core : CoreForm) × Begins core driver.old }
+    requires begins { (core : CoreForm) × HasReadNothing core driver.old }
     requires suits { Suits driver.old schedule.old }
     requires seated { HaveCells context.now.cells schedule.old }
     requires unread { schedule.old.routed ≡ 0 }
@@ -89,9 +89,9 @@ pub(crate) fn follow<R: Wait, I: Inputs, O: Sink, G: Gate>(
     ensures asks_nothing { I.asked inputs.new ≡ I.asked inputs.old }
     ensures later { I.faults inputs.old ≤ I.faults inputs.new }
     ensures later_out { O.faults out.old ≤ O.faults out.new }
-    ensures follows { (core : CoreForm) → Begins core driver.old → ForEachPolicy core (λ policy.
+    ensures follows { (core : CoreForm) → HasReadNothing core driver.old → ForEachPolicy core (λ policy.
         FollowsLog reader.old.sig policy (effect I.Inputs O.Sink inputs.old inputs.new out.old out.new)
-        (end_of result)) }
+        (run_end result)) }
     ensures planned { OnOk result (ReadsPlan reader.old.sig schedule.old.changes.items (I.rest inputs.old)
         (I.rest inputs.new) driver.new) }
 {

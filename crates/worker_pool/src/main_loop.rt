@@ -1,17 +1,17 @@
 //! Main's loop as what main does beside the threads.
 ghost use Rattle.std.specs.Prelude.{◌≡◌, ◌≤◌, ◌<◌, [], IsTrue, OnOk, length};
 ghost use Rattle.log_reader.specs.Limits.{standard};
-ghost use Rattle.log_reader.specs.Progress.{start};
+ghost use Rattle.log_reader.specs.Progress.{nothing_fed};
 ghost use Rattle.log_reader.specs.Readers.{Reads, progress};
 ghost use Rattle.monitorable.specs.CoreForms.{CoreForm};
 ghost use Rattle.turn_hub.specs.Ends.{IsMainOf, cell_count};
 ghost use Rattle.worker_pool.specs.Changes.{HaveCells, Suits};
-ghost use Rattle.worker_pool.specs.Chunks.{ReadsPlan, end_of};
+ghost use Rattle.worker_pool.specs.Chunks.{ReadsPlan, run_end};
 ghost use Rattle.worker_pool.specs.Effects.{effect};
 ghost use Rattle.worker_pool.specs.Endings.{FollowsLog};
 ghost use Rattle.worker_pool.specs.Hands.{AreGroupsOf, AreHandsOf};
 ghost use Rattle.worker_pool.specs.Policies.{ForEachPolicy};
-ghost use Rattle.worker_pool.specs.Writing.{Begins};
+ghost use Rattle.worker_pool.specs.Writing.{HasReadNothing};
 
 use crate::following::follow;
 use crate::hands::WorkerHand;
@@ -42,26 +42,26 @@ struct MainLoop<'o, 's, R, G, I, O> {
 
 impl<'o, 's, R: Wait, G: Gate, I: Inputs, O: Sink> MainTask for MainLoop<'o, 's, R, G, I, O> {
     ghost use Rattle.std.specs.Prelude.{◌≡◌, ◌≤◌, ◌<◌, [], IsTrue, OnOk, length};
-    ghost use Rattle.log_reader.specs.Progress.{start};
+    ghost use Rattle.log_reader.specs.Progress.{nothing_fed};
     ghost use Rattle.log_reader.specs.Readers.{Reads, progress};
     ghost use Rattle.monitorable.specs.CoreForms.{CoreForm};
     ghost use Rattle.turn_hub.specs.Ends.{IsMainOf, cell_count};
     ghost use Rattle.worker_pool.specs.Changes.{HaveCells, Suits};
-    ghost use Rattle.worker_pool.specs.Chunks.{ReadsPlan, end_of};
+    ghost use Rattle.worker_pool.specs.Chunks.{ReadsPlan, run_end};
     ghost use Rattle.worker_pool.specs.Effects.{effect};
     ghost use Rattle.worker_pool.specs.Endings.{FollowsLog};
     ghost use Rattle.worker_pool.specs.Hands.{AreHandsOf};
     ghost use Rattle.worker_pool.specs.Policies.{ForEachPolicy};
     ghost use Rattle.log_reader.specs.Limits.{standard};
-    ghost use Rattle.worker_pool.specs.Writing.{Begins};
+    ghost use Rattle.worker_pool.specs.Writing.{HasReadNothing};
 
     type Answer = Result<Tally, Stop>;
 
     ghost can = { λ d own. (0 < length d.buffer.now.items)
         × IsTrue (I.is_open d.inputs.now)
-        × (progress d.log.now [] ≡ start d.log.now.sig standard)
+        × (progress d.log.now [] ≡ nothing_fed d.log.now.sig standard)
         × Reads d.log.now []
-        × ((core : CoreForm) × Begins core d.driver.now)
+        × ((core : CoreForm) × HasReadNothing core d.driver.now)
         × Suits d.driver.now d.schedule.now
         × HaveCells d.context.now.cells d.schedule.now
         × (d.schedule.now.routed ≡ 0)
@@ -80,8 +80,9 @@ impl<'o, 's, R: Wait, G: Gate, I: Inputs, O: Sink> MainTask for MainLoop<'o, 's,
         × (O.faults d.out.now ≤ O.faults e.out.now)
         × OnOk r (ReadsPlan d.log.now.sig d.schedule.now.changes.items (I.rest d.inputs.now) (I.rest e.inputs.now)
         e.driver.now)
-        × ((core : CoreForm) → Begins core d.driver.now → ForEachPolicy core (λ policy. FollowsLog d.log.now.sig policy
-        (effect I.Inputs O.Sink d.inputs.now e.inputs.now d.out.now e.out.now) (end_of r))) };
+        × ((core : CoreForm) → HasReadNothing core d.driver.now
+        → ForEachPolicy core (λ policy. FollowsLog d.log.now.sig policy
+        (effect I.Inputs O.Sink d.inputs.now e.inputs.now d.out.now e.out.now) (run_end r))) };
 
     fn run(
         &mut self,
@@ -116,9 +117,9 @@ pub(crate) fn follow_beside<'o, 's, R: Threads + Wait + Sync, I: Inputs, O: Sink
 ) -> Result<Tally, Stop>
     requires room { 0 < length buffer.old.items }
     requires opened { IsTrue (I.is_open inputs.old) }
-    requires fresh { progress log.old [] ≡ start log.old.sig standard }
+    requires fresh { progress log.old [] ≡ nothing_fed log.old.sig standard }
     requires reads { Reads log.old [] }
-    requires begins { (core : CoreForm) × Begins core driver.old }
+    requires begins { (core : CoreForm) × HasReadNothing core driver.old }
     requires suits { Suits driver.old schedule.old }
     requires seated { HaveCells context.now.cells schedule.old }
     requires unread { schedule.old.routed ≡ 0 }
@@ -131,8 +132,8 @@ pub(crate) fn follow_beside<'o, 's, R: Threads + Wait + Sync, I: Inputs, O: Sink
     ensures asks_nothing { I.asked inputs.new ≡ I.asked inputs.old }
     ensures later { I.faults inputs.old ≤ I.faults inputs.new }
     ensures later_out { O.faults out.old ≤ O.faults out.new }
-    ensures follows { (core : CoreForm) → Begins core driver.old → ForEachPolicy core (λ policy.
-        FollowsLog log.old.sig policy (effect I.Inputs O.Sink inputs.old inputs.new out.old out.new) (end_of result)) }
+    ensures follows { (core : CoreForm) → HasReadNothing core driver.old → ForEachPolicy core (λ policy.
+        FollowsLog log.old.sig policy (effect I.Inputs O.Sink inputs.old inputs.new out.old out.new) (run_end result)) }
     ensures planned { OnOk result (ReadsPlan log.old.sig schedule.old.changes.items (I.rest inputs.old)
         (I.rest inputs.new) driver.new) }
 {

@@ -2,8 +2,8 @@
 ghost use Rattle.std.specs.Prelude.{◌≡◌, ◌≤◌, IfErr, OnOk, OnErr, true};
 ghost use Rattle.turn_hub.specs.Ends.{IsMainOf, cell_count};
 ghost use Rattle.worker_pool.specs.Hands.{AreHandsOf};
-ghost use Rattle.worker_pool.specs.Steps.{MakesRoom, standing};
-ghost use Rattle.worker_pool.specs.Writing.{FallsShort, IsOutputStop, IsOver, Keeps, Runs};
+ghost use Rattle.worker_pool.specs.Steps.{MakesRoom, main_state};
+ghost use Rattle.worker_pool.specs.Writing.{FallsShort, IsOutputStop, AllEmitted, WritesOnly, Runs};
 
 use crate::hands::WorkerHand;
 use crate::line_writer::LineWriter;
@@ -25,7 +25,7 @@ fn write_ready<R: Wait, O: Sink>(
 ) -> Result<(), Stop>
     requires { Runs driver.old (O.written out.old) writer.old.tally }
     ensures main { OnOk result (driver.new.main ≡ driver.old.main) }
-    ensures ok { OnOk result (Keeps driver.old (O.written out.old) writer.old.tally
+    ensures ok { OnOk result (WritesOnly driver.old (O.written out.old) writer.old.tally
         driver.new (O.written out.new) writer.new.tally) }
     ensures err { OnErr result (FallsShort driver.old (O.written out.old) writer.old.tally (O.written out.new)) }
     ensures stop { IfErr result (λ stop. IsOutputStop (O.faults out.old) (O.faults out.new) stop) }
@@ -52,7 +52,7 @@ fn turn_all<R, G, O: Sink>(
     requires main { IsMainOf context.now.hub.now driver.old.main }
     requires cells { context.now.cells ≤ cell_count context.now.hub.now }
     ensures main { OnOk result (IsMainOf context.now.hub.now driver.new.main) }
-    ensures ok { OnOk result (Keeps driver.old (O.written out.now) writer.now.tally
+    ensures ok { OnOk result (WritesOnly driver.old (O.written out.now) writer.now.tally
         driver.new (O.written out.now) writer.now.tally) }
 {
     let mut busy = false;
@@ -87,7 +87,7 @@ fn round<R: Wait, O: Sink, G: Gate>(
     requires hands { AreHandsOf context.now.hub.now own.old.items }
     ensures hands { AreHandsOf context.now.hub.now own.new.items }
     ensures main { OnOk result (IsMainOf context.now.hub.now driver.new.main) }
-    ensures ok { OnOk result (Keeps driver.old (O.written out.old) writer.old.tally
+    ensures ok { OnOk result (WritesOnly driver.old (O.written out.old) writer.old.tally
         driver.new (O.written out.new) writer.new.tally) }
     ensures err { OnErr result (FallsShort driver.old (O.written out.old) writer.old.tally (O.written out.new)) }
     ensures stop { IfErr result (λ stop. IsOutputStop (O.faults out.old) (O.faults out.new) stop) }
@@ -101,7 +101,7 @@ fn round<R: Wait, O: Sink, G: Gate>(
 
 // Whether all verdicts on what was read were emitted.
 fn is_drained(driver: &Driver) -> bool
-    ensures { result ≡ true → IsOver driver.now }
+    ensures { result ≡ true → AllEmitted driver.now }
 {
     driver.ended()
 }
@@ -120,8 +120,8 @@ pub(crate) fn drain<R: Wait, O: Sink, G: Gate>(
     requires hands { AreHandsOf context.now.hub.now own.old.items }
     ensures hands { AreHandsOf context.now.hub.now own.new.items }
     ensures main { OnOk result (IsMainOf context.now.hub.now driver.new.main) }
-    ensures over { OnOk result (IsOver driver.new) }
-    ensures ok { OnOk result (Keeps driver.old (O.written out.old) writer.old.tally
+    ensures over { OnOk result (AllEmitted driver.new) }
+    ensures ok { OnOk result (WritesOnly driver.old (O.written out.old) writer.old.tally
         driver.new (O.written out.new) writer.new.tally) }
     ensures err { OnErr result (FallsShort driver.old (O.written out.old) writer.old.tally (O.written out.new)) }
     ensures stop { IfErr result (λ stop. IsOutputStop (O.faults out.old) (O.faults out.new) stop) }
@@ -152,8 +152,8 @@ fn turn_for_room<R: Wait, O: Sink, G: Gate>(
     requires cells { context.now.cells ≤ cell_count context.now.hub.now }
     requires hands { AreHandsOf context.now.hub.now own.old.items }
     ensures { MakesRoom context.now.hub.now own.new.items
-        (standing O.Sink driver.old out.old writer.old.tally)
-        (standing O.Sink driver.new out.new writer.new.tally) result }
+        (main_state O.Sink driver.old out.old writer.old.tally)
+        (main_state O.Sink driver.new out.new writer.new.tally) result }
 {
     let mut idle = 0u64;
     for _ in context.rt.forever() {
@@ -181,8 +181,8 @@ pub(crate) fn make_room<R: Wait, O: Sink, G: Gate>(
     requires cells { context.now.cells ≤ cell_count context.now.hub.now }
     requires hands { AreHandsOf context.now.hub.now own.old.items }
     ensures { MakesRoom context.now.hub.now own.new.items
-        (standing O.Sink driver.old out.old writer.old.tally)
-        (standing O.Sink driver.new out.new writer.new.tally) result }
+        (main_state O.Sink driver.old out.old writer.old.tally)
+        (main_state O.Sink driver.new out.new writer.new.tally) result }
 {
     if !turns && driver.has_room() {
         return Ok(());

@@ -2,7 +2,7 @@
 ghost use Rattle.std.specs.Prelude.{◌≡◌, ◌<◌, ◌≤◌, [], All, IfOk, IsTrue, length};
 ghost use Rattle.std.specs.List.{AllByRecursion, range_with_len};
 ghost use Rattle.log_reader.specs.Limits.{standard};
-ghost use Rattle.log_reader.specs.Progress.{start};
+ghost use Rattle.log_reader.specs.Progress.{nothing_fed};
 ghost use Rattle.log_reader.specs.Readers.{Reads, progress};
 ghost use Rattle.mfotl_model.specs.Strategies.{workers_of};
 ghost use Rattle.monitorable.specs.Cores.{core_form};
@@ -11,10 +11,10 @@ ghost use Rattle.worker_pool.specs.Changes.{HaveCells, Suits};
 ghost use Rattle.worker_pool.specs.Effects.{effect};
 ghost use Rattle.worker_pool.specs.Endings.{FollowsLog};
 ghost use Rattle.turn_hub.specs.Ends.{IsMainOf, cell_count};
-ghost use Rattle.worker_pool.specs.Chunks.{end_of};
+ghost use Rattle.worker_pool.specs.Chunks.{run_end};
 ghost use Rattle.worker_pool.specs.Hands.{AreDealt, AreGroupsOf, AreHandsOf};
 ghost use Rattle.worker_pool.specs.Policies.{ForEachPolicy};
-ghost use Rattle.worker_pool.specs.Writing.{Begins};
+ghost use Rattle.worker_pool.specs.Writing.{HasReadNothing};
 
 use crate::bells::Bells;
 use crate::dealing::deal;
@@ -56,7 +56,7 @@ fn prepare(alloc: Global, plan: Plan, cells: u32, threads: u32) -> Result<Prepar
     requires some { 0 < cells }
     requires wide { All (λ c. workers_of c.strategy ≤ cells) plan.changes.items }
     ensures count { IfOk result (λ p. cells ≤ cell_count p.hub) }
-    ensures begins { IfOk result (λ p. Begins (core_form plan.core) p.driver) }
+    ensures begins { IfOk result (λ p. HasReadNothing (core_form plan.core) p.driver) }
     ensures suits { IfOk result (λ p. Suits p.driver p.schedule) }
     ensures seated { IfOk result (λ p. HaveCells cells p.schedule) }
     ensures all { IfOk result (λ p. p.schedule.changes.items ≡ plan.changes.items) }
@@ -101,7 +101,7 @@ fn run_plan<R: Threads + Wait + Sync, I: Inputs, O: Sink, G: Gate + Sync>(
     requires suits { IsFor (core_form plan.core) plan.first }
     requires changes { AllByRecursion (λ c. IsFor (core_form plan.core) c.strategy) plan.changes.items }
     requires opened { IsTrue (I.is_open inputs.old) }
-    requires fresh { progress log.old [] ≡ start log.old.sig standard }
+    requires fresh { progress log.old [] ≡ nothing_fed log.old.sig standard }
     requires reads { Reads log.old [] }
     ensures files { I.files inputs.new ≡ I.files inputs.old }
     ensures stays_open { I.is_open inputs.new ≡ I.is_open inputs.old }
@@ -109,7 +109,7 @@ fn run_plan<R: Threads + Wait + Sync, I: Inputs, O: Sink, G: Gate + Sync>(
     ensures later { I.faults inputs.old ≤ I.faults inputs.new }
     ensures later_out { O.faults out.old ≤ O.faults out.new }
     ensures follows { ForEachPolicy (core_form plan.core) (λ policy. FollowsLog log.old.sig policy
-        (effect I.Inputs O.Sink inputs.old inputs.new out.old out.new) (end_of result)) }
+        (effect I.Inputs O.Sink inputs.old inputs.new out.old out.new) (run_end result)) }
 {
     let cells = most_workers(&plan.first, plan.changes.as_slice());
     let Ok(prepared) = prepare(alloc, plan, cells, threads) else {
@@ -147,7 +147,7 @@ fn run_plan<R: Threads + Wait + Sync, I: Inputs, O: Sink, G: Gate + Sync>(
 
 // The end of a run that counted all lines or stopped.
 fn end_after(done: Result<Tally, Stop>) -> End
-    ensures { result ≡ end_of done }
+    ensures { result ≡ run_end done }
 {
     match done {
         Ok(tally) => End::Finished {
@@ -180,7 +180,7 @@ pub fn monitor<R: Threads + Wait + Sync, I: Inputs, O: Sink, G: Gate + Sync>(
     requires changes { AllByRecursion (λ c. IsFor (core_form plan.core) c.strategy) plan.changes.items }
     requires few { threads ≤ 64 }
     requires opened { IsTrue (I.is_open inputs.old) }
-    requires fresh { progress log.old [] ≡ start log.old.sig standard }
+    requires fresh { progress log.old [] ≡ nothing_fed log.old.sig standard }
     requires reads { Reads log.old [] }
     ensures files { I.files inputs.new ≡ I.files inputs.old }
     ensures stays_open { I.is_open inputs.new ≡ I.is_open inputs.old }

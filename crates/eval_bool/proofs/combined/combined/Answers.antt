@@ -3,7 +3,7 @@ use Rattle.mfotl_model.proofs.LogicLemmas.{all_alike}
 use Rattle.mfotl_model.specs.FreeVariables.{among}
 use Rattle.mfotl_model.specs.Tables.{all_among}
 use Rattle.eval_bool.proofs.ConjunctLemmas.{own_among, same_among}
-use Rattle.eval_bool.specs.JoinView.{compared}
+use Rattle.eval_bool.specs.JoinView.{compared_variables}
 use Rattle.eval_bool.proofs.combined.combined.Goals as goal
 
 pub tested-kept-requires : goal.tested-kept-requires
@@ -14,9 +14,9 @@ tested-kept-requires c =
     λ y. c.requires.same y ∙ sym (c.in_ok-joined.ensures.columns y)
     ∙ ap (among y) (sym c.in_ok-joined-2.ensures.columns ∙ sym c.in_ok-rest.ensures.columns) in
     record {
-      inside = sym (all_alike (λ t. all_among (compared t.comparison) columns)
-          (λ t. all_among (compared t.comparison) rest) c.args.tests.now
-          (λ t. same_among (compared t.comparison) columns rest same))
+      inside = sym (all_alike (λ t. all_among (compared_variables t.comparison) columns)
+          (λ t. all_among (compared_variables t.comparison) rest) c.args.tests.now
+          (λ t. same_among (compared_variables t.comparison) columns rest same))
           ∙ c.requires.tests;
     }
 

@@ -1,7 +1,7 @@
 use Rattle.std.proofs.Common.{◌≡◌, ◌∷◌, List, subst}
 use Rattle.mfotl_model.specs.Tables.{has_row}
 use Rattle.eval_until.specs.declared.contents.Taken.{Taken}
-use Rattle.eval_until.specs.Entries.{entries_of}
+use Rattle.eval_until.specs.Entries.{entries_for}
 use Rattle.eval_until.specs.Keeping.{Covered, CoveredStarts, NotAfter, Rising}
 use Rattle.eval_until.specs.Starts.{kept_start}
 use Rattle.eval_until.proofs.EntriesLemmas.{thin_more}
@@ -26,15 +26,15 @@ loop-front-preserved c =
     let rows = c.forget_rows.ensures.entries in
     let starts = rw c.as_slice.ensures.value at c.forget_breaks.ensures in
     record {
-      rows = λ u. thin_more c.args.next (entries_of c.args.rows.now.entries u)
-          (entries_of c.loop-front.rows.entries u) (entries_of c.forget_rows.new.rows.entries u)
+      rows = λ u. thin_more c.args.next (entries_for c.args.rows.now.entries u)
+          (entries_for c.loop-front.rows.entries u) (entries_for c.forget_rows.new.rows.entries u)
           (has_row q.rights.items u) (c.loop-front.invariant.rows u) (rows u);
       some = λ before. c.forget_rows.ensures.some (c.loop-front.invariant.some before);
       starts = λ w. later_more c.args.negated c.args.next (kept_start c.args.starts.now w)
           (kept_start c.loop-front.starts w) (kept_start c.forget_breaks.new.starts w)
           (has_row q.breaks.items w) (c.loop-front.invariant.starts w) (starts w);
-      covered = λ u. covered_more c.args.next q rest u (entries_of c.loop-front.rows.entries u)
-          (entries_of c.forget_rows.new.rows.entries u) low (covered u) (rows u);
+      covered = λ u. covered_more c.args.next q rest u (entries_for c.loop-front.rows.entries u)
+          (entries_for c.forget_rows.new.rows.entries u) low (covered u) (rows u);
       breaks = λ negated before w. breaks_more c.args.negated c.args.next q rest w
           (kept_start c.loop-front.starts w) (kept_start c.forget_breaks.new.starts w) negated low
           (subst (λ (queue : List Taken). CoveredStarts queue c.loop-front.starts) is

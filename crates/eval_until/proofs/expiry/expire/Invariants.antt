@@ -1,6 +1,6 @@
 use Rattle.std.proofs.Common.{◌≡◌, ℕ, List, true, length}
 use Rattle.mfotl_model.specs.declared.value.Value.{Value}
-use Rattle.eval_until.specs.Entries.{entries_of}
+use Rattle.eval_until.specs.Entries.{entries_for}
 use Rattle.eval_until.specs.Keeping.{Covered, CoveredStarts, IsLater, IsThinned, NotAfter, Rising}
 use Rattle.eval_until.specs.Rules.{NoneEmpty}
 use Rattle.eval_until.specs.Starts.{kept_start}
@@ -8,7 +8,7 @@ use Rattle.eval_until.proofs.expiry.expire.Given as goal
 
 abbrev pub invariant-loop-front : goal.invariant-loop-front
 invariant-loop-front l = record {
-  rows : (u : List Value) → IsThinned l.next (entries_of l.fn.rows.entries u) (entries_of l.rows.entries u);
+  rows : (u : List Value) → IsThinned l.next (entries_for l.fn.rows.entries u) (entries_for l.rows.entries u);
   some : NoneEmpty l.fn.rows.entries → NoneEmpty l.rows.entries;
   starts : (w : List Value) → IsLater l.negated l.next (kept_start l.fn.starts w)
       (kept_start l.starts w);

@@ -3,7 +3,7 @@ use Rattle.std.specs.List.{list_all, list_any}
 use Rattle.mfotl_model.specs.Tables.{has_row}
 use Rattle.mfotl_model.specs.declared.value.Value.{Value}
 use Rattle.eval_until.specs.Keeping.{names}
-use Rattle.eval_until.specs.Recalled.{named}
+use Rattle.eval_until.specs.Recalled.{is_recalled}
 use Rattle.eval_until.specs.declared.contents.Taken.{Taken}
 use Rattle.eval_until.specs.declared.entries.Entry.{Entry}
 use Rattle.relations.proofs.TestLemmas.{and_true}
@@ -22,11 +22,11 @@ loop-row-preserved c =
     let rest : c.loop-row.row-iterator ≡ (c.in-Some.row.now, c.in-Some.entries.now) ∷ c.next.new.self = search rules in
     record {
       names = λ u j.
-          ap (λ b. b || named c.next.new.self u j) (c.in_ok-push_taken.ensures.names u j)
+          ap (λ b. b || is_recalled c.next.new.self u j) (c.in_ok-push_taken.ensures.names u j)
           ∙ or_grouped (names c.loop-row.out.items u j)
           (list_any (λ (e : Entry). nat_eq e.place j && has_row (c.in-Some.row.now ∷ []) u) c.in-Some.entries.now)
-          (named c.next.new.self u j)
-          ∙ sym (ap (λ rs. names c.loop-row.out.items u j || named rs u j) rest)
+          (is_recalled c.next.new.self u j)
+          ∙ sym (ap (λ rs. names c.loop-row.out.items u j || is_recalled rs u j) rest)
           ∙ c.loop-row.invariant.names u j;
       breaks = λ w s. c.in_ok-push_taken.ensures.breaks w s ∙ c.loop-row.invariant.breaks w s;
       all = λ test.

@@ -2,15 +2,15 @@ use Rattle.std.proofs.Common.{◌≡◌, ℕ, Bool, ◌&&◌, ◌||◌, ◌-◌,
 use Rattle.std.specs.List.{list_all}
 use Rattle.mfotl_model.specs.declared.value.Value.{Value}
 use Rattle.eval_until.specs.Keeping.{breaks_before, names}
-use Rattle.eval_until.specs.Recalled.{broken}
+use Rattle.eval_until.specs.Recalled.{run_begins}
 use Rattle.eval_until.specs.declared.contents.Taken.{Taken}
 use Rattle.eval_until.proofs.rebuild.push_starts.Given as goal
 
 abbrev pub invariant-loop-row : goal.invariant-loop-row
 invariant-loop-row l = record {
   names : (u : List Value) (j : ℕ) → names l.out.items u j ≡ names l.fn.out.items u j;
-  breaks : (w : List Value) (s : ℕ) → (breaks_before l.out.items w s || broken l.row-iterator w s)
-      ≡ (breaks_before l.fn.out.items w s || broken l.starts.entries w s);
+  breaks : (w : List Value) (s : ℕ) → (breaks_before l.out.items w s || run_begins l.row-iterator w s)
+      ≡ (breaks_before l.fn.out.items w s || run_begins l.starts.entries w s);
   all : (test : ℕ → Bool) → (list_all (λ (q : Taken). test q.place) l.out.items
       && list_all (λ (r : List Value × ℕ). test (r.1 - 1)) l.row-iterator)
       ≡ (list_all (λ (q : Taken). test q.place) l.fn.out.items

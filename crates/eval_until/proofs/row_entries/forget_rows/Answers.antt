@@ -1,6 +1,6 @@
 use Rattle.std.proofs.Common.{rules, ◌≡◌, ◌∷◌, cond, sym, ap, ◌∙◌}
 use Rattle.mfotl_model.specs.Tables.{has_row}
-use Rattle.eval_until.specs.Entries.{entries_of, from_place}
+use Rattle.eval_until.specs.Entries.{entries_for, from_place}
 use Rattle.eval_until.proofs.EntriesLemmas.{from_twice}
 use Rattle.eval_until.proofs.RowsLemmas.{changed_rest}
 use Rattle.eval_until.proofs.row_entries.forget_rows.Goals as goal
@@ -10,9 +10,9 @@ loop-row-preserved c =
     let here : c.loop-row.row-iterator.rest.items ≡ c.in-Some.row ∷ c.next.new.self.rest.items = search rules in
     record {
       entries = λ u.
-          let old = entries_of c.loop-row.rows.entries u in
+          let old = entries_for c.loop-row.rows.entries u in
           changed_rest (from_place c.args.next) (from_twice c.args.next) c.in-Some.row c.next.new.self.rest.items u old
-          (entries_of c.forget_row.new.rows.entries u) (c.forget_row.ensures.entries u)
+          (entries_for c.forget_row.new.rows.entries u) (c.forget_row.ensures.entries u)
           ∙ ap (λ rows. cond (has_row rows u) (from_place c.args.next old) old) (sym here)
           ∙ c.loop-row.invariant.entries u;
       some = λ old. c.forget_row.ensures.some (c.loop-row.invariant.some old);

@@ -9,7 +9,7 @@ use Rattle.monitor_state.proofs.BeginLemmas.{join_node, tests_node}
 use Rattle.monitor_state.proofs.ConstantLemmas.{tests_are, tests_closed}
 use Rattle.monitor_state.proofs.GuardLemmas.{join_guarded, some_child}
 use Rattle.monitor_state.specs.Beginnings.{is_child}
-use Rattle.monitor_state.specs.Constants.{is_closed_test, passes_test}
+use Rattle.monitor_state.specs.Constants.{is_ground_test, passes_test}
 use Rattle.monitor_state.specs.Stands.{conjunct_as}
 use Rattle.monitor_state.proofs.conjunction.conjunction.Goals as goal
 
@@ -52,8 +52,8 @@ tested-requires c =
     let none : list_any is_child (conjuncts_of (node_form c.args.core.now)) ≡ false =
     ap (list_any is_child) (sym forms) ∙ sym (any_mapped part_form is_child c.as_slice-parts.result.now)
     ∙ sym c.has_child.ensures ∙ c.if-has_child.false in
-    sym (list_all-map is_closed_test part_form c.as_slice-parts.result.now)
-    ∙ ap (list_all is_closed_test) forms
+    sym (list_all-map is_ground_test part_form c.as_slice-parts.result.now)
+    ∙ ap (list_all is_ground_test) forms
     ∙ tests_closed guarded.0 (node_form c.args.core.now) guarded.1 none
 
 pub returns : goal.returns

@@ -3,14 +3,14 @@ use Rattle.std.specs.List.{list_all}
 use Rattle.mfotl_model.specs.Satisfaction.{Valuation}
 use Rattle.mfotl_model.specs.Tables.{has}
 use Rattle.monitorable.specs.PartView.{part_form}
-use Rattle.monitor_state.specs.Constants.{is_closed_test, passes_test}
+use Rattle.monitor_state.specs.Constants.{is_ground_test, passes_test}
 use Rattle.monitor_state.proofs.constant.tested.Given as goal
 
 abbrev pub invariant-loop-part : goal.invariant-loop-part
 invariant-loop-part l =
     record {
       columns : l.rest.columns ≡ [];
-      closed : list_all (λ part. is_closed_test (part_form part)) (drop l.part-index l.parts) ≡ true;
+      closed : list_all (λ part. is_ground_test (part_form part)) (drop l.part-index l.parts) ≡ true;
       has : (v : Valuation) → (has l.rest v && list_all (λ part. passes_test v (part_form part))
           (drop l.part-index l.parts))
           ≡ list_all (λ part. passes_test v (part_form part)) l.parts;

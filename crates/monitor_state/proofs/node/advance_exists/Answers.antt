@@ -1,14 +1,14 @@
 use Rattle.monitor_state.proofs.NodeSteps.{exists_advances}
 use Rattle.monitor_state.proofs.OrderingLemmas.{ok_then}
 use Rattle.monitor_state.specs.Quantified.{Quantifies}
-use Rattle.monitor_state.specs.Steps.{Advances}
+use Rattle.monitor_state.specs.Steps.{TakesPoint}
 use Rattle.monitor_state.specs.declared.node.Node.TheVariants as node
 use Rattle.monitor_state.proofs.node.advance_exists.Goals as goal
 
 pub returns : goal.returns
 returns c =
     ok_then c.quantified.result (Quantifies c.args.var c.popped-tables.result)
-    (Advances (node.Exists c.args.var) c.args._point.now c.args.stack.now.items (node.Exists c.args.var)
+    (TakesPoint (node.Exists c.args.var) c.args._point.now c.args.stack.now.items (node.Exists c.args.var)
     c.popped-tables.new.stack.items)
     (λ tables q.
     exists_advances c.args.var c.args._point.now c.args.stack.now.items c.popped-tables.new.stack.items

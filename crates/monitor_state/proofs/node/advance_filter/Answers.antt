@@ -1,7 +1,7 @@
 use Rattle.monitor_state.proofs.NodeSteps.{filter_advances}
 use Rattle.monitor_state.proofs.OrderingLemmas.{ok_then}
 use Rattle.monitor_state.specs.FilterFeeding.{FilterTakes}
-use Rattle.monitor_state.specs.Steps.{Advances}
+use Rattle.monitor_state.specs.Steps.{TakesPoint}
 use Rattle.monitor_state.specs.declared.node.Node.TheVariants as node
 use Rattle.monitor_state.proofs.node.advance_filter.Goals as goal
 
@@ -10,7 +10,7 @@ returns c =
     ok_then c.take_filter.result
     (FilterTakes c.args.state.now c.args.point.now.ts c.popped-tables.result c.popped-left.result c.popped-right.result
     c.take_filter.new.state)
-    (Advances (node.Filter c.args.state.now) c.args.point.now c.args.stack.now.items
+    (TakesPoint (node.Filter c.args.state.now) c.args.point.now c.args.stack.now.items
     (node.Filter c.take_filter.new.state) c.popped-tables.new.stack.items)
     (λ tables takes.
     filter_advances c.args.state.now c.take_filter.new.state c.args.point.now c.args.stack.now.items

@@ -1,7 +1,7 @@
 use Rattle.monitor_state.proofs.NodeSteps.{next_advances}
 use Rattle.monitor_state.proofs.OrderingLemmas.{ok_then}
 use Rattle.monitor_state.specs.NextFeeding.{NextTakes}
-use Rattle.monitor_state.specs.Steps.{Advances}
+use Rattle.monitor_state.specs.Steps.{TakesPoint}
 use Rattle.monitor_state.specs.declared.node.Node.TheVariants as node
 use Rattle.monitor_state.proofs.node.advance_next.Goals as goal
 
@@ -9,7 +9,7 @@ pub returns : goal.returns
 returns c =
     ok_then c.take_next.result
     (NextTakes c.args.state.now c.args.point.now.ts c.popped-operand.result c.take_next.new.state)
-    (Advances (node.Next c.args.state.now) c.args.point.now c.args.stack.now.items
+    (TakesPoint (node.Next c.args.state.now) c.args.point.now c.args.stack.now.items
     (node.Next c.take_next.new.state) c.popped-operand.new.stack.items)
     (λ tables takes.
     next_advances c.args.state.now c.take_next.new.state c.args.point.now c.args.stack.now.items

@@ -1,7 +1,7 @@
 use Rattle.monitor_state.proofs.NodeSteps.{previous_advances}
 use Rattle.monitor_state.proofs.OrderingLemmas.{ok_then}
 use Rattle.monitor_state.specs.PreviousFeeding.{PreviousTakes}
-use Rattle.monitor_state.specs.Steps.{Advances}
+use Rattle.monitor_state.specs.Steps.{TakesPoint}
 use Rattle.monitor_state.specs.declared.node.Node.TheVariants as node
 use Rattle.monitor_state.proofs.node.advance_previous.Goals as goal
 
@@ -9,7 +9,7 @@ pub returns : goal.returns
 returns c =
     ok_then c.take_previous.result
     (PreviousTakes c.args.state.now c.args.point.now.ts c.popped-operand.result c.take_previous.new.state)
-    (Advances (node.Previous c.args.state.now) c.args.point.now c.args.stack.now.items
+    (TakesPoint (node.Previous c.args.state.now) c.args.point.now c.args.stack.now.items
     (node.Previous c.take_previous.new.state) c.popped-operand.new.stack.items)
     (λ tables takes.
     previous_advances c.args.state.now c.take_previous.new.state c.args.point.now c.args.stack.now.items

@@ -1,7 +1,7 @@
 use Rattle.monitor_state.proofs.NodeSteps.{since_advances}
 use Rattle.monitor_state.proofs.OrderingLemmas.{ok_then}
 use Rattle.monitor_state.specs.Feeding.{SinceTakes}
-use Rattle.monitor_state.specs.Steps.{Advances}
+use Rattle.monitor_state.specs.Steps.{TakesPoint}
 use Rattle.monitor_state.specs.declared.node.Node.TheVariants as node
 use Rattle.monitor_state.proofs.node.advance_since.Goals as goal
 
@@ -10,7 +10,7 @@ returns c =
     ok_then c.take_since.result
     (SinceTakes c.args.order.now.columns c.args.state.now c.args.point.now.ts c.popped-left.result c.popped-right.result
     c.take_since.new.state)
-    (Advances (node.Since c.args.state.now c.args.order.now) c.args.point.now c.args.stack.now.items
+    (TakesPoint (node.Since c.args.state.now c.args.order.now) c.args.point.now c.args.stack.now.items
     (node.Since c.take_since.new.state c.args.order.now) c.popped-left.new.stack.items)
     (λ tables takes.
     since_advances c.args.state.now c.take_since.new.state c.args.order.now c.args.point.now c.args.stack.now.items

@@ -1,7 +1,7 @@
 use Rattle.monitor_state.proofs.NodeSteps.{until_advances}
 use Rattle.monitor_state.proofs.OrderingLemmas.{ok_then}
 use Rattle.monitor_state.specs.UntilFeeding.{UntilTakes}
-use Rattle.monitor_state.specs.Steps.{Advances}
+use Rattle.monitor_state.specs.Steps.{TakesPoint}
 use Rattle.monitor_state.specs.declared.node.Node.TheVariants as node
 use Rattle.monitor_state.proofs.node.advance_until.Goals as goal
 
@@ -10,7 +10,7 @@ returns c =
     ok_then c.take_until.result
     (UntilTakes c.args.order.now.columns c.args.state.now c.args.point.now.ts c.popped-left.result
     c.popped-right.result c.take_until.new.state)
-    (Advances (node.Until c.args.state.now c.args.order.now) c.args.point.now c.args.stack.now.items
+    (TakesPoint (node.Until c.args.state.now c.args.order.now) c.args.point.now c.args.stack.now.items
     (node.Until c.take_until.new.state c.args.order.now) c.popped-left.new.stack.items)
     (λ tables takes.
     until_advances c.args.state.now c.take_until.new.state c.args.order.now c.args.point.now c.args.stack.now.items

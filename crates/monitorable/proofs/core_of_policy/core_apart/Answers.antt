@@ -6,13 +6,13 @@ use Rattle.monitorable.proofs.FragmentRenamed.{apart_fragment}
 use Rattle.monitorable.proofs.RenamedVariables.{apart_variables}
 use Rattle.monitorable.proofs.core_of_policy.core_apart.Goals as goal
 use Rattle.monitorable.specs.CoreForms.{meaning, node_form}
-use Rattle.monitorable.specs.Fragment.{Fits}
+use Rattle.monitorable.specs.Fragment.{IsMonitorable}
 use Rattle.monitorable.specs.Renaming.{binders}
 
 pub new-requires-clause-in_fragment : goal.new-requires-clause-in_fragment
 new-requires-clause-in_fragment c =
     let g = node_form c.args.node.now in
-    subst Fits (sym c.in_ok-apart.ensures) (λ names. apart_fragment c.requires.0 names g c.requires.1)
+    subst IsMonitorable (sym c.in_ok-apart.ensures) (λ names. apart_fragment c.requires.0 names g c.requires.1)
 
 pub new-requires-clause-is_apart : goal.new-requires-clause-is_apart
 new-requires-clause-is_apart c =

@@ -8,7 +8,7 @@ use Rattle.monitorable.proofs.SatisfyingLaw.{violations_satisfy}
 use Rattle.monitorable.proofs.core_of_policy.to_core.Goals as goal
 use Rattle.monitorable.specs.CoreForms.{CoreForm, meaning}
 use Rattle.monitorable.specs.Cores.{core_form, policy_form}
-use Rattle.monitorable.specs.Fragment.{Fits, frag, free_names}
+use Rattle.monitorable.specs.Fragment.{IsMonitorable, frag, free_names}
 use Rattle.monitorable.specs.Negation.{HasConstantsOf, Negates, SettlesWith}
 use Rattle.monitorable.specs.NormalForm.{negative}
 use Rattle.monitorable.specs.Renaming.{apart_form, binders}
@@ -66,7 +66,7 @@ returns-clause-violations c =
 pub returns-clause-fits : goal.returns-clause-fits
 returns-clause-fits c = its_own c.core_apart.result
   where
-    its_own : (result : Result Core FragmentFault) → IfOk result (λ core. Fits (core_form core))
+    its_own : (result : Result Core FragmentFault) → IfOk result (λ core. IsMonitorable (core_form core))
     its_own (Ok core) = core.in_fragment
     its_own (Err fault) = tt
 

@@ -1,4 +1,4 @@
-use Rattle.rescale_core.specs.Worlds.{first_world, run}
+use Rattle.rescale_core.specs.Worlds.{first_world, run_steps}
 use Rattle.rescale_core.proofs.SeatLemmas.{first_sound}
 use Rattle.rescale_core.proofs.Soundness.{run_sound, has_of}
 use Rattle.rescale_core.proofs.Verdicts.{run_verdicts, first_verdicts}
@@ -8,6 +8,6 @@ pub returns : goal.returns
 returns c = λ core s steps is allowed.
     let first = first_sound core s is in
     let sound = run_sound (first_world core s) steps first allowed in (
-      (λ k. (has_of (run (first_world core s) steps) k sound, (sound.seated k).answers)),
+      (λ k. (has_of (run_steps (first_world core s) steps) k sound, (sound.seated k).answers)),
       run_verdicts (first_world core s) steps first allowed (first_verdicts core s),
     )

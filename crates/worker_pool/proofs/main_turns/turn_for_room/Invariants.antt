@@ -1,12 +1,12 @@
 use Rattle.std.proofs.Common.{◌≤◌}
 use Rattle.turn_hub.specs.Ends.{IsMainOf}
 use Rattle.worker_pool.specs.Hands.{AreHandsOf}
-use Rattle.worker_pool.specs.Writing.{Keeps}
+use Rattle.worker_pool.specs.Writing.{WritesOnly}
 use Rattle.worker_pool.proofs.main_turns.turn_for_room.Given as goal
 
 abbrev pub invariant-loop : goal.invariant-loop
 invariant-loop g l = record {
-  keeps : Keeps l.fn.driver (g.O.Sink.written l.fn.out) l.fn.writer.tally l.driver (g.O.Sink.written l.out)
+  keeps : WritesOnly l.fn.driver (g.O.Sink.written l.fn.out) l.fn.writer.tally l.driver (g.O.Sink.written l.out)
       l.writer.tally;
   main : IsMainOf l.context.hub.now l.driver.main;
   hands : AreHandsOf l.context.hub.now l.own.items;

@@ -1,10 +1,10 @@
 use Rattle.std.proofs.Common.{◌≡◌, ◌≤◌}
-use Rattle.worker_pool.specs.Writing.{Keeps}
+use Rattle.worker_pool.specs.Writing.{WritesOnly}
 use Rattle.worker_pool.proofs.main_turns.write_ready.Given as goal
 
 abbrev pub invariant-loop : goal.invariant-loop
 invariant-loop g l = record {
-  keeps : Keeps l.fn.driver (g.O.Sink.written l.fn.out) l.fn.writer.tally l.driver (g.O.Sink.written l.out)
+  keeps : WritesOnly l.fn.driver (g.O.Sink.written l.fn.out) l.fn.writer.tally l.driver (g.O.Sink.written l.out)
       l.writer.tally;
   main : l.driver.main ≡ l.fn.driver.main;
   later : g.O.Sink.faults l.fn.out ≤ g.O.Sink.faults l.out;

@@ -1,6 +1,6 @@
 use Rattle.std.proofs.Common.{◌+◌, cond, nat_le, sym, ap, ◌∙◌}
 use Rattle.std.specs.Option.{unwrap_or}
-use Rattle.eval_until.specs.Entries.{entries_of, met_by}
+use Rattle.eval_until.specs.Entries.{entries_for, met_by}
 use Rattle.eval_until.specs.Starts.{kept_start}
 use Rattle.eval_until.proofs.EntriesLemmas.{met_thinned}
 use Rattle.eval_until.proofs.KeepingLemmas.{kept_pulled, start_later}
@@ -20,8 +20,8 @@ pub returns-clause-met : goal.returns-clause-met
 returns-clause-met c = rw (← c.self.view_is) (
     let k = c.self.inside in
     λ i x u low. ap (met_by k.interval i x) (entries_in_order c.expire.new.rows.entries u)
-    ∙ met_thinned k.interval i x (k.pulled + 1) (entries_of k.contents.rows.entries u)
-    (entries_of c.expire.new.rows.entries u) low (c.expire.ensures.rows u)
+    ∙ met_thinned k.interval i x (k.pulled + 1) (entries_for k.contents.rows.entries u)
+    (entries_for c.expire.new.rows.entries u) low (c.expire.ensures.rows u)
     ∙ ap (met_by k.interval i x) (sym (entries_in_order k.contents.rows.entries u)))
 
 pub returns-clause-start : goal.returns-clause-start

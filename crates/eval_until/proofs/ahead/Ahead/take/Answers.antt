@@ -3,7 +3,7 @@ use Rattle.std.specs.Option.{unwrap_or}
 use Rattle.mfotl_model.specs.Intervals.{in_interval}
 use Rattle.mfotl_model.specs.Tables.{has_row, part}
 use Rattle.relations.specs.Pushed.{turned}
-use Rattle.eval_until.specs.Entries.{entries_of, met_by}
+use Rattle.eval_until.specs.Entries.{entries_for, met_by}
 use Rattle.eval_until.specs.Starts.{kept_start, start_of}
 use Rattle.eval_until.proofs.KeepingLemmas.{met_taken, start_stepped}
 use Rattle.eval_until.proofs.OrderLemmas.{entries_in_order, kept_in_order}
@@ -14,8 +14,8 @@ returns-in-Ok-clause-met c = rw (← c.self.view_is) (
     let k = c.self.inside in
     λ i x u.
     ap (met_by k.interval i x) (entries_in_order c.take_position-taken.new.contents.rows.entries u)
-    ∙ met_taken k.interval i x (has_row c.args.rights.rows u) (entries_of k.contents.rows.entries u)
-    (entries_of c.take_position-taken.new.contents.rows.entries u)
+    ∙ met_taken k.interval i x (has_row c.args.rights.rows u) (entries_for k.contents.rows.entries u)
+    (entries_for c.take_position-taken.new.contents.rows.entries u)
     (record {
       place = k.taken;
       start = start_of k.negated k.taken k.contents.starts (part k.right.items k.left.items u);

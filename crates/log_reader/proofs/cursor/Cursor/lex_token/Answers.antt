@@ -2,7 +2,7 @@ use Rattle.std.proofs.Common.{◌≡◌, Option, Ok, Err, Some, None, option_map
 use Rattle.mfotl_lex.specs.Lexemes.{lexeme, next_token}
 use Rattle.mfotl_lex.specs.declared.token.Token.{Token}
 use Rattle.log_reader.specs.Stretches.{place_in}
-use Rattle.log_reader.specs.Tokens.{Finds}
+use Rattle.log_reader.specs.Tokens.{FindsToken}
 use Rattle.log_reader.proofs.TokenRuns.{fault_run}
 use Rattle.log_reader.proofs.TokenPlaces.{TokenAt, token_at_offset}
 use Rattle.log_reader.proofs.TokenSteps.{steps_over, blanks_over}
@@ -12,7 +12,7 @@ pub returns-in-None : goal.returns-in-None
 returns-in-None c =
     let look = c.args.look in
     let place = place_in look.from look.bytes.now look.ended c.args.self.now.at in
-    let found : Finds look.from place (Ok c.in-Ok.found) = c.in-Ok.ensures in
+    let found : FindsToken look.from place (Ok c.in-Ok.found) = c.in-Ok.ensures in
     let e : next_token place ≡ Ok None = found.0 ∙ ap (λ (t : Option Token). Ok (option_map lexeme t)) c.in-None.is in
     rw found.1
     (blanks_over c.args.sig.now c.args.limits.now look.from look.bytes.now look.ended c.args.self.now.at
@@ -36,7 +36,7 @@ returns-in-Some c =
     let p = c.args.self.now.partial in
     let t = lexeme c.in-Some.token in
     let place = place_in look.from look.bytes.now look.ended at in
-    let finds : Finds look.from place (Ok c.in-Ok.found) = c.in-Ok.ensures in
+    let finds : FindsToken look.from place (Ok c.in-Ok.found) = c.in-Ok.ensures in
     let e : next_token place ≡ Ok (Some t) =
     finds.0 ∙ ap (λ (t : Option Token). Ok (option_map lexeme t)) c.in-Some.is in
     let found : TokenAt look.from look.bytes.now look.ended at t c.in-Ok.found.behind =

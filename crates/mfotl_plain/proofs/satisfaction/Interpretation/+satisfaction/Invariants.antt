@@ -1,6 +1,6 @@
 use Rattle.std.proofs.Common.{◌≡◌, ◌+◌, ◌*◌, drop, max}
 use Rattle.std.specs.List.{list_all, list_any}
-use Rattle.mfotl_plain.specs.Bindings.{values_of}
+use Rattle.mfotl_plain.specs.Bindings.{valuation_of}
 use Rattle.mfotl_model.specs.declared.formula.Formula.{size-Formula}
 use Rattle.mfotl_model.specs.declared.value.Value.{Value}
 use Rattle.mfotl_model.specs.Formulas.{form}
@@ -34,16 +34,16 @@ decreases-holds_between l = 3 * max (size-Formula l.left.now) (size-Formula l.ri
 abbrev pub invariant-holds_for_every-loop-value : goal.invariant-holds_for_every-loop-value
 invariant-holds_for_every-loop-value l =
     let test = λ (a : Value). sat l.self.log.now l.self.dom.now
-    (with_value (values_of l.self.bindings.now) l.x a) l.at (form l.formula) in
+    (with_value (valuation_of l.self.bindings.now) l.x a) l.at (form l.formula) in
     list_all test (drop l.value-index l.self.dom.now) ≡ list_all test l.self.dom.now
 
 abbrev pub invariant-holds_for_some-loop-value : goal.invariant-holds_for_some-loop-value
 invariant-holds_for_some-loop-value l =
     let test = λ (a : Value). sat l.self.log.now l.self.dom.now
-    (with_value (values_of l.self.bindings.now) l.x a) l.at (form l.formula) in
+    (with_value (valuation_of l.self.bindings.now) l.x a) l.at (form l.formula) in
     list_any test (drop l.value-index l.self.dom.now) ≡ list_any test l.self.dom.now
 
 abbrev pub invariant-truths-loop-at : goal.invariant-truths-loop-at
 invariant-truths-loop-at l =
     l.values.items
-    ≡ truths l.at (λ j. sat l.self.log.now l.self.dom.now (values_of l.self.bindings.now) j (form l.formula))
+    ≡ truths l.at (λ j. sat l.self.log.now l.self.dom.now (valuation_of l.self.bindings.now) j (form l.formula))

@@ -1,5 +1,5 @@
 use Rattle.std.proofs.Common.{refl, ap, ◌∷◌, ◌∙◌}
-use Rattle.rescale_core.specs.Worlds.{after}
+use Rattle.rescale_core.specs.Worlds.{world_after}
 use Rattle.rescale_core.specs.Worlds.Step.{Read}
 use Rattle.rescale_core.specs.declared.item.Entry.TheVariants.{Change, Point}
 use Rattle.rescale_core.proofs.MachineLemmas.{machine_read, next_may}
@@ -11,7 +11,7 @@ returns-in_ok-read_point-in-Some-Point c = λ entries w is.
     let r = machine_read c.args.self.now _ entries w (Point p) is
     (c.in-Some-Point.ensures.items ∙ ap (λ e. e ∷ c.pop_front.new.self.items) c.in-Some-Point.field-0-is) refl refl
     (λ may. c.in_ok-read_point-in-Some-Point.ensures w is.router may) in
-    (after w (Read (Point p)), (Point p, r.0, refl), r.1)
+    (world_after w (Read (Point p)), (Point p, r.0, refl), r.1)
 
 pub read_change-requires : goal.read_change-requires
 read_change-requires c =
@@ -28,4 +28,4 @@ returns-in_ok-read_change-in-Some-Change c = λ entries w is.
     let r = machine_read c.args.self.now _ entries w (Change s) is
     (c.in-Some-Change.ensures.items ∙ ap (λ e. e ∷ c.pop_front.new.self.items) c.in-Some-Change.field-0-is) refl refl
     (λ may. c.in_ok-read_change-in-Some-Change.ensures w is.router may) in
-    (after w (Read (Change s)), (Change s, r.0, refl), r.1)
+    (world_after w (Read (Change s)), (Change s, r.0, refl), r.1)

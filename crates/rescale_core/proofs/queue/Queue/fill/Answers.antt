@@ -1,7 +1,7 @@
 use Rattle.std.proofs.Common.{◌∙◌, ◌++◌, ap, sym, set}
 use Rattle.std.specs.List.{position}
 use Rattle.monitor_state.specs.declared.state.Piece.{Piece}
-use Rattle.rescale_core.specs.Queues.{filled}
+use Rattle.rescale_core.specs.Queues.{queue_filled}
 use Rattle.rescale_core.specs.Slots.{lacks, sure}
 use Rattle.rescale_core.proofs.SlotLemmas.{unfilled, filled_at}
 use Rattle.rescale_core.proofs.SureLemmas.{sure_filled}
@@ -15,7 +15,7 @@ returns-in_default c =
     ∙ ap (λ xs. sure front ++ xs) (unfilled c.args.piece slots
     (ap (λ (p : Piece). position (lacks p.generation) slots) (sym c.get.ensures) ∙ sym c.in_default.ensures))
     ∙ sure_filled c.args.piece front slots
-    ∙ ap (filled c.args.piece) c.self.view_is
+    ∙ ap (queue_filled c.args.piece) c.self.view_is
 
 pub returns : goal.returns
 returns c =
@@ -26,4 +26,4 @@ returns c =
     (ap (λ (p : Piece). position (lacks p.generation) slots) (sym c.get.ensures) ∙ sym c.in-Some.ensures)
     c.index_mut-slot.ensures.value)
     ∙ sure_filled c.args.piece front slots
-    ∙ ap (filled c.args.piece) c.self.view_is
+    ∙ ap (queue_filled c.args.piece) c.self.view_is

@@ -1,7 +1,7 @@
 use Rattle.std.proofs.Common.{◌∙◌, ap, sym, subst}
 use Rattle.slice_strategy.specs.Answers.{stage_of}
 use Rattle.slice_strategy.specs.Entries.{entries_of}
-use Rattle.slice_strategy.specs.Reading.{IsSound, ended}
+use Rattle.slice_strategy.specs.Reading.{PartialFits, ended}
 use Rattle.slice_strategy.proofs.SoundLemmas.{too_many, not_too_many, set_sound}
 use Rattle.slice_strategy.proofs.reading.Reader.ended.Goals as goal
 
@@ -19,7 +19,7 @@ invariant_of-result c =
     let items = c.self.inside.entries.items in
     set_sound items c.in-Behind.head c.in-Behind.entry c.as_slice.result.now c.count_workers.result
     c.as_slice.ensures.value c.count_workers.ensures c.if-count_workers-gt-MAX_WORKERS.false
-    (subst (λ stage. IsSound (record { entries = entries_of items; stage = stage_of stage })) c.in-Behind.is
+    (subst (λ stage. PartialFits (record { entries = entries_of items; stage = stage_of stage })) c.in-Behind.is
     c.self.invariant)
 
 pub returns-else-count_workers-gt-MAX_WORKERS : goal.returns-else-count_workers-gt-MAX_WORKERS

@@ -1,7 +1,7 @@
 use Rattle.std.proofs.Common.{◌<◌, ◌∙◌, ap, sym, length, arith}
 use Rattle.mfotl_model.specs.Strategies.{strategy_part}
 use Rattle.slice_strategy.specs.Entries.{entry_of}
-use Rattle.slice_strategy.specs.SlicerLemmas.{part_below}
+use Rattle.slice_strategy.specs.SlicerLemmas.{strategy_part_below}
 use Rattle.slice_strategy.proofs.EntryLemmas.{entries_size, owes_parts, owes_next, owes_bound}
 use Rattle.slice_strategy.proofs.PartialLemmas.{full_value}
 use Rattle.slice_strategy.proofs.strategy.Strategy.owner_of.Goals as goal
@@ -24,7 +24,7 @@ overflow_add-number c =
     let l = c.loop-variable in
     let h = owes_parts c.deref-entry-items.result.now c.args.row.now l.number l.variable l.invariant c.entry-item.result
     c.loop-variable-test.true c.entry-item.is in
-    let low = part_below (entry_of c.entry-item.result) c.index-values-variable.result h.0 in
+    let low = strategy_part_below (entry_of c.entry-item.result) c.index-values-variable.result h.0 in
     rw c.parts.ensures (omega (arith, h.1, h.2, low, c.part.ensures))
 
 pub loop-variable-preserved : goal.loop-variable-preserved

@@ -2,7 +2,7 @@ use Rattle.std.proofs.Common.{◌≡◌, ◌∙◌, suc, ◌+◌, ◌-◌, ◌�
 use Rattle.std.proofs.lemmas.Grind.{common_steps}
 use Rattle.verdict_merge.proofs.SlotLemmas.{put_last, slots_put}
 use Rattle.verdict_merge.specs.declared.arrived.Arrived.{Arrived}
-use Rattle.verdict_merge.specs.Slots.{AreSlots, WaitingOf, held, in_order, joined}
+use Rattle.verdict_merge.specs.Slots.{AreSlots, WaitingOf, held, by_numbers, all_held}
 use Rattle.verdict_merge.proofs.waiting.Waiting.push.Goals as goal
 
 pub invariant_of-self-2 : goal.invariant_of-self-2
@@ -22,9 +22,9 @@ returns c =
     let w = c.self.inside in
     let a : Arrived = record { number = w.came; rows = c.args.rows } in
     let is : suc w.came ≡ c.in_ok-came.came = grind (arith, common_steps) in
-    let last : in_order c.in_ok-came.came (joined (map held c.put.new.slots.items))
-    ≡ in_order w.came (joined (map held w.slots.items)) ++ c.args.rows ∷ [] =
-    ap (λ n. in_order n (joined (map held c.put.new.slots.items))) (sym is)
-    ∙ ap (λ slots. in_order (suc w.came) (joined slots)) c.in-Ok.ensures
+    let last : by_numbers c.in_ok-came.came (all_held (map held c.put.new.slots.items))
+    ≡ by_numbers w.came (all_held (map held w.slots.items)) ++ c.args.rows ∷ [] =
+    ap (λ n. by_numbers n (all_held (map held c.put.new.slots.items))) (sym is)
+    ∙ ap (λ slots. by_numbers (suc w.came) (all_held slots)) c.in-Ok.ensures
     ∙ put_last w.came w.next (c.args.rows.point - w.next) a (map held w.slots.items) refl c.self.invariant in
     rw (← c.self.view_is) (ap (λ added. record { next = w.next; added = added }) last)
